@@ -1,2 +1,3 @@
-pub mod Moments
+pub mod Counting
 mod Giving
+pub mod Moments

@@ -42,3 +42,11 @@ pub record Settles (old new : Shown) (result : Result Unit Failed) : Type 0 wher
   pub given : new.given ≡ old.given
   pub cause : HasCause old.faults new.faults result
   pub write_cause : HasCause old.write_faults new.write_faults result
+
+-- Of one or more writes and barriers: what is told and given stays, and the counts of faults tell
+-- whether the calls were done.
+pub record Counted (old new : Shown) (result : Result Unit Failed) : Type 0 where
+  pub tells : new.tells ≡ old.tells
+  pub given : new.given ≡ old.given
+  pub cause : HasCause old.faults new.faults result
+  pub write_cause : HasCause old.write_faults new.write_faults result
