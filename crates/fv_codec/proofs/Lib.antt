@@ -1,0 +1,7 @@
+pub mod Runs
+pub mod Pages
+pub mod Numbers
+pub mod SuperBytes
+pub mod Items
+pub mod Places
+pub mod RootBytes

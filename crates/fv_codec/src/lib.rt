@@ -1,0 +1,14 @@
+//! The blocks of the aggregate's format as Rust values: exact encoding and decoding.
+#![tactic(auto)]
+
+mod gate;
+mod page;
+mod reading;
+mod root;
+mod shape;
+mod superblock;
+
+pub use gate::{gate_open, open_gate};
+pub use root::Root;
+pub use shape::Shape;
+pub use superblock::Super;
