@@ -1,0 +1,14 @@
+pub mod Numbers
+pub mod Spelling
+pub mod Stored
+pub mod Trees
+pub mod Tables
+pub mod Places
+pub mod Volumes
+pub mod Machines
+pub mod Space
+pub mod Effects
+pub mod Refusals
+pub mod Replies
+pub mod Texts
+pub mod Runs
