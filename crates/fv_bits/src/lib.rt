@@ -1,0 +1,6 @@
+//! A bit map: a set of numbers below a length, kept in words of 64 bits.
+#![tactic(auto)]
+
+mod block;
+mod word;
+mod words;
