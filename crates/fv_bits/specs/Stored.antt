@@ -1,5 +1,5 @@
 -- How a map is kept: in words of 64 bits, and which words stand for which map.
-use Rattle.std.specs.Prelude.{◌≡◌, ℕ, ◌+◌, ◌*◌, ◌/◌, ◌%◌, ◌^◌, ◌<◌, ◌≤◌, Bool, not, false, ◌||◌, ◌==◌, if◌then◌else◌, List, length, map, slice_index}
+use Rattle.std.specs.Prelude.{◌≡◌, ℕ, ◌+◌, ◌*◌, ◌/◌, ◌%◌, ◌^◌, ◌<◌, ◌≤◌, Bool, not, true, false, ◌||◌, ◌==◌, if◌then◌else◌, List, length, map, slice_index}
 use Rattle.std.specs.List.{range_with_len}
 use Rattle.fv_bits.specs.Bits.{bit_of_number, bit_of_bytes, block_bits}
 
@@ -75,3 +75,18 @@ pub record PutsBlock (old : List ℕ) (first : ℕ) (block new : List ℕ) : Typ
   pub inside : (k : ℕ) → k < 512 → first + k < length old → slice_index new (first + k) ≡ slice_index block k
   pub before : (k : ℕ) → k < first → slice_index new k ≡ slice_index old k
   pub behind : (k : ℕ) → first + 512 ≤ k → slice_index new k ≡ slice_index old k
+
+-- no bit from `from` up to `to` is clear
+pub record AreSet (words : List ℕ) (from to : ℕ) : Type 0 where
+  pub bits : (k : ℕ) → from ≤ k → k < to → bit_of_words words k ≡ true
+
+-- at is the first number from `len` on whose bit is set in block `index`, which has these words
+pub record IsFirstAbove (words : List ℕ) (index len at : ℕ) : Type 0 where
+  pub past : len ≤ at
+  pub place : at / block_bits ≡ index
+  pub bit : bit_of_words words (at % block_bits) ≡ true
+  pub before : (k : ℕ) → len ≤ k → k < at → k / block_bits ≡ index → bit_of_words words (k % block_bits) ≡ false
+
+-- no bit is set in block `index`, which has these words, for a number from `len` on
+pub record HasNoneAbove (words : List ℕ) (index len : ℕ) : Type 0 where
+  pub bits : (k : ℕ) → k < block_bits → len ≤ block_bits * index + k → bit_of_words words k ≡ false

@@ -25,7 +25,7 @@ fn put_word(word: u64, at: usize, into: &mut [u8; 4096])
 
 /// Writes the bits of the words from `first` on as a block, with clear bits past the last word.
 pub(crate) fn write(words: &[u64], first: usize, into: &mut [u8; 4096])
-    requires { first < 2 ^ 32 }
+    requires { first < 2 ^ 42 }
     ensures len { length into.new ≡ 4096 }
     ensures bits { HasBitsOf words.now first into.new }
 {
@@ -48,7 +48,7 @@ pub(crate) fn read(block: &[u8; 4096]) -> [u64; 512]
 
 /// Puts the words of a block over those from `first` on, as far as there are so many.
 pub(crate) fn put(words: &mut [u64], first: usize, block: &[u64; 512])
-    requires { first < 2 ^ 32 }
+    requires { first < 2 ^ 42 }
     ensures { PutsBlock words.old first block.now words.new }
 {
     for at in 0..512 {

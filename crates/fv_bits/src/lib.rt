@@ -2,5 +2,8 @@
 #![tactic(auto)]
 
 mod block;
+mod map;
 mod word;
 mod words;
+
+pub use map::BitMap;

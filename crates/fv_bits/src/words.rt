@@ -70,7 +70,6 @@ fn ones(words: &[u64]) -> u64
 pub(crate) fn count_between(words: &[u64], from: u32, to: u32) -> u32
     requires ordered { from ≤ to }
     requires within { to ≤ 64 * length words.now }
-    requires few { length words.now < 2 ^ 40 }
     ensures { result ≡ count_by (bit_of_words words.now) (range_with_len from (to - from)) }
 {
     let first = (from / 64) as usize;
