@@ -1,0 +1,6 @@
+pub mod Numbers
+pub mod Rows
+pub mod Counts
+pub mod Bytes
+pub mod Laws
+pub mod Maps
