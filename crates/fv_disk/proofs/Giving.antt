@@ -6,18 +6,18 @@ use Rattle.std.specs.Prelude.{IsTrue, Result, Ok, Err, OnOk, OnErr, IfOk}
 use Rattle.fv_disk.specs.declared.Failed.{Failed}
 use Rattle.fv_disk.specs.Shown.{Image, Shown, IsDisk}
 use Rattle.fv_disk.specs.DiskCalls.{Stays}
-use Rattle.fv_disk.specs.Ends.{Ends, Rests, Gives, GivesAll}
+use Rattle.fv_disk.specs.HostCalls.{Rests, Gives, GivesAll}
 use Rattle.fv_disk.specs.Crash.{Leaves}
 use Rattle.fv_disk.specs.Partly.{PartlyGiven}
 use Rattle.fv_disk.proofs.Moments.{started, goes_on}
 
 -- after some calls that were done: these bytes are left to give
-pub record HasGiven (old : Shown) (before : Ends) (bytes : List ℕ) (now : Shown) (after : Ends) (rest : List ℕ) : Type 0 where
+pub record HasGiven (old : Shown) (bytes : List ℕ) (now : Shown) (rest : List ℕ) : Type 0 where
   pub left_over : (k : ℕ) × (rest ≡ drop k bytes) × (IsTrue old.tells → now.given ≡ old.given ++ take k bytes)
   pub rests : Rests old now
-  pub left : after.left ≡ before.left
-  pub source_faults : after.source_faults ≡ before.source_faults
-  pub sink_faults : after.sink_faults ≡ before.sink_faults
+  pub left : now.ends.left ≡ old.ends.left
+  pub source_faults : now.ends.source_faults ≡ old.ends.source_faults
+  pub sink_faults : now.ends.sink_faults ≡ old.ends.sink_faults
   pub any_moment : Leaves old now (PartlyGiven old bytes)
 
 pub stays_itself : (disk : Shown) → Stays disk disk
@@ -41,8 +41,8 @@ rests_on old mid new first second = record {
   write_faults = second.write_faults ∙ first.write_faults;
 }
 
-pub begins : (disk : Shown) (ends : Ends) (bytes : List ℕ) → IsDisk disk → HasGiven disk ends bytes disk ends bytes
-begins disk ends bytes laws = record {
+pub begins : (disk : Shown) (bytes : List ℕ) → IsDisk disk → HasGiven disk bytes disk bytes
+begins disk bytes laws = record {
   left_over = (0, refl, λ tells. sym (append-nil disk.given));
   rests = rests_itself disk;
   left = refl;
@@ -55,9 +55,9 @@ begins disk ends bytes laws = record {
 longer : (given bytes rest : List ℕ) (k n : ℕ) → rest ≡ drop k bytes → (given ++ take k bytes) ++ take n rest ≡ given ++ take (k + n) bytes
 longer given bytes rest k n e = rw (append_assoc, e, take-add k n bytes) refl
 
-pub gave : (old now new : Shown) (before after later : Ends) (bytes rest : List ℕ) (n : ℕ) → HasGiven old before bytes now after rest → Gives now after rest new later (Ok n)
-    → HasGiven old before bytes new later (drop n rest)
-gave old now new before after later bytes rest n so_far gives =
+pub gave : (old now new : Shown) (bytes rest : List ℕ) (n : ℕ) → HasGiven old bytes now rest → Gives now rest new (Ok n)
+    → HasGiven old bytes new (drop n rest)
+gave old now new bytes rest n so_far gives =
     let k : ℕ = so_far.left_over.0 in
     let given : IsTrue old.tells → new.given ≡ old.given ++ take (k + n) bytes = λ tells.
         gives.added (rw so_far.rests.stays.tells tells) ∙ ap (λ (x : List ℕ). x ++ take n rest) (so_far.left_over.2 tells) ∙ longer old.given bytes rest k n so_far.left_over.1 in
@@ -71,8 +71,8 @@ gave old now new before after later bytes rest n so_far gives =
       any_moment = goes_on old now new (PartlyGiven old bytes) so_far.any_moment gives.time (λ c left. (rests.stays.no_more c left, λ tells. (k + n, given tells)));
     }
 
-pub ended : (old now : Shown) (before after : Ends) (bytes rest : List ℕ) → HasGiven old before bytes now after rest → rest ≡ [] → GivesAll old before bytes now after (Ok tt)
-ended old now before after bytes rest so_far none =
+pub ended : (old now : Shown) (bytes rest : List ℕ) → HasGiven old bytes now rest → rest ≡ [] → GivesAll old bytes now (Ok tt)
+ended old now bytes rest so_far none =
     let k : ℕ = so_far.left_over.0 in
     let whole : take k bytes ++ [] ≡ bytes = ap (λ (x : List ℕ). take k bytes ++ x) (sym none ∙ so_far.left_over.1) ∙ take-append-drop k bytes in
     record {
@@ -84,8 +84,8 @@ ended old now before after bytes rest so_far none =
       cause = record { later = omega (arith, so_far.sink_faults); calm = so_far.sink_faults; rose = tt };
     }
 
-pub failed : (old now new : Shown) (before after later : Ends) (bytes rest : List ℕ) (e : Failed) → HasGiven old before bytes now after rest → Gives now after rest new later (Err e) → GivesAll old before bytes new later (Err e)
-failed old now new before after later bytes rest e so_far gives =
+pub failed : (old now new : Shown) (bytes rest : List ℕ) (e : Failed) → HasGiven old bytes now rest → Gives now rest new (Err e) → GivesAll old bytes new (Err e)
+failed old now new bytes rest e so_far gives =
     let k : ℕ = so_far.left_over.0 in
     record {
       all = λ tells. tt;
@@ -96,8 +96,8 @@ failed old now new before after later bytes rest e so_far gives =
       cause = record { later = omega (arith, so_far.sink_faults, gives.cause.later); calm = tt; rose = rw (← so_far.sink_faults) gives.cause.rose };
     }
 
-pub failed_since : (old now new : Shown) (before after later : Ends) (bytes rest : List ℕ) (e : Failed) → HasGiven old before bytes now after rest → Gives now after rest new later (Err e) → Leaves old new (PartlyGiven old bytes)
-failed_since old now new before after later bytes rest e so_far gives =
+pub failed_since : (old now new : Shown) (bytes rest : List ℕ) (e : Failed) → HasGiven old bytes now rest → Gives now rest new (Err e) → Leaves old new (PartlyGiven old bytes)
+failed_since old now new bytes rest e so_far gives =
     let k : ℕ = so_far.left_over.0 in
     let rests : Rests old new = rests_on old now new so_far.rests gives.rests in
     goes_on old now new (PartlyGiven old bytes) so_far.any_moment gives.time

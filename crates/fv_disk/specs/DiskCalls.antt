@@ -16,6 +16,7 @@ pub record Reads (old : Shown) (at : ℕ) (new : Shown) (block : List ℕ) (resu
   pub stays : Stays old new
   pub time : Elapses old new
   pub given : new.given ≡ old.given
+  pub ends : new.ends ≡ old.ends
   pub cause : HasCause old.faults new.faults result
   pub write_faults : new.write_faults ≡ old.write_faults
 
@@ -28,6 +29,7 @@ pub record Writes (old : Shown) (at : ℕ) (block : List ℕ) (new : Shown) (res
   pub no_fewer : (before c : Image) → old.images before → SameBut at before c → IsBlock (c at) → new.images c
   pub time : Elapses old new
   pub given : new.given ≡ old.given
+  pub ends : new.ends ≡ old.ends
   pub cause : HasCause old.faults new.faults result
   pub write_cause : HasCause old.write_faults new.write_faults result
 
@@ -40,13 +42,15 @@ pub record Settles (old new : Shown) (result : Result Unit Failed) : Type 0 wher
   pub no_fewer : IsErr result → (c : Image) → old.images c → new.images c
   pub time : Elapses old new
   pub given : new.given ≡ old.given
+  pub ends : new.ends ≡ old.ends
   pub cause : HasCause old.faults new.faults result
   pub write_cause : HasCause old.write_faults new.write_faults result
 
--- Of one or more writes and barriers: what is told and given stays, and the counts of faults tell
--- whether the calls were done.
+-- Of one or more writes and barriers: what is told and given and the ends of a host stay, and the counts of faults tell whether
+-- the calls were done.
 pub record Counted (old new : Shown) (result : Result Unit Failed) : Type 0 where
   pub tells : new.tells ≡ old.tells
   pub given : new.given ≡ old.given
+  pub ends : new.ends ≡ old.ends
   pub cause : HasCause old.faults new.faults result
   pub write_cause : HasCause old.write_faults new.write_faults result

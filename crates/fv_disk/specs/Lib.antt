@@ -1,5 +1,5 @@
 pub mod Shown
 pub mod DiskCalls
-pub mod Ends
+pub mod HostCalls
 pub mod Crash
 pub mod Partly

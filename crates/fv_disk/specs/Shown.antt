@@ -1,4 +1,5 @@
--- What a disk shows: its content, what a crash may leave of it, and how often it has failed.
+-- What a disk shows: its content, what a crash may leave of it, and how often it has failed. A host, which is a disk with a
+-- source and a sink of bytes, shows those, too: the three share one clock, and no call of the disk changes the other two.
 use Rattle.std.specs.Prelude.{◌≡◌, ◌≢◌, ◌<◌, ◌≤◌, ◌-◌, ◌^◌, ◌⊎◌, ℕ, Bool, List, length, slice_index, IsTrue, Result, OnOk, OnErr}
 
 -- the block under each number
@@ -13,6 +14,13 @@ pub record IsBlock (block : List ℕ) : Type 0 where
 -- the images agree on every block but this one
 abbrev pub SameBut : ℕ → Image → Image → Type 0
 SameBut at old new = (a : ℕ) → a ≢ at → new a ≡ old a
+
+-- the two ends of a host: the bytes that its source has left, where the content is told, and the counts of failed takes and
+-- gives; of no meaning for a disk that is no host
+pub record Ends : Type 0 where
+  pub left : List ℕ
+  pub source_faults : ℕ
+  pub sink_faults : ℕ
 
 -- A moment is a number that never falls. `since t c g` says that a crash at some moment from t on
 -- might have left the image c when the bytes g had been given out.
@@ -31,6 +39,7 @@ pub record Shown : Type 1 where
   pub faults : ℕ
   -- failed writes and barriers
   pub write_faults : ℕ
+  pub ends : Ends
 
 -- what holds of a disk at every moment
 pub record IsDisk (disk : Shown) : Type 0 where

@@ -3,14 +3,14 @@ use Rattle.std.specs.Prelude.{◌≡◌, ℕ, List, [], false, refl}
 use Rattle.std.proofs.Common.{arith, inl}
 use Rattle.std.proofs.lemmas.Bool.{false≢true}
 use Rattle.fv_disk.specs.Shown.{Image, IsBlock, Shown, IsDisk}
-use Rattle.fv_disk.specs.Ends.{Ends}
 
 -- any content at all
 abbrev pub AreBlocks : Image → Type 0
 AreBlocks c = (a : ℕ) → IsBlock (c a)
 
-abbrev pub unknown : ℕ → ℕ → Shown
-unknown faults write_faults = record {
+-- its four counts: failed disk calls, failed writes and barriers, failed takes, failed gives
+abbrev pub unknown : ℕ → ℕ → ℕ → ℕ → Shown
+unknown faults write_faults source_faults sink_faults = record {
   tells = false;
   reads = λ a. [];
   images = AreBlocks;
@@ -19,13 +19,11 @@ unknown faults write_faults = record {
   given = [];
   faults = faults;
   write_faults = write_faults;
+  ends = record { left = []; source_faults = source_faults; sink_faults = sink_faults };
 }
 
-abbrev pub unknown_ends : ℕ → ℕ → Ends
-unknown_ends source_faults sink_faults = record { left = []; source_faults = source_faults; sink_faults = sink_faults }
-
-pub is_disk : (faults write_faults : ℕ) → IsDisk (unknown faults write_faults)
-is_disk faults write_faults = record {
+pub is_disk : (faults write_faults source_faults sink_faults : ℕ) → IsDisk (unknown faults write_faults source_faults sink_faults)
+is_disk faults write_faults source_faults sink_faults = record {
   read_is_image = λ tells. absurd (false≢true tells);
   counts_now = λ t c le now. (now, refl);
   only_now = λ c g left. left;

@@ -23,9 +23,9 @@ fn counted<T>(done: Result<T, Failed>, count: &mut u64) -> Result<T, Failed>
 impl<R: Runtime> Disk for FileHost<R> {
     ghost use Rattle.fv_filehost.specs.Unknown.{unknown, is_disk};
 
-    ghost shown = { λ host. unknown host.faults host.write_faults };
+    ghost shown = { λ host. unknown host.faults host.write_faults host.source_faults host.sink_faults };
 
-    ghost laws = { λ host. is_disk host.faults host.write_faults };
+    ghost laws = { λ host. is_disk host.faults host.write_faults host.source_faults host.sink_faults };
 
     fn read(&mut self, at: u64, into: &mut Block) -> Result<(), Failed> {
         let done = read_block(&self.rt, self.path.as_str(), &mut self.file, at, into);
@@ -54,10 +54,6 @@ impl<R: Runtime> Disk for FileHost<R> {
 }
 
 impl<R: Runtime> Host for FileHost<R> {
-    ghost use Rattle.fv_filehost.specs.Unknown.{unknown_ends};
-
-    ghost ends = { λ host. unknown_ends host.source_faults host.sink_faults };
-
     fn take(&mut self, into: &mut [u8]) -> Result<usize, Failed> {
         let done = read_some(&self.rt, into);
         counted(done, &mut self.source_faults)
