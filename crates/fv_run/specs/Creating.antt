@@ -1,9 +1,12 @@
 -- What the program does to make a new aggregate.
-use Rattle.std.specs.Prelude.{◌≡◌, ◌≤◌, ◌⊎◌, ℕ, List, [], ◌∷◌, ◌++◌, take, codes, decimal, Some}
+use Rattle.std.specs.Prelude.{◌≡◌, ◌⊎◌, ℕ, List, [], ◌∷◌, ◌++◌, take, codes, decimal, Some, IsTrue, Result, IfErr, OnOk}
 use Rattle.fv_disk.specs.Shown.{Image, Shown, IsSettled, Rose}
-use Rattle.fv_disk.specs.Ends.{Ends}
+use Rattle.fv_disk.specs.Crash.{Leaves}
+use Rattle.fv_root.specs.Formatted.{SameVolumes}
 use Rattle.fv_model.specs.Machines.{capacity, empty_machine}
 use Rattle.fv_image.specs.MachineOf.{machine_of}
+use Rattle.fv_run.specs.declared.ending.Fault.{Fault}
+use Rattle.fv_run.specs.declared.ending.Fault.TheVariants.{Usage, Disk, Sink}
 
 -- the line that tells of a new aggregate
 abbrev pub created_text : ℕ → List ℕ
@@ -15,10 +18,26 @@ pub record HasCreated (blocks : ℕ) (old new : Shown) : Type 0 where
   pub stands : machine_of new.reads ≡ Some (empty_machine blocks)
   pub given : new.given ≡ old.given ++ created_text blocks
 
--- a prefix of the line was given
-abbrev pub GivesPart : ℕ → Shown → Shown → Type 0
-GivesPart blocks old new = (k : ℕ) × (new.given ≡ old.given ++ take k (created_text blocks))
-
--- before the first byte of the line anything may be left, and from then on the new aggregate alone
+-- nothing was given, or a crash leaves the new aggregate alone: so from the first byte of the line on
 abbrev pub IsAcknowledged : ℕ → Shown → Image → List ℕ → Type 0
 IsAcknowledged blocks old c g = (g ≡ old.given) ⊎ (machine_of c ≡ Some (empty_machine blocks))
+
+-- a fault comes only where its count rose
+abbrev pub RoseFor : Fault → Shown → Shown → Type 0
+RoseFor Usage old new = ⊥
+RoseFor Disk old new = Rose old.faults new.faults
+RoseFor Sink old new = Rose old.ends.sink_faults new.ends.sink_faults
+
+-- after a fault of the disk nothing was given, and after one of the sink a part of the line
+abbrev pub GaveUpTo : Fault → ℕ → Shown → Shown → Type 0
+GaveUpTo Usage blocks old new = new.given ≡ old.given
+GaveUpTo Disk blocks old new = new.given ≡ old.given
+GaveUpTo Sink blocks old new = (k : ℕ) × (new.given ≡ old.given ++ take k (created_text blocks))
+
+-- Making an aggregate over a host, whose content speaks only where the host tells it.
+pub record Creates (blocks : ℕ) (old new : Shown) (result : Result Unit Fault) : Type 0 where
+  pub created : IsTrue old.tells → OnOk result (HasCreated blocks old new)
+  pub cause : IfErr result (λ fault. RoseFor fault old new)
+  pub given : IsTrue old.tells → IfErr result (λ fault. GaveUpTo fault blocks old new)
+  pub acknowledged : IsTrue old.tells → Leaves old new (IsAcknowledged blocks old)
+  pub volumes : IsTrue old.tells → SameVolumes blocks old.reads new.reads

@@ -1,2 +1,3 @@
-pub mod Meaning
 pub mod Creating
+pub mod Meaning
+pub mod Statuses
