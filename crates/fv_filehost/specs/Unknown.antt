@@ -1,6 +1,5 @@
 -- What a host shows that tells nothing but its counts.
-use Rattle.std.specs.Prelude.{◌≡◌, ℕ, List, [], false, refl}
-use Rattle.std.proofs.Common.{arith, inl}
+use Rattle.std.specs.Prelude.{◌≡◌, ℕ, [], false, refl}
 use Rattle.std.proofs.lemmas.Bool.{false≢true}
 use Rattle.fv_disk.specs.Shown.{Image, IsBlock, Shown, IsDisk}
 

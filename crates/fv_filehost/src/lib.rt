@@ -7,7 +7,6 @@
 mod blocks;
 mod calls;
 mod streams;
-
 #[cfg(test)]
 mod tests;
 

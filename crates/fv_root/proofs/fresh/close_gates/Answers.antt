@@ -1,5 +1,4 @@
-use Rattle.std.proofs.Common.{◌≡◌, ◌∙◌, ap, replicate, false, rules}
-use Rattle.fv_codec.specs.Blocks.{gate_open}
+use Rattle.std.proofs.Common.{◌≡◌, replicate, rules}
 use Rattle.fv_root.proofs.Fixed.{fixed_then}
 use Rattle.fv_root.proofs.Gates.{zero_gate, at_ok}
 use Rattle.fv_root.proofs.fresh.close_gates.Goals as goal
@@ -15,5 +14,5 @@ returns-clause-closed g c = λ tells.
 pub returns-clause-writes : goal.returns-clause-writes
 returns-clause-writes g c =
     fixed_then _ _ (g.D.Disk.shown c.write_fixed-2.new.disk) _ _
-        (fixed_then _ _ (g.D.Disk.shown c.write_fixed.new.disk) _ _ c.in_ok-write_fixed.ensures.writes c.in_ok-write_fixed-2.ensures.writes)
-        c.settle.ensures.writes
+    (fixed_then _ _ (g.D.Disk.shown c.write_fixed.new.disk) _ _ c.in_ok-write_fixed.ensures.writes c.in_ok-write_fixed-2.ensures.writes)
+    c.settle.ensures.writes
