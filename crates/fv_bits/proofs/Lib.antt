@@ -4,3 +4,4 @@ pub mod Counts
 pub mod Bytes
 pub mod Laws
 pub mod Maps
+pub mod Seen

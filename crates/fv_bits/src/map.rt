@@ -43,6 +43,7 @@ impl BitMap {
     }
 
     /// The length: every member is below it.
+    #[tactic(auto, using(crate::proofs::Seen::length_seen))]
     pub fn len(&self) -> u32
         ensures { result ≡ length self.now }
     {
@@ -50,6 +51,7 @@ impl BitMap {
     }
 
     /// Whether `i` is a member.
+    #[tactic(auto, using(crate::proofs::Seen::member_seen, crate::proofs::Seen::within_seen))]
     pub fn get(&self, i: u32) -> bool
         requires { i < length self.now }
         ensures { result ≡ is_member self.now i }
@@ -58,6 +60,7 @@ impl BitMap {
     }
 
     /// Makes `i` a member.
+    #[tactic(auto, using(crate::proofs::Seen::put_seen, crate::proofs::Seen::put_stored_seen, crate::proofs::Seen::within_seen, std::proofs::lemmas::List::with_items_is))]
     pub fn set(&mut self, i: u32)
         requires { i < length self.old }
         ensures { self.new ≡ slice_set self.old i true }
@@ -66,6 +69,7 @@ impl BitMap {
     }
 
     /// Takes `i` out of the set.
+    #[tactic(auto, using(crate::proofs::Seen::put_seen, crate::proofs::Seen::put_stored_seen, crate::proofs::Seen::within_seen, std::proofs::lemmas::List::with_items_is))]
     pub fn clear(&mut self, i: u32)
         requires { i < length self.old }
         ensures { self.new ≡ slice_set self.old i false }
@@ -75,6 +79,7 @@ impl BitMap {
 
     /// The least number from `from` on that is no member, and `None` exactly where there is none.
     /// Costs a step for each full word of 64 numbers that is passed.
+    #[tactic(auto, using(crate::proofs::Seen::full_seen, crate::proofs::Seen::found_seen))]
     pub fn first_free(&self, from: u32) -> Option<u32>
         requires { from ≤ length self.now }
         ensures none { IfNone result (IsFullFrom self.now from) }
@@ -84,6 +89,7 @@ impl BitMap {
     }
 
     /// How many members there are. Costs a step for each word of 64 numbers.
+    #[tactic(auto, using(crate::proofs::Seen::count_all_seen))]
     pub fn count(&self) -> u32
         ensures { result ≡ count_of self.now }
     {
@@ -92,6 +98,7 @@ impl BitMap {
 
     /// How many members there are from `from` up to `to`, without `to`. Costs a step for each word of
     /// 64 numbers in between.
+    #[tactic(auto, using(crate::proofs::Seen::count_seen, crate::proofs::Seen::within_seen))]
     pub fn count_range(&self, from: u32, to: u32) -> u32
         requires ordered { from ≤ to }
         requires within { to ≤ length self.now }
@@ -102,6 +109,7 @@ impl BitMap {
 
     /// Makes each member of `other`, which has the same length, a member of this map. Costs a step for
     /// each word of 64 numbers.
+    #[tactic(auto, using(crate::proofs::Seen::unite_seen, crate::proofs::Seen::unite_stored_seen, crate::proofs::Seen::words_seen, std::proofs::lemmas::List::with_items_is))]
     pub fn or(&mut self, other: &BitMap)
         requires { length other.now ≡ length self.old }
         ensures { IsUnion self.new self.old other.now }
@@ -112,6 +120,7 @@ impl BitMap {
     /// Writes block `index` of the map, the 32,768 numbers from `32768 * index` on: bit `b` is bit
     /// `b % 8` of byte `b / 8`, counted from the least, and past the length the bits are clear. Some
     /// number of the block is below the length. Costs a step for each word of 64 numbers.
+    #[tactic(auto, using(crate::proofs::Seen::block_seen))]
     pub fn to_block(&self, index: u32, into: &mut [u8; 4096])
         requires { block_bits * index < length self.now }
         ensures { IsBlockOf self.now index into.new }
@@ -122,6 +131,7 @@ impl BitMap {
     /// Takes the bits of block `index` in place of those that are there, and answers `None`. Where a bit
     /// past the length is set, nothing changes, and the first such number is answered. Some number of
     /// the block is below the length. Costs a step for each word of 64 numbers.
+    #[tactic(auto, using(crate::proofs::Seen::length_seen, crate::proofs::Seen::past_seen, crate::proofs::Seen::block_stored_seen, crate::proofs::Seen::block_taken_seen, std::proofs::lemmas::List::with_items_is))]
     pub fn from_block(&mut self, index: u32, block: &[u8; 4096]) -> Option<u32>
         requires { block_bits * index < length self.old }
         ensures taken { IfNone result (TakesBlock self.old self.new index block.now) }
