@@ -136,7 +136,7 @@ above_from ws index len at below inside first =
       past = omega (arith, first.after);
       place = omega arith;
       bit = ap (bit_of_words ws) rest ∙ first.here;
-      before = λ k low high place. first.before (k % block_bits) (omega arith) (omega arith);
+      before = λ k low high. first.before (k % block_bits) (omega arith) (omega arith);
     }
 
 pub past_block : (len index : ℕ) (read block : List ℕ) (at : ℕ) → HasBitsOf read 0 block → IsFirstAbove read index len at → IsFirstPast len index block at
@@ -146,7 +146,7 @@ past_block len index read block at same first =
       past = first.past;
       place = first.place;
       bit = same.bits (at % block_bits) (omega arith) ∙ ap (bit_of_words read) (zero_first (at % block_bits)) ∙ first.bit;
-      before = λ k low high place. same.bits (k % block_bits) (omega arith) ∙ ap (bit_of_words read) (zero_first (k % block_bits)) ∙ first.before k low high place;
+      before = λ k low high. same.bits (k % block_bits) (omega arith) ∙ ap (bit_of_words read) (zero_first (k % block_bits)) ∙ first.before k low high;
     }
 
 -- a block put in
