@@ -58,8 +58,8 @@ unfolding bit_of_number ones
 ones_of_bit n k = elim (cases_eq (bit_at n k) 1) [
   | inl set ↦ ap ones set ∙ sym (ap (λ m. cond (m == 1) 1 0) set)
   | inr clear ↦
-    let zero_bit : bit_at n k ≡ 0 = omega (arith, bit_at-lt n k) in
-    ap ones zero_bit ∙ sym (ap (λ m. cond (m == 1) 1 0) zero_bit)
+      let zero_bit : bit_at n k ≡ 0 = omega (arith, bit_at-lt n k) in
+      ap ones zero_bit ∙ sym (ap (λ m. cond (m == 1) 1 0) zero_bit)
 ]
 
 ones_of_zero : 0 ≡ ones 0

@@ -143,9 +143,9 @@ pub same_first_free : (map : List Bool) (from i j : ℕ) → IsFirstFree map fro
 same_first_free map from i j one two = elim (cases_order i j) [
   | inl same ↦ same
   | inr apart ↦ elim apart [
-      | inl low ↦ absurd (true≢false (sym (two.before i one.after low) ∙ one.free))
-      | inr high ↦ absurd (true≢false (sym (one.before j two.after high) ∙ two.free))
-    ]
+    | inl low ↦ absurd (true≢false (sym (two.before i one.after low) ∙ one.free))
+    | inr high ↦ absurd (true≢false (sym (one.before j two.after high) ∙ two.free))
+  ]
 ]
 
 pub not_full : (map : List Bool) (from i : ℕ) → IsFirstFree map from i → IsFullFrom map from → ⊥
@@ -231,13 +231,13 @@ among_numbers : (p : ℕ → Bool) (a n q : ℕ) → a ≤ q → q < a + n → s
 among_numbers p a zero q low high = absurd (omega arith)
 among_numbers p a (suc n) q low high = elim (cases_eq q a) [
   | inl here ↦
-    let test : (q == a) ≡ true = grind (arith, nat_tests) in
-    let rest = outside_numbers p (a + 1) n q (inl (omega arith)) in
-    ⊎_elim (λ is. contains_at p a n q true is ∙ ap (λ t. t || set.contains (numbers p (a + 1) n) q) test ∙ sym (ap p here ∙ is)) (λ is. contains_at p a n q false is ∙ rest ∙ sym (ap p here ∙ is)) (cases_Bool (p a))
+      let test : (q == a) ≡ true = grind (arith, nat_tests) in
+      let rest = outside_numbers p (a + 1) n q (inl (omega arith)) in
+      ⊎_elim (λ is. contains_at p a n q true is ∙ ap (λ t. t || set.contains (numbers p (a + 1) n) q) test ∙ sym (ap p here ∙ is)) (λ is. contains_at p a n q false is ∙ rest ∙ sym (ap p here ∙ is)) (cases_Bool (p a))
   | inr other ↦
-    let test : (q == a) ≡ false = grind (arith, nat_tests) in
-    let rest = among_numbers p (a + 1) n q (omega arith) (omega arith) in
-    ⊎_elim (λ is. contains_at p a n q true is ∙ ap (λ t. t || set.contains (numbers p (a + 1) n) q) test ∙ rest) (λ is. contains_at p a n q false is ∙ rest) (cases_Bool (p a))
+      let test : (q == a) ≡ false = grind (arith, nat_tests) in
+      let rest = among_numbers p (a + 1) n q (omega arith) (omega arith) in
+      ⊎_elim (λ is. contains_at p a n q true is ∙ ap (λ t. t || set.contains (numbers p (a + 1) n) q) test ∙ rest) (λ is. contains_at p a n q false is ∙ rest) (cases_Bool (p a))
 ]
 
 len_numbers : (p : ℕ → Bool) (a n : ℕ) → set.len (numbers p a n) ≡ passing p a n
@@ -247,8 +247,8 @@ len_numbers p a (suc n) =
     let rest = len_numbers p (a + 1) n in
     ⊎_elim (λ is.
     let grown : set.len (numbers p a (suc n)) ≡ set.len (numbers p (a + 1) n) + 1 =
-        ap set.len (filter_first p a (range_with_len (a + 1) n) true is)
-        ∙ set.len-insert nat_cmp_total (numbers p (a + 1) n) a ∙ ap (λ t. cond t (set.len (numbers p (a + 1) n)) (set.len (numbers p (a + 1) n) + 1)) fresh in
+    ap set.len (filter_first p a (range_with_len (a + 1) n) true is)
+    ∙ set.len-insert nat_cmp_total (numbers p (a + 1) n) a ∙ ap (λ t. cond t (set.len (numbers p (a + 1) n)) (set.len (numbers p (a + 1) n) + 1)) fresh in
     omega (arith, grown, rest, passing-suc p a n, ap {B = ℕ} (λ t. cond t 1 0) is)) (λ is.
     let same = ap set.len (filter_first p a (range_with_len (a + 1) n) false is) in
     omega (arith, same, rest, passing-suc p a n, ap {B = ℕ} (λ t. cond t 1 0) is)) (cases_Bool (p a))
@@ -265,3 +265,8 @@ unfolding members_of count_of count_between
 len-members_of map =
     let size : length map ≡ length map - 0 = omega arith in
     len_numbers (is_member map) 0 (length map) ∙ ap (passing (is_member map) 0) size
+
+-- the laws of members and of counts, for `grind` and `search`
+pub ruleset member_laws = (is_member_past, is_member-replicate, is_member-set, contains-members_of)
+
+pub ruleset count_laws = (count_of-le, count_between-le, count_between-add, count_between-none, count_between-one, count_of-set_absent, count_of-clear_present, count_of-replicate, len-members_of)

@@ -154,13 +154,13 @@ module _ (len index : ℕ) (ws read new : List ℕ) (stored : IsStored len ws) (
   put_inside : (b : ℕ) → b / block_bits ≡ index → bit_of_words new b ≡ bit_of_words read (b % block_bits)
   put_inside b place = elim (cases_lt (b / 64) (length ws)) [
     | inl there ↦
-      let at : 512 * index + b % block_bits / 64 ≡ b / 64 = omega arith in
-      bit_at_place new b (512 * index + b % block_bits / 64) (b % 64) (omega arith) refl
-      ∙ ap (λ m. bit_of_number m (b % 64)) (puts.inside (b % block_bits / 64) (omega arith) (omega arith))
-      ∙ sym (bit_at_place read (b % block_bits) (b % block_bits / 64) (b % 64) refl (omega arith))
+        let at : 512 * index + b % block_bits / 64 ≡ b / 64 = omega arith in
+        bit_at_place new b (512 * index + b % block_bits / 64) (b % 64) (omega arith) refl
+        ∙ ap (λ m. bit_of_number m (b % 64)) (puts.inside (b % block_bits / 64) (omega arith) (omega arith))
+        ∙ sym (bit_at_place read (b % block_bits) (b % block_bits / 64) (b % 64) refl (omega arith))
     | inr gone ↦
-      bit_past new b (omega (arith, puts.len))
-      ∙ sym (none.bits (b % block_bits) (omega arith) (omega (arith, stored.enough)))
+        bit_past new b (omega (arith, puts.len))
+        ∙ sym (none.bits (b % block_bits) (omega arith) (omega (arith, stored.enough)))
   ]
 
   put_outside : (b : ℕ) → b / block_bits ≢ index → bit_of_words new b ≡ bit_of_words ws b

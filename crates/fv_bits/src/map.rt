@@ -5,17 +5,15 @@ ghost use Rattle.fv_bits.specs.Bits.{block_bits};
 ghost use Rattle.fv_bits.specs.Members.{IsBlockOf, IsFirstFree, IsFirstPast, IsFullFrom, IsUnion, TakesBlock, count_between, count_of, is_member};
 ghost use Rattle.fv_bits.specs.Stored.{AreSet, HasNoneAbove, IsFirst, IsFirstAbove};
 
+use crate::{block, words};
 use std::alloc::{AllocError, Global};
 use std::marker::Model;
-
-use crate::block;
-use crate::words;
 
 /// A set of numbers below a length, one bit for each number.
 ///
 /// Contracts see the list that says for each number below the length whether it is a member. All
 /// calls but `new` take no memory.
-#[derive(Drop)]
+#[derive(Debug, Drop)]
 pub struct BitMap {
     len: u32,
     words: Vec<u64>,
@@ -155,7 +153,11 @@ fn first_free(words: &[u64], len: u32, from: u32) -> Option<u32>
     ensures within { IfSome result (λ at. at < len) }
 {
     let at = words::first_clear(words, from);
-    if at < len as u64 { Some(at as u32) } else { None }
+    if at < len as u64 {
+        Some(at as u32)
+    } else {
+        None
+    }
 }
 
 /// The first number past the length whose bit is set in block `index`, which has these words.
