@@ -1,13 +1,13 @@
 -- The eight bytes of a word, and the words of a block.
-use Rattle.std.proofs.Common.{◌≡◌, ℕ, zero, suc, ◌+◌, ◌-◌, ◌*◌, ◌/◌, ◌%◌, ◌^◌, ◌<◌, ◌≤◌, Fits, List, [], ◌∷◌, ◌++◌, length, get_or, set, take, drop, Bool, true, false, cond, ◌==◌, sym, refl, ap, ◌∙◌, inl, inr, arith, rules, length-append, length-take-le, length-drop, get_or-take, get_or-drop, get_or-set_same, get_or-set_other}
-use Rattle.std.specs.Int.{bit_at, w8, w64, to_le_bytes, from_le_bytes}
+use Rattle.std.proofs.Common.{◌≡◌, ℕ, zero, suc, ◌+◌, ◌-◌, ◌*◌, ◌/◌, ◌%◌, ◌^◌, ◌<◌, ◌≤◌, List, ◌++◌, length, get_or, set, take, drop, true, false, cond, ◌==◌, sym, refl, ap, ◌∙◌, inl, inr, arith, length-append, length-take-le, length-drop, get_or-take, get_or-drop, get_or-set_same, get_or-set_other}
+use Rattle.std.specs.Int.{bit_at, w64, to_le_bytes, from_le_bytes}
 use Rattle.std.proofs.lemmas.Bool.{cases_eq, cases_lt}
 use Rattle.std.proofs.lemmas.Bool.Decides.{nat_tests}
 use Rattle.std.proofs.lemmas.List.{get_or_past, get_or_append_left, get_or-append_right}
 use Rattle.std.proofs.lemmas.Nat.{le_bytes_8}
 use Rattle.std.proofs.lemmas.Nat.Bits.{bit_at_cat_low}
 use Rattle.fv_bits.specs.Bits.{bit_of_number, bit_of_bytes}
-use Rattle.fv_bits.specs.Stored.{bit_of_words, IsWordOf, PutsWord, HasBitsOf}
+use Rattle.fv_bits.specs.Stored.{bit_of_words, IsWordOf, PutsWord}
 use Rattle.fv_bits.proofs.Numbers.{bit_shr, bit_zero}
 use Rattle.fv_bits.proofs.Rows.{bit_at_place}
 

@@ -1,16 +1,15 @@
 -- Laws of maps, for callers.
-use Rattle.std.proofs.Common.{◌≡◌, ◌≢◌, ℕ, zero, suc, ◌+◌, ◌-◌, ◌*◌, ◌/◌, ◌%◌, ◌^◌, ◌<◌, ◌≤◌, ◌⊎◌, List, [], ◌∷◌, length, get_or, set, replicate, filter, Bool, true, false, cond, ◌==◌, ◌||◌, count_by, sym, refl, ap, ap₂, ◌∙◌, inl, inr, ⊎_elim, subst, arith, length-set, get_or-set_same, get_or-set_other, add-zero}
+use Rattle.std.proofs.Common.{◌≡◌, ℕ, zero, suc, ◌+◌, ◌-◌, ◌*◌, ◌/◌, ◌%◌, ◌<◌, ◌≤◌, ◌⊎◌, List, ◌∷◌, length, get_or, set, replicate, filter, Bool, true, false, cond, ◌==◌, ◌||◌, sym, refl, ap, ap₂, ◌∙◌, inl, inr, ⊎_elim, arith, length-set, get_or-set_same, get_or-set_other, add-zero}
 use Rattle.std.specs.FinSet as set
 use Rattle.std.specs.List.{range_with_len}
 use Rattle.std.specs.Ordering.{nat_cmp, eq_by_cmp}
 use Rattle.std.specs.Cmp.{nat_cmp_total}
-use Rattle.std.specs.Int.{bit_at}
 use Rattle.std.proofs.lemmas.Bool.{cases_Bool, cases_eq, cases_lt, cases_order, true≢false}
 use Rattle.std.proofs.lemmas.Bool.Decides.{nat_tests}
 use Rattle.std.proofs.lemmas.List.{get_or_past, ext_get_or, length-replicate, get_or-replicate}
 use Rattle.std.proofs.lemmas.Nat.Bits.{bit_at-lt, same_from_bits_below}
 use Rattle.fv_bits.specs.Bits.{bit_of_number, bit_of_bytes, bit_of_area, block_bits}
-use Rattle.fv_bits.specs.Members.{is_member, count_between, count_of, members_of, IsFirstFree, IsFullFrom, IsUnion, IsBlockOf, TakesBlock, IsFirstPast}
+use Rattle.fv_bits.specs.Members.{is_member, count_between, count_of, members_of, IsFirstFree, IsFullFrom, IsUnion, IsBlockOf, TakesBlock}
 use Rattle.fv_bits.proofs.Numbers.{bit_zero}
 use Rattle.fv_bits.proofs.Bytes.{bit_in_byte}
 use Rattle.fv_bits.proofs.Counts.{passing, passing-add, passing-suc, passing_same, passing_le}

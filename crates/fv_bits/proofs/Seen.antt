@@ -1,7 +1,6 @@
 -- What each call says of the map that a caller sees, from what the functions over words say.
-use Rattle.std.proofs.Common.{◌≡◌, ℕ, Option, Some, None, IfSome, IfNone, ◌+◌, ◌-◌, ◌*◌, ◌<◌, ◌≤◌, List, length, set, Bool, true, false, count_by, sym, refl, ap, subst, ◌∙◌, arith}
+use Rattle.std.proofs.Common.{◌≡◌, ℕ, Option, IfSome, IfNone, ◌-◌, ◌*◌, ◌<◌, ◌≤◌, List, length, set, Bool, false, count_by, sym, ap, subst, ◌∙◌, arith}
 use Rattle.std.specs.List.{range_with_len}
-use Rattle.fv_bits.specs.Bits.{block_bits}
 use Rattle.fv_bits.specs.Members.{is_member, count_between, count_of, IsFirstFree, IsFullFrom, IsUnion, IsBlockOf, TakesBlock, IsFirstPast}
 use Rattle.fv_bits.specs.Stored.{bit_of_words, map_of, IsStored, IsFirst, AreSet, IsFirstAbove, HasNoneAbove, PutsBitOf, Unites, HasBitsOf, PutsBlock}
 use Rattle.fv_bits.proofs.Maps.{length-map_of, member_of, put_stored, put_map, count_map, count_all, full_map, found_map, unite_stored, unite_map, block_map, past_block, block_stored, block_taken, same_union, same_taken}

@@ -1,5 +1,5 @@
-use Rattle.std.proofs.Common.{ap, ◌∙◌, ◌+◌, ◌/◌, sym}
-use Rattle.fv_bits.specs.Stored.{IsStored, map_of}
+use Rattle.std.proofs.Common.{ap, ◌∙◌, ◌+◌, ◌/◌}
+use Rattle.fv_bits.specs.Stored.{map_of}
 use Rattle.fv_bits.proofs.Maps.{new_stored, new_map}
 use Rattle.fv_bits.proofs.map.BitMap.new.Goals as goal
 
