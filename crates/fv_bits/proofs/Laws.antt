@@ -12,7 +12,7 @@ use Rattle.fv_bits.specs.Bits.{bit_of_number, bit_of_bytes, bit_of_area, block_b
 use Rattle.fv_bits.specs.Members.{is_member, count_between, count_of, members_of, IsFirstFree, IsFullFrom, IsUnion, IsBlockOf, TakesBlock}
 use Rattle.fv_bits.proofs.Numbers.{bit_zero}
 use Rattle.fv_bits.proofs.Bytes.{bit_in_byte}
-use Rattle.fv_bits.proofs.Counts.{passing, passing-add, passing-suc, passing_same, passing_le}
+use Rattle.fv_bits.proofs.Counts.{passing, passing-add, passing-suc, passing_same, passing_le, none_pass}
 
 -- two maps with the same length and the same members are equal
 pub same_maps : (left right : List Bool) → length left ≡ length right → ((i : ℕ) → is_member left i ≡ is_member right i) → left ≡ right
@@ -116,13 +116,9 @@ pub count_of-clear_present : (map : List Bool) (i : ℕ) → i < length map → 
 count_of-clear_present map i inside present = omega (arith, count_of-set map i false inside, ap {B = ℕ} (λ t. cond t 1 0) present)
 
 -- a map without members
-none_pass : (p : ℕ → Bool) (a n : ℕ) → ((k : ℕ) → p k ≡ false) → passing p a n ≡ 0
-none_pass p a zero none = refl
-none_pass p a (suc n) none = omega (arith, passing-suc p a n, ap {B = ℕ} (λ t. cond t 1 0) (none a), none_pass p (a + 1) n none)
-
 pub count_of-replicate : (len : ℕ) → count_of (replicate len false) ≡ 0
 unfolding count_of count_between
-count_of-replicate len = none_pass (is_member (replicate len false)) 0 (length (replicate len false) - 0) (is_member-replicate len)
+count_of-replicate len = none_pass (is_member (replicate len false)) 0 (length (replicate len false) - 0) (λ k _. is_member-replicate len k)
 
 -- a map with all numbers
 all_pass : (p : ℕ → Bool) (a n : ℕ) → ((k : ℕ) → a ≤ k → k < a + n → p k ≡ true) → passing p a n ≡ n

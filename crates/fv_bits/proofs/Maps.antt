@@ -72,9 +72,12 @@ pub count_map : (len : ℕ) (ws : List ℕ) → IsStored len ws → (from to : �
 unfolding count_between
 count_map len ws stored from to = passing_same (bit_of_words ws) (is_member (map_of len ws)) from from (to - from) (λ j _. sym (member_of len ws stored (from + j)))
 
-pub count_all : (len : ℕ) (ws : List ℕ) → IsStored len ws → count_by (bit_of_words ws) (range_with_len 0 (len - 0)) ≡ count_of (map_of len ws)
+pub count_all : (len : ℕ) (ws : List ℕ) → IsStored len ws → count_by (bit_of_words ws) (range_with_len 0 len) ≡ count_of (map_of len ws)
 unfolding count_of
-count_all len ws stored = count_map len ws stored 0 len ∙ ap (count_between (map_of len ws) 0) (sym (length-map_of len ws))
+count_all len ws stored =
+    let size : len ≡ len - 0 = omega arith in
+    ap (λ n. count_by (bit_of_words ws) (range_with_len 0 n)) size
+    ∙ count_map len ws stored 0 len ∙ ap (count_between (map_of len ws) 0) (sym (length-map_of len ws))
 
 -- the first number that is no member
 pub free_map : (len : ℕ) (ws : List ℕ) → IsStored len ws → (from at : ℕ) → IsFirst ws false from at → at < len → IsFirstFree (map_of len ws) from at

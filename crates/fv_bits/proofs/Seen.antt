@@ -16,9 +16,9 @@ pub count_seen : (seen : List Bool) (len : ℕ) (ws xs : List ℕ) (from to r : 
 count_seen seen len ws xs from to r same stored read is =
     is ∙ ap (λ l. count_by (bit_of_words l) (range_with_len from (to - from))) read ∙ count_map len ws stored from to ∙ ap (λ m. count_between m from to) same
 
-pub count_all_seen : (seen : List Bool) (len : ℕ) (ws xs : List ℕ) (r : ℕ) → map_of len ws ≡ seen → IsStored len ws → xs ≡ ws → r ≡ count_by (bit_of_words xs) (range_with_len 0 (len - 0)) → r ≡ count_of seen
+pub count_all_seen : (seen : List Bool) (len : ℕ) (ws xs : List ℕ) (r : ℕ) → map_of len ws ≡ seen → IsStored len ws → xs ≡ ws → r ≡ count_by (bit_of_words xs) (range_with_len 0 len) → r ≡ count_of seen
 count_all_seen seen len ws xs r same stored read is =
-    is ∙ ap (λ l. count_by (bit_of_words l) (range_with_len 0 (len - 0))) read ∙ count_all len ws stored ∙ ap count_of same
+    is ∙ ap (λ l. count_by (bit_of_words l) (range_with_len 0 len)) read ∙ count_all len ws stored ∙ ap count_of same
 
 -- the words that a call reads or writes hold each number below the length
 pub within_seen : (seen : List Bool) (len : ℕ) (ws xs : List ℕ) (i : ℕ) → map_of len ws ≡ seen → IsStored len ws → xs ≡ ws → i ≤ length seen → i ≤ 64 * length xs
@@ -76,3 +76,6 @@ block_stored_seen seen len index ws xs read new kept same stored was puts none k
 pub block_taken_seen : (seen : List Bool) (len index : ℕ) (ws xs read new kept block : List ℕ) → map_of len ws ≡ seen → IsStored len ws → xs ≡ ws → PutsBlock xs (512 * index) read new → HasNoneAbove read index len → HasBitsOf read 0 block → kept ≡ new → TakesBlock seen (map_of len kept) index block
 block_taken_seen seen len index ws xs read new kept block same stored was puts none bits keeps =
     same_taken same (sym (ap (map_of len) keeps)) (block_taken len index ws read new stored (rw was at puts) none block bits)
+
+pub stored_seen : (len : ℕ) (ws xs : List ℕ) → IsStored len ws → xs ≡ ws → IsStored len xs
+stored_seen len ws xs stored read = subst (IsStored len) (sym read) stored

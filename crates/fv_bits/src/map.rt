@@ -1,9 +1,10 @@
 //! The bit map itself.
 
-ghost use Rattle.std.specs.Prelude.{◌≡◌, ℕ, ◌*◌, ◌^◌, ◌<◌, ◌≤◌, true, false, length, replicate, slice_set, IfOk, IfSome, IfNone, OnSome};
+ghost use Rattle.std.specs.Prelude.{◌≡◌, ℕ, ◌*◌, ◌^◌, ◌<◌, ◌≤◌, true, false, length, replicate, slice_set, count_by, IfOk, IfSome, IfNone, OnSome};
 ghost use Rattle.fv_bits.specs.Bits.{block_bits};
 ghost use Rattle.fv_bits.specs.Members.{IsBlockOf, IsFirstFree, IsFirstPast, IsFullFrom, IsUnion, TakesBlock, count_between, count_of, is_member};
-ghost use Rattle.fv_bits.specs.Stored.{AreSet, HasNoneAbove, IsFirst, IsFirstAbove};
+ghost use Rattle.fv_bits.specs.Stored.{AreSet, HasNoneAbove, IsFirst, IsFirstAbove, IsStored, bit_of_words};
+ghost use Rattle.std.specs.List.{range_with_len};
 
 use crate::{block, words};
 use std::alloc::{AllocError, Global};
@@ -87,11 +88,11 @@ impl BitMap {
     }
 
     /// How many members there are. Costs a step for each word of 64 numbers.
-    #[tactic(auto, using(crate::proofs::Seen::count_all_seen))]
+    #[tactic(auto, using(crate::proofs::Seen::count_all_seen, crate::proofs::Seen::stored_seen))]
     pub fn count(&self) -> u32
         ensures { result ≡ count_of self.now }
     {
-        words::count_between(&self.words, 0, self.len)
+        count(&self.words, self.len)
     }
 
     /// How many members there are from `from` up to `to`, without `to`. Costs a step for each word of
@@ -173,4 +174,12 @@ fn first_past(read: &[u64; 512], index: u32, len: u32) -> Option<u32>
     }
     let at = words::first_set(read, room)?;
     Some(start + at as u32)
+}
+
+/// How many bits are set in the words of a map of this length. Reads each word once.
+fn count(words: &[u64], len: u32) -> u32
+    requires { IsStored len words.now }
+    ensures { result ≡ count_by (bit_of_words words.now) (range_with_len 0 len) }
+{
+    words::ones(words) as u32
 }
