@@ -1,5 +1,5 @@
 -- What the words of a map say of its members.
-use Rattle.std.proofs.Common.{◌≡◌, ◌≢◌, ℕ, Option, Some, None, IfSome, IfNone, ◌+◌, ◌-◌, ◌*◌, ◌/◌, ◌%◌, ◌<◌, List, length, get_or, set, replicate, Bool, true, false, cond, ◌==◌, ◌||◌, count_by, sym, refl, ap, subst, ◌∙◌, inl, inr, arith, length-set}
+use Rattle.std.proofs.Common.{◌≡◌, ◌≢◌, ℕ, Option, Some, None, IfSome, IfNone, ◌+◌, ◌-◌, ◌*◌, ◌/◌, ◌%◌, ◌<◌, ◌≤◌, List, length, get_or, set, replicate, Bool, true, false, cond, ◌==◌, ◌||◌, count_by, sym, refl, ap, subst, ◌∙◌, inl, inr, arith, length-set}
 use Rattle.std.specs.List.{range_with_len}
 use Rattle.std.proofs.lemmas.Bool.{cases_eq, cases_lt, true≢false}
 use Rattle.std.proofs.lemmas.Bool.Decides.{nat_tests}
@@ -34,12 +34,10 @@ zero_words n b =
     ] in
     bit_at_place (replicate n 0) b (b / 64) (b % 64) refl refl ∙ ap (λ m. bit_of_number m (b % 64)) zero_word ∙ bit_zero (b % 64)
 
-pub new_stored : (len : ℕ) → IsStored len (replicate ((len + 63) / 64) 0)
-new_stored len = record {
-  enough = omega (arith, length-replicate {A = ℕ} ((len + 63) / 64) 0);
-  few = omega (arith, length-replicate {A = ℕ} ((len + 63) / 64) 0);
-  clear = λ b _. zero_words ((len + 63) / 64) b;
-}
+pub new_stored : (len n : ℕ) → len ≤ 64 * n → 64 * n < len + 64 → IsStored len (replicate n 0)
+new_stored len n enough few =
+    let size = length-replicate {A = ℕ} n 0 in
+    record { enough = omega (arith, size); few = omega (arith, size); clear = λ b _. zero_words n b }
 
 pub new_map : (len n : ℕ) → map_of len (replicate n 0) ≡ replicate len false
 unfolding map_of
@@ -139,7 +137,7 @@ above_from ws index len at below inside first =
       past = omega (arith, first.after);
       place = omega arith;
       bit = ap (bit_of_words ws) rest ∙ first.here;
-      before = λ k low high. first.before (k % block_bits) (omega arith) (omega arith);
+      before = λ k low high place. first.before (k % block_bits) (omega arith) (omega arith);
     }
 
 pub past_block : (len index : ℕ) (read block : List ℕ) (at : ℕ) → HasBitsOf read 0 block → IsFirstAbove read index len at → IsFirstPast len index block at
@@ -149,7 +147,7 @@ past_block len index read block at same first =
       past = first.past;
       place = first.place;
       bit = same.bits (at % block_bits) (omega arith) ∙ ap (bit_of_words read) (zero_first (at % block_bits)) ∙ first.bit;
-      before = λ k low high. same.bits (k % block_bits) (omega arith) ∙ ap (bit_of_words read) (zero_first (k % block_bits)) ∙ first.before k low high;
+      before = λ k low high place. same.bits (k % block_bits) (omega arith) ∙ ap (bit_of_words read) (zero_first (k % block_bits)) ∙ first.before k low high place;
     }
 
 -- a block put in

@@ -53,4 +53,4 @@ pub record IsFirstPast (len index : ℕ) (block : List ℕ) (i : ℕ) : Type 0 w
   pub past : len ≤ i
   pub place : i / block_bits ≡ index
   pub bit : bit_of_bytes block (i % block_bits) ≡ true
-  pub before : (k : ℕ) → len ≤ k → k < i → bit_of_bytes block (k % block_bits) ≡ false
+  pub before : (k : ℕ) → len ≤ k → k < i → k / block_bits ≡ index → bit_of_bytes block (k % block_bits) ≡ false

@@ -85,7 +85,7 @@ pub record IsFirstAbove (words : List ℕ) (index len at : ℕ) : Type 0 where
   pub past : len ≤ at
   pub place : at / block_bits ≡ index
   pub bit : bit_of_words words (at % block_bits) ≡ true
-  pub before : (k : ℕ) → len ≤ k → k < at → bit_of_words words (k % block_bits) ≡ false
+  pub before : (k : ℕ) → len ≤ k → k < at → k / block_bits ≡ index → bit_of_words words (k % block_bits) ≡ false
 
 -- no bit is set in block `index`, which has these words, for a number from `len` on
 pub record HasNoneAbove (words : List ℕ) (index len : ℕ) : Type 0 where

@@ -37,11 +37,11 @@ impl BitMap {
     pub fn new(alloc: Global, len: u32) -> Result<BitMap, AllocError>
         ensures empty { IfOk result (λ map. map ≡ replicate len false) }
     {
-        let words = vec![in alloc; 0; (len as usize + 63) / 64]?;
+        let words = vec![in alloc; 0; (len as usize).div_ceil(64)]?;
         Ok(BitMap { len, words })
     }
 
-    /// The length: every member is below it.
+    /// The length, which every member is below. Costs one step.
     #[tactic(auto, using(crate::proofs::Seen::length_seen))]
     pub fn len(&self) -> u32
         ensures { result ≡ length self.now }
@@ -49,7 +49,7 @@ impl BitMap {
         self.len
     }
 
-    /// Whether `i` is a member.
+    /// Whether `i`, which is below the length, is a member. Costs one step.
     #[tactic(auto, using(crate::proofs::Seen::member_seen, crate::proofs::Seen::within_seen))]
     pub fn get(&self, i: u32) -> bool
         requires { i < length self.now }
@@ -58,7 +58,7 @@ impl BitMap {
         words::get(&self.words, i)
     }
 
-    /// Makes `i` a member.
+    /// Makes `i`, which is below the length, a member. Costs one step.
     #[tactic(auto, using(crate::proofs::Seen::put_seen, crate::proofs::Seen::put_stored_seen, crate::proofs::Seen::within_seen, std::proofs::lemmas::List::with_items_is))]
     pub fn set(&mut self, i: u32)
         requires { i < length self.old }
@@ -67,7 +67,7 @@ impl BitMap {
         words::set(&mut self.words, i);
     }
 
-    /// Takes `i` out of the set.
+    /// Takes `i`, which is below the length, out of the set. Costs one step.
     #[tactic(auto, using(crate::proofs::Seen::put_seen, crate::proofs::Seen::put_stored_seen, crate::proofs::Seen::within_seen, std::proofs::lemmas::List::with_items_is))]
     pub fn clear(&mut self, i: u32)
         requires { i < length self.old }
@@ -76,8 +76,9 @@ impl BitMap {
         words::clear(&mut self.words, i);
     }
 
-    /// The least number from `from` on that is no member, and `None` exactly where there is none.
-    /// Costs a step for each full word of 64 numbers that is passed.
+    /// The least number from `from` on that is no member, and `None` exactly where there is none below
+    /// the length. `from` is at most the length. Costs a step for each word of 64 numbers that is passed
+    /// over, which is read once.
     #[tactic(auto, using(crate::proofs::Seen::full_seen, crate::proofs::Seen::found_seen))]
     pub fn first_free(&self, from: u32) -> Option<u32>
         requires { from ≤ length self.now }
@@ -87,7 +88,7 @@ impl BitMap {
         first_free(&self.words, self.len, from)
     }
 
-    /// How many members there are. Costs a step for each word of 64 numbers.
+    /// How many members there are. Costs a step for each word of 64 numbers, which is read once.
     #[tactic(auto, using(crate::proofs::Seen::count_all_seen, crate::proofs::Seen::stored_seen))]
     pub fn count(&self) -> u32
         ensures { result ≡ count_of self.now }
@@ -95,8 +96,8 @@ impl BitMap {
         count(&self.words, self.len)
     }
 
-    /// How many members there are from `from` up to `to`, without `to`. Costs a step for each word of
-    /// 64 numbers in between.
+    /// How many members there are from `from` up to `to`, without `to`, where `from` is at most `to` and
+    /// `to` at most the length. Costs a step for each word of 64 numbers in between.
     #[tactic(auto, using(crate::proofs::Seen::count_seen, crate::proofs::Seen::within_seen))]
     pub fn count_range(&self, from: u32, to: u32) -> u32
         requires ordered { from ≤ to }
