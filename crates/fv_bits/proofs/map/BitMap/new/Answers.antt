@@ -1,4 +1,4 @@
-use Rattle.std.proofs.Common.{◌≡◌, ap, ◌∙◌, arith}
+use Rattle.std.proofs.Common.{ap, ◌∙◌, arith}
 use Rattle.fv_bits.specs.Stored.{map_of}
 use Rattle.fv_bits.proofs.Maps.{new_stored, new_map}
 use Rattle.fv_bits.proofs.map.BitMap.new.Goals as goal
