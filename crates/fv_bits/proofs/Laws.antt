@@ -1,5 +1,5 @@
 -- Laws of maps, for callers.
-use Rattle.std.proofs.Common.{◌≡◌, ℕ, zero, suc, ◌+◌, ◌-◌, ◌*◌, ◌/◌, ◌%◌, ◌<◌, ◌≤◌, ◌⊎◌, List, ◌∷◌, length, get_or, set, replicate, filter, Bool, true, false, cond, ◌==◌, ◌||◌, sym, refl, ap, ap₂, ◌∙◌, inl, inr, ⊎_elim, arith, length-set, get_or-set_same, get_or-set_other, add-zero}
+use Rattle.std.proofs.Common.{◌≡◌, ℕ, zero, suc, ◌+◌, ◌-◌, ◌*◌, ◌/◌, ◌%◌, ◌<◌, ◌≤◌, ◌⊎◌, List, ◌∷◌, length, get_or, set, replicate, filter, Bool, true, false, cond, ◌==◌, ◌||◌, ◌&&◌, not, sym, refl, ap, ap₂, ◌∙◌, inl, inr, ⊎_elim, arith, length-set, get_or-set_same, get_or-set_other, add-zero}
 use Rattle.std.specs.FinSet as set
 use Rattle.std.specs.List.{range_with_len}
 use Rattle.std.specs.Ordering.{nat_cmp, eq_by_cmp}
@@ -196,7 +196,30 @@ bit_of_area_map area map i block =
     let at : block_bits * (i / block_bits) + i % block_bits ≡ i = omega arith in
     block.bits (i % block_bits) (omega arith) ∙ ap (is_member map) at
 
+-- where a block was taken, no bit past the length was set
+pub none_past : (old new : List Bool) (index : ℕ) (block : List ℕ) → TakesBlock old new index block → (b : ℕ) → b < block_bits → length old ≤ block_bits * index + b → bit_of_bytes block b ≡ false
+none_past old new index block took b inside past =
+    sym (took.taken b inside) ∙ is_member_past new (block_bits * index + b) (omega (arith, took.len))
+
+-- a map that takes the blocks of an area one by one has its bits so far
+pub taken_more : (area : ℕ → List ℕ) (old new : List Bool) (index : ℕ) → TakesBlock old new index (area index) → ((i : ℕ) → i < block_bits * index → is_member old i ≡ bit_of_area area i) → (i : ℕ) → i < block_bits * (index + 1) → is_member new i ≡ bit_of_area area i
+unfolding bit_of_area
+taken_more area old new index took done i within = elim (cases_eq (i / block_bits) index) [
+  | inl here ↦
+      let at : block_bits * index + i % block_bits ≡ i = omega arith in
+      ap (is_member new) (sym at) ∙ took.taken (i % block_bits) (omega arith) ∙ ap (λ n. bit_of_bytes (area n) (i % block_bits)) (sym here)
+  | inr other ↦ took.others i other ∙ done i (omega arith)
+]
+
 -- ---- the finite set of the members
+
+or_as_cond : (t m : Bool) → (t || m) ≡ cond t true m
+or_as_cond true m = refl
+or_as_cond false m = refl
+
+and_as_cond : (t m : Bool) → (not t && m) ≡ cond t false m
+and_as_cond true m = refl
+and_as_cond false m = refl
 
 abbrev numbers : (ℕ → Bool) → ℕ → ℕ → set.FinSet nat_cmp
 numbers p a n = set.from_list (filter p (range_with_len a n))
@@ -260,6 +283,36 @@ unfolding members_of count_of count_between
 len-members_of map =
     let size : length map ≡ length map - 0 = omega arith in
     len_numbers (is_member map) 0 (length map) ∙ ap (passing (is_member map) 0) size
+
+-- the set after each call
+module _ (map : List Bool) where
+  pub members_of-set : (i : ℕ) → i < length map → members_of (set map i true) ≡ set.insert (members_of map) i
+  members_of-set i inside =
+      set.same_set nat_cmp_total set.nat_cmp-IsAntisymmetric (members_of (set map i true)) (set.insert (members_of map) i) (λ q.
+      contains-members_of (set map i true) q ∙ is_member-set map i true q inside
+      ∙ sym (set.contains-insert nat_cmp_total (members_of map) i q ∙ ap₂ ◌||◌ (tied q i) (contains-members_of map q) ∙ or_as_cond (q == i) (is_member map q)))
+
+  pub members_of-clear : (i : ℕ) → i < length map → members_of (set map i false) ≡ set.remove (members_of map) i
+  members_of-clear i inside =
+      set.same_set nat_cmp_total set.nat_cmp-IsAntisymmetric (members_of (set map i false)) (set.remove (members_of map) i) (λ q.
+      contains-members_of (set map i false) q ∙ is_member-set map i false q inside
+      ∙ sym (set.contains-remove nat_cmp_total (members_of map) i q ∙ ap₂ (λ s t. not s && t) (tied q i) (contains-members_of map q) ∙ and_as_cond (q == i) (is_member map q)))
+
+pub members_of-union : (map left right : List Bool) → IsUnion map left right → members_of map ≡ set.union (members_of left) (members_of right)
+members_of-union map left right union =
+    set.same_set nat_cmp_total set.nat_cmp-IsAntisymmetric (members_of map) (set.union (members_of left) (members_of right)) (λ q.
+    contains-members_of map q ∙ union.members q
+    ∙ sym (set.contains-union nat_cmp_total (members_of left) (members_of right) q ∙ ap₂ ◌||◌ (contains-members_of left q) (contains-members_of right q)))
+
+pub members_of-replicate : (len : ℕ) → members_of (replicate len false) ≡ set.empty
+members_of-replicate len =
+    set.same_set nat_cmp_total set.nat_cmp-IsAntisymmetric (members_of (replicate len false)) set.empty (λ q.
+    contains-members_of (replicate len false) q ∙ is_member-replicate len q ∙ sym (set.contains-empty nat_cmp q))
+
+-- two maps with the same length and the same set are equal
+pub same_members : (left right : List Bool) → length left ≡ length right → members_of left ≡ members_of right → left ≡ right
+same_members left right len same =
+    same_maps left right len (λ i. sym (contains-members_of left i) ∙ ap (λ s. set.contains s i) same ∙ contains-members_of right i)
 
 -- the laws of members and of counts, for `grind` and `search`
 pub ruleset member_laws = (is_member_past, is_member-replicate, is_member-set, contains-members_of)
