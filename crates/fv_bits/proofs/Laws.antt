@@ -24,7 +24,10 @@ pub is_member_past : (map : List Bool) (i : ℕ) → length map ≤ i → is_mem
 unfolding is_member
 is_member_past map i past = get_or_past map i false past
 
--- a new map has no member
+-- a new map has its length and no member
+pub length_new : (len : ℕ) → length (replicate len false) ≡ len
+length_new len = length-replicate len false
+
 pub is_member-replicate : (len i : ℕ) → is_member (replicate len false) i ≡ false
 unfolding is_member
 is_member-replicate len i = elim (cases_lt i len) [
@@ -45,6 +48,12 @@ is_member-set map i v k inside = elim (cases_eq k i) [
 pub same_unions : (one two left right : List Bool) → IsUnion one left right → IsUnion two left right → one ≡ two
 same_unions one two left right first second =
     same_maps one two (first.len ∙ sym second.len) (λ i. first.members i ∙ sym (second.members i))
+
+-- a map united into an empty one of its length
+pub copied : (map copy : List Bool) → IsUnion copy (replicate (length map) false) map → copy ≡ map
+copied map copy union =
+    same_maps copy map (union.len ∙ length-replicate (length map) false) (λ i.
+    union.members i ∙ ap (λ t. t || is_member map i) (is_member-replicate (length map) i))
 
 -- ---- counts
 
@@ -315,6 +324,8 @@ same_members left right len same =
     same_maps left right len (λ i. sym (contains-members_of left i) ∙ ap (λ s. set.contains s i) same ∙ contains-members_of right i)
 
 -- the laws of members and of counts, for `grind` and `search`
-pub ruleset member_laws = (is_member_past, is_member-replicate, is_member-set, contains-members_of)
+pub ruleset member_laws = (length_new, is_member_past, is_member-replicate, is_member-set, contains-members_of)
 
-pub ruleset count_laws = (count_of-le, count_between-le, count_between-add, count_between-none, count_between-one, count_of-set_absent, count_of-clear_present, count_of-replicate, len-members_of)
+pub ruleset count_laws = (length_new, count_of-le, count_between-le, count_between-add, count_between-none, count_between-one, count_of-set_absent, count_of-clear_present, count_of-replicate, len-members_of)
+
+pub ruleset set_laws = (members_of-set, members_of-clear, members_of-union, members_of-replicate)
