@@ -5,3 +5,4 @@ pub mod SuperBytes
 pub mod Items
 pub mod Places
 pub mod RootBytes
+pub mod Nodes

@@ -1,10 +1,10 @@
 -- What was written is read again.
-use Rattle.std.proofs.Common.{◌≡◌, ℕ, zero, suc, ◌+◌, ◌^◌, ◌<◌, ◌≤◌, List, [], ◌∷◌, ◌++◌, length, drop, replicate, Ok, refl, ap, sym, ◌∙◌, arith, drop-drop}
+use Rattle.std.proofs.Common.{◌≡◌, ℕ, zero, suc, ◌+◌, ◌^◌, ◌<◌, ◌≤◌, Bool, true, false, List, [], ◌∷◌, ◌++◌, length, drop, replicate, Ok, refl, ap, sym, ◌∙◌, arith, drop-drop}
 use Rattle.std.proofs.lemmas.Bool.Decides.{nat_tests}
 use Rattle.std.proofs.lemmas.List.{take_at, drop_at, take-replicate, length-replicate}
 use Rattle.byteorder.specs.Numbers.{big_number-reads_back, length-bytes_high_first}
 use Rattle.fv_codec.specs.Bytes.{word_at, word, zeros}
-use Rattle.fv_codec.specs.Fields.{Field, word_in, zeros_in, verdict, verdicts, in_range, all_zero}
+use Rattle.fv_codec.specs.Fields.{up_to, Field, word_in, zeros_in, verdict, verdicts, in_range, all_zero}
 
 pub length-word : (x : ℕ) → length (word x) ≡ 8
 unfolding word
@@ -34,6 +34,10 @@ in_range_ok least greatest x low high = grind (arith, nat_tests)
 
 pub word_said : (at least greatest x : ℕ) (bytes rest : List ℕ) → drop at bytes ≡ word x ++ rest → x < 2 ^ 64 → least ≤ x → x ≤ greatest → verdict (word_in at least greatest) bytes ≡ Ok tt
 word_said at least greatest x bytes rest there small low high = rw (word_there at x bytes rest there small) (in_range_ok least greatest x low high)
+
+pub up_to-le : (allowed : Bool) (greatest : ℕ) → up_to allowed greatest ≤ greatest
+up_to-le true greatest = omega arith
+up_to-le false greatest = omega arith
 
 zeros_are : (n : ℕ) → all_zero (replicate n 0) ≡ Ok tt
 unfolding all_zero

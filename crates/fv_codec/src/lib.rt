@@ -2,13 +2,17 @@
 #![tactic(auto)]
 
 mod gate;
+mod node;
 mod page;
+mod pointer;
 mod reading;
 mod root;
 mod shape;
 mod superblock;
 
 pub use gate::{gate_open, open_gate};
+pub use node::Node;
+pub use pointer::Pointer;
 pub use root::Root;
 pub use shape::Shape;
 pub use superblock::Super;

@@ -1,15 +1,15 @@
 //! Readers of fields: each reads one field at an offset and judges it.
 
 ghost use Rattle.std.specs.Prelude.{◌≡◌, ◌≤◌, ◌+◌, ◌*◌, length, take, drop, IfOk, OnOk};
-ghost use Rattle.fv_codec.specs.Bytes.{word_at};
-ghost use Rattle.fv_codec.specs.Fields.{in_range, all_zero, each, items, verdict_of};
+ghost use Rattle.fv_codec.specs.Bytes.{word_at, half_at};
+ghost use Rattle.fv_codec.specs.Fields.{in_range, all_zero, each, items, some_filled, up_to, verdict_of};
 ghost use Rattle.fv_codec.specs.Blocks.{asks_place, place_of};
 
 use crate::shape::Shape;
 use byteorder::{BigEndian, ByteOrder};
 
 /// The greatest place of a block: an aggregate has at most 1,048,576 blocks.
-const LAST_PLACE: u64 = 1_048_575;
+pub(crate) const LAST_PLACE: u64 = 1_048_575;
 
 /// The word at an offset.
 #[tactic(auto, unfolding(crate::specs::Bytes::word_at))]
@@ -20,9 +20,24 @@ pub(crate) fn word_at(bytes: &[u8], at: usize) -> u64
     BigEndian::read_u64(&bytes[at..])
 }
 
+/// The number in the four bytes at an offset.
+#[tactic(auto, unfolding(crate::specs::Bytes::half_at))]
+pub(crate) fn half_at(bytes: &[u8], at: usize) -> u32
+    requires { at + 4 ≤ length bytes.now }
+    ensures { result ≡ half_at at bytes.now }
+{
+    BigEndian::read_u32(&bytes[at..])
+}
+
+/// A greatest value that is allowed under a condition, else 0.
+pub(crate) fn up_to(allowed: bool, greatest: u64) -> u64
+    ensures { result ≡ up_to allowed greatest }
+{
+    if allowed { greatest } else { 0 }
+}
+
 /// A number, if it is from the least to the greatest that is allowed.
-pub(crate) fn judged(number: u64, least: u64, greatest: u64) -> Result<u64, Shape>
-    requires { least ≤ greatest }
+pub(crate) fn in_range(number: u64, least: u64, greatest: u64) -> Result<u64, Shape>
     ensures verdict { verdict_of result ≡ in_range least greatest number }
     ensures value { IfOk result (λ x. x ≡ number) }
     ensures within { IfOk result (λ x. (least ≤ x) × (x ≤ greatest)) }
@@ -44,13 +59,22 @@ pub(crate) fn judged(number: u64, least: u64, greatest: u64) -> Result<u64, Shap
 
 /// The word at an offset, if it is from the least to the greatest that is allowed.
 pub(crate) fn word_in(bytes: &[u8], at: usize, least: u64, greatest: u64) -> Result<u64, Shape>
-    requires room { at + 8 ≤ length bytes.now }
-    requires ordered { least ≤ greatest }
+    requires { at + 8 ≤ length bytes.now }
     ensures verdict { verdict_of result ≡ in_range least greatest (word_at at bytes.now) }
     ensures value { IfOk result (λ x. x ≡ word_at at bytes.now) }
     ensures within { IfOk result (λ x. (least ≤ x) × (x ≤ greatest)) }
 {
-    judged(word_at(bytes, at), least, greatest)
+    in_range(word_at(bytes, at), least, greatest)
+}
+
+/// One is wanted where none of the items is filled.
+pub(crate) fn some_filled(none: bool) -> Result<(), Shape>
+    ensures { result ≡ some_filled none }
+{
+    if none {
+        return Err(Shape { want: 1, found: 0 });
+    }
+    Ok(())
 }
 
 /// Whether all of the bytes are zero.
