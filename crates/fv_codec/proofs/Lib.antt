@@ -6,3 +6,7 @@ pub mod Items
 pub mod Places
 pub mod RootBytes
 pub mod Nodes
+pub mod Inodes
+pub mod Inner
+pub mod Leaves
+pub mod Labels
