@@ -45,18 +45,23 @@ seconds (p ∷ ps) (k ∷ ks) same =
     let less : length ks ≡ length ps = omega arith in
     rw (seconds ps ks less) refl
 
-entry_of : List ℕ → ℕ × ℕ
+abbrev pub entry_of : List ℕ → ℕ × ℕ
 entry_of item = (place_of item, kind_of item)
 
 places_of : (n size : ℕ) (bytes : List ℕ) → items n size place_of bytes ≡ map (λ (e : ℕ × ℕ). e.0) (items n size entry_of bytes)
-unfolding items entry_of
+unfolding items
 places_of zero size bytes = refl
 places_of (suc n) size bytes = rw (places_of n size (drop size bytes)) refl
 
 kinds_of : (n size : ℕ) (bytes : List ℕ) → items n size kind_of bytes ≡ map (λ (e : ℕ × ℕ). e.1) (items n size entry_of bytes)
-unfolding items entry_of
+unfolding items
 kinds_of zero size bytes = refl
 kinds_of (suc n) size bytes = rw (kinds_of n size (drop size bytes)) refl
+
+pub zip_items : (n size : ℕ) (bytes : List ℕ) → zip (items n size place_of bytes) (items n size kind_of bytes) ≡ items n size entry_of bytes
+unfolding items
+zip_items zero size bytes = refl
+zip_items (suc n) size bytes = rw (zip_items n size (drop size bytes)) refl
 
 -- ---- entries that were written
 
@@ -65,7 +70,7 @@ unfolding entry_bytes
 length-entry e = simp (length-append, length-word, length-half) refl
 
 entry_again : (e : ℕ × ℕ) → IsEntry e → ReadsBack 12 entry_bytes asks_entry entry_of e
-unfolding asks_entry entry_of entry_bytes
+unfolding asks_entry entry_bytes
 entry_again e is =
     let last = up_to-le (is_used e.1) last_place in
     let pvbn : e.0 < 2 ^ 64 = omega (arith, is.0, last) in

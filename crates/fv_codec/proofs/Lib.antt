@@ -10,3 +10,6 @@ pub mod Inodes
 pub mod Inner
 pub mod Leaves
 pub mod Labels
+pub mod Differs
+pub mod Ranges
+pub mod Decoded

@@ -20,15 +20,24 @@ pub struct ContainerLeaf {
 }
 
 impl ContainerLeaf {
-    ghost use Rattle.std.specs.Prelude.{◌≡◌, ◌≤◌, ◌<◌, ◌^◌, ◌+◌, ◌*◌, ◌++◌, length, IfOk, OnOk};
+    ghost use Rattle.std.specs.Prelude.{◌≡◌, ◌≢◌, ◌≤◌, ◌<◌, ◌^◌, ◌+◌, ◌*◌, ◌++◌, length, IfOk, IfErr, OnOk};
     ghost use Rattle.std.specs.List.{flat_map, zip};
     ghost use Rattle.fv_codec.specs.Fields.{each, items, verdict_of};
     ghost use Rattle.fv_codec.specs.Blocks.{asks_entry, kind_of, leaf_at, place_of, IsContainerLeaf};
     ghost use Rattle.fv_codec.specs.Spelling.{entry_bytes, leaf_bytes};
 
     /// The leaf that a block spells, or the first field that isn't as said. Reads each byte once.
-    #[tactic(auto, unfolding(crate::specs::Blocks::leaf_at))]
+    #[tactic(auto, using(crate::proofs::Decoded::leaf_in_range, crate::proofs::Decoded::leaf_differs))]
     pub fn decode(block: &[u8; 4096]) -> Result<ContainerLeaf, Shape>
+        ensures exact { result ≡ leaf_at block.now }
+        ensures in_range { IfOk result IsContainerLeaf }
+        ensures differs { IfErr result (λ s. s.want ≢ s.found) }
+    {
+        ContainerLeaf::read(block)
+    }
+
+    #[tactic(auto, unfolding(crate::specs::Blocks::leaf_at))]
+    fn read(block: &[u8; 4096]) -> Result<ContainerLeaf, Shape>
         ensures { result ≡ leaf_at block.now }
     {
         word_in(block, 0, LEAF_MARK, LEAF_MARK)?;
@@ -132,13 +141,22 @@ pub struct ContainerInner {
 }
 
 impl ContainerInner {
-    ghost use Rattle.std.specs.Prelude.{◌≡◌, ◌≤◌, ◌<◌, ◌^◌, ◌+◌, ◌++◌, length};
+    ghost use Rattle.std.specs.Prelude.{◌≡◌, ◌≢◌, ◌≤◌, ◌<◌, ◌^◌, ◌+◌, ◌++◌, length, IfOk, IfErr};
     ghost use Rattle.fv_codec.specs.Blocks.{inner_at, IsContainerInner};
     ghost use Rattle.fv_codec.specs.Spelling.{inner_bytes};
 
     /// The inner node that a block spells, or the first field that isn't as said. Reads each byte once.
-    #[tactic(auto, unfolding(crate::specs::Blocks::inner_at))]
+    #[tactic(auto, using(crate::proofs::Decoded::inner_in_range, crate::proofs::Decoded::inner_differs))]
     pub fn decode(block: &[u8; 4096]) -> Result<ContainerInner, Shape>
+        ensures exact { result ≡ inner_at block.now }
+        ensures in_range { IfOk result IsContainerInner }
+        ensures differs { IfErr result (λ s. s.want ≢ s.found) }
+    {
+        ContainerInner::read(block)
+    }
+
+    #[tactic(auto, unfolding(crate::specs::Blocks::inner_at))]
+    fn read(block: &[u8; 4096]) -> Result<ContainerInner, Shape>
         ensures { result ≡ inner_at block.now }
     {
         word_in(block, 0, INNER_MARK, INNER_MARK)?;

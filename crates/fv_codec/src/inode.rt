@@ -1,6 +1,3 @@
-ghost use Rattle.std.specs.Prelude.{◌≡◌, ◌≤◌, ◌<◌, ◌^◌, ◌+◌, ◌*◌, ◌++◌, true, length, take, drop, IfOk, OnOk};
-ghost use Rattle.std.specs.List.{flat_map};
-
 use crate::page::Page;
 use crate::pointer::Pointer;
 use crate::reading::{byte_in, name_in, some_filled, tail, up_to, word_in, zeros_in};
@@ -99,7 +96,7 @@ pub struct InodeBlock {
 }
 
 impl InodeBlock {
-    ghost use Rattle.std.specs.Prelude.{◌≡◌, ◌≤◌, ◌<◌, ◌^◌, ◌+◌, ◌*◌, ◌++◌, length, OnOk};
+    ghost use Rattle.std.specs.Prelude.{◌≡◌, ◌≢◌, ◌≤◌, ◌<◌, ◌^◌, ◌+◌, ◌*◌, ◌++◌, length, IfOk, IfErr, OnOk};
     ghost use Rattle.std.specs.List.{flat_map};
     ghost use Rattle.fv_codec.specs.Fields.{each, items};
     ghost use Rattle.fv_codec.specs.Blocks.{all_free, asks_file, file_of, inodes_at, IsInodeBlock};
@@ -107,8 +104,17 @@ impl InodeBlock {
 
     /// The inode block that a block spells, or the first field that isn't as said; a block of free records
     /// alone wants 1 and has 0. Reads each byte once.
-    #[tactic(auto, unfolding(crate::specs::Blocks::inodes_at), using(crate::proofs::Inodes::free_alone))]
+    #[tactic(auto, using(crate::proofs::Decoded::inodes_in_range, crate::proofs::Decoded::inodes_differs))]
     pub fn decode(block: &[u8; 4096]) -> Result<InodeBlock, Shape>
+        ensures exact { result ≡ inodes_at block.now }
+        ensures in_range { IfOk result IsInodeBlock }
+        ensures differs { IfErr result (λ s. s.want ≢ s.found) }
+    {
+        InodeBlock::read(block)
+    }
+
+    #[tactic(auto, unfolding(crate::specs::Blocks::inodes_at), using(crate::proofs::Inodes::free_alone))]
+    fn read(block: &[u8; 4096]) -> Result<InodeBlock, Shape>
         ensures { result ≡ inodes_at block.now }
     {
         word_in(block, 0, MARK, MARK)?;

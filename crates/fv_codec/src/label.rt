@@ -113,15 +113,24 @@ pub struct Label {
 }
 
 impl Label {
-    ghost use Rattle.std.specs.Prelude.{◌≡◌, ◌≤◌, ◌<◌, ◌^◌, ◌+◌, ◌*◌, ◌++◌, min, length, OnOk};
+    ghost use Rattle.std.specs.Prelude.{◌≡◌, ◌≤◌, ◌<◌, ◌^◌, ◌+◌, ◌*◌, ◌++◌, ◌≢◌, length, IfOk, IfErr, OnOk};
     ghost use Rattle.std.specs.List.{flat_map};
     ghost use Rattle.fv_codec.specs.Fields.{each, items};
     ghost use Rattle.fv_codec.specs.Blocks.{asks_snap, label_at, snap_of, IsLabel};
     ghost use Rattle.fv_codec.specs.Spelling.{label_bytes, label_head, label_numbers, snap_bytes};
 
     /// The label that a block spells, or the first field that isn't as said. Reads each byte once.
-    #[tactic(auto, unfolding(crate::specs::Blocks::label_at))]
+    #[tactic(auto, using(crate::proofs::Decoded::label_in_range, crate::proofs::Decoded::label_differs))]
     pub fn decode(block: &[u8; 4096]) -> Result<Label, Shape>
+        ensures exact { result ≡ label_at block.now }
+        ensures in_range { IfOk result IsLabel }
+        ensures differs { IfErr result (λ s. s.want ≢ s.found) }
+    {
+        Label::read(block)
+    }
+
+    #[tactic(auto, unfolding(crate::specs::Blocks::label_at))]
+    fn read(block: &[u8; 4096]) -> Result<Label, Shape>
         ensures { result ≡ label_at block.now }
     {
         word_in(block, 0, MARK, MARK)?;

@@ -1,4 +1,4 @@
-ghost use Rattle.std.specs.Prelude.{◌≡◌, ◌≤◌, ◌<◌, ◌^◌, ◌+◌, ◌*◌, ◌++◌, true, length, take, drop, IfOk, OnOk};
+ghost use Rattle.std.specs.Prelude.{◌≡◌, ◌≢◌, ◌≤◌, ◌<◌, ◌^◌, ◌+◌, ◌*◌, ◌++◌, true, length, IfOk, IfErr, OnOk};
 ghost use Rattle.std.specs.List.{flat_map};
 
 use crate::page::Page;
@@ -29,8 +29,17 @@ impl Node {
 
     /// The node that a block spells, or the first field that isn't as said; a node of holes alone wants 1
     /// and has 0. Reads each byte once.
-    #[tactic(auto, unfolding(crate::specs::Blocks::node_at), using(crate::proofs::Nodes::holes_alone))]
+    #[tactic(auto, using(crate::proofs::Decoded::node_in_range, crate::proofs::Decoded::node_differs))]
     pub fn decode(block: &[u8; 4096]) -> Result<Node, Shape>
+        ensures exact { result ≡ node_at block.now }
+        ensures in_range { IfOk result IsNode }
+        ensures differs { IfErr result (λ s. s.want ≢ s.found) }
+    {
+        Node::read(block)
+    }
+
+    #[tactic(auto, unfolding(crate::specs::Blocks::node_at), using(crate::proofs::Nodes::holes_alone))]
+    fn read(block: &[u8; 4096]) -> Result<Node, Shape>
         ensures { result ≡ node_at block.now }
     {
         word_in(block, 0, MARK, MARK)?;
