@@ -1,7 +1,7 @@
 -- What the decoders read is in range, and a fault's numbers differ.
-use Rattle.std.proofs.Common.{◌≡◌, ℕ, zero, suc, ◌+◌, ◌*◌, ◌%◌, ◌<◌, ◌≤◌, ◌==◌, ◌≢◌, Bool, true, false, eqb, min, List, [], ◌∷◌, length, map, take, drop, Result, Ok, Err, refl, sym, ap, subst, ◌∙◌, arith, length-drop, length-take}
+use Rattle.std.proofs.Common.{◌≡◌, ℕ, ◌+◌, ◌%◌, ◌≤◌, ◌==◌, ◌≢◌, Bool, true, eqb, min, List, length, take, drop, Result, Ok, sym, subst, ◌∙◌, arith, length-drop, length-take}
 use Rattle.std.specs.Prelude.{IfOk, IfErr}
-use Rattle.std.specs.List.{All, AllByRecursion, zip}
+use Rattle.std.specs.List.{All}
 use Rattle.std.proofs.lemmas.Bool.{eqb-true}
 use Rattle.fv_codec.specs.declared.shape.Shape.{Shape}
 use Rattle.fv_codec.specs.declared.superblock.Super.{Super}
@@ -12,8 +12,8 @@ use Rattle.fv_codec.specs.declared.label.Label.{Label}
 use Rattle.fv_codec.specs.declared.container.ContainerLeaf.{ContainerLeaf}
 use Rattle.fv_codec.specs.declared.container.ContainerInner.{ContainerInner}
 use Rattle.fv_codec.specs.Bytes.{word_at, half_at, byte_at}
-use Rattle.fv_codec.specs.Fields.{Verdict, items, none_filled, up_to}
-use Rattle.fv_codec.specs.Blocks.{super_fields, super_at, IsSuper, asks_place, place_of, root_fields, root_at, IsRoot, last_place, greatest_word, pointed, pointer_fields, asks_pointer, pointer_of, IsPointerIf, IsPointer, node_fields, node_at, IsNode, all_holes, is_hole_at, is_used, most_cells, file_fields, asks_file, file_of, IsInodeRecord, inodes_fields, inodes_at, IsInodeBlock, all_free, is_free_at, inner_fields, inner_at, IsContainerInner, entry_fields, asks_entry, kind_of, leaf_fields, leaf_at, IsEntry, IsContainerLeaf, snap_fields, asks_snap, snap_of, IsSnapRecord, most_stamps, label_fields, label_at, IsLabel}
+use Rattle.fv_codec.specs.Fields.{none_filled, up_to}
+use Rattle.fv_codec.specs.Blocks.{super_fields, super_at, IsSuper, asks_place, place_of, root_fields, root_at, IsRoot, last_place, greatest_word, pointed, pointer_fields, asks_pointer, pointer_of, IsPointerIf, IsPointer, node_fields, node_at, IsNode, is_hole_at, is_used, most_cells, file_fields, asks_file, file_of, IsInodeRecord, inodes_fields, inodes_at, IsInodeBlock, is_free_at, inner_fields, inner_at, IsContainerInner, entry_fields, asks_entry, leaf_fields, leaf_at, IsEntry, IsContainerLeaf, snap_fields, asks_snap, snap_of, IsSnapRecord, most_stamps, label_fields, label_at, IsLabel}
 use Rattle.fv_codec.proofs.Differs.{Differs, in_range_differs, verdicts_differ, read_differs}
 use Rattle.fv_codec.proofs.Ranges.{then_ok, as_said, within, divided, filled, in_range_of, all_are}
 use Rattle.fv_codec.proofs.Nodes.{holes_alone}

@@ -1,11 +1,11 @@
 -- A fault's wanted and found numbers differ.
-use Rattle.std.proofs.Common.{◌≡◌, ℕ, zero, suc, ◌-◌, ◌%◌, ◌<◌, ◌≤◌, ◌≢◌, ◌==◌, Bool, true, false, cond, eqb, List, [], ◌∷◌, take, drop, Result, Ok, Err, refl, sym, ap, subst, ◌∙◌, arith, inl, inr, lt-ltb, le-ltb, eq-eqb, ne_eqb}
-use Rattle.std.specs.Prelude.{IfErr, nat_lt}
+use Rattle.std.proofs.Common.{◌≡◌, ℕ, zero, suc, ◌-◌, ◌%◌, ◌≢◌, Bool, true, false, cond, eqb, List, [], ◌∷◌, take, drop, Result, Ok, Err, refl, sym, ap, ◌∙◌, arith, inl, inr, lt-ltb, le-ltb, eq-eqb, ne_eqb}
+use Rattle.std.specs.Prelude.{IfErr}
 use Rattle.std.proofs.Math.Nat.{mod-le}
-use Rattle.std.proofs.lemmas.Bool.{cases_eq, cases_lt, eqb-true}
+use Rattle.std.proofs.lemmas.Bool.{cases_eq, cases_lt}
 use Rattle.fv_codec.specs.declared.shape.Shape.{Shape}
 use Rattle.fv_codec.specs.Bytes.{word_at, half_at, byte_at}
-use Rattle.fv_codec.specs.Fields.{Verdict, Field, word_in, half_in, byte_in, step_in, zeros_in, name_in, part_in, items_in, some_in, verdict, verdicts, ◌then◌, in_range, in_steps, all_zero, all_name, is_name_byte, name_filled, each, none_filled, some_filled, reading}
+use Rattle.fv_codec.specs.Fields.{Verdict, Field, word_in, half_in, byte_in, step_in, zeros_in, name_in, part_in, items_in, some_in, verdict, verdicts, ◌then◌, in_range, all_zero, all_name, is_name_byte, name_filled, each, none_filled, some_filled, reading}
 
 abbrev pub Differs : Verdict → Type 0
 Differs v = IfErr v (λ s. s.want ≢ s.found)
@@ -19,9 +19,9 @@ in_range_differs least greatest x =
     elim (cases_lt x least) [
       | inl lt ↦ let t = lt-ltb x least lt in rw t (λ e. omega arith)
       | inr le ↦ let f = le-ltb x least le in elim (cases_lt greatest x) [
-          | inl lt ↦ let t = lt-ltb greatest x lt in rw (f, t) (λ e. omega arith)
-          | inr le' ↦ let g = le-ltb greatest x le' in rw (f, g) tt
-        ]
+        | inl lt ↦ let t = lt-ltb greatest x lt in rw (f, t) (λ e. omega arith)
+        | inr le' ↦ let g = le-ltb greatest x le' in rw (f, g) tt
+      ]
     ]
 
 all_zero_differs : (xs : List ℕ) → Differs (all_zero xs)

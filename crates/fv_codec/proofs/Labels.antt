@@ -73,7 +73,7 @@ snaps_again (s ∷ ss) are = (snap_again s (All-head IsSnapRecord s ss are), sna
 -- ---- a label
 
 -- the label's parts, one after the other
-split : (l : Label) → label_bytes l ≡ word 0x46564c4142454c30 ++ (word l.name_length ++ (l.name ++ (word l.kind ++ (word l.size ++ (word l.most ++ (word l.span ++ (word l.now ++ (word l.parent ++ (word l.base_slot ++ (word l.splitting ++ (word l.known ++ (word l.container ++ (word l.height ++ (word l.levels ++ (pointer_bytes l.root ++ (zeros 56 ++ (flat_map snap_bytes l.snapshots ++ (zeros 768))))))))))))))))))
+pub split : (l : Label) → label_bytes l ≡ word 0x46564c4142454c30 ++ (word l.name_length ++ (l.name ++ (word l.kind ++ (word l.size ++ (word l.most ++ (word l.span ++ (word l.now ++ (word l.parent ++ (word l.base_slot ++ (word l.splitting ++ (word l.known ++ (word l.container ++ (word l.height ++ (word l.levels ++ (pointer_bytes l.root ++ (zeros 56 ++ (flat_map snap_bytes l.snapshots ++ (zeros 768))))))))))))))))))
 unfolding label_head label_numbers
 split l = simp append_assoc
 

@@ -13,3 +13,5 @@ pub mod Labels
 pub mod Differs
 pub mod Ranges
 pub mod Decoded
+pub mod Found
+pub mod Laws

@@ -1,8 +1,8 @@
 -- What was read is in range: fields that are as said, and what they say.
-use Rattle.std.proofs.Common.{◌≡◌, ℕ, zero, suc, ◌+◌, ◌-◌, ◌*◌, ◌%◌, ◌<◌, ◌≤◌, ◌==◌, Bool, true, false, cond, eqb, List, [], ◌∷◌, length, take, drop, Result, Ok, Err, refl, sym, ap, subst, ◌∙◌, arith, inl, inr, lt-ltb, le-ltb, length-drop, length-take}
+use Rattle.std.proofs.Common.{◌≡◌, ℕ, zero, suc, ◌*◌, ◌≤◌, Bool, true, false, cond, List, [], ◌∷◌, length, drop, Result, Ok, Err, refl, sym, subst, arith, inl, inr, lt-ltb, le-ltb, length-drop}
 use Rattle.std.specs.Prelude.{IfOk}
 use Rattle.std.specs.List.{All, AllByRecursion}
-use Rattle.std.proofs.lemmas.Bool.{cases_lt, eqb-true}
+use Rattle.std.proofs.lemmas.Bool.{cases_lt}
 use Rattle.std.proofs.lemmas.List.Elements.{All-from_recursion}
 use Rattle.fv_codec.specs.declared.shape.Shape.{Shape}
 use Rattle.fv_codec.specs.Fields.{Verdict, Field, verdict, verdicts, ◌then◌, in_range, each, items, some_filled, reading}
@@ -21,9 +21,9 @@ within least greatest x is =
     elim (cases_lt x least) [
       | inl lt ↦ let t = lt-ltb x least lt in let no = rw t at is in absurd cc
       | inr le ↦ let f = le-ltb x least le in elim (cases_lt greatest x) [
-          | inl lt ↦ let t = lt-ltb greatest x lt in let no = rw (f, t) at is in absurd cc
-          | inr le' ↦ (le, le')
-        ]
+        | inl lt ↦ let t = lt-ltb greatest x lt in let no = rw (f, t) at is in absurd cc
+        | inr le' ↦ (le, le')
+      ]
     ]
 
 abbrev judged : Bool → Shape → Verdict
