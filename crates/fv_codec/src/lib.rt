@@ -22,3 +22,8 @@ pub use pointer::Pointer;
 pub use root::Root;
 pub use shape::Shape;
 pub use superblock::Super;
+
+#[cfg(test)]
+mod tests;
+#[cfg(test)]
+mod vectors;
