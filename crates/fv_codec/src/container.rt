@@ -26,7 +26,7 @@ impl ContainerLeaf {
     ghost use Rattle.fv_codec.specs.Blocks.{asks_entry, kind_of, leaf_at, place_of, IsContainerLeaf};
     ghost use Rattle.fv_codec.specs.Spelling.{entry_bytes, leaf_bytes};
 
-    /// The leaf that a block spells, or the first field that isn't as said. Reads each byte once.
+    /// The leaf that a block spells, or the first field that isn't as said. Goes over the block once.
     #[tactic(auto, using(crate::proofs::Decoded::leaf_in_range, crate::proofs::Decoded::leaf_differs))]
     pub fn decode(block: &[u8; 4096]) -> Result<ContainerLeaf, Shape>
         ensures exact { result ≡ leaf_at block.now }
@@ -145,7 +145,7 @@ impl ContainerInner {
     ghost use Rattle.fv_codec.specs.Blocks.{inner_at, IsContainerInner};
     ghost use Rattle.fv_codec.specs.Spelling.{inner_bytes};
 
-    /// The inner node that a block spells, or the first field that isn't as said. Reads each byte once.
+    /// The inner node that a block spells, or the first field that isn't as said. Goes over the block once.
     #[tactic(auto, using(crate::proofs::Decoded::inner_in_range, crate::proofs::Decoded::inner_differs))]
     pub fn decode(block: &[u8; 4096]) -> Result<ContainerInner, Shape>
         ensures exact { result ≡ inner_at block.now }

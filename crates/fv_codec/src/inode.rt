@@ -103,7 +103,7 @@ impl InodeBlock {
     ghost use Rattle.fv_codec.specs.Spelling.{file_bytes, inodes_bytes};
 
     /// The inode block that a block spells, or the first field that isn't as said; a block of free records
-    /// alone wants 1 and has 0. Reads each byte once.
+    /// alone wants 1 and has 0. Goes over the block once.
     #[tactic(auto, using(crate::proofs::Decoded::inodes_in_range, crate::proofs::Decoded::inodes_differs))]
     pub fn decode(block: &[u8; 4096]) -> Result<InodeBlock, Shape>
         ensures exact { result ≡ inodes_at block.now }

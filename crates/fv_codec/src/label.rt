@@ -119,7 +119,7 @@ impl Label {
     ghost use Rattle.fv_codec.specs.Blocks.{asks_snap, label_at, snap_of, IsLabel};
     ghost use Rattle.fv_codec.specs.Spelling.{label_bytes, label_head, label_numbers, snap_bytes};
 
-    /// The label that a block spells, or the first field that isn't as said. Reads each byte once.
+    /// The label that a block spells, or the first field that isn't as said. Goes over the block once.
     #[tactic(auto, using(crate::proofs::Decoded::label_in_range, crate::proofs::Decoded::label_differs))]
     pub fn decode(block: &[u8; 4096]) -> Result<Label, Shape>
         ensures exact { result ≡ label_at block.now }

@@ -28,7 +28,7 @@ impl Node {
     ghost use Rattle.fv_codec.specs.Spelling.{node_bytes, pointer_bytes};
 
     /// The node that a block spells, or the first field that isn't as said; a node of holes alone wants 1
-    /// and has 0. Reads each byte once.
+    /// and has 0. Goes over the block once.
     #[tactic(auto, using(crate::proofs::Decoded::node_in_range, crate::proofs::Decoded::node_differs))]
     pub fn decode(block: &[u8; 4096]) -> Result<Node, Shape>
         ensures exact { result ≡ node_at block.now }

@@ -22,7 +22,7 @@ impl Root {
     ghost use Rattle.fv_codec.specs.Blocks.{root_at, IsRoot};
     ghost use Rattle.fv_codec.specs.Spelling.{root_bytes};
 
-    /// The root that a block spells, or the first field that isn't as said. Reads each byte once.
+    /// The root that a block spells, or the first field that isn't as said. Goes over the block once.
     #[tactic(auto, using(crate::proofs::Decoded::root_in_range, crate::proofs::Decoded::root_differs))]
     pub fn decode(block: &[u8; 4096]) -> Result<Root, Shape>
         ensures exact { result ≡ root_at block.now }

@@ -18,7 +18,7 @@ impl Super {
     ghost use Rattle.fv_codec.specs.Blocks.{super_at, IsSuper};
     ghost use Rattle.fv_codec.specs.Spelling.{super_bytes};
 
-    /// The superblock that a block spells, or the first field that isn't as said. Reads each byte once.
+    /// The superblock that a block spells, or the first field that isn't as said. Goes over the block once.
     #[tactic(auto, using(crate::proofs::Decoded::super_in_range, crate::proofs::Decoded::super_differs))]
     pub fn decode(block: &[u8; 4096]) -> Result<Super, Shape>
         ensures exact { result ≡ super_at block.now }
