@@ -1,0 +1,4 @@
+//! A host in memory.
+#![tactic(auto)]
+
+mod forgotten;
