@@ -1,0 +1,3 @@
+pub mod Past
+pub mod Story
+pub mod Laws
