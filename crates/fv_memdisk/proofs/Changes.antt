@@ -10,7 +10,7 @@ use Rattle.fv_memdisk.specs.declared.kept.Event.TheVariants.{Write, Torn, Barrie
 use Rattle.fv_memdisk.specs.declared.kept.Kept.{Kept}
 use Rattle.fv_memdisk.specs.Past.{State, blank, step, replay, is_open, IsLeft}
 use Rattle.fv_memdisk.specs.Story.{Story, state_at, outputs, are_known, IsLeftSince, shown_at, IsSound, read_after, Adds, Forgets}
-use Rattle.fv_memdisk.proofs.Steps.{and_true, state_old, state_more, count_at, start_at, opens_write, opens_torn, opens_forgotten, opens_later, open_give, open_barrier, opened_no_more, opened_no_fewer, opened_keeps, left_same, left_barrier, left_before}
+use Rattle.fv_memdisk.proofs.Steps.{Opens, and_true, state_old, state_more, count_at, start_at, opens_write, opens_torn, opens_forgotten, opens_later, open_give, open_barrier, opened_no_more, opened_no_fewer, opened_keeps, left_same, left_barrier, left_before}
 
 -- the story with one call more
 abbrev pub kept_of : Story → Event → List ℕ → Kept
@@ -153,3 +153,57 @@ module _ (s : Story) (e : Event) (bytes : List ℕ) (reads : Image) (sound : IsS
         image = subst (λ (st : State). IsLeft st s.places c) (state_old s.base s.past (kept_of s e bytes) (s.run + left.moment) old) left.image;
         output = left.output ∙ same_output left.moment old;
       }
+
+-- The story with one forgotten write more.
+abbrev pub without : Story → ℕ → Story
+without s at = record { base = s.base; reads = s.reads; past = s.past; run = s.run; given = s.given; places = (length s.past, at) ∷ s.places }
+
+module _ (s : Story) (at : ℕ) (sound : IsSound s) where
+  pub sound_without : IsSound (without s at)
+  sound_without = record {
+    run = sound.run;
+    reads = sound.reads;
+    whole = sound.whole;
+    whole_settled = sound.whole_settled;
+    within = sound.within;
+    full = sound.full;
+    known = let here : nat_le (length s.past) (length s.past) ≡ true = grind (arith, nat_tests) in rw here sound.known;
+  }
+
+  pub opens_now : Opens (is_open (now_of s) s.places) (is_open (now_of s) ((length s.past, at) ∷ s.places)) at
+  opens_now = subst (λ (n : ℕ). Opens (is_open (now_of s) s.places) (is_open (now_of s) ((n, at) ∷ s.places)) at) (count_at s.base s.past (length s.past) (omega arith)) (opens_forgotten (now_of s) s.places at (start_at s.base s.past (length s.past)))
+
+  pub elapses_without : (f w f' w' : ℕ) → Elapses (shown_at s f w) (shown_at (without s at) f' w')
+  elapses_without f w f' w' = record {
+    later = omega arith;
+    nothing_else = λ t c g le left. ⊎_elim (λ old. inl (olden t c g left old)) (λ new. inr (newly t c g left new)) (cases_lt (s.run + left.moment) (length s.past));
+    keeps = λ t c g le left. record { moment = left.moment; later = left.later; reached = left.reached; output = left.output; image = kept t c g left };
+  }
+    where
+      before : (n : ℕ) → n < length s.past → (a : ℕ) → is_open (state_at s.base s.past n) ((length s.past, at) ∷ s.places) a ≡ is_open (state_at s.base s.past n) s.places a
+      before n lt a = opens_later (state_at s.base s.past n) s.places (length s.past) at a (omega (arith, count_at s.base s.past n (omega arith)))
+      olden : (t : ℕ) (c : Image) (g : List ℕ) (left : IsLeftSince (without s at) t c g) → s.run + left.moment < length s.past → IsLeftSince s t c g
+      olden t c g left old = record {
+        moment = left.moment;
+        later = left.later;
+        reached = left.reached;
+        image = left_same (state_at s.base s.past (s.run + left.moment)) (state_at s.base s.past (s.run + left.moment)) ((length s.past, at) ∷ s.places) s.places (λ a. sym (before (s.run + left.moment) old a)) (λ a. refl) c left.image;
+        output = left.output;
+      }
+      newly : (t : ℕ) (c : Image) (g : List ℕ) (left : IsLeftSince (without s at) t c g) → length s.past ≤ s.run + left.moment → IsLeft (now_of s) ((length s.past, at) ∷ s.places) c × (g ≡ s.given)
+      newly t c g left new =
+          let end : s.run + left.moment ≡ length s.past = omega (arith, left.reached, new) in
+          let now : left.moment ≡ length s.past - s.run = omega (arith, end, sound.run) in (
+            subst (λ (n : ℕ). IsLeft (state_at s.base s.past n) ((length s.past, at) ∷ s.places) c) end left.image,
+            left.output ∙ ap (λ m. take (slice_index (outputs s.past s.run) m) s.given) now ∙ take_all (slice_index (outputs s.past s.run) (length s.past - s.run)) s.given (omega (arith, sound.full)),
+          )
+      kept : (t : ℕ) (c : Image) (g : List ℕ) (left : IsLeftSince s t c g) → IsLeft (state_at s.base s.past (s.run + left.moment)) ((length s.past, at) ∷ s.places) c
+      kept t c g left = ⊎_elim
+        (λ old. left_same (state_at s.base s.past (s.run + left.moment)) (state_at s.base s.past (s.run + left.moment)) s.places ((length s.past, at) ∷ s.places) (before (s.run + left.moment) old) (λ a. refl) c left.image)
+        (λ new. at_end c left.image (omega (arith, left.reached, new)))
+        (cases_lt (s.run + left.moment) (length s.past))
+        where
+          at_end : (c : Image) → IsLeft (state_at s.base s.past (s.run + left.moment)) s.places c → s.run + left.moment ≡ length s.past → IsLeft (state_at s.base s.past (s.run + left.moment)) ((length s.past, at) ∷ s.places) c
+          at_end c is end =
+              subst (λ (n : ℕ). IsLeft (state_at s.base s.past n) ((length s.past, at) ∷ s.places) c) (sym end)
+              (opened_keeps (now_of s) (now_of s) s.places ((length s.past, at) ∷ s.places) at opens_now (λ a. refl) c (subst (λ (n : ℕ). IsLeft (state_at s.base s.past n) s.places c) end is))
