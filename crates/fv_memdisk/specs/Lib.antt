@@ -1,3 +1,5 @@
 pub mod Past
 pub mod Story
+pub mod Blocks
 pub mod Laws
+pub mod Lived

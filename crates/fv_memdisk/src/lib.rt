@@ -2,4 +2,5 @@
 #![tactic(auto)]
 
 mod forgotten;
+mod history;
 mod kept;
