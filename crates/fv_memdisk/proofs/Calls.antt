@@ -14,19 +14,13 @@ use Rattle.fv_memdisk.specs.Past.{State, put, step, is_open, IsLeft}
 use Rattle.fv_memdisk.specs.Story.{Story, state_at, are_known, shown_at, IsSound, Adds, Forgets}
 use Rattle.fv_memdisk.specs.Laws.{agrees}
 use Rattle.fv_memdisk.proofs.Steps.{Opens, count_at, opens_write, opens_torn, open_give, opened_no_more, opened_no_fewer, left_same, left_barrier, left_before}
-use Rattle.fv_memdisk.proofs.Changes.{added, now_of, without, left_to, left_of, elapses_added, elapses_without, opens_now}
+use Rattle.fv_memdisk.proofs.Changes.{added_is, without_is, added, now_of, without, left_to, left_of, elapses_added, elapses_without, opens_now}
 
 pub elapses_same : (s : Story) (f w f' w' : ℕ) → Elapses (shown_at s f w) (shown_at s f' w')
 elapses_same s f w f' w' = record { later = omega arith; nothing_else = λ t c g le left. inl left; keeps = λ t c g le left. left }
 
 pub stays_same : (s : Story) (f w f' w' : ℕ) → Stays (shown_at s f w) (shown_at s f' w')
 stays_same s f w f' w' = record { tells = refl; reads = refl; no_more = λ c left. left; no_fewer = λ c left. left }
-
-added_is : (old new : Story) (e : Event) (bytes : List ℕ) → Adds old new e bytes → new ≡ added old e bytes new.reads
-added_is old new e bytes adds = λ i. record { base = adds.base i; reads = new.reads; past = adds.past i; run = adds.run i; given = adds.given i; places = adds.places i }
-
-without_is : (old new : Story) (at : ℕ) → Forgets old new at → new ≡ without old at
-without_is old new at forgets = λ i. record { base = forgets.base i; reads = forgets.reads i; past = forgets.past i; run = forgets.run i; given = forgets.given i; places = forgets.places i }
 
 -- the places are known at the present
 known_now : (s : Story) → IsSound s → are_known (now_of s).count s.places ≡ true

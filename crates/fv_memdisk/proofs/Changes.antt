@@ -207,3 +207,15 @@ module _ (s : Story) (at : ℕ) (sound : IsSound s) where
           at_end c is end =
               subst (λ (n : ℕ). IsLeft (state_at s.base s.past n) ((length s.past, at) ∷ s.places) c) (sym end)
               (opened_keeps (now_of s) (now_of s) s.places ((length s.past, at) ∷ s.places) at opens_now (λ a. refl) c (subst (λ (n : ℕ). IsLeft (state_at s.base s.past n) s.places c) end is))
+
+pub added_is : (old new : Story) (e : Event) (bytes : List ℕ) → Adds old new e bytes → new ≡ added old e bytes new.reads
+added_is old new e bytes adds = λ i. record { base = adds.base i; reads = new.reads; past = adds.past i; run = adds.run i; given = adds.given i; places = adds.places i }
+
+pub without_is : (old new : Story) (at : ℕ) → Forgets old new at → new ≡ without old at
+without_is old new at forgets = λ i. record { base = forgets.base i; reads = forgets.reads i; past = forgets.past i; run = forgets.run i; given = forgets.given i; places = forgets.places i }
+
+pub sound_adds : (old new : Story) (e : Event) (bytes : List ℕ) → IsSound old → IsWhole e → Adds old new e bytes → IsSound new
+sound_adds old new e bytes sound whole adds = subst IsSound (sym (added_is old new e bytes adds)) (sound_added old e bytes new.reads sound whole adds.reads)
+
+pub sound_forgets : (old new : Story) (at : ℕ) → IsSound old → Forgets old new at → IsSound new
+sound_forgets old new at sound forgets = subst IsSound (sym (without_is old new at forgets)) (sound_without old at sound)

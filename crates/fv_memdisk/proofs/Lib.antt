@@ -1,3 +1,4 @@
 pub mod Steps
 pub mod Changes
 pub mod Calls
+pub mod Sound

@@ -54,6 +54,29 @@ fn keep_write(
     Ok(())
 }
 
+fn keep(past: &mut Vec<Kept>, event: Event, output: usize) -> Result<(), AllocError>
+    ensures kept { OnOk result (past.new.items ≡ past.old.items ++ record { event = event; output = output } ∷ []) }
+    ensures stays { OnErr result (past.new.items ≡ past.old.items) }
+{
+    past.push(Kept { event, output })?;
+    Ok(())
+}
+
+fn keep_output(past: &mut Vec<Kept>, given: &mut Vec<u8>, bytes: &[u8]) -> Result<(), AllocError>
+    ensures given { OnOk result (given.new.items ≡ given.old.items ++ bytes.now) }
+    ensures kept { OnOk result (past.new.items ≡ past.old.items ++ record { event = Give; output = length (given.old.items ++ bytes.now) } ∷ []) }
+    ensures given_stays { OnErr result (given.new.items ≡ given.old.items) }
+    ensures past_stays { OnErr result (past.new.items ≡ past.old.items) }
+{
+    past.reserve(1)?;
+    given.extend_from_slice(bytes)?;
+    past.push_reserved(Kept {
+        event: Event::Give,
+        output: given.len(),
+    });
+    Ok(())
+}
+
 impl History {
     ghost use Rattle.fv_memdisk.specs.Lived.{story_of};
 
@@ -68,5 +91,61 @@ impl History {
                 None => ZEROS,
             },
         };
+    }
+
+    /// Keeps a write, or forgets it where there is no memory. Costs a block, and the logarithm of the
+    /// number of blocks written.
+    pub(crate) fn write(&mut self, at: u64, block: &Block) -> Result<(), AllocError>
+        ensures kept { OnOk result (Adds (story_of self.old) (story_of self.new) (Write at block.now) []) }
+        ensures forgotten { OnErr result (Forgets (story_of self.old) (story_of self.new) at) }
+    {
+        let output = self.given.len();
+        match keep_write(&mut self.past, &mut self.current, output, at, block) {
+            Ok(()) => Ok(()),
+            Err(error) => {
+                self.forget(at);
+                Err(error)
+            }
+        }
+    }
+
+    /// Keeps a write that failed, or forgets it where there is no memory.
+    pub(crate) fn tear(&mut self, at: u64) -> Result<(), AllocError>
+        ensures kept { OnOk result (Adds (story_of self.old) (story_of self.new) (Torn at) []) }
+        ensures forgotten { OnErr result (Forgets (story_of self.old) (story_of self.new) at) }
+    {
+        let output = self.given.len();
+        let kept = keep(&mut self.past, Event::Torn(at), output);
+        if kept.is_err() {
+            self.forget(at);
+        }
+        kept
+    }
+
+    fn forget(&mut self, at: u64)
+        ensures { Forgets (story_of self.old) (story_of self.new) at }
+    {
+        let place = Place {
+            moment: self.past.len(),
+            at,
+        };
+        self.forgotten = Forgotten::with(&self.forgotten, &place);
+    }
+
+    /// Keeps a barrier. At `Err` nothing changed.
+    pub(crate) fn barrier(&mut self) -> Result<(), AllocError>
+        ensures kept { OnOk result (Adds (story_of self.old) (story_of self.new) Barrier []) }
+        ensures same { OnErr result (story_of self.new ≡ story_of self.old) }
+    {
+        let output = self.given.len();
+        keep(&mut self.past, Event::Barrier, output)
+    }
+
+    /// Adds all of the bytes to the output. At `Err` nothing changed.
+    pub(crate) fn give(&mut self, bytes: &[u8]) -> Result<(), AllocError>
+        ensures kept { OnOk result (Adds (story_of self.old) (story_of self.new) Give bytes.now) }
+        ensures same { OnErr result (story_of self.new ≡ story_of self.old) }
+    {
+        keep_output(&mut self.past, &mut self.given, bytes)
     }
 }
