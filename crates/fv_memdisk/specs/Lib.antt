@@ -3,3 +3,5 @@ pub mod Story
 pub mod Blocks
 pub mod Laws
 pub mod Lived
+pub mod Tallies
+pub mod Host

@@ -1,0 +1,170 @@
+//! The host.
+
+ghost use Rattle.std.specs.Prelude.{◌≡◌, ◌≤◌, ◌<◌, ◌+◌, ◌-◌, ◌^◌, min, length, take, OnOk, OnErr};
+ghost use Rattle.fv_disk.specs.Shown.{Rose};
+
+use std::alloc::{AllocError, Global};
+use std::collections::BTreeMap;
+
+use fv_disk::{Block, Disk, Failed, Host};
+
+use crate::history::History;
+use crate::Call;
+use crate::tally::Tallies;
+
+/// A host in memory.
+#[derive(Drop)]
+pub struct MemHost {
+    history: History,
+    source: Vec<u8>,
+    // how many bytes of the source were taken
+    taken: usize,
+    tallies: Tallies,
+    faults: u64,
+    write_faults: u64,
+    source_faults: u64,
+    sink_faults: u64,
+    starved: u64,
+    ghost taken_in: { taken ≤ length source.items },
+}
+
+// Counts one more. At 2^64 - 1 the count stays.
+fn raise(count: &mut u64)
+    ensures counted { count.new ≡ min (count.old + 1) (2 ^ 64 - 1) }
+    ensures rose { Rose count.old count.new }
+    ensures later { count.old ≤ count.new }
+{
+    *count = count.saturating_add(1);
+}
+
+// Counts a call for whose record no memory was found.
+fn note(kept: &Result<(), AllocError>, starved: &mut u64)
+    ensures kept { OnOk kept.now (starved.new ≡ starved.old) }
+    ensures wanting { OnErr kept.now (Rose starved.old starved.new) }
+    ensures later { starved.old ≤ starved.new }
+{
+    if kept.is_err() {
+        raise(starved);
+    }
+}
+
+fn take_from(rest: &[u8], into: &mut [u8]) -> usize
+    ensures count { result ≡ min (length rest.now) (length into.old) }
+    ensures bytes { take result into.new ≡ take result rest.now }
+{
+    let count = rest.len().min(into.len());
+    into[..count].copy_from_slice(&rest[..count]);
+    count
+}
+
+impl Disk for MemHost {
+    ghost use Rattle.fv_disk.specs.DiskCalls.{Reads, Writes, Settles};
+    ghost use Rattle.fv_memdisk.specs.declared.call.Call.TheVariants.{Read, Write, Barrier};
+    ghost use Rattle.fv_memdisk.specs.Host.{shown_of, Answers};
+    ghost use Rattle.fv_memdisk.specs.Lived.{story_of};
+    ghost use Rattle.fv_memdisk.specs.Laws.{is_disk};
+
+    ghost shown = { shown_of };
+
+    fn read(&mut self, at: u64, into: &mut Block) -> Result<(), Failed>
+        ensures disk { Reads (shown_of self.old) at (shown_of self.new) into.new result }
+        ensures exact { Answers Read self.old self.new result }
+    {
+        if self.tallies.next(Call::Read) {
+            raise(&mut self.faults);
+            return Err(Failed);
+        }
+        self.history.read(at, into);
+        Ok(())
+    }
+
+    fn write(&mut self, at: u64, block: &Block) -> Result<(), Failed>
+        ensures disk { Writes (shown_of self.old) at block.now (shown_of self.new) result }
+        ensures exact { Answers Write self.old self.new result }
+    {
+        if self.tallies.next(Call::Write) {
+            let kept = self.history.tear(at);
+            note(&kept, &mut self.starved);
+            raise(&mut self.faults);
+            raise(&mut self.write_faults);
+            return Err(Failed);
+        }
+        let kept = self.history.write(at, block);
+        note(&kept, &mut self.starved);
+        if kept.is_err() {
+            raise(&mut self.faults);
+            raise(&mut self.write_faults);
+            return Err(Failed);
+        }
+        Ok(())
+    }
+
+    fn barrier(&mut self) -> Result<(), Failed>
+        ensures disk { Settles (shown_of self.old) (shown_of self.new) result }
+        ensures exact { Answers Barrier self.old self.new result }
+    {
+        if self.tallies.next(Call::Barrier) {
+            raise(&mut self.faults);
+            raise(&mut self.write_faults);
+            return Err(Failed);
+        }
+        let kept = self.history.barrier();
+        note(&kept, &mut self.starved);
+        if kept.is_err() {
+            raise(&mut self.faults);
+            raise(&mut self.write_faults);
+            return Err(Failed);
+        }
+        Ok(())
+    }
+
+    fn faults(&self) -> u64 {
+        self.faults
+    }
+
+    fn write_faults(&self) -> u64 {
+        self.write_faults
+    }
+
+    ghost laws = { λ h. is_disk (story_of h.history) h.faults h.write_faults h.history.sound };
+}
+
+impl Host for MemHost {
+    ghost use Rattle.fv_disk.specs.Ends.{Takes, Gives};
+    ghost use Rattle.fv_memdisk.specs.declared.call.Call.TheVariants.{Take, Give};
+    ghost use Rattle.fv_memdisk.specs.Host.{shown_of, ends_of, Answers};
+
+    ghost ends = { ends_of };
+
+    fn take(&mut self, into: &mut [u8]) -> Result<usize, Failed>
+        requires { 0 < length into.old }
+        ensures host { Takes (shown_of self.old) (ends_of self.old) into.new (shown_of self.new) (ends_of self.new) result }
+        ensures exact { Answers Take self.old self.new result }
+    {
+        if self.tallies.next(Call::Take) {
+            raise(&mut self.source_faults);
+            return Err(Failed);
+        }
+        let count = take_from(&self.source[self.taken..], into);
+        self.taken += count;
+        Ok(count)
+    }
+
+    fn give(&mut self, bytes: &[u8]) -> Result<usize, Failed>
+        requires { 0 < length bytes.now }
+        ensures host { Gives (shown_of self.old) (ends_of self.old) bytes.now (shown_of self.new) (ends_of self.new) result }
+        ensures exact { Answers Give self.old self.new result }
+    {
+        if self.tallies.next(Call::Give) {
+            raise(&mut self.sink_faults);
+            return Err(Failed);
+        }
+        let kept = self.history.give(bytes);
+        note(&kept, &mut self.starved);
+        if kept.is_err() {
+            raise(&mut self.sink_faults);
+            return Err(Failed);
+        }
+        Ok(bytes.len())
+    }
+}
