@@ -1,7 +1,7 @@
 -- What each call does, as the disk and the host promise it.
-use Rattle.std.proofs.Common.{◌≡◌, cond, ◌≢◌, ◌==◌, ◌≤◌, ◌<◌, ◌-◌, ◌+◌, inl, inr, ℕ, Bool, true, false, List, [], ◌∷◌, ◌++◌, length, take, refl, sym, ap, ◌∙◌, subst, arith, Result, Ok, Err}
-use Rattle.std.specs.Prelude.{OnOk, IsErr}
-use Rattle.std.proofs.lemmas.List.{append-nil, take_all}
+use Rattle.std.proofs.Common.{◌≡◌, cond, ◌≢◌, ◌==◌, ◌≤◌, ◌<◌, ◌-◌, ◌+◌, inl, inr, ℕ, Bool, true, false, List, [], ◌∷◌, ◌++◌, length, take, drop, min, refl, sym, ap, ◌∙◌, subst, arith, Result, Ok, Err}
+use Rattle.std.specs.Prelude.{OnOk, OnErr, IsErr, is_err}
+use Rattle.std.proofs.lemmas.List.{append-nil, take_all, take-append-drop, drop-drop, nil_from_length}
 use Rattle.std.proofs.lemmas.Bool.{false≢true}
 use Rattle.std.proofs.lemmas.Bool.Decides.{nat_tests}
 use Rattle.fv_disk.specs.declared.Failed.{Failed}
@@ -161,3 +161,49 @@ module _ (old : Story) (sound : IsSound old) (f w f' w' : ℕ) where
 
   pub same_time : (new : Story) → new ≡ old → Elapses (shown_at old f w) (shown_at new f' w')
   same_time new same = subst (λ (n : Story). Elapses (shown_at old f w) (shown_at n f' w')) (sym same) (elapses_same old f w f' w')
+
+-- the fact of the outcome that came
+pub if_ok : {E P : Type 0} (r : Result (Unit {0}) E) → is_err r ≡ false → OnOk r P → P
+if_ok (Ok u) was p = p
+if_ok (Err e) was p = absurd (false≢true (sym was))
+
+pub if_err : {E P : Type 0} (r : Result (Unit {0}) E) → is_err r ≡ true → OnErr r P → P
+if_err (Ok u) was p = absurd (false≢true was)
+if_err (Err e) was p = p
+
+-- a write that failed, kept or forgotten
+pub writes_failed : {E : Type 0} (kept : Result (Unit {0}) E) (old : Story) → IsSound old → (f w f' w' : ℕ) (e : Failed) → HasCause {T = Unit {0}} {E = Failed} f f' (Err e) → HasCause {T = Unit {0}} {E = Failed} w w' (Err e)
+    → (new : Story) (at : ℕ) (block : List ℕ) → OnOk kept (Adds old new (Torn at) []) → OnErr kept (Forgets old new at) → Writes (shown_at old f w) at block (shown_at new f' w') (Err e)
+writes_failed (Ok u) old sound f w f' w' e cause write_cause new at block adds forgets = writes_torn old sound f w f' w' e cause write_cause new at block adds
+writes_failed (Err e') old sound f w f' w' e cause write_cause new at block adds forgets = writes_forgotten old sound f w f' w' e cause write_cause new at block forgets
+
+-- a give that was kept
+pub gives_kept : (old : Story) → IsSound old → (f w : ℕ) (new : Story) (bytes : List ℕ) (ends : Ends) → Adds old new Give bytes → 0 < length bytes → Gives (shown_at old f w) ends bytes (shown_at new f w) ends (Ok (length bytes))
+gives_kept old sound f w new bytes ends adds long = record {
+  some = (long, omega arith);
+  added = λ _. adds.given ∙ ap (λ bs. old.given ++ bs) (sym (take_all (length bytes) bytes (omega arith)));
+  none = λ _. tt;
+  rests = record { stays = gives_stays old sound f w f w new bytes adds; faults = refl; write_faults = refl };
+  time = gives_time old sound f w f w new bytes adds;
+  left = refl;
+  source_faults = refl;
+  cause = record { later = omega arith; calm = refl; rose = tt };
+}
+
+-- a take that was done
+pub takes_kept : (s : Story) (f w : ℕ) (source into : List ℕ) (taken count source_faults sink_faults : ℕ) → 0 < length into → count ≡ min (length (drop taken source)) (length into) → take count into ≡ take count (drop taken source)
+    → Takes (shown_at s f w) (record { left = drop taken source; source_faults = source_faults; sink_faults = sink_faults }) into (shown_at s f w) (record { left = drop (taken + count) source; source_faults = source_faults; sink_faults = sink_faults }) (Ok count)
+takes_kept s f w source into taken count source_faults sink_faults long is bytes = record {
+  count = omega (arith, is);
+  bytes = λ _. sym (take-append-drop count (drop taken source)) ∙ ap (λ front. front ++ drop count (drop taken source)) (sym bytes) ∙ ap (λ rest. take count into ++ rest) (drop-drop count taken source);
+  end = λ _ none. nil_from_length (drop taken source) (omega (arith, is, long, zero_of none));
+  none = λ _. tt;
+  rests = record { stays = stays_same s f w f w; faults = refl; write_faults = refl };
+  time = elapses_same s f w f w;
+  given = refl;
+  cause = record { later = omega arith; calm = refl; rose = tt };
+  sink_faults = refl;
+}
+  where
+    zero_of : Ok {T = ℕ} count ≡ Ok 0 → count ≡ 0
+    zero_of none = cc
