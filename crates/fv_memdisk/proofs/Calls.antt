@@ -205,5 +205,5 @@ takes_kept s f w source into taken count source_faults sink_faults long is bytes
   sink_faults = refl;
 }
   where
-    zero_of : Ok {T = ℕ} count ≡ Ok 0 → count ≡ 0
+    zero_of : ◌≡◌ {A = Result ℕ Failed} (Ok count) (Ok 0) → count ≡ 0
     zero_of none = cc

@@ -1,6 +1,6 @@
 //! The host.
 
-ghost use Rattle.std.specs.Prelude.{◌≡◌, ◌≤◌, ◌<◌, ◌+◌, ◌-◌, ◌^◌, min, length, take, OnOk, OnErr};
+ghost use Rattle.std.specs.Prelude.{◌≡◌, ◌≤◌, ◌<◌, ◌+◌, ◌-◌, ◌^◌, min, length, take, drop, OnOk, OnErr};
 ghost use Rattle.fv_disk.specs.Shown.{Rose};
 
 use std::alloc::{AllocError, Global};
@@ -48,10 +48,13 @@ fn note(kept: &Result<(), AllocError>, starved: &mut u64)
     }
 }
 
-fn take_from(rest: &[u8], into: &mut [u8]) -> usize
-    ensures count { result ≡ min (length rest.now) (length into.old) }
-    ensures bytes { take result into.new ≡ take result rest.now }
+// Copies what comes after the bytes taken into the front of `into`, and answers how much.
+fn copy_rest(source: &[u8], taken: usize, into: &mut [u8]) -> usize
+    requires { taken ≤ length source.now }
+    ensures count { result ≡ min (length (drop taken source.now)) (length into.new) }
+    ensures bytes { take result into.new ≡ take result (drop taken source.now) }
 {
+    let rest = &source[taken..];
     let count = rest.len().min(into.len());
     into[..count].copy_from_slice(&rest[..count]);
     count
@@ -145,7 +148,7 @@ impl Host for MemHost {
             raise(&mut self.source_faults);
             return Err(Failed);
         }
-        let count = take_from(&self.source[self.taken..], into);
+        let count = copy_rest(&self.source, self.taken, into);
         self.taken += count;
         Ok(count)
     }
