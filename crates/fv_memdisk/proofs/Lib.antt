@@ -2,3 +2,4 @@ pub mod Steps
 pub mod Changes
 pub mod Calls
 pub mod Sound
+pub mod Tearing

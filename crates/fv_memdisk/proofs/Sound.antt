@@ -16,10 +16,10 @@ use Rattle.fv_memdisk.specs.Story.{Story, IsSound, read_after}
 use Rattle.fv_memdisk.specs.Blocks.{over, disk_of, told}
 use Rattle.fv_memdisk.proofs.Changes.{IsWhole, sound_adds}
 
-abbrev Tree : Type 0
+abbrev pub Tree : Type 0
 Tree = tree.BTreeMap ℕ (List ℕ)
 
-turned : (at a : ℕ) → tree.is_at (nat_cmp at) a ≡ (a == at)
+pub turned : (at a : ℕ) → tree.is_at (nat_cmp at) a ≡ (a == at)
 turned at a = grind (arith, nat_tests)
 
 -- the map with one block more, as an image

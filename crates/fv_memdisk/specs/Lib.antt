@@ -5,3 +5,4 @@ pub mod Laws
 pub mod Lived
 pub mod Tallies
 pub mod Host
+pub mod Tears

@@ -7,6 +7,7 @@ mod history;
 mod host;
 mod kept;
 mod tally;
+mod torn;
 
-pub use call::Call;
+pub use call::{Call, Tear};
 pub use host::MemHost;
