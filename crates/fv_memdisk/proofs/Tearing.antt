@@ -1,21 +1,21 @@
 -- How the blocks of a crash come together.
-use Rattle.std.proofs.Common.{◌≡◌, ◌==◌, ◌≤◌, ◌<◌, ◌+◌, ◌||◌, cond, ⊎_elim, ℕ, Bool, true, false, List, [], ◌∷◌, ◌++◌, length, take, get_or, replicate, refl, sym, ap, ◌∙◌, subst, arith, Result, Ok, Err, Some}
-use Rattle.std.specs.Prelude.{unwrap_or, IfOk, MatchResult}
+use Rattle.std.proofs.Common.{◌≡◌, ◌==◌, ◌≤◌, ◌<◌, ◌+◌, ◌||◌, cond, not, ◌⊎◌, ⊎_elim, ℕ, Bool, true, false, List, [], ◌∷◌, ◌++◌, length, take, get_or, replicate, refl, sym, ap, ◌∙◌, subst, arith, Result, Ok, Err, Some}
+use Rattle.std.specs.Prelude.{unwrap_or, IfOk, OnOk, MatchResult}
 use Rattle.std.specs.Ordering.{nat_cmp}
 use Rattle.std.specs.BTreeMap as tree
 use Rattle.std.specs.BTreeSet as set
 use Rattle.std.specs.Map.{lookup}
-use Rattle.std.proofs.lemmas.List.{take_more}
-use Rattle.std.proofs.lemmas.Bool.{cases_eq}
+use Rattle.std.proofs.lemmas.List.{take_more, nil_from_length}
+use Rattle.std.proofs.lemmas.Bool.{cases_eq, false≢true}
 use Rattle.std.proofs.lemmas.Bool.Decides.{nat_tests}
 use Rattle.fv_disk.specs.Shown.{Image}
 use Rattle.fv_memdisk.specs.declared.kept.Event.{Event}
 use Rattle.fv_memdisk.specs.declared.kept.Event.TheVariants.{Write, Torn, Barrier, Give}
 use Rattle.fv_memdisk.specs.declared.kept.Kept.{Kept}
-use Rattle.fv_memdisk.specs.Past.{is_among, put, State, step, replay}
+use Rattle.fv_memdisk.specs.Past.{is_among, noted, put, State, step, replay}
 use Rattle.fv_memdisk.specs.Story.{read_after}
 use Rattle.fv_memdisk.specs.Blocks.{over, disk_of, zeros}
-use Rattle.fv_memdisk.specs.Tears.{Stands, StandsAt}
+use Rattle.fv_memdisk.specs.Tears.{Stands, StandsAt, IsUnsettled}
 use Rattle.fv_memdisk.specs.Laws.{is_among_push, eq_flip}
 use Rattle.fv_memdisk.proofs.Steps.{replay_push}
 use Rattle.fv_memdisk.proofs.Sound.{Tree, turned, over_put}
@@ -120,3 +120,40 @@ in_ok (Err e) P Q E weaker holds = tt
 
 pub same_disk : (m n : Tree) → n.entries ≡ m.entries → (a : ℕ) → disk_of n a ≡ disk_of m a
 same_disk m n same a = ap (λ es. unwrap_or (lookup (tree.is_at (nat_cmp a)) es) zeros) same
+
+-- what is unsettled after one call more
+unsettled_note : (e : Event) (at : ℕ) → (e ≡ Torn at) ⊎ ((block : List ℕ) × (e ≡ Write at block)) → (start later : ℕ) (written more : List ℕ) → later ≡ start → more ≡ noted written at → (s : State) → IsUnsettled start written s → IsUnsettled later more (step s e)
+unfolding step
+unsettled_note e at is start later written more same noted_is s found = ⊎_elim
+  (λ torn. rw torn (record { start_is = same ∙ found.start_is; written_is = noted_is ∙ ap (λ xs. noted xs at) found.written_is }))
+  (λ write. rw (write.1) (record { start_is = same ∙ found.start_is; written_is = noted_is ∙ ap (λ xs. noted xs at) found.written_is }))
+  is
+
+pub unsettled_ok : {E : Type 0} (r : Result (Unit {0}) E) (e : Event) (at : ℕ) → (e ≡ Torn at) ⊎ ((block : List ℕ) × (e ≡ Write at block)) → (start later count : ℕ) (written more : List ℕ) → later ≡ start → OnOk r (more ≡ noted written at)
+    → OnOk r ((s : State) → s.count ≡ count → IsUnsettled start written s → IsUnsettled later more (step s e))
+unsettled_ok (Ok u) e at is start later count written more same noted_is = λ s counted found. unsettled_note e at is start later written more same noted_is s found
+unsettled_ok (Err err) e at is start later count written more same noted_is = tt
+
+pub unsettled_barrier : (e : Event) → e ≡ Barrier → (later count : ℕ) (more : List ℕ) → later ≡ count + 1 → length more ≡ 0 → (s : State) → s.count ≡ count → IsUnsettled later more (step s e)
+unfolding step
+unsettled_barrier e is later count more start none s counted = rw is (record { start_is = start ∙ ap (λ n. n + 1) (sym counted); written_is = nil_from_length more none })
+
+pub unsettled_give : (e : Event) → e ≡ Give → (start : ℕ) (written : List ℕ) (s : State) → IsUnsettled start written s → IsUnsettled start written (step s e)
+unfolding step
+unsettled_give e is start written s found = rw is (record { start_is = found.start_is; written_is = found.written_is })
+
+pub noted_new : (xs more : List ℕ) (at : ℕ) (added : Bool) → added ≡ not (is_among xs at) → added ≡ true → more ≡ xs ++ at ∷ [] → more ≡ noted xs at
+unfolding noted
+noted_new xs more at added is was same = let apart : is_among xs at ≡ false = not_true (is_among xs at) (sym is ∙ was) in rw apart same
+  where
+    not_true : (b : Bool) → not b ≡ true → b ≡ false
+    not_true true h = absurd (false≢true h)
+    not_true false h = refl
+
+pub noted_old : (xs more : List ℕ) (at : ℕ) (added : Bool) → added ≡ not (is_among xs at) → added ≡ false → more ≡ xs → more ≡ noted xs at
+unfolding noted
+noted_old xs more at added is was same = let among : is_among xs at ≡ true = not_false (is_among xs at) (sym is ∙ was) in rw among same
+  where
+    not_false : (b : Bool) → not b ≡ false → b ≡ true
+    not_false true h = refl
+    not_false false h = absurd (false≢true (sym h))

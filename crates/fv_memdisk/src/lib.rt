@@ -8,6 +8,7 @@ mod host;
 mod kept;
 mod tally;
 mod torn;
+mod unsettled;
 
 pub use call::{Call, Tear};
 pub use host::MemHost;
