@@ -3,3 +3,4 @@ pub mod Changes
 pub mod Calls
 pub mod Sound
 pub mod Tearing
+pub mod Images

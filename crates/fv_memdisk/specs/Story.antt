@@ -87,3 +87,33 @@ pub record Forgets (old new : Story) (at : ℕ) : Type 0 where
   pub run : new.run ≡ old.run
   pub given : new.given ≡ old.given
   pub places : new.places ≡ (length old.past, at) ∷ old.places
+
+-- no call was made
+pub record IsNew (base : Image) (s : Story) : Type 0 where
+  pub base_is : s.base ≡ base
+  pub reads : (a : ℕ) → s.reads a ≡ base a
+  pub past : s.past ≡ []
+  pub run : s.run ≡ 0
+  pub given : s.given ≡ []
+  pub places : s.places ≡ []
+
+-- the output is emptied, and the moments begin anew
+pub record BeginsRun (old new : Story) : Type 0 where
+  pub base : new.base ≡ old.base
+  pub reads : new.reads ≡ old.reads
+  pub past : new.past ≡ old.past
+  pub run : new.run ≡ length old.past
+  pub given : new.given ≡ []
+  pub places : new.places ≡ old.places
+
+-- how many calls of this run are kept
+abbrev pub moment_of : Story → ℕ
+moment_of s = length s.past - s.run
+
+-- the disk at a moment of this run
+abbrev pub state_of : Story → ℕ → State
+state_of s moment = state_at s.base s.past (s.run + moment)
+
+-- the length of the output then
+abbrev pub output_at : Story → ℕ → ℕ
+output_at s moment = slice_index (outputs s.past s.run) moment

@@ -1,5 +1,5 @@
 -- The images that the tears make, and how they are put together.
-use Rattle.std.specs.Prelude.{◌≡◌, ℕ, List, take, replicate, if◌then◌else◌}
+use Rattle.std.specs.Prelude.{◌≡◌, ◌<◌, ℕ, List, take, replicate, if◌then◌else◌}
 use Rattle.std.specs.Ordering.{nat_cmp}
 use Rattle.std.specs.BTreeMap as tree
 use Rattle.std.specs.BTreeSet as set
@@ -31,3 +31,15 @@ StandsAt chosen others blocks s = (a : ℕ) → disk_of blocks a ≡ (if set.con
 pub record IsUnsettled (start : ℕ) (written : List ℕ) (s : State) : Type 0 where
   pub start_is : start ≡ s.start
   pub written_is : written ≡ s.written
+
+-- the calls since the barrier at which the state was s, and the blocks that they wrote
+pub record IsTail (s : State) (since : List Kept) (written : List ℕ) : Type 0 where
+  pub written_is : written ≡ (replay s since).written
+  pub settled_is : (a : ℕ) → s.reads a ≡ (replay s since).settled a
+
+-- the byte of a tear is one
+abbrev pub IsByteOf : Tear → Type 0
+IsByteOf Old = Unit {0}
+IsByteOf New = Unit {0}
+IsByteOf (Fill byte) = byte < 256
+IsByteOf (First count) = Unit {0}

@@ -1,11 +1,13 @@
 //! What the host has lived through, and the disk as it reads now.
 
-ghost use Rattle.std.specs.Prelude.{◌≡◌, ℕ, ◌≤◌, [], ◌∷◌, ◌++◌, length, OnOk, OnErr};
+ghost use Rattle.std.specs.Prelude.{◌≡◌, ℕ, ◌≤◌, [], ◌∷◌, ◌++◌, length, IfOk, OnOk, OnErr};
 ghost use Rattle.std.specs.Ordering.{nat_cmp};
 ghost use Rattle.std.specs.BTreeMap.{Updates, IsUnchanged, get};
 ghost use Rattle.fv_memdisk.specs.declared.kept.Event.TheVariants.{Write, Torn, Barrier, Give};
-ghost use Rattle.fv_memdisk.specs.Story.{IsSound, Adds, Forgets};
-ghost use Rattle.fv_memdisk.specs.Blocks.{told};
+ghost use Rattle.fv_memdisk.specs.Story.{IsSound, Adds, Forgets, IsNew, BeginsRun, moment_of, output_at, state_of};
+ghost use Rattle.fv_disk.specs.Shown.{IsBlock};
+ghost use Rattle.fv_memdisk.specs.Tears.{image_of};
+ghost use Rattle.fv_memdisk.specs.Blocks.{told, disk_of};
 
 use std::alloc::{AllocError, Global};
 use std::collections::BTreeMap;
@@ -13,7 +15,9 @@ use std::collections::BTreeMap;
 use fv_disk::Block;
 
 use crate::forgotten::{Forgotten, Place};
+use crate::Tear;
 use crate::kept::{Event, Kept};
+use crate::torn::torn;
 
 const ZEROS: Block = [0; 4096];
 
@@ -147,5 +151,62 @@ impl History {
         ensures same { OnErr result (story_of self.new ≡ story_of self.old) }
     {
         keep_output(&mut self.past, &mut self.given, bytes)
+    }
+
+    /// A history of no call, over these blocks.
+    pub(crate) fn new(alloc: Global, base: BTreeMap<u64, Block>) -> Self
+        requires { (a : ℕ) → IsBlock (disk_of base a) }
+        ensures { IsNew (disk_of base) (story_of result) }
+    {
+        History {
+            alloc,
+            base,
+            current: BTreeMap::new(alloc),
+            past: Vec::new(alloc),
+            run: 0,
+            given: Vec::new(alloc),
+            forgotten: Forgotten::new(),
+        }
+    }
+
+    /// Begins another run: the output is empty, and the moments begin anew.
+    pub(crate) fn next_run(&mut self)
+        ensures { BeginsRun (story_of self.old) (story_of self.new) }
+    {
+        self.run = self.past.len();
+        self.given.clear();
+    }
+
+    pub(crate) fn given(&self) -> &[u8]
+        ensures { result.now ≡ (story_of self.now).given }
+    {
+        &self.given
+    }
+
+    /// How many calls of this run are kept.
+    pub(crate) fn moment(&self) -> usize
+        ensures { result ≡ moment_of (story_of self.now) }
+    {
+        self.past.len() - self.run
+    }
+
+    /// The length of the output at a moment of this run.
+    pub(crate) fn output_at(&self, moment: usize) -> usize
+        requires { moment ≤ moment_of (story_of self.now) }
+        ensures { result ≡ output_at (story_of self.now) moment }
+    {
+        if moment == 0 {
+            return 0;
+        }
+        self.past[self.run + moment - 1].output
+    }
+
+    /// The blocks that a crash leaves at a moment of this run.
+    pub(crate) fn torn(&self, moment: usize, tear: Tear) -> Result<BTreeMap<u64, Block>, AllocError>
+        requires { moment ≤ moment_of (story_of self.now) }
+        ensures content { IfOk result (λ blocks. (a : ℕ) → disk_of blocks a ≡ image_of tear (state_of (story_of self.now) moment) a) }
+        ensures whole { IfOk result (λ blocks. (a : ℕ) → IsBlock (disk_of blocks a)) }
+    {
+        torn(self.alloc, &self.base, &self.past[..self.run + moment], tear)
     }
 }

@@ -1,19 +1,21 @@
 //! How the blocks of a crash are put together.
 
-ghost use Rattle.std.specs.Prelude.{◌≡◌, ℕ, ◌+◌, length, replicate, OnOk, IfOk, if◌then◌else◌};
+ghost use Rattle.std.specs.Prelude.{◌≡◌, ℕ, ◌<◌, ◌+◌, length, replicate, OnOk, IfOk, if◌then◌else◌};
 ghost use Rattle.std.specs.Ordering.{nat_cmp};
 ghost use Rattle.std.specs.BTreeSet.{contains};
 ghost use Rattle.fv_disk.specs.Shown.{Image};
-ghost use Rattle.fv_memdisk.specs.Past.{State, is_among, noted, step, replay};
+ghost use Rattle.fv_memdisk.specs.Past.{State, is_among, noted, blank, step, replay};
 ghost use Rattle.fv_memdisk.specs.Blocks.{disk_of};
-ghost use Rattle.fv_memdisk.specs.Tears.{Stands, StandsAt};
+ghost use Rattle.fv_memdisk.specs.Tears.{Stands, StandsAt, IsTail, IsByteOf, image_of};
 
 use std::alloc::{AllocError, Global};
 use std::collections::{BTreeMap, BTreeSet};
 
 use fv_disk::Block;
 
+use crate::Tear;
 use crate::kept::{Event, Kept};
+use crate::unsettled::find_unsettled;
 
 /// A copy of the blocks.
 pub(crate) fn copied(blocks: &BTreeMap<u64, Block>) -> Result<BTreeMap<u64, Block>, AllocError>
@@ -76,7 +78,8 @@ pub(crate) fn fill_all(
     places: &[u64],
     byte: u8,
 ) -> Result<(), AllocError>
-    ensures { OnOk result ((a : ℕ) → disk_of blocks.new a ≡ (if is_among places.now a then replicate 4096 byte else disk_of blocks.old a)) }
+    ensures byte { byte < 256 }
+    ensures filled { OnOk result ((a : ℕ) → disk_of blocks.new a ≡ (if is_among places.now a then replicate 4096 byte else disk_of blocks.old a)) }
 {
     for at in places {
         blocks.insert(*at, [byte; 4096])?;
@@ -93,4 +96,46 @@ pub(crate) fn set_of(alloc: Global, places: &[u64]) -> Result<BTreeSet<u64>, All
         chosen.insert(*at)?;
     }
     Ok(chosen)
+}
+
+/// Makes of the blocks as they were at a barrier those that a crash leaves after the calls since.
+fn tear_off(
+    alloc: Global,
+    blocks: &mut BTreeMap<u64, Block>,
+    since: &[Kept],
+    written: &[u64],
+    tear: Tear,
+) -> Result<(), AllocError>
+    ensures byte { IsByteOf tear }
+    ensures content { OnOk result ((s : State) → Stands blocks.old s → IsTail s since.now written.now → (a : ℕ) → disk_of blocks.new a ≡ image_of tear (replay s since.now) a) }
+{
+    match tear {
+        Tear::Old => Ok(()),
+        Tear::New => put_all(blocks, since),
+        Tear::Fill(byte) => fill_all(blocks, written, byte),
+        Tear::First(count) => {
+            let count = (count as usize).min(written.len());
+            let chosen = set_of(alloc, &written[..count])?;
+            put_all_at(blocks, &chosen, since)
+        }
+    }
+}
+
+/// The blocks that a crash leaves after these calls. Costs the calls, with a block for each write,
+/// and the logarithm of the number of blocks for each of them.
+pub(crate) fn torn(
+    alloc: Global,
+    base: &BTreeMap<u64, Block>,
+    past: &[Kept],
+    tear: Tear,
+) -> Result<BTreeMap<u64, Block>, AllocError>
+    ensures byte { IfOk result (λ _. IsByteOf tear) }
+    ensures content { IfOk result (λ blocks. (a : ℕ) → disk_of blocks a ≡ image_of tear (replay (blank (disk_of base.now)) past.now) a) }
+{
+    let found = find_unsettled(alloc, past)?;
+    let (before, since) = past.split_at(found.start);
+    let mut blocks = copied(base)?;
+    put_all(&mut blocks, before)?;
+    tear_off(alloc, &mut blocks, since, &found.written, tear)?;
+    Ok(blocks)
 }

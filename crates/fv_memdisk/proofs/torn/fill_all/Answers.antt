@@ -9,7 +9,7 @@ pub loop-at-preserved : goal.loop-at-preserved
 loop-at-preserved c =
     fill_more c.loop-at.blocks c.insert.new.self c.args.blocks.now c.args.places.now c.loop-at.at-index (replicate 4096 c.args.byte) (omega arith) c.in_ok-insert.ensures.updates c.loop-at.invariant
 
-pub returns : goal.returns
-returns c = λ a.
+pub returns-clause-filled : goal.returns-clause-filled
+returns-clause-filled c = λ a.
     c.loop-at.invariant a
     ∙ ap (λ places. cond (is_among places a) (replicate 4096 c.args.byte) (disk_of c.args.blocks.now a)) (take_all c.loop-at.at-index c.args.places.now (omega arith))
