@@ -7,17 +7,17 @@ use Rattle.std.specs.Map.{lookup}
 use Rattle.std.specs.Prelude.{slice_index, OnOk, IfOk, unwrap_or}
 use Rattle.std.proofs.lemmas.List.{take-append-drop, take_all, get_or-replicate, get_or_past, length-replicate, get_or-drop, get_or-map, length-drop}
 use Rattle.std.proofs.lemmas.Bool.{cases_lt, false≢true}
-use Rattle.fv_disk.specs.Shown.{Image, IsBlock}
+use Rattle.fv_disk.specs.Shown.{Image, IsBlock, IsSettled}
 use Rattle.fv_memdisk.specs.declared.kept.Event.{Event}
 use Rattle.fv_memdisk.specs.declared.kept.Event.TheVariants.{Write, Torn, Barrier, Give}
 use Rattle.fv_memdisk.specs.declared.kept.Kept.{Kept}
 use Rattle.fv_memdisk.specs.declared.call.Tear.{Tear}
 use Rattle.fv_memdisk.specs.declared.call.Tear.TheVariants.{Old, New, Fill, First}
-use Rattle.fv_memdisk.specs.Past.{is_among, State, blank, step, replay, is_open, IsLeft}
-use Rattle.fv_memdisk.specs.Story.{state_at, outputs, are_known, IsSound}
-use Rattle.fv_memdisk.specs.Blocks.{disk_of, told}
+use Rattle.fv_memdisk.specs.Past.{is_among, was_forgotten, State, blank, step, replay, is_open, IsLeft}
+use Rattle.fv_memdisk.specs.Story.{Story, state_at, outputs, are_known, IsLeftSince, shown_at, IsSound, IsNew, moment_of, output_at, state_of}
+use Rattle.fv_memdisk.specs.Blocks.{zeros, disk_of, told}
 use Rattle.fv_memdisk.specs.Tears.{image_of, Stands, StandsAt, IsTail, IsUnsettled, IsByteOf}
-use Rattle.fv_memdisk.specs.Laws.{or_false, Agrees, not_written}
+use Rattle.fv_memdisk.specs.Laws.{or_false, Agrees, agrees, not_written}
 use Rattle.fv_memdisk.proofs.Steps.{count_at, start_at, replay_push}
 use Rattle.fv_memdisk.proofs.Sound.{Tree}
 use Rattle.fv_memdisk.proofs.Tearing.{Set, replay_more, replay_none}
@@ -111,11 +111,40 @@ shut_image New s agrees a apart = agrees a apart
 shut_image (Fill b) s agrees a apart = rw apart refl
 shut_image (First n) s agrees a apart = rw (take_apart n s.written a apart) refl
 
-pub image_is_left : (tear : Tear) (s : State) (places : List (ℕ × ℕ)) → IsByteOf tear → ((a : ℕ) → IsBlock (s.reads a)) → ((a : ℕ) → IsBlock (s.settled a)) → Agrees s → (c : Image) → ((a : ℕ) → c a ≡ image_of tear s a) → IsLeft s places c
-image_is_left tear s places byte reads settled agrees c is = record {
-  blocks = λ a. subst IsBlock (sym (is a)) (whole_image tear s byte reads settled a);
-  others = λ a shut. is a ∙ shut_image tear s agrees a (not_written s places a shut);
+none_open : (base : Image) (a : ℕ) → is_open (blank base) [] a ≡ false
+unfolding is_open was_forgotten
+none_open base a = refl
+
+pub image_is_left : (tear : Tear) (s : State) (places : List (ℕ × ℕ)) → Agrees s → (c : Image) → ((a : ℕ) → IsBlock (c a)) → ((a : ℕ) → c a ≡ image_of tear s a) → IsLeft s places c
+image_is_left tear s places agrees c blocks is = record { blocks = blocks; others = λ a shut. is a ∙ shut_image tear s agrees a (not_written s places a shut) }
+
+-- an image that a tear makes at a moment is one that a crash since then leaves
+pub image_allowed : (s : Story) → IsSound s → (tear : Tear) (moment : ℕ) → moment ≤ moment_of s → (c : Image) → ((a : ℕ) → IsBlock (c a)) → ((a : ℕ) → c a ≡ image_of tear (state_of s moment) a)
+    → IsLeftSince s moment c (take (output_at s moment) s.given)
+image_allowed s sound tear moment le c blocks is = record {
+  moment = moment;
+  later = omega arith;
+  reached = omega (arith, sound.run, le);
+  image = image_is_left tear (state_of s moment) s.places (agrees s.base s.past (s.run + moment)) c blocks is;
+  output = refl;
 }
+
+-- a host that has just begun is settled
+pub settled_new : (base : Image) (s : Story) (f w : ℕ) → IsNew base s → IsSettled (shown_at s f w)
+settled_new base s f w new c left a =
+    subst (λ (st : State). c a ≡ st.settled a) (now base s new) (left.others a (subst (λ (st : State). is_open st s.places a ≡ false) (sym (now base s new)) (shut base s new a)))
+    ∙ ap (λ (b : Image). b a) new.base_is ∙ sym (new.reads a)
+  where
+    now : (base : Image) (s : Story) → IsNew base s → state_at s.base s.past (length s.past) ≡ blank s.base
+    now base s new = ap (λ ks. state_at s.base ks (length ks)) new.past ∙ replay_none (blank s.base)
+    shut : (base : Image) (s : Story) → IsNew base s → (a : ℕ) → is_open (blank s.base) s.places a ≡ false
+    shut base s new a = subst (λ (ps : List (ℕ × ℕ)). is_open (blank s.base) ps a ≡ false) (sym new.places) (none_open s.base a)
+
+pub moment_new : (base : Image) (s : Story) → IsNew base s → moment_of s ≡ 0
+moment_new base s new = omega (arith, ap length new.past)
+
+pub zeros_whole : (m : Tree) → tree.IsEmpty m → (a : ℕ) → IsBlock (disk_of m a)
+zeros_whole m empty a = subst IsBlock (sym (ap (λ es. unwrap_or (lookup (tree.is_at (nat_cmp a)) es) zeros) empty)) (block_of 0 (omega arith))
 
 pub output_is : (past : List Kept) (run moment : ℕ) (k : Kept) → k ≡ get_or past (run + moment - 1) k → (moment ≡ 0 → ⊥) → run + moment ≤ length past → k.output ≡ slice_index (outputs past run) moment
 output_is past run moment k is later reached =

@@ -177,6 +177,10 @@ impl History {
         self.given.clear();
     }
 
+    pub(crate) fn allocator(&self) -> Global {
+        self.alloc
+    }
+
     pub(crate) fn given(&self) -> &[u8]
         ensures { result.now ≡ (story_of self.now).given }
     {

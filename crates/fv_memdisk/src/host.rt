@@ -1,7 +1,8 @@
 //! The host.
 
 ghost use Rattle.std.specs.Prelude.{◌≡◌, ◌≤◌, ◌<◌, ◌+◌, ◌-◌, ◌^◌, min, length, take, drop, OnOk, OnErr};
-ghost use Rattle.fv_disk.specs.Shown.{Rose};
+ghost use Rattle.fv_disk.specs.Shown.{Rose, IsBlock};
+ghost use Rattle.fv_memdisk.specs.Blocks.{disk_of};
 
 use std::alloc::{AllocError, Global};
 use std::collections::BTreeMap;
@@ -9,7 +10,7 @@ use std::collections::BTreeMap;
 use fv_disk::{Block, Disk, Failed, Host};
 
 use crate::history::History;
-use crate::Call;
+use crate::{Call, Tear};
 use crate::tally::Tallies;
 
 /// A host in memory.
@@ -58,6 +59,105 @@ fn copy_rest(source: &[u8], taken: usize, into: &mut [u8]) -> usize
     let count = rest.len().min(into.len());
     into[..count].copy_from_slice(&rest[..count]);
     count
+}
+
+impl MemHost {
+    ghost use Rattle.std.specs.Prelude.{ℕ, [], replicate, IfOk};
+    ghost use Rattle.fv_memdisk.specs.Story.{moment_of, output_at, state_of};
+    ghost use Rattle.fv_memdisk.specs.Tears.{image_of};
+    ghost use Rattle.fv_memdisk.specs.Tallies.{Names, SameTallies};
+    ghost use Rattle.fv_memdisk.specs.Host.{story, shown_of, starved_of, Begins, ShowsTheSame, BeginsAgain};
+
+    /// A host with a disk of zeros, and these bytes in its source. It takes no memory.
+    pub fn new(alloc: Global, source: Vec<u8>) -> Self
+        ensures begins { Begins result source.items }
+        ensures zeros { (a : ℕ) → (shown_of result).reads a ≡ replicate 4096 0 }
+    {
+        MemHost::over(alloc, BTreeMap::new(alloc), source)
+    }
+
+    // A host that has just begun over these blocks.
+    fn over(alloc: Global, blocks: BTreeMap<u64, Block>, source: Vec<u8>) -> Self
+        requires { (a : ℕ) → IsBlock (disk_of blocks a) }
+        ensures begins { Begins result source.items }
+        ensures content { (a : ℕ) → (shown_of result).reads a ≡ disk_of blocks a }
+    {
+        MemHost {
+            history: History::new(alloc, blocks),
+            source,
+            taken: 0,
+            tallies: Tallies::new(alloc),
+            faults: 0,
+            write_faults: 0,
+            source_faults: 0,
+            sink_faults: 0,
+            starved: 0,
+        }
+    }
+
+    /// Lets the call number `nth` of a kind fail, counted from 0 over all runs. Each call costs the
+    /// number of failures that were named for its kind.
+    pub fn fail(&mut self, call: Call, nth: u64) -> Result<(), AllocError>
+        ensures ok { OnOk result (Names call nth self.old.tallies self.new.tallies) }
+        ensures err { OnErr result (SameTallies self.old.tallies self.new.tallies) }
+        ensures same { ShowsTheSame self.old self.new }
+    {
+        self.tallies.fail(call, nth)
+    }
+
+    /// The output of this run.
+    pub fn given(&self) -> &[u8]
+        ensures { result.now ≡ (shown_of self.now).given }
+    {
+        self.history.given()
+    }
+
+    /// How many writes, barriers and gives were refused for want of memory. It stays at 2^64 - 1.
+    pub fn starved(&self) -> u64
+        ensures { result ≡ starved_of self.now }
+    {
+        self.starved
+    }
+
+    /// How many moments this run has: one before its first call and one after each write, barrier
+    /// and give that is kept.
+    pub fn moments(&self) -> u64
+        ensures { result ≡ (shown_of self.now).moment + 1 }
+    {
+        self.history.moment() as u64 + 1
+    }
+
+    /// The length of the output at a moment, which is below `moments()`.
+    pub fn given_at(&self, moment: u64) -> usize
+        requires { moment ≤ (shown_of self.now).moment }
+        ensures { result ≡ output_at (story self.now) moment }
+    {
+        self.history.output_at(moment as usize)
+    }
+
+    /// A host whose disk is what a crash leaves at a moment, which is below `moments()`. Its source
+    /// and output are empty, and no call fails. Costs the calls up to the moment, each with the
+    /// logarithm of the number of blocks and each write with its block.
+    pub fn image(&self, moment: u64, tear: Tear) -> Result<MemHost, AllocError>
+        requires { moment ≤ (shown_of self.now).moment }
+        ensures begins { IfOk result (λ host. Begins host []) }
+        ensures content { IfOk result (λ host. (a : ℕ) → (shown_of host).reads a ≡ image_of tear (state_of (story self.now) moment) a) }
+        ensures allowed { IfOk result (λ host. (shown_of self.now).since moment (shown_of host).reads (take (output_at (story self.now) moment) (shown_of self.now).given)) }
+    {
+        let blocks = self.history.torn(moment as usize, tear)?;
+        let alloc = self.history.allocator();
+        Ok(MemHost::over(alloc, blocks, Vec::new(alloc)))
+    }
+
+    /// Begins another run over the same disk, with a new source and an empty output. The moments
+    /// begin anew, the counts of calls and of faults go on.
+    pub fn next_run(&mut self, source: Vec<u8>)
+        ensures { BeginsAgain self.old self.new source.items }
+    {
+        self.history.next_run();
+        self.source = source;
+        self.taken = 0;
+    }
 }
 
 impl Disk for MemHost {
