@@ -207,3 +207,7 @@ takes_kept s f w source into taken count source_faults sink_faults long is bytes
   where
     zero_of : ◌≡◌ {A = Result ℕ Failed} (Ok count) (Ok 0) → count ≡ 0
     zero_of none = cc
+
+pub unless : {E P Q : Type 0} (r : Result (Unit {0}) E) → OnOk r P → OnErr r Q → ¬ Q → P
+unless (Ok u) p q none = p
+unless (Err e) p q none = absurd (none q)

@@ -162,8 +162,11 @@ impl MemHost {
 
 impl Disk for MemHost {
     ghost use Rattle.fv_disk.specs.DiskCalls.{Reads, Writes, Settles};
-    ghost use Rattle.fv_memdisk.specs.declared.call.Call.TheVariants.{Read, Write, Barrier};
-    ghost use Rattle.fv_memdisk.specs.Host.{shown_of, Answers};
+    ghost use Rattle.std.specs.Prelude.{[]};
+    ghost use Rattle.fv_memdisk.specs.declared.call.Call.TheVariants as calls;
+    ghost use Rattle.fv_memdisk.specs.declared.kept.Event.TheVariants.{Write, Torn, Barrier};
+    ghost use Rattle.fv_memdisk.specs.Story.{Adds};
+    ghost use Rattle.fv_memdisk.specs.Host.{story, shown_of, starved_of, Answers};
     ghost use Rattle.fv_memdisk.specs.Lived.{story_of};
     ghost use Rattle.fv_memdisk.specs.Laws.{is_disk};
 
@@ -171,7 +174,8 @@ impl Disk for MemHost {
 
     fn read(&mut self, at: u64, into: &mut Block) -> Result<(), Failed>
         ensures disk { Reads (shown_of self.old) at (shown_of self.new) into.new result }
-        ensures exact { Answers Read self.old self.new result }
+        ensures exact { Answers calls.Read self.old self.new result }
+        ensures lived { story self.new ≡ story self.old }
     {
         if self.tallies.next(Call::Read) {
             raise(&mut self.faults);
@@ -183,7 +187,9 @@ impl Disk for MemHost {
 
     fn write(&mut self, at: u64, block: &Block) -> Result<(), Failed>
         ensures disk { Writes (shown_of self.old) at block.now (shown_of self.new) result }
-        ensures exact { Answers Write self.old self.new result }
+        ensures exact { Answers calls.Write self.old self.new result }
+        ensures kept { OnOk result (Adds (story self.old) (story self.new) (Write at block.now) []) }
+        ensures torn { OnErr result (¬ Rose (starved_of self.old) (starved_of self.new) → Adds (story self.old) (story self.new) (Torn at) []) }
     {
         if self.tallies.next(Call::Write) {
             let kept = self.history.tear(at);
@@ -204,7 +210,9 @@ impl Disk for MemHost {
 
     fn barrier(&mut self) -> Result<(), Failed>
         ensures disk { Settles (shown_of self.old) (shown_of self.new) result }
-        ensures exact { Answers Barrier self.old self.new result }
+        ensures exact { Answers calls.Barrier self.old self.new result }
+        ensures kept { OnOk result (Adds (story self.old) (story self.new) Barrier []) }
+        ensures lived { OnErr result (story self.new ≡ story self.old) }
     {
         if self.tallies.next(Call::Barrier) {
             raise(&mut self.faults);
@@ -234,15 +242,19 @@ impl Disk for MemHost {
 
 impl Host for MemHost {
     ghost use Rattle.fv_disk.specs.Ends.{Takes, Gives};
-    ghost use Rattle.fv_memdisk.specs.declared.call.Call.TheVariants.{Take, Give};
-    ghost use Rattle.fv_memdisk.specs.Host.{shown_of, ends_of, Answers};
+    ghost use Rattle.std.specs.Prelude.{IfOk};
+    ghost use Rattle.fv_memdisk.specs.declared.call.Call.TheVariants as calls;
+    ghost use Rattle.fv_memdisk.specs.declared.kept.Event.TheVariants.{Give};
+    ghost use Rattle.fv_memdisk.specs.Story.{Adds};
+    ghost use Rattle.fv_memdisk.specs.Host.{story, shown_of, ends_of, Answers};
 
     ghost ends = { ends_of };
 
     fn take(&mut self, into: &mut [u8]) -> Result<usize, Failed>
         requires { 0 < length into.old }
         ensures host { Takes (shown_of self.old) (ends_of self.old) into.new (shown_of self.new) (ends_of self.new) result }
-        ensures exact { Answers Take self.old self.new result }
+        ensures exact { Answers calls.Take self.old self.new result }
+        ensures lived { story self.new ≡ story self.old }
     {
         if self.tallies.next(Call::Take) {
             raise(&mut self.source_faults);
@@ -256,7 +268,10 @@ impl Host for MemHost {
     fn give(&mut self, bytes: &[u8]) -> Result<usize, Failed>
         requires { 0 < length bytes.now }
         ensures host { Gives (shown_of self.old) (ends_of self.old) bytes.now (shown_of self.new) (ends_of self.new) result }
-        ensures exact { Answers Give self.old self.new result }
+        ensures exact { Answers calls.Give self.old self.new result }
+        ensures all { IfOk result (λ count. count ≡ length bytes.now) }
+        ensures kept { OnOk result (Adds (story self.old) (story self.new) Give bytes.now) }
+        ensures lived { OnErr result (story self.new ≡ story self.old) }
     {
         if self.tallies.next(Call::Give) {
             raise(&mut self.sink_faults);
