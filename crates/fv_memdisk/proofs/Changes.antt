@@ -86,6 +86,7 @@ module _ (s : Story) (e : Event) (bytes : List ℕ) (reads : Image) (sound : IsS
     where
       before : m < length s.past + 1 - s.run → slice_index (outputs (s.past ++ kept_of s e bytes ∷ []) s.run) m ≤ length (s.given ++ bytes)
       before lt = omega (arith, output_old s.past s.run (kept_of s e bytes) m sound.run (omega (arith, sound.run)), sound.within m, length-append s.given bytes)
+
       past_end : length s.past + 1 - s.run < m → slice_index (outputs (s.past ++ kept_of s e bytes ∷ []) s.run) m ≤ length (s.given ++ bytes)
       past_end lt = omega (arith, get_or_past (outputs (s.past ++ kept_of s e bytes ∷ []) s.run) m 0 (omega (arith, length-outputs (s.past ++ kept_of s e bytes ∷ []) s.run (omega (arith, longer, sound.run)), longer)))
 
@@ -94,15 +95,15 @@ module _ (s : Story) (e : Event) (bytes : List ℕ) (reads : Image) (sound : IsS
 
   whole_at : IsWhole e → (i a : ℕ) → IsBlock ((state_at s.base (s.past ++ kept_of s e bytes ∷ []) i).reads a)
   whole_at whole i a = ⊎_elim
-    (λ lt. subst IsBlock (sym (reads_more i a lt)) (whole_after e (now_of s).reads a whole (sound.whole (length s.past) a)))
-    (λ le. subst (λ (st : State). IsBlock (st.reads a)) (sym (state_old s.base s.past (kept_of s e bytes) i le)) (sound.whole i a))
-    (cases_lt (length s.past) i)
+      (λ lt. subst IsBlock (sym (reads_more i a lt)) (whole_after e (now_of s).reads a whole (sound.whole (length s.past) a)))
+      (λ le. subst (λ (st : State). IsBlock (st.reads a)) (sym (state_old s.base s.past (kept_of s e bytes) i le)) (sound.whole i a))
+      (cases_lt (length s.past) i)
 
   whole_settled_at : (i a : ℕ) → IsBlock ((state_at s.base (s.past ++ kept_of s e bytes ∷ []) i).settled a)
   whole_settled_at i a = ⊎_elim
-    (λ lt. subst (λ (st : State). IsBlock (st.settled a)) (sym (state_more s.base s.past (kept_of s e bytes) i lt)) (whole_settled_step (now_of s) e a (sound.whole (length s.past) a) (sound.whole_settled (length s.past) a)))
-    (λ le. subst (λ (st : State). IsBlock (st.settled a)) (sym (state_old s.base s.past (kept_of s e bytes) i le)) (sound.whole_settled i a))
-    (cases_lt (length s.past) i)
+      (λ lt. subst (λ (st : State). IsBlock (st.settled a)) (sym (state_more s.base s.past (kept_of s e bytes) i lt)) (whole_settled_step (now_of s) e a (sound.whole (length s.past) a) (sound.whole_settled (length s.past) a)))
+      (λ le. subst (λ (st : State). IsBlock (st.settled a)) (sym (state_old s.base s.past (kept_of s e bytes) i le)) (sound.whole_settled i a))
+      (cases_lt (length s.past) i)
 
   pub sound_added : IsWhole e → ((a : ℕ) → reads a ≡ read_after e s.reads a) → IsSound (added s e bytes reads)
   sound_added whole same = record {
@@ -145,6 +146,7 @@ module _ (s : Story) (e : Event) (bytes : List ℕ) (reads : Image) (sound : IsS
             subst (λ (n : ℕ). IsLeft (state_at s.base (s.past ++ kept_of s e bytes ∷ []) n) s.places c) end left.image,
             left.output ∙ ap (λ m. take (slice_index (outputs (s.past ++ kept_of s e bytes ∷ []) s.run) m) (s.given ++ bytes)) at ∙ take_all (slice_index (outputs (s.past ++ kept_of s e bytes ∷ []) s.run) (length s.past + 1 - s.run)) (s.given ++ bytes) (omega (arith, full)),
           )
+
       olden : (t : ℕ) (c : Image) (g : List ℕ) (left : IsLeftSince (added s e bytes reads) t c g) → s.run + left.moment ≤ length s.past → IsLeftSince s t c g
       olden t c g left old = record {
         moment = left.moment;
@@ -182,6 +184,7 @@ module _ (s : Story) (at : ℕ) (sound : IsSound s) where
     where
       before : (n : ℕ) → n < length s.past → (a : ℕ) → is_open (state_at s.base s.past n) ((length s.past, at) ∷ s.places) a ≡ is_open (state_at s.base s.past n) s.places a
       before n lt a = opens_later (state_at s.base s.past n) s.places (length s.past) at a (omega (arith, count_at s.base s.past n (omega arith)))
+
       olden : (t : ℕ) (c : Image) (g : List ℕ) (left : IsLeftSince (without s at) t c g) → s.run + left.moment < length s.past → IsLeftSince s t c g
       olden t c g left old = record {
         moment = left.moment;
@@ -190,6 +193,7 @@ module _ (s : Story) (at : ℕ) (sound : IsSound s) where
         image = left_same (state_at s.base s.past (s.run + left.moment)) (state_at s.base s.past (s.run + left.moment)) ((length s.past, at) ∷ s.places) s.places (λ a. sym (before (s.run + left.moment) old a)) (λ a. refl) c left.image;
         output = left.output;
       }
+
       newly : (t : ℕ) (c : Image) (g : List ℕ) (left : IsLeftSince (without s at) t c g) → length s.past ≤ s.run + left.moment → IsLeft (now_of s) ((length s.past, at) ∷ s.places) c × (g ≡ s.given)
       newly t c g left new =
           let end : s.run + left.moment ≡ length s.past = omega (arith, left.reached, new) in
@@ -197,11 +201,12 @@ module _ (s : Story) (at : ℕ) (sound : IsSound s) where
             subst (λ (n : ℕ). IsLeft (state_at s.base s.past n) ((length s.past, at) ∷ s.places) c) end left.image,
             left.output ∙ ap (λ m. take (slice_index (outputs s.past s.run) m) s.given) now ∙ take_all (slice_index (outputs s.past s.run) (length s.past - s.run)) s.given (omega (arith, sound.full)),
           )
+
       kept : (t : ℕ) (c : Image) (g : List ℕ) (left : IsLeftSince s t c g) → IsLeft (state_at s.base s.past (s.run + left.moment)) ((length s.past, at) ∷ s.places) c
       kept t c g left = ⊎_elim
-        (λ old. left_same (state_at s.base s.past (s.run + left.moment)) (state_at s.base s.past (s.run + left.moment)) s.places ((length s.past, at) ∷ s.places) (before (s.run + left.moment) old) (λ a. refl) c left.image)
-        (λ new. at_end c left.image (omega (arith, left.reached, new)))
-        (cases_lt (s.run + left.moment) (length s.past))
+          (λ old. left_same (state_at s.base s.past (s.run + left.moment)) (state_at s.base s.past (s.run + left.moment)) s.places ((length s.past, at) ∷ s.places) (before (s.run + left.moment) old) (λ a. refl) c left.image)
+          (λ new. at_end c left.image (omega (arith, left.reached, new)))
+          (cases_lt (s.run + left.moment) (length s.past))
         where
           at_end : (c : Image) → IsLeft (state_at s.base s.past (s.run + left.moment)) s.places c → s.run + left.moment ≡ length s.past → IsLeft (state_at s.base s.past (s.run + left.moment)) ((length s.past, at) ∷ s.places) c
           at_end c is end =

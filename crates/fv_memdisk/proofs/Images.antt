@@ -1,5 +1,5 @@
 -- That the images that the tears make are those of a crash.
-use Rattle.std.proofs.Common.{◌≡◌, ◌==◌, ◌≤◌, ◌<◌, ◌+◌, ◌-◌, ◌||◌, cond, ⊎_elim, ◌⊎◌, ℕ, zero, suc, Bool, true, false, List, [], ◌∷◌, ◌++◌, length, take, drop, get_or, replicate, refl, sym, ap, ◌∙◌, subst, arith, Result, Ok, Err}
+use Rattle.std.proofs.Common.{◌≡◌, ◌==◌, ◌≤◌, ◌<◌, ◌+◌, ◌-◌, ◌||◌, cond, ⊎_elim, ◌⊎◌, ℕ, zero, suc, Bool, true, false, List, [], ◌∷◌, ◌++◌, length, take, drop, get_or, replicate, refl, sym, ap, ◌∙◌, subst, arith, Result, Ok, Err, None}
 use Rattle.std.specs.Ordering.{nat_cmp}
 use Rattle.std.specs.BTreeSet as set
 use Rattle.std.specs.BTreeMap as tree
@@ -8,6 +8,7 @@ use Rattle.std.specs.Prelude.{slice_index, OnOk, IfOk, unwrap_or}
 use Rattle.std.proofs.lemmas.List.{take-append-drop, take_all, get_or-replicate, get_or_past, length-replicate, get_or-drop, get_or-map, length-drop}
 use Rattle.std.proofs.lemmas.Bool.{cases_lt, false≢true}
 use Rattle.fv_disk.specs.Shown.{Image, IsBlock, IsSettled}
+use Rattle.fv_memdisk.specs.declared.blocks.Blocks.{Blocks}
 use Rattle.fv_memdisk.specs.declared.kept.Event.{Event}
 use Rattle.fv_memdisk.specs.declared.kept.Event.TheVariants.{Write, Torn, Barrier, Give}
 use Rattle.fv_memdisk.specs.declared.kept.Kept.{Kept}
@@ -15,11 +16,10 @@ use Rattle.fv_memdisk.specs.declared.call.Tear.{Tear}
 use Rattle.fv_memdisk.specs.declared.call.Tear.TheVariants.{Old, New, Fill, First}
 use Rattle.fv_memdisk.specs.Past.{is_among, was_forgotten, State, blank, step, replay, is_open, IsLeft}
 use Rattle.fv_memdisk.specs.Story.{Story, state_at, outputs, are_known, IsLeftSince, shown_at, IsSound, IsNew, moment_of, output_at, state_of}
-use Rattle.fv_memdisk.specs.Blocks.{zeros, disk_of, told}
+use Rattle.fv_memdisk.specs.Blocks.{found, zeros, disk_of, told}
 use Rattle.fv_memdisk.specs.Tears.{image_of, Stands, StandsAt, IsTail, IsUnsettled, IsByteOf}
 use Rattle.fv_memdisk.specs.Laws.{or_false, Agrees, agrees, not_written}
 use Rattle.fv_memdisk.proofs.Steps.{count_at, start_at, replay_push}
-use Rattle.fv_memdisk.proofs.Sound.{Tree}
 use Rattle.fv_memdisk.proofs.Tearing.{Set, replay_more, replay_none}
 
 -- what was there at the last barrier is what reads gave there
@@ -69,7 +69,7 @@ start_within base past start written found =
     let low : (replay (blank base) past).start ≤ length past = subst (λ (st : State). st.start ≤ length past) s (omega (arith, le, counted)) in
     omega (arith, low, found.start_is)
 
-pub torn_is : (base : Image) (past before since : List Kept) (start : ℕ) (written : List ℕ) (tear : Tear) (mid blocks : Tree) → before ≡ take start past → since ≡ drop start past → IsUnsettled start written (replay (blank base) past)
+pub torn_is : (base : Image) (past before since : List Kept) (start : ℕ) (written : List ℕ) (tear : Tear) (mid blocks : Blocks) → before ≡ take start past → since ≡ drop start past → IsUnsettled start written (replay (blank base) past)
     → Stands mid (replay (blank base) before) → ((s : State) → Stands mid s → IsTail s since written → (a : ℕ) → disk_of blocks a ≡ image_of tear (replay s since) a)
     → (a : ℕ) → disk_of blocks a ≡ image_of tear (replay (blank base) past) a
 torn_is base past before since start written tear mid blocks front back found put off a =
@@ -81,7 +81,7 @@ torn_is base past before since start written tear mid blocks front back found pu
         subst (λ (ks : List Kept). IsTail (replay (blank base) ks) since written) (sym front)
         (subst (λ (ks : List Kept). IsTail (replay (blank base) (take start past)) ks written) (sym back) (is_tail base past start written found))
 
-pub filled_is : {E : Type 0} (r : Result (Unit {0}) E) (old new : Tree) (since : List Kept) (written : List ℕ) (tear : Tear) (byte : ℕ) → tear ≡ Fill byte → OnOk r ((a : ℕ) → disk_of new a ≡ cond (is_among written a) (replicate 4096 byte) (disk_of old a))
+pub filled_is : {E : Type 0} (r : Result (Unit {0}) E) (old new : Blocks) (since : List Kept) (written : List ℕ) (tear : Tear) (byte : ℕ) → tear ≡ Fill byte → OnOk r ((a : ℕ) → disk_of new a ≡ cond (is_among written a) (replicate 4096 byte) (disk_of old a))
     → OnOk r ((s : State) → Stands old s → IsTail s since written → (a : ℕ) → disk_of new a ≡ image_of tear (replay s since) a)
 filled_is (Err e) old new since written tear byte is filled = tt
 filled_is (Ok u) old new since written tear byte is filled = λ s stands tail a. rw is (
@@ -137,14 +137,15 @@ settled_new base s f w new c left a =
   where
     now : (base : Image) (s : Story) → IsNew base s → state_at s.base s.past (length s.past) ≡ blank s.base
     now base s new = ap (λ ks. state_at s.base ks (length ks)) new.past ∙ replay_none (blank s.base)
+
     shut : (base : Image) (s : Story) → IsNew base s → (a : ℕ) → is_open (blank s.base) s.places a ≡ false
     shut base s new a = subst (λ (ps : List (ℕ × ℕ)). is_open (blank s.base) ps a ≡ false) (sym new.places) (none_open s.base a)
 
 pub moment_new : (base : Image) (s : Story) → IsNew base s → moment_of s ≡ 0
 moment_new base s new = omega (arith, ap length new.past)
 
-pub zeros_whole : (m : Tree) → tree.IsEmpty m → (a : ℕ) → IsBlock (disk_of m a)
-zeros_whole m empty a = subst IsBlock (sym (ap (λ es. unwrap_or (lookup (tree.is_at (nat_cmp a)) es) zeros) empty)) (block_of 0 (omega arith))
+pub zeros_whole : (m : Blocks) → ((a : ℕ) → found m a ≡ None) → (a : ℕ) → IsBlock (disk_of m a)
+zeros_whole m empty a = subst IsBlock (sym (ap (λ o. unwrap_or o zeros) (empty a))) (block_of 0 (omega arith))
 
 pub output_is : (past : List Kept) (run moment : ℕ) (k : Kept) → k ≡ get_or past (run + moment - 1) k → (moment ≡ 0 → ⊥) → run + moment ≤ length past → k.output ≡ slice_index (outputs past run) moment
 output_is past run moment k is later reached =
@@ -162,15 +163,15 @@ take_none : (i : ℕ) → take {A = Kept} i [] ≡ []
 take_none zero = refl
 take_none (suc i) = refl
 
-pub whole_is : {E : Type 0} (r : Result Tree E) (tear : Tear) (s : State) → IfOk r (λ _. IsByteOf tear) → IfOk r (λ blocks. (a : ℕ) → disk_of blocks a ≡ image_of tear s a) → ((a : ℕ) → IsBlock (s.reads a)) → ((a : ℕ) → IsBlock (s.settled a))
+pub whole_is : {E : Type 0} (r : Result Blocks E) (tear : Tear) (s : State) → IfOk r (λ _. IsByteOf tear) → IfOk r (λ blocks. (a : ℕ) → disk_of blocks a ≡ image_of tear s a) → ((a : ℕ) → IsBlock (s.reads a)) → ((a : ℕ) → IsBlock (s.settled a))
     → IfOk r (λ blocks. (a : ℕ) → IsBlock (disk_of blocks a))
 whole_is (Ok blocks) tear s byte content reads settled = λ a. subst IsBlock (sym (content a)) (whole_image tear s byte reads settled a)
 whole_is (Err e) tear s byte content reads settled = tt
 
-pub sound_new : (base current : Tree) (past : List Kept) (given : List ℕ) (places : List (ℕ × ℕ)) → tree.IsEmpty current → past ≡ [] → given ≡ [] → places ≡ [] → ((a : ℕ) → IsBlock (disk_of base a)) → IsSound (told base current past 0 given places)
+pub sound_new : (base current : Blocks) (past : List Kept) (given : List ℕ) (places : List (ℕ × ℕ)) → ((a : ℕ) → found current a ≡ None) → past ≡ [] → given ≡ [] → places ≡ [] → ((a : ℕ) → IsBlock (disk_of base a)) → IsSound (told base current past 0 given places)
 sound_new base current past given places empty none nothing nowhere blocks = record {
   run = omega arith;
-  reads = λ a. ap (λ ks. (state_at (disk_of base) ks (length ks)).reads a) none ∙ ap (λ (s : State). s.reads a) (replay_none (blank (disk_of base))) ∙ sym (ap (λ es. unwrap_or (lookup (tree.is_at (nat_cmp a)) es) (disk_of base a)) empty);
+  reads = λ a. ap (λ ks. (state_at (disk_of base) ks (length ks)).reads a) none ∙ ap (λ (s : State). s.reads a) (replay_none (blank (disk_of base))) ∙ sym (ap (λ o. unwrap_or o (disk_of base a)) (empty a));
   whole = λ i a. subst (λ (s : State). IsBlock (s.reads a)) (sym (at_none i)) (blocks a);
   whole_settled = λ i a. subst (λ (s : State). IsBlock (s.settled a)) (sym (at_none i)) (blocks a);
   within = λ m. subst (λ (ks : List Kept). slice_index (outputs ks 0) m ≤ length given) (sym none) (low m);
@@ -180,6 +181,7 @@ sound_new base current past given places empty none nothing nowhere blocks = rec
   where
     at_none : (i : ℕ) → state_at (disk_of base) past i ≡ blank (disk_of base)
     at_none i = ap (λ ks. state_at (disk_of base) ks i) none ∙ ap (λ ks. replay (blank (disk_of base)) ks) (take_none i) ∙ replay_none (blank (disk_of base))
+
     low : (m : ℕ) → slice_index (0 ∷ []) m ≤ length given
     low zero = omega arith
     low (suc m) = omega arith

@@ -4,3 +4,4 @@ pub mod Calls
 pub mod Sound
 pub mod Tearing
 pub mod Images
+pub mod Boxes

@@ -8,31 +8,29 @@ use Rattle.std.proofs.lemmas.List.{append-nil}
 use Rattle.std.proofs.lemmas.Bool.Decides.{nat_tests}
 use Rattle.std.proofs.lemmas.Grind.{common_steps}
 use Rattle.fv_disk.specs.Shown.{Image, IsBlock}
+use Rattle.fv_memdisk.specs.declared.blocks.Blocks.{Blocks}
 use Rattle.fv_memdisk.specs.declared.kept.Event.{Event}
 use Rattle.fv_memdisk.specs.declared.kept.Event.TheVariants.{Write, Torn, Barrier, Give}
 use Rattle.fv_memdisk.specs.declared.kept.Kept.{Kept}
 use Rattle.fv_memdisk.specs.Past.{put}
 use Rattle.fv_memdisk.specs.Story.{Story, IsSound, read_after}
-use Rattle.fv_memdisk.specs.Blocks.{over, disk_of, told}
+use Rattle.fv_memdisk.specs.Blocks.{found, Puts, over, disk_of, told}
 use Rattle.fv_memdisk.proofs.Changes.{IsWhole, sound_adds}
-
-abbrev pub Tree : Type 0
-Tree = tree.BTreeMap ℕ (List ℕ)
 
 pub turned : (at a : ℕ) → tree.is_at (nat_cmp at) a ≡ (a == at)
 turned at a = grind (arith, nat_tests)
 
--- the map with one block more, as an image
-pub over_put : (m n : Tree) (below : Image) (at : ℕ) (block : List ℕ) → tree.Updates nat_cmp m n at (Some block) → (a : ℕ) → over n below a ≡ put (over m below) at block a
-over_put m n below at block updates a =
-    ap (λ o. unwrap_or o (below a)) (updates.0 a ∙ ap (λ b. cond b (Some block) (tree.get nat_cmp m a)) (turned at a))
-    ∙ elim (a == at) as (λ b. unwrap_or (cond b (Some block) (tree.get nat_cmp m a)) (below a) ≡ cond b block (over m below a)) [ true ↦ refl | false ↦ refl ]
+-- the blocks with one more, as an image
+pub over_put : (m n : Blocks) (below : Image) (at : ℕ) (block : List ℕ) → Puts m n at block → (a : ℕ) → over n below a ≡ put (over m below) at block a
+over_put m n below at block puts a =
+    ap (λ o. unwrap_or o (below a)) (puts a)
+    ∙ elim (a == at) as (λ b. unwrap_or (cond b (Some block) (found m a)) (below a) ≡ cond b block (over m below a)) [ true ↦ refl | false ↦ refl ]
 
-pub over_same : (m n : Tree) (below : Image) → tree.IsUnchanged m n → over n below ≡ over m below
-over_same m n below same = λ i a. unwrap_or (lookup (tree.is_at (nat_cmp a)) (same i)) (below a)
+pub over_same : (m n : Blocks) (below : Image) → ((a : ℕ) → found n a ≡ found m a) → over n below ≡ over m below
+over_same m n below same = λ i a. unwrap_or (same a i) (below a)
 
 -- one call more
-sound_more : (base current next : Tree) (past later : List Kept) (run : ℕ) (given more : List ℕ) (places : List (ℕ × ℕ)) (e : Event) (bytes : List ℕ) (output : ℕ) → IsSound (told base current past run given places) → IsWhole e
+sound_more : (base current next : Blocks) (past later : List Kept) (run : ℕ) (given more : List ℕ) (places : List (ℕ × ℕ)) (e : Event) (bytes : List ℕ) (output : ℕ) → IsSound (told base current past run given places) → IsWhole e
     → ((a : ℕ) → over next (disk_of base) a ≡ read_after e (over current (disk_of base)) a) → later ≡ past ++ record { event = e; output = output } ∷ [] → more ≡ given ++ bytes → output ≡ length (given ++ bytes)
     → IsSound (told base next later run more places)
 sound_more base current next past later run given more places e bytes output sound whole reads is is_more long =
@@ -46,9 +44,9 @@ sound_more base current next past later run given more places e bytes output sou
     })
 
 -- a write is kept, or nothing changed
-pub sound_write : {E : Type 0} (r : Result (Unit {0}) E) (base current next : Tree) (past later : List Kept) (run : ℕ) (given : List ℕ) (places : List (ℕ × ℕ)) (at output : ℕ) (block : List ℕ) → output ≡ length given
+pub sound_write : {E : Type 0} (r : Result (Unit {0}) E) (base current next : Blocks) (past later : List Kept) (run : ℕ) (given : List ℕ) (places : List (ℕ × ℕ)) (at output : ℕ) (block : List ℕ) → output ≡ length given
     → IsSound (told base current past run given places) → IsBlock block
-    → OnOk r (later ≡ past ++ record { event = Write at block; output = output } ∷ []) → OnOk r (tree.Updates nat_cmp current next at (Some block)) → OnErr r (later ≡ past) → OnErr r (tree.IsUnchanged current next)
+    → OnOk r (later ≡ past ++ record { event = Write at block; output = output } ∷ []) → OnOk r (Puts current next at block) → OnErr r (later ≡ past) → OnErr r ((a : ℕ) → found next a ≡ found current a)
     → IsSound (told base next later run given places)
 sound_write (Ok u) base current next past later run given places at output block long sound whole kept put stays same =
     sound_more base current next past later run given given places (Write at block) [] output sound whole (over_put current next (disk_of base) at block put) kept (sym (append-nil given)) (long ∙ ap length (sym (append-nil given)))
@@ -57,7 +55,7 @@ sound_write (Err e) base current next past later run given places at output bloc
     (subst (λ (reads : Image). IsSound (record { base = disk_of base; reads = reads; past = past; run = run; given = given; places = places })) (sym (over_same current next (disk_of base) same)) sound)
 
 -- another call is kept, or nothing changed
-pub sound_kept : {E : Type 0} (r : Result (Unit {0}) E) (base current : Tree) (past later : List Kept) (run : ℕ) (given : List ℕ) (places : List (ℕ × ℕ)) (e : Event) (output : ℕ) → output ≡ length given
+pub sound_kept : {E : Type 0} (r : Result (Unit {0}) E) (base current : Blocks) (past later : List Kept) (run : ℕ) (given : List ℕ) (places : List (ℕ × ℕ)) (e : Event) (output : ℕ) → output ≡ length given
     → IsSound (told base current past run given places) → IsWhole e → ((image : Image) (a : ℕ) → read_after e image a ≡ image a)
     → OnOk r (later ≡ past ++ record { event = e; output = output } ∷ []) → OnErr r (later ≡ past)
     → IsSound (told base current later run given places)
@@ -67,7 +65,7 @@ sound_kept (Err e') base current past later run given places e output long sound
     subst (λ (ks : List Kept). IsSound (told base current ks run given places)) (sym stays) sound
 
 -- bytes are given out, or nothing changed
-pub sound_given : {E : Type 0} (r : Result (Unit {0}) E) (base current : Tree) (past later : List Kept) (run : ℕ) (given more : List ℕ) (places : List (ℕ × ℕ)) (bytes : List ℕ)
+pub sound_given : {E : Type 0} (r : Result (Unit {0}) E) (base current : Blocks) (past later : List Kept) (run : ℕ) (given more : List ℕ) (places : List (ℕ × ℕ)) (bytes : List ℕ)
     → IsSound (told base current past run given places)
     → OnOk r (more ≡ given ++ bytes) → OnOk r (later ≡ past ++ record { event = Give; output = length (given ++ bytes) } ∷ []) → OnErr r (more ≡ given) → OnErr r (later ≡ past)
     → IsSound (told base current later run more places)

@@ -162,8 +162,10 @@ module _ (s t : State) (p q : List (ℕ × ℕ)) (at : ℕ) (opens : Opens (is_o
     where
       apart : (a : ℕ) → a ≢ at → put c at (s.settled at) a ≡ c a
       apart a ne = let no : (a == at) ≡ false = grind (arith, nat_tests) in rw no refl
+
       here : (a : ℕ) → a ≡ at → put c at (s.settled at) a ≡ s.settled a
       here a e = let yes : (a == at) ≡ true = grind (arith, nat_tests) in rw yes (ap s.settled (sym e))
+
       there : (a : ℕ) → a ≢ at → is_open s p a ≡ false → put c at (s.settled at) a ≡ s.settled a
       there a ne shut = let no : (at == a) ≡ false = grind (arith, nat_tests) in apart a ne ∙ left.others a (opens a ∙ rw (shut, no) refl) ∙ same a
 

@@ -1,10 +1,9 @@
 -- The images that the tears make, and how they are put together.
 use Rattle.std.specs.Prelude.{◌≡◌, ◌<◌, ℕ, List, take, replicate, if◌then◌else◌}
 use Rattle.std.specs.Ordering.{nat_cmp}
-use Rattle.std.specs.BTreeMap as tree
 use Rattle.std.specs.BTreeSet as set
 use Rattle.fv_disk.specs.Shown.{Image}
-use Rattle.fv_memdisk.specs.declared.kept.Event.{Event}
+use Rattle.fv_memdisk.specs.declared.blocks.Blocks.{Blocks}
 use Rattle.fv_memdisk.specs.declared.kept.Kept.{Kept}
 use Rattle.fv_memdisk.specs.declared.call.Tear.{Tear}
 use Rattle.fv_memdisk.specs.declared.call.Tear.TheVariants.{Old, New, Fill, First}
@@ -20,11 +19,11 @@ image_of (Fill byte) s a = if is_among s.written a then replicate 4096 byte else
 image_of (First count) s a = if is_among (take count s.written) a then s.reads a else s.settled a
 
 -- the map has what reads give
-abbrev pub Stands : tree.BTreeMap ℕ (List ℕ) → State → Type 0
+abbrev pub Stands : Blocks → State → Type 0
 Stands blocks s = (a : ℕ) → disk_of blocks a ≡ s.reads a
 
 -- it has what reads give at the chosen blocks, and others elsewhere
-abbrev pub StandsAt : set.BTreeSet ℕ → Image → tree.BTreeMap ℕ (List ℕ) → State → Type 0
+abbrev pub StandsAt : set.BTreeSet ℕ → Image → Blocks → State → Type 0
 StandsAt chosen others blocks s = (a : ℕ) → disk_of blocks a ≡ (if set.contains nat_cmp chosen a then s.reads a else others a)
 
 -- the start and the written blocks are those of a state

@@ -1,33 +1,27 @@
 //! What the host has lived through, and the disk as it reads now.
 
 ghost use Rattle.std.specs.Prelude.{◌≡◌, ℕ, ◌≤◌, [], ◌∷◌, ◌++◌, length, IfOk, OnOk, OnErr};
-ghost use Rattle.std.specs.Ordering.{nat_cmp};
-ghost use Rattle.std.specs.BTreeMap.{Updates, IsUnchanged, get};
 ghost use Rattle.fv_memdisk.specs.declared.kept.Event.TheVariants.{Write, Torn, Barrier, Give};
 ghost use Rattle.fv_memdisk.specs.Story.{IsSound, Adds, Forgets, IsNew, BeginsRun, moment_of, output_at, state_of};
 ghost use Rattle.fv_disk.specs.Shown.{IsBlock};
 ghost use Rattle.fv_memdisk.specs.Tears.{image_of};
-ghost use Rattle.fv_memdisk.specs.Blocks.{told, disk_of};
+ghost use Rattle.fv_memdisk.specs.Blocks.{told, disk_of, found, Puts};
 
-use std::alloc::{AllocError, Global};
-use std::collections::BTreeMap;
-
-use fv_disk::Block;
-
-use crate::forgotten::{Forgotten, Place};
 use crate::Tear;
+use crate::blocks::Blocks;
+use crate::forgotten::{Forgotten, Place};
 use crate::kept::{Event, Kept};
 use crate::torn::torn;
-
-const ZEROS: Block = [0; 4096];
+use fv_disk::Block;
+use std::alloc::{AllocError, Global};
 
 #[derive(Drop)]
 pub(crate) struct History {
     alloc: Global,
     // the disk at the start, zero where it has no block
-    base: BTreeMap<u64, Block>,
+    base: Blocks,
     // the blocks written since
-    current: BTreeMap<u64, Block>,
+    current: Blocks,
     past: Vec<Kept>,
     // how many of the past calls were in earlier runs
     run: usize,
@@ -39,18 +33,18 @@ pub(crate) struct History {
 
 fn keep_write(
     past: &mut Vec<Kept>,
-    current: &mut BTreeMap<u64, Block>,
+    current: &mut Blocks,
     output: usize,
     at: u64,
     block: &Block,
 ) -> Result<(), AllocError>
     ensures kept { OnOk result (past.new.items ≡ past.old.items ++ record { event = Write at block.now; output = output } ∷ []) }
-    ensures put { OnOk result (Updates nat_cmp current.old current.new at (Some block.now)) }
+    ensures put { OnOk result (Puts current.old current.new at block.now) }
     ensures past_stays { OnErr result (past.new.items ≡ past.old.items) }
-    ensures current_stays { OnErr result (IsUnchanged current.old current.new) }
+    ensures current_stays { OnErr result ((a : ℕ) → found current.new a ≡ found current.old a) }
 {
     past.reserve(1)?;
-    current.insert(at, *block)?;
+    current.put(at, block)?;
     past.push_reserved(Kept {
         event: Event::Write(at, *block),
         output,
@@ -88,13 +82,13 @@ impl History {
     pub(crate) fn read(&self, at: u64, into: &mut Block)
         ensures { into.new ≡ (story_of self.now).reads at }
     {
-        *into = match self.current.get(&at) {
-            Some(block) => *block,
-            None => match self.base.get(&at) {
-                Some(block) => *block,
-                None => ZEROS,
+        match self.current.get(at) {
+            Some(block) => *into = *block,
+            None => match self.base.get(at) {
+                Some(block) => *into = *block,
+                None => *into = [0; 4096],
             },
-        };
+        }
     }
 
     /// Keeps a write, or forgets it where there is no memory. Costs a block, and the logarithm of the
@@ -154,14 +148,14 @@ impl History {
     }
 
     /// A history of no call, over these blocks.
-    pub(crate) fn new(alloc: Global, base: BTreeMap<u64, Block>) -> Self
+    pub(crate) fn new(alloc: Global, base: Blocks) -> Self
         requires { (a : ℕ) → IsBlock (disk_of base a) }
         ensures { IsNew (disk_of base) (story_of result) }
     {
         History {
             alloc,
             base,
-            current: BTreeMap::new(alloc),
+            current: Blocks::new(alloc),
             past: Vec::new(alloc),
             run: 0,
             given: Vec::new(alloc),
@@ -206,11 +200,16 @@ impl History {
     }
 
     /// The blocks that a crash leaves at a moment of this run.
-    pub(crate) fn torn(&self, moment: usize, tear: Tear) -> Result<BTreeMap<u64, Block>, AllocError>
+    pub(crate) fn torn(&self, moment: usize, tear: Tear) -> Result<Blocks, AllocError>
         requires { moment ≤ moment_of (story_of self.now) }
         ensures content { IfOk result (λ blocks. (a : ℕ) → disk_of blocks a ≡ image_of tear (state_of (story_of self.now) moment) a) }
         ensures whole { IfOk result (λ blocks. (a : ℕ) → IsBlock (disk_of blocks a)) }
     {
-        torn(self.alloc, &self.base, &self.past[..self.run + moment], tear)
+        torn(
+            self.alloc,
+            &self.base,
+            &self.past[..self.run + moment],
+            tear,
+        )
     }
 }

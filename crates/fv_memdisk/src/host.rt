@@ -4,14 +4,12 @@ ghost use Rattle.std.specs.Prelude.{◌≡◌, ◌≤◌, ◌<◌, ◌+◌, ◌-
 ghost use Rattle.fv_disk.specs.Shown.{Rose, IsBlock};
 ghost use Rattle.fv_memdisk.specs.Blocks.{disk_of};
 
-use std::alloc::{AllocError, Global};
-use std::collections::BTreeMap;
-
-use fv_disk::{Block, Disk, Failed, Host};
-
+use crate::blocks::Blocks;
 use crate::history::History;
-use crate::{Call, Tear};
 use crate::tally::Tallies;
+use crate::{Call, Tear};
+use fv_disk::{Block, Disk, Failed, Host};
+use std::alloc::{AllocError, Global};
 
 /// A host in memory.
 #[derive(Drop)]
@@ -73,11 +71,11 @@ impl MemHost {
         ensures begins { Begins result source.items }
         ensures zeros { (a : ℕ) → (shown_of result).reads a ≡ replicate 4096 0 }
     {
-        MemHost::over(alloc, BTreeMap::new(alloc), source)
+        MemHost::over(alloc, Blocks::new(alloc), source)
     }
 
     // A host that has just begun over these blocks.
-    fn over(alloc: Global, blocks: BTreeMap<u64, Block>, source: Vec<u8>) -> Self
+    fn over(alloc: Global, blocks: Blocks, source: Vec<u8>) -> Self
         requires { (a : ℕ) → IsBlock (disk_of blocks a) }
         ensures begins { Begins result source.items }
         ensures content { (a : ℕ) → (shown_of result).reads a ≡ disk_of blocks a }

@@ -1,12 +1,15 @@
 //! A host in memory.
 #![tactic(auto)]
 
+mod blocks;
 mod call;
 mod forgotten;
 mod history;
 mod host;
 mod kept;
 mod tally;
+#[cfg(test)]
+mod tests;
 mod torn;
 mod unsettled;
 

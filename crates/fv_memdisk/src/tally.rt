@@ -3,9 +3,8 @@
 ghost use Rattle.std.specs.Prelude.{◌≡◌, ◌+◌, ◌-◌, ◌^◌, ◌==◌, min, [], ◌∷◌, ◌++◌, OnOk, OnErr};
 ghost use Rattle.std.specs.List.{list_any};
 
-use std::alloc::{AllocError, Global};
-
 use crate::Call;
+use std::alloc::{AllocError, Global};
 
 #[derive(Drop)]
 pub(crate) struct Tally {

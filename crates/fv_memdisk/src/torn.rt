@@ -8,33 +8,25 @@ ghost use Rattle.fv_memdisk.specs.Past.{State, is_among, noted, blank, step, rep
 ghost use Rattle.fv_memdisk.specs.Blocks.{disk_of};
 ghost use Rattle.fv_memdisk.specs.Tears.{Stands, StandsAt, IsTail, IsByteOf, image_of};
 
-use std::alloc::{AllocError, Global};
-use std::collections::{BTreeMap, BTreeSet};
-
-use fv_disk::Block;
-
 use crate::Tear;
+use crate::blocks::Blocks;
 use crate::kept::{Event, Kept};
 use crate::unsettled::find_unsettled;
+use fv_disk::Block;
+use std::alloc::{AllocError, Global};
+use std::collections::BTreeSet;
 
-/// A copy of the blocks.
-pub(crate) fn copied(blocks: &BTreeMap<u64, Block>) -> Result<BTreeMap<u64, Block>, AllocError>
-    ensures { IfOk result (λ copy. (a : ℕ) → disk_of copy a ≡ disk_of blocks.now a) }
-{
-    blocks.clone()
-}
-
-fn put_one(blocks: &mut BTreeMap<u64, Block>, event: &Event) -> Result<(), AllocError>
+fn put_one(blocks: &mut Blocks, event: &Event) -> Result<(), AllocError>
     ensures { OnOk result ((s : State) → Stands blocks.old s → Stands blocks.new (step s event.now)) }
 {
     if let Event::Write(at, block) = event {
-        blocks.insert(*at, *block)?;
+        blocks.put(*at, block)?;
     }
     Ok(())
 }
 
 /// Puts what the events wrote over the blocks.
-pub(crate) fn put_all(blocks: &mut BTreeMap<u64, Block>, events: &[Kept]) -> Result<(), AllocError>
+pub(crate) fn put_all(blocks: &mut Blocks, events: &[Kept]) -> Result<(), AllocError>
     ensures { OnOk result ((s : State) → Stands blocks.old s → Stands blocks.new (replay s events.now)) }
 {
     for kept in events {
@@ -43,16 +35,12 @@ pub(crate) fn put_all(blocks: &mut BTreeMap<u64, Block>, events: &[Kept]) -> Res
     Ok(())
 }
 
-fn put_one_at(
-    blocks: &mut BTreeMap<u64, Block>,
-    chosen: &BTreeSet<u64>,
-    event: &Event,
-) -> Result<(), AllocError>
+fn put_one_at(blocks: &mut Blocks, chosen: &BTreeSet<u64>, event: &Event) -> Result<(), AllocError>
     ensures { OnOk result ((s : State) (others : Image) → StandsAt chosen.now others blocks.old s → StandsAt chosen.now others blocks.new (step s event.now)) }
 {
     if let Event::Write(at, block) = event {
         if chosen.contains(at) {
-            blocks.insert(*at, *block)?;
+            blocks.put(*at, block)?;
         }
     }
     Ok(())
@@ -60,7 +48,7 @@ fn put_one_at(
 
 /// Puts what the events wrote over the chosen blocks.
 pub(crate) fn put_all_at(
-    blocks: &mut BTreeMap<u64, Block>,
+    blocks: &mut Blocks,
     chosen: &BTreeSet<u64>,
     events: &[Kept],
 ) -> Result<(), AllocError>
@@ -73,16 +61,13 @@ pub(crate) fn put_all_at(
 }
 
 /// Fills these blocks with one byte.
-pub(crate) fn fill_all(
-    blocks: &mut BTreeMap<u64, Block>,
-    places: &[u64],
-    byte: u8,
-) -> Result<(), AllocError>
+pub(crate) fn fill_all(blocks: &mut Blocks, places: &[u64], byte: u8) -> Result<(), AllocError>
     ensures byte { byte < 256 }
     ensures filled { OnOk result ((a : ℕ) → disk_of blocks.new a ≡ (if is_among places.now a then replicate 4096 byte else disk_of blocks.old a)) }
 {
+    let full: Block = [byte; 4096];
     for at in places {
-        blocks.insert(*at, [byte; 4096])?;
+        blocks.put(*at, &full)?;
     }
     Ok(())
 }
@@ -101,7 +86,7 @@ pub(crate) fn set_of(alloc: Global, places: &[u64]) -> Result<BTreeSet<u64>, All
 /// Makes of the blocks as they were at a barrier those that a crash leaves after the calls since.
 fn tear_off(
     alloc: Global,
-    blocks: &mut BTreeMap<u64, Block>,
+    blocks: &mut Blocks,
     since: &[Kept],
     written: &[u64],
     tear: Tear,
@@ -125,16 +110,16 @@ fn tear_off(
 /// and the logarithm of the number of blocks for each of them.
 pub(crate) fn torn(
     alloc: Global,
-    base: &BTreeMap<u64, Block>,
+    base: &Blocks,
     past: &[Kept],
     tear: Tear,
-) -> Result<BTreeMap<u64, Block>, AllocError>
+) -> Result<Blocks, AllocError>
     ensures byte { IfOk result (λ _. IsByteOf tear) }
     ensures content { IfOk result (λ blocks. (a : ℕ) → disk_of blocks a ≡ image_of tear (replay (blank (disk_of base.now)) past.now) a) }
 {
     let found = find_unsettled(alloc, past)?;
     let (before, since) = past.split_at(found.start);
-    let mut blocks = copied(base)?;
+    let mut blocks = base.copied()?;
     put_all(&mut blocks, before)?;
     tear_off(alloc, &mut blocks, since, &found.written, tear)?;
     Ok(blocks)

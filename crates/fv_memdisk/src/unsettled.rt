@@ -7,10 +7,9 @@ ghost use Rattle.fv_disk.specs.Shown.{Image};
 ghost use Rattle.fv_memdisk.specs.Past.{State, is_among, noted, blank, step, replay};
 ghost use Rattle.fv_memdisk.specs.Tears.{IsUnsettled};
 
+use crate::kept::{Event, Kept};
 use std::alloc::{AllocError, Global};
 use std::collections::BTreeSet;
-
-use crate::kept::{Event, Kept};
 
 #[derive(Drop)]
 pub(crate) struct Unsettled {

@@ -7,7 +7,7 @@ use Rattle.fv_memdisk.proofs.torn.fill_all.Goals as goal
 
 pub loop-at-preserved : goal.loop-at-preserved
 loop-at-preserved c =
-    fill_more c.loop-at.blocks c.insert.new.self c.args.blocks.now c.args.places.now c.loop-at.at-index (replicate 4096 c.args.byte) (omega arith) c.in_ok-insert.ensures.updates c.loop-at.invariant
+    fill_more c.loop-at.blocks c.put.new.self c.args.blocks.now c.args.places.now c.loop-at.at-index (replicate 4096 c.args.byte) (omega arith) c.in_ok-put.ensures.put c.loop-at.invariant
 
 pub returns-clause-filled : goal.returns-clause-filled
 returns-clause-filled c = λ a.
