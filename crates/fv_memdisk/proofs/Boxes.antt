@@ -1,5 +1,5 @@
 -- What a map of boxes holds.
-use Rattle.std.proofs.Common.{◌≡◌, ◌==◌, cond, true, false, ℕ, List, [], Option, Some, None, refl, sym, ap, ◌∙◌, Result, Ok, Err}
+use Rattle.std.proofs.Common.{◌≡◌, ◌==◌, cond, true, false, ℕ, List, Option, Some, None, refl, ap, ◌∙◌, Result, Ok, Err}
 use Rattle.std.specs.Prelude.{MatchOption, IsSomeAnd, OnErr}
 use Rattle.std.specs.Option.{option_map}
 use Rattle.std.specs.Ordering.{nat_cmp}

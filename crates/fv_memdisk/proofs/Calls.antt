@@ -1,19 +1,18 @@
 -- What each call does, as the disk and the host promise it.
-use Rattle.std.proofs.Common.{◌≡◌, cond, ◌≢◌, ◌==◌, ◌≤◌, ◌<◌, ◌-◌, ◌+◌, inl, inr, ℕ, Bool, true, false, List, [], ◌∷◌, ◌++◌, length, take, drop, min, refl, sym, ap, ◌∙◌, subst, arith, Result, Ok, Err}
-use Rattle.std.specs.Prelude.{OnOk, OnErr, IsErr, is_err}
+use Rattle.std.proofs.Common.{◌≡◌, ◌==◌, ◌<◌, ◌+◌, inl, ℕ, true, false, List, [], ◌∷◌, ◌++◌, length, take, drop, min, refl, sym, ap, ◌∙◌, subst, arith, Result, Ok, Err}
+use Rattle.std.specs.Prelude.{OnOk, OnErr, is_err}
 use Rattle.std.proofs.lemmas.List.{append-nil, take_all, take-append-drop, drop-drop, nil_from_length}
 use Rattle.std.proofs.lemmas.Bool.{false≢true}
 use Rattle.std.proofs.lemmas.Bool.Decides.{nat_tests}
 use Rattle.fv_disk.specs.declared.Failed.{Failed}
-use Rattle.fv_disk.specs.Shown.{Image, IsBlock, Shown, Elapses, SameBut, HasCause, IsSettled}
-use Rattle.fv_disk.specs.DiskCalls.{Stays, Reads, Writes, Settles}
-use Rattle.fv_disk.specs.Ends.{Ends, Rests, Takes, Gives}
-use Rattle.fv_memdisk.specs.declared.kept.Event.{Event}
+use Rattle.fv_disk.specs.Shown.{Image, Elapses, SameBut, HasCause}
+use Rattle.fv_disk.specs.DiskCalls.{Stays, Writes, Settles}
+use Rattle.fv_disk.specs.Ends.{Ends, Takes, Gives}
 use Rattle.fv_memdisk.specs.declared.kept.Event.TheVariants.{Write, Torn, Barrier, Give}
-use Rattle.fv_memdisk.specs.Past.{State, put, step, is_open, IsLeft}
-use Rattle.fv_memdisk.specs.Story.{Story, state_at, are_known, shown_at, IsSound, Adds, Forgets}
+use Rattle.fv_memdisk.specs.Past.{State, put, step}
+use Rattle.fv_memdisk.specs.Story.{Story, are_known, shown_at, IsSound, Adds, Forgets}
 use Rattle.fv_memdisk.specs.Laws.{agrees}
-use Rattle.fv_memdisk.proofs.Steps.{Opens, count_at, opens_write, opens_torn, open_give, opened_no_more, opened_no_fewer, left_same, left_barrier, left_before}
+use Rattle.fv_memdisk.proofs.Steps.{count_at, opens_write, opens_torn, open_give, opened_no_more, opened_no_fewer, left_same, left_barrier, left_before}
 use Rattle.fv_memdisk.proofs.Changes.{added_is, without_is, added, now_of, without, left_to, left_of, elapses_added, elapses_without, opens_now}
 
 pub elapses_same : (s : Story) (f w f' w' : ℕ) → Elapses (shown_at s f w) (shown_at s f' w')

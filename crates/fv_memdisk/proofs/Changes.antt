@@ -1,16 +1,16 @@
 -- What one call more does to what the host shows.
-use Rattle.std.proofs.Common.{◌≡◌, cond, ◌≢◌, ◌==◌, ◌≤◌, ◌<◌, ◌-◌, ◌+◌, ◌⊎◌, inl, inr, ⊎_elim, ℕ, Bool, true, false, List, [], ◌∷◌, ◌++◌, length, take, drop, map, refl, sym, ap, ◌∙◌, subst, arith, length-append}
+use Rattle.std.proofs.Common.{◌≡◌, cond, ◌==◌, ◌≤◌, ◌<◌, ◌-◌, ◌+◌, inl, inr, ⊎_elim, ℕ, true, false, List, [], ◌∷◌, ◌++◌, length, take, drop, map, refl, sym, ap, ◌∙◌, subst, arith, length-append}
 use Rattle.std.specs.Prelude.{slice_index, nat_le}
 use Rattle.std.proofs.lemmas.Bool.{cases_lt, cases_order}
 use Rattle.std.proofs.lemmas.Bool.Decides.{nat_tests}
 use Rattle.std.proofs.lemmas.List.{take_all, take-append-le, drop-append-le, map_push, length-map, length-drop, get_or_append_left, get_or_push, get_or_past}
-use Rattle.fv_disk.specs.Shown.{Image, IsBlock, Shown, Elapses, SameBut}
+use Rattle.fv_disk.specs.Shown.{Image, IsBlock, Elapses}
 use Rattle.fv_memdisk.specs.declared.kept.Event.{Event}
 use Rattle.fv_memdisk.specs.declared.kept.Event.TheVariants.{Write, Torn, Barrier, Give}
 use Rattle.fv_memdisk.specs.declared.kept.Kept.{Kept}
-use Rattle.fv_memdisk.specs.Past.{State, blank, step, replay, is_open, IsLeft}
+use Rattle.fv_memdisk.specs.Past.{State, step, is_open, IsLeft}
 use Rattle.fv_memdisk.specs.Story.{Story, state_at, outputs, are_known, IsLeftSince, shown_at, IsSound, read_after, Adds, Forgets}
-use Rattle.fv_memdisk.proofs.Steps.{Opens, and_true, state_old, state_more, count_at, start_at, opens_write, opens_torn, opens_forgotten, opens_later, open_give, open_barrier, opened_no_more, opened_no_fewer, opened_keeps, left_same, left_barrier, left_before}
+use Rattle.fv_memdisk.proofs.Steps.{Opens, and_true, state_old, state_more, count_at, start_at, opens_forgotten, opens_later, opened_keeps, left_same}
 
 -- the story with one call more
 abbrev pub kept_of : Story → Event → List ℕ → Kept

@@ -1,12 +1,8 @@
 -- That the images that the tears make are those of a crash.
-use Rattle.std.proofs.Common.{◌≡◌, ◌==◌, ◌≤◌, ◌<◌, ◌+◌, ◌-◌, ◌||◌, cond, ⊎_elim, ◌⊎◌, ℕ, zero, suc, Bool, true, false, List, [], ◌∷◌, ◌++◌, length, take, drop, get_or, replicate, refl, sym, ap, ◌∙◌, subst, arith, Result, Ok, Err, None}
-use Rattle.std.specs.Ordering.{nat_cmp}
-use Rattle.std.specs.BTreeSet as set
-use Rattle.std.specs.BTreeMap as tree
-use Rattle.std.specs.Map.{lookup}
+use Rattle.std.proofs.Common.{◌≡◌, ◌==◌, ◌≤◌, ◌<◌, ◌+◌, ◌-◌, cond, ⊎_elim, ℕ, zero, suc, true, false, List, [], ◌∷◌, ◌++◌, length, take, drop, get_or, replicate, refl, sym, ap, ◌∙◌, subst, arith, Result, Ok, Err, None}
 use Rattle.std.specs.Prelude.{slice_index, OnOk, IfOk, unwrap_or}
 use Rattle.std.proofs.lemmas.List.{take-append-drop, take_all, get_or-replicate, get_or_past, length-replicate, get_or-drop, get_or-map, length-drop}
-use Rattle.std.proofs.lemmas.Bool.{cases_lt, false≢true}
+use Rattle.std.proofs.lemmas.Bool.{cases_lt}
 use Rattle.fv_disk.specs.Shown.{Image, IsBlock, IsSettled}
 use Rattle.fv_memdisk.specs.declared.blocks.Blocks.{Blocks}
 use Rattle.fv_memdisk.specs.declared.kept.Event.{Event}
@@ -17,10 +13,10 @@ use Rattle.fv_memdisk.specs.declared.call.Tear.TheVariants.{Old, New, Fill, Firs
 use Rattle.fv_memdisk.specs.Past.{is_among, was_forgotten, State, blank, step, replay, is_open, IsLeft}
 use Rattle.fv_memdisk.specs.Story.{Story, state_at, outputs, are_known, IsLeftSince, shown_at, IsSound, IsNew, moment_of, output_at, state_of}
 use Rattle.fv_memdisk.specs.Blocks.{found, zeros, disk_of, told}
-use Rattle.fv_memdisk.specs.Tears.{image_of, Stands, StandsAt, IsTail, IsUnsettled, IsByteOf}
+use Rattle.fv_memdisk.specs.Tears.{image_of, Stands, IsTail, IsUnsettled, IsByteOf}
 use Rattle.fv_memdisk.specs.Laws.{or_false, Agrees, agrees, not_written}
-use Rattle.fv_memdisk.proofs.Steps.{count_at, start_at, replay_push}
-use Rattle.fv_memdisk.proofs.Tearing.{Set, replay_more, replay_none}
+use Rattle.fv_memdisk.proofs.Steps.{count_at, start_at}
+use Rattle.fv_memdisk.proofs.Tearing.{replay_more, replay_none}
 
 -- what was there at the last barrier is what reads gave there
 settled_step : (base : Image) (past : List Kept) (i : ℕ) (st : State) (e : Event) → st.count ≡ i → state_at base past (i + 1) ≡ step st e → ((a : ℕ) → (state_at base past st.start).reads a ≡ st.settled a)

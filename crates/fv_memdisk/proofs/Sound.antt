@@ -1,19 +1,17 @@
 -- That a history stays sound by a call that is kept, or leaves it as it was.
-use Rattle.std.proofs.Common.{◌≡◌, ◌==◌, cond, true, false, ℕ, List, [], ◌∷◌, ◌++◌, length, refl, sym, ap, ◌∙◌, subst, arith, Result, Ok, Err, Option, Some}
+use Rattle.std.proofs.Common.{◌≡◌, ◌==◌, cond, true, false, ℕ, List, [], ◌∷◌, ◌++◌, length, refl, sym, ap, ◌∙◌, subst, arith, Result, Ok, Err, Some}
 use Rattle.std.specs.Prelude.{OnOk, OnErr, unwrap_or}
 use Rattle.std.specs.Ordering.{nat_cmp}
 use Rattle.std.specs.BTreeMap as tree
-use Rattle.std.specs.Map.{lookup}
 use Rattle.std.proofs.lemmas.List.{append-nil}
 use Rattle.std.proofs.lemmas.Bool.Decides.{nat_tests}
-use Rattle.std.proofs.lemmas.Grind.{common_steps}
 use Rattle.fv_disk.specs.Shown.{Image, IsBlock}
 use Rattle.fv_memdisk.specs.declared.blocks.Blocks.{Blocks}
 use Rattle.fv_memdisk.specs.declared.kept.Event.{Event}
-use Rattle.fv_memdisk.specs.declared.kept.Event.TheVariants.{Write, Torn, Barrier, Give}
+use Rattle.fv_memdisk.specs.declared.kept.Event.TheVariants.{Write, Give}
 use Rattle.fv_memdisk.specs.declared.kept.Kept.{Kept}
 use Rattle.fv_memdisk.specs.Past.{put}
-use Rattle.fv_memdisk.specs.Story.{Story, IsSound, read_after}
+use Rattle.fv_memdisk.specs.Story.{IsSound, read_after}
 use Rattle.fv_memdisk.specs.Blocks.{found, Puts, over, disk_of, told}
 use Rattle.fv_memdisk.proofs.Changes.{IsWhole, sound_adds}
 

@@ -1,8 +1,7 @@
 -- What one call more does to the disk and to what a crash may leave of it.
-use Rattle.std.proofs.Common.{◌≡◌, ◌≢◌, ◌==◌, ◌≤◌, ◌<◌, ◌-◌, ◌+◌, ◌⊎◌, ◌||◌, ◌&&◌, inl, inr, ⊎_elim, ℕ, Bool, true, false, cond, List, [], ◌∷◌, ◌++◌, length, take, drop, map, refl, sym, ap, ◌∙◌, subst, arith, length-append}
-use Rattle.std.specs.Prelude.{slice_index, nat_le}
-use Rattle.std.specs.List.{list_any, list_all}
-use Rattle.std.proofs.lemmas.List.{take_all, take-append-le, drop-append-le, map_push, length-map, length-drop, get_or_append_left, get_or_push, length-take-le}
+use Rattle.std.proofs.Common.{◌≡◌, ◌≢◌, ◌==◌, ◌≤◌, ◌<◌, ◌+◌, ◌||◌, ◌&&◌, ⊎_elim, ℕ, Bool, true, false, cond, List, [], ◌∷◌, ◌++◌, length, take, refl, sym, ap, ◌∙◌, subst, arith, length-append}
+use Rattle.std.specs.Prelude.{nat_le}
+use Rattle.std.proofs.lemmas.List.{take_all, take-append-le, length-take-le}
 use Rattle.std.proofs.lemmas.Bool.{false≢true, cases_eq}
 use Rattle.std.proofs.lemmas.Bool.Decides.{nat_tests}
 use Rattle.fv_disk.specs.Shown.{Image, IsBlock}
@@ -11,8 +10,8 @@ use Rattle.fv_memdisk.specs.declared.kept.Event.{Event}
 use Rattle.fv_memdisk.specs.declared.kept.Event.TheVariants.{Write, Torn, Barrier, Give}
 use Rattle.fv_memdisk.specs.declared.kept.Kept.{Kept}
 use Rattle.fv_memdisk.specs.Past.{is_among, noted, put, State, blank, step, replay, was_forgotten, is_open, IsLeft}
-use Rattle.fv_memdisk.specs.Story.{state_at, outputs, are_known}
-use Rattle.fv_memdisk.specs.Laws.{or_false, eq_flip, among_noted, Agrees, agrees, not_written}
+use Rattle.fv_memdisk.specs.Story.{state_at, are_known}
+use Rattle.fv_memdisk.specs.Laws.{or_false, among_noted, Agrees, agrees, not_written}
 
 -- replaying one record more
 pub replay_push : (s : State) (ks : List Kept) (k : Kept) → replay s (ks ++ k ∷ []) ≡ step (replay s ks) k.event

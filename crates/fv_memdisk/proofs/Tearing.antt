@@ -1,10 +1,8 @@
 -- How the blocks of a crash come together.
-use Rattle.std.proofs.Common.{◌≡◌, ◌==◌, ◌≤◌, ◌<◌, ◌+◌, ◌||◌, cond, not, ◌⊎◌, ⊎_elim, ℕ, Bool, true, false, List, [], ◌∷◌, ◌++◌, length, take, get_or, replicate, refl, sym, ap, ◌∙◌, subst, arith, Result, Ok, Err, Some}
+use Rattle.std.proofs.Common.{◌≡◌, ◌==◌, ◌<◌, ◌+◌, ◌||◌, cond, not, ◌⊎◌, ⊎_elim, ℕ, Bool, true, false, List, [], ◌∷◌, ◌++◌, length, take, get_or, refl, sym, ap, ◌∙◌, subst, arith, Result, Ok, Err}
 use Rattle.std.specs.Prelude.{unwrap_or, IfOk, OnOk, MatchResult}
 use Rattle.std.specs.Ordering.{nat_cmp}
-use Rattle.std.specs.BTreeMap as tree
 use Rattle.std.specs.BTreeSet as set
-use Rattle.std.specs.Map.{lookup}
 use Rattle.std.proofs.lemmas.List.{take_more, nil_from_length}
 use Rattle.std.proofs.lemmas.Bool.{cases_eq, false≢true}
 use Rattle.std.proofs.lemmas.Bool.Decides.{nat_tests}
@@ -14,8 +12,7 @@ use Rattle.fv_memdisk.specs.declared.kept.Event.{Event}
 use Rattle.fv_memdisk.specs.declared.kept.Event.TheVariants.{Write, Torn, Barrier, Give}
 use Rattle.fv_memdisk.specs.declared.kept.Kept.{Kept}
 use Rattle.fv_memdisk.specs.Past.{is_among, noted, put, State, step, replay}
-use Rattle.fv_memdisk.specs.Story.{read_after}
-use Rattle.fv_memdisk.specs.Blocks.{found, Puts, over, disk_of, zeros}
+use Rattle.fv_memdisk.specs.Blocks.{found, Puts, disk_of, zeros}
 use Rattle.fv_memdisk.specs.Tears.{Stands, StandsAt, IsUnsettled}
 use Rattle.fv_memdisk.specs.Laws.{is_among_push, eq_flip}
 use Rattle.fv_memdisk.proofs.Steps.{replay_push}

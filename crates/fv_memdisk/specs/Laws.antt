@@ -1,16 +1,15 @@
 -- That what the host shows is a disk.
-use Rattle.std.proofs.Common.{◌≡◌, ◌==◌, ◌≤◌, ◌-◌, ◌+◌, ◌⊎◌, ◌||◌, inl, inr, ⊎_elim, ℕ, Bool, true, false, cond, eqb, List, [], ◌∷◌, ◌++◌, length, take, drop, refl, sym, ap, ◌∙◌, subst, arith}
+use Rattle.std.proofs.Common.{◌≡◌, ◌==◌, ◌-◌, ◌+◌, ◌||◌, ⊎_elim, ℕ, Bool, true, false, cond, List, [], ◌∷◌, ◌++◌, length, take, refl, sym, ap, ◌∙◌, subst, arith}
 use Rattle.std.specs.Prelude.{slice_index}
-use Rattle.std.specs.List.{list_any}
 use Rattle.std.proofs.lemmas.List.{take_all}
 use Rattle.std.proofs.lemmas.Bool.{false≢true, cases_eq}
 use Rattle.std.proofs.lemmas.Bool.Decides.{nat_tests}
-use Rattle.fv_disk.specs.Shown.{Image, IsBlock, Shown, IsDisk}
+use Rattle.fv_disk.specs.Shown.{Image, IsBlock, IsDisk}
 use Rattle.fv_memdisk.specs.declared.kept.Event.{Event}
 use Rattle.fv_memdisk.specs.declared.kept.Event.TheVariants.{Write, Torn, Barrier, Give}
 use Rattle.fv_memdisk.specs.declared.kept.Kept.{Kept}
-use Rattle.fv_memdisk.specs.Past.{is_among, noted, put, State, blank, step, replay, was_forgotten, is_open, IsLeft}
-use Rattle.fv_memdisk.specs.Story.{Story, state_at, outputs, IsLeftSince, shown_at, IsSound}
+use Rattle.fv_memdisk.specs.Past.{is_among, noted, State, blank, step, replay, was_forgotten, is_open, IsLeft}
+use Rattle.fv_memdisk.specs.Story.{Story, state_at, outputs, shown_at, IsSound}
 
 pub is_among_push : (xs : List ℕ) (at a : ℕ) → is_among (xs ++ at ∷ []) a ≡ is_among xs a || (at == a)
 is_among_push [] at a = elim (at == a) as (λ b. (b || false) ≡ b) [ true ↦ refl | false ↦ refl ]

@@ -1,5 +1,5 @@
 -- What the disk is after a list of calls.
-use Rattle.std.specs.Prelude.{◌≡◌, ◌==◌, ◌+◌, ◌&&◌, ◌||◌, ℕ, Bool, true, false, if◌then◌else◌, List, [], ◌∷◌, ◌++◌, nat_le}
+use Rattle.std.specs.Prelude.{◌≡◌, ◌==◌, ◌+◌, ◌&&◌, ◌||◌, ℕ, Bool, false, if◌then◌else◌, List, [], ◌∷◌, ◌++◌, nat_le}
 use Rattle.std.specs.List.{list_any}
 use Rattle.fv_disk.specs.Shown.{Image, IsBlock}
 use Rattle.fv_memdisk.specs.declared.kept.Event.{Event}

@@ -1,5 +1,5 @@
 -- What a host in memory has lived through, and what it shows.
-use Rattle.std.specs.Prelude.{◌≡◌, ◌≤◌, ◌-◌, ◌+◌, ◌&&◌, ℕ, Bool, true, List, [], ◌∷◌, ◌++◌, length, take, drop, map, slice_index, nat_le}
+use Rattle.std.specs.Prelude.{◌≡◌, ◌≤◌, ◌-◌, ◌+◌, ℕ, Bool, true, List, [], ◌∷◌, ◌++◌, length, take, drop, map, slice_index, nat_le}
 use Rattle.std.specs.List.{list_all}
 use Rattle.fv_disk.specs.Shown.{Image, IsBlock, Shown}
 use Rattle.fv_memdisk.specs.declared.kept.Event.{Event}

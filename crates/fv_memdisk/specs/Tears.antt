@@ -7,7 +7,7 @@ use Rattle.fv_memdisk.specs.declared.blocks.Blocks.{Blocks}
 use Rattle.fv_memdisk.specs.declared.kept.Kept.{Kept}
 use Rattle.fv_memdisk.specs.declared.call.Tear.{Tear}
 use Rattle.fv_memdisk.specs.declared.call.Tear.TheVariants.{Old, New, Fill, First}
-use Rattle.fv_memdisk.specs.Past.{State, is_among, blank, step, replay}
+use Rattle.fv_memdisk.specs.Past.{State, is_among, replay}
 use Rattle.fv_memdisk.specs.Blocks.{disk_of}
 
 -- what the blocks written since the last barrier hold: what they held then, what was written last,

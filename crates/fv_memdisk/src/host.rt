@@ -1,4 +1,4 @@
-//! The host.
+//! The host, which counts its calls and leaves what it has lived through to its history.
 
 ghost use Rattle.std.specs.Prelude.{◌≡◌, ◌≤◌, ◌<◌, ◌+◌, ◌-◌, ◌^◌, min, length, take, drop, OnOk, OnErr};
 ghost use Rattle.fv_disk.specs.Shown.{Rose, IsBlock};
@@ -11,7 +11,7 @@ use crate::{Call, Tear};
 use fv_disk::{Block, Disk, Failed, Host};
 use std::alloc::{AllocError, Global};
 
-/// A host in memory.
+/// A host in memory, which tells all of its content.
 #[derive(Drop)]
 pub struct MemHost {
     history: History,

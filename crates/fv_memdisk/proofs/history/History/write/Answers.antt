@@ -1,4 +1,4 @@
-use Rattle.std.proofs.Common.{refl, rules}
+use Rattle.std.proofs.Common.{rules}
 use Rattle.fv_memdisk.proofs.Sound.{sound_write}
 use Rattle.fv_memdisk.proofs.history.History.write.Goals as goal
 
