@@ -76,11 +76,10 @@ fn each_call_fails_once(rt: HostRuntime) -> Result<(), Fail> {
 fn a_crash_at_each_moment(rt: HostRuntime) -> Result<(), Fail> {
     let mut host = host(rt.alloc());
     assert_eq!(rt; created(rt.alloc(), &mut host, "512")?, 0);
-    let first = host.moments();
     host.next_run(Vec::new(rt.alloc()));
     assert_eq!(rt; created(rt.alloc(), &mut host, "1024")?, 0);
     let (mut old, mut none, mut new) = (false, false, false);
-    for moment in first..host.moments() {
+    for moment in 0..host.moments() {
         let told = host.given_at(moment) > 0;
         for tear in [
             Tear::Old,
