@@ -4,7 +4,7 @@ use Rattle.std.specs.Prelude.{slice_index, nat_le}
 use Rattle.std.proofs.lemmas.Bool.{cases_lt, cases_order}
 use Rattle.std.proofs.lemmas.Bool.Decides.{nat_tests}
 use Rattle.std.proofs.lemmas.List.{take_all, take-append-le, drop-append-le, map_push, length-map, length-drop, get_or_append_left, get_or_push, get_or_past}
-use Rattle.fv_disk.specs.Shown.{Image, IsBlock, Elapses}
+use Rattle.fv_disk.specs.Shown.{Ends, Image, IsBlock, Elapses}
 use Rattle.fv_memdisk.specs.declared.kept.Event.{Event}
 use Rattle.fv_memdisk.specs.declared.kept.Event.TheVariants.{Write, Torn, Barrier, Give}
 use Rattle.fv_memdisk.specs.declared.kept.Kept.{Kept}
@@ -126,8 +126,8 @@ module _ (s : Story) (e : Event) (bytes : List ℕ) (reads : Image) (sound : IsS
   same_output : (m : ℕ) → s.run + m ≤ length s.past → take (slice_index (outputs (s.past ++ kept_of s e bytes ∷ []) s.run) m) (s.given ++ bytes) ≡ take (slice_index (outputs s.past s.run) m) s.given
   same_output m reached = ap (λ n. take n (s.given ++ bytes)) (output_old s.past s.run (kept_of s e bytes) m sound.run reached) ∙ take-append-le (slice_index (outputs s.past s.run) m) s.given bytes (sound.within m)
 
-  pub elapses_added : (f w f' w' : ℕ) → Elapses (shown_at s f w) (shown_at (added s e bytes reads) f' w')
-  elapses_added f w f' w' = record {
+  pub elapses_added : (f w f' w' : ℕ) (ends : Ends) → Elapses (shown_at s f w ends) (shown_at (added s e bytes reads) f' w' ends)
+  elapses_added f w f' w' ends = record {
     later = omega (arith, longer);
     nothing_else = λ t c g le left. ⊎_elim (λ new. inr (newly t c g left new)) (λ old. inl (olden t c g left old)) (cases_lt (length s.past) (s.run + left.moment));
     keeps = λ t c g le left. record {
@@ -175,8 +175,8 @@ module _ (s : Story) (at : ℕ) (sound : IsSound s) where
   pub opens_now : Opens (is_open (now_of s) s.places) (is_open (now_of s) ((length s.past, at) ∷ s.places)) at
   opens_now = subst (λ (n : ℕ). Opens (is_open (now_of s) s.places) (is_open (now_of s) ((n, at) ∷ s.places)) at) (count_at s.base s.past (length s.past) (omega arith)) (opens_forgotten (now_of s) s.places at (start_at s.base s.past (length s.past)))
 
-  pub elapses_without : (f w f' w' : ℕ) → Elapses (shown_at s f w) (shown_at (without s at) f' w')
-  elapses_without f w f' w' = record {
+  pub elapses_without : (f w f' w' : ℕ) (ends : Ends) → Elapses (shown_at s f w ends) (shown_at (without s at) f' w' ends)
+  elapses_without f w f' w' ends = record {
     later = omega arith;
     nothing_else = λ t c g le left. ⊎_elim (λ old. inl (olden t c g left old)) (λ new. inr (newly t c g left new)) (cases_lt (s.run + left.moment) (length s.past));
     keeps = λ t c g le left. record { moment = left.moment; later = left.later; reached = left.reached; output = left.output; image = kept t c g left };

@@ -3,7 +3,7 @@ use Rattle.std.proofs.Common.{◌≡◌, ◌==◌, ◌≤◌, ◌<◌, ◌+◌, 
 use Rattle.std.specs.Prelude.{slice_index, OnOk, IfOk, unwrap_or}
 use Rattle.std.proofs.lemmas.List.{take-append-drop, take_all, get_or-replicate, get_or_past, length-replicate, get_or-drop, get_or-map, length-drop}
 use Rattle.std.proofs.lemmas.Bool.{cases_lt}
-use Rattle.fv_disk.specs.Shown.{Image, IsBlock, IsSettled}
+use Rattle.fv_disk.specs.Shown.{Ends, Image, IsBlock, IsSettled}
 use Rattle.fv_memdisk.specs.declared.blocks.Blocks.{Blocks}
 use Rattle.fv_memdisk.specs.declared.kept.Event.{Event}
 use Rattle.fv_memdisk.specs.declared.kept.Event.TheVariants.{Write, Torn, Barrier, Give}
@@ -126,8 +126,8 @@ image_allowed s sound tear moment le c blocks is = record {
 }
 
 -- a host that has just begun is settled
-pub settled_new : (base : Image) (s : Story) (f w : ℕ) → IsNew base s → IsSettled (shown_at s f w)
-settled_new base s f w new c left a =
+pub settled_new : (base : Image) (s : Story) (f w : ℕ) (ends : Ends) → IsNew base s → IsSettled (shown_at s f w ends)
+settled_new base s f w ends new c left a =
     subst (λ (st : State). c a ≡ st.settled a) (now base s new) (left.others a (subst (λ (st : State). is_open st s.places a ≡ false) (sym (now base s new)) (shut base s new a)))
     ∙ ap (λ (b : Image). b a) new.base_is ∙ sym (new.reads a)
   where

@@ -1,8 +1,7 @@
 -- What a host in memory shows, and which of its calls fail.
 use Rattle.std.specs.Prelude.{◌≡◌, ◌<◌, ◌⊎◌, ℕ, List, [], true, drop, IsTrue, Result, IsErr, OnOk}
 use Rattle.fv_disk.specs.declared.Failed.{Failed}
-use Rattle.fv_disk.specs.Shown.{Image, Shown, IsSettled, Rose}
-use Rattle.fv_disk.specs.Ends.{Ends}
+use Rattle.fv_disk.specs.Shown.{Image, Ends, Shown, IsSettled, Rose}
 use Rattle.fv_memdisk.specs.declared.call.Call.{Call}
 use Rattle.fv_memdisk.specs.declared.host.MemHost.{MemHost}
 use Rattle.fv_memdisk.specs.Story.{Story, shown_at}
@@ -13,11 +12,11 @@ use Rattle.fv_memdisk.specs.Tallies.{is_named, IsFresh, CountsOne, SameTallies}
 abbrev pub story : MemHost → Story
 story h = story_of h.history
 
-abbrev pub shown_of : MemHost → Shown
-shown_of h = shown_at (story h) h.faults h.write_faults
-
 abbrev pub ends_of : MemHost → Ends
 ends_of h = record { left = drop h.taken h.source.items; source_faults = h.source_faults; sink_faults = h.sink_faults }
+
+abbrev pub shown_of : MemHost → Shown
+shown_of h = shown_at (story h) h.faults h.write_faults (ends_of h)
 
 -- how many writes, barriers and gives were refused for want of memory
 abbrev pub starved_of : MemHost → ℕ

@@ -4,7 +4,7 @@ use Rattle.std.specs.Prelude.{slice_index}
 use Rattle.std.proofs.lemmas.List.{take_all}
 use Rattle.std.proofs.lemmas.Bool.{false≢true, cases_eq}
 use Rattle.std.proofs.lemmas.Bool.Decides.{nat_tests}
-use Rattle.fv_disk.specs.Shown.{Image, IsBlock, IsDisk}
+use Rattle.fv_disk.specs.Shown.{Ends, Image, IsBlock, IsDisk}
 use Rattle.fv_memdisk.specs.declared.kept.Event.{Event}
 use Rattle.fv_memdisk.specs.declared.kept.Event.TheVariants.{Write, Torn, Barrier, Give}
 use Rattle.fv_memdisk.specs.declared.kept.Kept.{Kept}
@@ -61,8 +61,8 @@ pub not_written : (s : State) (places : List (ℕ × ℕ)) (a : ℕ) → is_open
 unfolding is_open
 not_written s places a shut = (or_false (is_among s.written a) (was_forgotten places s.start s.count a) shut).0
 
-pub is_disk : (s : Story) (faults write_faults : ℕ) → IsSound s → IsDisk (shown_at s faults write_faults)
-is_disk s faults write_faults sound = record {
+pub is_disk : (s : Story) (faults write_faults : ℕ) (ends : Ends) → IsSound s → IsDisk (shown_at s faults write_faults ends)
+is_disk s faults write_faults ends sound = record {
   read_is_image = λ _. record {
     blocks = λ a. subst IsBlock (sound.reads a) (sound.whole (length s.past) a);
     others = λ a shut. sym (sound.reads a) ∙ agrees s.base s.past (length s.past) a (not_written (state_at s.base s.past (length s.past)) s.places a shut);

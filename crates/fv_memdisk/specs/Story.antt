@@ -1,7 +1,7 @@
 -- What a host in memory has lived through, and what it shows.
 use Rattle.std.specs.Prelude.{◌≡◌, ◌≤◌, ◌-◌, ◌+◌, ℕ, Bool, true, List, [], ◌∷◌, ◌++◌, length, take, drop, map, slice_index, nat_le}
 use Rattle.std.specs.List.{list_all}
-use Rattle.fv_disk.specs.Shown.{Image, IsBlock, Shown}
+use Rattle.fv_disk.specs.Shown.{Image, IsBlock, Ends, Shown}
 use Rattle.fv_memdisk.specs.declared.kept.Event.{Event}
 use Rattle.fv_memdisk.specs.declared.kept.Event.TheVariants.{Write, Torn, Barrier, Give}
 use Rattle.fv_memdisk.specs.declared.kept.Kept.{Kept}
@@ -36,9 +36,9 @@ pub record IsLeftSince (s : Story) (t : ℕ) (c : Image) (g : List ℕ) : Type 0
   pub image : IsLeft (state_at s.base s.past (s.run + moment)) s.places c
   pub output : g ≡ take (slice_index (outputs s.past s.run) moment) s.given
 
--- what the host shows, with these counts of faults
-abbrev pub shown_at : Story → ℕ → ℕ → Shown
-shown_at s faults write_faults = record {
+-- what the host shows, with these counts of faults and these ends
+abbrev pub shown_at : Story → ℕ → ℕ → Ends → Shown
+shown_at s faults write_faults ends = record {
   tells = true;
   reads = s.reads;
   images = λ c. IsLeft (state_at s.base s.past (length s.past)) s.places c;
@@ -47,6 +47,7 @@ shown_at s faults write_faults = record {
   given = s.given;
   faults = faults;
   write_faults = write_faults;
+  ends = ends;
 }
 
 -- no write was forgotten after more calls than there were

@@ -164,7 +164,7 @@ impl Disk for MemHost {
     ghost use Rattle.fv_memdisk.specs.declared.call.Call.TheVariants as calls;
     ghost use Rattle.fv_memdisk.specs.declared.kept.Event.TheVariants.{Write, Torn, Barrier};
     ghost use Rattle.fv_memdisk.specs.Story.{Adds};
-    ghost use Rattle.fv_memdisk.specs.Host.{story, shown_of, starved_of, Answers};
+    ghost use Rattle.fv_memdisk.specs.Host.{story, shown_of, ends_of, starved_of, Answers};
     ghost use Rattle.fv_memdisk.specs.Lived.{story_of};
     ghost use Rattle.fv_memdisk.specs.Laws.{is_disk};
 
@@ -235,22 +235,20 @@ impl Disk for MemHost {
         self.write_faults
     }
 
-    ghost laws = { λ h. is_disk (story_of h.history) h.faults h.write_faults h.history.sound };
+    ghost laws = { λ h. is_disk (story_of h.history) h.faults h.write_faults (ends_of h) h.history.sound };
 }
 
 impl Host for MemHost {
-    ghost use Rattle.fv_disk.specs.Ends.{Takes, Gives};
+    ghost use Rattle.fv_disk.specs.HostCalls.{Takes, Gives};
     ghost use Rattle.std.specs.Prelude.{IfOk};
     ghost use Rattle.fv_memdisk.specs.declared.call.Call.TheVariants as calls;
     ghost use Rattle.fv_memdisk.specs.declared.kept.Event.TheVariants.{Give};
     ghost use Rattle.fv_memdisk.specs.Story.{Adds};
-    ghost use Rattle.fv_memdisk.specs.Host.{story, shown_of, ends_of, Answers};
-
-    ghost ends = { ends_of };
+    ghost use Rattle.fv_memdisk.specs.Host.{story, shown_of, Answers};
 
     fn take(&mut self, into: &mut [u8]) -> Result<usize, Failed>
         requires { 0 < length into.old }
-        ensures host { Takes (shown_of self.old) (ends_of self.old) into.new (shown_of self.new) (ends_of self.new) result }
+        ensures host { Takes (shown_of self.old) into.new (shown_of self.new) result }
         ensures exact { Answers calls.Take self.old self.new result }
         ensures lived { story self.new ≡ story self.old }
     {
@@ -265,7 +263,7 @@ impl Host for MemHost {
 
     fn give(&mut self, bytes: &[u8]) -> Result<usize, Failed>
         requires { 0 < length bytes.now }
-        ensures host { Gives (shown_of self.old) (ends_of self.old) bytes.now (shown_of self.new) (ends_of self.new) result }
+        ensures host { Gives (shown_of self.old) bytes.now (shown_of self.new) result }
         ensures exact { Answers calls.Give self.old self.new result }
         ensures all { IfOk result (λ count. count ≡ length bytes.now) }
         ensures kept { OnOk result (Adds (story self.old) (story self.new) Give bytes.now) }
