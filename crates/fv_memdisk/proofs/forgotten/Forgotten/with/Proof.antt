@@ -1,3 +1,4 @@
+-- `with` makes the empty struct, with the places that its clause names.
 use mathlib.Core.Path.{refl}
 use mathlib.Core.List.{[], ◌∷◌}
 use seplogic.Ra.Ura.{Ura}
