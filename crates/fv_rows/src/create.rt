@@ -19,7 +19,11 @@ fn an_aggregate_is_made_and_told_of(rt: HostRuntime) -> Result<(), Fail> {
     let rows = [
         ("1024", 1024, LINE),
         ("512", 512, b"created 512 capacity 249\n".as_slice()),
-        ("1048576", 1_048_576, b"created 1048576 capacity 1048251\n".as_slice()),
+        (
+            "1048576",
+            1_048_576,
+            b"created 1048576 capacity 1048251\n".as_slice(),
+        ),
     ];
     for (size, blocks, line) in rows {
         let mut host = host(rt.alloc());
