@@ -1,19 +1,17 @@
 -- A fresh aggregate stands for the empty machine.
-use Rattle.std.proofs.Common.{◌≡◌, ℕ, zero, suc, ◌+◌, ◌*◌, ◌/◌, ◌%◌, ◌<◌, ◌≤◌, Bool, true, false, not, List, [], ◌∷◌, replicate, refl, sym, ap, ◌∙◌, arith, inl, inr, ⊎_elim}
-use Rattle.std.specs.Prelude.{Option, Some, None, Ok, slice_index, nat_lt, ◌==◌, ◌&&◌, if◌then◌else◌}
+use Rattle.std.proofs.Common.{◌≡◌, ℕ, zero, suc, ◌+◌, ◌/◌, ◌%◌, ◌<◌, ◌≤◌, Bool, true, false, not, replicate, refl, ap, arith, ⊎_elim}
+use Rattle.std.specs.Prelude.{Some, slice_index}
 use Rattle.std.specs.List.{list_all, range_with_len}
-use Rattle.std.specs.Option.{option_and_then}
-use Rattle.std.proofs.lemmas.List.{get_or-replicate, get_or_past, length-replicate}
+use Rattle.std.proofs.lemmas.List.{get_or-replicate, get_or_past}
 use Rattle.std.proofs.lemmas.Bool.{cases_lt}
 use Rattle.std.proofs.lemmas.Bool.Decides.{nat_tests}
 use Rattle.std.proofs.lemmas.Nat.Bits.{bit_at-zero}
-use Rattle.std.proofs.Math.Nat.{div-lt_iff_lt-mul}
 use Rattle.fv_disk.specs.Shown.{Image}
 use Rattle.fv_bits.specs.Bits.{bit_of_number, bit_of_bytes, bit_of_area}
-use Rattle.fv_model.specs.Machines.{Machine, empty_machine}
-use Rattle.fv_image.specs.Layout.{block_bits, area_blocks, area_place}
-use Rattle.fv_image.specs.NewerRoot.{Taken, behind, newer, taken_of, root_of}
-use Rattle.fv_image.specs.MachineOf.{area_bits, map_bit, has_no_label, is_map_clear, machine_at, machine_of}
+use Rattle.fv_model.specs.Machines.{empty_machine}
+use Rattle.fv_image.specs.Layout.{area_blocks, area_place}
+use Rattle.fv_image.specs.NewerRoot.{Taken, root_of}
+use Rattle.fv_image.specs.MachineOf.{area_bits, map_bit, is_map_clear, machine_at, machine_of}
 use Rattle.fv_root.specs.Formatted.{IsFormatted, first_root}
 
 -- ---- the map

@@ -1,14 +1,14 @@
 -- Which blocks are written, over one call and over several.
-use Rattle.std.proofs.Common.{◌≡◌, ℕ, ◌<◌, ◌≤◌, List, refl, sym, ◌∙◌, arith}
-use Rattle.std.specs.Prelude.{Result, Ok, Err, IsTrue, ◌≢◌}
+use Rattle.std.proofs.Common.{◌≡◌, ℕ, ◌<◌, ◌≤◌, List, refl, ◌∙◌, arith}
+use Rattle.std.specs.Prelude.{Result, Ok, ◌≢◌}
 use Rattle.fv_disk.specs.declared.Failed.{Failed}
 use Rattle.fv_disk.specs.Shown.{Image, Shown, IsDisk}
-use Rattle.fv_disk.specs.DiskCalls.{Writes, Settles, Counted}
+use Rattle.fv_disk.specs.DiskCalls.{Writes, Settles}
 use Rattle.fv_disk.specs.Crash.{Leaves}
 use Rattle.fv_disk.proofs.Counting.{counted_none, counted_write, counted_barrier, counted_then}
 use Rattle.fv_disk.proofs.Moments.{started, goes_on, then, weaken}
 use Rattle.fv_model.specs.Machines.{first_block}
-use Rattle.fv_root.specs.Formatted.{SameVolumes, KeepsVolumes, WritesFixed}
+use Rattle.fv_root.specs.Formatted.{KeepsVolumes, WritesFixed}
 
 abbrev Kept : ℕ → Shown → Image → List ℕ → Type 0
 Kept blocks old c g = KeepsVolumes blocks old c × (g ≡ old.given)

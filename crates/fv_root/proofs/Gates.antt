@@ -1,5 +1,5 @@
 -- Gates that are written, and what holds at `Ok`.
-use Rattle.std.proofs.Common.{◌≡◌, ℕ, true, false, replicate, refl}
+use Rattle.std.proofs.Common.{◌≡◌, true, false, replicate, refl}
 use Rattle.std.specs.Prelude.{Result, Ok, Err, OnOk}
 use Rattle.fv_codec.specs.Bytes.{word_at, word, zeros}
 use Rattle.fv_codec.specs.Blocks.{gate_open, open_gate}

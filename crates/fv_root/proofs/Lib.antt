@@ -1,4 +1,6 @@
 mod EmptyMachine
+mod Finding
 mod Fixed
 mod Gates
 mod Making
+mod Ranges

@@ -1,13 +1,12 @@
 -- The steps of making an aggregate, put together.
-use Rattle.std.proofs.Common.{◌≡◌, ℕ, suc, ◌+◌, ◌<◌, List, inl, inr, ⊎_elim, true, false, replicate, refl, sym, ap, ◌∙◌, arith}
-use Rattle.std.specs.Prelude.{Ok, Some, ◌≢◌}
+use Rattle.std.proofs.Common.{◌≡◌, ℕ, ◌+◌, ⊎_elim, true, false, replicate, ◌∙◌, arith}
+use Rattle.std.specs.Prelude.{Some}
 use Rattle.std.proofs.lemmas.Bool.{cases_eq}
 use Rattle.fv_disk.specs.Shown.{Image, SameBut}
 use Rattle.fv_codec.specs.Blocks.{gate_open}
-use Rattle.fv_image.specs.Layout.{area_blocks, area_place}
+use Rattle.fv_image.specs.Layout.{area_place}
 use Rattle.fv_image.specs.MachineOf.{machine_of}
 use Rattle.fv_model.specs.Machines.{empty_machine}
-use Rattle.fv_root.specs.Formatted.{IsFormatted}
 use Rattle.fv_root.specs.Steps.{IsCleared, IsLaidOut}
 use Rattle.fv_root.proofs.EmptyMachine.{machine_is_empty}
 

@@ -1,10 +1,9 @@
 -- What a fresh aggregate's fixed blocks hold, and which blocks making one touches.
-use Rattle.std.specs.Prelude.{◌≡◌, ◌<◌, ◌≤◌, ℕ, List, true, false, replicate, Result, Ok, IsTrue}
+use Rattle.std.specs.Prelude.{◌≡◌, ◌<◌, ◌≤◌, ℕ, true, false, replicate, Result, Ok, IsTrue}
 use Rattle.fv_disk.specs.declared.Failed.{Failed}
 use Rattle.fv_disk.specs.Shown.{Image, Shown}
 use Rattle.fv_disk.specs.DiskCalls.{Counted}
 use Rattle.fv_disk.specs.Crash.{Leaves}
-use Rattle.fv_codec.specs.declared.superblock.Super.{Super}
 use Rattle.fv_codec.specs.declared.root.Root.{Root}
 use Rattle.fv_codec.specs.Blocks.{super_at, gate_open, root_at}
 use Rattle.fv_image.specs.Layout.{superblock, gate_place, root_place, area_blocks, area_place}

@@ -1,7 +1,6 @@
 -- The steps of making a new aggregate, by what reads give before and after them.
 use Rattle.std.specs.Prelude.{◌≡◌, ◌<◌, ◌+◌, ℕ, replicate, Ok}
 use Rattle.fv_disk.specs.Shown.{Image}
-use Rattle.fv_codec.specs.declared.superblock.Super.{Super}
 use Rattle.fv_codec.specs.Blocks.{super_at, root_at}
 use Rattle.fv_image.specs.Layout.{superblock, gate_place, root_place, area_blocks}
 use Rattle.fv_root.specs.Formatted.{first_root}

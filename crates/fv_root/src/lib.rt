@@ -2,8 +2,11 @@
 //! areas. `docs/FORMAT.md` has their layout and the order of writes.
 #![tactic(auto)]
 
+mod find;
 mod fresh;
+mod places;
 mod sizes;
 
+pub use find::{Found, RootFault, find_root};
 pub use fresh::format;
 pub use sizes::{capacity, first_block};

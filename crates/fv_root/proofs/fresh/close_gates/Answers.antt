@@ -1,5 +1,4 @@
-use Rattle.std.proofs.Common.{◌≡◌, ◌∙◌, ap, replicate, false, rules}
-use Rattle.fv_codec.specs.Blocks.{gate_open}
+use Rattle.std.proofs.Common.{◌≡◌, replicate, rules}
 use Rattle.fv_root.proofs.Fixed.{fixed_then}
 use Rattle.fv_root.proofs.Gates.{zero_gate, at_ok}
 use Rattle.fv_root.proofs.fresh.close_gates.Goals as goal
