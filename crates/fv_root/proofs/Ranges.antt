@@ -1,5 +1,5 @@
 -- What was read has its numbers in range.
-use Rattle.std.proofs.Common.{◌≡◌, ◌≤◌, ℕ, zero, suc, List, drop, refl, subst, arith, Ok, Err}
+use Rattle.std.proofs.Common.{◌≡◌, ◌≤◌, ◌<◌, ◌^◌, ℕ, zero, suc, List, drop, refl, subst, arith, Ok, Err}
 use Rattle.std.specs.Prelude.{if◌then◌else◌}
 use Rattle.std.specs.List.{AllByRecursion}
 use Rattle.std.proofs.lemmas.List.Elements.{All-from_recursion}
@@ -8,7 +8,7 @@ use Rattle.fv_codec.specs.declared.superblock.Super.{Super}
 use Rattle.fv_codec.specs.declared.root.Root.{Root}
 use Rattle.fv_codec.specs.Bytes.{word_at}
 use Rattle.fv_codec.specs.Fields.{Verdict, ◌then◌, in_range, each, items, reading, verdicts}
-use Rattle.fv_codec.specs.Blocks.{super_at, super_fields, root_at, root_fields, IsRoot, last_place, asks_place, place_of}
+use Rattle.fv_codec.specs.Blocks.{super_at, super_fields, root_at, root_fields, IsRoot, last_place, greatest_word, asks_place, place_of}
 use Rattle.fv_root.specs.Formatted.{IsSize}
 
 reading_ok : {X : Type 0} (said : Verdict) (x y : X) → reading said x ≡ Ok y → (said ≡ Ok tt) × (x ≡ y)
@@ -49,3 +49,12 @@ root_in_range block r e =
     let labels = then_ok _ _ gap.1 in
     let bounds = in_range_ok 1 1 (word_at 16 block) version.0 in
     subst IsRoot is.1 (record { least = bounds.0; greatest = bounds.1; labels = All-from_recursion _ _ (each_in_range 64 (drop 64 block) labels.0) })
+
+pub generation_in_range : (block : List ℕ) (r : Root) → root_at block ≡ Ok r → r.generation < 2 ^ 64
+unfolding root_at
+generation_in_range block r e =
+    let is = reading_ok (verdicts root_fields block) _ r e in
+    let mark = then_ok _ _ is.0 in
+    let generation = then_ok _ _ mark.1 in
+    let bounds = in_range_ok 0 greatest_word (word_at 8 block) generation.0 in
+    subst (λ (x : Root). x.generation < 2 ^ 64) is.1 (omega (arith, bounds.1))

@@ -4,9 +4,11 @@
 
 mod find;
 mod fresh;
+mod next;
 mod places;
 mod sizes;
 
 pub use find::{Found, RootFault, find_root};
 pub use fresh::format;
+pub use next::commit;
 pub use sizes::{capacity, first_block};

@@ -10,7 +10,6 @@ const BLOCK_BITS: u32 = 32768;
 
 /// How many blocks one map area takes: a bit for each block.
 pub(crate) fn area_blocks(blocks: u32) -> u32
-    requires { IsSize blocks }
     ensures { result ≡ area_blocks blocks }
 {
     blocks.div_ceil(BLOCK_BITS)
