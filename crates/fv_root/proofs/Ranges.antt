@@ -50,6 +50,9 @@ root_in_range block r e =
     let bounds = in_range_ok 1 1 (word_at 16 block) version.0 in
     subst IsRoot is.1 (record { least = bounds.0; greatest = bounds.1; labels = All-from_recursion _ _ (each_in_range 64 (drop 64 block) labels.0) })
 
+fits : (x : ℕ) → x ≤ greatest_word → x < 2 ^ 64
+fits x le = omega arith
+
 pub generation_in_range : (block : List ℕ) (r : Root) → root_at block ≡ Ok r → r.generation < 2 ^ 64
 unfolding root_at
 generation_in_range block r e =
@@ -57,4 +60,4 @@ generation_in_range block r e =
     let mark = then_ok _ _ is.0 in
     let generation = then_ok _ _ mark.1 in
     let bounds = in_range_ok 0 greatest_word (word_at 8 block) generation.0 in
-    subst (λ (x : Root). x.generation < 2 ^ 64) is.1 (omega (arith, bounds.1))
+    subst (λ (x : Root). x.generation < 2 ^ 64) is.1 (fits (word_at 8 block) bounds.1)
