@@ -1,13 +1,13 @@
 -- The eight bytes of a word, and the words of a block.
-use Rattle.std.proofs.Common.{◌≡◌, ℕ, zero, suc, ◌+◌, ◌-◌, ◌*◌, ◌/◌, ◌%◌, ◌^◌, ◌<◌, ◌≤◌, Fits, List, [], ◌∷◌, ◌++◌, length, get_or, set, take, drop, Bool, true, false, cond, ◌==◌, sym, refl, ap, ◌∙◌, inl, inr, arith, rules, length-append, length-take-le, length-drop, get_or-take, get_or-drop, get_or-set_same, get_or-set_other}
-use Rattle.std.specs.Int.{bit_at, w8, w64, to_le_bytes, from_le_bytes}
+use Rattle.std.proofs.Common.{◌≡◌, ℕ, zero, suc, ◌+◌, ◌-◌, ◌*◌, ◌/◌, ◌%◌, ◌^◌, ◌<◌, ◌≤◌, List, ◌++◌, length, get_or, set, take, drop, true, false, cond, ◌==◌, sym, refl, ap, ◌∙◌, inl, inr, arith, length-append, length-take-le, length-drop, get_or-take, get_or-drop, get_or-set_same, get_or-set_other}
+use Rattle.std.specs.Int.{bit_at, w64, to_le_bytes, from_le_bytes}
 use Rattle.std.proofs.lemmas.Bool.{cases_eq, cases_lt}
 use Rattle.std.proofs.lemmas.Bool.Decides.{nat_tests}
 use Rattle.std.proofs.lemmas.List.{get_or_past, get_or_append_left, get_or-append_right}
 use Rattle.std.proofs.lemmas.Nat.{le_bytes_8}
 use Rattle.std.proofs.lemmas.Nat.Bits.{bit_at_cat_low}
 use Rattle.fv_bits.specs.Bits.{bit_of_number, bit_of_bytes}
-use Rattle.fv_bits.specs.Stored.{bit_of_words, IsWordOf, PutsWord, HasBitsOf}
+use Rattle.fv_bits.specs.Stored.{bit_of_words, IsWordOf, PutsWord}
 use Rattle.fv_bits.proofs.Numbers.{bit_shr, bit_zero}
 use Rattle.fv_bits.proofs.Rows.{bit_at_place}
 
@@ -61,7 +61,6 @@ read_word bytes bs at n small len same is = record {
       ∙ sym (bit_in_byte bytes (64 * at + k) (8 * at + k / 8) (k % 8) (omega arith) (omega arith));
 }
 
-
 -- eight bytes of a list
 pub word_read : (bytes bs : List ℕ) (at n : ℕ) → 8 * at + 8 ≤ length bytes → ((k : ℕ) → get_or bytes k 0 < 256) → bs ≡ take 8 (drop (8 * at) bytes) → n ≡ from_le_bytes w64 bs → IsWordOf bytes at n
 word_read bytes bs at n within small part is =
@@ -114,21 +113,21 @@ word_put old ys at n k within size is =
           let there = bit_in_byte old b (b / 8) (b % 8) refl refl in
           elim (cases_lt (b / 8) (8 * at)) [
             | inl low ↦
-              let test : (b / 64 == at) ≡ false = grind (arith, nat_tests) in
-              here ∙ ap (λ m. bit_of_number m (b % 8)) (put_below old ys (8 * at) within eight (b / 8) low) ∙ sym there
-              ∙ ap (λ t. cond t (bit_of_number n (b % 64)) (bit_of_bytes old b)) (sym test)
+                let test : (b / 64 == at) ≡ false = grind (arith, nat_tests) in
+                here ∙ ap (λ m. bit_of_number m (b % 8)) (put_below old ys (8 * at) within eight (b / 8) low) ∙ sym there
+                ∙ ap (λ t. cond t (bit_of_number n (b % 64)) (bit_of_bytes old b)) (sym test)
             | inr from ↦ elim (cases_lt (b / 8) (8 * at + 8)) [
-                | inl to ↦
+              | inl to ↦
                   let test : (b / 64 == at) ≡ true = grind (arith, nat_tests) in
                   here ∙ ap (λ m. bit_of_number m (b % 8)) (put_at old ys (8 * at) within eight (b / 8) from to)
                   ∙ sym (bit_in_byte ys (b % 64) (b / 8 - 8 * at) (b % 8) (omega arith) (omega arith))
                   ∙ ap (λ l. bit_of_bytes l (b % 64)) is ∙ bit_of_le_bytes n (b % 64) (omega arith)
                   ∙ ap (λ t. cond t (bit_of_number n (b % 64)) (bit_of_bytes old b)) (sym test)
-                | inr high ↦
+              | inr high ↦
                   let test : (b / 64 == at) ≡ false = grind (arith, nat_tests) in
                   here ∙ ap (λ m. bit_of_number m (b % 8)) (put_behind old ys (8 * at) within eight (b / 8) high) ∙ sym there
                   ∙ ap (λ t. cond t (bit_of_number n (b % 64)) (bit_of_bytes old b)) (sym test)
-              ]
+            ]
           ];
     } in
     rw size shown
@@ -137,13 +136,13 @@ word_put old ys at n k within size is =
 pub write_more : (ws old new : List ℕ) (first at n : ℕ) → ((b : ℕ) → b < 64 * at → bit_of_bytes old b ≡ bit_of_words ws (64 * first + b)) → PutsWord old at n new → n ≡ get_or ws (first + at) 0 → (b : ℕ) → b < 64 * (at + 1) → bit_of_bytes new b ≡ bit_of_words ws (64 * first + b)
 write_more ws old new first at n done puts is b within = elim (cases_eq (b / 64) at) [
   | inl here ↦
-    let test : (b / 64 == at) ≡ true = grind (arith, nat_tests) in
-    puts.bits b ∙ ap (λ t. cond t (bit_of_number n (b % 64)) (bit_of_bytes old b)) test
-    ∙ ap (λ m. bit_of_number m (b % 64)) is
-    ∙ sym (bit_at_place ws (64 * first + b) (first + at) (b % 64) (omega arith) (omega arith))
+      let test : (b / 64 == at) ≡ true = grind (arith, nat_tests) in
+      puts.bits b ∙ ap (λ t. cond t (bit_of_number n (b % 64)) (bit_of_bytes old b)) test
+      ∙ ap (λ m. bit_of_number m (b % 64)) is
+      ∙ sym (bit_at_place ws (64 * first + b) (first + at) (b % 64) (omega arith) (omega arith))
   | inr other ↦
-    let test : (b / 64 == at) ≡ false = grind (arith, nat_tests) in
-    puts.bits b ∙ ap (λ t. cond t (bit_of_number n (b % 64)) (bit_of_bytes old b)) test ∙ done b (omega arith)
+      let test : (b / 64 == at) ≡ false = grind (arith, nat_tests) in
+      puts.bits b ∙ ap (λ t. cond t (bit_of_number n (b % 64)) (bit_of_bytes old b)) test ∙ done b (omega arith)
 ]
 
 -- one more word of a block read
@@ -152,11 +151,11 @@ read_more bytes ws at n inside done word b within =
     let there = bit_at_place (set ws at n) b (b / 64) (b % 64) refl refl in
     elim (cases_eq (b / 64) at) [
       | inl here ↦
-        let place : 64 * at + b % 64 ≡ b = omega arith in
-        ap (bit_of_bytes bytes) (sym place) ∙ sym (word.bits (b % 64) (omega arith))
-        ∙ ap (λ m. bit_of_number m (b % 64)) (sym (get_or-set_same ws at n 0 inside))
-        ∙ sym (bit_at_place (set ws at n) b at (b % 64) here refl)
+          let place : 64 * at + b % 64 ≡ b = omega arith in
+          ap (bit_of_bytes bytes) (sym place) ∙ sym (word.bits (b % 64) (omega arith))
+          ∙ ap (λ m. bit_of_number m (b % 64)) (sym (get_or-set_same ws at n 0 inside))
+          ∙ sym (bit_at_place (set ws at n) b at (b % 64) here refl)
       | inr other ↦
-        done b (omega arith) ∙ bit_at_place ws b (b / 64) (b % 64) refl refl
-        ∙ ap (λ m. bit_of_number m (b % 64)) (sym (get_or-set_other ws at (b / 64) n 0 other)) ∙ sym there
+          done b (omega arith) ∙ bit_at_place ws b (b / 64) (b % 64) refl refl
+          ∙ ap (λ m. bit_of_number m (b % 64)) (sym (get_or-set_other ws at (b / 64) n 0 other)) ∙ sym there
     ]

@@ -1,15 +1,15 @@
 -- How many numbers of a range pass a test, and the same by words.
-use Rattle.std.proofs.Common.{◌≡◌, ℕ, zero, suc, ◌+◌, ◌-◌, ◌*◌, ◌/◌, ◌%◌, ◌^◌, ◌<◌, ◌≤◌, List, length, get_or, take, drop, Bool, true, false, cond, ◌==◌, count_by, sum_by, count_ones, sym, refl, ap, ap₂, ◌∙◌, inl, inr, arith, add-zero, add_assoc, length-drop, get_or-drop, mod-eq_of_lt}
+use Rattle.std.proofs.Common.{◌≡◌, ℕ, zero, suc, ◌+◌, ◌-◌, ◌*◌, ◌/◌, ◌%◌, ◌^◌, ◌<◌, ◌≤◌, List, length, get_or, take, drop, Bool, true, false, cond, ◌==◌, count_by, sum_by, sym, refl, ap, ap₂, ◌∙◌, inl, inr, arith, add-zero, add_assoc, length-drop, get_or-drop, mod-eq_of_lt}
 use Rattle.std.specs.List.{range_with_len}
 use Rattle.std.specs.Int.{bit_at}
 use Rattle.std.specs.Int.Count.{ones_cat, ones}
-use Rattle.std.proofs.lemmas.Bool.{cases_eq, cases_lt}
-use Rattle.std.proofs.lemmas.Bool.Decides.{nat_tests}
+use Rattle.std.proofs.lemmas.Bool.{cases_eq}
+use Rattle.std.proofs.lemmas.List.{take_all}
 use Rattle.std.proofs.lemmas.List.Sums.{sum_by-cons, sum_by_more}
 use Rattle.std.proofs.lemmas.Nat.{mod-pow-add, pow_pos, mod_below}
 use Rattle.std.proofs.lemmas.Nat.Bits.{bit_at-lt}
 use Rattle.fv_bits.specs.Bits.{bit_of_number}
-use Rattle.fv_bits.specs.Stored.{bit_of_words, AreWords}
+use Rattle.fv_bits.specs.Stored.{bit_of_words, AreWords, IsStored}
 use Rattle.fv_bits.proofs.Rows.{bit_at_place}
 
 -- how many numbers pass, of n numbers from a on
@@ -58,8 +58,8 @@ unfolding bit_of_number ones
 ones_of_bit n k = elim (cases_eq (bit_at n k) 1) [
   | inl set ↦ ap ones set ∙ sym (ap (λ m. cond (m == 1) 1 0) set)
   | inr clear ↦
-    let zero_bit : bit_at n k ≡ 0 = omega (arith, bit_at-lt n k) in
-    ap ones zero_bit ∙ sym (ap (λ m. cond (m == 1) 1 0) zero_bit)
+      let zero_bit : bit_at n k ≡ 0 = omega (arith, bit_at-lt n k) in
+      ap ones zero_bit ∙ sym (ap (λ m. cond (m == 1) 1 0) zero_bit)
 ]
 
 ones_of_zero : 0 ≡ ones 0
@@ -118,3 +118,27 @@ count_by_words ws from to words ordered within =
     let same : from % 64 + (to - from) ≡ 64 * (last - first) + to % 64 = omega arith in
     let joined = ap (passing p (64 * first)) same in
     omega (arith, below, above, whole, split_from, split_to, joined)
+
+-- a test that none passes
+pub none_pass : (p : ℕ → Bool) (a n : ℕ) → ((k : ℕ) → a ≤ k → p k ≡ false) → passing p a n ≡ 0
+none_pass p a zero none = refl
+none_pass p a (suc n) none =
+    omega (arith, passing-suc p a n, ap {B = ℕ} (λ t. cond t 1 0) (none a (omega arith)), none_pass p (a + 1) n (λ k from. none k (omega arith)))
+
+-- all words of a map
+pub ones_of_all : (len : ℕ) (ws : List ℕ) → IsStored len ws → AreWords ws → sum_by ones ws ≡ passing (bit_of_words ws) 0 len
+ones_of_all len ws stored words =
+    let p = bit_of_words ws in
+    let whole = ones_of_words ws words 0 (length ws) (omega arith) in
+    let same : take (length ws) (drop 0 ws) ≡ ws = take_all (length ws) ws (omega arith) in
+    let start : 64 * 0 ≡ 0 = omega arith in
+    let size : len + (64 * length ws - len) ≡ 64 * length ws = omega (arith, stored.enough) in
+    let past = none_pass p (0 + len) (64 * length ws - len) (λ k from. stored.clear k (omega arith)) in
+    let split = passing-add p 0 len (64 * length ws - len) in
+    let joined = ap (passing p 0) size in
+    let moved = ap (λ a. passing p a (64 * length ws)) start in
+    let sums = ap (sum_by ones) same in
+    omega (arith, whole, past, split, joined, moved, sums)
+
+pub ones_within : (len : ℕ) (ws : List ℕ) → IsStored len ws → AreWords ws → sum_by ones ws ≤ len
+ones_within len ws stored words = omega (arith, ones_of_all len ws stored words, passing_le (bit_of_words ws) 0 len)

@@ -1,6 +1,7 @@
-pub mod Numbers
-pub mod Rows
-pub mod Counts
-pub mod Bytes
+mod Bytes
+mod Counts
 pub mod Laws
-pub mod Maps
+mod Maps
+mod Numbers
+mod Rows
+mod Seen

@@ -1,13 +1,13 @@
 -- What the words of a map say of its members.
-use Rattle.std.proofs.Common.{◌≡◌, ◌≢◌, ℕ, Option, Some, None, IfSome, IfNone, ◌+◌, ◌-◌, ◌*◌, ◌/◌, ◌%◌, ◌^◌, ◌<◌, ◌≤◌, List, length, get_or, set, replicate, map, Bool, true, false, cond, ◌==◌, ◌||◌, count_by, sym, refl, ap, subst, ◌∙◌, inl, inr, arith, length-set, get_or-set_same, get_or-set_other}
+use Rattle.std.proofs.Common.{◌≡◌, ◌≢◌, ℕ, Option, Some, None, IfSome, IfNone, ◌+◌, ◌-◌, ◌*◌, ◌/◌, ◌%◌, ◌<◌, ◌≤◌, List, length, get_or, set, replicate, Bool, true, false, cond, ◌==◌, ◌||◌, count_by, sym, refl, ap, subst, ◌∙◌, inl, inr, arith, length-set}
 use Rattle.std.specs.List.{range_with_len}
 use Rattle.std.proofs.lemmas.Bool.{cases_eq, cases_lt, true≢false}
 use Rattle.std.proofs.lemmas.Bool.Decides.{nat_tests}
 use Rattle.std.proofs.lemmas.List.{get_or_past, ext_get_or, length-replicate, get_or-replicate}
 use Rattle.std.proofs.lemmas.List.FromFn.{length-map-range_with_len, get_or-map-range_with_len}
-use Rattle.fv_bits.specs.Bits.{bit_of_number, bit_of_bytes, block_bits}
+use Rattle.fv_bits.specs.Bits.{bit_of_number, block_bits}
 use Rattle.fv_bits.specs.Members.{is_member, count_between, count_of, IsFirstFree, IsFullFrom, IsUnion, IsBlockOf, TakesBlock, IsFirstPast}
-use Rattle.fv_bits.specs.Stored.{bit_of_words, map_of, IsStored, IsFirst, AreSet, IsFirstAbove, HasNoneAbove, PutsBitOf, Unites, HasBitsOf, PutsBlock, AreClearFrom}
+use Rattle.fv_bits.specs.Stored.{bit_of_words, map_of, IsStored, IsFirst, AreSet, IsFirstAbove, HasNoneAbove, PutsBitOf, Unites, HasBitsOf, PutsBlock}
 use Rattle.fv_bits.proofs.Numbers.{bit_zero}
 use Rattle.fv_bits.proofs.Rows.{bit_at_place, bit_past}
 use Rattle.fv_bits.proofs.Counts.{passing_same}
@@ -34,12 +34,10 @@ zero_words n b =
     ] in
     bit_at_place (replicate n 0) b (b / 64) (b % 64) refl refl ∙ ap (λ m. bit_of_number m (b % 64)) zero_word ∙ bit_zero (b % 64)
 
-pub new_stored : (len : ℕ) → IsStored len (replicate ((len + 63) / 64) 0)
-new_stored len = record {
-  enough = omega (arith, length-replicate {A = ℕ} ((len + 63) / 64) 0);
-  few = omega (arith, length-replicate {A = ℕ} ((len + 63) / 64) 0);
-  clear = λ b _. zero_words ((len + 63) / 64) b;
-}
+pub new_stored : (len n : ℕ) → len ≤ 64 * n → 64 * n < len + 64 → IsStored len (replicate n 0)
+new_stored len n enough few =
+    let size = length-replicate {A = ℕ} n 0 in
+    record { enough = omega (arith, size); few = omega (arith, size); clear = λ b _. zero_words n b }
 
 pub new_map : (len n : ℕ) → map_of len (replicate n 0) ≡ replicate len false
 unfolding map_of
@@ -72,9 +70,12 @@ pub count_map : (len : ℕ) (ws : List ℕ) → IsStored len ws → (from to : �
 unfolding count_between
 count_map len ws stored from to = passing_same (bit_of_words ws) (is_member (map_of len ws)) from from (to - from) (λ j _. sym (member_of len ws stored (from + j)))
 
-pub count_all : (len : ℕ) (ws : List ℕ) → IsStored len ws → count_by (bit_of_words ws) (range_with_len 0 (len - 0)) ≡ count_of (map_of len ws)
+pub count_all : (len : ℕ) (ws : List ℕ) → IsStored len ws → count_by (bit_of_words ws) (range_with_len 0 len) ≡ count_of (map_of len ws)
 unfolding count_of
-count_all len ws stored = count_map len ws stored 0 len ∙ ap (count_between (map_of len ws) 0) (sym (length-map_of len ws))
+count_all len ws stored =
+    let size : len ≡ len - 0 = omega arith in
+    ap (λ n. count_by (bit_of_words ws) (range_with_len 0 n)) size
+    ∙ count_map len ws stored 0 len ∙ ap (count_between (map_of len ws) 0) (sym (length-map_of len ws))
 
 -- the first number that is no member
 pub free_map : (len : ℕ) (ws : List ℕ) → IsStored len ws → (from at : ℕ) → IsFirst ws false from at → at < len → IsFirstFree (map_of len ws) from at
@@ -154,13 +155,13 @@ module _ (len index : ℕ) (ws read new : List ℕ) (stored : IsStored len ws) (
   put_inside : (b : ℕ) → b / block_bits ≡ index → bit_of_words new b ≡ bit_of_words read (b % block_bits)
   put_inside b place = elim (cases_lt (b / 64) (length ws)) [
     | inl there ↦
-      let at : 512 * index + b % block_bits / 64 ≡ b / 64 = omega arith in
-      bit_at_place new b (512 * index + b % block_bits / 64) (b % 64) (omega arith) refl
-      ∙ ap (λ m. bit_of_number m (b % 64)) (puts.inside (b % block_bits / 64) (omega arith) (omega arith))
-      ∙ sym (bit_at_place read (b % block_bits) (b % block_bits / 64) (b % 64) refl (omega arith))
+        let at : 512 * index + b % block_bits / 64 ≡ b / 64 = omega arith in
+        bit_at_place new b (512 * index + b % block_bits / 64) (b % 64) (omega arith) refl
+        ∙ ap (λ m. bit_of_number m (b % 64)) (puts.inside (b % block_bits / 64) (omega arith) (omega arith))
+        ∙ sym (bit_at_place read (b % block_bits) (b % block_bits / 64) (b % 64) refl (omega arith))
     | inr gone ↦
-      bit_past new b (omega (arith, puts.len))
-      ∙ sym (none.bits (b % block_bits) (omega arith) (omega (arith, stored.enough)))
+        bit_past new b (omega (arith, puts.len))
+        ∙ sym (none.bits (b % block_bits) (omega arith) (omega (arith, stored.enough)))
   ]
 
   put_outside : (b : ℕ) → b / block_bits ≢ index → bit_of_words new b ≡ bit_of_words ws b

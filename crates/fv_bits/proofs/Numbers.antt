@@ -1,10 +1,10 @@
 -- The bits of a number after the steps that a word of a map takes.
-use Rattle.std.proofs.Common.{◌≡◌, ◌≢◌, ℕ, ◌+◌, ◌-◌, ◌*◌, ◌/◌, ◌%◌, ◌^◌, ◌<◌, ◌≤◌, min, zero, suc, Bool, true, false, not, cond, ◌==◌, bit_and, bit_or, sym, refl, ap, ◌∙◌, inl, inr, arith}
-use Rattle.std.specs.Int.{bit_at, w64, trailing_zeros}
+use Rattle.std.proofs.Common.{◌≡◌, ℕ, ◌+◌, ◌-◌, ◌*◌, ◌/◌, ◌%◌, ◌^◌, ◌<◌, min, zero, suc, true, false, not, ◌==◌, bit_and, bit_or, sym, ap, ◌∙◌, inl, inr, arith}
+use Rattle.std.specs.Int.{w64, trailing_zeros}
 use Rattle.std.specs.Int.Count.{count_trailing_zeros}
 use Rattle.std.proofs.lemmas.Bool.{cases_eq, not-true, not-false}
 use Rattle.std.proofs.lemmas.Bool.Decides.{nat_tests}
-use Rattle.std.proofs.lemmas.Nat.{shr-shr, one_shl, and_mask, shr_le, pow_pos}
+use Rattle.std.proofs.lemmas.Nat.{shr-shr, one_shl, and_mask, shr_le}
 use Rattle.std.proofs.lemmas.Nat.Bits.{bit_at_set_same, bit_at_set_other, bit_at_clear_same, bit_at_clear_other, bit_at-zero, bit_at-trailing_zeros, bit_at-lt, bit_at_not, same_from_bits_below}
 use Rattle.fv_bits.specs.Bits.{bit_of_number}
 use Rattle.fv_bits.specs.Stored.{IsFirstBit, PutsBit}

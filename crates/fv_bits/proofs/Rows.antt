@@ -1,7 +1,7 @@
 -- Words in a row: a write of one bit, the union, and the first bit of a value.
-use Rattle.std.proofs.Common.{◌≡◌, ◌≢◌, ℕ, ◌+◌, ◌-◌, ◌*◌, ◌/◌, ◌%◌, ◌^◌, ◌<◌, ◌≤◌, max, List, length, get_or, set, Fits, Bool, true, false, not, cond, ◌==◌, ◌||◌, bit_or, sym, refl, ap, ◌∙◌, inl, inr, ⊎_elim, arith, length-set, get_or-set_same, get_or-set_other}
-use Rattle.std.specs.Int.{bit_at, w64}
-use Rattle.std.proofs.lemmas.Bool.{cases_eq, cases_lt, false≢true, true≢false}
+use Rattle.std.proofs.Common.{◌≡◌, ◌≢◌, ℕ, ◌+◌, ◌*◌, ◌/◌, ◌%◌, ◌<◌, ◌≤◌, List, length, get_or, set, Fits, Bool, true, false, not, cond, ◌==◌, ◌||◌, bit_or, sym, refl, ap, ◌∙◌, inl, inr, arith, length-set, get_or-set_same, get_or-set_other}
+use Rattle.std.specs.Int.{w64}
+use Rattle.std.proofs.lemmas.Bool.{cases_eq, cases_lt}
 use Rattle.std.proofs.lemmas.Bool.Decides.{nat_tests}
 use Rattle.std.proofs.lemmas.List.{get_or_past}
 use Rattle.std.proofs.lemmas.Nat.Bits.{bit_at_or, bit_at-lt}
@@ -25,19 +25,19 @@ put_word_bit ws b v x within puts = record {
   len = length-set ws (b / 64) x;
   bits = λ k. elim (cases_eq (k / 64) (b / 64)) [
     | inl same ↦
-      let inside : b / 64 < length ws = omega arith in
-      let test : (k == b) ≡ (k % 64 == b % 64) = grind (arith, nat_tests) in
-      bit_at_place (set ws (b / 64) x) k (b / 64) (k % 64) same refl
-      ∙ ap (λ n. bit_of_number n (k % 64)) (get_or-set_same ws (b / 64) x 0 inside)
-      ∙ puts.bits (k % 64) (omega arith)
-      ∙ ap (λ n. cond (k % 64 == b % 64) v n) (sym (bit_at_place ws k (b / 64) (k % 64) same refl))
-      ∙ ap (λ t. cond t v (bit_of_words ws k)) (sym test)
+        let inside : b / 64 < length ws = omega arith in
+        let test : (k == b) ≡ (k % 64 == b % 64) = grind (arith, nat_tests) in
+        bit_at_place (set ws (b / 64) x) k (b / 64) (k % 64) same refl
+        ∙ ap (λ n. bit_of_number n (k % 64)) (get_or-set_same ws (b / 64) x 0 inside)
+        ∙ puts.bits (k % 64) (omega arith)
+        ∙ ap (λ n. cond (k % 64 == b % 64) v n) (sym (bit_at_place ws k (b / 64) (k % 64) same refl))
+        ∙ ap (λ t. cond t v (bit_of_words ws k)) (sym test)
     | inr other ↦
-      let test : (k == b) ≡ false = grind (arith, nat_tests) in
-      bit_at_place (set ws (b / 64) x) k (k / 64) (k % 64) refl refl
-      ∙ ap (λ n. bit_of_number n (k % 64)) (get_or-set_other ws (b / 64) (k / 64) x 0 other)
-      ∙ sym (bit_at_place ws k (k / 64) (k % 64) refl refl)
-      ∙ ap (λ t. cond t v (bit_of_words ws k)) (sym test)
+        let test : (k == b) ≡ false = grind (arith, nat_tests) in
+        bit_at_place (set ws (b / 64) x) k (k / 64) (k % 64) refl refl
+        ∙ ap (λ n. bit_of_number n (k % 64)) (get_or-set_other ws (b / 64) (k / 64) x 0 other)
+        ∙ sym (bit_at_place ws k (k / 64) (k % 64) refl refl)
+        ∙ ap (λ t. cond t v (bit_of_words ws k)) (sym test)
   ];
 }
 
@@ -52,16 +52,16 @@ unite_words ws os new len others each = record {
   len = len;
   bits = λ k. elim (cases_lt (k / 64) (length ws)) [
     | inl inside ↦
-      bit_at_place new k (k / 64) (k % 64) refl refl
-      ∙ ap (λ n. bit_of_number n (k % 64)) (each (k / 64) inside)
-      ∙ bit_or_number (get_or ws (k / 64) 0) (get_or os (k / 64) 0) (k % 64)
-      ∙ ap (λ t. t || bit_of_number (get_or os (k / 64) 0) (k % 64)) (sym (bit_at_place ws k (k / 64) (k % 64) refl refl))
-      ∙ ap (λ t. bit_of_words ws k || t) (sym (bit_at_place os k (k / 64) (k % 64) refl refl))
+        bit_at_place new k (k / 64) (k % 64) refl refl
+        ∙ ap (λ n. bit_of_number n (k % 64)) (each (k / 64) inside)
+        ∙ bit_or_number (get_or ws (k / 64) 0) (get_or os (k / 64) 0) (k % 64)
+        ∙ ap (λ t. t || bit_of_number (get_or os (k / 64) 0) (k % 64)) (sym (bit_at_place ws k (k / 64) (k % 64) refl refl))
+        ∙ ap (λ t. bit_of_words ws k || t) (sym (bit_at_place os k (k / 64) (k % 64) refl refl))
     | inr past ↦
-      let new_clear = bit_past new k (omega arith) in
-      let left_clear = bit_past ws k (omega arith) in
-      let right_clear = bit_past os k (omega arith) in
-      new_clear ∙ sym (ap (λ t. t || bit_of_words os k) left_clear ∙ right_clear)
+        let new_clear = bit_past new k (omega arith) in
+        let left_clear = bit_past ws k (omega arith) in
+        let right_clear = bit_past os k (omega arith) in
+        new_clear ∙ sym (ap (λ t. t || bit_of_words os k) left_clear ∙ right_clear)
   ];
 }
 
@@ -82,11 +82,11 @@ in_later_word ws w from skipped h next at empty first none all later found insid
   before = λ k after to. elim (cases_lt (k / 64) (from / 64 + 1)) [
     | inl low ↦ bit_at_place ws k (from / 64) (k % 64) (omega arith) refl ∙ first.before (k % 64) (omega arith) (omega arith)
     | inr past ↦ elim (cases_lt (k / 64) next) [
-        | inl between ↦
+      | inl between ↦
           bit_at_place ws k (k / 64) (k % 64) refl refl
           ∙ ap (λ n. bit_of_number n (k % 64)) (all.each (k / 64) past between) ∙ empty (k % 64) (omega arith)
-        | inr high ↦ bit_at_place ws k next (k % 64) (omega arith) refl ∙ found.before (k % 64) (omega arith) (omega arith)
-      ]
+      | inr high ↦ bit_at_place ws k next (k % 64) (omega arith) refl ∙ found.before (k % 64) (omega arith) (omega arith)
+    ]
   ];
 }
 
@@ -96,11 +96,11 @@ clear_in_later_word ws from h next at words first none all later other found =
     let inside : at < 64 = elim (cases_lt at 64) [
       | inl low ↦ low
       | inr high ↦
-        let full = all_set (get_or ws next 0) (words.fits next) (λ j low. found.before j (omega arith) (omega arith)) in
-        elim (cases_lt next (length ws)) [
-          | inl there ↦ absurd (other there full)
-          | inr gone ↦ absurd (omega (arith, get_or_past ws next 0 gone, full))
-        ]
+          let full = all_set (get_or ws next 0) (words.fits next) (λ j low. found.before j (omega arith) (omega arith)) in
+          elim (cases_lt next (length ws)) [
+            | inl there ↦ absurd (other there full)
+            | inr gone ↦ absurd (omega (arith, get_or_past ws next 0 gone, full))
+          ]
     ] in
     in_later_word ws false from 18446744073709551615 h next at bit_full first none all later found inside
 
@@ -119,9 +119,9 @@ in_no_word ws from h next first none all past = record {
   bits = λ k after. elim (cases_lt (k / 64) (from / 64 + 1)) [
     | inl low ↦ bit_at_place ws k (from / 64) (k % 64) (omega arith) refl ∙ first.before (k % 64) (omega arith) (omega arith)
     | inr later ↦ elim (cases_lt (k / 64) next) [
-        | inl between ↦ bit_at_place ws k (k / 64) (k % 64) refl refl ∙ ap (λ n. bit_of_number n (k % 64)) (all.each (k / 64) later between) ∙ bit_zero (k % 64)
-        | inr high ↦ bit_past ws k (omega arith)
-      ]
+      | inl between ↦ bit_at_place ws k (k / 64) (k % 64) refl refl ∙ ap (λ n. bit_of_number n (k % 64)) (all.each (k / 64) later between) ∙ bit_zero (k % 64)
+      | inr high ↦ bit_past ws k (omega arith)
+    ]
   ];
 }
 

@@ -1,5 +1,5 @@
 -- The bits of numbers and of lists of bytes, each counted from the least.
-use Rattle.std.specs.Prelude.{ℕ, ◌*◌, ◌/◌, ◌%◌, Bool, List, ◌==◌, slice_index}
+use Rattle.std.specs.Prelude.{ℕ, ◌/◌, ◌%◌, Bool, List, ◌==◌, slice_index}
 use Rattle.std.specs.Int.{bit_at}
 
 -- whether bit k of a number is set

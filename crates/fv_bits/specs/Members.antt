@@ -1,6 +1,8 @@
 -- A set of numbers below a length, as the list that says for each number whether it is a member.
-use Rattle.std.specs.Prelude.{◌≡◌, ◌≢◌, ℕ, ◌+◌, ◌-◌, ◌*◌, ◌/◌, ◌%◌, ◌<◌, ◌≤◌, Bool, true, false, ◌||◌, List, length, slice_index_or, count_by}
+use Rattle.std.specs.Prelude.{◌≡◌, ◌≢◌, ℕ, ◌+◌, ◌-◌, ◌*◌, ◌/◌, ◌%◌, ◌<◌, ◌≤◌, Bool, true, false, ◌||◌, List, length, slice_index_or, count_by, filter}
+use Rattle.std.specs.FinSet.{FinSet, from_list}
 use Rattle.std.specs.List.{range_with_len}
+use Rattle.std.specs.Ordering.{nat_cmp}
 use Rattle.fv_bits.specs.Bits.{bit_of_bytes, block_bits}
 
 -- whether a number is a member: none is from the length on
@@ -14,6 +16,10 @@ count_between map from to = count_by (is_member map) (range_with_len from (to - 
 -- how many members there are
 unfoldable pub count_of : List Bool → ℕ
 count_of map = count_between map 0 (length map)
+
+-- the members as a finite set
+unfoldable pub members_of : List Bool → FinSet nat_cmp
+members_of map = from_list (filter (is_member map) (range_with_len 0 (length map)))
 
 -- i is the least number below the length, from `from` on, that is no member
 pub record IsFirstFree (map : List Bool) (from i : ℕ) : Type 0 where

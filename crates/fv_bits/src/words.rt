@@ -53,7 +53,7 @@ pub(crate) fn unite(words: &mut [u64], others: &[u64])
 }
 
 /// How many bits of these words are set.
-fn ones(words: &[u64]) -> u64
+pub(crate) fn ones(words: &[u64]) -> u64
     requires { length words.now < 2 ^ 40 }
     ensures value { result ≡ sum_by count_ones words.now }
     ensures bound { result ≤ 64 * length words.now }
@@ -65,7 +65,8 @@ fn ones(words: &[u64]) -> u64
     total
 }
 
-/// How many bits are set from `from` up to `to`, without `to`. Each word in between is read once.
+/// How many bits are set from `from` up to `to`, without `to`. Each word in between is read
+/// once, and the words of the two ends once more.
 #[tactic(auto, using(crate::proofs::Counts::count_by_words, crate::proofs::Counts::passing_le))]
 pub(crate) fn count_between(words: &[u64], from: u32, to: u32) -> u32
     requires ordered { from ≤ to }

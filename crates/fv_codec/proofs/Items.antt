@@ -13,6 +13,10 @@ on size i bytes =
     let e : size * i + size ≡ size * (i + 1) = omega arith in
     drop-drop size (size * i) bytes ∙ ap (λ (n : ℕ). drop n bytes) e
 
+-- what an item's own bytes say
+pub own_says : (asks : List ℕ → Verdict) {own bytes : List ℕ} {says : Verdict} → own ≡ bytes → says ≡ asks own → asks bytes ≡ says
+own_says asks own is = sym (is ∙ ap asks own)
+
 -- an item that is as said: the verdict is that of the others
 pub each_next : (n i size : ℕ) (asks : List ℕ → Verdict) (bytes : List ℕ) (total : Verdict) → i < n → asks (drop (size * i) bytes) ≡ Ok tt
     → total ≡ each (n - i) size asks (drop (size * i) bytes) → total ≡ each (n - (i + 1)) size asks (drop (size * (i + 1)) bytes)

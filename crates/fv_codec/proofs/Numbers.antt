@@ -1,10 +1,10 @@
 -- What was written is read again.
-use Rattle.std.proofs.Common.{◌≡◌, ℕ, zero, suc, ◌+◌, ◌^◌, ◌<◌, ◌≤◌, List, [], ◌∷◌, ◌++◌, length, drop, replicate, Ok, refl, ap, sym, ◌∙◌, arith, drop-drop}
+use Rattle.std.proofs.Common.{◌≡◌, ℕ, zero, suc, ◌+◌, ◌%◌, ◌^◌, ◌<◌, ◌≤◌, Bool, true, false, List, [], ◌∷◌, ◌++◌, length, get_or, take, drop, replicate, Ok, refl, ap, sym, ◌∙◌, arith, drop-drop}
 use Rattle.std.proofs.lemmas.Bool.Decides.{nat_tests}
-use Rattle.std.proofs.lemmas.List.{take_at, drop_at, take-replicate, length-replicate}
+use Rattle.std.proofs.lemmas.List.{get_or-drop, take_at, drop_at, take-replicate, length-replicate}
 use Rattle.byteorder.specs.Numbers.{big_number-reads_back, length-bytes_high_first}
-use Rattle.fv_codec.specs.Bytes.{word_at, word, zeros}
-use Rattle.fv_codec.specs.Fields.{Field, word_in, zeros_in, verdict, verdicts, in_range, all_zero}
+use Rattle.fv_codec.specs.Bytes.{word_at, half_at, byte_at, word, half, zeros}
+use Rattle.fv_codec.specs.Fields.{up_to, half_in, byte_in, name_in, name_filled, Field, word_in, step_in, zeros_in, verdict, verdicts, in_range, all_zero}
 
 pub length-word : (x : ℕ) → length (word x) ≡ 8
 unfolding word
@@ -35,6 +35,13 @@ in_range_ok least greatest x low high = grind (arith, nat_tests)
 pub word_said : (at least greatest x : ℕ) (bytes rest : List ℕ) → drop at bytes ≡ word x ++ rest → x < 2 ^ 64 → least ≤ x → x ≤ greatest → verdict (word_in at least greatest) bytes ≡ Ok tt
 word_said at least greatest x bytes rest there small low high = rw (word_there at x bytes rest there small) (in_range_ok least greatest x low high)
 
+pub up_to-le : (allowed : Bool) (greatest : ℕ) → up_to allowed greatest ≤ greatest
+up_to-le true greatest = omega arith
+up_to-le false greatest = omega arith
+
+pub step_said : (at step least greatest x : ℕ) (bytes rest : List ℕ) → drop at bytes ≡ word x ++ rest → x < 2 ^ 64 → least ≤ x → x ≤ greatest → x % step ≡ 0 → verdict (step_in at step least greatest) bytes ≡ Ok tt
+step_said at step least greatest x bytes rest there small low high even = rw (word_there at x bytes rest there small, in_range_ok least greatest x low high, even) refl
+
 zeros_are : (n : ℕ) → all_zero (replicate n 0) ≡ Ok tt
 unfolding all_zero
 zeros_are zero = refl
@@ -56,3 +63,37 @@ AllAsSaid (field ∷ fields) bytes = (verdict field bytes ≡ Ok tt) × AllAsSai
 pub all_said : (fields : List Field) (bytes : List ℕ) → AllAsSaid fields bytes → verdicts fields bytes ≡ Ok tt
 all_said [] bytes are = refl
 all_said (field ∷ fields) bytes are = rw (are.0, all_said fields bytes are.1) refl
+
+-- ---- halves, bytes and names
+
+pub length-half : (x : ℕ) → length (half x) ≡ 4
+unfolding half
+length-half x = length-bytes_high_first 4 x
+
+pub past_half : (at x : ℕ) (bytes rest : List ℕ) → drop at bytes ≡ half x ++ rest → drop (at + 4) bytes ≡ rest
+past_half at x bytes rest there = past at 4 (half x) bytes rest (length-half x) there
+
+pub half_there : (at x : ℕ) (bytes rest : List ℕ) → drop at bytes ≡ half x ++ rest → x < 2 ^ 32 → half_at at bytes ≡ x
+unfolding half_at half
+half_there at x bytes rest there small = rw there (big_number-reads_back 4 x rest small)
+
+pub half_said : (at least greatest x : ℕ) (bytes rest : List ℕ) → drop at bytes ≡ half x ++ rest → x < 2 ^ 32 → least ≤ x → x ≤ greatest → verdict (half_in at least greatest) bytes ≡ Ok tt
+half_said at least greatest x bytes rest there small low high = rw (half_there at x bytes rest there small) (in_range_ok least greatest x low high)
+
+get_or-drop_first : (at : ℕ) (bytes : List ℕ) → get_or bytes at 0 ≡ get_or (drop at bytes) 0 0
+get_or-drop_first at bytes =
+    let e : at + 0 ≡ at = omega arith in
+    sym (get_or-drop at bytes 0 0 ∙ ap (λ (k : ℕ). get_or bytes k 0) e)
+
+pub byte_there : (at x : ℕ) (bytes rest : List ℕ) → drop at bytes ≡ (x ∷ []) ++ rest → byte_at at bytes ≡ x
+unfolding byte_at
+byte_there at x bytes rest there = get_or-drop_first at bytes ∙ ap (λ (xs : List ℕ). get_or xs 0 0) there
+
+pub byte_said : (at least greatest x : ℕ) (bytes rest : List ℕ) → drop at bytes ≡ (x ∷ []) ++ rest → least ≤ x → x ≤ greatest → verdict (byte_in at least greatest) bytes ≡ Ok tt
+byte_said at least greatest x bytes rest there low high = rw (byte_there at x bytes rest there) (in_range_ok least greatest x low high)
+
+pub run_there : (at n : ℕ) (run bytes rest : List ℕ) → drop at bytes ≡ run ++ rest → length run ≡ n → take n (drop at bytes) ≡ run
+run_there at n run bytes rest there long = ap (take n) there ∙ take_at run rest n long
+
+pub name_said : (at len : ℕ) (name bytes rest : List ℕ) → drop at bytes ≡ name ++ rest → length name ≡ 64 → name_filled len name ≡ Ok tt → verdict (name_in at len) bytes ≡ Ok tt
+name_said at len name bytes rest there long is = rw (run_there at 64 name bytes rest there long) is

@@ -18,7 +18,10 @@ pub still_zero : (bytes : List ℕ) (at count : ℕ) → at + count ≤ 4096 →
 unfolding zeros
 still_zero bytes at count fits rest =
     let less : 4096 - at - count ≡ 4096 - (at + count) = omega arith in
-    sym (drop-drop count at bytes) ∙ ap (drop count) rest ∙ drop-replicate count (4096 - at) 0 ∙ ap zeros less
+    let twice : drop (at + count) bytes ≡ drop count (drop at bytes) = sym (drop-drop count at bytes) in
+    let same : drop count (drop at bytes) ≡ drop count (zeros (4096 - at)) = ap (drop count) rest in
+    let fewer : drop count (zeros (4096 - at)) ≡ zeros (4096 - at - count) = drop-replicate count (4096 - at) 0 in
+    twice ∙ (same ∙ (fewer ∙ ap zeros less))
 
 -- a run of bytes was put behind the front
 pub put : (bytes run front : List ℕ) (at count : ℕ) → at + count ≤ 4096 → length bytes ≡ 4096 → length run ≡ count → take at bytes ≡ front → take (at + count) (put_mid at (at + count - at) bytes run) ≡ front ++ run

@@ -23,7 +23,7 @@ impl Model for Page {
 impl Page {
     ghost use Rattle.std.specs.Prelude.{◌≡◌, ◌≤◌, ◌+◌, ◌*◌, ◌++◌, [], length};
     ghost use Rattle.std.specs.List.{flat_map};
-    ghost use Rattle.fv_codec.specs.Bytes.{word, zeros};
+    ghost use Rattle.fv_codec.specs.Bytes.{word, half, zeros};
 
     /// A page of which nothing is written.
     pub(crate) fn new() -> Page
@@ -52,6 +52,16 @@ impl Page {
         requires { length self.old + 8 ≤ 4096 }
         ensures written { self.new ≡ self.old ++ word value }
         ensures length { length self.new ≡ length self.old + 8 }
+    {
+        self.put(&value.to_be_bytes());
+    }
+
+    /// Writes a number as four bytes.
+    #[tactic(auto, unfolding(crate::specs::Bytes::half))]
+    pub(crate) fn half(&mut self, value: u32)
+        requires { length self.old + 4 ≤ 4096 }
+        ensures written { self.new ≡ self.old ++ half value }
+        ensures length { length self.new ≡ length self.old + 4 }
     {
         self.put(&value.to_be_bytes());
     }

@@ -1,4 +1,4 @@
-ghost use Rattle.std.specs.Prelude.{◌≡◌, ◌≤◌, ◌<◌, ◌^◌, ◌+◌, length, take, drop, IfOk};
+ghost use Rattle.std.specs.Prelude.{◌≡◌, ◌≢◌, ◌<◌, ◌^◌, length, IfOk, IfErr};
 
 use crate::page::Page;
 use crate::reading::{places_in, tail, word_in, zeros_in};
@@ -22,9 +22,18 @@ impl Root {
     ghost use Rattle.fv_codec.specs.Blocks.{root_at, IsRoot};
     ghost use Rattle.fv_codec.specs.Spelling.{root_bytes};
 
-    /// The root that a block spells, or the first field that isn't as said. Reads each byte once.
-    #[tactic(auto, unfolding(crate::specs::Blocks::root_at))]
+    /// The root that a block spells, or the first field that isn't as said. Goes over the block once.
+    #[tactic(auto, using(crate::proofs::Decoded::root_in_range, crate::proofs::Decoded::root_differs))]
     pub fn decode(block: &[u8; 4096]) -> Result<Root, Shape>
+        ensures exact { result ≡ root_at block.now }
+        ensures in_range { IfOk result IsRoot }
+        ensures differs { IfErr result (λ s. s.want ≢ s.found) }
+    {
+        Root::read(block)
+    }
+
+    #[tactic(auto, unfolding(crate::specs::Blocks::root_at))]
+    fn read(block: &[u8; 4096]) -> Result<Root, Shape>
         ensures { result ≡ root_at block.now }
     {
         word_in(block, 0, MARK, MARK)?;

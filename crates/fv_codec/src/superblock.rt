@@ -1,4 +1,4 @@
-ghost use Rattle.std.specs.Prelude.{◌≡◌, ◌≤◌, ◌+◌, length, take, drop, IfOk};
+ghost use Rattle.std.specs.Prelude.{◌≡◌, ◌≢◌, length, IfOk, IfErr};
 
 use crate::page::Page;
 use crate::reading::{word_in, zeros_in};
@@ -18,9 +18,18 @@ impl Super {
     ghost use Rattle.fv_codec.specs.Blocks.{super_at, IsSuper};
     ghost use Rattle.fv_codec.specs.Spelling.{super_bytes};
 
-    /// The superblock that a block spells, or the first field that isn't as said. Reads each byte once.
-    #[tactic(auto, unfolding(crate::specs::Blocks::super_at))]
+    /// The superblock that a block spells, or the first field that isn't as said. Goes over the block once.
+    #[tactic(auto, using(crate::proofs::Decoded::super_in_range, crate::proofs::Decoded::super_differs))]
     pub fn decode(block: &[u8; 4096]) -> Result<Super, Shape>
+        ensures exact { result ≡ super_at block.now }
+        ensures in_range { IfOk result IsSuper }
+        ensures differs { IfErr result (λ s. s.want ≢ s.found) }
+    {
+        Super::read(block)
+    }
+
+    #[tactic(auto, unfolding(crate::specs::Blocks::super_at))]
+    fn read(block: &[u8; 4096]) -> Result<Super, Shape>
         ensures { result ≡ super_at block.now }
     {
         word_in(block, 0, MARK, MARK)?;

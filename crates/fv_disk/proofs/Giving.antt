@@ -1,10 +1,10 @@
 -- Giving out bytes call by call.
-use Rattle.std.proofs.Common.{◌≡◌, ℕ, ◌+◌, ◌++◌, length, take, drop, List, [], refl, sym, ap, subst, ◌∙◌, arith, append_assoc}
+use Rattle.std.proofs.Common.{◌≡◌, ℕ, ◌+◌, ◌++◌, take, drop, List, [], refl, sym, ap, ◌∙◌, arith, append_assoc}
 use Rattle.std.proofs.lemmas.List.{append-nil, drop-drop, take-append-drop}
 use Rattle.std.proofs.Math.Seq.{take-add}
-use Rattle.std.specs.Prelude.{IsTrue, Result, Ok, Err, OnOk, OnErr, IfOk}
+use Rattle.std.specs.Prelude.{IsTrue, Ok, Err}
 use Rattle.fv_disk.specs.declared.Failed.{Failed}
-use Rattle.fv_disk.specs.Shown.{Image, Shown, IsDisk}
+use Rattle.fv_disk.specs.Shown.{Shown, IsDisk}
 use Rattle.fv_disk.specs.DiskCalls.{Stays}
 use Rattle.fv_disk.specs.HostCalls.{Rests, Gives, GivesAll}
 use Rattle.fv_disk.specs.Crash.{Leaves}
@@ -60,7 +60,7 @@ pub gave : (old now new : Shown) (bytes rest : List ℕ) (n : ℕ) → HasGiven 
 gave old now new bytes rest n so_far gives =
     let k : ℕ = so_far.left_over.0 in
     let given : IsTrue old.tells → new.given ≡ old.given ++ take (k + n) bytes = λ tells.
-        gives.added (rw so_far.rests.stays.tells tells) ∙ ap (λ (x : List ℕ). x ++ take n rest) (so_far.left_over.2 tells) ∙ longer old.given bytes rest k n so_far.left_over.1 in
+    gives.added (rw so_far.rests.stays.tells tells) ∙ ap (λ (x : List ℕ). x ++ take n rest) (so_far.left_over.2 tells) ∙ longer old.given bytes rest k n so_far.left_over.1 in
     let rests : Rests old new = rests_on old now new so_far.rests gives.rests in
     record {
       left_over = (k + n, ap (drop n) so_far.left_over.1 ∙ drop-drop n k bytes, given);
@@ -101,4 +101,4 @@ failed_since old now new bytes rest e so_far gives =
     let k : ℕ = so_far.left_over.0 in
     let rests : Rests old new = rests_on old now new so_far.rests gives.rests in
     goes_on old now new (PartlyGiven old bytes) so_far.any_moment gives.time
-        (λ c left. (rests.stays.no_more c left, λ tells. (k, gives.none (rw so_far.rests.stays.tells tells) ∙ so_far.left_over.2 tells)))
+    (λ c left. (rests.stays.no_more c left, λ tells. (k, gives.none (rw so_far.rests.stays.tells tells) ∙ so_far.left_over.2 tells)))

@@ -1,5 +1,5 @@
 -- How a run of calls goes on: what a crash at any moment of it leaves.
-use Rattle.std.proofs.Common.{◌≡◌, ℕ, ◌≤◌, List, inl, inr, ⊎_elim, ◌⊎◌, arith}
+use Rattle.std.proofs.Common.{◌≡◌, ℕ, List, inl, inr, ⊎_elim, arith}
 use Rattle.fv_disk.specs.Shown.{Image, Shown, IsDisk, Elapses}
 use Rattle.fv_disk.specs.Crash.{Leaves}
 

@@ -1,9 +1,10 @@
 //! The outside of the product: blocks, a disk with its crashes, and a host that adds a byte source
 //! and a byte sink.
 //!
-//! `Disk` and `Host` are traits whose contracts are the whole model of the outside. `docs/MACHINE.md`
-//! does not depend on it, `docs/PROOFS.md` says which premises rest on it. A real file is one
-//! implementation (`fv_filehost`), a disk in memory with faults is another (`fv_memdisk`).
+//! `Disk` and `Host` are traits whose contracts are the whole model of the outside: what reads give,
+//! what a crash may leave, when a call may fail. `specs/` has that model, `proofs/Moments.antt` the laws
+//! by which clauses on crashes compose over several calls. A real file is one implementation
+//! (`fv_filehost`); `docs/PROOFS.md` says which premises rest on it.
 #![tactic(auto)]
 
 mod disk;

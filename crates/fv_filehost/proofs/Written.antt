@@ -1,7 +1,7 @@
 -- A write to a disk that tells nothing.
-use Rattle.std.proofs.Common.{◌≡◌, ℕ, List, refl, subst, sym, inl, inr, ⊎_elim, arith}
+use Rattle.std.proofs.Common.{ℕ, List, refl, subst, sym, inl, ⊎_elim, arith}
 use Rattle.std.proofs.lemmas.Bool.{cases_eq, false≢true}
-use Rattle.std.specs.Prelude.{Result, OnOk, IsTrue, false, ◌≢◌}
+use Rattle.std.specs.Prelude.{Result, IsTrue, false}
 use Rattle.fv_disk.specs.declared.Failed.{Failed}
 use Rattle.fv_disk.specs.Shown.{Image, IsBlock, SameBut, Elapses, HasCause}
 use Rattle.fv_disk.specs.DiskCalls.{Writes}

@@ -1,12 +1,14 @@
 -- What a host shows that tells nothing but its counts.
-use Rattle.std.specs.Prelude.{◌≡◌, ℕ, List, [], false, refl}
-use Rattle.std.proofs.Common.{arith, inl}
+use Rattle.std.specs.Prelude.{◌≡◌, ℕ, [], false, refl}
 use Rattle.std.proofs.lemmas.Bool.{false≢true}
-use Rattle.fv_disk.specs.Shown.{Image, IsBlock, Shown, IsDisk}
+use Rattle.fv_disk.specs.Shown.{Image, IsBlock, Ends, Shown, IsDisk}
 
 -- any content at all
 abbrev pub AreBlocks : Image → Type 0
 AreBlocks c = (a : ℕ) → IsBlock (c a)
+
+abbrev pub no_ends : ℕ → ℕ → Ends
+no_ends source_faults sink_faults = record { left = []; source_faults = source_faults; sink_faults = sink_faults }
 
 -- its four counts: failed disk calls, failed writes and barriers, failed takes, failed gives
 abbrev pub unknown : ℕ → ℕ → ℕ → ℕ → Shown
@@ -19,7 +21,7 @@ unknown faults write_faults source_faults sink_faults = record {
   given = [];
   faults = faults;
   write_faults = write_faults;
-  ends = record { left = []; source_faults = source_faults; sink_faults = sink_faults };
+  ends = no_ends source_faults sink_faults;
 }
 
 pub is_disk : (faults write_faults source_faults sink_faults : ℕ) → IsDisk (unknown faults write_faults source_faults sink_faults)

@@ -95,11 +95,7 @@ pub(crate) fn write_block<R: Files>(
     done
 }
 
-pub(crate) fn sync<R: Files>(
-    rt: &R,
-    path: &str,
-    file: &mut Option<R::File>,
-) -> Result<(), Failed> {
+pub(crate) fn sync<R: Files>(rt: &R, path: &str, file: &mut Option<R::File>) -> Result<(), Failed> {
     let open = take_or_open(rt, path, file, false)?;
     let done = open.sync_all().map_err(|_| Failed);
     *file = Some(open);

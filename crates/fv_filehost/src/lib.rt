@@ -7,12 +7,10 @@
 mod blocks;
 mod calls;
 mod streams;
-
 #[cfg(test)]
 mod tests;
 
-ghost use Rattle.std.specs.Prelude.{◌≡◌};
-
+use fv_disk::Disk;
 use std::rt::Runtime;
 
 /// A disk over the blocks of a file, with standard input as the source and standard output as the
@@ -34,8 +32,16 @@ pub struct FileHost<R: Runtime> {
 }
 
 impl<R: Runtime> FileHost<R> {
+    ghost use Rattle.std.specs.Prelude.{◌≡◌, false};
+    ghost use Rattle.fv_filehost.specs.Unknown.{no_ends};
+
     /// The host over the file at `path`. It opens nothing and takes no memory.
-    pub fn new(rt: R, path: String) -> FileHost<R> {
+    pub fn new(rt: R, path: String) -> FileHost<R>
+        ensures told { (⟦<FileHost<R> as Disk>⟧.shown result).tells ≡ false }
+        ensures faults { (⟦<FileHost<R> as Disk>⟧.shown result).faults ≡ 0 }
+        ensures write_faults { (⟦<FileHost<R> as Disk>⟧.shown result).write_faults ≡ 0 }
+        ensures ends { (⟦<FileHost<R> as Disk>⟧.shown result).ends ≡ no_ends 0 0 }
+    {
         FileHost {
             rt,
             path,

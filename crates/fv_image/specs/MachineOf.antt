@@ -1,5 +1,5 @@
 -- The machine that an image stands for.
-use Rattle.std.specs.Prelude.{◌*◌, ℕ, Bool, false, not, ◌&&◌, Option, Some, None, nat_lt, ◌==◌, if◌then◌else◌}
+use Rattle.std.specs.Prelude.{◌*◌, ℕ, Bool, not, ◌&&◌, Option, Some, None, nat_lt, ◌==◌, if◌then◌else◌}
 use Rattle.std.specs.List.{list_all, range_with_len}
 use Rattle.std.specs.Option.{option_and_then}
 use Rattle.fv_disk.specs.Shown.{Image}

@@ -14,9 +14,13 @@ use fv_codec::{Root, Super, open_gate};
 use fv_disk::{Block, Disk, Failed};
 
 const SUPERBLOCK: u64 = 0;
+
 const FIRST_GATE: u64 = 1;
+
 const SECOND_GATE: u64 = 2;
+
 const FIRST_ROOT: u64 = 3;
+
 const FIRST_AREA: u64 = 5;
 
 const ZERO: Block = [0; 4096];

@@ -1,6 +1,6 @@
 -- What is asked for, and what comes of it.
-use Rattle.std.proofs.Common.{◌≡◌, ℕ, ◌≤◌, ◌<◌, Bool, true, false, cond, List, [], ◌∷◌, refl, sym, ap, subst, ◌∙◌, arith}
-use Rattle.std.specs.Prelude.{Option, Some, None, Result, Ok, Err, codes, bytes_eq, nat_le, ◌&&◌, length}
+use Rattle.std.proofs.Common.{◌≡◌, ℕ, ◌≤◌, Bool, true, false, cond, List, [], ◌∷◌, refl, ap, subst, arith}
+use Rattle.std.specs.Prelude.{Option, Some, None, Result, Err, codes, bytes_eq, nat_le, ◌&&◌, length}
 use Rattle.std.specs.Option.{option_map, option_and_then}
 use Rattle.std.proofs.lemmas.Bool.{and_parts}
 use Rattle.std.proofs.lemmas.Bool.Decides.{nat_tests}
@@ -43,7 +43,7 @@ number_is_in : (least greatest value : ℕ) (word : List ℕ) → number_in leas
 unfolding number_in
 number_is_in least greatest value word e =
     within least greatest (value_up_to greatest word) value (λ x is. at_most greatest x word is)
-        (passed (nat_le 1 (length word) && nat_le (length word) 20) (option_and_then (λ x. cond (nat_le least x) (Some x) None) (value_up_to greatest word)) value e).1
+    (passed (nat_le 1 (length word) && nat_le (length word) 20) (option_and_then (λ x. cond (nat_le least x) (Some x) None) (value_up_to greatest word)) value e).1
 
 pub same_order : (a b : ℕ) → Some (Create a) ≡ Some (Create b) → a ≡ b
 same_order a b e = cc
@@ -76,5 +76,6 @@ asks_create asked blocks old new result some creates = record {
   where
     never : asked ≡ None → ⊥
     never none = cc
+
     same : (other : ℕ) → asked ≡ Some (Create other) → blocks ≡ other
     same other also = cc

@@ -1,5 +1,5 @@
 -- A new aggregate was made, and the line that tells of it was given, or not.
-use Rattle.std.proofs.Common.{◌≡◌, ℕ, List, ◌++◌, take, refl, sym, ap, subst, ◌∙◌, inl, inr, ⊎_elim, arith}
+use Rattle.std.proofs.Common.{◌≡◌, ℕ, List, ◌++◌, take, ap, subst, ◌∙◌, inl, inr}
 use Rattle.std.specs.Prelude.{Result, Ok, Err, IsTrue, Some}
 use Rattle.fv_disk.specs.declared.Failed.{Failed}
 use Rattle.fv_disk.specs.Shown.{Image, Ends, Shown, IsSettled, Rose}
@@ -10,9 +10,8 @@ use Rattle.fv_disk.proofs.Moments.{then, weaken}
 use Rattle.fv_root.specs.Formatted.{KeepsVolumes, WritesFixed}
 use Rattle.fv_model.specs.Machines.{empty_machine}
 use Rattle.fv_image.specs.MachineOf.{machine_of}
-use Rattle.fv_run.specs.declared.ending.Fault.{Fault}
 use Rattle.fv_run.specs.declared.ending.Fault.TheVariants.{Disk, Sink}
-use Rattle.fv_run.specs.Creating.{created_text, HasCreated, IsAcknowledged, Creates}
+use Rattle.fv_run.specs.Creating.{created_text, IsAcknowledged, Creates}
 
 before_it : (blocks : ℕ) (old mid : Shown) (result : Result Unit Failed) → WritesFixed blocks old mid result → Leaves old mid (IsAcknowledged blocks old)
 before_it blocks old mid result w = weaken old mid (λ c g. KeepsVolumes blocks old c × (g ≡ old.given)) (IsAcknowledged blocks old) (λ c g kept. inl kept.1) w.any_moment

@@ -1,10 +1,9 @@
 -- What lists of words mean, by their length.
-use Rattle.std.proofs.Common.{◌≡◌, ℕ, suc, ◌+◌, ◌<◌, ◌≤◌, Bool, true, false, cond, List, [], ◌∷◌, length, get_or, map, refl, sym, ap, arith}
-use Rattle.std.specs.Prelude.{codes, bytes_eq, Option, Some, None, Result, Ok, Err, if◌then◌else◌}
+use Rattle.std.proofs.Common.{◌≡◌, ℕ, ◌<◌, ◌≤◌, cond, List, [], ◌∷◌, length, get_or, map, refl, arith}
+use Rattle.std.specs.Prelude.{codes, bytes_eq, Option, Some, None}
 use Rattle.std.specs.Option.{option_map, ok_or}
 use Rattle.fv_run.specs.Meaning.{create, number_in, meaning, Means}
 use Rattle.fv_run.specs.declared.words.Order.{Order}
-use Rattle.fv_run.specs.declared.words.WordsFault.{WordsFault}
 use Rattle.fv_run.specs.declared.words.WordsFault.TheVariants.{Usage}
 
 module _ {X : Type 0} (text : X → List ℕ) where

@@ -9,3 +9,6 @@ mod words;
 
 pub use program::flexvol;
 pub use words::{Order, WordsFault, read_words};
+
+#[cfg(test)]
+mod tests;

@@ -1,4 +1,4 @@
-use Rattle.std.proofs.Common.{◌≡◌, ◌-◌, ◌+◌, ◌*◌, ◌∙◌, rules, arith}
+use Rattle.std.proofs.Common.{◌∙◌, arith}
 use Rattle.fv_bits.proofs.Bytes.{word_put}
 use Rattle.fv_bits.proofs.block.put_word.Goals as goal
 

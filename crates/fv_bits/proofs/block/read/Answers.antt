@@ -1,4 +1,4 @@
-use Rattle.std.proofs.Common.{rules, arith, ◌∙◌, length-set}
+use Rattle.std.proofs.Common.{arith, ◌∙◌, length-set}
 use Rattle.fv_bits.proofs.Bytes.{read_more}
 use Rattle.fv_bits.proofs.block.read.Goals as goal
 

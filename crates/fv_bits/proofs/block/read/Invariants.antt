@@ -1,4 +1,4 @@
-use Rattle.std.proofs.Common.{◌≡◌, ℕ, ◌+◌, ◌*◌, ◌<◌, length}
+use Rattle.std.proofs.Common.{◌≡◌, ℕ, ◌*◌, ◌<◌, length}
 use Rattle.fv_bits.specs.Bits.{bit_of_bytes}
 use Rattle.fv_bits.specs.Stored.{bit_of_words}
 use Rattle.fv_bits.proofs.block.read.Given as goal

@@ -1,4 +1,4 @@
-use Rattle.std.proofs.Common.{◌≡◌, ◌-◌, ◌+◌, ◌*◌, take, drop, ap, ◌∙◌, rules, arith}
+use Rattle.std.proofs.Common.{◌≡◌, ◌-◌, ◌+◌, ◌*◌, take, drop, ap, ◌∙◌, arith}
 use Rattle.fv_bits.proofs.Bytes.{word_read}
 use Rattle.fv_bits.proofs.block.word_of.Goals as goal
 

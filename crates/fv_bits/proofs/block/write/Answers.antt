@@ -1,4 +1,4 @@
-use Rattle.std.proofs.Common.{rules, arith}
+use Rattle.std.proofs.Common.{arith}
 use Rattle.fv_bits.proofs.Bytes.{write_more}
 use Rattle.fv_bits.proofs.block.write.Goals as goal
 

@@ -1,4 +1,4 @@
-use Rattle.std.proofs.Common.{◌<◌, ◌*◌, length, arith}
+use Rattle.std.proofs.Common.{◌<◌, arith}
 use Rattle.fv_bits.specs.Bits.{block_bits}
 use Rattle.fv_bits.proofs.Maps.{first_within, above_from}
 use Rattle.fv_bits.proofs.map.first_past.Goals as goal

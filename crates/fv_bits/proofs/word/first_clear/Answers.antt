@@ -1,4 +1,4 @@
-use Rattle.std.proofs.Common.{rules, arith}
+use Rattle.std.proofs.Common.{rules}
 use Rattle.fv_bits.proofs.Numbers.{first_clear_bit}
 use Rattle.fv_bits.proofs.word.first_clear.Goals as goal
 

@@ -1,4 +1,4 @@
-use Rattle.std.proofs.Common.{rules, arith}
+use Rattle.std.proofs.Common.{arith}
 use Rattle.fv_bits.proofs.Rows.{words_from}
 use Rattle.fv_bits.proofs.Counts.{count_by_words, passing_le}
 use Rattle.fv_bits.proofs.words.count_between.Goals as goal

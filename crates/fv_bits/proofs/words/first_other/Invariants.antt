@@ -1,4 +1,4 @@
-use Rattle.std.proofs.Common.{◌≡◌, ◌≤◌, ◌-◌, max, length}
+use Rattle.std.proofs.Common.{◌≤◌, ◌-◌, max, length}
 use Rattle.fv_bits.specs.Stored.{AreAll}
 use Rattle.fv_bits.proofs.words.first_other.Given as goal
 

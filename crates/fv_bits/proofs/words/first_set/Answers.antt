@@ -1,4 +1,4 @@
-use Rattle.std.proofs.Common.{rules, arith}
+use Rattle.std.proofs.Common.{rules}
 use Rattle.fv_bits.proofs.Rows.{words_from, head_found, later_set, in_no_word}
 use Rattle.fv_bits.proofs.words.first_set.Goals as goal
 

@@ -1,7 +1,6 @@
-use Rattle.std.proofs.Common.{count_ones, get_or, ◌≤◌, rules, arith}
+use Rattle.std.proofs.Common.{get_or, arith}
 use Rattle.std.specs.Int.Count.{ones-le}
 use Rattle.std.proofs.lemmas.Grind.{common_steps}
-use Rattle.fv_bits.specs.Stored.{AreWords}
 use Rattle.fv_bits.proofs.Rows.{words_from}
 use Rattle.fv_bits.proofs.words.ones.Goals as goal
 

@@ -1,4 +1,4 @@
-use Rattle.std.proofs.Common.{rules, arith}
+use Rattle.std.proofs.Common.{arith}
 use Rattle.fv_bits.proofs.Rows.{unite_words}
 use Rattle.fv_bits.proofs.words.unite.Goals as goal
 

@@ -1,4 +1,4 @@
-use Rattle.std.proofs.Common.{◌≡◌, ℕ, ◌<◌, ◌≤◌, get_or, bit_or, length}
+use Rattle.std.proofs.Common.{◌≡◌, ℕ, ◌<◌, ◌≤◌, get_or, bit_or}
 use Rattle.fv_bits.proofs.words.unite.Given as goal
 
 abbrev pub invariant-loop-at : goal.invariant-loop-at

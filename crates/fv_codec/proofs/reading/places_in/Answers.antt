@@ -1,13 +1,9 @@
-use Rattle.std.proofs.Common.{◌≡◌, ◌-◌, List, ℕ, length, refl, sym, ap, ◌∙◌, arith}
+use Rattle.std.proofs.Common.{◌≡◌, ◌-◌, length, refl, sym, ap, ◌∙◌, arith}
 use Rattle.std.proofs.lemmas.Result.{err_from_is_err_and}
-use Rattle.fv_codec.specs.Fields.{Verdict, items}
+use Rattle.fv_codec.specs.Fields.{items}
 use Rattle.fv_codec.specs.Blocks.{asks_place, place_of}
-use Rattle.fv_codec.proofs.Items.{each_next, each_fails, each_ends, items_next, items_all}
+use Rattle.fv_codec.proofs.Items.{own_says, each_next, each_fails, each_ends, items_next, items_all}
 use Rattle.fv_codec.proofs.reading.places_in.Goals as goal
-
--- what an item's own bytes say
-asks_of : {own bytes : List ℕ} {said : Verdict} → own ≡ bytes → said ≡ asks_place own → asks_place bytes ≡ said
-asks_of own is = sym (is ∙ ap asks_place own)
 
 pub loop-i-init : goal.loop-i-init
 unfolding items
@@ -18,11 +14,11 @@ loop-i-init c =
 pub returns-in_err-place-clause-verdict : goal.returns-in_err-place-clause-verdict
 returns-in_err-place-clause-verdict c =
     let p = err_from_is_err_and c.from_residual.result c.from_residual.ensures.1 in
-    rw (p.1, p.2) (sym (each_fails (length c.args.into.now) c.loop-i.i 8 asks_place c.args.bytes.now c.in_err-place.field-0.0 _ c.loop-i-test.true (asks_of c.tail.ensures.value c.in_err-place.ensures.verdict) c.loop-i.invariant.verdict))
+    rw (p.1, p.2) (sym (each_fails (length c.args.into.now) c.loop-i.i 8 asks_place c.args.bytes.now c.in_err-place.field-0.0 _ c.loop-i-test.true (own_says asks_place c.tail.ensures.value c.in_err-place.ensures.verdict) c.loop-i.invariant.verdict))
 
 pub loop-i-preserved : goal.loop-i-preserved
 loop-i-preserved c = record {
-  verdict = each_next (length c.args.into.now) c.loop-i.i 8 asks_place c.args.bytes.now _ (omega arith) (asks_of c.tail.ensures.value c.in_ok-place.ensures.verdict) c.loop-i.invariant.verdict;
+  verdict = each_next (length c.args.into.now) c.loop-i.i 8 asks_place c.args.bytes.now _ (omega arith) (own_says asks_place c.tail.ensures.value c.in_ok-place.ensures.verdict) c.loop-i.invariant.verdict;
   value = items_next place_of 8 c.loop-i.into c.loop-i.i c.in_ok-place.place c.args.bytes.now (omega arith) (c.in_ok-place.ensures.value ∙ ap place_of c.tail.ensures.value) c.loop-i.invariant.value;
 }
 

@@ -14,5 +14,5 @@ returns-clause-closed g c = λ tells.
 pub returns-clause-writes : goal.returns-clause-writes
 returns-clause-writes g c =
     fixed_then _ _ (g.D.Disk.shown c.write_fixed-2.new.disk) _ _
-        (fixed_then _ _ (g.D.Disk.shown c.write_fixed.new.disk) _ _ c.in_ok-write_fixed.ensures.writes c.in_ok-write_fixed-2.ensures.writes)
-        c.settle.ensures.writes
+    (fixed_then _ _ (g.D.Disk.shown c.write_fixed.new.disk) _ _ c.in_ok-write_fixed.ensures.writes c.in_ok-write_fixed-2.ensures.writes)
+    c.settle.ensures.writes

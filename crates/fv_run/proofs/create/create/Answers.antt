@@ -16,9 +16,9 @@ returns-in_default-give_all g c =
     let made = g.H.Disk.shown c.format.new.disk in
     let given = g.H.Disk.shown c.give_all.new.host in
     told_partly c.args.blocks _ made given c.in-Ok.ensures.writes c.in-Ok.ensures.stands c.in-Ok.ensures.settled
-        (subst (λ (bytes : List ℕ). Leaves made given (PartlyGiven made bytes)) line c.in_default-give_all.ensures.any_moment)
-        c.in_default-give_all.field-0
-        (subst (λ (bytes : List ℕ). GivesAll made bytes given (Err c.in_default-give_all.field-0)) line c.in_default-give_all.ensures.gives)
+    (subst (λ (bytes : List ℕ). Leaves made given (PartlyGiven made bytes)) line c.in_default-give_all.ensures.any_moment)
+    c.in_default-give_all.field-0
+    (subst (λ (bytes : List ℕ). GivesAll made bytes given (Err c.in_default-give_all.field-0)) line c.in_default-give_all.ensures.gives)
 
 pub returns : goal.returns
 returns g c =
@@ -26,5 +26,5 @@ returns g c =
     let made = g.H.Disk.shown c.format.new.disk in
     let given = g.H.Disk.shown c.give_all.new.host in
     told c.args.blocks _ made given c.in-Ok.ensures.writes c.in-Ok.ensures.stands c.in-Ok.ensures.settled
-        (subst (λ (bytes : List ℕ). Leaves made given (PartlyGiven made bytes)) line c.in-Ok-give_all.ensures.any_moment)
-        (subst (λ (bytes : List ℕ). GivesAll made bytes given (Ok tt)) line c.in-Ok-give_all.ensures.gives)
+    (subst (λ (bytes : List ℕ). Leaves made given (PartlyGiven made bytes)) line c.in-Ok-give_all.ensures.any_moment)
+    (subst (λ (bytes : List ℕ). GivesAll made bytes given (Ok tt)) line c.in-Ok-give_all.ensures.gives)

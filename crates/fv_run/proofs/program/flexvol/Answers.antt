@@ -1,4 +1,4 @@
-use Rattle.fv_run.proofs.Told.{Tells, tells}
+use Rattle.fv_run.proofs.Told.{tells}
 use Rattle.std.specs.Prelude.{Ok, Err}
 use Rattle.fv_run.proofs.program.flexvol.Goals as goal
 
