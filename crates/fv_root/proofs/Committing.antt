@@ -56,7 +56,7 @@ module _ (old : Shown) (found : Found) where
     pub staged_moment : (mid new : Shown) (result : Result Unit Failed) → Leaves old mid OldMoment → mid.given ≡ old.given → ((c : Image) → mid.images c → IsShut old found c) → Spares (IsOutside found.blocks (other_slot found.slot)) mid new result → Leaves old new OldMoment
     staged_moment mid new result so_far given shut spares = then old mid new OldMoment so_far
         (weaken mid new (λ c g. LeftBefore (IsOutside found.blocks (other_slot found.slot)) mid c × (g ≡ mid.given)) OldMoment
-            (λ c g left. ((shut_still old found left.0.0 c (shut left.0.0 left.0.1) left.0.2).side, left.1 ∙ given)) spares.any_moment)
+        (λ c g left. ((shut_still old found left.0.0 c (shut left.0.0 left.0.1) left.0.2).side, left.1 ∙ given)) spares.any_moment)
 
     -- what the new root's gate is opened over
     pub record IsReady (ready : Shown) : Type 0 where
@@ -77,11 +77,11 @@ module _ (old : Shown) (found : Found) where
     pub opened_moment : (ready new : Shown) (result : Result Unit Failed) → IsReady ready → found.root.generation < 2 ^ 64 → length map ≡ found.blocks → Spares (IsNotGate (other_slot found.slot)) ready new result → Leaves old new Sides
     opened_moment ready new result is small long spares = then old ready new Sides (old_moment ready is.moment)
         (weaken ready new (λ c g. LeftBefore (IsNotGate (other_slot found.slot)) ready c × (g ≡ ready.given)) Sides
-            (λ c g left.
-                let i : Image = left.0.0 in
-                let same : (b : ℕ) → i b ≡ ready.reads b = is.settled i left.0.1 in
-                (opening_side old found root map i c (is.shut i left.0.1) (staged_in ready.reads i same is.staged) (λ b le. same b ∙ is.volumes b le) small long left.0.2, left.1 ∙ is.given))
-            spares.any_moment)
+        (λ c g left.
+        let i : Image = left.0.0 in
+        let same : (b : ℕ) → i b ≡ ready.reads b = is.settled i left.0.1 in
+        (opening_side old found root map i c (is.shut i left.0.1) (staged_in ready.reads i same is.staged) (λ b le. same b ∙ is.volumes b le) small long left.0.2, left.1 ∙ is.given))
+        spares.any_moment)
 
     -- ---- after the last barrier
 
@@ -106,9 +106,9 @@ module _ (old : Shown) (found : Found) where
         let side : NewSide old found root map new.reads = opened_side old found root map i new.reads h is.staged is.volumes small long same opened in
         let g : Holds new.reads t = gate_leaves i new.reads t h same in
         let gates : (s : ℕ) → s < 2 → gate_open (new.reads (gate_place s)) ≡ true = λ s below. ⊎_elim
-            (λ (e : s ≡ found.slot). rw e (is_open new.reads found.slot found.root g.root))
-            (λ (e : s ≡ other_slot found.slot). rw e opened)
-            (one_of_both found.slot s h.slot below) in
+        (λ (e : s ≡ found.slot). rw e (is_open new.reads found.slot found.root g.root))
+        (λ (e : s ≡ other_slot found.slot). rw e opened)
+        (one_of_both found.slot s h.slot below) in
         record {
           settled = settled;
           side = side;

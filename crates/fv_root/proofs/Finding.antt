@@ -32,9 +32,9 @@ reads_then old mid new first second = record {
     later = omega (arith, first.time.later, second.time.later);
     nothing_else = λ t c g le left. ⊎_elim
         (λ (earlier : mid.since t c g). ⊎_elim
-            (λ (o : old.since t c g). inl o)
-            (λ now. inr (second.stays.no_fewer c now.0, now.1 ∙ sym second.given))
-            (first.time.nothing_else t c g le earlier))
+        (λ (o : old.since t c g). inl o)
+        (λ now. inr (second.stays.no_fewer c now.0, now.1 ∙ sym second.given))
+        (first.time.nothing_else t c g le earlier))
         (λ now. inr now)
         (second.time.nothing_else t c g (omega (arith, le, first.time.later)) left);
     keeps = λ t c g le left. second.time.keeps t c g (omega (arith, le, first.time.later)) (first.time.keeps t c g le left);

@@ -41,20 +41,20 @@ closing_counts i c found is was_open same =
     let g : Holds c t = gate_leaves i c t h same in
     let slot = other_slot found.slot in
     ⊎_elim
-        (λ shut. counts_alone c t g (closed c slot shut))
-        (λ open'. let gate : gate_open (c (gate_place slot)) ≡ gate_open (i (gate_place slot)) = open' ∙ sym (is.older ∙ was_open) in
-            let there : behind c slot ≡ behind i slot = rw (gate, same (root_place slot) (root_not_gate found.slot slot h.slot)) refl in
-            as_before i c t h g there ∙ is.root)
-        (either (gate_open (c (gate_place slot))))
+    (λ shut. counts_alone c t g (closed c slot shut))
+    (λ open'. let gate : gate_open (c (gate_place slot)) ≡ gate_open (i (gate_place slot)) = open' ∙ sym (is.older ∙ was_open) in
+    let there : behind c slot ≡ behind i slot = rw (gate, same (root_place slot) (root_not_gate found.slot slot h.slot)) refl in
+    as_before i c t h g there ∙ is.root)
+    (either (gate_open (c (gate_place slot))))
   where
     as_before : (i c : Image) (t : Taken) → Holds i t → Holds c t → behind c (other_slot t.slot) ≡ behind i (other_slot t.slot) → root_of c ≡ root_of i
     as_before i c t h g there = ⊎_elim
         (λ (e : t.slot ≡ 0). same_root c i (g.super ∙ sym h.super)
-            (ap (behind c) (sym e) ∙ (g.root ∙ sym h.root) ∙ ap (behind i) e)
-            (ap (λ (n : ℕ). behind c (other_slot n)) (sym e) ∙ there ∙ ap (λ (n : ℕ). behind i (other_slot n)) e))
+        (ap (behind c) (sym e) ∙ (g.root ∙ sym h.root) ∙ ap (behind i) e)
+        (ap (λ (n : ℕ). behind c (other_slot n)) (sym e) ∙ there ∙ ap (λ (n : ℕ). behind i (other_slot n)) e))
         (λ (e : t.slot ≡ 1). same_root c i (g.super ∙ sym h.super)
-            (ap (λ (n : ℕ). behind c (other_slot n)) (sym e) ∙ there ∙ ap (λ (n : ℕ). behind i (other_slot n)) e)
-            (ap (behind c) (sym e) ∙ (g.root ∙ sym h.root) ∙ ap (behind i) e))
+        (ap (λ (n : ℕ). behind c (other_slot n)) (sym e) ∙ there ∙ ap (λ (n : ℕ). behind i (other_slot n)) e)
+        (ap (behind c) (sym e) ∙ (g.root ∙ sym h.root) ∙ ap (behind i) e))
         h.slot
 
 -- what a write of the older gate leaves of an image of before, where that gate was open
@@ -78,9 +78,9 @@ shut_still old found i c shut same =
     let h : Holds i t = holds i t shut.side.counts in
     let slot = other_slot found.slot in
     let g : Holds c t = holds_still i c t h
-        (same superblock (super_outside found.blocks slot))
-        (same (gate_place found.slot) (gate_outside found.blocks slot found.slot (is_small found.slot h.slot)))
-        (same (root_place found.slot) (root_outside found.blocks found.slot h.slot)) in
+    (same superblock (super_outside found.blocks slot))
+    (same (gate_place found.slot) (gate_outside found.blocks slot found.slot (is_small found.slot h.slot)))
+    (same (root_place found.slot) (root_outside found.blocks found.slot h.slot)) in
     let gate : gate_open (c (gate_place slot)) ≡ false = ap gate_open (same (gate_place slot) (gate_outside found.blocks slot slot (omega arith))) ∙ shut.gate in
     record {
       side = record {
@@ -100,13 +100,13 @@ pub map_is : (t : Taken) (i : Image) (map : List Bool) → length map ≡ t.bloc
 unfolding map_bit bit_of_area is_member
 map_is t i map long area b = ⊎_elim
     (λ (inside : b < area_bits t.blocks).
-        let within : b / 32768 < area_blocks t.blocks = omega arith in
-        let bit = (area (b / 32768) within).bits (b % 32768) (omega arith) in
-        let e : 32768 * (b / 32768) + b % 32768 ≡ b = omega arith in
-        rw (bit, e) (grind (arith, nat_tests)))
+    let within : b / 32768 < area_blocks t.blocks = omega arith in
+    let bit = (area (b / 32768) within).bits (b % 32768) (omega arith) in
+    let e : 32768 * (b / 32768) + b % 32768 ≡ b = omega arith in
+    rw (bit, e) (grind (arith, nat_tests)))
     (λ (past : area_bits t.blocks ≤ b).
-        let none = get_or_past map b false (omega arith) in
-        grind (arith, nat_tests))
+    let none = get_or_past map b false (omega arith) in
+    grind (arith, nat_tests))
     (cases_lt b (area_bits t.blocks))
 
 -- the new root behind an open gate
@@ -129,12 +129,12 @@ opening_side old found root map i c shut staged volumes small long same =
     let slot = other_slot found.slot in
     let h : Holds i t = holds i t shut.side.counts in
     ⊎_elim
-        (λ (gate : gate_open (c (gate_place slot)) ≡ false). inl (record {
-          counts = counts_alone c t (gate_leaves i c t h same) (closed c slot gate);
-          from = shut.side.from;
-          left = shut.side.left;
-          area = λ k below. same _ (area_not_gate found.blocks found.slot found.slot k h.slot) ∙ shut.side.area k below;
-          volumes = λ b le. same b (volume_not_gate found.blocks found.slot b h.slot le) ∙ shut.side.volumes b le;
-        }))
-        (λ (gate : gate_open (c (gate_place slot)) ≡ true). inr (opened_side old found root map i c h staged volumes small long same gate))
-        (either (gate_open (c (gate_place slot))))
+    (λ (gate : gate_open (c (gate_place slot)) ≡ false). inl (record {
+      counts = counts_alone c t (gate_leaves i c t h same) (closed c slot gate);
+      from = shut.side.from;
+      left = shut.side.left;
+      area = λ k below. same _ (area_not_gate found.blocks found.slot found.slot k h.slot) ∙ shut.side.area k below;
+      volumes = λ b le. same b (volume_not_gate found.blocks found.slot b h.slot le) ∙ shut.side.volumes b le;
+    }))
+    (λ (gate : gate_open (c (gate_place slot)) ≡ true). inr (opened_side old found root map i c h staged volumes small long same gate))
+    (either (gate_open (c (gate_place slot))))

@@ -53,7 +53,7 @@ module _ (spared : ℕ → Type 0) where
   pub spares_then : (old mid new : Shown) (result : Result Unit Failed) → Spares spared old mid (Ok tt) → Spares spared mid new result → Spares spared old new result
   spares_then old mid new result first second =
       let images : (c : Image) → LeftBefore spared mid c → LeftBefore spared old c = λ c kept.
-          let before = first.images kept.0 kept.1 in (before.0, before.1, λ b is. kept.2 b is ∙ before.2 b is) in
+      let before = first.images kept.0 kept.1 in (before.0, before.1, λ b is. kept.2 b is ∙ before.2 b is) in
       record {
         counted = counted_then old mid new result first.counted second.counted;
         reads = λ tells b is. second.reads (rw first.counted.tells tells) b is ∙ first.reads tells b is;

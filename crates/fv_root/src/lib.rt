@@ -11,4 +11,5 @@ mod sizes;
 pub use find::{Found, RootFault, find_root};
 pub use fresh::format;
 pub use next::commit;
-pub use sizes::{capacity, first_block};
+pub use places::area_place;
+pub use sizes::{area_blocks, capacity, first_block};

@@ -29,12 +29,7 @@ const ZERO: Block = [0; 4096];
 /// gates open; it fails only where a write or barrier failed. It makes two barriers, and one more where
 /// the older gate was open, writes one map area, one root and at most two gates, and no block from the
 /// first allocatable one on. It reads nothing and takes no memory.
-pub fn commit<D: Disk>(
-    disk: &mut D,
-    found: &Found,
-    root: &Root,
-    map: &BitMap,
-) -> Result<(), Failed>
+pub fn commit<D: Disk>(disk: &mut D, found: &Found, root: &Root, map: &BitMap) -> Result<(), Failed>
     requires stands { IsTrue (D.shown disk.old).tells → IsFoundOn (D.shown disk.old) found.now }
     requires root { IsRoot root.now }
     requires map { length map.now ≡ found.now.blocks }
@@ -103,12 +98,7 @@ fn write_gate<D: Disk>(disk: &mut D, slot: u8, block: &Block) -> Result<(), Fail
 
 /// Writes what the older gate leads to, and waits until it is on the disk.
 #[tactic(auto, using(crate::proofs::Writing::spares_barrier, crate::proofs::Writing::spares_then))]
-fn stage<D: Disk>(
-    disk: &mut D,
-    found: &Found,
-    root: &Root,
-    map: &BitMap,
-) -> Result<(), Failed>
+fn stage<D: Disk>(disk: &mut D, found: &Found, root: &Root, map: &BitMap) -> Result<(), Failed>
     requires root { IsRoot root.now }
     requires map { length map.now ≡ found.now.blocks }
     ensures staged { IsTrue (D.shown disk.old).tells
@@ -132,12 +122,7 @@ fn next_root(found: &Found, root: &Root) -> Root
 }
 
 #[tactic(auto, using(crate::proofs::Writing::spares_write))]
-fn write_root<D: Disk>(
-    disk: &mut D,
-    blocks: u32,
-    slot: u8,
-    root: &Root,
-) -> Result<(), Failed>
+fn write_root<D: Disk>(disk: &mut D, blocks: u32, slot: u8, root: &Root) -> Result<(), Failed>
     requires { IsRoot root.now }
     ensures written { IsTrue (D.shown disk.old).tells
         → OnOk result (root_at ((D.shown disk.new).reads (root_place slot)) ≡ Ok root.now) }
@@ -150,12 +135,7 @@ fn write_root<D: Disk>(
 }
 
 /// Writes the map into the map area of a slot.
-fn write_area<D: Disk>(
-    disk: &mut D,
-    blocks: u32,
-    slot: u8,
-    map: &BitMap,
-) -> Result<(), Failed>
+fn write_area<D: Disk>(disk: &mut D, blocks: u32, slot: u8, map: &BitMap) -> Result<(), Failed>
     requires { length map.now ≡ blocks }
     ensures written { IsTrue (D.shown disk.old).tells
         → OnOk result (HasArea blocks slot map.now (area_blocks blocks) (D.shown disk.new).reads) }

@@ -6,8 +6,13 @@ ghost use Rattle.fv_image.specs.Layout.{gate_place, root_place, area_blocks, are
 use crate::sizes::area_blocks;
 
 pub(crate) const SUPERBLOCK: u64 = 0;
+
 pub(crate) const FIRST_GATE: u64 = 1;
+
+pub(crate) const SECOND_GATE: u64 = 2;
+
 pub(crate) const FIRST_ROOT: u64 = 3;
+
 pub(crate) const FIRST_AREA: u64 = 5;
 
 /// The block that holds a slot's gate.
@@ -24,8 +29,8 @@ pub(crate) fn root_place(slot: u8) -> u64
     FIRST_ROOT + u64::from(slot)
 }
 
-/// Block `k` of the map area that goes with a slot.
-pub(crate) fn area_place(blocks: u32, slot: u8, k: u32) -> u64
+/// Block `k` of the map area that goes with slot 0 or 1, in an aggregate of so many blocks.
+pub fn area_place(blocks: u32, slot: u8, k: u32) -> u64
     requires { k < area_blocks blocks }
     ensures { result ≡ area_place blocks slot k }
 {
