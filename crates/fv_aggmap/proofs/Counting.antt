@@ -6,7 +6,6 @@ use Rattle.std.proofs.lemmas.Bool.Decides.{nat_tests}
 use Rattle.fv_bits.specs.Members.{is_member, count_between}
 use Rattle.fv_bits.proofs.Counts.{passing, passing-add, passing-suc, passing_same, passing_le}
 use Rattle.fv_bits.proofs.Laws.{is_member-set}
-use Rattle.fv_model.specs.Machines.{first_block}
 use Rattle.fv_aggmap.specs.Space.{is_held, IsFreeIn, IsKept, free_from, becomes_free}
 use Rattle.fv_aggmap.proofs.Holding.{or_true, or_same}
 

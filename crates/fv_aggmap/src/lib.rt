@@ -7,6 +7,8 @@ mod fault;
 mod free;
 mod load;
 mod map;
+#[cfg(test)]
+mod tests;
 
 pub use fault::AggFault;
 pub use map::AggMap;

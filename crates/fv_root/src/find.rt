@@ -128,7 +128,7 @@ fn root_in(block: &Block, at: u64) -> Result<Root, RootFault>
 }
 
 /// The root that counts, of those behind the two gates.
-fn newer(blocks: u32, first: Option<Root>, second: Option<Root>) -> Option<Found>
+pub(crate) fn newer(blocks: u32, first: Option<Root>, second: Option<Root>) -> Option<Found>
     ensures chosen { option_map root_found result
         ≡ taken_of (Ok (record { blocks = blocks })) (newer (option_map Ok first) (option_map Ok second)) }
     ensures older { IfSome result (λ found. found.older_open ≡ is_older_open found.slot first second) }
