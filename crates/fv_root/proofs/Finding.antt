@@ -74,6 +74,7 @@ second_fault i blocks first DiskFault super whole reads = tt
 second_fault i blocks first (Damaged at want found) super whole reads = record {
   super = rw super refl;
   slot = 1;
+  within = omega arith;
   place = reads.0;
   fault = reads.1;
   first = λ s shape below fault.

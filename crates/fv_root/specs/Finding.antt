@@ -34,6 +34,7 @@ IsNoAggregate i = IsErr (super_at (i superblock)) ⊎ ((gate_open (i (gate_place
 pub record IsDamaged (i : Image) (at want found : ℕ) : Type 0 where
   pub super : IsOk (super_at (i superblock))
   pub slot : ℕ
+  pub within : slot < 2
   pub place : at ≡ root_place slot
   pub fault : behind i slot ≡ Some (Err (record { want = want; found = found }))
   pub first : (s : ℕ) (shape : Shape) → s < slot → behind i s ≢ Some (Err shape)
