@@ -1,5 +1,5 @@
 mod Bytes
-mod Counts
+pub mod Counts
 pub mod Laws
 mod Maps
 mod Numbers

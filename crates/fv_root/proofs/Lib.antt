@@ -1,4 +1,11 @@
+mod Committing
 mod EmptyMachine
+mod Finding
 mod Fixed
 mod Gates
 mod Making
+mod Apart
+mod Ranges
+mod Rooted
+mod Sides
+mod Writing

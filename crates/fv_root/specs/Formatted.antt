@@ -1,13 +1,12 @@
 -- What a fresh aggregate's fixed blocks hold, and which blocks making one touches.
-use Rattle.std.specs.Prelude.{◌≡◌, ◌<◌, ◌≤◌, ℕ, true, false, replicate, Result, Ok, IsTrue}
+use Rattle.std.specs.Prelude.{◌≡◌, ◌<◌, ◌≤◌, ℕ, true, false, replicate, Result, Ok}
 use Rattle.fv_disk.specs.declared.Failed.{Failed}
 use Rattle.fv_disk.specs.Shown.{Image, Shown}
-use Rattle.fv_disk.specs.DiskCalls.{Counted}
-use Rattle.fv_disk.specs.Crash.{Leaves}
 use Rattle.fv_codec.specs.declared.root.Root.{Root}
 use Rattle.fv_codec.specs.Blocks.{super_at, gate_open, root_at}
 use Rattle.fv_image.specs.Layout.{superblock, gate_place, root_place, area_blocks, area_place}
 use Rattle.fv_model.specs.Machines.{first_block}
+use Rattle.fv_root.specs.Writing.{AgreeOn, LeftBefore, Spares}
 
 -- the numbers of blocks that an aggregate can have
 pub record IsSize (blocks : ℕ) : Type 0 where
@@ -28,16 +27,12 @@ pub record IsFormatted (blocks : ℕ) (i : Image) : Type 0 where
 
 -- the images agree from the first allocatable block on
 abbrev pub SameVolumes : ℕ → Image → Image → Type 0
-SameVolumes blocks before c = (b : ℕ) → first_block blocks ≤ b → c b ≡ before b
+SameVolumes blocks = AgreeOn (λ b. first_block blocks ≤ b)
 
 -- an image that a crash before might have left, but for the fixed blocks
 abbrev pub KeepsVolumes : ℕ → Shown → Image → Type 0
-KeepsVolumes blocks old c = (before : Image) × old.images before × SameVolumes blocks before c
+KeepsVolumes blocks = LeftBefore (λ b. first_block blocks ≤ b)
 
--- Only fixed blocks are written, whatever the outcome: they alone differ in what reads give, in what a
--- crash now may leave, and in what one at any moment meanwhile might have left.
-pub record WritesFixed (blocks : ℕ) (old new : Shown) (result : Result Unit Failed) : Type 0 where
-  pub counted : Counted old new result
-  pub reads : IsTrue old.tells → SameVolumes blocks old.reads new.reads
-  pub images : (c : Image) → new.images c → KeepsVolumes blocks old c
-  pub any_moment : Leaves old new (λ c g. KeepsVolumes blocks old c × (g ≡ old.given))
+-- only fixed blocks are written, whatever the outcome
+abbrev pub WritesFixed : ℕ → Shown → Shown → Result Unit Failed → Type 0
+WritesFixed blocks = Spares (λ b. first_block blocks ≤ b)

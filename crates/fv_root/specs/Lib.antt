@@ -1,2 +1,5 @@
+pub mod Commits
+pub mod Finding
 pub mod Formatted
 pub mod Steps
+pub mod Writing

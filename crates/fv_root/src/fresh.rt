@@ -9,19 +9,10 @@ ghost use Rattle.fv_model.specs.Machines.{empty_machine, first_block};
 ghost use Rattle.fv_root.specs.Formatted.{IsSize, WritesFixed, first_root};
 ghost use Rattle.fv_root.specs.Steps.{IsLaidOut, IsCleared};
 
+use crate::places::{FIRST_AREA, FIRST_GATE, FIRST_ROOT, SECOND_GATE, SUPERBLOCK};
 use crate::sizes::area_blocks;
 use fv_codec::{Root, Super, open_gate};
 use fv_disk::{Block, Disk, Failed};
-
-const SUPERBLOCK: u64 = 0;
-
-const FIRST_GATE: u64 = 1;
-
-const SECOND_GATE: u64 = 2;
-
-const FIRST_ROOT: u64 = 3;
-
-const FIRST_AREA: u64 = 5;
 
 const ZERO: Block = [0; 4096];
 

@@ -2,8 +2,16 @@
 //! areas. `docs/FORMAT.md` has their layout and the order of writes.
 #![tactic(auto)]
 
+mod find;
 mod fresh;
+mod next;
+mod places;
 mod sizes;
+#[cfg(test)]
+mod tests;
 
+pub use find::{Found, RootFault, find_root};
 pub use fresh::format;
-pub use sizes::{capacity, first_block};
+pub use next::commit;
+pub use places::area_place;
+pub use sizes::{area_blocks, capacity, first_block};

@@ -9,8 +9,7 @@ ghost use Rattle.fv_root.specs.Formatted.{IsSize};
 const BLOCK_BITS: u32 = 32768;
 
 /// How many blocks one map area takes: a bit for each block.
-pub(crate) fn area_blocks(blocks: u32) -> u32
-    requires { IsSize blocks }
+pub fn area_blocks(blocks: u32) -> u32
     ensures { result ≡ area_blocks blocks }
 {
     blocks.div_ceil(BLOCK_BITS)

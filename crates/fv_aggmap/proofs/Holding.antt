@@ -1,0 +1,61 @@
+-- Which numbers one of two sets has.
+use Rattle.std.proofs.Common.{◌≡◌, ℕ, ◌<◌, ◌≤◌, List, length, Bool, true, false, ◌||◌, refl, ap, ◌∙◌, ⊎_elim, arith}
+use Rattle.std.proofs.lemmas.Bool.{cases_lt}
+use Rattle.fv_bits.specs.Members.{is_member, IsFirstFree, IsFullFrom}
+use Rattle.fv_aggmap.specs.Space.{is_held, IsFreeIn, AreHeldFrom}
+
+pub or_true : (x : Bool) → (x || true) ≡ true
+or_true true = refl
+or_true false = refl
+
+pub or_same : (x : Bool) → (x || x) ≡ x
+or_same true = refl
+or_same false = refl
+
+pub held_left : (left right : List Bool) (b : ℕ) → is_member left b ≡ true → is_held left right b ≡ true
+held_left left right b is = rw is refl
+
+pub held_right : (left right : List Bool) (b : ℕ) → is_member right b ≡ true → is_held left right b ≡ true
+held_right left right b is = rw is (or_true (is_member left b))
+
+pub held_neither : (left right : List Bool) (b : ℕ) → is_member left b ≡ false → is_member right b ≡ false → is_held left right b ≡ false
+held_neither left right b one two = rw (one, two) refl
+
+-- each number from `from` up to `at` is held
+abbrev pub AreHeldTo : List Bool → List Bool → ℕ → ℕ → Type 0
+AreHeldTo left right from at = (k : ℕ) → from ≤ k → k < at → is_held left right k ≡ true
+
+pub none_left : (left right : List Bool) (from at : ℕ) → AreHeldTo left right from at → IsFullFrom left at → AreHeldFrom left right from
+none_left left right from at so_far full = record {
+  held = λ b low high. ⊎_elim
+      (λ (below : b < at). so_far b low below)
+      (λ (past : at ≤ b). held_left left right b (full.full b past high))
+      (cases_lt b at);
+}
+
+pub none_right : (left right : List Bool) (from at mid : ℕ) → length right ≡ length left → AreHeldTo left right from at → IsFirstFree left at mid → IsFullFrom right mid → AreHeldFrom left right from
+none_right left right from at mid long so_far first full = record {
+  held = λ b low high. ⊎_elim
+      (λ (below : b < at). so_far b low below)
+      (λ (past : at ≤ b). ⊎_elim
+      (λ (under : b < mid). held_left left right b (first.before b past under))
+      (λ (over : mid ≤ b). held_right left right b (full.full b over (omega (arith, high, long))))
+      (cases_lt b mid))
+      (cases_lt b at);
+}
+
+pub held_on : (left right : List Bool) (from at mid next : ℕ) → AreHeldTo left right from at → IsFirstFree left at mid → IsFirstFree right mid next → AreHeldTo left right from next
+held_on left right from at mid next so_far first second = λ b low high. ⊎_elim
+    (λ (below : b < at). so_far b low below)
+    (λ (past : at ≤ b). ⊎_elim
+    (λ (under : b < mid). held_left left right b (first.before b past under))
+    (λ (over : mid ≤ b). held_right left right b (second.before b over high))
+    (cases_lt b mid))
+    (cases_lt b at)
+
+pub both_free : (left right : List Bool) (from at mid next : ℕ) → from ≤ at → IsFirstFree left at mid → IsFirstFree right mid next → next ≡ mid → IsFreeIn left right from next
+both_free left right from at mid next low first second same = record {
+  after = omega (arith, low, first.after, second.after);
+  within = omega (arith, same, first.within);
+  free = held_neither left right next (ap (is_member left) same ∙ first.free) second.free;
+}

@@ -1,0 +1,3 @@
+mod Areas
+mod Counting
+mod Holding

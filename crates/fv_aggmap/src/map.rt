@@ -1,0 +1,127 @@
+//! The map itself.
+
+ghost use Rattle.std.specs.Prelude.{◌≡◌, ◌<◌, ◌≤◌, length, slice_set, true, false, IsTrue, IfOk, IfErr, IfSome, IfNone};
+ghost use Rattle.fv_root.specs.Finding.{IsInRange, OnlyReads};
+ghost use Rattle.fv_aggmap.specs.Loading.{HasLoadCause, IsFault, IsLoaded};
+ghost use Rattle.fv_aggmap.specs.Space.{IsFree, IsFull, blocks_of, free_blocks};
+
+use crate::copies::{clear_from, copy};
+use crate::fault::AggFault;
+use crate::free::{find_free, freed};
+use crate::load::read_area;
+use fv_bits::BitMap;
+use fv_disk::Disk;
+use fv_root::{Found, first_block};
+use std::alloc::Global;
+use std::marker::Model;
+
+/// The blocks of an aggregate: those that the root on the disk holds, and those that the next root will
+/// hold. Contracts see the two sets.
+#[derive(Drop)]
+pub struct AggMap {
+    committed: BitMap,
+    next: BitMap,
+    /// The first block that can be allocated.
+    first: u32,
+    /// Where the search for a free block goes on.
+    cursor: u32,
+    /// How many blocks are free.
+    free: u32,
+}
+
+impl Model for AggMap {
+    ghost use Rattle.fv_aggmap.specs.Space.{Space, IsKept};
+
+    ghost Value = { Space };
+
+    ghost view = { λ map. record { committed = map.committed; next = map.next } };
+
+    ghost invariant = { λ map. IsKept map.committed map.next map.first map.cursor map.free };
+}
+
+impl AggMap {
+    /// Reads the map area of the root that was found: both sets are the blocks that it says are held.
+    /// `Damaged` comes exactly where a bit is set past the last block, with the first such bit, `DiskFault`
+    /// only where a read failed in this call, and `Memory` where memory ran out. It reads one map area,
+    /// changes nothing on the disk, and costs a bit twice for each block.
+    pub fn load<D: Disk>(alloc: Global, disk: &mut D, found: &Found) -> Result<AggMap, AggFault>
+        requires { IsInRange found.now }
+        ensures loaded { IsTrue (D.shown disk.old).tells → IfOk result (IsLoaded (D.shown disk.old).reads found.now) }
+        ensures size { IfOk result (λ map. blocks_of map ≡ found.now.blocks) }
+        ensures fault { IsTrue (D.shown disk.old).tells → IfErr result (IsFault (D.shown disk.old).reads found.now) }
+        ensures only_reads { OnlyReads (D.shown disk.old) (D.shown disk.new) }
+        ensures cause { HasLoadCause (D.shown disk.old).faults (D.shown disk.new).faults result }
+    {
+        let mut committed = BitMap::new(alloc, found.blocks)?;
+        let mut next = BitMap::new(alloc, found.blocks)?;
+        read_area(disk, found, &mut committed)?;
+        copy(&committed, &mut next);
+        let first = first_block(found.blocks);
+        let free = clear_from(&committed, first);
+        Ok(AggMap {
+            committed,
+            next,
+            first,
+            cursor: first,
+            free,
+        })
+    }
+
+    /// How many blocks the aggregate has: each set has numbers below it.
+    pub fn blocks(&self) -> u32
+        ensures value { result ≡ blocks_of self.now }
+        ensures next { result ≡ length self.now.next }
+    {
+        self.committed.len()
+    }
+
+    /// How many blocks are free: they can be allocated, and neither set has them. It is kept, and costs
+    /// a step.
+    pub fn free_count(&self) -> u32
+        ensures { result ≡ free_blocks self.now }
+    {
+        self.free
+    }
+
+    /// The set that the next root will hold.
+    pub fn next_map(&self) -> &BitMap
+        ensures { result.now ≡ self.now.next }
+    {
+        &self.next
+    }
+
+    /// Takes a free block for the next root, and answers `None` exactly where there is none. The search
+    /// goes on from where the last one ended and turns once: it costs a step for each word of 64 blocks
+    /// that is passed, and for each run of blocks that one of the sets has alone. It takes no memory.
+    pub fn take_free(&mut self) -> Option<u32>
+        ensures none { IfNone result (IsFull self.old) }
+        ensures some { IfSome result (IsFree self.old) }
+        ensures taken { IfSome result (λ b. self.new ≡ record self.old { next = slice_set self.old.next b true }) }
+        ensures unchanged { IfNone result (self.new ≡ self.old) }
+    {
+        let at = find_free(&self.committed, &self.next, self.first, self.cursor)?;
+        self.next.set(at);
+        self.cursor = at + 1;
+        self.free -= 1;
+        Some(at)
+    }
+
+    /// Says that the next root won't hold a block. A block that the root on the disk holds isn't free
+    /// before the next commit. It costs a step and takes no memory.
+    pub fn release_after_commit(&mut self, pvbn: u32)
+        requires { pvbn < blocks_of self.old }
+        ensures { self.new ≡ record self.old { next = slice_set self.old.next pvbn false } }
+    {
+        self.free += freed(&self.committed, &self.next, self.first, pvbn);
+        self.next.clear(pvbn);
+    }
+
+    /// Says that the next root is on the disk: the set that it holds is the committed one, too. It costs
+    /// a step for each word of 64 blocks, as the commit did, and takes no memory.
+    pub fn committed(&mut self)
+        ensures { self.new ≡ record { committed = self.old.next; next = self.old.next } }
+    {
+        copy(&self.next, &mut self.committed);
+        self.free = clear_from(&self.next, self.first);
+    }
+}
