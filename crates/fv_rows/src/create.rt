@@ -1,6 +1,6 @@
 //! `create` over a host in memory.
 
-use crate::harness::{host, size_of, words};
+use crate::harness::{TEARS, host, size_of, words};
 use fv_disk::Disk;
 use fv_memdisk::{Call, MemHost, Tear};
 use fv_run::flexvol;
@@ -85,15 +85,7 @@ fn a_crash_at_each_moment(rt: HostRuntime) -> Result<(), Fail> {
     let (mut old, mut none, mut new) = (false, false, false);
     for moment in 0..host.moments() {
         let told = host.given_at(moment) > 0;
-        for tear in [
-            Tear::Old,
-            Tear::New,
-            Tear::Fill(255),
-            Tear::Fill(0),
-            Tear::First(1),
-            Tear::First(2),
-            Tear::First(3),
-        ] {
+        for tear in TEARS {
             let mut image = host.image(moment, tear)?;
             let size = size_of(&mut image);
             old = old || size == Some(512);

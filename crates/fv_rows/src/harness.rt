@@ -2,8 +2,24 @@
 
 use fv_codec::{Root, Super, gate_open};
 use fv_disk::{Block, Disk};
-use fv_memdisk::MemHost;
+use fv_memdisk::{MemHost, Tear};
 use std::alloc::{AllocError, Global};
+
+/// The tears that a crash is tried with.
+pub const TEARS: [Tear; 7] = [
+    Tear::Old,
+    Tear::New,
+    Tear::Fill(255),
+    Tear::Fill(0),
+    Tear::First(1),
+    Tear::First(2),
+    Tear::First(3),
+];
+
+/// A block of zeros.
+pub fn blank() -> Block {
+    [0; 4096]
+}
 
 /// Words from texts.
 pub fn words(alloc: Global, texts: &[&str]) -> Result<Vec<String>, AllocError> {
@@ -21,10 +37,10 @@ pub fn host(alloc: Global) -> MemHost {
 
 /// A block as the disk reads it; zeros where the read failed.
 pub fn block(host: &mut MemHost, at: u64) -> Block {
-    let mut block = [0; 4096];
+    let mut block = blank();
     match host.read(at, &mut block) {
         Ok(()) => block,
-        Err(_) => [0; 4096],
+        Err(_) => blank(),
     }
 }
 
