@@ -4,3 +4,6 @@ pub mod Spaces
 pub mod Ats
 pub mod Held
 pub mod Digits
+pub mod Told
+pub mod Hexes
+pub mod NamesTold
