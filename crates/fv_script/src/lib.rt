@@ -9,6 +9,8 @@ mod lines;
 mod others;
 mod read;
 mod snapshots;
+#[cfg(test)]
+mod tests;
 mod values;
 mod volumes;
 mod words;
