@@ -7,3 +7,4 @@ pub mod Digits
 pub mod Told
 pub mod Hexes
 pub mod NamesTold
+pub mod ScriptLines
