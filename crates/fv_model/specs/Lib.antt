@@ -12,3 +12,6 @@ pub mod Refusals
 pub mod Replies
 pub mod Texts
 pub mod Runs
+pub mod Words
+pub mod Grammar
+pub mod Lines

@@ -1,0 +1,10 @@
+pub mod Said
+pub mod Cuts
+pub mod Spaces
+pub mod Ats
+pub mod Held
+pub mod Digits
+pub mod Told
+pub mod Hexes
+pub mod NamesTold
+pub mod ScriptLines

@@ -1,0 +1,4 @@
+pub mod Reading
+pub mod Parts
+pub mod Telling
+pub mod Spelled

@@ -1,0 +1,121 @@
+//! The forms on files.
+
+ghost use Rattle.std.specs.Prelude.{◌≡◌};
+ghost use Rattle.fv_model.specs.Words.{line_words};
+ghost use Rattle.fv_model.specs.Grammar.{cut, get, len, ls, new, put, rm};
+ghost use Rattle.fv_script.specs.Reading.{outcome};
+
+use crate::LineFault;
+use crate::values::{blocks, index};
+use crate::words::{Words, block, end, name, number, table};
+use fv_model::Command;
+
+/// `new V F` or `new V F RESERVE`.
+#[tactic(auto, unfolding(fv_model::specs::Grammar::new))]
+pub fn new(words: &mut Words<'_>) -> Result<Command, LineFault>
+    ensures { result ≡ outcome (new (line_words words.old.line.now)) }
+{
+    let volume = name(words)?;
+    let file = name(words)?;
+    if end(words).is_ok() {
+        return Ok(Command::New {
+            volume,
+            file,
+            reserve: 0,
+        });
+    }
+    let digits = number(words)?;
+    end(words)?;
+    Ok(Command::New {
+        volume,
+        file,
+        reserve: blocks(digits)?,
+    })
+}
+
+/// `put V F I HEX`.
+#[tactic(auto, unfolding(fv_model::specs::Grammar::put))]
+pub fn put(words: &mut Words<'_>) -> Result<Command, LineFault>
+    ensures { result ≡ outcome (put (line_words words.old.line.now)) }
+{
+    let volume = name(words)?;
+    let file = name(words)?;
+    let digits = number(words)?;
+    let block = block(words)?;
+    end(words)?;
+    Ok(Command::Put {
+        volume,
+        file,
+        index: index(digits)?,
+        block,
+    })
+}
+
+/// `get V F I`.
+#[tactic(auto, unfolding(fv_model::specs::Grammar::get))]
+pub fn get(words: &mut Words<'_>) -> Result<Command, LineFault>
+    ensures { result ≡ outcome (get (line_words words.old.line.now)) }
+{
+    let (volume, snapshot) = table(words)?;
+    let file = name(words)?;
+    let digits = number(words)?;
+    end(words)?;
+    Ok(Command::Get {
+        volume,
+        snapshot,
+        file,
+        index: index(digits)?,
+    })
+}
+
+/// `len V F`.
+#[tactic(auto, unfolding(fv_model::specs::Grammar::len))]
+pub fn len(words: &mut Words<'_>) -> Result<Command, LineFault>
+    ensures { result ≡ outcome (len (line_words words.old.line.now)) }
+{
+    let (volume, snapshot) = table(words)?;
+    let file = name(words)?;
+    end(words)?;
+    Ok(Command::Len {
+        volume,
+        snapshot,
+        file,
+    })
+}
+
+/// `cut V F N`.
+#[tactic(auto, unfolding(fv_model::specs::Grammar::cut))]
+pub fn cut(words: &mut Words<'_>) -> Result<Command, LineFault>
+    ensures { result ≡ outcome (cut (line_words words.old.line.now)) }
+{
+    let volume = name(words)?;
+    let file = name(words)?;
+    let digits = number(words)?;
+    end(words)?;
+    Ok(Command::Cut {
+        volume,
+        file,
+        length: blocks(digits)?,
+    })
+}
+
+/// `rm V F`.
+#[tactic(auto, unfolding(fv_model::specs::Grammar::rm))]
+pub fn rm(words: &mut Words<'_>) -> Result<Command, LineFault>
+    ensures { result ≡ outcome (rm (line_words words.old.line.now)) }
+{
+    let volume = name(words)?;
+    let file = name(words)?;
+    end(words)?;
+    Ok(Command::Remove { volume, file })
+}
+
+/// `ls V`.
+#[tactic(auto, unfolding(fv_model::specs::Grammar::ls))]
+pub fn ls(words: &mut Words<'_>) -> Result<Command, LineFault>
+    ensures { result ≡ outcome (ls (line_words words.old.line.now)) }
+{
+    let (volume, snapshot) = table(words)?;
+    end(words)?;
+    Ok(Command::Ls { volume, snapshot })
+}
