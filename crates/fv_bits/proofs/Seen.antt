@@ -61,6 +61,16 @@ unite_seen mine theirs len n ws os xs ys new kept my_view my_words my_read their
     let lens = lens_seen mine theirs len n ws os my_view their_view same in
     same_union (sym (ap (map_of len) keeps)) my_view (ap (λ m. map_of m os) (sym lens) ∙ their_view) (unite_map len ws os new my_words (subst (λ m. IsStored m os) lens their_words) (rw (my_read, their_read) at both))
 
+pub copy_stored_seen : (mine theirs : List Bool) (len n : ℕ) (ws os ys new kept : List ℕ) → map_of len ws ≡ mine → map_of n os ≡ theirs → IsStored n os → ys ≡ os → new ≡ ys → length theirs ≡ length mine → kept ≡ new → IsStored len kept
+copy_stored_seen mine theirs len n ws os ys new kept my_view their_view their_words their_read copied same keeps =
+    let lens = lens_seen mine theirs len n ws os my_view their_view same in
+    subst (IsStored len) (sym (keeps ∙ copied ∙ their_read)) (subst (λ m. IsStored m os) lens their_words)
+
+pub copy_seen : (mine theirs : List Bool) (len n : ℕ) (ws os ys new kept : List ℕ) → map_of len ws ≡ mine → map_of n os ≡ theirs → ys ≡ os → new ≡ ys → length theirs ≡ length mine → kept ≡ new → map_of len kept ≡ theirs
+copy_seen mine theirs len n ws os ys new kept my_view their_view their_read copied same keeps =
+    let lens = lens_seen mine theirs len n ws os my_view their_view same in
+    ap (map_of len) (keeps ∙ copied ∙ their_read) ∙ ap (λ m. map_of m os) (sym lens) ∙ their_view
+
 pub block_seen : (seen : List Bool) (len : ℕ) (ws xs : List ℕ) (index : ℕ) (block : List ℕ) → map_of len ws ≡ seen → IsStored len ws → xs ≡ ws → HasBitsOf xs (512 * index) block → length block ≡ 4096 → IsBlockOf seen index block
 block_seen seen len ws xs index block same stored read bits size =
     subst (λ m. IsBlockOf m index block) same (block_map len ws index block stored size (rw read at bits))

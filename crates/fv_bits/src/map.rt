@@ -117,6 +117,16 @@ impl BitMap {
         words::unite(&mut self.words, &other.words);
     }
 
+    /// Makes this map equal to `other`, which has the same length. Costs a step for each word of 64
+    /// numbers.
+    #[tactic(auto, using(crate::proofs::Seen::copy_seen, crate::proofs::Seen::copy_stored_seen, crate::proofs::Seen::words_seen, std::proofs::lemmas::List::with_items_is))]
+    pub fn copy_from(&mut self, other: &BitMap)
+        requires { length other.now ≡ length self.old }
+        ensures { self.new ≡ other.now }
+    {
+        words::copy(&mut self.words, &other.words);
+    }
+
     /// Writes block `index` of the map, the 32,768 numbers from `32768 * index` on: bit `b` is bit
     /// `b % 8` of byte `b / 8`, counted from the least, and past the length the bits are clear. Some
     /// number of the block is below the length. Costs a step for each word of 64 numbers.

@@ -52,6 +52,14 @@ pub(crate) fn unite(words: &mut [u64], others: &[u64])
     }
 }
 
+/// Takes each of these words in place of what was there.
+pub(crate) fn copy(words: &mut [u64], others: &[u64])
+    requires { length others.now ≡ length words.old }
+    ensures { words.new ≡ others.now }
+{
+    words.copy_from_slice(others);
+}
+
 /// How many bits of these words are set.
 pub(crate) fn ones(words: &[u64]) -> u64
     requires { length words.now < 2 ^ 40 }

@@ -1,0 +1,66 @@
+-- The slots of a volume, each free or with a set of numbers below the span, and what the calls make of them.
+use Rattle.std.specs.Prelude.{◌≡◌, ℕ, ◌<◌, Bool, false, true, List, ◌∷◌, length, take, replicate, slice_set, slice_index_or, Option, Some, None, All, IfSome}
+use Rattle.std.specs.List.{list_any}
+use Rattle.fv_bits.specs.Members.{is_member, TakesBlock}
+
+-- a free slot, or the members of a used one
+abbrev pub Slot : Type 0
+Slot = Option (List Bool)
+
+-- slot 0 is the active one, 1 to 24 are snapshots, and 25 is the reach of the base
+pub record Volume : Type 0 where
+  pub span : ℕ
+  pub slots : List Slot
+
+abbrev pub slot_count : ℕ
+slot_count = 26
+
+-- the slots that stand on the disk: all but the base's
+abbrev pub stored_count : ℕ
+stored_count = 25
+
+abbrev pub slot_at : Volume → ℕ → Slot
+slot_at volume slot = slice_index_or volume.slots slot None
+
+-- the members of a slot, none where it is free
+abbrev pub map_or_empty : ℕ → Slot → List Bool
+map_or_empty span None = replicate span false
+map_or_empty span (Some map) = map
+
+abbrev pub active_of : Volume → List Bool
+active_of volume = map_or_empty volume.span (slot_at volume 0)
+
+-- whether a slot has a number
+abbrev pub has : ℕ → Slot → Bool
+has v None = false
+has v (Some map) = is_member map v
+
+-- whether some slot has a number
+abbrev pub taken_in : List Slot → ℕ → Bool
+taken_in slots v = list_any (has v) slots
+
+-- the volume with another slot
+abbrev pub with_slot : Volume → ℕ → Slot → Volume
+with_slot volume slot map = record { span = volume.span; slots = slice_set volume.slots slot map }
+
+-- a volume without snapshots, base and members
+abbrev pub empty_volume : ℕ → Volume
+empty_volume span = record { span = span; slots = Some (replicate span false) ∷ replicate stored_count None }
+
+-- what holds of every volume: the active slot is used, and each map is as long as the span
+pub record IsVolume (volume : Volume) : Type 0 where
+  pub count : length volume.slots ≡ slot_count
+  pub active : slot_at volume 0 ≡ Some (active_of volume)
+  pub long : All (λ slot. IfSome slot (λ map. length map ≡ volume.span)) volume.slots
+
+-- the bits of one block of a slot's map were taken, and a free slot is used now
+pub record Loads (old : Volume) (slot index : ℕ) (block : List ℕ) (new : Volume) : Type 0 where
+  pub map : List Bool
+  pub volume : new ≡ with_slot old slot (Some map)
+  pub taken : TakesBlock (map_or_empty old.span (slot_at old slot)) map index block
+
+-- v is a number below the span that no slot had, and the active slot has it now
+pub record Allocates (old : Volume) (v : ℕ) (new : Volume) : Type 0 where
+  pub within : v < old.span
+  pub free : taken_in old.slots v ≡ false
+  pub volume : new ≡ with_slot old 0 (Some (slice_set (active_of old) v true))

@@ -1,0 +1,189 @@
+//! The slots of a volume.
+
+ghost use Rattle.std.specs.Prelude.{◌≡◌, ℕ, ◌*◌, ◌<◌, ◌≤◌, false, true, length, take, slice_set, Some, None, IsSome, IfSome, IfNone, IfOk, OnOk, OnErr, OnSome, option_copied};
+ghost use Rattle.fv_bits.specs.Bits.{block_bits};
+ghost use Rattle.fv_bits.specs.Members.{IsFirstPast};
+ghost use Rattle.fv_volmap.specs.Slots.{Volume, slot_count, stored_count, slot_at, active_of, taken_in, with_slot, empty_volume, IsVolume, Loads, Allocates};
+
+use crate::slots;
+use fv_bits::BitMap;
+use fv_disk::Block;
+use std::alloc::{AllocError, Global};
+use std::marker::Model;
+
+/// A set of numbers below the span for each used slot.
+///
+/// Slot 0 is the active one and is always used, 1 to 24 are snapshots, and 25 is the reach of a clone's
+/// base. Contracts see the span and the row of the slots, each free or with its set.
+#[derive(Drop)]
+pub struct VolMap {
+    alloc: Global,
+    span: u32,
+    active: BitMap,
+    /// Slots 1 to 25.
+    others: Vec<Option<BitMap>>,
+    /// The union of all slots, where `united`.
+    union: BitMap,
+    united: bool,
+    /// Where `allocate` looks first: after the number that it found last.
+    next: u32,
+}
+
+impl Model for VolMap {
+    ghost use Rattle.std.specs.Prelude.{Some, ◌∷◌};
+    ghost use Rattle.fv_volmap.specs.Slots.{Volume};
+    ghost use Rattle.fv_volmap.specs.Kept.{IsKept};
+
+    ghost Value = { Volume };
+
+    ghost view = { λ map. record { span = map.span; slots = Some map.active ∷ map.others.items } };
+
+    ghost invariant = { λ map. IsKept map.span map.active map.others.items map.union map.united map.next };
+}
+
+impl VolMap {
+    /// The maps of a volume with this span: all slots but the active one are free, and it is empty. The
+    /// one error is want of memory. Costs a step for each word of 64 numbers.
+    pub fn new(alloc: Global, span: u32) -> Result<VolMap, AllocError>
+        ensures empty { IfOk result (λ volume. volume ≡ empty_volume span) }
+    {
+        Ok(VolMap {
+            alloc,
+            span,
+            active: BitMap::new(alloc, span)?,
+            others: slots::free_slots(alloc, 25)?,
+            union: BitMap::new(alloc, span)?,
+            united: true,
+            next: 0,
+        })
+    }
+
+    /// Takes the bits of block `index` of a slot's map in place of those that are there, and answers
+    /// `None`: the slot is used from then on. Where a bit past the span is set, nothing changes, and the
+    /// first such number is answered. Some number of the block is below the span. The one error is want of
+    /// memory, for a slot that was free; nothing changes then. Costs a step for each word of 64 numbers of
+    /// the block, and of the span for a slot that was free.
+    pub fn load_slot(
+        &mut self,
+        slot: u8,
+        index: u32,
+        block: &Block,
+    ) -> Result<Option<u32>, AllocError>
+        requires slot { slot < slot_count }
+        requires within { block_bits * index < self.old.span }
+        ensures taken { IfOk result (λ past. IfNone past (Loads self.old slot index block.now self.new)) }
+        ensures past { IfOk result (λ past. IfSome past (IsFirstPast self.old.span index block.now)) }
+        ensures unchanged { IfOk result (λ past. OnSome past (self.new ≡ self.old)) }
+        ensures failed { OnErr result (self.new ≡ self.old) }
+        ensures valid { IsVolume self.new }
+    {
+        self.united = false;
+        if slot == 0 {
+            return Ok(self.active.from_block(index, block));
+        }
+        slots::load(&mut self.others[slot as usize - 1], self.alloc, self.span, index, block)
+    }
+
+    /// The active set. Costs one step.
+    pub fn active(&self) -> &BitMap
+        ensures active { result.now ≡ active_of self.now }
+        ensures valid { IsVolume self.now }
+    {
+        &self.active
+    }
+
+    /// The set of a slot, and `None` exactly for a free one. Costs one step.
+    pub fn snapshot(&self, slot: u8) -> Option<&BitMap>
+        requires { slot < slot_count }
+        ensures { option_copied result ≡ slot_at self.now slot }
+    {
+        if slot == 0 {
+            return Some(&self.active);
+        }
+        self.others[slot as usize - 1].as_ref()
+    }
+
+    /// Copies the active set to a free slot. The one error is want of memory; nothing changes then. Costs
+    /// a step for each word of 64 numbers.
+    pub fn keep(&mut self, slot: u8) -> Result<(), AllocError>
+        requires slot { slot < slot_count }
+        requires free { slot_at self.old slot ≡ None }
+        ensures kept { OnOk result (self.new ≡ with_slot self.old slot (Some (active_of self.old))) }
+        ensures failed { OnErr result (self.new ≡ self.old) }
+        ensures valid { IsVolume self.new }
+    {
+        let copy = slots::copy(self.alloc, &self.active)?;
+        self.others[slot as usize - 1] = Some(copy);
+        Ok(())
+    }
+
+    /// Makes a slot free. Costs one step; the next `allocate` unites the used slots anew.
+    pub fn forget(&mut self, slot: u8)
+        requires above { 0 < slot }
+        requires slot { slot < slot_count }
+        ensures forgotten { self.new ≡ with_slot self.old slot None }
+        ensures valid { IsVolume self.new }
+    {
+        self.united = false;
+        self.others[slot as usize - 1] = None;
+    }
+
+    /// Makes the active set that of a used slot, which stays. It takes no memory. Costs a step for each
+    /// word of 64 numbers; the next `allocate` unites the used slots anew.
+    pub fn restore(&mut self, slot: u8)
+        requires slot { slot < slot_count }
+        requires used { IsSome (slot_at self.old slot) }
+        ensures restored { self.new ≡ with_slot self.old 0 (slot_at self.old slot) }
+        ensures valid { IsVolume self.new }
+    {
+        self.united = false;
+        if slot > 0 {
+            slots::copy_slot(&mut self.active, &self.others[slot as usize - 1]);
+        }
+    }
+
+    /// Adds to the active set a number below the span that no slot has, the base's slot among them, and
+    /// answers it; `None` exactly where there is none. It takes no memory. Costs a step for each word of 64
+    /// numbers from where the last one was found, around once. The first call after slots were loaded,
+    /// forgotten or restored also unites the used slots, a step for each of their words.
+    #[tactic(auto, using(crate::proofs::Rows::kept_more))]
+    pub fn allocate(&mut self) -> Option<u32>
+        ensures none { IfNone result ((v : ℕ) → v < self.old.span → taken_in self.old.slots v ≡ true) }
+        ensures unchanged { IfNone result (self.new ≡ self.old) }
+        ensures found { IfSome result (λ v. Allocates self.old v self.new) }
+        ensures valid { IsVolume self.new }
+    {
+        slots::refresh(&mut self.union, self.united, &self.active, &self.others);
+        self.united = true;
+        let v = slots::next_free(&self.union, self.next)?;
+        self.active.set(v);
+        self.union.set(v);
+        self.next = v + 1;
+        Some(v)
+    }
+
+    /// Takes a number out of the active set; one that isn't in it changes nothing. Costs a step for each
+    /// slot.
+    #[tactic(auto, using(crate::proofs::Rows::kept_fewer, crate::proofs::Rows::kept_still))]
+    pub fn release(&mut self, vvbn: u32)
+        ensures released { self.new ≡ with_slot self.old 0 (Some (slice_set (active_of self.old) vvbn false)) }
+        ensures valid { IsVolume self.new }
+    {
+        if vvbn >= self.span {
+            return;
+        }
+        self.active.clear(vvbn);
+        if !slots::any_has(&self.others, vvbn) {
+            self.union.clear(vvbn);
+        }
+    }
+
+    /// Whether a slot from 0 to 24 has this number; none has one from the span on. Costs a step for each
+    /// slot.
+    #[tactic(auto, using(crate::proofs::Rows::stored_slots))]
+    pub fn held(&self, vvbn: u32) -> bool
+        ensures { result ≡ taken_in (take stored_count self.now.slots) vvbn }
+    {
+        slots::has_member(&self.active, vvbn) || slots::any_has(&self.others[..24], vvbn)
+    }
+}

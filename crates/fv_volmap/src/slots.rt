@@ -1,0 +1,163 @@
+//! Slots in a row, each free or with a map.
+
+ghost use Rattle.std.specs.Prelude.{◌≡◌, ℕ, ◌*◌, ◌<◌, ◌≤◌, ◌||◌, false, true, cond, length, replicate, All, Some, None, IsSome, IfSome, IfNone, IfOk, OnErr, OnSome};
+ghost use Rattle.fv_bits.specs.Bits.{block_bits};
+ghost use Rattle.fv_bits.specs.Members.{is_member, IsFullFrom, IsFirstPast};
+ghost use Rattle.fv_volmap.specs.Slots.{has, taken_in};
+ghost use Rattle.fv_volmap.specs.Kept.{IsLong, Unites, TakesInto};
+
+use fv_bits::BitMap;
+use fv_disk::Block;
+use std::alloc::{AllocError, Global};
+
+/// Whether the map has this number; it has none from its length on.
+#[tactic(auto, using(fv_bits::proofs::Laws::is_member_past))]
+pub(crate) fn has_member(map: &BitMap, v: u32) -> bool
+    ensures { result ≡ is_member map.now v }
+{
+    v < map.len() && map.get(v)
+}
+
+/// Whether the slot has this number.
+pub(crate) fn has(slot: &Option<BitMap>, v: u32) -> bool
+    ensures { result ≡ has v slot.now }
+{
+    match slot {
+        Some(map) => has_member(map, v),
+        None => false,
+    }
+}
+
+/// Whether some slot has this number.
+#[tactic(auto, using(crate::proofs::Rows::none_more, crate::proofs::Rows::taken_here))]
+pub(crate) fn any_has(slots: &[Option<BitMap>], v: u32) -> bool
+    ensures { result ≡ taken_in slots.now v }
+{
+    for at in 0..slots.len() {
+        if has(&slots[at], v) {
+            return true;
+        }
+    }
+    false
+}
+
+/// Adds the members of a slot.
+fn add(union: &mut BitMap, slot: &Option<BitMap>)
+    requires { IsLong (length union.old) slot.now }
+    ensures len { length union.new ≡ length union.old }
+    ensures members { (v : ℕ) → is_member union.new v ≡ (is_member union.old v || has v slot.now) }
+{
+    if let Some(map) = slot {
+        union.or(map);
+    }
+}
+
+/// Adds the members of each slot.
+#[tactic(auto, using(crate::proofs::Rows::one_more))]
+pub(crate) fn add_all(union: &mut BitMap, slots: &[Option<BitMap>])
+    requires { All (IsLong (length union.old)) slots.now }
+    ensures { Unites union.old slots.now union.new }
+{
+    for at in 0..slots.len() {
+        add(union, &slots[at]);
+    }
+}
+
+/// Makes `union` the union of all slots.
+fn unite(union: &mut BitMap, active: &BitMap, others: &[Option<BitMap>])
+    requires active { length active.now ≡ length union.old }
+    requires others { All (IsLong (length union.old)) others.now }
+    ensures { Unites active.now others.now union.new }
+{
+    union.copy_from(active);
+    add_all(union, others);
+}
+
+/// Makes `union` the union of all slots, which it is already where `united`.
+pub(crate) fn refresh(
+    union: &mut BitMap,
+    united: bool,
+    active: &BitMap,
+    others: &[Option<BitMap>],
+)
+    requires active { length active.now ≡ length union.old }
+    requires others { All (IsLong (length union.old)) others.now }
+    requires exact { united ≡ true → (v : ℕ) → is_member union.old v ≡ (is_member active.now v || taken_in others.now v) }
+    ensures { Unites active.now others.now union.new }
+{
+    if !united {
+        unite(union, active, others);
+    }
+}
+
+/// A number that is no member, the first from `from` on or else the first of all.
+pub(crate) fn next_free(union: &BitMap, from: u32) -> Option<u32>
+    requires { from ≤ length union.now }
+    ensures none { IfNone result (IsFullFrom union.now 0) }
+    ensures within { IfSome result (λ v. v < length union.now) }
+    ensures free { IfSome result (λ v. is_member union.now v ≡ false) }
+{
+    match union.first_free(from) {
+        Some(v) => Some(v),
+        None => union.first_free(0),
+    }
+}
+
+/// Takes the bits of a block into a slot, which is used from then on, and answers the first number past
+/// the span whose bit is set. Then, and where no memory is found, the slot stays.
+pub(crate) fn load(
+    slot: &mut Option<BitMap>,
+    alloc: Global,
+    span: u32,
+    index: u32,
+    block: &Block,
+) -> Result<Option<u32>, AllocError>
+    requires long { IsLong span slot.old }
+    requires within { block_bits * index < span }
+    ensures taken { IfOk result (λ past. IfNone past (TakesInto span slot.old index block.now slot.new)) }
+    ensures past { IfOk result (λ past. IfSome past (IsFirstPast span index block.now)) }
+    ensures unchanged { IfOk result (λ past. OnSome past (slot.new ≡ slot.old)) }
+    ensures failed { OnErr result (slot.new ≡ slot.old) }
+{
+    if let Some(map) = slot {
+        return Ok(map.from_block(index, block));
+    }
+    let mut map = BitMap::new(alloc, span)?;
+    let past = map.from_block(index, block);
+    if past.is_none() {
+        *slot = Some(map);
+    }
+    Ok(past)
+}
+
+/// Copies the map of a used slot.
+pub(crate) fn copy_slot(map: &mut BitMap, slot: &Option<BitMap>)
+    requires used { IsSome slot.now }
+    requires long { IsLong (length map.old) slot.now }
+    ensures { Some map.new ≡ slot.now }
+{
+    if let Some(from) = slot {
+        map.copy_from(from);
+    }
+}
+
+/// A copy of a map.
+#[tactic(auto, using(fv_bits::proofs::Laws::length_new))]
+pub(crate) fn copy(alloc: Global, map: &BitMap) -> Result<BitMap, AllocError>
+    ensures { IfOk result (λ copy. copy ≡ map.now) }
+{
+    let mut copy = BitMap::new(alloc, map.len())?;
+    copy.copy_from(map);
+    Ok(copy)
+}
+
+/// This many free slots.
+pub(crate) fn free_slots(alloc: Global, count: usize) -> Result<Vec<Option<BitMap>>, AllocError>
+    ensures { IfOk result (λ slots. slots.items ≡ replicate count None) }
+{
+    let mut slots = Vec::with_capacity(alloc, count)?;
+    for _ in 0..count {
+        slots.push(None)?;
+    }
+    Ok(slots)
+}
