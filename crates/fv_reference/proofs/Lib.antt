@@ -1,0 +1,5 @@
+pub mod Views
+pub mod Finite
+pub mod Levels
+pub mod Orders
+pub mod Counting
