@@ -3,3 +3,4 @@ pub mod Finite
 pub mod Levels
 pub mod Orders
 pub mod Counting
+pub mod Allowed

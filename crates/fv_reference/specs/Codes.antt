@@ -9,6 +9,7 @@ use Rattle.fv_model.specs.contracts.commands.Kind as kind
 use Rattle.fv_model.specs.Spelling.{name_cmp}
 use Rattle.fv_model.specs.Tables.{File, Table}
 use Rattle.fv_model.specs.Volumes.{Base, Volume}
+use Rattle.fv_model.specs.Machines.{Machine}
 
 abbrev pub tree_code : Coded Tree
 tree_code =
@@ -29,3 +30,7 @@ base_code =
 abbrev pub volume_code : Coded Volume
 volume_code =
     code_by (Kind × (ℕ × (ℕ × (ℕ × (ℕ × (Table × (fin.FinMap name_cmp Table × (Option Base × Bool)))))))) (coded× kind.the_row.coded (coded× coded_ℕ (coded× coded_ℕ (coded× coded_ℕ (coded× coded_ℕ (coded× table_code (coded× (fin.code (coded_list coded_ℕ) table_code) (coded× (coded_option base_code) coded_bool)))))))) (λ v. (v.kind, (v.size, (v.most, (v.span, (v.now, (v.active, (v.snapshots, (v.base, v.known))))))))) (λ p. record { kind = p.0; size = p.1.0; most = p.1.1.0; span = p.1.1.1.0; now = p.1.1.1.1.0; active = p.1.1.1.1.1.0; snapshots = p.1.1.1.1.1.1.0; base = p.1.1.1.1.1.1.1.0; known = p.1.1.1.1.1.1.1.1 }) (λ _. refl)
+
+abbrev pub machine_code : Coded Machine
+machine_code =
+    code_by (ℕ × (ℕ × fin.FinMap name_cmp Volume)) (coded× coded_ℕ (coded× coded_ℕ (fin.code (coded_list coded_ℕ) volume_code))) (λ m. (m.blocks, (m.version, m.volumes))) (λ p. record { blocks = p.0; version = p.1.0; volumes = p.1.1 }) (λ _. refl)

@@ -1,11 +1,12 @@
 //! What a volume needs, uses and commits.
-ghost use Rattle.std.specs.Prelude.{◌≡◌, ◌+◌, ◌*◌, ◌++◌, ◌<◌, ◌≤◌, IfOk, OnOk, map, flat_map, count_by, sum_by};
+ghost use Rattle.std.specs.Prelude.{◌≡◌, ◌+◌, ◌*◌, ◌^◌, ◌++◌, ◌∷◌, [], ◌≤◌, IfOk, OnOk, nat_lt, cond, map, flat_map, count_by, sum_by};
 ghost use Rattle.std.specs.List.{range_with_len};
 ghost use Rattle.std.specs.Ordering.{nat_cmp};
 ghost use Rattle.std.specs.FinMap as fin;
 ghost use Rattle.std.specs.FinSet as set;
 ghost use Rattle.fv_model.specs.Spelling.{name_cmp};
-ghost use Rattle.fv_model.specs.Places.{InodeFile, placed, place_cmp, id_cmp, stamps_of};
+ghost use Rattle.fv_model.specs.Trees.{fan};
+ghost use Rattle.fv_model.specs.Places.{InodeFile, OfFile, placed, place_cmp, id_cmp, stamps_of};
 ghost use Rattle.fv_model.specs.Space.{ids_in_any, base_ids, reserved_at, reserved_places, needs_block, need, use_of, nodes_above, leaves, overhead, promised, commit};
 ghost use Rattle.fv_reference.specs.Maps.{map_of, set_of};
 
@@ -25,16 +26,15 @@ pub fn need(alloc: Global, volume: &Volume) -> Result<u64, AllocError>
     ensures { IfOk result (λ n. n ≡ need volume.now) }
 {
     match volume.kind() {
-        Kind::File => needed_in(alloc, volume),
+        Kind::File => needed_of(alloc, volume.active(), volume.snapshots(), volume.base()),
         Kind::Volume | Kind::Thin => Ok(0),
     }
 }
 
-fn needed_in(alloc: Global, volume: &Volume) -> Result<u64, AllocError>
-    ensures { IfOk result (λ n. n ≡ sum_by (λ e. count_by (needs_block (set.union (ids_in_any (fin.values volume.now.snapshots)) (base_ids volume.now.base)) (stamps_of volume.now.active)) (reserved_places volume.now.active.inode.levels e.0 e.1)) (fin.entries volume.now.active.files)) }
+fn needed_of(alloc: Global, active: &Table, snapshots: &BTreeMap<Name, Table>, base: &Option<Base>) -> Result<u64, AllocError>
+    ensures { IfOk result (λ n. n ≡ sum_by (λ e. count_by (needs_block (set.union (ids_in_any (fin.values (map_of name_cmp snapshots.now))) (base_ids base.now)) (stamps_of active.now)) (reserved_places active.now.inode.levels e.0 e.1)) (fin.entries active.now.files)) }
 {
-    let shared = shared_ids(alloc, volume.snapshots(), volume.base())?;
-    let active = volume.active();
+    let shared = shared_ids(alloc, snapshots, base)?;
     let stamps = stamps_of(alloc, active)?;
     let files = active.files();
     let _count = files.len();
@@ -121,12 +121,20 @@ fn list_level(places: &mut Vec<Place>, number: u32, reserve: u32, level: u32) ->
     requires { level ≤ 5 }
     ensures { OnOk result (places.new.items ≡ places.old.items ++ reserved_at number reserve level) }
 {
-    let width = width(level);
     for index in 0..reserve {
-        if u64::from(index).saturating_mul(width) < u64::from(reserve) {
-            places.push(Place::new(Some(number), level, index))?;
-        }
+        list_range(places, number, reserve, level, index)?;
     }
+    Ok(())
+}
+
+fn list_range(places: &mut Vec<Place>, number: u32, reserve: u32, level: u32, index: u32) -> Result<(), AllocError>
+    requires { level ≤ 5 }
+    ensures { OnOk result (places.new.items ≡ places.old.items ++ cond (nat_lt (index * fan ^ level) reserve) (record { owner = OfFile number; level = level; index = index } ∷ []) []) }
+{
+    if u64::from(index).saturating_mul(width(level)) >= u64::from(reserve) {
+        return Ok(());
+    }
+    places.push(Place::new(Some(number), level, index))?;
     Ok(())
 }
 
@@ -158,7 +166,8 @@ fn nodes_above(fuel: u32, n: u64) -> Result<u64, AllocError>
         return Ok(1);
     }
     let above = ceil_div(n, 256);
-    plus(above, nodes_above(fuel - 1, above)?)
+    let higher = nodes_above(fuel - 1, above)?;
+    plus(above, higher)
 }
 
 /// The blocks that a volume of a span needs beside its data.

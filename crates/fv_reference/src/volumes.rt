@@ -4,8 +4,8 @@ ghost use Rattle.std.specs.FinMap as fin;
 ghost use Rattle.std.specs.FinSet as set;
 ghost use Rattle.fv_model.specs.Numbers.{ceil_div};
 ghost use Rattle.fv_model.specs.Spelling.{name_cmp};
-ghost use Rattle.fv_model.specs.Places.{id_cmp};
-ghost use Rattle.fv_model.specs.Space.{ids_in_any, ids_left_out, charge, span_of};
+ghost use Rattle.fv_model.specs.Places.{id_cmp, ids_of};
+ghost use Rattle.fv_model.specs.Space.{map_blocks, ids_in_any, ids_left_out, charge, span_of};
 ghost use Rattle.fv_model.specs.Effects.{empty_volume, clone_of, mirror_of, being_split};
 ghost use Rattle.fv_reference.specs.Maps.{map_of, set_of};
 
@@ -88,7 +88,7 @@ pub struct Volume {
     size: u32,
     most: u64,
     span: u64,
-    now: u64,
+    changes: u64,
     active: Table,
     snapshots: BTreeMap<Name, Table>,
     base: Option<Base>,
@@ -105,7 +105,7 @@ impl Model for Volume {
 
     ghost coded = { volume_code };
 
-    ghost view = { λ v. record { kind = v.kind; size = v.size; most = v.most; span = v.span; now = v.now; active = v.active; snapshots = map_of name_cmp v.snapshots; base = v.base; known = v.known } };
+    ghost view = { λ v. record { kind = v.kind; size = v.size; most = v.most; span = v.span; now = v.changes; active = v.active; snapshots = map_of name_cmp v.snapshots; base = v.base; known = v.known } };
 }
 
 impl Clone for Volume {
@@ -117,7 +117,7 @@ impl Clone for Volume {
             size: self.size,
             most: self.most,
             span: self.span,
-            now: self.now,
+            changes: self.changes,
             active: self.active.clone()?,
             snapshots: copy(&self.snapshots)?,
             base: copy_base(&self.base)?,
@@ -145,7 +145,7 @@ impl Volume {
             size,
             most: 2 * u64::from(size),
             span: span_of(size, 0, 0)?,
-            now: 0,
+            changes: 0,
             active: Table::new(alloc),
             snapshots: BTreeMap::new(alloc),
             base: None,
@@ -157,14 +157,12 @@ impl Volume {
     pub fn clone_on(&self, alloc: Global, parent: &Name, snapshot: &Name, table: &Table, size: u32, kind: Kind) -> Result<Volume, AllocError>
         ensures { IfOk result (λ v. v ≡ clone_of parent.now self.now snapshot.now table.now size kind) }
     {
-        let mut ids = BTreeSet::new(alloc);
-        add_ids(alloc, &mut ids, table)?;
         Ok(Volume {
             kind,
             size,
             most: 2 * u64::from(size),
-            span: span_of(size, count(&ids) as u64, self.span)?,
-            now: self.now,
+            span: span_of(size, id_count(alloc, table)?, self.span)?,
+            changes: self.changes,
             active: table.clone()?,
             snapshots: BTreeMap::new(alloc),
             base: Some(Base {
@@ -186,7 +184,7 @@ impl Volume {
             size,
             most: 2 * u64::from(size),
             span: span_of(size, 0, self.span)?,
-            now: self.now,
+            changes: self.changes,
             active: table.clone()?,
             snapshots: BTreeMap::new(alloc),
             base: None,
@@ -217,7 +215,7 @@ impl Volume {
         ensures { IfOk result (λ v. v ≡ record self.now { now = self.now.now + 1; active = table }) }
     {
         let mut after = self.clone()?;
-        after.now = plus(self.now, 1)?;
+        after.changes = plus(self.changes, 1)?;
         after.active = table;
         Ok(after)
     }
@@ -226,7 +224,7 @@ impl Volume {
     pub fn next_stamp(&self) -> Result<u64, AllocError>
         ensures { IfOk result (λ s. s ≡ self.now.now + 1) }
     {
-        plus(self.now, 1)
+        plus(self.changes, 1)
     }
 
     /// The volume with its active table kept under a name.
@@ -316,7 +314,7 @@ impl Volume {
     pub fn changes(&self) -> u64
         ensures { result ≡ self.now.now }
     {
-        self.now
+        self.changes
     }
 
     /// Whether every place is known.
@@ -359,13 +357,40 @@ impl Volume {
     pub fn charge(&self, alloc: Global) -> Result<u64, AllocError>
         ensures { IfOk result (λ n. n ≡ charge self.now) }
     {
-        let mut ids = BTreeSet::new(alloc);
-        add_ids(alloc, &mut ids, &self.active)?;
-        add_kept(alloc, &mut ids, &self.snapshots)?;
-        leave_out(alloc, &mut ids, &self.base)?;
-        let maps = times(ceil_div(self.span, 32_768), len(&self.snapshots) as u64)?;
-        plus(count(&ids) as u64, maps)
+        charged(alloc, &self.active, &self.snapshots, &self.base, self.span)
     }
+}
+
+fn charged(alloc: Global, active: &Table, snapshots: &BTreeMap<Name, Table>, base: &Option<Base>, span: u64) -> Result<u64, AllocError>
+    ensures { IfOk result (λ n. n ≡ set.len (set.difference (set.union (ids_of active.now) (ids_in_any (fin.values (map_of name_cmp snapshots.now)))) (ids_left_out base.now)) + map_blocks span * fin.len (map_of name_cmp snapshots.now)) }
+{
+    let ids = charged_ids(alloc, active, snapshots, base)?;
+    let maps = times(ceil_div(span, 32_768), len(snapshots) as u64)?;
+    plus(count(&ids) as u64, maps)
+}
+
+fn charged_ids(alloc: Global, active: &Table, snapshots: &BTreeMap<Name, Table>, base: &Option<Base>) -> Result<BTreeSet<Id>, AllocError>
+    ensures { IfOk result (λ s. set_of id_cmp s ≡ set.difference (set.union (ids_of active.now) (ids_in_any (fin.values (map_of name_cmp snapshots.now)))) (ids_left_out base.now)) }
+{
+    let mut ids = ids_alone(alloc, active)?;
+    add_kept(alloc, &mut ids, snapshots)?;
+    leave_out(alloc, &mut ids, base)?;
+    Ok(ids)
+}
+
+fn ids_alone(alloc: Global, table: &Table) -> Result<BTreeSet<Id>, AllocError>
+    ensures { IfOk result (λ s. set_of id_cmp s ≡ ids_of table.now) }
+{
+    let mut ids = BTreeSet::new(alloc);
+    add_ids(alloc, &mut ids, table)?;
+    Ok(ids)
+}
+
+/// How many ids a table has.
+pub fn id_count(alloc: Global, table: &Table) -> Result<u64, AllocError>
+    ensures { IfOk result (λ n. n ≡ set.len (ids_of table.now)) }
+{
+    Ok(count(&ids_alone(alloc, table)?) as u64)
 }
 
 /// A sum; one that passes 64 bits counts as want of memory, since no memory holds so much.
@@ -391,7 +416,7 @@ pub fn ceil_div(a: u64, n: u64) -> u64
 }
 
 /// The span of a new volume.
-fn span_of(size: u32, base: u64, at_least: u64) -> Result<u64, AllocError>
+pub fn span_of(size: u32, base: u64, at_least: u64) -> Result<u64, AllocError>
     ensures { IfOk result (λ n. n ≡ span_of size base at_least) }
 {
     let room = plus(plus(2 * u64::from(size), base)?, 256)?;
@@ -422,7 +447,7 @@ pub fn add_kept(alloc: Global, ids: &mut BTreeSet<Id>, snapshots: &BTreeMap<Name
 fn add_all(alloc: Global, ids: &mut BTreeSet<Id>, snapshots: &BTreeMap<Name, Table>) -> Result<(), AllocError>
     ensures { OnOk result (set_of id_cmp ids.new ≡ set.union (set_of id_cmp ids.old) (ids_in_any (map (λ e. e.1) snapshots.now.entries))) }
 {
-    for (_name, table) in snapshots {
+    for (_, table) in snapshots {
         add_ids(alloc, ids, table)?;
     }
     Ok(())

@@ -10,3 +10,8 @@ pub returns : goal.returns
 returns c =
     let has : ℕ → Bool = λ k. fin.contains_key (map_of nat_cmp c.args.files.now) k in
     free_is has _ _ (omega arith) (λ k lt. c.loop-number.invariant.below k (omega arith)) (λ lt. absurd (omega arith))
+
+pub returns-then-is_none : goal.returns-then-is_none
+returns-then-is_none c =
+    let has : ℕ → Bool = λ k. fin.contains_key (map_of nat_cmp c.args.files.now) k in
+    free_is has _ _ (omega arith) (λ k lt. c.loop-number.invariant.below k lt) (λ lt. grind (arith, c.get.ensures, c.is_none.ensures, c.if-is_none.true))
