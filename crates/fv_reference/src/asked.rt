@@ -2,7 +2,8 @@
 ghost use Rattle.std.specs.Prelude.{◌≡◌, ◌+◌, ◌<◌, IfOk, option_map, Some, None, not, cond, false, nat_lt, nat_le};
 ghost use Rattle.std.specs.List.{list_any};
 ghost use Rattle.std.specs.Option.{option_map_or};
-ghost use Rattle.fv_reference.specs.Bases.{stands_on, length_of};
+ghost use Rattle.fv_reference.specs.Bases.{stands_on};
+ghost use Rattle.fv_model.specs.Tables.{file_named};
 ghost use Rattle.fv_model.specs.Refusals.{table_asked, is_missing, is_taken, lacks_file, has_file, lacks_snapshot, has_snapshot, is_parent, is_base, is_splitting, is_whole_clone, has_all_volumes, has_all_changes, has_all_files, has_all_snapshots, of_volume, of_file, is_clone_too_wide, is_mirror_too_wide, is_volume_full, is_aggregate_full};
 ghost use Rattle.fv_model.specs.Space.{is_file_kind};
 
@@ -220,9 +221,21 @@ fn is_file_kind(kind: Kind) -> bool
 pub fn is_past_end(machine: &Machine, name: &Name, snapshot: &Option<Name>, file: &Name, index: u32) -> bool
     ensures { result ≡ of_file machine.now name.now snapshot.now file.now (λ f. nat_le f.length index) }
 {
-    match length_asked(machine, name, snapshot, file) {
+    match machine.volume(name) {
         None => false,
-        Some(length) => length <= u64::from(index),
+        Some(volume) => match table_asked(volume, snapshot) {
+            None => false,
+            Some(table) => ends_by(table, file, index),
+        },
+    }
+}
+
+fn ends_by(table: &Table, file: &Name, index: u32) -> bool
+    ensures { result ≡ option_map_or (λ e. nat_le e.1.length index) (file_named table.now file.now) false }
+{
+    match table.file_named(file) {
+        None => false,
+        Some((_number, file)) => file.length() <= u64::from(index),
     }
 }
 
@@ -230,20 +243,19 @@ pub fn is_past_end(machine: &Machine, name: &Name, snapshot: &Option<Name>, file
 pub fn is_past_length(machine: &Machine, name: &Name, file: &Name, length: u32) -> bool
     ensures { result ≡ of_file machine.now name.now None file.now (λ f. nat_lt f.length length) }
 {
-    match length_asked(machine, name, &None, file) {
+    match machine.volume(name) {
         None => false,
-        Some(own) => own < u64::from(length),
+        Some(volume) => ends_before(volume.active(), file, length),
     }
 }
 
-/// The length of the file that is asked.
-fn length_asked(machine: &Machine, name: &Name, snapshot: &Option<Name>, file: &Name) -> Option<u64>
-    ensures { result ≡ length_of machine.now name.now snapshot.now file.now }
+fn ends_before(table: &Table, file: &Name, length: u32) -> bool
+    ensures { result ≡ option_map_or (λ e. nat_lt e.1.length length) (file_named table.now file.now) false }
 {
-    let volume = machine.volume(name)?;
-    let table = table_asked(volume, snapshot)?;
-    let (_number, file) = table.file_named(file)?;
-    Some(file.length())
+    match table.file_named(file) {
+        None => false,
+        Some((_number, file)) => file.length() < u64::from(length),
+    }
 }
 
 /// Whether the span of a clone on the snapshot would be too great.

@@ -18,7 +18,7 @@ pub fn refusal(alloc: Global, machine: &Machine, command: &Command, after: &Mach
         Command::VolDestroy { volume } => Ok(of_removal(machine, volume)),
         Command::VolResize { volume, size } => of_size(alloc, machine, after, volume, *size),
         Command::VolGuarantee { volume, kind } => of_kind(alloc, machine, after, volume, *kind),
-        Command::VolList | Command::Cp => Ok(None),
+        Command::VolList => Ok(of_vol_list(machine)),
         Command::VolStat { volume } => Ok(of_stat(machine, volume)),
         Command::New { volume, file, reserve } => of_new(alloc, machine, after, volume, file, *reserve),
         Command::Put { volume, file, index, block } => of_put(alloc, machine, after, volume, file, *index, block),
@@ -38,6 +38,7 @@ pub fn refusal(alloc: Global, machine: &Machine, command: &Command, after: &Mach
         Command::Clean { volume } => Ok(of_cleaning(machine, volume)),
         Command::Probe { volume, file, index } => Ok(of_probe(machine, volume, file, *index)),
         Command::Work { steps } => Ok(of_work(machine, *steps)),
+        Command::Cp => Ok(of_cp(machine)),
     }
 }
 
@@ -342,4 +343,20 @@ fn of_work(machine: &Machine, steps: u32) -> Option<Refusal>
     first_of(&[
         (Refusal::Range, !in_steps(u64::from(steps))),
     ])
+}
+
+#[tactic(auto, unfolding(fv_model::specs::Refusals::conditions))]
+fn of_vol_list(machine: &Machine) -> Option<Refusal>
+    ensures { result ≡ refusal machine.now Command.VolList }
+{
+    let _asked = machine;
+    first_of(&[])
+}
+
+#[tactic(auto, unfolding(fv_model::specs::Refusals::conditions))]
+fn of_cp(machine: &Machine) -> Option<Refusal>
+    ensures { result ≡ refusal machine.now Command.Cp }
+{
+    let _asked = machine;
+    first_of(&[])
 }

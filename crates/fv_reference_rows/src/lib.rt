@@ -1,0 +1,7 @@
+//! Scripts with the replies that a user gets, worked out by hand, run through the plain machine.
+#![tactic(auto)]
+
+#[cfg(test)]
+mod reading;
+#[cfg(test)]
+mod rows;
