@@ -1,5 +1,5 @@
 -- Which reply a machine allows, from whether the command is refused.
-use Rattle.std.proofs.Common.{◌≡◌, ℕ, ◌≤◌, Bool, true, false, cond, Option, Some, None, refl, sym, ap, subst, ◌∙◌, is_some, arith}
+use Rattle.std.proofs.Common.{◌≡◌, Bool, true, false, cond, Option, Some, None, refl, ap, subst, ◌∙◌, is_some, arith}
 use Rattle.fv_model.specs.declared.answers.Refusal.{Refusal}
 use Rattle.fv_model.specs.declared.answers.Reply.{Reply}
 use Rattle.fv_model.specs.declared.answers.Reply.TheVariants.{Number, Refused}

@@ -1,5 +1,5 @@
 -- Levels, and lists of places that are made one after another.
-use Rattle.std.proofs.Common.{◌≡◌, ℕ, suc, ◌+◌, ◌*◌, ◌^◌, ◌/◌, ◌<◌, ◌≤◌, ◌-◌, Bool, true, false, cond, nat_lt, List, [], ◌∷◌, ◌++◌, map, get_or, length, drop, refl, sym, ap, subst, ◌∙◌, arith, ltb}
+use Rattle.std.proofs.Common.{◌≡◌, ℕ, suc, ◌+◌, ◌^◌, ◌/◌, ◌<◌, ◌≤◌, ◌-◌, Bool, true, false, nat_lt, List, [], ◌∷◌, ◌++◌, map, get_or, refl, sym, ap, ◌∙◌, arith}
 use Rattle.std.specs.List.{prefix_len, range_with_len}
 use Rattle.std.specs.FinMap as fin
 use Rattle.std.proofs.Math.Nat.{pow-le-pow_right, div-eq_of_lt}
@@ -13,10 +13,10 @@ least_is : (n h : ℕ) → n ≤ fan ^ h → ((k : ℕ) → k < h → fan ^ k < 
 unfolding least_levels
 least_is n h reaches before most =
     prefix_len_is (λ k. nat_lt (fan ^ k) n) (range_with_len 0 n) h 0 (omega (arith, length-range_with_len 0 n, most))
-        (λ k lt. let at : get_or (range_with_len 0 n) k 0 ≡ k = get_or-range_with_len 0 n k 0 (omega arith) ∙ omega arith in
-            let low : fan ^ k < n = before k lt in rw at (grind (arith, nat_tests)))
-        (λ lt. let at : get_or (range_with_len 0 n) h 0 ≡ h = get_or-range_with_len 0 n h 0 (omega (arith, length-range_with_len 0 n)) ∙ omega arith in
-            rw at (grind (arith, nat_tests)))
+    (λ k lt. let at : get_or (range_with_len 0 n) k 0 ≡ k = get_or-range_with_len 0 n k 0 (omega arith) ∙ omega arith in
+    let low : fan ^ k < n = before k lt in rw at (grind (arith, nat_tests)))
+    (λ lt. let at : get_or (range_with_len 0 n) h 0 ≡ h = get_or-range_with_len 0 n h 0 (omega (arith, length-range_with_len 0 n)) ∙ omega arith in
+    rw at (grind (arith, nat_tests)))
 
 pub least_zero : (n : ℕ) → n ≤ 1 → least_levels n ≡ 0
 least_zero n h = least_is n 0 h (λ k lt. absurd (omega arith)) (omega arith)
@@ -46,13 +46,13 @@ pub written_is : (t : Tree) (s i levels : ℕ) (any : Bool) (over grown : List S
 unfolding written
 written_is t s i levels any over grown first second last l a o g f m n =
     let both : stamp_spots s (spots_over (levels_with t.levels i) i ++ spots_grown (nat_lt 0 (fin.len t.stamps)) t.levels (levels_with t.levels i)) t.stamps ≡ last =
-        stamped_on s _ _ t.stamps ∙ sym (n ∙ (λ j. stamp_spots s ((g ∙ (λ k. spots_grown (a k) t.levels (l k))) j) ((m ∙ (λ k. stamp_spots s ((o ∙ ap (λ h. spots_over h i) l) k) (f k))) j))) in
+    stamped_on s _ _ t.stamps ∙ sym (n ∙ (λ j. stamp_spots s ((g ∙ (λ k. spots_grown (a k) t.levels (l k))) j) ((m ∙ (λ k. stamp_spots s ((o ∙ ap (λ h. spots_over h i) l) k) (f k))) j))) in
     λ j. record { levels = l j; stamps = sym both j }
 
 -- the least number that isn't taken
 pub free_is : (has : ℕ → Bool) (count n : ℕ) → n ≤ count → ((k : ℕ) → k < n → has k ≡ true) → (n < count → has n ≡ false) → n ≡ prefix_len has (range_with_len 0 count)
 free_is has count n within below stops =
     sym (prefix_len_is has (range_with_len 0 count) n 0 (omega (arith, length-range_with_len 0 count))
-        (λ k lt. ap has (get_or-range_with_len 0 count k 0 (omega arith) ∙ omega arith) ∙ below k lt)
-        (λ lt. let inside : n < count = omega (arith, length-range_with_len 0 count) in
-            ap has (get_or-range_with_len 0 count n 0 inside ∙ omega arith) ∙ stops inside))
+    (λ k lt. ap has (get_or-range_with_len 0 count k 0 (omega arith) ∙ omega arith) ∙ below k lt)
+    (λ lt. let inside : n < count = omega (arith, length-range_with_len 0 count) in
+    ap has (get_or-range_with_len 0 count n 0 inside ∙ omega arith) ∙ stops inside))

@@ -26,8 +26,17 @@ pub fn answer(alloc: Global, machine: &Machine, command: &Command) -> Result<Rep
     match command {
         Command::VolList => Ok(Reply::Names(names_of(alloc, machine.volumes())?)),
         Command::VolStat { volume } => numbers(alloc, machine, volume),
-        Command::Get { volume, snapshot, file, index } => Ok(content_asked(machine, volume, snapshot, file, *index)),
-        Command::Len { volume, snapshot, file } => Ok(length(machine, volume, snapshot, file)),
+        Command::Get {
+            volume,
+            snapshot,
+            file,
+            index,
+        } => Ok(content_asked(machine, volume, snapshot, file, *index)),
+        Command::Len {
+            volume,
+            snapshot,
+            file,
+        } => Ok(length(machine, volume, snapshot, file)),
         Command::Ls { volume, snapshot } => files(alloc, machine, volume, snapshot),
         Command::SnapList { volume } => snapshots(alloc, machine, volume),
         Command::Probe { .. } => Ok(Reply::Number(0)),
@@ -67,7 +76,13 @@ fn small(n: u64) -> Result<u32, AllocError>
     Ok(n as u32)
 }
 
-fn content_asked(machine: &Machine, name: &Name, snapshot: &Option<Name>, file: &Name, index: u32) -> Reply
+fn content_asked(
+    machine: &Machine,
+    name: &Name,
+    snapshot: &Option<Name>,
+    file: &Name,
+    index: u32,
+) -> Reply
     ensures { result ≡ about_file machine.now name.now snapshot.now file.now (λ f. Reply.Content (content f index)) }
 {
     match machine.volume(name) {
@@ -119,7 +134,12 @@ fn length_in(table: &Table, file: &Name) -> Reply
     }
 }
 
-fn files(alloc: Global, machine: &Machine, name: &Name, snapshot: &Option<Name>) -> Result<Reply, AllocError>
+fn files(
+    alloc: Global,
+    machine: &Machine,
+    name: &Name,
+    snapshot: &Option<Name>,
+) -> Result<Reply, AllocError>
     ensures { IfOk result (λ r. r ≡ about_table machine.now name.now snapshot.now (λ t. Reply.Names (file_names t))) }
 {
     match machine.volume(name) {

@@ -218,7 +218,13 @@ fn is_file_kind(kind: Kind) -> bool
 }
 
 /// Whether an index isn't below the length of the file that is asked.
-pub fn is_past_end(machine: &Machine, name: &Name, snapshot: &Option<Name>, file: &Name, index: u32) -> bool
+pub fn is_past_end(
+    machine: &Machine,
+    name: &Name,
+    snapshot: &Option<Name>,
+    file: &Name,
+    index: u32,
+) -> bool
     ensures { result ≡ of_file machine.now name.now snapshot.now file.now (λ f. nat_le f.length index) }
 {
     match machine.volume(name) {
@@ -259,7 +265,13 @@ fn ends_before(table: &Table, file: &Name, length: u32) -> bool
 }
 
 /// Whether the span of a clone on the snapshot would be too great.
-pub fn is_clone_too_wide(alloc: Global, machine: &Machine, name: &Name, snapshot: &Name, size: u32) -> Result<bool, AllocError>
+pub fn is_clone_too_wide(
+    alloc: Global,
+    machine: &Machine,
+    name: &Name,
+    snapshot: &Name,
+    size: u32,
+) -> Result<bool, AllocError>
     ensures { IfOk result (λ b. b ≡ is_clone_too_wide machine.now name.now snapshot.now size) }
 {
     match machine.volume(name) {

@@ -15,21 +15,49 @@ pub fn effect(alloc: Global, machine: &Machine, command: &Command) -> Result<Mac
     ensures { IfOk result (λ m. m ≡ effect machine.now command.now) }
 {
     match command {
-        Command::VolCreate { volume, size, kind } => machine.with_volume(volume, Volume::empty(alloc, *size, *kind)?),
+        Command::VolCreate { volume, size, kind } => machine.with_volume(
+            volume,
+            Volume::empty(alloc, *size, *kind)?,
+        ),
         Command::VolDestroy { volume } => machine.without_volume(volume),
         Command::VolResize { volume, size } => resized(machine, volume, *size),
         Command::VolGuarantee { volume, kind } => guaranteed(machine, volume, *kind),
-        Command::New { volume, file, reserve } => with_file(alloc, machine, volume, file, *reserve),
-        Command::Put { volume, file, index, block } => written(alloc, machine, volume, file, *index, block),
-        Command::Cut { volume, file, length } => shortened(alloc, machine, volume, file, *length),
+        Command::New {
+            volume,
+            file,
+            reserve,
+        } => with_file(alloc, machine, volume, file, *reserve),
+        Command::Put {
+            volume,
+            file,
+            index,
+            block,
+        } => written(alloc, machine, volume, file, *index, block),
+        Command::Cut {
+            volume,
+            file,
+            length,
+        } => shortened(alloc, machine, volume, file, *length),
         Command::Remove { volume, file } => without_file(alloc, machine, volume, file),
         Command::SnapCreate { volume, snapshot } => kept(machine, volume, snapshot),
         Command::SnapDelete { volume, snapshot } => forgotten(machine, volume, snapshot),
         Command::SnapRestore { volume, snapshot } => restored(machine, volume, snapshot),
-        Command::CloneCreate { clone, parent, snapshot, size, kind } => cloned(alloc, machine, clone, parent, snapshot, *size, *kind),
+        Command::CloneCreate {
+            clone,
+            parent,
+            snapshot,
+            size,
+            kind,
+        } => cloned(alloc, machine, clone, parent, snapshot, *size, *kind),
         Command::SplitStart { clone } => split_started(machine, clone),
         Command::SplitFinish { clone } => split_finished(machine, clone),
-        Command::Mirror { source, snapshot, volume, size, kind } => mirrored(alloc, machine, source, snapshot, volume, *size, *kind),
+        Command::Mirror {
+            source,
+            snapshot,
+            volume,
+            size,
+            kind,
+        } => mirrored(alloc, machine, source, snapshot, volume, *size, *kind),
         Command::Clean { volume } => cleaned(machine, volume),
         _ => machine.clone(),
     }
@@ -53,19 +81,34 @@ fn guaranteed(machine: &Machine, name: &Name, kind: Kind) -> Result<Machine, All
     }
 }
 
-fn with_file(alloc: Global, machine: &Machine, name: &Name, file: &Name, reserve: u32) -> Result<Machine, AllocError>
+fn with_file(
+    alloc: Global,
+    machine: &Machine,
+    name: &Name,
+    file: &Name,
+    reserve: u32,
+) -> Result<Machine, AllocError>
     ensures { IfOk result (λ m. m ≡ changed machine.now (at_volume machine.now name.now (λ x. Becomes name.now (stamped x (new x.active file.now reserve))))) }
 {
     match machine.volume(name) {
         None => machine.clone(),
         Some(volume) => {
-            let table = volume.active().new_file(alloc, file, reserve, volume.next_stamp()?)?;
+            let table = volume
+                .active()
+                .new_file(alloc, file, reserve, volume.next_stamp()?)?;
             machine.with_volume(name, volume.changed(table)?)
         }
     }
 }
 
-fn written(alloc: Global, machine: &Machine, name: &Name, file: &Name, index: u32, block: &Block) -> Result<Machine, AllocError>
+fn written(
+    alloc: Global,
+    machine: &Machine,
+    name: &Name,
+    file: &Name,
+    index: u32,
+    block: &Block,
+) -> Result<Machine, AllocError>
     ensures { IfOk result (λ m. m ≡ changed machine.now (at_volume machine.now name.now (λ x. at_file x file.now (λ n f. Becomes name.now (stamped x (put x.active n f index block.now)))))) }
 {
     match machine.volume(name) {
@@ -74,19 +117,35 @@ fn written(alloc: Global, machine: &Machine, name: &Name, file: &Name, index: u3
     }
 }
 
-fn written_in(alloc: Global, machine: &Machine, name: &Name, volume: &Volume, file: &Name, index: u32, block: &Block) -> Result<Machine, AllocError>
+fn written_in(
+    alloc: Global,
+    machine: &Machine,
+    name: &Name,
+    volume: &Volume,
+    file: &Name,
+    index: u32,
+    block: &Block,
+) -> Result<Machine, AllocError>
     ensures { IfOk result (λ m. m ≡ changed machine.now (at_file volume.now file.now (λ n f. Becomes name.now (stamped volume.now (put volume.now.active n f index block.now))))) }
 {
     match volume.active().file_named(file) {
         None => machine.clone(),
         Some((number, file)) => {
-            let table = volume.active().put(alloc, number, file, index, block, volume.next_stamp()?)?;
+            let table = volume
+                .active()
+                .put(alloc, number, file, index, block, volume.next_stamp()?)?;
             machine.with_volume(name, volume.changed(table)?)
         }
     }
 }
 
-fn shortened(alloc: Global, machine: &Machine, name: &Name, file: &Name, length: u32) -> Result<Machine, AllocError>
+fn shortened(
+    alloc: Global,
+    machine: &Machine,
+    name: &Name,
+    file: &Name,
+    length: u32,
+) -> Result<Machine, AllocError>
     ensures { IfOk result (λ m. m ≡ changed machine.now (at_volume machine.now name.now (λ x. at_file x file.now (λ n f. Becomes name.now (stamped x (cut x.active n f length)))))) }
 {
     match machine.volume(name) {
@@ -95,19 +154,33 @@ fn shortened(alloc: Global, machine: &Machine, name: &Name, file: &Name, length:
     }
 }
 
-fn shortened_in(alloc: Global, machine: &Machine, name: &Name, volume: &Volume, file: &Name, length: u32) -> Result<Machine, AllocError>
+fn shortened_in(
+    alloc: Global,
+    machine: &Machine,
+    name: &Name,
+    volume: &Volume,
+    file: &Name,
+    length: u32,
+) -> Result<Machine, AllocError>
     ensures { IfOk result (λ m. m ≡ changed machine.now (at_file volume.now file.now (λ n f. Becomes name.now (stamped volume.now (cut volume.now.active n f length))))) }
 {
     match volume.active().file_named(file) {
         None => machine.clone(),
         Some((number, file)) => {
-            let table = volume.active().cut(alloc, number, file, length, volume.next_stamp()?)?;
+            let table = volume
+                .active()
+                .cut(alloc, number, file, length, volume.next_stamp()?)?;
             machine.with_volume(name, volume.changed(table)?)
         }
     }
 }
 
-fn without_file(alloc: Global, machine: &Machine, name: &Name, file: &Name) -> Result<Machine, AllocError>
+fn without_file(
+    alloc: Global,
+    machine: &Machine,
+    name: &Name,
+    file: &Name,
+) -> Result<Machine, AllocError>
     ensures { IfOk result (λ m. m ≡ changed machine.now (at_volume machine.now name.now (λ x. at_file x file.now (λ n f. Becomes name.now (stamped x (rm x.active n)))))) }
 {
     match machine.volume(name) {
@@ -116,7 +189,13 @@ fn without_file(alloc: Global, machine: &Machine, name: &Name, file: &Name) -> R
     }
 }
 
-fn without_file_in(alloc: Global, machine: &Machine, name: &Name, volume: &Volume, file: &Name) -> Result<Machine, AllocError>
+fn without_file_in(
+    alloc: Global,
+    machine: &Machine,
+    name: &Name,
+    volume: &Volume,
+    file: &Name,
+) -> Result<Machine, AllocError>
     ensures { IfOk result (λ m. m ≡ changed machine.now (at_file volume.now file.now (λ n f. Becomes name.now (stamped volume.now (rm volume.now.active n))))) }
 {
     match volume.active().file_named(file) {
@@ -155,7 +234,12 @@ fn restored(machine: &Machine, name: &Name, snapshot: &Name) -> Result<Machine, 
     }
 }
 
-fn restored_in(machine: &Machine, name: &Name, volume: &Volume, snapshot: &Name) -> Result<Machine, AllocError>
+fn restored_in(
+    machine: &Machine,
+    name: &Name,
+    volume: &Volume,
+    snapshot: &Name,
+) -> Result<Machine, AllocError>
     ensures { IfOk result (λ m. m ≡ changed machine.now (at_snapshot volume.now snapshot.now (λ t. Becomes name.now (record volume.now { active = t })))) }
 {
     match volume.snapshot(snapshot) {
@@ -164,7 +248,15 @@ fn restored_in(machine: &Machine, name: &Name, volume: &Volume, snapshot: &Name)
     }
 }
 
-fn cloned(alloc: Global, machine: &Machine, clone: &Name, parent: &Name, snapshot: &Name, size: u32, kind: Kind) -> Result<Machine, AllocError>
+fn cloned(
+    alloc: Global,
+    machine: &Machine,
+    clone: &Name,
+    parent: &Name,
+    snapshot: &Name,
+    size: u32,
+    kind: Kind,
+) -> Result<Machine, AllocError>
     ensures { IfOk result (λ m. m ≡ changed machine.now (at_volume machine.now parent.now (λ x. at_snapshot x snapshot.now (λ t. Becomes clone.now (clone_of parent.now x snapshot.now t size kind))))) }
 {
     match machine.volume(parent) {
@@ -173,12 +265,24 @@ fn cloned(alloc: Global, machine: &Machine, clone: &Name, parent: &Name, snapsho
     }
 }
 
-fn cloned_from(alloc: Global, machine: &Machine, clone: &Name, parent: &Name, volume: &Volume, snapshot: &Name, size: u32, kind: Kind) -> Result<Machine, AllocError>
+fn cloned_from(
+    alloc: Global,
+    machine: &Machine,
+    clone: &Name,
+    parent: &Name,
+    volume: &Volume,
+    snapshot: &Name,
+    size: u32,
+    kind: Kind,
+) -> Result<Machine, AllocError>
     ensures { IfOk result (λ m. m ≡ changed machine.now (at_snapshot volume.now snapshot.now (λ t. Becomes clone.now (clone_of parent.now volume.now snapshot.now t size kind)))) }
 {
     match volume.snapshot(snapshot) {
         None => machine.clone(),
-        Some(table) => machine.with_volume(clone, volume.clone_on(alloc, parent, snapshot, table, size, kind)?),
+        Some(table) => machine.with_volume(
+            clone,
+            volume.clone_on(alloc, parent, snapshot, table, size, kind)?,
+        ),
     }
 }
 
@@ -200,7 +304,15 @@ fn split_finished(machine: &Machine, name: &Name) -> Result<Machine, AllocError>
     }
 }
 
-fn mirrored(alloc: Global, machine: &Machine, source: &Name, snapshot: &Name, mirror: &Name, size: u32, kind: Kind) -> Result<Machine, AllocError>
+fn mirrored(
+    alloc: Global,
+    machine: &Machine,
+    source: &Name,
+    snapshot: &Name,
+    mirror: &Name,
+    size: u32,
+    kind: Kind,
+) -> Result<Machine, AllocError>
     ensures { IfOk result (λ m. m ≡ changed machine.now (at_volume machine.now source.now (λ x. at_snapshot x snapshot.now (λ t. Becomes mirror.now (mirror_of x t size kind))))) }
 {
     match machine.volume(source) {
@@ -209,7 +321,15 @@ fn mirrored(alloc: Global, machine: &Machine, source: &Name, snapshot: &Name, mi
     }
 }
 
-fn mirrored_from(alloc: Global, machine: &Machine, volume: &Volume, snapshot: &Name, mirror: &Name, size: u32, kind: Kind) -> Result<Machine, AllocError>
+fn mirrored_from(
+    alloc: Global,
+    machine: &Machine,
+    volume: &Volume,
+    snapshot: &Name,
+    mirror: &Name,
+    size: u32,
+    kind: Kind,
+) -> Result<Machine, AllocError>
     ensures { IfOk result (λ m. m ≡ changed machine.now (at_snapshot volume.now snapshot.now (λ t. Becomes mirror.now (mirror_of volume.now t size kind)))) }
 {
     match volume.snapshot(snapshot) {

@@ -9,7 +9,11 @@ use std::alloc::{AllocError, Global};
 use std::collections::BTreeMap;
 
 /// Gives a key a value; where there is no memory the map stays.
-pub fn insert<K: Ord + Drop, V: Drop>(map: &mut BTreeMap<K, V>, key: K, value: V) -> Result<(), AllocError>
+pub fn insert<K: Ord + Drop, V: Drop>(
+    map: &mut BTreeMap<K, V>,
+    key: K,
+    value: V,
+) -> Result<(), AllocError>
     ensures ok { OnOk result (map_of K.cmp map.new ≡ fin.insert (map_of K.cmp map.old) key value) }
     ensures err { OnErr result (map_of K.cmp map.new ≡ map_of K.cmp map.old) }
 {
@@ -63,7 +67,10 @@ fn listed_keys<V>(alloc: Global, map: &BTreeMap<u32, V>) -> Result<Vec<u32>, All
 }
 
 /// The map of some entries; the first of two with one key counts.
-pub fn from_entries<K: Ord + Drop, V: Drop>(alloc: Global, entries: Vec<(K, V)>) -> Result<BTreeMap<K, V>, AllocError>
+pub fn from_entries<K: Ord + Drop, V: Drop>(
+    alloc: Global,
+    entries: Vec<(K, V)>,
+) -> Result<BTreeMap<K, V>, AllocError>
     ensures { IfOk result (λ m. map_of K.cmp m ≡ fin.from_entries entries.items) }
 {
     let mut map = BTreeMap::new(alloc);

@@ -153,7 +153,11 @@ fn list_tree(entries: &mut Vec<Id>, owner: Option<u32>, tree: &Tree) -> Result<(
     list_stamps(entries, owner, stamps)
 }
 
-fn list_stamps(entries: &mut Vec<Id>, owner: Option<u32>, stamps: &BTreeMap<Spot, u64>) -> Result<(), AllocError>
+fn list_stamps(
+    entries: &mut Vec<Id>,
+    owner: Option<u32>,
+    stamps: &BTreeMap<Spot, u64>,
+) -> Result<(), AllocError>
     ensures { OnOk result (entries.new.items ≡ entries.old.items ++ map (λ e. (placed (owner_of owner) e.0, e.1)) stamps.now.entries) }
 {
     for (spot, stamp) in stamps {

@@ -31,7 +31,12 @@ pub fn need(alloc: Global, volume: &Volume) -> Result<u64, AllocError>
     }
 }
 
-fn needed_of(alloc: Global, active: &Table, snapshots: &BTreeMap<Name, Table>, base: &Option<Base>) -> Result<u64, AllocError>
+fn needed_of(
+    alloc: Global,
+    active: &Table,
+    snapshots: &BTreeMap<Name, Table>,
+    base: &Option<Base>,
+) -> Result<u64, AllocError>
     ensures { IfOk result (λ n. n ≡ sum_by (λ e. count_by (needs_block (set.union (ids_in_any (fin.values (map_of name_cmp snapshots.now))) (base_ids base.now)) (stamps_of active.now)) (reserved_places active.now.inode.levels e.0 e.1)) (fin.entries active.now.files)) }
 {
     let shared = shared_ids(alloc, snapshots, base)?;
@@ -42,7 +47,11 @@ fn needed_of(alloc: Global, active: &Table, snapshots: &BTreeMap<Name, Table>, b
 }
 
 /// The ids that a snapshot or the base has, too.
-fn shared_ids(alloc: Global, snapshots: &BTreeMap<Name, Table>, base: &Option<Base>) -> Result<BTreeSet<Id>, AllocError>
+fn shared_ids(
+    alloc: Global,
+    snapshots: &BTreeMap<Name, Table>,
+    base: &Option<Base>,
+) -> Result<BTreeSet<Id>, AllocError>
     ensures { IfOk result (λ s. set_of id_cmp s ≡ set.union (ids_in_any (fin.values (map_of name_cmp snapshots.now))) (base_ids base.now)) }
 {
     let mut ids = BTreeSet::new(alloc);
@@ -61,7 +70,13 @@ fn add_base(alloc: Global, ids: &mut BTreeSet<Id>, base: &Option<Base>) -> Resul
 }
 
 /// The sum of what the files' reserves need.
-fn needed(alloc: Global, shared: &BTreeSet<Id>, stamps: &BTreeMap<Place, u64>, levels: u32, files: &BTreeMap<u32, File>) -> Result<u64, AllocError>
+fn needed(
+    alloc: Global,
+    shared: &BTreeSet<Id>,
+    stamps: &BTreeMap<Place, u64>,
+    levels: u32,
+    files: &BTreeMap<u32, File>,
+) -> Result<u64, AllocError>
     requires { levels ≤ 5 }
     ensures { IfOk result (λ n. n ≡ sum_by (λ e. count_by (needs_block (set_of id_cmp shared.now) (map_of place_cmp stamps.now)) (reserved_places levels e.0 e.1)) files.now.entries) }
 {
@@ -76,7 +91,10 @@ fn needed(alloc: Global, shared: &BTreeSet<Id>, stamps: &BTreeMap<Place, u64>, l
 fn count_needed(shared: &BTreeSet<Id>, stamps: &BTreeMap<Place, u64>, places: &[Place]) -> usize
     ensures { result ≡ count_by (needs_block (set_of id_cmp shared.now) (map_of place_cmp stamps.now)) places.now }
 {
-    places.iter().filter(|place| needs_block(shared, stamps, place)).count()
+    places
+        .iter()
+        .filter(|place| needs_block(shared, stamps, place))
+        .count()
 }
 
 /// Whether a write at a place takes a block.
@@ -92,7 +110,12 @@ fn needs_block(shared: &BTreeSet<Id>, stamps: &BTreeMap<Place, u64>, place: &Pla
 
 /// All places that a file's reserve stands for.
 #[tactic(auto, unfolding(fv_model::specs::Space::reserved_places))]
-fn reserved_places(alloc: Global, levels: u32, number: u32, file: &File) -> Result<Vec<Place>, AllocError>
+fn reserved_places(
+    alloc: Global,
+    levels: u32,
+    number: u32,
+    file: &File,
+) -> Result<Vec<Place>, AllocError>
     requires { levels ≤ 5 }
     ensures { IfOk result (λ v. v.items ≡ reserved_places levels number file.now) }
 {
@@ -105,7 +128,12 @@ fn reserved_places(alloc: Global, levels: u32, number: u32, file: &File) -> Resu
     Ok(places)
 }
 
-fn list_reserved(places: &mut Vec<Place>, number: u32, reserve: u32, levels: u32) -> Result<(), AllocError>
+fn list_reserved(
+    places: &mut Vec<Place>,
+    number: u32,
+    reserve: u32,
+    levels: u32,
+) -> Result<(), AllocError>
     requires { levels ≤ 5 }
     ensures { OnOk result (places.new.items ≡ places.old.items ++ flat_map (reserved_at number reserve) (range_with_len 0 (levels + 1))) }
 {
@@ -117,7 +145,12 @@ fn list_reserved(places: &mut Vec<Place>, number: u32, reserve: u32, levels: u32
 
 /// Lists the ranges of a level that meet the indexes below a reserve.
 #[tactic(auto, unfolding(fv_model::specs::Space::reserved_at))]
-fn list_level(places: &mut Vec<Place>, number: u32, reserve: u32, level: u32) -> Result<(), AllocError>
+fn list_level(
+    places: &mut Vec<Place>,
+    number: u32,
+    reserve: u32,
+    level: u32,
+) -> Result<(), AllocError>
     requires { level ≤ 5 }
     ensures { OnOk result (places.new.items ≡ places.old.items ++ reserved_at number reserve level) }
 {
@@ -127,7 +160,13 @@ fn list_level(places: &mut Vec<Place>, number: u32, reserve: u32, level: u32) ->
     Ok(())
 }
 
-fn list_range(places: &mut Vec<Place>, number: u32, reserve: u32, level: u32, index: u32) -> Result<(), AllocError>
+fn list_range(
+    places: &mut Vec<Place>,
+    number: u32,
+    reserve: u32,
+    level: u32,
+    index: u32,
+) -> Result<(), AllocError>
     requires { level ≤ 5 }
     ensures { OnOk result (places.new.items ≡ places.old.items ++ cond (nat_lt (index * fan ^ level) reserve) (record { owner = OfFile number; level = level; index = index } ∷ []) []) }
 {
@@ -184,7 +223,10 @@ fn overhead(span: u64) -> Result<u64, AllocError>
 pub fn commit(alloc: Global, volume: &Volume) -> Result<u64, AllocError>
     ensures { IfOk result (λ n. n ≡ commit volume.now) }
 {
-    plus(times(2, overhead(volume.span())?)?, promised(alloc, volume)?)
+    plus(
+        times(2, overhead(volume.span())?)?,
+        promised(alloc, volume)?,
+    )
 }
 
 fn promised(alloc: Global, volume: &Volume) -> Result<u64, AllocError>

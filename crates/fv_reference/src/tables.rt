@@ -156,7 +156,13 @@ impl File {
         let mut blocks = copy(&self.blocks)?;
         keep_below(&mut blocks, length);
         let left = keys(alloc, &blocks)?;
-        let tree = self.tree.erased(alloc, stamp, least_levels(u64::from(self.reserve)), &gone, &left)?;
+        let tree = self.tree.erased(
+            alloc,
+            stamp,
+            least_levels(u64::from(self.reserve)),
+            &gone,
+            &left,
+        )?;
         Ok(File {
             name: self.name,
             length: u64::from(length),
@@ -171,7 +177,11 @@ impl File {
 fn from_on(alloc: Global, indexes: &[u32], length: u32) -> Result<Vec<u32>, AllocError>
     ensures { IfOk result (λ v. v.items ≡ filter (λ i. nat_le length i) indexes.now) }
 {
-    indexes.iter().copied().filter(|index| length <= *index).collect(alloc)
+    indexes
+        .iter()
+        .copied()
+        .filter(|index| length <= *index)
+        .collect(alloc)
 }
 
 /// Takes out the blocks of cells that aren't below a length.
@@ -246,7 +256,13 @@ impl Table {
 
     /// The table after a change made a file.
     #[tactic(auto, unfolding(fv_model::specs::Tables::new))]
-    pub fn new_file(&self, alloc: Global, name: &Name, reserve: u32, stamp: u64) -> Result<Table, AllocError>
+    pub fn new_file(
+        &self,
+        alloc: Global,
+        name: &Name,
+        reserve: u32,
+        stamp: u64,
+    ) -> Result<Table, AllocError>
         ensures { IfOk result (λ t. t ≡ new self.now name.now reserve stamp) }
     {
         let number = free_number(&self.files)?;
@@ -255,7 +271,15 @@ impl Table {
 
     /// The table after a change wrote a cell of a file.
     #[tactic(auto, unfolding(fv_model::specs::Tables::put))]
-    pub fn put(&self, alloc: Global, number: u32, file: &File, index: u32, block: &Block, stamp: u64) -> Result<Table, AllocError>
+    pub fn put(
+        &self,
+        alloc: Global,
+        number: u32,
+        file: &File,
+        index: u32,
+        block: &Block,
+        stamp: u64,
+    ) -> Result<Table, AllocError>
         ensures { IfOk result (λ t. t ≡ put self.now number file.now index block.now stamp) }
     {
         let file = file.put(alloc, index, block, stamp)?;
@@ -264,7 +288,14 @@ impl Table {
 
     /// The table after a change cut a file to a length.
     #[tactic(auto, unfolding(fv_model::specs::Tables::cut))]
-    pub fn cut(&self, alloc: Global, number: u32, file: &File, length: u32, stamp: u64) -> Result<Table, AllocError>
+    pub fn cut(
+        &self,
+        alloc: Global,
+        number: u32,
+        file: &File,
+        length: u32,
+        stamp: u64,
+    ) -> Result<Table, AllocError>
         ensures { IfOk result (λ t. t ≡ cut self.now number file.now length stamp) }
     {
         let file = file.cut(alloc, length, stamp)?;
@@ -272,7 +303,13 @@ impl Table {
     }
 
     /// The table with a file under a number, whose inode cell a change wrote.
-    fn with_file(&self, alloc: Global, number: u32, file: File, stamp: u64) -> Result<Table, AllocError>
+    fn with_file(
+        &self,
+        alloc: Global,
+        number: u32,
+        file: File,
+        stamp: u64,
+    ) -> Result<Table, AllocError>
         ensures { IfOk result (λ t. t ≡ record { files = fin.insert self.now.files number file; inode = written stamp (inode_cell number) self.now.inode }) }
     {
         let mut files = copy(&self.files)?;

@@ -24,7 +24,6 @@ impl Model for Tree {
     ghost use Rattle.std.specs.Prelude.{◌≤◌};
     ghost use Rattle.fv_model.specs.Trees as trees;
     ghost use Rattle.fv_reference.specs.Maps.{map_of};
-
     ghost use Rattle.fv_reference.specs.Codes.{tree_code};
 
     ghost Value = { trees.Tree };
@@ -89,7 +88,14 @@ impl Tree {
 
     /// The tree after a change removed some cells and left others.
     #[tactic(auto, unfolding(fv_model::specs::Trees::erased))]
-    pub fn erased(&self, alloc: Global, stamp: u64, start: u32, gone: &[u32], left: &[u32]) -> Result<Tree, AllocError>
+    pub fn erased(
+        &self,
+        alloc: Global,
+        stamp: u64,
+        start: u32,
+        gone: &[u32],
+        left: &[u32],
+    ) -> Result<Tree, AllocError>
         requires { start ≤ 5 }
         ensures { IfOk result (λ t. t ≡ erased stamp start gone.now left.now self.now) }
     {
@@ -206,7 +212,11 @@ fn first_ranges(alloc: Global, from: u32, count: u32) -> Result<Vec<Spot>, Alloc
 
 /// Gives each of these places a stamp.
 #[tactic(auto, unfolding(fv_model::specs::Trees::stamp_spots))]
-fn stamp_spots(stamps: &mut BTreeMap<Spot, u64>, stamp: u64, spots: &[Spot]) -> Result<(), AllocError>
+fn stamp_spots(
+    stamps: &mut BTreeMap<Spot, u64>,
+    stamp: u64,
+    spots: &[Spot],
+) -> Result<(), AllocError>
     ensures { OnOk result (map_of spot_cmp stamps.new ≡ stamp_spots stamp spots.now (map_of spot_cmp stamps.old)) }
 {
     for spot in spots {
@@ -238,7 +248,11 @@ fn spots_over_all(alloc: Global, levels: u32, cells: &[u32]) -> Result<Vec<Spot>
 fn held_spots(alloc: Global, spots: &[Spot], cells: &[u32]) -> Result<Vec<Spot>, AllocError>
     ensures { IfOk result (λ v. v.items ≡ filter (holds_one cells.now) spots.now) }
 {
-    spots.iter().copied().filter(|spot| holds_one(cells, *spot)).collect(alloc)
+    spots
+        .iter()
+        .copied()
+        .filter(|spot| holds_one(cells, *spot))
+        .collect(alloc)
 }
 
 /// Takes out the stamps of those spots in whose range none of these cells lies.

@@ -154,7 +154,15 @@ impl Volume {
     }
 
     /// A clone of the volume on the table of one of its snapshots.
-    pub fn clone_on(&self, alloc: Global, parent: &Name, snapshot: &Name, table: &Table, size: u32, kind: Kind) -> Result<Volume, AllocError>
+    pub fn clone_on(
+        &self,
+        alloc: Global,
+        parent: &Name,
+        snapshot: &Name,
+        table: &Table,
+        size: u32,
+        kind: Kind,
+    ) -> Result<Volume, AllocError>
         ensures { IfOk result (λ v. v ≡ clone_of parent.now self.now snapshot.now table.now size kind) }
     {
         Ok(Volume {
@@ -176,7 +184,13 @@ impl Volume {
     }
 
     /// A mirror of the volume with the table of one of its snapshots.
-    pub fn mirror_with(&self, alloc: Global, table: &Table, size: u32, kind: Kind) -> Result<Volume, AllocError>
+    pub fn mirror_with(
+        &self,
+        alloc: Global,
+        table: &Table,
+        size: u32,
+        kind: Kind,
+    ) -> Result<Volume, AllocError>
         ensures { IfOk result (λ v. v ≡ mirror_of self.now table.now size kind) }
     {
         Ok(Volume {
@@ -361,7 +375,13 @@ impl Volume {
     }
 }
 
-fn charged(alloc: Global, active: &Table, snapshots: &BTreeMap<Name, Table>, base: &Option<Base>, span: u64) -> Result<u64, AllocError>
+fn charged(
+    alloc: Global,
+    active: &Table,
+    snapshots: &BTreeMap<Name, Table>,
+    base: &Option<Base>,
+    span: u64,
+) -> Result<u64, AllocError>
     ensures { IfOk result (λ n. n ≡ set.len (set.difference (set.union (ids_of active.now) (ids_in_any (fin.values (map_of name_cmp snapshots.now)))) (ids_left_out base.now)) + map_blocks span * fin.len (map_of name_cmp snapshots.now)) }
 {
     let ids = charged_ids(alloc, active, snapshots, base)?;
@@ -369,7 +389,12 @@ fn charged(alloc: Global, active: &Table, snapshots: &BTreeMap<Name, Table>, bas
     plus(count(&ids) as u64, maps)
 }
 
-fn charged_ids(alloc: Global, active: &Table, snapshots: &BTreeMap<Name, Table>, base: &Option<Base>) -> Result<BTreeSet<Id>, AllocError>
+fn charged_ids(
+    alloc: Global,
+    active: &Table,
+    snapshots: &BTreeMap<Name, Table>,
+    base: &Option<Base>,
+) -> Result<BTreeSet<Id>, AllocError>
     ensures { IfOk result (λ s. set_of id_cmp s ≡ set.difference (set.union (ids_of active.now) (ids_in_any (fin.values (map_of name_cmp snapshots.now)))) (ids_left_out base.now)) }
 {
     let mut ids = ids_alone(alloc, active)?;
@@ -437,14 +462,22 @@ fn splitting_base(base: &Option<Base>) -> Result<Option<Base>, AllocError>
 }
 
 /// Adds the ids of all snapshots.
-pub fn add_kept(alloc: Global, ids: &mut BTreeSet<Id>, snapshots: &BTreeMap<Name, Table>) -> Result<(), AllocError>
+pub fn add_kept(
+    alloc: Global,
+    ids: &mut BTreeSet<Id>,
+    snapshots: &BTreeMap<Name, Table>,
+) -> Result<(), AllocError>
     ensures { OnOk result (set_of id_cmp ids.new ≡ set.union (set_of id_cmp ids.old) (ids_in_any (fin.values (map_of name_cmp snapshots.now)))) }
 {
     let _count = snapshots.len();
     add_all(alloc, ids, snapshots)
 }
 
-fn add_all(alloc: Global, ids: &mut BTreeSet<Id>, snapshots: &BTreeMap<Name, Table>) -> Result<(), AllocError>
+fn add_all(
+    alloc: Global,
+    ids: &mut BTreeSet<Id>,
+    snapshots: &BTreeMap<Name, Table>,
+) -> Result<(), AllocError>
     ensures { OnOk result (set_of id_cmp ids.new ≡ set.union (set_of id_cmp ids.old) (ids_in_any (map (λ e. e.1) snapshots.now.entries))) }
 {
     for (_, table) in snapshots {

@@ -1,15 +1,28 @@
 //! The rows: each begins with a new aggregate of 1024 blocks.
 use crate::reading::{command, shown};
 use fv_reference::Machine;
+use std::process::Abort;
 
-/// Applies each line, and compares its reply with the line beside it.
-fn replay(rt: &HostRuntime, blocks: u32, lines: &[(&str, &str)]) {
-    let mut machine = Machine::new(rt.alloc(), blocks);
+/// Applies a line, and compares its reply with what is wanted.
+fn say(rt: &(impl Abort + AllocGlobal), machine: &mut Machine, line: &str, want: &str) {
+    let command = command(rt.alloc(), line).expect(rt, "memory for a command");
+    let reply = machine.apply(rt.alloc(), &command).expect(rt, "memory for a step");
+    let text = shown(rt.alloc(), &reply).expect(rt, "memory for a line");
+    assert_eq!(rt; text.as_str(), want, "{line}");
+}
+
+fn replay(rt: &(impl Abort + AllocGlobal), lines: &[(&str, &str)]) {
+    let mut machine = Machine::new(rt.alloc(), 1024);
     for (line, want) in lines {
-        let command = command(rt.alloc(), line).expect(rt, "memory for a command");
-        let reply = machine.apply(rt.alloc(), &command).expect(rt, "memory for a step");
-        let text = shown(rt.alloc(), &reply).expect(rt, "memory for a line");
-        assert_eq!(rt; text.as_str(), *want, "{line}");
+        say(rt, &mut machine, line, want);
+    }
+}
+
+/// Writes the first cells of a file of volume `a`.
+fn fill(rt: &(impl Abort + AllocGlobal), machine: &mut Machine, file: &str, count: u32) {
+    for index in 0..count {
+        let line = format!(in rt.alloc(); "put a {file} {index} 01").expect(rt, "memory for a line");
+        say(rt, machine, line.as_str(), "ok");
     }
 }
 
@@ -380,40 +393,66 @@ const EVERY_COMMAND: [(&str, &str); 26] = [
 
 #[test]
 fn volumes_and_files(rt: HostRuntime) {
-    replay(&rt, 1024, &FIRST_VOLUME);
-    replay(&rt, 1024, &LEVELS_GROW);
-    replay(&rt, 1024, &GREATEST_INDEX);
-    replay(&rt, 1024, &ZERO_BLOCKS_AND_HOLES);
-    replay(&rt, 1024, &MISSING_NAMES);
-    replay(&rt, 1024, &SIZES_OUT_OF_RANGE);
+    replay(&rt, &FIRST_VOLUME);
+    replay(&rt, &LEVELS_GROW);
+    replay(&rt, &GREATEST_INDEX);
+    replay(&rt, &ZERO_BLOCKS_AND_HOLES);
+    replay(&rt, &MISSING_NAMES);
+    replay(&rt, &SIZES_OUT_OF_RANGE);
 }
 
 #[test]
 fn snapshots(rt: HostRuntime) {
-    replay(&rt, 1024, &SNAPSHOTS);
-    replay(&rt, 1024, &CUTS_BETWEEN_SNAPSHOTS);
-    replay(&rt, 1024, &MANY_SNAPSHOTS);
-    replay(&rt, 1024, &REMOVALS_NEED_ROOM);
+    replay(&rt, &SNAPSHOTS);
+    replay(&rt, &CUTS_BETWEEN_SNAPSHOTS);
+    replay(&rt, &MANY_SNAPSHOTS);
+    replay(&rt, &REMOVALS_NEED_ROOM);
 }
 
 #[test]
 fn space(rt: HostRuntime) {
-    replay(&rt, 1024, &FULL_VOLUME);
-    replay(&rt, 1024, &FULL_AGGREGATE);
-    replay(&rt, 1024, &GUARANTEES);
-    replay(&rt, 1024, &RESERVES);
+    replay(&rt, &FULL_VOLUME);
+    replay(&rt, &FULL_AGGREGATE);
+    replay(&rt, &GUARANTEES);
+    replay(&rt, &RESERVES);
 }
 
 #[test]
 fn clones_and_mirrors(rt: HostRuntime) {
-    replay(&rt, 1024, &CLONES);
-    replay(&rt, 1024, &CLONES_OF_CLONES);
-    replay(&rt, 1024, &SPLITS);
-    replay(&rt, 1024, &SPLITS_NEED_ROOM);
-    replay(&rt, 1024, &MIRRORS);
+    replay(&rt, &CLONES);
+    replay(&rt, &CLONES_OF_CLONES);
+    replay(&rt, &SPLITS);
+    replay(&rt, &SPLITS_NEED_ROOM);
+    replay(&rt, &MIRRORS);
 }
 
 #[test]
 fn all_commands(rt: HostRuntime) {
-    replay(&rt, 1024, &EVERY_COMMAND);
+    replay(&rt, &EVERY_COMMAND);
+}
+
+#[test]
+fn many_cells(rt: HostRuntime) {
+    let mut machine = Machine::new(rt.alloc(), 1024);
+    say(&rt, &mut machine, "vol create a 1000 none", "ok");
+    say(&rt, &mut machine, "new a f", "ok");
+    fill(&rt, &mut machine, "f", 300);
+    say(&rt, &mut machine, "vol stat a", "size 1000 used 305 need 0 commit 345 kind none clean yes");
+    say(&rt, &mut machine, "rm a f", "ok");
+    say(&rt, &mut machine, "vol stat a", "size 1000 used 0 need 0 commit 40 kind none clean yes");
+    say(&rt, &mut machine, "cp", "ok");
+    say(&rt, &mut machine, "new a g", "ok");
+    fill(&rt, &mut machine, "g", 713);
+    say(&rt, &mut machine, "vol stat a", "size 1000 used 721 need 0 commit 761 kind none clean yes");
+    say(&rt, &mut machine, "put a g 713 01", "err 9");
+}
+
+#[test]
+fn many_volumes(rt: HostRuntime) {
+    let mut machine = Machine::new(rt.alloc(), 4096);
+    for index in 0..64u32 {
+        let line = format!(in rt.alloc(); "vol create v{index} 1 none").expect(&rt, "memory for a line");
+        say(&rt, &mut machine, line.as_str(), "ok");
+    }
+    say(&rt, &mut machine, "vol create v64 1 none", "err 11");
 }

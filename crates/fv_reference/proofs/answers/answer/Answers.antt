@@ -1,4 +1,3 @@
-use Rattle.std.proofs.Common.{◌∙◌, sym}
 use Rattle.fv_model.specs.Replies.{answer}
 use Rattle.fv_reference.proofs.answers.answer.Goals as goal
 

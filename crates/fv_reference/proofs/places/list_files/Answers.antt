@@ -1,7 +1,7 @@
-use Rattle.std.proofs.Common.{◌≡◌, ◌++◌, ℕ, List, flat_map, sym, ap, ◌∙◌}
+use Rattle.std.proofs.Common.{◌++◌, ℕ, List, flat_map, sym, ap, ◌∙◌}
 use Rattle.std.specs.Cmp.{nat_cmp_total}
 use Rattle.fv_model.specs.Tables as tables
-use Rattle.fv_model.specs.Places.{OfFile, Id, tree_entries}
+use Rattle.fv_model.specs.Places.{OfFile, tree_entries}
 use Rattle.fv_reference.proofs.Views.{entries_of}
 use Rattle.std.proofs.lemmas.Result.{on_ok_weaker}
 use Rattle.fv_reference.proofs.places.list_files.Goals as goal

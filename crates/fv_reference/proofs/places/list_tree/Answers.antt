@@ -1,7 +1,7 @@
 use Rattle.std.proofs.Common.{◌≡◌, ◌++◌, ℕ, List, map, sym, ap, ◌∙◌}
 use Rattle.std.specs.FinMap as fin
 use Rattle.fv_model.specs.Trees.{Spot}
-use Rattle.fv_model.specs.Places.{Place, placed}
+use Rattle.fv_model.specs.Places.{placed}
 use Rattle.fv_reference.specs.Owners.{owner_of}
 use Rattle.fv_reference.proofs.Views.{entries_of}
 use Rattle.fv_reference.proofs.Orders.{spot_total}

@@ -1,4 +1,4 @@
-use Rattle.std.proofs.Common.{◌≡◌, ◌*◌, ◌^◌, ◌++◌, ◌∷◌, [], ℕ, Bool, List, sym, ap, ◌∙◌, cond, nat_lt, append_assoc}
+use Rattle.std.proofs.Common.{◌*◌, ◌^◌, ◌++◌, ◌∷◌, [], ℕ, Bool, List, sym, ap, ◌∙◌, cond, nat_lt, append_assoc}
 use Rattle.fv_model.specs.Trees.{fan}
 use Rattle.fv_model.specs.Places.{Place, OfFile}
 use Rattle.fv_reference.proofs.Counting.{reserved_more}

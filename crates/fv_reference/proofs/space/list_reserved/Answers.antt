@@ -1,5 +1,4 @@
-use Rattle.std.proofs.Common.{◌≡◌, ◌++◌, List, sym, ap, ◌∙◌, flat_map, append_assoc}
-use Rattle.std.specs.List.{range_with_len}
+use Rattle.std.proofs.Common.{◌++◌, List, sym, ap, ◌∙◌, append_assoc}
 use Rattle.fv_model.specs.Places.{Place}
 use Rattle.fv_model.specs.Space.{reserved_at}
 use Rattle.fv_reference.proofs.Counting.{levels_more}

@@ -7,4 +7,4 @@ use Rattle.fv_reference.proofs.space.needed.Given as goal
 abbrev pub invariant-loop-number : goal.invariant-loop-number
 invariant-loop-number l =
     l.total + sum_by (λ e. count_by (needs_block (set_of id_cmp l.shared) (map_of place_cmp l.stamps)) (reserved_places l.levels e.0 e.1)) l.number-iterator
-        ≡ sum_by (λ e. count_by (needs_block (set_of id_cmp l.shared) (map_of place_cmp l.stamps)) (reserved_places l.levels e.0 e.1)) l.files.entries
+    ≡ sum_by (λ e. count_by (needs_block (set_of id_cmp l.shared) (map_of place_cmp l.stamps)) (reserved_places l.levels e.0 e.1)) l.files.entries

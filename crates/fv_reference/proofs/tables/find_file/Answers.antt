@@ -1,8 +1,8 @@
-use Rattle.std.proofs.Common.{◌≡◌, sym, ap, ◌∙◌, find}
+use Rattle.std.proofs.Common.{sym, ap, ◌∙◌, find}
 use Rattle.std.specs.Cmp.{nat_cmp_total}
 use Rattle.fv_model.specs.Spelling.{is_same_name}
 use Rattle.fv_model.specs.Tables as tables
-use Rattle.std.proofs.Common.{ℕ, List}
+use Rattle.std.proofs.Common.{ℕ}
 use Rattle.fv_reference.proofs.Views.{entries_of}
 use Rattle.fv_reference.proofs.tables.find_file.Goals as goal
 

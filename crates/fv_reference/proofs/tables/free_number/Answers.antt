@@ -1,5 +1,4 @@
-use Rattle.std.proofs.Common.{◌≡◌, ◌+◌, ℕ, Bool, true, false, List, ap, sym, ◌∙◌, arith, rules, subst}
-use Rattle.std.specs.List.{prefix_len, range_with_len}
+use Rattle.std.proofs.Common.{ℕ, Bool, arith}
 use Rattle.std.specs.Ordering.{nat_cmp}
 use Rattle.std.specs.FinMap as fin
 use Rattle.fv_reference.specs.Maps.{map_of}

@@ -1,4 +1,4 @@
-use Rattle.std.proofs.Common.{◌≡◌, ℕ, ◌++◌, ◌∷◌, [], List, ap, sym, ◌∙◌, arith, ◌+◌, ◌-◌, map}
+use Rattle.std.proofs.Common.{◌≡◌, ℕ, ◌++◌, ◌∷◌, [], List, ap, sym, ◌∙◌, arith, ◌-◌, map}
 use Rattle.std.specs.List.{range_with_len}
 use Rattle.fv_reference.proofs.Levels.{one_more}
 use Rattle.fv_reference.proofs.trees.first_ranges.Goals as goal

@@ -1,4 +1,4 @@
-use Rattle.std.proofs.Common.{◌≡◌, List, ℕ, map, sym, ap, ◌∙◌}
+use Rattle.std.proofs.Common.{List, ℕ, map, sym, ap, ◌∙◌}
 use Rattle.std.specs.FinSet as set
 use Rattle.std.proofs.lemmas.Result.{on_ok_weaker}
 use Rattle.fv_model.specs.Tables.{Table}

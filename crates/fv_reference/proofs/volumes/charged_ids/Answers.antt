@@ -1,8 +1,8 @@
-use Rattle.std.proofs.Common.{◌≡◌, ap, ◌∙◌}
+use Rattle.std.proofs.Common.{ap, ◌∙◌}
 use Rattle.std.specs.FinMap as fin
 use Rattle.std.specs.FinSet as set
 use Rattle.fv_model.specs.Spelling.{name_cmp}
-use Rattle.fv_model.specs.Places.{id_cmp, Ids}
+use Rattle.fv_model.specs.Places.{Ids}
 use Rattle.fv_model.specs.Space.{ids_in_any, ids_left_out}
 use Rattle.fv_reference.specs.Maps.{map_of}
 use Rattle.fv_reference.proofs.volumes.charged_ids.Goals as goal

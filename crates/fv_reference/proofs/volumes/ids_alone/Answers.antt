@@ -1,4 +1,4 @@
-use Rattle.std.proofs.Common.{◌≡◌, List, ap, ◌∙◌}
+use Rattle.std.proofs.Common.{List, ap, ◌∙◌}
 use Rattle.std.specs.FinSet as set
 use Rattle.fv_model.specs.Places.{id_cmp, Id, ids_of}
 use Rattle.fv_reference.proofs.Finite.{union_start}

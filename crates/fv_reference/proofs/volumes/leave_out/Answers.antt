@@ -1,6 +1,5 @@
-use Rattle.std.proofs.Common.{◌≡◌, sym, ap, ◌∙◌, Bool, true, false, cond}
-use Rattle.std.specs.FinSet as set
-use Rattle.fv_model.specs.Places.{id_cmp, Ids, ids_of}
+use Rattle.std.proofs.Common.{◌≡◌, sym, ◌∙◌, true}
+use Rattle.fv_model.specs.Places.{id_cmp}
 use Rattle.fv_reference.specs.Maps.{set_of}
 use Rattle.fv_reference.proofs.Finite.{difference_end}
 use Rattle.fv_reference.proofs.Orders.{id_total, id_ties}

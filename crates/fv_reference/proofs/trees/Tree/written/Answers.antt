@@ -1,4 +1,4 @@
-use Rattle.std.proofs.Common.{◌≡◌, ap, sym, ◌∙◌, rules, refl, nat_lt}
+use Rattle.std.proofs.Common.{ap, ◌∙◌, nat_lt}
 use Rattle.fv_model.specs.Trees.{Tree, written, spot_cmp}
 use Rattle.std.specs.FinMap as fin
 use Rattle.fv_reference.specs.Maps.{map_of}
