@@ -14,11 +14,12 @@ use fv_model::{Block, Name};
 use std::alloc::{AllocError, Global};
 use std::collections::BTreeMap;
 use std::marker::Model;
+use std::rc::Rc;
 
-/// The content of a cell.
+/// The content of a cell. Copies of a table share it.
 #[derive(Drop)]
 pub struct Cell {
-    bytes: Block,
+    bytes: Rc<Block>,
 }
 
 impl Model for Cell {
@@ -26,14 +27,16 @@ impl Model for Cell {
 
     ghost Value = { List ℕ };
 
-    ghost view = { λ c. c.bytes };
+    ghost view = { λ c. c.bytes.value };
 }
 
 impl Clone for Cell {
     ghost is_clone = { λ x y. y ≡ x };
 
     fn clone(&self) -> Result<Cell, AllocError> {
-        Ok(Cell { bytes: self.bytes })
+        Ok(Cell {
+            bytes: self.bytes.clone()?,
+        })
     }
 }
 
@@ -42,7 +45,7 @@ impl Cell {
     pub fn block(&self) -> &Block
         ensures { result.now ≡ self.now }
     {
-        &self.bytes
+        &*self.bytes
     }
 }
 
@@ -137,7 +140,8 @@ impl File {
         ensures { IfOk result (λ f. f ≡ file_put self.now index block.now stamp) }
     {
         let mut blocks = copy(&self.blocks)?;
-        insert(&mut blocks, index, Cell { bytes: *block })?;
+        let bytes = Rc::new(alloc, *block)?;
+        insert(&mut blocks, index, Cell { bytes })?;
         let tree = self.tree.written(alloc, stamp, index)?;
         Ok(File {
             name: self.name,

@@ -252,5 +252,7 @@ fn numbers(alloc: Global, stat: &Stat) -> Result<String, AllocError> {
     };
     let clean = if stat.clean { "yes" } else { "no" };
     let (size, used, need, commit) = (stat.size, stat.used, stat.need, stat.commit);
-    format!(in alloc; "size {size} used {used} need {need} commit {commit} kind {kind} clean {clean}")
+    format!(in alloc;
+        "size {size} used {used} need {need} commit {commit} kind {kind} clean {clean}"
+    )
 }
