@@ -1,0 +1,7 @@
+mod Bytes
+mod Counts
+pub mod Laws
+mod Maps
+mod Numbers
+mod Rows
+mod Seen

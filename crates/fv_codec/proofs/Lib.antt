@@ -1,0 +1,17 @@
+pub mod Runs
+pub mod Pages
+pub mod Numbers
+pub mod SuperBytes
+pub mod Items
+pub mod Places
+pub mod RootBytes
+pub mod Nodes
+pub mod Inodes
+pub mod Inner
+pub mod Leaves
+pub mod Labels
+pub mod Differs
+pub mod Ranges
+pub mod Decoded
+pub mod Found
+pub mod Laws

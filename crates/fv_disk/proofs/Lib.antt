@@ -1,0 +1,3 @@
+pub mod Counting
+mod Giving
+pub mod Moments

@@ -1,0 +1,5 @@
+pub mod Shown
+pub mod DiskCalls
+pub mod HostCalls
+pub mod Crash
+pub mod Partly

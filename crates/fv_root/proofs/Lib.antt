@@ -1,0 +1,4 @@
+mod EmptyMachine
+mod Fixed
+mod Gates
+mod Making

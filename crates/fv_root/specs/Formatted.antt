@@ -1,0 +1,43 @@
+-- What a fresh aggregate's fixed blocks hold, and which blocks making one touches.
+use Rattle.std.specs.Prelude.{◌≡◌, ◌<◌, ◌≤◌, ℕ, true, false, replicate, Result, Ok, IsTrue}
+use Rattle.fv_disk.specs.declared.Failed.{Failed}
+use Rattle.fv_disk.specs.Shown.{Image, Shown}
+use Rattle.fv_disk.specs.DiskCalls.{Counted}
+use Rattle.fv_disk.specs.Crash.{Leaves}
+use Rattle.fv_codec.specs.declared.root.Root.{Root}
+use Rattle.fv_codec.specs.Blocks.{super_at, gate_open, root_at}
+use Rattle.fv_image.specs.Layout.{superblock, gate_place, root_place, area_blocks, area_place}
+use Rattle.fv_model.specs.Machines.{first_block}
+
+-- the numbers of blocks that an aggregate can have
+pub record IsSize (blocks : ℕ) : Type 0 where
+  pub least : 512 ≤ blocks
+  pub greatest : blocks ≤ 1048576
+
+-- the root of an aggregate that is made anew
+abbrev pub first_root : Root
+first_root = record { generation = 1; version = 1; labels = replicate 64 0 }
+
+-- a superblock with this size, the first root behind the one gate that is open, and a clear map
+pub record IsFormatted (blocks : ℕ) (i : Image) : Type 0 where
+  pub super : super_at (i superblock) ≡ Ok (record { blocks = blocks })
+  pub first_gate : gate_open (i (gate_place 0)) ≡ true
+  pub second_gate : gate_open (i (gate_place 1)) ≡ false
+  pub root : root_at (i (root_place 0)) ≡ Ok first_root
+  pub area : (k : ℕ) → k < area_blocks blocks → i (area_place blocks 0 k) ≡ replicate 4096 0
+
+-- the images agree from the first allocatable block on
+abbrev pub SameVolumes : ℕ → Image → Image → Type 0
+SameVolumes blocks before c = (b : ℕ) → first_block blocks ≤ b → c b ≡ before b
+
+-- an image that a crash before might have left, but for the fixed blocks
+abbrev pub KeepsVolumes : ℕ → Shown → Image → Type 0
+KeepsVolumes blocks old c = (before : Image) × old.images before × SameVolumes blocks before c
+
+-- Only fixed blocks are written, whatever the outcome: they alone differ in what reads give, in what a
+-- crash now may leave, and in what one at any moment meanwhile might have left.
+pub record WritesFixed (blocks : ℕ) (old new : Shown) (result : Result Unit Failed) : Type 0 where
+  pub counted : Counted old new result
+  pub reads : IsTrue old.tells → SameVolumes blocks old.reads new.reads
+  pub images : (c : Image) → new.images c → KeepsVolumes blocks old c
+  pub any_moment : Leaves old new (λ c g. KeepsVolumes blocks old c × (g ≡ old.given))

@@ -1,0 +1,5 @@
+mod Asked
+mod Created
+mod Digits
+mod Phrases
+mod Told

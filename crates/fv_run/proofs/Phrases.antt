@@ -1,0 +1,33 @@
+-- What lists of words mean, by their length.
+use Rattle.std.proofs.Common.{◌≡◌, ℕ, ◌<◌, ◌≤◌, cond, List, [], ◌∷◌, length, get_or, map, refl, arith}
+use Rattle.std.specs.Prelude.{codes, bytes_eq, Option, Some, None}
+use Rattle.std.specs.Option.{option_map, ok_or}
+use Rattle.fv_run.specs.Meaning.{create, number_in, meaning, Means}
+use Rattle.fv_run.specs.declared.words.Order.{Order}
+use Rattle.fv_run.specs.declared.words.WordsFault.TheVariants.{Usage}
+
+module _ {X : Type 0} (text : X → List ℕ) where
+  pub few : (words : List X) → length words < 2 → meaning (map text words) ≡ None
+  unfolding meaning
+  few [] below = refl
+  few (a ∷ []) below = refl
+  few (a ∷ b ∷ more) below = absurd (omega arith)
+
+  pub many : (words : List X) → 3 ≤ length words → meaning (map text words) ≡ None
+  unfolding meaning
+  many [] least = absurd (omega arith)
+  many (a ∷ []) least = absurd (omega arith)
+  many (a ∷ b ∷ []) least = absurd (omega arith)
+  many (a ∷ b ∷ c ∷ more) least = refl
+
+  pub two : (words : List X) (command size : X) → 2 ≤ length words → length words < 3 → command ≡ get_or words 0 command → size ≡ get_or words 1 size
+      → meaning (map text words) ≡ cond (bytes_eq (text command) (codes "create")) (option_map create (number_in 512 1048576 (text size))) None
+  unfolding meaning
+  two [] command size least below first second = absurd (omega arith)
+  two (a ∷ []) command size least below first second = absurd (omega arith)
+  two (a ∷ b ∷ []) command size least below first second = rw (first, second) refl
+  two (a ∷ b ∷ c ∷ more) command size least below first second = absurd (omega arith)
+
+pub means_or_usage : (words : List (List ℕ)) (order : Option Order) → meaning words ≡ order → Means words (ok_or order Usage)
+means_or_usage words (Some order) is = is
+means_or_usage words None is = is

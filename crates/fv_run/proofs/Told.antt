@@ -1,0 +1,113 @@
+-- What the status tells of a run.
+use Rattle.std.proofs.Common.{◌≡◌, ℕ, [], ◌∷◌, ◌++◌, take, refl, sym, subst, arith}
+use Rattle.std.specs.Prelude.{◌↔◌, Option, Some, None, Result, Ok, Err, IsTrue, Contains}
+use Rattle.fv_disk.specs.Shown.{Shown, Rose}
+use Rattle.fv_disk.specs.Crash.{Leaves}
+use Rattle.fv_root.specs.Formatted.{SameVolumes}
+use Rattle.fv_run.specs.declared.ending.Fault.{Fault}
+use Rattle.fv_run.specs.declared.ending.Fault.TheVariants.{Usage, Disk, Sink}
+use Rattle.fv_run.specs.declared.words.Order.{Order}
+use Rattle.fv_run.specs.declared.words.Order.TheVariants.{Create}
+use Rattle.fv_run.specs.Creating.{created_text, HasCreated, IsAcknowledged, Creates}
+use Rattle.fv_run.specs.Statuses.{Runs, status_in}
+use Rattle.fv_run.proofs.Asked.{same_order}
+
+-- what the status tells where a new aggregate of so many blocks was asked for
+record TellsOf (blocks : ℕ) (old new : Shown) (status : ℕ) : Type 0 where
+  known : Contains (0 ∷ 4 ∷ 5 ∷ 7 ∷ []) status
+  no_usage : status ≡ 7 → ⊥
+  sink_fault : status ≡ 4 → Rose old.ends.sink_faults new.ends.sink_faults
+  disk_fault : status ≡ 5 → Rose old.faults new.faults
+  complete : ¬ Rose old.ends.sink_faults new.ends.sink_faults → ¬ Rose old.faults new.faults → status ≡ 0
+  created : IsTrue old.tells → status ≡ 0 → HasCreated blocks old new
+  silent : IsTrue old.tells → status ≡ 5 → new.given ≡ old.given
+  partly : IsTrue old.tells → status ≡ 4 → (k : ℕ) × (new.given ≡ old.given ++ take k (created_text blocks))
+
+tells_of : (blocks : ℕ) (old new : Shown) (result : Result Unit Fault) → Creates blocks old new result → TellsOf blocks old new (status_in result)
+tells_of blocks old new (Ok done) c = record {
+  known = (0, omega arith, refl);
+  no_usage = λ e. omega arith;
+  sink_fault = λ e. absurd (omega arith);
+  disk_fault = λ e. absurd (omega arith);
+  complete = λ sink disk. refl;
+  created = λ tells e. c.created tells;
+  silent = λ tells e. absurd (omega arith);
+  partly = λ tells e. absurd (omega arith);
+}
+tells_of blocks old new (Err Usage) c = absurd c.cause
+tells_of blocks old new (Err Disk) c = record {
+  known = (2, omega arith, refl);
+  no_usage = λ e. omega arith;
+  sink_fault = λ e. absurd (omega arith);
+  disk_fault = λ e. c.cause;
+  complete = λ sink disk. absurd (disk c.cause);
+  created = λ tells e. absurd (omega arith);
+  silent = λ tells e. c.given tells;
+  partly = λ tells e. absurd (omega arith);
+}
+tells_of blocks old new (Err Sink) c = record {
+  known = (1, omega arith, refl);
+  no_usage = λ e. omega arith;
+  sink_fault = λ e. c.cause;
+  disk_fault = λ e. absurd (omega arith);
+  complete = λ sink disk. absurd (sink c.cause);
+  created = λ tells e. absurd (omega arith);
+  silent = λ tells e. absurd (omega arith);
+  partly = λ tells e. c.given tells;
+}
+
+-- what the status tells, whatever was asked for
+pub record Tells (asked : Option Order) (old new : Shown) (status : ℕ) : Type 0 where
+  pub statuses : Contains (0 ∷ 4 ∷ 5 ∷ 7 ∷ []) status
+  pub usage : (status ≡ 7) ↔ (asked ≡ None)
+  pub sink_fault : status ≡ 4 → Rose old.ends.sink_faults new.ends.sink_faults
+  pub disk_fault : status ≡ 5 → Rose old.faults new.faults
+  pub complete : (blocks : ℕ) → asked ≡ Some (Create blocks) → ¬ Rose old.ends.sink_faults new.ends.sink_faults → ¬ Rose old.faults new.faults → status ≡ 0
+  pub created : (blocks : ℕ) → asked ≡ Some (Create blocks) → IsTrue old.tells → status ≡ 0 → HasCreated blocks old new
+  pub silent : IsTrue old.tells → status ≡ 5 → new.given ≡ old.given
+  pub partly : (blocks : ℕ) → asked ≡ Some (Create blocks) → IsTrue old.tells → status ≡ 4 → (k : ℕ) × (new.given ≡ old.given ++ take k (created_text blocks))
+  pub acknowledged : (blocks : ℕ) → asked ≡ Some (Create blocks) → IsTrue old.tells → Leaves old new (IsAcknowledged blocks old)
+  pub volumes : (blocks : ℕ) → asked ≡ Some (Create blocks) → IsTrue old.tells → SameVolumes blocks old.reads new.reads
+
+abbrev nothing : Option Order
+nothing = None
+
+asks_none : {A : Type 0} (blocks : ℕ) → nothing ≡ Some (Create blocks) → A
+asks_none blocks e = absurd cc
+
+asks_some : (blocks : ℕ) → Some (Create blocks) ≡ None → ⊥
+asks_some blocks e = cc
+
+tells_usage : (old new : Shown) → Tells None old new 7
+tells_usage old new = record {
+  statuses = (3, omega arith, refl);
+  usage = (λ e. refl, λ e. refl);
+  sink_fault = λ e. absurd (omega arith);
+  disk_fault = λ e. absurd (omega arith);
+  complete = λ blocks e. asks_none blocks e;
+  created = λ blocks e. asks_none blocks e;
+  silent = λ tells e. absurd (omega arith);
+  partly = λ blocks e. asks_none blocks e;
+  acknowledged = λ blocks e. asks_none blocks e;
+  volumes = λ blocks e. asks_none blocks e;
+}
+
+tells_creation : (blocks : ℕ) (old new : Shown) (result : Result Unit Fault) → Creates blocks old new result → Tells (Some (Create blocks)) old new (status_in result)
+tells_creation blocks old new result c =
+    let t = tells_of blocks old new result c in
+    record {
+      statuses = t.known;
+      usage = (λ e. absurd (t.no_usage e), λ e. absurd (asks_some blocks e));
+      sink_fault = t.sink_fault;
+      disk_fault = t.disk_fault;
+      complete = λ other same sink disk. t.complete sink disk;
+      created = λ other same. subst (λ (n : ℕ). IsTrue old.tells → status_in result ≡ 0 → HasCreated n old new) (same_order blocks other same) t.created;
+      silent = t.silent;
+      partly = λ other same. subst (λ (n : ℕ). IsTrue old.tells → status_in result ≡ 4 → (k : ℕ) × (new.given ≡ old.given ++ take k (created_text n))) (same_order blocks other same) t.partly;
+      acknowledged = λ other same. subst (λ (n : ℕ). IsTrue old.tells → Leaves old new (IsAcknowledged n old)) (same_order blocks other same) c.acknowledged;
+      volumes = λ other same. subst (λ (n : ℕ). IsTrue old.tells → SameVolumes n old.reads new.reads) (same_order blocks other same) c.volumes;
+    }
+
+pub tells : (asked : Option Order) (old new : Shown) (result : Result Unit Fault) → Runs asked old new result → Tells asked old new (status_in result)
+tells None old new result runs = subst (λ (r : Result Unit Fault). Tells None old new (status_in r)) (sym (runs.usage refl)) (tells_usage old new)
+tells (Some (Create blocks)) old new result runs = tells_creation blocks old new result (runs.creates blocks refl)

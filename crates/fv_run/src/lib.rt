@@ -1,0 +1,14 @@
+//! The top call: everything that the program does, from the words of its command line to the bytes
+//! that it gives out and the status that it ends with.
+#![tactic(auto)]
+
+mod create;
+mod ending;
+mod program;
+mod words;
+
+pub use program::flexvol;
+pub use words::{Order, WordsFault, read_words};
+
+#[cfg(test)]
+mod tests;
