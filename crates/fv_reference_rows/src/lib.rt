@@ -2,6 +2,10 @@
 #![tactic(auto)]
 
 #[cfg(test)]
+mod copies;
+#[cfg(test)]
 mod reading;
 #[cfg(test)]
 mod rows;
+#[cfg(test)]
+mod scripts;
