@@ -2,7 +2,6 @@
 use Rattle.std.specs.Prelude.{◌≡◌, ℕ, ◌≤◌, Bool, true, false, not, List, [], map, replicate, Option, Some, None, unwrap_or}
 use Rattle.std.specs.Option.{option_map_or}
 use Rattle.std.specs.FinMap as fin
-use Rattle.std.specs.FinSet as set
 use Rattle.fv_model.specs.declared.answers.Refusal.{Refusal}
 use Rattle.fv_model.specs.declared.answers.Stat.{Stat}
 use Rattle.fv_model.specs.declared.answers.Reply.{Reply}
@@ -23,9 +22,12 @@ zero_block = replicate 4096 0
 abbrev pub content : File → ℕ → List ℕ
 content f i = unwrap_or (fin.get f.blocks i) zero_block
 
--- the names of a table's files in byte order
+-- the numbers of a table's files by their names, and those names in byte order
+abbrev pub numbers_by_name : Table → fin.FinMap name_cmp ℕ
+numbers_by_name t = fin.from_entries (map (λ e. (e.1.name, e.0)) (fin.entries t.files))
+
 abbrev pub file_names : Table → List (List ℕ)
-file_names t = set.items (set.from_list {R = name_cmp} (map (λ (f : File). f.name) (fin.values t.files)))
+file_names t = fin.keys (numbers_by_name t)
 
 abbrev pub stat_of : Volume → Stat
 stat_of v = record { size = v.size; used = charge v; need = need v; commit = commit v; kind = v.kind; clean = v.known }

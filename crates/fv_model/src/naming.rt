@@ -10,7 +10,7 @@ use std::marker::Model;
 const LONGEST: usize = 64;
 
 /// A name: 1 to 64 bytes of `a` to `z`, `0` to `9` and `_`. A contract sees the list of its bytes.
-#[derive(Clone, Copy, Debug)]
+#[derive(Copy, Debug)]
 pub struct Name {
     bytes: [u8; 64],
     len: usize,
@@ -83,6 +83,18 @@ fn is_letter(byte: u8) -> bool
     ensures { result ≡ is_name_byte byte }
 {
     97 <= byte && byte <= 122 || 48 <= byte && byte <= 57 || byte == 95
+}
+
+impl Clone for Name {
+    ghost use Rattle.std.specs.Prelude.{◌≡◌, ⊤};
+
+    ghost is_clone = { λ x y. y ≡ x };
+
+    ghost is_infallible = { λ _. ⊤ };
+
+    fn clone(&self) -> Result<Name, AllocError> {
+        Ok(*self)
+    }
 }
 
 impl Ord for Name {

@@ -1,0 +1,23 @@
+use Rattle.std.proofs.Common.{◌≡◌, List, [], ◌∷◌, sym, ap, ◌∙◌}
+use Rattle.std.specs.Map.Iter.{deref_pair}
+use Rattle.std.specs.FinSet as set
+use Rattle.std.proofs.lemmas.Map.Iter.{rest_more, rest_all}
+use Rattle.fv_model.specs.Places.{Id, id_cmp}
+use Rattle.fv_reference.specs.Maps.{set_of}
+use Rattle.fv_reference.proofs.Finite.{union_step, union_end}
+use Rattle.fv_reference.proofs.Orders.{id_total, id_ties}
+use Rattle.fv_reference.proofs.places.add_listed.Goals as goal
+
+pub loop-place-preserved : goal.loop-place-preserved
+loop-place-preserved c =
+    let key : Id = (c.copy.result, c.in-Some.stamp.now) in
+    let rest : List Id = c.next.new.self in
+    let before : set.FinSet id_cmp = set_of id_cmp c.loop-place.found in
+    let all : ◌≡◌ {A = List Id} c.loop-place.place-iterator (key ∷ rest) = rest_more deref_pair c.loop-place.place-iterator c.next.new.self c.next.result (c.in-Some.place, c.in-Some.stamp) c.in-Some.is c.next.ensures.steps ∙ (λ i. (sym c.copy.ensures i, c.in-Some.stamp.now) ∷ rest) in
+    ap (λ (s : set.FinSet id_cmp). set.union s (set.from_list rest)) c.in_ok-add.ensures ∙ union_step id_total id_ties before key rest ∙ ap (λ (es : List Id). set.union before (set.from_list es)) (sym all) ∙ c.loop-place.invariant
+
+pub returns : goal.returns
+returns c =
+    let before : set.FinSet id_cmp = set_of id_cmp c.loop-place.found in
+    let none : ◌≡◌ {A = List Id} c.loop-place.place-iterator [] = rest_all deref_pair c.loop-place.place-iterator c.next.new.self c.next.result c.in-None.is c.next.ensures.steps in
+    sym (union_end id_total id_ties before) ∙ ap (λ (es : List Id). set.union before (set.from_list es)) (sym none) ∙ c.loop-place.invariant

@@ -1,0 +1,4 @@
+pub mod Maps
+pub mod Codes
+pub mod Owners
+pub mod Bases

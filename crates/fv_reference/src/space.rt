@@ -1,0 +1,239 @@
+//! What a volume needs, uses and commits.
+ghost use Rattle.std.specs.Prelude.{◌≡◌, ◌+◌, ◌*◌, ◌^◌, ◌++◌, ◌∷◌, [], ◌≤◌, IfOk, OnOk, nat_lt, cond, map, flat_map, count_by, sum_by};
+ghost use Rattle.std.specs.List.{range_with_len};
+ghost use Rattle.std.specs.Ordering.{nat_cmp};
+ghost use Rattle.std.specs.FinMap as fin;
+ghost use Rattle.std.specs.FinSet as set;
+ghost use Rattle.fv_model.specs.Spelling.{name_cmp};
+ghost use Rattle.fv_model.specs.Trees.{fan};
+ghost use Rattle.fv_model.specs.Places.{InodeFile, OfFile, placed, place_cmp, id_cmp, stamps_of};
+ghost use Rattle.fv_model.specs.Space.{ids_in_any, base_ids, reserved_at, reserved_places, needs_block, need, use_of, nodes_above, leaves, overhead, promised, commit};
+ghost use Rattle.fv_reference.specs.Maps.{map_of, set_of};
+
+use crate::maps::get;
+use crate::places::{Id, Place, add_ids, stamps_of};
+use crate::sets::has;
+use crate::tables::{File, Table};
+use crate::trees::{Spot, spots_over, width};
+use crate::volumes::{Base, Volume, add_kept, ceil_div, plus, times};
+use fv_model::{Kind, Name};
+use std::alloc::{AllocError, Global};
+use std::collections::{BTreeMap, BTreeSet};
+
+/// The blocks that the reserves of a volume of kind `file` still need.
+#[tactic(auto, unfolding(fv_model::specs::Space::need))]
+pub fn need(alloc: Global, volume: &Volume) -> Result<u64, AllocError>
+    ensures { IfOk result (λ n. n ≡ need volume.now) }
+{
+    match volume.kind() {
+        Kind::File => needed_of(alloc, volume.active(), volume.snapshots(), volume.base()),
+        Kind::Volume | Kind::Thin => Ok(0),
+    }
+}
+
+fn needed_of(
+    alloc: Global,
+    active: &Table,
+    snapshots: &BTreeMap<Name, Table>,
+    base: &Option<Base>,
+) -> Result<u64, AllocError>
+    ensures { IfOk result (λ n. n ≡ sum_by (λ e. count_by (needs_block (set.union (ids_in_any (fin.values (map_of name_cmp snapshots.now))) (base_ids base.now)) (stamps_of active.now)) (reserved_places active.now.inode.levels e.0 e.1)) (fin.entries active.now.files)) }
+{
+    let shared = shared_ids(alloc, snapshots, base)?;
+    let stamps = stamps_of(alloc, active)?;
+    let files = active.files();
+    let _count = files.len();
+    needed(alloc, &shared, &stamps, active.inode().levels(), files)
+}
+
+/// The ids that a snapshot or the base has, too.
+fn shared_ids(
+    alloc: Global,
+    snapshots: &BTreeMap<Name, Table>,
+    base: &Option<Base>,
+) -> Result<BTreeSet<Id>, AllocError>
+    ensures { IfOk result (λ s. set_of id_cmp s ≡ set.union (ids_in_any (fin.values (map_of name_cmp snapshots.now))) (base_ids base.now)) }
+{
+    let mut ids = BTreeSet::new(alloc);
+    add_kept(alloc, &mut ids, snapshots)?;
+    add_base(alloc, &mut ids, base)?;
+    Ok(ids)
+}
+
+fn add_base(alloc: Global, ids: &mut BTreeSet<Id>, base: &Option<Base>) -> Result<(), AllocError>
+    ensures { OnOk result (set_of id_cmp ids.new ≡ set.union (set_of id_cmp ids.old) (base_ids base.now)) }
+{
+    match base {
+        None => Ok(()),
+        Some(base) => add_ids(alloc, ids, base.table()),
+    }
+}
+
+/// The sum of what the files' reserves need.
+fn needed(
+    alloc: Global,
+    shared: &BTreeSet<Id>,
+    stamps: &BTreeMap<Place, u64>,
+    levels: u32,
+    files: &BTreeMap<u32, File>,
+) -> Result<u64, AllocError>
+    requires { levels ≤ 5 }
+    ensures { IfOk result (λ n. n ≡ sum_by (λ e. count_by (needs_block (set_of id_cmp shared.now) (map_of place_cmp stamps.now)) (reserved_places levels e.0 e.1)) files.now.entries) }
+{
+    let mut total = 0;
+    for (number, file) in files {
+        let places = reserved_places(alloc, levels, *number, file)?;
+        total = plus(total, count_needed(shared, stamps, &places) as u64)?;
+    }
+    Ok(total)
+}
+
+fn count_needed(shared: &BTreeSet<Id>, stamps: &BTreeMap<Place, u64>, places: &[Place]) -> usize
+    ensures { result ≡ count_by (needs_block (set_of id_cmp shared.now) (map_of place_cmp stamps.now)) places.now }
+{
+    places
+        .iter()
+        .filter(|place| needs_block(shared, stamps, place))
+        .count()
+}
+
+/// Whether a write at a place takes a block.
+#[tactic(auto, unfolding(fv_model::specs::Space::needs_block))]
+fn needs_block(shared: &BTreeSet<Id>, stamps: &BTreeMap<Place, u64>, place: &Place) -> bool
+    ensures { result ≡ needs_block (set_of id_cmp shared.now) (map_of place_cmp stamps.now) place.now }
+{
+    match get(stamps, place) {
+        None => true,
+        Some(stamp) => has(shared, &(place.copy(), *stamp)),
+    }
+}
+
+/// All places that a file's reserve stands for.
+#[tactic(auto, unfolding(fv_model::specs::Space::reserved_places))]
+fn reserved_places(
+    alloc: Global,
+    levels: u32,
+    number: u32,
+    file: &File,
+) -> Result<Vec<Place>, AllocError>
+    requires { levels ≤ 5 }
+    ensures { IfOk result (λ v. v.items ≡ reserved_places levels number file.now) }
+{
+    let mut places = Vec::new(alloc);
+    if file.reserve() == 0 {
+        return Ok(places);
+    }
+    list_reserved(&mut places, number, file.reserve(), file.tree().levels())?;
+    list_inode(&mut places, &spots_over(alloc, levels, number / 16)?)?;
+    Ok(places)
+}
+
+fn list_reserved(
+    places: &mut Vec<Place>,
+    number: u32,
+    reserve: u32,
+    levels: u32,
+) -> Result<(), AllocError>
+    requires { levels ≤ 5 }
+    ensures { OnOk result (places.new.items ≡ places.old.items ++ flat_map (reserved_at number reserve) (range_with_len 0 (levels + 1))) }
+{
+    for level in 0..levels + 1 {
+        list_level(places, number, reserve, level)?;
+    }
+    Ok(())
+}
+
+/// Lists the ranges of a level that meet the indexes below a reserve.
+#[tactic(auto, unfolding(fv_model::specs::Space::reserved_at))]
+fn list_level(
+    places: &mut Vec<Place>,
+    number: u32,
+    reserve: u32,
+    level: u32,
+) -> Result<(), AllocError>
+    requires { level ≤ 5 }
+    ensures { OnOk result (places.new.items ≡ places.old.items ++ reserved_at number reserve level) }
+{
+    for index in 0..reserve {
+        list_range(places, number, reserve, level, index)?;
+    }
+    Ok(())
+}
+
+fn list_range(
+    places: &mut Vec<Place>,
+    number: u32,
+    reserve: u32,
+    level: u32,
+    index: u32,
+) -> Result<(), AllocError>
+    requires { level ≤ 5 }
+    ensures { OnOk result (places.new.items ≡ places.old.items ++ cond (nat_lt (index * fan ^ level) reserve) (record { owner = OfFile number; level = level; index = index } ∷ []) []) }
+{
+    if u64::from(index).saturating_mul(width(level)) >= u64::from(reserve) {
+        return Ok(());
+    }
+    places.push(Place::new(Some(number), level, index))?;
+    Ok(())
+}
+
+fn list_inode(places: &mut Vec<Place>, spots: &[Spot]) -> Result<(), AllocError>
+    ensures { OnOk result (places.new.items ≡ places.old.items ++ map (placed InodeFile) spots.now) }
+{
+    for spot in spots {
+        places.push(Place::new(None, spot.0, spot.1))?;
+    }
+    Ok(())
+}
+
+/// The charge and the need.
+pub fn use_of(alloc: Global, volume: &Volume) -> Result<u64, AllocError>
+    ensures { IfOk result (λ n. n ≡ use_of volume.now) }
+{
+    plus(volume.charge(alloc)?, need(alloc, volume)?)
+}
+
+/// The nodes of 256 entries above n of them, up to one root.
+#[tactic(auto, unfolding(fv_model::specs::Space::nodes_above))]
+fn nodes_above(fuel: u32, n: u64) -> Result<u64, AllocError>
+    ensures { IfOk result (λ k. k ≡ nodes_above fuel n) }
+{
+    if fuel == 0 {
+        return Ok(0);
+    }
+    if n <= 256 {
+        return Ok(1);
+    }
+    let above = ceil_div(n, 256);
+    let higher = nodes_above(fuel - 1, above)?;
+    plus(above, higher)
+}
+
+/// The blocks that a volume of a span needs beside its data.
+#[tactic(auto, unfolding(fv_model::specs::Space::overhead))]
+fn overhead(span: u64) -> Result<u64, AllocError>
+    ensures { IfOk result (λ n. n ≡ overhead span) }
+{
+    let maps = ceil_div(span, 32_768);
+    let leaves = ceil_div(plus(span, times(25, maps)?)?, 256);
+    plus(plus(plus(1, maps)?, leaves)?, nodes_above(8, leaves)?)
+}
+
+/// What a volume commits of its aggregate.
+pub fn commit(alloc: Global, volume: &Volume) -> Result<u64, AllocError>
+    ensures { IfOk result (λ n. n ≡ commit volume.now) }
+{
+    plus(
+        times(2, overhead(volume.span())?)?,
+        promised(alloc, volume)?,
+    )
+}
+
+fn promised(alloc: Global, volume: &Volume) -> Result<u64, AllocError>
+    ensures { IfOk result (λ n. n ≡ promised volume.now volume.now.kind) }
+{
+    match volume.kind() {
+        Kind::Volume => Ok(u64::from(volume.size())),
+        Kind::File | Kind::Thin => use_of(alloc, volume),
+    }
+}

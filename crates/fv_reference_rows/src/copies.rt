@@ -1,0 +1,153 @@
+//! Scripts of clones, splits and mirrors: each line with its reply.
+
+pub const CLONES: [(&str, &str); 15] = [
+    ("vol create a 100 volume", "ok"),
+    ("new a f", "ok"),
+    ("put a f 0 6869", "ok"),
+    ("snap create a s", "ok"),
+    ("put a f 0 7a", "ok"),
+    ("clone create c a s 100 none", "ok"),
+    (
+        "vol stat c",
+        "size 100 used 0 need 0 commit 40 kind none clean yes",
+    ),
+    ("get c f 0", "6869"),
+    ("put c f 0 21", "ok"),
+    (
+        "vol stat c",
+        "size 100 used 2 need 0 commit 42 kind none clean yes",
+    ),
+    ("get a f 0", "7a"),
+    ("get a@s f 0", "6869"),
+    ("snap delete a s", "err 12"),
+    ("vol destroy a", "err 13"),
+    ("split finish c", "err 14"),
+];
+
+pub const CLONES_OF_CLONES: [(&str, &str); 11] = [
+    ("vol create a 100 volume", "ok"),
+    ("new a f", "ok"),
+    ("put a f 0 6869", "ok"),
+    ("snap create a s", "ok"),
+    ("put a f 0 7a", "ok"),
+    ("clone create c a s 100 none", "ok"),
+    ("snap create c t", "ok"),
+    ("clone create d c t 100 none", "ok"),
+    ("get d f 0", "6869"),
+    ("split start c", "err 13"),
+    ("split start a", "err 14"),
+];
+
+pub const SPLITS: [(&str, &str); 23] = [
+    ("vol create a 100 volume", "ok"),
+    ("new a f", "ok"),
+    ("put a f 0 6869", "ok"),
+    ("snap create a s", "ok"),
+    ("put a f 0 7a", "ok"),
+    ("clone create c a s 100 none", "ok"),
+    ("split start c", "ok"),
+    (
+        "vol stat c",
+        "size 100 used 2 need 0 commit 42 kind none clean no",
+    ),
+    ("put c f 0 21", "ok"),
+    ("work 3", "ok"),
+    ("snap create c u", "ok"),
+    (
+        "vol stat c",
+        "size 100 used 3 need 0 commit 43 kind none clean no",
+    ),
+    ("clean c", "err 13"),
+    ("clone create e c u 10 none", "err 13"),
+    ("split finish c", "ok"),
+    ("snap delete a s", "ok"),
+    (
+        "vol stat a",
+        "size 100 used 2 need 0 commit 140 kind volume clean yes",
+    ),
+    ("vol destroy a", "ok"),
+    ("get c f 0", "21"),
+    ("get c@u f 0", "21"),
+    (
+        "vol stat c",
+        "size 100 used 3 need 0 commit 43 kind none clean no",
+    ),
+    ("clean c", "ok"),
+    (
+        "vol stat c",
+        "size 100 used 3 need 0 commit 43 kind none clean yes",
+    ),
+];
+
+pub const MIRRORS: [(&str, &str); 17] = [
+    ("vol create a 100 volume", "ok"),
+    ("new a f", "ok"),
+    ("put a f 0 6869", "ok"),
+    ("snap create a s", "ok"),
+    ("mirror a s y 1 none", "err 8"),
+    ("mirror a s w 100 none", "ok"),
+    (
+        "vol stat w",
+        "size 100 used 2 need 0 commit 42 kind none clean no",
+    ),
+    ("get w f 0", "6869"),
+    ("work 1000", "ok"),
+    (
+        "vol stat w",
+        "size 100 used 2 need 0 commit 42 kind none clean no",
+    ),
+    ("work 1000001", "err 10"),
+    ("snap create w q", "ok"),
+    ("clone create x w q 10 none", "err 15"),
+    ("clean w", "ok"),
+    ("probe w f 0", "0"),
+    ("get w f 0", "6869"),
+    ("clone create x w q 10 none", "ok"),
+];
+
+pub const SPLITS_NEED_ROOM: [(&str, &str); 12] = [
+    ("vol create a 100 volume", "ok"),
+    ("new a f", "ok"),
+    ("put a f 0 6869", "ok"),
+    ("snap create a s", "ok"),
+    ("put a f 0 7a", "ok"),
+    ("clone create c a s 1 none", "ok"),
+    ("split start c", "err 8"),
+    ("vol resize c 2", "ok"),
+    ("split start c", "ok"),
+    ("split start c", "err 14"),
+    ("split finish c", "ok"),
+    ("snap delete a s", "ok"),
+];
+
+pub const EVERY_COMMAND: [(&str, &str); 26] = [
+    ("vol create a 100 volume", "ok"),
+    ("new a f", "ok"),
+    ("put a f 0 6869", "ok"),
+    ("cp", "ok"),
+    ("snap create a s", "ok"),
+    ("clone create c a s 100 none", "ok"),
+    ("put c f 0 21", "ok"),
+    ("split start c", "ok"),
+    ("work 1", "ok"),
+    ("split finish c", "ok"),
+    ("mirror a s w 100 none", "ok"),
+    ("get w f 0", "6869"),
+    ("clean w", "ok"),
+    ("snap restore a s", "ok"),
+    ("snap delete a s", "ok"),
+    ("cut a f 0", "ok"),
+    ("rm a f", "ok"),
+    ("vol guarantee a none", "ok"),
+    ("vol resize a 50", "ok"),
+    (
+        "vol stat a",
+        "size 50 used 0 need 0 commit 40 kind none clean yes",
+    ),
+    ("ls a", "-"),
+    ("snap list a", "-"),
+    ("vol list", "a c w"),
+    ("len w f", "1"),
+    ("vol destroy c", "ok"),
+    ("cp", "ok"),
+];
