@@ -83,8 +83,8 @@ other_reads old new k j b result write told other = sym (write.others (subst IsT
 pub stands_forgotten : (old new : Shown) (es after : Pairs) (k : ℕ) (b : List ℕ) (result : Result Unit Failed) → after ≡ without es k → Writes old k b new result → StandsOn old es → StandsOn new after
 stands_forgotten old new es after k b result is write stands = record {
   same = λ told j c in_it.
-    let at = left_over es k j c (subst (λ l. Contains l (j, c)) is in_it) in
-    stands.same (subst IsTrue write.tells told) j c at.0 ∙ other_reads old new k j b result write told at.1;
+      let at = left_over es k j c (subst (λ l. Contains l (j, c)) is in_it) in
+      stands.same (subst IsTrue write.tells told) j c at.0 ∙ other_reads old new k j b result write told at.1;
 }
 
 stands_absent : (old new : Shown) (es : Pairs) (k : ℕ) (b : List ℕ) (result : Result Unit Failed) → Writes old k b new result → StandsOn old es → block_at es k ≡ None → StandsOn new es
