@@ -58,6 +58,21 @@ fn slots(alloc: Global, first: Option<u64>, second: Option<u64>) -> Result<MemHo
     last_image(&host)
 }
 
+/// A host over a disk with these slots, on which the call of a kind with this number fails.
+fn failing(
+    alloc: Global,
+    first: Option<u64>,
+    second: Option<u64>,
+    call: Call,
+    nth: u64,
+) -> Result<MemHost, AllocError>
+    ensures { IfOk result (λ host. IsSettled (shown_of host)) }
+{
+    let mut host = slots(alloc, first, second)?;
+    host.fail(call, nth)?;
+    Ok(host)
+}
+
 /// A host over what a host's disk reads, settled.
 fn last_image(host: &MemHost) -> Result<MemHost, AllocError>
     ensures { IfOk result (λ image. IsSettled (shown_of image)) }
@@ -156,8 +171,7 @@ fn each_call_fails_once(rt: HostRuntime) -> Result<(), Fail> {
     ];
     for (first, second, call, calls) in rows {
         for nth in 0..calls {
-            let mut host = slots(rt.alloc(), first, second)?;
-            host.fail(call, nth)?;
+            let mut host = failing(rt.alloc(), first, second, call, nth)?;
             assert_eq!(rt;
                 commit_again(&mut host, &map),
                 Ok(Err(Failed)),
@@ -171,8 +185,7 @@ fn each_call_fails_once(rt: HostRuntime) -> Result<(), Fail> {
                 "{call:?} {nth}"
             );
         }
-        let mut host = slots(rt.alloc(), first, second)?;
-        host.fail(call, calls)?;
+        let mut host = failing(rt.alloc(), first, second, call, calls)?;
         assert_eq!(rt; commit_again(&mut host, &map), Ok(Ok(())), "{call:?}");
     }
     Ok(())
