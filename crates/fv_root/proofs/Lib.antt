@@ -3,6 +3,7 @@ mod EmptyMachine
 mod Finding
 mod Fixed
 mod Gates
+pub mod Laws
 mod Making
 mod Apart
 mod Ranges
