@@ -43,12 +43,7 @@ impl Store {
     /// Reads block `pvbn`, from the list where it is held and else from the disk. The one error is a
     /// failed read, so it never comes for a held block. Where no memory is found, the block that was read
     /// isn't held, and it is answered all the same. Costs one block.
-    pub fn get<D: Disk>(
-        &mut self,
-        disk: &mut D,
-        pvbn: u32,
-        into: &mut Block,
-    ) -> Result<(), Failed>
+    pub fn get<D: Disk>(&mut self, disk: &mut D, pvbn: u32, into: &mut Block) -> Result<(), Failed>
         requires stands { StandsOn (D.shown disk.old) self.old.pairs }
         ensures reads { Reads (D.shown disk.old) pvbn (D.shown disk.new) into.new result }
         ensures untouched { IfSome (block_at self.old.pairs pvbn) (λ _. disk.new ≡ disk.old) }
@@ -62,12 +57,7 @@ impl Store {
     /// Writes block `pvbn`. A held block is renewed, and after a failure it isn't held any more. It takes
     /// no memory, so a block that wasn't held isn't held afterwards. The one error is a failed write.
     /// Costs one block.
-    pub fn put<D: Disk>(
-        &mut self,
-        disk: &mut D,
-        pvbn: u32,
-        block: &Block,
-    ) -> Result<(), Failed>
+    pub fn put<D: Disk>(&mut self, disk: &mut D, pvbn: u32, block: &Block) -> Result<(), Failed>
         requires stands { StandsOn (D.shown disk.old) self.old.pairs }
         ensures writes { Writes (D.shown disk.old) pvbn block.now (D.shown disk.new) result }
         ensures list { Puts self.old pvbn block.now self.new result }
