@@ -1,12 +1,8 @@
 -- What the calls of the cache make of the list.
-use Rattle.std.proofs.Common.{◌≡◌, ℕ, ◌-◌, ◌⊎◌, List, ◌∷◌, take, Option, Some, None, IsSome, is_some, IsTrue, Result, Ok, Err, IsOk, OnOk, OnErr, refl, sym, ap, subst, ◌∙◌, inl, inr, Bool, true, false, cond, nat_eq}
-use Rattle.std.specs.Map.{lookup, remove_entry}
-use Rattle.std.specs.Prelude.{IfSome, IfNone}
+use Rattle.std.proofs.Common.{◌≡◌, ℕ, ◌-◌, List, ◌∷◌, take, Option, Some, None, IsSome, is_some, Result, Ok, Err, IsOk, OnOk, OnErr, refl, sym, ap, subst, ◌∙◌, inl, inr, Bool, true, false, cond, nat_eq}
+use Rattle.std.specs.Map.{remove_entry}
 use Rattle.lru.specs.LruCache.{LruCache, lru_cache, promoted, put_entries}
-use Rattle.fv_disk.specs.declared.Failed.{Failed}
-use Rattle.fv_disk.specs.Shown.{Shown}
-use Rattle.fv_disk.specs.DiskCalls.{Reads, Writes}
-use Rattle.fv_store.specs.Held.{Pairs, held, block_at, without, to_front, IsStore, Keeps, Renews, StandsOn}
+use Rattle.fv_store.specs.Held.{held, block_at, without, to_front, IsStore, Keeps, Renews}
 use Rattle.fv_store.proofs.Lists.{removed_is, promoted_is, promoted_none, put_absent, put_present, store_front, store_more, store_without}
 
 abbrev Cache : Type 0

@@ -1,3 +1,4 @@
-pub mod Lists
-pub mod Standing
-pub mod Calls
+mod Lists
+mod Standing
+mod Calls
+pub mod Laws

@@ -1,13 +1,12 @@
 -- The lists of held pairs.
-use Rattle.std.proofs.Common.{◌≡◌, ℕ, zero, suc, ◌+◌, ◌-◌, ◌<◌, ◌≤◌, ◌⊎◌, Bool, true, false, cond, not, List, [], ◌∷◌, length, take, filter, Contains, IsSome, is_some, Option, Some, None, refl, sym, ap, subst, ◌∙◌, inl, inr, ⊎_elim, arith, nat_eq}
+use Rattle.std.proofs.Common.{◌≡◌, ℕ, zero, suc, ◌-◌, ◌<◌, ◌≤◌, true, false, cond, not, List, [], ◌∷◌, length, take, Some, None, refl, sym, ap, subst, ◌∙◌, ⊎_elim, arith, nat_eq}
 use Rattle.std.specs.List.{IsDistinct, AllByRecursion}
 use Rattle.std.specs.Map.{keys_of, lookup, lookup_entry, remove_entry}
 use Rattle.std.specs.Option.{option_map_or}
 use Rattle.std.proofs.lemmas.Bool.{cases_Bool}
 use Rattle.std.proofs.lemmas.Bool.Decides.{nat_tests}
-use Rattle.lru.specs.LruCache.{LruCache, lru_cache, promoted, put_entries}
-use Rattle.lru.proofs.Splits.{Contains-head, Contains-tail, Contains-cons, Contains-nil}
-use Rattle.fv_store.specs.Held.{Pairs, Held, held, block_at, without, to_front, IsStore}
+use Rattle.lru.specs.LruCache.{lru_cache, promoted, put_entries}
+use Rattle.fv_store.specs.Held.{Pairs, held, block_at, without, to_front, IsStore}
 
 same_number : (k j : ℕ) → nat_eq k j ≡ true → j ≡ k
 same_number k j same = grind (arith, nat_tests, same)

@@ -1,15 +1,14 @@
 -- A store stands on a disk after each change.
-use Rattle.std.proofs.Common.{◌≡◌, ◌≢◌, ℕ, zero, suc, ◌-◌, ◌⊎◌, Bool, true, false, not, List, [], ◌∷◌, take, Contains, IsTrue, Option, Some, None, Ok, Err, Result, IsOk, refl, sym, ap, subst, ◌∙◌, inl, inr, ⊎_elim, arith, nat_eq}
+use Rattle.std.proofs.Common.{◌≡◌, ℕ, ◌-◌, true, false, List, [], ◌∷◌, take, Contains, IsTrue, Option, Some, None, Ok, Err, Result, IsOk, refl, sym, ap, subst, ◌∙◌, inl, inr, ⊎_elim, arith, nat_eq}
 use Rattle.std.proofs.lemmas.Bool.{cases_Bool}
 use Rattle.std.proofs.lemmas.Bool.Decides.{nat_tests}
 use Rattle.std.proofs.lemmas.Map.Views.{Contains-from_lookup}
-use Rattle.std.specs.Map.{lookup}
 use Rattle.lru.proofs.CallerLemmas.{Contains-take}
 use Rattle.lru.proofs.Splits.{Contains-head, Contains-tail, Contains-cons, Contains-nil}
 use Rattle.fv_disk.specs.declared.Failed.{Failed}
-use Rattle.fv_disk.specs.Shown.{Shown, Image, Elapses, HasCause}
+use Rattle.fv_disk.specs.Shown.{Shown}
 use Rattle.fv_disk.specs.DiskCalls.{Reads, Writes}
-use Rattle.fv_store.specs.Held.{Pairs, held, block_at, without, to_front, StandsOn, Keeps, Renews}
+use Rattle.fv_store.specs.Held.{Pairs, block_at, without, to_front, StandsOn, Keeps, Renews}
 use Rattle.fv_store.proofs.Lists.{without_first, without_other}
 
 same_number : (k j : ℕ) → nat_eq k j ≡ true → k ≡ j
