@@ -24,6 +24,7 @@ none_counts i is = ⊎_elim (λ e. no_super (super_at (i superblock)) e) (λ shu
     no_super : (super : Result Super Shape) → IsErr super → taken_of super (newer (behind i 0) (behind i 1)) ≡ None
     no_super (Ok super) e = absurd cc
     no_super (Err fault) e = refl
+
     no_root : (super : Result Super Shape) → taken_of super None ≡ None
     no_root (Ok super) = refl
     no_root (Err fault) = refl
@@ -41,17 +42,18 @@ pub damaged_counts : (i : Image) (at want found : ℕ) → IsDamaged i at want f
 unfolding root_of
 damaged_counts i at want found is = ⊎_elim
     (λ (low : is.slot < 1).
-        let e : is.slot ≡ 0 = omega arith in
-        let one : behind i 0 ≡ Some (Err shape) = ap (behind i) (sym e) ∙ is.fault in
-        rw (one, fault_first (behind i 1) shape) (no_root (super_at (i superblock))))
+    let e : is.slot ≡ 0 = omega arith in
+    let one : behind i 0 ≡ Some (Err shape) = ap (behind i) (sym e) ∙ is.fault in
+    rw (one, fault_first (behind i 1) shape) (no_root (super_at (i superblock))))
     (λ high.
-        let e : is.slot ≡ 1 = omega (arith, high, is.within) in
-        let two : behind i 1 ≡ Some (Err shape) = ap (behind i) (sym e) ∙ is.fault in
-        rw (two, fault_second (behind i 0) shape) (no_root (super_at (i superblock))))
+    let e : is.slot ≡ 1 = omega (arith, high, is.within) in
+    let two : behind i 1 ≡ Some (Err shape) = ap (behind i) (sym e) ∙ is.fault in
+    rw (two, fault_second (behind i 0) shape) (no_root (super_at (i superblock))))
     (cases_lt is.slot 1)
   where
     shape : Shape
     shape = record { want = want; found = found }
+
     no_root : (super : Result Super Shape) → taken_of super None ≡ None
     no_root (Ok super) = refl
     no_root (Err fault) = refl
@@ -60,14 +62,15 @@ not_both : (i : Image) (at want found : ℕ) → IsNoAggregate i → IsDamaged i
 not_both i at want found none is = ⊎_elim
     (λ e. super_both (super_at (i superblock)) e is.super)
     (λ shut. ⊎_elim
-        (λ (low : is.slot < 1). let e : is.slot ≡ 0 = omega arith in open_both (behind i 0) (closed i 0 shut.0) (ap (behind i) (sym e) ∙ is.fault))
-        (λ high. let e : is.slot ≡ 1 = omega (arith, high, is.within) in open_both (behind i 1) (closed i 1 shut.1) (ap (behind i) (sym e) ∙ is.fault))
-        (cases_lt is.slot 1))
+    (λ (low : is.slot < 1). let e : is.slot ≡ 0 = omega arith in open_both (behind i 0) (closed i 0 shut.0) (ap (behind i) (sym e) ∙ is.fault))
+    (λ high. let e : is.slot ≡ 1 = omega (arith, high, is.within) in open_both (behind i 1) (closed i 1 shut.1) (ap (behind i) (sym e) ∙ is.fault))
+    (cases_lt is.slot 1))
     none
   where
     super_both : (super : Result Super Shape) → IsErr super → IsOk super → ⊥
     super_both (Ok super) e o = absurd cc
     super_both (Err fault) e o = absurd cc
+
     open_both : (there : Option (Result Root Shape)) → there ≡ None → there ≡ Some (Err (record { want = want; found = found })) → ⊥
     open_both None e o = absurd cc
     open_both (Some root) e o = absurd cc
