@@ -9,9 +9,9 @@ ghost use Rattle.fv_model.specs.Replies.{answer, about_volume, about_table, abou
 ghost use Rattle.fv_reference.specs.Maps.{map_of};
 
 use crate::asked::table_asked;
+use crate::counted::Counted;
 use crate::machines::Machine;
 use crate::maps::from_entries;
-use crate::space::{commit, need};
 use crate::tables::{File, Table};
 use crate::volumes::Volume;
 use fv_model::{Block, Command, Name, Names, Reply, Stat};
@@ -25,7 +25,7 @@ pub fn answer(alloc: Global, machine: &Machine, command: &Command) -> Result<Rep
 {
     match command {
         Command::VolList => Ok(Reply::Names(names_of(alloc, machine.volumes())?)),
-        Command::VolStat { volume } => numbers(alloc, machine, volume),
+        Command::VolStat { volume } => numbers(machine, volume),
         Command::Get {
             volume,
             snapshot,
@@ -44,33 +44,34 @@ pub fn answer(alloc: Global, machine: &Machine, command: &Command) -> Result<Rep
     }
 }
 
-fn numbers(alloc: Global, machine: &Machine, name: &Name) -> Result<Reply, AllocError>
+fn numbers(machine: &Machine, name: &Name) -> Result<Reply, AllocError>
     ensures { IfOk result (λ r. r ≡ about_volume machine.now name.now (λ x. Reply.Stat (stat_of x))) }
 {
-    match machine.volume(name) {
+    match machine.counted(name) {
         None => Ok(Reply::Done),
-        Some(volume) => Ok(Reply::Stat(stat(alloc, volume)?)),
+        Some(counted) => Ok(Reply::Stat(stat(counted)?)),
     }
 }
 
 /// A volume's numbers; one that passes 32 bits counts as want of memory, since no memory holds so much.
-fn stat(alloc: Global, volume: &Volume) -> Result<Stat, AllocError>
-    ensures { IfOk result (λ s. s ≡ stat_of volume.now) }
+fn stat(counted: &Counted) -> Result<Stat, AllocError>
+    ensures { IfOk result (λ s. s ≡ stat_of counted.now) }
 {
+    let volume = counted.volume();
     Ok(Stat {
         size: volume.size(),
-        used: small(volume.charge(alloc)?)?,
-        need: small(need(alloc, volume)?)?,
-        commit: commit(alloc, volume)?,
+        used: small(counted.charge())?,
+        need: small(counted.need())?,
+        commit: u64::from(small(counted.commit())?),
         kind: volume.kind(),
         clean: volume.is_known(),
     })
 }
 
-fn small(n: u64) -> Result<u32, AllocError>
+fn small(n: u128) -> Result<u32, AllocError>
     ensures { IfOk result (λ k. k ≡ n) }
 {
-    if n > u64::from(u32::MAX) {
+    if n > u128::from(u32::MAX) {
         return Err(AllocError);
     }
     Ok(n as u32)

@@ -7,9 +7,9 @@ ghost use Rattle.fv_model.specs.Tables.{file_named};
 ghost use Rattle.fv_model.specs.Refusals.{table_asked, is_missing, is_taken, lacks_file, has_file, lacks_snapshot, has_snapshot, is_parent, is_base, is_splitting, is_whole_clone, has_all_volumes, has_all_changes, has_all_files, has_all_snapshots, of_volume, of_file, is_clone_too_wide, is_mirror_too_wide, is_volume_full, is_aggregate_full};
 ghost use Rattle.fv_model.specs.Space.{is_file_kind};
 
+use crate::counted::Counted;
 use crate::machines::Machine;
 use crate::maps::len;
-use crate::space::use_of;
 use crate::tables::Table;
 use crate::volumes::{Base, Volume, id_count, span_of};
 use fv_model::{Kind, Name};
@@ -278,43 +278,43 @@ pub fn is_clone_too_wide(
         None => Ok(false),
         Some(volume) => match volume.snapshot(snapshot) {
             None => Ok(false),
-            Some(table) => Ok(1_048_576 < span_of(size, id_count(alloc, table)?, volume.span())?),
+            Some(table) => Ok(1_048_576 < span_of(size, id_count(alloc, table)?, volume.span())),
         },
     }
 }
 
 /// Whether the span of a mirror of the volume would be too great.
-pub fn is_mirror_too_wide(machine: &Machine, name: &Name, size: u32) -> Result<bool, AllocError>
-    ensures { IfOk result (λ b. b ≡ is_mirror_too_wide machine.now name.now size) }
+pub fn is_mirror_too_wide(machine: &Machine, name: &Name, size: u32) -> bool
+    ensures { result ≡ is_mirror_too_wide machine.now name.now size }
 {
     match machine.volume(name) {
-        None => Ok(false),
-        Some(volume) => Ok(1_048_576 < span_of(size, 0, volume.span())?),
+        None => false,
+        Some(volume) => 1_048_576 < span_of(size, 0, volume.span()),
     }
 }
 
 /// Whether the volume uses more than its size.
-pub fn is_volume_full(alloc: Global, machine: &Machine, name: &Name) -> Result<bool, AllocError>
-    ensures { IfOk result (λ b. b ≡ is_volume_full machine.now name.now) }
+pub fn is_volume_full(machine: &Machine, name: &Name) -> bool
+    ensures { result ≡ is_volume_full machine.now name.now }
 {
-    match machine.volume(name) {
-        None => Ok(false),
-        Some(volume) => Ok(u64::from(volume.size()) < use_of(alloc, volume)?),
+    match machine.counted(name) {
+        None => false,
+        Some(counted) => u128::from(counted.volume().size()) < counted.use_of(),
     }
 }
 
 /// Whether all volumes commit more than the capacity.
-pub fn is_aggregate_full(alloc: Global, machine: &Machine) -> Result<bool, AllocError>
-    ensures { IfOk result (λ b. b ≡ is_aggregate_full machine.now) }
+pub fn is_aggregate_full(machine: &Machine) -> bool
+    ensures { result ≡ is_aggregate_full machine.now }
 {
-    Ok(machine.capacity() < machine.commits(alloc)?)
+    machine.is_full()
 }
 
-fn some_base(volumes: &BTreeMap<Name, Volume>, parent: &Name, snapshot: &Option<Name>) -> bool
+fn some_base(volumes: &BTreeMap<Name, Counted>, parent: &Name, snapshot: &Option<Name>) -> bool
     ensures { result ≡ list_any (λ e. option_map_or (λ b. stands_on b parent.now snapshot.now) e.1.base false) volumes.now.entries }
 {
-    for (_, volume) in volumes {
-        if has_base_on(volume.base(), parent, snapshot) {
+    for (_, counted) in volumes {
+        if has_base_on(counted.volume().base(), parent, snapshot) {
             return true;
         }
     }

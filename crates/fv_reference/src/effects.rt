@@ -16,12 +16,13 @@ pub fn effect(alloc: Global, machine: &Machine, command: &Command) -> Result<Mac
 {
     match command {
         Command::VolCreate { volume, size, kind } => machine.with_volume(
+            alloc,
             volume,
             Volume::empty(alloc, *size, *kind)?,
         ),
         Command::VolDestroy { volume } => machine.without_volume(volume),
-        Command::VolResize { volume, size } => resized(machine, volume, *size),
-        Command::VolGuarantee { volume, kind } => guaranteed(machine, volume, *kind),
+        Command::VolResize { volume, size } => resized(alloc, machine, volume, *size),
+        Command::VolGuarantee { volume, kind } => guaranteed(alloc, machine, volume, *kind),
         Command::New {
             volume,
             file,
@@ -39,9 +40,9 @@ pub fn effect(alloc: Global, machine: &Machine, command: &Command) -> Result<Mac
             length,
         } => shortened(alloc, machine, volume, file, *length),
         Command::Remove { volume, file } => without_file(alloc, machine, volume, file),
-        Command::SnapCreate { volume, snapshot } => kept(machine, volume, snapshot),
-        Command::SnapDelete { volume, snapshot } => forgotten(machine, volume, snapshot),
-        Command::SnapRestore { volume, snapshot } => restored(machine, volume, snapshot),
+        Command::SnapCreate { volume, snapshot } => kept(alloc, machine, volume, snapshot),
+        Command::SnapDelete { volume, snapshot } => forgotten(alloc, machine, volume, snapshot),
+        Command::SnapRestore { volume, snapshot } => restored(alloc, machine, volume, snapshot),
         Command::CloneCreate {
             clone,
             parent,
@@ -49,8 +50,8 @@ pub fn effect(alloc: Global, machine: &Machine, command: &Command) -> Result<Mac
             size,
             kind,
         } => cloned(alloc, machine, clone, parent, snapshot, *size, *kind),
-        Command::SplitStart { clone } => split_started(machine, clone),
-        Command::SplitFinish { clone } => split_finished(machine, clone),
+        Command::SplitStart { clone } => split_started(alloc, machine, clone),
+        Command::SplitFinish { clone } => split_finished(alloc, machine, clone),
         Command::Mirror {
             source,
             snapshot,
@@ -58,26 +59,31 @@ pub fn effect(alloc: Global, machine: &Machine, command: &Command) -> Result<Mac
             size,
             kind,
         } => mirrored(alloc, machine, source, snapshot, volume, *size, *kind),
-        Command::Clean { volume } => cleaned(machine, volume),
+        Command::Clean { volume } => cleaned(alloc, machine, volume),
         _ => machine.clone(),
     }
 }
 
-fn resized(machine: &Machine, name: &Name, size: u32) -> Result<Machine, AllocError>
+fn resized(alloc: Global, machine: &Machine, name: &Name, size: u32) -> Result<Machine, AllocError>
     ensures { IfOk result (λ m. m ≡ changed machine.now (at_volume machine.now name.now (λ x. Becomes name.now (record x { size = size })))) }
 {
     match machine.volume(name) {
         None => machine.clone(),
-        Some(volume) => machine.with_volume(name, volume.with_size(size)?),
+        Some(volume) => machine.with_volume(alloc, name, volume.with_size(size)?),
     }
 }
 
-fn guaranteed(machine: &Machine, name: &Name, kind: Kind) -> Result<Machine, AllocError>
+fn guaranteed(
+    alloc: Global,
+    machine: &Machine,
+    name: &Name,
+    kind: Kind,
+) -> Result<Machine, AllocError>
     ensures { IfOk result (λ m. m ≡ changed machine.now (at_volume machine.now name.now (λ x. Becomes name.now (record x { kind = kind })))) }
 {
     match machine.volume(name) {
         None => machine.clone(),
-        Some(volume) => machine.with_volume(name, volume.with_kind(kind)?),
+        Some(volume) => machine.with_volume(alloc, name, volume.with_kind(kind)?),
     }
 }
 
@@ -96,7 +102,7 @@ fn with_file(
             let table = volume
                 .active()
                 .new_file(alloc, file, reserve, volume.next_stamp()?)?;
-            machine.with_volume(name, volume.changed(table)?)
+            machine.with_volume(alloc, name, volume.changed(table)?)
         }
     }
 }
@@ -134,7 +140,7 @@ fn written_in(
             let table = volume
                 .active()
                 .put(alloc, number, file, index, block, volume.next_stamp()?)?;
-            machine.with_volume(name, volume.changed(table)?)
+            machine.with_volume(alloc, name, volume.changed(table)?)
         }
     }
 }
@@ -170,7 +176,7 @@ fn shortened_in(
             let table = volume
                 .active()
                 .cut(alloc, number, file, length, volume.next_stamp()?)?;
-            machine.with_volume(name, volume.changed(table)?)
+            machine.with_volume(alloc, name, volume.changed(table)?)
         }
     }
 }
@@ -202,39 +208,55 @@ fn without_file_in(
         None => machine.clone(),
         Some((number, _file)) => {
             let table = volume.active().remove(alloc, number, volume.next_stamp()?)?;
-            machine.with_volume(name, volume.changed(table)?)
+            machine.with_volume(alloc, name, volume.changed(table)?)
         }
     }
 }
 
-fn kept(machine: &Machine, name: &Name, snapshot: &Name) -> Result<Machine, AllocError>
+fn kept(
+    alloc: Global,
+    machine: &Machine,
+    name: &Name,
+    snapshot: &Name,
+) -> Result<Machine, AllocError>
     ensures { IfOk result (λ m. m ≡ changed machine.now (at_volume machine.now name.now (λ x. Becomes name.now (record x { snapshots = fin.insert x.snapshots snapshot.now x.active })))) }
 {
     match machine.volume(name) {
         None => machine.clone(),
-        Some(volume) => machine.with_volume(name, volume.with_snapshot(snapshot)?),
+        Some(volume) => machine.with_volume(alloc, name, volume.with_snapshot(snapshot)?),
     }
 }
 
-fn forgotten(machine: &Machine, name: &Name, snapshot: &Name) -> Result<Machine, AllocError>
+fn forgotten(
+    alloc: Global,
+    machine: &Machine,
+    name: &Name,
+    snapshot: &Name,
+) -> Result<Machine, AllocError>
     ensures { IfOk result (λ m. m ≡ changed machine.now (at_volume machine.now name.now (λ x. Becomes name.now (record x { snapshots = fin.remove x.snapshots snapshot.now })))) }
 {
     match machine.volume(name) {
         None => machine.clone(),
-        Some(volume) => machine.with_volume(name, volume.without_snapshot(snapshot)?),
+        Some(volume) => machine.with_volume(alloc, name, volume.without_snapshot(snapshot)?),
     }
 }
 
-fn restored(machine: &Machine, name: &Name, snapshot: &Name) -> Result<Machine, AllocError>
+fn restored(
+    alloc: Global,
+    machine: &Machine,
+    name: &Name,
+    snapshot: &Name,
+) -> Result<Machine, AllocError>
     ensures { IfOk result (λ m. m ≡ changed machine.now (at_volume machine.now name.now (λ x. at_snapshot x snapshot.now (λ t. Becomes name.now (record x { active = t }))))) }
 {
     match machine.volume(name) {
         None => machine.clone(),
-        Some(volume) => restored_in(machine, name, volume, snapshot),
+        Some(volume) => restored_in(alloc, machine, name, volume, snapshot),
     }
 }
 
 fn restored_in(
+    alloc: Global,
     machine: &Machine,
     name: &Name,
     volume: &Volume,
@@ -244,7 +266,7 @@ fn restored_in(
 {
     match volume.snapshot(snapshot) {
         None => machine.clone(),
-        Some(table) => machine.with_volume(name, volume.restored(table)?),
+        Some(table) => machine.with_volume(alloc, name, volume.restored(table)?),
     }
 }
 
@@ -280,27 +302,28 @@ fn cloned_from(
     match volume.snapshot(snapshot) {
         None => machine.clone(),
         Some(table) => machine.with_volume(
+            alloc,
             clone,
             volume.clone_on(alloc, parent, snapshot, table, size, kind)?,
         ),
     }
 }
 
-fn split_started(machine: &Machine, name: &Name) -> Result<Machine, AllocError>
+fn split_started(alloc: Global, machine: &Machine, name: &Name) -> Result<Machine, AllocError>
     ensures { IfOk result (λ m. m ≡ changed machine.now (at_volume machine.now name.now (λ x. Becomes name.now (record x { base = option_map being_split x.base; known = false })))) }
 {
     match machine.volume(name) {
         None => machine.clone(),
-        Some(volume) => machine.with_volume(name, volume.split_started()?),
+        Some(volume) => machine.with_volume(alloc, name, volume.split_started()?),
     }
 }
 
-fn split_finished(machine: &Machine, name: &Name) -> Result<Machine, AllocError>
+fn split_finished(alloc: Global, machine: &Machine, name: &Name) -> Result<Machine, AllocError>
     ensures { IfOk result (λ m. m ≡ changed machine.now (at_volume machine.now name.now (λ x. Becomes name.now (record x { base = None })))) }
 {
     match machine.volume(name) {
         None => machine.clone(),
-        Some(volume) => machine.with_volume(name, volume.split_finished()?),
+        Some(volume) => machine.with_volume(alloc, name, volume.split_finished()?),
     }
 }
 
@@ -334,15 +357,19 @@ fn mirrored_from(
 {
     match volume.snapshot(snapshot) {
         None => machine.clone(),
-        Some(table) => machine.with_volume(mirror, volume.mirror_with(alloc, table, size, kind)?),
+        Some(table) => machine.with_volume(
+            alloc,
+            mirror,
+            volume.mirror_with(alloc, table, size, kind)?,
+        ),
     }
 }
 
-fn cleaned(machine: &Machine, name: &Name) -> Result<Machine, AllocError>
+fn cleaned(alloc: Global, machine: &Machine, name: &Name) -> Result<Machine, AllocError>
     ensures { IfOk result (λ m. m ≡ changed machine.now (at_volume machine.now name.now (λ x. Becomes name.now (record x { known = true })))) }
 {
     match machine.volume(name) {
         None => machine.clone(),
-        Some(volume) => machine.with_volume(name, volume.cleaned()?),
+        Some(volume) => machine.with_volume(alloc, name, volume.cleaned()?),
     }
 }

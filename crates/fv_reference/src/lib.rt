@@ -6,6 +6,7 @@
 
 mod answers;
 mod asked;
+mod counted;
 mod effects;
 mod machines;
 mod maps;

@@ -1,19 +1,19 @@
 //! The machine, and what it answers.
-ghost use Rattle.std.specs.Prelude.{◌≡◌, ◌+◌, ◌≤◌, IfOk, OnOk, OnErr, option_map, sum_by, map};
+ghost use Rattle.std.specs.Prelude.{◌≡◌, ◌+◌, ◌≤◌, IfOk, OnOk, OnErr, option_map, sum_by, nat_lt};
 ghost use Rattle.std.specs.FinMap as fin;
 ghost use Rattle.fv_model.specs.Spelling.{name_cmp};
 ghost use Rattle.fv_model.specs.Machines.{empty_machine, first_block, capacity};
-ghost use Rattle.fv_model.specs.Space.{commit, commits};
-ghost use Rattle.fv_model.specs.Refusals.{next};
+ghost use Rattle.fv_model.specs.Space.{commit};
+ghost use Rattle.fv_model.specs.Refusals.{next, is_aggregate_full};
 ghost use Rattle.fv_model.specs.Replies.{Allows};
 ghost use Rattle.fv_reference.specs.Maps.{map_of};
 
 use crate::answers::answer;
+use crate::counted::Counted;
 use crate::effects::effect;
 use crate::maps::{copy, get, insert, remove};
 use crate::refusals::refusal;
-use crate::space::commit;
-use crate::volumes::{Volume, ceil_div, plus};
+use crate::volumes::Volume;
 use fv_model::{Command, Name, Reply};
 use std::alloc::{AllocError, Global};
 use std::collections::BTreeMap;
@@ -23,7 +23,7 @@ use std::marker::Model;
 #[derive(Drop)]
 pub struct Machine {
     blocks: u32,
-    volumes: BTreeMap<Name, Volume>,
+    volumes: BTreeMap<Name, Counted>,
 }
 
 impl Model for Machine {
@@ -92,7 +92,7 @@ impl Machine {
     }
 
     /// The volumes.
-    pub(crate) fn volumes(&self) -> &BTreeMap<Name, Volume>
+    pub(crate) fn volumes(&self) -> &BTreeMap<Name, Counted>
         ensures { map_of name_cmp result.now ≡ self.now.volumes }
     {
         &self.volumes
@@ -102,15 +102,31 @@ impl Machine {
     pub(crate) fn volume(&self, name: &Name) -> Option<&Volume>
         ensures { option_map (λ v. v.now) result ≡ fin.get self.now.volumes name.now }
     {
+        match get(&self.volumes, name) {
+            None => None,
+            Some(counted) => Some(counted.volume()),
+        }
+    }
+
+    /// The volume of a name with its counts.
+    pub(crate) fn counted(&self, name: &Name) -> Option<&Counted>
+        ensures { option_map (λ v. v.now) result ≡ fin.get self.now.volumes name.now }
+    {
         get(&self.volumes, name)
     }
 
     /// The machine with a volume under a name.
-    pub(crate) fn with_volume(&self, name: &Name, volume: Volume) -> Result<Machine, AllocError>
+    pub(crate) fn with_volume(
+        &self,
+        alloc: Global,
+        name: &Name,
+        volume: Volume,
+    ) -> Result<Machine, AllocError>
         ensures { IfOk result (λ m. m ≡ record self.now { volumes = fin.insert self.now.volumes name.now volume }) }
     {
+        let counted = Counted::new(alloc, volume)?;
         let mut volumes = copy(&self.volumes)?;
-        insert(&mut volumes, *name, volume)?;
+        insert(&mut volumes, *name, counted)?;
         Ok(Machine {
             blocks: self.blocks,
             volumes,
@@ -129,11 +145,11 @@ impl Machine {
         })
     }
 
-    /// The sum of all volumes' commits.
-    pub(crate) fn commits(&self, alloc: Global) -> Result<u64, AllocError>
-        ensures { IfOk result (λ n. n ≡ commits self.now) }
+    /// Whether the volumes commit more than they can.
+    pub(crate) fn is_full(&self) -> bool
+        ensures { result ≡ is_aggregate_full self.now }
     {
-        all_commits(alloc, &self.volumes)
+        all_exceed(&self.volumes, u128::from(self.capacity()))
     }
 
     /// What volumes can commit together.
@@ -141,24 +157,29 @@ impl Machine {
         ensures { result ≡ capacity self.now.blocks }
     {
         let blocks = u64::from(self.blocks);
-        let first = 5 + 2 * ceil_div(blocks, 32_768);
+        let first = 5 + 2 * blocks.div_ceil(32_768);
         blocks.saturating_sub(first).saturating_sub(256)
     }
 }
 
-fn all_commits(alloc: Global, volumes: &BTreeMap<Name, Volume>) -> Result<u64, AllocError>
-    ensures { IfOk result (λ n. n ≡ sum_by (λ e. commit e.1) (fin.entries (map_of name_cmp volumes.now))) }
+fn all_exceed(volumes: &BTreeMap<Name, Counted>, capacity: u128) -> bool
+    ensures { result ≡ nat_lt capacity (sum_by (λ e. commit e.1) (fin.entries (map_of name_cmp volumes.now))) }
 {
     let _count = volumes.len();
-    sum_commits(alloc, volumes)
+    exceed(volumes, capacity)
 }
 
-fn sum_commits(alloc: Global, volumes: &BTreeMap<Name, Volume>) -> Result<u64, AllocError>
-    ensures { IfOk result (λ n. n ≡ sum_by (λ e. commit e.1) volumes.now.entries) }
+/// Whether the volumes commit more than there is.
+fn exceed(volumes: &BTreeMap<Name, Counted>, capacity: u128) -> bool
+    ensures { result ≡ nat_lt capacity (sum_by (λ e. commit e.1) volumes.now.entries) }
 {
-    let mut total = 0;
-    for (_, volume) in volumes {
-        total = plus(total, commit(alloc, volume)?)?;
+    let mut left = capacity;
+    for (_, counted) in volumes {
+        let commit = counted.commit();
+        if left < commit {
+            return true;
+        }
+        left -= commit;
     }
-    Ok(total)
+    false
 }

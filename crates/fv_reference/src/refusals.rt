@@ -19,25 +19,25 @@ pub fn refusal(
     ensures { IfOk result (λ r. r ≡ refusal machine.now command.now) }
 {
     match command {
-        Command::VolCreate { volume, size, kind } => of_creation(
-            alloc, machine, after, volume, *size, *kind,
-        ),
+        Command::VolCreate { volume, size, kind } => Ok(of_creation(
+            machine, after, volume, *size, *kind,
+        )),
         Command::VolDestroy { volume } => Ok(of_removal(machine, volume)),
-        Command::VolResize { volume, size } => of_size(alloc, machine, after, volume, *size),
-        Command::VolGuarantee { volume, kind } => of_kind(alloc, machine, after, volume, *kind),
+        Command::VolResize { volume, size } => Ok(of_size(machine, after, volume, *size)),
+        Command::VolGuarantee { volume, kind } => Ok(of_kind(machine, after, volume, *kind)),
         Command::VolList => Ok(of_vol_list(machine)),
         Command::VolStat { volume } => Ok(of_stat(machine, volume)),
         Command::New {
             volume,
             file,
             reserve,
-        } => of_new(alloc, machine, after, volume, file, *reserve),
+        } => Ok(of_new(machine, after, volume, file, *reserve)),
         Command::Put {
             volume,
             file,
             index,
             block,
-        } => of_put(alloc, machine, after, volume, file, *index, block),
+        } => Ok(of_put(machine, after, volume, file, *index, block)),
         Command::Get {
             volume,
             snapshot,
@@ -53,16 +53,16 @@ pub fn refusal(
             volume,
             file,
             length,
-        } => of_cut(alloc, machine, after, volume, file, *length),
-        Command::Remove { volume, file } => of_remove(alloc, machine, after, volume, file),
+        } => Ok(of_cut(machine, after, volume, file, *length)),
+        Command::Remove { volume, file } => Ok(of_remove(machine, after, volume, file)),
         Command::Ls { volume, snapshot } => Ok(of_ls(machine, volume, snapshot)),
-        Command::SnapCreate { volume, snapshot } => of_snapshot(
-            alloc, machine, after, volume, snapshot,
-        ),
+        Command::SnapCreate { volume, snapshot } => Ok(of_snapshot(
+            machine, after, volume, snapshot,
+        )),
         Command::SnapDelete { volume, snapshot } => Ok(of_deletion(machine, volume, snapshot)),
-        Command::SnapRestore { volume, snapshot } => of_restoring(
-            alloc, machine, after, volume, snapshot,
-        ),
+        Command::SnapRestore { volume, snapshot } => Ok(of_restoring(
+            machine, after, volume, snapshot,
+        )),
         Command::SnapList { volume } => Ok(of_snap_list(machine, volume)),
         Command::CloneCreate {
             clone,
@@ -71,7 +71,7 @@ pub fn refusal(
             size,
             kind,
         } => of_clone(alloc, machine, after, clone, parent, snapshot, *size, *kind),
-        Command::SplitStart { clone } => of_split(alloc, machine, after, clone),
+        Command::SplitStart { clone } => Ok(of_split(machine, after, clone)),
         Command::SplitFinish { clone } => Ok(of_split_end(machine, clone)),
         Command::Mirror {
             source,
@@ -79,9 +79,7 @@ pub fn refusal(
             volume,
             size,
             kind,
-        } => of_mirror(
-            alloc, machine, after, source, snapshot, volume, *size, *kind,
-        ),
+        } => Ok(of_mirror(machine, after, source, snapshot, volume, *size, *kind)),
         Command::Clean { volume } => Ok(of_cleaning(machine, volume)),
         Command::Probe {
             volume,
@@ -107,22 +105,21 @@ fn first_of(conditions: &[(Refusal, bool)]) -> Option<Refusal>
 
 #[tactic(auto, unfolding(fv_model::specs::Refusals::conditions))]
 fn of_creation(
-    alloc: Global,
     machine: &Machine,
     after: &Machine,
     name: &Name,
     size: u32,
     kind: Kind,
-) -> Result<Option<Refusal>, AllocError>
+) -> Option<Refusal>
     requires { after.now ≡ effect machine.now (Command.VolCreate name.now size kind) }
-    ensures { IfOk result (λ r. r ≡ refusal machine.now (Command.VolCreate name.now size kind)) }
+    ensures { result ≡ refusal machine.now (Command.VolCreate name.now size kind) }
 {
-    Ok(first_of(&[
+    first_of(&[
         (Refusal::Range, !in_size(u64::from(size))),
         (Refusal::VolumeExists, is_taken(machine, name)),
         (Refusal::TooMany, has_all_volumes(machine)),
-        (Refusal::AggregateFull, is_aggregate_full(alloc, after)?),
-    ]))
+        (Refusal::AggregateFull, is_aggregate_full(after)),
+    ])
 }
 
 #[tactic(auto, unfolding(fv_model::specs::Refusals::conditions))]
@@ -136,41 +133,29 @@ fn of_removal(machine: &Machine, name: &Name) -> Option<Refusal>
 }
 
 #[tactic(auto, unfolding(fv_model::specs::Refusals::conditions))]
-fn of_size(
-    alloc: Global,
-    machine: &Machine,
-    after: &Machine,
-    name: &Name,
-    size: u32,
-) -> Result<Option<Refusal>, AllocError>
+fn of_size(machine: &Machine, after: &Machine, name: &Name, size: u32) -> Option<Refusal>
     requires { after.now ≡ effect machine.now (Command.VolResize name.now size) }
-    ensures { IfOk result (λ r. r ≡ refusal machine.now (Command.VolResize name.now size)) }
+    ensures { result ≡ refusal machine.now (Command.VolResize name.now size) }
 {
-    Ok(first_of(&[
+    first_of(&[
         (Refusal::Range, !in_size(u64::from(size))),
         (Refusal::NoVolume, is_missing(machine, name)),
         (Refusal::Range, is_past_most(machine, name, size)),
-        (Refusal::VolumeFull, is_volume_full(alloc, after, name)?),
-        (Refusal::AggregateFull, is_aggregate_full(alloc, after)?),
-    ]))
+        (Refusal::VolumeFull, is_volume_full(after, name)),
+        (Refusal::AggregateFull, is_aggregate_full(after)),
+    ])
 }
 
 #[tactic(auto, unfolding(fv_model::specs::Refusals::conditions))]
-fn of_kind(
-    alloc: Global,
-    machine: &Machine,
-    after: &Machine,
-    name: &Name,
-    kind: Kind,
-) -> Result<Option<Refusal>, AllocError>
+fn of_kind(machine: &Machine, after: &Machine, name: &Name, kind: Kind) -> Option<Refusal>
     requires { after.now ≡ effect machine.now (Command.VolGuarantee name.now kind) }
-    ensures { IfOk result (λ r. r ≡ refusal machine.now (Command.VolGuarantee name.now kind)) }
+    ensures { result ≡ refusal machine.now (Command.VolGuarantee name.now kind) }
 {
-    Ok(first_of(&[
+    first_of(&[
         (Refusal::NoVolume, is_missing(machine, name)),
-        (Refusal::VolumeFull, is_volume_full(alloc, after, name)?),
-        (Refusal::AggregateFull, is_aggregate_full(alloc, after)?),
-    ]))
+        (Refusal::VolumeFull, is_volume_full(after, name)),
+        (Refusal::AggregateFull, is_aggregate_full(after)),
+    ])
 }
 
 #[tactic(auto, unfolding(fv_model::specs::Refusals::conditions))]
@@ -182,17 +167,16 @@ fn of_stat(machine: &Machine, name: &Name) -> Option<Refusal>
 
 #[tactic(auto, unfolding(fv_model::specs::Refusals::conditions))]
 fn of_new(
-    alloc: Global,
     machine: &Machine,
     after: &Machine,
     name: &Name,
     file: &Name,
     reserve: u32,
-) -> Result<Option<Refusal>, AllocError>
+) -> Option<Refusal>
     requires { after.now ≡ effect machine.now (Command.New name.now file.now reserve) }
-    ensures { IfOk result (λ r. r ≡ refusal machine.now (Command.New name.now file.now reserve)) }
+    ensures { result ≡ refusal machine.now (Command.New name.now file.now reserve) }
 {
-    Ok(first_of(&[
+    first_of(&[
         (Refusal::Range, !in_reserve(u64::from(reserve))),
         (Refusal::NoVolume, is_missing(machine, name)),
         (Refusal::FileExists, has_file(machine, name, file)),
@@ -201,32 +185,31 @@ fn of_new(
             Refusal::TooMany,
             has_all_files(machine, name) || has_all_changes(machine, name),
         ),
-        (Refusal::VolumeFull, is_volume_full(alloc, after, name)?),
-        (Refusal::AggregateFull, is_aggregate_full(alloc, after)?),
-    ]))
+        (Refusal::VolumeFull, is_volume_full(after, name)),
+        (Refusal::AggregateFull, is_aggregate_full(after)),
+    ])
 }
 
 #[tactic(auto, unfolding(fv_model::specs::Refusals::conditions))]
 fn of_put(
-    alloc: Global,
     machine: &Machine,
     after: &Machine,
     name: &Name,
     file: &Name,
     index: u32,
     block: &Block,
-) -> Result<Option<Refusal>, AllocError>
+) -> Option<Refusal>
     requires { after.now ≡ effect machine.now (Command.Put name.now file.now index block.now) }
-    ensures { IfOk result (λ r. r ≡ refusal machine.now (Command.Put name.now file.now index block.now)) }
+    ensures { result ≡ refusal machine.now (Command.Put name.now file.now index block.now) }
 {
-    Ok(first_of(&[
+    first_of(&[
         (Refusal::Range, !in_index(u64::from(index))),
         (Refusal::NoVolume, is_missing(machine, name)),
         (Refusal::NoFile, lacks_file(machine, name, &None, file)),
         (Refusal::TooMany, has_all_changes(machine, name)),
-        (Refusal::VolumeFull, is_volume_full(alloc, after, name)?),
-        (Refusal::AggregateFull, is_aggregate_full(alloc, after)?),
-    ]))
+        (Refusal::VolumeFull, is_volume_full(after, name)),
+        (Refusal::AggregateFull, is_aggregate_full(after)),
+    ])
 }
 
 #[tactic(auto, unfolding(fv_model::specs::Refusals::conditions))]
@@ -264,45 +247,38 @@ fn of_len(machine: &Machine, name: &Name, snapshot: &Option<Name>, file: &Name) 
 
 #[tactic(auto, unfolding(fv_model::specs::Refusals::conditions))]
 fn of_cut(
-    alloc: Global,
     machine: &Machine,
     after: &Machine,
     name: &Name,
     file: &Name,
     length: u32,
-) -> Result<Option<Refusal>, AllocError>
+) -> Option<Refusal>
     requires { after.now ≡ effect machine.now (Command.Cut name.now file.now length) }
-    ensures { IfOk result (λ r. r ≡ refusal machine.now (Command.Cut name.now file.now length)) }
+    ensures { result ≡ refusal machine.now (Command.Cut name.now file.now length) }
 {
-    Ok(first_of(&[
+    first_of(&[
         (Refusal::Range, !in_reserve(u64::from(length))),
         (Refusal::NoVolume, is_missing(machine, name)),
         (Refusal::NoFile, lacks_file(machine, name, &None, file)),
         (Refusal::Range, is_past_length(machine, name, file, length)),
         (Refusal::TooMany, has_all_changes(machine, name)),
-        (Refusal::VolumeFull, is_volume_full(alloc, after, name)?),
-        (Refusal::AggregateFull, is_aggregate_full(alloc, after)?),
-    ]))
+        (Refusal::VolumeFull, is_volume_full(after, name)),
+        (Refusal::AggregateFull, is_aggregate_full(after)),
+    ])
 }
 
 #[tactic(auto, unfolding(fv_model::specs::Refusals::conditions))]
-fn of_remove(
-    alloc: Global,
-    machine: &Machine,
-    after: &Machine,
-    name: &Name,
-    file: &Name,
-) -> Result<Option<Refusal>, AllocError>
+fn of_remove(machine: &Machine, after: &Machine, name: &Name, file: &Name) -> Option<Refusal>
     requires { after.now ≡ effect machine.now (Command.Remove name.now file.now) }
-    ensures { IfOk result (λ r. r ≡ refusal machine.now (Command.Remove name.now file.now)) }
+    ensures { result ≡ refusal machine.now (Command.Remove name.now file.now) }
 {
-    Ok(first_of(&[
+    first_of(&[
         (Refusal::NoVolume, is_missing(machine, name)),
         (Refusal::NoFile, lacks_file(machine, name, &None, file)),
         (Refusal::TooMany, has_all_changes(machine, name)),
-        (Refusal::VolumeFull, is_volume_full(alloc, after, name)?),
-        (Refusal::AggregateFull, is_aggregate_full(alloc, after)?),
-    ]))
+        (Refusal::VolumeFull, is_volume_full(after, name)),
+        (Refusal::AggregateFull, is_aggregate_full(after)),
+    ])
 }
 
 #[tactic(auto, unfolding(fv_model::specs::Refusals::conditions))]
@@ -316,26 +292,20 @@ fn of_ls(machine: &Machine, name: &Name, snapshot: &Option<Name>) -> Option<Refu
 }
 
 #[tactic(auto, unfolding(fv_model::specs::Refusals::conditions))]
-fn of_snapshot(
-    alloc: Global,
-    machine: &Machine,
-    after: &Machine,
-    name: &Name,
-    snapshot: &Name,
-) -> Result<Option<Refusal>, AllocError>
+fn of_snapshot(machine: &Machine, after: &Machine, name: &Name, snapshot: &Name) -> Option<Refusal>
     requires { after.now ≡ effect machine.now (Command.SnapCreate name.now snapshot.now) }
-    ensures { IfOk result (λ r. r ≡ refusal machine.now (Command.SnapCreate name.now snapshot.now)) }
+    ensures { result ≡ refusal machine.now (Command.SnapCreate name.now snapshot.now) }
 {
-    Ok(first_of(&[
+    first_of(&[
         (Refusal::NoVolume, is_missing(machine, name)),
         (
             Refusal::SnapshotExists,
             has_snapshot(machine, name, snapshot),
         ),
         (Refusal::TooMany, has_all_snapshots(machine, name)),
-        (Refusal::VolumeFull, is_volume_full(alloc, after, name)?),
-        (Refusal::AggregateFull, is_aggregate_full(alloc, after)?),
-    ]))
+        (Refusal::VolumeFull, is_volume_full(after, name)),
+        (Refusal::AggregateFull, is_aggregate_full(after)),
+    ])
 }
 
 #[tactic(auto, unfolding(fv_model::specs::Refusals::conditions))]
@@ -353,25 +323,19 @@ fn of_deletion(machine: &Machine, name: &Name, snapshot: &Name) -> Option<Refusa
 }
 
 #[tactic(auto, unfolding(fv_model::specs::Refusals::conditions))]
-fn of_restoring(
-    alloc: Global,
-    machine: &Machine,
-    after: &Machine,
-    name: &Name,
-    snapshot: &Name,
-) -> Result<Option<Refusal>, AllocError>
+fn of_restoring(machine: &Machine, after: &Machine, name: &Name, snapshot: &Name) -> Option<Refusal>
     requires { after.now ≡ effect machine.now (Command.SnapRestore name.now snapshot.now) }
-    ensures { IfOk result (λ r. r ≡ refusal machine.now (Command.SnapRestore name.now snapshot.now)) }
+    ensures { result ≡ refusal machine.now (Command.SnapRestore name.now snapshot.now) }
 {
-    Ok(first_of(&[
+    first_of(&[
         (Refusal::NoVolume, is_missing(machine, name)),
         (
             Refusal::NoSnapshot,
             lacks_snapshot(machine, name, &Some(*snapshot)),
         ),
-        (Refusal::VolumeFull, is_volume_full(alloc, after, name)?),
-        (Refusal::AggregateFull, is_aggregate_full(alloc, after)?),
-    ]))
+        (Refusal::VolumeFull, is_volume_full(after, name)),
+        (Refusal::AggregateFull, is_aggregate_full(after)),
+    ])
 }
 
 #[tactic(auto, unfolding(fv_model::specs::Refusals::conditions))]
@@ -410,28 +374,23 @@ fn of_clone(
             is_clone_too_wide(alloc, machine, parent, snapshot, size)?,
         ),
         (Refusal::TooMany, has_all_volumes(machine)),
-        (Refusal::VolumeFull, is_volume_full(alloc, after, clone)?),
-        (Refusal::AggregateFull, is_aggregate_full(alloc, after)?),
+        (Refusal::VolumeFull, is_volume_full(after, clone)),
+        (Refusal::AggregateFull, is_aggregate_full(after)),
     ]))
 }
 
 #[tactic(auto, unfolding(fv_model::specs::Refusals::conditions))]
-fn of_split(
-    alloc: Global,
-    machine: &Machine,
-    after: &Machine,
-    name: &Name,
-) -> Result<Option<Refusal>, AllocError>
+fn of_split(machine: &Machine, after: &Machine, name: &Name) -> Option<Refusal>
     requires { after.now ≡ effect machine.now (Command.SplitStart name.now) }
-    ensures { IfOk result (λ r. r ≡ refusal machine.now (Command.SplitStart name.now)) }
+    ensures { result ≡ refusal machine.now (Command.SplitStart name.now) }
 {
-    Ok(first_of(&[
+    first_of(&[
         (Refusal::NoVolume, is_missing(machine, name)),
         (Refusal::NotClone, is_no_whole_clone(machine, name)),
         (Refusal::VolumeInUse, is_parent(machine, name)),
-        (Refusal::VolumeFull, is_volume_full(alloc, after, name)?),
-        (Refusal::AggregateFull, is_aggregate_full(alloc, after)?),
-    ]))
+        (Refusal::VolumeFull, is_volume_full(after, name)),
+        (Refusal::AggregateFull, is_aggregate_full(after)),
+    ])
 }
 
 #[tactic(auto, unfolding(fv_model::specs::Refusals::conditions))]
@@ -446,7 +405,6 @@ fn of_split_end(machine: &Machine, name: &Name) -> Option<Refusal>
 
 #[tactic(auto, unfolding(fv_model::specs::Refusals::conditions))]
 fn of_mirror(
-    alloc: Global,
     machine: &Machine,
     after: &Machine,
     source: &Name,
@@ -454,11 +412,11 @@ fn of_mirror(
     name: &Name,
     size: u32,
     kind: Kind,
-) -> Result<Option<Refusal>, AllocError>
+) -> Option<Refusal>
     requires { after.now ≡ effect machine.now (Command.Mirror source.now snapshot.now name.now size kind) }
-    ensures { IfOk result (λ r. r ≡ refusal machine.now (Command.Mirror source.now snapshot.now name.now size kind)) }
+    ensures { result ≡ refusal machine.now (Command.Mirror source.now snapshot.now name.now size kind) }
 {
-    Ok(first_of(&[
+    first_of(&[
         (Refusal::Range, !in_size(u64::from(size))),
         (Refusal::NoVolume, is_missing(machine, source)),
         (
@@ -466,11 +424,11 @@ fn of_mirror(
             lacks_snapshot(machine, source, &Some(*snapshot)),
         ),
         (Refusal::VolumeExists, is_taken(machine, name)),
-        (Refusal::Range, is_mirror_too_wide(machine, source, size)?),
+        (Refusal::Range, is_mirror_too_wide(machine, source, size)),
         (Refusal::TooMany, has_all_volumes(machine)),
-        (Refusal::VolumeFull, is_volume_full(alloc, after, name)?),
-        (Refusal::AggregateFull, is_aggregate_full(alloc, after)?),
-    ]))
+        (Refusal::VolumeFull, is_volume_full(after, name)),
+        (Refusal::AggregateFull, is_aggregate_full(after)),
+    ])
 }
 
 #[tactic(auto, unfolding(fv_model::specs::Refusals::conditions))]

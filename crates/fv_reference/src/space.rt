@@ -1,5 +1,5 @@
 //! What a volume needs, uses and commits.
-ghost use Rattle.std.specs.Prelude.{◌≡◌, ◌+◌, ◌*◌, ◌^◌, ◌++◌, ◌∷◌, [], ◌≤◌, IfOk, OnOk, nat_lt, cond, map, flat_map, count_by, sum_by};
+ghost use Rattle.std.specs.Prelude.{◌≡◌, ◌+◌, ◌*◌, ◌^◌, ◌++◌, ◌∷◌, [], ◌≤◌, ◌<◌, length, IfOk, OnOk, nat_lt, cond, map, flat_map, count_by, sum_by};
 ghost use Rattle.std.specs.List.{range_with_len};
 ghost use Rattle.std.specs.Ordering.{nat_cmp};
 ghost use Rattle.std.specs.FinMap as fin;
@@ -7,7 +7,7 @@ ghost use Rattle.std.specs.FinSet as set;
 ghost use Rattle.fv_model.specs.Spelling.{name_cmp};
 ghost use Rattle.fv_model.specs.Trees.{fan};
 ghost use Rattle.fv_model.specs.Places.{InodeFile, OfFile, placed, place_cmp, id_cmp, stamps_of};
-ghost use Rattle.fv_model.specs.Space.{ids_in_any, base_ids, reserved_at, reserved_places, needs_block, need, use_of, nodes_above, leaves, overhead, promised, commit};
+ghost use Rattle.fv_model.specs.Space.{ids_in_any, base_ids, reserved_at, reserved_places, needs_block, need, nodes_above, leaves, overhead};
 ghost use Rattle.fv_reference.specs.Maps.{map_of, set_of};
 
 use crate::maps::get;
@@ -15,15 +15,16 @@ use crate::places::{Id, Place, add_ids, stamps_of};
 use crate::sets::has;
 use crate::tables::{File, Table};
 use crate::trees::{Spot, spots_over, width};
-use crate::volumes::{Base, Volume, add_kept, ceil_div, plus, times};
+use crate::volumes::{Base, Volume, add_kept};
 use fv_model::{Kind, Name};
 use std::alloc::{AllocError, Global};
 use std::collections::{BTreeMap, BTreeSet};
 
 /// The blocks that the reserves of a volume of kind `file` still need.
 #[tactic(auto, unfolding(fv_model::specs::Space::need))]
-pub fn need(alloc: Global, volume: &Volume) -> Result<u64, AllocError>
-    ensures { IfOk result (λ n. n ≡ need volume.now) }
+pub fn need(alloc: Global, volume: &Volume) -> Result<u128, AllocError>
+    ensures is { IfOk result (λ n. n ≡ need volume.now) }
+    ensures few { IfOk result (λ n. n < 2 ^ 127) }
 {
     match volume.kind() {
         Kind::File => needed_of(alloc, volume.active(), volume.snapshots(), volume.base()),
@@ -36,8 +37,9 @@ fn needed_of(
     active: &Table,
     snapshots: &BTreeMap<Name, Table>,
     base: &Option<Base>,
-) -> Result<u64, AllocError>
-    ensures { IfOk result (λ n. n ≡ sum_by (λ e. count_by (needs_block (set.union (ids_in_any (fin.values (map_of name_cmp snapshots.now))) (base_ids base.now)) (stamps_of active.now)) (reserved_places active.now.inode.levels e.0 e.1)) (fin.entries active.now.files)) }
+) -> Result<u128, AllocError>
+    ensures few { IfOk result (λ n. n < 2 ^ 127) }
+    ensures is { IfOk result (λ n. n ≡ sum_by (λ e. count_by (needs_block (set.union (ids_in_any (fin.values (map_of name_cmp snapshots.now))) (base_ids base.now)) (stamps_of active.now)) (reserved_places active.now.inode.levels e.0 e.1)) (fin.entries active.now.files)) }
 {
     let shared = shared_ids(alloc, snapshots, base)?;
     let stamps = stamps_of(alloc, active)?;
@@ -76,20 +78,23 @@ fn needed(
     stamps: &BTreeMap<Place, u64>,
     levels: u32,
     files: &BTreeMap<u32, File>,
-) -> Result<u64, AllocError>
-    requires { levels ≤ 5 }
-    ensures { IfOk result (λ n. n ≡ sum_by (λ e. count_by (needs_block (set_of id_cmp shared.now) (map_of place_cmp stamps.now)) (reserved_places levels e.0 e.1)) files.now.entries) }
+) -> Result<u128, AllocError>
+    requires low { levels ≤ 5 }
+    requires many { length files.now.entries < 2 ^ 64 }
+    ensures few { IfOk result (λ n. n < 2 ^ 127) }
+    ensures is { IfOk result (λ n. n ≡ sum_by (λ e. count_by (needs_block (set_of id_cmp shared.now) (map_of place_cmp stamps.now)) (reserved_places levels e.0 e.1)) files.now.entries) }
 {
-    let mut total = 0;
+    let mut total: u128 = 0;
     for (number, file) in files {
         let places = reserved_places(alloc, levels, *number, file)?;
-        total = plus(total, count_needed(shared, stamps, &places) as u64)?;
+        total += count_needed(shared, stamps, &places) as u128;
     }
     Ok(total)
 }
 
 fn count_needed(shared: &BTreeSet<Id>, stamps: &BTreeMap<Place, u64>, places: &[Place]) -> usize
-    ensures { result ≡ count_by (needs_block (set_of id_cmp shared.now) (map_of place_cmp stamps.now)) places.now }
+    ensures is { result ≡ count_by (needs_block (set_of id_cmp shared.now) (map_of place_cmp stamps.now)) places.now }
+    ensures few { result < 2 ^ 63 }
 {
     places
         .iter()
@@ -186,54 +191,31 @@ fn list_inode(places: &mut Vec<Place>, spots: &[Spot]) -> Result<(), AllocError>
     Ok(())
 }
 
-/// The charge and the need.
-pub fn use_of(alloc: Global, volume: &Volume) -> Result<u64, AllocError>
-    ensures { IfOk result (λ n. n ≡ use_of volume.now) }
-{
-    plus(volume.charge(alloc)?, need(alloc, volume)?)
-}
-
 /// The nodes of 256 entries above n of them, up to one root.
 #[tactic(auto, unfolding(fv_model::specs::Space::nodes_above))]
-fn nodes_above(fuel: u32, n: u64) -> Result<u64, AllocError>
-    ensures { IfOk result (λ k. k ≡ nodes_above fuel n) }
+fn nodes_above(fuel: u32, n: u128) -> u128
+    requires { n ≤ 2 ^ 65 }
+    ensures is { result ≡ nodes_above fuel n }
+    ensures few { result ≤ n + fuel + 1 }
 {
     if fuel == 0 {
-        return Ok(0);
+        return 0;
     }
     if n <= 256 {
-        return Ok(1);
+        return 1;
     }
-    let above = ceil_div(n, 256);
-    let higher = nodes_above(fuel - 1, above)?;
-    plus(above, higher)
+    let above = n.div_ceil(256);
+    above + nodes_above(fuel - 1, above)
 }
 
 /// The blocks that a volume of a span needs beside its data.
 #[tactic(auto, unfolding(fv_model::specs::Space::overhead))]
-fn overhead(span: u64) -> Result<u64, AllocError>
-    ensures { IfOk result (λ n. n ≡ overhead span) }
+pub fn overhead(span: u128) -> u128
+    requires { span ≤ 2 ^ 65 }
+    ensures is { result ≡ overhead span }
+    ensures few { result < 2 ^ 68 }
 {
-    let maps = ceil_div(span, 32_768);
-    let leaves = ceil_div(plus(span, times(25, maps)?)?, 256);
-    plus(plus(plus(1, maps)?, leaves)?, nodes_above(8, leaves)?)
-}
-
-/// What a volume commits of its aggregate.
-pub fn commit(alloc: Global, volume: &Volume) -> Result<u64, AllocError>
-    ensures { IfOk result (λ n. n ≡ commit volume.now) }
-{
-    plus(
-        times(2, overhead(volume.span())?)?,
-        promised(alloc, volume)?,
-    )
-}
-
-fn promised(alloc: Global, volume: &Volume) -> Result<u64, AllocError>
-    ensures { IfOk result (λ n. n ≡ promised volume.now volume.now.kind) }
-{
-    match volume.kind() {
-        Kind::Volume => Ok(u64::from(volume.size())),
-        Kind::File | Kind::Thin => use_of(alloc, volume),
-    }
+    let maps = span.div_ceil(32_768);
+    let leaves = (span + 25 * maps).div_ceil(256);
+    1 + maps + leaves + nodes_above(8, leaves)
 }

@@ -2,7 +2,6 @@
 ghost use Rattle.std.specs.Prelude.{◌≡◌, ◌+◌, ◌*◌, ◌^◌, ◌<◌, ◌≤◌, IfOk, OnOk, map, option_map, None, true, false};
 ghost use Rattle.std.specs.FinMap as fin;
 ghost use Rattle.std.specs.FinSet as set;
-ghost use Rattle.fv_model.specs.Numbers.{ceil_div};
 ghost use Rattle.fv_model.specs.Spelling.{name_cmp};
 ghost use Rattle.fv_model.specs.Places.{id_cmp, ids_of};
 ghost use Rattle.fv_model.specs.Space.{map_blocks, ids_in_any, ids_left_out, charge, span_of};
@@ -87,7 +86,7 @@ pub struct Volume {
     kind: Kind,
     size: u32,
     most: u64,
-    span: u64,
+    span: u128,
     changes: u64,
     active: Table,
     snapshots: BTreeMap<Name, Table>,
@@ -96,6 +95,7 @@ pub struct Volume {
 }
 
 impl Model for Volume {
+    ghost use Rattle.std.specs.Prelude.{◌≤◌, ◌^◌};
     ghost use Rattle.fv_model.specs.Spelling.{name_cmp};
     ghost use Rattle.fv_model.specs.Volumes as volumes;
     ghost use Rattle.fv_reference.specs.Maps.{map_of};
@@ -104,6 +104,8 @@ impl Model for Volume {
     ghost Value = { volumes.Volume };
 
     ghost coded = { volume_code };
+
+    ghost invariant = { λ v. v.span ≤ 2 ^ 65 };
 
     ghost view = { λ v. record { kind = v.kind; size = v.size; most = v.most; span = v.span; now = v.changes; active = v.active; snapshots = map_of name_cmp v.snapshots; base = v.base; known = v.known } };
 }
@@ -144,7 +146,7 @@ impl Volume {
             kind,
             size,
             most: 2 * u64::from(size),
-            span: span_of(size, 0, 0)?,
+            span: span_of(size, 0, 0),
             changes: 0,
             active: Table::new(alloc),
             snapshots: BTreeMap::new(alloc),
@@ -169,7 +171,7 @@ impl Volume {
             kind,
             size,
             most: 2 * u64::from(size),
-            span: span_of(size, id_count(alloc, table)?, self.span)?,
+            span: span_of(size, id_count(alloc, table)?, self.span),
             changes: self.changes,
             active: table.clone()?,
             snapshots: BTreeMap::new(alloc),
@@ -197,7 +199,7 @@ impl Volume {
             kind,
             size,
             most: 2 * u64::from(size),
-            span: span_of(size, 0, self.span)?,
+            span: span_of(size, 0, self.span),
             changes: self.changes,
             active: table.clone()?,
             snapshots: BTreeMap::new(alloc),
@@ -228,17 +230,24 @@ impl Volume {
     pub fn changed(&self, table: Table) -> Result<Volume, AllocError>
         ensures { IfOk result (λ v. v ≡ record self.now { now = self.now.now + 1; active = table }) }
     {
-        let mut after = self.clone()?;
-        after.changes = plus(self.changes, 1)?;
-        after.active = table;
-        Ok(after)
+        Ok(Volume {
+            kind: self.kind,
+            size: self.size,
+            most: self.most,
+            span: self.span,
+            changes: self.next_stamp()?,
+            active: table,
+            snapshots: copy(&self.snapshots)?,
+            base: copy_base(&self.base)?,
+            known: self.known,
+        })
     }
 
-    /// The stamp of the next change.
+    /// The stamp of the next change; one that passes 64 bits, long after changes are refused, is answered as want of memory.
     pub fn next_stamp(&self) -> Result<u64, AllocError>
         ensures { IfOk result (λ s. s ≡ self.now.now + 1) }
     {
-        plus(self.changes, 1)
+        self.changes.checked_add(1).ok_or(AllocError)
     }
 
     /// The volume with its active table kept under a name.
@@ -318,8 +327,9 @@ impl Volume {
     }
 
     /// The span.
-    pub fn span(&self) -> u64
-        ensures { result ≡ self.now.span }
+    pub fn span(&self) -> u128
+        ensures is { result ≡ self.now.span }
+        ensures few { result ≤ 2 ^ 65 }
     {
         self.span
     }
@@ -368,8 +378,9 @@ impl Volume {
 
     /// The ids that it is charged for, and a map for each snapshot.
     #[tactic(auto, unfolding(fv_model::specs::Space::charge))]
-    pub fn charge(&self, alloc: Global) -> Result<u64, AllocError>
-        ensures { IfOk result (λ n. n ≡ charge self.now) }
+    pub fn charge(&self, alloc: Global) -> Result<u128, AllocError>
+        ensures is { IfOk result (λ n. n ≡ charge self.now) }
+        ensures few { IfOk result (λ n. n < 2 ^ 115) }
     {
         charged(alloc, &self.active, &self.snapshots, &self.base, self.span)
     }
@@ -380,13 +391,15 @@ fn charged(
     active: &Table,
     snapshots: &BTreeMap<Name, Table>,
     base: &Option<Base>,
-    span: u64,
-) -> Result<u64, AllocError>
-    ensures { IfOk result (λ n. n ≡ set.len (set.difference (set.union (ids_of active.now) (ids_in_any (fin.values (map_of name_cmp snapshots.now)))) (ids_left_out base.now)) + map_blocks span * fin.len (map_of name_cmp snapshots.now)) }
+    span: u128,
+) -> Result<u128, AllocError>
+    requires { span ≤ 2 ^ 65 }
+    ensures few { IfOk result (λ n. n < 2 ^ 115) }
+    ensures is { IfOk result (λ n. n ≡ set.len (set.difference (set.union (ids_of active.now) (ids_in_any (fin.values (map_of name_cmp snapshots.now)))) (ids_left_out base.now)) + map_blocks span * fin.len (map_of name_cmp snapshots.now)) }
 {
     let ids = charged_ids(alloc, active, snapshots, base)?;
-    let maps = times(ceil_div(span, 32_768), len(snapshots) as u64)?;
-    plus(count(&ids) as u64, maps)
+    let maps = span.div_ceil(32_768) * len(snapshots) as u128;
+    Ok(count(&ids) as u128 + maps)
 }
 
 fn charged_ids(
@@ -418,34 +431,14 @@ pub fn id_count(alloc: Global, table: &Table) -> Result<u64, AllocError>
     Ok(count(&ids_alone(alloc, table)?) as u64)
 }
 
-/// A sum; one that passes 64 bits counts as want of memory, since no memory holds so much.
-pub fn plus(a: u64, b: u64) -> Result<u64, AllocError>
-    ensures { IfOk result (λ n. n ≡ a + b) }
-{
-    a.checked_add(b).ok_or(AllocError)
-}
-
-/// A product, likewise.
-pub fn times(a: u64, b: u64) -> Result<u64, AllocError>
-    ensures { IfOk result (λ n. n ≡ a * b) }
-{
-    a.checked_mul(b).ok_or(AllocError)
-}
-
-/// How many parts of size n are needed to hold a.
-pub fn ceil_div(a: u64, n: u64) -> u64
-    requires { 0 < n }
-    ensures { result ≡ ceil_div a n }
-{
-    a.div_ceil(n)
-}
-
 /// The span of a new volume.
-pub fn span_of(size: u32, base: u64, at_least: u64) -> Result<u64, AllocError>
-    ensures { IfOk result (λ n. n ≡ span_of size base at_least) }
+pub fn span_of(size: u32, base: u64, at_least: u128) -> u128
+    requires { at_least ≤ 2 ^ 65 }
+    ensures is { result ≡ span_of size base at_least }
+    ensures few { result ≤ 2 ^ 65 }
 {
-    let room = plus(plus(2 * u64::from(size), base)?, 256)?;
-    times(4096, ceil_div(room.max(at_least), 4096))
+    let room = 2 * u128::from(size) + u128::from(base) + 256;
+    4096 * room.max(at_least).div_ceil(4096)
 }
 
 fn splitting_base(base: &Option<Base>) -> Result<Option<Base>, AllocError>
