@@ -81,7 +81,13 @@ impl VolMap {
         if slot == 0 {
             return Ok(self.active.from_block(index, block));
         }
-        slots::load(&mut self.others[slot as usize - 1], self.alloc, self.span, index, block)
+        slots::load(
+            &mut self.others[slot as usize - 1],
+            self.alloc,
+            self.span,
+            index,
+            block,
+        )
     }
 
     /// The active set. Costs one step.

@@ -74,12 +74,7 @@ fn unite(union: &mut BitMap, active: &BitMap, others: &[Option<BitMap>])
 }
 
 /// Makes `union` the union of all slots, which it is already where `united`.
-pub(crate) fn refresh(
-    union: &mut BitMap,
-    united: bool,
-    active: &BitMap,
-    others: &[Option<BitMap>],
-)
+pub(crate) fn refresh(union: &mut BitMap, united: bool, active: &BitMap, others: &[Option<BitMap>])
     requires active { length active.now ≡ length union.old }
     requires others { All (IsLong (length union.old)) others.now }
     requires exact { united ≡ true → (v : ℕ) → is_member union.old v ≡ (is_member active.now v || taken_in others.now v) }

@@ -15,11 +15,7 @@ fn one_bit(bit: usize) -> Block
 }
 
 /// A fresh volume, and what it answers to a block with one bit in the map of a snapshot.
-fn loaded(
-    alloc: Global,
-    span: u32,
-    bit: usize,
-) -> Result<(VolMap, Option<u32>), AllocError>
+fn loaded(alloc: Global, span: u32, bit: usize) -> Result<(VolMap, Option<u32>), AllocError>
     requires span { 0 < span }
     requires bit { bit < 32768 }
 {
