@@ -5,3 +5,5 @@
 mod create;
 #[cfg(test)]
 mod harness;
+#[cfg(test)]
+mod store;
