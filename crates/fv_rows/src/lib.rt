@@ -7,3 +7,5 @@ mod create;
 mod harness;
 #[cfg(test)]
 mod root;
+#[cfg(test)]
+mod store;
