@@ -1,4 +1,4 @@
-use Rattle.std.proofs.Common.{◌≡◌, ℕ, List, nat_lt, sum_by, sym, ap, ◌∙◌}
+use Rattle.std.proofs.Common.{ℕ, List, nat_lt, sum_by, sym, ap, ◌∙◌}
 use Rattle.fv_model.specs.Volumes.{Volume}
 use Rattle.fv_model.specs.Space.{commit}
 use Rattle.fv_reference.proofs.Views.{entries_of}
