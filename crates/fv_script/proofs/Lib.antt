@@ -8,3 +8,4 @@ pub mod Told
 pub mod Hexes
 pub mod NamesTold
 pub mod ScriptLines
+pub mod Generating

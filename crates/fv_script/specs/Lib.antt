@@ -2,3 +2,4 @@ pub mod Reading
 pub mod Parts
 pub mod Telling
 pub mod Spelled
+pub mod Generated

@@ -4,6 +4,9 @@
 mod content;
 mod fault;
 mod files;
+mod generate;
+#[cfg(test)]
+mod generated;
 mod hex;
 mod lines;
 mod others;
@@ -17,5 +20,6 @@ mod words;
 mod write;
 
 pub use fault::LineFault;
+pub use generate::Generator;
 pub use read::read_line;
 pub use write::write_reply;
