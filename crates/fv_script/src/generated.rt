@@ -16,20 +16,20 @@ fn beginning(block: &Block) -> u32 {
     u32::from_be_bytes([block[0], block[1], block[2], block[3]])
 }
 
-fn row(command: &Command) -> Row {
+fn row(command: Command) -> Row {
     match command {
-        Command::VolCreate { volume, size, .. } => ("vol create", last(volume), *size, 0),
-        Command::New { file, reserve, .. } => ("new", last(file), *reserve, 0),
+        Command::VolCreate { volume, size, .. } => ("vol create", last(&volume), size, 0),
+        Command::New { file, reserve, .. } => ("new", last(&file), reserve, 0),
         Command::Put {
             file,
             index,
             block,
             ..
-        } => ("put", last(file), *index, beginning(block)),
-        Command::Get { file, index, .. } => ("get", last(file), *index, 0),
-        Command::Cut { file, length, .. } => ("cut", last(file), *length, 0),
-        Command::SnapCreate { snapshot, .. } => ("snap create", last(snapshot), 0, 0),
-        Command::SnapDelete { snapshot, .. } => ("snap delete", last(snapshot), 0, 0),
+        } => ("put", last(&file), index, beginning(&block)),
+        Command::Get { file, index, .. } => ("get", last(&file), index, 0),
+        Command::Cut { file, length, .. } => ("cut", last(&file), length, 0),
+        Command::SnapCreate { snapshot, .. } => ("snap create", last(&snapshot), 0, 0),
+        Command::SnapDelete { snapshot, .. } => ("snap delete", last(&snapshot), 0, 0),
         Command::Cp => ("cp", 0, 0, 0),
         _ => ("another", 0, 0, 0),
     }
@@ -37,8 +37,10 @@ fn row(command: &Command) -> Row {
 
 /// The row of the next command; none behind the last.
 fn next_row(generator: &mut Generator) -> Option<Row> {
-    let command = generator.next()?;
-    Some(row(&command))
+    match generator.next() {
+        Some(command) => Some(row(command)),
+        None => None,
+    }
 }
 
 #[test]
