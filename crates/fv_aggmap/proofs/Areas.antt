@@ -1,54 +1,22 @@
 -- Blocks of a map area, and the numbers that they have.
 use Rattle.std.proofs.Common.{◌≡◌, ◌≢◌, ℕ, ◌+◌, ◌-◌, ◌*◌, ◌/◌, ◌%◌, ◌<◌, ◌≤◌, List, length, Bool, true, false, refl, sym, ap, ◌∙◌, ⊎_elim, arith}
-use Rattle.std.specs.Prelude.{Option, Some, None, IfSome, IfNone, nat_lt}
-use Rattle.std.proofs.lemmas.Bool.{cases_eq, cases_lt, true≢false}
+use Rattle.std.specs.Prelude.{nat_lt}
+use Rattle.std.proofs.lemmas.Bool.{cases_eq, cases_lt}
 use Rattle.std.proofs.lemmas.Bool.Decides.{nat_tests}
 use Rattle.fv_disk.specs.Shown.{Image}
 use Rattle.fv_bits.specs.Bits.{bit_of_bytes, bit_of_area}
-use Rattle.fv_bits.specs.Members.{is_member, IsBlockOf, IsFirstPast, TakesBlock}
-use Rattle.fv_bits.proofs.Laws.{same_maps, is_member_past}
+use Rattle.fv_bits.specs.Members.{is_member, IsFirstPast, TakesBlock}
+use Rattle.fv_bits.proofs.Laws.{is_member_past}
 use Rattle.fv_image.specs.Layout.{area_blocks, area_place}
 use Rattle.fv_image.specs.NewerRoot.{Taken}
 use Rattle.fv_image.specs.MachineOf.{area_bits, map_bit}
 use Rattle.fv_root.specs.declared.find.Found.{Found}
 use Rattle.fv_root.specs.Finding.{root_found}
-use Rattle.fv_aggmap.specs.Space.{HasBlock, KeepsOthers}
 use Rattle.fv_aggmap.specs.Loading.{HasRead, IsLoaded, IsPastMap}
 
 -- a number, from its block and its place there
 place_of : (b k : ℕ) → b / 32768 ≡ k → 32768 * k + b % 32768 ≡ b
 place_of b k is = omega arith
-
--- ---- a copy
-
--- a block of one map is never refused by another of its length
-pub block_taken : (from old new : List Bool) (k : ℕ) (block : List ℕ) (r : Option ℕ) → length old ≡ length from → IsBlockOf from k block → IfNone r (TakesBlock old new k block) → IfSome r (IsFirstPast (length old) k block) → TakesBlock old new k block
-block_taken from old new k block None long is taken past = taken
-block_taken from old new k block (Some i) long is taken past =
-    let bit = is.bits (i % 32768) (omega arith) in
-    let none = is_member_past from i (omega (arith, long, past.past)) in
-    absurd (true≢false (sym past.bit ∙ bit ∙ ap (is_member from) (place_of i k past.place) ∙ none))
-
-pub has_block : (from old new : List Bool) (k : ℕ) (block : List ℕ) → IsBlockOf from k block → TakesBlock old new k block → HasBlock from new k
-has_block from old new k block is taken = λ b here.
-    let place = place_of b k here in
-    ap (is_member new) (sym place) ∙ taken.taken (b % 32768) (omega arith) ∙ is.bits (b % 32768) (omega arith) ∙ ap (is_member from) place
-
--- so many blocks of a map were copied
-abbrev pub HasBlocks : List Bool → List Bool → ℕ → Type 0
-HasBlocks from into count = (b : ℕ) → b < 32768 * count → is_member into b ≡ is_member from b
-
-pub copied_more : (from old new : List Bool) (k : ℕ) → HasBlocks from old k → HasBlock from new k → KeepsOthers old new k → HasBlocks from new (k + 1)
-copied_more from old new k so_far here others = λ b below. ⊎_elim
-    (λ (e : b / 32768 ≡ k). here b e)
-    (λ (ne : b / 32768 ≢ k). others b ne ∙ so_far b (omega arith))
-    (cases_eq (b / 32768) k)
-
-pub copied_all : (from into : List Bool) (count : ℕ) → length into ≡ length from → area_blocks (length from) ≤ count → HasBlocks from into count → into ≡ from
-copied_all from into count long enough so_far = same_maps into from long (λ b. ⊎_elim
-    (λ (inside : b < length from). so_far b (omega arith))
-    (λ (past : length from ≤ b). is_member_past into b (omega (arith, long, past)) ∙ sym (is_member_past from b past))
-    (cases_lt b (length from)))
 
 -- ---- a read
 

@@ -1,7 +1,6 @@
 -- Which blocks of an aggregate are held, and which are free.
-use Rattle.std.specs.Prelude.{◌≡◌, ◌≢◌, ◌<◌, ◌≤◌, ◌-◌, ◌/◌, ℕ, Bool, not, true, false, ◌||◌, ◌&&◌, nat_le, List, length, count_by}
+use Rattle.std.specs.Prelude.{◌≡◌, ◌<◌, ◌≤◌, ◌-◌, ℕ, Bool, not, true, false, ◌||◌, ◌&&◌, nat_le, List, length, count_by}
 use Rattle.std.specs.List.{range_with_len}
-use Rattle.fv_bits.specs.Bits.{block_bits}
 use Rattle.fv_bits.specs.Members.{is_member}
 use Rattle.fv_model.specs.Machines.{first_block}
 use Rattle.fv_root.specs.Formatted.{IsSize}
@@ -59,11 +58,3 @@ pub record IsKept (committed next : List Bool) (first cursor free : ℕ) : Type 
 -- whether a number becomes free where the next set gives it up
 abbrev pub becomes_free : List Bool → List Bool → ℕ → ℕ → Bool
 becomes_free committed next first b = nat_le first b && is_member next b && not (is_member committed b)
-
--- a set has the numbers of another in one block of a map
-abbrev pub HasBlock : List Bool → List Bool → ℕ → Type 0
-HasBlock from into k = (b : ℕ) → b / block_bits ≡ k → is_member into b ≡ is_member from b
-
--- a set has its own numbers outside one block of a map
-abbrev pub KeepsOthers : List Bool → List Bool → ℕ → Type 0
-KeepsOthers old new k = (b : ℕ) → b / block_bits ≢ k → is_member new b ≡ is_member old b

@@ -1,7 +1,7 @@
-//! Finding a number that neither of two sets has.
+//! Finding a number that neither of two sets has, and counting those that are free.
 
 ghost use Rattle.std.specs.Prelude.{◌≡◌, ◌<◌, ◌≤◌, length, IfSome, IfNone, if◌then◌else◌};
-ghost use Rattle.fv_aggmap.specs.Space.{AreHeldFrom, IsFreeIn, becomes_free};
+ghost use Rattle.fv_aggmap.specs.Space.{AreHeldFrom, IsFreeIn, becomes_free, free_from};
 
 use fv_bits::BitMap;
 
@@ -46,4 +46,12 @@ pub(crate) fn freed(committed: &BitMap, next: &BitMap, first: u32, b: u32) -> u3
     ensures { result ≡ (if becomes_free committed.now next.now first b then 1 else 0) }
 {
     u32::from(b >= first && next.get(b) && !committed.get(b))
+}
+
+/// How many numbers from `first` on a set hasn't.
+pub(crate) fn clear_from(map: &BitMap, first: u32) -> u32
+    requires { first ≤ length map.now }
+    ensures { result ≡ free_from map.now map.now first }
+{
+    map.len() - first - map.count_range(first, map.len())
 }

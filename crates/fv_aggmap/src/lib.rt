@@ -2,7 +2,6 @@
 //! hold. A block is free where neither holds it. `docs/SPACE.md` says why both count.
 #![tactic(auto)]
 
-mod copies;
 mod fault;
 mod free;
 mod load;

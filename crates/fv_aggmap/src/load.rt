@@ -2,7 +2,8 @@
 
 ghost use Rattle.std.specs.Prelude.{◌≡◌, ◌<◌, ◌+◌, length, IsTrue, OnOk, IfErr};
 ghost use Rattle.fv_image.specs.Layout.{area_blocks};
-ghost use Rattle.fv_root.specs.Finding.{IsInRange, OnlyReads};
+ghost use Rattle.fv_disk.specs.DiskCalls.{OnlyReads};
+ghost use Rattle.fv_root.specs.Finding.{IsInRange};
 ghost use Rattle.fv_aggmap.specs.Loading.{HasLoadCause, HasRead, IsFault};
 
 use crate::fault::AggFault;

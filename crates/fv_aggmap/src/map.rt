@@ -1,13 +1,13 @@
 //! The map itself.
 
 ghost use Rattle.std.specs.Prelude.{◌≡◌, ◌<◌, ◌≤◌, length, slice_set, true, false, IsTrue, IfOk, IfErr, IfSome, IfNone};
-ghost use Rattle.fv_root.specs.Finding.{IsInRange, OnlyReads};
+ghost use Rattle.fv_disk.specs.DiskCalls.{OnlyReads};
+ghost use Rattle.fv_root.specs.Finding.{IsInRange};
 ghost use Rattle.fv_aggmap.specs.Loading.{HasLoadCause, IsFault, IsLoaded};
 ghost use Rattle.fv_aggmap.specs.Space.{IsFree, IsFull, blocks_of, free_blocks};
 
-use crate::copies::{clear_from, copy};
 use crate::fault::AggFault;
-use crate::free::{find_free, freed};
+use crate::free::{clear_from, find_free, freed};
 use crate::load::read_area;
 use fv_bits::BitMap;
 use fv_disk::Disk;
@@ -55,7 +55,7 @@ impl AggMap {
         let mut committed = BitMap::new(alloc, found.blocks)?;
         let mut next = BitMap::new(alloc, found.blocks)?;
         read_area(disk, found, &mut committed)?;
-        copy(&committed, &mut next);
+        next.copy_from(&committed);
         let first = first_block(found.blocks);
         let free = clear_from(&committed, first);
         Ok(AggMap {
@@ -121,7 +121,7 @@ impl AggMap {
     pub fn committed(&mut self)
         ensures { self.new ≡ record { committed = self.old.next; next = self.old.next } }
     {
-        copy(&self.next, &mut self.committed);
+        self.committed.copy_from(&self.next);
         self.free = clear_from(&self.next, self.first);
     }
 }

@@ -1,7 +1,6 @@
 //! Rows with values worked out by hand.
 
-use crate::copies::{clear_from, copy};
-use crate::free::{find_free, freed};
+use crate::free::{clear_from, find_free, freed};
 use fv_bits::BitMap;
 use std::alloc::{AllocError, Global};
 use std::test::Fail;
@@ -32,10 +31,9 @@ fn freed_by(committed: &BitMap, next: &BitMap, first: u32, b: u32) -> u32 {
     }
 }
 
-fn copied(from: &BitMap, into: &mut BitMap, first: u32) -> u32 {
-    if into.len() == from.len() && first <= from.len() {
-        copy(from, into);
-        clear_from(into, first)
+fn clear(map: &BitMap, first: u32) -> u32 {
+    if first <= map.len() {
+        clear_from(map, first)
     } else {
         u32::MAX
     }
@@ -67,10 +65,10 @@ fn freed_numbers(rt: HostRuntime) -> Result<(), Fail> {
 }
 
 #[test]
-fn copies(rt: HostRuntime) -> Result<(), Fail> {
-    let from = with_members(rt.alloc(), 40000, &[7, 32767, 32768, 39999])?;
-    let mut into = with_members(rt.alloc(), 40000, &[8, 32769])?;
-    assert_eq!(rt; copied(&from, &mut into, 9), 39988);
-    assert_eq!(rt; copied(&from, &mut into, 7), 39989);
+fn clear_numbers(rt: HostRuntime) -> Result<(), Fail> {
+    let map = with_members(rt.alloc(), 40000, &[7, 32767, 32768, 39999])?;
+    for (first, want) in [(0, 39996), (7, 39989), (8, 39989), (39999, 0), (40000, 0)] {
+        assert_eq!(rt; clear(&map, first), want, "from {first}");
+    }
     Ok(())
 }

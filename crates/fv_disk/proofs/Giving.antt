@@ -5,11 +5,11 @@ use Rattle.std.proofs.Math.Seq.{take-add}
 use Rattle.std.specs.Prelude.{IsTrue, Ok, Err}
 use Rattle.fv_disk.specs.declared.Failed.{Failed}
 use Rattle.fv_disk.specs.Shown.{Shown, IsDisk}
-use Rattle.fv_disk.specs.DiskCalls.{Stays}
 use Rattle.fv_disk.specs.HostCalls.{Rests, Gives, GivesAll}
 use Rattle.fv_disk.specs.Crash.{Leaves}
 use Rattle.fv_disk.specs.Partly.{PartlyGiven}
 use Rattle.fv_disk.proofs.Moments.{started, goes_on}
+use Rattle.fv_disk.proofs.Resting.{rests_itself, rests_on}
 
 -- after some calls that were done: these bytes are left to give
 pub record HasGiven (old : Shown) (bytes : List ℕ) (now : Shown) (rest : List ℕ) : Type 0 where
@@ -19,27 +19,6 @@ pub record HasGiven (old : Shown) (bytes : List ℕ) (now : Shown) (rest : List 
   pub source_faults : now.ends.source_faults ≡ old.ends.source_faults
   pub sink_faults : now.ends.sink_faults ≡ old.ends.sink_faults
   pub any_moment : Leaves old now (PartlyGiven old bytes)
-
-pub stays_itself : (disk : Shown) → Stays disk disk
-stays_itself disk = record { tells = refl; reads = refl; no_more = λ c now. now; no_fewer = λ c now. now }
-
-pub rests_itself : (disk : Shown) → Rests disk disk
-rests_itself disk = record { stays = stays_itself disk; faults = refl; write_faults = refl }
-
-pub stays_on : (old mid new : Shown) → Stays old mid → Stays mid new → Stays old new
-stays_on old mid new first second = record {
-  tells = second.tells ∙ first.tells;
-  reads = second.reads ∙ first.reads;
-  no_more = λ c now. first.no_more c (second.no_more c now);
-  no_fewer = λ c now. second.no_fewer c (first.no_fewer c now);
-}
-
-pub rests_on : (old mid new : Shown) → Rests old mid → Rests mid new → Rests old new
-rests_on old mid new first second = record {
-  stays = stays_on old mid new first.stays second.stays;
-  faults = second.faults ∙ first.faults;
-  write_faults = second.write_faults ∙ first.write_faults;
-}
 
 pub begins : (disk : Shown) (bytes : List ℕ) → IsDisk disk → HasGiven disk bytes disk bytes
 begins disk bytes laws = record {

@@ -1,3 +1,4 @@
 pub mod Counting
 mod Giving
 pub mod Moments
+pub mod Resting

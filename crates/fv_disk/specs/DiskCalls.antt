@@ -1,5 +1,5 @@
 -- What the calls of a disk do.
-use Rattle.std.specs.Prelude.{◌≡◌, ℕ, List, IsTrue, IsErr, Result, OnOk}
+use Rattle.std.specs.Prelude.{◌≡◌, ◌≤◌, ℕ, List, IsTrue, IsErr, Result, OnOk}
 use Rattle.fv_disk.specs.declared.Failed.{Failed}
 use Rattle.fv_disk.specs.Shown.{Image, IsBlock, SameBut, Shown, IsSettled, Elapses, HasCause}
 
@@ -45,6 +45,15 @@ pub record Settles (old new : Shown) (result : Result Unit Failed) : Type 0 wher
   pub ends : new.ends ≡ old.ends
   pub cause : HasCause old.faults new.faults result
   pub write_cause : HasCause old.write_faults new.write_faults result
+
+-- Blocks were read, and nothing changed but the time and the count of faults.
+pub record OnlyReads (old new : Shown) : Type 0 where
+  pub stays : Stays old new
+  pub time : Elapses old new
+  pub given : new.given ≡ old.given
+  pub ends : new.ends ≡ old.ends
+  pub faults : old.faults ≤ new.faults
+  pub write_faults : new.write_faults ≡ old.write_faults
 
 -- Of one or more writes and barriers: what is told and given and the ends of a host stay, and the counts of faults tell whether
 -- the calls were done.

@@ -1,11 +1,10 @@
 -- Reading the fixed blocks, call by call.
-use Rattle.std.proofs.Common.{◌≡◌, ℕ, List, refl, sym, ap, ◌∙◌, arith, inl, inr, ⊎_elim, ◌⊎◌}
+use Rattle.std.proofs.Common.{◌≡◌, ℕ, List, refl, sym, ap, ◌∙◌, arith, inl, inr, ◌⊎◌}
 use Rattle.std.specs.Prelude.{◌≢◌, Bool, true, false, Option, Some, None, Result, Ok, Err, IfSome, ◌==◌, if◌then◌else◌}
 use Rattle.std.specs.Option.{option_map, is_some, ok_or}
 use Rattle.std.proofs.lemmas.Bool.{cases_eq}
 use Rattle.std.proofs.lemmas.Bool.Decides.{nat_tests}
-use Rattle.fv_disk.specs.Shown.{Image, Shown}
-use Rattle.fv_disk.specs.DiskCalls.{Stays}
+use Rattle.fv_disk.specs.Shown.{Image}
 use Rattle.fv_codec.specs.declared.shape.Shape.{Shape}
 use Rattle.fv_codec.specs.declared.root.Root.{Root}
 use Rattle.fv_codec.specs.Blocks.{super_at, gate_open, root_at, IsRoot}
@@ -15,35 +14,7 @@ use Rattle.fv_root.specs.declared.find.Found.{Found}
 use Rattle.fv_root.specs.declared.find.RootFault.{RootFault}
 use Rattle.fv_root.specs.declared.find.RootFault.TheVariants.{DiskFault, NotAggregate, Damaged}
 use Rattle.fv_root.proofs.Ranges.{root_in_range}
-use Rattle.fv_root.specs.Finding.{Finds, OnlyReads, ReadsBehind, ReadsRoot, is_older_open, other_slot, root_found}
-
-pub stays_then : (old mid new : Shown) → Stays old mid → Stays mid new → Stays old new
-stays_then old mid new first second = record {
-  tells = second.tells ∙ first.tells;
-  reads = second.reads ∙ first.reads;
-  no_more = λ c now. first.no_more c (second.no_more c now);
-  no_fewer = λ c now. second.no_fewer c (first.no_fewer c now);
-}
-
-pub reads_then : (old mid new : Shown) → OnlyReads old mid → OnlyReads mid new → OnlyReads old new
-reads_then old mid new first second = record {
-  stays = stays_then old mid new first.stays second.stays;
-  time = record {
-    later = omega (arith, first.time.later, second.time.later);
-    nothing_else = λ t c g le left. ⊎_elim
-        (λ (earlier : mid.since t c g). ⊎_elim
-        (λ (o : old.since t c g). inl o)
-        (λ now. inr (second.stays.no_fewer c now.0, now.1 ∙ sym second.given))
-        (first.time.nothing_else t c g le earlier))
-        (λ now. inr now)
-        (second.time.nothing_else t c g (omega (arith, le, first.time.later)) left);
-    keeps = λ t c g le left. second.time.keeps t c g (omega (arith, le, first.time.later)) (first.time.keeps t c g le left);
-  };
-  given = second.given ∙ first.given;
-  ends = second.ends ∙ first.ends;
-  faults = omega (arith, first.faults, second.faults);
-  write_faults = second.write_faults ∙ first.write_faults;
-}
+use Rattle.fv_root.specs.Finding.{Finds, ReadsBehind, ReadsRoot, is_older_open, other_slot, root_found}
 
 pub said_in_range : (at : ℕ) (block : List ℕ) (root : Root) → ReadsRoot at (root_at block) (Ok root) → IsRoot root
 said_in_range at block root said = so (root_at block) refl said

@@ -1,8 +1,7 @@
 -- What is found in the fixed blocks of an aggregate.
-use Rattle.std.specs.Prelude.{Bool, ◌==◌, if◌then◌else◌, ◌≡◌, ◌≢◌, ◌<◌, ◌≤◌, ◌-◌, ◌⊎◌, ℕ, false, Option, Some, Result, Ok, Err, IsOk, IsErr}
+use Rattle.std.specs.Prelude.{Bool, ◌==◌, if◌then◌else◌, ◌≡◌, ◌≢◌, ◌<◌, ◌-◌, ◌⊎◌, ℕ, false, Option, Some, Result, Ok, Err, IsOk, IsErr}
 use Rattle.std.specs.Option.{option_map, is_some}
-use Rattle.fv_disk.specs.Shown.{Image, Shown, Elapses, Rose}
-use Rattle.fv_disk.specs.DiskCalls.{Stays}
+use Rattle.fv_disk.specs.Shown.{Image, Rose}
 use Rattle.fv_codec.specs.declared.shape.Shape.{Shape}
 use Rattle.fv_codec.specs.declared.root.Root.{Root}
 use Rattle.fv_codec.specs.Blocks.{super_at, gate_open, IsRoot}
@@ -51,15 +50,6 @@ pub record IsInRange (found : Found) : Type 0 where
   pub size : IsSize found.blocks
   pub slot : found.slot < 2
   pub root : IsRoot found.root
-
--- Blocks were read, and nothing changed but the time and the count of faults.
-pub record OnlyReads (old new : Shown) : Type 0 where
-  pub stays : Stays old new
-  pub time : Elapses old new
-  pub given : new.given ≡ old.given
-  pub ends : new.ends ≡ old.ends
-  pub faults : old.faults ≤ new.faults
-  pub write_faults : new.write_faults ≡ old.write_faults
 
 -- the count of faults rose in a call that answers a fault of the disk, and stays in each other call
 abbrev pub HasReadCause : {T : Type 0} → ℕ → ℕ → Result T RootFault → Type 0

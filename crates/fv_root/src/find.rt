@@ -5,7 +5,8 @@ ghost use Rattle.std.specs.Option.{option_map};
 ghost use Rattle.fv_codec.specs.Blocks.{IsRoot, root_at};
 ghost use Rattle.fv_image.specs.NewerRoot.{newer, taken_of};
 ghost use Rattle.fv_root.specs.Formatted.{IsSize};
-ghost use Rattle.fv_root.specs.Finding.{Finds, HasReadCause, IsInRange, OnlyReads, ReadsBehind, ReadsRoot, ReadsSuper, is_older_open, root_found};
+ghost use Rattle.fv_disk.specs.DiskCalls.{OnlyReads};
+ghost use Rattle.fv_root.specs.Finding.{Finds, HasReadCause, IsInRange, ReadsBehind, ReadsRoot, ReadsSuper, is_older_open, root_found};
 
 use crate::places::{SUPERBLOCK, gate_place, root_place};
 use fv_codec::{Root, Super, gate_open};
@@ -60,7 +61,7 @@ impl From<Failed> for RootFault {
 /// exactly where block 0 is no superblock or neither gate is open, `Damaged` exactly where a root behind
 /// an open gate hasn't its shape, with the first such root, and `DiskFault` only where a read failed in
 /// this call. It reads at most five blocks, changes nothing and takes no memory.
-#[tactic(auto, using(crate::proofs::Finding::reads_then))]
+#[tactic(auto, using(fv_disk::proofs::Resting::reads_then))]
 pub fn find_root<D: Disk>(disk: &mut D) -> Result<Found, RootFault>
     ensures finds { IsTrue (D.shown disk.old).tells → Finds (D.shown disk.old).reads result }
     ensures range { IfOk result IsInRange }
@@ -100,7 +101,7 @@ fn read_super<D: Disk>(disk: &mut D) -> Result<u32, RootFault>
 }
 
 /// The root behind a slot's gate, and none where the gate isn't open.
-#[tactic(auto, using(crate::proofs::Finding::reads_then, crate::proofs::Finding::said_in_range))]
+#[tactic(auto, using(fv_disk::proofs::Resting::reads_then, crate::proofs::Finding::said_in_range))]
 fn read_root<D: Disk>(disk: &mut D, slot: u8) -> Result<Option<Root>, RootFault>
     ensures value { IsTrue (D.shown disk.old).tells → ReadsBehind (D.shown disk.old).reads slot result }
     ensures root { IfOk result (λ root. IfSome root IsRoot) }

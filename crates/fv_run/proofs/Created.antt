@@ -2,11 +2,12 @@
 use Rattle.std.proofs.Common.{◌≡◌, ℕ, List, ◌++◌, take, ap, subst, ◌∙◌, inl, inr}
 use Rattle.std.specs.Prelude.{Result, Ok, Err, IsTrue, Some}
 use Rattle.fv_disk.specs.declared.Failed.{Failed}
-use Rattle.fv_disk.specs.Shown.{Image, Ends, Shown, IsSettled, Rose}
+use Rattle.fv_disk.specs.Shown.{Ends, Shown, IsSettled, Rose}
 use Rattle.fv_disk.specs.HostCalls.{GivesAll}
 use Rattle.fv_disk.specs.Crash.{Leaves}
 use Rattle.fv_disk.specs.Partly.{PartlyGiven}
 use Rattle.fv_disk.proofs.Moments.{then, weaken}
+use Rattle.fv_disk.proofs.Resting.{settled_image}
 use Rattle.fv_root.specs.Formatted.{KeepsVolumes, WritesFixed}
 use Rattle.fv_model.specs.Machines.{empty_machine}
 use Rattle.fv_image.specs.MachineOf.{machine_of}
@@ -25,10 +26,6 @@ untold blocks old mid e w = record {
   acknowledged = λ tells. before_it blocks old mid (Err e) w;
   volumes = w.reads;
 }
-
--- each image of a settled disk is what it reads
-settled_image : (disk : Shown) (c : Image) → IsSettled disk → disk.images c → c ≡ disk.reads
-settled_image disk c settled now = λ i. λ a. settled c now a i
 
 while_telling : (blocks : ℕ) (old mid new : Shown) (bytes : List ℕ) → IsSettled mid → machine_of mid.reads ≡ Some (empty_machine blocks) → Leaves mid new (PartlyGiven mid bytes) → Leaves mid new (IsAcknowledged blocks old)
 while_telling blocks old mid new bytes settled stands given = weaken mid new (PartlyGiven mid bytes) (IsAcknowledged blocks old)

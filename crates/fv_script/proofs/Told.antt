@@ -5,30 +5,14 @@ use Rattle.std.proofs.lemmas.List.{take-append-le, take_all}
 use Rattle.std.specs.Prelude.{Result, Ok, Err}
 use Rattle.fv_disk.specs.declared.Failed.{Failed}
 use Rattle.fv_disk.specs.Shown.{Image, Shown, IsDisk}
-use Rattle.fv_disk.specs.DiskCalls.{Stays}
-use Rattle.fv_disk.specs.HostCalls.{Rests, GivesAll}
+use Rattle.fv_disk.specs.HostCalls.{GivesAll}
 use Rattle.fv_disk.specs.Partly.{PartlyGiven}
 use Rattle.fv_disk.proofs.Moments as moments
+use Rattle.fv_disk.proofs.Resting.{rests_on}
 use Rattle.fv_script.specs.Telling.{Tells}
 
 pub told : (old new : Shown) (bytes line : List ℕ) (result : Result Unit Failed) → Tells old bytes new result → bytes ≡ line → Tells old line new result
 told old new bytes line result tells is = subst (λ (l : List ℕ). Tells old l new result) is tells
-
--- a disk that rests in two calls rests in both
-stays_on : (old mid new : Shown) → Stays old mid → Stays mid new → Stays old new
-stays_on old mid new first second = record {
-  tells = second.tells ∙ first.tells;
-  reads = second.reads ∙ first.reads;
-  no_more = λ c now. first.no_more c (second.no_more c now);
-  no_fewer = λ c now. second.no_fewer c (first.no_fewer c now);
-}
-
-rests_on : (old mid new : Shown) → Rests old mid → Rests mid new → Rests old new
-rests_on old mid new first second = record {
-  stays = stays_on old mid new first.stays second.stays;
-  faults = second.faults ∙ first.faults;
-  write_faults = second.write_faults ∙ first.write_faults;
-}
 
 -- a prefix of the first piece is one of both
 front : (k : ℕ) (first second : List ℕ) → take k first ≡ take (min k (length first)) (first ++ second)

@@ -1,6 +1,6 @@
 use Rattle.std.proofs.Common.{◌≡◌, length}
 use Rattle.std.specs.Prelude.{IsTrue}
-use Rattle.fv_root.specs.Finding.{OnlyReads}
+use Rattle.fv_disk.specs.DiskCalls.{OnlyReads}
 use Rattle.fv_aggmap.specs.Loading.{HasRead}
 use Rattle.fv_aggmap.proofs.load.read_area.Given as goal
 
