@@ -63,6 +63,12 @@ fn unite(map: &mut BitMap, other: &BitMap) {
     }
 }
 
+fn copy(map: &mut BitMap, other: &BitMap) {
+    if map.len() == other.len() {
+        map.copy_from(other);
+    }
+}
+
 fn block(map: &BitMap, index: u32) -> [u8; 4096] {
     let mut bytes = [255; 4096];
     if index <= 31 && index * 32768 < map.len() {
@@ -164,6 +170,22 @@ fn counts_and_unions(rt: HostRuntime) -> Result<(), Fail> {
         assert_eq!(rt; free(&map, from), want, "from {from}");
     }
     assert!(rt; has(&map, 199) && has(&map, 1) && !has(&map, 2));
+    Ok(())
+}
+
+#[test]
+fn copies(rt: HostRuntime) -> Result<(), Fail> {
+    for (len, members, want) in [
+        (1, [0, 0, 0], 1),
+        (65, [0, 63, 64], 3),
+        (200, [1, 64, 199], 3),
+    ] {
+        let from = with_members(rt.alloc(), len, &members)?;
+        let mut map = full(rt.alloc(), len)?;
+        copy(&mut map, &from);
+        assert_eq!(rt; (map.len(), map.count()), (len, want), "length {len}");
+        assert!(rt; members.iter().all(|i| has(&map, *i)), "length {len}");
+    }
     Ok(())
 }
 
