@@ -87,7 +87,7 @@ fn read_through<D: Disk>(
     if take_held(cache, pvbn, into) {
         return Ok(());
     }
-    disk.read(pvbn as u64, into)?;
+    disk.read(u64::from(pvbn), into)?;
     keep(cache, pvbn, into);
     Ok(())
 }
@@ -107,7 +107,7 @@ fn write_through<D: Disk>(
     ensures stands { StandsOn (D.shown disk.new) cache.new.entries }
     ensures valid { IsStore (held cache.new.entries cache.new.cap) }
 {
-    let written = disk.write(pvbn as u64, block);
+    let written = disk.write(u64::from(pvbn), block);
     if written.is_ok() {
         renew(cache, pvbn, block);
     } else {
