@@ -1,0 +1,3 @@
+pub mod Orders
+pub mod SetCounts
+pub mod Release
