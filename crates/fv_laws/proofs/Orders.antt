@@ -1,13 +1,10 @@
 -- The orders of keys are total, and what they don't tell apart is one key.
-use Rattle.std.proofs.Common.{◌≡◌, ℕ, Less, Equal, Greater, refl, rules, ap, ◌∙◌, List, [], ◌∷◌, get_or, arith, Option, Some, None}
+use Rattle.std.proofs.Common.{◌≡◌, ℕ, Less, Equal, Greater, refl, rules, ap, List, get_or, arith}
 use Rattle.std.specs.declared.cmp.Ordering.{Ordering}
 use Rattle.std.specs.Ordering.{nat_cmp, ordering_then}
-use Rattle.std.specs.Option.{option_cmp}
 use Rattle.std.specs.Cmp.{IsTotalOrder}
 use Rattle.std.specs.Cmp.Rules.{comparing}
-use Rattle.std.specs.Cmp.Lexicographic.{slice_cmp}
 use Rattle.std.specs.FinMap as fin
-use Rattle.std.proofs.lemmas.Bool.Decides.{nat_tests}
 use Rattle.fv_model.specs.Spelling.{name_cmp}
 use Rattle.fv_model.specs.Trees.{spot_cmp}
 use Rattle.fv_model.specs.Places.{Owner, InodeFile, OfFile, rank, numbers, place_cmp, id_cmp}

@@ -146,15 +146,15 @@ unfolding charge need
 use_without_snapshot v s =
     let kept' : Ids = ids_in_any (fin.values (fin.remove v.snapshots s)) in
     sum_le
-        (charge_less (ids_of v.active) (kept_ids v) kept' (ids_left_out v.base) (ids_left_out v.base) (map_blocks v.span) (fin.len v.snapshots) (fin.len (fin.remove v.snapshots s)) (kept_less v.snapshots s) (all_of _) (no_longer name_total name_ties v.snapshots s))
-        (need_less (is_file_kind v.kind) (shared_ids v) (set.union kept' (base_ids v.base)) v.active (part_union id_total id_ties kept' (kept_ids v) (base_ids v.base) (base_ids v.base) (kept_less v.snapshots s) (all_of _)))
+    (charge_less (ids_of v.active) (kept_ids v) kept' (ids_left_out v.base) (ids_left_out v.base) (map_blocks v.span) (fin.len v.snapshots) (fin.len (fin.remove v.snapshots s)) (kept_less v.snapshots s) (all_of _) (no_longer name_total name_ties v.snapshots s))
+    (need_less (is_file_kind v.kind) (shared_ids v) (set.union kept' (base_ids v.base)) v.active (part_union id_total id_ties kept' (kept_ids v) (base_ids v.base) (base_ids v.base) (kept_less v.snapshots s) (all_of _)))
 
 pub use_once_split : (v : Volume) → option_map_or (λ b. b.splitting) v.base false ≡ true → use_of (record v { base = None }) ≤ use_of v
 unfolding charge need
 use_once_split v splits =
     sum_le
-        (charge_less (ids_of v.active) (kept_ids v) (kept_ids v) (ids_left_out v.base) set.empty (map_blocks v.span) (fin.len v.snapshots) (fin.len v.snapshots) (all_of _) (nothing_left_out v.base splits) (omega arith))
-        (need_less (is_file_kind v.kind) (shared_ids v) (set.union (kept_ids v) set.empty) v.active (part_union id_total id_ties (kept_ids v) (kept_ids v) set.empty (base_ids v.base) (all_of _) (of_none _)))
+    (charge_less (ids_of v.active) (kept_ids v) (kept_ids v) (ids_left_out v.base) set.empty (map_blocks v.span) (fin.len v.snapshots) (fin.len v.snapshots) (all_of _) (nothing_left_out v.base splits) (omega arith))
+    (need_less (is_file_kind v.kind) (shared_ids v) (set.union (kept_ids v) set.empty) v.active (part_union id_total id_ties (kept_ids v) (kept_ids v) set.empty (base_ids v.base) (all_of _) (of_none _)))
 
 pub use_once_clean : (v : Volume) → use_of (record v { known = true }) ≡ use_of v
 unfolding charge need
