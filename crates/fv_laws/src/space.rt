@@ -13,7 +13,7 @@ ghost use Rattle.fv_laws.specs.Halves.{before_space, for_space};
 ghost use Rattle.fv_laws.specs.Within.{IsWithin};
 
 /// No volume ever uses more than its size: there is none in an empty machine, and each command keeps it so.
-#[tactic(auto, using(crate::proofs::Within::next_within))]
+#[tactic(auto, using(crate::proofs::Within::empty_within, crate::proofs::Within::next_within))]
 pub fn no_volume_outgrows_its_size()
     ensures at_first { (blocks : ℕ) → IsWithin (empty_machine blocks) }
     ensures each { (m : Machine) (c : Command) → IsWithin m → IsWithin (next m c) }
