@@ -23,19 +23,34 @@ is_answer : (b : Bool) (expected reply : Reply) → reply ≡ expected → (b �
 is_answer false expected reply e z = e
 is_answer true expected reply e z = (0, omega arith, e ∙ z refl)
 
-refused : (m : Machine) (c : Command) (r : Refusal) → refusal m c ≡ Some r → Allows m c (Refused r) × (m ≡ next m c)
-refused m c r e = (subst (λ (o : Option Refusal). AllowsBy o m c (Refused r)) (sym e) refl, ap (λ (o : Option Refusal). cond (is_some o) m (effect m c)) (sym e))
+-- a refused command is answered by its refusal, and the machine stays
+refused : (m : Machine) (c : Command) (r : Refusal) → refusal m c ≡ Some r → Allows m c (Refused r)
+refused m c r e = subst (λ (o : Option Refusal). AllowsBy o m c (Refused r)) (sym e) refl
 
-pub refused_before : (m : Machine) (c : Command) (r : Refusal) → Some r ≡ first_of (before_space m c) → Allows m c (Refused r) × (m ≡ next m c)
+stays : (m : Machine) (c : Command) (r : Refusal) → refusal m c ≡ Some r → m ≡ next m c
+stays m c r e = ap (λ (o : Option Refusal). cond (is_some o) m (effect m c)) (sym e)
+
+pub refused_before : (m : Machine) (c : Command) (r : Refusal) → Some r ≡ first_of (before_space m c) → Allows m c (Refused r)
 refused_before m c r e = refused m c r (before_is m c r (sym e))
 
-pub refused_for_space : (m : Machine) (c : Command) (r : Refusal) → None ≡ first_of (before_space m c) → Some r ≡ first_of (for_space m c) → Allows m c (Refused r) × (m ≡ next m c)
+pub stays_before : (m : Machine) (c : Command) (o : Option Refusal) (r : Refusal) → o ≡ first_of (before_space m c) → o ≡ Some r → m ≡ next m c
+stays_before m c o r e some = stays m c r (before_is m c r (sym e ∙ some))
+
+pub refused_for_space : (m : Machine) (c : Command) (r : Refusal) → None ≡ first_of (before_space m c) → Some r ≡ first_of (for_space m c) → Allows m c (Refused r)
 refused_for_space m c r none e = refused m c r (for_space_is m c (sym none) ∙ sym e)
 
-pub answered : (m after : Machine) (c : Command) (reply : Reply) → None ≡ first_of (before_space m c) → None ≡ first_of (for_space m c) → reply ≡ answer m c → after ≡ effect m c → Allows m c reply × (after ≡ next m c)
-answered m after c reply none room is effects =
-    let accepted : None ≡ refusal m c = room ∙ sym (for_space_is m c (sym none)) in
-    (subst (λ (o : Option Refusal). AllowsBy o m c reply) accepted (is_answer (is_open m c) (answer m c) reply is (open_zero m c)), effects ∙ ap (λ (o : Option Refusal). cond (is_some o) m (effect m c)) accepted)
+pub stays_for_space : (m : Machine) (c : Command) (o : Option Refusal) (r : Refusal) → None ≡ first_of (before_space m c) → o ≡ first_of (for_space m c) → o ≡ Some r → m ≡ next m c
+stays_for_space m c o r none e some = stays m c r (for_space_is m c (sym none) ∙ sym e ∙ some)
+
+-- an accepted command is answered, and has its effect
+accepted : (m : Machine) (c : Command) → None ≡ first_of (before_space m c) → None ≡ first_of (for_space m c) → None ≡ refusal m c
+accepted m c none room = room ∙ sym (for_space_is m c (sym none))
+
+pub answered : (m : Machine) (c : Command) (reply : Reply) → None ≡ first_of (before_space m c) → None ≡ first_of (for_space m c) → reply ≡ answer m c → Allows m c reply
+answered m c reply none room is = subst (λ (o : Option Refusal). AllowsBy o m c reply) (accepted m c none room) (is_answer (is_open m c) (answer m c) reply is (open_zero m c))
+
+pub becomes : (m after : Machine) (c : Command) → None ≡ first_of (before_space m c) → None ≡ first_of (for_space m c) → after ≡ effect m c → after ≡ next m c
+becomes m after c none room effects = effects ∙ ap (λ (o : Option Refusal). cond (is_some o) m (effect m c)) (accepted m c none room)
 
 -- and then no volume outgrows its size
 pub still_within : (m after : Machine) (c : Command) → IsWithin m → None ≡ first_of (before_space m c) → None ≡ first_of (for_space m c) → after ≡ effect m c → IsWithin after

@@ -10,9 +10,9 @@ ghost use Rattle.fv_laws.specs.Within.{IsWithin};
 ghost use Rattle.fv_model.specs.Replies.{answer, about_volume, about_table, about_file, content, zero_block, file_names, numbers_by_name, stat_of};
 ghost use Rattle.fv_reference.specs.Maps.{map_of};
 
+use crate::aggregates::Aggregate;
 use crate::asked::table_asked;
 use crate::counted::Counted;
-use crate::aggregates::Aggregate;
 use crate::maps::from_entries;
 use crate::tables::{File, Table};
 use crate::volumes::Volume;

@@ -7,8 +7,8 @@ ghost use Rattle.fv_model.specs.Tables.{file_named};
 ghost use Rattle.fv_model.specs.Refusals.{table_asked, is_missing, is_taken, lacks_file, has_file, lacks_snapshot, has_snapshot, is_parent, is_base, is_splitting, is_whole_clone, has_all_volumes, has_all_changes, has_all_files, has_all_snapshots, of_volume, of_file, is_clone_too_wide, is_mirror_too_wide};
 ghost use Rattle.fv_model.specs.Space.{is_file_kind};
 
-use crate::counted::Counted;
 use crate::aggregates::Aggregate;
+use crate::counted::Counted;
 use crate::maps::len;
 use crate::tables::Table;
 use crate::volumes::{Base, Volume, id_count, span_of};

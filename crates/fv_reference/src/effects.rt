@@ -17,7 +17,11 @@ use std::alloc::{AllocError, Global};
 
 /// The aggregate after a command, whatever the volumes use and commit then.
 #[tactic(auto, unfolding(fv_model::specs::Effects::change_of))]
-pub fn effect(alloc: Global, aggregate: &Aggregate, command: &Command) -> Result<Aggregate, AllocError>
+pub fn effect(
+    alloc: Global,
+    aggregate: &Aggregate,
+    command: &Command,
+) -> Result<Aggregate, AllocError>
     requires { first_of (before_space aggregate.now command.now) ≡ None }
     ensures { IfOk result (λ m. m ≡ effect aggregate.now command.now) }
 {
@@ -83,7 +87,12 @@ fn created(
     aggregate.with_volume(alloc, name, Volume::empty(alloc, size, kind)?)
 }
 
-fn resized(alloc: Global, aggregate: &Aggregate, name: &Name, size: u32) -> Result<Aggregate, AllocError>
+fn resized(
+    alloc: Global,
+    aggregate: &Aggregate,
+    name: &Name,
+    size: u32,
+) -> Result<Aggregate, AllocError>
     ensures { IfOk result (λ m. m ≡ changed aggregate.now (at_volume aggregate.now name.now (λ x. Becomes name.now (record x { size = size })))) }
 {
     match aggregate.volume(name) {
@@ -328,7 +337,9 @@ fn cloned(
 {
     match aggregate.volume(parent) {
         None => aggregate.clone(),
-        Some(volume) => cloned_from(alloc, aggregate, clone, parent, volume, snapshot, size, kind),
+        Some(volume) => cloned_from(
+            alloc, aggregate, clone, parent, volume, snapshot, size, kind,
+        ),
     }
 }
 
@@ -364,7 +375,11 @@ fn split_started(alloc: Global, aggregate: &Aggregate, name: &Name) -> Result<Ag
     }
 }
 
-fn split_finished(alloc: Global, aggregate: &Aggregate, name: &Name) -> Result<Aggregate, AllocError>
+fn split_finished(
+    alloc: Global,
+    aggregate: &Aggregate,
+    name: &Name,
+) -> Result<Aggregate, AllocError>
     ensures { IfOk result (λ m. m ≡ changed aggregate.now (at_volume aggregate.now name.now (λ x. Becomes name.now (record x { base = None })))) }
 {
     match aggregate.volume(name) {

@@ -45,7 +45,6 @@ impl Clone for Machine {
 
 impl Machine {
     /// The machine of so many blocks without a volume. Takes no memory.
-    #[tactic(auto, using(crate::proofs::Allowed::none_yet))]
     pub fn new(alloc: Global, blocks: u32) -> Machine
         ensures { result ≡ empty_machine blocks }
     {
@@ -63,7 +62,7 @@ impl Machine {
     ///
     /// # Errors
     /// `AllocError` where there is no memory for that; the machine then stays as it was.
-    #[tactic(auto, using(crate::proofs::Allowed::refused_before, crate::proofs::Allowed::refused_for_space, crate::proofs::Allowed::answered, crate::proofs::Allowed::still_within))]
+    #[tactic(auto, using(crate::proofs::Allowed::refused_before, crate::proofs::Allowed::stays_before, crate::proofs::Allowed::refused_for_space, crate::proofs::Allowed::stays_for_space, crate::proofs::Allowed::answered, crate::proofs::Allowed::becomes, crate::proofs::Allowed::still_within))]
     pub fn apply(&mut self, alloc: Global, command: &Command) -> Result<Reply, AllocError>
         ensures reply { IfOk result (Allows self.old command.now) }
         ensures after { OnOk result (self.new ≡ next self.old command.now) }

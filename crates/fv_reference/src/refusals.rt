@@ -3,8 +3,8 @@ ghost use Rattle.std.specs.Prelude.{◌≡◌, IfOk, Some, None};
 ghost use Rattle.fv_model.specs.Refusals.{first_of};
 ghost use Rattle.fv_laws.specs.Halves.{before_space};
 
-use crate::asked::*;
 use crate::aggregates::Aggregate;
+use crate::asked::*;
 use fv_model::{Block, Command, Kind, Name, Refusal, in_index, in_reserve, in_size, in_steps};
 use std::alloc::{AllocError, Global};
 
@@ -54,13 +54,9 @@ pub fn refusal_before_space(
         } => Ok(of_cut(aggregate, volume, file, *length)),
         Command::Remove { volume, file } => Ok(of_remove(aggregate, volume, file)),
         Command::Ls { volume, snapshot } => Ok(of_ls(aggregate, volume, snapshot)),
-        Command::SnapCreate { volume, snapshot } => Ok(of_snapshot(
-            aggregate, volume, snapshot,
-        )),
+        Command::SnapCreate { volume, snapshot } => Ok(of_snapshot(aggregate, volume, snapshot)),
         Command::SnapDelete { volume, snapshot } => Ok(of_deletion(aggregate, volume, snapshot)),
-        Command::SnapRestore { volume, snapshot } => Ok(of_restoring(
-            aggregate, volume, snapshot,
-        )),
+        Command::SnapRestore { volume, snapshot } => Ok(of_restoring(aggregate, volume, snapshot)),
         Command::SnapList { volume } => Ok(of_snap_list(aggregate, volume)),
         Command::CloneCreate {
             clone,
@@ -102,12 +98,7 @@ fn first_of(conditions: &[(Refusal, bool)]) -> Option<Refusal>
 }
 
 #[tactic(auto, unfolding(fv_model::specs::Refusals::conditions))]
-fn of_creation(
-    aggregate: &Aggregate,
-    name: &Name,
-    size: u32,
-    kind: Kind,
-) -> Option<Refusal>
+fn of_creation(aggregate: &Aggregate, name: &Name, size: u32, kind: Kind) -> Option<Refusal>
     ensures { result ≡ first_of (before_space aggregate.now (Command.VolCreate name.now size kind)) }
 {
     first_of(&[
@@ -142,9 +133,7 @@ fn of_size(aggregate: &Aggregate, name: &Name, size: u32) -> Option<Refusal>
 fn of_kind(aggregate: &Aggregate, name: &Name, kind: Kind) -> Option<Refusal>
     ensures { result ≡ first_of (before_space aggregate.now (Command.VolGuarantee name.now kind)) }
 {
-    first_of(&[
-        (Refusal::NoVolume, is_missing(aggregate, name)),
-    ])
+    first_of(&[(Refusal::NoVolume, is_missing(aggregate, name))])
 }
 
 #[tactic(auto, unfolding(fv_model::specs::Refusals::conditions))]
@@ -155,12 +144,7 @@ fn of_stat(aggregate: &Aggregate, name: &Name) -> Option<Refusal>
 }
 
 #[tactic(auto, unfolding(fv_model::specs::Refusals::conditions))]
-fn of_new(
-    aggregate: &Aggregate,
-    name: &Name,
-    file: &Name,
-    reserve: u32,
-) -> Option<Refusal>
+fn of_new(aggregate: &Aggregate, name: &Name, file: &Name, reserve: u32) -> Option<Refusal>
     ensures { result ≡ first_of (before_space aggregate.now (Command.New name.now file.now reserve)) }
 {
     first_of(&[
@@ -206,7 +190,10 @@ fn of_get(
     first_of(&[
         (Refusal::Range, !in_index(u64::from(index))),
         (Refusal::NoVolume, is_missing(aggregate, name)),
-        (Refusal::NoSnapshot, lacks_snapshot(aggregate, name, snapshot)),
+        (
+            Refusal::NoSnapshot,
+            lacks_snapshot(aggregate, name, snapshot),
+        ),
         (Refusal::NoFile, lacks_file(aggregate, name, snapshot, file)),
         (
             Refusal::Range,
@@ -216,30 +203,36 @@ fn of_get(
 }
 
 #[tactic(auto, unfolding(fv_model::specs::Refusals::conditions))]
-fn of_len(aggregate: &Aggregate, name: &Name, snapshot: &Option<Name>, file: &Name) -> Option<Refusal>
+fn of_len(
+    aggregate: &Aggregate,
+    name: &Name,
+    snapshot: &Option<Name>,
+    file: &Name,
+) -> Option<Refusal>
     ensures { result ≡ first_of (before_space aggregate.now (Command.Len name.now snapshot.now file.now)) }
 {
     first_of(&[
         (Refusal::NoVolume, is_missing(aggregate, name)),
-        (Refusal::NoSnapshot, lacks_snapshot(aggregate, name, snapshot)),
+        (
+            Refusal::NoSnapshot,
+            lacks_snapshot(aggregate, name, snapshot),
+        ),
         (Refusal::NoFile, lacks_file(aggregate, name, snapshot, file)),
     ])
 }
 
 #[tactic(auto, unfolding(fv_model::specs::Refusals::conditions))]
-fn of_cut(
-    aggregate: &Aggregate,
-    name: &Name,
-    file: &Name,
-    length: u32,
-) -> Option<Refusal>
+fn of_cut(aggregate: &Aggregate, name: &Name, file: &Name, length: u32) -> Option<Refusal>
     ensures { result ≡ first_of (before_space aggregate.now (Command.Cut name.now file.now length)) }
 {
     first_of(&[
         (Refusal::Range, !in_reserve(u64::from(length))),
         (Refusal::NoVolume, is_missing(aggregate, name)),
         (Refusal::NoFile, lacks_file(aggregate, name, &None, file)),
-        (Refusal::Range, is_past_length(aggregate, name, file, length)),
+        (
+            Refusal::Range,
+            is_past_length(aggregate, name, file, length),
+        ),
         (Refusal::TooMany, has_all_changes(aggregate, name)),
     ])
 }
@@ -261,7 +254,10 @@ fn of_ls(aggregate: &Aggregate, name: &Name, snapshot: &Option<Name>) -> Option<
 {
     first_of(&[
         (Refusal::NoVolume, is_missing(aggregate, name)),
-        (Refusal::NoSnapshot, lacks_snapshot(aggregate, name, snapshot)),
+        (
+            Refusal::NoSnapshot,
+            lacks_snapshot(aggregate, name, snapshot),
+        ),
     ])
 }
 
