@@ -1,5 +1,5 @@
 -- What a command that nothing refuses before space leaves room for: one more change, one more file, a span that isn't too great.
-use Rattle.std.proofs.Common.{◌≡◌, ◌≤◌, ◌<◌, ℕ, Bool, true, false, not, nat_lt, nat_le, ◌||◌, List, refl, sym, ap, ◌∙◌, arith, Option, Some, None}
+use Rattle.std.proofs.Common.{◌≡◌, ◌≤◌, ◌<◌, ℕ, Bool, true, false, not, nat_lt, nat_le, ◌||◌, List, refl, ap, ◌∙◌, arith, Option, Some, None}
 use Rattle.std.specs.Option.{option_map_or}
 use Rattle.std.specs.FinMap as fin
 use Rattle.std.specs.FinSet as set
@@ -12,7 +12,7 @@ use Rattle.fv_model.specs.Places.{ids_of}
 use Rattle.fv_model.specs.Volumes.{Volume}
 use Rattle.fv_model.specs.Machines.{Machine}
 use Rattle.fv_model.specs.Space.{span_of}
-use Rattle.fv_model.specs.Refusals.{of_volume, has_all_changes, has_all_files, is_clone_too_wide, is_mirror_too_wide, conditions, first_of}
+use Rattle.fv_model.specs.Refusals.{of_volume, has_all_changes, has_all_files, is_clone_too_wide, conditions, first_of}
 use Rattle.fv_laws.specs.Halves.{before_space}
 use Rattle.fv_laws.proofs.Halves.{NoneHolds, none_holds}
 
