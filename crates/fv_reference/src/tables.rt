@@ -1,5 +1,5 @@
 //! Tables of files, and the four changes of a table.
-ghost use Rattle.std.specs.Prelude.{◌≡◌, ◌+◌, ◌/◌, ◌<◌, ◌≤◌, IfOk, OnOk, nat_lt, nat_le, map, filter, find, option_map};
+ghost use Rattle.std.specs.Prelude.{◌≡◌, ◌+◌, ◌/◌, ◌<◌, ◌≤◌, IfOk, OnOk, not, nat_lt, nat_le, map, filter, find, option_map};
 ghost use Rattle.std.specs.List.{prefix_len, range_with_len};
 ghost use Rattle.std.specs.Ordering.{nat_cmp};
 ghost use Rattle.std.specs.FinMap as fin;
@@ -345,17 +345,24 @@ fn inode_cells(alloc: Global, numbers: &[u32]) -> Result<Vec<u32>, AllocError>
 }
 
 /// The least number that no file has.
+#[tactic(auto, using(crate::proofs::Levels::free_here, crate::proofs::Levels::none_free))]
 fn free_number(files: &BTreeMap<u32, File>) -> u32
     requires { fin.len (map_of nat_cmp files.now) < most_files }
     ensures { result ≡ prefix_len (λ k. fin.contains_key (map_of nat_cmp files.now) k) (range_with_len 0 (fin.len (map_of nat_cmp files.now) + 1)) }
 {
     let end = len(files) as u32 + 1;
     for number in 0..end {
-        if get(files, &number).is_none() {
+        if is_free(files, number) {
             return number;
         }
     }
     end
+}
+
+fn is_free(files: &BTreeMap<u32, File>, number: u32) -> bool
+    ensures { result ≡ not (fin.contains_key (map_of nat_cmp files.now) number) }
+{
+    get(files, &number).is_none()
 }
 
 /// The first file of a name, with its number.
