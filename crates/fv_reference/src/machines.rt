@@ -1,11 +1,12 @@
 //! The machine, and what it answers.
-ghost use Rattle.std.specs.Prelude.{◌≡◌, ◌+◌, ◌≤◌, IfOk, OnOk, OnErr, option_map, sum_by, nat_lt};
+ghost use Rattle.std.specs.Prelude.{◌≡◌, ◌+◌, ◌≤◌, IfOk, OnOk, OnErr, option_map, sum_by, nat_lt, not, false};
+ghost use Rattle.std.specs.Option.{option_map_or};
 ghost use Rattle.std.specs.FinMap as fin;
 ghost use Rattle.fv_model.specs.Spelling.{name_cmp};
 ghost use Rattle.fv_model.specs.Machines.{empty_machine, first_block, capacity};
 ghost use Rattle.fv_model.specs.Space.{commit};
 ghost use Rattle.fv_model.specs.Refusals.{next, is_aggregate_full};
-ghost use Rattle.fv_model.specs.Replies.{Allows};
+ghost use Rattle.fv_model.specs.Replies.{Allows, is_open};
 ghost use Rattle.fv_reference.specs.Maps.{map_of};
 
 use crate::answers::answer;
@@ -82,6 +83,26 @@ impl Machine {
         let reply = answer(alloc, self, command)?;
         *self = after;
         Ok(reply)
+    }
+
+    /// Whether the command is a `probe` of a volume that isn't known: the machine leaves its answer open,
+    /// up to 7. Costs a search for the volume, and takes no memory.
+    pub fn is_open(&self, command: &Command) -> bool
+        ensures { result ≡ is_open self.now command.now }
+    {
+        match command {
+            Command::Probe { volume, .. } => self.is_unknown(volume),
+            _ => false,
+        }
+    }
+
+    fn is_unknown(&self, name: &Name) -> bool
+        ensures { result ≡ option_map_or (λ v. not v.known) (fin.get self.now.volumes name.now) false }
+    {
+        match self.volume(name) {
+            Some(volume) => !volume.is_known(),
+            None => false,
+        }
     }
 
     /// The number of blocks.

@@ -1,0 +1,13 @@
+//! The plain machine as a program: a script's lines are applied to a fresh machine, one as it comes, and
+//! each is answered before the next.
+#![tactic(auto)]
+
+mod answering;
+mod ending;
+mod program;
+mod reading;
+mod script;
+mod words;
+
+pub use program::reference;
+pub use words::{WordsFault, read_words};
