@@ -1,1 +1,9 @@
+mod Counting
 mod Digits
+mod Pieces
+mod LinesRead
+mod Prefixes
+mod Answered
+mod Stepped
+mod Told
+mod Phrases

@@ -12,13 +12,13 @@ use Rattle.fv_model.specs.Texts.{text, done_text, line_end}
 use Rattle.fv_script.specs.declared.fault.LineFault.{LineFault}
 use Rattle.fv_script.specs.declared.fault.LineFault.TheVariants as fault
 
--- the line that stands for a number which the machine leaves open
+-- the line that stands for a number which the machine leaves undecided
 abbrev pub open_text : List ℕ
 open_text = codes "?" ++ line_end ∷ []
 
 -- the line for a command that is refused, or is accepted with an open answer, or with this one
 abbrev pub answer_text : Option Refusal → Bool → Reply → List ℕ
-answer_text (Some r) open reply = text (Refused r)
+answer_text (Some r) undecided reply = text (Refused r)
 answer_text None true reply = open_text
 answer_text None false reply = text reply
 
@@ -40,7 +40,7 @@ output m lines = replies_text m lines ++ done_text (length lines)
 -- the line of a reply that was had, where the machine leaves the answer open or not
 abbrev pub spoken : Bool → Reply → List ℕ
 spoken true (Number n) = open_text
-spoken open reply = text reply
+spoken undecided reply = text reply
 
 -- what a line that says no command is answered
 abbrev pub refused : LineFault → Reply

@@ -1,6 +1,7 @@
 -- Answering a script.
 use Rattle.std.specs.Prelude.{◌≡◌, ℕ, List, [], ◌∷◌, ◌++◌, take, IsTrue, Option, Some, None, Result, Err, IfOk, OnOk, OnErr}
 use Rattle.fv_disk.specs.Shown.{Shown}
+use Rattle.fv_disk.specs.HostCalls.{Rests}
 use Rattle.fv_model.specs.Machines.{Machine, empty_machine}
 use Rattle.fv_model.specs.Runs.{Line, after_line}
 use Rattle.fv_model.specs.Lines.{lines}
@@ -31,4 +32,5 @@ pub record Runs (m : Machine) (lines : List Line) (old new : Shown) (result : Re
 -- What was asked is done, and nothing else than a fault of usage comes of words that ask for nothing.
 pub record Asked (blocks : Option ℕ) (old new : Shown) (result : Result Unit Fault) : Type 0 where
   pub usage : blocks ≡ None → result ≡ Err Usage
+  pub disk : Rests old new
   pub runs : (p : ℕ) → blocks ≡ Some p → Runs (empty_machine p) (lines old.ends.left) old new result

@@ -18,6 +18,7 @@ use std::alloc::Global;
 const OPEN: &[u8] = b"?\n";
 
 /// Applies what the line says to the machine, and then gives its reply out.
+#[tactic(auto, using(crate::proofs::Answered::refuses))]
 pub(crate) fn answer<H: Host>(
     alloc: Global,
     machine: &mut Machine,
@@ -41,6 +42,7 @@ fn refused(fault: LineFault) -> Reply
     }
 }
 
+#[tactic(auto, using(crate::proofs::Answered::answers, crate::proofs::Answered::wants))]
 fn obey<H: Host>(
     alloc: Global,
     machine: &mut Machine,
@@ -57,6 +59,7 @@ fn obey<H: Host>(
 }
 
 /// Gives out the line of a reply, or of a question mark where the machine leaves the number open.
+#[tactic(auto, using(crate::proofs::Answered::told, crate::proofs::Answered::untold))]
 fn tell<H: Host>(is_open: bool, reply: &Reply, host: &mut H) -> Result<(), Fault>
     ensures { Tells (H.shown host.old) (spoken is_open reply.now) (H.shown host.new) result }
 {

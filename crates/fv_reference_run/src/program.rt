@@ -62,6 +62,7 @@ pub fn reference<H: Host>(alloc: Global, words: &[String], host: &mut H) -> u8
     }
 }
 
+#[tactic(auto, using(crate::proofs::Told::asks_nothing, crate::proofs::Told::asks_blocks))]
 fn run<H: Host>(alloc: Global, words: &[String], host: &mut H) -> Result<(), Fault>
     ensures runs { Asked (meaning (map string_bytes words.now)) (H.shown host.old) (H.shown host.new) result }
     ensures untouched { meaning (map string_bytes words.now) ≡ None → host.new ≡ host.old }
@@ -72,6 +73,7 @@ fn run<H: Host>(alloc: Global, words: &[String], host: &mut H) -> Result<(), Fau
     }
 }
 
+#[tactic(auto, using(crate::proofs::Stepped::stands_first, crate::proofs::Stepped::stands_next, crate::proofs::Stepped::stops, crate::proofs::Stepped::ends, crate::proofs::Stepped::too_many))]
 fn answer_script<H: Host>(alloc: Global, blocks: u32, host: &mut H) -> Result<(), Fault>
     ensures { Runs (empty_machine blocks) (lines (H.shown host.old).ends.left) (H.shown host.old) (H.shown host.new) result }
 {
@@ -88,6 +90,7 @@ fn answer_script<H: Host>(alloc: Global, blocks: u32, host: &mut H) -> Result<()
 }
 
 /// Answers the next line of the script, if there is one.
+#[tactic(auto, using(crate::proofs::Stepped::step_ended, crate::proofs::Stepped::step_failed, crate::proofs::Stepped::step_answered, crate::proofs::Stepped::step_unanswered))]
 fn step<H: Host>(
     alloc: Global,
     machine: &mut Machine,
@@ -106,6 +109,7 @@ fn step<H: Host>(
     }
 }
 
+#[tactic(auto, using(crate::proofs::Answered::told, crate::proofs::Answered::untold))]
 fn tell_count<H: Host>(count: u64, host: &mut H) -> Result<(), Fault>
     ensures { Tells (H.shown host.old) (done_text count) (H.shown host.new) result }
 {

@@ -25,6 +25,7 @@ pub(crate) enum Found {
 
 /// Reads the next line of the script. Of a longer line than a command can be only so much is kept as
 /// shows that.
+#[tactic(auto, using(crate::proofs::LinesRead::begins, crate::proofs::LinesRead::reads_on, crate::proofs::LinesRead::found_line, crate::proofs::LinesRead::found_end, crate::proofs::LinesRead::found_fault, crate::proofs::LinesRead::no_end))]
 pub(crate) fn next_line<H: Host>(
     script: &mut Script,
     host: &mut H,
@@ -58,10 +59,11 @@ fn last(line: &Line) -> Found
 }
 
 /// One byte more of the line, where it isn't too long already.
+#[tactic(auto, using(crate::proofs::LinesRead::kept_one, crate::proofs::LinesRead::kept_none))]
 fn keep(line: &mut Line, byte: u8)
     ensures { (whole : List ℕ) → line.old.items ≡ take 9001 whole → line.new.items ≡ take 9001 (whole ++ byte ∷ []) }
 {
-    if !line.is_full() {
+    if line.len() < KEPT {
         line.push(byte);
     }
 }

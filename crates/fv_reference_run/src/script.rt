@@ -54,6 +54,7 @@ impl Script {
     }
 
     /// Takes bytes of the source where none are left that were taken.
+    #[tactic(auto, using(crate::proofs::Pieces::held_still, crate::proofs::Pieces::filled, crate::proofs::Pieces::unfilled, crate::proofs::Pieces::none_held))]
     fn fill<H: Host>(&mut self, host: &mut H) -> Result<(), Failed>
         ensures { Fills self.old (H.shown host.old) self.new (H.shown host.new) result }
     {
@@ -67,6 +68,7 @@ impl Script {
     }
 
     /// The next byte of the script, or `None` at its end. At `Err` the source failed.
+    #[tactic(auto, using(crate::proofs::Pieces::nexts, crate::proofs::Pieces::no_next))]
     pub(crate) fn next_byte<H: Host>(&mut self, host: &mut H) -> Result<Option<u8>, Failed>
         ensures { IsNext self.old (H.shown host.old) self.new (H.shown host.new) result }
     {

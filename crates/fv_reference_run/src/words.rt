@@ -8,6 +8,7 @@ const MOST_DIGITS: usize = 20;
 
 /// The least and the most blocks of an aggregate.
 const LEAST: u32 = 512;
+
 const MOST: u32 = 1_048_576;
 
 /// Why words ask for nothing.
