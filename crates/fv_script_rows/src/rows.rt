@@ -24,7 +24,8 @@ fn output(alloc: Global, script: &[u8]) -> Result<Vec<u8>, AllocError> {
 
 fn add_line(text: &mut Vec<u8>, line: &str) -> Result<(), AllocError> {
     text.extend_from_slice(line.as_bytes())?;
-    text.push(b'\n')
+    text.push(b'\n')?;
+    Ok(())
 }
 
 /// The lines of a script, and the output that is wanted.
@@ -88,14 +89,16 @@ fn add_many(text: &mut Vec<u8>, byte: u8, count: u32) -> Result<(), AllocError> 
 fn long_cp(text: &mut Vec<u8>, length: u32) -> Result<(), AllocError> {
     text.extend_from_slice(b"cp")?;
     add_many(text, b' ', length.saturating_sub(2))?;
-    text.push(b'\n')
+    text.push(b'\n')?;
+    Ok(())
 }
 
 /// A write with so many digits.
 fn long_put(text: &mut Vec<u8>, digits: u32) -> Result<(), AllocError> {
     text.extend_from_slice(b"put a f 0 ")?;
     add_many(text, b'0', digits)?;
-    text.push(b'\n')
+    text.push(b'\n')?;
+    Ok(())
 }
 
 fn long_lines(alloc: Global) -> Result<Vec<u8>, AllocError> {
