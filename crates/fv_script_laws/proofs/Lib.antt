@@ -1,0 +1,5 @@
+mod Zeros
+mod Hexes
+mod Written
+mod Spaced
+mod Shown
