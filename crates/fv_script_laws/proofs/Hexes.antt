@@ -1,6 +1,6 @@
 -- Hexadecimal digits that are written of bytes.
 use Rattle.std.proofs.Common.{◌≡◌, ℕ, zero, suc, ◌+◌, ◌-◌, ◌*◌, ◌/◌, ◌%◌, ◌<◌, ◌≤◌, ◌++◌, Bool, true, false, List, [], ◌∷◌, length, take, replicate, refl, sym, ap, ◌∙◌, arith}
-use Rattle.std.specs.Prelude.{flat_map, nat_eq, nat_le, ◌&&◌, bytes_eq, codes, slice_index, Some}
+use Rattle.std.specs.Prelude.{flat_map, nat_eq, nat_le, bytes_eq, codes, slice_index, Some}
 use Rattle.std.specs.Char.{is_ascii_hexdigit}
 use Rattle.std.specs.List.{list_all}
 use Rattle.std.proofs.lemmas.Bool.Decides.{nat_tests}
@@ -49,14 +49,24 @@ is_hex_word word some few even all =
     let pairs : nat_eq (length word % 2) 0 ≡ true = rw even refl in
     rw (least, most, pairs, all) refl
 
+by_digits : (word : List ℕ) → bytes_eq word (codes "-") ≡ false → is_hex word ≡ true → block_of word ≡ Some (padded (bytes_of word))
+unfolding block_of
+by_digits word no_dash hexes = rw (no_dash, hexes) refl
+
+abbrev blanks : ℕ → List ℕ
+blanks n = replicate n 0
+
 by_front : (front block : List ℕ) → front ++ replicate (length block - length front) 0 ≡ block → length block ≡ 4096 → length front ≤ 4096 → bytes_of (flat_map hex front) ≡ front → list_all is_ascii_hexdigit (flat_map hex front) ≡ true
     → block_of (or_dash (flat_map hex front)) ≡ Some block
 unfolding block_of padded
-by_front [] block is count within read all = ap Some (rw (← count) is)
+by_front [] block is count within read all =
+    let all_of_it : length block - 0 ≡ 4096 = omega (arith, count) in
+    ap Some (ap (λ (n : ℕ). blanks n) (sym all_of_it) ∙ is)
 by_front (b ∷ front) block is count within read all =
     let twice : length (flat_map hex (b ∷ front)) ≡ 2 * length (b ∷ front) = long (b ∷ front) in
     let hexes : is_hex (flat_map hex (b ∷ front)) ≡ true = is_hex_word (flat_map hex (b ∷ front)) (omega (arith, twice)) (omega (arith, twice, within)) (omega (arith, twice)) all in
-    rw (no_dash (hex_digit (b / 16)) (hex_digit (b % 16)) (flat_map hex front) (nat_eq (hex_digit (b / 16)) 45) refl, hexes, read, ← count) (ap Some is)
+    by_digits (flat_map hex (b ∷ front)) (no_dash (hex_digit (b / 16)) (hex_digit (b % 16)) (flat_map hex front) (nat_eq (hex_digit (b / 16)) 45) refl) hexes
+    ∙ ap (λ (l : List ℕ). Some (padded l)) read ∙ ap Some (ap (λ (n : ℕ). (b ∷ front) ++ blanks (n - length (b ∷ front))) (sym count) ∙ is)
 
 pub block_reads : (block : List ℕ) → IsBlock block → block_of (block_word block) ≡ Some block
 block_reads block is = by_front (trimmed block) block (ends_in_zeros block) is.long (omega (arith, short block, is.long)) (reads _ block is.bytes) (digits _ block is.bytes)

@@ -3,3 +3,4 @@ mod Hexes
 mod Written
 mod Spaced
 mod Shown
+mod Told

@@ -1,7 +1,6 @@
 -- The line that shows a command says it.
-use Rattle.std.proofs.Common.{◌≡◌, ℕ, ◌+◌, ◌<◌, ◌≤◌, ◌^◌, Bool, true, List, [], ◌∷◌, length, refl, sym, ap, ◌∙◌, arith}
-use Rattle.std.specs.Prelude.{nat_le, ◌&&◌, codes, decimal, Option, Some, None, Result, Ok}
-use Rattle.std.specs.List.{join_with_byte}
+use Rattle.std.proofs.Common.{◌≡◌, ℕ, ◌<◌, ◌≤◌, ◌^◌, true, List, length, refl, ap, ◌∙◌, arith}
+use Rattle.std.specs.Prelude.{nat_le, Option, Some, Result, Ok}
 use Rattle.std.proofs.lemmas.Bool.{and_parts}
 use Rattle.std.proofs.lemmas.Bool.Decides.{nat_tests}
 use Rattle.fv_disk.specs.Shown.{IsBlock}
@@ -9,14 +8,13 @@ use Rattle.fv_model.specs.declared.commands.Kind.{Kind}
 use Rattle.fv_model.specs.declared.commands.Command.{Command}
 use Rattle.fv_model.specs.declared.commands.Command.TheVariants.{VolCreate, VolDestroy, VolResize, VolGuarantee, VolList, VolStat, New, Put, Get, Len, Cut, Remove, Ls, SnapCreate, SnapDelete, SnapRestore, SnapList, CloneCreate, SplitStart, SplitFinish, Mirror, Clean, Probe, Work, Cp}
 use Rattle.fv_model.specs.Numbers.{is_size, is_reserve, is_index, is_step_count}
-use Rattle.fv_model.specs.Texts.{kind_text}
-use Rattle.fv_model.specs.Words.{Words, text_of, line_words}
+use Rattle.fv_model.specs.Words.{text_of}
 use Rattle.fv_model.specs.Grammar.{first, is_end, command, vol, vol_create, vol_destroy, vol_resize, vol_guarantee, vol_list, vol_stat, snap, snap_create, snap_delete, snap_restore, snap_list, clone, clone_create, split, split_start, split_finish, new, put, get, len, cut, rm, ls, mirror, clean, probe, work, cp}
 use Rattle.fv_model.specs.Runs.{Says}
-use Rattle.fv_model.specs.Lines.{is_in_range, ranged, line_of}
+use Rattle.fv_model.specs.Lines.{is_in_range, line_of}
 use Rattle.fv_script.specs.declared.fault.LineFault.{LineFault}
 use Rattle.fv_script.specs.Reading.{reading}
-use Rattle.fv_script_laws.specs.Show.{Named, NamedOrNone, table_word, block_word, show_words, show, CanShow}
+use Rattle.fv_script_laws.specs.Show.{Named, NamedOrNone, show_words, show, CanShow}
 use Rattle.fv_script_laws.proofs.Hexes.{block_reads}
 use Rattle.fv_script_laws.proofs.Written.{name_reads, kind_reads, number_reads, table_reads}
 use Rattle.fv_script_laws.proofs.Spaced.{are_words, words_of, room, within, name_word, name_short, kind_word, kind_short, number_word, number_short, table_is_word, table_short, block_is_word, block_word_short}

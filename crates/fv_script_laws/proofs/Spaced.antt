@@ -1,6 +1,6 @@
 -- Words with a space between are the words of their line.
-use Rattle.std.proofs.Common.{◌≡◌, ℕ, ◌+◌, ◌-◌, ◌*◌, ◌<◌, ◌≤◌, ◌^◌, ◌++◌, Bool, true, false, List, [], ◌∷◌, length, refl, sym, ap, ◌∙◌, arith, length-append}
-use Rattle.std.specs.Prelude.{nat_eq, nat_le, nat_lt, not, ◌&&◌, filter, codes, decimal, flat_map, Option, Some, None}
+use Rattle.std.proofs.Common.{◌≡◌, ℕ, ◌+◌, ◌<◌, ◌≤◌, ◌^◌, ◌++◌, Bool, true, List, [], ◌∷◌, length, refl, ap, ◌∙◌, arith, length-append}
+use Rattle.std.specs.Prelude.{nat_eq, nat_le, nat_lt, not, ◌&&◌, filter, decimal, flat_map, Option, Some, None}
 use Rattle.std.specs.Char.{is_ascii_digit, is_ascii_hexdigit}
 use Rattle.std.specs.List.{list_all, join_with_byte}
 use Rattle.std.proofs.lemmas.Bool.{and_parts}
@@ -12,11 +12,12 @@ use Rattle.fv_disk.specs.Shown.{IsBlock}
 use Rattle.fv_model.specs.declared.commands.Kind.{Kind}
 use Rattle.fv_model.specs.declared.commands.Kind.TheVariants.{Volume as Whole, File as ByFile, Thin}
 use Rattle.fv_model.specs.Spelling.{is_name, is_name_byte}
-use Rattle.fv_model.specs.Texts.{kind_text, or_dash, hex, trimmed}
+use Rattle.fv_model.specs.declared.answers.Reply.TheVariants.{Names}
+use Rattle.fv_model.specs.Texts.{kind_text, or_dash, hex, trimmed, words}
 use Rattle.fv_model.specs.Words.{Words, line_words}
 use Rattle.fv_script_laws.specs.Show.{Named, NamedOrNone, table_word, block_word}
 use Rattle.fv_script_laws.proofs.Hexes.{block_digits, block_short}
-use Rattle.fv_script_laws.proofs.Written.{digits_all, implied, none_of, letters_of, without}
+use Rattle.fv_script_laws.proofs.Written.{digits_all, implied, none_of, without}
 
 -- some bytes, and no space among them
 abbrev pub is_word : List ℕ → Bool
@@ -115,3 +116,21 @@ block_is_word block is = or_dash_word (flat_map hex (trimmed block)) (block_digi
 
 pub block_word_short : (block : List ℕ) → IsBlock block → length (block_word block) ≤ 8192
 block_word_short block is = or_dash_short (flat_map hex (trimmed block)) (block_short block is)
+
+-- the line of some names
+
+all_words : (names : List (List ℕ)) → list_all is_name names ≡ true → are_words names ≡ true
+all_words [] all = refl
+all_words (name ∷ names) all =
+    let both = and_parts (is_name name) (list_all is_name names) all in
+    rw (name_word name both.0, all_words names both.1) refl
+
+no_dash : (name : List ℕ) (names : List (List ℕ)) → is_name name ≡ true → or_dash (join_with_byte 32 (name ∷ names)) ≡ join_with_byte 32 (name ∷ names)
+no_dash [] names named = absurd cc
+no_dash (b ∷ name) [] named = refl
+no_dash (b ∷ name) (next ∷ names) named = refl
+
+pub names_read : (name : List ℕ) (names : List (List ℕ)) → list_all is_name (name ∷ names) ≡ true → line_words (words (Names (name ∷ names))) ≡ name ∷ names
+unfolding words
+names_read name names all =
+    ap line_words (no_dash name names (and_parts (is_name name) (list_all is_name names) all).0) ∙ words_of (name ∷ names) (all_words (name ∷ names) all)
