@@ -7,3 +7,4 @@ mod Answered
 mod Stepped
 mod Told
 mod Phrases
+mod Allowed

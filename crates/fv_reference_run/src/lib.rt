@@ -4,10 +4,12 @@
 
 mod answering;
 mod ending;
+mod laws;
 mod program;
 mod reading;
 mod script;
 mod words;
 
+pub use laws::output_is_allowed;
 pub use program::reference;
 pub use words::{WordsFault, read_words};

@@ -2,15 +2,22 @@
 
 use crate::scripts::{SCRIPTS, Script};
 use fv_memdisk::{Call, MemHost};
-use fv_reference_run::reference;
+use fv_reference_run::{output_is_allowed, reference};
 use std::alloc::{AllocError, Global};
 use std::test::Fail;
 
+/// The program's status with these words.
+fn run_with(alloc: Global, texts: &[&str], host: &mut MemHost) -> Result<u8, AllocError> {
+    let mut words = Vec::new(alloc);
+    for text in texts {
+        words.push(String::from_str(alloc, text)?)?;
+    }
+    Ok(reference(alloc, words.as_slice(), host))
+}
+
 /// The program's status over a host with this script in its source.
 fn run(alloc: Global, host: &mut MemHost) -> Result<u8, AllocError> {
-    let mut words = Vec::new(alloc);
-    words.push(String::from_str(alloc, "1024")?)?;
-    Ok(reference(alloc, words.as_slice(), host))
+    run_with(alloc, &["1024"], host)
 }
 
 /// What the program gives for a script; nothing where its status isn't 0.
@@ -71,6 +78,7 @@ const EDGES: [(&[u8], &[u8]); 8] = [
 
 #[test]
 fn scripts_at_the_edges(rt: HostRuntime) -> Result<(), Fail> {
+    output_is_allowed();
     for (row, (script, replies)) in EDGES.iter().enumerate() {
         let given = output(rt.alloc(), script)?;
         assert_eq!(rt; given.as_slice(), *replies, "at row {row}");
@@ -167,6 +175,35 @@ fn each_call_fails_once(rt: HostRuntime) -> Result<(), Fail> {
         host.fail(call, nth)?;
         assert_eq!(rt; run(rt.alloc(), &mut host)?, status, "{call:?} {nth}");
         assert_eq!(rt; host.given(), given, "{call:?} {nth}");
+    }
+    Ok(())
+}
+
+#[test]
+fn words_with_and_without_a_meaning(rt: HostRuntime) -> Result<(), Fail> {
+    let rows: [(&[&str], u8, &[u8]); 13] = [
+        (&["512"], 0, b"done 0\n"),
+        (&["1048576"], 0, b"done 0\n"),
+        (&["00000000000000001024"], 0, b"done 0\n"),
+        (&[], 7, b""),
+        (&[""], 7, b""),
+        (&["511"], 7, b""),
+        (&["1048577"], 7, b""),
+        (&["-5"], 7, b""),
+        (&["+1024"], 7, b""),
+        (&["1024 "], 7, b""),
+        (&["000000000000000001024"], 7, b""),
+        (&["99999999999999999999"], 7, b""),
+        (&["1024", "5"], 7, b""),
+    ];
+    for (row, (words, status, given)) in rows.iter().enumerate() {
+        let mut host = MemHost::new(rt.alloc(), Vec::new(rt.alloc()));
+        assert_eq!(rt;
+            run_with(rt.alloc(), words, &mut host)?,
+            *status,
+            "at row {row}"
+        );
+        assert_eq!(rt; host.given(), *given, "at row {row}");
     }
     Ok(())
 }
