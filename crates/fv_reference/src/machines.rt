@@ -1,15 +1,17 @@
 //! The machine, and what it answers.
-ghost use Rattle.std.specs.Prelude.{◌≡◌, IfOk, OnOk, OnErr};
+ghost use Rattle.std.specs.Prelude.{◌≡◌, IfOk, OnOk, OnErr, not, false};
+ghost use Rattle.std.specs.Option.{option_map_or};
+ghost use Rattle.std.specs.FinMap as fin;
 ghost use Rattle.fv_model.specs.Machines.{empty_machine};
 ghost use Rattle.fv_model.specs.Refusals.{next};
-ghost use Rattle.fv_model.specs.Replies.{Allows};
+ghost use Rattle.fv_model.specs.Replies.{Allows, is_open};
 
 use crate::aggregates::Aggregate;
 use crate::answers::answer;
 use crate::effects::effect;
 use crate::full::refusal_for_space;
 use crate::refusals::refusal_before_space;
-use fv_model::{Command, Reply};
+use fv_model::{Command, Name, Reply};
 use std::alloc::{AllocError, Global};
 use std::marker::Model;
 
@@ -78,5 +80,25 @@ impl Machine {
         let reply = answer(alloc, &self.aggregate, command)?;
         self.aggregate = after;
         Ok(reply)
+    }
+
+    /// Whether the command is a `probe` of a volume that isn't known: the machine leaves its answer open,
+    /// up to 7. Costs a search for the volume, and takes no memory.
+    pub fn is_open(&self, command: &Command) -> bool
+        ensures { result ≡ is_open self.now command.now }
+    {
+        match command {
+            Command::Probe { volume, .. } => self.is_unknown(volume),
+            _ => false,
+        }
+    }
+
+    fn is_unknown(&self, name: &Name) -> bool
+        ensures { result ≡ option_map_or (λ v. not v.known) (fin.get self.now.volumes name.now) false }
+    {
+        match self.aggregate.volume(name) {
+            Some(volume) => !volume.is_known(),
+            None => false,
+        }
     }
 }

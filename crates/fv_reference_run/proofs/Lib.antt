@@ -1,0 +1,10 @@
+mod Counting
+mod Digits
+mod Pieces
+mod LinesRead
+mod Prefixes
+mod Answered
+mod Stepped
+mod Told
+mod Phrases
+mod Allowed

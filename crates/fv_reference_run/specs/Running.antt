@@ -1,0 +1,36 @@
+-- Answering a script.
+use Rattle.std.specs.Prelude.{◌≡◌, ℕ, List, [], ◌∷◌, ◌++◌, take, IsTrue, Option, Some, None, Result, Err, IfOk, OnOk, OnErr}
+use Rattle.fv_disk.specs.Shown.{Shown}
+use Rattle.fv_disk.specs.HostCalls.{Rests}
+use Rattle.fv_model.specs.Machines.{Machine, empty_machine}
+use Rattle.fv_model.specs.Runs.{Line, after_line}
+use Rattle.fv_model.specs.Lines.{lines}
+use Rattle.fv_reference_run.specs.declared.ending.Fault.{Fault}
+use Rattle.fv_reference_run.specs.declared.ending.Fault.TheVariants.{Usage}
+use Rattle.fv_reference_run.specs.declared.reading.Found.{Found}
+use Rattle.fv_reference_run.specs.declared.reading.Found.TheVariants as found
+use Rattle.fv_reference_run.specs.Endings.{Counts}
+use Rattle.fv_reference_run.specs.Output.{line_text, replies_text, output}
+use Rattle.fv_reference_run.specs.Reading.{unread}
+
+-- one line is answered, or there is none
+abbrev pub GoesOn : Found → Machine → List Line → List ℕ → Machine → List Line → List ℕ → Type 0
+GoesOn found.Line m old given new_m new new_given = (line : Line) × (old ≡ line ∷ new) × (new_m ≡ after_line m line) × (new_given ≡ given ++ line_text m line)
+GoesOn found.End m old given new_m new new_given = (old ≡ []) × (new_given ≡ given)
+
+pub record Steps (m : Machine) (held : List ℕ) (old : Shown) (new_m : Machine) (new_held : List ℕ) (new : Shown) (result : Result Found Fault) : Type 0 where
+  pub goes_on : IsTrue old.tells → IfOk result (λ f. GoesOn f m (lines (unread held old)) old.given new_m (lines (unread new_held new)) new.given)
+  pub part : IsTrue old.tells → OnErr result ((k : ℕ) × (new.given ≡ old.given ++ take k (replies_text m (lines (unread held old)))))
+  pub counts : Counts old new result
+
+-- The whole output is given, or a prefix of it after a fault.
+pub record Runs (m : Machine) (lines : List Line) (old new : Shown) (result : Result Unit Fault) : Type 0 where
+  pub all : IsTrue old.tells → OnOk result (new.given ≡ old.given ++ output m lines)
+  pub part : IsTrue old.tells → OnErr result ((k : ℕ) × (new.given ≡ old.given ++ take k (output m lines)))
+  pub counts : Counts old new result
+
+-- What was asked is done, and nothing else than a fault of usage comes of words that ask for nothing.
+pub record Asked (blocks : Option ℕ) (old new : Shown) (result : Result Unit Fault) : Type 0 where
+  pub usage : blocks ≡ None → result ≡ Err Usage
+  pub disk : Rests old new
+  pub runs : (p : ℕ) → blocks ≡ Some p → Runs (empty_machine p) (lines old.ends.left) old new result

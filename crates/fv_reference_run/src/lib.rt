@@ -1,0 +1,15 @@
+//! The plain machine as a program: a script's lines are applied to a fresh machine, one as it comes, and
+//! each is answered before the next.
+#![tactic(auto)]
+
+mod answering;
+mod ending;
+mod laws;
+mod program;
+mod reading;
+mod script;
+mod words;
+
+pub use laws::output_is_allowed;
+pub use program::reference;
+pub use words::{WordsFault, read_words};

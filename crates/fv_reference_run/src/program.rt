@@ -1,0 +1,131 @@
+//! The program as one call over a host.
+
+ghost use Rattle.std.specs.Prelude.{◌≡◌, ◌∷◌, [], ◌++◌, ◌↔◌, ℕ, map, take, string_bytes, Some, None, Contains, IsTrue};
+ghost use Rattle.fv_disk.specs.Shown.{Rose};
+ghost use Rattle.fv_disk.specs.HostCalls.{Rests};
+ghost use Rattle.fv_model.specs.Lines.{lines};
+ghost use Rattle.fv_model.specs.Machines.{empty_machine};
+ghost use Rattle.fv_model.specs.Texts.{done_text};
+ghost use Rattle.fv_reference_run.specs.Meaning.{meaning};
+ghost use Rattle.fv_reference_run.specs.Output.{output};
+ghost use Rattle.fv_reference_run.specs.Answering.{Tells};
+ghost use Rattle.fv_reference_run.specs.Running.{Asked, Runs, Steps};
+
+use crate::answering::answer;
+use crate::ending::Fault;
+use crate::reading::{Found, Line, next_line};
+use crate::script::Script;
+use crate::words::read_words;
+use arrayvec::ArrayString;
+use fv_disk::{Host, give_all};
+use fv_reference::Machine;
+use itoa::Buffer;
+use std::alloc::Global;
+
+/// Answers the script in the host's source: each line is applied to a fresh machine of so many blocks as
+/// the words name, and its reply is given before the next line is applied; then the number of replies is given.
+///
+/// The words are `BLOCKS`, from 512 to 1,048,576. The status is 0 where all was done, 3 where the source
+/// failed, 4 where the sink failed, 6 where there was no memory for a command, and 7 where the words have
+/// no meaning. `docs/MACHINE.md` tells of the script's language. To `probe` in a volume that isn't known the
+/// line is `?`, since the machine leaves the number open. It touches no block of the disk, holds a line of at
+/// most 9001 bytes and a piece of the script beside the machine, and costs for each line what
+/// `Machine::apply` does.
+pub fn reference<H: Host>(alloc: Global, words: &[String], host: &mut H) -> u8
+    ensures statuses { Contains (0 ∷ 3 ∷ 4 ∷ 6 ∷ 7 ∷ []) result }
+    ensures usage { (result ≡ 7) ↔ (meaning (map string_bytes words.now) ≡ None) }
+    ensures untouched { meaning (map string_bytes words.now) ≡ None → host.new ≡ host.old }
+
+    // A fault is answered only where its count rose in this call, and without one only memory can be wanting.
+    ensures source_fault { result ≡ 3 → Rose (H.shown host.old).ends.source_faults (H.shown host.new).ends.source_faults }
+    ensures sink_fault { result ≡ 4 → Rose (H.shown host.old).ends.sink_faults (H.shown host.new).ends.sink_faults }
+    ensures complete { (blocks : ℕ) → meaning (map string_bytes words.now) ≡ Some blocks
+        → ¬ Rose (H.shown host.old).ends.source_faults (H.shown host.new).ends.source_faults
+        → ¬ Rose (H.shown host.old).ends.sink_faults (H.shown host.new).ends.sink_faults
+        → Contains (0 ∷ 6 ∷ []) result }
+
+    // Of a host that tells its content: at 0 exactly the machine's replies to the script's lines were given and
+    // then their number, and at every other exit a prefix of that.
+    ensures answered { (blocks : ℕ) → meaning (map string_bytes words.now) ≡ Some blocks
+        → IsTrue (H.shown host.old).tells → result ≡ 0
+        → (H.shown host.new).given ≡ (H.shown host.old).given ++ output (empty_machine blocks) (lines (H.shown host.old).ends.left) }
+    ensures partly { (blocks : ℕ) → meaning (map string_bytes words.now) ≡ Some blocks
+        → IsTrue (H.shown host.old).tells
+        → (k : ℕ) × ((H.shown host.new).given ≡ (H.shown host.old).given ++ take k (output (empty_machine blocks) (lines (H.shown host.old).ends.left))) }
+
+    // The disk and its counts stay as they were.
+    ensures disk { Rests (H.shown host.old) (H.shown host.new) }
+{
+    match run(alloc, words, host) {
+        Ok(()) => 0,
+        Err(fault) => fault.status(),
+    }
+}
+
+#[tactic(auto, using(crate::proofs::Told::asks_nothing, crate::proofs::Told::asks_blocks))]
+fn run<H: Host>(alloc: Global, words: &[String], host: &mut H) -> Result<(), Fault>
+    ensures runs { Asked (meaning (map string_bytes words.now)) (H.shown host.old) (H.shown host.new) result }
+    ensures untouched { meaning (map string_bytes words.now) ≡ None → host.new ≡ host.old }
+{
+    match read_words(words) {
+        Ok(blocks) => answer_script(alloc, blocks, host),
+        Err(_) => Err(Fault::Usage),
+    }
+}
+
+#[tactic(auto, using(crate::proofs::Stepped::stands_first, crate::proofs::Stepped::stands_next, crate::proofs::Stepped::stops, crate::proofs::Stepped::ends, crate::proofs::Stepped::too_many))]
+fn answer_script<H: Host>(alloc: Global, blocks: u32, host: &mut H) -> Result<(), Fault>
+    ensures { Runs (empty_machine blocks) (lines (H.shown host.old).ends.left) (H.shown host.old) (H.shown host.new) result }
+{
+    let mut machine = Machine::new(alloc, blocks);
+    let mut script = Script::new();
+    let mut line = Line::new();
+    for count in 0..u64::MAX {
+        match step(alloc, &mut machine, &mut script, &mut line, host)? {
+            Found::Line => {}
+            Found::End => return tell_count(count, host),
+        }
+    }
+    Err(Fault::Memory)
+}
+
+/// Answers the next line of the script, if there is one.
+#[tactic(auto, using(crate::proofs::Stepped::step_ended, crate::proofs::Stepped::step_failed, crate::proofs::Stepped::step_answered, crate::proofs::Stepped::step_unanswered))]
+fn step<H: Host>(
+    alloc: Global,
+    machine: &mut Machine,
+    script: &mut Script,
+    line: &mut Line,
+    host: &mut H,
+) -> Result<Found, Fault>
+    ensures { Steps machine.old script.old (H.shown host.old) machine.new script.new (H.shown host.new) result }
+{
+    match next_line(script, host, line)? {
+        Found::End => Ok(Found::End),
+        Found::Line => {
+            answer(alloc, machine, line.as_slice(), host)?;
+            Ok(Found::Line)
+        }
+    }
+}
+
+#[tactic(auto, using(crate::proofs::Answered::told, crate::proofs::Answered::untold))]
+fn tell_count<H: Host>(count: u64, host: &mut H) -> Result<(), Fault>
+    ensures { Tells (H.shown host.old) (done_text count) (H.shown host.new) result }
+{
+    match give_all(host, done_line(count).as_str().as_bytes()) {
+        Ok(()) => Ok(()),
+        Err(_) => Err(Fault::Sink),
+    }
+}
+
+/// The last line: at most 26 bytes.
+fn done_line(count: u64) -> ArrayString<32>
+    ensures { result.bytes ≡ done_text count }
+{
+    let mut line = ArrayString::new();
+    line.push_str("done ");
+    line.push_str(Buffer::new().format(count));
+    line.push_str("\n");
+    line
+}

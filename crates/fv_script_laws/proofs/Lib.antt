@@ -1,0 +1,6 @@
+mod Zeros
+mod Hexes
+mod Written
+mod Spaced
+mod Shown
+mod Told
