@@ -1,1 +1,2 @@
 pub mod Isolation
+pub mod Guarantee

@@ -4,6 +4,6 @@
 //! and every command, and the check proves it. What the laws cite stands in `specs/`.
 #![tactic(auto)]
 
-mod isolation;
+mod laws;
 
-pub use isolation::others_stay;
+pub use laws::{others_stay, refused_by_charge_alone};

@@ -1,14 +1,24 @@
 ghost use Rattle.std.specs.Prelude.{◌≡◌, ◌≢◌, List, ℕ, Some};
 ghost use Rattle.fv_model.specs.declared.commands.Command.{Command as Commanded};
 ghost use Rattle.fv_model.specs.Machines.{Machine};
+ghost use Rattle.fv_model.specs.Space.{IsAdmitted};
 ghost use Rattle.fv_model.specs.Refusals.{next, home};
 ghost use Rattle.fv_laws.specs.Isolation.{IsSameAt};
+ghost use Rattle.fv_laws.specs.Guarantee.{IsChangeOf, IsGuaranteed};
 
 /// No command changes a volume that isn't its home: the volume that it makes or names. The aggregate's size and the format's
-/// version stay, too. Said of every command in every machine; costs nothing. docs/MACHINE.md has the rule.
+/// version stay, too. Said of every command in every machine; costs nothing. docs/MACHINE.md has the commands.
 #[tactic(auto, using(crate::proofs::Changes::others_stay, crate::proofs::Changes::blocks_stay, crate::proofs::Changes::version_stays))]
 pub fn others_stay()
     ensures volumes { (m : Machine) (c : Commanded) (name : List ℕ) → home c ≢ Some name → IsSameAt name m (next m c) }
     ensures blocks { (m : Machine) (c : Commanded) → (next m c).blocks ≡ m.blocks }
     ensures version { (m : Machine) (c : Commanded) → (next m c).version ≡ m.version }
+{}
+
+/// In a volume of kind `volume` a `put`, `new`, `cut` or `rm` that meets no earlier refusal is refused 8 exactly where its
+/// charge after the command would pass its size, is never refused 9, and is accepted otherwise. Said of every machine that
+/// keeps the admission rule; costs nothing. docs/MACHINE.md has the rules of space.
+#[tactic(auto, using(crate::proofs::Guarantee::guaranteed))]
+pub fn refused_by_charge_alone()
+    ensures { (m : Machine) (v : List ℕ) (c : Commanded) → IsAdmitted m → IsChangeOf m v c → IsGuaranteed m v c }
 {}

@@ -1,0 +1,1 @@
+-- Every command keeps the admission rule.
