@@ -1,4 +1,8 @@
 pub mod Orders
+pub mod SetCounts
+pub mod Release
+pub mod Halves
+pub mod Within
 pub mod Changes
 pub mod Maps
 pub mod Commits

@@ -9,7 +9,7 @@ use Rattle.fv_model.specs.Spelling.{name_cmp}
 use Rattle.fv_model.specs.Trees.{spot_cmp}
 use Rattle.fv_model.specs.Places.{Owner, InodeFile, OfFile, rank, numbers, place_cmp, id_cmp}
 
-both_equal : (r s : Ordering) → ordering_then r s ≡ Equal → (r ≡ Equal) × (s ≡ Equal)
+pub both_equal : (r s : Ordering) → ordering_then r s ≡ Equal → (r ≡ Equal) × (s ≡ Equal)
 both_equal Less s e = (e, cc)
 both_equal Equal s e = (refl, e)
 both_equal Greater s e = (e, cc)

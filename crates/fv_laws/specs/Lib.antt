@@ -1,2 +1,4 @@
+pub mod Halves
+pub mod Within
 pub mod Isolation
 pub mod Guarantee

@@ -1,8 +1,9 @@
 ghost use Rattle.std.specs.Prelude.{◌≡◌, ◌≢◌, List, ℕ, Some};
 ghost use Rattle.fv_model.specs.declared.commands.Command.{Command as Commanded};
-ghost use Rattle.fv_model.specs.Machines.{Machine};
+ghost use Rattle.fv_model.specs.Machines.{Machine, empty_machine};
 ghost use Rattle.fv_model.specs.Space.{IsAdmitted};
 ghost use Rattle.fv_model.specs.Refusals.{next, home};
+ghost use Rattle.fv_model.specs.Runs.{Line, after};
 ghost use Rattle.fv_laws.specs.Isolation.{IsSameAt};
 ghost use Rattle.fv_laws.specs.Guarantee.{IsChangeOf, IsGuaranteed};
 
@@ -21,4 +22,14 @@ pub fn others_stay()
 #[tactic(auto, using(crate::proofs::Guarantee::guaranteed))]
 pub fn refused_by_charge_alone()
     ensures { (m : Machine) (v : List ℕ) (c : Commanded) → IsAdmitted m → IsChangeOf m v c → IsGuaranteed m v c }
+{}
+
+/// Every command keeps the admission rule: each volume's use is at most its size, and all commits are at most the capacity.
+/// The empty machine keeps it, so every machine that a script reaches from there does, and so does every prefix of a script
+/// from any machine that keeps it. Also `snap delete`, `vol destroy`, `split finish` and `clean`, which are never refused for
+/// space: they raise neither a use nor the commits. Costs nothing. docs/MACHINE.md has the rules of space.
+pub fn always_admitted()
+    ensures empty { (blocks : ℕ) → IsAdmitted (empty_machine blocks) }
+    ensures next { (m : Machine) (c : Commanded) → IsAdmitted m → IsAdmitted (next m c) }
+    ensures after { (m : Machine) (lines : List Line) (k : ℕ) → IsAdmitted m → IsAdmitted (after m lines k) }
 {}

@@ -1,9 +1,12 @@
 //! Laws of the machine: what its definitions are proved to mean.
 //!
-//! Each function here has no body of its own. Its contract is a law over the definitions of `fv_model`, of every machine
-//! and every command, and the check proves it. What the laws cite stands in `specs/`.
+//! The definitions of `fv_model` say what each command does and when it is refused. What holds of every run of them is
+//! proved here once, so that each body that meets the definitions has it. A law is the contract of a function that does
+//! nothing; `proofs/` has it as a lemma, too. What the laws cite stands in `specs/`.
 #![tactic(auto)]
 
 mod laws;
+mod space;
 
-pub use laws::{others_stay, refused_by_charge_alone};
+pub use laws::{always_admitted, others_stay, refused_by_charge_alone};
+pub use space::{no_volume_outgrows_its_size, space_is_tried_last, use_does_not_rise};

@@ -1,0 +1,10 @@
+-- The size of a volume is a bound on its use.
+use Rattle.std.specs.Prelude.{◌≡◌, ◌≤◌, ℕ, List, Some}
+use Rattle.std.specs.FinMap as fin
+use Rattle.fv_model.specs.Volumes.{Volume}
+use Rattle.fv_model.specs.Machines.{Machine}
+use Rattle.fv_model.specs.Space.{use_of}
+
+-- no volume uses more than its size
+abbrev pub IsWithin : Machine → Type 0
+IsWithin m = (name : List ℕ) (v : Volume) → fin.get m.volumes name ≡ Some v → use_of v ≤ v.size
