@@ -8,3 +8,9 @@ pub mod Maps
 pub mod Commits
 pub mod Guarantee
 pub mod Admission
+pub mod Lists
+pub mod Ids
+pub mod Need
+pub mod Stamps
+pub mod Reserve
+pub mod Room

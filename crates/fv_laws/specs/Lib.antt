@@ -2,3 +2,4 @@ pub mod Halves
 pub mod Within
 pub mod Isolation
 pub mod Guarantee
+pub mod Reserve

@@ -6,6 +6,7 @@ ghost use Rattle.fv_model.specs.Refusals.{next, home};
 ghost use Rattle.fv_model.specs.Runs.{Line, after};
 ghost use Rattle.fv_laws.specs.Isolation.{IsSameAt};
 ghost use Rattle.fv_laws.specs.Guarantee.{IsChangeOf, IsGuaranteed};
+ghost use Rattle.fv_laws.specs.Reserve.{IsReserved, HasRoom};
 
 /// No command changes a volume that isn't its home: the volume that it makes or names. The aggregate's size and the format's
 /// version stay, too. Said of every command in every machine; costs nothing. docs/MACHINE.md has the commands.
@@ -32,4 +33,12 @@ pub fn always_admitted()
     ensures empty { (blocks : ℕ) → IsAdmitted (empty_machine blocks) }
     ensures next { (m : Machine) (c : Commanded) → IsAdmitted m → IsAdmitted (next m c) }
     ensures after { (m : Machine) (lines : List Line) (k : ℕ) → IsAdmitted m → IsAdmitted (after m lines k) }
+{}
+
+/// In a volume of kind `file` a `put` below the reserve of a file is never refused 8 or 9. Said of every machine that keeps
+/// the admission rule, and of a volume whose levels reach its reserves and whose stamps are at most its `now`; with any
+/// snapshots, and with a base, being split or not. Costs nothing. docs/MACHINE.md has the rules of space.
+#[tactic(auto, using(crate::proofs::Room::has_room))]
+pub fn reserves_hold()
+    ensures { (m : Machine) (v f : List ℕ) (i : ℕ) (block : List ℕ) → IsAdmitted m → IsReserved m v f i → HasRoom m v f i block }
 {}
