@@ -86,7 +86,7 @@ KeepsBudget m (Goes v) = ⊥
 pub budget : (x y : Volume) → y.kind ≡ x.kind → y.size ≡ x.size → y.span ≡ x.span → HasBudgetOf x y
 budget x y kind size span = record { kind = kind; size = size; span = span }
 
-one_volume : (x y : Volume) (o : Option Volume) → o ≡ Some x → o ≡ Some y → x ≡ y
+pub one_volume : (x y : Volume) (o : Option Volume) → o ≡ Some x → o ≡ Some y → x ≡ y
 one_volume x y o e d = cc
 
 keeps : (m : Machine) (c : Command) → is_change c ≡ true → KeepsBudget m (change_of m c)
@@ -126,7 +126,7 @@ pub record Afterwards (n : Machine) (v : List ℕ) : Type 0 where
   pub within : is_aggregate_full n ≡ false
   pub used : is_volume_full n v ≡ is_overcharged n v
 
-afterwards : (m : Machine) (v : List ℕ) (x : Volume) (change : Change) → IsAdmitted m → fin.get m.volumes v ≡ Some x → x.kind ≡ Whole → IsOf (Some v) change → KeepsBudget m change → Afterwards (changed m change) v
+pub afterwards : (m : Machine) (v : List ℕ) (x : Volume) (change : Change) → IsAdmitted m → fin.get m.volumes v ≡ Some x → x.kind ≡ Whole → IsOf (Some v) change → KeepsBudget m change → Afterwards (changed m change) v
 afterwards m v x Stays ok e whole of keeps = record { within = is_within m ok.aggregate; used = used m v x e whole }
 afterwards m v x (Becomes w y) ok e whole of keeps =
     let same : v ≡ w = cc in

@@ -14,3 +14,4 @@ pub mod Need
 pub mod Stamps
 pub mod Reserve
 pub mod Room
+pub mod Alike

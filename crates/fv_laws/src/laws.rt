@@ -4,7 +4,7 @@ ghost use Rattle.fv_model.specs.Machines.{Machine, empty_machine};
 ghost use Rattle.fv_model.specs.Space.{IsAdmitted};
 ghost use Rattle.fv_model.specs.Refusals.{next, home};
 ghost use Rattle.fv_model.specs.Runs.{Line, after};
-ghost use Rattle.fv_laws.specs.Isolation.{IsSameAt};
+ghost use Rattle.fv_laws.specs.Isolation.{IsSameAt, AreAlike, IsIsolated};
 ghost use Rattle.fv_laws.specs.Guarantee.{IsChangeOf, IsGuaranteed};
 ghost use Rattle.fv_laws.specs.Reserve.{IsReserved, HasRoom};
 
@@ -41,4 +41,13 @@ pub fn always_admitted()
 #[tactic(auto, using(crate::proofs::Room::has_room))]
 pub fn reserves_hold()
     ensures { (m : Machine) (v f : List ℕ) (i : ℕ) (block : List ℕ) → IsAdmitted m → IsReserved m v f i → HasRoom m v f i block }
+{}
+
+/// A command that looks at its home alone has the same allowed replies, and leaves the same volume, in any two machines of
+/// one version that keep the admission rule and hold one volume under its name. Such are `new`, `put`, `get`, `len`, `cut`,
+/// `rm`, `ls`, `snap create`, `snap restore`, `snap list`, `vol stat`, `probe`, `clean` and `split finish`; `snap delete` unless
+/// a machine refuses it 12, and `split start` unless one refuses it 13. In a volume of kind `volume` that is all; in one of
+/// another kind neither machine may refuse the command 9. Costs nothing. docs/MACHINE.md has the refusals.
+pub fn home_alone_decides()
+    ensures { (m n : Machine) (v : List ℕ) (c : Commanded) → IsAdmitted m → IsAdmitted n → AreAlike m n v c → IsIsolated m n v c }
 {}
