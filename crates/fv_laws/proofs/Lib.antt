@@ -15,3 +15,6 @@ pub mod Stamps
 pub mod Reserve
 pub mod Room
 pub mod Alike
+pub mod Levels
+pub mod Trees
+pub mod Tables

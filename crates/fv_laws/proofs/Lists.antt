@@ -27,7 +27,19 @@ module _ {X : Type 0} where
   in_filter p x (y ∷ xs) (inl e) is = subst (λ b. In x (cond b (y ∷ filter p xs) (filter p xs))) (sym (ap p e ∙ is)) (inl e)
   in_filter p x (y ∷ xs) (inr h) is = elim (p y) as (λ b. In x (cond b (y ∷ filter p xs) (filter p xs))) [ true ↦ inr (in_filter p x xs h is) | false ↦ in_filter p x xs h is ]
 
+  pub from_filter : (p : X → Bool) (x : X) (xs : List X) → In x (filter p xs) → In x xs × (p x ≡ true)
+  from_filter p x [] h = absurd h
+  from_filter p x (y ∷ xs) h =
+      elim (p y) as (λ b. p y ≡ b → In x (cond b (y ∷ filter p xs) (filter p xs)) → ((y ≡ x) ⊎ In x xs) × (p x ≡ true)) [
+        | true ↦ λ e h. ⊎_elim (λ same. (inl same, ap p (sym same) ∙ e)) (λ there. let rest = from_filter p x xs there in (inr rest.0, rest.1)) h
+        | false ↦ λ e h. let rest = from_filter p x xs h in (inr rest.0, rest.1)
+      ] refl h
+
 module _ {X Y : Type 0} where
+  pub from_flat_map : (g : X → List Y) (y : Y) (xs : List X) → In y (flat_map g xs) → (x : X) × In x xs × In y (g x)
+  from_flat_map g y [] h = absurd h
+  from_flat_map g y (x ∷ xs) h = ⊎_elim (λ l. (x, inl refl, l)) (λ r. let rest = from_flat_map g y xs r in (rest.0, inr rest.1, rest.2)) (in_either y (g x) (flat_map g xs) h)
+
   pub in_map : (g : X → Y) (x : X) (xs : List X) → In x xs → In (g x) (map g xs)
   in_map g x [] h = absurd h
   in_map g x (y ∷ xs) (inl e) = inl (ap g e)

@@ -3,3 +3,4 @@ pub mod Within
 pub mod Isolation
 pub mod Guarantee
 pub mod Reserve
+pub mod WellFormed
