@@ -1,5 +1,5 @@
 -- Every command keeps the admission rule.
-use Rattle.std.proofs.Common.{◌≡◌, ℕ, ◌≤◌, Bool, true, false, cond, not, nat_lt, List, [], ◌∷◌, Option, Some, None, sum_by, fold, take, length, refl, sym, ap, subst, ◌∙◌, arith}
+use Rattle.std.proofs.Common.{◌≡◌, ℕ, ◌≤◌, Bool, true, false, cond, not, nat_lt, List, [], ◌∷◌, Option, Some, None, sum_by, length, refl, sym, ap, subst, ◌∙◌, arith}
 use Rattle.std.specs.Option.{option_map_or}
 use Rattle.std.specs.FinMap as fin
 use Rattle.std.proofs.lemmas.Bool.Decides.{nat_tests}
@@ -12,9 +12,9 @@ use Rattle.fv_model.specs.Machines.{Machine, empty_machine, capacity}
 use Rattle.fv_model.specs.Space.{use_of, commits, IsAdmitted}
 use Rattle.fv_model.specs.Effects.{Becomes, Goes, changed, change_of, effect, empty_volume}
 use Rattle.fv_model.specs.Refusals.{Condition, of_volume, conditions, first_of, next, home, is_volume_full, is_aggregate_full, is_splitting}
-use Rattle.fv_model.specs.Runs.{Line, Says, NoCommand, OutOfRange, after_line, after}
+use Rattle.fv_model.specs.Runs.{Line, after}
 use Rattle.fv_laws.proofs.Orders.{name_total, name_ties}
-use Rattle.fv_laws.proofs.Changes.{IsOf, at_home, by_next, volume_of, itself}
+use Rattle.fv_laws.proofs.Changes.{along, IsOf, at_home, by_next, volume_of, itself}
 use Rattle.fv_laws.proofs.Maps.{sum-remove-le}
 use Rattle.fv_laws.proofs.Release.{use_without_snapshot, use_once_split, use_once_clean, use_when_empty}
 use Rattle.fv_laws.proofs.Commits.{now_there, commit_at, is_within, admitted_change, uses_less}
@@ -126,11 +126,5 @@ admitted_empty blocks = record {
   aggregate = rw (no_volumes blocks) (omega arith);
 }
 
-admitted_lines : (m : Machine) (lines : List Line) → IsAdmitted m → IsAdmitted (fold after_line m lines)
-admitted_lines m [] ok = ok
-admitted_lines m (Says c ∷ lines) ok = admitted_lines (next m c) lines (admitted m c ok)
-admitted_lines m (NoCommand ∷ lines) ok = admitted_lines m lines ok
-admitted_lines m (OutOfRange ∷ lines) ok = admitted_lines m lines ok
-
 pub admitted_after : (m : Machine) (lines : List Line) (k : ℕ) → IsAdmitted m → IsAdmitted (after m lines k)
-admitted_after m lines k ok = admitted_lines m (take k lines) ok
+admitted_after = along IsAdmitted admitted

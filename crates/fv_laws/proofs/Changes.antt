@@ -1,5 +1,5 @@
 -- What a command changes lies at its home.
-use Rattle.std.proofs.Common.{◌≡◌, ◌≢◌, ℕ, Bool, true, false, cond, List, Option, Some, None, refl, sym, ap, ◌∙◌, is_some}
+use Rattle.std.proofs.Common.{◌≡◌, ◌≢◌, ℕ, Bool, true, false, cond, List, Option, Some, None, refl, sym, ap, ◌∙◌, is_some, fold, take, [], ◌∷◌}
 use Rattle.std.specs.Option.{option_map, option_map_or}
 use Rattle.std.specs.Ordering.{eq_by_cmp, is_eq}
 use Rattle.std.specs.Cmp.{Equal-is, tied_itself}
@@ -13,6 +13,7 @@ use Rattle.fv_model.specs.Volumes.{Volume}
 use Rattle.fv_model.specs.Machines.{Machine}
 use Rattle.fv_model.specs.Effects.{Change, Stays, Becomes, Goes, changed, change_of, effect, at_volume, at_file, at_snapshot, stamped, empty_volume, clone_of, mirror_of, being_split}
 use Rattle.fv_model.specs.Refusals.{refusal, next, home}
+use Rattle.fv_model.specs.Runs.{Line, Says, NoCommand, OutOfRange, after_line, after}
 use Rattle.fv_laws.specs.Isolation.{IsSameAt}
 use Rattle.fv_laws.proofs.Orders.{name_total, name_ties}
 
@@ -156,3 +157,13 @@ blocks_stay m c = by_next m c (λ n. n.blocks ≡ m.blocks) refl (λ e. same_blo
 
 pub version_stays : (m : Machine) (c : Command) → (next m c).version ≡ m.version
 version_stays m c = by_next m c (λ n. n.version ≡ m.version) refl (λ e. same_version m (change_of m c))
+
+along_lines : (P : Machine → Type 0) → ((m : Machine) (c : Command) → P m → P (next m c)) → (m : Machine) (lines : List Line) → P m → P (fold after_line m lines)
+along_lines P step m [] is = is
+along_lines P step m (Says c ∷ lines) is = along_lines P step (next m c) lines (step m c is)
+along_lines P step m (NoCommand ∷ lines) is = along_lines P step m lines is
+along_lines P step m (OutOfRange ∷ lines) is = along_lines P step m lines is
+
+-- what each command keeps holds after the first lines of a script
+pub along : (P : Machine → Type 0) → ((m : Machine) (c : Command) → P m → P (next m c)) → (m : Machine) (lines : List Line) (k : ℕ) → P m → P (after m lines k)
+along P step m lines k is = along_lines P step m (take k lines) is

@@ -67,7 +67,7 @@ same_id p q u s Less e = ap (λ r. is_eq (ordering_then r (nat_cmp u s))) e
 same_id p q u s Equal e = ap (λ r. is_eq (ordering_then r (nat_cmp u s))) e
 same_id p q u s Greater e = ap (λ r. is_eq (ordering_then r (nat_cmp u s))) e
 
-nat_same : (u s : ℕ) → eq_by_cmp nat_cmp u s ≡ true → u ≡ s
+pub nat_same : (u s : ℕ) → eq_by_cmp nat_cmp u s ≡ true → u ≡ s
 nat_same u s e = fin.nat_cmp-IsAntisymmetric u s ((Equal-is (nat_cmp u s)).0 e)
 
 -- where the stamp at q is this one, with nothing that was there taken away

@@ -18,3 +18,7 @@ pub mod Alike
 pub mod Levels
 pub mod Trees
 pub mod Tables
+pub mod Volumes
+pub mod Bases
+pub mod WellFormed
+pub mod Sound

@@ -16,7 +16,6 @@ use Rattle.fv_model.specs.Places.{id_cmp, InodeFile, OfFile, Place, placed, Stam
 use Rattle.fv_model.specs.Volumes.{Base, Volume}
 use Rattle.fv_model.specs.Space.{map_blocks, base_ids, ids_left_out, kept_ids, charge, reserved_at, reserved_places, needs_block, shared_ids, is_file_kind, need, use_of}
 use Rattle.fv_model.specs.Effects.{stamped}
-use Rattle.fv_laws.specs.Reserve.{IsSound}
 use Rattle.fv_laws.proofs.Orders.{id_total}
 use Rattle.fv_laws.proofs.Lists.{In, in_left, in_right, in_either, in_filter, in_map, from_map, in_flat_map, in_range}
 use Rattle.fv_laws.proofs.Maps.{sum-insert}
@@ -24,6 +23,13 @@ use Rattle.fv_laws.proofs.Ids.{charged}
 use Rattle.fv_laws.proofs.Need.{needed, both_step}
 use Rattle.fv_laws.proofs.Stamps.{stamp_all, put_places, stamps-put}
 use Rattle.fv_laws.proofs.SetCounts.{IsPart, or_true}
+
+-- the levels of each file reach its reserve, those of the inode file reach each file's cell, and no id that a snapshot or
+-- the base has is newer than the volume's last change
+pub record IsSound (x : Volume) : Type 0 where
+  pub reaches : (n : ℕ) (f : File) → fin.get x.active.files n ≡ Some f → f.reserve ≤ fan ^ f.tree.levels
+  pub holds : (n : ℕ) (f : File) → fin.get x.active.files n ≡ Some f → inode_cell n < fan ^ x.active.inode.levels
+  pub old : (p : Place) (s : ℕ) → x.now < s → set.contains (shared_ids x) (p, s) ≡ false
 
 -- ---- one stamp after another
 both_steps : {E : Type 0} (places : E → List Place) (shared : Ids) (es : List E) (m : Stamps) (ps : List Place) (s : ℕ) (kept out : Ids) (e : E) → IsPart kept shared → IsPart out shared → ((q : Place) → set.contains shared (q, s) ≡ false) → In e es → ((q : Place) → In q ps → In q (places e)) →

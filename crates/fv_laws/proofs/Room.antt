@@ -24,7 +24,7 @@ use Rattle.fv_laws.proofs.Lists.{In}
 use Rattle.fv_laws.proofs.Maps.{first, second, less}
 use Rattle.fv_laws.proofs.Commits.{now_there, is_within, uses_less}
 use Rattle.fv_laws.proofs.Guarantee.{AreEarly, last_two, ends_in_space}
-use Rattle.fv_laws.proofs.Reserve.{put_below}
+use Rattle.fv_laws.proofs.Reserve.{IsSound, put_below}
 
 -- what is found is among the entries, and there under its key
 pub found_among : {X : Type 0} (test : X → Bool) (x : X) (xs : List X) → find test xs ≡ Some x → In x xs
@@ -70,11 +70,11 @@ put_is m v f i block x n file there named =
     ap (λ (o : Option Volume). option_map_or (λ (y : Volume). at_file y f (λ n file. Becomes v (stamped y (put y.active n file i block)))) o Stays) there
     ∙ ap (λ (o : Option (ℕ × File)). option_map_or (λ (e : ℕ × File). Becomes v (stamped x (put x.active e.0 e.1 i block))) o Stays) named
 
-pub has_room : (m : Machine) (v f : List ℕ) (i : ℕ) (block : List ℕ) → IsAdmitted m → IsReserved m v f i → HasRoom m v f i block
-has_room m v f i block ok h =
+pub has_room : (m : Machine) (v f : List ℕ) (i : ℕ) (block : List ℕ) → IsAdmitted m → (h : IsReserved m v f i) → IsSound h.volume → HasRoom m v f i block
+has_room m v f i block ok h sound =
     let x = h.volume in
     let y = stamped x (put x.active h.number h.file i block) in
-    let less_used = put_below x h.sound (ap is_file_kind h.kind) h.number h.file (named_there x.active f h.number h.file h.named) i h.below block in
+    let less_used = put_below x sound (ap is_file_kind h.kind) h.number h.file (named_there x.active f h.number h.file h.named) i h.below block in
     let left : IsAdmitted (changed m (Becomes v y)) = uses_less m v x y h.there (record { kind = refl; size = refl; span = refl }) less_used ok in
     let fits : use_of y ≤ y.size = left.volumes v y (now_there m v y) in
     let change = put_is m v f i block x h.number h.file h.there h.named in

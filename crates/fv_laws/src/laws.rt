@@ -6,6 +6,7 @@ ghost use Rattle.fv_model.specs.Refusals.{next, home};
 ghost use Rattle.fv_model.specs.Runs.{Line, after};
 ghost use Rattle.fv_laws.specs.Isolation.{IsSameAt, AreAlike, IsIsolated};
 ghost use Rattle.fv_laws.specs.Guarantee.{IsChangeOf, IsGuaranteed};
+ghost use Rattle.fv_laws.specs.WellFormed.{IsWell};
 ghost use Rattle.fv_laws.specs.Reserve.{IsReserved, HasRoom};
 
 /// No command changes a volume that isn't its home: the volume that it makes or names. The aggregate's size and the format's
@@ -35,12 +36,11 @@ pub fn always_admitted()
     ensures after { (m : Machine) (lines : List Line) (k : ℕ) → IsAdmitted m → IsAdmitted (after m lines k) }
 {}
 
-/// In a volume of kind `file` a `put` below the reserve of a file is never refused 8 or 9. Said of every machine that keeps
-/// the admission rule, and of a volume whose levels reach its reserves and whose stamps are at most its `now`; with any
-/// snapshots, and with a base, being split or not. Costs nothing. docs/MACHINE.md has the rules of space.
-#[tactic(auto, using(crate::proofs::Room::has_room))]
+/// In a volume of kind `file` a `put` below the reserve of a file is never refused 8 or 9: with any snapshots, and with a base,
+/// being split or not. Said of every well-formed machine that keeps the admission rule, so of every one that a script reaches;
+/// costs nothing. docs/MACHINE.md has the rules of space.
 pub fn reserves_hold()
-    ensures { (m : Machine) (v f : List ℕ) (i : ℕ) (block : List ℕ) → IsAdmitted m → IsReserved m v f i → HasRoom m v f i block }
+    ensures { (m : Machine) (v f : List ℕ) (i : ℕ) (block : List ℕ) → IsAdmitted m → IsWell m → IsReserved m v f i → HasRoom m v f i block }
 {}
 
 /// A command that looks at its home alone has the same allowed replies, and leaves the same volume, in any two machines of
@@ -50,4 +50,14 @@ pub fn reserves_hold()
 /// another kind neither machine may refuse the command 9. Costs nothing. docs/MACHINE.md has the refusals.
 pub fn home_alone_decides()
     ensures { (m n : Machine) (v : List ℕ) (c : Commanded) → IsAdmitted m → IsAdmitted n → AreAlike m n v c → IsIsolated m n v c }
+{}
+
+/// Every command leaves a well-formed machine well-formed, and the empty machine is so; so every machine that a script reaches
+/// from there is. In such a machine names of files are distinct, stamps stand exactly over cells and are those of changes so
+/// far, levels reach the cells and the reserve, counts and sizes are in their limits, and bases lead by chains that end to
+/// parents that are there and still hold the base's table. Costs nothing. docs/MACHINE.md says what there is in a machine.
+pub fn stays_well_formed()
+    ensures empty { (blocks : ℕ) → IsWell (empty_machine blocks) }
+    ensures next { (m : Machine) (c : Commanded) → IsWell m → IsWell (next m c) }
+    ensures after { (m : Machine) (lines : List Line) (k : ℕ) → IsWell m → IsWell (after m lines k) }
 {}
