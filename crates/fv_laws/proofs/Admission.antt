@@ -56,7 +56,7 @@ not_not : (b : Bool) → not b ≡ false → b ≡ true
 not_not true e = refl
 not_not false e = absurd cc
 
-splits : (o : Option Volume) (x : Volume) → o ≡ Some x → option_map_or (λ w. not (is_splitting w)) o false ≡ false → is_splitting x ≡ true
+pub splits : (o : Option Volume) (x : Volume) → o ≡ Some x → option_map_or (λ w. not (is_splitting w)) o false ≡ false → is_splitting x ≡ true
 splits o x e h = not_not (is_splitting x) (ap (λ (o : Option Volume). option_map_or (λ w. not (is_splitting w)) o false) (sym e) ∙ h)
 
 end_split : (m : Machine) (c : List ℕ) → IsAdmitted m → of_volume m c (λ x. not (is_splitting x)) ≡ false → IsAdmitted (effect m (SplitFinish c))

@@ -55,7 +55,7 @@ no_holder m v s none name x b there has same held =
     let wrong : true ≡ false = sym yes ∙ no in cc
 
 -- ---- one volume in place of another
-here_or_old : (m : Machine) (v : List ℕ) (y : Volume) (name : List ℕ) (z : Volume) → fin.get (fin.insert m.volumes v y) name ≡ Some z → ((name ≡ v) × (z ≡ y)) ⊎ ((name ≢ v) × (fin.get m.volumes name ≡ Some z))
+pub here_or_old : (m : Machine) (v : List ℕ) (y : Volume) (name : List ℕ) (z : Volume) → fin.get (fin.insert m.volumes v y) name ≡ Some z → ((name ≡ v) × (z ≡ y)) ⊎ ((name ≢ v) × (fin.get m.volumes name ≡ Some z))
 here_or_old m v y name z e =
     elim (eq_by_cmp name_cmp name v) as (λ b. eq_by_cmp name_cmp name v ≡ b → cond b (Some y) (fin.get m.volumes name) ≡ Some z → ((name ≡ v) × (z ≡ y)) ⊎ ((name ≢ v) × (fin.get m.volumes name ≡ Some z))) [
       | true ↦ λ d h. let same : z ≡ y = cc in inl (same_name name v d, same)
@@ -193,7 +193,7 @@ fresh_well m is v y none good few base = record {
     at_v b has = ap (λ t. cond t (option_map_or (λ (b : Base). is.rooted.rank b.parent + 1) y.base 0) (is.rooted.rank v)) (itself v) ∙ ap (λ (o : Option Base). option_map_or (λ (b : Base). is.rooted.rank b.parent + 1) o 0) has
 
 -- ---- a volume that goes
-not_gone : (m : Machine) (v name : List ℕ) (z : Volume) → fin.get (fin.remove m.volumes v) name ≡ Some z → fin.get m.volumes name ≡ Some z
+pub not_gone : (m : Machine) (v name : List ℕ) (z : Volume) → fin.get (fin.remove m.volumes v) name ≡ Some z → fin.get m.volumes name ≡ Some z
 not_gone m v name z e = by (eq_by_cmp name_cmp name v) (sym (fin.get-remove name_total m.volumes v name) ∙ e)
   where
     by : (b : Bool) → cond b None (fin.get m.volumes name) ≡ Some z → fin.get m.volumes name ≡ Some z

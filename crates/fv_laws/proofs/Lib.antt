@@ -22,3 +22,4 @@ pub mod Volumes
 pub mod Bases
 pub mod WellFormed
 pub mod Sound
+pub mod Releases

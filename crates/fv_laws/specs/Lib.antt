@@ -4,3 +4,4 @@ pub mod Isolation
 pub mod Guarantee
 pub mod Reserve
 pub mod WellFormed
+pub mod Releases

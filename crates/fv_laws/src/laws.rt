@@ -1,4 +1,4 @@
-ghost use Rattle.std.specs.Prelude.{◌≡◌, ◌≢◌, List, ℕ, Some};
+ghost use Rattle.std.specs.Prelude.{◌≡◌, ◌≢◌, List, ℕ, Some, true};
 ghost use Rattle.fv_model.specs.declared.commands.Command.{Command as Commanded};
 ghost use Rattle.fv_model.specs.Machines.{Machine, empty_machine};
 ghost use Rattle.fv_model.specs.Space.{IsAdmitted};
@@ -6,6 +6,7 @@ ghost use Rattle.fv_model.specs.Refusals.{next, home};
 ghost use Rattle.fv_model.specs.Runs.{Line, after};
 ghost use Rattle.fv_laws.specs.Isolation.{IsSameAt, AreAlike, IsIsolated};
 ghost use Rattle.fv_laws.specs.Guarantee.{IsChangeOf, IsGuaranteed};
+ghost use Rattle.fv_laws.specs.Releases.{is_release, RaisesNothing};
 ghost use Rattle.fv_laws.specs.WellFormed.{IsWell};
 ghost use Rattle.fv_laws.specs.Reserve.{IsReserved, HasRoom};
 
@@ -28,12 +29,19 @@ pub fn refused_by_charge_alone()
 
 /// Every command keeps the admission rule: each volume's use is at most its size, and all commits are at most the capacity.
 /// The empty machine keeps it, so every machine that a script reaches from there does, and so does every prefix of a script
-/// from any machine that keeps it. Also `snap delete`, `vol destroy`, `split finish` and `clean`, which are never refused for
-/// space: they raise neither a use nor the commits. Costs nothing. docs/MACHINE.md has the rules of space.
+/// from any machine that keeps it. Costs nothing. docs/MACHINE.md has the rules of space.
 pub fn always_admitted()
     ensures empty { (blocks : ℕ) → IsAdmitted (empty_machine blocks) }
     ensures next { (m : Machine) (c : Commanded) → IsAdmitted m → IsAdmitted (next m c) }
     ensures after { (m : Machine) (lines : List Line) (k : ℕ) → IsAdmitted m → IsAdmitted (after m lines k) }
+{}
+
+/// `vol destroy`, `snap delete`, `split finish` and `clean` are never refused for space and need not be: each volume that is
+/// left uses no more than before, and all commit no more. Said of every machine; costs nothing. docs/MACHINE.md has the rules
+/// of space.
+#[tactic(auto, using(crate::proofs::Releases::raises_nothing))]
+pub fn releases_raise_nothing()
+    ensures { (m : Machine) (c : Commanded) → is_release c ≡ true → RaisesNothing m (next m c) }
 {}
 
 /// In a volume of kind `file` a `put` below the reserve of a file is never refused 8 or 9: with any snapshots, and with a base,

@@ -9,7 +9,7 @@ mod laws;
 mod space;
 
 pub use laws::{
-    always_admitted, home_alone_decides, others_stay, refused_by_charge_alone, reserves_hold,
-    stays_well_formed,
+    always_admitted, home_alone_decides, others_stay, refused_by_charge_alone,
+    releases_raise_nothing, reserves_hold, stays_well_formed,
 };
 pub use space::{no_volume_outgrows_its_size, space_is_tried_last, use_does_not_rise};
