@@ -11,23 +11,14 @@ use Rattle.fv_model.specs.Volumes.{Volume}
 use Rattle.fv_model.specs.Machines.{Machine, empty_machine, capacity}
 use Rattle.fv_model.specs.Space.{use_of, commits, IsAdmitted}
 use Rattle.fv_model.specs.Effects.{Becomes, Goes, changed, change_of, effect, empty_volume}
-use Rattle.fv_model.specs.Refusals.{Condition, of_volume, conditions, first_of, next, home, is_volume_full, is_aggregate_full, is_splitting}
+use Rattle.fv_model.specs.Refusals.{of_volume, conditions, next, home, is_volume_full, is_aggregate_full, is_splitting}
 use Rattle.fv_model.specs.Runs.{Line, after}
 use Rattle.fv_laws.proofs.Orders.{name_total, name_ties}
+use Rattle.fv_laws.proofs.Halves.{NoneHolds, none_holds}
 use Rattle.fv_laws.proofs.Changes.{along, IsOf, at_home, by_next, volume_of, itself}
 use Rattle.fv_laws.proofs.Maps.{sum-remove-le}
 use Rattle.fv_laws.proofs.Release.{use_without_snapshot, use_once_split, use_once_clean, use_when_empty}
 use Rattle.fv_laws.proofs.Commits.{now_there, commit_at, is_within, admitted_change, uses_less}
-
--- of a command that isn't refused no condition holds
-abbrev pub NoneHolds : List Condition → Type 0
-NoneHolds [] = Unit {0}
-NoneHolds (r ∷ rs) = (r.1 ≡ false) × NoneHolds rs
-
-pub none_holds : (rs : List Condition) → first_of rs ≡ None → NoneHolds rs
-none_holds [] e = tt
-none_holds (r ∷ rs) e =
-    elim r.1 as (λ b. cond b (Some r.0) (first_of rs) ≡ None → (b ≡ false) × NoneHolds rs) [ true ↦ λ d. absurd cc | false ↦ λ d. (refl, none_holds rs d) ] e
 
 -- what the two conditions of space say where neither holds
 record Fits (m : Machine) (c : Command) : Type 0 where

@@ -73,6 +73,15 @@ pub not_first : (b : Bool) (r : Refusal) (rest : Option Refusal) → cond b (Som
 not_first true r rest e = cc
 not_first false r rest e = (refl, e)
 
+-- the conditions whose refusals didn't come
+abbrev pub NoneHolds : List Condition → Type 0
+NoneHolds [] = Unit
+NoneHolds (c ∷ cs) = (c.1 ≡ false) × NoneHolds cs
+
+pub none_holds : (cs : List Condition) → first_of cs ≡ None → NoneHolds cs
+none_holds [] none = tt
+none_holds (c ∷ cs) none = let first : (c.1 ≡ false) × (first_of cs ≡ None) = not_first c.1 c.0 (first_of cs) none in (first.0, none_holds cs first.1)
+
 first_in_halves : (rs ss : List Condition) → first_of (rs ++ ss) ≡ option_or (first_of rs) (first_of ss)
 first_in_halves [] ss = refl
 first_in_halves (c ∷ rs) ss = elim c.1 as (λ b. cond b (Some c.0) (first_of (rs ++ ss)) ≡ option_or (cond b (Some c.0) (first_of rs)) (first_of ss)) [

@@ -1,12 +1,9 @@
 -- Levels, and which ranges hold a cell.
 use Rattle.std.proofs.Common.{◌⊎◌, ◌≡◌, ℕ, zero, suc, ◌+◌, ◌-◌, ◌/◌, ◌^◌, ◌<◌, ◌≤◌, Bool, true, false, cond, ◌||◌, nat_lt, nat_le, nat_eq, List, [], ◌∷◌, map, inl, inr, ⊎_elim, refl, sym, ap, subst, ◌∙◌, arith, add-one}
-use Rattle.std.specs.List.{prefix_len, range_with_len, list_any, AllByRecursion}
-use Rattle.std.specs.Ordering.{eq_by_cmp, is_eq}
-use Rattle.std.specs.Cmp.{Equal-is, tied_itself}
+use Rattle.std.specs.List.{prefix_len, range_with_len, AllByRecursion}
 use Rattle.std.proofs.Math.Nat.{pow-suc, pow-le-pow_right, div-div-eq-div-mul}
 use Rattle.std.proofs.lemmas.Bool.Decides.{nat_tests}
-use Rattle.fv_model.specs.Trees.{fan, Spot, spot_cmp, least_levels, levels_with, spots_over, spots_grown, holds_one}
-use Rattle.fv_laws.proofs.Orders.{spot_total, spot_ties}
+use Rattle.fv_model.specs.Trees.{fan, Spot, least_levels, levels_with, spots_over, spots_grown, holds_one}
 use Rattle.fv_laws.proofs.Lists.{In, in_map, from_map, in_range, from_range}
 
 -- ---- numbers of ranges
@@ -121,17 +118,3 @@ unfolding spots_grown
 is_grown false before after p e low high at = absurd cc
 is_grown true before after p e low high at =
     subst (λ (s : Spot). In s (map (λ (k : ℕ). (k, 0)) (range_with_len (before + 1) (after - before)))) (λ j. (p.0, sym at j)) (in_map (λ (k : ℕ). (k, 0)) p.0 (range_with_len (before + 1) (after - before)) (in_range (before + 1) (after - before) p.0 (omega arith) (omega arith)))
-
--- ---- tests of membership
-pub any_in : (q : Spot) (ps : List Spot) → list_any (eq_by_cmp spot_cmp q) ps ≡ true → In q ps
-any_in q [] e = absurd cc
-any_in q (p ∷ ps) e =
-    elim (eq_by_cmp spot_cmp q p) as (λ b. eq_by_cmp spot_cmp q p ≡ b → (b || list_any (eq_by_cmp spot_cmp q) ps) ≡ true → (p ≡ q) ⊎ In q ps) [
-      | true ↦ λ d h. inl (sym (spot_ties q p ((Equal-is (spot_cmp q p)).0 d)))
-      | false ↦ λ d h. inr (any_in q ps h)
-    ] refl e
-
-pub in_any : (q : Spot) (ps : List Spot) → In q ps → list_any (eq_by_cmp spot_cmp q) ps ≡ true
-in_any q [] h = absurd h
-in_any q (p ∷ ps) (inl e) = ap (λ (s : Spot). eq_by_cmp spot_cmp q s || list_any (eq_by_cmp spot_cmp q) ps) e ∙ ap (λ r. is_eq r || list_any (eq_by_cmp spot_cmp q) ps) (tied_itself spot_total q)
-in_any q (p ∷ ps) (inr h) = ap (λ b. eq_by_cmp spot_cmp q p || b) (in_any q ps h) ∙ or_right _

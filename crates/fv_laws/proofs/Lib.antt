@@ -23,3 +23,5 @@ pub mod Bases
 pub mod WellFormed
 pub mod Sound
 pub mod Releases
+pub mod Counts
+pub mod Paths

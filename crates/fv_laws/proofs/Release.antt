@@ -59,7 +59,7 @@ module _ {K X : Type 0} (R : K → K → Ordering) where
         | Greater ↦ λ none. either (p e.1) (list_any p (map (λ e. e.1) es)) _ (λ here. rw here refl) (λ later. rw (no_less p k v es none later) (or_true (p e.1))) one
       ] none
 
-  no_entries : fin.entries (fin.empty {K = K} {X = X} {R = R}) ≡ []
+  pub no_entries : fin.entries (fin.empty {K = K} {X = X} {R = R}) ≡ []
   no_entries = no_length _ (sym (fin.len-entries (fin.empty {K = K} {X = X} {R = R})) ∙ fin.len-empty R X)
 
 module _ {K X : Type 0} {R : K → K → Ordering} (o : IsTotalOrder R) (same : fin.IsAntisymmetric R) where

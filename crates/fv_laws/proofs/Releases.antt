@@ -14,7 +14,8 @@ use Rattle.fv_laws.proofs.Changes.{by_next, volume_of}
 use Rattle.fv_laws.proofs.Maps.{sum-remove-le}
 use Rattle.fv_laws.proofs.Commits.{commit_at, HasBudgetOf, commits_put, less_commit}
 use Rattle.fv_laws.proofs.Release.{use_without_snapshot, use_once_split, use_once_clean}
-use Rattle.fv_laws.proofs.Admission.{NoneHolds, none_holds, splits}
+use Rattle.fv_laws.proofs.Halves.{NoneHolds, none_holds}
+use Rattle.fv_laws.proofs.Admission.{splits}
 use Rattle.fv_laws.proofs.Bases.{here_or_old, not_gone}
 
 same : (m : Machine) → RaisesNothing m m

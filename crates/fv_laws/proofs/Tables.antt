@@ -1,45 +1,28 @@
 -- The four changes of a table leave a well-formed one.
-use Rattle.std.proofs.Common.{◌⊎◌, ◌≡◌, ℕ, ◌+◌, ◌-◌, ◌<◌, ◌≤◌, max, Bool, true, false, cond, ◌||◌, nat_lt, nat_le, List, [], ◌∷◌, find, length, map, filter, Option, Some, None, is_some, inl, inr, ⊎_elim, refl, sym, ap, subst, ◌∙◌, arith}
-use Rattle.std.specs.List.{list_any, AllByRecursion}
+use Rattle.std.proofs.Common.{◌⊎◌, ◌≡◌, ℕ, ◌+◌, ◌-◌, ◌<◌, ◌≤◌, max, Bool, true, false, cond, nat_lt, nat_le, List, [], ◌∷◌, find, length, map, filter, Option, Some, None, is_some, inl, inr, ⊎_elim, refl, sym, ap, subst, ◌∙◌, arith}
+use Rattle.std.specs.List.{AllByRecursion}
 use Rattle.std.specs.Ordering.{nat_cmp, eq_by_cmp, is_eq}
 use Rattle.std.specs.Cmp.{Equal-is, tied_itself, nat_cmp_total}
 use Rattle.std.specs.FinMap as fin
 use Rattle.std.proofs.lemmas.Bool.Decides.{nat_tests}
-use Rattle.fv_model.specs.Numbers.{most_files}
+use Rattle.fv_model.specs.Numbers.{is_reserve, is_index, most_files}
 use Rattle.fv_model.specs.Spelling.{is_same_name}
 use Rattle.fv_model.specs.Trees.{least_levels, written}
 use Rattle.fv_model.specs.Tables.{File, Table, empty_table, inode_cell, free_number, file_named, file_put, file_cut, new, put, cut, rm}
 use Rattle.fv_laws.specs.WellFormed.{IsTree, IsWellFile, IsWellTable}
 use Rattle.fv_laws.proofs.Changes.{itself}
-use Rattle.fv_laws.proofs.Lists.{In, in_map, from_map}
+use Rattle.fv_laws.proofs.Lists.{any_in, in_any, In, in_map, from_map}
 use Rattle.fv_laws.proofs.Levels.{all_in, in_all}
 use Rattle.fv_laws.proofs.Reserve.{among}
 use Rattle.fv_laws.proofs.Trees.{Adds, empty_tree, later_tree, written_tree, erased_tree}
 
 -- ---- keys of maps by number
-or_right : (a : Bool) → (a || true) ≡ true
-or_right true = refl
-or_right false = refl
-
-any_in : (q : ℕ) (ks : List ℕ) → list_any (eq_by_cmp nat_cmp q) ks ≡ true → In q ks
-any_in q [] e = absurd cc
-any_in q (k ∷ ks) e =
-    elim (eq_by_cmp nat_cmp q k) as (λ b. eq_by_cmp nat_cmp q k ≡ b → (b || list_any (eq_by_cmp nat_cmp q) ks) ≡ true → (k ≡ q) ⊎ In q ks) [
-      | true ↦ λ d h. inl (sym (fin.nat_cmp-IsAntisymmetric q k ((Equal-is (nat_cmp q k)).0 d)))
-      | false ↦ λ d h. inr (any_in q ks h)
-    ] refl e
-
-in_any : (q : ℕ) (ks : List ℕ) → In q ks → list_any (eq_by_cmp nat_cmp q) ks ≡ true
-in_any q [] h = absurd h
-in_any q (k ∷ ks) (inl e) = ap (λ (s : ℕ). eq_by_cmp nat_cmp q s || list_any (eq_by_cmp nat_cmp q) ks) e ∙ ap (λ r. is_eq r || list_any (eq_by_cmp nat_cmp q) ks) (tied_itself nat_cmp_total q)
-in_any q (k ∷ ks) (inr h) = ap (λ b. eq_by_cmp nat_cmp q k || b) (in_any q ks h) ∙ or_right _
-
 module _ {X : Type 0} where
   pub key_there : (m : fin.FinMap nat_cmp X) (j : ℕ) → In j (fin.keys m) → is_some (fin.get m j) ≡ true
-  key_there m j h = fin.contains_key-keys m j ∙ in_any j (fin.keys m) h
+  key_there m j h = fin.contains_key-keys m j ∙ in_any nat_cmp_total j (fin.keys m) h
 
   pub there_key : (m : fin.FinMap nat_cmp X) (j : ℕ) → is_some (fin.get m j) ≡ true → In j (fin.keys m)
-  there_key m j h = any_in j (fin.keys m) (sym (fin.contains_key-keys m j) ∙ h)
+  there_key m j h = any_in fin.nat_cmp-IsAntisymmetric j (fin.keys m) (sym (fin.contains_key-keys m j) ∙ h)
 
   newer : (b : Bool) (v : X) (o : Option X) → is_some o ≡ true → is_some (cond b (Some v) o) ≡ true
   newer true v o e = refl
@@ -80,7 +63,7 @@ adds_map g i xs ys adds = record {
 
 -- ---- files
 pub later_file : (now later : ℕ) (f : File) → now ≤ later → IsWellFile now f → IsWellFile later f
-later_file now later f le is = record { tree = later_tree now later (least_levels f.reserve) (fin.keys f.blocks) f.tree le is.tree; length = is.length }
+later_file now later f le is = record { reserve = is.reserve; range = is.range; tree = later_tree now later (least_levels f.reserve) (fin.keys f.blocks) f.tree le is.tree; length = is.length }
 
 no_keys : fin.keys (fin.empty {K = ℕ} {X = List ℕ} {R = nat_cmp}) ≡ []
 no_keys = ap (map (λ (e : ℕ × List ℕ). e.0)) (none _ (sym (fin.len-entries (fin.empty {K = ℕ} {X = List ℕ} {R = nat_cmp})) ∙ fin.len-empty nat_cmp (List ℕ)))
@@ -89,14 +72,24 @@ no_keys = ap (map (λ (e : ℕ × List ℕ). e.0)) (none _ (sym (fin.len-entries
     none [] e = refl
     none (x ∷ es) e = absurd (omega arith)
 
-new_file : (now : ℕ) (name : List ℕ) (reserve : ℕ) → IsWellFile now (record { name = name; length = 0; reserve = reserve; blocks = fin.empty; tree = record { levels = least_levels reserve; stamps = fin.empty } })
-new_file now name reserve = record {
+new_file : (now : ℕ) (name : List ℕ) (reserve : ℕ) → is_reserve reserve ≡ true → IsWellFile now (record { name = name; length = 0; reserve = reserve; blocks = fin.empty; tree = record { levels = least_levels reserve; stamps = fin.empty } })
+new_file now name reserve small = record {
+  reserve = small;
+  range = refl;
   tree = subst (λ (ks : List ℕ). IsTree now (least_levels reserve) ks (record { levels = least_levels reserve; stamps = fin.empty })) (sym no_keys) (empty_tree now (least_levels reserve));
   length = subst (λ (ks : List ℕ). AllByRecursion (λ i. i < 0) ks) (sym no_keys) tt;
 }
 
-put_file : (now s : ℕ) (f : File) (i : ℕ) (block : List ℕ) → now ≤ s → IsWellFile now f → IsWellFile s (file_put f i block s)
-put_file now s f i block le is = record {
+longer : (length i : ℕ) → is_reserve length ≡ true → is_index i ≡ true → is_reserve (max length (i + 1)) ≡ true
+longer length i small within = let a : length ≤ 2097152 = grind (arith, nat_tests) in let b : i ≤ 2097151 = grind (arith, nat_tests) in fits (max length (i + 1)) (omega arith)
+  where
+    fits : (n : ℕ) → n ≤ 2097152 → nat_le n 2097152 ≡ true
+    fits n le = grind (arith, nat_tests)
+
+put_file : (now s : ℕ) (f : File) (i : ℕ) (block : List ℕ) → is_index i ≡ true → now ≤ s → IsWellFile now f → IsWellFile s (file_put f i block s)
+put_file now s f i block within le is = record {
+  reserve = is.reserve;
+  range = longer f.length i is.range within;
   tree = written_tree now (least_levels f.reserve) (fin.keys f.blocks) (fin.keys (fin.insert f.blocks i block)) f.tree i s is.tree (put_adds f.blocks i block) le;
   length = in_all (λ j. j < max f.length (i + 1)) (fin.keys (fin.insert f.blocks i block)) (λ j h. ⊎_elim
       (λ same. omega (arith, same))
@@ -104,8 +97,10 @@ put_file now s f i block le is = record {
       ((put_adds f.blocks i block).only j h));
 }
 
-cut_file : (now s : ℕ) (f : File) (length : ℕ) → now ≤ s → IsWellFile now f → IsWellFile s (file_cut f length s)
-cut_file now s f length le is = record {
+cut_file : (now s : ℕ) (f : File) (length : ℕ) → is_reserve length ≡ true → now ≤ s → IsWellFile now f → IsWellFile s (file_cut f length s)
+cut_file now s f length small le is = record {
+  reserve = is.reserve;
+  range = small;
   tree = erased_tree now (least_levels f.reserve) (fin.keys f.blocks) (fin.keys (fin.retain_keys f.blocks (λ i. nat_lt i length))) (filter (λ i. nat_le length i) (fin.keys f.blocks)) f.tree s is.tree (λ j h. (kept_key f.blocks (λ i. nat_lt i length) j h).1) le;
   length = in_all (λ j. j < length) (fin.keys (fin.retain_keys f.blocks (λ i. nat_lt i length))) (λ j h. let below : nat_lt j length ≡ true = (kept_key f.blocks (λ i. nat_lt i length) j h).0 in grind (arith, nat_tests));
 }
@@ -158,17 +153,17 @@ same_count t n f g e = fin.len-insert nat_cmp_total t.files n g ∙ ap (λ (o : 
 own_name : (now : ℕ) (t : Table) (n : ℕ) (f : File) → IsWellTable now t → fin.get t.files n ≡ Some f → Fits t.files n f.name
 own_name now t n f is e = record { alone = λ k h d same. is.names k n h f d e same }
 
-pub put_well : (now s : ℕ) (t : Table) (n : ℕ) (f : File) (i : ℕ) (block : List ℕ) → now ≤ s → IsWellTable now t → fin.get t.files n ≡ Some f → IsWellTable s (put t n f i block s)
+pub put_well : (now s : ℕ) (t : Table) (n : ℕ) (f : File) (i : ℕ) (block : List ℕ) → is_index i ≡ true → now ≤ s → IsWellTable now t → fin.get t.files n ≡ Some f → IsWellTable s (put t n f i block s)
 unfolding put
-put_well now s t n f i block le is e =
+put_well now s t n f i block within le is e =
     let few : fin.len t.files ≤ most_files = is.count in let same = same_count t n f (file_put f i block s) e in
-    put_table now s t n (file_put f i block s) le is (put_file now s f i block le (is.files n f e)) (own_name now t n f is e) (subst (λ c. c ≤ most_files) (sym same) few)
+    put_table now s t n (file_put f i block s) le is (put_file now s f i block within le (is.files n f e)) (own_name now t n f is e) (subst (λ c. c ≤ most_files) (sym same) few)
 
-pub cut_well : (now s : ℕ) (t : Table) (n : ℕ) (f : File) (length : ℕ) → now ≤ s → IsWellTable now t → fin.get t.files n ≡ Some f → IsWellTable s (cut t n f length s)
+pub cut_well : (now s : ℕ) (t : Table) (n : ℕ) (f : File) (length : ℕ) → is_reserve length ≡ true → now ≤ s → IsWellTable now t → fin.get t.files n ≡ Some f → IsWellTable s (cut t n f length s)
 unfolding cut
-cut_well now s t n f length le is e =
+cut_well now s t n f length small le is e =
     let few : fin.len t.files ≤ most_files = is.count in let same = same_count t n f (file_cut f length s) e in
-    put_table now s t n (file_cut f length s) le is (cut_file now s f length le (is.files n f e)) (own_name now t n f is e) (subst (λ c. c ≤ most_files) (sym same) few)
+    put_table now s t n (file_cut f length s) le is (cut_file now s f length small le (is.files n f e)) (own_name now t n f is e) (subst (λ c. c ≤ most_files) (sym same) few)
 
 at_most_one : (b : Bool) (n : ℕ) → cond b n (n + 1) ≤ n + 1
 at_most_one true n = omega arith
@@ -183,13 +178,13 @@ not_found test (y ∷ xs) e x h =
       | false ↦ λ d f. ⊎_elim (λ same. ap test (sym same) ∙ d) (λ there. not_found test xs f x there) h
     ] refl e
 
-pub new_well : (now s : ℕ) (t : Table) (name : List ℕ) (reserve : ℕ) → now ≤ s → IsWellTable now t → file_named t name ≡ None → fin.len t.files < most_files → IsWellTable s (new t name reserve s)
+pub new_well : (now s : ℕ) (t : Table) (name : List ℕ) (reserve : ℕ) → is_reserve reserve ≡ true → now ≤ s → IsWellTable now t → file_named t name ≡ None → fin.len t.files < most_files → IsWellTable s (new t name reserve s)
 unfolding new
-new_well now s t name reserve le is free few =
+new_well now s t name reserve small le is free few =
     let n = free_number t in
     let file : File = record { name = name; length = 0; reserve = reserve; blocks = fin.empty; tree = record { levels = least_levels reserve; stamps = fin.empty } } in
     let count : fin.len (fin.insert t.files n file) ≤ fin.len t.files + 1 = subst (λ c. c ≤ fin.len t.files + 1) (sym (fin.len-insert nat_cmp_total t.files n file)) (at_most_one (fin.contains_key t.files n) (fin.len t.files)) in
-    put_table now s t n file le is (new_file s name reserve)
+    put_table now s t n file le is (new_file s name reserve small)
     (record { alone = λ k f e same. absurd (taken k f e same) })
     (omega (arith, count, few))
   where

@@ -9,8 +9,8 @@ use Rattle.std.proofs.lemmas.Bool.Decides.{nat_tests}
 use Rattle.fv_model.specs.Trees.{fan, Spot, spot_cmp, Tree, levels_with, spots_over, spots_grown, holds_one, stamp_spots, written, written_spots, erased}
 use Rattle.fv_laws.specs.WellFormed.{IsTree}
 use Rattle.fv_laws.proofs.Orders.{spot_total, spot_ties}
-use Rattle.fv_laws.proofs.Lists.{In, in_left, in_right, in_either, in_filter, from_filter, in_flat_map, from_flat_map}
-use Rattle.fv_laws.proofs.Levels.{wider, up, with_reaches, with_grows, from_holds, holds, all_in, in_all, over, is_over, grown, is_grown, any_in, in_any}
+use Rattle.fv_laws.proofs.Lists.{any_in, in_any, In, in_left, in_right, in_either, in_filter, from_filter, in_flat_map, from_flat_map}
+use Rattle.fv_laws.proofs.Levels.{wider, up, with_reaches, with_grows, from_holds, holds, all_in, in_all, over, is_over, grown, is_grown}
 use Rattle.fv_laws.proofs.Room.{entry_there}
 use Rattle.fv_laws.proofs.Stamps.{get-stamp_spots}
 
@@ -133,7 +133,7 @@ module _ (now start : ℕ) (cells after : List ℕ) (t : Tree) (i s : ℕ) (is :
       (in_either p (spots_over levels i) (spots_grown any t.levels levels) h)
 
   forward : (p : Spot) (b : Bool) → stamped p ≡ b → is_some (cond b (Some s) (fin.get t.stamps p)) ≡ true → (nat_le p.0 levels && holds_one after p) ≡ true
-  forward p true e h = let there = held p (any_in p spots e) in let low : p.0 ≤ levels = there.0 in both_true _ _ (let yes : nat_le p.0 levels ≡ true = grind (arith, nat_tests) in yes) there.1
+  forward p true e h = let there = held p (any_in spot_ties p spots e) in let low : p.0 ≤ levels = there.0 in both_true _ _ (let yes : nat_le p.0 levels ≡ true = grind (arith, nat_tests) in yes) there.1
   forward p false e h =
       let low = low_spot now start cells t is p h in
       let cell = cell_under now start cells t is p h in
@@ -142,13 +142,13 @@ module _ (now start : ℕ) (cells after : List ℕ) (t : Tree) (i s : ℕ) (is :
       both_true _ _ (let yes : nat_le p.0 levels ≡ true = grind (arith, nat_tests) in yes) (holds after p cell.0 (adds.old cell.0 cell.1) cell.2)
 
   at_cell : (p : Spot) (j : ℕ) → p.0 ≤ levels → j / fan ^ p.0 ≡ p.1 → (j ≡ i) ⊎ In j cells → is_some (cond (stamped p) (Some s) (fin.get t.stamps p)) ≡ true
-  at_cell p j low e (inl same) = new_some (stamped p) s _ (in_any p spots (in_left p (spots_over levels i) (spots_grown any t.levels levels) (is_over levels i p low (ap (λ n. n / fan ^ p.0) (sym same) ∙ e))))
+  at_cell p j low e (inl same) = new_some (stamped p) s _ (in_any spot_total p spots (in_left p (spots_over levels i) (spots_grown any t.levels levels) (is_over levels i p low (ap (λ n. n / fan ^ p.0) (sym same) ∙ e))))
   at_cell p j low e (inr there) =
       elim (nat_le p.0 t.levels) as (λ b. nat_le p.0 t.levels ≡ b → is_some (cond (stamped p) (Some s) (fin.get t.stamps p)) ≡ true) [
         | true ↦ λ d. old_some (stamped p) s _ (stands_there now start cells t is p j there e (grind (arith, nat_tests)))
         | false ↦ λ d.
             let past : t.levels < p.0 = grind (arith, nat_tests) in
-            new_some (stamped p) s _ (in_any p spots (in_right p (spots_over levels i) (spots_grown any t.levels levels) (is_grown any t.levels levels p (any_stamp now start cells t is j there) past low (sym e ∙ far now start cells t is j p.0 there past))))
+            new_some (stamped p) s _ (in_any spot_total p spots (in_right p (spots_over levels i) (spots_grown any t.levels levels) (is_grown any t.levels levels p (any_stamp now start cells t is j there) past low (sym e ∙ far now start cells t is j p.0 there past))))
       ] refl
 
   backward : (p : Spot) → (nat_le p.0 levels && holds_one after p) ≡ true → is_some (cond (stamped p) (Some s) (fin.get t.stamps p)) ≡ true
@@ -177,7 +177,7 @@ module _ (now start : ℕ) (cells after : List ℕ) (t : Tree) (i s : ℕ) (is :
   rise k j a u b true e d f g = let most = at_most b (k, j) a f in let same : s ≡ u = cc in omega (arith, most, same)
   rise k j a u false false e d f g = is.rises k j a u f g
   rise k j a u true false e d f g =
-      let yes = in_any (k + 1, j / fan) spots (above k j (any_in (k, j) spots e) (ap is_some g)) in
+      let yes = in_any spot_total (k + 1, j / fan) spots (above k j (any_in spot_ties (k, j) spots e) (ap is_some g)) in
       let wrong : false ≡ true = sym d ∙ yes in absurd cc
 
   pub written_tree : IsTree s start after (written s i t)
@@ -224,7 +224,7 @@ module _ (now start : ℕ) (cells left gone : List ℕ) (t : Tree) (s : ℕ) (is
   is_held false o u e = absurd cc
 
   what_stands : (p : Spot) (b : Bool) → marked p ≡ b → is_some (cond b (Some s) (cond (holds_one left p) (fin.get t.stamps p) None)) ≡ true → (p.0 ≤ t.levels) × (holds_one left p ≡ true)
-  what_stands p true e h = let there = on_path p (any_in p marks e) in ((over t.levels there.1.0 p there.1.2).0, there.0)
+  what_stands p true e h = let there = on_path p (any_in spot_ties p marks e) in ((over t.levels there.1.0 p there.1.2).0, there.0)
   what_stands p false e h = let there = if_held (holds_one left p) (fin.get t.stamps p) h in (low_spot now start cells t is p there.1, there.0)
 
   stands_after : (p : Spot) → p.0 ≤ t.levels → holds_one left p ≡ true → is_some (cond (marked p) (Some s) (cond (holds_one left p) (fin.get t.stamps p) None)) ≡ true
@@ -271,7 +271,7 @@ module _ (now start : ℕ) (cells left gone : List ℕ) (t : Tree) (s : ℕ) (is
   rise_after k j a u true false e d f g =
       let there = is_held (holds_one left (k + 1, j / fan)) (fin.get t.stamps (k + 1, j / fan)) u g in
       let low = low_spot now start cells t is (k + 1, j / fan) (ap is_some there.1) in
-      let yes = in_any (k + 1, j / fan) marks (over_marked k j (any_in (k, j) marks e) there.0 low) in
+      let yes = in_any spot_total (k + 1, j / fan) marks (over_marked k j (any_in spot_ties (k, j) marks e) there.0 low) in
       let wrong : false ≡ true = sym d ∙ yes in absurd cc
 
   pub erased_tree : IsTree s start left (erased s start gone left t)

@@ -7,7 +7,7 @@ use Rattle.std.proofs.lemmas.Bool.Decides.{nat_tests}
 use Rattle.fv_model.specs.declared.commands.Kind.{Kind}
 use Rattle.fv_model.specs.declared.commands.Command.{Command}
 use Rattle.fv_model.specs.declared.commands.Command.TheVariants.{VolCreate, VolDestroy, VolResize, VolGuarantee, VolList, VolStat, New, Put, Get, Len, Cut, Remove, Ls, SnapCreate, SnapDelete, SnapRestore, SnapList, CloneCreate, SplitStart, SplitFinish, Mirror, Clean, Probe, Work, Cp}
-use Rattle.fv_model.specs.Numbers.{is_size, most_changes, most_files, most_snapshots, most_volumes, greatest_span}
+use Rattle.fv_model.specs.Numbers.{is_size, is_reserve, is_index, most_changes, most_files, most_snapshots, most_volumes, greatest_span}
 use Rattle.fv_model.specs.Spelling.{name_cmp}
 use Rattle.fv_model.specs.Tables.{Table, file_named, new, put, cut, rm}
 use Rattle.fv_model.specs.Places.{ids_of}
@@ -20,7 +20,7 @@ use Rattle.fv_model.specs.Runs.{Line, after}
 use Rattle.fv_laws.specs.WellFormed.{IsParent, IsWellTable, IsWellVolume, IsWell}
 use Rattle.fv_laws.proofs.Orders.{name_total}
 use Rattle.fv_laws.proofs.Changes.{along, by_next, volume_of, file_of, snapshot_of, differs}
-use Rattle.fv_laws.proofs.Admission.{NoneHolds, none_holds}
+use Rattle.fv_laws.proofs.Halves.{NoneHolds, none_holds}
 use Rattle.fv_laws.proofs.Room.{named_there}
 use Rattle.fv_laws.proofs.Tables.{new_well, put_well, cut_well, rm_well}
 use Rattle.fv_laws.proofs.Volumes.{empty_is_well, mirror_is_well, clone_is_well, clone_span, recast, resized, changed_table, restored, snapped, snapshot_gone, split_base, split_begun, split_ended}
@@ -87,25 +87,25 @@ module _ (m : Machine) (is : IsWell m) where
   change : (v : List ℕ) (x : Volume) (table : ℕ → Table) → fin.get m.volumes v ≡ Some x → of_volume m v (λ x. nat_le most_changes x.now) ≡ false → IsWellTable (x.now + 1) (table (x.now + 1)) → IsWell (changed m (Becomes v (stamped x table)))
   change v x table e few good = as_before m is v x (stamped x table) e (changed_table x (is.volumes v x e) table (few_changes v x e few) good) refl refl refl refl
 
-  new_in : (v f : List ℕ) (reserve : ℕ) → of_volume m v (λ x. is_some (file_named x.active f)) ≡ false → of_volume m v (λ x. nat_le most_files (fin.len x.active.files)) ≡ false → of_volume m v (λ x. nat_le most_changes x.now) ≡ false → IsWell (effect m (New v f reserve))
+  new_in : (v f : List ℕ) (reserve : ℕ) → not (is_reserve reserve) ≡ false → of_volume m v (λ x. is_some (file_named x.active f)) ≡ false → of_volume m v (λ x. nat_le most_files (fin.len x.active.files)) ≡ false → of_volume m v (λ x. nat_le most_changes x.now) ≡ false → IsWell (effect m (New v f reserve))
   unfolding change_of
-  new_in v f reserve free few changes = volume_of m v (λ x. Becomes v (stamped x (new x.active f reserve))) (λ c. IsWell (changed m c)) is (λ x e.
+  new_in v f reserve small free few changes = volume_of m v (λ x. Becomes v (stamped x (new x.active f reserve))) (λ c. IsWell (changed m c)) is (λ x e.
       change v x (new x.active f reserve) e changes
-      (new_well x.now (x.now + 1) x.active f reserve (omega arith) (is.volumes v x e).active
+      (new_well x.now (x.now + 1) x.active f reserve (twice_not (is_reserve reserve) small) (omega arith) (is.volumes v x e).active
       (nothing (file_named x.active f) (told m v x (λ x. is_some (file_named x.active f)) e free))
       (below most_files (fin.len x.active.files) (told m v x (λ x. nat_le most_files (fin.len x.active.files)) e few))))
 
-  put_in : (v f : List ℕ) (i : ℕ) (block : List ℕ) → of_volume m v (λ x. nat_le most_changes x.now) ≡ false → IsWell (effect m (Put v f i block))
+  put_in : (v f : List ℕ) (i : ℕ) (block : List ℕ) → not (is_index i) ≡ false → of_volume m v (λ x. nat_le most_changes x.now) ≡ false → IsWell (effect m (Put v f i block))
   unfolding change_of
-  put_in v f i block changes = volume_of m v (λ x. at_file x f (λ n file. Becomes v (stamped x (put x.active n file i block)))) (λ c. IsWell (changed m c)) is (λ x e.
+  put_in v f i block within changes = volume_of m v (λ x. at_file x f (λ n file. Becomes v (stamped x (put x.active n file i block)))) (λ c. IsWell (changed m c)) is (λ x e.
       file_of x f (λ n file. Becomes v (stamped x (put x.active n file i block))) (λ c. IsWell (changed m c)) is (λ n file d.
-      change v x (put x.active n file i block) e changes (put_well x.now (x.now + 1) x.active n file i block (omega arith) (is.volumes v x e).active (named_there x.active f n file d))))
+      change v x (put x.active n file i block) e changes (put_well x.now (x.now + 1) x.active n file i block (twice_not (is_index i) within) (omega arith) (is.volumes v x e).active (named_there x.active f n file d))))
 
-  cut_in : (v f : List ℕ) (length : ℕ) → of_volume m v (λ x. nat_le most_changes x.now) ≡ false → IsWell (effect m (Cut v f length))
+  cut_in : (v f : List ℕ) (length : ℕ) → not (is_reserve length) ≡ false → of_volume m v (λ x. nat_le most_changes x.now) ≡ false → IsWell (effect m (Cut v f length))
   unfolding change_of
-  cut_in v f length changes = volume_of m v (λ x. at_file x f (λ n file. Becomes v (stamped x (cut x.active n file length)))) (λ c. IsWell (changed m c)) is (λ x e.
+  cut_in v f length small changes = volume_of m v (λ x. at_file x f (λ n file. Becomes v (stamped x (cut x.active n file length)))) (λ c. IsWell (changed m c)) is (λ x e.
       file_of x f (λ n file. Becomes v (stamped x (cut x.active n file length))) (λ c. IsWell (changed m c)) is (λ n file d.
-      change v x (cut x.active n file length) e changes (cut_well x.now (x.now + 1) x.active n file length (omega arith) (is.volumes v x e).active (named_there x.active f n file d))))
+      change v x (cut x.active n file length) e changes (cut_well x.now (x.now + 1) x.active n file length (twice_not (is_reserve length) small) (omega arith) (is.volumes v x e).active (named_there x.active f n file d))))
 
   remove_in : (v f : List ℕ) → of_volume m v (λ x. nat_le most_changes x.now) ≡ false → IsWell (effect m (Remove v f))
   unfolding change_of
@@ -206,9 +206,9 @@ well_effect m is (VolCreate v size kind) h = create m is v size kind h.0 h.1.0 h
 well_effect m is (VolDestroy v) h = gone_well m is v h.1.0
 well_effect m is (VolResize v size) h = resize m is v size h.1.1.0
 well_effect m is (VolGuarantee v kind) h = guarantee m is v kind
-well_effect m is (New v f reserve) h = new_in m is v f reserve h.1.1.0 (neither _ _ h.1.1.1.1.0).0 (neither _ _ h.1.1.1.1.0).1
-well_effect m is (Put v f i block) h = put_in m is v f i block h.1.1.1.0
-well_effect m is (Cut v f length) h = cut_in m is v f length h.1.1.1.1.0
+well_effect m is (New v f reserve) h = new_in m is v f reserve h.0 h.1.1.0 (neither _ _ h.1.1.1.1.0).0 (neither _ _ h.1.1.1.1.0).1
+well_effect m is (Put v f i block) h = put_in m is v f i block h.0 h.1.1.1.0
+well_effect m is (Cut v f length) h = cut_in m is v f length h.0 h.1.1.1.1.0
 well_effect m is (Remove v f) h = remove_in m is v f h.1.1.0
 well_effect m is (SnapCreate v s) h = keep m is v s h.1.0 h.1.1.0
 well_effect m is (SnapDelete v s) h = forget m is v s h.1.1.0

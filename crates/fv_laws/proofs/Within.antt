@@ -20,6 +20,9 @@ use Rattle.fv_laws.proofs.Orders.{name_total, name_ties}
 use Rattle.fv_laws.proofs.Halves.{accepted, not_first}
 use Rattle.fv_laws.proofs.Release.{use_without_snapshot, use_once_split, use_once_clean, use_when_empty}
 
+abbrev AllFit : Machine → Type 0
+AllFit m = (name : List ℕ) (v : Volume) → fin.get m.volumes name ≡ Some v → use_of v ≤ v.size
+
 -- a change is of a name where it touches no other volume
 abbrev IsOf : List ℕ → Change → Type 0
 IsOf name Stays = Unit
@@ -48,7 +51,7 @@ abbrev Fits : Machine → List ℕ → Type 0
 Fits m name = (v : Volume) → fin.get m.volumes name ≡ Some v → use_of v ≤ v.size
 
 -- so it is the volume of that name that has to be looked at
-one_within : (m : Machine) (name : List ℕ) (c : Change) → IsOf name c → IsWithin m → Fits (changed m c) name → IsWithin (changed m c)
+one_within : (m : Machine) (name : List ℕ) (c : Change) → IsOf name c → AllFit m → Fits (changed m c) name → AllFit (changed m c)
 one_within m name c of was fits q v there =
     elim (eq_by_cmp name_cmp q name) as (λ b. eq_by_cmp name_cmp q name ≡ b → use_of v ≤ v.size) [
       | true ↦ λ tie. fits v (ap (fin.get (changed m c).volumes) (sym (name_ties q name ((Equal-is (name_cmp q name)).0 tie))) ∙ there)
@@ -65,23 +68,23 @@ tested m name test b e v there = sym (ap (λ (o : Option Volume). option_map_or 
 not_full : (m : Machine) (name : List ℕ) → is_volume_full m name ≡ false → Fits m name
 not_full m name e v there = not_more v.size (use_of v) (tested m name (λ x. nat_lt x.size (use_of x)) false e v there)
 
-by_space : (m : Machine) (c : Command) (name : List ℕ) → IsOf name (change_of m c) → IsWithin m → is_volume_full (effect m c) name ≡ false → IsWithin (effect m c)
+by_space : (m : Machine) (c : Command) (name : List ℕ) → IsOf name (change_of m c) → AllFit m → is_volume_full (effect m c) name ≡ false → AllFit (effect m c)
 by_space m c name of was e = one_within m name (change_of m c) of was (not_full (effect m c) name e)
 
 same_volume : (x y : Volume) → Some x ≡ Some y → x ≡ y
 same_volume x y e = ap (λ (o : Option Volume). unwrap_or o x) e
 
-becomes : (m : Machine) (name : List ℕ) (x : Volume) → IsWithin m → use_of x ≤ x.size → IsWithin (changed m (Becomes name x))
+becomes : (m : Machine) (name : List ℕ) (x : Volume) → AllFit m → use_of x ≤ x.size → AllFit (changed m (Becomes name x))
 becomes m name x was fits = one_within m name (Becomes name x) refl was (λ v there.
     subst (λ (y : Volume). use_of y ≤ y.size) (same_volume x v (sym (fin.get-insert name_total m.volumes name x name ∙ ap (λ r. cond (is_eq r) (Some x) (fin.get m.volumes name)) (tied_itself name_total name)) ∙ there)) fits)
 
-goes : (m : Machine) (name : List ℕ) → IsWithin m → IsWithin (changed m (Goes name))
+goes : (m : Machine) (name : List ℕ) → AllFit m → AllFit (changed m (Goes name))
 goes m name was = one_within m name (Goes name) refl was (λ v there.
     let none : None ≡ Some v = sym (fin.get-remove name_total m.volumes name name ∙ ap (λ r. cond (is_eq r) None (fin.get m.volumes name)) (tied_itself name_total name)) ∙ there in cc)
 
-by_less : (m : Machine) (name : List ℕ) (f : Volume → Volume) → IsWithin m → ((x : Volume) → fin.get m.volumes name ≡ Some x → use_of (f x) ≤ (f x).size) → IsWithin (changed m (at_volume m name (λ x. Becomes name (f x))))
+by_less : (m : Machine) (name : List ℕ) (f : Volume → Volume) → AllFit m → ((x : Volume) → fin.get m.volumes name ≡ Some x → use_of (f x) ≤ (f x).size) → AllFit (changed m (at_volume m name (λ x. Becomes name (f x))))
 by_less m name f was fits =
-    elim (fin.get m.volumes name) as (λ o. fin.get m.volumes name ≡ o → IsWithin (changed m (option_map_or (λ x. Becomes name (f x)) o Stays))) [
+    elim (fin.get m.volumes name) as (λ o. fin.get m.volumes name ≡ o → AllFit (changed m (option_map_or (λ x. Becomes name (f x)) o Stays))) [
       | None ↦ λ there. was
       | Some x ↦ λ there. becomes m name (f x) was (fits x there)
     ] refl
@@ -96,7 +99,7 @@ splits false e = cc
 abbrev Accepted : Machine → Command → Type 0
 Accepted m c = (first_of (before_space m c) ≡ None) × (first_of (for_space m c) ≡ None)
 
-kept : (m : Machine) (c : Command) → IsWithin m → Accepted m c → IsWithin (effect m c)
+kept : (m : Machine) (c : Command) → AllFit m → Accepted m c → AllFit (effect m c)
 unfolding conditions change_of
 kept m (VolCreate v size kind) was ok = becomes m v (empty_volume size kind) was (at_most _ 0 size (subst (λ (n : ℕ). n ≤ 0) (sym (use_when_empty size kind)) (omega arith)) (omega arith))
 kept m (VolDestroy v) was ok = goes m v was
@@ -126,7 +129,7 @@ kept m (Work n) was ok = was
 kept m Cp was ok = was
 
 pub effect_within : (m : Machine) (c : Command) → IsWithin m → refusal m c ≡ None → IsWithin (effect m c)
-effect_within m c was ok = kept m c was (accepted m c ok)
+effect_within m c was ok = record { volumes = kept m c was.volumes (accepted m c ok) }
 
 pub next_within : (m : Machine) (c : Command) → IsWithin m → IsWithin (next m c)
 next_within m c was =
@@ -136,4 +139,4 @@ next_within m c was =
     ] refl
 
 pub empty_within : (blocks : ℕ) → IsWithin (empty_machine blocks)
-empty_within blocks name v there = let none : None ≡ Some v = sym (fin.get-empty name_cmp name) ∙ there in cc
+empty_within blocks = record { volumes = λ name v there. let none : None ≡ Some v = sym (fin.get-empty name_cmp name) ∙ there in cc }

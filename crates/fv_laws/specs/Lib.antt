@@ -5,3 +5,4 @@ pub mod Guarantee
 pub mod Reserve
 pub mod WellFormed
 pub mod Releases
+pub mod Paths

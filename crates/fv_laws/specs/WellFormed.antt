@@ -4,7 +4,7 @@ use Rattle.std.specs.List.{AllByRecursion}
 use Rattle.std.specs.Option.{is_some}
 use Rattle.std.specs.FinMap as fin
 use Rattle.std.specs.FinSet as set
-use Rattle.fv_model.specs.Numbers.{most_volumes, most_snapshots, most_files, most_changes, greatest_span}
+use Rattle.fv_model.specs.Numbers.{is_reserve, most_volumes, most_snapshots, most_files, most_changes, greatest_span}
 use Rattle.fv_model.specs.Trees.{fan, Spot, Tree, least_levels, holds_one}
 use Rattle.fv_model.specs.Tables.{File, Table, inode_cell}
 use Rattle.fv_model.specs.Volumes.{Base, Volume}
@@ -25,6 +25,9 @@ pub record IsTree (now start : ℕ) (cells : List ℕ) (t : Tree) : Type 0 where
   pub rises : (k i s u : ℕ) → fin.get t.stamps (k, i) ≡ Some s → fin.get t.stamps (k + 1, i / fan) ≡ Some u → s ≤ u
 
 pub record IsWellFile (now : ℕ) (f : File) : Type 0 where
+  -- the reserve and the length are in their range
+  pub reserve : is_reserve f.reserve ≡ true
+  pub range : is_reserve f.length ≡ true
   pub tree : IsTree now (least_levels f.reserve) (fin.keys f.blocks) f.tree
   -- the length is above each cell
   pub length : AllByRecursion (λ i. i < f.length) (fin.keys f.blocks)

@@ -6,5 +6,5 @@ use Rattle.fv_model.specs.Machines.{Machine}
 use Rattle.fv_model.specs.Space.{use_of}
 
 -- no volume uses more than its size
-abbrev pub IsWithin : Machine → Type 0
-IsWithin m = (name : List ℕ) (v : Volume) → fin.get m.volumes name ≡ Some v → use_of v ≤ v.size
+pub record IsWithin (m : Machine) : Type 0 where
+  pub volumes : (name : List ℕ) (v : Volume) → fin.get m.volumes name ≡ Some v → use_of v ≤ v.size

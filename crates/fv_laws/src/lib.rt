@@ -12,4 +12,7 @@ pub use laws::{
     always_admitted, home_alone_decides, others_stay, refused_by_charge_alone,
     releases_raise_nothing, reserves_hold, stays_well_formed,
 };
-pub use space::{no_volume_outgrows_its_size, space_is_tried_last, use_does_not_rise};
+pub use space::{
+    a_change_adds_its_path, charge_is_within_the_tables, ids_are_counted,
+    no_volume_outgrows_its_size, space_is_tried_last, use_does_not_rise,
+};

@@ -14,7 +14,7 @@ use Rattle.fv_model.specs.Tables.{File, Table}
 use Rattle.fv_model.specs.Places.{Place, Id, place_cmp, id_cmp, Stamps, stamps_of, ids, Ids, ids_of}
 use Rattle.fv_reference.specs.Maps.{map_of}
 use Rattle.fv_reference.proofs.Views.{entries_of}
-use Rattle.fv_reference.proofs.Orders.{place_total}
+use Rattle.fv_laws.proofs.Orders.{place_total}
 
 pub ids_from : (m : tree.BTreeMap Place ℕ) (t : Table) → tree.IsOrdered place_cmp m → map_of place_cmp m ≡ stamps_of t → set.from_list {R = id_cmp} m.entries ≡ ids_of t
 unfolding ids

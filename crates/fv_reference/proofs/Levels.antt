@@ -1,11 +1,13 @@
 -- Levels, and lists of places that are made one after another.
-use Rattle.std.proofs.Common.{◌≡◌, ℕ, suc, ◌+◌, ◌^◌, ◌/◌, ◌<◌, ◌≤◌, ◌-◌, Bool, true, false, nat_lt, List, [], ◌∷◌, ◌++◌, map, get_or, refl, sym, ap, ◌∙◌, arith}
+use Rattle.std.proofs.Common.{◌≡◌, ℕ, suc, ◌+◌, ◌^◌, ◌/◌, ◌<◌, ◌≤◌, ◌-◌, Bool, true, false, not, nat_lt, List, [], ◌∷◌, ◌++◌, map, get_or, refl, sym, ap, ◌∙◌, arith}
 use Rattle.std.specs.List.{prefix_len, range_with_len}
+use Rattle.std.specs.Ordering.{nat_cmp}
 use Rattle.std.specs.FinMap as fin
 use Rattle.std.proofs.Math.Nat.{pow-le-pow_right, div-eq_of_lt}
 use Rattle.std.proofs.lemmas.List.Sums.{prefix_len_is}
 use Rattle.std.proofs.lemmas.List.FromFn.{length-range_with_len, get_or-range_with_len, map-range_with_len_more}
 use Rattle.std.proofs.lemmas.Bool.Decides.{nat_tests}
+use Rattle.fv_model.specs.Tables.{File}
 use Rattle.fv_model.specs.Trees.{fan, spot_cmp, Spot, Tree, least_levels, levels_with, spots_over, spots_grown, stamp_spots, written}
 
 -- the least number of levels, by what makes it so
@@ -49,10 +51,26 @@ written_is t s i levels any over grown first second last l a o g f m n =
     stamped_on s _ _ t.stamps ∙ sym (n ∙ (λ j. stamp_spots s ((g ∙ (λ k. spots_grown (a k) t.levels (l k))) j) ((m ∙ (λ k. stamp_spots s ((o ∙ ap (λ h. spots_over h i) l) k) (f k))) j))) in
     λ j. record { levels = l j; stamps = sym both j }
 
+-- a cell and the marks over it, one more level
+pub spot_more : (i level : ℕ) (spots more : List Spot) → more ≡ spots ++ (level, i / fan ^ level) ∷ [] → spots ≡ map (λ k. (k, i / fan ^ k)) (range_with_len 0 level) → more ≡ map (λ k. (k, i / fan ^ k)) (range_with_len 0 (level + 1))
+spot_more i level spots more pushed before =
+    let spot : ℕ → Spot = λ k. (k, i / fan ^ k) in
+    pushed ∙ (λ j. before j ++ (level, i / fan ^ level) ∷ []) ∙ sym (map-range_with_len_more spot 0 level level (omega arith))
+
+is_false : (b : Bool) → not b ≡ true → b ≡ false
+is_false true e = cc
+is_false false e = refl
+
 -- the least number that isn't taken
-pub free_is : (has : ℕ → Bool) (count n : ℕ) → n ≤ count → ((k : ℕ) → k < n → has k ≡ true) → (n < count → has n ≡ false) → n ≡ prefix_len has (range_with_len 0 count)
+free_is : (has : ℕ → Bool) (count n : ℕ) → n ≤ count → ((k : ℕ) → k < n → has k ≡ true) → (n < count → has n ≡ false) → n ≡ prefix_len has (range_with_len 0 count)
 free_is has count n within below stops =
     sym (prefix_len_is has (range_with_len 0 count) n 0 (omega (arith, length-range_with_len 0 count))
     (λ k lt. ap has (get_or-range_with_len 0 count k 0 (omega arith) ∙ omega arith) ∙ below k lt)
     (λ lt. let inside : n < count = omega (arith, length-range_with_len 0 count) in
     ap has (get_or-range_with_len 0 count n 0 inside ∙ omega arith) ∙ stops inside))
+
+pub free_here : (m : fin.FinMap nat_cmp File) (n : ℕ) → n < fin.len m + 1 → ((k : ℕ) → k < n → fin.contains_key m k ≡ true) → not (fin.contains_key m n) ≡ true → n ≡ prefix_len (λ k. fin.contains_key m k) (range_with_len 0 (fin.len m + 1))
+free_here m n few below free = free_is (λ k. fin.contains_key m k) (fin.len m + 1) n (omega arith) below (λ lt. is_false (fin.contains_key m n) free)
+
+pub none_free : (m : fin.FinMap nat_cmp File) (n : ℕ) → n ≡ fin.len m + 1 → ((k : ℕ) → k < n → fin.contains_key m k ≡ true) → n ≡ prefix_len (λ k. fin.contains_key m k) (range_with_len 0 (fin.len m + 1))
+none_free m n all below = free_is (λ k. fin.contains_key m k) (fin.len m + 1) n (omega arith) below (λ lt. absurd (omega arith))

@@ -4,3 +4,4 @@ pub mod Levels
 pub mod Orders
 pub mod Counting
 pub mod Allowed
+pub mod Room

@@ -1,16 +1,18 @@
 //! What an accepted command is answered.
-ghost use Rattle.std.specs.Prelude.{◌≡◌, ◌++◌, ◌∷◌, [], IfOk, map};
+ghost use Rattle.std.specs.Prelude.{◌≡◌, ◌≤◌, ◌++◌, ◌∷◌, [], IfOk, map};
 ghost use Rattle.std.specs.Option.{option_map_or};
 ghost use Rattle.std.specs.FinMap as fin;
 ghost use Rattle.fv_model.specs.Tables.{file_named};
 ghost use Rattle.std.specs.Map.{keys_of};
 ghost use Rattle.fv_model.specs.Spelling.{name_cmp};
+ghost use Rattle.fv_model.specs.Space.{use_of};
+ghost use Rattle.fv_laws.specs.Within.{IsWithin};
 ghost use Rattle.fv_model.specs.Replies.{answer, about_volume, about_table, about_file, content, zero_block, file_names, numbers_by_name, stat_of};
 ghost use Rattle.fv_reference.specs.Maps.{map_of};
 
+use crate::aggregates::Aggregate;
 use crate::asked::table_asked;
 use crate::counted::Counted;
-use crate::machines::Machine;
 use crate::maps::from_entries;
 use crate::tables::{File, Table};
 use crate::volumes::Volume;
@@ -20,73 +22,67 @@ use std::collections::BTreeMap;
 
 /// The reply to an accepted command; to `probe` it is the one for a known volume.
 #[tactic(auto, unfolding(fv_model::specs::Replies::answer))]
-pub fn answer(alloc: Global, machine: &Machine, command: &Command) -> Result<Reply, AllocError>
-    ensures { IfOk result (λ r. r ≡ answer machine.now command.now) }
+pub fn answer(alloc: Global, aggregate: &Aggregate, command: &Command) -> Result<Reply, AllocError>
+    requires { IsWithin aggregate.now }
+    ensures { IfOk result (λ r. r ≡ answer aggregate.now command.now) }
 {
     match command {
-        Command::VolList => Ok(Reply::Names(names_of(alloc, machine.volumes())?)),
-        Command::VolStat { volume } => numbers(machine, volume),
+        Command::VolList => Ok(Reply::Names(names_of(alloc, aggregate.volumes())?)),
+        Command::VolStat { volume } => Ok(numbers(aggregate, volume)),
         Command::Get {
             volume,
             snapshot,
             file,
             index,
-        } => Ok(content_asked(machine, volume, snapshot, file, *index)),
+        } => Ok(content_asked(aggregate, volume, snapshot, file, *index)),
         Command::Len {
             volume,
             snapshot,
             file,
-        } => Ok(length(machine, volume, snapshot, file)),
-        Command::Ls { volume, snapshot } => files(alloc, machine, volume, snapshot),
-        Command::SnapList { volume } => snapshots(alloc, machine, volume),
+        } => Ok(length(aggregate, volume, snapshot, file)),
+        Command::Ls { volume, snapshot } => files(alloc, aggregate, volume, snapshot),
+        Command::SnapList { volume } => snapshots(alloc, aggregate, volume),
         Command::Probe { .. } => Ok(Reply::Number(0)),
         _ => Ok(Reply::Done),
     }
 }
 
-fn numbers(machine: &Machine, name: &Name) -> Result<Reply, AllocError>
-    ensures { IfOk result (λ r. r ≡ about_volume machine.now name.now (λ x. Reply.Stat (stat_of x))) }
+fn numbers(aggregate: &Aggregate, name: &Name) -> Reply
+    requires { IsWithin aggregate.now }
+    ensures { result ≡ about_volume aggregate.now name.now (λ x. Reply.Stat (stat_of x)) }
 {
-    match machine.counted(name) {
-        None => Ok(Reply::Done),
-        Some(counted) => Ok(Reply::Stat(stat(counted)?)),
+    match aggregate.counted(name) {
+        None => Reply::Done,
+        Some(counted) => Reply::Stat(stat(counted)),
     }
 }
 
-/// A volume's numbers; one that passes 32 bits counts as want of memory, since no memory holds so much.
-fn stat(counted: &Counted) -> Result<Stat, AllocError>
-    ensures { IfOk result (λ s. s ≡ stat_of counted.now) }
+/// The numbers of a volume that uses no more than its size.
+fn stat(counted: &Counted) -> Stat
+    requires { use_of counted.now ≤ counted.now.size }
+    ensures { result ≡ stat_of counted.now }
 {
     let volume = counted.volume();
-    Ok(Stat {
+    Stat {
         size: volume.size(),
-        used: small(counted.charge())?,
-        need: small(counted.need())?,
-        commit: u64::from(small(counted.commit())?),
+        used: counted.charge() as u32,
+        need: counted.need() as u32,
+        commit: counted.commit() as u64,
         kind: volume.kind(),
         clean: volume.is_known(),
-    })
-}
-
-fn small(n: u128) -> Result<u32, AllocError>
-    ensures { IfOk result (λ k. k ≡ n) }
-{
-    if n > u128::from(u32::MAX) {
-        return Err(AllocError);
     }
-    Ok(n as u32)
 }
 
 fn content_asked(
-    machine: &Machine,
+    aggregate: &Aggregate,
     name: &Name,
     snapshot: &Option<Name>,
     file: &Name,
     index: u32,
 ) -> Reply
-    ensures { result ≡ about_file machine.now name.now snapshot.now file.now (λ f. Reply.Content (content f index)) }
+    ensures { result ≡ about_file aggregate.now name.now snapshot.now file.now (λ f. Reply.Content (content f index)) }
 {
-    match machine.volume(name) {
+    match aggregate.volume(name) {
         None => Reply::Done,
         Some(volume) => match table_asked(volume, snapshot) {
             None => Reply::Done,
@@ -114,10 +110,10 @@ fn content(file: &File, index: u32) -> Block
     }
 }
 
-fn length(machine: &Machine, name: &Name, snapshot: &Option<Name>, file: &Name) -> Reply
-    ensures { result ≡ about_file machine.now name.now snapshot.now file.now (λ f. Reply.Number f.length) }
+fn length(aggregate: &Aggregate, name: &Name, snapshot: &Option<Name>, file: &Name) -> Reply
+    ensures { result ≡ about_file aggregate.now name.now snapshot.now file.now (λ f. Reply.Number f.length) }
 {
-    match machine.volume(name) {
+    match aggregate.volume(name) {
         None => Reply::Done,
         Some(volume) => match table_asked(volume, snapshot) {
             None => Reply::Done,
@@ -137,13 +133,13 @@ fn length_in(table: &Table, file: &Name) -> Reply
 
 fn files(
     alloc: Global,
-    machine: &Machine,
+    aggregate: &Aggregate,
     name: &Name,
     snapshot: &Option<Name>,
 ) -> Result<Reply, AllocError>
-    ensures { IfOk result (λ r. r ≡ about_table machine.now name.now snapshot.now (λ t. Reply.Names (file_names t))) }
+    ensures { IfOk result (λ r. r ≡ about_table aggregate.now name.now snapshot.now (λ t. Reply.Names (file_names t))) }
 {
-    match machine.volume(name) {
+    match aggregate.volume(name) {
         None => Ok(Reply::Done),
         Some(volume) => match table_asked(volume, snapshot) {
             None => Ok(Reply::Done),
@@ -172,10 +168,10 @@ fn listed_names(alloc: Global, files: &BTreeMap<u32, File>) -> Result<Vec<(Name,
     Ok(listed)
 }
 
-fn snapshots(alloc: Global, machine: &Machine, name: &Name) -> Result<Reply, AllocError>
-    ensures { IfOk result (λ r. r ≡ about_volume machine.now name.now (λ x. Reply.Names (fin.keys x.snapshots))) }
+fn snapshots(alloc: Global, aggregate: &Aggregate, name: &Name) -> Result<Reply, AllocError>
+    ensures { IfOk result (λ r. r ≡ about_volume aggregate.now name.now (λ x. Reply.Names (fin.keys x.snapshots))) }
 {
-    match machine.volume(name) {
+    match aggregate.volume(name) {
         None => Ok(Reply::Done),
         Some(volume) => Ok(Reply::Names(names_of(alloc, volume.snapshots())?)),
     }

@@ -1,14 +1,14 @@
-//! Tests of a machine, false where what they ask about isn't there.
+//! Tests of a aggregate, false where what they ask about isn't there.
 ghost use Rattle.std.specs.Prelude.{◌≡◌, ◌+◌, ◌<◌, IfOk, option_map, Some, None, not, cond, false, nat_lt, nat_le};
 ghost use Rattle.std.specs.List.{list_any};
 ghost use Rattle.std.specs.Option.{option_map_or};
 ghost use Rattle.fv_reference.specs.Bases.{stands_on};
 ghost use Rattle.fv_model.specs.Tables.{file_named};
-ghost use Rattle.fv_model.specs.Refusals.{table_asked, is_missing, is_taken, lacks_file, has_file, lacks_snapshot, has_snapshot, is_parent, is_base, is_splitting, is_whole_clone, has_all_volumes, has_all_changes, has_all_files, has_all_snapshots, of_volume, of_file, is_clone_too_wide, is_mirror_too_wide, is_volume_full, is_aggregate_full};
+ghost use Rattle.fv_model.specs.Refusals.{table_asked, is_missing, is_taken, lacks_file, has_file, lacks_snapshot, has_snapshot, is_parent, is_base, is_splitting, is_whole_clone, has_all_volumes, has_all_changes, has_all_files, has_all_snapshots, of_volume, of_file, is_clone_too_wide, is_mirror_too_wide};
 ghost use Rattle.fv_model.specs.Space.{is_file_kind};
 
+use crate::aggregates::Aggregate;
 use crate::counted::Counted;
-use crate::machines::Machine;
 use crate::maps::len;
 use crate::tables::Table;
 use crate::volumes::{Base, Volume, id_count, span_of};
@@ -27,24 +27,24 @@ pub fn table_asked<'a>(volume: &'a Volume, snapshot: &Option<Name>) -> Option<&'
 }
 
 /// Whether the volume isn't there.
-pub fn is_missing(machine: &Machine, name: &Name) -> bool
-    ensures { result ≡ is_missing machine.now name.now }
+pub fn is_missing(aggregate: &Aggregate, name: &Name) -> bool
+    ensures { result ≡ is_missing aggregate.now name.now }
 {
-    machine.volume(name).is_none()
+    aggregate.volume(name).is_none()
 }
 
 /// Whether the volume is there.
-pub fn is_taken(machine: &Machine, name: &Name) -> bool
-    ensures { result ≡ is_taken machine.now name.now }
+pub fn is_taken(aggregate: &Aggregate, name: &Name) -> bool
+    ensures { result ≡ is_taken aggregate.now name.now }
 {
-    machine.volume(name).is_some()
+    aggregate.volume(name).is_some()
 }
 
 /// Whether the table that is asked has no such file.
-pub fn lacks_file(machine: &Machine, name: &Name, snapshot: &Option<Name>, file: &Name) -> bool
-    ensures { result ≡ lacks_file machine.now name.now snapshot.now file.now }
+pub fn lacks_file(aggregate: &Aggregate, name: &Name, snapshot: &Option<Name>, file: &Name) -> bool
+    ensures { result ≡ lacks_file aggregate.now name.now snapshot.now file.now }
 {
-    match machine.volume(name) {
+    match aggregate.volume(name) {
         None => false,
         Some(volume) => match table_asked(volume, snapshot) {
             None => false,
@@ -54,78 +54,78 @@ pub fn lacks_file(machine: &Machine, name: &Name, snapshot: &Option<Name>, file:
 }
 
 /// Whether the active table has the file.
-pub fn has_file(machine: &Machine, name: &Name, file: &Name) -> bool
-    ensures { result ≡ has_file machine.now name.now file.now }
+pub fn has_file(aggregate: &Aggregate, name: &Name, file: &Name) -> bool
+    ensures { result ≡ has_file aggregate.now name.now file.now }
 {
-    match machine.volume(name) {
+    match aggregate.volume(name) {
         None => false,
         Some(volume) => volume.active().file_named(file).is_some(),
     }
 }
 
 /// Whether the volume has no such snapshot.
-pub fn lacks_snapshot(machine: &Machine, name: &Name, snapshot: &Option<Name>) -> bool
-    ensures { result ≡ lacks_snapshot machine.now name.now snapshot.now }
+pub fn lacks_snapshot(aggregate: &Aggregate, name: &Name, snapshot: &Option<Name>) -> bool
+    ensures { result ≡ lacks_snapshot aggregate.now name.now snapshot.now }
 {
-    match machine.volume(name) {
+    match aggregate.volume(name) {
         None => false,
         Some(volume) => table_asked(volume, snapshot).is_none(),
     }
 }
 
 /// Whether the volume has the snapshot.
-pub fn has_snapshot(machine: &Machine, name: &Name, snapshot: &Name) -> bool
-    ensures { result ≡ has_snapshot machine.now name.now snapshot.now }
+pub fn has_snapshot(aggregate: &Aggregate, name: &Name, snapshot: &Name) -> bool
+    ensures { result ≡ has_snapshot aggregate.now name.now snapshot.now }
 {
-    match machine.volume(name) {
+    match aggregate.volume(name) {
         None => false,
         Some(volume) => volume.snapshot(snapshot).is_some(),
     }
 }
 
 /// Whether a clone stands on the volume.
-pub fn is_parent(machine: &Machine, name: &Name) -> bool
-    ensures { result ≡ is_parent machine.now name.now }
+pub fn is_parent(aggregate: &Aggregate, name: &Name) -> bool
+    ensures { result ≡ is_parent aggregate.now name.now }
 {
-    let volumes = machine.volumes();
+    let volumes = aggregate.volumes();
     let _count = volumes.len();
     some_base(volumes, name, &None)
 }
 
 /// Whether a clone stands on the volume's snapshot.
-pub fn is_base(machine: &Machine, name: &Name, snapshot: &Name) -> bool
-    ensures { result ≡ is_base machine.now name.now snapshot.now }
+pub fn is_base(aggregate: &Aggregate, name: &Name, snapshot: &Name) -> bool
+    ensures { result ≡ is_base aggregate.now name.now snapshot.now }
 {
-    let volumes = machine.volumes();
+    let volumes = aggregate.volumes();
     let _count = volumes.len();
     some_base(volumes, name, &Some(*snapshot))
 }
 
 /// Whether the volume is being split from its base.
-pub fn is_splitting(machine: &Machine, name: &Name) -> bool
-    ensures { result ≡ of_volume machine.now name.now is_splitting }
+pub fn is_splitting(aggregate: &Aggregate, name: &Name) -> bool
+    ensures { result ≡ of_volume aggregate.now name.now is_splitting }
 {
-    match machine.volume(name) {
+    match aggregate.volume(name) {
         None => false,
         Some(volume) => is_split(volume.base(), true),
     }
 }
 
 /// Whether the volume is no clone or is being split.
-pub fn is_no_whole_clone(machine: &Machine, name: &Name) -> bool
-    ensures { result ≡ of_volume machine.now name.now (λ x. not (is_whole_clone x)) }
+pub fn is_no_whole_clone(aggregate: &Aggregate, name: &Name) -> bool
+    ensures { result ≡ of_volume aggregate.now name.now (λ x. not (is_whole_clone x)) }
 {
-    match machine.volume(name) {
+    match aggregate.volume(name) {
         None => false,
         Some(volume) => !is_split(volume.base(), false),
     }
 }
 
 /// Whether the volume isn't being split.
-pub fn is_unsplit(machine: &Machine, name: &Name) -> bool
-    ensures { result ≡ of_volume machine.now name.now (λ x. not (is_splitting x)) }
+pub fn is_unsplit(aggregate: &Aggregate, name: &Name) -> bool
+    ensures { result ≡ of_volume aggregate.now name.now (λ x. not (is_splitting x)) }
 {
-    match machine.volume(name) {
+    match aggregate.volume(name) {
         None => false,
         Some(volume) => !is_split(volume.base(), true),
     }
@@ -142,67 +142,67 @@ fn is_split(base: &Option<Base>, splitting: bool) -> bool
 }
 
 /// Whether the volume isn't known.
-pub fn is_unclean(machine: &Machine, name: &Name) -> bool
-    ensures { result ≡ of_volume machine.now name.now (λ x. not x.known) }
+pub fn is_unclean(aggregate: &Aggregate, name: &Name) -> bool
+    ensures { result ≡ of_volume aggregate.now name.now (λ x. not x.known) }
 {
-    match machine.volume(name) {
+    match aggregate.volume(name) {
         None => false,
         Some(volume) => !volume.is_known(),
     }
 }
 
 /// Whether there are as many volumes as there can be.
-pub fn has_all_volumes(machine: &Machine) -> bool
-    ensures { result ≡ has_all_volumes machine.now }
+pub fn has_all_volumes(aggregate: &Aggregate) -> bool
+    ensures { result ≡ has_all_volumes aggregate.now }
 {
-    64 <= len(machine.volumes())
+    64 <= len(aggregate.volumes())
 }
 
 /// Whether the volume had as many changes as it can have.
-pub fn has_all_changes(machine: &Machine, name: &Name) -> bool
-    ensures { result ≡ has_all_changes machine.now name.now }
+pub fn has_all_changes(aggregate: &Aggregate, name: &Name) -> bool
+    ensures { result ≡ has_all_changes aggregate.now name.now }
 {
-    match machine.volume(name) {
+    match aggregate.volume(name) {
         None => false,
         Some(volume) => 1 << 62 <= volume.changes(),
     }
 }
 
 /// Whether the active table has as many files as it can have.
-pub fn has_all_files(machine: &Machine, name: &Name) -> bool
-    ensures { result ≡ has_all_files machine.now name.now }
+pub fn has_all_files(aggregate: &Aggregate, name: &Name) -> bool
+    ensures { result ≡ has_all_files aggregate.now name.now }
 {
-    match machine.volume(name) {
+    match aggregate.volume(name) {
         None => false,
         Some(volume) => 262_144 <= len(volume.active().files()),
     }
 }
 
 /// Whether the volume has as many snapshots as it can have.
-pub fn has_all_snapshots(machine: &Machine, name: &Name) -> bool
-    ensures { result ≡ has_all_snapshots machine.now name.now }
+pub fn has_all_snapshots(aggregate: &Aggregate, name: &Name) -> bool
+    ensures { result ≡ has_all_snapshots aggregate.now name.now }
 {
-    match machine.volume(name) {
+    match aggregate.volume(name) {
         None => false,
         Some(volume) => 24 <= len(volume.snapshots()),
     }
 }
 
 /// Whether a size is past the greatest that the volume can be given.
-pub fn is_past_most(machine: &Machine, name: &Name, size: u32) -> bool
-    ensures { result ≡ of_volume machine.now name.now (λ x. nat_lt x.most size) }
+pub fn is_past_most(aggregate: &Aggregate, name: &Name, size: u32) -> bool
+    ensures { result ≡ of_volume aggregate.now name.now (λ x. nat_lt x.most size) }
 {
-    match machine.volume(name) {
+    match aggregate.volume(name) {
         None => false,
         Some(volume) => volume.most() < u64::from(size),
     }
 }
 
 /// Whether a reserve doesn't fit the volume's kind.
-pub fn is_wrong_kind(machine: &Machine, name: &Name, reserve: u32) -> bool
-    ensures { result ≡ of_volume machine.now name.now (λ x. cond (nat_lt 0 reserve) (not (is_file_kind x.kind)) false) }
+pub fn is_wrong_kind(aggregate: &Aggregate, name: &Name, reserve: u32) -> bool
+    ensures { result ≡ of_volume aggregate.now name.now (λ x. cond (nat_lt 0 reserve) (not (is_file_kind x.kind)) false) }
 {
-    match machine.volume(name) {
+    match aggregate.volume(name) {
         None => false,
         Some(volume) => 0 < reserve && !is_file_kind(volume.kind()),
     }
@@ -219,15 +219,15 @@ fn is_file_kind(kind: Kind) -> bool
 
 /// Whether an index isn't below the length of the file that is asked.
 pub fn is_past_end(
-    machine: &Machine,
+    aggregate: &Aggregate,
     name: &Name,
     snapshot: &Option<Name>,
     file: &Name,
     index: u32,
 ) -> bool
-    ensures { result ≡ of_file machine.now name.now snapshot.now file.now (λ f. nat_le f.length index) }
+    ensures { result ≡ of_file aggregate.now name.now snapshot.now file.now (λ f. nat_le f.length index) }
 {
-    match machine.volume(name) {
+    match aggregate.volume(name) {
         None => false,
         Some(volume) => match table_asked(volume, snapshot) {
             None => false,
@@ -246,10 +246,10 @@ fn ends_by(table: &Table, file: &Name, index: u32) -> bool
 }
 
 /// Whether a length is past that of the file.
-pub fn is_past_length(machine: &Machine, name: &Name, file: &Name, length: u32) -> bool
-    ensures { result ≡ of_file machine.now name.now None file.now (λ f. nat_lt f.length length) }
+pub fn is_past_length(aggregate: &Aggregate, name: &Name, file: &Name, length: u32) -> bool
+    ensures { result ≡ of_file aggregate.now name.now None file.now (λ f. nat_lt f.length length) }
 {
-    match machine.volume(name) {
+    match aggregate.volume(name) {
         None => false,
         Some(volume) => ends_before(volume.active(), file, length),
     }
@@ -267,14 +267,14 @@ fn ends_before(table: &Table, file: &Name, length: u32) -> bool
 /// Whether the span of a clone on the snapshot would be too great.
 pub fn is_clone_too_wide(
     alloc: Global,
-    machine: &Machine,
+    aggregate: &Aggregate,
     name: &Name,
     snapshot: &Name,
     size: u32,
 ) -> Result<bool, AllocError>
-    ensures { IfOk result (λ b. b ≡ is_clone_too_wide machine.now name.now snapshot.now size) }
+    ensures { IfOk result (λ b. b ≡ is_clone_too_wide aggregate.now name.now snapshot.now size) }
 {
-    match machine.volume(name) {
+    match aggregate.volume(name) {
         None => Ok(false),
         Some(volume) => match volume.snapshot(snapshot) {
             None => Ok(false),
@@ -284,30 +284,13 @@ pub fn is_clone_too_wide(
 }
 
 /// Whether the span of a mirror of the volume would be too great.
-pub fn is_mirror_too_wide(machine: &Machine, name: &Name, size: u32) -> bool
-    ensures { result ≡ is_mirror_too_wide machine.now name.now size }
+pub fn is_mirror_too_wide(aggregate: &Aggregate, name: &Name, size: u32) -> bool
+    ensures { result ≡ is_mirror_too_wide aggregate.now name.now size }
 {
-    match machine.volume(name) {
+    match aggregate.volume(name) {
         None => false,
         Some(volume) => 1_048_576 < span_of(size, 0, volume.span()),
     }
-}
-
-/// Whether the volume uses more than its size.
-pub fn is_volume_full(machine: &Machine, name: &Name) -> bool
-    ensures { result ≡ is_volume_full machine.now name.now }
-{
-    match machine.counted(name) {
-        None => false,
-        Some(counted) => u128::from(counted.volume().size()) < counted.use_of(),
-    }
-}
-
-/// Whether all volumes commit more than the capacity.
-pub fn is_aggregate_full(machine: &Machine) -> bool
-    ensures { result ≡ is_aggregate_full machine.now }
-{
-    machine.is_full()
 }
 
 fn some_base(volumes: &BTreeMap<Name, Counted>, parent: &Name, snapshot: &Option<Name>) -> bool

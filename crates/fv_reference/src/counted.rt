@@ -1,5 +1,5 @@
 //! A volume with its counts, so that a command recounts only the volume that it changes.
-ghost use Rattle.std.specs.Prelude.{◌≡◌, ◌+◌, ◌<◌, ◌^◌, IfOk};
+ghost use Rattle.std.specs.Prelude.{◌≡◌, ◌+◌, ◌<◌, ◌≤◌, ◌^◌, IfOk};
 ghost use Rattle.fv_model.specs.Space.{charge, need, use_of, commit, promised};
 ghost use Rattle.fv_reference.specs.Counts.{IsCounted};
 
@@ -86,18 +86,21 @@ impl Counted {
 
     /// What it commits of its aggregate.
     pub fn commit(&self) -> u128
-        ensures { result ≡ commit self.now }
+        ensures is { result ≡ commit self.now }
+        ensures few { use_of self.now ≤ self.now.size → result < 2 ^ 64 }
     {
-        2 * overhead(self.volume.span()) + promised(self)
+        2 * u128::from(overhead(self.volume.span())) + promised(self)
     }
 }
 
 fn promised(counted: &Counted) -> u128
     ensures is { result ≡ promised counted.now counted.now.kind }
     ensures few { result < 2 ^ 127 + 2 ^ 115 }
+    ensures fits { use_of counted.now ≤ counted.now.size → result < 2 ^ 32 }
 {
+    let size = u128::from(counted.volume().size());
     match counted.volume().kind() {
-        Kind::Volume => u128::from(counted.volume().size()),
+        Kind::Volume => size,
         Kind::File | Kind::Thin => counted.use_of(),
     }
 }

@@ -4,10 +4,12 @@
 //! compared with it.
 #![tactic(auto)]
 
+mod aggregates;
 mod answers;
 mod asked;
 mod counted;
 mod effects;
+mod full;
 mod machines;
 mod maps;
 mod places;

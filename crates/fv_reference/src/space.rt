@@ -4,6 +4,7 @@ ghost use Rattle.std.specs.List.{range_with_len};
 ghost use Rattle.std.specs.Ordering.{nat_cmp};
 ghost use Rattle.std.specs.FinMap as fin;
 ghost use Rattle.std.specs.FinSet as set;
+ghost use Rattle.fv_model.specs.Numbers.{greatest_span};
 ghost use Rattle.fv_model.specs.Spelling.{name_cmp};
 ghost use Rattle.fv_model.specs.Trees.{fan};
 ghost use Rattle.fv_model.specs.Places.{InodeFile, OfFile, placed, place_cmp, id_cmp, stamps_of};
@@ -193,8 +194,9 @@ fn list_inode(places: &mut Vec<Place>, spots: &[Spot]) -> Result<(), AllocError>
 
 /// The nodes of 256 entries above n of them, up to one root.
 #[tactic(auto, unfolding(fv_model::specs::Space::nodes_above))]
-fn nodes_above(fuel: u32, n: u128) -> u128
-    requires { n ≤ 2 ^ 65 }
+fn nodes_above(fuel: u32, n: u32) -> u32
+    requires low { fuel ≤ 8 }
+    requires few { n ≤ 2 ^ 20 }
     ensures is { result ≡ nodes_above fuel n }
     ensures few { result ≤ n + fuel + 1 }
 {
@@ -210,10 +212,10 @@ fn nodes_above(fuel: u32, n: u128) -> u128
 
 /// The blocks that a volume of a span needs beside its data.
 #[tactic(auto, unfolding(fv_model::specs::Space::overhead))]
-pub fn overhead(span: u128) -> u128
-    requires { span ≤ 2 ^ 65 }
+pub fn overhead(span: u32) -> u32
+    requires { span ≤ greatest_span }
     ensures is { result ≡ overhead span }
-    ensures few { result < 2 ^ 68 }
+    ensures few { result < 2 ^ 20 }
 {
     let maps = span.div_ceil(32_768);
     let leaves = (span + 25 * maps).div_ceil(256);

@@ -1,8 +1,9 @@
 //! Tables of files, and the four changes of a table.
-ghost use Rattle.std.specs.Prelude.{◌≡◌, ◌+◌, ◌/◌, ◌<◌, ◌≤◌, IfOk, OnOk, nat_lt, nat_le, map, filter, find, option_map};
+ghost use Rattle.std.specs.Prelude.{◌≡◌, ◌+◌, ◌/◌, ◌<◌, ◌≤◌, IfOk, OnOk, not, nat_lt, nat_le, map, filter, find, option_map};
 ghost use Rattle.std.specs.List.{prefix_len, range_with_len};
 ghost use Rattle.std.specs.Ordering.{nat_cmp};
 ghost use Rattle.std.specs.FinMap as fin;
+ghost use Rattle.fv_model.specs.Numbers.{most_files};
 ghost use Rattle.fv_model.specs.Trees.{least_levels, written};
 ghost use Rattle.fv_model.specs.Spelling.{is_same_name};
 ghost use Rattle.fv_model.specs.Tables.{empty_table, inode_cell, free_number, file_named, file_put, file_cut, new, put, cut, rm};
@@ -267,9 +268,10 @@ impl Table {
         reserve: u32,
         stamp: u64,
     ) -> Result<Table, AllocError>
+        requires { fin.len self.now.files < most_files }
         ensures { IfOk result (λ t. t ≡ new self.now name.now reserve stamp) }
     {
-        let number = free_number(&self.files)?;
+        let number = free_number(&self.files);
         self.with_file(alloc, number, File::new(alloc, name, reserve), stamp)
     }
 
@@ -343,20 +345,24 @@ fn inode_cells(alloc: Global, numbers: &[u32]) -> Result<Vec<u32>, AllocError>
 }
 
 /// The least number that no file has.
-fn free_number(files: &BTreeMap<u32, File>) -> Result<u32, AllocError>
-    ensures { IfOk result (λ n. n ≡ prefix_len (λ k. fin.contains_key (map_of nat_cmp files.now) k) (range_with_len 0 (fin.len (map_of nat_cmp files.now) + 1))) }
+#[tactic(auto, using(crate::proofs::Levels::free_here, crate::proofs::Levels::none_free))]
+fn free_number(files: &BTreeMap<u32, File>) -> u32
+    requires { fin.len (map_of nat_cmp files.now) < most_files }
+    ensures { result ≡ prefix_len (λ k. fin.contains_key (map_of nat_cmp files.now) k) (range_with_len 0 (fin.len (map_of nat_cmp files.now) + 1)) }
 {
-    let count = len(files);
-    if count >= u32::MAX as usize {
-        return Err(AllocError);
-    }
-    let end = count as u32 + 1;
+    let end = len(files) as u32 + 1;
     for number in 0..end {
-        if get(files, &number).is_none() {
-            return Ok(number);
+        if is_free(files, number) {
+            return number;
         }
     }
-    Ok(end)
+    end
+}
+
+fn is_free(files: &BTreeMap<u32, File>, number: u32) -> bool
+    ensures { result ≡ not (fin.contains_key (map_of nat_cmp files.now) number) }
+{
+    get(files, &number).is_none()
 }
 
 /// The first file of a name, with its number.

@@ -1,5 +1,5 @@
 //! Trees: levels, and the stamps of cells and marks.
-ghost use Rattle.std.specs.Prelude.{◌≡◌, ◌+◌, ◌*◌, ◌^◌, ◌/◌, ◌<◌, ◌≤◌, IfOk, OnOk, nat_lt, map, filter, flat_map, nat_eq, cond};
+ghost use Rattle.std.specs.Prelude.{◌≡◌, ◌+◌, ◌*◌, ◌^◌, ◌/◌, ◌<◌, ◌≤◌, ◌++◌, ◌∷◌, [], IfOk, OnOk, nat_lt, map, filter, flat_map, nat_eq, cond};
 ghost use Rattle.std.specs.List.{range_with_len, list_any};
 ghost use Rattle.std.specs.FinMap as fin;
 ghost use Rattle.fv_model.specs.Trees.{fan, spot_cmp, least_levels, levels_with, spots_over, spots_grown, stamp_spots, holds_one, written, erased};
@@ -178,9 +178,16 @@ pub fn spots_over(alloc: Global, levels: u32, index: u32) -> Result<Vec<Spot>, A
 {
     let mut spots = Vec::new(alloc);
     for level in 0..levels + 1 {
-        spots.push((level, range_at(index, level)))?;
+        add_spot(&mut spots, level, index)?;
     }
     Ok(spots)
+}
+
+fn add_spot(spots: &mut Vec<Spot>, level: u32, index: u32) -> Result<(), AllocError>
+    ensures { OnOk result (spots.new.items ≡ spots.old.items ++ (level, index / fan ^ level) ∷ []) }
+{
+    spots.push((level, range_at(index, level)))?;
+    Ok(())
 }
 
 /// The marks that a growth of levels makes over the cells that were there.

@@ -2,6 +2,7 @@
 ghost use Rattle.std.specs.Prelude.{◌≡◌, ◌+◌, ◌*◌, ◌^◌, ◌<◌, ◌≤◌, IfOk, OnOk, map, option_map, None, true, false};
 ghost use Rattle.std.specs.FinMap as fin;
 ghost use Rattle.std.specs.FinSet as set;
+ghost use Rattle.fv_model.specs.Numbers.{is_size, most_changes, greatest_span};
 ghost use Rattle.fv_model.specs.Spelling.{name_cmp};
 ghost use Rattle.fv_model.specs.Places.{id_cmp, ids_of};
 ghost use Rattle.fv_model.specs.Space.{map_blocks, ids_in_any, ids_left_out, charge, span_of};
@@ -86,7 +87,7 @@ pub struct Volume {
     kind: Kind,
     size: u32,
     most: u64,
-    span: u128,
+    span: u32,
     changes: u64,
     active: Table,
     snapshots: BTreeMap<Name, Table>,
@@ -95,7 +96,8 @@ pub struct Volume {
 }
 
 impl Model for Volume {
-    ghost use Rattle.std.specs.Prelude.{◌≤◌, ◌^◌};
+    ghost use Rattle.std.specs.Prelude.{◌≤◌};
+    ghost use Rattle.fv_model.specs.Numbers.{greatest_span};
     ghost use Rattle.fv_model.specs.Spelling.{name_cmp};
     ghost use Rattle.fv_model.specs.Volumes as volumes;
     ghost use Rattle.fv_reference.specs.Maps.{map_of};
@@ -105,7 +107,7 @@ impl Model for Volume {
 
     ghost coded = { volume_code };
 
-    ghost invariant = { λ v. v.span ≤ 2 ^ 65 };
+    ghost invariant = { λ v. v.span ≤ greatest_span };
 
     ghost view = { λ v. record { kind = v.kind; size = v.size; most = v.most; span = v.span; now = v.changes; active = v.active; snapshots = map_of name_cmp v.snapshots; base = v.base; known = v.known } };
 }
@@ -140,13 +142,14 @@ fn copy_base(base: &Option<Base>) -> Result<Option<Base>, AllocError>
 impl Volume {
     /// An empty volume.
     pub fn empty(alloc: Global, size: u32, kind: Kind) -> Result<Volume, AllocError>
+        requires { is_size size ≡ true }
         ensures { IfOk result (λ v. v ≡ empty_volume size kind) }
     {
         Ok(Volume {
             kind,
             size,
             most: 2 * u64::from(size),
-            span: span_of(size, 0, 0),
+            span: span_of(size, 0, 0) as u32,
             changes: 0,
             active: Table::new(alloc),
             snapshots: BTreeMap::new(alloc),
@@ -165,13 +168,14 @@ impl Volume {
         size: u32,
         kind: Kind,
     ) -> Result<Volume, AllocError>
+        requires { span_of size (set.len (ids_of table.now)) self.now.span ≤ greatest_span }
         ensures { IfOk result (λ v. v ≡ clone_of parent.now self.now snapshot.now table.now size kind) }
     {
         Ok(Volume {
             kind,
             size,
             most: 2 * u64::from(size),
-            span: span_of(size, id_count(alloc, table)?, self.span),
+            span: span_of(size, id_count(alloc, table)?, self.span) as u32,
             changes: self.changes,
             active: table.clone()?,
             snapshots: BTreeMap::new(alloc),
@@ -193,13 +197,14 @@ impl Volume {
         size: u32,
         kind: Kind,
     ) -> Result<Volume, AllocError>
+        requires { span_of size 0 self.now.span ≤ greatest_span }
         ensures { IfOk result (λ v. v ≡ mirror_of self.now table.now size kind) }
     {
         Ok(Volume {
             kind,
             size,
             most: 2 * u64::from(size),
-            span: span_of(size, 0, self.span),
+            span: span_of(size, 0, self.span) as u32,
             changes: self.changes,
             active: table.clone()?,
             snapshots: BTreeMap::new(alloc),
@@ -228,6 +233,7 @@ impl Volume {
 
     /// The volume after a change made its active table.
     pub fn changed(&self, table: Table) -> Result<Volume, AllocError>
+        requires { self.now.now < most_changes }
         ensures { IfOk result (λ v. v ≡ record self.now { now = self.now.now + 1; active = table }) }
     {
         Ok(Volume {
@@ -235,7 +241,7 @@ impl Volume {
             size: self.size,
             most: self.most,
             span: self.span,
-            changes: self.next_stamp()?,
+            changes: self.next_stamp(),
             active: table,
             snapshots: copy(&self.snapshots)?,
             base: copy_base(&self.base)?,
@@ -243,11 +249,12 @@ impl Volume {
         })
     }
 
-    /// The stamp of the next change; one that passes 64 bits, long after changes are refused, is answered as want of memory.
-    pub fn next_stamp(&self) -> Result<u64, AllocError>
-        ensures { IfOk result (λ s. s ≡ self.now.now + 1) }
+    /// The stamp of the next change.
+    pub fn next_stamp(&self) -> u64
+        requires { self.now.now < most_changes }
+        ensures { result ≡ self.now.now + 1 }
     {
-        self.changes.checked_add(1).ok_or(AllocError)
+        self.changes + 1
     }
 
     /// The volume with its active table kept under a name.
@@ -327,9 +334,9 @@ impl Volume {
     }
 
     /// The span.
-    pub fn span(&self) -> u128
+    pub fn span(&self) -> u32
         ensures is { result ≡ self.now.span }
-        ensures few { result ≤ 2 ^ 65 }
+        ensures few { result ≤ greatest_span }
     {
         self.span
     }
@@ -391,14 +398,13 @@ fn charged(
     active: &Table,
     snapshots: &BTreeMap<Name, Table>,
     base: &Option<Base>,
-    span: u128,
+    span: u32,
 ) -> Result<u128, AllocError>
-    requires { span ≤ 2 ^ 65 }
     ensures few { IfOk result (λ n. n < 2 ^ 115) }
     ensures is { IfOk result (λ n. n ≡ set.len (set.difference (set.union (ids_of active.now) (ids_in_any (fin.values (map_of name_cmp snapshots.now)))) (ids_left_out base.now)) + map_blocks span * fin.len (map_of name_cmp snapshots.now)) }
 {
     let ids = charged_ids(alloc, active, snapshots, base)?;
-    let maps = span.div_ceil(32_768) * len(snapshots) as u128;
+    let maps = u128::from(span.div_ceil(32_768)) * len(snapshots) as u128;
     Ok(count(&ids) as u128 + maps)
 }
 
@@ -432,13 +438,11 @@ pub fn id_count(alloc: Global, table: &Table) -> Result<u64, AllocError>
 }
 
 /// The span of a new volume.
-pub fn span_of(size: u32, base: u64, at_least: u128) -> u128
-    requires { at_least ≤ 2 ^ 65 }
-    ensures is { result ≡ span_of size base at_least }
-    ensures few { result ≤ 2 ^ 65 }
+pub fn span_of(size: u32, base: u64, at_least: u32) -> u128
+    ensures { result ≡ span_of size base at_least }
 {
     let room = 2 * u128::from(size) + u128::from(base) + 256;
-    4096 * room.max(at_least).div_ceil(4096)
+    4096 * room.max(u128::from(at_least)).div_ceil(4096)
 }
 
 fn splitting_base(base: &Option<Base>) -> Result<Option<Base>, AllocError>

@@ -2,7 +2,7 @@ use Rattle.std.proofs.Common.{◌≡◌, sym, ap, ◌∙◌}
 use Rattle.std.proofs.lemmas.Result.{IfOk-weaker}
 use Rattle.std.specs.Map.{keys_of}
 use Rattle.fv_reference.proofs.Views.{entries_of}
-use Rattle.fv_reference.proofs.Orders.{name_total}
+use Rattle.fv_laws.proofs.Orders.{name_total}
 use Rattle.fv_reference.proofs.answers.names_of.Goals as goal
 
 pub returns : goal.returns

@@ -4,7 +4,7 @@ use Rattle.fv_model.specs.Trees.{Spot}
 use Rattle.fv_model.specs.Places.{placed}
 use Rattle.fv_reference.specs.Owners.{owner_of}
 use Rattle.fv_reference.proofs.Views.{entries_of}
-use Rattle.fv_reference.proofs.Orders.{spot_total}
+use Rattle.fv_laws.proofs.Orders.{spot_total}
 use Rattle.std.proofs.lemmas.Result.{on_ok_weaker}
 use Rattle.fv_reference.proofs.places.list_tree.Goals as goal
 

@@ -5,7 +5,7 @@ use Rattle.std.proofs.lemmas.Map.Iter.{rest_more, rest_all}
 use Rattle.fv_model.specs.Places.{Id, id_cmp}
 use Rattle.fv_reference.specs.Maps.{set_of}
 use Rattle.fv_reference.proofs.Finite.{difference_step, difference_end}
-use Rattle.fv_reference.proofs.Orders.{id_total, id_ties}
+use Rattle.fv_laws.proofs.Orders.{id_total, id_ties}
 use Rattle.fv_reference.proofs.places.take_listed.Goals as goal
 
 pub loop-place-preserved : goal.loop-place-preserved

@@ -6,7 +6,7 @@ use Rattle.fv_model.specs.Spelling.{name_cmp}
 use Rattle.fv_model.specs.Space.{ids_in_any, base_ids}
 use Rattle.fv_reference.specs.Maps.{map_of}
 use Rattle.fv_reference.proofs.Finite.{union_start}
-use Rattle.fv_reference.proofs.Orders.{id_total, id_ties}
+use Rattle.fv_laws.proofs.Orders.{id_total, id_ties}
 use Rattle.fv_reference.proofs.space.shared_ids.Goals as goal
 
 pub returns : goal.returns

@@ -2,7 +2,7 @@ use Rattle.std.proofs.Common.{rules}
 use Rattle.std.proofs.lemmas.Map.Made.{filter_same_pairs}
 use Rattle.fv_model.specs.Trees.{holds_one}
 use Rattle.fv_reference.proofs.Views.{retained}
-use Rattle.fv_reference.proofs.Orders.{spot_total, spot_ties}
+use Rattle.fv_laws.proofs.Orders.{spot_total, spot_ties}
 use Rattle.fv_reference.proofs.trees.keep_held.Goals as goal
 
 pub returns : goal.returns

@@ -7,7 +7,7 @@ use Rattle.fv_model.specs.Places.{id_cmp, Ids, ids_of}
 use Rattle.fv_model.specs.Space.{ids_in_any}
 use Rattle.fv_reference.specs.Maps.{set_of}
 use Rattle.fv_reference.proofs.Finite.{union_grouped, union_end}
-use Rattle.fv_reference.proofs.Orders.{id_total, id_ties}
+use Rattle.fv_laws.proofs.Orders.{id_total, id_ties}
 use Rattle.fv_reference.proofs.volumes.add_all.Goals as goal
 
 pub loop-table-preserved : goal.loop-table-preserved

@@ -6,7 +6,7 @@ use Rattle.fv_model.specs.Places.{id_cmp}
 use Rattle.fv_model.specs.Space.{ids_in_any}
 use Rattle.fv_reference.specs.Maps.{set_of}
 use Rattle.fv_reference.proofs.Views.{entries_of}
-use Rattle.fv_reference.proofs.Orders.{name_total}
+use Rattle.fv_laws.proofs.Orders.{name_total}
 use Rattle.fv_reference.proofs.volumes.add_kept.Goals as goal
 
 pub returns : goal.returns

@@ -2,7 +2,7 @@ use Rattle.std.proofs.Common.{List, ap, ◌∙◌}
 use Rattle.std.specs.FinSet as set
 use Rattle.fv_model.specs.Places.{id_cmp, Id, ids_of}
 use Rattle.fv_reference.proofs.Finite.{union_start}
-use Rattle.fv_reference.proofs.Orders.{id_total, id_ties}
+use Rattle.fv_laws.proofs.Orders.{id_total, id_ties}
 use Rattle.fv_reference.proofs.volumes.ids_alone.Goals as goal
 
 pub returns : goal.returns

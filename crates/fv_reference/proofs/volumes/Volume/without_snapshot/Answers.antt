@@ -1,4 +1,4 @@
-use Rattle.fv_reference.proofs.Orders.{name_ties}
+use Rattle.fv_laws.proofs.Orders.{name_ties}
 use Rattle.fv_reference.proofs.volumes.Volume.without_snapshot.Goals as goal
 
 pub remove-requires : goal.remove-requires

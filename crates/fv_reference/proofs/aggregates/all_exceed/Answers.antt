@@ -2,8 +2,8 @@ use Rattle.std.proofs.Common.{ℕ, List, nat_lt, sum_by, sym, ap, ◌∙◌}
 use Rattle.fv_model.specs.Volumes.{Volume}
 use Rattle.fv_model.specs.Space.{commit}
 use Rattle.fv_reference.proofs.Views.{entries_of}
-use Rattle.fv_reference.proofs.Orders.{name_total}
-use Rattle.fv_reference.proofs.machines.all_exceed.Goals as goal
+use Rattle.fv_laws.proofs.Orders.{name_total}
+use Rattle.fv_reference.proofs.aggregates.all_exceed.Goals as goal
 
 pub returns : goal.returns
 returns c =

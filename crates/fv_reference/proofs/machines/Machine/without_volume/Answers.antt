@@ -1,5 +1,0 @@
-use Rattle.fv_reference.proofs.Orders.{name_ties}
-use Rattle.fv_reference.proofs.machines.Machine.without_volume.Goals as goal
-
-pub remove-requires : goal.remove-requires
-remove-requires c = record { ties = name_ties }
