@@ -28,7 +28,7 @@ spot_ties x y e =
     let both : (nat_cmp x.0 y.0 ≡ Equal) × (nat_cmp x.1 y.1 ≡ Equal) = both_equal _ _ e in
     λ i. (fin.nat_cmp-IsAntisymmetric x.0 y.0 both.0 i, fin.nat_cmp-IsAntisymmetric x.1 y.1 both.1 i)
 
-same_owner : (o p : Owner) → rank o ≡ rank p → o ≡ p
+pub same_owner : (o p : Owner) → rank o ≡ rank p → o ≡ p
 same_owner InodeFile InodeFile e = refl
 same_owner InodeFile (OfFile n) e = absurd (omega arith)
 same_owner (OfFile n) InodeFile e = absurd (omega arith)

@@ -96,7 +96,7 @@ module _ {K X : Type 0} {R : K → K → Ordering} (o : IsTotalOrder R) (same : 
   no_longer m k = subst (λ (n : ℕ). n ≤ fin.len m) (sym (fin.len-remove o m k)) (at_most (fin.contains_key m k) (fin.len m))
 
 -- ---- ids
-in_any : (ts : List Table) (q : Id) → set.contains (ids_in_any ts) q ≡ list_any (λ t. set.contains (ids_of t) q) ts
+pub in_any : (ts : List Table) (q : Id) → set.contains (ids_in_any ts) q ≡ list_any (λ t. set.contains (ids_of t) q) ts
 in_any [] q = set.contains-empty id_cmp q
 in_any (t ∷ ts) q = set.contains-union id_total (ids_of t) (ids_in_any ts) q ∙ ap (λ b. set.contains (ids_of t) q || b) (in_any ts q)
 

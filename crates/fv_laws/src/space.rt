@@ -1,15 +1,19 @@
 //! Laws of space: what volumes use, and when a command is refused for it.
-ghost use Rattle.std.specs.Prelude.{◌≡◌, ◌≤◌, ℕ, List, true, None};
+ghost use Rattle.std.specs.Prelude.{◌≡◌, ◌≤◌, ◌+◌, ℕ, List, length, cond, true, Some, None};
+ghost use Rattle.std.specs.FinSet as set;
 ghost use Rattle.std.specs.Option.{option_or};
 ghost use Rattle.std.specs.FinMap as fin;
 ghost use Rattle.fv_model.specs.declared.commands.Kind.{Kind};
 ghost use Rattle.fv_model.specs.declared.commands.Command.{Command};
 ghost use Rattle.fv_model.specs.Volumes.{Volume};
 ghost use Rattle.fv_model.specs.Machines.{Machine, empty_machine};
-ghost use Rattle.fv_model.specs.Space.{use_of};
-ghost use Rattle.fv_model.specs.Effects.{empty_volume};
+ghost use Rattle.fv_model.specs.Space.{charge, use_of};
+ghost use Rattle.fv_model.specs.Tables.{File, new, put, cut, rm};
+ghost use Rattle.fv_model.specs.Places.{Id, Ids};
+ghost use Rattle.fv_model.specs.Effects.{stamped, empty_volume};
 ghost use Rattle.fv_model.specs.Refusals.{is_splitting, first_of, refusal, next};
 ghost use Rattle.fv_laws.specs.Halves.{before_space, for_space};
+ghost use Rattle.fv_laws.specs.Paths.{new_path, put_path, cut_path, rm_path, ids_and_maps};
 ghost use Rattle.fv_laws.specs.Within.{IsWithin};
 
 /// No volume ever uses more than its size: there is none in an empty machine, and each command keeps it so.
@@ -33,4 +37,29 @@ pub fn use_does_not_rise()
 #[tactic(auto, using(crate::proofs::Halves::in_halves))]
 pub fn space_is_tried_last()
     ensures { (m : Machine) (c : Command) → refusal m c ≡ option_or (first_of (before_space m c)) (first_of (for_space m c)) }
+{}
+
+/// How many ids there are: of a union those of one set and those of the other that aren't in it, of a difference those of the
+/// set without those in both, and one more after an insertion of what wasn't there.
+#[tactic(auto, using(crate::proofs::Counts::counted_union, crate::proofs::Counts::counted_difference, crate::proofs::Counts::counted_insert))]
+pub fn ids_are_counted()
+    ensures union { (s t : Ids) → set.len (set.union s t) ≡ set.len s + set.len (set.difference t s) }
+    ensures difference { (s t : Ids) → set.len (set.difference s t) + set.len (set.intersection s t) ≡ set.len s }
+    ensures insert { (s : Ids) (id : Id) → set.len (set.insert s id) ≡ cond (set.contains s id) (set.len s) (set.len s + 1) }
+{}
+
+/// A volume is charged for at most the ids of all its tables, and its maps.
+#[tactic(auto, using(crate::proofs::Paths::charge_within))]
+pub fn charge_is_within_the_tables()
+    ensures { (x : Volume) → charge x ≤ ids_and_maps x }
+{}
+
+/// A change adds at most one block for each place on its path: the cells that it writes or removes, the marks over them, the
+/// marks that a growth of levels makes, and the file's cell in the inode file with the marks over that.
+#[tactic(auto, using(crate::proofs::Paths::new_adds_path, crate::proofs::Paths::put_adds_path, crate::proofs::Paths::cut_adds_path, crate::proofs::Paths::rm_adds_path))]
+pub fn a_change_adds_its_path()
+    ensures new { (x : Volume) (name : List ℕ) (reserve : ℕ) → charge (stamped x (new x.active name reserve)) ≤ charge x + length (new_path x.active) }
+    ensures put { (x : Volume) (n : ℕ) (f : File) (i : ℕ) (block : List ℕ) → fin.get x.active.files n ≡ Some f → charge (stamped x (put x.active n f i block)) ≤ charge x + length (put_path x.active n f i) }
+    ensures cut { (x : Volume) (n : ℕ) (f : File) (most : ℕ) → fin.get x.active.files n ≡ Some f → charge (stamped x (cut x.active n f most)) ≤ charge x + length (cut_path x.active n f most) }
+    ensures rm { (x : Volume) (n : ℕ) → charge (stamped x (rm x.active n)) ≤ charge x + length (rm_path x.active n) }
 {}
