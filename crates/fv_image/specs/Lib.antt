@@ -1,3 +1,4 @@
 pub mod Layout
 pub mod NewerRoot
 pub mod MachineOf
+pub mod Containers
