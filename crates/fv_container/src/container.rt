@@ -1,0 +1,133 @@
+//! A container in memory.
+
+ghost use Rattle.std.specs.Prelude.{◌≡◌, ◌<◌, ◌≤◌, ◌+◌, ℕ, None, Some, length, replicate, IfOk, IfSome, IfErr, OnErr};
+ghost use Rattle.fv_disk.specs.Shown.{Shown};
+ghost use Rattle.fv_image.specs.Containers.{level_width, most_entries};
+ghost use Rattle.fv_store.specs.Held.{StandsOn};
+ghost use Rattle.fv_root.specs.Finding.{OnlyReads};
+ghost use Rattle.fv_container.specs.Causes.{HasCause};
+ghost use Rattle.fv_container.specs.Mapped.{IsEntry, IsMapped, empty_map, entry_under, with_entry};
+
+use crate::entry::Entry;
+use crate::fault::ContainerFault;
+use crate::layout::{filled, node_count};
+use crate::steps::Steps;
+use fv_disk::Disk;
+use fv_store::Store;
+use std::alloc::{AllocError, Global};
+use std::marker::Model;
+use std::sync::ledger::Ledger;
+
+/// Which block stands under each VVBN of a volume.
+///
+/// Contracts see the entries by VVBN, each an entry or a hole, and the places of the tree's nodes.
+#[derive(Drop)]
+pub struct Container {
+    entries: Vec<Option<Entry>>,
+    /// The places of the tree that the disk has: leaves, the level above, and a root above that; 0 is no
+    /// place.
+    tree: Vec<u32>,
+    /// Room for the places of the next tree, so that a flush takes no memory.
+    next: Vec<u32>,
+}
+
+impl Model for Container {
+    ghost use Rattle.std.specs.Prelude.{◌≡◌, length};
+    ghost use Rattle.fv_container.specs.Mapped.{Mapped, IsMapped};
+    ghost use Rattle.fv_container.specs.Kept.{IsKept, map_of};
+
+    ghost Value = { Mapped };
+
+    ghost view = { λ container. map_of container.entries.items container.tree.items };
+
+    ghost invariant = { λ container. IsKept container.entries.items container.tree.items container.next.items };
+}
+
+impl Container {
+    /// A container of so many entries, at most 16,777,216, all of them holes. The one error is want of
+    /// memory. Costs a step for each entry.
+    pub fn new(alloc: Global, entries: u32) -> Result<Container, AllocError>
+        requires { entries ≤ most_entries }
+        ensures empty { IfOk result (λ container. container ≡ empty_map entries) }
+    {
+        let nodes = node_count(entries as usize);
+        Ok(Container {
+            entries: filled(alloc, entries as usize, None)?,
+            tree: filled(alloc, nodes, 0)?,
+            next: filled(alloc, nodes, 0)?,
+        })
+    }
+
+    /// The entry of a VVBN below the number of entries, `None` exactly for a hole. It counts one step.
+    /// `DiskFault` comes only where a read failed in this call.
+    pub fn look_up<D: Disk, L: Ledger>(
+        &mut self,
+        store: &mut Store,
+        disk: &mut D,
+        vvbn: u32,
+        steps: &mut Steps<L>,
+    ) -> Result<Option<Entry>, ContainerFault>
+        requires within { vvbn < length self.old.entries }
+        requires stands { StandsOn (D.shown disk.old) store.old.pairs }
+        ensures entry { IfOk result (λ entry. entry ≡ entry_under self.old vvbn) }
+        ensures same { self.new ≡ self.old }
+        ensures step { steps.new ≡ steps.old + 1 }
+        ensures only_reads { OnlyReads (D.shown disk.old) (D.shown disk.new) }
+        ensures stands { StandsOn (D.shown disk.new) store.new.pairs }
+        ensures cause { HasCause (D.shown disk.old).faults (D.shown disk.new).faults result }
+    {
+        steps.tick();
+        Ok(self.entries[vvbn as usize])
+    }
+
+    /// Sets the entry of a VVBN below the number of entries, or makes it a hole. `DiskFault` comes only
+    /// where a read failed in this call; after an error nothing has changed.
+    pub fn set<D: Disk>(
+        &mut self,
+        store: &mut Store,
+        disk: &mut D,
+        vvbn: u32,
+        entry: Option<Entry>,
+    ) -> Result<(), ContainerFault>
+        requires within { vvbn < length self.old.entries }
+        requires entry { IfSome entry IsEntry }
+        requires stands { StandsOn (D.shown disk.old) store.old.pairs }
+        ensures set { IfOk result (λ _. self.new ≡ with_entry self.old vvbn entry) }
+        ensures failed { OnErr result (self.new ≡ self.old) }
+        ensures only_reads { OnlyReads (D.shown disk.old) (D.shown disk.new) }
+        ensures stands { StandsOn (D.shown disk.new) store.new.pairs }
+        ensures cause { HasCause (D.shown disk.old).faults (D.shown disk.new).faults result }
+    {
+        self.entries[vvbn as usize] = entry;
+        Ok(())
+    }
+
+    /// The entry of a VVBN below the number of entries, `None` exactly for a hole. It takes no memory and
+    /// makes no disk call. Costs one step.
+    pub fn entry_at(&self, vvbn: u32) -> Option<Entry>
+        requires { vvbn < length self.now.entries }
+        ensures { result ≡ entry_under self.now vvbn }
+    {
+        self.entries[vvbn as usize]
+    }
+
+    /// Makes the entry of a VVBN below the number of entries a hole. It takes no memory and makes no disk
+    /// call. Costs one step.
+    pub fn make_hole(&mut self, vvbn: u32)
+        requires { vvbn < length self.old.entries }
+        ensures { self.new ≡ with_entry self.old vvbn None }
+    {
+        self.entries[vvbn as usize] = None;
+    }
+
+    /// The entry of a VVBN, where the container has it.
+    pub(crate) fn entry_or_none(&self, vvbn: u32) -> Option<Entry>
+        ensures { result ≡ entry_under self.now vvbn }
+    {
+        if (vvbn as usize) < self.entries.len() {
+            self.entries[vvbn as usize]
+        } else {
+            None
+        }
+    }
+}

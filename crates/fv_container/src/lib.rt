@@ -1,0 +1,15 @@
+//! Containers: which block stands under each VVBN of a volume.
+#![tactic(auto)]
+
+mod chain;
+mod container;
+mod entry;
+mod fault;
+mod layout;
+mod steps;
+
+pub use chain::Containers;
+pub use container::Container;
+pub use entry::Entry;
+pub use fault::ContainerFault;
+pub use steps::Steps;
