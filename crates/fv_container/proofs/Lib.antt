@@ -1,1 +1,6 @@
 mod Chains
+mod Nodes
+mod Reading
+mod Places
+mod Trees
+mod Walks

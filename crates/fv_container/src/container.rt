@@ -1,16 +1,18 @@
 //! A container in memory.
 
-ghost use Rattle.std.specs.Prelude.{◌≡◌, ◌<◌, ◌≤◌, ◌+◌, ℕ, None, Some, length, replicate, IfOk, IfSome, IfErr, OnErr};
+ghost use Rattle.std.specs.Prelude.{◌≡◌, ◌<◌, ◌≤◌, ◌+◌, ℕ, None, Some, length, replicate, IsTrue, IfOk, IfSome, IfErr, OnErr};
 ghost use Rattle.fv_disk.specs.Shown.{Shown};
 ghost use Rattle.fv_image.specs.Containers.{level_width, most_entries};
 ghost use Rattle.fv_store.specs.Held.{StandsOn};
 ghost use Rattle.fv_root.specs.Finding.{OnlyReads};
 ghost use Rattle.fv_container.specs.Causes.{HasCause};
+ghost use Rattle.fv_container.specs.Spelled.{IsFault, Spelled};
 ghost use Rattle.fv_container.specs.Mapped.{IsEntry, IsMapped, empty_map, entry_under, with_entry};
 
 use crate::entry::Entry;
 use crate::fault::ContainerFault;
 use crate::layout::{filled, node_count};
+use crate::load::read_tree;
 use crate::steps::Steps;
 use fv_disk::Disk;
 use fv_store::Store;
@@ -55,6 +57,45 @@ impl Container {
             entries: filled(alloc, entries as usize, None)?,
             tree: filled(alloc, nodes, 0)?,
             next: filled(alloc, nodes, 0)?,
+        })
+    }
+
+    /// The map that the tree on the disk spells with this root, height and number of entries: at most
+    /// 16,777,216 entries, and one or two levels of inner nodes. A root of 0 is a tree of holes.
+    ///
+    /// # Errors
+    /// `Damaged` comes exactly where a block of the tree isn't the node of its position, whose way from the
+    /// root is whole: the first field without its shape, or its level, number or index, with the wanted and
+    /// the found number. `DiskFault` comes only where a read failed in this call, and `Memory` where memory
+    /// ran out. It reads each node of the tree once.
+    pub fn at<D: Disk>(
+        alloc: Global,
+        store: &mut Store,
+        disk: &mut D,
+        entries: u32,
+        height: u8,
+        root: u32,
+    ) -> Result<Container, ContainerFault>
+        requires few { entries ≤ most_entries }
+        requires least { 1 ≤ height }
+        requires greatest { height ≤ 2 }
+        requires stands { StandsOn (D.shown disk.old) store.old.pairs }
+        ensures spelled { IsTrue (D.shown disk.old).tells → IfOk result (Spelled (D.shown disk.old).reads root height) }
+        ensures size { IfOk result (λ container. length container.entries ≡ entries) }
+        ensures fault { IsTrue (D.shown disk.old).tells → IfErr result (IsFault (D.shown disk.old).reads root height entries) }
+        ensures only_reads { OnlyReads (D.shown disk.old) (D.shown disk.new) }
+        ensures stands { StandsOn (D.shown disk.new) store.new.pairs }
+        ensures cause { HasCause (D.shown disk.old).faults (D.shown disk.new).faults result }
+    {
+        let nodes = node_count(entries as usize);
+        let mut table = filled(alloc, entries as usize, None)?;
+        let mut tree = filled(alloc, nodes, 0)?;
+        let next = filled(alloc, nodes, 0)?;
+        read_tree(store, disk, &mut tree, &mut table, height, root)?;
+        Ok(Container {
+            entries: table,
+            tree,
+            next,
         })
     }
 

@@ -6,6 +6,7 @@ mod container;
 mod entry;
 mod fault;
 mod layout;
+mod load;
 mod steps;
 
 pub use chain::Containers;
