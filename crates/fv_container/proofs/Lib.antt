@@ -1,6 +1,8 @@
 mod Chains
 mod Nodes
 mod Reading
-mod Places
+mod Named
 mod Trees
 mod Walks
+mod Regions
+mod Taking

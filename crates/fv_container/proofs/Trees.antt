@@ -12,7 +12,7 @@ use Rattle.fv_container.specs.Kept.{map_of}
 use Rattle.fv_container.specs.Mapped.{node_count}
 use Rattle.fv_container.specs.Spelled.{Spelled, names, pair_of}
 use Rattle.fv_container.specs.Reading.{AreWhole, FillsFrom}
-use Rattle.fv_container.proofs.Places.{named_at, named_where}
+use Rattle.fv_container.proofs.Named.{named_at, named_where}
 
 -- ---- the root, and the level above the leaves
 

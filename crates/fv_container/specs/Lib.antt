@@ -5,3 +5,5 @@ pub mod Kept
 pub mod Rows
 pub mod Spelled
 pub mod Reading
+pub mod Freeing
+pub mod Written

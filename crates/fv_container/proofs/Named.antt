@@ -1,5 +1,6 @@
 -- Blocks among places.
 use Rattle.std.proofs.Common.{◌≡◌, ◌≢◌, ℕ, suc, ◌<◌, List, [], ◌∷◌, length, get_or, true, false, ◌||◌, sym, ap, ◌∙◌, arith, ⊎_elim}
+use Rattle.std.proofs.lemmas.Bool.{true≢false}
 use Rattle.std.proofs.lemmas.Bool.{cases_Bool}
 use Rattle.std.proofs.lemmas.Bool.Decides.{nat_tests}
 use Rattle.std.proofs.lemmas.List.Folds.{list_any_at}
@@ -30,3 +31,6 @@ named_where (p ∷ ps) b named = ⊎_elim
     let rest = named_where ps b (sym (ap (λ t. t || names ps b) other) ∙ named) in
     record { number = suc rest.number; within = omega (arith, rest.within); place = rest.place; some = rest.some })
     (cases_Bool (is_at b p))
+
+pub elsewhere : (places : List ℕ) (m b : ℕ) → m < length places → get_or places m 0 ≢ 0 → names places b ≡ false → b ≢ get_or places m 0
+elsewhere places m b within some away is = true≢false (sym (named_at places m b within (sym is) (λ none. some (sym is ∙ none))) ∙ away)
