@@ -6,3 +6,4 @@ mod Trees
 mod Walks
 mod Regions
 mod Taking
+mod Flushed

@@ -37,7 +37,7 @@ shaped_leaf i at index block leaf is said = ap leaf_at (sym is) ∙ judged_ok (l
 pub zeros_at : (n c : ℕ) → ◌≡◌ {A = ℕ} (get_or (replicate n 0) c 0) 0
 zeros_at n c = ⊎_elim (λ (lt : c < n). get_or-replicate n c 0 0 lt) (λ (le : n ≤ c). get_or_past (replicate n 0) c 0 (omega (arith, le, length-replicate {A = ℕ} n 0))) (cases_lt c n)
 
-lying_read : {X : Type 0} (read : List ℕ → Result X Shape) (i : Image) (at : ℕ) (x : X) → at ≢ 0 → read (i at) ≡ Ok x → lying read i at ≡ Some x
+pub lying_read : {X : Type 0} (read : List ℕ → Result X Shape) (i : Image) (at : ℕ) (x : X) → at ≢ 0 → read (i at) ≡ Ok x → lying read i at ≡ Some x
 lying_read read i zero x some is = absurd (some refl)
 lying_read read i (suc p) x some is = rw is refl
 

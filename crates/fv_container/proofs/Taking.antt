@@ -1,19 +1,18 @@
 -- Places that are taken and given back one after another.
-use Rattle.std.proofs.Common.{◌≡◌, ◌≢◌, ℕ, zero, suc, ◌+◌, ◌-◌, ◌<◌, ◌≤◌, ◌⊎◌, List, [], ◌∷◌, ◌++◌, length, get_or, take, Bool, true, false, not, ◌&&◌, ◌||◌, cond, nat_eq, ◌==◌, if◌then◌else◌, refl, sym, ap, subst, ◌∙◌, inl, inr, arith, ⊎_elim, Option}
+use Rattle.std.proofs.Common.{◌≡◌, ◌≢◌, ℕ, zero, suc, ◌+◌, ◌-◌, ◌<◌, ◌≤◌, ◌⊎◌, List, [], ◌∷◌, length, get_or, take, Bool, true, false, not, ◌&&◌, ◌||◌, cond, nat_eq, ◌==◌, if◌then◌else◌, refl, sym, ap, ◌∙◌, inl, inr, arith, ⊎_elim, Option}
 use Rattle.std.specs.Prelude.{slice_set}
 use Rattle.std.specs.FinSet as set
 use Rattle.std.specs.FinSet.{FinSet}
 use Rattle.std.specs.Ordering.{nat_cmp, eq_by_cmp}
 use Rattle.std.proofs.lemmas.Cmp.{nat_cmp_total}
-use Rattle.std.proofs.lemmas.Bool.{cases_Bool, cases_eq, cases_lt, true≢false}
+use Rattle.std.proofs.lemmas.Bool.{cases_Bool, cases_eq, true≢false}
 use Rattle.std.proofs.lemmas.Bool.Decides.{nat_tests}
 use Rattle.std.proofs.lemmas.List.{get_or-set_same, get_or-set_other, get_or-take, length-take, take_more_set}
 use Rattle.std.proofs.lemmas.List.Folds.{list_any-append, list_any_more}
 use Rattle.fv_container.specs.declared.entry.Entry.{Entry}
-use Rattle.fv_codec.specs.Blocks.{last_place}
 use Rattle.fv_container.specs.Spelled.{is_at, names}
 use Rattle.fv_container.specs.Freeing.{IsRoom, Releases, Room}
-use Rattle.fv_container.specs.Written.{HasReleased, HasTaken, TakesIf, is_written, written_before, blocks_needed}
+use Rattle.fv_container.specs.Written.{HasReleased, HasTaken, TakesIf, is_written, written_before}
 use Rattle.fv_container.proofs.Named.{named_at}
 
 -- ---- tests
@@ -269,9 +268,9 @@ released_more old mid new ps n b within is some so_far gives =
       adds = λ a in_it. ⊎_elim
           (λ (same : new.free ≡ mid.free). ⊎_elim (λ was. inl was) (λ named. inr (next a ∙ or_left (names (take n ps) a) (is_at a b) named)) (so_far.adds a (rw (← same) in_it)))
           (λ (grown : new.free ≡ set.insert mid.free b). ⊎_elim
-            (λ (now : is_at a b ≡ true). inr (next a ∙ or_right (names (take n ps) a) (is_at a b) now))
-            (λ (was : set.contains mid.free a ≡ true). ⊎_elim (λ first. inl first) (λ named. inr (next a ∙ or_left (names (take n ps) a) (is_at a b) named)) (so_far.adds a was))
-            (or_cases (is_at a b) (set.contains mid.free a) (sym (inserted a grown) ∙ in_it)))
+          (λ (now : is_at a b ≡ true). inr (next a ∙ or_right (names (take n ps) a) (is_at a b) now))
+          (λ (was : set.contains mid.free a ≡ true). ⊎_elim (λ first. inl first) (λ named. inr (next a ∙ or_left (names (take n ps) a) (is_at a b) named)) (so_far.adds a was))
+          (or_cases (is_at a b) (set.contains mid.free a) (sym (inserted a grown) ∙ in_it)))
           gives.free;
       held = λ a.
           gives.held a ∙ ap (λ t. not t && mid.held a) (sym (at_some a b place)) ∙ ap (λ t. not (is_at a b) && t) (so_far.held a)

@@ -7,3 +7,4 @@ pub mod Spelled
 pub mod Reading
 pub mod Freeing
 pub mod Written
+pub mod Flushed

@@ -1,8 +1,13 @@
 //! A container in memory.
 
-ghost use Rattle.std.specs.Prelude.{◌≡◌, ◌<◌, ◌≤◌, ◌+◌, ℕ, None, Some, length, replicate, IsTrue, IfOk, IfSome, IfErr, OnErr};
+ghost use Rattle.std.specs.Prelude.{◌≡◌, ◌<◌, ◌≤◌, ◌+◌, ℕ, None, Some, length, replicate, IsTrue, IfOk, IfSome, IfErr, OnErr, OnOk};
+ghost use Rattle.std.specs.FinSet as set;
+ghost use Rattle.fv_codec.specs.Blocks.{last_place};
+ghost use Rattle.fv_root.specs.Writing.{Spares};
+ghost use Rattle.fv_container.specs.Written.{blocks_needed};
+ghost use Rattle.fv_container.specs.Flushed.{Exchanges, IsApart, IsOnce, Loses, WasTaken, without_value};
 ghost use Rattle.fv_disk.specs.Shown.{Shown};
-ghost use Rattle.fv_image.specs.Containers.{level_width, most_entries};
+ghost use Rattle.fv_image.specs.Containers.{height_of, level_width, most_entries};
 ghost use Rattle.fv_store.specs.Held.{StandsOn};
 ghost use Rattle.fv_root.specs.Finding.{OnlyReads};
 ghost use Rattle.fv_container.specs.Causes.{HasCause};
@@ -11,10 +16,13 @@ ghost use Rattle.fv_container.specs.Mapped.{IsEntry, IsMapped, empty_map, entry_
 
 use crate::entry::Entry;
 use crate::fault::ContainerFault;
+use crate::flush::flush_tree;
+use crate::free::Free;
 use crate::layout::{filled, node_count};
 use crate::load::read_tree;
+use crate::places::root_number;
 use crate::steps::Steps;
-use fv_disk::Disk;
+use fv_disk::{Disk, Failed};
 use fv_store::Store;
 use std::alloc::{AllocError, Global};
 use std::marker::Model;
@@ -159,6 +167,39 @@ impl Container {
         ensures { self.new ≡ with_entry self.old vvbn None }
     {
         self.entries[vvbn as usize] = None;
+    }
+
+    /// Writes the container to blocks that are free in `map`, and answers the root of its tree, which has
+    /// the least height, at least 1, whose fan-out of 256 covers the leaves. A leaf that holds only holes
+    /// is absent. The blocks of the old tree are given back. `map` has as many free blocks as it writes:
+    /// one for each leaf that has an entry and each inner node.
+    ///
+    /// It takes no memory and reads nothing, and no block is written that wasn't free in `map` at the
+    /// call. The one error is a failed write; the container then stands as before, with its old tree, and
+    /// the blocks that were taken are lost to `map`. Costs a step for each entry and a write for each block.
+    pub fn flush<D: Disk, F: Free>(
+        &mut self,
+        store: &mut Store,
+        disk: &mut D,
+        map: &mut F,
+    ) -> Result<u32, Failed>
+        requires stands { StandsOn (D.shown disk.old) store.old.pairs }
+        requires room { blocks_needed self.old.entries ≤ set.len (F.room map.old).free }
+        ensures entries { self.new.entries ≡ self.old.entries }
+        ensures failed { OnErr result (self.new ≡ self.old) }
+        ensures spelled { IsTrue (D.shown disk.old).tells
+            → IsApart (F.room map.old) self.old.tree
+            → IfOk result (λ root. Spelled (D.shown disk.new).reads root (height_of (length self.new.entries)) self.new) }
+        ensures root { IfOk result (λ root. (1 ≤ root) × (root ≤ last_place)) }
+        ensures once { OnOk result (IsOnce self.new.tree) }
+        ensures writes { Spares (WasTaken (F.room map.old)) (D.shown disk.old) (D.shown disk.new) (without_value result) }
+        ensures map { OnOk result (Exchanges (F.room map.old) self.new.tree self.old.tree (F.room map.new)) }
+        ensures lost { OnErr result (Loses (F.room map.old) (F.room map.new)) }
+        ensures stands { StandsOn (D.shown disk.new) store.new.pairs }
+    {
+        flush_tree(store, disk, map, &self.entries, &self.tree, &mut self.next)?;
+        std::mem::swap(&mut self.tree, &mut self.next);
+        Ok(self.tree[root_number(self.entries.len())])
     }
 
     /// The entry of a VVBN, where the container has it.

@@ -5,6 +5,7 @@ mod chain;
 mod container;
 mod entry;
 mod fault;
+mod flush;
 mod free;
 mod layout;
 mod load;

@@ -1,7 +1,6 @@
-use Rattle.std.proofs.Common.{◌≡◌, ◌≢◌, get_or, refl, sym, subst, arith, ⊎_elim}
+use Rattle.std.proofs.Common.{◌≡◌, ◌≢◌, get_or, refl, ⊎_elim}
 use Rattle.std.proofs.lemmas.Bool.{cases_eq}
-use Rattle.fv_container.specs.Written.{HasReleased}
-use Rattle.fv_container.proofs.Taking.{released_more, released_none, released_skip}
+use Rattle.fv_container.proofs.Taking.{released_more, released_skip}
 use Rattle.fv_container.proofs.places.release_places.Goals as goal
 
 pub loop-n-preserved : goal.loop-n-preserved

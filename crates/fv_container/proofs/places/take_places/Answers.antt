@@ -1,6 +1,5 @@
-use Rattle.std.proofs.Common.{refl, sym, subst, ◌∙◌, ◌≡◌, ◌<◌, length, arith, length-set}
+use Rattle.std.proofs.Common.{refl, sym, ◌∙◌, length, arith, length-set}
 use Rattle.fv_container.specs.Mapped.{node_count}
-use Rattle.fv_container.specs.Written.{TakesIf}
 use Rattle.fv_container.proofs.Taking.{some_left, taken_more, taken_none}
 use Rattle.fv_container.proofs.places.take_places.Goals as goal
 
