@@ -1,6 +1,6 @@
 mod Committing
 mod EmptyMachine
-mod Finding
+pub mod Finding
 mod Fixed
 mod Gates
 pub mod Laws
@@ -9,4 +9,4 @@ mod Apart
 mod Ranges
 mod Rooted
 mod Sides
-mod Writing
+pub mod Writing

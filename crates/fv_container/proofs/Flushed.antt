@@ -1,0 +1,261 @@
+-- A tree that was written.
+use Rattle.std.proofs.Common.{◌≡◌, ◌≢◌, ℕ, suc, ◌+◌, ◌-◌, ◌*◌, ◌/◌, ◌%◌, ◌<◌, ◌≤◌, List, length, get_or, take, Bool, true, false, not, ◌&&◌, ◌||◌, refl, sym, ap, subst, ◌∙◌, inl, arith, ⊎_elim, Ok, Option, None}
+use Rattle.std.specs.Prelude.{nat_lt, nat_le}
+use Rattle.std.specs.FinSet as set
+use Rattle.std.proofs.lemmas.Bool.{cases_Bool, cases_lt, true≢false}
+use Rattle.std.proofs.lemmas.Bool.Decides.{nat_tests}
+use Rattle.std.proofs.lemmas.List.{take_all}
+use Rattle.fv_disk.specs.Shown.{Image}
+use Rattle.fv_codec.specs.Fields.{in_range}
+use Rattle.fv_codec.specs.Blocks.{inner_at, leaf_at}
+use Rattle.fv_image.specs.Containers.{child_in, entry_in, height_of, inner_for, leaf_for, level_width, lying, most_entries, node_below, node_verdict}
+use Rattle.fv_container.specs.declared.entry.Entry.{Entry}
+use Rattle.fv_container.specs.Kept.{map_of}
+use Rattle.fv_container.specs.Mapped.{node_count}
+use Rattle.fv_container.specs.Spelled.{Spelled, names, pair_of}
+use Rattle.fv_container.specs.Reading.{AreWhole}
+use Rattle.fv_container.specs.Freeing.{Room}
+use Rattle.fv_container.specs.Written.{AreWritten, IsInnerOf, IsLeafOf, HasReleased, HasTaken, has_entry, is_written, root_number}
+use Rattle.fv_container.specs.Flushed.{Exchanges, Loses}
+use Rattle.fv_container.proofs.Nodes.{lying_read}
+use Rattle.fv_container.proofs.Regions.{hole_in}
+use Rattle.fv_container.proofs.Trees.{TreeAt, spelled}
+
+-- ---- one node
+
+range_of : (x y : ℕ) → y ≡ x → in_range x x y ≡ Ok tt
+range_of x y same = let test : nat_lt x x ≡ false = grind (arith, nat_tests) in rw (same, test) refl
+
+leaf_whole : (es : List (Option Entry)) (index : ℕ) (block : List ℕ) → IsLeafOf es index block → node_verdict 0 index block ≡ Ok tt
+unfolding leaf_for
+leaf_whole es index block is = rw (is.said, range_of index is.leaf.index is.index_said) refl
+
+inner_whole : (places : List ℕ) (level number from end : ℕ) (block : List ℕ) → IsInnerOf places (suc level) number from end block → node_verdict (suc level) number block ≡ Ok tt
+unfolding inner_for
+inner_whole places level number from end block is = rw (is.said, range_of (suc level) is.node.level is.level_said, range_of number is.node.place is.number_said) refl
+
+child_of : (i : Image) (places : List ℕ) (level number from end p c : ℕ) → IsInnerOf places level number from end (i p) → p ≢ 0 → c < 256 → from + c < end → child_in (lying inner_at i p) c ≡ get_or places (from + c) 0
+child_of i places level number from end p c is some lt inside =
+    let test : nat_lt (from + c) end ≡ true = grind (arith, nat_tests) in
+    ap (λ n. child_in n c) (lying_read inner_at i p is.node some is.said) ∙ is.children c lt ∙ rw test refl
+
+-- ---- which nodes are written
+
+module _ (es : List (Option Entry)) (few : length es ≤ most_entries) where
+  abbrev pub n : ℕ
+  n = length es
+
+  abbrev pub leaves : ℕ
+  leaves = level_width n 0
+
+  abbrev pub inner : ℕ
+  inner = level_width n 1
+
+  leaf_if : (k : ℕ) → k < leaves → is_written es k ≡ has_entry es k
+  unfolding is_written
+  leaf_if k within = let test : nat_lt k leaves ≡ true = grind (arith, nat_tests) in rw test refl
+
+  inner_is : (q : ℕ) → q < inner → is_written es (leaves + q) ≡ true
+  unfolding is_written
+  inner_is q within =
+      let past : nat_lt (leaves + q) leaves ≡ false = grind (arith, nat_tests) in
+      let inside : nat_lt (leaves + q) (leaves + inner) ≡ true = grind (arith, nat_tests) in
+      rw (past, inside) refl
+
+  top_if : is_written es (leaves + inner) ≡ nat_lt 1 inner
+  unfolding is_written
+  top_if =
+      let past : nat_lt (leaves + inner) leaves ≡ false = grind (arith, nat_tests) in
+      let end : nat_lt (leaves + inner) (leaves + inner) ≡ false = grind (arith, nat_tests) in
+      rw (past, end) refl
+
+  low_inner : leaves ≤ 256 → inner ≡ 1
+  low_inner low = omega (arith, low)
+
+  high_inner : 256 < leaves → 1 < inner
+  high_inner high = omega (arith, high)
+
+  few_inner : inner ≤ 256
+  few_inner = omega (arith, few)
+
+  -- ---- the tree
+
+  module _ (i : Image) (ps : List ℕ) (long : length ps ≡ node_count n) (written : AreWritten es ps (length ps) i)
+      (placed : (m : ℕ) → m < length ps → is_written es m ≡ true → get_or ps m 0 ≢ 0)
+      (absent : (m : ℕ) → m < length ps → is_written es m ≡ false → get_or ps m 0 ≡ 0)
+    where
+      inner_place : (q : ℕ) → q < inner → get_or ps (leaves + q) 0 ≢ 0
+      inner_place q within = placed (leaves + q) (omega (arith, long, within)) (inner_is q within)
+
+      inner_block : (q : ℕ) → q < inner → IsInnerOf ps 1 q (256 * q) leaves (i (get_or ps (leaves + q) 0))
+      inner_block q within =
+          let node = written (leaves + q) (omega (arith, long, within)) (inner_place q within) in
+          let same : leaves + q - leaves ≡ q = omega arith in
+          subst (λ (k : ℕ). IsInnerOf ps 1 k (256 * k) leaves (i (get_or ps (leaves + q) 0))) same (node.inner (omega arith) (omega (arith, within)))
+
+      leaf_child : (k : ℕ) → k < leaves → child_in (lying inner_at i (get_or ps (leaves + k / 256) 0)) (k % 256) ≡ get_or ps k 0
+      leaf_child k within =
+          let up : k / 256 < inner = omega (arith, within) in
+          let at : 256 * (k / 256) + k % 256 ≡ k = omega arith in
+          child_of i ps 1 (k / 256) (256 * (k / 256)) leaves (get_or ps (leaves + k / 256) 0) (k % 256) (inner_block (k / 256) up) (inner_place (k / 256) up) (omega arith) (omega (arith, at, within))
+          ∙ ap (λ (m : ℕ). get_or ps m 0) at
+
+      leaves_whole : AreWhole i 0 ps 0 leaves
+      leaves_whole = λ k within some.
+          let first : 0 + k ≡ k = omega arith in
+          let some_at : get_or ps k 0 ≢ 0 = λ none. some (ap (λ (m : ℕ). get_or ps m 0) first ∙ none) in
+          subst (λ (m : ℕ). node_verdict 0 k (i (get_or ps m 0)) ≡ Ok tt) (sym first) (leaf_whole es k (i (get_or ps k 0)) ((written k (omega (arith, long, within)) some_at).leaf within))
+
+      inner_all_whole : AreWhole i 1 ps leaves inner
+      inner_all_whole = λ q within some. inner_whole ps 0 q (256 * q) leaves (i (get_or ps (leaves + q) 0)) (inner_block q within)
+
+      read : (v : ℕ) → v < n → pair_of (get_or es v None) ≡ entry_in (lying leaf_at i (get_or ps (v / 256) 0)) (v % 256)
+      read v within =
+          let k = v / 256 in
+          let up : k < leaves = omega (arith, within) in
+          let at : 256 * k + v % 256 ≡ v = omega arith in
+          ⊎_elim
+          (λ (is : has_entry es k ≡ true).
+          let some : get_or ps k 0 ≢ 0 = placed k (omega (arith, long, up)) (leaf_if k up ∙ is) in
+          let leaf = (written k (omega (arith, long, up)) some).leaf up in
+          sym (ap (λ l. entry_in l (v % 256)) (lying_read leaf_at i (get_or ps k 0) leaf.leaf some leaf.said) ∙ leaf.entries (v % 256) (omega arith) ∙ ap (λ (m : ℕ). pair_of (get_or es m None)) at))
+          (λ (none : has_entry es k ≡ false).
+          let place : get_or ps k 0 ≡ 0 = absent k (omega (arith, long, up)) (leaf_if k up ∙ none) in
+          let hole : get_or es v None ≡ None = ap (λ (m : ℕ). get_or es m None) (sym at) ∙ hole_in es k (v % 256) none (omega arith) in
+          ap pair_of hole ∙ sym (ap (λ (p : ℕ). entry_in (lying leaf_at i p) (v % 256)) place))
+          (cases_Bool (has_entry es k))
+
+      module _ (low : leaves ≤ 256) where
+        low_height : height_of n ≡ 1
+        low_height = let test : nat_le leaves 256 ≡ true = grind (arith, nat_tests) in rw test refl
+
+        low_root : root_number n ≡ leaves
+        low_root = let test : nat_lt 1 inner ≡ false = grind (arith, nat_tests, low_inner low) in rw test refl
+
+        plus_none : leaves + 0 ≡ leaves
+        plus_none = omega arith
+
+        low_tree : TreeAt i (get_or ps leaves 0) 1 n ps
+        unfolding node_below
+        low_tree = record {
+          few = few;
+          least = omega arith;
+          greatest = omega arith;
+          long = long;
+          leaf = λ k within.
+              let up : k / 256 ≡ 0 = omega (arith, within, low) in
+              let child : child_in (lying inner_at i (get_or ps leaves 0)) (k % 256) ≡ get_or ps k 0 = ap (λ (m : ℕ). child_in (lying inner_at i (get_or ps m 0)) (k % 256)) (sym plus_none ∙ ap (λ (m : ℕ). leaves + m) (sym up)) ∙ leaf_child k within in
+              sym (rw up child);
+          inner = λ q within.
+              let first : q ≡ 0 = omega (arith, within, low_inner low) in
+              rw (first, plus_none) refl;
+          top = absent (leaves + inner) (omega (arith, long)) (top_if ∙ alone);
+        }
+          where
+            alone : nat_lt 1 inner ≡ false
+            alone = grind (arith, nat_tests, low_inner low)
+
+        low_spelled : Spelled i (get_or ps (root_number n) 0) (height_of n) (map_of es ps)
+        low_spelled = rw (low_height, low_root) (spelled i (get_or ps leaves 0) 1 es ps low_tree leaves_whole inner_all_whole (λ high. absurd (omega (arith, high))) read)
+
+      module _ (high : 256 < leaves) where
+        high_height : height_of n ≡ 2
+        high_height = let test : nat_le leaves 256 ≡ false = grind (arith, nat_tests) in rw test refl
+
+        more : nat_lt 1 inner ≡ true
+        more = grind (arith, nat_tests, high_inner high)
+
+        high_root : root_number n ≡ leaves + inner
+        high_root = rw more refl
+
+        top_place : get_or ps (leaves + inner) 0 ≢ 0
+        top_place = placed (leaves + inner) (omega (arith, long)) (top_if ∙ more)
+
+        top_block : IsInnerOf ps 2 0 leaves (leaves + inner) (i (get_or ps (leaves + inner) 0))
+        top_block = (written (leaves + inner) (omega (arith, long)) top_place).top refl
+
+        high_inner_at : (q : ℕ) → q < inner → get_or ps (leaves + q) 0 ≡ node_below i (get_or ps (leaves + inner) 0) 1 q
+        unfolding node_below
+        high_inner_at q within =
+            let up : q / 256 ≡ 0 = omega (arith, within, few_inner) in
+            let itself : q % 256 ≡ q = omega (arith, within, few_inner) in
+            rw (up, itself) (sym (child_of i ps 2 0 leaves (leaves + inner) (get_or ps (leaves + inner) 0) q top_block top_place (omega (arith, within, few_inner)) (omega (arith, within))))
+
+        high_tree : TreeAt i (get_or ps (leaves + inner) 0) 2 n ps
+        unfolding node_below
+        high_tree = record {
+          few = few;
+          least = omega arith;
+          greatest = omega arith;
+          long = long;
+          leaf = λ k within. sym (ap (λ (p : ℕ). child_in (lying inner_at i p) (k % 256)) (sym (high_inner_at (k / 256) (omega (arith, within)))) ∙ leaf_child k within);
+          inner = high_inner_at;
+          top = refl;
+        }
+
+        high_spelled : Spelled i (get_or ps (root_number n) 0) (height_of n) (map_of es ps)
+        high_spelled = rw (high_height, high_root) (spelled i (get_or ps (leaves + inner) 0) 2 es ps high_tree leaves_whole inner_all_whole (λ two some. inner_whole ps 1 0 leaves (leaves + inner) (i (get_or ps (leaves + inner) 0)) top_block) read)
+
+      pub tree_spelled : Spelled i (get_or ps (root_number n) 0) (height_of n) (map_of es ps)
+      tree_spelled = ⊎_elim high_spelled low_spelled (cases_lt 256 leaves)
+
+-- ---- the map
+
+all_named : (ps : List ℕ) (b : ℕ) → names (take (length ps) ps) b ≡ names ps b
+all_named ps b = ap (λ (l : List ℕ). names l b) (take_all (length ps) ps (omega arith))
+
+pub exchanged : (old mid new : Room) (es : List (Option Entry)) (taken given : List ℕ) → HasTaken old es taken (length taken) mid → HasReleased mid given (length given) new → Exchanges old taken given new
+exchanged old mid new es taken given takes gives = record {
+  free = λ b named. inl (takes.free b (all_named taken b ∙ named));
+  stay = λ b was out. gives.keeps b (takes.left b ∙ both (set.contains old.free b) (names (take (length taken) taken) b) was (all_named taken b ∙ out));
+  come = λ b now not_given. ⊎_elim
+      (λ (before : set.contains mid.free b ≡ true).
+      let both_so = sym (takes.left b) ∙ before in
+      (first (set.contains old.free b) (names (take (length taken) taken) b) both_so, sym (all_named taken b) ∙ second (set.contains old.free b) (names (take (length taken) taken) b) both_so))
+      (λ (was_given : names (take (length given) given) b ≡ true). absurd (true≢false (sym (sym (all_named given b) ∙ was_given) ∙ not_given)))
+      (gives.adds b now);
+  held = λ apart b.
+      gives.held b ∙ ap (λ t. not t && mid.held b) (all_named given b) ∙ ap (λ t. not (names given b) && t) (takes.held b ∙ ap (λ t. t || old.held b) (all_named taken b))
+      ∙ swapped (names taken b) (names given b) (old.held b) (λ named. apart b (takes.free b (all_named taken b ∙ named)));
+}
+  where
+    both : (o t : Bool) → o ≡ true → t ≡ false → (o && not t) ≡ true
+    both o t is out = rw (is, out) refl
+
+    first : (o t : Bool) → (o && not t) ≡ true → o ≡ true
+    first true t is = refl
+    first false t is = is
+
+    second : (o t : Bool) → (o && not t) ≡ true → t ≡ false
+    second true false is = refl
+    second true true is = sym is
+    second false t is = absurd (true≢false (sym is))
+
+    swapped : (t g h : Bool) → (t ≡ true → g ≡ false) → (not g && (t || h)) ≡ (t || (not g && h))
+    swapped true g h out = rw (out refl) refl
+    swapped false g h out = refl
+
+pub lost : (old mid : Room) (es : List (Option Entry)) (taken : List ℕ) (n : ℕ) → HasTaken old es taken n mid → Loses old mid
+lost old mid es taken n takes = record {
+  free = λ b now. first (set.contains old.free b) (names (take n taken) b) (sym (takes.left b) ∙ now);
+}
+  where
+    first : (o t : Bool) → (o && not t) ≡ true → o ≡ true
+    first true t is = refl
+    first false t is = is
+
+pub root_placed : (es : List (Option Entry)) (ps : List ℕ) → length es ≤ most_entries → length ps ≡ node_count (length es) → ((m : ℕ) → m < length ps → is_written es m ≡ true → get_or ps m 0 ≢ 0) → 1 ≤ get_or ps (root_number (length es)) 0
+root_placed es ps few long placed =
+    let leaves = level_width (length es) 0 in
+    let inner = level_width (length es) 1 in
+    ⊎_elim
+    (λ (high : 1 < inner).
+    let test : nat_lt 1 inner ≡ true = grind (arith, nat_tests) in
+    let some = placed (leaves + inner) (omega (arith, long)) (top_if es few ∙ test) in
+    rw test (omega (arith, some)))
+    (λ (low : inner ≤ 1).
+    let test : nat_lt 1 inner ≡ false = grind (arith, nat_tests) in
+    let first : leaves + 0 ≡ leaves = omega arith in
+    let some : get_or ps leaves 0 ≢ 0 = placed leaves (omega (arith, long)) (ap (is_written es) (sym first) ∙ inner_is es few 0 (omega arith)) in
+    rw test (omega (arith, some)))
+    (cases_lt 1 inner)

@@ -1,0 +1,62 @@
+-- Nodes that were read.
+use Rattle.std.proofs.Common.{◌≡◌, ◌≢◌, ℕ, zero, suc, ◌<◌, ◌≤◌, List, length, get_or, replicate, refl, sym, ap, subst, ◌∙◌, arith, ⊎_elim, Result, Ok, Err, Some}
+use Rattle.std.specs.List.{zip}
+use Rattle.std.proofs.lemmas.Bool.{cases_lt}
+use Rattle.std.proofs.lemmas.List.{get_or-replicate, get_or_past, length-replicate}
+use Rattle.std.proofs.lemmas.List.Elements.{All-get_or}
+use Rattle.std.proofs.lemmas.Slice.Zip.{length-zip, get_or-zip}
+use Rattle.fv_disk.specs.Shown.{Image}
+use Rattle.fv_codec.specs.declared.shape.Shape.{Shape}
+use Rattle.fv_codec.specs.declared.container.ContainerLeaf.{ContainerLeaf}
+use Rattle.fv_codec.specs.declared.container.ContainerInner.{ContainerInner}
+use Rattle.fv_codec.specs.Fields.{Verdict, reading}
+use Rattle.fv_codec.specs.Blocks.{IsContainerLeaf, IsEntry, inner_at, leaf_at}
+use Rattle.fv_image.specs.Containers.{child_in, entry_in, inner_for, judged, leaf_for, lying}
+use Rattle.fv_container.specs.Reading.{ReadsAs}
+
+read_ok : {X : Type 0} (v : Verdict) (y x : X) → reading v y ≡ Ok x → ◌≡◌ {A = Result X Shape} (Ok y) (Ok x)
+read_ok (Ok fine) y x is = is
+read_ok (Err fault) y x is = cc
+
+judged_ok : {X : Type 0} (r : Result X Shape) (asks : X → Verdict) (x : X) → judged r asks ≡ Ok x → r ≡ Ok x
+judged_ok (Err s) asks x is = cc
+judged_ok (Ok y) asks x is = read_ok (asks y) y x is
+
+said_ok : {X : Type 0} (at : ℕ) (r : Result X Shape) (x : X) → ReadsAs at (λ n. n) r (Ok x) → r ≡ Ok x
+said_ok at (Ok y) x is = cc
+said_ok at (Err s) x is = cc
+
+shaped_inner : (i : Image) (at level number : ℕ) (block : List ℕ) (node : ContainerInner) → block ≡ i at → ReadsAs at (λ n. n) (inner_for level number block) (Ok node) → inner_at (i at) ≡ Ok node
+unfolding inner_for
+shaped_inner i at level number block node is said = ap inner_at (sym is) ∙ judged_ok (inner_at block) _ node (said_ok at (inner_for level number block) node said)
+
+shaped_leaf : (i : Image) (at index : ℕ) (block : List ℕ) (leaf : ContainerLeaf) → block ≡ i at → ReadsAs at (λ n. n) (leaf_for index block) (Ok leaf) → leaf_at (i at) ≡ Ok leaf
+unfolding leaf_for
+shaped_leaf i at index block leaf is said = ap leaf_at (sym is) ∙ judged_ok (leaf_at block) _ leaf (said_ok at (leaf_for index block) leaf said)
+
+pub zeros_at : (n c : ℕ) → ◌≡◌ {A = ℕ} (get_or (replicate n 0) c 0) 0
+zeros_at n c = ⊎_elim (λ (lt : c < n). get_or-replicate n c 0 0 lt) (λ (le : n ≤ c). get_or_past (replicate n 0) c 0 (omega (arith, le, length-replicate {A = ℕ} n 0))) (cases_lt c n)
+
+pub lying_read : {X : Type 0} (read : List ℕ → Result X Shape) (i : Image) (at : ℕ) (x : X) → at ≢ 0 → read (i at) ≡ Ok x → lying read i at ≡ Some x
+lying_read read i zero x some is = absurd (some refl)
+lying_read read i (suc p) x some is = rw is refl
+
+pub inner_children : (i : Image) (at level number : ℕ) (block : List ℕ) (node : ContainerInner) → at ≢ 0 → block ≡ i at → ReadsAs at (λ n. n) (inner_for level number block) (Ok node) → (c : ℕ) → get_or node.children c 0 ≡ child_in (lying inner_at i at) c
+inner_children i at level number block node some is said c = sym (ap (λ n. child_in n c) (lying_read inner_at i at node some (shaped_inner i at level number block node is said)))
+
+pub no_children : (i : Image) (at c : ℕ) → at ≡ 0 → get_or (replicate 256 0) c 0 ≡ child_in (lying inner_at i at) c
+no_children i at c none = zeros_at 256 c ∙ sym (ap (λ p. child_in (lying inner_at i p) c) none)
+
+pub leaf_entries : (i : Image) (at index : ℕ) (block : List ℕ) (leaf : ContainerLeaf) → at ≢ 0 → block ≡ i at → ReadsAs at (λ n. n) (leaf_for index block) (Ok leaf) → (c : ℕ) → (get_or leaf.pvbns c 0, get_or leaf.kinds c 0) ≡ entry_in (lying leaf_at i at) c
+leaf_entries i at index block leaf some is said c = sym (ap (λ l. entry_in l c) (lying_read leaf_at i at leaf some (shaped_leaf i at index block leaf is said)))
+
+pub no_entries : (i : Image) (at c : ℕ) → at ≡ 0 → (get_or (replicate 256 0) c 0, get_or (replicate 256 0) c 0) ≡ entry_in (lying leaf_at i at) c
+no_entries i at c none = ap (λ (z : ℕ). (z, z)) (zeros_at 256 c) ∙ sym (ap (λ p. entry_in (lying leaf_at i p) c) none)
+
+pub no_range : (c : ℕ) → IsEntry (get_or (replicate 256 0) c 0, get_or (replicate 256 0) c 0)
+no_range c = rw (zeros_at 256 c) (omega arith, omega arith)
+
+pub leaf_range : (leaf : ContainerLeaf) → IsContainerLeaf leaf → length leaf.pvbns ≡ 256 → length leaf.kinds ≡ 256 → (c : ℕ) → c < 256 → IsEntry (get_or leaf.pvbns c 0, get_or leaf.kinds c 0)
+leaf_range leaf is pvbns kinds c inside =
+    let all = All-get_or IsEntry (zip leaf.pvbns leaf.kinds) c (0, 0) (omega (arith, length-zip leaf.pvbns leaf.kinds, pvbns, kinds, inside)) is.entries in
+    subst IsEntry (get_or-zip leaf.pvbns leaf.kinds c (0, 0) (omega (arith, pvbns, inside)) (omega (arith, kinds, inside))) all

@@ -1,0 +1,140 @@
+-- A tree whose nodes stand at a row of places: the leaves, the level above them, and a root above that.
+use Rattle.std.proofs.Common.{◌≡◌, ◌≢◌, ℕ, zero, suc, ◌+◌, ◌-◌, ◌/◌, ◌%◌, ◌<◌, ◌≤◌, List, length, get_or, true, false, ◌==◌, if◌then◌else◌, refl, sym, ap, subst, ◌∙◌, arith, ⊎_elim, Ok, Option, None}
+use Rattle.std.specs.Prelude.{nat_lt, slice_set}
+use Rattle.std.proofs.lemmas.Bool.{cases_eq, cases_lt}
+use Rattle.std.proofs.lemmas.Bool.Decides.{nat_tests}
+use Rattle.std.proofs.lemmas.List.{get_or-set_same, get_or-set_other, get_or_past}
+use Rattle.fv_disk.specs.Shown.{Image}
+use Rattle.fv_codec.specs.Blocks.{inner_at, leaf_at}
+use Rattle.fv_image.specs.Containers.{child_in, container_entry, entry_in, level_width, lying, most_entries, node_below, node_of, node_verdict, IsNodePlace}
+use Rattle.fv_container.specs.declared.entry.Entry.{Entry}
+use Rattle.fv_container.specs.Kept.{map_of}
+use Rattle.fv_container.specs.Mapped.{node_count}
+use Rattle.fv_container.specs.Spelled.{Spelled, names, pair_of}
+use Rattle.fv_container.specs.Reading.{AreWhole, FillsFrom}
+use Rattle.fv_container.proofs.Named.{named_at, named_where}
+
+-- ---- the root, and the level above the leaves
+
+pub root_low : (i : Image) (places : List ℕ) (leaves root height q : ℕ) → ((m : ℕ) → get_or places m 0 ≡ 0) → leaves < length places → height ≡ 1 → get_or (slice_set places leaves root) (leaves + q) 0 ≡ node_below i root (height - 1) q
+unfolding node_below
+root_low i places leaves root height zero zeros within low = rw low (ap (λ (n : ℕ). get_or (slice_set places leaves root) n 0) (plus_none leaves) ∙ get_or-set_same places leaves root 0 within)
+  where
+    plus_none : (n : ℕ) → n + 0 ≡ n
+    plus_none n = omega arith
+root_low i places leaves root height (suc q) zeros within low =
+    let test : (suc q == 0) ≡ false = grind (arith, nat_tests) in
+    rw low (get_or-set_other places leaves (leaves + suc q) root 0 (omega arith) ∙ zeros (leaves + suc q) ∙ sym (ap (λ t. if t then root else 0) test))
+
+pub root_high : (i j : Image) (places children : List ℕ) (leaves inner root height q : ℕ) → j ≡ i → FillsFrom children places leaves (leaves + inner) → ((c : ℕ) → get_or children c 0 ≡ child_in (lying inner_at j root) c) → q < inner → inner ≤ 256 → height ≡ 2
+    → get_or (slice_set places (leaves + inner) root) (leaves + q) 0 ≡ node_below i root (height - 1) q
+unfolding node_below
+root_high i j places children leaves inner root height q same filled read within few high =
+    let up : q / 256 ≡ 0 = omega (arith, within, few) in
+    let itself : q % 256 ≡ q = omega (arith, within, few) in
+    rw high (get_or-set_other places (leaves + inner) (leaves + q) root 0 (omega (arith, within)) ∙ filled q (omega (arith, within, few)) (omega (arith, within)) ∙ read q
+    ∙ ap (λ (x : Image). child_in (lying inner_at x root) q) same ∙ sym (rw (up, itself) refl))
+
+-- ---- a tree at a row of places
+
+-- each place is that of the node of its position
+pub record TreeAt (i : Image) (root height entries : ℕ) (places : List ℕ) : Type 0 where
+  pub few : entries ≤ most_entries
+  pub least : 1 ≤ height
+  pub greatest : height ≤ 2
+  pub long : length places ≡ node_count entries
+  pub leaf : (k : ℕ) → k < level_width entries 0 → get_or places k 0 ≡ node_of i root height 0 k
+  pub inner : (q : ℕ) → q < level_width entries 1 → get_or places (level_width entries 0 + q) 0 ≡ node_of i root height 1 q
+  pub top : get_or places (level_width entries 0 + level_width entries 1) 0 ≡ (if height == 2 then root else 0)
+
+few_inner : (entries : ℕ) → entries ≤ most_entries → level_width entries 1 ≤ 256
+few_inner entries few = omega (arith, few)
+
+one_top : (entries number : ℕ) → entries ≤ most_entries → number < level_width entries 2 → number ≡ 0
+one_top entries number few within = omega (arith, few, within, few_inner entries few)
+
+top_root : (i : Image) (root : ℕ) → node_of i root 2 2 0 ≡ root
+unfolding node_below
+top_root i root = refl
+
+module _ (i : Image) (root height : ℕ) (es : List (Option Entry)) (places : List ℕ) (tree : TreeAt i root height (length es) places) where
+  abbrev pub n : ℕ
+  n = length es
+
+  place_of_top : height ≡ 2 → get_or places (level_width n 0 + level_width n 1) 0 ≡ root
+  place_of_top high = tree.top ∙ rw high refl
+
+  top_node : (number : ℕ) → height ≡ 2 → number < level_width n 2 → node_of i root height 2 number ≡ root
+  top_node number high within = rw (high, one_top n number tree.few within) (top_root i root)
+
+  whole_node : AreWhole i 0 places 0 (level_width n 0) → AreWhole i 1 places (level_width n 0) (level_width n 1) → (height ≡ 2 → root ≢ 0 → node_verdict 2 0 (i root) ≡ Ok tt)
+      → (level number : ℕ) → level ≤ height → number < level_width n level → node_of i root height level number ≢ 0 → node_verdict level number (i (node_of i root height level number)) ≡ Ok tt
+  whole_node leaves inner top zero number le within some =
+      let first : 0 + number ≡ number = omega arith in
+      let is : get_or places (0 + number) 0 ≡ node_of i root height 0 number = ap (λ (k : ℕ). get_or places k 0) first ∙ tree.leaf number within in
+      subst (λ (p : ℕ). node_verdict 0 number (i p) ≡ Ok tt) is (leaves number within (λ none. some (sym is ∙ none)))
+  whole_node leaves inner top (suc zero) number le within some =
+      let is = tree.inner number within in
+      subst (λ (p : ℕ). node_verdict 1 number (i p) ≡ Ok tt) is (inner number within (λ none. some (sym is ∙ none)))
+  whole_node leaves inner top (suc (suc zero)) number le within some =
+      let high : height ≡ 2 = omega (arith, le, tree.greatest) in
+      let is = top_node number high within in
+      let none : number ≡ 0 = one_top n number tree.few within in
+      rw (is, none) (top high (λ z. some (is ∙ z)))
+  whole_node leaves inner top (suc (suc (suc level))) number le within some = absurd (omega (arith, le, tree.greatest))
+
+  named_node : (level number b : ℕ) → level ≤ height → number < level_width n level → b ≡ node_of i root height level number → b ≢ 0 → names places b ≡ true
+  named_node zero number b le within is some = named_at places number b (omega (arith, tree.long, within)) (tree.leaf number within ∙ sym is) some
+  named_node (suc zero) number b le within is some = named_at places (level_width n 0 + number) b (omega (arith, tree.long, within)) (tree.inner number within ∙ sym is) some
+  named_node (suc (suc zero)) number b le within is some =
+      let high : height ≡ 2 = omega (arith, le, tree.greatest) in
+      named_at places (level_width n 0 + level_width n 1) b (omega (arith, tree.long)) (place_of_top high ∙ sym (is ∙ top_node number high within)) some
+  named_node (suc (suc (suc level))) number b le within is some = absurd (omega (arith, le, tree.greatest))
+
+  node_named : (m b : ℕ) → m < length places → get_or places m 0 ≡ b → b ≢ 0 → IsNodePlace i root height n b
+  node_named m b within is some = ⊎_elim
+      (λ (low : m < level_width n 0). record { level = 0; number = m; below = omega arith; within = low; place = sym is ∙ tree.leaf m low; some = some })
+      (λ (past : level_width n 0 ≤ m). ⊎_elim
+      (λ (mid : m - level_width n 0 < level_width n 1).
+      let q = m - level_width n 0 in
+      let at : level_width n 0 + q ≡ m = omega (arith, past) in
+      record { level = 1; number = q; below = tree.least; within = mid; place = sym is ∙ ap (λ (k : ℕ). get_or places k 0) (sym at) ∙ tree.inner q mid; some = some })
+      (λ (above : level_width n 1 ≤ m - level_width n 0).
+      let at : m ≡ level_width n 0 + level_width n 1 = omega (arith, tree.long, within, past, above) in
+      let here : b ≡ (if height == 2 then root else 0) = sym is ∙ ap (λ (k : ℕ). get_or places k 0) at ∙ tree.top in
+      let high : height ≡ 2 = is_high height here in
+      record { level = 2; number = 0; below = omega (arith, high); within = omega arith; place = here ∙ rw high (sym (top_root i root)); some = some })
+      (cases_lt (m - level_width n 0) (level_width n 1)))
+      (cases_lt m (level_width n 0))
+    where
+      is_high : (h : ℕ) → b ≡ (if h == 2 then root else 0) → h ≡ 2
+      is_high h here = ⊎_elim (λ (e : h ≡ 2). e) (λ (ne : h ≢ 2). absurd (some (here ∙ not_high h ne))) (cases_eq h 2)
+        where
+          not_high : (h : ℕ) → h ≢ 2 → (if h == 2 then root else 0) ≡ 0
+          not_high h ne = let test : (h == 2) ≡ false = grind (arith, nat_tests, ne) in rw test refl
+
+  entry_spelled : ((v : ℕ) → v < n → pair_of (get_or es v None) ≡ entry_in (lying leaf_at i (get_or places (v / 256) 0)) (v % 256)) → (v : ℕ) → container_entry i root height n v ≡ pair_of (get_or es v None)
+  unfolding container_entry
+  entry_spelled read v = ⊎_elim
+      (λ (inside : v < n).
+      let test : nat_lt v n ≡ true = grind (arith, nat_tests) in
+      let k : v / 256 < level_width n 0 = omega (arith, inside) in
+      let is : get_or places (v / 256) 0 ≡ node_below i root height (v / 256) = tree.leaf (v / 256) k ∙ ap (λ (h : ℕ). node_below i root h (v / 256)) (all height) in
+      rw (test, ← is) (sym (read v inside)))
+      (λ (past : n ≤ v).
+      let test : nat_lt v n ≡ false = grind (arith, nat_tests) in
+      rw (test, get_or_past es v None past) refl)
+      (cases_lt v n)
+    where
+      all : (h : ℕ) → h - 0 ≡ h
+      all h = omega arith
+
+  pub spelled : AreWhole i 0 places 0 (level_width n 0) → AreWhole i 1 places (level_width n 0) (level_width n 1) → (height ≡ 2 → root ≢ 0 → node_verdict 2 0 (i root) ≡ Ok tt)
+      → ((v : ℕ) → v < n → pair_of (get_or es v None) ≡ entry_in (lying leaf_at i (get_or places (v / 256) 0)) (v % 256))
+      → Spelled i root height (map_of es places)
+  spelled leaves inner top read = record {
+    whole = record { nodes = whole_node leaves inner top };
+    entries = entry_spelled read;
+    nodes = λ b node. named_node node.level node.number b node.below node.within node.place node.some;
+    places = λ b named. let at = named_where places b named in node_named at.number b at.within at.place at.some;
+  }

@@ -1,0 +1,10 @@
+pub mod Mapped
+pub mod Chains
+pub mod Causes
+pub mod Kept
+pub mod Rows
+pub mod Spelled
+pub mod Reading
+pub mod Freeing
+pub mod Written
+pub mod Flushed

@@ -1,0 +1,48 @@
+-- Nodes as they are read.
+use Rattle.std.specs.Prelude.{◌≡◌, ◌≢◌, ◌<◌, ◌≤◌, ◌+◌, ◌/◌, ◌%◌, ◌⊎◌, ℕ, List, get_or, Result, Ok, Err}
+use Rattle.fv_disk.specs.Shown.{Image}
+use Rattle.fv_codec.specs.declared.shape.Shape.{Shape}
+use Rattle.fv_codec.specs.Blocks.{inner_at}
+use Rattle.fv_image.specs.Containers.{node_verdict, lying, child_in}
+use Rattle.fv_container.specs.declared.fault.ContainerFault.{ContainerFault}
+use Rattle.fv_container.specs.declared.fault.ContainerFault.TheVariants.{DiskFault, Damaged, Memory}
+
+-- a block of a tree as it was read, or the fault of the block at this place
+abbrev pub ReadsAs : {X Y : Type 0} → ℕ → (X → Y) → Result X Shape → Result Y ContainerFault → Type 0
+ReadsAs at value (Ok x) result = result ≡ Ok (value x)
+ReadsAs at value (Err shape) result = result ≡ Err (Damaged at shape.want shape.found)
+
+-- the block at this place isn't the node of its position
+abbrev pub IsBadNode : Image → ℕ → ℕ → ℕ → ContainerFault → Type 0
+IsBadNode i place level number (Damaged at want found) = (at ≡ place) × (place ≢ 0) × (node_verdict level number (i place) ≡ Err (record { want = want; found = found }))
+IsBadNode i place level number DiskFault = Unit {0}
+IsBadNode i place level number Memory = Unit {0}
+
+-- of so many nodes of a level, whose places stand in a row from one number on, each is the one of its position
+abbrev pub AreWhole : Image → ℕ → List ℕ → ℕ → ℕ → Type 0
+AreWhole i level places from count = (q : ℕ) → q < count → get_or places (from + q) 0 ≢ 0 → node_verdict level q (i (get_or places (from + q) 0)) ≡ Ok tt
+
+-- of these nodes, this one isn't
+pub record IsBadOf (i : Image) (level : ℕ) (places : List ℕ) (from count at want found : ℕ) : Type 0 where
+  pub number : ℕ
+  pub within : number < count
+  pub place : at ≡ get_or places (from + number) 0
+  pub some : at ≢ 0
+  pub fault : node_verdict level number (i at) ≡ Err (record { want = want; found = found })
+
+abbrev pub IsLevelFault : Image → ℕ → List ℕ → ℕ → ℕ → ContainerFault → Type 0
+IsLevelFault i level places from count (Damaged at want found) = IsBadOf i level places from count at want found
+IsLevelFault i level places from count DiskFault = Unit {0}
+IsLevelFault i level places from count Memory = Unit {0}
+
+-- the places of so many leaves, from those of the nodes above them, which stand in a row after them
+abbrev pub AreChildren : Image → List ℕ → List ℕ → ℕ → ℕ → Type 0
+AreChildren i above places leaves count = (k : ℕ) → k < count → get_or places k 0 ≡ child_in (lying inner_at i (get_or above (leaves + k / 256) 0)) (k % 256)
+
+-- items of one list stand in another from a number on, up to an end
+abbrev pub FillsFrom : List ℕ → List ℕ → ℕ → ℕ → Type 0
+FillsFrom items places from end = (c : ℕ) → c < 256 → from + c < end → get_or places (from + c) 0 ≡ get_or items c 0
+
+-- what stands elsewhere stays
+abbrev pub StaysOutside : {X : Type 0} → X → List X → List X → ℕ → Type 0
+StaysOutside default old new from = (m : ℕ) → (m < from) ⊎ (from + 256 ≤ m) → get_or new m default ≡ get_or old m default

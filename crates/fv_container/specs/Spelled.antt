@@ -1,0 +1,35 @@
+-- A container that a tree on the disk spells.
+use Rattle.std.specs.Prelude.{◌≡◌, ℕ, Bool, true, not, ◌&&◌, nat_eq, ◌==◌, List, length, Option, Some, None}
+use Rattle.std.specs.List.{list_any}
+use Rattle.fv_disk.specs.Shown.{Image}
+use Rattle.fv_image.specs.Containers.{container_entry, IsNodePlace, IsWholeTree, IsNodeFault}
+use Rattle.fv_container.specs.declared.entry.Entry.{Entry}
+use Rattle.fv_container.specs.declared.fault.ContainerFault.{ContainerFault}
+use Rattle.fv_container.specs.declared.fault.ContainerFault.TheVariants.{DiskFault, Damaged, Memory}
+use Rattle.fv_container.specs.Mapped.{Mapped, entry_under}
+
+-- an entry as PVBN and kind, (0, 0) for a hole
+abbrev pub pair_of : Option Entry → ℕ × ℕ
+pair_of None = (0, 0)
+pair_of (Some entry) = (entry.pvbn, entry.kind)
+
+-- whether a block is one of some places; 0 is no place
+abbrev pub is_at : ℕ → ℕ → Bool
+is_at b place = nat_eq b place && not (place == 0)
+
+abbrev pub names : List ℕ → ℕ → Bool
+names places b = list_any (is_at b) places
+
+-- each node of a tree is the one of its position, the tree's entries are the map's, and its nodes stand at the
+-- map's places
+pub record Spelled (i : Image) (root height : ℕ) (map : Mapped) : Type 0 where
+  pub whole : IsWholeTree i root height (length map.entries)
+  pub entries : (v : ℕ) → container_entry i root height (length map.entries) v ≡ pair_of (entry_under map v)
+  pub nodes : (b : ℕ) → IsNodePlace i root height (length map.entries) b → names map.tree b ≡ true
+  pub places : (b : ℕ) → names map.tree b ≡ true → IsNodePlace i root height (length map.entries) b
+
+-- a fault of a tree, where the disk didn't fail and memory didn't run out
+abbrev pub IsFault : Image → ℕ → ℕ → ℕ → ContainerFault → Type 0
+IsFault i root height entries (Damaged at want found) = IsNodeFault i root height entries at want found
+IsFault i root height entries DiskFault = Unit {0}
+IsFault i root height entries Memory = Unit {0}

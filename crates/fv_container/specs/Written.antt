@@ -1,0 +1,98 @@
+-- The blocks that a flush writes.
+use Rattle.std.specs.Prelude.{◌≡◌, ◌≢◌, ◌<◌, ◌≤◌, ◌+◌, ◌-◌, ◌*◌, ℕ, zero, suc, Bool, true, false, not, ◌&&◌, ◌||◌, ◌⊎◌, nat_eq, nat_lt, if◌then◌else◌, List, length, get_or, take, drop, Option, None, Ok}
+use Rattle.std.specs.List.{list_any}
+use Rattle.std.specs.Option.{is_some}
+use Rattle.std.specs.FinSet as set
+use Rattle.fv_disk.specs.Shown.{Image}
+use Rattle.fv_codec.specs.declared.container.ContainerLeaf.{ContainerLeaf}
+use Rattle.fv_codec.specs.declared.container.ContainerInner.{ContainerInner}
+use Rattle.fv_codec.specs.Blocks.{inner_at, last_place, leaf_at}
+use Rattle.fv_image.specs.Containers.{level_width}
+use Rattle.fv_container.specs.declared.entry.Entry.{Entry}
+use Rattle.fv_container.specs.Mapped.{node_count}
+use Rattle.fv_container.specs.Spelled.{names, pair_of}
+use Rattle.fv_container.specs.Freeing.{Room}
+
+-- whether a leaf has an entry that isn't a hole
+unfoldable pub has_entry : List (Option Entry) → ℕ → Bool
+has_entry es k = list_any is_some (take 256 (drop (256 * k) es))
+
+-- Nodes are counted with the leaves first, then the level above them, then a root above that. A leaf of holes
+-- is absent, and a root above the second level stands only where that has more than one node.
+unfoldable pub is_written : List (Option Entry) → ℕ → Bool
+is_written es n =
+    if nat_lt n (level_width (length es) 0) then has_entry es n
+    else (nat_lt n (level_width (length es) 0 + level_width (length es) 1) || nat_lt 1 (level_width (length es) 1))
+
+-- how many of the first nodes are written
+unfoldable pub written_before : List (Option Entry) → ℕ → ℕ
+written_before es zero = 0
+written_before es (suc n) = written_before es n + (if is_written es n then 1 else 0)
+
+-- how many blocks a tree of these entries takes
+abbrev pub blocks_needed : List (Option Entry) → ℕ
+blocks_needed es = written_before es (node_count (length es))
+
+-- the number of the node that is the root
+abbrev pub root_number : ℕ → ℕ
+root_number entries = if nat_lt 1 (level_width entries 1) then level_width entries 0 + level_width entries 1 else level_width entries 0
+
+-- each of the first nodes that is written has a place of its own that was free; the others have none
+pub record HasTaken (old : Room) (es : List (Option Entry)) (places : List ℕ) (n : ℕ) (new : Room) : Type 0 where
+  pub fewer : set.len new.free + written_before es n ≡ set.len old.free
+  pub left : (b : ℕ) → set.contains new.free b ≡ (set.contains old.free b && not (names (take n places) b))
+  pub free : (b : ℕ) → names (take n places) b ≡ true → set.contains old.free b ≡ true
+  pub held : (b : ℕ) → new.held b ≡ (names (take n places) b || old.held b)
+  pub written : (m : ℕ) → m < n → is_written es m ≡ true → get_or places m 0 ≢ 0
+  pub absent : (m : ℕ) → m < n → is_written es m ≡ false → get_or places m 0 ≡ 0
+  pub bounded : (m : ℕ) → m < n → get_or places m 0 ≤ last_place
+  pub once : (m k : ℕ) → m < k → k < n → get_or places k 0 ≢ 0 → get_or places m 0 ≢ get_or places k 0
+
+-- a place for one node, or none
+pub record TakesIf (wanted : Bool) (old : Room) (place : ℕ) (new : Room) : Type 0 where
+  pub some : wanted ≡ true → set.contains old.free place ≡ true
+  pub taken : wanted ≡ true → new.free ≡ set.remove old.free place
+  pub held : wanted ≡ true → (a : ℕ) → new.held a ≡ (nat_eq a place || old.held a)
+  pub none : wanted ≡ false → place ≡ 0
+  pub stays : wanted ≡ false → new ≡ old
+
+-- the first of some places were released
+pub record HasReleased (old : Room) (places : List ℕ) (n : ℕ) (new : Room) : Type 0 where
+  pub keeps : (b : ℕ) → set.contains old.free b ≡ true → set.contains new.free b ≡ true
+  pub adds : (b : ℕ) → set.contains new.free b ≡ true → (set.contains old.free b ≡ true) ⊎ (names (take n places) b ≡ true)
+  pub held : (b : ℕ) → new.held b ≡ (not (names (take n places) b) && old.held b)
+
+-- a block is the leaf of an index
+pub record IsLeafOf (es : List (Option Entry)) (index : ℕ) (block : List ℕ) : Type 0 where
+  pub leaf : ContainerLeaf
+  pub said : leaf_at block ≡ Ok leaf
+  pub index_said : leaf.index ≡ index
+  pub entries : (c : ℕ) → c < 256 → (get_or leaf.pvbns c 0, get_or leaf.kinds c 0) ≡ pair_of (get_or es (256 * index + c) None)
+
+-- the place of a child, from those of a level that stand in a row up to an end
+abbrev pub child_from : List ℕ → ℕ → ℕ → ℕ → ℕ
+child_from places from end c = if nat_lt (from + c) end then get_or places (from + c) 0 else 0
+
+-- a block is the inner node of a level and number
+pub record IsInnerOf (places : List ℕ) (level number from end : ℕ) (block : List ℕ) : Type 0 where
+  pub node : ContainerInner
+  pub said : inner_at block ≡ Ok node
+  pub level_said : node.level ≡ level
+  pub number_said : node.place ≡ number
+  pub children : (c : ℕ) → c < 256 → get_or node.children c 0 ≡ child_from places from end c
+
+-- a block is the node of a number
+pub record IsNodeOf (es : List (Option Entry)) (places : List ℕ) (m : ℕ) (block : List ℕ) : Type 0 where
+  pub leaf : m < level_width (length es) 0 → IsLeafOf es m block
+  pub inner : level_width (length es) 0 ≤ m → m < level_width (length es) 0 + level_width (length es) 1
+      → IsInnerOf places 1 (m - level_width (length es) 0) (256 * (m - level_width (length es) 0)) (level_width (length es) 0) block
+  pub top : m ≡ level_width (length es) 0 + level_width (length es) 1
+      → IsInnerOf places 2 0 (level_width (length es) 0) (level_width (length es) 0 + level_width (length es) 1) block
+
+-- the first nodes stand at their places
+abbrev pub AreWritten : List (Option Entry) → List ℕ → ℕ → Image → Type 0
+AreWritten es places n i = (m : ℕ) → m < n → get_or places m 0 ≢ 0 → IsNodeOf es places m (i (get_or places m 0))
+
+-- a block that is none of some places
+abbrev pub IsElsewhere : List ℕ → ℕ → Type 0
+IsElsewhere places b = names places b ≡ false

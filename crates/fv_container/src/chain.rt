@@ -1,0 +1,172 @@
+//! The containers of all volumes, and look-ups along chains of parents.
+
+ghost use Rattle.std.specs.Prelude.{◌≡◌, ◌<◌, ◌≤◌, ◌+◌, None, Some, IsSome, IfOk, IfSome, option_copied, length, replicate, slice_index_or};
+ghost use Rattle.std.specs.Option.{option_copied_mut};
+ghost use Rattle.fv_store.specs.Held.{StandsOn};
+ghost use Rattle.fv_root.specs.Finding.{OnlyReads};
+ghost use Rattle.fv_container.specs.Causes.{HasCause};
+ghost use Rattle.fv_container.specs.Chains.{IsSlots, along, chain_entry, container_at, no_containers, own_entry, parent_at, slot_count, with_container, with_parent};
+
+use crate::container::Container;
+use crate::entry::Entry;
+use crate::fault::ContainerFault;
+use crate::layout::filled;
+use crate::steps::Steps;
+use fv_disk::Disk;
+use fv_store::Store;
+use std::alloc::{AllocError, Global};
+use std::marker::Model;
+use std::sync::ledger::Ledger;
+
+/// How many volumes there can be.
+const SLOTS: usize = 64;
+
+/// A container and a parent's slot for each volume slot that has them.
+///
+/// Slots are below 64. Contracts see the row of the containers and the row of the parents.
+#[derive(Drop)]
+pub struct Containers {
+    containers: Vec<Option<Container>>,
+    parents: Vec<Option<u8>>,
+}
+
+impl Model for Containers {
+    ghost use Rattle.fv_container.specs.Chains.{Slots, IsSlots, slots_of};
+
+    ghost Value = { Slots };
+
+    ghost view = { λ slots. slots_of slots.containers.items slots.parents.items };
+
+    ghost invariant = { λ slots. IsSlots (slots_of slots.containers.items slots.parents.items) };
+}
+
+impl Containers {
+    ghost use Rattle.std.specs.Borrow.{LendsIf, sem};
+    ghost use Rattle.fv_container.specs.contracts.chain.Containers.{the_row};
+    ghost use Rattle.fv_container.specs.Rows.{container_row};
+
+    /// No slot has a container. The one error is want of memory.
+    pub fn new(alloc: Global) -> Result<Containers, AllocError>
+        ensures { IfOk result (λ slots. slots ≡ no_containers) }
+    {
+        Ok(Containers {
+            containers: free_slots(alloc)?,
+            parents: filled(alloc, SLOTS, None)?,
+        })
+    }
+
+    /// Gives a slot this container and parent, in place of those that it had. It takes no memory.
+    pub fn put(&mut self, slot: u8, container: Container, parent: Option<u8>)
+        requires slot { slot < slot_count }
+        requires parent { IfSome parent (λ parent. parent < slot_count) }
+        ensures { self.new ≡ with_parent (with_container self.old slot (Some container)) slot parent }
+    {
+        self.containers[slot as usize] = Some(container);
+        self.parents[slot as usize] = parent;
+    }
+
+    /// Gives a slot with a container this parent. It takes no memory.
+    pub fn set_parent(&mut self, slot: u8, parent: Option<u8>)
+        requires slot { slot < slot_count }
+        requires parent { IfSome parent (λ parent. parent < slot_count) }
+        requires used { IsSome (container_at self.old slot) }
+        ensures { self.new ≡ with_parent self.old slot parent }
+    {
+        self.parents[slot as usize] = parent;
+    }
+
+    /// Takes container and parent of a slot away. It takes no memory.
+    pub fn remove(&mut self, slot: u8)
+        requires { slot < slot_count }
+        ensures { self.new ≡ with_parent (with_container self.old slot None) slot None }
+    {
+        self.containers[slot as usize] = None;
+        self.parents[slot as usize] = None;
+    }
+
+    /// The container of a slot, `None` exactly where it has none.
+    pub fn get(&self, slot: u8) -> Option<&Container>
+        requires { slot < slot_count }
+        ensures { option_copied result ≡ container_at self.now slot }
+    {
+        self.containers[slot as usize].as_ref()
+    }
+
+    /// The container of a slot, to be changed; `None` exactly where the slot has none. What the caller
+    /// makes of the container is the slot's afterwards.
+    pub fn get_mut(&mut self, slot: u8) -> Option<&mut Container>
+        requires { slot < slot_count }
+        ensures* writes_back { sem 𝓛 (LendsIf the_row container_row self.entry result (λ map. with_container self.old slot (Some map)) self.old) }
+        ensures container { option_copied_mut result ≡ container_at self.old slot }
+    {
+        self.containers[slot as usize].as_mut()
+    }
+
+    /// The first entry of a VVBN along the chain of a slot: the slot's own container, that of its parent,
+    /// of the parent's parent and so on, at most 64 volumes. `None` exactly where all of them have a hole
+    /// there; a container has one from its number of entries on. It counts one step for the whole chain.
+    /// `DiskFault` comes only where a read failed in this call.
+    pub fn look_up_chain<D: Disk, L: Ledger>(
+        &mut self,
+        store: &mut Store,
+        disk: &mut D,
+        slot: u8,
+        vvbn: u32,
+        steps: &mut Steps<L>,
+    ) -> Result<Option<Entry>, ContainerFault>
+        requires within { slot < slot_count }
+        requires stands { StandsOn (D.shown disk.old) store.old.pairs }
+        ensures entry { IfOk result (λ entry. entry ≡ chain_entry self.old slot vvbn) }
+        ensures same { self.new ≡ self.old }
+        ensures step { steps.new ≡ steps.old + 1 }
+        ensures only_reads { OnlyReads (D.shown disk.old) (D.shown disk.new) }
+        ensures stands { StandsOn (D.shown disk.new) store.new.pairs }
+        ensures cause { HasCause (D.shown disk.old).faults (D.shown disk.new).faults result }
+    {
+        steps.tick();
+        Ok(self.first_entry(slot, vvbn))
+    }
+
+    #[tactic(auto, using(crate::proofs::Chains::found_here, crate::proofs::Chains::goes_up, crate::proofs::Chains::ends_above, crate::proofs::Chains::ends_after, crate::proofs::Chains::parent_within))]
+    fn first_entry(&self, slot: u8, vvbn: u32) -> Option<Entry>
+        requires { slot < slot_count }
+        ensures { result ≡ chain_entry self.now slot vvbn }
+    {
+        let mut at = slot;
+        for _ in 0..SLOTS {
+            if let Some(entry) = own_entry(&self.containers, at, vvbn) {
+                return Some(entry);
+            }
+            at = parent_of(&self.parents, at)?;
+        }
+        None
+    }
+}
+
+fn free_slots(alloc: Global) -> Result<Vec<Option<Container>>, AllocError>
+    ensures { IfOk result (λ slots. slots.items ≡ replicate slot_count None) }
+{
+    let mut slots = Vec::with_capacity(alloc, SLOTS)?;
+    for _ in 0..SLOTS {
+        slots.push(None)?;
+    }
+    Ok(slots)
+}
+
+/// The entry that a slot's own container has.
+fn own_entry(containers: &[Option<Container>], slot: u8, vvbn: u32) -> Option<Entry>
+    requires { slot < length containers.now }
+    ensures { result ≡ own_entry (slice_index_or containers.now slot None) vvbn }
+{
+    match &containers[slot as usize] {
+        Some(container) => container.entry_or_none(vvbn),
+        None => None,
+    }
+}
+
+fn parent_of(parents: &[Option<u8>], slot: u8) -> Option<u8>
+    requires { slot < length parents.now }
+    ensures { result ≡ slice_index_or parents.now slot None }
+{
+    parents[slot as usize]
+}

@@ -1,0 +1,215 @@
+//! A container in memory.
+
+ghost use Rattle.std.specs.Prelude.{◌≡◌, ◌<◌, ◌≤◌, ◌+◌, ℕ, None, Some, length, replicate, IsTrue, IfOk, IfSome, IfErr, OnErr, OnOk};
+ghost use Rattle.std.specs.FinSet as set;
+ghost use Rattle.fv_codec.specs.Blocks.{last_place};
+ghost use Rattle.fv_root.specs.Writing.{Spares};
+ghost use Rattle.fv_container.specs.Written.{blocks_needed};
+ghost use Rattle.fv_container.specs.Flushed.{Exchanges, IsApart, IsOnce, Loses, WasTaken, without_value};
+ghost use Rattle.fv_disk.specs.Shown.{Shown};
+ghost use Rattle.fv_image.specs.Containers.{height_of, level_width, most_entries};
+ghost use Rattle.fv_store.specs.Held.{StandsOn};
+ghost use Rattle.fv_root.specs.Finding.{OnlyReads};
+ghost use Rattle.fv_container.specs.Causes.{HasCause};
+ghost use Rattle.fv_container.specs.Spelled.{IsFault, Spelled};
+ghost use Rattle.fv_container.specs.Mapped.{IsEntry, IsMapped, empty_map, entry_under, with_entry};
+
+use crate::entry::Entry;
+use crate::fault::ContainerFault;
+use crate::flush::flush_tree;
+use crate::free::Free;
+use crate::layout::{filled, node_count};
+use crate::load::read_tree;
+use crate::places::root_number;
+use crate::steps::Steps;
+use fv_disk::{Disk, Failed};
+use fv_store::Store;
+use std::alloc::{AllocError, Global};
+use std::marker::Model;
+use std::sync::ledger::Ledger;
+
+/// Which block stands under each VVBN of a volume.
+///
+/// Contracts see the entries by VVBN, each an entry or a hole, and the places of the tree's nodes.
+#[derive(Drop)]
+pub struct Container {
+    entries: Vec<Option<Entry>>,
+    /// The places of the tree that the disk has: leaves, the level above, and a root above that; 0 is no
+    /// place.
+    tree: Vec<u32>,
+    /// Room for the places of the next tree, so that a flush takes no memory.
+    next: Vec<u32>,
+}
+
+impl Model for Container {
+    ghost use Rattle.std.specs.Prelude.{◌≡◌, length};
+    ghost use Rattle.fv_container.specs.Mapped.{Mapped, IsMapped};
+    ghost use Rattle.fv_container.specs.Kept.{IsKept, map_of};
+
+    ghost Value = { Mapped };
+
+    ghost view = { λ container. map_of container.entries.items container.tree.items };
+
+    ghost invariant = { λ container. IsKept container.entries.items container.tree.items container.next.items };
+}
+
+impl Container {
+    /// A container of so many entries, at most 16,777,216, all of them holes. The one error is want of
+    /// memory. Costs a step for each entry.
+    pub fn new(alloc: Global, entries: u32) -> Result<Container, AllocError>
+        requires { entries ≤ most_entries }
+        ensures empty { IfOk result (λ container. container ≡ empty_map entries) }
+    {
+        let nodes = node_count(entries as usize);
+        Ok(Container {
+            entries: filled(alloc, entries as usize, None)?,
+            tree: filled(alloc, nodes, 0)?,
+            next: filled(alloc, nodes, 0)?,
+        })
+    }
+
+    /// The map that the tree on the disk spells with this root, height and number of entries: at most
+    /// 16,777,216 entries, and one or two levels of inner nodes. A root of 0 is a tree of holes.
+    ///
+    /// # Errors
+    /// `Damaged` comes exactly where a block of the tree isn't the node of its position, whose way from the
+    /// root is whole: the first field without its shape, or its level, number or index, with the wanted and
+    /// the found number. `DiskFault` comes only where a read failed in this call, and `Memory` where memory
+    /// ran out. It reads each node of the tree once.
+    pub fn at<D: Disk>(
+        alloc: Global,
+        store: &mut Store,
+        disk: &mut D,
+        entries: u32,
+        height: u8,
+        root: u32,
+    ) -> Result<Container, ContainerFault>
+        requires few { entries ≤ most_entries }
+        requires least { 1 ≤ height }
+        requires greatest { height ≤ 2 }
+        requires stands { StandsOn (D.shown disk.old) store.old.pairs }
+        ensures spelled { IsTrue (D.shown disk.old).tells → IfOk result (Spelled (D.shown disk.old).reads root height) }
+        ensures size { IfOk result (λ container. length container.entries ≡ entries) }
+        ensures fault { IsTrue (D.shown disk.old).tells → IfErr result (IsFault (D.shown disk.old).reads root height entries) }
+        ensures only_reads { OnlyReads (D.shown disk.old) (D.shown disk.new) }
+        ensures stands { StandsOn (D.shown disk.new) store.new.pairs }
+        ensures cause { HasCause (D.shown disk.old).faults (D.shown disk.new).faults result }
+    {
+        let nodes = node_count(entries as usize);
+        let mut table = filled(alloc, entries as usize, None)?;
+        let mut tree = filled(alloc, nodes, 0)?;
+        let next = filled(alloc, nodes, 0)?;
+        read_tree(store, disk, &mut tree, &mut table, height, root)?;
+        Ok(Container {
+            entries: table,
+            tree,
+            next,
+        })
+    }
+
+    /// The entry of a VVBN below the number of entries, `None` exactly for a hole. It counts one step.
+    /// `DiskFault` comes only where a read failed in this call.
+    pub fn look_up<D: Disk, L: Ledger>(
+        &mut self,
+        store: &mut Store,
+        disk: &mut D,
+        vvbn: u32,
+        steps: &mut Steps<L>,
+    ) -> Result<Option<Entry>, ContainerFault>
+        requires within { vvbn < length self.old.entries }
+        requires stands { StandsOn (D.shown disk.old) store.old.pairs }
+        ensures entry { IfOk result (λ entry. entry ≡ entry_under self.old vvbn) }
+        ensures same { self.new ≡ self.old }
+        ensures step { steps.new ≡ steps.old + 1 }
+        ensures only_reads { OnlyReads (D.shown disk.old) (D.shown disk.new) }
+        ensures stands { StandsOn (D.shown disk.new) store.new.pairs }
+        ensures cause { HasCause (D.shown disk.old).faults (D.shown disk.new).faults result }
+    {
+        steps.tick();
+        Ok(self.entries[vvbn as usize])
+    }
+
+    /// Sets the entry of a VVBN below the number of entries, or makes it a hole. `DiskFault` comes only
+    /// where a read failed in this call; after an error nothing has changed.
+    pub fn set<D: Disk>(
+        &mut self,
+        store: &mut Store,
+        disk: &mut D,
+        vvbn: u32,
+        entry: Option<Entry>,
+    ) -> Result<(), ContainerFault>
+        requires within { vvbn < length self.old.entries }
+        requires entry { IfSome entry IsEntry }
+        requires stands { StandsOn (D.shown disk.old) store.old.pairs }
+        ensures set { IfOk result (λ _. self.new ≡ with_entry self.old vvbn entry) }
+        ensures failed { OnErr result (self.new ≡ self.old) }
+        ensures only_reads { OnlyReads (D.shown disk.old) (D.shown disk.new) }
+        ensures stands { StandsOn (D.shown disk.new) store.new.pairs }
+        ensures cause { HasCause (D.shown disk.old).faults (D.shown disk.new).faults result }
+    {
+        self.entries[vvbn as usize] = entry;
+        Ok(())
+    }
+
+    /// The entry of a VVBN below the number of entries, `None` exactly for a hole. It takes no memory and
+    /// makes no disk call. Costs one step.
+    pub fn entry_at(&self, vvbn: u32) -> Option<Entry>
+        requires { vvbn < length self.now.entries }
+        ensures { result ≡ entry_under self.now vvbn }
+    {
+        self.entries[vvbn as usize]
+    }
+
+    /// Makes the entry of a VVBN below the number of entries a hole. It takes no memory and makes no disk
+    /// call. Costs one step.
+    pub fn make_hole(&mut self, vvbn: u32)
+        requires { vvbn < length self.old.entries }
+        ensures { self.new ≡ with_entry self.old vvbn None }
+    {
+        self.entries[vvbn as usize] = None;
+    }
+
+    /// Writes the container to blocks that are free in `map`, and answers the root of its tree, which has
+    /// the least height, at least 1, whose fan-out of 256 covers the leaves. A leaf that holds only holes
+    /// is absent. The blocks of the old tree are given back. `map` has as many free blocks as it writes:
+    /// one for each leaf that has an entry and each inner node.
+    ///
+    /// It takes no memory and reads nothing, and no block is written that wasn't free in `map` at the
+    /// call. The one error is a failed write; the container then stands as before, with its old tree, and
+    /// the blocks that were taken are lost to `map`. Costs a step for each entry and a write for each block.
+    pub fn flush<D: Disk, F: Free>(
+        &mut self,
+        store: &mut Store,
+        disk: &mut D,
+        map: &mut F,
+    ) -> Result<u32, Failed>
+        requires stands { StandsOn (D.shown disk.old) store.old.pairs }
+        requires room { blocks_needed self.old.entries ≤ set.len (F.room map.old).free }
+        ensures entries { self.new.entries ≡ self.old.entries }
+        ensures failed { OnErr result (self.new ≡ self.old) }
+        ensures spelled { IsTrue (D.shown disk.old).tells
+            → IsApart (F.room map.old) self.old.tree
+            → IfOk result (λ root. Spelled (D.shown disk.new).reads root (height_of (length self.new.entries)) self.new) }
+        ensures root { IfOk result (λ root. (1 ≤ root) × (root ≤ last_place)) }
+        ensures once { OnOk result (IsOnce self.new.tree) }
+        ensures writes { Spares (WasTaken (F.room map.old)) (D.shown disk.old) (D.shown disk.new) (without_value result) }
+        ensures map { OnOk result (Exchanges (F.room map.old) self.new.tree self.old.tree (F.room map.new)) }
+        ensures lost { OnErr result (Loses (F.room map.old) (F.room map.new)) }
+        ensures stands { StandsOn (D.shown disk.new) store.new.pairs }
+    {
+        flush_tree(store, disk, map, &self.entries, &self.tree, &mut self.next)?;
+        std::mem::swap(&mut self.tree, &mut self.next);
+        Ok(self.tree[root_number(self.entries.len())])
+    }
+
+    /// The entry of a VVBN, where the container has it.
+    pub(crate) fn entry_or_none(&self, vvbn: u32) -> Option<Entry>
+        ensures { result ≡ entry_under self.now vvbn }
+    {
+        if (vvbn as usize) < self.entries.len() {
+            self.entries[vvbn as usize]
+        } else {
+            None
+        }
+    }
+}

@@ -1,0 +1,339 @@
+//! Reading the tree of a container, from its root down to the leaves.
+
+ghost use Rattle.std.specs.Prelude.{◌≡◌, ◌≢◌, ◌<◌, ◌≤◌, ◌+◌, ◌*◌, ◌/◌, ◌%◌, ◌^◌, ◌-◌, ◌⊎◌, ◌==◌, if◌then◌else◌, ℕ, length, get_or, replicate, IsTrue, Ok, Err, None, IfOk, IfErr, IfSome, OnOk};
+ghost use Rattle.fv_codec.specs.Blocks.{IsContainerLeaf, IsEntry as IsLeafEntry, inner_at, leaf_at};
+ghost use Rattle.fv_image.specs.Containers.{child_in, entry_in, inner_for, leaf_for, level_width, lying, most_entries, node_below, node_verdict};
+ghost use Rattle.fv_store.specs.Held.{StandsOn};
+ghost use Rattle.fv_root.specs.Finding.{OnlyReads};
+ghost use Rattle.fv_container.specs.Causes.{HasCause};
+ghost use Rattle.fv_container.specs.Kept.{map_of};
+ghost use Rattle.fv_container.specs.Mapped.{IsHeld, node_count};
+ghost use Rattle.fv_container.specs.Spelled.{IsFault, Spelled, pair_of};
+ghost use Rattle.fv_container.specs.Reading.{AreChildren, AreWhole, FillsFrom, IsBadNode, IsLevelFault, ReadsAs, StaysOutside};
+
+use crate::entry::Entry;
+use crate::fault::ContainerFault;
+use crate::layout::{FAN, inner_count, leaf_count};
+use fv_codec::{ContainerInner, ContainerLeaf, Shape};
+use fv_disk::{Block, Disk};
+use fv_store::Store;
+
+const ZERO: Block = [0; 4096];
+
+/// A leaf of holes.
+fn no_entries(index: u64) -> ContainerLeaf
+    ensures pvbns { result.pvbns ≡ replicate 256 0 }
+    ensures kinds { result.kinds ≡ replicate 256 0 }
+{
+    ContainerLeaf {
+        index,
+        pvbns: [0; 256],
+        kinds: [0; 256],
+    }
+}
+
+/// Reads a block.
+fn read_block<D: Disk>(store: &mut Store, disk: &mut D, at: u32) -> Result<Block, ContainerFault>
+    requires stands { StandsOn (D.shown disk.old) store.old.pairs }
+    ensures value { IsTrue (D.shown disk.old).tells → IfOk result (λ block. block ≡ (D.shown disk.old).reads at) }
+    ensures only_fault { IfErr result (λ fault. fault ≡ ContainerFault.DiskFault) }
+    ensures only_reads { OnlyReads (D.shown disk.old) (D.shown disk.new) }
+    ensures stands { StandsOn (D.shown disk.new) store.new.pairs }
+    ensures cause { HasCause (D.shown disk.old).faults (D.shown disk.new).faults result }
+{
+    let mut block = ZERO;
+    store.get(disk, at, &mut block)?;
+    Ok(block)
+}
+
+/// The fault of the block at a place.
+fn damaged(at: u32, want: u64, found: u64) -> ContainerFault
+    ensures { result ≡ ContainerFault.Damaged at want found }
+{
+    ContainerFault::Damaged {
+        at: u64::from(at),
+        want,
+        found,
+    }
+}
+
+/// The children that a block spells as the inner node of a level and number.
+#[tactic(auto, unfolding(fv_image::specs::Containers::inner_for))]
+fn inner_in(
+    block: &Block,
+    at: u32,
+    level: u8,
+    number: u64,
+) -> Result<ContainerInner, ContainerFault>
+    ensures { ReadsAs at (λ node. node) (inner_for level number block.now) result }
+{
+    let node = match ContainerInner::decode(block) {
+        Ok(node) => node,
+        Err(shape) => return Err(damaged(at, shape.want, shape.found)),
+    };
+    if node.level != level {
+        return Err(damaged(at, u64::from(level), u64::from(node.level)));
+    }
+    if node.place != number {
+        return Err(damaged(at, number, node.place));
+    }
+    Ok(node)
+}
+
+/// The leaf that a block spells as the one of an index.
+#[tactic(auto, unfolding(fv_image::specs::Containers::leaf_for))]
+fn leaf_in(block: &Block, at: u32, index: u64) -> Result<ContainerLeaf, ContainerFault>
+    ensures said { ReadsAs at (λ leaf. leaf) (leaf_for index block.now) result }
+    ensures range { IfOk result IsContainerLeaf }
+    ensures pvbns { IfOk result (λ leaf. length leaf.pvbns ≡ 256) }
+    ensures kinds { IfOk result (λ leaf. length leaf.kinds ≡ 256) }
+{
+    let leaf = match ContainerLeaf::decode(block) {
+        Ok(leaf) => leaf,
+        Err(shape) => return Err(damaged(at, shape.want, shape.found)),
+    };
+    if leaf.index != index {
+        return Err(damaged(at, index, leaf.index));
+    }
+    Ok(leaf)
+}
+
+/// Reads the inner node of a level and number, and answers the places of its children. Where `at` is 0
+/// the node is absent, and so are they.
+fn read_inner<D: Disk>(
+    store: &mut Store,
+    disk: &mut D,
+    at: u32,
+    level: u8,
+    number: u64,
+) -> Result<[u32; 256], ContainerFault>
+    requires stands { StandsOn (D.shown disk.old) store.old.pairs }
+    requires level { 1 ≤ level }
+    ensures children { IsTrue (D.shown disk.old).tells
+        → IfOk result (λ children. (c : ℕ) → get_or children c 0 ≡ child_in (lying inner_at (D.shown disk.old).reads at) c) }
+    ensures whole { IsTrue (D.shown disk.old).tells
+        → OnOk result (at ≢ 0 → node_verdict level number ((D.shown disk.old).reads at) ≡ Ok tt) }
+    ensures fault { IsTrue (D.shown disk.old).tells → IfErr result (IsBadNode (D.shown disk.old).reads at level number) }
+    ensures only_reads { OnlyReads (D.shown disk.old) (D.shown disk.new) }
+    ensures stands { StandsOn (D.shown disk.new) store.new.pairs }
+    ensures cause { HasCause (D.shown disk.old).faults (D.shown disk.new).faults result }
+{
+    if at == 0 {
+        return Ok([0; 256]);
+    }
+    let block = read_block(store, disk, at)?;
+    let node = inner_in(&block, at, level, number)?;
+    Ok(node.children)
+}
+
+/// Reads the leaf of an index. Where `at` is 0 the leaf is absent, and all of its entries are holes.
+fn read_leaf<D: Disk>(
+    store: &mut Store,
+    disk: &mut D,
+    at: u32,
+    index: u64,
+) -> Result<ContainerLeaf, ContainerFault>
+    requires stands { StandsOn (D.shown disk.old) store.old.pairs }
+    ensures entries { IsTrue (D.shown disk.old).tells
+        → IfOk result (λ leaf. (c : ℕ) → (get_or leaf.pvbns c 0, get_or leaf.kinds c 0) ≡ entry_in (lying leaf_at (D.shown disk.old).reads at) c) }
+    ensures range { IfOk result (λ leaf. (c : ℕ) → c < 256 → IsLeafEntry (get_or leaf.pvbns c 0, get_or leaf.kinds c 0)) }
+    ensures whole { IsTrue (D.shown disk.old).tells
+        → OnOk result (at ≢ 0 → node_verdict 0 index ((D.shown disk.old).reads at) ≡ Ok tt) }
+    ensures fault { IsTrue (D.shown disk.old).tells → IfErr result (IsBadNode (D.shown disk.old).reads at 0 index) }
+    ensures only_reads { OnlyReads (D.shown disk.old) (D.shown disk.new) }
+    ensures stands { StandsOn (D.shown disk.new) store.new.pairs }
+    ensures cause { HasCause (D.shown disk.old).faults (D.shown disk.new).faults result }
+{
+    if at == 0 {
+        return Ok(no_entries(index));
+    }
+    let block = read_block(store, disk, at)?;
+    let leaf = leaf_in(&block, at, index)?;
+    Ok(leaf)
+}
+
+/// Puts the places of a node's children into the row, up to the end of their level.
+fn fill_children(places: &mut [u32], from: usize, end: usize, children: &[u32; 256])
+    requires end { end ≤ length places.old }
+    requires from { from < 2 ^ 32 }
+    ensures len { length places.new ≡ length places.old }
+    ensures filled { FillsFrom children.now places.new from end }
+    ensures past { (m : ℕ) → end ≤ m → get_or places.new m 0 ≡ get_or places.old m 0 }
+    ensures outside { StaysOutside 0 places.old places.new from }
+{
+    for c in 0..FAN {
+        if from + c < end {
+            places[from + c] = children[c];
+        }
+    }
+}
+
+/// Reads the nodes above the leaves, and puts the places of the leaves into the row.
+#[tactic(auto, using(crate::proofs::Reading::reads_none, fv_root::proofs::Finding::reads_then))]
+fn read_level<D: Disk>(
+    store: &mut Store,
+    disk: &mut D,
+    places: &mut [u32],
+    leaves: usize,
+    inner: usize,
+) -> Result<(), ContainerFault>
+    requires stands { StandsOn (D.shown disk.old) store.old.pairs }
+    requires within { leaves + inner ≤ length places.old }
+    requires few { inner ≤ 256 }
+    requires covered { leaves ≤ 256 * inner }
+    ensures len { length places.new ≡ length places.old }
+    ensures leaves { IsTrue (D.shown disk.old).tells
+        → OnOk result (AreChildren (D.shown disk.old).reads places.old places.new leaves leaves) }
+    ensures past { (m : ℕ) → leaves ≤ m → get_or places.new m 0 ≡ get_or places.old m 0 }
+    ensures whole { IsTrue (D.shown disk.old).tells → OnOk result (AreWhole (D.shown disk.old).reads 1 places.old leaves inner) }
+    ensures fault { IsTrue (D.shown disk.old).tells → IfErr result (IsLevelFault (D.shown disk.old).reads 1 places.old leaves inner) }
+    ensures only_reads { OnlyReads (D.shown disk.old) (D.shown disk.new) }
+    ensures stands { StandsOn (D.shown disk.new) store.new.pairs }
+    ensures cause { HasCause (D.shown disk.old).faults (D.shown disk.new).faults result }
+{
+    for q in 0..inner {
+        let children = read_inner(store, disk, places[leaves + q], 1, q as u64)?;
+        fill_children(places, FAN * q, leaves, &children);
+    }
+    Ok(())
+}
+
+/// An entry of a leaf.
+fn entry_from(pvbn: u32, kind: u32) -> Option<Entry>
+    requires { IsLeafEntry (pvbn, kind) }
+    ensures pair { pair_of result ≡ (pvbn, kind) }
+    ensures held { IfSome result IsHeld }
+{
+    if kind == 0 {
+        return None;
+    }
+    Some(Entry {
+        pvbn,
+        kind: kind as u8,
+    })
+}
+
+/// Puts the entries of a leaf into the row.
+fn fill_entries(entries: &mut [Option<Entry>], from: usize, leaf: &ContainerLeaf)
+    requires from { from < 2 ^ 32 }
+    requires range { (c : ℕ) → c < 256 → IsLeafEntry (get_or leaf.now.pvbns c 0, get_or leaf.now.kinds c 0) }
+    requires held { (v : ℕ) → IfSome (get_or entries.old v None) IsHeld }
+    ensures len { length entries.new ≡ length entries.old }
+    ensures filled { (c : ℕ) → c < 256 → from + c < length entries.old
+        → pair_of (get_or entries.new (from + c) None) ≡ (get_or leaf.now.pvbns c 0, get_or leaf.now.kinds c 0) }
+    ensures held { (v : ℕ) → IfSome (get_or entries.new v None) IsHeld }
+    ensures outside { StaysOutside None entries.old entries.new from }
+{
+    for c in 0..FAN {
+        if from + c < entries.len() {
+            entries[from + c] = entry_from(leaf.pvbns[c], leaf.kinds[c]);
+        }
+    }
+}
+
+/// Reads the leaves, and puts their entries into the row.
+#[tactic(auto, using(crate::proofs::Reading::reads_none, fv_root::proofs::Finding::reads_then))]
+fn read_leaves<D: Disk>(
+    store: &mut Store,
+    disk: &mut D,
+    places: &[u32],
+    entries: &mut [Option<Entry>],
+) -> Result<(), ContainerFault>
+    requires stands { StandsOn (D.shown disk.old) store.old.pairs }
+    requires few { length entries.old ≤ most_entries }
+    requires within { level_width (length entries.old) 0 ≤ length places.now }
+    requires held { (v : ℕ) → IfSome (get_or entries.old v None) IsHeld }
+    ensures len { length entries.new ≡ length entries.old }
+    ensures entries { IsTrue (D.shown disk.old).tells
+        → OnOk result ((v : ℕ) → v < length entries.old
+        → pair_of (get_or entries.new v None) ≡ entry_in (lying leaf_at (D.shown disk.old).reads (get_or places.now (v / 256) 0)) (v % 256)) }
+    ensures held { (v : ℕ) → IfSome (get_or entries.new v None) IsHeld }
+    ensures whole { IsTrue (D.shown disk.old).tells
+        → OnOk result (AreWhole (D.shown disk.old).reads 0 places.now 0 (level_width (length entries.old) 0)) }
+    ensures fault { IsTrue (D.shown disk.old).tells
+        → IfErr result (IsLevelFault (D.shown disk.old).reads 0 places.now 0 (level_width (length entries.old) 0)) }
+    ensures only_reads { OnlyReads (D.shown disk.old) (D.shown disk.new) }
+    ensures stands { StandsOn (D.shown disk.new) store.new.pairs }
+    ensures cause { HasCause (D.shown disk.old).faults (D.shown disk.new).faults result }
+{
+    for k in 0..leaf_count(entries.len()) {
+        let leaf = read_leaf(store, disk, places[k], k as u64)?;
+        fill_entries(entries, FAN * k, &leaf);
+    }
+    Ok(())
+}
+
+/// Puts the places of the root and of the level above the leaves into a row of zeros, and reads the root
+/// where it stands above that level.
+#[tactic(auto, using(crate::proofs::Reading::reads_none, fv_root::proofs::Finding::reads_then))]
+fn read_root<D: Disk>(
+    store: &mut Store,
+    disk: &mut D,
+    places: &mut [u32],
+    leaves: usize,
+    inner: usize,
+    height: u8,
+    root: u32,
+) -> Result<(), ContainerFault>
+    requires stands { StandsOn (D.shown disk.old) store.old.pairs }
+    requires within { leaves + (inner + 1) ≡ length places.old }
+    requires zeros { (m : ℕ) → get_or places.old m 0 ≡ 0 }
+    requires few { inner ≤ 256 }
+    requires some { 1 ≤ inner }
+    requires small { leaves < 2 ^ 32 }
+    requires least { 1 ≤ height }
+    requires greatest { height ≤ 2 }
+    ensures len { length places.new ≡ length places.old }
+    ensures inner { IsTrue (D.shown disk.old).tells
+        → OnOk result ((q : ℕ) → q < inner → get_or places.new (leaves + q) 0 ≡ node_below (D.shown disk.old).reads root (height - 1) q) }
+    ensures top { OnOk result (get_or places.new (leaves + inner) 0 ≡ (if height == 2 then root else 0)) }
+    ensures whole { IsTrue (D.shown disk.old).tells
+        → OnOk result (height ≡ 2 → root ≢ 0 → node_verdict 2 0 ((D.shown disk.old).reads root) ≡ Ok tt) }
+    ensures fault { IsTrue (D.shown disk.old).tells → IfErr result (λ fault. (height ≡ 2) × IsBadNode (D.shown disk.old).reads root 2 0 fault) }
+    ensures only_reads { OnlyReads (D.shown disk.old) (D.shown disk.new) }
+    ensures stands { StandsOn (D.shown disk.new) store.new.pairs }
+    ensures cause { HasCause (D.shown disk.old).faults (D.shown disk.new).faults result }
+{
+    if height == 1 {
+        places[leaves] = root;
+        return Ok(());
+    }
+    let children = read_inner(store, disk, root, 2, 0)?;
+    fill_children(places, leaves, leaves + inner, &children);
+    places[leaves + inner] = root;
+    Ok(())
+}
+
+/// Reads a tree into a row of places, all 0 before, and a row of entries, all holes before.
+#[tactic(auto, using(crate::proofs::Reading::reads_none, fv_root::proofs::Finding::reads_then))]
+pub(crate) fn read_tree<D: Disk>(
+    store: &mut Store,
+    disk: &mut D,
+    places: &mut [u32],
+    entries: &mut [Option<Entry>],
+    height: u8,
+    root: u32,
+) -> Result<(), ContainerFault>
+    requires stands { StandsOn (D.shown disk.old) store.old.pairs }
+    requires few { length entries.old ≤ most_entries }
+    requires holes { (v : ℕ) → get_or entries.old v None ≡ None }
+    requires nodes { length places.old ≡ node_count (length entries.old) }
+    requires zeros { (m : ℕ) → get_or places.old m 0 ≡ 0 }
+    requires least { 1 ≤ height }
+    requires greatest { height ≤ 2 }
+    ensures places { length places.new ≡ length places.old }
+    ensures len { length entries.new ≡ length entries.old }
+    ensures held { (v : ℕ) → IfSome (get_or entries.new v None) IsHeld }
+    ensures spelled { IsTrue (D.shown disk.old).tells
+        → OnOk result (Spelled (D.shown disk.old).reads root height (map_of entries.new places.new)) }
+    ensures fault { IsTrue (D.shown disk.old).tells → IfErr result (IsFault (D.shown disk.old).reads root height (length entries.old)) }
+    ensures only_reads { OnlyReads (D.shown disk.old) (D.shown disk.new) }
+    ensures stands { StandsOn (D.shown disk.new) store.new.pairs }
+    ensures cause { HasCause (D.shown disk.old).faults (D.shown disk.new).faults result }
+{
+    let leaves = leaf_count(entries.len());
+    let inner = inner_count(entries.len());
+    read_root(store, disk, places, leaves, inner, height, root)?;
+    read_level(store, disk, places, leaves, inner)?;
+    read_leaves(store, disk, places, entries)
+}
