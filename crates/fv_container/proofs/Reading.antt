@@ -2,7 +2,7 @@
 use Rattle.std.proofs.Common.{◌≡◌, ◌≢◌, ℕ, ◌+◌, ◌*◌, ◌/◌, ◌%◌, ◌<◌, ◌≤◌, List, get_or, refl, sym, ap, ◌∙◌, inl, arith, ⊎_elim, Ok, Option, None}
 use Rattle.std.proofs.lemmas.Bool.{cases_eq, cases_lt}
 use Rattle.fv_disk.specs.Shown.{Image, Shown}
-use Rattle.fv_root.specs.Finding.{OnlyReads}
+use Rattle.fv_disk.specs.DiskCalls.{OnlyReads}
 use Rattle.fv_codec.specs.Blocks.{inner_at, leaf_at}
 use Rattle.fv_image.specs.Containers.{child_in, entry_in, lying, node_verdict}
 use Rattle.fv_container.specs.declared.entry.Entry.{Entry}

@@ -3,7 +3,7 @@
 ghost use Rattle.std.specs.Prelude.{◌≡◌, ◌<◌, ◌≤◌, ◌+◌, None, Some, IsSome, IfOk, IfSome, option_copied, length, replicate, slice_index_or};
 ghost use Rattle.std.specs.Option.{option_copied_mut};
 ghost use Rattle.fv_store.specs.Held.{StandsOn};
-ghost use Rattle.fv_root.specs.Finding.{OnlyReads};
+ghost use Rattle.fv_disk.specs.DiskCalls.{OnlyReads};
 ghost use Rattle.fv_container.specs.Causes.{HasCause};
 ghost use Rattle.fv_container.specs.Chains.{IsSlots, along, chain_entry, container_at, no_containers, own_entry, parent_at, slot_count, with_container, with_parent};
 

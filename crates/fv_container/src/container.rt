@@ -9,7 +9,7 @@ ghost use Rattle.fv_container.specs.Flushed.{Exchanges, IsApart, IsOnce, Loses, 
 ghost use Rattle.fv_disk.specs.Shown.{Shown};
 ghost use Rattle.fv_image.specs.Containers.{height_of, level_width, most_entries};
 ghost use Rattle.fv_store.specs.Held.{StandsOn};
-ghost use Rattle.fv_root.specs.Finding.{OnlyReads};
+ghost use Rattle.fv_disk.specs.DiskCalls.{OnlyReads};
 ghost use Rattle.fv_container.specs.Causes.{HasCause};
 ghost use Rattle.fv_container.specs.Spelled.{IsFault, Spelled};
 ghost use Rattle.fv_container.specs.Mapped.{IsEntry, IsMapped, empty_map, entry_under, with_entry};

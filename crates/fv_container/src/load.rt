@@ -4,7 +4,7 @@ ghost use Rattle.std.specs.Prelude.{◌≡◌, ◌≢◌, ◌<◌, ◌≤◌, �
 ghost use Rattle.fv_codec.specs.Blocks.{IsContainerLeaf, IsEntry as IsLeafEntry, inner_at, leaf_at};
 ghost use Rattle.fv_image.specs.Containers.{child_in, entry_in, inner_for, leaf_for, level_width, lying, most_entries, node_below, node_verdict};
 ghost use Rattle.fv_store.specs.Held.{StandsOn};
-ghost use Rattle.fv_root.specs.Finding.{OnlyReads};
+ghost use Rattle.fv_disk.specs.DiskCalls.{OnlyReads};
 ghost use Rattle.fv_container.specs.Causes.{HasCause};
 ghost use Rattle.fv_container.specs.Kept.{map_of};
 ghost use Rattle.fv_container.specs.Mapped.{IsHeld, node_count};
@@ -169,7 +169,7 @@ fn fill_children(places: &mut [u32], from: usize, end: usize, children: &[u32; 2
 }
 
 /// Reads the nodes above the leaves, and puts the places of the leaves into the row.
-#[tactic(auto, using(crate::proofs::Reading::reads_none, fv_root::proofs::Finding::reads_then))]
+#[tactic(auto, using(crate::proofs::Reading::reads_none, fv_disk::proofs::Resting::reads_then))]
 fn read_level<D: Disk>(
     store: &mut Store,
     disk: &mut D,
@@ -232,7 +232,7 @@ fn fill_entries(entries: &mut [Option<Entry>], from: usize, leaf: &ContainerLeaf
 }
 
 /// Reads the leaves, and puts their entries into the row.
-#[tactic(auto, using(crate::proofs::Reading::reads_none, fv_root::proofs::Finding::reads_then))]
+#[tactic(auto, using(crate::proofs::Reading::reads_none, fv_disk::proofs::Resting::reads_then))]
 fn read_leaves<D: Disk>(
     store: &mut Store,
     disk: &mut D,
@@ -265,7 +265,7 @@ fn read_leaves<D: Disk>(
 
 /// Puts the places of the root and of the level above the leaves into a row of zeros, and reads the root
 /// where it stands above that level.
-#[tactic(auto, using(crate::proofs::Reading::reads_none, fv_root::proofs::Finding::reads_then))]
+#[tactic(auto, using(crate::proofs::Reading::reads_none, fv_disk::proofs::Resting::reads_then))]
 fn read_root<D: Disk>(
     store: &mut Store,
     disk: &mut D,
@@ -305,7 +305,7 @@ fn read_root<D: Disk>(
 }
 
 /// Reads a tree into a row of places, all 0 before, and a row of entries, all holes before.
-#[tactic(auto, using(crate::proofs::Reading::reads_none, fv_root::proofs::Finding::reads_then))]
+#[tactic(auto, using(crate::proofs::Reading::reads_none, fv_disk::proofs::Resting::reads_then))]
 pub(crate) fn read_tree<D: Disk>(
     store: &mut Store,
     disk: &mut D,

@@ -1,6 +1,6 @@
 mod Committing
 mod EmptyMachine
-pub mod Finding
+mod Finding
 mod Fixed
 mod Gates
 pub mod Laws

@@ -3,7 +3,7 @@ use Rattle.std.specs.Prelude.{IsTrue, IfSome}
 use Rattle.fv_codec.specs.Blocks.{leaf_at}
 use Rattle.fv_image.specs.Containers.{entry_in, lying}
 use Rattle.fv_store.specs.Held.{StandsOn}
-use Rattle.fv_root.specs.Finding.{OnlyReads}
+use Rattle.fv_disk.specs.DiskCalls.{OnlyReads}
 use Rattle.fv_container.specs.Mapped.{IsHeld}
 use Rattle.fv_container.specs.Spelled.{pair_of}
 use Rattle.fv_container.specs.Reading.{AreWhole}

@@ -3,7 +3,7 @@ use Rattle.std.specs.Prelude.{IsTrue}
 use Rattle.fv_codec.specs.Blocks.{inner_at}
 use Rattle.fv_image.specs.Containers.{child_in, lying}
 use Rattle.fv_store.specs.Held.{StandsOn}
-use Rattle.fv_root.specs.Finding.{OnlyReads}
+use Rattle.fv_disk.specs.DiskCalls.{OnlyReads}
 use Rattle.fv_container.specs.Reading.{AreWhole}
 use Rattle.fv_container.proofs.load.read_level.Given as goal
 
