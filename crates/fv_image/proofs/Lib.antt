@@ -1,2 +1,5 @@
 mod Rows
 pub mod SameContainers
+pub mod Named
+pub mod SameLayout
+pub mod Kept

@@ -1,11 +1,12 @@
 -- Where an image puts what its view tells of: labels, containers and the aggregate map; and which blocks it holds.
-use Rattle.std.specs.Prelude.{ℕ, zero, suc, Bool, ◌&&◌, List, [], ◌∷◌, ◌++◌, flat_map, Option, Some, None, get_or, nat_lt, nat_le, ◌==◌, if◌then◌else◌}
+use Rattle.std.specs.Prelude.{◌≡◌, ◌<◌, ℕ, zero, suc, Bool, true, ◌&&◌, List, [], ◌∷◌, ◌++◌, flat_map, Option, Some, None, get_or, nat_lt, nat_le, ◌==◌, if◌then◌else◌}
 use Rattle.std.specs.List.{list_any, range_with_len}
 use Rattle.std.specs.Option.{option_map}
 use Rattle.fv_disk.specs.Shown.{Image}
 use Rattle.fv_codec.specs.declared.label.Label.{Label}
 use Rattle.fv_codec.specs.Blocks.{label_at}
-use Rattle.fv_image.specs.NewerRoot.{Taken}
+use Rattle.fv_image.specs.Layout.{area_blocks, area_place}
+use Rattle.fv_image.specs.NewerRoot.{Taken, root_of}
 use Rattle.fv_image.specs.Maps.{map_bit}
 use Rattle.fv_image.specs.Containers.{shaped, level_width, node_of, container_entry}
 use Rattle.fv_image.specs.Views.{Placed, View, head_of, slots, entry_count, vvbns}
@@ -113,3 +114,19 @@ held y = flat_map (held_by y) slots
 -- whether a block is held
 abbrev pub is_held : Layout → ℕ → Bool
 is_held y b = list_any (λ x. x == b) (held y)
+
+-- ---- what a layout depends on
+
+-- the images agree on each block that is held in the first
+abbrev pub AgreeOnHeld : Taken → Image → Image → Type 0
+AgreeOnHeld t i j = (b : ℕ) → is_held (layout_at t i) b ≡ true → j b ≡ i b
+
+-- the images agree on all that a root names: the map area of its slot, and each block that is held in the first
+pub record AgreeOnNamed (t : Taken) (i j : Image) : Type 0 where
+  pub area : (k : ℕ) → k < area_blocks t.blocks → j (area_place t.blocks t.slot k) ≡ i (area_place t.blocks t.slot k)
+  pub held : AgreeOnHeld t i j
+
+-- an image in which a root counts as before, with the layout that it had
+pub record Keeps (t : Taken) (i c : Image) : Type 0 where
+  pub root : root_of c ≡ Some t
+  pub layout : layout_at t c ≡ layout_at t i
