@@ -3,3 +3,6 @@ pub mod SameContainers
 pub mod Named
 pub mod SameLayout
 pub mod Kept
+pub mod Stands
+pub mod InRange
+pub mod Empty

@@ -13,7 +13,7 @@ use Rattle.fv_model.specs.Space.{map_blocks, overhead, use_of, commit}
 use Rattle.fv_image.specs.Layout.{block_bits}
 use Rattle.fv_image.specs.Maps.{area_bits}
 use Rattle.fv_image.specs.Containers.{shaped, height_of, node_verdict}
-use Rattle.fv_image.specs.Views.{Placed, Head, View, slots, entry_count, vvbns, map_vvbn, volume_bit, sum_of_heads, delayed, own}
+use Rattle.fv_image.specs.Views.{Placed, Head, View, slots, entry_count, map_vvbn, volume_bit, sum_of_heads, delayed, own}
 use Rattle.fv_image.specs.Told.{volume_of}
 use Rattle.fv_image.specs.Held.{Lying, Layout, label_in, at_positions, held, is_held}
 
@@ -34,10 +34,7 @@ all_labels y test = list_all (λ s. option_map_or (test s) (label_in (y.label s)
 abbrev pub all_nodes : Layout → ℕ → Label → (ℕ → ℕ → Lying → Bool) → Bool
 all_nodes y s l test = list_all (λ good. good) (at_positions l (λ level number. option_map_or (test level number) (y.node s level number) true ∷ []))
 
--- of each entry that isn't a hole
-abbrev pub all_entries : Layout → ℕ → Label → (Placed → Bool) → Bool
-all_entries y s l test = list_all (λ v. option_map_or test (y.view.entry s v) true) (vvbns l.span)
-
+-- of each volume
 abbrev pub all_heads : Layout → (ℕ → Head → Bool) → Bool
 all_heads y test = list_all (λ s. option_map_or (test s) (y.view.head s) true) slots
 
@@ -59,16 +56,11 @@ has_shapes y =
     all_lying y (λ x. is_some (shaped (label_at x.block)))
     && all_labels y (λ s l. all_nodes y s l (λ level number x. has_node_shape level x.block))
 
--- Ranges: labels, nodes and entries have places where a block of a volume can lie, each container has a root, its height
--- is the least that covers its entries, and the span has room for `most` and 256 more.
+-- Ranges: each held block lies where a block of a volume can, each container has a root and the least height that covers
+-- its entries, and each span has room for `most` and 256 more.
 unfoldable pub is_in_range : Layout → Bool
-is_in_range y =
-    all_lying y (λ x. is_place y x.place)
-    && all_labels y (λ s l. is_place y l.container
-    && ((l.height == height_of (entry_count l.span))
-    && (nat_le (l.most + 256) l.span
-    && (all_nodes y s l (λ level number x. is_place y x.place)
-    && all_entries y s l (λ x. is_place y x.pvbn)))))
+is_in_range y = list_all (is_place y) (held y) && all_labels y (λ s l.
+    not (l.container == 0) && ((l.height == height_of (entry_count l.span)) && nat_le (l.most + 256) l.span))
 
 -- whether the heads of two slots have one name
 abbrev pub share_name : Option Head → Option Head → Bool
