@@ -1,6 +1,7 @@
 -- Images that agree on all that a root names have the same layout, and so the same machine.
-use Rattle.std.proofs.Common.{◌≡◌, ◌≢◌, ℕ, zero, suc, ◌-◌, ◌/◌, ◌<◌, ◌≤◌, Bool, true, false, List, refl, sym, ap, subst, ◌∙◌, arith, ⊎_elim}
+use Rattle.std.proofs.Common.{◌≡◌, ◌≢◌, ℕ, zero, suc, ◌-◌, ◌/◌, ◌<◌, ◌≤◌, Bool, true, false, List, ◌++◌, refl, sym, ap, subst, ◌∙◌, arith, ⊎_elim}
 use Rattle.std.specs.Prelude.{Option, Some, None, nat_lt, nat_le, ◌&&◌, ◌==◌, if◌then◌else◌}
+use Rattle.std.specs.List.{flat_map, list_any}
 use Rattle.std.specs.Option.{option_map}
 use Rattle.std.proofs.lemmas.Bool.{cases_lt, and_parts, both_ways}
 use Rattle.std.proofs.lemmas.Bool.Decides.{nat_tests}
@@ -11,8 +12,8 @@ use Rattle.fv_image.specs.Layout.{area_blocks, area_place}
 use Rattle.fv_image.specs.NewerRoot.{Taken, root_of}
 use Rattle.fv_image.specs.Maps.{area_bits, map_bit}
 use Rattle.fv_image.specs.Containers.{level_width, container_entry, node_of}
-use Rattle.fv_image.specs.Views.{Placed, entry_count, head_of}
-use Rattle.fv_image.specs.Held.{Lying, layout_at, view_at, lying_at, label_place, label_lying, label_in, node_from, entry_from, placed, with_bits, AgreeOnHeld, AgreeOnNamed, Keeps}
+use Rattle.fv_image.specs.Views.{Placed, entry_count, head_of, slots}
+use Rattle.fv_image.specs.Held.{AgreeOnHeld, AgreeOnNamed, Keeps, Layout, Lying, entry_from, held, held_by, held_by_container, is_held, label_in, label_lying, label_place, layout_at, lying_at, node_from, place_lying, placed, view_at, with_bits}
 use Rattle.fv_image.proofs.SameContainers.{AgreeOnTree, same_node, same_entries}
 use Rattle.fv_image.proofs.Named.{label_held, node_held, entry_held}
 
@@ -156,3 +157,16 @@ same_root i j fixed = rw (fixed 0 (omega arith), fixed 1 (omega arith), fixed 2 
 -- An image that agrees on the fixed blocks and on all that the root names keeps the root and the layout.
 pub kept : (t : Taken) (i c : Image) → root_of i ≡ Some t → ((b : ℕ) → b < 5 → c b ≡ i b) → AgreeOnNamed t i c → Keeps t i c
 kept t i c root fixed agree = record { root = same_root i c fixed ∙ root; layout = same_layout t i c agree }
+
+-- ---- the aggregate map plays no part in what is held
+
+pub held_with_bits : (bits : ℕ → Bool) (y : Layout) (b : ℕ) → is_held (with_bits bits y) b ≡ is_held y b
+unfolding held held_by held_by_container
+held_with_bits bits y b = ap (λ (by : ℕ → List ℕ). list_any (λ x. x == b) (flat_map by slots)) (λ k s. by_slot s k)
+  where
+    by_label : (s : ℕ) (o : Option Label) → held_by_container (with_bits bits y) s o ≡ held_by_container y s o
+    by_label s None = refl
+    by_label s (Some l) = refl
+
+    by_slot : (s : ℕ) → held_by (with_bits bits y) s ≡ held_by y s
+    by_slot s = ap (λ (xs : List ℕ). place_lying (y.label s) ++ xs) (by_label s (label_in (y.label s)))

@@ -10,3 +10,4 @@ mod Ranges
 mod Rooted
 mod Sides
 mod Writing
+pub mod Crashes
