@@ -6,3 +6,4 @@ pub mod Kept
 pub mod Stands
 pub mod InRange
 pub mod Empty
+mod Vectors
