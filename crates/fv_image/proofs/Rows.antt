@@ -9,7 +9,7 @@ use Rattle.fv_codec.specs.Fields.{all_zero, each, items}
 use Rattle.fv_codec.specs.Blocks.{super_at, gate_open, root_at, open_gate}
 use Rattle.fv_image.specs.Layout.{gate_place, root_place, area_place}
 use Rattle.fv_image.specs.NewerRoot.{Taken, root_of}
-use Rattle.fv_image.specs.MachineOf.{has_no_label, map_bit}
+use Rattle.fv_image.specs.Maps.{map_bit}
 
 -- ---- blocks and images
 
@@ -93,7 +93,7 @@ no_superblock : root_of (image_of (zeros 4096 ∷ open_gate ∷ [])) ≡ None
 unfolding root_of super_at gate_open open_gate root_at word_at word zeros all_zero each items
 no_superblock = refl
 
--- ---- the aggregate map and the labels
+-- ---- the aggregate map
 
 bit_7_is_set : map_bit (root_of_slot 1024 0 0 10) wrapped 7 ≡ true
 unfolding map_bit bit_of_area bit_of_bytes bit_of_number open_gate word zeros
@@ -111,9 +111,3 @@ bit_11_is_clear = refl
 bit_7_of_slot_1 : map_bit (root_of_slot 1024 1 (2 ^ 64 - 1) 0) wrapped 7 ≡ false
 unfolding map_bit bit_of_area bit_of_bytes bit_of_number open_gate word zeros
 bit_7_of_slot_1 = refl
-
-a_label_is_there : has_no_label (root_of_slot 1024 0 0 10) ≡ false
-a_label_is_there = refl
-
-no_label_is_there : has_no_label (root_of_slot 512 0 1 0) ≡ true
-no_label_is_there = refl

@@ -20,7 +20,7 @@ same_lying {X} read i j (suc p) same = ap (λ (b : List ℕ). lying read (λ _. 
 parent_within : (entries level q : ℕ) → q < level_width entries level → q / 256 < level_width entries (suc level)
 parent_within entries level q within = omega (arith, within)
 
-same_node : (i j : Image) (root height entries steps q : ℕ) → AgreeOnTree i j root height entries → steps ≤ height → q < level_width entries (height - steps) → node_below j root steps q ≡ node_below i root steps q
+pub same_node : (i j : Image) (root height entries steps q : ℕ) → AgreeOnTree i j root height entries → steps ≤ height → q < level_width entries (height - steps) → node_below j root steps q ≡ node_below i root steps q
 unfolding node_below
 same_node i j root height entries zero q agree le within = refl
 same_node i j root height entries (suc steps) q agree le within =

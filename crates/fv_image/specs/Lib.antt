@@ -1,4 +1,9 @@
 pub mod Layout
 pub mod NewerRoot
-pub mod MachineOf
+pub mod Maps
 pub mod Containers
+pub mod Views
+pub mod Told
+pub mod Held
+pub mod Sound
+pub mod MachineOf

@@ -1,35 +1,35 @@
 -- The machine that an image stands for.
-use Rattle.std.specs.Prelude.{◌*◌, ℕ, Bool, not, ◌&&◌, Option, Some, None, nat_lt, ◌==◌, if◌then◌else◌}
-use Rattle.std.specs.List.{list_all, range_with_len}
+use Rattle.std.specs.Prelude.{◌≡◌, true, ◌&&◌, Option, Some, None, if◌then◌else◌}
 use Rattle.std.specs.Option.{option_and_then}
 use Rattle.fv_disk.specs.Shown.{Image}
-use Rattle.fv_bits.specs.Bits.{bit_of_area}
-use Rattle.fv_model.specs.Machines.{Machine, empty_machine}
-use Rattle.fv_image.specs.Layout.{block_bits, area_blocks, area_place}
+use Rattle.fv_model.specs.Machines.{Machine}
 use Rattle.fv_image.specs.NewerRoot.{Taken, root_of}
+unfoldable pub use Rattle.fv_image.specs.Maps.{area_bits, map_bit}
+use Rattle.fv_image.specs.Told.{is_all_plain, told}
+use Rattle.fv_image.specs.Held.{Layout, layout_at}
+use Rattle.fv_image.specs.Sound.{IsSound, is_sound}
 
--- how many bits the map area of a slot holds
-abbrev pub area_bits : ℕ → ℕ
-area_bits blocks = block_bits * area_blocks blocks
+-- The machine of a layout: what its view tells of, where it is sound. Volumes in a form that isn't told here stand for
+-- no machine.
+unfoldable pub machine_from : Layout → Option Machine
+machine_from y = if is_all_plain y.view && is_sound y then Some (told y.view) else None
 
--- bit b of the aggregate map, which is the map area of the root's slot; past the area it is clear
-unfoldable pub map_bit : Taken → Image → ℕ → Bool
-map_bit t i b = nat_lt b (area_bits t.blocks) && bit_of_area (λ k. i (area_place t.blocks t.slot k)) b
-
--- no volume is there
-abbrev pub has_no_label : Taken → Bool
-has_no_label t = list_all (λ place. place == 0) t.root.labels
-
--- no block is held
-unfoldable pub is_map_clear : Taken → Image → Bool
-is_map_clear t i = list_all (λ b. not (map_bit t i b)) (range_with_len 0 (area_bits t.blocks))
-
--- The machine of an image, under the root that counts. A bit of the aggregate map is set exactly
--- where its block is held, and without volumes none is. Images with volumes stand for no machine here:
--- they come with the volumes themselves.
-unfoldable pub machine_at : Taken → Image → Option Machine
-machine_at t i = if has_no_label t && is_map_clear t i then Some (record (empty_machine t.blocks) { version = t.root.version }) else None
+-- the machine that an image stands for under a root
+abbrev pub machine_at : Taken → Image → Option Machine
+machine_at t i = machine_from (layout_at t i)
 
 -- the machine that an image stands for, if it stands for one
 unfoldable pub machine_of : Image → Option Machine
 machine_of i = option_and_then (λ t. machine_at t i) (root_of i)
+
+-- what makes a layout stand for a machine
+pub record Tells (y : Layout) (m : Machine) : Type 0 where
+  pub plain : is_all_plain y.view ≡ true
+  pub sound : IsSound y
+  pub machine : told y.view ≡ m
+
+-- an image stands for a machine under a root that counts
+pub record StandsFor (i : Image) (m : Machine) : Type 0 where
+  pub taken : Taken
+  pub counts : root_of i ≡ Some taken
+  pub tells : Tells (layout_at taken i) m

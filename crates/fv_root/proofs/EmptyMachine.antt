@@ -1,7 +1,6 @@
 -- A fresh aggregate stands for the empty machine.
-use Rattle.std.proofs.Common.{◌≡◌, ℕ, zero, suc, ◌+◌, ◌/◌, ◌%◌, ◌<◌, ◌≤◌, Bool, true, false, not, replicate, refl, ap, arith, ⊎_elim}
-use Rattle.std.specs.Prelude.{Some, slice_index}
-use Rattle.std.specs.List.{list_all, range_with_len}
+use Rattle.std.proofs.Common.{◌≡◌, ℕ, ◌/◌, ◌%◌, ◌<◌, ◌≤◌, Bool, true, false, replicate, refl, arith, ⊎_elim}
+use Rattle.std.specs.Prelude.{Some, slice_index, get_or, nat_lt, if◌then◌else◌}
 use Rattle.std.proofs.lemmas.List.{get_or-replicate, get_or_past}
 use Rattle.std.proofs.lemmas.Bool.{cases_lt}
 use Rattle.std.proofs.lemmas.Bool.Decides.{nat_tests}
@@ -11,8 +10,10 @@ use Rattle.fv_bits.specs.Bits.{bit_of_number, bit_of_bytes, bit_of_area}
 use Rattle.fv_model.specs.Machines.{empty_machine}
 use Rattle.fv_image.specs.Layout.{area_blocks, area_place}
 use Rattle.fv_image.specs.NewerRoot.{Taken, root_of}
-use Rattle.fv_image.specs.MachineOf.{area_bits, map_bit, is_map_clear, machine_at, machine_of}
-use Rattle.fv_root.specs.Formatted.{IsFormatted, first_root}
+use Rattle.fv_image.specs.MachineOf.{area_bits, map_bit, machine_of}
+use Rattle.fv_image.specs.Held.{label_place}
+use Rattle.fv_image.proofs.Empty.{machine_is_empty as empty_volumes}
+use Rattle.fv_root.specs.Formatted.{IsSize, IsFormatted, first_root}
 
 -- ---- the map
 
@@ -34,15 +35,6 @@ clear_bit t i area b = ⊎_elim
     (λ (past : area_bits t.blocks ≤ b). grind (arith, nat_tests))
     (cases_lt b (area_bits t.blocks))
 
--- a test that holds of every number holds of a range
-all_of_range : (test : ℕ → Bool) → ((k : ℕ) → test k ≡ true) → (from count : ℕ) → list_all test (range_with_len from count) ≡ true
-all_of_range test always from zero = refl
-all_of_range test always from (suc count) = rw (always from, all_of_range test always (from + 1) count) refl
-
-map_is_clear : (t : Taken) (i : Image) → ((k : ℕ) → k < area_blocks t.blocks → i (area_place t.blocks t.slot k) ≡ replicate 4096 0) → is_map_clear t i ≡ true
-unfolding is_map_clear
-map_is_clear t i area = all_of_range (λ b. not (map_bit t i b)) (λ b. ap not (clear_bit t i area b)) 0 (area_bits t.blocks)
-
 -- ---- the root
 
 abbrev first_taken : ℕ → Taken
@@ -52,6 +44,17 @@ root_is_first : (blocks : ℕ) (i : Image) → IsFormatted blocks i → root_of 
 unfolding root_of
 root_is_first blocks i is = rw (is.super, is.first_gate, is.second_gate, is.root) refl
 
-pub machine_is_empty : (blocks : ℕ) (i : Image) → IsFormatted blocks i → machine_of i ≡ Some (empty_machine blocks)
-unfolding machine_of machine_at
-machine_is_empty blocks i is = rw (root_is_first blocks i is, map_is_clear (first_taken blocks) i is.area) refl
+-- its root has no label
+no_label : (blocks s : ℕ) → label_place (first_taken blocks) s ≡ 0
+unfolding label_place
+no_label blocks s = none (nat_lt s 64) (get_or (replicate 64 0) s 0) (⊎_elim
+    (λ inside. get_or-replicate 64 s 0 0 inside)
+    (λ past. get_or_past (replicate 64 0) s 0 (let e : 64 ≤ s = past in e))
+    (cases_lt s 64))
+  where
+    none : (inside : Bool) (place : ℕ) → place ≡ 0 → (if inside then place else 0) ≡ 0
+    none true place is = is
+    none false place is = refl
+
+pub machine_is_empty : (blocks : ℕ) (i : Image) → IsSize blocks → IsFormatted blocks i → machine_of i ≡ Some (empty_machine blocks)
+machine_is_empty blocks i size is = empty_volumes i (first_taken blocks) (root_is_first blocks i is) size.least (no_label blocks) (clear_bit (first_taken blocks) i is.area)

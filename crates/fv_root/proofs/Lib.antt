@@ -10,3 +10,4 @@ mod Ranges
 mod Rooted
 mod Sides
 pub mod Writing
+pub mod Crashes

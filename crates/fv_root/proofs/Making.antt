@@ -7,12 +7,13 @@ use Rattle.fv_codec.specs.Blocks.{gate_open}
 use Rattle.fv_image.specs.Layout.{area_place}
 use Rattle.fv_image.specs.MachineOf.{machine_of}
 use Rattle.fv_model.specs.Machines.{empty_machine}
+use Rattle.fv_root.specs.Formatted.{IsSize}
 use Rattle.fv_root.specs.Steps.{IsCleared, IsLaidOut}
 use Rattle.fv_root.proofs.EmptyMachine.{machine_is_empty}
 
 -- the gates were closed, then all was laid out, then the first gate was opened
-pub made : (blocks : ℕ) (closed laid opened : Image) → gate_open (closed 2) ≡ false → IsLaidOut blocks closed laid → gate_open (opened 1) ≡ true → SameBut 1 laid opened → machine_of opened ≡ Some (empty_machine blocks)
-made blocks closed laid opened shut out first_gate same = machine_is_empty blocks opened (record {
+pub made : (blocks : ℕ) (closed laid opened : Image) → IsSize blocks → gate_open (closed 2) ≡ false → IsLaidOut blocks closed laid → gate_open (opened 1) ≡ true → SameBut 1 laid opened → machine_of opened ≡ Some (empty_machine blocks)
+made blocks closed laid opened size shut out first_gate same = machine_is_empty blocks opened size (record {
   super = rw (same 0 (omega arith)) out.super;
   first_gate = first_gate;
   second_gate = rw (same 2 (omega arith), out.second_gate) shut;

@@ -1,0 +1,152 @@
+-- What an aggregate holds, as functions of numbers alone: the head of the volume in each slot, and what each VVBN
+-- of it leads to, with the block itself. Images with equal views are told apart by nothing that is said of views.
+use Rattle.std.specs.Prelude.{ℕ, ◌+◌, ◌-◌, ◌*◌, ◌/◌, Bool, not, ◌&&◌, List, [], ◌∷◌, map, take, sum_by, count_by, Option, Some, None, nat_lt, nat_le, ◌==◌, if◌then◌else◌}
+use Rattle.std.specs.List.{list_any, range_with_len}
+use Rattle.std.specs.Option.{is_some, option_map_or}
+use Rattle.fv_bits.specs.Bits.{bit_of_area}
+use Rattle.fv_codec.specs.declared.pointer.Pointer.{Pointer}
+use Rattle.fv_codec.specs.declared.label.SnapRecord.{SnapRecord}
+use Rattle.fv_codec.specs.declared.label.Label.{Label}
+use Rattle.fv_model.specs.declared.commands.Kind.{Kind}
+use Rattle.fv_model.specs.declared.commands.Kind.TheVariants.{Volume as Whole, File as ByFile, Thin}
+use Rattle.fv_model.specs.Space.{map_blocks}
+use Rattle.fv_image.specs.Layout.{block_bits}
+
+-- an entry of a container that isn't a hole: its place and its kind, with the block at that place
+pub record Placed : Type 0 where
+  pub pvbn : ℕ
+  -- 1 for data, 2 to 4 for nodes of files, 5 for inode blocks, 6 and 7 for nodes of the inode file, 8 for map blocks
+  pub kind : ℕ
+  pub block : List ℕ
+
+-- a table as a label names it: the levels of its inode file, and the pointer to that file's root
+pub record Rooted : Type 0 where
+  pub levels : ℕ
+  pub root : Pointer
+
+-- a snapshot, with its map slot from 1 to 24
+pub record Snap : Type 0 where
+  pub slot : ℕ
+  pub name : List ℕ
+  pub table : Rooted
+
+-- what a clone stands on: the slot of its parent, the map slot of the parent's snapshot, and whether it is being split
+pub record Footing : Type 0 where
+  pub parent : ℕ
+  pub slot : ℕ
+  pub splitting : Bool
+
+-- what a label says of its volume. Where its container lies isn't part of it.
+pub record Head : Type 0 where
+  pub name : List ℕ
+  pub kind : Kind
+  pub size : ℕ
+  pub most : ℕ
+  pub span : ℕ
+  pub now : ℕ
+  pub base : Option Footing
+  pub known : Bool
+  pub active : Rooted
+  pub snapshots : List Snap
+
+pub record View : Type 0 where
+  -- of the aggregate
+  pub blocks : ℕ
+  -- of the format
+  pub version : ℕ
+  -- by slot
+  pub head : ℕ → Option Head
+  -- by slot and VVBN; none for a hole
+  pub entry : ℕ → ℕ → Option Placed
+
+-- ---- the head that a label spells
+
+abbrev pub kind_named : ℕ → Kind
+kind_named n = if n == 0 then Whole else (if n == 1 then ByFile else Thin)
+
+-- a parent of 0 is none; else it is the parent's slot plus 1
+abbrev pub footing_of : Label → Option Footing
+footing_of l = if l.parent == 0 then None else Some (record { parent = l.parent - 1; slot = l.base_slot; splitting = l.splitting == 1 })
+
+-- the used ones of the records from a map slot on
+unfoldable pub snaps_from : ℕ → List SnapRecord → List Snap
+snaps_from j [] = []
+snaps_from j (r ∷ rs) = if r.name_length == 0 then snaps_from (j + 1) rs
+    else record { slot = j; name = take r.name_length r.name; table = record { levels = r.levels; root = r.root } } ∷ snaps_from (j + 1) rs
+
+unfoldable pub head_of : Label → Head
+head_of l = record {
+  name = take l.name_length l.name;
+  kind = kind_named l.kind;
+  size = l.size;
+  most = l.most;
+  span = l.span;
+  now = l.now;
+  base = footing_of l;
+  known = l.known == 1;
+  active = record { levels = l.levels; root = l.root };
+  snapshots = snaps_from 1 l.snapshots;
+}
+
+-- ---- slots and VVBNs
+
+-- the slots that volumes can have
+unfoldable pub slots : List ℕ
+slots = range_with_len 0 64
+
+-- how many entries a container has: one for each VVBN of the span, and for each block of 25 maps
+abbrev pub entry_count : ℕ → ℕ
+entry_count span = span + 25 * map_blocks span
+
+unfoldable pub vvbns : ℕ → List ℕ
+vvbns span = range_with_len 0 (entry_count span)
+
+-- the VVBN of block k of the map of a slot; slot 0 has the active map, slots 1 to 24 have those of snapshots
+abbrev pub map_vvbn : ℕ → ℕ → ℕ → ℕ
+map_vvbn span slot k = span + (slot * map_blocks span + k)
+
+-- ---- the maps of a volume
+
+-- what an entry leads to; a hole leads to nothing
+abbrev pub block_in : Option Placed → List ℕ
+block_in None = []
+block_in (Some x) = x.block
+
+-- bit v of the map of a slot, in the volume of slot s with this span; past its blocks it is clear
+unfoldable pub volume_bit : View → ℕ → ℕ → ℕ → ℕ → Bool
+volume_bit w s span slot v = nat_lt v (block_bits * map_blocks span) && bit_of_area (λ k. block_in (w.entry s (map_vvbn span slot k))) v
+
+-- the map slots in use
+abbrev pub used_slots : Head → List ℕ
+used_slots h = 0 ∷ map (λ p. p.slot) h.snapshots
+
+-- A VVBN of the span is held where it is in some map that is in use, and that of a map block while its slot is in use.
+unfoldable pub is_held_in : View → ℕ → Head → ℕ → Bool
+is_held_in w s h v = if nat_lt v h.span
+    then list_any (λ slot. volume_bit w s h.span slot v) (used_slots h)
+    else list_any (λ slot. slot == (v - h.span) / map_blocks h.span) (used_slots h)
+
+-- the VVBNs of the active map's blocks
+abbrev pub is_active_map : Head → ℕ → Bool
+is_active_map h v = nat_le h.span v && nat_lt v (h.span + map_blocks h.span)
+
+-- an entry is delayed where it isn't a hole though no map holds its VVBN: its block was freed in the volume and not yet in the aggregate
+abbrev pub is_delayed : View → ℕ → Head → ℕ → Bool
+is_delayed w s h v = is_some (w.entry s v) && not (is_held_in w s h v)
+
+-- an entry is a volume's own where it is held and isn't a block of the active map
+abbrev pub is_own : View → ℕ → Head → ℕ → Bool
+is_own w s h v = is_some (w.entry s v) && (is_held_in w s h v && not (is_active_map h v))
+
+-- ---- sums over the volumes
+
+abbrev pub sum_of_heads : View → (ℕ → Head → ℕ) → ℕ
+sum_of_heads w number = sum_by (λ s. option_map_or (number s) (w.head s) 0) slots
+
+-- the delayed entries of all volumes
+unfoldable pub delayed : View → ℕ
+delayed w = sum_of_heads w (λ s h. count_by (is_delayed w s h) (vvbns h.span))
+
+-- the entries that are the volumes' own
+unfoldable pub own : View → ℕ
+own w = sum_of_heads w (λ s h. count_by (is_own w s h) (vvbns h.span))
