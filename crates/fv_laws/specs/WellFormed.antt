@@ -30,6 +30,8 @@ pub record IsWellFile (now : ℕ) (f : File) : Type 0 where
   pub reserve : is_reserve f.reserve ≡ true
   pub range : is_reserve f.length ≡ true
   pub tree : IsTree now (least_levels f.reserve) (fin.keys f.blocks) f.tree
+  -- three levels reach every index
+  pub levels : f.tree.levels ≤ 3
   -- the length is above each cell
   pub length : AllByRecursion (λ i. i < f.length) (fin.keys f.blocks)
 
@@ -39,6 +41,9 @@ pub record IsWellTable (now : ℕ) (t : Table) : Type 0 where
   pub names : (n k : ℕ) (f g : File) → fin.get t.files n ≡ Some f → fin.get t.files k ≡ Some g → f.name ≡ g.name → n ≡ k
   -- the inode file has a cell exactly where a file is
   pub inode : IsTree now 0 (map inode_cell (fin.keys t.files)) t.inode
+  -- two levels reach the cells of all numbers that there are
+  pub levels : t.inode.levels ≤ 2
+  pub numbers : (n : ℕ) (f : File) → fin.get t.files n ≡ Some f → n < most_files
   pub count : fin.len t.files ≤ most_files
 
 -- the span is that of a new volume, from its first size, so many ids of a base, and the span of a parent or source
