@@ -5,17 +5,21 @@ use Rattle.std.specs.Option.{option_map_or}
 use Rattle.std.specs.Ordering.{eq_by_cmp, is_eq}
 use Rattle.std.specs.FinMap as fin
 use Rattle.std.specs.FinMap.{find}
+use Rattle.std.specs.FinSet as set
 use Rattle.fv_model.specs.Numbers.{most_volumes}
 use Rattle.fv_model.specs.Spelling.{name_cmp, is_same_name}
+use Rattle.fv_model.specs.Tables.{Table}
+use Rattle.fv_model.specs.Places.{ids_of}
 use Rattle.fv_model.specs.Volumes.{Base, Volume}
 use Rattle.fv_model.specs.Machines.{Machine}
 use Rattle.fv_model.specs.Effects.{Becomes, Goes, changed}
 use Rattle.fv_model.specs.Refusals.{some_base, is_parent, is_base, is_splitting}
-use Rattle.fv_laws.specs.WellFormed.{IsWellVolume, IsParent, IsWell}
+use Rattle.fv_laws.specs.WellFormed.{IsSpan, IsWellVolume, IsParent, IsWell}
 use Rattle.fv_laws.proofs.Orders.{name_total, name_ties}
 use Rattle.fv_laws.proofs.Changes.{same_name, differs, itself}
 use Rattle.fv_laws.proofs.Commits.{now_there}
 use Rattle.fv_laws.proofs.Lists.{In}
+use Rattle.fv_laws.proofs.Volumes.{span_stays}
 
 -- ---- volumes by name
 found_in : (n : List ℕ) (x : Volume) (es : List (List ℕ × Volume)) → find name_cmp n es ≡ Some x → In (n, x) es
@@ -93,9 +97,9 @@ serves m is v x e name z b there has same =
     by o p q e d = cc
 
 -- a volume changes, and still serves its clones
-pub update_well : (m : Machine) → IsWell m → (v : List ℕ) (x y : Volume) → fin.get m.volumes v ≡ Some x → IsWellVolume y → y.span ≡ x.span → HasBaseOf x y →
+pub update_well : (m : Machine) → IsWell m → (v : List ℕ) (x y : Volume) → fin.get m.volumes v ≡ Some x → IsWellVolume y → y.most ≡ x.most → y.span ≡ x.span → HasBaseOf x y →
     ((name : List ℕ) (z : Volume) (b : Base) → fin.get m.volumes name ≡ Some z → z.base ≡ Some b → b.parent ≡ v → Serves y b) → IsWell (changed m (Becomes v y))
-update_well m is v x y e good span base children = record {
+update_well m is v x y e good most span base children = record {
   volumes = λ name z there. ⊎_elim (λ l. subst IsWellVolume (sym l.1) good) (λ r. is.volumes name z r.1) (here_or_old m v y name z there);
   count = subst (λ c. c ≤ most_volumes) (sym (fin.len-insert name_total m.volumes v y ∙ ap (λ (o : Option Volume). cond (is_some o) (fin.len m.volumes) (fin.len m.volumes + 1)) e)) is.count;
   bases = λ name z b there has. ⊎_elim (λ l. own name z b l has) (λ r. old name z b r has) (here_or_old m v y name z there);
@@ -117,15 +121,13 @@ update_well m is v x y e good span base children = record {
         let parent = is.bases v x was.0 e was.1 in
         let less = is.rooted.falls v x was.0 e was.1 in
         let apart : b.parent ≢ v = λ same. (let equal : is.rooted.rank was.0.parent ≡ is.rooted.rank v = ap is.rooted.rank (was.2 ∙ same) in absurd (omega (arith, less, equal))) in
-        let room : parent.parent.span ≤ x.span = parent.span in
-        let wide : z.span ≡ y.span = ap (λ (w : Volume). w.span) l.1 in
         record {
           parent = parent.parent;
           there = still m v y b.parent apart ∙ ap (fin.get m.volumes) (sym was.2) ∙ parent.there;
           held = ap (fin.get parent.parent.snapshots) (sym was.3) ∙ parent.held ∙ ap Some was.4;
           known = parent.known;
           whole = parent.whole;
-          span = omega (arith, room, span, wide);
+          span = subst (λ (t : Table). IsSpan z (set.len (ids_of t)) parent.parent.span) was.4 (span_stays x z (set.len (ids_of was.0.table)) parent.parent.span (ap (λ (w : Volume). w.most) l.1 ∙ most) (ap (λ (w : Volume). w.span) l.1 ∙ span) parent.span);
         }
 
     old : (name : List ℕ) (z : Volume) (b : Base) → (name ≢ v) × (fin.get m.volumes name ≡ Some z) → z.base ≡ Some b → IsParent (changed m (Becomes v y)) z b
@@ -136,15 +138,14 @@ update_well m is v x y e good span base children = record {
               let parent = is.bases name z b r.1 has in
               let one : parent.parent ≡ x = by (fin.get m.volumes b.parent) parent.parent x parent.there (ap (fin.get m.volumes) same ∙ e) in
               let service = children name z b r.1 has same in
-              let room : parent.parent.span ≤ z.span = parent.span in
-              let wide : parent.parent.span ≡ x.span = ap (λ (w : Volume). w.span) one in
+              let width : parent.parent.span ≡ y.span = ap (λ (w : Volume). w.span) one ∙ sym span in
               record {
                 parent = y;
                 there = ap (fin.get (fin.insert m.volumes v y)) same ∙ now_there m v y;
                 held = service.held;
                 known = service.known;
                 whole = service.whole;
-                span = omega (arith, room, wide, span);
+                span = subst (λ (w : ℕ). IsSpan z (set.len (ids_of b.table)) w) width parent.span;
               }
           | false ↦ λ d. untouched m v y z b (λ same. let yes : eq_by_cmp name_cmp b.parent v ≡ true = ap (λ (n : List ℕ). eq_by_cmp name_cmp n v) same ∙ itself v in let wrong : true ≡ false = sym yes ∙ d in cc) (is.bases name z b r.1 has)
         ] refl

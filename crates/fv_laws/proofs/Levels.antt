@@ -4,6 +4,7 @@ use Rattle.std.specs.List.{prefix_len, range_with_len, AllByRecursion}
 use Rattle.std.proofs.Math.Nat.{pow-suc, pow-le-pow_right, div-div-eq-div-mul}
 use Rattle.std.proofs.lemmas.Bool.Decides.{nat_tests}
 use Rattle.fv_model.specs.Trees.{fan, Spot, least_levels, levels_with, spots_over, spots_grown, holds_one}
+use Rattle.fv_laws.proofs.SetCounts.{or_true}
 use Rattle.fv_laws.proofs.Lists.{In, in_map, from_map, in_range, from_range}
 
 -- ---- numbers of ranges
@@ -18,7 +19,7 @@ pub up : (i k : ℕ) → i / fan ^ k / fan ≡ i / fan ^ (k + 1)
 up i k = div-div-eq-div-mul i (fan ^ k) fan ∙ ap (λ n. i / n) (sym (pow-suc fan k) ∙ ap (λ n. fan ^ n) (sym (add-one k)))
 
 -- ---- the least number of levels reaches
-stops : (p : ℕ → Bool) (a c : ℕ) → (p (a + prefix_len p (range_with_len a c)) ≡ false) ⊎ (prefix_len p (range_with_len a c) ≡ c)
+pub stops : (p : ℕ → Bool) (a c : ℕ) → (p (a + prefix_len p (range_with_len a c)) ≡ false) ⊎ (prefix_len p (range_with_len a c) ≡ c)
 stops p a zero = inr refl
 stops p a (suc c) =
     elim (p a) as (λ b. p a ≡ b → (p (a + cond b (1 + prefix_len p (range_with_len (a + 1) c)) 0) ≡ false) ⊎ (cond b (1 + prefix_len p (range_with_len (a + 1) c)) 0 ≡ suc c)) [
@@ -68,15 +69,11 @@ from_holds (c ∷ cells) p e =
       | false ↦ λ d h. let there = from_holds cells p h in (there.0, inr there.1, there.2)
     ] refl e
 
-or_right : (a : Bool) → (a || true) ≡ true
-or_right true = refl
-or_right false = refl
-
 pub holds : (cells : List ℕ) (p : Spot) (i : ℕ) → In i cells → i / fan ^ p.0 ≡ p.1 → holds_one cells p ≡ true
 holds [] p i h e = absurd h
 holds (c ∷ cells) p i (inl same) e =
     let at : c / fan ^ p.0 ≡ p.1 = ap (λ n. n / fan ^ p.0) same ∙ e in let yes : nat_eq (c / fan ^ p.0) p.1 ≡ true = grind (arith, nat_tests) in ap (λ b. b || holds_one cells p) yes
-holds (c ∷ cells) p i (inr h) e = ap (λ b. nat_eq (c / fan ^ p.0) p.1 || b) (holds cells p i h e) ∙ or_right _
+holds (c ∷ cells) p i (inr h) e = ap (λ b. nat_eq (c / fan ^ p.0) p.1 || b) (holds cells p i h e) ∙ or_true _
 
 pub all_in : {X : Type 0} (P : X → Type 0) (xs : List X) → AllByRecursion P xs → (x : X) → In x xs → P x
 all_in P [] all x h = absurd h
@@ -118,3 +115,20 @@ unfolding spots_grown
 is_grown false before after p e low high at = absurd cc
 is_grown true before after p e low high at =
     subst (λ (s : Spot). In s (map (λ (k : ℕ). (k, 0)) (range_with_len (before + 1) (after - before)))) (λ j. (p.0, sym at j)) (in_map (λ (k : ℕ). (k, 0)) p.0 (range_with_len (before + 1) (after - before)) (in_range (before + 1) (after - before) p.0 (omega arith) (omega arith)))
+
+-- ---- how few levels there are
+stops_by : (p : ℕ → Bool) (a c h : ℕ) → p (a + h) ≡ false → prefix_len p (range_with_len a c) ≤ h
+stops_by p a zero h e = omega arith
+stops_by p a (suc c) zero e = let here : p a ≡ false = ap p (omega arith) ∙ e in rw here (omega arith)
+stops_by p a (suc c) (suc h) e =
+    let rest = stops_by p (a + 1) c h (ap p (omega arith) ∙ e) in
+    elim (p a) as (λ b. cond b (1 + prefix_len p (range_with_len (a + 1) c)) 0 ≤ suc h) [ true ↦ omega (arith, rest) | false ↦ omega arith ]
+
+pub least_low : (n h : ℕ) → n ≤ fan ^ h → least_levels n ≤ h
+unfolding least_levels
+least_low n h le = stops_by (λ k. nat_lt (fan ^ k) n) 0 n h (let no : nat_lt (fan ^ h) n ≡ false = grind (arith, nat_tests) in ap (λ k. nat_lt (fan ^ k) n) (omega arith) ∙ no)
+
+pub with_low : (levels i h : ℕ) → levels ≤ h → i < fan ^ h → levels_with levels i ≤ h
+unfolding levels_with
+with_low levels i h le lt =
+    elim (nat_lt i (fan ^ levels)) as (λ b. cond b levels (least_levels (i + 1)) ≤ h) [ true ↦ le | false ↦ least_low (i + 1) h (omega arith) ]

@@ -5,6 +5,7 @@ use Rattle.std.specs.declared.cmp.Ordering.{Ordering}
 use Rattle.std.specs.Ordering.{eq_by_cmp, is_eq}
 use Rattle.std.specs.Cmp.{IsTotalOrder, Equal-is, tied_itself}
 use Rattle.std.specs.FinMap as fin
+use Rattle.fv_laws.proofs.SetCounts.{or_true}
 
 -- an element of a list
 abbrev pub In : {X : Type 0} → X → List X → Type 0
@@ -70,10 +71,6 @@ from_range a zero k h = absurd h
 from_range a (suc n) k (inl e) = (omega arith, omega arith)
 from_range a (suc n) k (inr h) = let there = from_range (a + 1) n k h in let low : a + 1 ≤ k = there.0 in let high : k < (a + 1) + n = there.1 in (omega arith, omega arith)
 
-or_right : (a : Bool) → (a || true) ≡ true
-or_right true = refl
-or_right false = refl
-
 -- a test of equality with some element
 module _ {X : Type 0} {R : X → X → Ordering} where
   pub any_in : fin.IsAntisymmetric R → (q : X) (xs : List X) → list_any (eq_by_cmp R q) xs ≡ true → In q xs
@@ -87,4 +84,4 @@ module _ {X : Type 0} {R : X → X → Ordering} where
   pub in_any : IsTotalOrder R → (q : X) (xs : List X) → In q xs → list_any (eq_by_cmp R q) xs ≡ true
   in_any o q [] h = absurd h
   in_any o q (x ∷ xs) (inl e) = ap (λ (s : X). eq_by_cmp R q s || list_any (eq_by_cmp R q) xs) e ∙ ap (λ r. is_eq r || list_any (eq_by_cmp R q) xs) (tied_itself o q)
-  in_any o q (x ∷ xs) (inr h) = ap (λ b. eq_by_cmp R q x || b) (in_any o q xs h) ∙ or_right _
+  in_any o q (x ∷ xs) (inr h) = ap (λ b. eq_by_cmp R q x || b) (in_any o q xs h) ∙ or_true _

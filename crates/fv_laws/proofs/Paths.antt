@@ -19,7 +19,7 @@ use Rattle.fv_laws.proofs.Orders.{spot_ties, id_total, id_ties}
 use Rattle.fv_laws.proofs.Lists.{In, any_in, in_any, in_left, in_right, in_map, from_filter}
 use Rattle.fv_laws.proofs.Ids.{is_stamp, contains-ids, nat_same}
 use Rattle.fv_laws.proofs.Stamps.{stands, get-stamps_of, get-stamp_spots}
-use Rattle.fv_laws.proofs.SetCounts.{IsPart, len_part}
+use Rattle.fv_laws.proofs.SetCounts.{IsPart, or_true, len_part}
 use Rattle.fv_laws.proofs.Counts.{len_union, len_difference, len_list}
 
 -- what stands after a change has its stamp and lies on its path, or stood there before
@@ -136,16 +136,12 @@ stamp_is u (Some w) e = ap Some (sym (nat_same u w e))
 is_there : (u : ℕ) (at : Option ℕ) → at ≡ Some u → is_stamp u at ≡ true
 is_there u at e = ap (is_stamp u) e ∙ ap is_eq (tied_itself nat_cmp_total u)
 
-or_right : (a : Bool) → (a || true) ≡ true
-or_right true = refl
-or_right false = refl
-
 old_or_new : (s : ℕ) (path : List Place) (t after : Table) → Adds s path t after → (q : Id) → set.contains (ids_of after) q ≡ true → (set.contains (ids_of t) q || set.contains (new_ids s path) q) ≡ true
 old_or_new s path t after adds q h =
     let p = q.0 in let u = q.1 in
     let at : stands after p.owner (p.level, p.index) ≡ Some u = sym (get-stamps_of after p.owner (p.level, p.index)) ∙ stamp_is u (fin.get (stamps_of after) p) (sym (contains-ids (stamps_of after) p u) ∙ h) in
     ⊎_elim
-    (λ l. ap (λ b. set.contains (ids_of t) q || b) (set.contains-from_list id_total (map (with_stamp s) path) q ∙ in_any id_total q (map (with_stamp s) path) (subst (λ (w : ℕ). In (with_stamp w p) (map (with_stamp s) path)) (sym l.0) (in_map (with_stamp s) p path l.1))) ∙ or_right (set.contains (ids_of t) q))
+    (λ l. ap (λ b. set.contains (ids_of t) q || b) (set.contains-from_list id_total (map (with_stamp s) path) q ∙ in_any id_total q (map (with_stamp s) path) (subst (λ (w : ℕ). In (with_stamp w p) (map (with_stamp s) path)) (sym l.0) (in_map (with_stamp s) p path l.1))) ∙ or_true (set.contains (ids_of t) q))
     (λ r. ap (λ b. b || set.contains (new_ids s path) q) (contains-ids (stamps_of t) p u ∙ is_there u (fin.get (stamps_of t) p) (get-stamps_of t p.owner (p.level, p.index) ∙ r)))
     (adds.only p.owner (p.level, p.index) u at)
 
@@ -157,7 +153,7 @@ charged_or_new a' true n k true more h = absurd (wrong a' k h)
     wrong false true h = cc
     wrong false false h = cc
 charged_or_new a' true n k false more h = refl
-charged_or_new true false n k e more h = ap (λ b. (k && not e) || b) (more refl) ∙ or_right _
+charged_or_new true false n k e more h = ap (λ b. (k && not e) || b) (more refl) ∙ or_true _
 charged_or_new false false n k e more h = ap (λ b. b || n) h
 
 length_map : (s : ℕ) (path : List Place) → length (map (with_stamp s) path) ≡ length path

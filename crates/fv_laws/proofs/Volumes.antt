@@ -1,5 +1,5 @@
 -- What each command leaves of a volume is well-formed.
-use Rattle.std.proofs.Common.{◌≡◌, ℕ, ◌+◌, ◌-◌, ◌*◌, ◌/◌, ◌<◌, ◌≤◌, Bool, true, false, cond, List, Option, Some, None, refl, sym, ap, subst, ◌∙◌, arith}
+use Rattle.std.proofs.Common.{◌≡◌, ℕ, ◌+◌, ◌-◌, ◌*◌, ◌<◌, ◌≤◌, Bool, true, false, cond, List, Option, Some, None, refl, sym, ap, subst, ◌∙◌, arith}
 use Rattle.std.specs.Option.{option_map}
 use Rattle.std.specs.Ordering.{eq_by_cmp}
 use Rattle.std.specs.FinMap as fin
@@ -12,19 +12,13 @@ use Rattle.fv_model.specs.Places.{id_cmp, ids_of}
 use Rattle.fv_model.specs.Volumes.{Base, Volume}
 use Rattle.fv_model.specs.Space.{base_ids, span_of}
 use Rattle.fv_model.specs.Effects.{stamped, empty_volume, clone_of, mirror_of, being_split}
-use Rattle.fv_laws.specs.WellFormed.{IsWellTable, IsWellVolume}
+use Rattle.fv_laws.specs.WellFormed.{IsWellTable, IsSpan, IsWellVolume}
 use Rattle.fv_laws.proofs.Orders.{name_total}
 use Rattle.fv_laws.proofs.Tables.{later_table, empty_well}
 
 -- ---- spans
 span_room : (size base least : ℕ) → 2 * size + base + 256 ≤ span_of size base least
 span_room size base least = omega arith
-
-span_least : (size base least : ℕ) → least ≤ span_of size base least
-span_least size base least = omega arith
-
-span_steps : (size base least : ℕ) → span_of size base least ≡ 4096 * (span_of size base least / 4096)
-span_steps size base least = omega arith
 
 span_narrow : (size : ℕ) → size ≤ 500000 → span_of size 0 0 ≤ greatest_span
 span_narrow size le = omega arith
@@ -38,6 +32,16 @@ no_snapshot s t e = let wrong : None ≡ Some t = sym (fin.get-empty name_cmp s)
 none_kept : fin.len (fin.empty {K = List ℕ} {X = Table} {R = name_cmp}) ≤ most_snapshots
 none_kept = let none : fin.len (fin.empty {K = List ℕ} {X = Table} {R = name_cmp}) ≡ 0 = fin.len-empty name_cmp Table in subst (λ c. c ≤ most_snapshots) (sym none) (omega arith)
 
+pub clone_span : (v : List ℕ) (x : Volume) (s : List ℕ) (t : Table) (size : ℕ) (kind : Kind) → IsSpan (clone_of v x s t size kind) (set.len (ids_of t)) x.span
+clone_span v x s t size kind = record { size = size; most = refl; span = refl }
+
+-- a span stays as defined while it and the greatest size stay
+pub span_stays : (x y : Volume) (base least : ℕ) → y.most ≡ x.most → y.span ≡ x.span → IsSpan x base least → IsSpan y base least
+span_stays x y base least most span is = record { size = is.size; most = most ∙ is.most; span = span ∙ is.span }
+
+same_span : (x y : Volume) → y.most ≡ x.most → y.span ≡ x.span → (base : ℕ) × (least : ℕ) × IsSpan x base least → (base : ℕ) × (least : ℕ) × IsSpan y base least
+same_span x y most span is = (is.0, is.1, span_stays x y is.0 is.1 most span is.2)
+
 -- ---- new volumes
 pub empty_is_well : (size : ℕ) (kind : Kind) → size ≤ 500000 → IsWellVolume (empty_volume size kind)
 empty_is_well size kind small = record {
@@ -48,7 +52,7 @@ empty_is_well size kind small = record {
   kept = none_kept;
   size = omega arith;
   room = let none = none_shared in let room = span_room size 0 0 in omega (arith, none, room);
-  steps = span_steps size 0 0;
+  defined = (0, 0, record { size = size; most = refl; span = refl });
   narrow = span_narrow size small;
 }
 
@@ -61,7 +65,7 @@ mirror_is_well x s t size kind is e narrow = record {
   kept = none_kept;
   size = omega arith;
   room = let none = none_shared in let room = span_room size 0 x.span in omega (arith, none, room);
-  steps = span_steps size 0 x.span;
+  defined = (0, x.span, record { size = size; most = refl; span = refl });
   narrow = narrow;
 }
 
@@ -74,19 +78,16 @@ clone_is_well v x s t size kind is e narrow = record {
   kept = none_kept;
   size = omega arith;
   room = span_room size (set.len (ids_of t)) x.span;
-  steps = span_steps size (set.len (ids_of t)) x.span;
+  defined = (set.len (ids_of t), x.span, clone_span v x s t size kind);
   narrow = narrow;
 }
 
-pub clone_span : (v : List ℕ) (x : Volume) (s : List ℕ) (t : Table) (size : ℕ) (kind : Kind) → x.span ≤ (clone_of v x s t size kind).span
-clone_span v x s t size kind = span_least size (set.len (ids_of t)) x.span
-
 -- ---- volumes that change
 pub recast : (x : Volume) → IsWellVolume x → (kind : Kind) (known : Bool) → IsWellVolume (record x { kind = kind; known = known })
-recast x is kind known = record { changes = is.changes; active = is.active; snapshots = is.snapshots; base = is.base; kept = is.kept; size = is.size; room = is.room; steps = is.steps; narrow = is.narrow }
+recast x is kind known = record { changes = is.changes; active = is.active; snapshots = is.snapshots; base = is.base; kept = is.kept; size = is.size; room = is.room; defined = same_span x _ refl refl is.defined; narrow = is.narrow }
 
 pub resized : (x : Volume) → IsWellVolume x → (size : ℕ) → size ≤ x.most → IsWellVolume (record x { size = size })
-resized x is size le = record { changes = is.changes; active = is.active; snapshots = is.snapshots; base = is.base; kept = is.kept; size = le; room = is.room; steps = is.steps; narrow = is.narrow }
+resized x is size le = record { changes = is.changes; active = is.active; snapshots = is.snapshots; base = is.base; kept = is.kept; size = le; room = is.room; defined = same_span x _ refl refl is.defined; narrow = is.narrow }
 
 pub changed_table : (x : Volume) → IsWellVolume x → (table : ℕ → Table) → x.now < most_changes → IsWellTable (x.now + 1) (table (x.now + 1)) → IsWellVolume (stamped x table)
 changed_table x is table few good = record {
@@ -97,12 +98,12 @@ changed_table x is table few good = record {
   kept = is.kept;
   size = is.size;
   room = is.room;
-  steps = is.steps;
+  defined = same_span x _ refl refl is.defined;
   narrow = is.narrow;
 }
 
 pub restored : (x : Volume) → IsWellVolume x → (s : List ℕ) (t : Table) → fin.get x.snapshots s ≡ Some t → IsWellVolume (record x { active = t })
-restored x is s t e = record { changes = is.changes; active = is.snapshots s t e; snapshots = is.snapshots; base = is.base; kept = is.kept; size = is.size; room = is.room; steps = is.steps; narrow = is.narrow }
+restored x is s t e = record { changes = is.changes; active = is.snapshots s t e; snapshots = is.snapshots; base = is.base; kept = is.kept; size = is.size; room = is.room; defined = same_span x _ refl refl is.defined; narrow = is.narrow }
 
 at_most_one : (b : Bool) (n : ℕ) → cond b n (n + 1) ≤ n + 1
 at_most_one true n = omega arith
@@ -121,7 +122,7 @@ snapped x is s few = record {
   kept = let count : fin.len (fin.insert x.snapshots s x.active) ≤ fin.len x.snapshots + 1 = subst (λ c. c ≤ fin.len x.snapshots + 1) (sym (fin.len-insert name_total x.snapshots s x.active)) (at_most_one (fin.contains_key x.snapshots s) (fin.len x.snapshots)) in omega (arith, count, few);
   size = is.size;
   room = is.room;
-  steps = is.steps;
+  defined = same_span x _ refl refl is.defined;
   narrow = is.narrow;
 }
   where
@@ -138,7 +139,7 @@ snapshot_gone x is s = record {
   kept = let few = is.kept in let count : fin.len (fin.remove x.snapshots s) ≤ fin.len x.snapshots = subst (λ c. c ≤ fin.len x.snapshots) (sym (fin.len-remove name_total x.snapshots s)) (at_most_all (fin.contains_key x.snapshots s) (fin.len x.snapshots)) in omega (arith, count, few);
   size = is.size;
   room = is.room;
-  steps = is.steps;
+  defined = same_span x _ refl refl is.defined;
   narrow = is.narrow;
 }
   where
@@ -164,7 +165,7 @@ split_begun x is = record {
   kept = is.kept;
   size = is.size;
   room = let same = ap set.len (same_shared x.base) in let room = is.room in omega (arith, same, room);
-  steps = is.steps;
+  defined = same_span x _ refl refl is.defined;
   narrow = is.narrow;
 }
 
@@ -177,6 +178,6 @@ split_ended x is = record {
   kept = is.kept;
   size = is.size;
   room = let none = none_shared in let room = is.room in omega (arith, none, room);
-  steps = is.steps;
+  defined = same_span x _ refl refl is.defined;
   narrow = is.narrow;
 }

@@ -60,8 +60,8 @@ own_base : (x y : Volume) → y.base ≡ x.base → HasBaseOf x y
 own_base x y same = record { base = λ b e. (b, sym same ∙ e, refl, refl, refl) }
 
 -- a volume changes in nothing that its clones want
-as_before : (m : Machine) → IsWell m → (v : List ℕ) (x y : Volume) → fin.get m.volumes v ≡ Some x → IsWellVolume y → y.span ≡ x.span → y.base ≡ x.base → y.snapshots ≡ x.snapshots → y.known ≡ x.known → IsWell (changed m (Becomes v y))
-as_before m is v x y e good span base snapshots known = update_well m is v x y e good span (own_base x y base) (λ name z b there has same.
+as_before : (m : Machine) → IsWell m → (v : List ℕ) (x y : Volume) → fin.get m.volumes v ≡ Some x → IsWellVolume y → y.most ≡ x.most → y.span ≡ x.span → y.base ≡ x.base → y.snapshots ≡ x.snapshots → y.known ≡ x.known → IsWell (changed m (Becomes v y))
+as_before m is v x y e good most span base snapshots known = update_well m is v x y e good most span (own_base x y base) (λ name z b there has same.
     let service = serves m is v x e name z b there has same in
     record {
       held = ap (λ (s : fin.FinMap name_cmp Table). fin.get s b.snapshot) snapshots ∙ service.held;
@@ -74,18 +74,18 @@ module _ (m : Machine) (is : IsWell m) where
   resize : (v : List ℕ) (size : ℕ) → of_volume m v (λ x. nat_lt x.most size) ≡ false → IsWell (effect m (VolResize v size))
   unfolding change_of
   resize v size h = volume_of m v (λ x. Becomes v (record x { size = size })) (λ c. IsWell (changed m c)) is (λ x e.
-      as_before m is v x (record x { size = size }) e (resized x (is.volumes v x e) size (at_most x.most size (told m v x (λ x. nat_lt x.most size) e h))) refl refl refl refl)
+      as_before m is v x (record x { size = size }) e (resized x (is.volumes v x e) size (at_most x.most size (told m v x (λ x. nat_lt x.most size) e h))) refl refl refl refl refl)
 
   guarantee : (v : List ℕ) (kind : Kind) → IsWell (effect m (VolGuarantee v kind))
   unfolding change_of
   guarantee v kind = volume_of m v (λ x. Becomes v (record x { kind = kind })) (λ c. IsWell (changed m c)) is (λ x e.
-      as_before m is v x (record x { kind = kind }) e (recast x (is.volumes v x e) kind x.known) refl refl refl refl)
+      as_before m is v x (record x { kind = kind }) e (recast x (is.volumes v x e) kind x.known) refl refl refl refl refl)
 
   few_changes : (v : List ℕ) (x : Volume) → fin.get m.volumes v ≡ Some x → of_volume m v (λ x. nat_le most_changes x.now) ≡ false → x.now < most_changes
   few_changes v x e h = below most_changes x.now (told m v x (λ x. nat_le most_changes x.now) e h)
 
   change : (v : List ℕ) (x : Volume) (table : ℕ → Table) → fin.get m.volumes v ≡ Some x → of_volume m v (λ x. nat_le most_changes x.now) ≡ false → IsWellTable (x.now + 1) (table (x.now + 1)) → IsWell (changed m (Becomes v (stamped x table)))
-  change v x table e few good = as_before m is v x (stamped x table) e (changed_table x (is.volumes v x e) table (few_changes v x e few) good) refl refl refl refl
+  change v x table e few good = as_before m is v x (stamped x table) e (changed_table x (is.volumes v x e) table (few_changes v x e few) good) refl refl refl refl refl
 
   new_in : (v f : List ℕ) (reserve : ℕ) → not (is_reserve reserve) ≡ false → of_volume m v (λ x. is_some (file_named x.active f)) ≡ false → of_volume m v (λ x. nat_le most_files (fin.len x.active.files)) ≡ false → of_volume m v (λ x. nat_le most_changes x.now) ≡ false → IsWell (effect m (New v f reserve))
   unfolding change_of
@@ -117,12 +117,12 @@ module _ (m : Machine) (is : IsWell m) where
   unfolding change_of
   restore v s = volume_of m v (λ x. at_snapshot x s (λ t. Becomes v (record x { active = t }))) (λ c. IsWell (changed m c)) is (λ x e.
       snapshot_of x s (λ t. Becomes v (record x { active = t })) (λ c. IsWell (changed m c)) is (λ t d.
-      as_before m is v x (record x { active = t }) e (restored x (is.volumes v x e) s t d) refl refl refl refl))
+      as_before m is v x (record x { active = t }) e (restored x (is.volumes v x e) s t d) refl refl refl refl refl))
 
   clean : (v : List ℕ) → IsWell (effect m (Clean v))
   unfolding change_of
   clean v = volume_of m v (λ x. Becomes v (record x { known = true })) (λ c. IsWell (changed m c)) is (λ x e.
-      update_well m is v x (record x { known = true }) e (recast x (is.volumes v x e) x.kind true) refl (own_base x (record x { known = true }) refl) (λ name z b there has same.
+      update_well m is v x (record x { known = true }) e (recast x (is.volumes v x e) x.kind true) refl refl (own_base x (record x { known = true }) refl) (λ name z b there has same.
       let service = serves m is v x e name z b there has same in record { held = service.held; known = refl; whole = service.whole }))
 
   -- a snapshot that is kept, and one that goes: those that clones stand on stay
@@ -130,7 +130,7 @@ module _ (m : Machine) (is : IsWell m) where
   unfolding change_of
   keep v s free few = volume_of m v (λ x. Becomes v (record x { snapshots = fin.insert x.snapshots s x.active })) (λ c. IsWell (changed m c)) is (λ x e.
       update_well m is v x (record x { snapshots = fin.insert x.snapshots s x.active }) e
-      (snapped x (is.volumes v x e) s (below most_snapshots (fin.len x.snapshots) (told m v x (λ x. nat_le most_snapshots (fin.len x.snapshots)) e few))) refl
+      (snapped x (is.volumes v x e) s (below most_snapshots (fin.len x.snapshots) (told m v x (λ x. nat_le most_snapshots (fin.len x.snapshots)) e few))) refl refl
       (own_base x (record x { snapshots = fin.insert x.snapshots s x.active }) refl)
       (λ name z b there has same.
       let service = serves m is v x e name z b there has same in
@@ -145,7 +145,7 @@ module _ (m : Machine) (is : IsWell m) where
   forget : (v s : List ℕ) → is_base m v s ≡ false → IsWell (effect m (SnapDelete v s))
   unfolding change_of
   forget v s free = volume_of m v (λ x. Becomes v (record x { snapshots = fin.remove x.snapshots s })) (λ c. IsWell (changed m c)) is (λ x e.
-      update_well m is v x (record x { snapshots = fin.remove x.snapshots s }) e (snapshot_gone x (is.volumes v x e) s) refl
+      update_well m is v x (record x { snapshots = fin.remove x.snapshots s }) e (snapshot_gone x (is.volumes v x e) s) refl refl
       (own_base x (record x { snapshots = fin.remove x.snapshots s }) refl)
       (λ name z b there has same.
       let service = serves m is v x e name z b there has same in
@@ -159,14 +159,14 @@ module _ (m : Machine) (is : IsWell m) where
   begin_split : (v : List ℕ) → is_parent m v ≡ false → IsWell (effect m (SplitStart v))
   unfolding change_of
   begin_split v free = volume_of m v (λ x. Becomes v (record x { base = option_map being_split x.base; known = false })) (λ c. IsWell (changed m c)) is (λ x e.
-      update_well m is v x (record x { base = option_map being_split x.base; known = false }) e (recast (record x { base = option_map being_split x.base; known = false }) (split_begun x (is.volumes v x e)) x.kind false) refl
+      update_well m is v x (record x { base = option_map being_split x.base; known = false }) e (recast (record x { base = option_map being_split x.base; known = false }) (split_begun x (is.volumes v x e)) x.kind false) refl refl
       (record { base = λ b d. split_base x.base b d })
       (λ name z b there has same. absurd (no_child m v free name z b there has same)))
 
   end_split : (v : List ℕ) → of_volume m v (λ x. not (is_splitting x)) ≡ false → IsWell (effect m (SplitFinish v))
   unfolding change_of
   end_split v h = volume_of m v (λ x. Becomes v (record x { base = None })) (λ c. IsWell (changed m c)) is (λ x e.
-      update_well m is v x (record x { base = None }) e (split_ended x (is.volumes v x e)) refl
+      update_well m is v x (record x { base = None }) e (split_ended x (is.volumes v x e)) refl refl
       (record { base = λ b d. absurd cc })
       (λ name z b there has same.
       let service = serves m is v x e name z b there has same in

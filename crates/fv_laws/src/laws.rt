@@ -1,5 +1,7 @@
-ghost use Rattle.std.specs.Prelude.{◌≡◌, ◌≢◌, List, ℕ, Some, true};
+ghost use Rattle.std.specs.Prelude.{◌≡◌, ◌≢◌, ◌<◌, ◌≤◌, List, ℕ, Some, true, false};
 ghost use Rattle.fv_model.specs.declared.commands.Command.{Command as Commanded};
+ghost use Rattle.std.specs.FinMap as fin;
+ghost use Rattle.fv_model.specs.Tables.{Table, free_number};
 ghost use Rattle.fv_model.specs.Machines.{Machine, empty_machine};
 ghost use Rattle.fv_model.specs.Space.{IsAdmitted};
 ghost use Rattle.fv_model.specs.Refusals.{next, home};
@@ -62,10 +64,19 @@ pub fn home_alone_decides()
 
 /// Every command leaves a well-formed machine well-formed, and the empty machine is so; so every machine that a script reaches
 /// from there is. In such a machine names of files are distinct, stamps stand exactly over cells and are those of changes so
-/// far, levels reach the cells and the reserve, counts and sizes are in their limits, and bases lead by chains that end to
-/// parents that are there and still hold the base's table. Costs nothing. docs/MACHINE.md says what there is in a machine.
+/// far, levels reach the cells and the reserve, numbers, counts and sizes are in their limits, and bases lead by chains that
+/// end to parents that are there and still hold the base's table. Costs nothing. docs/MACHINE.md says what there is in a machine.
 pub fn stays_well_formed()
     ensures empty { (blocks : ℕ) → IsWell (empty_machine blocks) }
     ensures next { (m : Machine) (c : Commanded) → IsWell m → IsWell (next m c) }
     ensures after { (m : Machine) (lines : List Line) (k : ℕ) → IsWell m → IsWell (after m lines k) }
+{}
+
+/// A new file's number is the least that no file of the table has, and at most the number of its files. Said of every table;
+/// costs nothing.
+#[tactic(auto, using(crate::proofs::Tables::free_is_free, crate::proofs::Tables::free_is_least, crate::proofs::Tables::free_low))]
+pub fn the_least_free_number_is_taken()
+    ensures free { (t : Table) → fin.contains_key t.files (free_number t) ≡ false }
+    ensures least { (t : Table) (k : ℕ) → k < free_number t → fin.contains_key t.files k ≡ true }
+    ensures low { (t : Table) → free_number t ≤ fin.len t.files }
 {}

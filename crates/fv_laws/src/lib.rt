@@ -10,7 +10,7 @@ mod space;
 
 pub use laws::{
     always_admitted, home_alone_decides, others_stay, refused_by_charge_alone,
-    releases_raise_nothing, reserves_hold, stays_well_formed,
+    releases_raise_nothing, reserves_hold, stays_well_formed, the_least_free_number_is_taken,
 };
 pub use space::{
     a_change_adds_its_path, charge_is_within_the_tables, ids_are_counted,
