@@ -9,3 +9,5 @@ pub mod Empty
 mod Vectors
 mod Uses
 mod LoneLeaf
+mod LoneVolumes
+mod Samples
