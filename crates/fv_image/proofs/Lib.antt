@@ -11,3 +11,4 @@ mod Uses
 mod LoneLeaf
 mod LoneVolumes
 mod Samples
+pub mod Zeros

@@ -1,26 +1,26 @@
 -- Images whose volumes are empty and have containers with one leaf: their layout, and what the rules ask of it.
-use Rattle.std.proofs.Common.{◌≡◌, ◌≢◌, ℕ, zero, suc, ◌+◌, ◌-◌, ◌/◌, ◌%◌, ◌<◌, ◌≤◌, Bool, true, false, List, [], ◌∷◌, replicate, refl, sym, ap, subst, ◌∙◌, arith, ⊎_elim}
-use Rattle.std.specs.Prelude.{◌*◌, Option, Some, None, fold, sum_by, count_by, not, nat_lt, nat_le, ◌&&◌, ◌==◌, if◌then◌else◌, cond}
-use Rattle.std.specs.List.{list_all, list_any, range_with_len}
+use Rattle.std.proofs.Common.{◌≡◌, ◌≢◌, ℕ, zero, suc, ◌+◌, ◌/◌, ◌%◌, ◌<◌, ◌≤◌, Bool, true, false, List, [], ◌∷◌, replicate, refl, sym, ap, subst, ◌∙◌, arith, ⊎_elim}
+use Rattle.std.specs.Prelude.{◌*◌, Option, Some, None, fold, sum_by, count_by, not, nat_lt, nat_le, ◌==◌, if◌then◌else◌, cond}
+use Rattle.std.specs.List.{list_all, range_with_len}
 use Rattle.std.specs.Option.{option_map, option_map_or}
 use Rattle.std.proofs.lemmas.Bool.{cases_eq, cases_lt, and_right}
 use Rattle.std.proofs.lemmas.Bool.Decides.{nat_tests}
 use Rattle.fv_disk.specs.Shown.{Image}
 use Rattle.fv_codec.specs.declared.label.Label.{Label}
-use Rattle.fv_bits.specs.Bits.{bit_of_number, bit_of_bytes, bit_of_area}
+use Rattle.fv_bits.specs.Bits.{bit_of_area}
 use Rattle.fv_model.specs.Space.{use_of, map_blocks}
 use Rattle.fv_image.specs.Layout.{block_bits}
 use Rattle.fv_image.specs.NewerRoot.{Taken}
 use Rattle.fv_image.specs.Told.{volume_of}
 use Rattle.fv_image.proofs.Uses.{uses_nothing}
 use Rattle.fv_image.proofs.Empty.{all_of_range}
-use Rattle.std.proofs.lemmas.Nat.Bits.{bit_at-zero}
 use Rattle.fv_image.specs.Maps.{map_bit}
-use Rattle.fv_image.specs.Containers.{level_width, container_entry, node_of, node_below}
-use Rattle.fv_image.specs.Views.{Placed, Head, View, head_of, slots, entry_count, vvbns, is_own, is_delayed, own, delayed, volume_bit, is_held_in, sum_of_heads}
+use Rattle.fv_image.specs.Containers.{node_below}
+use Rattle.fv_image.specs.Views.{Placed, Head, View, head_of, slots, vvbns, is_own, is_delayed, own, delayed, volume_bit, is_held_in}
 use Rattle.fv_image.specs.Held.{Lying, Layout, layout_at, view_at, lying_at, label_place, label_lying, label_in, node_from, entry_from, placed}
 use Rattle.fv_image.specs.Sound.{all_heads, has_true_maps, is_in_size}
-use Rattle.fv_image.proofs.LoneLeaf.{zero_in, HasLoneLeaf, lone_node, lone_entry}
+use Rattle.fv_image.proofs.LoneLeaf.{HasLoneLeaf, lone_node, lone_entry}
+use Rattle.fv_image.proofs.Zeros.{bit_of_zero_block}
 
 -- a volume: the places of its label, its leaf and its map block, and what its label says
 pub record Given : Type 0 where
@@ -170,10 +170,6 @@ span_of_head g span = span
 
 none_fit : (n : ℕ) → nat_le 0 n ≡ true
 none_fit n = grind (arith, nat_tests)
-
-bit_of_zero_block : (b : ℕ) → bit_of_bytes (replicate 4096 0) b ≡ false
-unfolding bit_of_bytes bit_of_number
-bit_of_zero_block b = rw (zero_in 4096 (b / 8), bit_at-zero (b % 8)) refl
 
 module _ (t : Taken) (given : ℕ → Option Given) (spans : (s : ℕ) → HasSpan (given s)) where
   abbrev w : View
