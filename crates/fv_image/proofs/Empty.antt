@@ -50,7 +50,8 @@ module _ (t : Taken) (i : Image) (bare : (s : ℕ) → label_place t s ≡ 0) (c
 
 -- ---- and it is sound
 
-all_of_range : (test : ℕ → Bool) → ((k : ℕ) → test k ≡ true) → (from count : ℕ) → list_all test (range_with_len from count) ≡ true
+-- a test that holds of every number holds of a range
+pub all_of_range : (test : ℕ → Bool) → ((k : ℕ) → test k ≡ true) → (from count : ℕ) → list_all test (range_with_len from count) ≡ true
 all_of_range test always from zero = refl
 all_of_range test always from (suc count) = rw (always from, all_of_range test always (from + 1) count) refl
 

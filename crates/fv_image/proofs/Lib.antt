@@ -9,3 +9,6 @@ pub mod Empty
 mod Vectors
 mod Uses
 mod LoneLeaf
+mod LoneVolumes
+mod Samples
+pub mod Zeros

@@ -1,7 +1,7 @@
 -- The map of a container whose only leaf is leaf 16, with a map block in its first entry.
 use Rattle.std.proofs.Common.{◌≡◌, ℕ, zero, suc, ◌-◌, ◌/◌, ◌%◌, ◌<◌, ◌≤◌, Bool, true, false, ◌∷◌, ◌++◌, length, replicate, refl, ap, ◌∙◌, arith, ⊎_elim, get_or}
 use Rattle.std.specs.Prelude.{Some, nat_lt, ◌==◌, if◌then◌else◌}
-use Rattle.std.proofs.lemmas.List.{get_or-replicate, get_or_past, get_or_append_left, get_or-append_right, length-replicate}
+use Rattle.std.proofs.lemmas.List.{get_or_append_left, get_or-append_right, length-replicate}
 use Rattle.std.proofs.lemmas.Bool.{cases_lt}
 use Rattle.std.proofs.lemmas.Bool.Decides.{nat_tests}
 use Rattle.fv_disk.specs.Shown.{Image}
@@ -9,14 +9,9 @@ use Rattle.fv_codec.specs.declared.container.ContainerLeaf.{ContainerLeaf}
 use Rattle.fv_codec.specs.declared.container.ContainerInner.{ContainerInner}
 use Rattle.fv_codec.specs.Blocks.{inner_at, leaf_at}
 use Rattle.fv_image.specs.Containers.{lying, entry_in, node_below, container_entry}
+use Rattle.fv_image.proofs.Zeros.{zero_in}
 
 -- ---- lists with one number that isn't 0
-
-pub zero_in : (n k : ℕ) → ◌≡◌ {A = ℕ} (get_or (replicate n 0) k 0) 0
-zero_in n k = ⊎_elim
-    (λ inside. get_or-replicate n k 0 0 inside)
-    (λ past. get_or_past (replicate n 0) k 0 (let e : length (replicate {A = ℕ} n 0) ≡ n = length-replicate {A = ℕ} n 0 in omega (arith, past, e)))
-    (cases_lt k n)
 
 lone_after : (after x k : ℕ) → get_or (x ∷ replicate after 0) k 0 ≡ (if k == 0 then x else 0)
 lone_after after x zero = refl

@@ -1,5 +1,5 @@
 -- A volume without files and snapshots uses nothing.
-use Rattle.std.proofs.Common.{◌≡◌, ℕ, List, [], ◌∷◌, ◌++◌, ap₂, length, Bool, true, false, cond, refl, rules, sym, ap, ◌∙◌, arith, Less, Equal, Greater, get_or}
+use Rattle.std.proofs.Common.{◌≡◌, ℕ, List, [], ◌∷◌, ◌++◌, ap₂, length, Bool, true, false, cond, refl, rules, sym, ap, ◌∙◌, arith, Less, Equal, Greater, get_or, ◌*◌, ◌+◌}
 use Rattle.std.specs.Prelude.{map, flat_map, sum_by, count_by, not, ◌&&◌, ◌||◌}
 use Rattle.std.specs.declared.cmp.Ordering.{Ordering}
 use Rattle.std.specs.Ordering.{nat_cmp, ordering_then}
@@ -11,9 +11,11 @@ use Rattle.fv_model.specs.Spelling.{name_cmp}
 use Rattle.fv_model.specs.Trees.{Spot, spot_cmp}
 use Rattle.fv_model.specs.Tables.{File, Table, empty_table}
 use Rattle.fv_model.specs.Places.{Owner, InodeFile, OfFile, Id, Ids, Stamps, placed, tree_entries, rank, numbers, place_cmp, id_cmp, ids, ids_of, stamps_of}
-use Rattle.fv_model.specs.Space.{charge, need, use_of, kept_ids, ids_in_any, is_file_kind, needs_block, shared_ids, reserved_places}
+use Rattle.fv_model.specs.Space.{charge, need, use_of, kept_ids, ids_in_any, is_file_kind, needs_block, shared_ids, reserved_places, commit, overhead, promised}
 use Rattle.fv_image.specs.Views.{Head}
 use Rattle.fv_image.specs.Told.{volume_of}
+use Rattle.fv_model.specs.declared.commands.Kind.TheVariants.{Volume as Whole, File as ByFile, Thin}
+use Rattle.fv_model.specs.declared.commands.Kind.{Kind}
 
 -- ---- maps without entries
 
@@ -103,3 +105,18 @@ module _ (h : Head) where
 
   pub uses_nothing : use_of (volume_of h) ≡ 0
   uses_nothing = rw (charges_nothing, needs_nothing) refl
+
+-- what is promised to an empty volume: its size by kind `volume`, else nothing
+abbrev pub promised_size : Kind → ℕ → ℕ
+promised_size Whole size = size
+promised_size ByFile size = 0
+promised_size Thin size = 0
+
+pub commit_is : (h : Head) → commit (volume_of h) ≡ 2 * overhead h.span + promised_size h.kind h.size
+unfolding volume_of
+commit_is h = ap (λ (n : ℕ). 2 * overhead h.span + n) (so h.kind)
+  where
+    so : (kind : Kind) → promised (volume_of h) kind ≡ promised_size kind h.size
+    so Whole = refl
+    so ByFile = uses_nothing h
+    so Thin = uses_nothing h

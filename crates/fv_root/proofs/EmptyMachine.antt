@@ -14,26 +14,7 @@ use Rattle.fv_image.specs.MachineOf.{area_bits, map_bit, machine_of}
 use Rattle.fv_image.specs.Held.{label_place}
 use Rattle.fv_image.proofs.Empty.{machine_is_empty as empty_volumes}
 use Rattle.fv_root.specs.Formatted.{IsSize, IsFormatted, first_root}
-
--- ---- the map
-
--- a byte of a zero block, at any place
-zero_byte : (k : ℕ) → slice_index (replicate 4096 0) k ≡ 0
-zero_byte k = ⊎_elim
-    (λ inside. get_or-replicate 4096 k 0 0 inside)
-    (λ past. get_or_past (replicate 4096 0) k 0 (let e : 4096 ≤ k = past in e))
-    (cases_lt k 4096)
-
-bit_of_zero_block : (b : ℕ) → bit_of_bytes (replicate 4096 0) b ≡ false
-unfolding bit_of_bytes bit_of_number
-bit_of_zero_block b = rw (zero_byte (b / 8), bit_at-zero (b % 8)) refl
-
-clear_bit : (t : Taken) (i : Image) → ((k : ℕ) → k < area_blocks t.blocks → i (area_place t.blocks t.slot k) ≡ replicate 4096 0) → (b : ℕ) → map_bit t i b ≡ false
-unfolding map_bit bit_of_area
-clear_bit t i area b = ⊎_elim
-    (λ (inside : b < area_bits t.blocks). let block : b / 32768 < area_blocks t.blocks = omega arith in rw (area (b / 32768) block, bit_of_zero_block (b % 32768)) (grind (arith, nat_tests)))
-    (λ (past : area_bits t.blocks ≤ b). grind (arith, nat_tests))
-    (cases_lt b (area_bits t.blocks))
+use Rattle.fv_image.proofs.Zeros.{zero_in, clear_bits}
 
 -- ---- the root
 
@@ -57,4 +38,4 @@ no_label blocks s = none (nat_lt s 64) (get_or (replicate 64 0) s 0) (⊎_elim
     none false place is = refl
 
 pub machine_is_empty : (blocks : ℕ) (i : Image) → IsSize blocks → IsFormatted blocks i → machine_of i ≡ Some (empty_machine blocks)
-machine_is_empty blocks i size is = empty_volumes i (first_taken blocks) (root_is_first blocks i is) size.least (no_label blocks) (clear_bit (first_taken blocks) i is.area)
+machine_is_empty blocks i size is = empty_volumes i (first_taken blocks) (root_is_first blocks i is) size.least (no_label blocks) (clear_bits (first_taken blocks) i is.area)
