@@ -7,3 +7,4 @@ mod Walks
 mod Regions
 mod Taking
 mod Flushed
+pub mod Laws

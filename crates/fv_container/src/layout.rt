@@ -1,7 +1,7 @@
 //! How many nodes a tree has.
 
 ghost use Rattle.std.specs.Prelude.{◌≡◌, ◌≤◌, replicate, IfOk};
-ghost use Rattle.fv_image.specs.Containers.{level_width, most_entries};
+ghost use Rattle.fv_image.specs.Containers.{height_of, level_width, most_entries};
 ghost use Rattle.fv_container.specs.Mapped.{node_count};
 
 use std::alloc::{AllocError, Global};
@@ -32,6 +32,15 @@ pub(crate) fn node_count(entries: usize) -> usize
     ensures { result ≡ node_count entries }
 {
     leaf_count(entries) + inner_count(entries) + 1
+}
+
+/// The height of the tree of so many entries, at most 16,777,216: the least, at least 1, whose fan-out of
+/// 256 covers the leaves. `flush` writes trees of this height. Costs one step.
+pub fn height_of(entries: u32) -> u8
+    requires { entries ≤ most_entries }
+    ensures { result ≡ height_of entries }
+{
+    if leaf_count(entries as usize) <= FAN { 1 } else { 2 }
 }
 
 /// A vector of so many copies of a value.

@@ -18,4 +18,5 @@ pub use container::Container;
 pub use entry::Entry;
 pub use fault::ContainerFault;
 pub use free::Free;
+pub use layout::height_of;
 pub use steps::Steps;
