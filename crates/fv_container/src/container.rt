@@ -3,7 +3,7 @@
 ghost use Rattle.std.specs.Prelude.{◌≡◌, ◌<◌, ◌≤◌, ◌+◌, ℕ, None, Some, length, replicate, IsTrue, IfOk, IfSome, IfErr, OnErr, OnOk};
 ghost use Rattle.std.specs.FinSet as set;
 ghost use Rattle.fv_codec.specs.Blocks.{last_place};
-ghost use Rattle.fv_root.specs.Writing.{Spares};
+ghost use Rattle.fv_disk.specs.Sparing.{Spares};
 ghost use Rattle.fv_container.specs.Written.{blocks_needed};
 ghost use Rattle.fv_container.specs.Flushed.{Exchanges, IsApart, IsOnce, Loses, WasTaken, without_value};
 ghost use Rattle.fv_disk.specs.Shown.{Shown};

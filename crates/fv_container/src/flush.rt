@@ -5,7 +5,7 @@ ghost use Rattle.std.specs.FinSet as set;
 ghost use Rattle.fv_codec.specs.Blocks.{last_place};
 ghost use Rattle.fv_image.specs.Containers.{height_of, most_entries};
 ghost use Rattle.fv_store.specs.Held.{StandsOn};
-ghost use Rattle.fv_root.specs.Writing.{Spares};
+ghost use Rattle.fv_disk.specs.Sparing.{Spares};
 ghost use Rattle.fv_container.specs.Kept.{map_of};
 ghost use Rattle.fv_container.specs.Mapped.{IsHeld, node_count};
 ghost use Rattle.fv_container.specs.Spelled.{Spelled};

@@ -5,7 +5,7 @@ ghost use Rattle.fv_disk.specs.Shown.{SameBut};
 ghost use Rattle.fv_codec.specs.Blocks.{IsEntry as IsLeafEntry, last_place};
 ghost use Rattle.fv_image.specs.Containers.{level_width, most_entries};
 ghost use Rattle.fv_store.specs.Held.{StandsOn};
-ghost use Rattle.fv_root.specs.Writing.{Spares};
+ghost use Rattle.fv_disk.specs.Sparing.{Spares};
 ghost use Rattle.fv_container.specs.Mapped.{IsHeld, node_count};
 ghost use Rattle.fv_container.specs.Spelled.{pair_of};
 ghost use Rattle.fv_container.specs.Written.{AreWritten, IsElsewhere, IsInnerOf, IsLeafOf, IsNodeOf, child_from};
@@ -136,7 +136,7 @@ fn node_block(entries: &[Option<Entry>], places: &[u32], node: usize, into: &mut
 }
 
 /// Writes a node to its place; one whose place is 0 is absent.
-#[tactic(auto, using(fv_root::proofs::Writing::spares_none, fv_root::proofs::Writing::spares_then))]
+#[tactic(auto, using(fv_disk::proofs::Sparing::spares_none, fv_disk::proofs::Sparing::spares_then))]
 fn write_node<D: Disk>(
     store: &mut Store,
     disk: &mut D,
@@ -166,7 +166,7 @@ fn write_node<D: Disk>(
 }
 
 /// Writes each node that has a place.
-#[tactic(auto, using(fv_root::proofs::Writing::spares_none, fv_root::proofs::Writing::spares_then))]
+#[tactic(auto, using(fv_disk::proofs::Sparing::spares_none, fv_disk::proofs::Sparing::spares_then))]
 pub(crate) fn write_tree<D: Disk>(
     store: &mut Store,
     disk: &mut D,

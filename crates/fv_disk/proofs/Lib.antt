@@ -2,3 +2,4 @@ pub mod Counting
 mod Giving
 pub mod Moments
 pub mod Resting
+pub mod Sparing

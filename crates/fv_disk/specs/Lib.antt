@@ -3,3 +3,4 @@ pub mod DiskCalls
 pub mod HostCalls
 pub mod Crash
 pub mod Partly
+pub mod Sparing

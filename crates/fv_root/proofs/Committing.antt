@@ -14,7 +14,7 @@ use Rattle.fv_image.specs.NewerRoot.{Taken}
 use Rattle.fv_root.specs.declared.find.Found.{Found}
 use Rattle.fv_root.specs.Formatted.{SameVolumes}
 use Rattle.fv_root.specs.Finding.{IsFound, other_slot, root_found}
-use Rattle.fv_root.specs.Writing.{AgreeOn, LeftBefore, Spares}
+use Rattle.fv_disk.specs.Sparing.{AgreeOn, LeftBefore, Spares}
 use Rattle.fv_root.specs.Commits.{IsFoundOn, IsNotGate, IsOutside, IsShut, IsStaged, IsCommitted, NewSide, OldSide, OldOrNew, next_found, next_root}
 use Rattle.fv_root.proofs.Gates.{zero_gate}
 use Rattle.fv_root.proofs.Ranges.{generation_in_range}

@@ -6,7 +6,7 @@ use Rattle.fv_disk.specs.Shown.{Shown, IsDisk}
 use Rattle.fv_disk.specs.DiskCalls.{Writes, Settles}
 use Rattle.fv_model.specs.Machines.{first_block}
 use Rattle.fv_root.specs.Formatted.{WritesFixed}
-use Rattle.fv_root.proofs.Writing.{spares_none, spares_write, spares_barrier, spares_then}
+use Rattle.fv_disk.proofs.Sparing.{spares_none, spares_write, spares_barrier, spares_then}
 
 abbrev IsVolume : ℕ → ℕ → Type 0
 IsVolume blocks b = first_block blocks ≤ b

@@ -9,5 +9,4 @@ mod Apart
 mod Ranges
 mod Rooted
 mod Sides
-pub mod Writing
 pub mod Crashes

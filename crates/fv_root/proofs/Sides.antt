@@ -15,7 +15,7 @@ use Rattle.fv_image.specs.MachineOf.{area_bits, map_bit}
 use Rattle.fv_root.specs.declared.find.Found.{Found}
 use Rattle.fv_root.specs.Formatted.{SameVolumes}
 use Rattle.fv_root.specs.Finding.{IsFound, other_slot, root_found}
-use Rattle.fv_root.specs.Writing.{AgreeOn, LeftBefore}
+use Rattle.fv_disk.specs.Sparing.{AgreeOn, LeftBefore}
 use Rattle.fv_root.specs.Commits.{IsFoundOn, IsNotGate, IsOutside, IsShut, IsStaged, HasArea, NewSide, OldSide, next_found, next_root}
 use Rattle.fv_root.proofs.Rooted.{Holds, holds, holds_still, counts_alone, counts_next, closed, opened, same_root}
 use Rattle.fv_root.proofs.Apart.{super_not_gate, gate_not_gate, root_not_gate, area_not_gate, volume_not_gate, super_outside, gate_outside, root_outside, area_outside, volume_outside, is_small}

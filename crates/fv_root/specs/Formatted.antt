@@ -6,7 +6,7 @@ use Rattle.fv_codec.specs.declared.root.Root.{Root}
 use Rattle.fv_codec.specs.Blocks.{super_at, gate_open, root_at}
 use Rattle.fv_image.specs.Layout.{superblock, gate_place, root_place, area_blocks, area_place}
 use Rattle.fv_model.specs.Machines.{first_block}
-use Rattle.fv_root.specs.Writing.{AgreeOn, LeftBefore, Spares}
+use Rattle.fv_disk.specs.Sparing.{AgreeOn, LeftBefore, Spares}
 
 -- the numbers of blocks that an aggregate can have
 pub record IsSize (blocks : ℕ) : Type 0 where

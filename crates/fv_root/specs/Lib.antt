@@ -2,4 +2,3 @@ pub mod Commits
 pub mod Finding
 pub mod Formatted
 pub mod Steps
-pub mod Writing

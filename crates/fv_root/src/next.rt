@@ -9,7 +9,7 @@ ghost use Rattle.fv_image.specs.Layout.{gate_place, root_place, area_blocks, are
 ghost use Rattle.fv_bits.specs.Members.{IsBlockOf};
 ghost use Rattle.fv_root.specs.Formatted.{SameVolumes};
 ghost use Rattle.fv_root.specs.Finding.{other_slot};
-ghost use Rattle.fv_root.specs.Writing.{Spares};
+ghost use Rattle.fv_disk.specs.Sparing.{Spares};
 ghost use Rattle.fv_root.specs.Commits.{HasArea, IsCommitted, IsFoundOn, IsNotGate, IsOutside, IsShut, IsStaged, OldOrNew, OldSide, next_root};
 
 use crate::find::Found;
@@ -85,7 +85,7 @@ fn open_older<D: Disk>(disk: &mut D, found: &Found) -> Result<(), Failed>
 }
 
 /// Writes a gate, and waits until it is on the disk.
-#[tactic(auto, using(crate::proofs::Writing::spares_write, crate::proofs::Writing::spares_barrier, crate::proofs::Writing::spares_then))]
+#[tactic(auto, using(fv_disk::proofs::Sparing::spares_write, fv_disk::proofs::Sparing::spares_barrier, fv_disk::proofs::Sparing::spares_then))]
 fn write_gate<D: Disk>(disk: &mut D, slot: u8, block: &Block) -> Result<(), Failed>
     ensures written { IsTrue (D.shown disk.old).tells
         → OnOk result ((D.shown disk.new).reads (gate_place slot) ≡ block.now) }
@@ -97,7 +97,7 @@ fn write_gate<D: Disk>(disk: &mut D, slot: u8, block: &Block) -> Result<(), Fail
 }
 
 /// Writes what the older gate leads to, and waits until it is on the disk.
-#[tactic(auto, using(crate::proofs::Writing::spares_barrier, crate::proofs::Writing::spares_then))]
+#[tactic(auto, using(fv_disk::proofs::Sparing::spares_barrier, fv_disk::proofs::Sparing::spares_then))]
 fn stage<D: Disk>(disk: &mut D, found: &Found, root: &Root, map: &BitMap) -> Result<(), Failed>
     requires root { IsRoot root.now }
     requires map { length map.now ≡ found.now.blocks }
@@ -121,7 +121,7 @@ fn next_root(found: &Found, root: &Root) -> Root
     next
 }
 
-#[tactic(auto, using(crate::proofs::Writing::spares_write))]
+#[tactic(auto, using(fv_disk::proofs::Sparing::spares_write))]
 fn write_root<D: Disk>(disk: &mut D, blocks: u32, slot: u8, root: &Root) -> Result<(), Failed>
     requires { IsRoot root.now }
     ensures written { IsTrue (D.shown disk.old).tells
@@ -148,7 +148,7 @@ fn write_area<D: Disk>(disk: &mut D, blocks: u32, slot: u8, map: &BitMap) -> Res
 }
 
 /// Writes one block of the map into the map area of a slot.
-#[tactic(auto, using(crate::proofs::Writing::spares_write))]
+#[tactic(auto, using(fv_disk::proofs::Sparing::spares_write))]
 fn write_map_block<D: Disk>(
     disk: &mut D,
     blocks: u32,

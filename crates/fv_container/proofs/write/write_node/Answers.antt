@@ -1,5 +1,5 @@
 use Rattle.std.proofs.Common.{get_or}
-use Rattle.fv_root.proofs.Writing.{spares_write}
+use Rattle.fv_disk.proofs.Sparing.{spares_write}
 use Rattle.fv_container.specs.Written.{IsElsewhere}
 use Rattle.fv_container.proofs.Named.{elsewhere}
 use Rattle.fv_container.proofs.write.write_node.Goals as goal

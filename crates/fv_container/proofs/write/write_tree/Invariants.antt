@@ -1,6 +1,6 @@
 use Rattle.std.specs.Prelude.{IsTrue, Ok}
 use Rattle.fv_store.specs.Held.{StandsOn}
-use Rattle.fv_root.specs.Writing.{Spares}
+use Rattle.fv_disk.specs.Sparing.{Spares}
 use Rattle.fv_container.specs.Written.{AreWritten, IsElsewhere}
 use Rattle.fv_container.proofs.write.write_tree.Given as goal
 

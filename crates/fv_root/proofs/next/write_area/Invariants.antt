@@ -1,5 +1,5 @@
 use Rattle.std.specs.Prelude.{IsTrue, Ok}
-use Rattle.fv_root.specs.Writing.{Spares}
+use Rattle.fv_disk.specs.Sparing.{Spares}
 use Rattle.fv_root.specs.Commits.{HasArea, IsOutside}
 use Rattle.fv_root.proofs.next.write_area.Given as goal
 

@@ -1,5 +1,5 @@
 use Rattle.fv_root.specs.Commits.{IsOutside}
-use Rattle.fv_root.proofs.Writing.{spares_write}
+use Rattle.fv_disk.proofs.Sparing.{spares_write}
 use Rattle.fv_root.proofs.next.write_map_block.Goals as goal
 
 pub returns-clause-spares : goal.returns-clause-spares

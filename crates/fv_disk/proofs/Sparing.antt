@@ -7,7 +7,7 @@ use Rattle.fv_disk.specs.DiskCalls.{Writes, Settles}
 use Rattle.fv_disk.specs.Crash.{Leaves}
 use Rattle.fv_disk.proofs.Counting.{counted_none, counted_write, counted_barrier, counted_then}
 use Rattle.fv_disk.proofs.Moments.{started, goes_on, then, weaken}
-use Rattle.fv_root.specs.Writing.{LeftBefore, Spares}
+use Rattle.fv_disk.specs.Sparing.{LeftBefore, Spares}
 
 module _ (spared : ℕ → Type 0) where
   abbrev Left : Shown → Image → List ℕ → Type 0
