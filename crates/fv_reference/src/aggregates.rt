@@ -15,7 +15,8 @@ use std::alloc::{AllocError, Global};
 use std::collections::BTreeMap;
 use std::marker::Model;
 
-/// An aggregate of so many blocks with its volumes.
+/// An aggregate of so many blocks with its volumes, whatever they use and commit: what a machine holds, or what a command
+/// would leave.
 #[derive(Drop)]
 pub struct Aggregate {
     blocks: u32,
@@ -47,7 +48,7 @@ impl Clone for Aggregate {
 }
 
 impl Aggregate {
-    /// The machine of so many blocks without a volume. Takes no memory.
+    /// The aggregate of so many blocks without a volume. Takes no memory.
     pub fn new(alloc: Global, blocks: u32) -> Aggregate
         ensures { result ≡ empty_machine blocks }
     {
@@ -88,7 +89,7 @@ impl Aggregate {
         get(&self.volumes, name)
     }
 
-    /// The machine with a volume under a name.
+    /// The aggregate with a volume under a name, which is counted anew.
     pub fn with_volume(
         &self,
         alloc: Global,
@@ -106,7 +107,7 @@ impl Aggregate {
         })
     }
 
-    /// The machine without a volume.
+    /// The aggregate without a volume.
     pub fn without_volume(&self, name: &Name) -> Result<Aggregate, AllocError>
         ensures { IfOk result (λ m. m ≡ record self.now { volumes = fin.remove self.now.volumes name.now }) }
     {
