@@ -12,3 +12,4 @@ mod LoneLeaf
 mod LoneVolumes
 mod Samples
 pub mod Zeros
+mod Faults

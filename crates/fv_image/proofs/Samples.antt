@@ -38,7 +38,7 @@ use Rattle.fv_image.proofs.Uses.{commit_is}
 use Rattle.std.specs.FinMap as fin
 
 -- what a label of an empty volume says, with its name filled up to 64 bytes
-abbrev says : ℕ → List ℕ → ℕ → ℕ → ℕ → ℕ → Label
+abbrev pub says : ℕ → List ℕ → ℕ → ℕ → ℕ → ℕ → Label
 says len name kind size most container = record {
   name_length = len;
   name = name;
