@@ -1,4 +1,4 @@
-//! The machine, and what it answers.
+//! The machine: what it is, and what it answers to a command.
 ghost use Rattle.std.specs.Prelude.{◌≡◌, IfOk, OnOk, OnErr, not, false};
 ghost use Rattle.std.specs.Option.{option_map_or};
 ghost use Rattle.std.specs.FinMap as fin;
@@ -59,8 +59,8 @@ impl Machine {
     ///
     /// The machine afterwards is the one that the definitions give, and the reply one that they allow; a refused command
     /// changes nothing. To `probe` of a volume that isn't known, where any number up to 7 is allowed, it answers 0.
-    /// A command that isn't refused for what the machine before it is copies the whole machine, and counts anew the volume
-    /// that it changes.
+    /// A command that nothing in the machine before it refuses copies the whole machine, and counts anew the volume that it
+    /// changes.
     ///
     /// # Errors
     /// `AllocError` where there is no memory for that; the machine then stays as it was.

@@ -1,4 +1,4 @@
-//! When a command is refused for what the machine before it is.
+//! When something in the machine before a command refuses it.
 ghost use Rattle.std.specs.Prelude.{◌≡◌, IfOk, Some, None};
 ghost use Rattle.fv_model.specs.Refusals.{first_of};
 ghost use Rattle.fv_laws.specs.Halves.{before_space};
