@@ -40,7 +40,11 @@ pub fn height_of(entries: u32) -> u8
     requires { entries ≤ most_entries }
     ensures { result ≡ height_of entries }
 {
-    if leaf_count(entries as usize) <= FAN { 1 } else { 2 }
+    if leaf_count(entries as usize) <= FAN {
+        1
+    } else {
+        2
+    }
 }
 
 /// A vector of so many copies of a value.

@@ -1,11 +1,10 @@
 -- What the calls of an aggregate map make of its room.
-use Rattle.std.proofs.Common.{◌≡◌, ◌≢◌, ℕ, ◌<◌, ◌≤◌, ◌⊎◌, List, length, Bool, true, false, not, ◌&&◌, ◌||◌, cond, nat_eq, ◌==◌, refl, sym, ap, subst, ◌∙◌, inl, inr, arith, ⊎_elim, Option, Some, None}
+use Rattle.std.proofs.Common.{◌≡◌, ◌≢◌, ℕ, ◌<◌, ◌≤◌, List, length, Bool, true, false, not, ◌&&◌, ◌||◌, cond, nat_eq, ◌==◌, refl, sym, ap, ◌∙◌, inl, inr, arith, ⊎_elim, Option, Some, None}
 use Rattle.std.specs.Prelude.{IfSome, IfNone, slice_set, nat_le, nat_lt}
 use Rattle.std.specs.FinSet as set
-use Rattle.std.specs.FinSet.{FinSet}
 use Rattle.std.specs.Ordering.{nat_cmp, eq_by_cmp}
 use Rattle.std.proofs.lemmas.Cmp.{nat_cmp_total}
-use Rattle.std.proofs.lemmas.Bool.{cases_Bool, cases_eq, cases_lt, true≢false}
+use Rattle.std.proofs.lemmas.Bool.{cases_Bool, cases_eq, true≢false}
 use Rattle.std.proofs.lemmas.Bool.Decides.{nat_tests}
 use Rattle.fv_codec.specs.Blocks.{last_place}
 use Rattle.fv_bits.specs.Members.{is_member}

@@ -1,4 +1,4 @@
-use Rattle.std.proofs.Common.{sym, ◌∙◌, ◌<◌, arith}
+use Rattle.std.proofs.Common.{sym, ◌∙◌, arith}
 use Rattle.fv_container_rows.proofs.Claims.{releases, releases_nothing}
 use Rattle.fv_container_rows.proofs.free.FreeBlocksFree.release_after_commit.Goals as goal
 
