@@ -13,3 +13,4 @@ mod LoneVolumes
 mod Samples
 pub mod Zeros
 mod Faults
+pub mod Admitted
