@@ -14,3 +14,5 @@ mod Samples
 pub mod Zeros
 mod Faults
 pub mod Admitted
+pub mod Crashes
+pub mod SoundFacts

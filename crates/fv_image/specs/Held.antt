@@ -2,7 +2,7 @@
 use Rattle.std.specs.Prelude.{◌≡◌, ◌<◌, ℕ, zero, suc, Bool, true, ◌&&◌, List, [], ◌∷◌, ◌++◌, flat_map, Option, Some, None, get_or, nat_lt, nat_le, ◌==◌, if◌then◌else◌}
 use Rattle.std.specs.List.{list_any, range_with_len}
 use Rattle.std.specs.Option.{option_map}
-use Rattle.fv_disk.specs.Shown.{Image}
+use Rattle.fv_disk.specs.Shown.{Image, Shown}
 use Rattle.fv_codec.specs.declared.label.Label.{Label}
 use Rattle.fv_codec.specs.Blocks.{label_at}
 use Rattle.fv_image.specs.Layout.{area_blocks, area_place}
@@ -130,3 +130,7 @@ pub record AgreeOnNamed (t : Taken) (i j : Image) : Type 0 where
 pub record Keeps (t : Taken) (i c : Image) : Type 0 where
   pub root : root_of c ≡ Some t
   pub layout : layout_at t c ≡ layout_at t i
+
+-- each image that a crash now may leave keeps a root with its layout
+abbrev pub AllKeep : Taken → Image → Shown → Type 0
+AllKeep t i disk = (c : Image) → disk.images c → Keeps t i c

@@ -1,20 +1,16 @@
 -- A fresh aggregate stands for the empty machine.
-use Rattle.std.proofs.Common.{◌≡◌, ℕ, ◌/◌, ◌%◌, ◌<◌, ◌≤◌, Bool, true, false, replicate, refl, arith, ⊎_elim}
-use Rattle.std.specs.Prelude.{Some, slice_index, get_or, nat_lt, if◌then◌else◌}
+use Rattle.std.proofs.Common.{◌≡◌, ℕ, ◌≤◌, Bool, true, false, replicate, refl, ⊎_elim}
+use Rattle.std.specs.Prelude.{Some, get_or, nat_lt, if◌then◌else◌}
 use Rattle.std.proofs.lemmas.List.{get_or-replicate, get_or_past}
 use Rattle.std.proofs.lemmas.Bool.{cases_lt}
-use Rattle.std.proofs.lemmas.Bool.Decides.{nat_tests}
-use Rattle.std.proofs.lemmas.Nat.Bits.{bit_at-zero}
 use Rattle.fv_disk.specs.Shown.{Image}
-use Rattle.fv_bits.specs.Bits.{bit_of_number, bit_of_bytes, bit_of_area}
 use Rattle.fv_model.specs.Machines.{empty_machine}
-use Rattle.fv_image.specs.Layout.{area_blocks, area_place}
 use Rattle.fv_image.specs.NewerRoot.{Taken, root_of}
-use Rattle.fv_image.specs.MachineOf.{area_bits, map_bit, machine_of}
+use Rattle.fv_image.specs.MachineOf.{machine_of}
 use Rattle.fv_image.specs.Held.{label_place}
 use Rattle.fv_image.proofs.Empty.{machine_is_empty as empty_volumes}
 use Rattle.fv_root.specs.Formatted.{IsSize, IsFormatted, first_root}
-use Rattle.fv_image.proofs.Zeros.{zero_in, clear_bits}
+use Rattle.fv_image.proofs.Zeros.{clear_bits}
 
 -- ---- the root
 
