@@ -24,7 +24,7 @@ use Rattle.fv_image.specs.Sound.{IsSound, share_name, has_distinct_names, commit
 use Rattle.fv_image.proofs.Kept.{at_number}
 use Rattle.fv_image.proofs.Uses.{uses_nothing, no_entries}
 
-name_total : IsTotalOrder name_cmp
+pub name_total : IsTotalOrder name_cmp
 name_total = search (comparing, rules)
 
 -- ---- sums over the entries of a map

@@ -16,3 +16,4 @@ mod Faults
 pub mod Admitted
 pub mod Crashes
 pub mod SoundFacts
+pub mod Created
