@@ -70,6 +70,7 @@ view_at t i = record {
   entry = λ s v. entry_from (label_in (label_lying t i s)) i v;
 }
 
+-- and where it lies
 unfoldable pub layout_at : Taken → Image → Layout
 layout_at t i = record {
   view = view_at t i;
@@ -84,10 +85,12 @@ with_bits bits y = record y { bit = bits }
 
 -- ---- the held blocks
 
+-- the place of a label or a node, if it is there
 abbrev pub place_lying : Option Lying → List ℕ
 place_lying None = []
 place_lying (Some x) = x.place ∷ []
 
+-- the place of an entry that isn't a hole
 abbrev pub place_of : Option Placed → List ℕ
 place_of None = []
 place_of (Some x) = x.pvbn ∷ []
