@@ -13,3 +13,7 @@ mod LoneVolumes
 mod Samples
 pub mod Zeros
 mod Faults
+pub mod Admitted
+pub mod Crashes
+pub mod SoundFacts
+pub mod Created

@@ -47,7 +47,7 @@ entry_within i root height entries v some = ⊎_elim
     (cases_lt v entries)
 
 -- a slot with a label is one of the 64
-slot_inside : (t : Taken) (i : Image) (s : ℕ) (l : Label) → label_in (label_lying t i s) ≡ Some l → s < 64
+pub slot_inside : (t : Taken) (i : Image) (s : ℕ) (l : Label) → label_in (label_lying t i s) ≡ Some l → s < 64
 unfolding label_place label_in
 slot_inside t i s l is = ⊎_elim
     (λ inside. inside)

@@ -24,7 +24,7 @@ no_length [] e = refl
 no_length (x ∷ es) e = absurd (omega arith)
 
 module _ {K X : Type 0} (R : K → K → Ordering) where
-  no_entries : fin.entries (fin.empty {K = K} {X = X} {R = R}) ≡ []
+  pub no_entries : fin.entries (fin.empty {K = K} {X = X} {R = R}) ≡ []
   no_entries = no_length _ (sym (fin.len-entries (fin.empty {K = K} {X = X} {R = R})) ∙ fin.len-empty R X)
 
   no_values : fin.values (fin.empty {K = K} {X = X} {R = R}) ≡ []

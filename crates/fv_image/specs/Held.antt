@@ -2,7 +2,7 @@
 use Rattle.std.specs.Prelude.{◌≡◌, ◌<◌, ℕ, zero, suc, Bool, true, ◌&&◌, List, [], ◌∷◌, ◌++◌, flat_map, Option, Some, None, get_or, nat_lt, nat_le, ◌==◌, if◌then◌else◌}
 use Rattle.std.specs.List.{list_any, range_with_len}
 use Rattle.std.specs.Option.{option_map}
-use Rattle.fv_disk.specs.Shown.{Image}
+use Rattle.fv_disk.specs.Shown.{Image, Shown}
 use Rattle.fv_codec.specs.declared.label.Label.{Label}
 use Rattle.fv_codec.specs.Blocks.{label_at}
 use Rattle.fv_image.specs.Layout.{area_blocks, area_place}
@@ -70,6 +70,7 @@ view_at t i = record {
   entry = λ s v. entry_from (label_in (label_lying t i s)) i v;
 }
 
+-- and where it lies
 unfoldable pub layout_at : Taken → Image → Layout
 layout_at t i = record {
   view = view_at t i;
@@ -84,10 +85,12 @@ with_bits bits y = record y { bit = bits }
 
 -- ---- the held blocks
 
+-- the place of a label or a node, if it is there
 abbrev pub place_lying : Option Lying → List ℕ
 place_lying None = []
 place_lying (Some x) = x.place ∷ []
 
+-- the place of an entry that isn't a hole
 abbrev pub place_of : Option Placed → List ℕ
 place_of None = []
 place_of (Some x) = x.pvbn ∷ []
@@ -130,3 +133,7 @@ pub record AgreeOnNamed (t : Taken) (i j : Image) : Type 0 where
 pub record Keeps (t : Taken) (i c : Image) : Type 0 where
   pub root : root_of c ≡ Some t
   pub layout : layout_at t c ≡ layout_at t i
+
+-- each image that a crash now may leave keeps a root with its layout
+abbrev pub AllKeep : Taken → Image → Shown → Type 0
+AllKeep t i disk = (c : Image) → disk.images c → Keeps t i c

@@ -1,7 +1,7 @@
 -- The machine that an image stands for.
 use Rattle.std.specs.Prelude.{◌≡◌, true, ◌&&◌, Option, Some, None, if◌then◌else◌}
 use Rattle.std.specs.Option.{option_and_then}
-use Rattle.fv_disk.specs.Shown.{Image}
+use Rattle.fv_disk.specs.Shown.{Image, Shown}
 use Rattle.fv_model.specs.Machines.{Machine}
 use Rattle.fv_image.specs.NewerRoot.{Taken, root_of}
 unfoldable pub use Rattle.fv_image.specs.Maps.{area_bits, map_bit}
@@ -33,3 +33,7 @@ pub record StandsFor (i : Image) (m : Machine) : Type 0 where
   pub taken : Taken
   pub counts : root_of i ≡ Some taken
   pub tells : Tells (layout_at taken i) m
+
+-- each image that a crash now may leave stands for this machine
+abbrev pub AllStandFor : Shown → Machine → Type 0
+AllStandFor disk m = (c : Image) → disk.images c → machine_of c ≡ Some m

@@ -23,6 +23,7 @@ is_place y p = nat_le (first_block y.view.blocks) p && nat_lt p y.view.blocks
 
 -- ---- what is asked of each slot in use
 
+-- of each label's block
 abbrev pub all_lying : Layout → (Lying → Bool) → Bool
 all_lying y test = list_all (λ s. option_map_or test (y.label s) true) slots
 
@@ -139,6 +140,7 @@ overheads w = sum_of_heads w (λ s h. overhead h.span)
 abbrev pub leaves_room : View → ℕ → Bool
 leaves_room w room = nat_le (2 * overheads w + max 256 room) (w.blocks - first_block w.blocks - own w - delayed w)
 
+-- Room: the space rule holds when no event asks for more.
 unfoldable pub has_room : Layout → Bool
 has_room y = leaves_room y.view 0
 

@@ -8,6 +8,7 @@ use Rattle.fv_model.specs.Volumes.{Volume}
 use Rattle.fv_model.specs.Machines.{Machine}
 use Rattle.fv_image.specs.Views.{Snap, Head, View, slots}
 
+-- a volume without snapshots
 abbrev pub has_none : List Snap → Bool
 has_none [] = true
 has_none (s ∷ ss) = false

@@ -49,6 +49,7 @@ pub record Head : Type 0 where
   pub active : Rooted
   pub snapshots : List Snap
 
+-- an aggregate with its volumes
 pub record View : Type 0 where
   -- of the aggregate
   pub blocks : ℕ
@@ -61,6 +62,7 @@ pub record View : Type 0 where
 
 -- ---- the head that a label spells
 
+-- the kind of a space guarantee by its number
 abbrev pub kind_named : ℕ → Kind
 kind_named n = if n == 0 then Whole else (if n == 1 then ByFile else Thin)
 
@@ -74,6 +76,7 @@ snaps_from j [] = []
 snaps_from j (r ∷ rs) = if r.name_length == 0 then snaps_from (j + 1) rs
     else record { slot = j; name = take r.name_length r.name; table = record { levels = r.levels; root = r.root } } ∷ snaps_from (j + 1) rs
 
+-- what the label says, with its name's own bytes alone
 unfoldable pub head_of : Label → Head
 head_of l = record {
   name = take l.name_length l.name;
@@ -98,6 +101,7 @@ slots = range_with_len 0 64
 abbrev pub entry_count : ℕ → ℕ
 entry_count span = span + 25 * map_blocks span
 
+-- the numbers that have an entry: the VVBNs of the span, and those of map blocks behind them
 unfoldable pub vvbns : ℕ → List ℕ
 vvbns span = range_with_len 0 (entry_count span)
 
@@ -140,6 +144,7 @@ is_own w s h v = is_some (w.entry s v) && (is_held_in w s h v && not (is_active_
 
 -- ---- sums over the volumes
 
+-- a number of each volume, summed over the slots in use
 abbrev pub sum_of_heads : View → (ℕ → Head → ℕ) → ℕ
 sum_of_heads w number = sum_by (λ s. option_map_or (number s) (w.head s) 0) slots
 

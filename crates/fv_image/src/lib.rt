@@ -1,7 +1,9 @@
-//! What an image of an aggregate is and means: definitions alone.
+//! What an image of an aggregate is and means: definitions, and the laws that follow from them.
 //!
-//! The newer root, the aggregate map, and the machine that an image stands for are defined here once,
-//! in `specs/`, over the blocks that they name; `docs/FORMAT.md` says where those lie. The crates that
-//! read or write images cite them. `proofs/` has rows that the checker computes from the definitions
-//! alone: two images as an independent implementation wrote them, and places worked out by hand.
+//! The newer root, the map of a container, what is held, soundness, and the machine that an image stands
+//! for are defined here once, in `specs/`, over the blocks that they name; `docs/FORMAT.md` says where those
+//! lie. The crates that read or write images cite them. `proofs/` has the laws, above all that images which
+//! agree on what they hold stand for the same machine, and rows that the checker computes from the
+//! definitions: images as an independent implementation wrote them, places worked out by hand, and changes
+//! that a rule refuses.
 #![tactic(auto)]

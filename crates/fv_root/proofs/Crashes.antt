@@ -7,17 +7,13 @@ use Rattle.fv_bits.specs.Members.{is_member}
 use Rattle.fv_model.specs.Machines.{Machine}
 use Rattle.fv_image.specs.NewerRoot.{Taken}
 use Rattle.fv_image.specs.Held.{Layout, layout_at, view_at, with_bits}
-use Rattle.fv_image.specs.MachineOf.{machine_from, machine_of, Tells}
+use Rattle.fv_image.specs.MachineOf.{machine_from, machine_of, Tells, AllStandFor}
 use Rattle.fv_image.proofs.Stands.{tells_from, machine_under}
 use Rattle.fv_image.proofs.InRange.{held_in_range}
 use Rattle.fv_image.proofs.SameLayout.{same_layout, same_but_bits, held_with_bits}
 use Rattle.fv_root.specs.declared.find.Found.{Found}
 use Rattle.fv_root.specs.Finding.{root_found}
 use Rattle.fv_root.specs.Commits.{IsFoundOn, OldSide, NewSide, OldOrNew, next_found}
-
--- each image that a crash now may leave stands for this machine
-abbrev pub AllStandFor : Shown → Machine → Type 0
-AllStandFor disk m = (c : Image) → disk.images c → machine_of c ≡ Some m
 
 -- what lies on the disk, with the new root and its map, stands for this machine
 abbrev pub IsReadyFor : Shown → Found → Root → List Bool → Machine → Type 0
