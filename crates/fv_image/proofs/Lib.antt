@@ -5,6 +5,7 @@ pub mod SameLayout
 pub mod Kept
 pub mod Stands
 pub mod InRange
+pub mod Counts
 pub mod Empty
 mod Vectors
 mod Uses
