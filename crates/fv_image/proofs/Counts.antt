@@ -1,11 +1,11 @@
 -- How many numbers are in a list or pass a test, over ranges.
-use Rattle.std.proofs.Common.{◌≡◌, ℕ, zero, suc, ◌+◌, ◌*◌, ◌<◌, ◌≤◌, Bool, true, false, cond, List, [], ◌∷◌, length, length-append, refl, ap, arith, ⊎_elim}
-use Rattle.std.specs.Prelude.{◌==◌, ◌||◌, not, flat_map, sum_by, count_by}
+use Rattle.std.proofs.Common.{◌≡◌, ℕ, zero, suc, ◌+◌, ◌<◌, ◌≤◌, Bool, true, false, cond, List, [], ◌∷◌, length, length-append, refl, ap, arith, ⊎_elim}
+use Rattle.std.specs.Prelude.{◌==◌, ◌||◌, not, flat_map, sum_by}
 use Rattle.std.specs.List.{list_any, range_with_len}
 use Rattle.std.proofs.lemmas.List.Sums.{sum_by-cons}
 use Rattle.std.proofs.lemmas.Bool.{cases_lt}
 use Rattle.std.proofs.lemmas.Bool.Decides.{nat_tests}
-use Rattle.fv_bits.proofs.Counts.{passing, passing-add, passing-suc, passing_same, none_pass}
+use Rattle.fv_bits.proofs.Counts.{passing, passing-suc, none_pass}
 
 -- ---- tests
 

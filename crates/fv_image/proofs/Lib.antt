@@ -6,6 +6,10 @@ pub mod Kept
 pub mod Stands
 pub mod InRange
 pub mod Counts
+pub mod Overheads
+pub mod Counted
+pub mod Room
+pub mod Added
 pub mod Empty
 mod Vectors
 mod Uses

@@ -1,0 +1,40 @@
+-- A map that was read from a sound image has free blocks for all overheads, and for what the space rule leaves beside them.
+use Rattle.std.proofs.Common.{◌≡◌, ℕ, ◌+◌, ◌-◌, ◌≤◌, Bool, List, true, not, ap, ◌∙◌, arith}
+use Rattle.std.specs.Prelude.{max}
+use Rattle.fv_disk.specs.Shown.{Image}
+use Rattle.fv_bits.specs.Members.{is_member}
+use Rattle.fv_bits.proofs.Counts.{passing, passing_same}
+use Rattle.fv_model.specs.Machines.{first_block}
+use Rattle.fv_image.specs.Held.{layout_at, view_at}
+use Rattle.fv_image.specs.Sound.{IsSound, overheads, leaves_room}
+use Rattle.fv_image.proofs.Counted.{image_has_heads}
+use Rattle.fv_image.proofs.Room.{clear_count, clear_room, sound_room}
+use Rattle.fv_root.specs.declared.find.Found.{Found}
+use Rattle.fv_root.specs.Finding.{root_found}
+use Rattle.fv_aggmap.specs.Loading.{IsLoaded}
+use Rattle.fv_aggmap.specs.Space.{Space, is_held, free_from, free_blocks}
+use Rattle.fv_aggmap.proofs.Holding.{or_same}
+
+-- what is free in a map that was read is what has no bit there
+pub free_is_clear : (i : Image) (found : Found) (space : Space) → IsLoaded i found space → free_blocks space ≡ clear_count (layout_at (root_found found) i)
+unfolding free_from layout_at view_at
+free_is_clear i found space loaded =
+    let bits = (layout_at (root_found found) i).bit in
+    let first = first_block found.blocks in
+    let n = found.blocks - first in
+    let free : ℕ → Bool = λ b. not (is_held space.committed space.next b) in
+    let here : (b : ℕ) → free b ≡ not (bits b) = λ b. ap (λ (next : List Bool). not (is_held space.committed next b)) loaded.same ∙ ap not (or_same (is_member space.committed b) ∙ loaded.bits b) in
+    ap (λ (len : ℕ). passing free (first_block len) (len - first_block len)) loaded.len ∙ passing_same free (λ b. not (bits b)) first first n (λ j lt. here (first + j))
+
+-- Where the space rule holds with so much room, as many blocks are free beside all overheads.
+pub room_when_loaded : (i : Image) (found : Found) (space : Space) (room : ℕ) → IsLoaded i found space → IsSound (layout_at (root_found found) i)
+    → leaves_room (view_at (root_found found) i) room ≡ true → overheads (view_at (root_found found) i) + max 256 room ≤ free_blocks space
+unfolding layout_at
+room_when_loaded i found space room loaded is rule =
+    omega (arith, free_is_clear i found space loaded, clear_room (layout_at (root_found found) i) room (image_has_heads (root_found found) i) is rule)
+
+-- A sound image has free blocks for all overheads and 256 more.
+pub room_when_sound : (i : Image) (found : Found) (space : Space) → IsLoaded i found space → IsSound (layout_at (root_found found) i) → overheads (view_at (root_found found) i) + 256 ≤ free_blocks space
+unfolding layout_at
+room_when_sound i found space loaded is =
+    omega (arith, free_is_clear i found space loaded, sound_room (layout_at (root_found found) i) (image_has_heads (root_found found) i) is)
