@@ -4,7 +4,8 @@ use Rattle.std.specs.Prelude.{◌&&◌, Option, Some, None, sum_by, count_by, na
 use Rattle.std.specs.List.{list_any, range_with_len}
 use Rattle.std.specs.Option.{is_some, option_map_or}
 use Rattle.std.proofs.lemmas.List.Sums.{sum_by-cons}
-use Rattle.std.proofs.lemmas.Bool.{cases_eq}
+use Rattle.std.proofs.Math.Nat.{div-eq_of_lt}
+use Rattle.std.proofs.lemmas.Bool.{cases_eq, and_parts, and_left, and_right}
 use Rattle.std.proofs.lemmas.Bool.Decides.{nat_tests}
 use Rattle.fv_bits.proofs.Counts.{passing, passing_same}
 use Rattle.fv_model.specs.Space.{map_blocks, overhead}
@@ -12,6 +13,7 @@ use Rattle.fv_image.specs.Views.{Placed, Head, View, slots, entry_count, vvbns, 
 use Rattle.fv_image.specs.Sound.{overheads}
 use Rattle.fv_image.specs.Adding.{with_volume, IsEmptySlot}
 use Rattle.fv_image.proofs.Counted.{of_slot}
+use Rattle.fv_image.proofs.Counts.{none_between}
 
 -- ---- sums in which one part changes
 
@@ -34,6 +36,20 @@ one_more a b at from (suc count) low high same =
     let here : b from ≡ a from = same from (omega (arith, ne)) in
     omega (arith, sum_by-cons a from rest, sum_by-cons b from rest, here, one_more a b at (from + 1) count (omega (arith, low, ne)) (omega (arith, high)) same))
     (cases_eq at from)
+
+-- ---- maps
+
+-- a block of the active map is held
+pub active_is_held : (w : View) (s : ℕ) (h : Head) (v : ℕ) → is_active_map h v ≡ true → is_held_in w s h v ≡ true
+unfolding is_held_in
+active_is_held w s h v active =
+    let parts = and_parts (nat_le h.span v) (nat_lt v (h.span + map_blocks h.span)) active in
+    let low : h.span ≤ v = grind (arith, nat_tests, parts.0) in
+    let high : v < h.span + map_blocks h.span = grind (arith, nat_tests, parts.1) in
+    let test : nat_lt v h.span ≡ false = grind (arith, nat_tests) in
+    let first : (v - h.span) / map_blocks h.span ≡ 0 = div-eq_of_lt (omega (arith, low, high)) in
+    let here : (0 == (v - h.span) / map_blocks h.span) ≡ true = grind (arith, nat_tests, first) in
+    rw (test, here) refl
 
 -- ---- the slots of the view with a volume more
 
@@ -70,3 +86,52 @@ module _ (w : View) (slot : ℕ) (h : Head) (entry : ℕ → Option Placed) (is 
   pub overheads_with : overheads new ≡ overheads w + overhead h.span
   unfolding overheads
   overheads_with = sum_with (λ s g. overhead g.span) (λ s g. overhead g.span) (λ s g ne. refl)
+
+  -- ---- own and delayed entries
+
+  -- what is said of a slot's entries looks at no other slot
+  own_elsewhere : (s : ℕ) (g : Head) → s ≢ slot → count_by (is_own new s g) (vvbns g.span) ≡ count_by (is_own w s g) (vvbns g.span)
+  unfolding is_held_in volume_bit
+  own_elsewhere s g ne = ap (λ (e : ℕ → Option Placed). count_by (is_own (record w { entry = λ x. e }) s g) (vvbns g.span)) (entry_elsewhere s ne)
+
+  delayed_elsewhere : (s : ℕ) (g : Head) → s ≢ slot → count_by (is_delayed new s g) (vvbns g.span) ≡ count_by (is_delayed w s g) (vvbns g.span)
+  unfolding is_held_in volume_bit
+  delayed_elsewhere s g ne = ap (λ (e : ℕ → Option Placed). count_by (is_delayed (record w { entry = λ x. e }) s g) (vvbns g.span)) (entry_elsewhere s ne)
+
+  -- The own entries rise by those of the volume, and so do the delayed ones.
+  pub own_with : own new ≡ own w + count_by (is_own new slot h) (vvbns h.span)
+  unfolding own
+  own_with = sum_with (λ s g. count_by (is_own w s g) (vvbns g.span)) (λ s g. count_by (is_own new s g) (vvbns g.span)) own_elsewhere
+
+  pub delayed_with : delayed new ≡ delayed w + count_by (is_delayed new slot h) (vvbns h.span)
+  unfolding delayed
+  delayed_with = sum_with (λ s g. count_by (is_delayed w s g) (vvbns g.span)) (λ s g. count_by (is_delayed new s g) (vvbns g.span)) delayed_elsewhere
+
+  -- ---- a volume whose only entries are blocks of its active map
+
+  module _ (bare : (v : ℕ) → is_active_map h v ≡ false → entry v ≡ None) where
+    none_there : (v : ℕ) → is_active_map h v ≡ false → new.entry slot v ≡ None
+    none_there v past = ap (λ (e : ℕ → Option Placed). e v) entry_there ∙ bare v past
+
+    not_own : (v : ℕ) → is_own new slot h v ≡ false
+    not_own v = so (is_active_map h v) refl
+      where
+        so : (active : Bool) → is_active_map h v ≡ active → is_own new slot h v ≡ false
+        so true e = and_right (is_some (new.entry slot v)) _ (and_right (is_held_in new slot h v) _ (ap not e))
+        so false e = and_left (is_some (new.entry slot v)) _ (ap (λ (o : Option Placed). is_some o) (none_there v e))
+
+    not_delayed : (v : ℕ) → is_delayed new slot h v ≡ false
+    not_delayed v = so (is_active_map h v) refl
+      where
+        so : (active : Bool) → is_active_map h v ≡ active → is_delayed new slot h v ≡ false
+        so true e = and_right (is_some (new.entry slot v)) _ (ap not (active_is_held new slot h v e))
+        so false e = and_left (is_some (new.entry slot v)) _ (ap (λ (o : Option Placed). is_some o) (none_there v e))
+
+    -- Such a volume leaves the own and the delayed entries as they are.
+    pub own_stays : own new ≡ own w
+    unfolding vvbns
+    own_stays = omega (arith, own_with, none_between (is_own new slot h) 0 (entry_count h.span) (λ v low high. not_own v))
+
+    pub delayed_stays : delayed new ≡ delayed w
+    unfolding vvbns
+    delayed_stays = omega (arith, delayed_with, none_between (is_delayed new slot h) 0 (entry_count h.span) (λ v low high. not_delayed v))
