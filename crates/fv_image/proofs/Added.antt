@@ -13,14 +13,9 @@ use Rattle.fv_image.specs.Views.{Placed, Head, View, slots, entry_count, vvbns, 
 use Rattle.fv_image.specs.Sound.{overheads}
 use Rattle.fv_image.specs.Adding.{with_volume, IsEmptySlot}
 use Rattle.fv_image.proofs.Counted.{of_slot}
-use Rattle.fv_image.proofs.Counts.{none_between}
+use Rattle.fv_image.proofs.Counts.{none_between, same_sum}
 
 -- ---- sums in which one part changes
-
-same_sum : (a b : ℕ → ℕ) (from count : ℕ) → ((k : ℕ) → from ≤ k → k < from + count → a k ≡ b k) → sum_by a (range_with_len from count) ≡ sum_by b (range_with_len from count)
-same_sum a b from zero same = refl
-same_sum a b from (suc count) same =
-    omega (arith, sum_by-cons a from (range_with_len (from + 1) count), sum_by-cons b from (range_with_len (from + 1) count), same from (omega arith) (omega arith), same_sum a b (from + 1) count (λ k low high. same k (omega arith) (omega arith)))
 
 one_more : (a b : ℕ → ℕ) (at from count : ℕ) → from ≤ at → at < from + count → ((k : ℕ) → k ≢ at → b k ≡ a k) → sum_by b (range_with_len from count) + a at ≡ sum_by a (range_with_len from count) + b at
 one_more a b at from zero low high same = absurd (omega arith)

@@ -1,5 +1,5 @@
 -- How many numbers are in a list or pass a test, over ranges.
-use Rattle.std.proofs.Common.{◌≡◌, ℕ, zero, suc, ◌+◌, ◌<◌, ◌≤◌, Bool, true, false, cond, List, [], ◌∷◌, length, length-append, refl, ap, arith, ⊎_elim}
+use Rattle.std.proofs.Common.{◌≡◌, ℕ, zero, suc, ◌+◌, ◌*◌, ◌<◌, ◌≤◌, Bool, true, false, cond, List, [], ◌∷◌, length, length-append, refl, ap, arith, ⊎_elim}
 use Rattle.std.specs.Prelude.{◌==◌, ◌||◌, not, flat_map, sum_by}
 use Rattle.std.specs.List.{list_any, range_with_len}
 use Rattle.std.proofs.lemmas.List.Sums.{sum_by-cons}
@@ -74,3 +74,19 @@ pub sums_within : (a b : ℕ → ℕ) (from count : ℕ) → ((k : ℕ) → from
 sums_within a b from zero each = omega arith
 sums_within a b from (suc count) each =
     omega (arith, sum_by-cons a from (range_with_len (from + 1) count), sum_by-cons b from (range_with_len (from + 1) count), each from (omega arith) (omega arith), sums_within a b (from + 1) count (λ k low high. each k (omega arith) (omega arith)))
+
+-- a sum with the same parts
+pub same_sum : (a b : ℕ → ℕ) (from count : ℕ) → ((k : ℕ) → from ≤ k → k < from + count → a k ≡ b k) → sum_by a (range_with_len from count) ≡ sum_by b (range_with_len from count)
+same_sum a b from zero same = refl
+same_sum a b from (suc count) same =
+    omega (arith, sum_by-cons a from (range_with_len (from + 1) count), sum_by-cons b from (range_with_len (from + 1) count), same from (omega arith) (omega arith), same_sum a b (from + 1) count (λ k low high. same k (omega arith) (omega arith)))
+
+-- a sum without parts
+pub none_sum : (a : ℕ → ℕ) (from count : ℕ) → ((k : ℕ) → from ≤ k → k < from + count → a k ≡ 0) → sum_by a (range_with_len from count) ≡ 0
+none_sum a from zero none = refl
+none_sum a from (suc count) none = omega (arith, sum_by-cons a from (range_with_len (from + 1) count), none from (omega arith) (omega arith), none_sum a (from + 1) count (λ k low high. none k (omega arith) (omega arith)))
+
+-- a sum whose parts are twice as large
+pub twice_within : (a b : ℕ → ℕ) (xs : List ℕ) → ((k : ℕ) → 2 * a k ≤ b k) → 2 * sum_by a xs ≤ sum_by b xs
+twice_within a b [] each = omega arith
+twice_within a b (x ∷ xs) each = omega (arith, sum_by-cons a x xs, sum_by-cons b x xs, each x, twice_within a b xs each)
