@@ -11,6 +11,7 @@ pub mod Counted
 pub mod Room
 pub mod Added
 pub mod EmptyVolumes
+pub mod Promises
 pub mod Empty
 mod Vectors
 mod Uses
