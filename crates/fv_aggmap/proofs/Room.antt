@@ -1,6 +1,6 @@
 -- A map that was read from a sound image has free blocks for all overheads, and for what the space rule leaves beside them.
-use Rattle.std.proofs.Common.{◌≡◌, ℕ, ◌+◌, ◌-◌, ◌≤◌, Bool, List, true, not, ap, ◌∙◌, arith}
-use Rattle.std.specs.Prelude.{max}
+use Rattle.std.proofs.Common.{◌≡◌, ℕ, ◌+◌, ◌-◌, ◌<◌, ◌≤◌, Bool, List, true, false, not, length, ap, ◌∙◌, arith}
+use Rattle.std.specs.Prelude.{max, slice_set}
 use Rattle.fv_disk.specs.Shown.{Image}
 use Rattle.fv_bits.specs.Members.{is_member}
 use Rattle.fv_bits.proofs.Counts.{passing, passing_same}
@@ -12,8 +12,10 @@ use Rattle.fv_image.proofs.Room.{clear_count, clear_room, sound_room}
 use Rattle.fv_root.specs.declared.find.Found.{Found}
 use Rattle.fv_root.specs.Finding.{root_found}
 use Rattle.fv_aggmap.specs.Loading.{IsLoaded}
-use Rattle.fv_aggmap.specs.Space.{Space, is_held, free_from, free_blocks}
+use Rattle.fv_aggmap.specs.Space.{Space, is_held, free_from, free_blocks, blocks_of, IsFree, IsFull}
 use Rattle.fv_aggmap.proofs.Holding.{or_same}
+use Rattle.fv_aggmap.proofs.Counting.{taken_count, released_count}
+use Rattle.fv_image.proofs.Counts.{none_between}
 
 -- what is free in a map that was read is what has no bit there
 pub free_is_clear : (i : Image) (found : Found) (space : Space) → IsLoaded i found space → free_blocks space ≡ clear_count (layout_at (root_found found) i)
@@ -38,3 +40,23 @@ pub room_when_sound : (i : Image) (found : Found) (space : Space) → IsLoaded i
 unfolding layout_at
 room_when_sound i found space loaded is =
     omega (arith, free_is_clear i found space loaded, sound_room (layout_at (root_found found) i) (image_has_heads (root_found found) i) is)
+
+-- ---- what callers know of a count
+
+-- Where a block is free, a search finds one.
+pub one_is_found : (space : Space) → 0 < free_blocks space → IsFull space → ⊥
+unfolding free_from
+one_is_found space some full =
+    let first = first_block (blocks_of space) in
+    let none = none_between (λ b. not (is_held space.committed space.next b)) first (blocks_of space - first) (λ b low high. ap not (full.held b low (omega (arith, low, high)))) in
+    omega (arith, some, none)
+
+-- A block that is taken leaves one free block less.
+pub one_less : (old new : Space) (b : ℕ) → length old.next ≡ blocks_of old → IsFree old b → new ≡ record old { next = slice_set old.next b true } → free_blocks new + 1 ≡ free_blocks old
+one_less old new b long free is = ap (λ (space : Space). free_blocks space + 1) is ∙ taken_count old.committed old.next (first_block (blocks_of old)) b long free
+
+-- One that is released leaves no fewer.
+pub no_fewer : (old new : Space) (b : ℕ) → length old.next ≡ blocks_of old → b < blocks_of old → new ≡ record old { next = slice_set old.next b false } → free_blocks old ≤ free_blocks new
+no_fewer old new b long within is =
+    let same = ap (λ (space : Space). free_blocks space) is in
+    omega (arith, same, released_count old.committed old.next (first_block (blocks_of old)) b long within)

@@ -18,7 +18,7 @@ use Rattle.fv_image.specs.Views.{Placed, Head, View, head_of, slots, entry_count
 use Rattle.fv_image.specs.Held.{Lying, Layout, layout_at, view_at, label_in, place_lying, place_of, at_positions, held_by_container, held_by, held}
 use Rattle.fv_image.specs.Sound.{IsSound, has_shapes, is_in_range, overheads, is_place, all_labels, all_lying}
 use Rattle.fv_image.proofs.Kept.{at_number}
-use Rattle.fv_image.proofs.Counts.{parts_of_one, none_between}
+use Rattle.fv_image.proofs.Counts.{parts_of_one, parts_are_one, none_between}
 use Rattle.fv_image.proofs.Overheads.{node_count, overhead_holds}
 
 -- the heads of the view are those that the labels spell
@@ -50,6 +50,30 @@ unfolding at_positions node_count
 container_within y s l height =
     subst (λ (h : ℕ). length (at_positions l (λ level number. place_lying (y.node s level number))) ≤ sum_by (level_width (entry_count l.span)) (range_with_len 0 (suc h))) height
     (levels_within (λ level number. place_lying (y.node s level number)) (level_width (entry_count l.span)) (λ level number. place_once (y.node s level number)) (range_with_len 0 (suc l.height)))
+
+-- a part for each position, of one element each
+levels_are : {X : Type 0} (each : ℕ → ℕ → List X) (width : ℕ → ℕ) (from count : ℕ) → ((level number : ℕ) → level < from + count → number < width level → length (each level number) ≡ 1)
+    → length (flat_map (λ level. flat_map (each level) (range_with_len 0 (width level))) (range_with_len from count)) ≡ sum_by width (range_with_len from count)
+levels_are each width from zero one = refl
+levels_are each width from (suc count) one =
+    let rest = range_with_len (from + 1) count in
+    let part = parts_are_one (each from) 0 (width from) (λ number low high. one from number (omega arith) (omega (arith, high))) in
+    omega (arith, length-append (flat_map (each from) (range_with_len 0 (width from))) (flat_map (λ level. flat_map (each level) (range_with_len 0 (width level))) rest),
+    sum_by-cons width from rest, part, levels_are each width (from + 1) count (λ level number high within. one level number (omega (arith, high)) within))
+
+place_there : (o : Option Lying) → is_some o ≡ true → length (place_lying o) ≡ 1
+place_there None some = absurd cc
+place_there (Some x) some = refl
+
+-- and they are as many where none is absent
+pub container_is : (y : Layout) (s : ℕ) (l : Label) → l.height ≡ height_of (entry_count l.span)
+    → ((level number : ℕ) → level ≤ l.height → number < level_width (entry_count l.span) level → is_some (y.node s level number) ≡ true)
+    → length (at_positions l (λ level number. place_lying (y.node s level number))) ≡ node_count (entry_count l.span)
+unfolding at_positions node_count
+container_is y s l height there =
+    subst (λ (h : ℕ). length (at_positions l (λ level number. place_lying (y.node s level number))) ≡ sum_by (level_width (entry_count l.span)) (range_with_len 0 (suc h))) height
+    (levels_are (λ level number. place_lying (y.node s level number)) (level_width (entry_count l.span)) 0 (suc l.height)
+    (λ level number high within. place_there (y.node s level number) (there level number (omega arith) within)))
 
 -- ---- the entries
 
