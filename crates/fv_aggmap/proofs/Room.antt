@@ -5,9 +5,9 @@ use Rattle.fv_disk.specs.Shown.{Image}
 use Rattle.fv_bits.specs.Members.{is_member}
 use Rattle.fv_bits.proofs.Counts.{passing, passing_same}
 use Rattle.fv_model.specs.Machines.{first_block}
-use Rattle.fv_image.specs.Held.{layout_at, view_at}
+use Rattle.fv_image.specs.Held.{Layout, layout_at, view_at}
 use Rattle.fv_image.specs.Sound.{IsSound, overheads, leaves_room}
-use Rattle.fv_image.proofs.Counted.{image_has_heads}
+use Rattle.fv_image.proofs.Counted.{HasHeads, image_has_heads}
 use Rattle.fv_image.proofs.Room.{clear_count, clear_room, sound_room}
 use Rattle.fv_root.specs.declared.find.Found.{Found}
 use Rattle.fv_root.specs.Finding.{root_found}
@@ -17,29 +17,43 @@ use Rattle.fv_aggmap.proofs.Holding.{or_same}
 use Rattle.fv_aggmap.proofs.Counting.{taken_count, released_count}
 use Rattle.fv_image.proofs.Counts.{none_between}
 
--- what is free in a map that was read is what has no bit there
-pub free_is_clear : (i : Image) (found : Found) (space : Space) → IsLoaded i found space → free_blocks space ≡ clear_count (layout_at (root_found found) i)
-unfolding free_from layout_at view_at
-free_is_clear i found space loaded =
-    let bits = (layout_at (root_found found) i).bit in
-    let first = first_block found.blocks in
-    let n = found.blocks - first in
+-- both sets of a space are the bits of a layout's map
+pub record HasMap (y : Layout) (space : Space) : Type 0 where
+  pub len : blocks_of space ≡ y.view.blocks
+  pub bits : (b : ℕ) → is_member space.committed b ≡ y.bit b
+  pub same : space.next ≡ space.committed
+
+pub map_when_loaded : (i : Image) (found : Found) (space : Space) → IsLoaded i found space → HasMap (layout_at (root_found found) i) space
+unfolding layout_at view_at
+map_when_loaded i found space loaded = record { len = loaded.len; bits = loaded.bits; same = loaded.same }
+
+-- what is free in such a space is what has no bit
+pub free_is_clear : (y : Layout) (space : Space) → HasMap y space → free_blocks space ≡ clear_count y
+unfolding free_from
+free_is_clear y space is =
+    let first = first_block y.view.blocks in
+    let n = y.view.blocks - first in
     let free : ℕ → Bool = λ b. not (is_held space.committed space.next b) in
-    let here : (b : ℕ) → free b ≡ not (bits b) = λ b. ap (λ (next : List Bool). not (is_held space.committed next b)) loaded.same ∙ ap not (or_same (is_member space.committed b) ∙ loaded.bits b) in
-    ap (λ (len : ℕ). passing free (first_block len) (len - first_block len)) loaded.len ∙ passing_same free (λ b. not (bits b)) first first n (λ j lt. here (first + j))
+    let here : (b : ℕ) → free b ≡ not (y.bit b) = λ b. ap (λ (next : List Bool). not (is_held space.committed next b)) is.same ∙ ap not (or_same (is_member space.committed b) ∙ is.bits b) in
+    ap (λ (len : ℕ). passing free (first_block len) (len - first_block len)) is.len ∙ passing_same free (λ b. not (y.bit b)) first first n (λ j lt. here (first + j))
 
 -- Where the space rule holds with so much room, as many blocks are free beside all overheads.
+pub room_in_space : (y : Layout) (space : Space) (room : ℕ) → HasMap y space → HasHeads y → IsSound y → leaves_room y.view room ≡ true → overheads y.view + max 256 room ≤ free_blocks space
+room_in_space y space room map heads is rule = omega (arith, free_is_clear y space map, clear_room y room heads is rule)
+
+-- The same of a map that was read.
 pub room_when_loaded : (i : Image) (found : Found) (space : Space) (room : ℕ) → IsLoaded i found space → IsSound (layout_at (root_found found) i)
     → leaves_room (view_at (root_found found) i) room ≡ true → overheads (view_at (root_found found) i) + max 256 room ≤ free_blocks space
 unfolding layout_at
 room_when_loaded i found space room loaded is rule =
-    omega (arith, free_is_clear i found space loaded, clear_room (layout_at (root_found found) i) room (image_has_heads (root_found found) i) is rule)
+    room_in_space (layout_at (root_found found) i) space room (map_when_loaded i found space loaded) (image_has_heads (root_found found) i) is rule
 
 -- A sound image has free blocks for all overheads and 256 more.
 pub room_when_sound : (i : Image) (found : Found) (space : Space) → IsLoaded i found space → IsSound (layout_at (root_found found) i) → overheads (view_at (root_found found) i) + 256 ≤ free_blocks space
 unfolding layout_at
 room_when_sound i found space loaded is =
-    omega (arith, free_is_clear i found space loaded, sound_room (layout_at (root_found found) i) (image_has_heads (root_found found) i) is)
+    let y = layout_at (root_found found) i in
+    omega (arith, free_is_clear y space (map_when_loaded i found space loaded), sound_room y (image_has_heads (root_found found) i) is)
 
 -- ---- what callers know of a count
 

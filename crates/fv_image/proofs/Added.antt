@@ -46,36 +46,47 @@ active_is_held w s h v active =
     let here : (0 == (v - h.span) / map_blocks h.span) ≡ true = grind (arith, nat_tests, first) in
     rw (test, here) refl
 
--- ---- the slots of the view with a volume more
+-- ---- the slots of the view with a volume in a slot
+
+module _ (w : View) (slot : ℕ) (h : Head) (entry : ℕ → Option Placed) where
+  abbrev put : View
+  put = with_volume w slot h entry
+
+  pub head_there : put.head slot ≡ Some h
+  head_there = let test : (slot == slot) ≡ true = grind (arith, nat_tests) in rw test refl
+
+  pub head_elsewhere : (s : ℕ) → s ≢ slot → put.head s ≡ w.head s
+  head_elsewhere s ne = let test : (s == slot) ≡ false = grind (arith, nat_tests) in rw test refl
+
+  pub entry_there : put.entry slot ≡ entry
+  entry_there = let test : (slot == slot) ≡ true = grind (arith, nat_tests) in rw test refl
+
+  pub entry_elsewhere : (s : ℕ) → s ≢ slot → put.entry s ≡ w.entry s
+  entry_elsewhere s ne = let test : (s == slot) ≡ false = grind (arith, nat_tests) in rw test refl
+
+  -- A sum over the volumes, of numbers that the others keep: the slot's part changes.
+  pub sum_put : slot < 64 → (before after : ℕ → Head → ℕ) → ((s : ℕ) (g : Head) → s ≢ slot → after s g ≡ before s g) → sum_of_heads put after + of_slot w before slot ≡ sum_of_heads w before + after slot h
+  unfolding slots
+  sum_put inside before after same =
+      let there : of_slot put after slot ≡ after slot h = ap (λ (o : Option Head). option_map_or (after slot) o 0) head_there in
+      let change = one_more (of_slot w before) (of_slot put after) slot 0 64 (omega arith) (omega (arith, inside)) (λ s ne. ap (λ (o : Option Head). option_map_or (after s) o 0) (head_elsewhere s ne) ∙ kept s ne (w.head s)) in
+      omega (arith, there, change)
+    where
+      kept : (s : ℕ) → s ≢ slot → (o : Option Head) → option_map_or (after s) o 0 ≡ option_map_or (before s) o 0
+      kept s ne None = refl
+      kept s ne (Some g) = same s g ne
+
+-- ---- a volume more
 
 module _ (w : View) (slot : ℕ) (h : Head) (entry : ℕ → Option Placed) (is : IsEmptySlot w slot) where
   abbrev new : View
   new = with_volume w slot h entry
 
-  head_there : new.head slot ≡ Some h
-  head_there = let test : (slot == slot) ≡ true = grind (arith, nat_tests) in rw test refl
-
-  pub head_elsewhere : (s : ℕ) → s ≢ slot → new.head s ≡ w.head s
-  head_elsewhere s ne = let test : (s == slot) ≡ false = grind (arith, nat_tests) in rw test refl
-
-  pub entry_elsewhere : (s : ℕ) → s ≢ slot → new.entry s ≡ w.entry s
-  entry_elsewhere s ne = let test : (s == slot) ≡ false = grind (arith, nat_tests) in rw test refl
-
-  pub entry_there : new.entry slot ≡ entry
-  entry_there = let test : (slot == slot) ≡ true = grind (arith, nat_tests) in rw test refl
-
   -- a sum over the volumes, of numbers that the others keep
   pub sum_with : (before after : ℕ → Head → ℕ) → ((s : ℕ) (g : Head) → s ≢ slot → after s g ≡ before s g) → sum_of_heads new after ≡ sum_of_heads w before + after slot h
-  unfolding slots
   sum_with before after same =
-      let there : of_slot new after slot ≡ after slot h = ap (λ (o : Option Head). option_map_or (after slot) o 0) head_there in
       let none : of_slot w before slot ≡ 0 = ap (λ (o : Option Head). option_map_or (before slot) o 0) is.empty in
-      let change = one_more (of_slot w before) (of_slot new after) slot 0 64 (omega arith) (omega (arith, is.inside)) (λ s ne. ap (λ (o : Option Head). option_map_or (after s) o 0) (head_elsewhere s ne) ∙ kept s ne (w.head s)) in
-      omega (arith, there, none, change)
-    where
-      kept : (s : ℕ) → s ≢ slot → (o : Option Head) → option_map_or (after s) o 0 ≡ option_map_or (before s) o 0
-      kept s ne None = refl
-      kept s ne (Some g) = same s g ne
+      omega (arith, sum_put w slot h entry is.inside before after same, none)
 
   -- The sum of overheads rises by that of the volume's span.
   pub overheads_with : overheads new ≡ overheads w + overhead h.span
@@ -87,11 +98,11 @@ module _ (w : View) (slot : ℕ) (h : Head) (entry : ℕ → Option Placed) (is 
   -- what is said of a slot's entries looks at no other slot
   own_elsewhere : (s : ℕ) (g : Head) → s ≢ slot → count_by (is_own new s g) (vvbns g.span) ≡ count_by (is_own w s g) (vvbns g.span)
   unfolding is_held_in volume_bit
-  own_elsewhere s g ne = ap (λ (e : ℕ → Option Placed). count_by (is_own (record w { entry = λ x. e }) s g) (vvbns g.span)) (entry_elsewhere s ne)
+  own_elsewhere s g ne = ap (λ (e : ℕ → Option Placed). count_by (is_own (record w { entry = λ x. e }) s g) (vvbns g.span)) (entry_elsewhere w slot h entry s ne)
 
   delayed_elsewhere : (s : ℕ) (g : Head) → s ≢ slot → count_by (is_delayed new s g) (vvbns g.span) ≡ count_by (is_delayed w s g) (vvbns g.span)
   unfolding is_held_in volume_bit
-  delayed_elsewhere s g ne = ap (λ (e : ℕ → Option Placed). count_by (is_delayed (record w { entry = λ x. e }) s g) (vvbns g.span)) (entry_elsewhere s ne)
+  delayed_elsewhere s g ne = ap (λ (e : ℕ → Option Placed). count_by (is_delayed (record w { entry = λ x. e }) s g) (vvbns g.span)) (entry_elsewhere w slot h entry s ne)
 
   -- The own entries rise by those of the volume, and so do the delayed ones.
   pub own_with : own new ≡ own w + count_by (is_own new slot h) (vvbns h.span)
@@ -106,7 +117,7 @@ module _ (w : View) (slot : ℕ) (h : Head) (entry : ℕ → Option Placed) (is 
 
   module _ (bare : (v : ℕ) → is_active_map h v ≡ false → entry v ≡ None) where
     none_there : (v : ℕ) → is_active_map h v ≡ false → new.entry slot v ≡ None
-    none_there v past = ap (λ (e : ℕ → Option Placed). e v) entry_there ∙ bare v past
+    none_there v past = ap (λ (e : ℕ → Option Placed). e v) (entry_there w slot h entry) ∙ bare v past
 
     not_own : (v : ℕ) → is_own new slot h v ≡ false
     not_own v = so (is_active_map h v) refl
