@@ -37,8 +37,14 @@ levels_within : {X : Type 0} (each : ℕ → ℕ → List X) (width : ℕ → �
 levels_within each width one [] = omega arith
 levels_within each width one (x ∷ xs) =
     let part = parts_of_one (each x) (one x) (range_with_len 0 (width x)) in
-    omega (arith, length-append (flat_map (each x) (range_with_len 0 (width x))) (flat_map (λ level. flat_map (each level) (range_with_len 0 (width level))) xs),
-    sum_by-cons width x xs, part, length-range_with_len 0 (width x), levels_within each width one xs)
+    omega (
+      arith,
+      length-append (flat_map (each x) (range_with_len 0 (width x))) (flat_map (λ level. flat_map (each level) (range_with_len 0 (width level))) xs),
+      sum_by-cons width x xs,
+      part,
+      length-range_with_len 0 (width x),
+      levels_within each width one xs,
+    )
 
 place_once : (o : Option Lying) → length (place_lying o) ≤ 1
 place_once None = omega arith
@@ -58,8 +64,13 @@ levels_are each width from zero one = refl
 levels_are each width from (suc count) one =
     let rest = range_with_len (from + 1) count in
     let part = parts_are_one (each from) 0 (width from) (λ number low high. one from number (omega arith) (omega (arith, high))) in
-    omega (arith, length-append (flat_map (each from) (range_with_len 0 (width from))) (flat_map (λ level. flat_map (each level) (range_with_len 0 (width level))) rest),
-    sum_by-cons width from rest, part, levels_are each width (from + 1) count (λ level number high within. one level number (omega (arith, high)) within))
+    omega (
+      arith,
+      length-append (flat_map (each from) (range_with_len 0 (width from))) (flat_map (λ level. flat_map (each level) (range_with_len 0 (width level))) rest),
+      sum_by-cons width from rest,
+      part,
+      levels_are each width (from + 1) count (λ level number high within. one level number (omega (arith, high)) within),
+    )
 
 place_there : (o : Option Lying) → is_some o ≡ true → length (place_lying o) ≡ 1
 place_there None some = absurd cc
@@ -87,9 +98,15 @@ entry_within (Some x) false false = omega arith
 
 entries_within : (w : View) (s : ℕ) (h : Head) (xs : List ℕ) → length (flat_map (λ v. place_of (w.entry s v)) xs) ≤ count_by (is_own w s h) xs + count_by (is_delayed w s h) xs + count_by (is_active_map h) xs
 entries_within w s h [] = omega arith
-entries_within w s h (x ∷ xs) = omega (arith, length-append (place_of (w.entry s x)) (flat_map (λ v. place_of (w.entry s v)) xs),
-    sum_by-cons (λ v. cond {A = ℕ} (is_own w s h v) 1 0) x xs, sum_by-cons (λ v. cond {A = ℕ} (is_delayed w s h v) 1 0) x xs, sum_by-cons (λ v. cond {A = ℕ} (is_active_map h v) 1 0) x xs,
-    entry_within (w.entry s x) (is_held_in w s h x) (is_active_map h x), entries_within w s h xs)
+entries_within w s h (x ∷ xs) = omega (
+  arith,
+  length-append (place_of (w.entry s x)) (flat_map (λ v. place_of (w.entry s v)) xs),
+  sum_by-cons (λ v. cond {A = ℕ} (is_own w s h v) 1 0) x xs,
+  sum_by-cons (λ v. cond {A = ℕ} (is_delayed w s h v) 1 0) x xs,
+  sum_by-cons (λ v. cond {A = ℕ} (is_active_map h v) 1 0) x xs,
+  entry_within (w.entry s x) (is_held_in w s h x) (is_active_map h x),
+  entries_within w s h xs,
+)
 
 -- the active map has so many blocks
 pub active_within : (h : Head) → count_by (is_active_map h) (vvbns h.span) ≤ map_blocks h.span
@@ -144,8 +161,16 @@ label_holds y s o l lies says head height =
     let h = head_of l in
     let nodes = at_positions l (λ level number. place_lying (y.node s level number)) in
     let blocks = flat_map (λ v. place_of (y.view.entry s v)) (vvbns l.span) in
-    rw (lies, says, head) (omega (arith, length-append (place_lying o) (nodes ++ blocks), length-append nodes blocks, place_once o,
-    container_within y s l height, entries_within y.view s h (vvbns l.span), active_within h, overhead_holds l.span))
+    rw (lies, says, head) (omega (
+      arith,
+      length-append (place_lying o) (nodes ++ blocks),
+      length-append nodes blocks,
+      place_once o,
+      container_within y s l height,
+      entries_within y.view s h (vvbns l.span),
+      active_within h,
+      overhead_holds l.span,
+    ))
 
 -- a label has its shape
 shape_is : (y : Layout) (s : ℕ) (x : Lying) → IsSound y → s < 64 → y.label s ≡ Some x → is_some (shaped (label_at x.block)) ≡ true
@@ -176,8 +201,15 @@ within_three : (part : ℕ → List ℕ) (a b c : ℕ → ℕ) (from count : ℕ
 within_three part a b c from zero each = omega arith
 within_three part a b c from (suc count) each =
     let rest = range_with_len (from + 1) count in
-    omega (arith, length-append (part from) (flat_map part rest), sum_by-cons a from rest, sum_by-cons b from rest, sum_by-cons c from rest, each from (omega arith) (omega arith),
-    within_three part a b c (from + 1) count (λ k low high. each k (omega arith) (omega arith)))
+    omega (
+      arith,
+      length-append (part from) (flat_map part rest),
+      sum_by-cons a from rest,
+      sum_by-cons b from rest,
+      sum_by-cons c from rest,
+      each from (omega arith) (omega arith),
+      within_three part a b c (from + 1) count (λ k low high. each k (omega arith) (omega arith)),
+    )
 
 -- The held blocks are at most the volumes' own, the delayed ones and all overheads.
 pub held_within : (y : Layout) → HasHeads y → IsSound y → length (held y) ≤ own y.view + delayed y.view + overheads y.view

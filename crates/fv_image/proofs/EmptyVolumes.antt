@@ -1,18 +1,18 @@
 -- Volumes without files and snapshots: nothing is their own, and what isn't a block of their active map is delayed.
-use Rattle.std.proofs.Common.{◌≡◌, ℕ, zero, suc, ◌+◌, ◌-◌, ◌*◌, ◌/◌, ◌<◌, ◌≤◌, Bool, true, false, not, List, [], ◌∷◌, refl, sym, ap, subst, ◌∙◌, arith, ⊎_elim}
-use Rattle.std.specs.Prelude.{◌&&◌, Option, Some, None, sum_by, count_by, nat_lt, nat_le, ◌==◌, map}
-use Rattle.std.specs.List.{list_all, list_any, range_with_len}
-use Rattle.std.specs.Option.{is_none, is_some, option_map_or}
+use Rattle.std.proofs.Common.{◌≡◌, ℕ, ◌+◌, ◌-◌, ◌*◌, ◌/◌, ◌<◌, ◌≤◌, Bool, true, false, not, List, [], ◌∷◌, refl, sym, ap, subst, ◌∙◌, arith, ⊎_elim}
+use Rattle.std.specs.Prelude.{◌&&◌, Option, Some, None, count_by, nat_lt, nat_le, ◌==◌}
+use Rattle.std.specs.List.{list_all, range_with_len}
+use Rattle.std.specs.Option.{is_some, option_map_or}
 use Rattle.std.proofs.lemmas.Nat.{le-div}
 use Rattle.std.proofs.lemmas.Bool.{cases_lt, and_parts, and_right, not-true}
 use Rattle.std.proofs.lemmas.Bool.Decides.{nat_tests}
 use Rattle.fv_bits.proofs.Counts.{passing_same}
 use Rattle.fv_model.specs.Space.{map_blocks, charge}
 use Rattle.fv_image.specs.Layout.{block_bits}
-use Rattle.fv_image.specs.Views.{Placed, Snap, Head, View, slots, entry_count, vvbns, volume_bit, is_held_in, is_active_map, is_delayed, is_own, sum_of_heads, own, delayed}
+use Rattle.fv_image.specs.Views.{Snap, Head, View, slots, entry_count, vvbns, volume_bit, is_held_in, is_active_map, is_delayed, is_own, sum_of_heads, own, delayed}
 use Rattle.fv_image.specs.Told.{has_none, is_plain, is_all_plain, volume_of}
 use Rattle.fv_image.specs.Held.{Layout}
-use Rattle.fv_image.specs.Sound.{IsSound, has_true_maps}
+use Rattle.fv_image.specs.Sound.{has_true_maps}
 use Rattle.fv_image.proofs.Kept.{at_number}
 use Rattle.fv_image.proofs.Counts.{none_between, none_sum, same_sum}
 use Rattle.fv_image.proofs.Counted.{of_slot, own_in, delayed_in}

@@ -1,6 +1,6 @@
 -- What all volumes commit leaves the space rule its room.
 use Rattle.std.proofs.Common.{◌≡◌, ℕ, ◌+◌, ◌-◌, ◌*◌, ◌≤◌, true, false, refl, arith}
-use Rattle.std.specs.Prelude.{Option, Some, None, max, nat_le}
+use Rattle.std.specs.Prelude.{Option, Some, None, max}
 use Rattle.std.specs.Option.{option_map_or}
 use Rattle.std.proofs.lemmas.Bool.Decides.{nat_tests}
 use Rattle.fv_model.specs.Machines.{first_block, capacity}
@@ -12,7 +12,7 @@ use Rattle.fv_image.specs.Sound.{IsSound, committed, overheads, leaves_room, has
 use Rattle.fv_image.specs.Adding.{with_volume, IsEmptySlot}
 use Rattle.fv_image.proofs.Counts.{twice_within}
 use Rattle.fv_image.proofs.Counted.{of_slot, overhead_in}
-use Rattle.fv_image.proofs.Added.{sum_with, overheads_with, own_stays, delayed_stays}
+use Rattle.fv_image.proofs.Added.{sum_with, own_stays, delayed_stays}
 use Rattle.fv_image.proofs.EmptyVolumes.{own_is_none}
 
 -- the commits count all overheads twice
