@@ -5,6 +5,13 @@ pub mod SameLayout
 pub mod Kept
 pub mod Stands
 pub mod InRange
+pub mod Counts
+pub mod Overheads
+pub mod Counted
+pub mod Room
+pub mod Added
+pub mod EmptyVolumes
+pub mod Promises
 pub mod Empty
 mod Vectors
 mod Uses

@@ -7,3 +7,4 @@ pub mod Told
 pub mod Held
 pub mod Sound
 pub mod MachineOf
+pub mod Adding
