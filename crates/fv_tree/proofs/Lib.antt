@@ -1,0 +1,15 @@
+pub mod Below
+pub mod Causes
+pub mod Spots
+pub mod Ways
+pub mod Held
+pub mod Written
+pub mod Stamped
+pub mod Levels
+pub mod Grown
+pub mod Raised
+pub mod Writes
+pub mod Past
+pub mod Steps
+pub mod Seen
+pub mod Maps

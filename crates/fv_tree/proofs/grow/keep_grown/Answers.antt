@@ -1,0 +1,15 @@
+use Rattle.std.proofs.Common.{arith}
+use Rattle.fv_tree.proofs.Held.{but_then}
+use Rattle.fv_tree.proofs.Grown.{one_grown, not_grown}
+use Rattle.fv_tree.proofs.grow.keep_grown.Goals as goal
+
+pub loop-below-preserved : goal.loop-below-preserved
+loop-below-preserved c =
+    let was = c.loop-below.invariant in
+    let put = c.in_ok-keep.ensures.node in record {
+      fields = but_then c.args.tree.now c.loop-below.tree c.keep.new.tree was.fields c.keep.ensures.fields;
+      lowest = λ e. absurd (omega (arith, e, c.loop-below.auto.below));
+      higher = λ _. c.new_mark-child.ensures;
+      grown = one_grown c.args.tree.now c.loop-below.tree c.keep.new.tree c.args.stamp c.loop-below.below c.loop-below.child c.node_over.result.children put c.node_over.ensures c.node_over.result.long was.lowest was.higher was.grown;
+      others = not_grown c.args.tree.now c.loop-below.tree c.keep.new.tree c.loop-below.below c.node_over.result.children put c.loop-below.auto.below was.others;
+    }

@@ -1,0 +1,12 @@
+use Rattle.std.proofs.Common.{◌≡◌, ◌≢◌, ◌≤◌, ◌/◌, ◌^◌, ℕ, Some, replicate}
+use Rattle.fv_model.specs.Trees.{fan}
+use Rattle.fv_tree.specs.Spelled.{hole}
+use Rattle.fv_tree.specs.Standing.{node_in, IsSameBut}
+use Rattle.fv_tree.proofs.grow.keep_new_path.Given as goal
+
+abbrev pub invariant-loop-below : goal.invariant-loop-below
+invariant-loop-below l = record {
+  fields : IsSameBut l.fn.tree l.tree;
+  way : (level : ℕ) → 1 ≤ level → level ≤ l.below → node_in l.tree level (l.index / fan ^ level) ≡ Some (replicate 128 hole);
+  others : (level place : ℕ) → place ≢ l.index / fan ^ level → node_in l.tree level place ≡ node_in l.fn.tree level place;
+}

@@ -1,0 +1,45 @@
+use Rattle.std.proofs.Common.{◌≡◌, ◌/◌, ◌%◌, ◌-◌, ◌^◌, ℕ, List, Some, get_or, ap, subst, ◌∙◌}
+use Rattle.fv_codec.specs.declared.pointer.Pointer.{Pointer}
+use Rattle.fv_model.specs.Trees.{fan}
+use Rattle.fv_tree.specs.Spelled.{Rooted, hole, pointers_at, pointer_at}
+use Rattle.fv_tree.specs.Keeping.{Keeps, IsSame}
+use Rattle.fv_tree.specs.Standing.{standing, under}
+use Rattle.fv_tree.proofs.Held.{next_pointer, now_kept}
+use Rattle.fv_tree.proofs.Ways.{keeps_same}
+use Rattle.fv_tree.proofs.keep.keep_step.Goals as goal
+
+-- the tree is the same, where the node at the way's place came into memory
+stays : (t u : Rooted) (level i width : ℕ) (p : Pointer) → width ≡ fan ^ level → p ≡ pointer_at t level (i / fan ^ level) → Keeps t u level (i / width) p → IsSame t u
+stays t u level i width p is way keeps =
+    keeps_same t u level (i / fan ^ level) (subst (λ q. Keeps t u level (i / fan ^ level) q) way (subst (λ w. Keeps t u level (i / w) p) is keeps))
+
+-- what the node spells
+spells : (t : Rooted) (level i width slot : ℕ) (p : Pointer) (xs : List Pointer) → width ≡ fan ^ level → p ≡ pointer_at t level (i / fan ^ level)
+    → ((slot : ℕ) → get_or xs slot hole ≡ get_or (pointers_at t level (i / width) p) slot hole)
+    → get_or xs slot hole ≡ get_or (pointers_at t level (i / fan ^ level) (pointer_at t level (i / fan ^ level))) slot hole
+spells t level i width slot p xs is way xs_are = xs_are slot ∙ (λ j. get_or (pointers_at t level (i / is j) (way j)) slot hole)
+
+pub returns-in_err-children-clause-same : goal.returns-in_err-children-clause-same
+returns-in_err-children-clause-same g c =
+    stays (standing (under (g.B.Blocks.shown c.args.blocks.now)) c.args.tree.now) _ c.args.level c.args.index c.width.result c.args.pointer.now c.width.ensures.is c.requires.pointer c.keep_node.ensures.keeps
+
+pub returns-clause-below : goal.returns-clause-below
+returns-clause-below g c =
+    let t = standing (under (g.B.Blocks.shown c.args.blocks.now)) c.args.tree.now in
+    ap (λ w. get_or c.in_ok-children.children (c.args.index / w % 128) hole) c.width-2.ensures.is
+    ∙ spells t c.args.level c.args.index c.width.result (c.args.index / fan ^ (c.args.level - 1) % fan) c.args.pointer.now c.in_ok-children.children c.width.ensures.is c.requires.pointer c.in_ok-children.ensures.children
+    ∙ next_pointer t c.args.level c.args.index c.requires.low c.requires.high
+
+pub returns-clause-keeps : goal.returns-clause-keeps
+returns-clause-keeps g c =
+    let t = standing (under (g.B.Blocks.shown c.args.blocks.now)) c.args.tree.now in
+    let u = standing (under (g.B.Blocks.shown c.keep_node.new.blocks)) c.keep_node.new.tree in
+    now_kept t u c.args.level (c.args.index / fan ^ c.args.level) c.in_ok-children.children
+    (stays t u c.args.level c.args.index c.width.result c.args.pointer.now c.width.ensures.is c.requires.pointer c.keep_node.ensures.keeps)
+    (subst (λ w. u.nodes c.args.level (c.args.index / w) ≡ Some c.in_ok-children.children) c.width.ensures.is c.in_ok-children.ensures.kept)
+    c.in_ok-children.ensures.long
+    (λ slot. spells t c.args.level c.args.index c.width.result slot c.args.pointer.now c.in_ok-children.children c.width.ensures.is c.requires.pointer c.in_ok-children.ensures.children)
+
+pub returns-clause-same : goal.returns-clause-same
+returns-clause-same g c =
+    stays (standing (under (g.B.Blocks.shown c.args.blocks.now)) c.args.tree.now) _ c.args.level c.args.index c.width.result c.args.pointer.now c.width.ensures.is c.requires.pointer c.keep_node.ensures.keeps

@@ -1,0 +1,19 @@
+-- What blocks in memory show.
+use Rattle.std.specs.Prelude.{ℕ, ◌+◌, List, refl}
+use Rattle.std.specs.BTreeMap as tree
+use Rattle.std.specs.FinMap as fin
+use Rattle.fv_tree.specs.Sources.{Shown, IsSource}
+
+-- the block under a VVBN reads at the place after it, and no damage is answered
+abbrev pub shown_in_memory : tree.BTreeMap ℕ (List ℕ) → ℕ → Shown
+shown_in_memory blocks faults = record {
+  held = fin.from_entries blocks.entries;
+  read_at = λ p. p.vvbn + 1;
+  faults = faults;
+  damages = 0;
+  last = record { at = 0; want = 0; found = 0 };
+  is_damage = λ d. ⊥;
+}
+
+pub in_memory_is_source : (blocks : tree.BTreeMap ℕ (List ℕ)) (faults : ℕ) → IsSource (shown_in_memory blocks faults)
+in_memory_is_source blocks faults = record { damage = λ some. absurd (some refl) }

@@ -1,0 +1,74 @@
+-- What a source of blocks shows, and what its calls do.
+use Rattle.std.specs.Prelude.{◌≡◌, ◌≢◌, ◌≤◌, ◌⊎◌, ℕ, List, Some, None, Result, IfOk, IfErr, OnOk, OnErr}
+use Rattle.std.specs.Ordering.{nat_cmp}
+use Rattle.std.specs.FinMap as fin
+use Rattle.fv_disk.specs.Shown.{Rose}
+use Rattle.fv_codec.specs.declared.pointer.Pointer.{Pointer}
+use Rattle.fv_codec.specs.Blocks.{last_place}
+use Rattle.fv_tree.specs.declared.blocks.Placed.{Placed}
+use Rattle.fv_tree.specs.declared.blocks.TreeFault.{TreeFault}
+use Rattle.fv_tree.specs.declared.blocks.TreeFault.TheVariants.{DiskFault, Damaged, Memory}
+
+-- a block that isn't as said: its place, the wanted and the found number
+pub record Damage : Type 0 where
+  pub at : ℕ
+  pub want : ℕ
+  pub found : ℕ
+
+pub record Shown : Type 1 where
+  -- the blocks that are held, by VVBN
+  pub held : fin.FinMap nat_cmp (List ℕ)
+  -- the PVBN that a load answers: where the block was read, or 0 for one that isn't placed yet
+  pub read_at : Pointer → ℕ
+  -- failed calls of the disk; the count stays at 2^64 - 1
+  pub faults : ℕ
+  -- how often damage was answered; the count stays at 2^64 - 1
+  pub damages : ℕ
+  pub last : Damage
+  -- what may be answered as damage
+  pub is_damage : Damage → Type 0
+
+-- what holds of every source
+pub record IsSource (source : Shown) : Type 0 where
+  pub damage : source.damages ≢ 0 → source.is_damage source.last
+
+-- why a call of the source failed
+abbrev pub HasCause : Shown → Shown → TreeFault → Type 0
+HasCause old new DiskFault = Rose old.faults new.faults
+HasCause old new (Damaged at want found) = Rose old.damages new.damages × (new.last ≡ record { at = at; want = want; found = found })
+HasCause old new Memory = Unit {0}
+
+-- the counts never fall
+pub record Counts (old new : Shown) : Type 0 where
+  pub faults : old.faults ≤ new.faults
+  pub damages : old.damages ≤ new.damages
+
+-- A load gives the block under the pointer's VVBN and changes nothing.
+pub record Loads (old : Shown) (pointer : Pointer) (new : Shown) (block : List ℕ) (result : Result ℕ TreeFault) : Type 0 where
+  pub held : new.held ≡ old.held
+  pub gives : OnOk result (fin.get old.held pointer.vvbn ≡ Some block)
+  pub answers : IfOk result (λ pvbn. pvbn ≡ new.read_at pointer)
+  pub range : IfOk result (λ pvbn. pvbn ≤ last_place)
+  pub counts : Counts old new
+  pub cause : IfErr result (HasCause old new)
+
+-- A block is placed under a VVBN that wasn't held. A PVBN of 0 asks for an unknown pointer.
+pub record Places (old : Shown) (block : List ℕ) (new : Shown) (result : Result Placed TreeFault) : Type 0 where
+  pub fresh : IfOk result (λ placed. fin.get old.held placed.vvbn ≡ None)
+  pub held : IfOk result (λ placed. new.held ≡ fin.insert old.held placed.vvbn block)
+  pub vvbn : IfOk result (λ placed. placed.vvbn ≤ last_place)
+  pub pvbn : IfOk result (λ placed. placed.pvbn ≤ last_place)
+  pub failed : OnErr result (new.held ≡ old.held)
+  pub counts : Counts old new
+  pub cause : IfErr result (HasCause old new)
+
+-- A block that is named as gone may stay, as a snapshot may still hold it. All others stay.
+pub record Drops (old : Shown) (vvbn : ℕ) (new : Shown) : Type 0 where
+  pub held : (new.held ≡ fin.remove old.held vvbn) ⊎ (new.held ≡ old.held)
+  pub counts : Counts old new
+
+-- the kinds of blocks that a tree has: data, nodes of the levels 1 to 3, inode blocks, and nodes of the inode file of the
+-- levels 1 and 2
+pub record IsKind (kind : ℕ) : Type 0 where
+  pub least : 1 ≤ kind
+  pub greatest : kind ≤ 7

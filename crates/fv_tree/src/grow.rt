@@ -1,0 +1,103 @@
+//! Growing levels: a cell past the tree's levels.
+
+ghost use Rattle.std.specs.Prelude.{◌≡◌, ◌≢◌, ◌≤◌, ◌<◌, ◌+◌, ◌/◌, ◌^◌, ◌⊎◌, ℕ, Some, IfErr, OnOk, OnErr, replicate, slice_set};
+ghost use Rattle.fv_model.specs.Trees.{fan, least_levels};
+ghost use Rattle.fv_tree.specs.Spelled.{hole};
+ghost use Rattle.fv_tree.specs.Standing.{node_in, IsSameBut};
+ghost use Rattle.fv_tree.specs.Writing.{HasNewLevels, HasOldNodes, IsGrownNode, new_child};
+
+use crate::blocks::TreeFault;
+use crate::keep::{empty_node, keep};
+use crate::kept::{HOLE, KeptNode, Tree};
+use crate::sizes::width;
+use fv_codec::Pointer;
+
+/// The least number of levels that cover `index`, which is below 2,097,152.
+pub fn levels_over(index: u32) -> u8
+    requires index { index < 2097152 }
+    ensures least { result ≡ least_levels (index + 1) }
+    ensures few { result ≤ 3 }
+    ensures covers { index < fan ^ result }
+    ensures lower { (level : ℕ) → level < result → fan ^ level ≤ index }
+{
+    if index < 1 {
+        0
+    } else if index < 128 {
+        1
+    } else if index < 16_384 {
+        2
+    } else {
+        3
+    }
+}
+
+/// Puts a node without a pointer into memory at each place over a cell.
+pub fn keep_new_path(tree: &mut Tree, levels: u8, index: u32) -> Result<(), TreeFault>
+    requires few { levels ≤ 3 }
+    ensures fields { IsSameBut tree.old tree.new }
+    ensures way { OnOk result ((level : ℕ) → 1 ≤ level → level ≤ levels → node_in tree.new level (index / fan ^ level) ≡ Some (replicate 128 hole)) }
+    ensures others { (level place : ℕ) → (place ≢ index / fan ^ level) → node_in tree.new level place ≡ node_in tree.old level place }
+    ensures memory { IfErr result (λ e. e ≡ TreeFault.Memory) }
+{
+    for below in 0..levels {
+        keep(tree, below + 1, index / width(below + 1), empty_node())?;
+    }
+    Ok(())
+}
+
+/// Puts the nodes of the new levels over what the tree holds into memory.
+pub fn keep_grown(tree: &mut Tree, levels: u8, stamp: u64) -> Result<(), TreeFault>
+    requires few { levels ≤ 3 }
+    ensures fields { IsSameBut tree.old tree.new }
+    ensures grown { OnOk result ((level : ℕ) → tree.old.levels < level → level ≤ levels → IsGrownNode tree.old tree.new stamp level) }
+    ensures others { (level place : ℕ) → (level ≤ tree.old.levels) ⊎ (place ≢ 0) → node_in tree.new level place ≡ node_in tree.old level place }
+    ensures memory { IfErr result (λ e. e ≡ TreeFault.Memory) }
+{
+    let mut child = tree.root;
+    for below in tree.levels..levels {
+        keep(tree, below + 1, 0, node_over(&child))?;
+        child = new_mark(stamp);
+    }
+    Ok(())
+}
+
+/// A node over one pointer.
+fn node_over(child: &Pointer) -> KeptNode
+    ensures { result.children ≡ slice_set (replicate 128 hole) 0 child.now }
+{
+    let mut children = [HOLE; 128];
+    children[0] = *child;
+    KeptNode {
+        children,
+        changed: true,
+        placed: false,
+    }
+}
+
+/// A pointer to what has no block yet.
+pub fn new_mark(stamp: u64) -> Pointer
+    ensures { result ≡ new_child stamp }
+{
+    Pointer {
+        vvbn: 0,
+        pvbn: 0,
+        stamp,
+    }
+}
+
+/// Puts the nodes of new levels into memory: those over a cell, and those over what the tree holds.
+pub fn keep_new_levels(tree: &mut Tree, levels: u8, index: u32, stamp: u64) -> Result<(), TreeFault>
+    requires few { levels ≤ 3 }
+    requires past { fan ^ tree.old.levels ≤ index }
+    requires least { (level : ℕ) → level < levels → fan ^ level ≤ index }
+    ensures fields { IsSameBut tree.old tree.new }
+    ensures grows { OnOk result (HasNewLevels tree.old tree.new levels index stamp) }
+    ensures failed { OnErr result (HasOldNodes tree.old tree.new index) }
+    ensures memory { IfErr result (λ e. e ≡ TreeFault.Memory) }
+{
+    keep_new_path(tree, levels, index)?;
+    if tree.root.stamp == 0 {
+        return Ok(());
+    }
+    keep_grown(tree, levels, stamp)
+}

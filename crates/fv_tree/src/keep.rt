@@ -1,0 +1,132 @@
+//! Holding the nodes over a cell in memory.
+
+ghost use Rattle.std.specs.Prelude.{◌≡◌, ◌≤◌, ◌<◌, ◌/◌, ◌-◌, ◌^◌, ◌&&◌, ℕ, cond, nat_eq, Some, IfOk, IfErr, OnOk, OnErr, get_or, length, replicate};
+ghost use Rattle.fv_model.specs.Trees.{fan};
+ghost use Rattle.fv_tree.specs.Spelled.{hole, pointers_at, pointer_below, pointer_at};
+ghost use Rattle.fv_tree.specs.Sources.{Counts};
+ghost use Rattle.fv_tree.specs.Standing.{standing, under, node_in, IsSameBut, Fails, LoadFails};
+ghost use Rattle.fv_tree.specs.Keeping.{IsKept, Keeps, IsSame, KeepsBelow};
+
+use crate::blocks::{Blocks, TreeFault};
+use crate::kept::{HOLE, KeptNode, Tree};
+use crate::sizes::{FAN, width};
+use crate::way::load_node;
+use fv_codec::Pointer;
+
+/// Holds the nodes over a cell in memory, and answers the pointer to the cell.
+pub fn keep_path<B: Blocks>(
+    tree: &mut Tree,
+    blocks: &mut B,
+    index: u32,
+) -> Result<Pointer, TreeFault>
+    requires index { index < fan ^ tree.old.levels }
+    ensures pointer { IfOk result (λ p. p ≡ pointer_at (standing (under (B.shown blocks.old)) tree.old) 0 index) }
+    ensures kept { OnOk result ((level : ℕ) → 1 ≤ level → level ≤ tree.old.levels → IsKept (standing (under (B.shown blocks.new)) tree.new) level (index / fan ^ level)) }
+    ensures same { IsSame (standing (under (B.shown blocks.old)) tree.old) (standing (under (B.shown blocks.new)) tree.new) }
+    ensures held { (B.shown blocks.new).held ≡ (B.shown blocks.old).held }
+    ensures counts { Counts (B.shown blocks.old) (B.shown blocks.new) }
+    ensures cause { IfErr result (Fails (standing (under (B.shown blocks.old)) tree.old) (B.shown blocks.old) (B.shown blocks.new)) }
+{
+    let mut level = tree.levels;
+    let mut pointer = tree.root;
+    while level > 0 {
+        pointer = keep_step(tree, blocks, level, index, &pointer)?;
+        level -= 1;
+    }
+    Ok(pointer)
+}
+
+/// Holds the node of a level over a cell in memory, and answers the pointer one level below it.
+fn keep_step<B: Blocks>(
+    tree: &mut Tree,
+    blocks: &mut B,
+    level: u8,
+    index: u32,
+    pointer: &Pointer,
+) -> Result<Pointer, TreeFault>
+    requires low { 1 ≤ level }
+    requires high { level ≤ tree.old.levels }
+    requires pointer { pointer.now ≡ pointer_at (standing (under (B.shown blocks.old)) tree.old) level (index / fan ^ level) }
+    ensures below { IfOk result (λ p. p ≡ pointer_at (standing (under (B.shown blocks.old)) tree.old) (level - 1) (index / fan ^ (level - 1))) }
+    ensures keeps { OnOk result (IsKept (standing (under (B.shown blocks.new)) tree.new) level (index / fan ^ level)) }
+    ensures others { KeepsBelow (standing (under (B.shown blocks.old)) tree.old) (standing (under (B.shown blocks.new)) tree.new) level }
+    ensures same { IsSame (standing (under (B.shown blocks.old)) tree.old) (standing (under (B.shown blocks.new)) tree.new) }
+    ensures held { (B.shown blocks.new).held ≡ (B.shown blocks.old).held }
+    ensures counts { Counts (B.shown blocks.old) (B.shown blocks.new) }
+    ensures cause { IfErr result (Fails (standing (under (B.shown blocks.old)) tree.old) (B.shown blocks.old) (B.shown blocks.new)) }
+{
+    let place = index / width(level);
+    let slot = index / width(level - 1) % FAN;
+    let children = keep_node(tree, blocks, level, place, pointer)?;
+    Ok(children[slot as usize])
+}
+
+/// Holds the node of a position, to which a pointer leads, in memory, and answers its pointers.
+fn keep_node<B: Blocks>(
+    tree: &mut Tree,
+    blocks: &mut B,
+    level: u8,
+    place: u32,
+    pointer: &Pointer,
+) -> Result<[Pointer; 128], TreeFault>
+    ensures keeps { Keeps (standing (under (B.shown blocks.old)) tree.old) (standing (under (B.shown blocks.new)) tree.new) level place pointer.now }
+    ensures children { IfOk result (λ xs. (slot : ℕ) → get_or xs slot hole ≡ get_or (pointers_at (standing (under (B.shown blocks.old)) tree.old) level place pointer.now) slot hole) }
+    ensures long { IfOk result (λ xs. length xs ≡ 128) }
+    ensures kept { IfOk result (λ xs. (standing (under (B.shown blocks.new)) tree.new).nodes level place ≡ Some xs) }
+    ensures held { (B.shown blocks.new).held ≡ (B.shown blocks.old).held }
+    ensures counts { Counts (B.shown blocks.old) (B.shown blocks.new) }
+    ensures cause { IfErr result (LoadFails (B.shown blocks.old) (B.shown blocks.new) tree.old.owner level place pointer.now) }
+{
+    if pointer.stamp == 0 {
+        return keep(tree, level, place, empty_node());
+    }
+    match tree.nodes.get(&(level, place)) {
+        Some(node) => Ok(node.children),
+        None => {
+            let node = load_node(blocks, tree.owner, level, place, pointer)?;
+            keep(tree, level, place, read_node(node.children))
+        }
+    }
+}
+
+/// Puts a node into memory, and answers its pointers.
+pub fn keep(
+    tree: &mut Tree,
+    level: u8,
+    place: u32,
+    node: KeptNode,
+) -> Result<[Pointer; 128], TreeFault>
+    ensures fields { IsSameBut tree.old tree.new }
+    ensures node { OnOk result ((k q : ℕ) → node_in tree.new k q ≡ cond (nat_eq k level && nat_eq q place) (Some node.children) (node_in tree.old k q)) }
+    ensures children { IfOk result (λ xs. xs ≡ node.children) }
+    ensures failed { OnErr result ((k q : ℕ) → node_in tree.new k q ≡ node_in tree.old k q) }
+    ensures memory { IfErr result (λ e. e ≡ TreeFault.Memory) }
+{
+    let children = node.children;
+    match tree.nodes.insert((level, place), node) {
+        Ok(_) => Ok(children),
+        Err(_) => Err(TreeFault::Memory),
+    }
+}
+
+/// A node without a pointer, to which nothing leads.
+pub fn empty_node() -> KeptNode
+    ensures { result.children ≡ replicate 128 hole }
+{
+    KeptNode {
+        children: [HOLE; 128],
+        changed: false,
+        placed: false,
+    }
+}
+
+/// A node as its block spells it.
+fn read_node(children: [Pointer; 128]) -> KeptNode
+    ensures { result.children ≡ children }
+{
+    KeptNode {
+        children,
+        changed: false,
+        placed: true,
+    }
+}

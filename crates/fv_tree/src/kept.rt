@@ -1,0 +1,45 @@
+//! What a tree holds in memory.
+
+ghost use Rattle.std.specs.Prelude.{◌≡◌, ◌≤◌, length};
+
+use fv_codec::Pointer;
+use std::collections::BTreeMap;
+
+/// A pointer that leads to nothing.
+pub const HOLE: Pointer = Pointer {
+    vvbn: 0,
+    pvbn: 0,
+    stamp: 0,
+};
+
+/// A node in memory.
+#[derive(Clone, Copy)]
+pub struct KeptNode {
+    /// Its pointers.
+    pub children: [Pointer; 128],
+    /// Whether it differs from its block.
+    pub changed: bool,
+    /// Whether the pointer to it leads to a block that it replaces.
+    pub placed: bool,
+    ghost long: { length children ≡ 128 },
+}
+
+/// A cell in memory, which differs from its block.
+#[derive(Clone, Copy)]
+pub struct KeptCell {
+    /// Its content.
+    pub block: [u8; 4096],
+    /// Whether the pointer to it leads to a block that it replaces.
+    pub placed: bool,
+}
+
+/// A tree of a file, or of an inode file, of which what changed is in memory.
+#[derive(Drop)]
+pub struct Tree {
+    pub(crate) owner: u64,
+    pub(crate) levels: u8,
+    pub(crate) root: Pointer,
+    pub(crate) nodes: BTreeMap<(u8, u32), KeptNode>,
+    pub(crate) cells: BTreeMap<u32, KeptCell>,
+    ghost few: { levels ≤ 3 },
+}

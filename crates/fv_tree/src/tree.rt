@@ -1,0 +1,104 @@
+//! The calls of a tree.
+
+ghost use Rattle.std.specs.Prelude.{◌≡◌, ◌≤◌, ◌<◌, ℕ, List, cond, Some, None, IfOk, IfErr, OnOk, OnErr};
+ghost use Rattle.std.specs.FinMap as fin;
+ghost use Rattle.std.specs.Ordering.{nat_cmp};
+ghost use Rattle.fv_model.specs.Trees as trees;
+ghost use Rattle.fv_codec.specs.Blocks.{IsPointer};
+ghost use Rattle.fv_tree.specs.Spelled.{Under, hole, stored, block_at};
+ghost use Rattle.fv_tree.specs.Sources.{Counts};
+ghost use Rattle.fv_tree.specs.Standing.{standing, under, Shows, Fails};
+ghost use Rattle.fv_tree.specs.Writing.{IsWritten, Writes, Remains};
+
+use crate::blocks::{Blocks, TreeFault};
+use crate::kept::{HOLE, Tree};
+use crate::way::{find, read_cell};
+use crate::write::write_cell;
+use fv_codec::Pointer;
+use std::alloc::Global;
+use std::collections::BTreeMap;
+
+impl Tree {
+    /// A tree without a cell, of at most 3 levels. `owner` is the file's number, or 2^64 - 1 for the inode
+    /// file. Takes no memory before a cell comes.
+    pub fn new(alloc: Global, owner: u64, levels: u8) -> Tree
+        requires levels { levels ≤ 3 }
+        ensures stored { (blocks : Under) → standing blocks result ≡ stored blocks owner levels hole }
+        ensures seen { (blocks : Under) → Shows (standing blocks result) (record { levels = levels; stamps = fin.empty }) fin.empty }
+    {
+        Tree::at(alloc, owner, levels, HOLE)
+    }
+
+    /// The tree that a root pointer spells. Reads nothing and takes no memory.
+    pub fn at(alloc: Global, owner: u64, levels: u8, root: Pointer) -> Tree
+        requires levels { levels ≤ 3 }
+        requires root { IsPointer root }
+        ensures { (blocks : Under) → standing blocks result ≡ stored blocks owner levels root }
+    {
+        Tree {
+            owner,
+            levels,
+            root,
+            nodes: BTreeMap::new(alloc),
+            cells: BTreeMap::new(alloc),
+        }
+    }
+
+    /// How many levels of nodes it has.
+    pub fn levels(&self) -> u8
+        ensures { result ≡ self.now.levels }
+    {
+        self.levels
+    }
+
+    /// The content of the cell at `index`, which is below 2,097,152; false exactly for a hole. It keeps
+    /// nothing in memory and loads at most one block for each level and one for the cell.
+    ///
+    /// # Errors
+    ///
+    /// `DiskFault` and `Damaged` as the `Blocks` answers them, and `Damaged` for a block that isn't the node
+    /// of its position: its place, and its first field that isn't as said. `Memory` only from the `Blocks`.
+    pub fn get<B: Blocks>(
+        &mut self,
+        blocks: &mut B,
+        index: u32,
+        into: &mut [u8; 4096],
+    ) -> Result<bool, TreeFault>
+        ensures cell { IfOk result (λ there. block_at (standing (under (B.shown blocks.old)) self.old) index ≡ cond there (Some into.new) None) }
+        ensures seen { (seen : trees.Tree) (contents : fin.FinMap nat_cmp (List ℕ)) → Shows (standing (under (B.shown blocks.old)) self.old) seen contents → IfOk result (λ there. fin.get contents index ≡ cond there (Some into.new) None) }
+        ensures tree { self.new ≡ self.old }
+        ensures held { (B.shown blocks.new).held ≡ (B.shown blocks.old).held }
+        ensures counts { Counts (B.shown blocks.old) (B.shown blocks.new) }
+        ensures cause { IfErr result (Fails (standing (under (B.shown blocks.old)) self.old) (B.shown blocks.old) (B.shown blocks.new)) }
+    {
+        let pointer = find(self, blocks, index)?;
+        read_cell(self, blocks, index, &pointer, into)
+    }
+
+    /// Writes the cell at `index`, which is below 2,097,152, with a stamp of at least 1. Levels grow where they
+    /// don't cover it. The cell, each mark over it and each mark that a growth makes get the stamp. It loads at
+    /// most the nodes over the cell that aren't in memory, and none past the levels. Those nodes and the cell's
+    /// content stay in memory. After a fault the tree is seen as before.
+    ///
+    /// # Errors
+    ///
+    /// As `get`, and `Memory` where there is no memory for the nodes and the content.
+    pub fn put<B: Blocks>(
+        &mut self,
+        blocks: &mut B,
+        index: u32,
+        block: &[u8; 4096],
+        stamp: u64,
+    ) -> Result<(), TreeFault>
+        requires index { index < 2097152 }
+        requires stamp { 1 ≤ stamp }
+        ensures written { OnOk result (Writes (standing (under (B.shown blocks.old)) self.old) (standing (under (B.shown blocks.new)) self.new) index stamp block.now) }
+        ensures place_by_place { OnOk result (IsWritten (standing (under (B.shown blocks.old)) self.old) (standing (under (B.shown blocks.new)) self.new) index stamp block.now) }
+        ensures failed { OnErr result (Remains (standing (under (B.shown blocks.old)) self.old) (standing (under (B.shown blocks.new)) self.new)) }
+        ensures held { (B.shown blocks.new).held ≡ (B.shown blocks.old).held }
+        ensures counts { Counts (B.shown blocks.old) (B.shown blocks.new) }
+        ensures cause { IfErr result (Fails (standing (under (B.shown blocks.old)) self.old) (B.shown blocks.old) (B.shown blocks.new)) }
+    {
+        write_cell(self, blocks, index, block, stamp)
+    }
+}

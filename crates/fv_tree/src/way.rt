@@ -1,0 +1,145 @@
+//! The way from the root to a cell.
+
+ghost use Rattle.std.specs.Prelude.{◌≡◌, ◌≢◌, ◌≤◌, ◌<◌, ◌/◌, ◌%◌, ◌-◌, ◌^◌, cond, Some, None, IfOk, IfErr, get_or, length};
+ghost use Rattle.fv_codec.specs.Blocks.{IsNode};
+ghost use Rattle.fv_model.specs.Trees.{fan};
+ghost use Rattle.fv_tree.specs.Spelled.{Under, hole, pointers_at, pointers_in, pointer_below, pointer_at, block_at};
+ghost use Rattle.fv_tree.specs.Sources.{Counts, HasCause};
+ghost use Rattle.fv_tree.specs.Standing.{standing, under, Fails, LoadFails};
+
+use crate::blocks::{Blocks, TreeFault};
+use crate::kept::{HOLE, Tree};
+use crate::node::node_for;
+use crate::sizes::{FAN, width};
+use fv_codec::{Node, Pointer};
+
+/// The pointer to a cell.
+pub fn find<B: Blocks>(tree: &Tree, blocks: &mut B, index: u32) -> Result<Pointer, TreeFault>
+    ensures pointer { IfOk result (λ p. p ≡ pointer_at (standing (under (B.shown blocks.old)) tree.now) 0 index) }
+    ensures held { (B.shown blocks.new).held ≡ (B.shown blocks.old).held }
+    ensures counts { Counts (B.shown blocks.old) (B.shown blocks.new) }
+    ensures cause { IfErr result (Fails (standing (under (B.shown blocks.old)) tree.now) (B.shown blocks.old) (B.shown blocks.new)) }
+{
+    let mut level = tree.levels;
+    let mut pointer = top(tree, index);
+    while level > 0 {
+        pointer = step(tree, blocks, level, index, &pointer)?;
+        level -= 1;
+    }
+    Ok(pointer)
+}
+
+/// The pointer to the range of the tree's levels in which an index lies: the root, or a hole past it.
+#[tactic(auto, unfolding(crate::specs::Spelled::pointer_below))]
+fn top(tree: &Tree, index: u32) -> Pointer
+    ensures { (blocks : Under) → result ≡ pointer_below (standing blocks tree.now) 0 (index / fan ^ tree.now.levels) }
+{
+    if index / width(tree.levels) == 0 {
+        tree.root
+    } else {
+        HOLE
+    }
+}
+
+/// From the pointer to the range of a level in which an index lies to that of the level below.
+fn step<B: Blocks>(
+    tree: &Tree,
+    blocks: &mut B,
+    level: u8,
+    index: u32,
+    pointer: &Pointer,
+) -> Result<Pointer, TreeFault>
+    requires low { 1 ≤ level }
+    requires high { level ≤ tree.now.levels }
+    requires pointer { pointer.now ≡ pointer_below (standing (under (B.shown blocks.old)) tree.now) (tree.now.levels - level) (index / fan ^ level) }
+    ensures below { IfOk result (λ p. p ≡ pointer_below (standing (under (B.shown blocks.old)) tree.now) (tree.now.levels - (level - 1)) (index / fan ^ (level - 1))) }
+    ensures held { (B.shown blocks.new).held ≡ (B.shown blocks.old).held }
+    ensures counts { Counts (B.shown blocks.old) (B.shown blocks.new) }
+    ensures cause { IfErr result (Fails (standing (under (B.shown blocks.old)) tree.now) (B.shown blocks.old) (B.shown blocks.new)) }
+{
+    let place = index / width(level);
+    let slot = index / width(level - 1) % FAN;
+    child(tree, blocks, level, place, slot, pointer)
+}
+
+/// One pointer of the node of a position, to which a pointer leads.
+fn child<B: Blocks>(
+    tree: &Tree,
+    blocks: &mut B,
+    level: u8,
+    place: u32,
+    slot: u32,
+    pointer: &Pointer,
+) -> Result<Pointer, TreeFault>
+    requires slot { slot < fan }
+    ensures child { IfOk result (λ p. p ≡ get_or (pointers_at (standing (under (B.shown blocks.old)) tree.now) level place pointer.now) slot hole) }
+    ensures held { (B.shown blocks.new).held ≡ (B.shown blocks.old).held }
+    ensures counts { Counts (B.shown blocks.old) (B.shown blocks.new) }
+    ensures cause { IfErr result (LoadFails (B.shown blocks.old) (B.shown blocks.new) tree.now.owner level place pointer.now) }
+{
+    if pointer.stamp == 0 {
+        return Ok(HOLE);
+    }
+    match tree.nodes.get(&(level, place)) {
+        Some(node) => Ok(node.children[slot as usize]),
+        None => {
+            let node = load_node(blocks, tree.owner, level, place, pointer)?;
+            Ok(node.children[slot as usize])
+        }
+    }
+}
+
+/// The node of a position from its block.
+pub fn load_node<B: Blocks>(
+    blocks: &mut B,
+    owner: u64,
+    level: u8,
+    place: u32,
+    pointer: &Pointer,
+) -> Result<Node, TreeFault>
+    requires some { pointer.now.stamp ≢ 0 }
+    ensures node { IfOk result (λ n. pointers_in owner level place (under (B.shown blocks.old) pointer.now.vvbn) ≡ n.children) }
+    ensures long { IfOk result (λ n. length n.children ≡ 128) }
+    ensures range { IfOk result (λ n. IsNode n) }
+    ensures held { (B.shown blocks.new).held ≡ (B.shown blocks.old).held }
+    ensures counts { Counts (B.shown blocks.old) (B.shown blocks.new) }
+    ensures cause { IfErr result (LoadFails (B.shown blocks.old) (B.shown blocks.new) owner level place pointer.now) }
+{
+    let mut block = [0; 4096];
+    let at = blocks.load(pointer, &mut block)?;
+    match node_for(owner, level, place, &block) {
+        Ok(node) => Ok(node),
+        Err(shape) => Err(TreeFault::Damaged {
+            at: u64::from(at),
+            want: shape.want,
+            found: shape.found,
+        }),
+    }
+}
+
+/// Copies a cell's content from memory, or loads it; false for a hole.
+#[tactic(auto, unfolding(crate::specs::Spelled::block_at))]
+pub fn read_cell<B: Blocks>(
+    tree: &Tree,
+    blocks: &mut B,
+    index: u32,
+    pointer: &Pointer,
+    into: &mut [u8; 4096],
+) -> Result<bool, TreeFault>
+    requires pointer { pointer.now ≡ pointer_at (standing (under (B.shown blocks.old)) tree.now) 0 index }
+    ensures cell { IfOk result (λ there. block_at (standing (under (B.shown blocks.old)) tree.now) index ≡ cond there (Some into.new) None) }
+    ensures held { (B.shown blocks.new).held ≡ (B.shown blocks.old).held }
+    ensures counts { Counts (B.shown blocks.old) (B.shown blocks.new) }
+    ensures cause { IfErr result (HasCause (B.shown blocks.old) (B.shown blocks.new)) }
+{
+    if pointer.stamp == 0 {
+        return Ok(false);
+    }
+    match tree.cells.get(&index) {
+        Some(cell) => *into = cell.block,
+        None => {
+            blocks.load(pointer, into)?;
+        }
+    }
+    Ok(true)
+}

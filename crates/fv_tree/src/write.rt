@@ -1,0 +1,174 @@
+//! Writing a cell: its content, and the stamps on the way to it.
+
+ghost use Rattle.std.specs.Prelude.{◌≡◌, ◌≤◌, ◌<◌, ◌^◌, ◌&&◌, ℕ, cond, nat_eq, Some, IfErr, OnOk, OnErr};
+ghost use Rattle.std.specs.Option.{option_map};
+ghost use Rattle.fv_model.specs.Trees.{fan};
+ghost use Rattle.fv_tree.specs.Standing.{standing, under, children_in, cell_in, IsSameButCells, Fails};
+ghost use Rattle.fv_tree.specs.Spelled.{Under};
+ghost use Rattle.fv_tree.specs.Sources.{Counts};
+ghost use Rattle.fv_tree.specs.Writing.{stamped, stamped_in, new_child, Stamps, IsAlike, IsWritten};
+
+use crate::blocks::{Blocks, TreeFault};
+use crate::grow::{keep_new_levels, levels_over, new_mark};
+use crate::keep::keep_path;
+use crate::kept::{KeptCell, KeptNode, Tree};
+use crate::sizes::{FAN, width};
+use fv_codec::Pointer;
+use std::collections::BTreeMap;
+
+/// Puts a cell's content into memory.
+pub fn keep_cell(
+    tree: &mut Tree,
+    index: u32,
+    block: &[u8; 4096],
+    placed: bool,
+) -> Result<(), TreeFault>
+    ensures fields { IsSameButCells tree.old tree.new }
+    ensures cell { OnOk result ((i : ℕ) → cell_in tree.new i ≡ cond (nat_eq i index) (Some block.now) (cell_in tree.old i)) }
+    ensures failed { OnErr result ((i : ℕ) → cell_in tree.new i ≡ cell_in tree.old i) }
+    ensures memory { IfErr result (λ e. e ≡ TreeFault.Memory) }
+{
+    let placed = match tree.cells.get(&index) {
+        Some(cell) => cell.placed,
+        None => placed,
+    };
+    let cell = KeptCell {
+        block: *block,
+        placed,
+    };
+    match tree.cells.insert(index, cell) {
+        Ok(_) => Ok(()),
+        Err(_) => Err(TreeFault::Memory),
+    }
+}
+
+/// Gives the root and each pointer on the way to a cell a stamp.
+pub fn stamp_path(tree: &mut Tree, index: u32, stamp: u64)
+    ensures { Stamps tree.old tree.new index stamp }
+{
+    let levels = tree.levels;
+    tree.root = stamped(&tree.root, stamp);
+    for below in 0..levels {
+        let place = index / width(below + 1);
+        let slot = index / width(below) % FAN;
+        stamp_slot(&mut tree.nodes, below + 1, place, slot, stamp);
+    }
+}
+
+/// Gives one pointer of a node in memory a stamp.
+fn stamp_slot(
+    nodes: &mut BTreeMap<(u8, u32), KeptNode>,
+    level: u8,
+    place: u32,
+    slot: u32,
+    stamp: u64,
+)
+    requires { slot < fan }
+    ensures { (k q : ℕ) → children_in nodes.new k q ≡ cond (nat_eq k level && nat_eq q place) (option_map (stamped_in slot stamp) (children_in nodes.old k q)) (children_in nodes.old k q) }
+{
+    if let Some(node) = nodes.get_mut(&(level, place)) {
+        stamp_child(node, slot, stamp);
+    }
+}
+
+/// Gives one pointer of a node a stamp.
+fn stamp_child(node: &mut KeptNode, slot: u32, stamp: u64)
+    requires { slot < fan }
+    ensures { node.new.children ≡ stamped_in slot stamp node.old.children }
+{
+    let slot = slot as usize;
+    let child = node.children[slot];
+    node.children[slot] = stamped(&child, stamp);
+    node.changed = true;
+}
+
+/// A pointer with another stamp.
+fn stamped(pointer: &Pointer, stamp: u64) -> Pointer
+    ensures { result ≡ stamped pointer.now stamp }
+{
+    Pointer {
+        vvbn: pointer.vvbn,
+        pvbn: pointer.pvbn,
+        stamp,
+    }
+}
+
+/// Writes a cell within the levels of a tree.
+pub fn write_within<B: Blocks>(
+    tree: &mut Tree,
+    blocks: &mut B,
+    index: u32,
+    block: &[u8; 4096],
+    stamp: u64,
+) -> Result<(), TreeFault>
+    requires index { index < fan ^ tree.old.levels }
+    requires stamp { 1 ≤ stamp }
+    ensures done { OnOk result (IsWritten (standing (under (B.shown blocks.old)) tree.old) (standing (under (B.shown blocks.new)) tree.new) index stamp block.now) }
+    ensures failed { OnErr result (IsAlike (standing (under (B.shown blocks.old)) tree.old) (standing (under (B.shown blocks.new)) tree.new)) }
+    ensures held { (B.shown blocks.new).held ≡ (B.shown blocks.old).held }
+    ensures counts { Counts (B.shown blocks.old) (B.shown blocks.new) }
+    ensures cause { IfErr result (Fails (standing (under (B.shown blocks.old)) tree.old) (B.shown blocks.old) (B.shown blocks.new)) }
+{
+    let pointer = keep_path(tree, blocks, index)?;
+    keep_cell(tree, index, block, pointer.stamp != 0)?;
+    stamp_path(tree, index, stamp);
+    Ok(())
+}
+
+/// Writes a cell past the levels of a tree, which grow. It reads nothing.
+pub fn write_past(
+    tree: &mut Tree,
+    index: u32,
+    block: &[u8; 4096],
+    stamp: u64,
+) -> Result<(), TreeFault>
+    requires past { fan ^ tree.old.levels ≤ index }
+    requires index { index < 2097152 }
+    requires stamp { 1 ≤ stamp }
+    ensures done { (blocks : Under) → OnOk result (IsWritten (standing blocks tree.old) (standing blocks tree.new) index stamp block.now) }
+    ensures failed { (blocks : Under) → OnErr result (IsAlike (standing blocks tree.old) (standing blocks tree.new)) }
+    ensures memory { IfErr result (λ e. e ≡ TreeFault.Memory) }
+{
+    let levels = levels_over(index);
+    keep_new_levels(tree, levels, index, stamp)?;
+    keep_cell(tree, index, block, false)?;
+    raise(tree, levels, stamp);
+    stamp_path(tree, index, stamp);
+    Ok(())
+}
+
+/// Gives a tree new levels, whose root has no block yet.
+fn raise(tree: &mut Tree, levels: u8, stamp: u64)
+    requires { levels ≤ 3 }
+    ensures owner { tree.new.owner ≡ tree.old.owner }
+    ensures nodes { tree.new.nodes ≡ tree.old.nodes }
+    ensures cells { tree.new.cells ≡ tree.old.cells }
+    ensures levels { tree.new.levels ≡ levels }
+    ensures root { tree.new.root ≡ new_child stamp }
+{
+    tree.levels = levels;
+    tree.root = new_mark(stamp);
+}
+
+/// Writes a cell.
+pub fn write_cell<B: Blocks>(
+    tree: &mut Tree,
+    blocks: &mut B,
+    index: u32,
+    block: &[u8; 4096],
+    stamp: u64,
+) -> Result<(), TreeFault>
+    requires index { index < 2097152 }
+    requires stamp { 1 ≤ stamp }
+    ensures done { OnOk result (IsWritten (standing (under (B.shown blocks.old)) tree.old) (standing (under (B.shown blocks.new)) tree.new) index stamp block.now) }
+    ensures failed { OnErr result (IsAlike (standing (under (B.shown blocks.old)) tree.old) (standing (under (B.shown blocks.new)) tree.new)) }
+    ensures held { (B.shown blocks.new).held ≡ (B.shown blocks.old).held }
+    ensures counts { Counts (B.shown blocks.old) (B.shown blocks.new) }
+    ensures cause { IfErr result (Fails (standing (under (B.shown blocks.old)) tree.old) (B.shown blocks.old) (B.shown blocks.new)) }
+{
+    if index < width(tree.levels) {
+        write_within(tree, blocks, index, block, stamp)
+    } else {
+        write_past(tree, index, block, stamp)
+    }
+}
