@@ -16,7 +16,7 @@ use Rattle.fv_image.proofs.Counts.{none_between, same_sum}
 
 -- ---- sums in which one part changes
 
-one_more : (a b : ℕ → ℕ) (at from count : ℕ) → from ≤ at → at < from + count → ((k : ℕ) → k ≢ at → b k ≡ a k) → sum_by b (range_with_len from count) + a at ≡ sum_by a (range_with_len from count) + b at
+pub one_more : (a b : ℕ → ℕ) (at from count : ℕ) → from ≤ at → at < from + count → ((k : ℕ) → k ≢ at → b k ≡ a k) → sum_by b (range_with_len from count) + a at ≡ sum_by a (range_with_len from count) + b at
 one_more a b at from zero low high same = absurd (omega arith)
 one_more a b at from (suc count) low high same =
     let rest = range_with_len (from + 1) count in

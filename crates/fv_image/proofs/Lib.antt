@@ -10,6 +10,7 @@ pub mod Overheads
 pub mod Counted
 pub mod Room
 pub mod Added
+pub mod Removed
 pub mod EmptyVolumes
 pub mod Promises
 pub mod Empty
