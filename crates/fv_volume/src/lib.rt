@@ -1,0 +1,11 @@
+//! The volumes of an aggregate, and what they share: reads through a cache, the aggregate map, the containers, and the blocks that
+//! were placed and aren't written yet. `docs/SPACE.md` says when those are written.
+#![tactic(auto)]
+
+mod fault;
+mod kept;
+mod pool;
+
+pub use fault::VolumeFault;
+pub use kept::Kept;
+pub use pool::Pool;
