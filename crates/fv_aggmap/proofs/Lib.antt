@@ -1,3 +1,4 @@
 mod Areas
 mod Counting
 mod Holding
+pub mod FreeRoom
