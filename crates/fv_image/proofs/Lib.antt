@@ -7,5 +7,5 @@ pub mod Stands
 pub mod InRange
 pub mod Empty
 mod Vectors
-mod Uses
+pub mod Uses
 mod LoneLeaf

@@ -1,2 +1,5 @@
 pub mod Causes
 pub mod Keeping
+pub mod States
+pub mod Slots
+pub mod Rows

@@ -5,7 +5,12 @@
 mod fault;
 mod kept;
 mod pool;
+mod search;
+mod state;
+mod volumes;
 
 pub use fault::VolumeFault;
 pub use kept::Kept;
 pub use pool::Pool;
+pub use state::{Base, Rooted, Snap, Snapshots, VolumeState};
+pub use volumes::Volumes;
