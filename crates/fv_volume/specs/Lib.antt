@@ -3,3 +3,4 @@ pub mod Keeping
 pub mod States
 pub mod Slots
 pub mod Rows
+pub mod Creating

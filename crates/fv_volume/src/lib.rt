@@ -2,6 +2,7 @@
 //! were placed and aren't written yet. `docs/SPACE.md` says when those are written.
 #![tactic(auto)]
 
+mod admit;
 mod fault;
 mod kept;
 mod pool;

@@ -63,7 +63,8 @@ fn commit_of(state: &Option<VolumeState>) -> u64
 pub(crate) fn sum_commits(states: &[Option<VolumeState>]) -> u64
     requires few { length states.now ≡ slot_count }
     requires spans { HaveSpans states.now }
-    ensures { result ≡ sum_of states.now }
+    ensures sum { result ≡ sum_of states.now }
+    ensures most { result ≤ 64 * 2 ^ 34 }
 {
     let mut sum = 0;
     for slot in 0..states.len() {
