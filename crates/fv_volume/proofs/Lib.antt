@@ -1,2 +1,3 @@
 mod Writing
 pub mod Told
+pub mod Made

@@ -15,6 +15,7 @@ use fv_model::{Kind, Name, Refusal, in_size};
 use fv_root::capacity;
 
 /// Where a new volume goes.
+#[derive(Clone, Copy)]
 pub(crate) struct Place {
     /// Its slot.
     pub(crate) slot: u8,

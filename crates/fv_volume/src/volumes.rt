@@ -11,16 +11,19 @@ ghost use Rattle.fv_model.specs.Numbers.{greatest_span};
 ghost use Rattle.fv_model.specs.Refusals.{refusal, next};
 ghost use Rattle.fv_model.specs.Space.{commits, span_of};
 ghost use Rattle.fv_root.specs.Finding.{IsInRange};
-ghost use Rattle.fv_volume.specs.States.{AreStates, States, empty_head, head_in, ledger_of_empty, machine_in, state_at, with_state};
+ghost use Rattle.fv_volume.specs.declared.pool.Pool.{Pool};
+ghost use Rattle.fv_volume.specs.Creating.{IsMade, RefusedBy, with_holes};
+ghost use Rattle.fv_volume.specs.States.{AreStates, machine_in, state_at, with_state};
 ghost use Rattle.fv_volume.specs.Slots.{IsFirstFree, IsFull, HasName, NoneHasName};
 
+use crate::admit::admit;
 use crate::fault::VolumeFault;
 use crate::pool::Pool;
-use crate::search::{find_name, free_slot, sum_commits};
+use crate::search::{find_name, sum_commits};
 use crate::state::VolumeState;
 use fv_container::Container;
-use fv_model::{Kind, Name, Refusal};
-use std::alloc::Global;
+use fv_model::{Kind, Name};
+use std::alloc::{AllocError, Global};
 use std::marker::Model;
 
 /// Up to 64 volumes by slot. Contracts see the row of 64 slots, each free or with its volume.
@@ -73,4 +76,57 @@ impl Volumes {
     {
         find_name(&self.states, name)
     }
+
+    /// What all volumes commit together, in blocks. Costs a step for each slot.
+    pub fn commits(&self) -> u64
+        requires { AreStates self.now }
+        ensures { (pool : Pool) → (i : Image) → result ≡ commits (machine_in pool self.now i) }
+    {
+        sum_commits(&self.states)
+    }
+
+    /// Makes an empty volume and answers its slot, the least that is free. It has a container of holes: the
+    /// blocks of its active map are placed by the next consistency point.
+    ///
+    /// # Errors
+    /// `Refused` comes exactly where the machine refuses `vol create`, with the same refusal: a size that
+    /// isn't 1 to 500,000, a name that is taken, 64 volumes, and commits that would pass the capacity, in
+    /// this order. `Memory` comes where memory ran out. Nothing changes then. No other fault comes.
+    ///
+    /// Costs a step for each volume and for each VVBN of the new one.
+    pub fn create(
+        &mut self,
+        pool: &mut Pool,
+        name: &Name,
+        size: u32,
+        kind: Kind,
+    ) -> Result<u8, VolumeFault>
+        requires states { AreStates self.old }
+        requires range { IsInRange pool.old.found }
+        ensures slot { IfOk result (IsFirstFree self.old) }
+        ensures made { IfOk result (λ slot. IsMade self.old slot name.now size kind self.new) }
+        ensures holes { IfOk result (λ slot. pool.new ≡ with_holes pool.old slot size) }
+        ensures states { OnOk result (AreStates self.new) }
+        ensures accepted { OnOk result ((i : Image) → refusal (machine_in pool.old self.old i) (VolCreate name.now size kind) ≡ None) }
+        ensures machine { OnOk result ((i : Image) → machine_in pool.new self.new i ≡ next (machine_in pool.old self.old i) (VolCreate name.now size kind)) }
+        ensures refused { IfErr result (RefusedBy (λ r. (i : Image) → refusal (machine_in pool.old self.old i) (VolCreate name.now size kind) ≡ Some r)) }
+        ensures same { OnErr result (self.new ≡ self.old) }
+        ensures same_pool { OnErr result (pool.new ≡ pool.old) }
+    {
+        let place = admit(&self.states, pool.found.blocks, name, size, kind)?;
+        let container = new_container(self.alloc, place.span)?;
+        let state = VolumeState::empty(self.alloc, place.slot, name, size, kind, place.span)?;
+        self.states[place.slot as usize] = Some(state);
+        pool.containers.put(place.slot, container, None);
+        Ok(place.slot)
+    }
+}
+
+/// A container of holes for a volume of this span: an entry for each VVBN of the span and for each block of
+/// 25 maps.
+fn new_container(alloc: Global, span: u32) -> Result<Container, AllocError>
+    requires { span ≤ greatest_span }
+    ensures { IfOk result (λ container. container ≡ empty_map (entry_count span)) }
+{
+    Container::new(alloc, span + 25 * span.div_ceil(32_768))
 }
