@@ -1,3 +1,7 @@
+mod Naming
+pub mod Loaded
+pub mod Labelled
+pub mod Stepping
 mod Writing
 pub mod Told
 pub mod Made

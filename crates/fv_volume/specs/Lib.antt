@@ -4,3 +4,4 @@ pub mod States
 pub mod Slots
 pub mod Rows
 pub mod Creating
+pub mod Loading

@@ -5,8 +5,11 @@
 mod admit;
 mod fault;
 mod kept;
+mod labels;
+mod load;
 mod pool;
 mod search;
+mod sizes;
 mod state;
 mod volumes;
 

@@ -2,10 +2,14 @@
 
 ghost use Rattle.std.specs.Prelude.{◌≡◌, ◌≤◌, ◌*◌, ◌∷◌, [], Bool, false, true, None, IfOk};
 ghost use Rattle.fv_model.specs.Numbers.{greatest_span};
+ghost use Rattle.fv_codec.specs.Blocks.{IsLabel};
+ghost use Rattle.fv_image.specs.Views.{head_of, kind_named};
+ghost use Rattle.fv_volume.specs.Loading.{form_in};
 ghost use Rattle.fv_volume.specs.States.{empty_head, head_in, ledger_of_empty};
 
+use crate::labels::{kind_of, name_of};
 use fv_charge::Ledger;
-use fv_codec::Pointer;
+use fv_codec::{Label, Pointer};
 use fv_model::{Kind, Name};
 use fv_volmap::VolMap;
 use std::alloc::{AllocError, Global};
@@ -152,6 +156,44 @@ impl VolumeState {
             label: 0,
             changed: true,
         })
+    }
+
+    /// The volume that a label at this PVBN says, for a slot, with the map of its active table. The label has
+    /// no form that can't be loaded.
+    pub(crate) fn of_label(
+        alloc: Global,
+        slot: u8,
+        place: u32,
+        label: &Label,
+        map: VolMap,
+    ) -> VolumeState
+        requires range { IsLabel label.now }
+        requires plain { form_in label.now ≡ None }
+        ensures slot { result.slot ≡ slot }
+        ensures head { head_in result ≡ head_of label.entry.now }
+        ensures ledger { result.ledger ≡ ledger_of_empty label.entry.now.size (kind_named label.entry.now.kind) label.entry.now.span }
+    {
+        let kind = kind_of(label);
+        VolumeState {
+            slot,
+            name: name_of(label),
+            kind,
+            size: label.size,
+            most: label.most,
+            span: label.span,
+            now: label.now,
+            known: label.known == 1,
+            base: None,
+            active: Rooted {
+                levels: label.levels,
+                root: label.root,
+            },
+            snapshots: Snapshots::new(alloc),
+            map,
+            ledger: new_ledger(label.size, kind, label.span),
+            label: place,
+            changed: false,
+        }
     }
 
     /// Where the label lies that the root on the disk names, a PVBN; 0 where there is none yet.

@@ -1,6 +1,6 @@
 //! The volumes of an aggregate by slot.
 
-ghost use Rattle.std.specs.Prelude.{◌≡◌, ◌<◌, ◌≤◌, ◌+◌, ◌*◌, ◌^◌, ℕ, true, false, length, None, Some, IsSome, IsNone, IfSome, IfNone, IfOk, IfErr, OnOk, OnErr, option_copied, replicate, sum_by, take};
+ghost use Rattle.std.specs.Prelude.{◌≡◌, ◌<◌, ◌≤◌, ◌+◌, ◌*◌, ◌^◌, ℕ, true, false, length, None, Some, IsSome, IsNone, IfSome, IfNone, IfOk, IfErr, IsTrue, OnOk, OnErr, option_copied, replicate, sum_by, take};
 ghost use Rattle.std.specs.Option.{is_some, option_map, option_copied_mut};
 ghost use Rattle.fv_disk.specs.Shown.{Image};
 ghost use Rattle.fv_container.specs.Chains.{slot_count, with_container, with_parent};
@@ -12,18 +12,25 @@ ghost use Rattle.fv_model.specs.Refusals.{refusal, next};
 ghost use Rattle.fv_model.specs.Space.{commits, span_of};
 ghost use Rattle.fv_root.specs.Finding.{IsInRange};
 ghost use Rattle.fv_volume.specs.declared.pool.Pool.{Pool};
+ghost use Rattle.fv_disk.specs.DiskCalls.{OnlyReads};
+ghost use Rattle.fv_store.specs.Held.{StandsOn};
+ghost use Rattle.fv_volume.specs.Causes.{HasCause};
+ghost use Rattle.fv_volume.specs.Loading.{IsLoadFault, KeptTo, LoadedTo};
 ghost use Rattle.fv_volume.specs.Creating.{IsMade, RefusedBy, with_holes};
 ghost use Rattle.fv_volume.specs.States.{AreStates, machine_in, state_at, with_state};
 ghost use Rattle.fv_volume.specs.Slots.{IsFirstFree, IsFull, HasName, NoneHasName};
 
 use crate::admit::admit;
 use crate::fault::VolumeFault;
+use crate::load::load_states;
 use crate::pool::Pool;
 use crate::search::{find_name, sum_commits};
+use crate::sizes::entry_count;
 use crate::state::VolumeState;
-use fv_container::Container;
+use fv_container::{Container, Containers};
+use fv_disk::Disk;
 use fv_model::{Kind, Name};
-use std::alloc::{AllocError, Global};
+use std::alloc::Global;
 use std::marker::Model;
 
 /// Up to 64 volumes by slot. Contracts see the row of 64 slots, each free or with its volume.
@@ -49,6 +56,40 @@ impl Volumes {
     ghost use Rattle.std.specs.Borrow.{LendsIf, sem};
     ghost use Rattle.fv_volume.specs.contracts.volumes.Volumes.{the_row};
     ghost use Rattle.fv_volume.specs.Rows.{state_row};
+
+    /// Reads the labels of the pool's root with their containers and active maps, and puts the containers
+    /// into the pool. It writes nothing.
+    ///
+    /// # Errors
+    /// `Damaged` comes only where a block that this call read isn't as it has to be: a label without its
+    /// shape, or with a base, an unknown place, a file or a snapshot, none of which can be loaded yet; a node
+    /// of a container that isn't the one of its position; or a block of an active map with a bit set past the
+    /// span. `DiskFault` comes only where a read failed in this call, and `Memory` where memory ran out. The
+    /// pool's containers stay then.
+    ///
+    /// Each label, each node of the containers and each block of the active maps is read once.
+    pub fn load<D: Disk>(
+        alloc: Global,
+        pool: &mut Pool,
+        disk: &mut D,
+    ) -> Result<Volumes, VolumeFault>
+        requires { StandsOn (D.shown disk.old) pool.old.store.pairs }
+        ensures loaded { IsTrue (D.shown disk.old).tells → IfOk result (λ volumes. LoadedTo (D.shown disk.old).reads pool.old.found slot_count volumes pool.new.containers) }
+        ensures states { IfOk result (λ volumes. KeptTo slot_count volumes pool.new.containers) }
+        ensures map { pool.new.map ≡ pool.old.map }
+        ensures kept { pool.new.kept ≡ pool.old.kept }
+        ensures found { pool.new.found ≡ pool.old.found }
+        ensures failed { OnErr result (pool.new.containers ≡ pool.old.containers) }
+        ensures fault { IsTrue (D.shown disk.old).tells → IfErr result (IsLoadFault (D.shown disk.old).reads pool.old.found) }
+        ensures only_reads { OnlyReads (D.shown disk.old) (D.shown disk.new) }
+        ensures stands { StandsOn (D.shown disk.new) pool.new.store.pairs }
+        ensures cause { HasCause (D.shown disk.old).faults (D.shown disk.new).faults result }
+    {
+        let mut containers = Containers::new(alloc)?;
+        let states = load_states(alloc, &mut pool.store, disk, &pool.found, &mut containers)?;
+        pool.containers = containers;
+        Ok(Volumes { alloc, states })
+    }
 
     /// The volume of a slot below 64, `None` exactly for a free one. Costs one step.
     pub fn get(&self, slot: u8) -> Option<&VolumeState>
@@ -114,19 +155,10 @@ impl Volumes {
         ensures same_pool { OnErr result (pool.new ≡ pool.old) }
     {
         let place = admit(&self.states, pool.found.blocks, name, size, kind)?;
-        let container = new_container(self.alloc, place.span)?;
+        let container = Container::new(self.alloc, entry_count(place.span))?;
         let state = VolumeState::empty(self.alloc, place.slot, name, size, kind, place.span)?;
         self.states[place.slot as usize] = Some(state);
         pool.containers.put(place.slot, container, None);
         Ok(place.slot)
     }
-}
-
-/// A container of holes for a volume of this span: an entry for each VVBN of the span and for each block of
-/// 25 maps.
-fn new_container(alloc: Global, span: u32) -> Result<Container, AllocError>
-    requires { span ≤ greatest_span }
-    ensures { IfOk result (λ container. container ≡ empty_map (entry_count span)) }
-{
-    Container::new(alloc, span + 25 * span.div_ceil(32_768))
 }
