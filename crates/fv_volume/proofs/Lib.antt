@@ -2,6 +2,7 @@ mod Naming
 pub mod Loaded
 pub mod Labelled
 pub mod Stepping
+pub mod Viewed
 mod Writing
 pub mod Told
 pub mod Made

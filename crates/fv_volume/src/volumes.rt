@@ -10,14 +10,18 @@ ghost use Rattle.fv_model.specs.declared.commands.Command.TheVariants.{VolCreate
 ghost use Rattle.fv_model.specs.Numbers.{greatest_span};
 ghost use Rattle.fv_model.specs.Refusals.{refusal, next};
 ghost use Rattle.fv_model.specs.Space.{commits, span_of};
-ghost use Rattle.fv_root.specs.Finding.{IsInRange};
+ghost use Rattle.fv_root.specs.Finding.{IsInRange, root_found};
+ghost use Rattle.std.specs.FinMap as fin;
+ghost use Rattle.fv_image.specs.Held.{layout_at, view_at};
+ghost use Rattle.fv_image.specs.MachineOf.{Tells};
+ghost use Rattle.fv_model.specs.Machines.{Machine};
 ghost use Rattle.fv_volume.specs.declared.pool.Pool.{Pool};
 ghost use Rattle.fv_disk.specs.DiskCalls.{OnlyReads};
 ghost use Rattle.fv_store.specs.Held.{StandsOn};
 ghost use Rattle.fv_volume.specs.Causes.{HasCause};
 ghost use Rattle.fv_volume.specs.Loading.{IsLoadFault, KeptTo, LoadedTo};
 ghost use Rattle.fv_volume.specs.Creating.{IsMade, RefusedBy, with_holes};
-ghost use Rattle.fv_volume.specs.States.{AreStates, machine_in, state_at, with_state};
+ghost use Rattle.fv_volume.specs.States.{AreStates, view_over, machine_in, state_at, with_state};
 ghost use Rattle.fv_volume.specs.Slots.{IsFirstFree, IsFull, HasName, NoneHasName};
 
 use crate::admit::admit;
@@ -68,6 +72,7 @@ impl Volumes {
     /// pool's containers stay then.
     ///
     /// Each label, each node of the containers and each block of the active maps is read once.
+    #[tactic(auto, using(crate::proofs::Viewed::viewed))]
     pub fn load<D: Disk>(
         alloc: Global,
         pool: &mut Pool,
@@ -76,6 +81,13 @@ impl Volumes {
         requires { StandsOn (D.shown disk.old) pool.old.store.pairs }
         ensures loaded { IsTrue (D.shown disk.old).tells → IfOk result (λ volumes. LoadedTo (D.shown disk.old).reads pool.old.found slot_count volumes pool.new.containers) }
         ensures states { IfOk result (λ volumes. KeptTo slot_count volumes pool.new.containers) }
+        ensures view { IsTrue (D.shown disk.old).tells → pool.old.kept ≡ fin.empty
+            → IfOk result (λ volumes. view_over pool.new volumes (D.shown disk.old).reads ≡ view_at (root_found pool.old.found) (D.shown disk.old).reads) }
+        ensures machine { IsTrue (D.shown disk.old).tells → pool.old.kept ≡ fin.empty
+            → (m : Machine) → Tells (layout_at (root_found pool.old.found) (D.shown disk.old).reads) m
+            → IfOk result (λ volumes. machine_in pool.new volumes (D.shown disk.old).reads ≡ m) }
+        ensures whole { IsTrue (D.shown disk.old).tells → (m : Machine) → Tells (layout_at (root_found pool.old.found) (D.shown disk.old).reads) m
+            → IfOk result AreStates }
         ensures map { pool.new.map ≡ pool.old.map }
         ensures kept { pool.new.kept ≡ pool.old.kept }
         ensures found { pool.new.found ≡ pool.old.found }
