@@ -2,3 +2,4 @@ mod Areas
 mod Counting
 mod Holding
 pub mod Room
+pub mod FreeRoom

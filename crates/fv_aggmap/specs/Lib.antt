@@ -1,2 +1,3 @@
+pub mod Freeing
 pub mod Loading
 pub mod Space

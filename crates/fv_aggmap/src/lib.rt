@@ -4,6 +4,7 @@
 
 mod fault;
 mod free;
+mod freeing;
 mod load;
 mod map;
 #[cfg(test)]

@@ -3,7 +3,10 @@
 ghost use Rattle.std.specs.Prelude.{◌≡◌, ◌<◌, ◌≤◌, length, slice_set, true, false, IsTrue, IfOk, IfErr, IfSome, IfNone};
 ghost use Rattle.fv_disk.specs.DiskCalls.{OnlyReads};
 ghost use Rattle.fv_root.specs.Finding.{IsInRange};
+ghost use Rattle.fv_root.specs.Formatted.{IsSize};
 ghost use Rattle.fv_aggmap.specs.Loading.{HasLoadCause, IsFault, IsLoaded};
+ghost use Rattle.std.specs.FinSet as set;
+ghost use Rattle.fv_aggmap.specs.Freeing.{room_of};
 ghost use Rattle.fv_aggmap.specs.Space.{IsFree, IsFull, blocks_of, free_blocks};
 
 use crate::fault::AggFault;
@@ -71,6 +74,7 @@ impl AggMap {
     pub fn blocks(&self) -> u32
         ensures value { result ≡ blocks_of self.now }
         ensures next { result ≡ length self.now.next }
+        ensures size { IsSize (blocks_of self.now) }
     {
         self.committed.len()
     }
@@ -78,7 +82,8 @@ impl AggMap {
     /// How many blocks are free: they can be allocated, and neither set has them. It is kept, and costs
     /// a step.
     pub fn free_count(&self) -> u32
-        ensures { result ≡ free_blocks self.now }
+        ensures value { result ≡ free_blocks self.now }
+        ensures room { result ≡ set.len (room_of self.now).free }
     {
         self.free
     }
@@ -98,6 +103,8 @@ impl AggMap {
         ensures some { IfSome result (IsFree self.old) }
         ensures taken { IfSome result (λ b. self.new ≡ record self.old { next = slice_set self.old.next b true }) }
         ensures unchanged { IfNone result (self.new ≡ self.old) }
+        ensures size { IsSize (blocks_of self.old) }
+        ensures same { length self.old.next ≡ blocks_of self.old }
     {
         let at = find_free(&self.committed, &self.next, self.first, self.cursor)?;
         self.next.set(at);

@@ -1,6 +1,6 @@
 //! A volume's ledger.
 
-ghost use Rattle.std.specs.Prelude.{◌≡◌, ◌≤◌};
+ghost use Rattle.std.specs.Prelude.{◌≡◌, ◌≤◌, ◌^◌};
 ghost use Rattle.fv_model.specs.Numbers.{greatest_span};
 ghost use Rattle.fv_model.specs.Volumes.{Volume};
 ghost use Rattle.fv_model.specs.Space.{commit};
@@ -44,6 +44,7 @@ impl Ledger {
     pub fn commit(&self) -> u64
         requires { self.now.span ≤ greatest_span }
         ensures exact { result ≡ committed self.now }
+        ensures most { result ≤ 2 ^ 34 }
         ensures machine { (v : Volume) → IsLedgerOf v self.now → result ≡ commit v }
     {
         let promised = match self.kind {

@@ -90,6 +90,7 @@ impl Container {
         requires stands { StandsOn (D.shown disk.old) store.old.pairs }
         ensures spelled { IsTrue (D.shown disk.old).tells → IfOk result (Spelled (D.shown disk.old).reads root height) }
         ensures size { IfOk result (λ container. length container.entries ≡ entries) }
+        ensures valid { IfOk result IsMapped }
         ensures fault { IsTrue (D.shown disk.old).tells → IfErr result (IsFault (D.shown disk.old).reads root height entries) }
         ensures only_reads { OnlyReads (D.shown disk.old) (D.shown disk.new) }
         ensures stands { StandsOn (D.shown disk.new) store.new.pairs }

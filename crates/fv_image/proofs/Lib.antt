@@ -15,7 +15,7 @@ pub mod EmptyVolumes
 pub mod Promises
 pub mod Empty
 mod Vectors
-mod Uses
+pub mod Uses
 mod LoneLeaf
 mod LoneVolumes
 mod Samples

@@ -1,0 +1,93 @@
+-- The label of a slot, as it was read; what is loaded from it, and why it isn't.
+use Rattle.std.proofs.Common.{◌≡◌, ◌≢◌, ◌<◌, ℕ, zero, suc, Bool, true, cond, nat_lt, List, length, Option, Some, None, get_or, inl, inr, refl, sym, ap, subst, ◌∙◌, arith}
+use Rattle.std.specs.Prelude.{◌⊎◌, IfErr, Result, Ok, Err}
+use Rattle.std.specs.Result.{IsErrAnd}
+use Rattle.std.specs.Option.{option_map}
+use Rattle.std.proofs.lemmas.Bool.Decides.{nat_tests}
+use Rattle.fv_disk.specs.Shown.{Image}
+use Rattle.fv_codec.specs.declared.label.Label.{Label}
+use Rattle.fv_codec.specs.Blocks.{label_at}
+use Rattle.fv_image.specs.Containers.{shaped}
+use Rattle.fv_image.specs.Views.{entry_count, head_of}
+use Rattle.fv_image.specs.Held.{Lying, label_in, label_place, lying_at}
+use Rattle.fv_container.specs.declared.fault.ContainerFault.{ContainerFault}
+use Rattle.fv_container.specs.declared.fault.ContainerFault.TheVariants as container
+use Rattle.std.proofs.lemmas.List.{get_or-set_same}
+use Rattle.fv_container.specs.Chains.{Slots, container_at, with_container, with_parent}
+use Rattle.fv_container.specs.Mapped.{IsMapped, Mapped}
+use Rattle.fv_container.specs.Spelled.{IsFault, Spelled}
+use Rattle.fv_root.specs.declared.find.Found.{Found}
+use Rattle.fv_root.specs.Finding.{root_found}
+use Rattle.fv_volume.specs.declared.fault.VolumeFault.{VolumeFault}
+use Rattle.fv_volume.specs.declared.fault.VolumeFault.TheVariants.{Refused, DiskFault, Damaged, Memory}
+use Rattle.fv_volume.specs.declared.state.VolumeState.{VolumeState}
+use Rattle.fv_volume.specs.Causes.{of_container}
+use Rattle.fv_volume.specs.Loading.{IsBadLabel, IsBadMap, IsBadTree, IsContainerOf, IsLoadFault, IsLoaded, form_in, label_of}
+use Rattle.fv_volume.specs.States.{head_in}
+
+-- a fault that was handed on
+pub handed : {T : Type 0} (P : VolumeFault → Type 0) (e : VolumeFault) (result : Result T VolumeFault) → IsErrAnd result (λ f. f ≡ e) → P e → IfErr result P
+handed P e (Ok x) is holds = tt
+handed P e (Err f) is holds = subst P (sym is) holds
+
+pub bad_tree_of : (i : Image) (l : Label) (e : ContainerFault) → IsFault i l.container l.height (entry_count l.span) e → IsBadTree i l (of_container e)
+bad_tree_of i l container.DiskFault is = tt
+bad_tree_of i l (container.Damaged at want number) is = is
+bad_tree_of i l container.Memory is = tt
+
+module _ (found : Found) (i : Image) (s : ℕ) (lt : s < 64) where
+  place_there : label_place (root_found found) s ≡ get_or found.root.labels s 0
+  unfolding label_place
+  place_there = let test : nat_lt s 64 ≡ true = grind (arith, nat_tests) in ap (λ t. cond t (get_or found.root.labels s 0) 0) test
+
+  pub no_label : get_or found.root.labels s 0 ≡ 0 → label_of found i s ≡ None
+  unfolding label_in
+  no_label none = ap (λ p. label_in (lying_at i p)) (place_there ∙ none)
+
+  spelled_at : (p : ℕ) (l : Label) → p ≢ 0 → label_at (i p) ≡ Ok l → label_in (lying_at i p) ≡ Some l
+  unfolding label_in
+  spelled_at zero l some said = absurd (some refl)
+  spelled_at (suc p) l some said = ap shaped said
+
+  pub is_label : (p : ℕ) (l : Label) → p ≡ get_or found.root.labels s 0 → p ≢ 0 → label_at (i p) ≡ Ok l → label_of found i s ≡ Some l
+  is_label p l is some said = ap (λ q. label_in (lying_at i q)) (place_there ∙ sym is) ∙ spelled_at p l some said
+
+  pub loaded_none : (c : Option Mapped) → get_or found.root.labels s 0 ≡ 0 → c ≡ None → IsLoaded i found s None c
+  loaded_none c none empty = record {
+    head = ap (option_map head_of) (sym (no_label none));
+    tree = subst (λ (l : Option Label). IsContainerOf i l c) (sym (no_label none)) (subst (IsContainerOf i None) (sym empty) tt);
+  }
+
+  pub loaded_some : (l : Label) (y : VolumeState) (map : Mapped) (c : Option Mapped) → label_of found i s ≡ Some l → head_in y ≡ head_of l → c ≡ Some map
+      → Spelled i l.container l.height map → length map.entries ≡ entry_count l.span → IsMapped map → IsLoaded i found s (Some y) c
+  loaded_some l y map c lies head there spelled size valid = record {
+    head = ap Some head ∙ ap (option_map head_of) (sym lies);
+    tree = subst (λ (o : Option Label). IsContainerOf i o c) (sym lies) (subst (IsContainerOf i (Some l)) (sym there) (spelled, (size, valid)));
+  }
+
+  pub bad_label : (p : ℕ) (e : VolumeFault) → p ≡ get_or found.root.labels s 0 → p ≢ 0 → IsBadLabel (i p) p e → IsLoadFault i found e
+  bad_label p (Refused refusal) is some bad = absurd bad
+  bad_label p (Damaged at want number) is some bad = inl (record {
+    slot = s;
+    place = bad.0 ∙ is ∙ sym place_there;
+    some = λ none. some (sym bad.0 ∙ none);
+    fault = (refl, subst (λ (b : List ℕ). (label_at b ≡ Err (record { want = want; found = number })) ⊎ ((l : Label) × ((label_at b ≡ Ok l) × (form_in l ≡ Some (want, number))))) (ap i (sym bad.0)) bad.1);
+  })
+  bad_label p DiskFault is some bad = tt
+  bad_label p Memory is some bad = absurd bad
+
+  pub bad_tree : (l : Label) (e : VolumeFault) → label_of found i s ≡ Some l → IsBadTree i l e → IsLoadFault i found e
+  bad_tree l (Refused refusal) lies bad = absurd bad
+  bad_tree l (Damaged at want number) lies bad = inr (inl (record { slot = s; label = l; lies = lies; fault = bad }))
+  bad_tree l DiskFault lies bad = tt
+  bad_tree l Memory lies bad = tt
+
+  pub bad_map : (l : Label) (map : Mapped) (e : VolumeFault) → label_of found i s ≡ Some l → Spelled i l.container l.height map → IsBadMap i map l.span e → IsLoadFault i found e
+  bad_map l map (Refused refusal) lies spelled bad = absurd bad
+  bad_map l map (Damaged at want number) lies spelled bad = inr (inr (record { slot = s; label = l; lies = lies; map = map; spelled = spelled; fault = bad }))
+  bad_map l map DiskFault lies spelled bad = tt
+  bad_map l map Memory lies spelled bad = tt
+
+-- the container that was put into a slot
+pub put_there : (old : Slots) (s : ℕ) (map : Mapped) (new : Slots) → new ≡ with_parent (with_container old s (Some map)) s None → s < length old.containers → container_at new s ≡ Some map
+put_there old s map new is lt = ap (λ (x : Slots). container_at x s) is ∙ get_or-set_same old.containers s (Some map) None lt

@@ -1,0 +1,126 @@
+-- What is loaded from a label, as a volume.
+use Rattle.std.proofs.Common.{◌≡◌, ℕ, Bool, nat_eq, map, subst, true, false, List, [], ◌∷◌, Option, Some, None, refl, sym, ap, ◌∙◌, ⊎_elim, arith}
+use Rattle.std.specs.Prelude.{not, ◌==◌, ◌+◌, ◌-◌, ◌≤◌, ◌&&◌, find, take, if◌then◌else◌}
+use Rattle.std.specs.Option.{is_none, option_map}
+use Rattle.fv_model.specs.declared.commands.Kind.{Kind}
+use Rattle.fv_model.specs.Space.{use_of}
+use Rattle.fv_image.specs.Told.{has_none, volume_of}
+use Rattle.fv_image.proofs.Uses.{uses_nothing}
+use Rattle.fv_charge.specs.Ledgers.{IsLedgerOf}
+use Rattle.fv_codec.proofs.Numbers.{up_to-le}
+use Rattle.fv_volume.specs.declared.state.Snap.{Snap as StateSnap}
+use Rattle.fv_volume.specs.declared.state.VolumeState.{VolumeState}
+use Rattle.fv_volume.specs.States.{IsState, head_in, ledger_of_empty, snap_in}
+use Rattle.std.proofs.lemmas.Bool.{cases_Bool}
+use Rattle.std.proofs.lemmas.Bool.Decides.{nat_tests}
+use Rattle.fv_codec.specs.declared.label.Label.{Label}
+use Rattle.fv_codec.specs.declared.label.SnapRecord.{SnapRecord}
+use Rattle.fv_codec.specs.Blocks.{IsLabel}
+use Rattle.fv_image.specs.Views.{Footing, Head, Snap, footing_of, head_of, kind_named, snaps_from}
+use Rattle.fv_image.specs.Told.{is_plain}
+use Rattle.fv_volume.specs.Loading.{first_used, form_in, is_used}
+
+-- a label without forms
+pub record IsBare (l : Label) : Type 0 where
+  pub parent : (l.parent == 0) ≡ true
+  pub known : (l.known == 0) ≡ false
+  pub stamp : (l.root.stamp == 0) ≡ true
+  pub snapshots : first_used l.snapshots ≡ None
+
+pub bare : (l : Label) → form_in l ≡ None → IsBare l
+unfolding form_in
+bare l none = either (l.parent == 0) refl none
+  where
+    last : (b : Bool) → (l.root.stamp == 0) ≡ b → (l.parent == 0) ≡ true → (l.known == 0) ≡ false → (if not b then Some (0, l.root.stamp) else first_used l.snapshots) ≡ None → IsBare l
+    last true is p k e = record { parent = p; known = k; stamp = is; snapshots = e }
+    last false is p k e = cc
+
+    mid : (b : Bool) → (l.known == 0) ≡ b → (l.parent == 0) ≡ true → (if b then Some (1, 0) else if not (l.root.stamp == 0) then Some (0, l.root.stamp) else first_used l.snapshots) ≡ None → IsBare l
+    mid true is p e = cc
+    mid false is p e = last (l.root.stamp == 0) refl p is e
+
+    either : (b : Bool) → (l.parent == 0) ≡ b → (if not b then Some (0, l.parent) else if l.known == 0 then Some (1, 0) else if not (l.root.stamp == 0) then Some (0, l.root.stamp) else first_used l.snapshots) ≡ None → IsBare l
+    either true is e = mid (l.known == 0) refl is e
+    either false is e = cc
+
+no_snaps : (records : List SnapRecord) (j : ℕ) → first_used records ≡ None → snaps_from j records ≡ []
+unfolding snaps_from
+no_snaps [] j none = refl
+no_snaps (r ∷ rs) j none = either (r.name_length == 0) (no_snaps rs (j + 1)) none
+  where
+    either : (b : Bool) → (first_used rs ≡ None → snaps_from (j + 1) rs ≡ []) → option_map {U = ℕ × ℕ} (λ (x : SnapRecord). (0, x.name_length)) (if not b then Some r else find is_used rs) ≡ None
+        → (if b then snaps_from (j + 1) rs else record { slot = j; name = take r.name_length r.name; table = record { levels = r.levels; root = r.root } } ∷ snaps_from (j + 1) rs) ≡ []
+    either true rest e = rest e
+    either false rest e = cc
+
+-- the parts of its head that forms would set
+pub no_footing : (l : Label) → IsBare l → footing_of l ≡ None
+no_footing l is = ap (λ t. if t then None else Some (record { parent = l.parent - 1; slot = l.base_slot; splitting = l.splitting == 1 })) is.parent
+
+pub no_snapshots : (l : Label) → IsBare l → snaps_from 1 l.snapshots ≡ []
+no_snapshots l is = no_snaps l.snapshots 1 is.snapshots
+
+is_known : (l : Label) → IsLabel l → IsBare l → (l.known == 1) ≡ true
+is_known l range is =
+    let few = up_to-le (l.splitting == 0) 1 in
+    grind (arith, nat_tests, is.known, range.known, few)
+
+-- such a label's head is told whole
+pub head_bare : (l : Label) → IsLabel l → IsBare l → is_plain (head_of l) ≡ true
+unfolding is_plain head_of
+head_bare l range is =
+    (λ i. is.stamp i && (has_none (no_snapshots l is i) && (is_none (no_footing l is i) && is_known l range is i)))
+
+-- the head of a volume that is made of such a label
+abbrev pub head_with : Label → List ℕ → Kind → List StateSnap → Head
+head_with l name kind snaps = record {
+  name = name;
+  kind = kind;
+  size = l.size;
+  most = l.most;
+  span = l.span;
+  now = l.now;
+  base = None;
+  known = nat_eq l.known 1;
+  active = record { levels = l.levels; root = l.root };
+  snapshots = map snap_in snaps;
+}
+
+pub head_from : (l : Label) → IsBare l → (name : List ℕ) (kind : Kind) (snaps : List StateSnap) → name ≡ take l.name_length l.name → kind ≡ kind_named l.kind → snaps ≡ []
+    → head_with l name kind snaps ≡ head_of l
+unfolding head_of
+head_from l is name kind snaps called sort empty = λ i. record {
+  name = called i;
+  kind = sort i;
+  size = l.size;
+  most = l.most;
+  span = l.span;
+  now = l.now;
+  base = sym (no_footing l is) i;
+  known = nat_eq l.known 1;
+  active = record { levels = l.levels; root = l.root };
+  snapshots = (ap (map snap_in) empty ∙ sym (no_snapshots l is)) i;
+}
+
+-- a plain volume's ledger
+pub ledger_from : (h : Head) → IsLedgerOf (volume_of h) (ledger_of_empty h.size h.kind h.span)
+unfolding volume_of
+ledger_from h =
+    let none : use_of (volume_of h) ≡ 0 = uses_nothing h in
+    record {
+      charged = omega (arith, none);
+      needed = omega (arith, none);
+      size = refl;
+      kind = refl;
+      span = refl;
+    }
+
+-- a volume with the head of such a label is told whole
+pub state_from : (l : Label) → IsLabel l → form_in l ≡ None → (y : VolumeState) (slot : ℕ) → y.slot ≡ slot → head_in y ≡ head_of l → y.ledger ≡ ledger_of_empty l.size (kind_named l.kind) l.span → IsState slot y
+unfolding head_of
+state_from l range none y slot at head ledger = record {
+  slot_is = at;
+  plain = ap is_plain head ∙ head_bare l range (bare l none);
+  span = let same : y.span ≡ l.span = ap (λ h. h.span) head in omega (arith, same, range.span_greatest);
+  ledger = subst (λ h. IsLedgerOf (volume_of h) y.ledger) (sym head) (subst (IsLedgerOf (volume_of (head_of l))) (sym ledger) (ledger_from (head_of l)));
+}

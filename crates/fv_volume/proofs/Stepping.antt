@@ -1,0 +1,74 @@
+-- One slot more is loaded.
+use Rattle.std.proofs.Common.{◌≡◌, ◌≢◌, ◌<◌, ◌≤◌, ◌+◌, ℕ, zero, suc, List, [], ◌∷◌, ◌++◌, length, length-append, replicate, Option, Some, None, refl, sym, ap, subst, ◌∙◌, ⊎_elim, arith}
+use Rattle.std.specs.Prelude.{IfSome, slice_index_or}
+use Rattle.std.proofs.lemmas.Bool.{cases_eq, cases_lt}
+use Rattle.std.proofs.lemmas.List.{length-replicate}
+use Rattle.fv_disk.specs.Shown.{Image}
+use Rattle.fv_container.specs.Chains.{Slots, container_at, no_containers, slot_count}
+use Rattle.fv_container.specs.Mapped.{Mapped}
+use Rattle.fv_root.specs.declared.find.Found.{Found}
+use Rattle.fv_volume.specs.declared.state.VolumeState.{VolumeState}
+use Rattle.fv_volume.specs.Loading.{IsLoaded, KeptTo, LoadedTo}
+use Rattle.fv_volume.specs.States.{IsState, States, state_at}
+
+at_front : (xs : States) (x : Option VolumeState) (s : ℕ) → s < length xs → state_at (xs ++ x ∷ []) s ≡ state_at xs s
+at_front [] x s lt = absurd (omega (arith, lt))
+at_front (y ∷ ys) x zero lt = refl
+at_front (y ∷ ys) x (suc s) lt = at_front ys x s (omega (arith, lt))
+
+at_end : (xs : States) (x : Option VolumeState) → state_at (xs ++ x ∷ []) (length xs) ≡ x
+at_end [] x = refl
+at_end (y ∷ ys) x = at_end ys x
+
+past_end : (xs : States) (x : Option VolumeState) (s : ℕ) → length xs < s → state_at (xs ++ x ∷ []) s ≡ None
+past_end [] x zero lt = absurd (omega (arith, lt))
+past_end [] x (suc s) lt = refl
+past_end (y ∷ ys) x zero lt = absurd (omega (arith, lt))
+past_end (y ∷ ys) x (suc s) lt = past_end ys x s (omega (arith, lt))
+
+pub loaded_more : (i : Image) (found : Found) (count : ℕ) (states : States) (old : Slots) (x : Option VolumeState) (new : Slots) → KeptTo count states old → LoadedTo i found count states old
+    → ((s : ℕ) → s ≢ count → container_at new s ≡ container_at old s) → IsLoaded i found count x (container_at new count) → LoadedTo i found (count + 1) (states ++ x ∷ []) new
+loaded_more i found count states old x new kept was others now = record {
+  each = λ s lt. ⊎_elim
+      (λ (here : s ≡ count). subst (λ k. IsLoaded i found k (state_at (states ++ x ∷ []) k) (container_at new k)) (sym here)
+      (subst (λ (y : Option VolumeState). IsLoaded i found count y (container_at new count)) (sym (ap (state_at (states ++ x ∷ [])) (sym kept.long) ∙ at_end states x)) now))
+      (λ (other : s ≢ count).
+      let before : s < length states = omega (arith, lt, other, kept.long) in
+      subst (λ c. IsLoaded i found s (state_at (states ++ x ∷ []) s) c) (sym (others s other))
+      (subst (λ (y : Option VolumeState). IsLoaded i found s y (container_at old s)) (sym (at_front states x s before)) (was.each s (omega (arith, before, kept.long)))))
+      (cases_eq s count);
+}
+
+pub kept_more : (count : ℕ) (states : States) (old : Slots) (x : Option VolumeState) (new : Slots) → KeptTo count states old → length new.containers ≡ slot_count
+    → ((s : ℕ) → s ≢ count → container_at new s ≡ container_at old s) → IfSome x (IsState count) → KeptTo (count + 1) (states ++ x ∷ []) new
+kept_more count states old x new kept few others is = record {
+  long = length-append states (x ∷ []) ∙ omega (arith, kept.long);
+  few = few;
+  free = λ s le. others s (omega (arith, le)) ∙ kept.free s (omega (arith, le));
+  each = λ s. ⊎_elim
+      (λ (here : s ≡ count). subst (λ k. IfSome (state_at (states ++ x ∷ []) k) (IsState k)) (sym here)
+      (subst (λ (y : Option VolumeState). IfSome y (IsState count)) (sym (ap (state_at (states ++ x ∷ [])) (sym kept.long) ∙ at_end states x)) is))
+      (λ (other : s ≢ count). ⊎_elim
+      (λ (before : s < length states). subst (λ (y : Option VolumeState). IfSome y (IsState s)) (sym (at_front states x s before)) (kept.each s))
+      (λ (after : length states ≤ s). let past : length states < s = omega (arith, after, other, kept.long) in subst (λ (y : Option VolumeState). IfSome y (IsState s)) (sym (past_end states x s past)) tt)
+      (cases_lt s (length states)))
+      (cases_eq s count);
+}
+
+none_in : {X : Type 0} (n s : ℕ) → ◌≡◌ {A = Option X} (slice_index_or (replicate n None) s None) None
+none_in zero s = refl
+none_in (suc n) zero = refl
+none_in (suc n) (suc s) = none_in n s
+
+-- no slot is loaded yet
+pub kept_none : (states : States) (containers : Slots) → states ≡ [] → containers ≡ no_containers → KeptTo 0 states containers
+kept_none states containers empty none = record {
+  long = ap length empty;
+  few = ap (λ (c : Slots). length c.containers) none ∙ length-replicate {A = Option Mapped} slot_count None;
+  free = λ s le. ap (λ (c : Slots). container_at c s) none ∙ none_in slot_count s;
+  each = λ s. subst (λ (xs : States). IfSome (state_at xs s) (IsState s)) (sym empty) (nothing s);
+}
+  where
+    nothing : (s : ℕ) → IfSome (state_at [] s) (IsState s)
+    nothing zero = tt
+    nothing (suc s) = tt

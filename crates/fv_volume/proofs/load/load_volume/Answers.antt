@@ -1,0 +1,62 @@
+use Rattle.std.proofs.Common.{◌≡◌, ◌≢◌, ◌∙◌, ℕ, List, Some, None, get_or, refl, sym, ap, subst, arith}
+use Rattle.std.specs.Prelude.{IsTrue}
+use Rattle.fv_disk.specs.Shown.{Image}
+use Rattle.fv_container.specs.Spelled.{Spelled}
+use Rattle.fv_volume.specs.Loading.{IsBadMap, IsBadTree, IsLoadFault}
+use Rattle.fv_volume.proofs.Labelled.{bad_label, bad_map, bad_tree, handed, is_label, loaded_none, loaded_some, put_there}
+use Rattle.fv_volume.proofs.Loaded.{state_from}
+use Rattle.fv_volume.proofs.load.load_volume.Goals as goal
+
+pub returns-then-place-eq0-clause-loaded : goal.returns-then-place-eq0-clause-loaded
+returns-then-place-eq0-clause-loaded g c = λ tells empty.
+    loaded_none c.args.found.now (g.D.Disk.shown c.args.disk.now).reads c.args.slot c.requires.slot _ c.if-place-eq0.true empty
+
+pub returns-in_err-label-clause-fault : goal.returns-in_err-label-clause-fault
+returns-in_err-label-clause-fault g c = λ tells.
+    let found = c.args.found.now in
+    let i = (g.D.Disk.shown c.args.disk.now).reads in
+    let e = c.in_err-label.field-0.0 in
+    handed (IsLoadFault i found) e c.from_residual.result c.from_residual.ensures.1
+    (bad_label found i c.args.slot c.requires.slot (get_or found.root.labels c.args.slot 0) e refl c.if-place-eq0.false (c.in_err-label.ensures.fault tells))
+
+pub returns-in_err-container-clause-fault : goal.returns-in_err-container-clause-fault
+returns-in_err-container-clause-fault g c = λ tells.
+    let found = c.args.found.now in
+    let i = (g.D.Disk.shown c.args.disk.now).reads in
+    let l = c.in_ok-label.label in
+    let e = c.in_err-container.field-0.0 in
+    let first = c.read_label.ensures.only_reads.stays in
+    let told = subst IsTrue (sym first.tells) tells in
+    let lies = is_label found i c.args.slot c.requires.slot (get_or found.root.labels c.args.slot 0) l refl c.if-place-eq0.false (c.in_ok-label.ensures.label tells) in
+    handed (IsLoadFault i found) e c.from_residual-in_err-container.result c.from_residual-in_err-container.ensures.1
+    (bad_tree found i c.args.slot c.requires.slot l e lies (subst (λ (j : Image). IsBadTree j l e) first.reads (c.in_err-container.ensures.fault told)))
+
+pub returns-in_err-map-clause-fault : goal.returns-in_err-map-clause-fault
+returns-in_err-map-clause-fault g c = λ tells.
+    let found = c.args.found.now in
+    let i = (g.D.Disk.shown c.args.disk.now).reads in
+    let l = c.in_ok-label.label in
+    let e = c.in_err-map.field-0.0 in
+    let map = c.in_ok-container.container in
+    let first = c.read_label.ensures.only_reads.stays in
+    let second = c.read_container.ensures.only_reads.stays in
+    let told = subst IsTrue (sym first.tells) tells in
+    let lies = is_label found i c.args.slot c.requires.slot (get_or found.root.labels c.args.slot 0) l refl c.if-place-eq0.false (c.in_ok-label.ensures.label tells) in
+    let spelled = subst (λ (j : Image). Spelled j l.container l.height map) first.reads (c.in_ok-container.ensures.spelled told) in
+    handed (IsLoadFault i found) e c.from_residual-in_err-map.result c.from_residual-in_err-map.ensures.1
+    (bad_map found i c.args.slot c.requires.slot l map e lies spelled (subst (λ (j : Image). IsBadMap j map l.span e) (second.reads ∙ first.reads) (c.in_err-map.ensures.fault (subst IsTrue (sym second.tells) told))))
+
+pub returns-clause-loaded : goal.returns-clause-loaded
+returns-clause-loaded g c = λ tells empty.
+    let found = c.args.found.now in
+    let i = (g.D.Disk.shown c.args.disk.now).reads in
+    let l = c.in_ok-label.label in
+    let map = c.in_ok-container.container in
+    let first = c.read_label.ensures.only_reads.stays in
+    let told = subst IsTrue (sym first.tells) tells in
+    let lies = is_label found i c.args.slot c.requires.slot (get_or found.root.labels c.args.slot 0) l refl c.if-place-eq0.false (c.in_ok-label.ensures.label tells) in
+    let spelled = subst (λ (j : Image). Spelled j l.container l.height map) first.reads (c.in_ok-container.ensures.spelled told) in
+    loaded_some found i c.args.slot c.requires.slot l c.of_label.result map _ lies c.of_label.ensures.head (put_there c.args.containers.now c.args.slot map c.put.new.self c.put.ensures (omega (arith, c.requires.slot, c.requires.few))) spelled c.in_ok-container.ensures.size c.in_ok-container.ensures.valid
+
+pub returns-clause-state : goal.returns-clause-state
+returns-clause-state g c = state_from c.in_ok-label.label c.in_ok-label.ensures.range c.in_ok-label.ensures.plain c.of_label.result c.args.slot c.of_label.ensures.slot c.of_label.ensures.head c.of_label.ensures.ledger

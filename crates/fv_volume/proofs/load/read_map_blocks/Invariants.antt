@@ -1,0 +1,12 @@
+use Rattle.std.proofs.Common.{◌≡◌}
+use Rattle.fv_disk.specs.DiskCalls.{OnlyReads}
+use Rattle.fv_store.specs.Held.{StandsOn}
+use Rattle.fv_volume.proofs.load.read_map_blocks.Given as goal
+
+abbrev pub invariant-loop-index : goal.invariant-loop-index
+invariant-loop-index g l = record {
+  stands : StandsOn (g.D.Disk.shown l.disk) l.store.pairs;
+  map : l.map.span ≡ l.fn.map.span;
+  only_reads : OnlyReads (g.D.Disk.shown l.fn.disk) (g.D.Disk.shown l.disk);
+  calm : (g.D.Disk.shown l.disk).faults ≡ (g.D.Disk.shown l.fn.disk).faults;
+}

@@ -1,0 +1,9 @@
+use Rattle.std.proofs.Common.{◌≡◌, ◌∙◌, List, [], None, ap, map, refl, sym}
+use Rattle.fv_codec.specs.declared.label.Label.{Label}
+use Rattle.fv_volume.specs.declared.state.Snap.{Snap}
+use Rattle.fv_volume.specs.States.{snap_in}
+use Rattle.fv_volume.proofs.Loaded.{bare, head_from}
+use Rattle.fv_volume.proofs.state.VolumeState.of_label.Goals as goal
+
+pub returns-clause-head : goal.returns-clause-head
+returns-clause-head c = head_from c.args.label.now (bare c.args.label.now c.requires.plain) c.name_of.result c.kind_of-kind.result c.new.result c.name_of.ensures c.kind_of-kind.ensures c.new.ensures

@@ -1,0 +1,45 @@
+use Rattle.std.proofs.Common.{◌≡◌, ◌∙◌, length, refl, sym, ap, subst}
+use Rattle.fv_model.specs.declared.commands.Command.TheVariants.{VolCreate}
+use Rattle.fv_model.specs.Refusals.{refusal}
+use Rattle.fv_model.specs.Space.{span_of}
+use Rattle.fv_volume.specs.Creating.{Admits, IsMade, Refuses}
+use Rattle.fv_volume.specs.Slots.{HaveSpans}
+use Rattle.fv_volume.specs.States.{AreStates, States, machine_in, empty_head, named_states}
+use Rattle.fv_volume.proofs.Made.{accepted, have_spans, refused_as, made_machine, new_made, refused_result}
+use Rattle.fv_volume.proofs.volumes.Volumes.create.Goals as goal
+
+pub admit-requires-clause-spans : goal.admit-requires-clause-spans
+admit-requires-clause-spans c = subst HaveSpans (sym (c.deref.ensures.value ∙ c.self.view_is)) (have_spans c.args.self.now c.requires.states)
+
+pub returns-in_err-place-clause-refused : goal.returns-in_err-place-clause-refused
+returns-in_err-place-clause-refused c =
+    let states : States = c.args.self.now in
+    let long : length states ≡ 64 = ap (λ (s : States). length s) (sym c.self.view_is) ∙ c.self.invariant in
+    let r = c.in_err-place.field-0.0 in
+    let by : Refuses states c.args.pool.now.found.blocks c.args.name.now c.args.size c.args.kind r =
+    subst (λ (s : States). Refuses s c.args.pool.now.found.blocks c.args.name.now c.args.size c.args.kind r) (c.deref.ensures.value ∙ c.self.view_is) c.in_err-place.ensures.refused in
+    refused_result _ r c.from_residual.result c.from_residual.ensures.1 (λ i. refused_as c.args.pool.now states i long c.requires.states c.args.name.now c.args.size c.args.kind r by)
+
+pub returns-clause-states : goal.returns-clause-states
+returns-clause-states c =
+    let items : States = c.self.inside.states.items in
+    let are : AreStates items = subst AreStates (sym c.self.view_is) c.requires.states in
+    let is : Admits items c.args.pool.now.found.blocks c.args.name.now c.args.size c.args.kind c.in_ok-place.place.slot c.in_ok-place.place.span =
+    subst (λ (s : States). Admits s c.args.pool.now.found.blocks c.args.name.now c.args.size c.args.kind c.in_ok-place.place.slot c.in_ok-place.place.span) c.deref.ensures.value c.in_ok-place.ensures.admitted in
+    new_made items c.in_ok-place.place.slot c.args.name.now c.args.size c.args.kind c.in_ok-place.place.span c.args.pool.now.found.blocks c.in_ok-state.state c.self.invariant are is c.in_ok-place.ensures.most c.in_ok-state.ensures.slot c.in_ok-state.ensures.head c.in_ok-state.ensures.ledger
+
+pub returns-clause-accepted : goal.returns-clause-accepted
+returns-clause-accepted c = λ i.
+    let states : States = c.args.self.now in
+    let long : length states ≡ 64 = ap (λ (s : States). length s) (sym c.self.view_is) ∙ c.self.invariant in
+    let is : Admits states c.args.pool.now.found.blocks c.args.name.now c.args.size c.args.kind c.in_ok-place.place.slot c.in_ok-place.place.span =
+    subst (λ (s : States). Admits s c.args.pool.now.found.blocks c.args.name.now c.args.size c.args.kind c.in_ok-place.place.slot c.in_ok-place.place.span) (c.deref.ensures.value ∙ c.self.view_is) c.in_ok-place.ensures.admitted in
+    accepted c.args.pool.now states i long c.requires.states c.args.name.now c.args.size c.args.kind c.in_ok-place.place.slot c.in_ok-place.place.span is
+
+pub returns-clause-machine : goal.returns-clause-machine
+returns-clause-machine c = λ i.
+    let states : States = c.args.self.now in
+    let long : length states ≡ 64 = ap (λ (s : States). length s) (sym c.self.view_is) ∙ c.self.invariant in
+    let is : Admits states c.args.pool.now.found.blocks c.args.name.now c.args.size c.args.kind c.in_ok-place.place.slot c.in_ok-place.place.span =
+    subst (λ (s : States). Admits s c.args.pool.now.found.blocks c.args.name.now c.args.size c.args.kind c.in_ok-place.place.slot c.in_ok-place.place.span) (c.deref.ensures.value ∙ c.self.view_is) c.in_ok-place.ensures.admitted in
+    made_machine c.args.pool.now states i long c.requires.states (record c.args.pool.now { containers = c.put.new.self }) c.self.inside.states.items c.args.name.now c.args.size c.args.kind c.in_ok-place.place.slot c.in_ok-place.place.span refl c.self.view_is is c.in_ok-state.state c.in_ok-state.ensures.head

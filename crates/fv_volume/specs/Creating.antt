@@ -1,0 +1,63 @@
+-- Making a volume: why it is refused, and what it makes.
+use Rattle.std.specs.Prelude.{◌≡◌, ◌<◌, ◌≤◌, ◌+◌, ℕ, true, false, List, Option, Some, None}
+use Rattle.fv_container.specs.Chains.{with_container, with_parent}
+use Rattle.fv_container.specs.Mapped.{empty_map}
+use Rattle.fv_image.specs.Views.{entry_count}
+use Rattle.fv_model.specs.declared.answers.Refusal.{Refusal}
+use Rattle.fv_model.specs.declared.answers.Refusal.TheVariants.{Syntax, NoVolume, VolumeExists, NoFile, FileExists, NoSnapshot, SnapshotExists, VolumeFull, AggregateFull, Range, TooMany, SnapshotInUse, VolumeInUse, NotClone, ParentNotClean, WrongKind}
+use Rattle.fv_model.specs.declared.commands.Kind.{Kind}
+use Rattle.fv_model.specs.Machines.{capacity}
+use Rattle.fv_model.specs.Numbers.{is_size}
+use Rattle.fv_model.specs.Space.{span_of}
+use Rattle.fv_charge.specs.Ledgers.{committed}
+use Rattle.fv_volume.specs.declared.fault.VolumeFault.{VolumeFault}
+use Rattle.fv_volume.specs.declared.fault.VolumeFault.TheVariants.{Refused, DiskFault, Damaged, Memory}
+use Rattle.fv_volume.specs.declared.pool.Pool.{Pool}
+use Rattle.fv_volume.specs.declared.state.VolumeState.{VolumeState}
+use Rattle.fv_volume.specs.Slots.{HasName, IsFirstFree, IsFull, NoneHasName, sum_of}
+use Rattle.fv_volume.specs.States.{States, empty_head, head_in, ledger_of_empty, with_state}
+
+-- the ledger of a new volume
+abbrev pub new_ledger_of : ℕ → Kind → ℕ
+new_ledger_of size kind = committed (ledger_of_empty size kind (span_of size 0 0))
+
+-- all volumes and the new one commit more than the capacity
+pub record IsTooMuch (states : States) (blocks : ℕ) (name : List ℕ) (size : ℕ) (kind : Kind) : Type 0 where
+  pub size_is : is_size size ≡ true
+  pub name_is : NoneHasName states name
+  pub slot : ℕ
+  pub free : IsFirstFree states slot
+  pub full : capacity blocks < sum_of states + new_ledger_of size kind
+
+-- what each refusal of a new volume comes from
+abbrev pub Refuses : States → ℕ → List ℕ → ℕ → Kind → Refusal → Type 0
+Refuses states blocks name size kind Range = is_size size ≡ false
+Refuses states blocks name size kind VolumeExists = (is_size size ≡ true) × ((slot : ℕ) × HasName states slot name)
+Refuses states blocks name size kind TooMany = (is_size size ≡ true) × (NoneHasName states name × IsFull states)
+Refuses states blocks name size kind AggregateFull = IsTooMuch states blocks name size kind
+Refuses states blocks name size kind other = ⊥
+
+-- a new volume is admitted, for this slot and with this span
+pub record Admits (states : States) (blocks : ℕ) (name : List ℕ) (size : ℕ) (kind : Kind) (slot span : ℕ) : Type 0 where
+  pub size_is : is_size size ≡ true
+  pub name_is : NoneHasName states name
+  pub free : IsFirstFree states slot
+  pub span_is : span ≡ span_of size 0 0
+  pub room : sum_of states + new_ledger_of size kind ≤ capacity blocks
+
+-- a slot has a new empty volume, and the other slots are as before
+pub record IsMade (old : States) (slot : ℕ) (name : List ℕ) (size : ℕ) (kind : Kind) (new : States) : Type 0 where
+  pub state : VolumeState
+  pub states : new ≡ with_state old slot (Some state)
+  pub head : head_in state ≡ empty_head name size kind (span_of size 0 0)
+
+-- the pool with a container of holes for a slot: not even the blocks of the active map are placed before a consistency point
+abbrev pub with_holes : Pool → ℕ → ℕ → Pool
+with_holes pool slot size = record pool { containers = with_parent (with_container pool.containers slot (Some (empty_map (entry_count (span_of size 0 0))))) slot None }
+
+-- a refusal comes by a rule, and no fault but want of memory
+abbrev pub RefusedBy : (Refusal → Type 0) → VolumeFault → Type 0
+RefusedBy rule (Refused refusal) = rule refusal
+RefusedBy rule DiskFault = ⊥
+RefusedBy rule (Damaged at want found) = ⊥
+RefusedBy rule Memory = Unit {0}

@@ -1,0 +1,7 @@
+pub mod Causes
+pub mod Keeping
+pub mod States
+pub mod Slots
+pub mod Rows
+pub mod Creating
+pub mod Loading

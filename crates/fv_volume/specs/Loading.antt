@@ -1,0 +1,131 @@
+-- Volumes as they are read from their labels.
+use Rattle.std.specs.Prelude.{◌≡◌, ◌≢◌, ◌<◌, ◌≤◌, ◌+◌, ◌-◌, ◌⊎◌, ℕ, Bool, true, not, ◌==◌, if◌then◌else◌, List, length, find, Option, Some, None, IfSome, Result, Ok, Err}
+use Rattle.std.specs.Option.{option_map}
+use Rattle.fv_disk.specs.Shown.{Image}
+use Rattle.fv_bits.specs.Members.{IsFirstPast}
+use Rattle.fv_codec.specs.declared.label.Label.{Label}
+use Rattle.fv_codec.specs.declared.label.SnapRecord.{SnapRecord}
+use Rattle.fv_codec.specs.Blocks.{label_at}
+use Rattle.fv_model.specs.declared.answers.Refusal.{Refusal}
+use Rattle.fv_model.specs.Space.{map_blocks}
+use Rattle.fv_image.specs.Containers.{IsNodeFault}
+use Rattle.fv_image.specs.Views.{entry_count, head_of}
+use Rattle.fv_image.specs.Held.{label_in, label_lying, label_place}
+use Rattle.fv_container.specs.declared.entry.Entry.{Entry}
+use Rattle.fv_container.specs.Mapped.{IsMapped, Mapped, entry_under}
+use Rattle.fv_container.specs.Spelled.{Spelled}
+use Rattle.fv_root.specs.declared.find.Found.{Found}
+use Rattle.fv_root.specs.Finding.{root_found}
+use Rattle.fv_volume.specs.declared.fault.VolumeFault.{VolumeFault}
+use Rattle.fv_volume.specs.declared.fault.VolumeFault.TheVariants.{Refused, DiskFault, Damaged, Memory}
+use Rattle.fv_volume.specs.declared.state.VolumeState.{VolumeState}
+use Rattle.fv_container.specs.Chains.{Slots, container_at, slot_count}
+use Rattle.fv_volume.specs.States.{IsState, States, head_in, state_at}
+
+-- ---- forms that can't be loaded yet
+
+abbrev pub is_used : SnapRecord → Bool
+is_used r = not (r.name_length == 0)
+
+-- the first used record of a snapshot, with the value of a free one and its own
+abbrev pub first_used : List SnapRecord → Option (ℕ × ℕ)
+first_used records = option_map (λ r. (0, r.name_length)) (find is_used records)
+
+-- The first field of a label that is set by a form which can't be loaded yet: a base, an unknown place, a file, a snapshot. It comes
+-- with the value that it has without the form, and the one that it has.
+unfoldable pub form_in : Label → Option (ℕ × ℕ)
+form_in l =
+    if not (l.parent == 0) then Some (0, l.parent)
+    else if l.known == 0 then Some (1, 0)
+    else if not (l.root.stamp == 0) then Some (0, l.root.stamp)
+    else first_used l.snapshots
+
+-- ---- faults
+
+-- a label hasn't its shape, or has a form that can't be loaded
+abbrev pub IsBadLabel : List ℕ → ℕ → VolumeFault → Type 0
+IsBadLabel block place (Refused refusal) = ⊥
+IsBadLabel block place (Damaged at want number) = (at ≡ place) × ((label_at block ≡ Err (record { want = want; found = number })) ⊎ ((l : Label) × ((label_at block ≡ Ok l) × (form_in l ≡ Some (want, number)))))
+IsBadLabel block place DiskFault = Unit {0}
+IsBadLabel block place Memory = ⊥
+
+-- a block of the active map has a bit set past the span: its place, the last VVBN of the span, and the bit's number
+pub record IsPastSpan (i : Image) (map : Mapped) (span at want number : ℕ) : Type 0 where
+  pub index : ℕ
+  pub entry : Entry
+  pub there : entry_under map (span + index) ≡ Some entry
+  pub place : at ≡ entry.pvbn
+  pub last : want ≡ span - 1
+  pub past : IsFirstPast span index (i entry.pvbn) number
+
+abbrev pub IsBadMap : Image → Mapped → ℕ → VolumeFault → Type 0
+IsBadMap i map span (Refused refusal) = ⊥
+IsBadMap i map span (Damaged at want number) = IsPastSpan i map span at want number
+IsBadMap i map span DiskFault = Unit {0}
+IsBadMap i map span Memory = Unit {0}
+
+-- the label of a slot in an image, where it has its shape
+abbrev pub label_of : Found → Image → ℕ → Option Label
+label_of found i s = label_in (label_lying (root_found found) i s)
+
+-- the label of a slot is damaged
+pub record IsLabelFault (i : Image) (found : Found) (at want number : ℕ) : Type 0 where
+  pub slot : ℕ
+  pub place : at ≡ label_place (root_found found) slot
+  pub some : at ≢ 0
+  pub fault : IsBadLabel (i at) at (Damaged at want number)
+
+-- a node of the container of a slot is damaged
+pub record IsTreeFault (i : Image) (found : Found) (at want number : ℕ) : Type 0 where
+  pub slot : ℕ
+  pub label : Label
+  pub lies : label_of found i slot ≡ Some label
+  pub fault : IsNodeFault i label.container label.height (entry_count label.span) at want number
+
+-- the active map of a slot has a bit set past the span
+pub record IsActiveFault (i : Image) (found : Found) (at want number : ℕ) : Type 0 where
+  pub slot : ℕ
+  pub label : Label
+  pub lies : label_of found i slot ≡ Some label
+  pub map : Mapped
+  pub spelled : Spelled i label.container label.height map
+  pub fault : IsPastSpan i map label.span at want number
+
+-- why volumes aren't loaded, where the disk didn't fail and memory didn't run out
+abbrev pub IsLoadFault : Image → Found → VolumeFault → Type 0
+IsLoadFault i found (Refused refusal) = ⊥
+IsLoadFault i found (Damaged at want number) = IsLabelFault i found at want number ⊎ (IsTreeFault i found at want number ⊎ IsActiveFault i found at want number)
+IsLoadFault i found DiskFault = Unit {0}
+IsLoadFault i found Memory = Unit {0}
+
+-- ---- what is loaded
+
+-- a container is the one that a label names
+abbrev pub IsContainerOf : Image → Option Label → Option Mapped → Type 0
+IsContainerOf i None None = Unit {0}
+IsContainerOf i None (Some map) = ⊥
+IsContainerOf i (Some l) None = ⊥
+IsContainerOf i (Some l) (Some map) = Spelled i l.container l.height map × ((length map.entries ≡ entry_count l.span) × IsMapped map)
+
+-- a slot's volume has the head that its label says, and its container is the one that the label names
+pub record IsLoaded (i : Image) (found : Found) (s : ℕ) (state : Option VolumeState) (container : Option Mapped) : Type 0 where
+  pub head : option_map head_in state ≡ option_map head_of (label_of found i s)
+  pub tree : IsContainerOf i (label_of found i s) container
+
+-- a node of a label's container is damaged
+abbrev pub IsBadTree : Image → Label → VolumeFault → Type 0
+IsBadTree i l (Refused refusal) = ⊥
+IsBadTree i l (Damaged at want number) = IsNodeFault i l.container l.height (entry_count l.span) at want number
+IsBadTree i l DiskFault = Unit {0}
+IsBadTree i l Memory = Unit {0}
+
+-- the volumes of the first slots are loaded
+pub record LoadedTo (i : Image) (found : Found) (count : ℕ) (states : States) (containers : Slots) : Type 0 where
+  pub each : (s : ℕ) → s < count → IsLoaded i found s (state_at states s) (container_at containers s)
+
+-- the first slots are filled, and the others have no container yet
+pub record KeptTo (count : ℕ) (states : States) (containers : Slots) : Type 0 where
+  pub long : length states ≡ count
+  pub few : length containers.containers ≡ slot_count
+  pub free : (s : ℕ) → count ≤ s → container_at containers s ≡ None
+  pub each : (s : ℕ) → IfSome (state_at states s) (IsState s)

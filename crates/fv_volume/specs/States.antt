@@ -1,0 +1,129 @@
+-- Volumes as they are kept in memory, as heads; what a pool and volumes tell of together; and when they are volumes of a machine.
+use Rattle.std.specs.Prelude.{◌≡◌, ◌<◌, ◌≤◌, ◌*◌, ℕ, Bool, true, List, [], ◌∷◌, flat_map, map, length, slice_set, slice_index_or, Option, Some, None, IfSome, IsSome}
+use Rattle.std.specs.Option.{option_map}
+use Rattle.std.specs.FinMap as fin
+use Rattle.fv_disk.specs.Shown.{Image}
+use Rattle.fv_codec.specs.declared.pointer.Pointer.{Pointer}
+use Rattle.fv_model.specs.declared.commands.Kind.{Kind}
+use Rattle.fv_model.specs.Numbers.{greatest_span}
+use Rattle.fv_model.specs.Spelling.{name_cmp}
+use Rattle.fv_model.specs.Volumes.{Volume}
+use Rattle.fv_model.specs.Machines.{Machine}
+use Rattle.fv_image.specs.Views.{Footing, Head, Placed, View, Rooted as Table, Snap as HeadSnap}
+use Rattle.fv_image.specs.Told.{is_plain, named_volume, told, volume_of}
+use Rattle.fv_charge.specs.declared.ledger.Ledger.{Ledger}
+use Rattle.fv_charge.specs.Ledgers.{IsLedgerOf}
+use Rattle.fv_container.specs.declared.entry.Entry.{Entry}
+use Rattle.fv_container.specs.Chains.{Slots, container_at, own_entry}
+use Rattle.fv_root.specs.declared.find.Found.{Found}
+use Rattle.fv_volume.specs.declared.state.Base.{Base}
+use Rattle.fv_volume.specs.declared.state.Rooted.{Rooted}
+use Rattle.fv_volume.specs.declared.state.Snap.{Snap}
+use Rattle.fv_volume.specs.declared.state.VolumeState.{VolumeState}
+use Rattle.fv_volume.specs.declared.pool.Pool.{Pool}
+use Rattle.fv_volume.specs.Keeping.{Blocks, seen}
+
+-- ---- heads
+
+abbrev pub table_in : Rooted → Table
+table_in t = record { levels = t.levels; root = t.root }
+
+abbrev pub footing_in : Base → Footing
+footing_in b = record { parent = b.parent; slot = b.slot; splitting = b.splitting }
+
+abbrev pub snap_in : Snap → HeadSnap
+snap_in s = record { slot = s.slot; name = s.name; table = table_in s.table }
+
+-- what a volume's label would say of it
+abbrev pub head_in : VolumeState → Head
+head_in x = record {
+  name = x.name;
+  kind = x.kind;
+  size = x.size;
+  most = x.most;
+  span = x.span;
+  now = x.now;
+  base = option_map footing_in x.base;
+  known = x.known;
+  active = table_in x.active;
+  snapshots = map snap_in x.snapshots;
+}
+
+-- a pointer that leads nowhere
+abbrev pub hole : Pointer
+hole = record { vvbn = 0; pvbn = 0; stamp = 0 }
+
+-- the head of a new empty volume
+abbrev pub empty_head : List ℕ → ℕ → Kind → ℕ → Head
+empty_head name size kind span = record {
+  name = name;
+  kind = kind;
+  size = size;
+  most = 2 * size;
+  span = span;
+  now = 0;
+  base = None;
+  known = true;
+  active = record { levels = 0; root = hole };
+  snapshots = [];
+}
+
+abbrev pub ledger_of_empty : ℕ → Kind → ℕ → Ledger
+ledger_of_empty size kind span = record { charge = 0; need = 0; size = size; kind = kind; span = span }
+
+-- ---- a session
+
+-- the volumes by slot
+abbrev pub States : Type 0
+States = List (Option VolumeState)
+
+abbrev pub state_at : States → ℕ → Option VolumeState
+state_at states slot = slice_index_or states slot None
+
+abbrev pub with_state : States → ℕ → Option VolumeState → States
+with_state states slot state = slice_set states slot state
+
+-- an entry with the block that it holds: the kept one, or what stands on the disk
+abbrev pub placed_in : Blocks → Image → Option Entry → Option Placed
+placed_in kept i None = None
+placed_in kept i (Some e) = Some (record { pvbn = e.pvbn; kind = e.kind; block = seen kept i e.pvbn })
+
+-- What a pool and volumes tell of, over what the disk reads: the heads of the volumes, the entries of their containers, and the
+-- kept blocks before those of the disk.
+unfoldable pub view_over : Pool → States → Image → View
+view_over pool states i = record {
+  blocks = pool.found.blocks;
+  version = pool.found.root.version;
+  head = λ s. option_map head_in (state_at states s);
+  entry = λ s v. placed_in pool.kept i (own_entry (container_at pool.containers s) v);
+}
+
+-- the machine that they stand for; it depends on no block
+abbrev pub machine_in : Pool → States → Image → Machine
+machine_in pool states i = told (view_over pool states i)
+
+-- ---- when they are volumes of a machine
+
+-- a volume with its name, or nothing
+abbrev pub named_state : Option VolumeState → List (List ℕ × Volume)
+named_state x = named_volume (option_map head_in x)
+
+-- the volumes with their names in the order of their slots
+abbrev pub named_states : States → List (List ℕ × Volume)
+named_states states = flat_map named_state states
+
+-- no name stands twice
+abbrev pub AreDistinct : List (List ℕ × Volume) → Type 0
+AreDistinct [] = Unit {0}
+AreDistinct (e ∷ es) = (fin.find name_cmp e.0 es ≡ None) × AreDistinct es
+
+-- a volume that is told whole, in its slot, with its ledger
+pub record IsState (slot : ℕ) (x : VolumeState) : Type 0 where
+  pub slot_is : x.slot ≡ slot
+  pub plain : is_plain (head_in x) ≡ true
+  pub span : x.span ≤ greatest_span
+  pub ledger : IsLedgerOf (volume_of (head_in x)) x.ledger
+
+pub record AreStates (states : States) : Type 0 where
+  pub each : (s : ℕ) → IfSome (state_at states s) (IsState s)
+  pub names : AreDistinct (named_states states)

@@ -1,0 +1,20 @@
+//! The volumes of an aggregate, and what they share: reads through a cache, the aggregate map, the containers, and the blocks that
+//! were placed and aren't written yet. `docs/SPACE.md` says when those are written.
+#![tactic(auto)]
+
+mod admit;
+mod fault;
+mod kept;
+mod labels;
+mod load;
+mod pool;
+mod search;
+mod sizes;
+mod state;
+mod volumes;
+
+pub use fault::VolumeFault;
+pub use kept::Kept;
+pub use pool::Pool;
+pub use state::{Base, Rooted, Snap, Snapshots, VolumeState};
+pub use volumes::Volumes;

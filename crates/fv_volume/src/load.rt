@@ -1,0 +1,258 @@
+//! Reading the volumes of a root: labels, containers and active maps.
+
+ghost use Rattle.std.specs.Prelude.{◌≡◌, ◌≢◌, ◌<◌, ◌≤◌, ◌+◌, ◌*◌, ℕ, length, None, Some, IfOk, IfErr, IfSome, OnOk, OnErr, IsTrue, get_or, ◌++◌, ◌∷◌, []};
+ghost use Rattle.fv_codec.specs.Blocks.{IsLabel, label_at};
+ghost use Rattle.fv_container.specs.Chains.{container_at, no_containers, slot_count, with_container, with_parent};
+ghost use Rattle.fv_container.specs.Mapped.{IsMapped};
+ghost use Rattle.fv_container.specs.Spelled.{Spelled, IsFault};
+ghost use Rattle.fv_disk.specs.DiskCalls.{OnlyReads};
+ghost use Rattle.fv_image.specs.Views.{entry_count, head_of};
+ghost use Rattle.fv_model.specs.Numbers.{greatest_span};
+ghost use Rattle.fv_model.specs.Space.{map_blocks};
+ghost use Rattle.fv_store.specs.Held.{StandsOn};
+ghost use Rattle.fv_volume.specs.Causes.{HasCause, of_container};
+ghost use Rattle.fv_volume.specs.Loading.{IsBadLabel, IsBadMap, IsBadTree, IsLoadFault, IsLoaded, KeptTo, LoadedTo, form_in};
+ghost use Rattle.fv_volume.specs.States.{IsState, head_in, state_at};
+
+use crate::fault::VolumeFault;
+use crate::labels::read_label;
+use crate::sizes::entry_count;
+use crate::state::VolumeState;
+use fv_codec::Label;
+use fv_container::{Container, Containers};
+use fv_disk::{Block, Disk};
+use fv_root::Found;
+use fv_store::Store;
+use fv_volmap::VolMap;
+use std::alloc::{AllocError, Global};
+
+const ZERO: Block = [0; 4096];
+
+/// Takes block `index` of the active map, where the container has it.
+fn read_map_block<D: Disk>(
+    store: &mut Store,
+    disk: &mut D,
+    container: &Container,
+    map: &mut VolMap,
+    span: u32,
+    index: u32,
+) -> Result<(), VolumeFault>
+    requires stands { StandsOn (D.shown disk.old) store.old.pairs }
+    requires span { span ≤ greatest_span }
+    requires least { 1 ≤ span }
+    requires map { map.old.span ≡ span }
+    requires entries { length container.now.entries ≡ entry_count span }
+    requires within { index < map_blocks span }
+    ensures map { map.new.span ≡ map.old.span }
+    ensures fault { IsTrue (D.shown disk.old).tells → IfErr result (IsBadMap (D.shown disk.old).reads container.now span) }
+    ensures only_reads { OnlyReads (D.shown disk.old) (D.shown disk.new) }
+    ensures stands { StandsOn (D.shown disk.new) store.new.pairs }
+    ensures cause { HasCause (D.shown disk.old).faults (D.shown disk.new).faults result }
+{
+    let Some(entry) = container.entry_at(span + index) else {
+        return Ok(());
+    };
+    let mut block = ZERO;
+    store.get(disk, entry.pvbn, &mut block)?;
+    match map.load_slot(0, index, &block)? {
+        None => Ok(()),
+        Some(number) => Err(VolumeFault::Damaged {
+            at: u64::from(entry.pvbn),
+            want: u64::from(span) - 1,
+            found: u64::from(number),
+        }),
+    }
+}
+
+/// Reads the active map of a volume with this span.
+fn read_map<D: Disk>(
+    alloc: Global,
+    store: &mut Store,
+    disk: &mut D,
+    container: &Container,
+    span: u32,
+) -> Result<VolMap, VolumeFault>
+    requires stands { StandsOn (D.shown disk.old) store.old.pairs }
+    requires span { span ≤ greatest_span }
+    requires least { 1 ≤ span }
+    requires entries { length container.now.entries ≡ entry_count span }
+    ensures map { IfOk result (λ map. map.span ≡ span) }
+    ensures fault { IsTrue (D.shown disk.old).tells → IfErr result (IsBadMap (D.shown disk.old).reads container.now span) }
+    ensures only_reads { OnlyReads (D.shown disk.old) (D.shown disk.new) }
+    ensures stands { StandsOn (D.shown disk.new) store.new.pairs }
+    ensures cause { HasCause (D.shown disk.old).faults (D.shown disk.new).faults result }
+{
+    let mut map = VolMap::new(alloc, span)?;
+    read_map_blocks(store, disk, container, &mut map, span)?;
+    Ok(map)
+}
+
+/// Takes all blocks of the active map.
+fn read_map_blocks<D: Disk>(
+    store: &mut Store,
+    disk: &mut D,
+    container: &Container,
+    map: &mut VolMap,
+    span: u32,
+) -> Result<(), VolumeFault>
+    requires stands { StandsOn (D.shown disk.old) store.old.pairs }
+    requires span { span ≤ greatest_span }
+    requires least { 1 ≤ span }
+    requires map { map.old.span ≡ span }
+    requires entries { length container.now.entries ≡ entry_count span }
+    ensures map { map.new.span ≡ map.old.span }
+    ensures fault { IsTrue (D.shown disk.old).tells → IfErr result (IsBadMap (D.shown disk.old).reads container.now span) }
+    ensures only_reads { OnlyReads (D.shown disk.old) (D.shown disk.new) }
+    ensures stands { StandsOn (D.shown disk.new) store.new.pairs }
+    ensures cause { HasCause (D.shown disk.old).faults (D.shown disk.new).faults result }
+{
+    for index in 0..span.div_ceil(32_768) {
+        read_map_block(store, disk, container, map, span, index)?;
+    }
+    Ok(())
+}
+
+/// Reads the container that a label names.
+fn read_container<D: Disk>(
+    alloc: Global,
+    store: &mut Store,
+    disk: &mut D,
+    label: &Label,
+) -> Result<Container, VolumeFault>
+    requires stands { StandsOn (D.shown disk.old) store.old.pairs }
+    requires range { IsLabel label.now }
+    ensures spelled { IsTrue (D.shown disk.old).tells → IfOk result (Spelled (D.shown disk.old).reads label.entry.now.container label.entry.now.height) }
+    ensures size { IfOk result (λ container. length container.entries ≡ entry_count label.entry.now.span) }
+    ensures valid { IfOk result IsMapped }
+    ensures fault { IsTrue (D.shown disk.old).tells → IfErr result (IsBadTree (D.shown disk.old).reads label.entry.now) }
+    ensures only_reads { OnlyReads (D.shown disk.old) (D.shown disk.new) }
+    ensures stands { StandsOn (D.shown disk.new) store.new.pairs }
+    ensures cause { HasCause (D.shown disk.old).faults (D.shown disk.new).faults result }
+{
+    Ok(Container::at(
+        alloc,
+        store,
+        disk,
+        entry_count(label.span),
+        label.height,
+        label.container,
+    )?)
+}
+
+/// Reads the volume of a slot below 64, if it has one, and puts its container into that slot.
+#[tactic(auto, using(fv_disk::proofs::Resting::reads_then))]
+fn load_volume<D: Disk>(
+    alloc: Global,
+    store: &mut Store,
+    disk: &mut D,
+    found: &Found,
+    containers: &mut Containers,
+    slot: u8,
+) -> Result<Option<VolumeState>, VolumeFault>
+    requires stands { StandsOn (D.shown disk.old) store.old.pairs }
+    requires slot { slot < slot_count }
+    requires few { length containers.old.containers ≡ slot_count }
+    ensures few { length containers.new.containers ≡ slot_count }
+    ensures others { (s : ℕ) → s ≢ slot → container_at containers.new s ≡ container_at containers.old s }
+    ensures loaded { IsTrue (D.shown disk.old).tells → container_at containers.old slot ≡ None
+        → IfOk result (λ state. IsLoaded (D.shown disk.old).reads found.now slot state (container_at containers.new slot)) }
+    ensures state { IfOk result (λ state. IfSome state (IsState slot)) }
+    ensures fault { IsTrue (D.shown disk.old).tells → IfErr result (IsLoadFault (D.shown disk.old).reads found.now) }
+    ensures only_reads { OnlyReads (D.shown disk.old) (D.shown disk.new) }
+    ensures stands { StandsOn (D.shown disk.new) store.new.pairs }
+    ensures cause { HasCause (D.shown disk.old).faults (D.shown disk.new).faults result }
+{
+    let place = found.root.labels[slot as usize];
+    if place == 0 {
+        return Ok(None);
+    }
+    let label = read_label(store, disk, place)?;
+    let container = read_container(alloc, store, disk, &label)?;
+    let map = read_map(alloc, store, disk, &container, label.span)?;
+    containers.put(slot, container, None);
+    Ok(Some(VolumeState::of_label(alloc, slot, place, &label, map)))
+}
+
+/// Reads the volume of the next slot.
+#[tactic(auto, using(crate::proofs::Stepping::loaded_more, crate::proofs::Stepping::kept_more))]
+fn load_next<D: Disk>(
+    alloc: Global,
+    store: &mut Store,
+    disk: &mut D,
+    found: &Found,
+    containers: &mut Containers,
+    states: &mut Vec<Option<VolumeState>>,
+    slot: u8,
+) -> Result<(), VolumeFault>
+    requires stands { StandsOn (D.shown disk.old) store.old.pairs }
+    requires slot { slot < slot_count }
+    requires kept { KeptTo slot states.old.items containers.old }
+    ensures kept { OnOk result (KeptTo (slot + 1) states.new.items containers.new) }
+    ensures loaded { IsTrue (D.shown disk.old).tells → LoadedTo (D.shown disk.old).reads found.now slot states.old.items containers.old
+        → OnOk result (LoadedTo (D.shown disk.old).reads found.now (slot + 1) states.new.items containers.new) }
+    ensures fault { IsTrue (D.shown disk.old).tells → IfErr result (IsLoadFault (D.shown disk.old).reads found.now) }
+    ensures only_reads { OnlyReads (D.shown disk.old) (D.shown disk.new) }
+    ensures stands { StandsOn (D.shown disk.new) store.new.pairs }
+    ensures cause { HasCause (D.shown disk.old).faults (D.shown disk.new).faults result }
+{
+    let state = load_volume(alloc, store, disk, found, containers, slot)?;
+    add(states, state)?;
+    Ok(())
+}
+
+/// Adds a slot; where no memory is found the slots stay.
+fn add(states: &mut Vec<Option<VolumeState>>, state: Option<VolumeState>) -> Result<(), AllocError>
+    ensures added { OnOk result (states.new.items ≡ states.old.items ++ state ∷ []) }
+    ensures failed { OnErr result (states.new.items ≡ states.old.items) }
+{
+    match states.push(state) {
+        Ok(()) => Ok(()),
+        Err(fault) => Err(AllocError::from(fault)),
+    }
+}
+
+/// Reads the volumes of all slots.
+fn load_volumes<D: Disk>(
+    alloc: Global,
+    store: &mut Store,
+    disk: &mut D,
+    found: &Found,
+    containers: &mut Containers,
+    states: &mut Vec<Option<VolumeState>>,
+) -> Result<(), VolumeFault>
+    requires stands { StandsOn (D.shown disk.old) store.old.pairs }
+    requires kept { KeptTo 0 states.old.items containers.old }
+    ensures kept { OnOk result (KeptTo slot_count states.new.items containers.new) }
+    ensures loaded { IsTrue (D.shown disk.old).tells → OnOk result (LoadedTo (D.shown disk.old).reads found.now slot_count states.new.items containers.new) }
+    ensures fault { IsTrue (D.shown disk.old).tells → IfErr result (IsLoadFault (D.shown disk.old).reads found.now) }
+    ensures only_reads { OnlyReads (D.shown disk.old) (D.shown disk.new) }
+    ensures stands { StandsOn (D.shown disk.new) store.new.pairs }
+    ensures cause { HasCause (D.shown disk.old).faults (D.shown disk.new).faults result }
+{
+    for slot in 0..64 {
+        load_next(alloc, store, disk, found, containers, states, slot)?;
+    }
+    Ok(())
+}
+
+/// Reads the volumes of all slots, and puts their containers into the slots of `containers`, which has none.
+pub(crate) fn load_states<D: Disk>(
+    alloc: Global,
+    store: &mut Store,
+    disk: &mut D,
+    found: &Found,
+    containers: &mut Containers,
+) -> Result<Vec<Option<VolumeState>>, VolumeFault>
+    requires stands { StandsOn (D.shown disk.old) store.old.pairs }
+    requires none { containers.old ≡ no_containers }
+    ensures kept { IfOk result (λ states. KeptTo slot_count states.items containers.new) }
+    ensures loaded { IsTrue (D.shown disk.old).tells → IfOk result (λ states. LoadedTo (D.shown disk.old).reads found.now slot_count states.items containers.new) }
+    ensures fault { IsTrue (D.shown disk.old).tells → IfErr result (IsLoadFault (D.shown disk.old).reads found.now) }
+    ensures only_reads { OnlyReads (D.shown disk.old) (D.shown disk.new) }
+    ensures stands { StandsOn (D.shown disk.new) store.new.pairs }
+    ensures cause { HasCause (D.shown disk.old).faults (D.shown disk.new).faults result }
+{
+    let mut states = Vec::new(alloc);
+    load_volumes(alloc, store, disk, found, containers, &mut states)?;
+    Ok(states)
+}

@@ -1,0 +1,16 @@
+//! How large a container is.
+
+ghost use Rattle.std.specs.Prelude.{◌≡◌, ◌≤◌};
+ghost use Rattle.fv_image.specs.Containers.{most_entries};
+ghost use Rattle.fv_image.specs.Views.{entry_count};
+ghost use Rattle.fv_model.specs.Numbers.{greatest_span};
+
+/// The entries of the container of a volume of this span: one for each VVBN of the span and for each block
+/// of 25 maps.
+pub(crate) fn entry_count(span: u32) -> u32
+    requires { span ≤ greatest_span }
+    ensures value { result ≡ entry_count span }
+    ensures most { result ≤ most_entries }
+{
+    span + 25 * span.div_ceil(32_768)
+}

@@ -1,0 +1,229 @@
+//! One volume, as it is kept in memory.
+
+ghost use Rattle.std.specs.Prelude.{◌≡◌, ◌≤◌, ◌*◌, ◌∷◌, [], Bool, false, true, None, IfOk};
+ghost use Rattle.fv_model.specs.Numbers.{greatest_span};
+ghost use Rattle.fv_codec.specs.Blocks.{IsLabel};
+ghost use Rattle.fv_image.specs.Views.{head_of, kind_named};
+ghost use Rattle.fv_volume.specs.Loading.{form_in};
+ghost use Rattle.fv_volume.specs.States.{empty_head, head_in, ledger_of_empty};
+
+use crate::labels::{kind_of, name_of};
+use fv_charge::Ledger;
+use fv_codec::{Label, Pointer};
+use fv_model::{Kind, Name};
+use fv_volmap::VolMap;
+use std::alloc::{AllocError, Global};
+use std::marker::Model;
+
+/// A pointer that leads nowhere.
+const HOLE: Pointer = Pointer {
+    vvbn: 0,
+    pvbn: 0,
+    stamp: 0,
+};
+
+/// A table as a label names it.
+#[derive(Clone, Copy, Debug, PartialEq, Eq)]
+pub struct Rooted {
+    /// How many levels of nodes the inode file has, 0 to 2.
+    pub levels: u8,
+    /// The pointer to the root of the inode file; a hole where there are no files.
+    pub root: Pointer,
+}
+
+/// What a clone stands on.
+#[derive(Clone, Copy, Debug, PartialEq, Eq)]
+pub struct Base {
+    /// The slot of its parent, below 64.
+    pub parent: u8,
+    /// The map slot of the parent's snapshot, 1 to 24.
+    pub slot: u8,
+    /// Whether it is being split from it.
+    pub splitting: bool,
+}
+
+/// A snapshot.
+#[derive(Debug, Drop)]
+pub struct Snap {
+    /// Its map slot, 1 to 24.
+    pub slot: u8,
+    /// Its name.
+    pub name: Name,
+    /// Its table.
+    pub table: Rooted,
+}
+
+/// The snapshots of a volume. Contracts see the list of them.
+#[derive(Debug, Drop)]
+pub struct Snapshots {
+    snaps: Vec<Snap>,
+}
+
+impl Model for Snapshots {
+    ghost use Rattle.std.specs.Prelude.{List};
+    ghost use Rattle.fv_volume.specs.declared.state.Snap.{Snap};
+
+    ghost Value = { List Snap };
+
+    ghost view = { λ s. s.snaps.items };
+}
+
+impl Snapshots {
+    /// No snapshots. It takes no memory.
+    pub fn new(alloc: Global) -> Snapshots
+        ensures { result ≡ [] }
+    {
+        Snapshots {
+            snaps: Vec::new(alloc),
+        }
+    }
+
+    /// The snapshots in the order of their slots.
+    pub fn as_slice(&self) -> &[Snap]
+        ensures { result.now ≡ self.now }
+    {
+        self.snaps.as_slice()
+    }
+}
+
+/// One volume.
+#[derive(Drop)]
+pub struct VolumeState {
+    /// Its slot, below 64, among the volumes and among the pool's containers.
+    pub slot: u8,
+    /// Its name.
+    pub name: Name,
+    /// Its kind of guarantee.
+    pub kind: Kind,
+    /// Its size in blocks, 1 to 500,000.
+    pub size: u32,
+    /// The greatest size in blocks that it may get: twice its first size.
+    pub most: u32,
+    /// How many VVBNs there are for data, a multiple of 4096 up to 1,048,576.
+    pub span: u32,
+    /// The stamp of its last change.
+    pub now: u64,
+    /// Whether every place is known.
+    pub known: bool,
+    /// What it stands on, for a clone.
+    pub base: Option<Base>,
+    /// The active table.
+    pub active: Rooted,
+    /// The snapshots.
+    pub snapshots: Snapshots,
+    /// The maps of the active table and of the snapshots.
+    pub map: VolMap,
+    /// What it is charged for, needs and commits.
+    pub ledger: Ledger,
+    /// Where the label lies that the root on the disk names; 0 where there is none yet.
+    label: u32,
+    /// Whether something changed since the last consistency point.
+    changed: bool,
+}
+
+impl VolumeState {
+    /// A new empty volume of this size, for a slot. The one error is want of memory.
+    pub(crate) fn empty(
+        alloc: Global,
+        slot: u8,
+        name: &Name,
+        size: u32,
+        kind: Kind,
+        span: u32,
+    ) -> Result<VolumeState, AllocError>
+        requires { size ≤ 500000 }
+        ensures slot { IfOk result (λ state. state.slot ≡ slot) }
+        ensures head { IfOk result (λ state. head_in state ≡ empty_head name.now size kind span) }
+        ensures ledger { IfOk result (λ state. state.ledger ≡ ledger_of_empty size kind span) }
+    {
+        Ok(VolumeState {
+            slot,
+            name: *name,
+            kind,
+            size,
+            most: 2 * size,
+            span,
+            now: 0,
+            known: true,
+            base: None,
+            active: Rooted {
+                levels: 0,
+                root: HOLE,
+            },
+            snapshots: Snapshots::new(alloc),
+            map: VolMap::new(alloc, span)?,
+            ledger: new_ledger(size, kind, span),
+            label: 0,
+            changed: true,
+        })
+    }
+
+    /// The volume that a label at this PVBN says, for a slot, with the map of its active table. The label has
+    /// no form that can't be loaded.
+    pub(crate) fn of_label(
+        alloc: Global,
+        slot: u8,
+        place: u32,
+        label: &Label,
+        map: VolMap,
+    ) -> VolumeState
+        requires range { IsLabel label.now }
+        requires plain { form_in label.now ≡ None }
+        ensures slot { result.slot ≡ slot }
+        ensures head { head_in result ≡ head_of label.entry.now }
+        ensures ledger { result.ledger ≡ ledger_of_empty label.entry.now.size (kind_named label.entry.now.kind) label.entry.now.span }
+    {
+        let kind = kind_of(label);
+        VolumeState {
+            slot,
+            name: name_of(label),
+            kind,
+            size: label.size,
+            most: label.most,
+            span: label.span,
+            now: label.now,
+            known: label.known == 1,
+            base: None,
+            active: Rooted {
+                levels: label.levels,
+                root: label.root,
+            },
+            snapshots: Snapshots::new(alloc),
+            map,
+            ledger: new_ledger(label.size, kind, label.span),
+            label: place,
+            changed: false,
+        }
+    }
+
+    /// Where the label lies that the root on the disk names, a PVBN; 0 where there is none yet.
+    pub fn label_place(&self) -> u32 {
+        self.label
+    }
+
+    /// Whether something changed since the last consistency point.
+    pub fn is_changed(&self) -> bool {
+        self.changed
+    }
+
+    /// Says that the root on the disk names a label of this volume as it is now, at this PVBN.
+    pub fn settled(&mut self, label: u32)
+        ensures { head_in self.new ≡ head_in self.old }
+    {
+        self.label = label;
+        self.changed = false;
+    }
+}
+
+/// The ledger of an empty volume.
+pub(crate) fn new_ledger(size: u32, kind: Kind, span: u32) -> Ledger
+    ensures { result ≡ ledger_of_empty size kind span }
+{
+    Ledger {
+        charge: 0,
+        need: 0,
+        size,
+        kind,
+        span,
+    }
+}
