@@ -1,7 +1,7 @@
 -- What the calls of the aggregate map do to its free blocks.
-use Rattle.std.proofs.Common.{◌≡◌, ◌<◌, ◌≤◌, ◌+◌, ◌-◌, ℕ, zero, suc, Bool, true, false, cond, not, ◌||◌, ◌==◌, List, [], ◌∷◌, length, set as put, Option, Some, None, nat_lt, refl, sym, ap, ◌∙◌, ⊎_elim, inl, inr, arith}
-use Rattle.std.specs.Prelude.{◌&&◌, ◌⊎◌, nat_le, nat_eq, min, filter, count_by, IfSome, IfNone}
-use Rattle.std.specs.List.{range_with_len, list_any}
+use Rattle.std.proofs.Common.{◌≡◌, ◌<◌, ◌≤◌, ◌+◌, ◌-◌, ℕ, zero, suc, Bool, true, false, cond, not, ◌||◌, ◌==◌, ◌∷◌, length, set as put, Option, Some, None, nat_lt, refl, sym, ap, ◌∙◌, ⊎_elim, inl, inr, arith}
+use Rattle.std.specs.Prelude.{◌&&◌, nat_le, nat_eq, min, filter, IfSome, IfNone}
+use Rattle.std.specs.List.{range_with_len}
 use Rattle.std.specs.Ordering.{nat_cmp, eq_by_cmp}
 use Rattle.std.specs.Cmp.{nat_cmp_total}
 use Rattle.std.specs.FinSet as set
@@ -12,8 +12,8 @@ use Rattle.fv_bits.proofs.Counts.{passing, passing-suc}
 use Rattle.fv_bits.proofs.Laws.{is_member-set, is_member_past}
 use Rattle.fv_model.specs.Machines.{first_block}
 use Rattle.fv_root.specs.Formatted.{IsSize}
-use Rattle.fv_container.specs.Freeing.{Room, Takes, Releases}
-use Rattle.fv_aggmap.specs.Space.{Space, IsFree, IsFull, is_held, blocks_of, free_blocks, free_from}
+use Rattle.fv_container.specs.Freeing.{Takes, Releases}
+use Rattle.fv_aggmap.specs.Space.{Space, IsFree, IsFull, blocks_of, free_blocks, free_from}
 use Rattle.fv_aggmap.specs.Freeing.{any_filter, any_range, free_has, in_range, is_clear, room_of}
 
 -- the space with another bit in the next set

@@ -1,5 +1,5 @@
 -- The label of a slot, as it was read; what is loaded from it, and why it isn't.
-use Rattle.std.proofs.Common.{◌≡◌, ◌≢◌, ◌<◌, ℕ, zero, suc, Bool, true, cond, nat_lt, List, length, Option, Some, None, get_or, inl, inr, refl, sym, ap, subst, ◌∙◌, arith}
+use Rattle.std.proofs.Common.{◌≡◌, ◌≢◌, ◌<◌, ℕ, zero, suc, true, cond, nat_lt, List, length, Option, Some, None, get_or, inl, inr, refl, sym, ap, subst, ◌∙◌, arith}
 use Rattle.std.specs.Prelude.{◌⊎◌, IfErr, Result, Ok, Err}
 use Rattle.std.specs.Result.{IsErrAnd}
 use Rattle.std.specs.Option.{option_map}
@@ -9,7 +9,7 @@ use Rattle.fv_codec.specs.declared.label.Label.{Label}
 use Rattle.fv_codec.specs.Blocks.{label_at}
 use Rattle.fv_image.specs.Containers.{shaped}
 use Rattle.fv_image.specs.Views.{entry_count, head_of}
-use Rattle.fv_image.specs.Held.{Lying, label_in, label_place, lying_at}
+use Rattle.fv_image.specs.Held.{label_in, label_place, lying_at}
 use Rattle.fv_container.specs.declared.fault.ContainerFault.{ContainerFault}
 use Rattle.fv_container.specs.declared.fault.ContainerFault.TheVariants as container
 use Rattle.std.proofs.lemmas.List.{get_or-set_same}

@@ -1,6 +1,6 @@
 -- What is loaded from a label, as a volume.
-use Rattle.std.proofs.Common.{◌≡◌, ℕ, Bool, nat_eq, map, subst, true, false, List, [], ◌∷◌, Option, Some, None, refl, sym, ap, ◌∙◌, ⊎_elim, arith}
-use Rattle.std.specs.Prelude.{not, ◌==◌, ◌+◌, ◌-◌, ◌≤◌, ◌&&◌, find, take, if◌then◌else◌}
+use Rattle.std.proofs.Common.{◌≡◌, ℕ, Bool, nat_eq, map, subst, true, false, List, [], ◌∷◌, Some, None, refl, sym, ap, ◌∙◌, arith}
+use Rattle.std.specs.Prelude.{not, ◌==◌, ◌+◌, ◌-◌, ◌&&◌, find, take, if◌then◌else◌}
 use Rattle.std.specs.Option.{is_none, option_map}
 use Rattle.fv_model.specs.declared.commands.Kind.{Kind}
 use Rattle.fv_model.specs.Space.{use_of}
@@ -11,12 +11,11 @@ use Rattle.fv_codec.proofs.Numbers.{up_to-le}
 use Rattle.fv_volume.specs.declared.state.Snap.{Snap as StateSnap}
 use Rattle.fv_volume.specs.declared.state.VolumeState.{VolumeState}
 use Rattle.fv_volume.specs.States.{IsState, head_in, ledger_of_empty, snap_in}
-use Rattle.std.proofs.lemmas.Bool.{cases_Bool}
 use Rattle.std.proofs.lemmas.Bool.Decides.{nat_tests}
 use Rattle.fv_codec.specs.declared.label.Label.{Label}
 use Rattle.fv_codec.specs.declared.label.SnapRecord.{SnapRecord}
 use Rattle.fv_codec.specs.Blocks.{IsLabel}
-use Rattle.fv_image.specs.Views.{Footing, Head, Snap, footing_of, head_of, kind_named, snaps_from}
+use Rattle.fv_image.specs.Views.{Head, footing_of, head_of, kind_named, snaps_from}
 use Rattle.fv_image.specs.Told.{is_plain}
 use Rattle.fv_volume.specs.Loading.{first_used, form_in, is_used}
 

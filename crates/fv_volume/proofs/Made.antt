@@ -1,6 +1,6 @@
 -- A new volume, and the machine with it.
-use Rattle.std.proofs.Common.{◌≡◌, ◌≢◌, ◌<◌, ◌≤◌, ◌+◌, ◌*◌, ℕ, Bool, true, false, cond, not, nat_lt, List, [], ◌∷◌, length, Option, Some, None, sum_by, true≢false, refl, sym, ap, subst, ◌∙◌, ⊎_elim, arith, length-set}
-use Rattle.std.specs.Prelude.{IfErr, IfSome, IsSome, Result, Ok, Err, nat_le}
+use Rattle.std.proofs.Common.{◌≡◌, ◌≢◌, ◌<◌, ◌≤◌, ◌+◌, ℕ, Bool, true, false, cond, not, List, [], length, Option, Some, None, sum_by, refl, sym, ap, subst, ◌∙◌, ⊎_elim, arith, length-set}
+use Rattle.std.specs.Prelude.{IfErr, IfSome, Result, Ok, Err}
 use Rattle.std.specs.Result.{IsErrAnd}
 use Rattle.std.specs.Option.{is_some}
 use Rattle.std.specs.FinMap as fin
@@ -14,26 +14,24 @@ use Rattle.fv_model.specs.declared.answers.Refusal.{Refusal}
 use Rattle.fv_model.specs.declared.answers.Refusal.TheVariants.{Syntax, NoVolume, VolumeExists, NoFile, FileExists, NoSnapshot, SnapshotExists, VolumeFull, AggregateFull, Range, TooMany, SnapshotInUse, VolumeInUse, NotClone, ParentNotClean, WrongKind}
 use Rattle.fv_model.specs.declared.commands.Command.TheVariants.{VolCreate}
 use Rattle.fv_model.specs.declared.commands.Kind.{Kind}
-use Rattle.fv_model.specs.Numbers.{greatest_span, is_size, most_volumes}
+use Rattle.fv_model.specs.Numbers.{greatest_span, is_size}
 use Rattle.fv_model.specs.Spelling.{name_cmp}
-use Rattle.fv_model.specs.Volumes.{Volume}
-use Rattle.fv_model.specs.Machines.{Machine, capacity}
-use Rattle.fv_model.specs.Space.{commit, commits, span_of, use_of, charge, need}
-use Rattle.fv_model.specs.Effects.{Becomes, change_of, changed, effect, empty_volume}
+use Rattle.fv_model.specs.Machines.{Machine}
+use Rattle.fv_model.specs.Space.{commits, span_of, use_of}
+use Rattle.fv_model.specs.Effects.{change_of, effect, empty_volume}
 use Rattle.fv_model.specs.Refusals.{conditions, has_all_volumes, is_aggregate_full, is_taken, next, refusal}
 use Rattle.fv_laws.proofs.Orders.{name_total, name_ties}
 use Rattle.fv_laws.proofs.Commits.{commit_at, commits_new}
 use Rattle.fv_image.specs.Told.{is_plain, told, volume_of, volumes}
 use Rattle.fv_image.proofs.Uses.{uses_nothing}
-use Rattle.fv_charge.specs.Ledgers.{IsLedgerOf, committed}
-use Rattle.fv_root.specs.declared.find.Found.{Found}
+use Rattle.fv_charge.specs.Ledgers.{IsLedgerOf}
 use Rattle.fv_volume.specs.declared.fault.VolumeFault.{VolumeFault}
 use Rattle.fv_volume.specs.declared.fault.VolumeFault.TheVariants.{Refused}
 use Rattle.fv_volume.specs.declared.pool.Pool.{Pool}
 use Rattle.fv_volume.specs.declared.state.VolumeState.{VolumeState}
-use Rattle.fv_volume.specs.Creating.{Admits, IsMade, IsTooMuch, RefusedBy, Refuses, new_ledger_of}
+use Rattle.fv_volume.specs.Creating.{Admits, IsMade, RefusedBy, Refuses, new_ledger_of}
 use Rattle.fv_volume.specs.Slots.{HasName, HaveSpans, HasSpan, IsFirstFree, IsFull, NoneHasName, sum_of}
-use Rattle.fv_volume.specs.States.{AreDistinct, AreStates, IsState, States, empty_head, head_in, ledger_of_empty, machine_in, named_states, state_at, view_over, with_state}
+use Rattle.fv_volume.specs.States.{AreStates, IsState, States, empty_head, head_in, ledger_of_empty, machine_in, named_states, state_at, view_over, with_state}
 use Rattle.fv_volume.proofs.Told.{all_named, counted, distinct_set, fewer_named, find_set, ledger_commit, none_named, some_named, summed, summed_states, volumes_are}
 
 -- ---- the new volume

@@ -1,12 +1,11 @@
 -- The name that a label spells.
-use Rattle.std.proofs.Common.{◌≡◌, ◌≤◌, ℕ, Bool, true, false, cond, List, [], ◌∷◌, length, length-take-le, take, Some, refl, sym, ap, ◌∙◌, ⊎_elim, arith}
+use Rattle.std.proofs.Common.{◌≡◌, ℕ, Bool, true, false, List, [], ◌∷◌, length, length-take-le, take, Some, refl, sym, ap, ◌∙◌, arith}
 use Rattle.std.specs.Prelude.{Ok, Err, ◌&&◌, if◌then◌else◌}
 use Rattle.std.specs.List.{list_all}
-use Rattle.std.proofs.lemmas.Bool.{cases_Bool}
 use Rattle.std.proofs.lemmas.Bool.Decides.{nat_tests}
 use Rattle.fv_codec.specs.declared.label.Label.{Label}
 use Rattle.fv_codec.specs.Blocks.{IsLabel}
-use Rattle.fv_codec.specs.Fields.{all_name, all_zero, is_name_byte, name_filled}
+use Rattle.fv_codec.specs.Fields.{all_name, is_name_byte, name_filled}
 use Rattle.fv_codec.proofs.Ranges.{then_ok}
 use Rattle.fv_model.specs.Spelling.{is_name, is_name_byte as is_letter}
 

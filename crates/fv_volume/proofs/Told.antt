@@ -1,13 +1,12 @@
 -- What volumes by slot tell of: their names, their number and what they commit.
-use Rattle.std.proofs.Common.{◌≡◌, ◌≢◌, ◌<◌, ◌≤◌, ◌+◌, ◌*◌, ℕ, zero, suc, Bool, true, false, cond, List, [], ◌∷◌, ◌++◌, length, Option, Some, None, flat_map, sum_by, true≢false, refl, sym, ap, ◌∙◌, ⊎_elim, arith}
-use Rattle.std.specs.Prelude.{IsSome, IfSome, slice_set, slice_index_or, map}
+use Rattle.std.proofs.Common.{◌≡◌, ◌≢◌, ◌<◌, ◌≤◌, ◌+◌, ◌*◌, ℕ, zero, suc, Bool, true, false, cond, List, [], ◌∷◌, ◌++◌, length, Option, Some, None, flat_map, sum_by, true≢false, refl, sym, ap, ◌∙◌, arith}
+use Rattle.std.specs.Prelude.{IsSome, IfSome}
 use Rattle.std.specs.List.{range_with_len}
 use Rattle.std.specs.Option.{is_some, option_map, option_map_or}
-use Rattle.std.specs.Ordering.{eq_by_cmp, is_eq}
+use Rattle.std.specs.Ordering.{is_eq}
 use Rattle.std.specs.Cmp.{eq_by_cmp_equiv}
 use Rattle.std.specs.FinMap as fin
 use Rattle.std.specs.FinMap.{find}
-use Rattle.std.proofs.lemmas.Bool.{cases_Bool}
 use Rattle.std.proofs.lemmas.List.Sums.{sum_by-cons}
 use Rattle.fv_disk.specs.Shown.{Image}
 use Rattle.fv_model.specs.declared.commands.Kind.{Kind}
@@ -17,15 +16,15 @@ use Rattle.fv_model.specs.Volumes.{Volume}
 use Rattle.fv_model.specs.Space.{commit, overhead, promised}
 use Rattle.fv_laws.proofs.Orders.{name_total, name_ties}
 use Rattle.fv_laws.proofs.Changes.{itself, same_name}
-use Rattle.fv_laws.proofs.Commits.{commit_at, commits_new}
+use Rattle.fv_laws.proofs.Commits.{commit_at}
 use Rattle.fv_laws.proofs.Maps.{sum-insert}
 use Rattle.fv_image.specs.Views.{slots}
-use Rattle.fv_image.specs.Told.{named_volume, told, volume_of, volumes}
+use Rattle.fv_image.specs.Told.{named_volume, volume_of, volumes}
 use Rattle.fv_charge.specs.declared.ledger.Ledger.{Ledger}
 use Rattle.fv_charge.specs.Ledgers.{IsLedgerOf, committed, promised_to}
 use Rattle.fv_volume.specs.declared.state.VolumeState.{VolumeState}
 use Rattle.fv_volume.specs.declared.pool.Pool.{Pool}
-use Rattle.fv_volume.specs.States.{AreDistinct, IsState, States, head_in, named_state, named_states, state_at, view_over, with_state}
+use Rattle.fv_volume.specs.States.{AreDistinct, States, head_in, named_states, state_at, view_over, with_state}
 use Rattle.fv_volume.specs.Slots.{committed_by, is_named, sum_of}
 
 abbrev pub Named : Type 0

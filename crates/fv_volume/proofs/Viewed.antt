@@ -1,5 +1,5 @@
 -- What is loaded tells what its image tells.
-use Rattle.std.proofs.Common.{◌≡◌, ◌<◌, ◌≤◌, ◌+◌, ℕ, zero, suc, Bool, true, false, cond, not, nat_lt, List, [], ◌∷◌, length, Option, Some, None, get_or, refl, sym, ap, ◌∙◌, ⊎_elim, arith}
+use Rattle.std.proofs.Common.{◌≡◌, ◌<◌, ◌≤◌, ℕ, suc, Bool, true, false, cond, not, nat_lt, List, [], ◌∷◌, length, Option, Some, None, get_or, refl, sym, ap, ◌∙◌, ⊎_elim, arith}
 use Rattle.std.specs.Prelude.{IfSome, ◌==◌}
 use Rattle.std.specs.List.{list_all, range_with_len}
 use Rattle.std.specs.Cmp.{eq_by_cmp_equiv}
@@ -20,8 +20,8 @@ use Rattle.fv_disk.specs.Shown.{Image}
 use Rattle.fv_codec.specs.declared.label.Label.{Label}
 use Rattle.fv_model.specs.Machines.{Machine}
 use Rattle.fv_image.specs.Containers.{container_entry}
-use Rattle.fv_image.specs.Views.{Placed, View, head_of, slots}
-use Rattle.fv_image.specs.Held.{entry_from, label_in, label_lying, label_place, layout_at, lying_at, placed, view_at}
+use Rattle.fv_image.specs.Views.{Placed, head_of, slots}
+use Rattle.fv_image.specs.Held.{entry_from, label_in, label_place, layout_at, lying_at, placed, view_at}
 use Rattle.fv_image.specs.Told.{told}
 use Rattle.fv_image.specs.MachineOf.{Tells}
 use Rattle.fv_container.specs.declared.entry.Entry.{Entry}
@@ -32,7 +32,7 @@ use Rattle.fv_root.specs.declared.find.Found.{Found}
 use Rattle.fv_root.specs.Finding.{root_found}
 use Rattle.fv_volume.specs.declared.pool.Pool.{Pool}
 use Rattle.fv_volume.specs.declared.state.VolumeState.{VolumeState}
-use Rattle.fv_volume.specs.Keeping.{Blocks, kept_or, seen}
+use Rattle.fv_volume.specs.Keeping.{Blocks, kept_or}
 use Rattle.fv_volume.specs.Loading.{IsContainerOf, KeptTo, LoadedTo, label_of}
 use Rattle.fv_volume.specs.States.{AreDistinct, AreStates, States, named_states, head_in, machine_in, placed_in, state_at, view_over}
 
@@ -120,7 +120,7 @@ distinct_from [] apart = tt
 distinct_from (None ∷ xs) apart = distinct_from xs (λ e s lt inside. apart (suc e) (suc s) (omega (arith, lt)) (omega (arith, inside)))
 distinct_from (Some x ∷ xs) apart = (
   none_named xs x.name (λ s inside. unnamed x (state_at xs s) (apart 0 (suc s) (omega arith) (omega (arith, inside)))),
-  distinct_from xs (λ e s lt inside. apart (suc e) (suc s) (omega (arith, lt)) (omega (arith, inside)))
+  distinct_from xs (λ e s lt inside. apart (suc e) (suc s) (omega (arith, lt)) (omega (arith, inside))),
 )
 
 opposite : (b : Bool) → not b ≡ true → b ≡ false

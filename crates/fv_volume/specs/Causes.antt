@@ -7,7 +7,6 @@ use Rattle.fv_aggmap.specs.Loading.{IsPastMap}
 use Rattle.fv_container.specs.declared.fault.ContainerFault.{ContainerFault}
 use Rattle.fv_container.specs.declared.fault.ContainerFault.TheVariants as container
 use Rattle.fv_root.specs.declared.find.Found.{Found}
-use Rattle.fv_model.specs.declared.answers.Refusal.{Refusal}
 use Rattle.fv_volume.specs.declared.fault.VolumeFault.{VolumeFault}
 use Rattle.fv_volume.specs.declared.fault.VolumeFault.TheVariants.{Refused, DiskFault, Damaged, Memory}
 

@@ -1,13 +1,11 @@
 -- Volumes as they are read from their labels.
-use Rattle.std.specs.Prelude.{◌≡◌, ◌≢◌, ◌<◌, ◌≤◌, ◌+◌, ◌-◌, ◌⊎◌, ℕ, Bool, true, not, ◌==◌, if◌then◌else◌, List, length, find, Option, Some, None, IfSome, Result, Ok, Err}
+use Rattle.std.specs.Prelude.{◌≡◌, ◌≢◌, ◌<◌, ◌≤◌, ◌+◌, ◌-◌, ◌⊎◌, ℕ, Bool, not, ◌==◌, if◌then◌else◌, List, length, find, Option, Some, None, IfSome, Ok, Err}
 use Rattle.std.specs.Option.{option_map}
 use Rattle.fv_disk.specs.Shown.{Image}
 use Rattle.fv_bits.specs.Members.{IsFirstPast}
 use Rattle.fv_codec.specs.declared.label.Label.{Label}
 use Rattle.fv_codec.specs.declared.label.SnapRecord.{SnapRecord}
 use Rattle.fv_codec.specs.Blocks.{label_at}
-use Rattle.fv_model.specs.declared.answers.Refusal.{Refusal}
-use Rattle.fv_model.specs.Space.{map_blocks}
 use Rattle.fv_image.specs.Containers.{IsNodeFault}
 use Rattle.fv_image.specs.Views.{entry_count, head_of}
 use Rattle.fv_image.specs.Held.{label_in, label_lying, label_place}

@@ -1,5 +1,5 @@
 -- Volumes as they are kept in memory, as heads; what a pool and volumes tell of together; and when they are volumes of a machine.
-use Rattle.std.specs.Prelude.{◌≡◌, ◌<◌, ◌≤◌, ◌*◌, ℕ, Bool, true, List, [], ◌∷◌, flat_map, map, length, slice_set, slice_index_or, Option, Some, None, IfSome, IsSome}
+use Rattle.std.specs.Prelude.{◌≡◌, ◌≤◌, ◌*◌, ℕ, true, List, [], ◌∷◌, flat_map, map, slice_set, slice_index_or, Option, Some, None, IfSome}
 use Rattle.std.specs.Option.{option_map}
 use Rattle.std.specs.FinMap as fin
 use Rattle.fv_disk.specs.Shown.{Image}
@@ -14,8 +14,7 @@ use Rattle.fv_image.specs.Told.{is_plain, named_volume, told, volume_of}
 use Rattle.fv_charge.specs.declared.ledger.Ledger.{Ledger}
 use Rattle.fv_charge.specs.Ledgers.{IsLedgerOf}
 use Rattle.fv_container.specs.declared.entry.Entry.{Entry}
-use Rattle.fv_container.specs.Chains.{Slots, container_at, own_entry}
-use Rattle.fv_root.specs.declared.find.Found.{Found}
+use Rattle.fv_container.specs.Chains.{container_at, own_entry}
 use Rattle.fv_volume.specs.declared.state.Base.{Base}
 use Rattle.fv_volume.specs.declared.state.Rooted.{Rooted}
 use Rattle.fv_volume.specs.declared.state.Snap.{Snap}

@@ -11,6 +11,8 @@ mod pool;
 mod search;
 mod sizes;
 mod state;
+#[cfg(test)]
+mod tests;
 mod volumes;
 
 pub use fault::VolumeFault;

@@ -1,12 +1,10 @@
-use Rattle.std.proofs.Common.{◌≡◌, ◌∙◌, [], ◌∷◌, ℕ, List, ap, refl, sym, subst}
+use Rattle.std.proofs.Common.{◌≡◌, ◌∙◌, [], ◌∷◌, ℕ, List, ap, sym, subst}
 use Rattle.std.specs.Map.Iter.{deref_pair}
 use Rattle.std.proofs.lemmas.Map.Iter.{rest_more, rest_all}
-use Rattle.fv_disk.specs.Shown.{Image}
 use Rattle.fv_disk.proofs.Sparing.{spares_none, spares_then, spares_write}
 use Rattle.fv_volume.specs.Keeping.{IsUnkept}
-use Rattle.fv_volume.proofs.Writing.{AreIn, all_in, failed_then, unkept_elsewhere, wrote, written, written_none, written_same, written_seen, with_block}
+use Rattle.fv_volume.proofs.Writing.{AreIn, all_in, failed_then, unkept_elsewhere, wrote, written, written_none, written_seen}
 use Rattle.std.specs.FinMap as fin
-use Rattle.std.specs.Prelude.{IsTrue, Ok}
 use Rattle.fv_volume.proofs.kept.write_blocks.Goals as goal
 
 pub loop-pvbn-init : goal.loop-pvbn-init

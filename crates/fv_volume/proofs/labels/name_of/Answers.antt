@@ -1,4 +1,4 @@
-use Rattle.std.proofs.Common.{◌≡◌, ◌∙◌, Option, Some, None, ap, cond, refl, subst, sym, take, List, ℕ}
+use Rattle.std.proofs.Common.{◌≡◌, ◌∙◌, Some, None, ap, cond, refl, subst, sym, take}
 use Rattle.std.specs.Prelude.{IsSome}
 use Rattle.fv_model.specs.Spelling.{is_name}
 use Rattle.fv_volume.proofs.Naming.{named, same_some}

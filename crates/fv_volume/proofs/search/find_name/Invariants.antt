@@ -1,5 +1,4 @@
-use Rattle.std.proofs.Common.{◌≡◌, ◌<◌, ℕ, false, length}
-use Rattle.fv_container.specs.Chains.{slot_count}
+use Rattle.std.proofs.Common.{◌≡◌, ◌<◌, ℕ, false}
 use Rattle.fv_volume.specs.States.{state_at}
 use Rattle.fv_volume.specs.Slots.{is_named}
 use Rattle.fv_volume.proofs.search.find_name.Given as goal

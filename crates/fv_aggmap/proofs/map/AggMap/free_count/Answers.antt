@@ -1,6 +1,6 @@
-use Rattle.std.proofs.Common.{◌∙◌, sym, ap, subst}
+use Rattle.std.proofs.Common.{◌∙◌, sym, ap}
 use Rattle.std.specs.FinSet as set
-use Rattle.fv_aggmap.specs.Space.{Space, blocks_of, free_from}
+use Rattle.fv_aggmap.specs.Space.{Space, free_from}
 use Rattle.fv_aggmap.specs.Freeing.{room_of}
 use Rattle.fv_aggmap.proofs.FreeRoom.{free_counted}
 use Rattle.fv_aggmap.proofs.map.AggMap.free_count.Goals as goal

@@ -1,7 +1,3 @@
-use Rattle.std.proofs.Common.{◌≡◌, ◌∙◌, List, [], None, ap, map, refl, sym}
-use Rattle.fv_codec.specs.declared.label.Label.{Label}
-use Rattle.fv_volume.specs.declared.state.Snap.{Snap}
-use Rattle.fv_volume.specs.States.{snap_in}
 use Rattle.fv_volume.proofs.Loaded.{bare, head_from}
 use Rattle.fv_volume.proofs.state.VolumeState.of_label.Goals as goal
 

@@ -1,10 +1,7 @@
 use Rattle.std.proofs.Common.{◌≡◌, ◌∙◌, length, refl, sym, ap, subst}
-use Rattle.fv_model.specs.declared.commands.Command.TheVariants.{VolCreate}
-use Rattle.fv_model.specs.Refusals.{refusal}
-use Rattle.fv_model.specs.Space.{span_of}
-use Rattle.fv_volume.specs.Creating.{Admits, IsMade, Refuses}
+use Rattle.fv_volume.specs.Creating.{Admits, Refuses}
 use Rattle.fv_volume.specs.Slots.{HaveSpans}
-use Rattle.fv_volume.specs.States.{AreStates, States, machine_in, empty_head, named_states}
+use Rattle.fv_volume.specs.States.{AreStates, States}
 use Rattle.fv_volume.proofs.Made.{accepted, have_spans, refused_as, made_machine, new_made, refused_result}
 use Rattle.fv_volume.proofs.volumes.Volumes.create.Goals as goal
 
