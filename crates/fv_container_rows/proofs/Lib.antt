@@ -1,2 +1,0 @@
-mod Claims
-mod Counted

@@ -1,9 +1,6 @@
-//! Tests of containers that cross crates: trees on a host in memory and in a file, over a real map of free
-//! blocks.
+//! Tests of containers that cross crates: trees on a host in memory and in a file, with blocks of a real
+//! aggregate map.
 #![tactic(auto)]
 
-mod free;
 #[cfg(test)]
 mod rows;
-
-pub use free::FreeBlocks;

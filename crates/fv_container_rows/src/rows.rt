@@ -4,7 +4,7 @@ ghost use Rattle.std.specs.Prelude.{◌≡◌, ◌<◌, ◌≤◌, ◌+◌, leng
 ghost use Rattle.fv_image.specs.Containers.{most_entries};
 ghost use Rattle.fv_store.specs.Held.{StandsOn};
 
-use crate::free::FreeBlocks;
+use fv_aggmap::AggMap;
 use fv_codec::ContainerInner;
 use fv_container::{Container, ContainerFault, Containers, Entry, Steps, height_of};
 use fv_disk::{Block, Disk};
@@ -25,10 +25,10 @@ fn host(alloc: Global) -> MemHost {
 }
 
 /// The free blocks of a new aggregate.
-fn aggregate<D: Disk>(alloc: Global, disk: &mut D) -> Option<FreeBlocks> {
+fn aggregate<D: Disk>(alloc: Global, disk: &mut D) -> Option<AggMap> {
     format(disk, BLOCKS).ok()?;
     let found = find_root(disk).ok()?;
-    FreeBlocks::load(alloc, disk, &found).ok()
+    AggMap::load(alloc, disk, &found).ok()
 }
 
 /// Sets a data block, 100 blocks past its VVBN.
@@ -110,7 +110,7 @@ fn flushed<D: Disk>(
     container: &mut Container,
     store: &mut Store,
     disk: &mut D,
-    map: &mut FreeBlocks,
+    map: &mut AggMap,
     entries: u32,
 ) -> Option<u32>
     requires size { length container.old.entries ≡ entries }
