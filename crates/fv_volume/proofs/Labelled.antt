@@ -1,6 +1,6 @@
 -- The label of a slot, as it was read; what is loaded from it, and why it isn't.
 use Rattle.std.proofs.Common.{◌≡◌, ◌≢◌, ◌<◌, ℕ, zero, suc, true, cond, nat_lt, List, length, Option, Some, None, get_or, inl, inr, refl, sym, ap, subst, ◌∙◌, arith}
-use Rattle.std.specs.Prelude.{◌⊎◌, IfErr, Result, Ok, Err}
+use Rattle.std.specs.Prelude.{◌⊎◌, false, IfErr, Result, Ok, Err}
 use Rattle.std.specs.Result.{IsErrAnd}
 use Rattle.std.specs.Option.{option_map}
 use Rattle.std.proofs.lemmas.Bool.Decides.{nat_tests}
@@ -56,13 +56,17 @@ module _ (found : Found) (i : Image) (s : ℕ) (lt : s < 64) where
   loaded_none c none empty = record {
     head = ap (option_map head_of) (sym (no_label none));
     tree = subst (λ (l : Option Label). IsContainerOf i l c) (sym (no_label none)) (subst (IsContainerOf i None) (sym empty) tt);
+    label = sym (place_there ∙ none);
+    unchanged = tt;
   }
 
-  pub loaded_some : (l : Label) (y : VolumeState) (map : Mapped) (c : Option Mapped) → label_of found i s ≡ Some l → head_in y ≡ head_of l → c ≡ Some map
+  pub loaded_some : (l : Label) (y : VolumeState) (map : Mapped) (c : Option Mapped) → label_of found i s ≡ Some l → head_in y ≡ head_of l → y.label ≡ get_or found.root.labels s 0 → y.changed ≡ false → c ≡ Some map
       → Spelled i l.container l.height map → length map.entries ≡ entry_count l.span → IsMapped map → IsLoaded i found s (Some y) c
-  loaded_some l y map c lies head there spelled size valid = record {
+  loaded_some l y map c lies head place unchanged there spelled size valid = record {
     head = ap Some head ∙ ap (option_map head_of) (sym lies);
     tree = subst (λ (o : Option Label). IsContainerOf i o c) (sym lies) (subst (IsContainerOf i (Some l)) (sym there) (spelled, (size, valid)));
+    label = place ∙ sym place_there;
+    unchanged = unchanged;
   }
 
   pub bad_label : (p : ℕ) (e : VolumeFault) → p ≡ get_or found.root.labels s 0 → p ≢ 0 → IsBadLabel (i p) p e → IsLoadFault i found e

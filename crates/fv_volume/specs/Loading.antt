@@ -1,5 +1,5 @@
 -- Volumes as they are read from their labels.
-use Rattle.std.specs.Prelude.{◌≡◌, ◌≢◌, ◌<◌, ◌≤◌, ◌+◌, ◌-◌, ◌⊎◌, ℕ, Bool, not, ◌==◌, if◌then◌else◌, List, length, find, Option, Some, None, IfSome, Ok, Err}
+use Rattle.std.specs.Prelude.{◌≡◌, ◌≢◌, ◌<◌, ◌≤◌, ◌+◌, ◌-◌, ◌⊎◌, ℕ, Bool, false, not, ◌==◌, if◌then◌else◌, List, length, find, Option, Some, None, IfSome, Ok, Err}
 use Rattle.std.specs.Option.{option_map}
 use Rattle.fv_disk.specs.Shown.{Image}
 use Rattle.fv_bits.specs.Members.{IsFirstPast}
@@ -18,7 +18,7 @@ use Rattle.fv_volume.specs.declared.fault.VolumeFault.{VolumeFault}
 use Rattle.fv_volume.specs.declared.fault.VolumeFault.TheVariants.{Refused, DiskFault, Damaged, Memory}
 use Rattle.fv_volume.specs.declared.state.VolumeState.{VolumeState}
 use Rattle.fv_container.specs.Chains.{Slots, container_at, slot_count}
-use Rattle.fv_volume.specs.States.{IsState, States, head_in, state_at}
+use Rattle.fv_volume.specs.States.{IsState, States, head_in, place_in, state_at}
 
 -- ---- forms that can't be loaded yet
 
@@ -105,10 +105,13 @@ IsContainerOf i None (Some map) = ⊥
 IsContainerOf i (Some l) None = ⊥
 IsContainerOf i (Some l) (Some map) = Spelled i l.container l.height map × ((length map.entries ≡ entry_count l.span) × IsMapped map)
 
--- a slot's volume has the head that its label says, and its container is the one that the label names
+-- a slot's volume has the head that its label says, with the place of that label and no change since, and its container is the one
+-- that the label names
 pub record IsLoaded (i : Image) (found : Found) (s : ℕ) (state : Option VolumeState) (container : Option Mapped) : Type 0 where
   pub head : option_map head_in state ≡ option_map head_of (label_of found i s)
   pub tree : IsContainerOf i (label_of found i s) container
+  pub label : place_in state ≡ label_place (root_found found) s
+  pub unchanged : IfSome state (λ x. x.changed ≡ false)
 
 -- a node of a label's container is damaged
 abbrev pub IsBadTree : Image → Label → VolumeFault → Type 0

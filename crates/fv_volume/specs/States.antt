@@ -70,6 +70,11 @@ empty_head name size kind span = record {
 abbrev pub ledger_of_empty : ℕ → Kind → ℕ → Ledger
 ledger_of_empty size kind span = record { charge = 0; need = 0; size = size; kind = kind; span = span }
 
+-- where the label lies that the root on the disk names for a slot, a PVBN; 0 for a free slot, and for a volume without one there
+abbrev pub place_in : Option VolumeState → ℕ
+place_in None = 0
+place_in (Some x) = x.label
+
 -- ---- a session
 
 -- the volumes by slot

@@ -135,6 +135,8 @@ impl VolumeState {
         ensures slot { IfOk result (λ state. state.slot ≡ slot) }
         ensures head { IfOk result (λ state. head_in state ≡ empty_head name.now size kind span) }
         ensures ledger { IfOk result (λ state. state.ledger ≡ ledger_of_empty size kind span) }
+        ensures label { IfOk result (λ state. state.label ≡ 0) }
+        ensures changed { IfOk result (λ state. state.changed ≡ true) }
     {
         Ok(VolumeState {
             slot,
@@ -171,6 +173,8 @@ impl VolumeState {
         requires plain { form_in label.now ≡ None }
         ensures slot { result.slot ≡ slot }
         ensures head { head_in result ≡ head_of label.entry.now }
+        ensures label { result.label ≡ place }
+        ensures changed { result.changed ≡ false }
         ensures ledger { result.ledger ≡ ledger_of_empty label.entry.now.size (kind_named label.entry.now.kind) label.entry.now.span }
     {
         let kind = kind_of(label);
@@ -197,18 +201,24 @@ impl VolumeState {
     }
 
     /// Where the label lies that the root on the disk names, a PVBN; 0 where there is none yet.
-    pub fn label_place(&self) -> u32 {
+    pub fn label_place(&self) -> u32
+        ensures { result ≡ self.entry.now.label }
+    {
         self.label
     }
 
     /// Whether something changed since the last consistency point.
-    pub fn is_changed(&self) -> bool {
+    pub fn is_changed(&self) -> bool
+        ensures { result ≡ self.entry.now.changed }
+    {
         self.changed
     }
 
     /// Says that the root on the disk names a label of this volume as it is now, at this PVBN.
     pub fn settled(&mut self, label: u32)
-        ensures { head_in self.new ≡ head_in self.old }
+        ensures head { head_in self.new ≡ head_in self.old }
+        ensures label { self.new.label ≡ label }
+        ensures changed { self.new.changed ≡ false }
     {
         self.label = label;
         self.changed = false;

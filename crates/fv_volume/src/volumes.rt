@@ -21,7 +21,7 @@ ghost use Rattle.fv_store.specs.Held.{StandsOn};
 ghost use Rattle.fv_volume.specs.Causes.{HasCause};
 ghost use Rattle.fv_volume.specs.Loading.{IsLoadFault, KeptTo, LoadedTo};
 ghost use Rattle.fv_volume.specs.Creating.{IsMade, RefusedBy, with_holes};
-ghost use Rattle.fv_volume.specs.States.{AreStates, view_over, machine_in, state_at, with_state};
+ghost use Rattle.fv_volume.specs.States.{AreStates, view_over, machine_in, place_in, state_at, with_state};
 ghost use Rattle.fv_volume.specs.Slots.{IsFirstFree, IsFull, HasName, NoneHasName};
 
 use crate::admit::admit;
@@ -158,6 +158,7 @@ impl Volumes {
         requires range { IsInRange pool.old.found }
         ensures slot { IfOk result (IsFirstFree self.old) }
         ensures made { IfOk result (λ slot. IsMade self.old slot name.now size kind self.new) }
+        ensures unlabelled { IfOk result (λ slot. (place_in (state_at self.new slot) ≡ 0) × IfSome (state_at self.new slot) (λ x. x.changed ≡ true)) }
         ensures holes { IfOk result (λ slot. pool.new ≡ with_holes pool.old slot size) }
         ensures states { OnOk result (AreStates self.new) }
         ensures accepted { OnOk result ((i : Image) → refusal (machine_in pool.old self.old i) (VolCreate name.now size kind) ≡ None) }

@@ -56,7 +56,7 @@ returns-clause-loaded g c = λ tells empty.
     let told = subst IsTrue (sym first.tells) tells in
     let lies = is_label found i c.args.slot c.requires.slot (get_or found.root.labels c.args.slot 0) l refl c.if-place-eq0.false (c.in_ok-label.ensures.label tells) in
     let spelled = subst (λ (j : Image). Spelled j l.container l.height map) first.reads (c.in_ok-container.ensures.spelled told) in
-    loaded_some found i c.args.slot c.requires.slot l c.of_label.result map _ lies c.of_label.ensures.head (put_there c.args.containers.now c.args.slot map c.put.new.self c.put.ensures (omega (arith, c.requires.slot, c.requires.few))) spelled c.in_ok-container.ensures.size c.in_ok-container.ensures.valid
+    loaded_some found i c.args.slot c.requires.slot l c.of_label.result map _ lies c.of_label.ensures.head c.of_label.ensures.label c.of_label.ensures.changed (put_there c.args.containers.now c.args.slot map c.put.new.self c.put.ensures (omega (arith, c.requires.slot, c.requires.few))) spelled c.in_ok-container.ensures.size c.in_ok-container.ensures.valid
 
 pub returns-clause-state : goal.returns-clause-state
 returns-clause-state g c = state_from c.in_ok-label.label c.in_ok-label.ensures.range c.in_ok-label.ensures.plain c.of_label.result c.args.slot c.of_label.ensures.slot c.of_label.ensures.head c.of_label.ensures.ledger
