@@ -77,6 +77,7 @@ module _ (space : Space) (size : IsSize (blocks_of space)) (same : length space.
     taken = tt;
     held = tt;
     stays = ap room_of stays;
+    committed = ap (λ (s : Space). s.committed) stays;
   }
   takes new (Some b) full free taken stays = record {
     none = tt;
@@ -84,6 +85,7 @@ module _ (space : Space) (size : IsSize (blocks_of space)) (same : length space.
     taken = ap (λ (s : Space). (room_of s).free) taken ∙ taken_room b free;
     held = λ a. ap (λ (s : Space). is_member s.next a) taken ∙ next_has b a true free.within ∙ step (nat_eq a b) (is_member space.next a);
     stays = tt;
+    committed = ap (λ (s : Space). s.committed) taken;
   }
     where
       step : (e n : Bool) → cond e true n ≡ (e || n)
@@ -100,6 +102,7 @@ module _ (space : Space) (size : IsSize (blocks_of space)) (same : length space.
         is_member_past space.next a beyond ∙ sym (ap (λ t. not t && is_member space.next a) here))
         (λ (other : nat_eq a b ≡ false). sym (ap (λ t. not t && is_member space.next a) other))
         (cases_Bool (nat_eq a b));
+    committed = refl;
   }
 
   pub releases : (new : Space) (b : ℕ) → b < blocks_of space → new ≡ with_next space b false → Releases (room_of space) b (room_of new)
@@ -109,6 +112,7 @@ module _ (space : Space) (size : IsSize (blocks_of space)) (same : length space.
         (λ (still : (is_clear (with_next space b false) b && lies space b) ≡ false). inl (ap (λ (s : Space). (room_of s).free) is ∙ kept still))
         (cases_Bool (is_clear (with_next space b false) b && lies space b));
     held = λ a. ap (λ (s : Space). is_member s.next a) is ∙ next_has b a false within ∙ step (nat_eq a b) (is_member space.next a);
+    committed = ap (λ (s : Space). s.committed) is;
   }
     where
       step : (e n : Bool) → cond e false n ≡ (not e && n)

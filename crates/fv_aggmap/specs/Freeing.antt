@@ -19,11 +19,12 @@ allocatable space = range_with_len (first_block (blocks_of space)) (min (blocks_
 abbrev pub is_clear : Space → ℕ → Bool
 is_clear space b = not (is_held space.committed space.next b)
 
--- the free blocks, and the blocks that the next root will hold
+-- the free blocks, and the blocks that each of the two roots holds
 abbrev pub room_of : Space → Room
 room_of space = record {
   free = set.from_list (filter (is_clear space) (allocatable space));
   held = is_member space.next;
+  committed = space.committed;
 }
 
 -- ---- which numbers a set of some numbers of a range has

@@ -90,7 +90,8 @@ impl AggMap {
 
     /// The set that the next root will hold.
     pub fn next_map(&self) -> &BitMap
-        ensures { result.now ≡ self.now.next }
+        ensures value { result.now ≡ self.now.next }
+        ensures size { length result.now ≡ blocks_of self.now }
     {
         &self.next
     }

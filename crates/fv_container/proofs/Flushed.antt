@@ -1,5 +1,5 @@
 -- A tree that was written.
-use Rattle.std.proofs.Common.{◌≡◌, ◌≢◌, ℕ, suc, ◌+◌, ◌-◌, ◌*◌, ◌/◌, ◌%◌, ◌<◌, ◌≤◌, List, length, get_or, take, Bool, true, false, not, ◌&&◌, ◌||◌, refl, sym, ap, subst, ◌∙◌, inl, arith, ⊎_elim, Ok, Option, None}
+use Rattle.std.proofs.Common.{◌≡◌, ◌≢◌, ℕ, suc, ◌+◌, ◌-◌, ◌*◌, ◌/◌, ◌%◌, ◌<◌, ◌≤◌, List, length, get_or, take, Bool, true, false, not, ◌&&◌, ◌||◌, refl, sym, ap, subst, ◌∙◌, arith, ⊎_elim, Ok, Option, None}
 use Rattle.std.specs.Prelude.{nat_lt, nat_le}
 use Rattle.std.specs.FinSet as set
 use Rattle.std.proofs.lemmas.Bool.{cases_Bool, cases_lt, true≢false}
@@ -206,7 +206,7 @@ all_named ps b = ap (λ (l : List ℕ). names l b) (take_all (length ps) ps (ome
 
 pub exchanged : (old mid new : Room) (es : List (Option Entry)) (taken given : List ℕ) → HasTaken old es taken (length taken) mid → HasReleased mid given (length given) new → Exchanges old taken given new
 exchanged old mid new es taken given takes gives = record {
-  free = λ b named. inl (takes.free b (all_named taken b ∙ named));
+  free = λ b named. takes.free b (all_named taken b ∙ named);
   stay = λ b was out. gives.keeps b (takes.left b ∙ both (set.contains old.free b) (names (take (length taken) taken) b) was (all_named taken b ∙ out));
   come = λ b now not_given. ⊎_elim
       (λ (before : set.contains mid.free b ≡ true).
@@ -217,6 +217,7 @@ exchanged old mid new es taken given takes gives = record {
   held = λ apart b.
       gives.held b ∙ ap (λ t. not t && mid.held b) (all_named given b) ∙ ap (λ t. not (names given b) && t) (takes.held b ∙ ap (λ t. t || old.held b) (all_named taken b))
       ∙ swapped (names taken b) (names given b) (old.held b) (λ named. apart b (takes.free b (all_named taken b ∙ named)));
+  committed = gives.committed ∙ takes.committed;
 }
   where
     both : (o t : Bool) → o ≡ true → t ≡ false → (o && not t) ≡ true
@@ -238,6 +239,7 @@ exchanged old mid new es taken given takes gives = record {
 pub lost : (old mid : Room) (es : List (Option Entry)) (taken : List ℕ) (n : ℕ) → HasTaken old es taken n mid → Loses old mid
 lost old mid es taken n takes = record {
   free = λ b now. first (set.contains old.free b) (names (take n taken) b) (sym (takes.left b) ∙ now);
+  committed = takes.committed;
 }
   where
     first : (o t : Bool) → (o && not t) ≡ true → o ≡ true

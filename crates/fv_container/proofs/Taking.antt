@@ -120,6 +120,7 @@ taken_none room es ps = record {
   absent = λ m lt is. absurd (omega (arith, lt));
   bounded = λ m lt. absurd (omega (arith, lt));
   once = λ m k lt below some. absurd (omega (arith, below));
+  committed = refl;
 }
   where
     and_true : (t : Bool) → (t && true) ≡ t
@@ -142,7 +143,7 @@ module _ (old mid new : Room) (es : List (Option Entry)) (ps : List ℕ) (n b : 
   unfolding after
   more a = names_more ps n b a within
 
-  module _ (wanted : is_written es n ≡ true) (some : set.contains mid.free b ≡ true) (taken : new.free ≡ set.remove mid.free b) (held : (a : ℕ) → new.held a ≡ (nat_eq a b || mid.held a)) where
+  module _ (wanted : is_written es n ≡ true) (some : set.contains mid.free b ≡ true) (taken : new.free ≡ set.remove mid.free b) (held : (a : ℕ) → new.held a ≡ (nat_eq a b || mid.held a)) (still : new.committed ≡ mid.committed) where
     was_free : (set.contains old.free b && not (names (take n ps) b)) ≡ true
     was_free = sym (so_far.left b) ∙ some
 
@@ -193,6 +194,7 @@ module _ (old mid new : Room) (es : List (Option Entry)) (ps : List ℕ) (n b : 
           (λ (e : k ≡ n). λ same. not_yet m (omega (arith, lt, e)) (sym (before m (omega (arith, lt, e))) ∙ same ∙ ap (λ (x : ℕ). get_or after x 0) e ∙ here))
           (λ (ne : k ≢ n). λ same. so_far.once m k lt (omega (arith, below, ne)) (λ none. is (before k ne ∙ none)) (sym (before m (omega (arith, lt, below, ne))) ∙ same ∙ before k ne))
           (cases_eq k n);
+      committed = still ∙ so_far.committed;
     }
 
   module _ (unwanted : is_written es n ≡ false) (none : b ≡ 0) (stays : new ≡ mid) where
@@ -224,27 +226,30 @@ module _ (old mid new : Room) (es : List (Option Entry)) (ps : List ℕ) (n b : 
           (λ (e : k ≡ n). absurd (is (ap (λ (x : ℕ). get_or after x 0) e ∙ here ∙ none)))
           (λ (ne : k ≢ n). λ same. so_far.once m k lt (omega (arith, below, ne)) (λ z. is (before k ne ∙ z)) (sym (before m (omega (arith, lt, below, ne))) ∙ same ∙ before k ne))
           (cases_eq k n);
+      committed = ap (λ (r : Room). r.committed) stays ∙ so_far.committed;
     }
 
   pub taken_more : TakesIf (is_written es n) mid b new → HasTaken old es (slice_set ps n b) (n + 1) new
   unfolding after
   taken_more takes = ⊎_elim
-      (λ (is : is_written es n ≡ true). taken_one is (takes.some is) (takes.taken is) (takes.held is))
+      (λ (is : is_written es n ≡ true). taken_one is (takes.some is) (takes.taken is) (takes.held is) takes.committed)
       (λ (not_so : is_written es n ≡ false). taken_nothing not_so (takes.none not_so) (takes.stays not_so))
       (cases_Bool (is_written es n))
 
 -- ---- giving back
 
 pub released_none : (room : Room) (ps : List ℕ) → HasReleased room ps 0 room
-released_none room ps = record { keeps = λ b in_it. in_it; adds = λ b in_it. inl in_it; held = λ b. refl }
+released_none room ps = record { keeps = λ b in_it. in_it; grows = omega arith; adds = λ b in_it. inl in_it; held = λ b. refl; committed = refl }
 
 pub released_skip : (old mid : Room) (ps : List ℕ) (n : ℕ) → n < length ps → get_or ps n 0 ≡ 0 → HasReleased old ps n mid → HasReleased old ps (n + 1) mid
 released_skip old mid ps n within none so_far =
     let same : (a : ℕ) → names (take (n + 1) ps) a ≡ names (take n ps) a = λ a. names_next ps n a within ∙ ap (λ t. names (take n ps) a || t) (at_none a (get_or ps n 0) none) ∙ or_false (names (take n ps) a) in
     record {
       keeps = so_far.keeps;
+      grows = so_far.grows;
       adds = λ a in_it. ⊎_elim (λ was. inl was) (λ named. inr (same a ∙ named)) (so_far.adds a in_it);
       held = λ a. so_far.held a ∙ sym (ap (λ t. not t && old.held a) (same a));
+      committed = so_far.committed;
     }
 
 or_left : (a b : Bool) → a ≡ true → (a || b) ≡ true
@@ -253,6 +258,17 @@ or_left a b is = rw is refl
 or_right : (a b : Bool) → b ≡ true → (a || b) ≡ true
 or_right true b is = refl
 or_right false b is = is
+
+one_more : (t : Bool) (n : ℕ) → n ≤ cond t n (n + 1)
+one_more true n = omega arith
+one_more false n = omega arith
+
+-- a map doesn't lose a free block by giving one back
+not_fewer : (mid new : Room) (b : ℕ) → Releases mid b new → set.len mid.free ≤ set.len new.free
+not_fewer mid new b gives = ⊎_elim
+    (λ (same : new.free ≡ mid.free). rw same (omega arith))
+    (λ (grown : new.free ≡ set.insert mid.free b). rw (grown, set.len-insert nat_cmp_total mid.free b) (one_more (set.contains mid.free b) (set.len mid.free)))
+    gives.free
 
 pub released_more : (old mid new : Room) (ps : List ℕ) (n b : ℕ) → n < length ps → b ≡ get_or ps n 0 → get_or ps n 0 ≢ 0 → HasReleased old ps n mid → Releases mid b new → HasReleased old ps (n + 1) new
 released_more old mid new ps n b within is some so_far gives =
@@ -265,6 +281,7 @@ released_more old mid new ps n b within is some so_far gives =
           (λ (same : new.free ≡ mid.free). rw same (so_far.keeps a in_it))
           (λ (grown : new.free ≡ set.insert mid.free b). inserted a grown ∙ or_right (is_at a b) (set.contains mid.free a) (so_far.keeps a in_it))
           gives.free;
+      grows = omega (arith, so_far.grows, not_fewer mid new b gives);
       adds = λ a in_it. ⊎_elim
           (λ (same : new.free ≡ mid.free). ⊎_elim (λ was. inl was) (λ named. inr (next a ∙ or_left (names (take n ps) a) (is_at a b) named)) (so_far.adds a (rw (← same) in_it)))
           (λ (grown : new.free ≡ set.insert mid.free b). ⊎_elim
@@ -275,4 +292,5 @@ released_more old mid new ps n b within is some so_far gives =
       held = λ a.
           gives.held a ∙ ap (λ t. not t && mid.held a) (sym (at_some a b place)) ∙ ap (λ t. not (is_at a b) && t) (so_far.held a)
           ∙ released_more_held (is_at a b) (names (take n ps) a) (old.held a) ∙ sym (ap (λ t. not t && old.held a) (next a));
+      committed = gives.committed ∙ so_far.committed;
     }

@@ -47,6 +47,7 @@ pub record HasTaken (old : Room) (es : List (Option Entry)) (places : List ℕ) 
   pub absent : (m : ℕ) → m < n → is_written es m ≡ false → get_or places m 0 ≡ 0
   pub bounded : (m : ℕ) → m < n → get_or places m 0 ≤ last_place
   pub once : (m k : ℕ) → m < k → k < n → get_or places k 0 ≢ 0 → get_or places m 0 ≢ get_or places k 0
+  pub committed : new.committed ≡ old.committed
 
 -- a place for one node, or none
 pub record TakesIf (wanted : Bool) (old : Room) (place : ℕ) (new : Room) : Type 0 where
@@ -55,12 +56,15 @@ pub record TakesIf (wanted : Bool) (old : Room) (place : ℕ) (new : Room) : Typ
   pub held : wanted ≡ true → (a : ℕ) → new.held a ≡ (nat_eq a place || old.held a)
   pub none : wanted ≡ false → place ≡ 0
   pub stays : wanted ≡ false → new ≡ old
+  pub committed : new.committed ≡ old.committed
 
 -- the first of some places were released
 pub record HasReleased (old : Room) (places : List ℕ) (n : ℕ) (new : Room) : Type 0 where
   pub keeps : (b : ℕ) → set.contains old.free b ≡ true → set.contains new.free b ≡ true
+  pub grows : set.len old.free ≤ set.len new.free
   pub adds : (b : ℕ) → set.contains new.free b ≡ true → (set.contains old.free b ≡ true) ⊎ (names (take n places) b ≡ true)
   pub held : (b : ℕ) → new.held b ≡ (not (names (take n places) b) && old.held b)
+  pub committed : new.committed ≡ old.committed
 
 -- a block is the leaf of an index
 pub record IsLeafOf (es : List (Option Entry)) (index : ℕ) (block : List ℕ) : Type 0 where

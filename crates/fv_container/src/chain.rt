@@ -59,7 +59,9 @@ impl Containers {
     pub fn put(&mut self, slot: u8, container: Container, parent: Option<u8>)
         requires slot { slot < slot_count }
         requires parent { IfSome parent (λ parent. parent < slot_count) }
-        ensures { self.new ≡ with_parent (with_container self.old slot (Some container)) slot parent }
+        ensures put { self.new ≡ with_parent (with_container self.old slot (Some container)) slot parent }
+        ensures there { container_at self.new slot ≡ Some container }
+        ensures valid { IsSlots self.new }
     {
         self.containers[slot as usize] = Some(container);
         self.parents[slot as usize] = parent;
@@ -98,6 +100,7 @@ impl Containers {
         requires { slot < slot_count }
         ensures* writes_back { sem 𝓛 (LendsIf the_row container_row self.entry result (λ map. with_container self.old slot (Some map)) self.old) }
         ensures container { option_copied_mut result ≡ container_at self.old slot }
+        ensures valid { IsSlots self.old }
     {
         self.containers[slot as usize].as_mut()
     }

@@ -170,10 +170,20 @@ impl Container {
         self.entries[vvbn as usize] = None;
     }
 
+    /// Places a block under a VVBN below the number of entries. It takes no memory and makes no disk call.
+    /// Costs one step.
+    pub fn place(&mut self, vvbn: u32, entry: Entry)
+        requires within { vvbn < length self.old.entries }
+        requires entry { IsEntry entry }
+        ensures { self.new ≡ with_entry self.old vvbn (Some entry) }
+    {
+        self.entries[vvbn as usize] = Some(entry);
+    }
+
     /// Writes the container to blocks that are free in `map`, and answers the root of its tree, which has
     /// the least height, at least 1, whose fan-out of 256 covers the leaves. A leaf that holds only holes
     /// is absent. The blocks of the old tree are given back. `map` has as many free blocks as it writes:
-    /// one for each leaf that has an entry and each inner node.
+    /// one for each leaf that has an entry and each inner node, and has at most so many fewer afterwards.
     ///
     /// It takes no memory and reads nothing, and no block is written that wasn't free in `map` at the
     /// call. The one error is a failed write; the container then stands as before, with its old tree, and
@@ -195,7 +205,9 @@ impl Container {
         ensures once { OnOk result (IsOnce self.new.tree) }
         ensures writes { Spares (WasTaken (F.room map.old)) (D.shown disk.old) (D.shown disk.new) (without_value result) }
         ensures map { OnOk result (Exchanges (F.room map.old) self.new.tree self.old.tree (F.room map.new)) }
+        ensures count { OnOk result (set.len (F.room map.old).free ≤ set.len (F.room map.new).free + blocks_needed self.old.entries) }
         ensures lost { OnErr result (Loses (F.room map.old) (F.room map.new)) }
+        ensures valid { IsMapped self.new }
         ensures stands { StandsOn (D.shown disk.new) store.new.pairs }
     {
         flush_tree(store, disk, map, &self.entries, &self.tree, &mut self.next)?;

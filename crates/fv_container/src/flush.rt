@@ -1,6 +1,6 @@
 //! Writing a tree to free blocks.
 
-ghost use Rattle.std.specs.Prelude.{◌≡◌, ◌≢◌, ◌<◌, ◌≤◌, ℕ, true, length, get_or, None, IfSome, IsTrue, OnOk, OnErr};
+ghost use Rattle.std.specs.Prelude.{◌≡◌, ◌≢◌, ◌<◌, ◌≤◌, ◌+◌, ℕ, true, length, get_or, None, IfSome, IsTrue, OnOk, OnErr};
 ghost use Rattle.std.specs.FinSet as set;
 ghost use Rattle.fv_codec.specs.Blocks.{last_place};
 ghost use Rattle.fv_image.specs.Containers.{height_of, most_entries};
@@ -42,6 +42,7 @@ pub(crate) fn flush_tree<D: Disk, F: Free>(
     ensures once { OnOk result (IsOnce next.new) }
     ensures spares { Spares (WasTaken (F.room map.old)) (D.shown disk.old) (D.shown disk.new) result }
     ensures map { OnOk result (Exchanges (F.room map.old) next.new tree.now (F.room map.new)) }
+    ensures count { OnOk result (set.len (F.room map.old).free ≤ set.len (F.room map.new).free + blocks_needed entries.now) }
     ensures lost { OnErr result (Loses (F.room map.old) (F.room map.new)) }
     ensures stands { StandsOn (D.shown disk.new) store.new.pairs }
 {

@@ -4,10 +4,10 @@ ghost use Rattle.fv_container.specs.Freeing.{IsRoom, Releases, Room, Takes};
 
 /// A map of blocks that can be taken.
 ///
-/// Contracts see the finite set of the free blocks, which are from 1 to 1,048,575, and which blocks the
-/// next root will hold.
+/// Contracts see the finite set of the free blocks, which are from 1 to 1,048,575, which blocks the next
+/// root will hold, and which the root on the disk holds. No call changes the last.
 pub trait Free {
-    /// The free blocks, and whether the next root will hold a block.
+    /// The free blocks, and which blocks each of the two roots holds.
     ghost room: { Self → Room };
 
     /// Takes a free block out of the set for the next root; `None` exactly where none is free.

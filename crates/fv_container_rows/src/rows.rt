@@ -54,6 +54,22 @@ fn set_data<D: Disk>(
     container.set(store, disk, vvbn, Some(entry))
 }
 
+/// Places data blocks under these VVBNs, 100 blocks past them.
+fn place_data(container: &mut Container, entries: u32, vvbns: &[u32])
+    requires size { length container.old.entries ≡ entries }
+    ensures size { length container.new.entries ≡ entries }
+{
+    for vvbn in vvbns {
+        if *vvbn < entries && *vvbn < 1_000_000 {
+            let entry = Entry {
+                pvbn: *vvbn + 100,
+                kind: 1,
+            };
+            container.place(*vvbn, entry);
+        }
+    }
+}
+
 /// A container with data blocks under these VVBNs.
 fn container<D: Disk>(
     alloc: Global,
@@ -206,6 +222,16 @@ fn written_and_read_again(rt: HostRuntime) -> Result<(), Fail> {
             );
         }
     }
+    Ok(())
+}
+
+#[test]
+fn placed_and_made_holes(rt: HostRuntime) -> Result<(), Fail> {
+    let mut container = Container::new(rt.alloc(), 300)?;
+    place_data(&mut container, 300, &[0, 255, 256, 299]);
+    assert!(rt; has_just(&container, 300, &[0, 255, 256, 299]));
+    container.make_hole(255);
+    assert!(rt; has_just(&container, 300, &[0, 256, 299]));
     Ok(())
 }
 

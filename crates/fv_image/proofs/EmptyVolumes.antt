@@ -68,7 +68,7 @@ module _ (w : View) (s : ℕ) (h : Head) (bare : IsBare w s h) where
 
 -- ---- of all volumes
 
-no_snaps : (ss : List Snap) → has_none ss ≡ true → ss ≡ []
+pub no_snaps : (ss : List Snap) → has_none ss ≡ true → ss ≡ []
 no_snaps [] e = refl
 no_snaps (x ∷ xs) e = absurd cc
 

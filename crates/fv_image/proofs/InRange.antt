@@ -9,7 +9,7 @@ use Rattle.fv_image.specs.Held.{Layout, held, is_held}
 use Rattle.fv_image.specs.Sound.{IsSound, is_in_range, is_place}
 
 -- what holds of each number of a list holds of one that is in it
-of_listed : (test : ℕ → Bool) (xs : List ℕ) (b : ℕ) → list_all test xs ≡ true → list_any (λ x. x == b) xs ≡ true → test b ≡ true
+pub of_listed : (test : ℕ → Bool) (xs : List ℕ) (b : ℕ) → list_all test xs ≡ true → list_any (λ x. x == b) xs ≡ true → test b ≡ true
 of_listed test [] b all there = absurd cc
 of_listed test (x ∷ xs) b all there =
     let parts = and_parts (test x) (list_all test xs) all in ⊎_elim

@@ -25,3 +25,11 @@ pub mod Admitted
 pub mod Crashes
 pub mod SoundFacts
 pub mod Created
+pub mod WholeSlots
+pub mod Replaced
+pub mod HeldPlaces
+pub mod NodesOnce
+pub mod ReclaimedSlots
+pub mod Rewritten
+pub mod SoundAgain
+pub mod WholeImages

@@ -14,17 +14,17 @@ use Rattle.fv_image.specs.Held.{Layout, layout_at, view_at, lying_at, label_plac
 
 -- ---- numbers in lists
 
-abbrev is_in : ℕ → List ℕ → Bool
+abbrev pub is_in : ℕ → List ℕ → Bool
 is_in b xs = list_any (λ x. x == b) xs
 
-in_left : (b : ℕ) (xs ys : List ℕ) → is_in b xs ≡ true → is_in b (xs ++ ys) ≡ true
+pub in_left : (b : ℕ) (xs ys : List ℕ) → is_in b xs ≡ true → is_in b (xs ++ ys) ≡ true
 in_left b xs ys there = rw (list_any-append (λ x. x == b) xs ys) (or_left (is_in b xs) (is_in b ys) there)
 
-in_right : (b : ℕ) (xs ys : List ℕ) → is_in b ys ≡ true → is_in b (xs ++ ys) ≡ true
+pub in_right : (b : ℕ) (xs ys : List ℕ) → is_in b ys ≡ true → is_in b (xs ++ ys) ≡ true
 in_right b xs ys there = rw (list_any-append (λ x. x == b) xs ys) (or_right (is_in b xs) (is_in b ys) there)
 
 -- in the part for one number of a range
-in_part : (part : ℕ → List ℕ) (b k from count : ℕ) → from ≤ k → k < from + count → is_in b (part k) ≡ true → is_in b (flat_map part (range_with_len from count)) ≡ true
+pub in_part : (part : ℕ → List ℕ) (b k from count : ℕ) → from ≤ k → k < from + count → is_in b (part k) ≡ true → is_in b (flat_map part (range_with_len from count)) ≡ true
 in_part part b k from zero low high there = absurd (omega arith)
 in_part part b k from (suc count) low high there = ⊎_elim
     (λ (e : k ≡ from). in_left b (part from) (flat_map part (range_with_len (from + 1) count)) (subst (λ (n : ℕ). is_in b (part n) ≡ true) e there))
@@ -36,16 +36,16 @@ in_part part b k from (suc count) low high there = ⊎_elim
 pub is_itself : (b : ℕ) → (b == b) ≡ true
 is_itself b = grind (arith, nat_tests)
 
-place_in : (i : Image) (p : ℕ) → p ≢ 0 → is_in p (place_lying (lying_at i p)) ≡ true
+pub place_in : (i : Image) (p : ℕ) → p ≢ 0 → is_in p (place_lying (lying_at i p)) ≡ true
 place_in i zero some = absurd (some refl)
 place_in i (suc p) some = or_left (suc p == suc p) false (is_itself (suc p))
 
-entry_in : (i : Image) (e : ℕ × ℕ) → (e.1 == 0) ≡ false → is_in e.0 (place_of (placed i e)) ≡ true
+pub entry_in : (i : Image) (e : ℕ × ℕ) → (e.1 == 0) ≡ false → is_in e.0 (place_of (placed i e)) ≡ true
 entry_in i e some = rw some (or_left (e.0 == e.0) false (is_itself e.0))
 
 -- ---- the blocks that a slot holds
 
-slot_in : (y : Layout) (s b : ℕ) → s < 64 → is_in b (held_by y s) ≡ true → is_held y b ≡ true
+pub slot_in : (y : Layout) (s b : ℕ) → s < 64 → is_in b (held_by y s) ≡ true → is_held y b ≡ true
 unfolding held slots
 slot_in y s b inside there = in_part (held_by y) b s 0 64 (omega arith) inside there
 

@@ -160,13 +160,14 @@ kept t i c root fixed agree = record { root = same_root i c fixed ∙ root; layo
 
 -- ---- the aggregate map plays no part in what is held
 
-pub held_with_bits : (bits : ℕ → Bool) (y : Layout) (b : ℕ) → is_held (with_bits bits y) b ≡ is_held y b
-unfolding held held_by held_by_container
-held_with_bits bits y b = ap (λ (by : ℕ → List ℕ). list_any (λ x. x == b) (flat_map by slots)) (λ k s. by_slot s k)
+pub held_by_with_bits : (bits : ℕ → Bool) (y : Layout) (s : ℕ) → held_by (with_bits bits y) s ≡ held_by y s
+unfolding held_by held_by_container
+held_by_with_bits bits y s = ap (λ (xs : List ℕ). place_lying (y.label s) ++ xs) (by_label (label_in (y.label s)))
   where
-    by_label : (s : ℕ) (o : Option Label) → held_by_container (with_bits bits y) s o ≡ held_by_container y s o
-    by_label s None = refl
-    by_label s (Some l) = refl
+    by_label : (o : Option Label) → held_by_container (with_bits bits y) s o ≡ held_by_container y s o
+    by_label None = refl
+    by_label (Some l) = refl
 
-    by_slot : (s : ℕ) → held_by (with_bits bits y) s ≡ held_by y s
-    by_slot s = ap (λ (xs : List ℕ). place_lying (y.label s) ++ xs) (by_label s (label_in (y.label s)))
+pub held_with_bits : (bits : ℕ → Bool) (y : Layout) (b : ℕ) → is_held (with_bits bits y) b ≡ is_held y b
+unfolding held
+held_with_bits bits y b = ap (λ (by : ℕ → List ℕ). list_any (λ x. x == b) (flat_map by slots)) (λ k s. held_by_with_bits bits y s k)

@@ -23,7 +23,7 @@ use Rattle.fv_image.proofs.SameLayout.{slot_inside}
 
 -- ---- one slot of all
 
-of_slot : (test : ℕ → Bool) (s : ℕ) → list_all test slots ≡ true → s < 64 → test s ≡ true
+pub of_slot : (test : ℕ → Bool) (s : ℕ) → list_all test slots ≡ true → s < 64 → test s ≡ true
 unfolding slots
 of_slot test s all inside = at_number test 0 64 s all (omega arith) (omega (arith, inside))
 
@@ -36,7 +36,7 @@ of_flat part from (suc count) k all low high =
     (λ ne. of_flat part (from + 1) count k parts.1 (omega arith) (omega arith))
     (cases_eq k from)
 
-of_position : (l : Label) (test : ℕ → ℕ → Bool) (level number : ℕ) → list_all (λ good. good) (at_positions l (λ k n. test k n ∷ [])) ≡ true → level ≤ l.height → number < level_width (entry_count l.span) level → test level number ≡ true
+pub of_position : (l : Label) (test : ℕ → ℕ → Bool) (level number : ℕ) → list_all (λ good. good) (at_positions l (λ k n. test k n ∷ [])) ≡ true → level ≤ l.height → number < level_width (entry_count l.span) level → test level number ≡ true
 unfolding at_positions
 of_position l test level number all low within =
     let row = of_flat (λ k. flat_map (λ n. test k n ∷ []) (range_with_len 0 (level_width (entry_count l.span) k))) 0 (suc l.height) level all (omega arith) (omega (arith, low)) in
@@ -49,7 +49,7 @@ label_of : (o : Option Label) → is_some o ≡ true → (l : Label) × (o ≡ S
 label_of None e = absurd cc
 label_of (Some l) e = (l, refl)
 
-fine_is : (verdict : Verdict) → is_fine verdict ≡ true → verdict ≡ Ok tt
+pub fine_is : (verdict : Verdict) → is_fine verdict ≡ true → verdict ≡ Ok tt
 fine_is (Ok fine) e = refl
 fine_is (Err fault) e = absurd cc
 
@@ -58,7 +58,7 @@ of_lying : (i : Image) (test : Lying → Bool) (p : ℕ) → option_map_or test 
 of_lying i test zero e some = absurd (some refl)
 of_lying i test (suc p) e some = e
 
-lying_label : (i : Image) (p : ℕ) → p ≢ 0 → label_in (lying_at i p) ≡ shaped (label_at (i p))
+pub lying_label : (i : Image) (p : ℕ) → p ≢ 0 → label_in (lying_at i p) ≡ shaped (label_at (i p))
 unfolding label_in
 lying_label i zero some = absurd (some refl)
 lying_label i (suc p) some = refl

@@ -8,3 +8,5 @@ pub mod Held
 pub mod Sound
 pub mod MachineOf
 pub mod Adding
+pub mod Whole
+pub mod Reclaimed

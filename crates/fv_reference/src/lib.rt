@@ -21,3 +21,4 @@ mod trees;
 mod volumes;
 
 pub use machines::Machine;
+pub use trees::Tree;

@@ -1,7 +1,5 @@
 mod Counting
 mod Digits
-mod Pieces
-mod LinesRead
 mod Prefixes
 mod Answered
 mod Stepped

@@ -10,7 +10,7 @@ use Rattle.fv_reference_run.specs.declared.ending.Fault.TheVariants.{Usage, Sour
 use Rattle.fv_reference_run.specs.Endings.{status_in}
 use Rattle.fv_reference_run.specs.Output.{output}
 use Rattle.fv_reference_run.specs.Running.{Runs, Asked}
-use Rattle.fv_reference_run.proofs.Counting.{rests_itself}
+use Rattle.fv_disk.proofs.Resting.{rests_itself}
 use Rattle.fv_reference_run.proofs.Prefixes.{whole_of}
 
 -- what the status tells where a machine of so many blocks was asked for

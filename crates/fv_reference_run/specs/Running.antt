@@ -2,23 +2,24 @@
 use Rattle.std.specs.Prelude.{◌≡◌, ℕ, List, [], ◌∷◌, ◌++◌, take, IsTrue, Option, Some, None, Result, Err, IfOk, OnOk, OnErr}
 use Rattle.fv_disk.specs.Shown.{Shown}
 use Rattle.fv_disk.specs.HostCalls.{Rests}
+use Rattle.fv_lines.specs.Held.{Held}
+use Rattle.fv_lines.specs.Reading.{unread}
 use Rattle.fv_model.specs.Machines.{Machine, empty_machine}
 use Rattle.fv_model.specs.Runs.{Line, after_line}
 use Rattle.fv_model.specs.Lines.{lines}
 use Rattle.fv_reference_run.specs.declared.ending.Fault.{Fault}
 use Rattle.fv_reference_run.specs.declared.ending.Fault.TheVariants.{Usage}
-use Rattle.fv_reference_run.specs.declared.reading.Found.{Found}
-use Rattle.fv_reference_run.specs.declared.reading.Found.TheVariants as found
+use Rattle.fv_reference_run.specs.declared.program.Turn.{Turn}
+use Rattle.fv_reference_run.specs.declared.program.Turn.TheVariants.{Answered, Ended}
 use Rattle.fv_reference_run.specs.Endings.{Counts}
 use Rattle.fv_reference_run.specs.Output.{line_text, replies_text, output}
-use Rattle.fv_reference_run.specs.Reading.{unread}
 
 -- one line is answered, or there is none
-abbrev pub GoesOn : Found → Machine → List Line → List ℕ → Machine → List Line → List ℕ → Type 0
-GoesOn found.Line m old given new_m new new_given = (line : Line) × (old ≡ line ∷ new) × (new_m ≡ after_line m line) × (new_given ≡ given ++ line_text m line)
-GoesOn found.End m old given new_m new new_given = (old ≡ []) × (new_given ≡ given)
+abbrev pub GoesOn : Turn → Machine → List Line → List ℕ → Machine → List Line → List ℕ → Type 0
+GoesOn Answered m old given new_m new new_given = (line : Line) × (old ≡ line ∷ new) × (new_m ≡ after_line m line) × (new_given ≡ given ++ line_text m line)
+GoesOn Ended m old given new_m new new_given = (old ≡ []) × (new_given ≡ given)
 
-pub record Steps (m : Machine) (held : List ℕ) (old : Shown) (new_m : Machine) (new_held : List ℕ) (new : Shown) (result : Result Found Fault) : Type 0 where
+pub record Steps (m : Machine) (held : Held) (old : Shown) (new_m : Machine) (new_held : Held) (new : Shown) (result : Result Turn Fault) : Type 0 where
   pub goes_on : IsTrue old.tells → IfOk result (λ f. GoesOn f m (lines (unread held old)) old.given new_m (lines (unread new_held new)) new.given)
   pub part : IsTrue old.tells → OnErr result ((k : ℕ) × (new.given ≡ old.given ++ take k (replies_text m (lines (unread held old)))))
   pub counts : Counts old new result

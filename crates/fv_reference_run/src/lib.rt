@@ -6,8 +6,6 @@ mod answering;
 mod ending;
 mod laws;
 mod program;
-mod reading;
-mod script;
 mod words;
 
 pub use laws::output_is_allowed;

@@ -13,11 +13,10 @@ ghost use Rattle.fv_reference_run.specs.Running.{Asked, Runs, Steps};
 
 use crate::answering::answer;
 use crate::ending::Fault;
-use crate::reading::{Found, Line, next_line};
-use crate::script::Script;
 use crate::words::read_words;
 use arrayvec::ArrayString;
 use fv_disk::{Host, give_all};
+use fv_lines::{Found, Line, Script, next_line};
 use fv_reference::Machine;
 use itoa::Buffer;
 use std::alloc::Global;
@@ -78,33 +77,47 @@ fn answer_script<H: Host>(alloc: Global, blocks: u32, host: &mut H) -> Result<()
     ensures { Runs (empty_machine blocks) (lines (H.shown host.old).ends.left) (H.shown host.old) (H.shown host.new) result }
 {
     let mut machine = Machine::new(alloc, blocks);
-    let mut script = Script::new();
+    let mut script = Script::new(u64::MAX);
     let mut line = Line::new();
     for count in 0..u64::MAX {
         match step(alloc, &mut machine, &mut script, &mut line, host)? {
-            Found::Line => {}
-            Found::End => return tell_count(count, host),
+            Turn::Answered => {}
+            Turn::Ended => return tell_count(count, host),
         }
     }
     Err(Fault::Memory)
 }
 
-/// Answers the next line of the script, if there is one.
-#[tactic(auto, using(crate::proofs::Stepped::step_ended, crate::proofs::Stepped::step_failed, crate::proofs::Stepped::step_answered, crate::proofs::Stepped::step_unanswered))]
+/// What became of the next line of a script.
+#[derive(Clone, Copy, Debug, PartialEq, Eq)]
+enum Turn {
+    /// It was answered.
+    Answered,
+    /// There is none.
+    Ended,
+}
+
+/// Answers the next line of the script, if there is one. More bytes than can be counted want more memory
+/// than there can be.
+#[tactic(auto, using(crate::proofs::Stepped::step_ended, crate::proofs::Stepped::step_failed, crate::proofs::Stepped::step_past, crate::proofs::Stepped::step_answered, crate::proofs::Stepped::step_unanswered))]
 fn step<H: Host>(
     alloc: Global,
     machine: &mut Machine,
     script: &mut Script,
     line: &mut Line,
     host: &mut H,
-) -> Result<Found, Fault>
+) -> Result<Turn, Fault>
     ensures { Steps machine.old script.old (H.shown host.old) machine.new script.new (H.shown host.new) result }
 {
-    match next_line(script, host, line)? {
-        Found::End => Ok(Found::End),
+    let Ok(found) = next_line(script, host, line) else {
+        return Err(Fault::Source);
+    };
+    match found {
+        Found::End => Ok(Turn::Ended),
+        Found::PastLimit => Err(Fault::Memory),
         Found::Line => {
             answer(alloc, machine, line.as_slice(), host)?;
-            Ok(Found::Line)
+            Ok(Turn::Answered)
         }
     }
 }

@@ -12,6 +12,6 @@ mod tests;
 
 pub use find::{Found, RootFault, find_root};
 pub use fresh::format;
-pub use next::commit;
-pub use places::area_place;
+pub use next::{commit, next_found};
+pub use places::{area_place, root_place};
 pub use sizes::{area_blocks, capacity, first_block};

@@ -10,7 +10,7 @@ ghost use Rattle.fv_bits.specs.Members.{IsBlockOf};
 ghost use Rattle.fv_root.specs.Formatted.{SameVolumes};
 ghost use Rattle.fv_root.specs.Finding.{other_slot};
 ghost use Rattle.fv_disk.specs.Sparing.{Spares};
-ghost use Rattle.fv_root.specs.Commits.{HasArea, IsCommitted, IsFoundOn, IsNotGate, IsOutside, IsShut, IsStaged, OldOrNew, OldSide, next_root};
+ghost use Rattle.fv_root.specs.Commits.{HasArea, IsCommitted, IsFoundOn, IsNotGate, IsOutside, IsShut, IsStaged, OldOrNew, OldSide, next_found, next_root};
 
 use crate::find::Found;
 use crate::places::{area_place, gate_place, root_place};
@@ -106,10 +106,23 @@ fn stage<D: Disk>(disk: &mut D, found: &Found, root: &Root, map: &BitMap) -> Res
     ensures settled { IsTrue (D.shown disk.old).tells → OnOk result (IsSettled (D.shown disk.new)) }
     ensures spares { Spares (IsOutside found.now.blocks (other_slot found.now.slot)) (D.shown disk.old) (D.shown disk.new) result }
 {
-    let slot = other_slot(found.slot);
-    write_area(disk, found.blocks, slot, map)?;
-    write_root(disk, found.blocks, slot, &next_root(found, root))?;
+    let next = next_found(found, root);
+    write_area(disk, next.blocks, next.slot, map)?;
+    write_root(disk, next.blocks, next.slot, &next.root)?;
     disk.barrier()
+}
+
+/// What `find_root` answers once `commit` has made `root` count over what was found: the root with the
+/// generation that follows, in the other slot, and both gates open.
+pub fn next_found(found: &Found, root: &Root) -> Found
+    ensures { result ≡ next_found found.now root.now }
+{
+    Found {
+        blocks: found.blocks,
+        slot: other_slot(found.slot),
+        root: next_root(found, root),
+        older_open: true,
+    }
 }
 
 /// The root with the generation that follows the one that was found.

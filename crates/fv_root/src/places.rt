@@ -22,8 +22,8 @@ pub(crate) fn gate_place(slot: u8) -> u64
     FIRST_GATE + u64::from(slot)
 }
 
-/// The block that holds a slot's root.
-pub(crate) fn root_place(slot: u8) -> u64
+/// The block that holds the root of slot 0 or 1.
+pub fn root_place(slot: u8) -> u64
     ensures { result ≡ root_place slot }
 {
     FIRST_ROOT + u64::from(slot)

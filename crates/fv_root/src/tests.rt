@@ -1,6 +1,7 @@
 //! Rows with values worked out by hand.
 
-use crate::find::newer;
+use crate::find::{Found, newer};
+use crate::{next_found, root_place};
 use fv_codec::Root;
 use std::test::Fail;
 
@@ -38,6 +39,25 @@ fn newer_roots(rt: HostRuntime) -> Result<(), Fail> {
     ];
     for (first, second, want) in rows {
         assert_eq!(rt; chosen(first, second), want);
+    }
+    Ok(())
+}
+
+#[test]
+fn found_after_a_commit(rt: HostRuntime) -> Result<(), Fail> {
+    let rows = [(0, 4, 1, 5, 4), (1, u64::MAX, 0, 0, 3)];
+    for (slot, generation, next_slot, next_generation, place) in rows {
+        let found = Found {
+            blocks: 512,
+            slot,
+            root: root(generation),
+            older_open: false,
+        };
+        let next = next_found(&found, &root(77));
+        assert_eq!(rt; next.slot, next_slot);
+        assert_eq!(rt; next.root.generation, next_generation);
+        assert_eq!(rt; next.older_open, true);
+        assert_eq!(rt; root_place(next.slot), place);
     }
     Ok(())
 }

@@ -11,7 +11,7 @@ const LINE: &[u8] = b"created 1024 capacity 761\n";
 
 fn created(alloc: Global, host: &mut MemHost, size: &str) -> Result<u8, AllocError> {
     let words = words(alloc, &["create", size])?;
-    Ok(flexvol(words.as_slice(), host))
+    Ok(flexvol(alloc, words.as_slice(), host))
 }
 
 #[test]

@@ -54,3 +54,11 @@ pub fn size_of(host: &mut MemHost) -> Option<u32> {
     Root::decode(&block(host, 3)).ok()?;
     Some(found.blocks)
 }
+
+/// The place of the first slot's label under the root of slot 1.
+pub fn label_place(host: &mut MemHost) -> u32 {
+    match Root::decode(&block(host, 4)) {
+        Ok(root) => root.labels[0],
+        Err(_) => 0,
+    }
+}

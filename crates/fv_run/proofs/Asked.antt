@@ -11,10 +11,11 @@ use Rattle.fv_root.specs.Formatted.{IsSize}
 use Rattle.fv_run.specs.declared.ending.Fault.{Fault}
 use Rattle.fv_run.specs.declared.ending.Fault.TheVariants.{Usage}
 use Rattle.fv_run.specs.declared.words.Order.{Order}
-use Rattle.fv_run.specs.declared.words.Order.TheVariants.{Create}
+use Rattle.fv_run.specs.declared.words.Order.TheVariants.{Create, Run}
 use Rattle.fv_run.specs.Meaning.{create, value_of, value_up_to, number_in, meaning}
 use Rattle.fv_run.specs.Creating.{Creates}
-use Rattle.fv_run.specs.Statuses.{Runs}
+use Rattle.fv_run.specs.Running.{Ran}
+use Rattle.fv_run.specs.Statuses.{Runs, most_bytes}
 
 -- a test that was passed on the way to a value
 passed : {X : Type 0} (b : Bool) (o : Option X) (x : X) → cond b o None ≡ Some x → (b ≡ true) × (o ≡ Some x)
@@ -55,7 +56,10 @@ created_value (Some x) blocks e = ap Some (same_order x blocks e)
 pub has_size : (words : List (List ℕ)) (blocks : ℕ) → meaning words ≡ Some (Create blocks) → IsSize blocks
 unfolding meaning
 has_size [] blocks e = absurd cc
-has_size (command ∷ []) blocks e = absurd cc
+has_size (command ∷ []) blocks e = absurd (other (passed (bytes_eq command (codes "run")) (Some Run) (Create blocks) e).1)
+  where
+    other : Some Run ≡ Some (Create blocks) → ⊥
+    other e = cc
 has_size (command ∷ size ∷ []) blocks e =
     let is = passed (bytes_eq command (codes "create")) (option_map create (number_in 512 1048576 size)) (Create blocks) e in
     let in_range = number_is_in 512 1048576 blocks size (created_value (number_in 512 1048576 size) blocks is.1) in
@@ -63,19 +67,39 @@ has_size (command ∷ size ∷ []) blocks e =
 has_size (command ∷ size ∷ other ∷ others) blocks e = absurd cc
 
 pub asks_nothing : (asked : Option Order) (disk : Shown) → asked ≡ None → Runs asked disk disk (Err Usage)
-asks_nothing asked disk none = record { usage = λ e. refl; creates = λ blocks some. absurd (never asked blocks none some) }
+asks_nothing asked disk none = record { usage = λ e. refl; creates = λ blocks some. absurd (never asked blocks none some); runs = λ some. absurd (nothing asked none some) }
   where
     never : (asked : Option Order) (blocks : ℕ) → asked ≡ None → asked ≡ Some (Create blocks) → ⊥
     never asked blocks none some = cc
+
+    nothing : (asked : Option Order) → asked ≡ None → asked ≡ Some Run → ⊥
+    nothing asked none some = cc
 
 pub asks_create : (asked : Option Order) (blocks : ℕ) (old new : Shown) (result : Result Unit Fault) → asked ≡ Some (Create blocks) → Creates blocks old new result → Runs asked old new result
 asks_create asked blocks old new result some creates = record {
   usage = λ none. absurd (never none);
   creates = λ other also. subst (λ (n : ℕ). Creates n old new result) (same other also) creates;
+  runs = λ run. absurd (other run);
 }
   where
+    other : asked ≡ Some Run → ⊥
+    other run = cc
+
     never : asked ≡ None → ⊥
     never none = cc
 
     same : (other : ℕ) → asked ≡ Some (Create other) → blocks ≡ other
     same other also = cc
+
+pub asks_run : (asked : Option Order) (old new : Shown) (result : Result Unit Fault) → asked ≡ Some Run → Ran most_bytes old new result → Runs asked old new result
+asks_run asked old new result some ran = record {
+  usage = λ none. absurd (never none);
+  creates = λ blocks also. absurd (other blocks also);
+  runs = λ run. ran;
+}
+  where
+    never : asked ≡ None → ⊥
+    never none = cc
+
+    other : (blocks : ℕ) → asked ≡ Some (Create blocks) → ⊥
+    other blocks also = cc

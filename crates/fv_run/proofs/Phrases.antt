@@ -4,14 +4,21 @@ use Rattle.std.specs.Prelude.{codes, bytes_eq, Option, Some, None}
 use Rattle.std.specs.Option.{option_map, ok_or}
 use Rattle.fv_run.specs.Meaning.{create, number_in, meaning, Means}
 use Rattle.fv_run.specs.declared.words.Order.{Order}
+use Rattle.fv_run.specs.declared.words.Order.TheVariants.{Run}
 use Rattle.fv_run.specs.declared.words.WordsFault.TheVariants.{Usage}
 
 module _ {X : Type 0} (text : X → List ℕ) where
-  pub few : (words : List X) → length words < 2 → meaning (map text words) ≡ None
+  pub none : (words : List X) → length words < 1 → meaning (map text words) ≡ None
   unfolding meaning
-  few [] below = refl
-  few (a ∷ []) below = refl
-  few (a ∷ b ∷ more) below = absurd (omega arith)
+  none [] below = refl
+  none (a ∷ more) below = absurd (omega arith)
+
+  pub one : (words : List X) (command : X) → 1 ≤ length words → length words < 2 → command ≡ get_or words 0 command
+      → meaning (map text words) ≡ cond (bytes_eq (text command) (codes "run")) (Some Run) None
+  unfolding meaning
+  one [] command least below first = absurd (omega arith)
+  one (a ∷ []) command least below first = rw first refl
+  one (a ∷ b ∷ more) command least below first = absurd (omega arith)
 
   pub many : (words : List X) → 3 ≤ length words → meaning (map text words) ≡ None
   unfolding meaning

@@ -6,7 +6,7 @@ use Rattle.fv_root.specs.Formatted.{SameVolumes}
 use Rattle.fv_model.specs.Machines.{capacity, empty_machine}
 use Rattle.fv_image.specs.MachineOf.{machine_of}
 use Rattle.fv_run.specs.declared.ending.Fault.{Fault}
-use Rattle.fv_run.specs.declared.ending.Fault.TheVariants.{Usage, Disk, Sink}
+use Rattle.fv_run.specs.declared.ending.Fault.TheVariants.{Disk, Sink}
 
 -- the line that tells of a new aggregate
 abbrev pub created_text : ℕ → List ℕ
@@ -24,15 +24,14 @@ IsAcknowledged blocks old c g = (g ≡ old.given) ⊎ (machine_of c ≡ Some (em
 
 -- a fault comes only where its count rose
 abbrev pub RoseFor : Fault → Shown → Shown → Type 0
-RoseFor Usage old new = ⊥
 RoseFor Disk old new = Rose old.faults new.faults
 RoseFor Sink old new = Rose old.ends.sink_faults new.ends.sink_faults
+RoseFor fault old new = ⊥
 
 -- after a fault of the disk nothing was given, and after one of the sink a part of the line
 abbrev pub GaveUpTo : Fault → ℕ → Shown → Shown → Type 0
-GaveUpTo Usage blocks old new = new.given ≡ old.given
-GaveUpTo Disk blocks old new = new.given ≡ old.given
 GaveUpTo Sink blocks old new = (k : ℕ) × (new.given ≡ old.given ++ take k (created_text blocks))
+GaveUpTo fault blocks old new = new.given ≡ old.given
 
 -- Making an aggregate over a host, whose content speaks only where the host tells it.
 pub record Creates (blocks : ℕ) (old new : Shown) (result : Result Unit Fault) : Type 0 where

@@ -1,3 +1,7 @@
+pub mod Answering
+pub mod Built
 pub mod Creating
+pub mod Endings
 pub mod Meaning
+pub mod Running
 pub mod Statuses

@@ -4,7 +4,7 @@ use Rattle.std.specs.Char.{is_ascii_digit}
 use Rattle.std.specs.List.{list_all}
 use Rattle.std.specs.Option.{option_map, option_and_then}
 use Rattle.fv_run.specs.declared.words.Order.{Order}
-use Rattle.fv_run.specs.declared.words.Order.TheVariants.{Create}
+use Rattle.fv_run.specs.declared.words.Order.TheVariants.{Create, Run}
 use Rattle.fv_run.specs.declared.words.WordsFault.{WordsFault}
 
 -- the value of decimal digits
@@ -25,10 +25,10 @@ number_in least greatest word =
 abbrev pub create : ℕ → Order
 create blocks = Create blocks
 
--- `create` and a number of blocks from 512 to 1,048,576; every other list of words has no meaning
+-- `run`, or `create` and a number of blocks from 512 to 1,048,576; every other list of words has no meaning
 unfoldable pub meaning : List (List ℕ) → Option Order
 meaning [] = None
-meaning (command ∷ []) = None
+meaning (command ∷ []) = if bytes_eq command (codes "run") then Some Run else None
 meaning (command ∷ size ∷ []) = if bytes_eq command (codes "create") then option_map create (number_in 512 1048576 size) else None
 meaning (command ∷ size ∷ other ∷ others) = None
 

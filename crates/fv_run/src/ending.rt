@@ -2,28 +2,78 @@
 
 ghost use Rattle.std.specs.Prelude.{◌≡◌};
 
+use fv_aggregate as sessions;
+use fv_aggregate::OpenFault;
+
 /// Why a run of the program ended before all was done.
 #[derive(Clone, Copy, Debug, PartialEq, Eq)]
 pub(crate) enum Fault {
     /// The words have no meaning.
     Usage,
-    /// The disk failed.
-    Disk,
+    /// Block 0 is no superblock, or neither gate is open.
+    NotAggregate,
+    /// The source failed.
+    Source,
     /// The sink failed.
     Sink,
+    /// The disk failed.
+    Disk,
+    /// Memory ran out.
+    Memory,
+    /// A block isn't as it has to be, or fewer blocks are free than a consistency point asks for.
+    Damaged,
+    /// The script has a byte past its limit.
+    Limit,
 }
 
 impl Fault {
-    ghost use Rattle.fv_run.specs.Statuses.{status_of};
+    ghost use Rattle.fv_run.specs.Endings.{status_of};
 
     /// The status that tells of it.
     pub(crate) fn status(self) -> u8
         ensures { result ≡ status_of self }
     {
         match self {
+            Fault::NotAggregate => 2,
+            Fault::Source => 3,
             Fault::Sink => 4,
             Fault::Disk => 5,
+            Fault::Memory => 6,
             Fault::Usage => 7,
+            Fault::Damaged => 8,
+            Fault::Limit => 9,
+        }
+    }
+}
+
+impl From<OpenFault> for Fault {
+    ghost use Rattle.std.specs.Prelude.{◌≡◌};
+    ghost use Rattle.fv_run.specs.Endings.{of_opening};
+
+    ghost from_gives = { λ fault e. e ≡ of_opening fault };
+
+    fn from(fault: OpenFault) -> Fault {
+        match fault {
+            OpenFault::DiskFault => Fault::Disk,
+            OpenFault::NotAggregate => Fault::NotAggregate,
+            OpenFault::Damaged { .. } => Fault::Damaged,
+            OpenFault::Memory => Fault::Memory,
+        }
+    }
+}
+
+/// A run ends with the first fault, so that its session never tells of an earlier one.
+impl From<sessions::Fault> for Fault {
+    ghost use Rattle.std.specs.Prelude.{◌≡◌};
+    ghost use Rattle.fv_run.specs.Endings.{of_session};
+
+    ghost from_gives = { λ fault e. e ≡ of_session fault };
+
+    fn from(fault: sessions::Fault) -> Fault {
+        match fault {
+            sessions::Fault::DiskFault | sessions::Fault::Failed { .. } => Fault::Disk,
+            sessions::Fault::Damaged { .. } => Fault::Damaged,
+            sessions::Fault::Memory => Fault::Memory,
         }
     }
 }

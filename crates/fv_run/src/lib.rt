@@ -2,12 +2,15 @@
 //! that it gives out and the status that it ends with.
 #![tactic(auto)]
 
+mod answering;
 mod create;
 mod ending;
 mod program;
+mod running;
 mod words;
 
 pub use program::flexvol;
+pub use running::run_script;
 pub use words::{Order, WordsFault, read_words};
 
 #[cfg(test)]

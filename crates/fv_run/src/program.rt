@@ -6,29 +6,45 @@ ghost use Rattle.fv_disk.specs.Crash.{Leaves};
 ghost use Rattle.fv_root.specs.Formatted.{SameVolumes};
 ghost use Rattle.fv_run.specs.Meaning.{meaning};
 ghost use Rattle.fv_run.specs.Creating.{created_text, HasCreated, IsAcknowledged};
-ghost use Rattle.fv_run.specs.Statuses.{Runs};
+ghost use Rattle.fv_run.specs.Running.{IsRun};
+ghost use Rattle.fv_run.specs.Statuses.{Runs, most_bytes};
 
 use crate::create::create;
 use crate::ending::Fault;
+use crate::running::run;
 use crate::words::{Order, read_words};
 use fv_disk::Host;
+use std::alloc::Global;
+
+/// The most bytes of a script.
+const MOST_BYTES: u64 = 4_294_967_296;
 
 /// Does all that the program does with the words of its command line after the file's name, over the
 /// host that it is handed, and answers the status that the program ends with.
 ///
 /// `create BLOCKS` makes a new aggregate of so many blocks, from 512 to 1,048,576, over whatever the
 /// disk holds, and then gives the line `created BLOCKS capacity CAPACITY`. The status is 0 where all was
-/// done, 4 where the sink failed, 5 where the disk failed, and 7 where the words have no meaning.
-/// `docs/MACHINE.md` tells of the words and the statuses. It takes no memory; it costs by the words'
-/// bytes and by one write for each fixed block and each block of a map area.
-pub fn flexvol<H: Host>(words: &[String], host: &mut H) -> u8
-    ensures statuses { Contains (0 ∷ 4 ∷ 5 ∷ 7 ∷ []) result }
+/// done, 4 where the sink failed, and 5 where the disk failed. It takes no memory, and costs by one write
+/// for each fixed block and each block of a map area.
+///
+/// `run` is `run_script` with a limit of 4,294,967,296 bytes.
+///
+/// The status is 7 where the words have no meaning. `docs/MACHINE.md` tells of the words and the statuses.
+pub fn flexvol<H: Host>(alloc: Global, words: &[String], host: &mut H) -> u8
+    ensures statuses { Contains (0 ∷ 2 ∷ 3 ∷ 4 ∷ 5 ∷ 6 ∷ 7 ∷ 8 ∷ 9 ∷ []) result }
     ensures usage { (result ≡ 7) ↔ (meaning (map string_bytes words.now) ≡ None) }
     ensures untouched { meaning (map string_bytes words.now) ≡ None → host.new ≡ host.old }
 
-    // A fault is answered only where its count rose in this call, and without one all is done.
+    // A fault is answered only where its count rose in this call.
+    ensures source_fault { result ≡ 3 → Rose (H.shown host.old).ends.source_faults (H.shown host.new).ends.source_faults }
     ensures sink_fault { result ≡ 4 → Rose (H.shown host.old).ends.sink_faults (H.shown host.new).ends.sink_faults }
     ensures disk_fault { result ≡ 5 → Rose (H.shown host.old).faults (H.shown host.new).faults }
+
+    // A script is run on the aggregate that the disk has: the replies, the crashes, the end and the causes.
+    ensures run { meaning (map string_bytes words.now) ≡ Some Order.Run → IsRun most_bytes (H.shown host.old) (H.shown host.new) result }
+
+    // A new aggregate: without a fault all is done.
+    ensures create_statuses { (blocks : ℕ) → meaning (map string_bytes words.now) ≡ Some (Order.Create blocks) → Contains (0 ∷ 4 ∷ 5 ∷ []) result }
     ensures complete { (blocks : ℕ) → meaning (map string_bytes words.now) ≡ Some (Order.Create blocks)
         → ¬ Rose (H.shown host.old).ends.sink_faults (H.shown host.new).ends.sink_faults
         → ¬ Rose (H.shown host.old).faults (H.shown host.new).faults → result ≡ 0 }
@@ -37,7 +53,8 @@ pub fn flexvol<H: Host>(words: &[String], host: &mut H) -> u8
     // and at 4 a part of the line.
     ensures created { (blocks : ℕ) → meaning (map string_bytes words.now) ≡ Some (Order.Create blocks)
         → IsTrue (H.shown host.old).tells → result ≡ 0 → HasCreated blocks (H.shown host.old) (H.shown host.new) }
-    ensures silent { IsTrue (H.shown host.old).tells → result ≡ 5 → (H.shown host.new).given ≡ (H.shown host.old).given }
+    ensures silent { (blocks : ℕ) → meaning (map string_bytes words.now) ≡ Some (Order.Create blocks)
+        → IsTrue (H.shown host.old).tells → result ≡ 5 → (H.shown host.new).given ≡ (H.shown host.old).given }
     ensures partly { (blocks : ℕ) → meaning (map string_bytes words.now) ≡ Some (Order.Create blocks)
         → IsTrue (H.shown host.old).tells → result ≡ 4
         → (k : ℕ) × ((H.shown host.new).given ≡ (H.shown host.old).given ++ take k (created_text blocks)) }
@@ -51,19 +68,20 @@ pub fn flexvol<H: Host>(words: &[String], host: &mut H) -> u8
     ensures volumes { (blocks : ℕ) → meaning (map string_bytes words.now) ≡ Some (Order.Create blocks)
         → IsTrue (H.shown host.old).tells → SameVolumes blocks (H.shown host.old).reads (H.shown host.new).reads }
 {
-    match run(words, host) {
+    match obey(alloc, words, host) {
         Ok(()) => 0,
         Err(fault) => fault.status(),
     }
 }
 
-#[tactic(auto, using(crate::proofs::Asked::has_size, crate::proofs::Asked::asks_nothing, crate::proofs::Asked::asks_create))]
-fn run<H: Host>(words: &[String], host: &mut H) -> Result<(), Fault>
+#[tactic(auto, using(crate::proofs::Asked::has_size, crate::proofs::Asked::asks_nothing, crate::proofs::Asked::asks_create, crate::proofs::Asked::asks_run))]
+fn obey<H: Host>(alloc: Global, words: &[String], host: &mut H) -> Result<(), Fault>
     ensures runs { Runs (meaning (map string_bytes words.now)) (H.shown host.old) (H.shown host.new) result }
     ensures untouched { meaning (map string_bytes words.now) ≡ None → host.new ≡ host.old }
 {
     match read_words(words) {
         Ok(Order::Create { blocks }) => create(host, blocks),
+        Ok(Order::Run) => run(alloc, host, MOST_BYTES),
         Err(_) => Err(Fault::Usage),
     }
 }

@@ -32,8 +32,15 @@ fn words_that_make_an_aggregate(rt: HostRuntime) -> Result<(), Fail> {
 }
 
 #[test]
+fn the_word_that_runs_a_script(rt: HostRuntime) -> Result<(), Fail> {
+    let words = words(rt.alloc(), &["run"])?;
+    assert_eq!(rt; read_words(words.as_slice()), Ok(Order::Run));
+    Ok(())
+}
+
+#[test]
 fn words_without_a_meaning(rt: HostRuntime) -> Result<(), Fail> {
-    let rows: [&[&str]; 13] = [
+    let rows: [&[&str]; 16] = [
         &[],
         &[""],
         &["create"],
@@ -46,7 +53,10 @@ fn words_without_a_meaning(rt: HostRuntime) -> Result<(), Fail> {
         &["create", "99999999999999999999"],
         &["create", "1024", "5"],
         &["Create", "1024"],
-        &["run"],
+        &["Run"],
+        &["run", "1024"],
+        &["run", ""],
+        &["-run"],
     ];
     for row in rows {
         let words = words(rt.alloc(), row)?;

@@ -15,6 +15,8 @@ pub enum Order {
         /// The blocks of the aggregate.
         blocks: u32,
     },
+    /// Run the script of the source.
+    Run,
 }
 
 /// Why words ask for nothing.
@@ -25,12 +27,13 @@ pub enum WordsFault {
 }
 
 /// What the words of the command line mean: `create BLOCKS`, with a number of 1 to 20 decimal digits
-/// from 512 to 1,048,576. Every other list of words is `Usage`. It costs by the words' bytes and takes
-/// no memory.
+/// from 512 to 1,048,576, or `run`. Every other list of words is `Usage`. It costs by the words' bytes
+/// and takes no memory.
 pub fn read_words(words: &[String]) -> Result<Order, WordsFault>
     ensures { Means (map string_bytes words.now) result }
 {
     match words {
+        [command] if command.as_str() == "run" => Ok(Order::Run),
         [command, size] if command.as_str() == "create" => {
             create(size.as_bytes()).ok_or(WordsFault::Usage)
         }

@@ -1,5 +1,5 @@
 -- A store stands on a disk after each change.
-use Rattle.std.proofs.Common.{◌≡◌, ℕ, ◌-◌, true, false, List, [], ◌∷◌, take, Contains, IsTrue, Option, Some, None, Ok, Err, Result, IsOk, refl, sym, ap, subst, ◌∙◌, inl, inr, ⊎_elim, arith, nat_eq}
+use Rattle.std.proofs.Common.{◌≡◌, ◌≢◌, ℕ, ◌+◌, ◌-◌, true, false, List, [], ◌∷◌, take, Contains, IsTrue, Option, Some, None, Ok, Err, Result, IsOk, refl, sym, ap, subst, ◌∙◌, inl, inr, ⊎_elim, arith, nat_eq}
 use Rattle.std.proofs.lemmas.Bool.{cases_Bool}
 use Rattle.std.proofs.lemmas.Bool.Decides.{nat_tests}
 use Rattle.std.proofs.lemmas.Map.Views.{Contains-from_lookup}
@@ -8,7 +8,7 @@ use Rattle.lru.proofs.Splits.{Contains-head, Contains-tail, Contains-cons, Conta
 use Rattle.fv_disk.specs.declared.Failed.{Failed}
 use Rattle.fv_disk.specs.Shown.{Shown}
 use Rattle.fv_disk.specs.DiskCalls.{Reads, Writes}
-use Rattle.fv_store.specs.Held.{Pairs, block_at, without, to_front, StandsOn, Keeps, Renews}
+use Rattle.fv_store.specs.Held.{Pairs, block_at, without, to_front, StandsOn, Keeps, KeepsFrom, Renews}
 use Rattle.fv_store.proofs.Lists.{without_first, without_other}
 
 same_number : (k j : ℕ) → nat_eq k j ≡ true → k ≡ j
@@ -103,3 +103,15 @@ stands_renewed old new es after k b (Ok unit) renewed write done stands = by_cas
         | inr rest ↦ (stands_forgotten old new es (without es k) k b (Ok unit) refl write stands).same told j c rest
       ];
     }
+
+-- one number more is forgotten
+pub forgotten_more : (first : ℕ) (old es after : Pairs) → KeepsFrom first old es → after ≡ without es first → KeepsFrom (first + 1) old after
+forgotten_more first old es after so_far is = record {
+  kept = λ j b in_it.
+      let left = left_over es first j b (subst (λ l. Contains l (j, b)) is in_it) in
+      let was = so_far.kept j b left.0 in
+      (omega (arith, was.0, other first j left.1), was.1);
+}
+  where
+    other : (k j : ℕ) → nat_eq k j ≡ false → k ≢ j
+    other k j test same = (let h = rw same at test in grind (arith, nat_tests, test, same))

@@ -61,3 +61,7 @@ pub record Puts (old : Held) (pvbn : ℕ) (block : List ℕ) (new : Held) (resul
   pub capacity : new.capacity ≡ old.capacity
   pub done : OnOk result (Renews old.pairs pvbn block new.pairs)
   pub failed : OnErr result (new.pairs ≡ without old.pairs pvbn)
+
+-- the pairs of each number below one are gone, and there is no new pair
+pub record KeepsFrom (first : ℕ) (old new : Pairs) : Type 0 where
+  pub kept : (pvbn : ℕ) (block : List ℕ) → Contains new (pvbn, block) → (first ≤ pvbn) × Contains old (pvbn, block)

@@ -2,7 +2,7 @@
 
 ghost use Rattle.std.specs.Prelude.{◌≡◌, ◌≤◌, [], cond, Some, None, IfOk, IfSome, option_copied, nat_eq};
 ghost use Rattle.fv_disk.specs.DiskCalls.{Reads, Writes};
-ghost use Rattle.fv_store.specs.Held.{Held, held, IsStore, StandsOn, Gets, Puts, block_at, to_front, without, Keeps, Renews};
+ghost use Rattle.fv_store.specs.Held.{Held, held, IsStore, StandsOn, Gets, Puts, block_at, to_front, without, Keeps, KeepsFrom, Renews};
 
 use fv_disk::{Block, Disk, Failed};
 use lru::LruCache;
@@ -65,6 +65,14 @@ impl Store {
         ensures valid { IsStore self.new }
     {
         write_through(&mut self.cache, disk, pvbn, block)
+    }
+
+    /// Holds no block below this number any more, as one that is about to be written without the store; the
+    /// others stay. It takes no memory and makes no disk call. Costs a step for each number below.
+    pub fn forget_before(&mut self, first: u32)
+        ensures { KeepsFrom first self.old.pairs self.new.pairs }
+    {
+        forget_before(&mut self.cache, first);
     }
 }
 
@@ -166,6 +174,18 @@ fn renew(cache: &mut LruCache<u32, Block>, pvbn: u32, block: &Block)
 {
     if cache.contains(&pvbn) {
         let _ = cache.put(pvbn, *block);
+    }
+}
+
+/// Holds no block below this number any more.
+fn forget_before(cache: &mut LruCache<u32, Block>, first: u32)
+    requires { IsStore (held cache.old.entries cache.old.cap) }
+    ensures list { KeepsFrom first cache.old.entries cache.new.entries }
+    ensures capacity { cache.new.cap ≡ cache.old.cap }
+    ensures valid { IsStore (held cache.new.entries cache.new.cap) }
+{
+    for number in 0..first {
+        forget(cache, number);
     }
 }
 

@@ -1,5 +1,5 @@
 -- Why calls of a tree fail, over several calls of its source.
-use Rattle.std.proofs.Common.{◌≡◌, ◌≤◌, ℕ, inl, inr, subst, sym, arith, Some, Result, Ok, Err, OnErr}
+use Rattle.std.proofs.Common.{◌≡◌, ◌≤◌, ℕ, inl, inr, subst, sym, arith, Some, Result, Ok, Err, OnOk, OnErr}
 use Rattle.std.specs.FinMap as fin
 use Rattle.fv_disk.specs.Shown.{Rose}
 use Rattle.fv_codec.specs.declared.pointer.Pointer.{Pointer}
@@ -7,6 +7,7 @@ use Rattle.fv_tree.specs.declared.blocks.TreeFault.{TreeFault}
 use Rattle.fv_tree.specs.declared.blocks.TreeFault.TheVariants.{DiskFault, Damaged, Memory}
 use Rattle.fv_tree.specs.Spelled.{Rooted, pointer_at}
 use Rattle.fv_tree.specs.Sources.{Shown, Counts, HasCause}
+use Rattle.fv_tree.specs.Keeping.{IsSame}
 use Rattle.fv_tree.specs.Standing.{IsBlockDamage, LoadFails, Fails}
 
 -- a node of the tree that wasn't loaded
@@ -61,6 +62,24 @@ fails_later t old mid new Memory counts held h = h
 pub counts_then : (old mid new : Shown) → Counts old mid → Counts mid new → Counts old new
 counts_then old mid new first second = record { faults = omega (arith, first.faults, second.faults); damages = omega (arith, first.damages, second.damages) }
 
+pub at_ok : {T E P : Type 0} (r : Result T E) → P → OnOk r P
+at_ok (Ok x) p = p
+at_ok (Err e) p = tt
+
 pub at_err : {T E P : Type 0} (r : Result T E) → P → OnErr r P
 at_err (Ok x) p = tt
 at_err (Err e) p = p
+
+-- a tree that is the same fails for the same reason
+pub fails_same : (t u : Rooted) (old new : Shown) (e : TreeFault) → IsSame t u → Fails u old new e → Fails t old new e
+fails_same t u old new DiskFault same h = h
+fails_same t u old new (Damaged at want found) same (inl h) = inl h
+fails_same t u old new (Damaged at want found) same (inr h) = inr (record {
+  level = h.level;
+  place = h.place;
+  low = h.low;
+  high = omega (arith, h.high, same.levels);
+  damage = subst (λ owner. IsBlockDamage old new owner h.level h.place (pointer_at t h.level h.place) at want found) same.owner
+      (subst (λ p. IsBlockDamage old new u.owner h.level h.place p at want found) (same.pointers h.level h.place) h.damage);
+})
+fails_same t u old new Memory same h = h

@@ -1,5 +1,5 @@
 -- A `BTreeMap` from numbers as a finite map.
-use Rattle.std.proofs.Common.{◌≡◌, ℕ, cond, List, [], ◌∷◌, Option, Some, None, false, is_some, nat_cmp, refl, sym, ap, ◌∙◌, arith}
+use Rattle.std.proofs.Common.{◌≡◌, ℕ, Bool, true, nat_eq, cond, List, [], ◌∷◌, Option, Some, None, false, is_some, nat_cmp, refl, sym, ap, ◌∙◌, arith}
 use Rattle.std.specs.Ordering.{is_eq, eq_by_cmp}
 use Rattle.std.specs.Cmp.{nat_cmp_total}
 use Rattle.std.specs.Map.{lookup}
@@ -30,3 +30,21 @@ module _ {X : Type 0} where
 pub not_some : {X : Type 0} (o : Option X) → false ≡ is_some o → o ≡ None
 not_some None e = refl
 not_some (Some x) e = absurd (grind (arith, e))
+
+turned_eq : (q k : ℕ) → eq_by_cmp nat_cmp q k ≡ nat_eq q k
+turned_eq q k = grind (arith, nat_tests)
+
+is_some_or : {X : Type 0} (b : Bool) (x : X) (o : Option X) → is_some (cond b (Some x) o) ≡ cond b true (is_some o)
+is_some_or true x o = refl
+is_some_or false x o = refl
+
+is_some_but : {X : Type 0} (b : Bool) (o : Option X) → is_some (cond b None o) ≡ cond b false (is_some o)
+is_some_but true o = refl
+is_some_but false o = refl
+
+-- what is held once a block came, or went
+pub now_held : {X : Type 0} (m : fin.FinMap nat_cmp X) (k : ℕ) (x : X) (v : ℕ) → is_some (fin.get (fin.insert m k x) v) ≡ cond (nat_eq v k) true (is_some (fin.get m v))
+now_held m k x v = ap is_some (fin.get-insert nat_cmp_total m k x v) ∙ is_some_or (eq_by_cmp nat_cmp v k) x (fin.get m v) ∙ ap (λ b. cond b true (is_some (fin.get m v))) (turned_eq v k)
+
+pub no_longer_held : {X : Type 0} (m : fin.FinMap nat_cmp X) (k : ℕ) (v : ℕ) → is_some (fin.get (fin.remove m k) v) ≡ cond (nat_eq v k) false (is_some (fin.get m v))
+no_longer_held m k v = ap is_some (fin.get-remove nat_cmp_total m k v) ∙ is_some_but (eq_by_cmp nat_cmp v k) (fin.get m v) ∙ ap (λ b. cond b false (is_some (fin.get m v))) (turned_eq v k)

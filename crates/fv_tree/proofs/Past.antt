@@ -24,13 +24,13 @@ pub record Raises (t v : Tree) (i s : ℕ) : Type 0 where
   pub nodes : HasNewLevels t v v.levels i s
 
 module _ (blocks : Under) (t v : Tree) (i s : ℕ) (is : Raises t v i s) (some : s ≢ 0) where
-  more : t.levels < v.levels
+  pub more : t.levels < v.levels
   more = elim (cases_lt t.levels v.levels) [
     | inl lt ↦ lt
     | inr le ↦ let up : fan ^ v.levels ≤ fan ^ t.levels = pow-le-pow_right {n = fan} (omega arith) {i = v.levels} {j = t.levels} le in absurd (omega (arith, up, is.far, is.covers))
   ]
 
-  top : i / fan ^ v.levels ≡ 0
+  pub top : i / fan ^ v.levels ≡ 0
   top = div-eq_of_lt is.covers
 
   new_stamp : stamp_in (new_child s) ≡ Some s
@@ -60,7 +60,7 @@ module _ (blocks : Under) (t v : Tree) (i s : ℕ) (is : Raises t v i s) (some :
       grown = λ level lt le. let node = is.nodes.grown cell level lt le in (node.pointers, node.node, node.lowest, node.higher, node.others);
     }
 
-    seen : (level place : ℕ) → level ≤ v.levels → pointer_at (standing blocks v) level place ≡ raised (standing blocks t) s level place
+    pub seen : (level place : ℕ) → level ≤ v.levels → pointer_at (standing blocks v) level place ≡ raised (standing blocks t) s level place
     seen level place le = is_way (standing blocks v) (raised (standing blocks t) s) (raised_way (standing blocks t) (standing blocks v) i s lies some) level place le
 
     top_kept : (level : ℕ) → level ≡ v.levels → IsKept (standing blocks v) level (i / fan ^ level)
@@ -98,7 +98,7 @@ module _ (blocks : Under) (t v : Tree) (i s : ℕ) (is : Raises t v i s) (some :
 
   -- a tree without a cell
   module _ (none : t.root.stamp ≡ 0) where
-    alone : (level place : ℕ) → level ≤ v.levels → pointer_at (standing blocks v) level place ≡ lone v.levels s level place
+    pub alone : (level place : ℕ) → level ≤ v.levels → pointer_at (standing blocks v) level place ≡ lone v.levels s level place
     alone level place le = is_way (standing blocks v) (lone v.levels s)
         (lone_way (standing blocks v) s some is.root (λ low. sym (ap (node_in v v.levels) top) ∙ is.nodes.way v.levels low (omega arith) (inr none))) level place le
 

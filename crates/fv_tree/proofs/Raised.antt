@@ -41,7 +41,7 @@ past_at t i level past le =
 unfoldable pub lone : ℕ → ℕ → ℕ → ℕ → Pointer
 lone levels s level place = cond (nat_eq level levels && nat_eq place 0) (new_child s) hole
 
-lone_here : (levels s level place : ℕ) → level ≡ levels → place ≡ 0 → lone levels s level place ≡ new_child s
+pub lone_here : (levels s level place : ℕ) → level ≡ levels → place ≡ 0 → lone levels s level place ≡ new_child s
 unfolding lone
 lone_here levels s level place e f = ap (λ b. cond b (new_child s) hole) ((λ j. nat_eq (e j) levels && nat_eq (f j) 0) ∙ here levels 0)
 
@@ -87,7 +87,7 @@ raised_other t s level place lt e =
     let first : nat_eq place 0 ≡ false = grind (arith, nat_tests) in rw (test, first) refl
 
 -- from the old root's level up, there is nothing but the first range
-raised_edge : (t : Rooted) (s level place : ℕ) → t.levels ≤ level → place ≢ 0 → raised t s level place ≡ hole
+pub raised_edge : (t : Rooted) (s level place : ℕ) → t.levels ≤ level → place ≢ 0 → raised t s level place ≡ hole
 raised_edge t s level place le differs = elim (cases_eq level t.levels) [
   | inl same ↦
       let test : (place == 0) ≡ false = grind (arith, nat_tests) in

@@ -1,5 +1,5 @@
 -- What a write is to the machine's tree.
-use Rattle.std.proofs.Common.{◌≡◌, ◌≢◌, ◌≤◌, ◌<◌, ℕ, zero, suc, ◌+◌, ◌-◌, ◌/◌, ◌^◌, ◌⊎◌, inl, inr, Bool, true, false, ◌&&◌, cond, List, [], ◌∷◌, ◌++◌, map, length, Option, Some, None, nat_eq, nat_lt, nat_cmp, refl, sym, ap, ◌∙◌, arith}
+use Rattle.std.proofs.Common.{Result, Ok, Err, OnErr, ◌≡◌, ◌≢◌, ◌≤◌, ◌<◌, ℕ, zero, suc, ◌+◌, ◌-◌, ◌/◌, ◌^◌, ◌⊎◌, inl, inr, Bool, true, false, ◌&&◌, cond, List, [], ◌∷◌, ◌++◌, map, length, Option, Some, None, nat_eq, nat_lt, nat_cmp, refl, sym, ap, ◌∙◌, arith}
 use Rattle.std.specs.Ordering.{eq_by_cmp}
 use Rattle.std.specs.Cmp.{IsTotalOrder, nat_cmp_total}
 use Rattle.std.specs.Cmp.Rules.{comparing}
@@ -14,7 +14,7 @@ use Rattle.fv_model.specs.Trees as trees
 use Rattle.fv_model.specs.Trees.{fan, Spot, spot_cmp, levels_with, spots_over, spots_grown, stamp_spots, written, written_spots}
 use Rattle.fv_tree.specs.Spelled.{Rooted, pointer_at, stamp_in, block_at}
 use Rattle.fv_tree.specs.Standing.{Shows}
-use Rattle.fv_tree.specs.Writing.{IsWritten, Writes}
+use Rattle.fv_tree.specs.Writing.{IsAlike, Remains, IsWritten, Writes}
 use Rattle.fv_tree.proofs.Spots.{same_spot, here, elsewhere}
 use Rattle.fv_tree.proofs.Ways.{past, own_way}
 use Rattle.fv_tree.proofs.Writes.{no_stamp, some_stamp, none_at, block_none}
@@ -206,3 +206,15 @@ empty_shown t count same none = record {
   stamps = λ k p. fin.get-empty {X = ℕ} spot_cmp (k, p) ∙ sym (no_stamp (pointer_at t k p) (none_at t none k p));
   blocks = λ i. fin.get-empty {X = List ℕ} nat_cmp i ∙ sym (block_none t i (none_at t none 0 i));
 }
+
+-- a tree that is alike is seen as before
+pub remains : (old new : Rooted) → IsAlike old new → Remains old new
+remains old new alike seen contents shows = record {
+  levels = shows.levels ∙ sym alike.levels;
+  stamps = λ k p. shows.stamps k p ∙ sym (alike.stamps k p);
+  blocks = λ i. shows.blocks i ∙ sym (alike.blocks i);
+}
+
+pub remains_at_err : {T E : Type 0} (r : Result T E) (old new : Rooted) → OnErr r (IsAlike old new) → OnErr r (Remains old new)
+remains_at_err (Ok x) old new alike = tt
+remains_at_err (Err e) old new alike = remains old new alike

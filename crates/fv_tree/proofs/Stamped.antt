@@ -34,13 +34,13 @@ child_kept t level place lt kept = (own_way t).down level place lt ∙ elim (cas
 ]
 
 -- two ranges with one range above are told apart by their places in it
-apart : (place other : ℕ) → place / fan ≡ other / fan → place ≢ other → place % fan ≢ other % fan
+pub apart : (place other : ℕ) → place / fan ≡ other / fan → place ≢ other → place % fan ≢ other % fan
 apart place other above differs same = differs (sym (div-add-mod' place fan) ∙ (λ j. above j * fan + same j) ∙ div-add-mod' other fan)
 
-one_stamped : (xs : List Pointer) (slot other s : ℕ) → other ≢ slot → get_or (stamped_in slot s xs) other hole ≡ get_or xs other hole
+pub one_stamped : (xs : List Pointer) (slot other s : ℕ) → other ≢ slot → get_or (stamped_in slot s xs) other hole ≡ get_or xs other hole
 one_stamped xs slot other s differs = get_or-set_other xs slot other (stamped (get_or xs slot hole) s) hole differs
 
-this_stamped : (xs : List Pointer) (slot s : ℕ) → slot < length xs → get_or (stamped_in slot s xs) slot hole ≡ stamped (get_or xs slot hole) s
+pub this_stamped : (xs : List Pointer) (slot s : ℕ) → slot < length xs → get_or (stamped_in slot s xs) slot hole ≡ stamped (get_or xs slot hole) s
 this_stamped xs slot s lt = get_or-set_same xs slot (stamped (get_or xs slot hole) s) hole lt
 
 pub above : (i level : ℕ) → i / fan ^ level / fan ≡ i / fan ^ (level + 1)

@@ -22,7 +22,7 @@ some_stamp p s some = let test : (s == 0) ≡ false = grind (arith, nat_tests) i
 pub no_stamp : (p : Pointer) → p.stamp ≡ 0 → stamp_in p ≡ None
 no_stamp p e = let test : (p.stamp == 0) ≡ true = grind (arith, nat_tests) in rw test refl
 
-block_here : (t : Rooted) (i : ℕ) (block : List ℕ) → (pointer_at t 0 i).stamp ≢ 0 → t.cells i ≡ Some block → block_at t i ≡ Some block
+pub block_here : (t : Rooted) (i : ℕ) (block : List ℕ) → (pointer_at t 0 i).stamp ≢ 0 → t.cells i ≡ Some block → block_at t i ≡ Some block
 unfolding block_at
 block_here t i block some cell = let test : ((pointer_at t 0 i).stamp == 0) ≡ false = grind (arith, nat_tests) in rw (test, cell) refl
 
@@ -30,7 +30,7 @@ pub block_none : (t : Rooted) (i : ℕ) → (pointer_at t 0 i).stamp ≡ 0 → b
 unfolding block_at
 block_none t i e = let test : ((pointer_at t 0 i).stamp == 0) ≡ true = grind (arith, nat_tests) in rw test refl
 
-block_same : (t u : Rooted) (i : ℕ) → pointer_at u 0 i ≡ pointer_at t 0 i → u.cells i ≡ t.cells i → u.under ≡ t.under → block_at u i ≡ block_at t i
+pub block_same : (t u : Rooted) (i : ℕ) → pointer_at u 0 i ≡ pointer_at t 0 i → u.cells i ≡ t.cells i → u.under ≡ t.under → block_at u i ≡ block_at t i
 unfolding block_at
 block_same t u i pointer cell under = λ j. if (pointer j).stamp == 0 then None else block_or (cell j) (under j (pointer j).vvbn)
 

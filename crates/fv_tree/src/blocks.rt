@@ -31,15 +31,16 @@ pub enum TreeFault {
     Memory,
 }
 
-/// The blocks of a volume: a finite map from the VVBNs that are held to their blocks.
+/// The blocks of a volume: a finite map from the VVBNs that are held to their blocks, and the VVBNs of those
+/// that its active tree has in use. A snapshot may hold others.
 ///
 /// It counts faults of the disk and damages that it answered, and both counts never fall.
 pub trait Blocks {
-    /// The map, the counts and the last damage.
+    /// The map, the VVBNs in use, the counts and the last damage.
     ghost shown: { Self → Shown };
 
     /// Gives the block under the pointer's VVBN, and answers the PVBN that was read, below 1,048,576, or 0
-    /// for a block that isn't placed yet. The map stays. At `Err` the content of `into` is open.
+    /// for a block that isn't placed yet. The map and what is in use stay. At `Err` the content of `into` is open.
     ///
     /// # Errors
     ///
@@ -48,16 +49,18 @@ pub trait Blocks {
     fn load(&mut self, pointer: &Pointer, into: &mut [u8; 4096]) -> Result<u32, TreeFault>
         ensures { Loads (shown self.old) pointer.now (shown self.new) into.new result };
 
-    /// Adds a block of a kind from 1 to 7 under a VVBN that wasn't in the map; all else in it stays.
+    /// Adds a block of a kind from 1 to 7 under a VVBN that was neither in the map nor in use, and takes it
+    /// into use; all else stays.
     ///
     /// # Errors
     ///
-    /// As `load`; the map stays then.
+    /// As `load`; the map and what is in use stay then.
     fn place(&mut self, kind: u8, block: &[u8; 4096]) -> Result<Placed, TreeFault>
         requires kind { IsKind kind }
         ensures { Places (shown self.old) block.now (shown self.new) result };
 
-    /// May drop that one VVBN from the map; all else in it stays.
+    /// Takes that one VVBN out of use, and may drop it from the map; all else stays. One that isn't in use
+    /// changes nothing of what is.
     fn gone(&mut self, vvbn: u32)
         ensures { Drops (shown self.old) vvbn (shown self.new) };
 

@@ -1,9 +1,11 @@
 //! Growing levels: a cell past the tree's levels.
 
-ghost use Rattle.std.specs.Prelude.{◌≡◌, ◌≢◌, ◌≤◌, ◌<◌, ◌+◌, ◌/◌, ◌^◌, ◌⊎◌, ℕ, Some, IfErr, OnOk, OnErr, replicate, slice_set};
+ghost use Rattle.std.specs.Prelude.{◌≡◌, ◌≢◌, ◌≤◌, ◌<◌, ◌+◌, ◌/◌, ◌^◌, ◌⊎◌, ℕ, true, false, Some, IfErr, OnOk, OnErr, replicate, slice_set};
+ghost use Rattle.fv_codec.specs.Blocks.{IsPointer};
 ghost use Rattle.fv_model.specs.Trees.{fan, least_levels};
 ghost use Rattle.fv_tree.specs.Spelled.{hole};
 ghost use Rattle.fv_tree.specs.Standing.{node_in, IsSameBut};
+ghost use Rattle.fv_tree.specs.Carried.{kept_at, BringsNew, IsBlank, IsTop};
 ghost use Rattle.fv_tree.specs.Writing.{HasNewLevels, HasOldNodes, IsGrownNode, new_child};
 
 use crate::blocks::TreeFault;
@@ -37,6 +39,8 @@ pub fn keep_new_path(tree: &mut Tree, levels: u8, index: u32) -> Result<(), Tree
     ensures fields { IsSameBut tree.old tree.new }
     ensures way { OnOk result ((level : ℕ) → 1 ≤ level → level ≤ levels → node_in tree.new level (index / fan ^ level) ≡ Some (replicate 128 hole)) }
     ensures others { (level place : ℕ) → (place ≢ index / fan ^ level) → node_in tree.new level place ≡ node_in tree.old level place }
+    ensures brings { BringsNew tree.old tree.new index }
+    ensures blank { OnOk result ((level : ℕ) → 1 ≤ level → level ≤ levels → IsBlank (kept_at tree.new level (index / fan ^ level))) }
     ensures memory { IfErr result (λ e. e ≡ TreeFault.Memory) }
 {
     for below in 0..levels {
@@ -48,9 +52,13 @@ pub fn keep_new_path(tree: &mut Tree, levels: u8, index: u32) -> Result<(), Tree
 /// Puts the nodes of the new levels over what the tree holds into memory.
 pub fn keep_grown(tree: &mut Tree, levels: u8, stamp: u64) -> Result<(), TreeFault>
     requires few { levels ≤ 3 }
+    requires some { tree.old.root.stamp ≢ 0 }
+    requires stamp { 1 ≤ stamp }
     ensures fields { IsSameBut tree.old tree.new }
     ensures grown { OnOk result ((level : ℕ) → tree.old.levels < level → level ≤ levels → IsGrownNode tree.old tree.new stamp level) }
     ensures others { (level place : ℕ) → (level ≤ tree.old.levels) ⊎ (place ≢ 0) → node_in tree.new level place ≡ node_in tree.old level place }
+    ensures same { (level place : ℕ) → (level ≤ tree.old.levels) ⊎ (place ≢ 0) → kept_at tree.new level place ≡ kept_at tree.old level place }
+    ensures tops { OnOk result ((level : ℕ) → tree.old.levels < level → level ≤ levels → IsTop tree.new level) }
     ensures memory { IfErr result (λ e. e ≡ TreeFault.Memory) }
 {
     let mut child = tree.root;
@@ -63,7 +71,11 @@ pub fn keep_grown(tree: &mut Tree, levels: u8, stamp: u64) -> Result<(), TreeFau
 
 /// A node over one pointer.
 fn node_over(child: &Pointer) -> KeptNode
-    ensures { result.children ≡ slice_set (replicate 128 hole) 0 child.now }
+    requires pointer { IsPointer child.now }
+    requires some { child.now.stamp ≢ 0 }
+    ensures children { result.children ≡ slice_set (replicate 128 hole) 0 child.now }
+    ensures changed { result.changed ≡ true }
+    ensures placed { result.placed ≡ false }
 {
     let mut children = [HOLE; 128];
     children[0] = *child;
@@ -76,7 +88,8 @@ fn node_over(child: &Pointer) -> KeptNode
 
 /// A pointer to what has no block yet.
 pub fn new_mark(stamp: u64) -> Pointer
-    ensures { result ≡ new_child stamp }
+    ensures is { result ≡ new_child stamp }
+    ensures pointer { IsPointer result }
 {
     Pointer {
         vvbn: 0,
@@ -90,9 +103,13 @@ pub fn keep_new_levels(tree: &mut Tree, levels: u8, index: u32, stamp: u64) -> R
     requires few { levels ≤ 3 }
     requires past { fan ^ tree.old.levels ≤ index }
     requires least { (level : ℕ) → level < levels → fan ^ level ≤ index }
+    requires stamp { 1 ≤ stamp }
     ensures fields { IsSameBut tree.old tree.new }
     ensures grows { OnOk result (HasNewLevels tree.old tree.new levels index stamp) }
     ensures failed { OnErr result (HasOldNodes tree.old tree.new index) }
+    ensures brings { BringsNew tree.old tree.new index }
+    ensures blank { OnOk result ((level : ℕ) → 1 ≤ level → level ≤ levels → (level < levels) ⊎ (tree.old.root.stamp ≡ 0) → IsBlank (kept_at tree.new level (index / fan ^ level))) }
+    ensures tops { OnOk result (tree.old.root.stamp ≢ 0 → (level : ℕ) → tree.old.levels < level → level ≤ levels → IsTop tree.new level) }
     ensures memory { IfErr result (λ e. e ≡ TreeFault.Memory) }
 {
     keep_new_path(tree, levels, index)?;

@@ -1,11 +1,16 @@
 //! Holding the nodes over a cell in memory.
 
-ghost use Rattle.std.specs.Prelude.{◌≡◌, ◌≤◌, ◌<◌, ◌/◌, ◌-◌, ◌^◌, ◌&&◌, ℕ, cond, nat_eq, Some, IfOk, IfErr, OnOk, OnErr, get_or, length, replicate};
+ghost use Rattle.std.specs.Prelude.{◌≡◌, ◌≤◌, ◌<◌, ◌/◌, ◌-◌, ◌^◌, ◌&&◌, ℕ, true, false, cond, nat_eq, Some, IfOk, IfErr, OnOk, OnErr, get_or, length, replicate};
+ghost use Rattle.std.specs.List.{All};
+ghost use Rattle.fv_codec.specs.Blocks.{IsPointer};
 ghost use Rattle.fv_model.specs.Trees.{fan};
 ghost use Rattle.fv_tree.specs.Spelled.{hole, pointers_at, pointer_below, pointer_at};
 ghost use Rattle.fv_tree.specs.Sources.{Counts};
 ghost use Rattle.fv_tree.specs.Standing.{standing, under, node_in, IsSameBut, Fails, LoadFails};
+ghost use Rattle.fv_tree.specs.Releasing.{KeepsBlocks};
 ghost use Rattle.fv_tree.specs.Keeping.{IsKept, Keeps, IsSame, KeepsBelow};
+ghost use Rattle.fv_tree.specs.Flushing.{placed_in, Stands};
+ghost use Rattle.fv_tree.specs.Carried.{kept_at, Brings, IsBlank};
 
 use crate::blocks::{Blocks, TreeFault};
 use crate::kept::{HOLE, KeptNode, Tree};
@@ -22,8 +27,13 @@ pub fn keep_path<B: Blocks>(
     requires index { index < fan ^ tree.old.levels }
     ensures pointer { IfOk result (λ p. p ≡ pointer_at (standing (under (B.shown blocks.old)) tree.old) 0 index) }
     ensures kept { OnOk result ((level : ℕ) → 1 ≤ level → level ≤ tree.old.levels → IsKept (standing (under (B.shown blocks.new)) tree.new) level (index / fan ^ level)) }
+    ensures unplaced { OnOk result ((level : ℕ) → 1 ≤ level → level ≤ tree.old.levels → (pointer_at (standing (under (B.shown blocks.old)) tree.old) level (index / fan ^ level)).stamp ≡ 0 → placed_in tree.new.nodes level (index / fan ^ level) ≡ false) }
+    ensures fields { IsSameBut tree.old tree.new }
+    ensures stands { Stands (B.shown blocks.old) tree.old → Stands (B.shown blocks.new) tree.new }
     ensures same { IsSame (standing (under (B.shown blocks.old)) tree.old) (standing (under (B.shown blocks.new)) tree.new) }
+    ensures blocks { KeepsBlocks (under (B.shown blocks.old)) tree.old tree.new }
     ensures held { (B.shown blocks.new).held ≡ (B.shown blocks.old).held }
+    ensures used { (B.shown blocks.new).used ≡ (B.shown blocks.old).used }
     ensures counts { Counts (B.shown blocks.old) (B.shown blocks.new) }
     ensures cause { IfErr result (Fails (standing (under (B.shown blocks.old)) tree.old) (B.shown blocks.old) (B.shown blocks.new)) }
 {
@@ -49,9 +59,14 @@ fn keep_step<B: Blocks>(
     requires pointer { pointer.now ≡ pointer_at (standing (under (B.shown blocks.old)) tree.old) level (index / fan ^ level) }
     ensures below { IfOk result (λ p. p ≡ pointer_at (standing (under (B.shown blocks.old)) tree.old) (level - 1) (index / fan ^ (level - 1))) }
     ensures keeps { OnOk result (IsKept (standing (under (B.shown blocks.new)) tree.new) level (index / fan ^ level)) }
+    ensures brings { Brings (under (B.shown blocks.old)) tree.old tree.new level (index / fan ^ level) pointer.now }
+    ensures blank { OnOk result (pointer.now.stamp ≡ 0 → IsBlank (kept_at tree.new level (index / fan ^ level))) }
+    ensures fields { IsSameBut tree.old tree.new }
     ensures others { KeepsBelow (standing (under (B.shown blocks.old)) tree.old) (standing (under (B.shown blocks.new)) tree.new) level }
     ensures same { IsSame (standing (under (B.shown blocks.old)) tree.old) (standing (under (B.shown blocks.new)) tree.new) }
+    ensures blocks { KeepsBlocks (under (B.shown blocks.old)) tree.old tree.new }
     ensures held { (B.shown blocks.new).held ≡ (B.shown blocks.old).held }
+    ensures used { (B.shown blocks.new).used ≡ (B.shown blocks.old).used }
     ensures counts { Counts (B.shown blocks.old) (B.shown blocks.new) }
     ensures cause { IfErr result (Fails (standing (under (B.shown blocks.old)) tree.old) (B.shown blocks.old) (B.shown blocks.new)) }
 {
@@ -62,7 +77,7 @@ fn keep_step<B: Blocks>(
 }
 
 /// Holds the node of a position, to which a pointer leads, in memory, and answers its pointers.
-fn keep_node<B: Blocks>(
+pub fn keep_node<B: Blocks>(
     tree: &mut Tree,
     blocks: &mut B,
     level: u8,
@@ -71,9 +86,13 @@ fn keep_node<B: Blocks>(
 ) -> Result<[Pointer; 128], TreeFault>
     ensures keeps { Keeps (standing (under (B.shown blocks.old)) tree.old) (standing (under (B.shown blocks.new)) tree.new) level place pointer.now }
     ensures children { IfOk result (λ xs. (slot : ℕ) → get_or xs slot hole ≡ get_or (pointers_at (standing (under (B.shown blocks.old)) tree.old) level place pointer.now) slot hole) }
+    ensures brings { Brings (under (B.shown blocks.old)) tree.old tree.new level place pointer.now }
+    ensures blank { OnOk result (pointer.now.stamp ≡ 0 → IsBlank (kept_at tree.new level place)) }
+    ensures fields { IsSameBut tree.old tree.new }
     ensures long { IfOk result (λ xs. length xs ≡ 128) }
     ensures kept { IfOk result (λ xs. (standing (under (B.shown blocks.new)) tree.new).nodes level place ≡ Some xs) }
     ensures held { (B.shown blocks.new).held ≡ (B.shown blocks.old).held }
+    ensures used { (B.shown blocks.new).used ≡ (B.shown blocks.old).used }
     ensures counts { Counts (B.shown blocks.old) (B.shown blocks.new) }
     ensures cause { IfErr result (LoadFails (B.shown blocks.old) (B.shown blocks.new) tree.old.owner level place pointer.now) }
 {
@@ -100,6 +119,8 @@ pub fn keep(
     ensures node { OnOk result ((k q : ℕ) → node_in tree.new k q ≡ cond (nat_eq k level && nat_eq q place) (Some node.children) (node_in tree.old k q)) }
     ensures children { IfOk result (λ xs. xs ≡ node.children) }
     ensures failed { OnErr result ((k q : ℕ) → node_in tree.new k q ≡ node_in tree.old k q) }
+    ensures kept { OnOk result ((k q : ℕ) → kept_at tree.new k q ≡ cond (nat_eq k level && nat_eq q place) (Some node) (kept_at tree.old k q)) }
+    ensures same { OnErr result ((k q : ℕ) → kept_at tree.new k q ≡ kept_at tree.old k q) }
     ensures memory { IfErr result (λ e. e ≡ TreeFault.Memory) }
 {
     let children = node.children;
@@ -111,7 +132,9 @@ pub fn keep(
 
 /// A node without a pointer, to which nothing leads.
 pub fn empty_node() -> KeptNode
-    ensures { result.children ≡ replicate 128 hole }
+    ensures children { result.children ≡ replicate 128 hole }
+    ensures changed { result.changed ≡ false }
+    ensures placed { result.placed ≡ false }
 {
     KeptNode {
         children: [HOLE; 128],
@@ -122,7 +145,10 @@ pub fn empty_node() -> KeptNode
 
 /// A node as its block spells it.
 fn read_node(children: [Pointer; 128]) -> KeptNode
-    ensures { result.children ≡ children }
+    requires { All IsPointer children }
+    ensures children { result.children ≡ children }
+    ensures changed { result.changed ≡ false }
+    ensures placed { result.placed ≡ true }
 {
     KeptNode {
         children,

@@ -1,8 +1,11 @@
 //! What a tree holds in memory.
 
-ghost use Rattle.std.specs.Prelude.{◌≡◌, ◌≤◌, length};
+ghost use Rattle.std.specs.Prelude.{◌≡◌, ◌≤◌, true, false, length};
+ghost use Rattle.std.specs.List.{All};
+ghost use Rattle.fv_codec.specs.Blocks.{IsPointer, all_holes};
 
 use fv_codec::Pointer;
+use std::alloc::Global;
 use std::collections::BTreeMap;
 
 /// A pointer that leads to nothing.
@@ -22,6 +25,8 @@ pub struct KeptNode {
     /// Whether the pointer to it leads to a block that it replaces.
     pub placed: bool,
     ghost long: { length children ≡ 128 },
+    ghost pointers: { All IsPointer children },
+    ghost some: { changed ≡ true → all_holes children ≡ false },
 }
 
 /// A cell in memory, which differs from its block.
@@ -33,7 +38,8 @@ pub struct KeptCell {
     pub placed: bool,
 }
 
-/// A tree of a file, or of an inode file, of which what changed is in memory.
+/// A tree of a file, or of an inode file, of which what changed since the last `flush` is in memory, with the
+/// nodes over it: at most five nodes and a cell for each `put`.
 #[derive(Drop)]
 pub struct Tree {
     pub(crate) owner: u64,
@@ -41,5 +47,7 @@ pub struct Tree {
     pub(crate) root: Pointer,
     pub(crate) nodes: BTreeMap<(u8, u32), KeptNode>,
     pub(crate) cells: BTreeMap<u32, KeptCell>,
+    pub(crate) alloc: Global,
     ghost few: { levels ≤ 3 },
+    ghost pointer: { IsPointer root },
 }

@@ -5,11 +5,22 @@
 #![tactic(auto)]
 
 mod blocks;
+mod cut;
+#[cfg(test)]
+mod cut_tests;
+mod erase;
+mod flush;
+#[cfg(test)]
+mod flush_tests;
 mod grow;
 mod keep;
 mod kept;
 mod memory;
 mod node;
+mod placing;
+mod remove;
+#[cfg(test)]
+mod remove_tests;
 mod sizes;
 #[cfg(test)]
 mod tests;

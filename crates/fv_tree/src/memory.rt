@@ -10,7 +10,7 @@ use std::alloc::Global;
 use std::collections::BTreeMap;
 
 /// How many VVBNs there are.
-const MOST: u32 = 100_000;
+const MOST: u32 = 1_000_000;
 
 /// A map of blocks in memory that counts its calls. The block under VVBN `v` reads at PVBN `v + 1`.
 #[derive(Drop)]
@@ -20,6 +20,10 @@ pub struct MemBlocks {
     faults: u64,
     fails_in: u64,
     calls: u64,
+    placed: [u64; 8],
+    dropped: u64,
+    strays: u64,
+    unknown: Option<u32>,
 }
 
 impl MemBlocks {
@@ -31,6 +35,10 @@ impl MemBlocks {
             faults: 0,
             fails_in: u64::MAX,
             calls: 0,
+            placed: [0; 8],
+            dropped: 0,
+            strays: 0,
+            unknown: None,
         }
     }
 
@@ -44,6 +52,25 @@ impl MemBlocks {
         self.calls
     }
 
+    /// Lets `place` ask for an unknown pointer where it answers this VVBN.
+    pub fn hide(&mut self, vvbn: u32) {
+        self.unknown = Some(vvbn);
+    }
+
+    /// How many blocks of a kind were placed.
+    pub fn placed(&self, kind: u8) -> u64 {
+        if kind < 8 {
+            self.placed[kind as usize]
+        } else {
+            0
+        }
+    }
+
+    /// How many blocks were named as gone and dropped, and how often there was none to drop.
+    pub fn gone(&self) -> (u64, u64) {
+        (self.dropped, self.strays)
+    }
+
     /// Counts a call, and tells whether it is to fail.
     fn is_spent(&mut self) -> bool
         ensures blocks { self.new.blocks ≡ self.old.blocks }
@@ -55,6 +82,18 @@ impl MemBlocks {
         fails
     }
 
+    /// Where a block that is placed reads, or 0 where that is hidden.
+    fn pvbn_of(&self, vvbn: u32) -> u32
+        requires { vvbn ≤ 1048574 }
+        ensures { result ≤ 1048575 }
+    {
+        if self.unknown == Some(vvbn) {
+            0
+        } else {
+            vvbn + 1
+        }
+    }
+
     /// Counts a fault.
     fn fault(&mut self) -> TreeFault
         ensures blocks { self.new.blocks ≡ self.old.blocks }
@@ -64,6 +103,23 @@ impl MemBlocks {
     {
         self.faults = self.faults.saturating_add(1);
         TreeFault::DiskFault
+    }
+}
+
+/// Counts a block of a kind that was placed.
+fn count_kind(placed: &mut [u64; 8], kind: u8)
+    requires { kind ≤ 7 }
+{
+    let kind = kind as usize;
+    placed[kind] = placed[kind].saturating_add(1);
+}
+
+/// Counts a VVBN that was named as gone.
+fn count_gone(dropped: &mut u64, strays: &mut u64, found: bool) {
+    if found {
+        *dropped = dropped.saturating_add(1);
+    } else {
+        *strays = strays.saturating_add(1);
     }
 }
 
@@ -84,7 +140,7 @@ impl Blocks for MemBlocks {
         Ok(vvbn + 1)
     }
 
-    fn place(&mut self, _kind: u8, block: &[u8; 4096]) -> Result<Placed, TreeFault> {
+    fn place(&mut self, kind: u8, block: &[u8; 4096]) -> Result<Placed, TreeFault> {
         if self.is_spent() {
             return Err(self.fault());
         }
@@ -97,13 +153,15 @@ impl Blocks for MemBlocks {
             Err(_) => return Err(TreeFault::Memory),
         }
         self.next = vvbn + 1;
+        count_kind(&mut self.placed, kind);
         Ok(Placed {
             vvbn,
-            pvbn: vvbn + 1,
+            pvbn: self.pvbn_of(vvbn),
         })
     }
 
     fn gone(&mut self, vvbn: u32) {
-        let _ = self.blocks.remove(&vvbn);
+        let found = self.blocks.remove(&vvbn).is_some();
+        count_gone(&mut self.dropped, &mut self.strays, found);
     }
 }

@@ -8,17 +8,17 @@ use fv_codec::Pointer;
 use std::alloc::Global;
 use std::test::Fail;
 
-const OWNER: u64 = 7;
+pub const OWNER: u64 = 7;
 
 /// A block that begins with a number.
-fn block(first: u8) -> [u8; 4096] {
+pub fn block(first: u8) -> [u8; 4096] {
     let mut block = [0; 4096];
     block[0] = first;
     block
 }
 
 /// Writes a cell.
-fn put(
+pub fn put(
     tree: &mut Tree,
     blocks: &mut MemBlocks,
     index: u32,
@@ -32,7 +32,7 @@ fn put(
 }
 
 /// The first byte of a cell.
-fn get(tree: &mut Tree, blocks: &mut MemBlocks, index: u32) -> Result<Option<u8>, TreeFault> {
+pub fn get(tree: &mut Tree, blocks: &mut MemBlocks, index: u32) -> Result<Option<u8>, TreeFault> {
     let mut into = [0; 4096];
     if tree.get(blocks, index, &mut into)? {
         Ok(Some(into[0]))
@@ -42,7 +42,7 @@ fn get(tree: &mut Tree, blocks: &mut MemBlocks, index: u32) -> Result<Option<u8>
 }
 
 /// The stamp of a place: of the root, or else of the pointer in the node over it.
-fn stamp(tree: &Tree, level: u8, place: u32) -> Option<u64> {
+pub fn stamp(tree: &Tree, level: u8, place: u32) -> Option<u64> {
     let stamp = if level == tree.levels {
         tree.root.stamp
     } else if level < tree.levels {
@@ -55,7 +55,7 @@ fn stamp(tree: &Tree, level: u8, place: u32) -> Option<u64> {
 }
 
 /// A tree with levels 0 after it got index 0 with the stamp 5 and index 128 with the stamp 6.
-fn grown(alloc: Global, blocks: &mut MemBlocks) -> Result<Tree, TreeFault> {
+pub fn grown(alloc: Global, blocks: &mut MemBlocks) -> Result<Tree, TreeFault> {
     let mut tree = Tree::new(alloc, OWNER, 0);
     put(&mut tree, blocks, 0, 10, 5)?;
     put(&mut tree, blocks, 128, 20, 6)?;
@@ -140,7 +140,7 @@ fn each_order_of_two_indexes(rt: HostRuntime) -> Result<(), Fail> {
 }
 
 /// A block of words at offsets.
-fn words(words: &[(usize, u64)]) -> [u8; 4096] {
+pub fn words(words: &[(usize, u64)]) -> [u8; 4096] {
     let mut block = [0; 4096];
     for (at, word) in words {
         if *at <= 4088 {
@@ -151,7 +151,7 @@ fn words(words: &[(usize, u64)]) -> [u8; 4096] {
 }
 
 /// Places blocks in order: VVBN 0 is the first.
-fn placed(alloc: Global, all: &[[u8; 4096]]) -> Result<MemBlocks, TreeFault> {
+pub fn placed(alloc: Global, all: &[[u8; 4096]]) -> Result<MemBlocks, TreeFault> {
     let mut blocks = MemBlocks::new(alloc);
     for block in all {
         blocks.place(1, block)?;
@@ -177,7 +177,7 @@ fn stored(
     Ok((second, third))
 }
 
-const MARK: u64 = 0x4656_4e4f_4445_3030;
+pub const MARK: u64 = 0x4656_4e4f_4445_3030;
 
 #[test]
 fn nodes_that_are_loaded(rt: HostRuntime) -> Result<(), Fail> {

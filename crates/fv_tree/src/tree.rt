@@ -1,6 +1,7 @@
 //! The calls of a tree.
 
-ghost use Rattle.std.specs.Prelude.{◌≡◌, ◌≤◌, ◌<◌, ℕ, List, cond, Some, None, IfOk, IfErr, OnOk, OnErr};
+ghost use Rattle.std.specs.Prelude.{◌≡◌, ◌≤◌, ◌<◌, ℕ, Bool, List, cond, Some, None, IfOk, IfErr, OnOk, OnErr};
+ghost use Rattle.std.specs.BTreeMap as maps;
 ghost use Rattle.std.specs.FinMap as fin;
 ghost use Rattle.std.specs.Ordering.{nat_cmp};
 ghost use Rattle.fv_model.specs.Trees as trees;
@@ -9,6 +10,7 @@ ghost use Rattle.fv_tree.specs.Spelled.{Under, hole, stored, block_at};
 ghost use Rattle.fv_tree.specs.Sources.{Counts};
 ghost use Rattle.fv_tree.specs.Standing.{standing, under, Shows, Fails};
 ghost use Rattle.fv_tree.specs.Writing.{IsWritten, Writes, Remains};
+ghost use Rattle.fv_tree.specs.Flushing.{loaded_over, IsSound, ReachesOnce, Stands};
 
 use crate::blocks::{Blocks, TreeFault};
 use crate::kept::{HOLE, Tree};
@@ -25,6 +27,7 @@ impl Tree {
         requires levels { levels ≤ 3 }
         ensures stored { (blocks : Under) → standing blocks result ≡ stored blocks owner levels hole }
         ensures seen { (blocks : Under) → Shows (standing blocks result) (record { levels = levels; stamps = fin.empty }) fin.empty }
+        ensures stands { (blocks : Under) (used : ℕ → Bool) → IsSound used (loaded_over blocks result) }
     {
         Tree::at(alloc, owner, levels, HOLE)
     }
@@ -33,15 +36,10 @@ impl Tree {
     pub fn at(alloc: Global, owner: u64, levels: u8, root: Pointer) -> Tree
         requires levels { levels ≤ 3 }
         requires root { IsPointer root }
-        ensures { (blocks : Under) → standing blocks result ≡ stored blocks owner levels root }
+        ensures stored { (blocks : Under) → standing blocks result ≡ stored blocks owner levels root }
+        ensures stands { (blocks : Under) (used : ℕ → Bool) → ReachesOnce used (stored blocks owner levels root) → IsSound used (loaded_over blocks result) }
     {
-        Tree {
-            owner,
-            levels,
-            root,
-            nodes: BTreeMap::new(alloc),
-            cells: BTreeMap::new(alloc),
-        }
+        unread(alloc, owner, levels, root)
     }
 
     /// How many levels of nodes it has.
@@ -67,7 +65,9 @@ impl Tree {
         ensures cell { IfOk result (λ there. block_at (standing (under (B.shown blocks.old)) self.old) index ≡ cond there (Some into.new) None) }
         ensures seen { (seen : trees.Tree) (contents : fin.FinMap nat_cmp (List ℕ)) → Shows (standing (under (B.shown blocks.old)) self.old) seen contents → IfOk result (λ there. fin.get contents index ≡ cond there (Some into.new) None) }
         ensures tree { self.new ≡ self.old }
+        ensures stands { Stands (B.shown blocks.old) self.old → Stands (B.shown blocks.new) self.new }
         ensures held { (B.shown blocks.new).held ≡ (B.shown blocks.old).held }
+        ensures used { (B.shown blocks.new).used ≡ (B.shown blocks.old).used }
         ensures counts { Counts (B.shown blocks.old) (B.shown blocks.new) }
         ensures cause { IfErr result (Fails (standing (under (B.shown blocks.old)) self.old) (B.shown blocks.old) (B.shown blocks.new)) }
     {
@@ -95,10 +95,32 @@ impl Tree {
         ensures written { OnOk result (Writes (standing (under (B.shown blocks.old)) self.old) (standing (under (B.shown blocks.new)) self.new) index stamp block.now) }
         ensures place_by_place { OnOk result (IsWritten (standing (under (B.shown blocks.old)) self.old) (standing (under (B.shown blocks.new)) self.new) index stamp block.now) }
         ensures failed { OnErr result (Remains (standing (under (B.shown blocks.old)) self.old) (standing (under (B.shown blocks.new)) self.new)) }
+        ensures stands { Stands (B.shown blocks.old) self.old → Stands (B.shown blocks.new) self.new }
         ensures held { (B.shown blocks.new).held ≡ (B.shown blocks.old).held }
+        ensures used { (B.shown blocks.new).used ≡ (B.shown blocks.old).used }
         ensures counts { Counts (B.shown blocks.old) (B.shown blocks.new) }
         ensures cause { IfErr result (Fails (standing (under (B.shown blocks.old)) self.old) (B.shown blocks.old) (B.shown blocks.new)) }
     {
         write_cell(self, blocks, index, block, stamp)
+    }
+}
+
+/// A tree of which nothing is in memory.
+fn unread(alloc: Global, owner: u64, levels: u8, root: Pointer) -> Tree
+    requires levels { levels ≤ 3 }
+    requires root { IsPointer root }
+    ensures owner { result.owner ≡ owner }
+    ensures levels { result.levels ≡ levels }
+    ensures root { result.root ≡ root }
+    ensures nodes { maps.btree_map_len result.nodes ≡ 0 }
+    ensures cells { maps.btree_map_len result.cells ≡ 0 }
+{
+    Tree {
+        owner,
+        levels,
+        root,
+        nodes: BTreeMap::new(alloc),
+        cells: BTreeMap::new(alloc),
+        alloc,
     }
 }

@@ -17,6 +17,7 @@ use fv_codec::{Node, Pointer};
 pub fn find<B: Blocks>(tree: &Tree, blocks: &mut B, index: u32) -> Result<Pointer, TreeFault>
     ensures pointer { IfOk result (λ p. p ≡ pointer_at (standing (under (B.shown blocks.old)) tree.now) 0 index) }
     ensures held { (B.shown blocks.new).held ≡ (B.shown blocks.old).held }
+    ensures used { (B.shown blocks.new).used ≡ (B.shown blocks.old).used }
     ensures counts { Counts (B.shown blocks.old) (B.shown blocks.new) }
     ensures cause { IfErr result (Fails (standing (under (B.shown blocks.old)) tree.now) (B.shown blocks.old) (B.shown blocks.new)) }
 {
@@ -54,6 +55,7 @@ fn step<B: Blocks>(
     requires pointer { pointer.now ≡ pointer_below (standing (under (B.shown blocks.old)) tree.now) (tree.now.levels - level) (index / fan ^ level) }
     ensures below { IfOk result (λ p. p ≡ pointer_below (standing (under (B.shown blocks.old)) tree.now) (tree.now.levels - (level - 1)) (index / fan ^ (level - 1))) }
     ensures held { (B.shown blocks.new).held ≡ (B.shown blocks.old).held }
+    ensures used { (B.shown blocks.new).used ≡ (B.shown blocks.old).used }
     ensures counts { Counts (B.shown blocks.old) (B.shown blocks.new) }
     ensures cause { IfErr result (Fails (standing (under (B.shown blocks.old)) tree.now) (B.shown blocks.old) (B.shown blocks.new)) }
 {
@@ -74,6 +76,7 @@ fn child<B: Blocks>(
     requires slot { slot < fan }
     ensures child { IfOk result (λ p. p ≡ get_or (pointers_at (standing (under (B.shown blocks.old)) tree.now) level place pointer.now) slot hole) }
     ensures held { (B.shown blocks.new).held ≡ (B.shown blocks.old).held }
+    ensures used { (B.shown blocks.new).used ≡ (B.shown blocks.old).used }
     ensures counts { Counts (B.shown blocks.old) (B.shown blocks.new) }
     ensures cause { IfErr result (LoadFails (B.shown blocks.old) (B.shown blocks.new) tree.now.owner level place pointer.now) }
 {
@@ -102,6 +105,7 @@ pub fn load_node<B: Blocks>(
     ensures long { IfOk result (λ n. length n.children ≡ 128) }
     ensures range { IfOk result (λ n. IsNode n) }
     ensures held { (B.shown blocks.new).held ≡ (B.shown blocks.old).held }
+    ensures used { (B.shown blocks.new).used ≡ (B.shown blocks.old).used }
     ensures counts { Counts (B.shown blocks.old) (B.shown blocks.new) }
     ensures cause { IfErr result (LoadFails (B.shown blocks.old) (B.shown blocks.new) owner level place pointer.now) }
 {
@@ -129,6 +133,7 @@ pub fn read_cell<B: Blocks>(
     requires pointer { pointer.now ≡ pointer_at (standing (under (B.shown blocks.old)) tree.now) 0 index }
     ensures cell { IfOk result (λ there. block_at (standing (under (B.shown blocks.old)) tree.now) index ≡ cond there (Some into.new) None) }
     ensures held { (B.shown blocks.new).held ≡ (B.shown blocks.old).held }
+    ensures used { (B.shown blocks.new).used ≡ (B.shown blocks.old).used }
     ensures counts { Counts (B.shown blocks.old) (B.shown blocks.new) }
     ensures cause { IfErr result (HasCause (B.shown blocks.old) (B.shown blocks.new)) }
 {

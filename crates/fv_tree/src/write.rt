@@ -1,11 +1,15 @@
 //! Writing a cell: its content, and the stamps on the way to it.
 
-ghost use Rattle.std.specs.Prelude.{◌≡◌, ◌≤◌, ◌<◌, ◌^◌, ◌&&◌, ℕ, cond, nat_eq, Some, IfErr, OnOk, OnErr};
+ghost use Rattle.std.specs.Prelude.{◌≡◌, ◌≢◌, ◌≤◌, ◌<◌, ◌^◌, ◌⊎◌, ◌&&◌, ℕ, Bool, true, is_some, cond, nat_eq, Some, IfErr, OnOk, OnErr};
+ghost use Rattle.std.specs.BTreeMap as maps;
+ghost use Rattle.std.specs.Ordering.{nat_cmp};
 ghost use Rattle.std.specs.Option.{option_map};
-ghost use Rattle.fv_model.specs.Trees.{fan};
+ghost use Rattle.fv_model.specs.Trees.{fan, spot_cmp};
 ghost use Rattle.fv_tree.specs.Standing.{standing, under, children_in, cell_in, IsSameButCells, Fails};
 ghost use Rattle.fv_tree.specs.Spelled.{Under};
 ghost use Rattle.fv_tree.specs.Sources.{Counts};
+ghost use Rattle.fv_tree.specs.Flushing.{cell_placed, changed_in, loaded_over, placed_in, IsSound, Stands};
+ghost use Rattle.fv_tree.specs.Carried.{Marks};
 ghost use Rattle.fv_tree.specs.Writing.{stamped, stamped_in, new_child, Stamps, IsAlike, IsWritten};
 
 use crate::blocks::{Blocks, TreeFault};
@@ -26,15 +30,14 @@ pub fn keep_cell(
     ensures fields { IsSameButCells tree.old tree.new }
     ensures cell { OnOk result ((i : ℕ) → cell_in tree.new i ≡ cond (nat_eq i index) (Some block.now) (cell_in tree.old i)) }
     ensures failed { OnErr result ((i : ℕ) → cell_in tree.new i ≡ cell_in tree.old i) }
+    ensures own { OnOk result (cell_placed (maps.get nat_cmp tree.new.cells index) ≡ (placed && cell_placed (maps.get nat_cmp tree.old.cells index))) }
+    ensures others { (i : ℕ) → i ≢ index → maps.get nat_cmp tree.new.cells i ≡ maps.get nat_cmp tree.old.cells i }
+    ensures same { OnErr result ((i : ℕ) → maps.get nat_cmp tree.new.cells i ≡ maps.get nat_cmp tree.old.cells i) }
     ensures memory { IfErr result (λ e. e ≡ TreeFault.Memory) }
 {
-    let placed = match tree.cells.get(&index) {
-        Some(cell) => cell.placed,
-        None => placed,
-    };
     let cell = KeptCell {
         block: *block,
-        placed,
+        placed: placed && is_placed(tree, index),
     };
     match tree.cells.insert(index, cell) {
         Ok(_) => Ok(()),
@@ -42,9 +45,21 @@ pub fn keep_cell(
     }
 }
 
+/// Whether the pointer to a cell, where there is one, leads to a block.
+pub fn is_placed(tree: &Tree, index: u32) -> bool
+    ensures { result ≡ cell_placed (maps.get nat_cmp tree.now.cells index) }
+{
+    match tree.cells.get(&index) {
+        Some(cell) => cell.placed,
+        None => true,
+    }
+}
+
 /// Gives the root and each pointer on the way to a cell a stamp.
 pub fn stamp_path(tree: &mut Tree, index: u32, stamp: u64)
-    ensures { Stamps tree.old tree.new index stamp }
+    requires { 1 ≤ stamp }
+    ensures stamps { Stamps tree.old tree.new index stamp }
+    ensures marks { Marks tree.old tree.new index }
 {
     let levels = tree.levels;
     tree.root = stamped(&tree.root, stamp);
@@ -56,15 +71,19 @@ pub fn stamp_path(tree: &mut Tree, index: u32, stamp: u64)
 }
 
 /// Gives one pointer of a node in memory a stamp.
-fn stamp_slot(
+pub fn stamp_slot(
     nodes: &mut BTreeMap<(u8, u32), KeptNode>,
     level: u8,
     place: u32,
     slot: u32,
     stamp: u64,
 )
-    requires { slot < fan }
-    ensures { (k q : ℕ) → children_in nodes.new k q ≡ cond (nat_eq k level && nat_eq q place) (option_map (stamped_in slot stamp) (children_in nodes.old k q)) (children_in nodes.old k q) }
+    requires slot { slot < fan }
+    requires stamp { 1 ≤ stamp }
+    ensures children { (k q : ℕ) → children_in nodes.new k q ≡ cond (nat_eq k level && nat_eq q place) (option_map (stamped_in slot stamp) (children_in nodes.old k q)) (children_in nodes.old k q) }
+    ensures placed { (k q : ℕ) → placed_in nodes.new k q ≡ placed_in nodes.old k q }
+    ensures changed { is_some (maps.get spot_cmp nodes.old (level, place)) ≡ true → changed_in nodes.new level place ≡ true }
+    ensures others { (k q : ℕ) → (k ≢ level) ⊎ (q ≢ place) → maps.get spot_cmp nodes.new (k, q) ≡ maps.get spot_cmp nodes.old (k, q) }
 {
     if let Some(node) = nodes.get_mut(&(level, place)) {
         stamp_child(node, slot, stamp);
@@ -73,8 +92,11 @@ fn stamp_slot(
 
 /// Gives one pointer of a node a stamp.
 fn stamp_child(node: &mut KeptNode, slot: u32, stamp: u64)
-    requires { slot < fan }
-    ensures { node.new.children ≡ stamped_in slot stamp node.old.children }
+    requires slot { slot < fan }
+    requires stamp { 1 ≤ stamp }
+    ensures children { node.new.children ≡ stamped_in slot stamp node.old.children }
+    ensures changed { node.new.changed ≡ true }
+    ensures placed { node.new.placed ≡ node.old.placed }
 {
     let slot = slot as usize;
     let child = node.children[slot];
@@ -83,7 +105,7 @@ fn stamp_child(node: &mut KeptNode, slot: u32, stamp: u64)
 }
 
 /// A pointer with another stamp.
-fn stamped(pointer: &Pointer, stamp: u64) -> Pointer
+pub fn stamped(pointer: &Pointer, stamp: u64) -> Pointer
     ensures { result ≡ stamped pointer.now stamp }
 {
     Pointer {
@@ -105,7 +127,9 @@ pub fn write_within<B: Blocks>(
     requires stamp { 1 ≤ stamp }
     ensures done { OnOk result (IsWritten (standing (under (B.shown blocks.old)) tree.old) (standing (under (B.shown blocks.new)) tree.new) index stamp block.now) }
     ensures failed { OnErr result (IsAlike (standing (under (B.shown blocks.old)) tree.old) (standing (under (B.shown blocks.new)) tree.new)) }
+    ensures stands { Stands (B.shown blocks.old) tree.old → Stands (B.shown blocks.new) tree.new }
     ensures held { (B.shown blocks.new).held ≡ (B.shown blocks.old).held }
+    ensures used { (B.shown blocks.new).used ≡ (B.shown blocks.old).used }
     ensures counts { Counts (B.shown blocks.old) (B.shown blocks.new) }
     ensures cause { IfErr result (Fails (standing (under (B.shown blocks.old)) tree.old) (B.shown blocks.old) (B.shown blocks.new)) }
 {
@@ -127,6 +151,7 @@ pub fn write_past(
     requires stamp { 1 ≤ stamp }
     ensures done { (blocks : Under) → OnOk result (IsWritten (standing blocks tree.old) (standing blocks tree.new) index stamp block.now) }
     ensures failed { (blocks : Under) → OnErr result (IsAlike (standing blocks tree.old) (standing blocks tree.new)) }
+    ensures stands { (blocks : Under) (used : ℕ → Bool) → IsSound used (loaded_over blocks tree.old) → IsSound used (loaded_over blocks tree.new) }
     ensures memory { IfErr result (λ e. e ≡ TreeFault.Memory) }
 {
     let levels = levels_over(index);
@@ -162,7 +187,9 @@ pub fn write_cell<B: Blocks>(
     requires stamp { 1 ≤ stamp }
     ensures done { OnOk result (IsWritten (standing (under (B.shown blocks.old)) tree.old) (standing (under (B.shown blocks.new)) tree.new) index stamp block.now) }
     ensures failed { OnErr result (IsAlike (standing (under (B.shown blocks.old)) tree.old) (standing (under (B.shown blocks.new)) tree.new)) }
+    ensures stands { Stands (B.shown blocks.old) tree.old → Stands (B.shown blocks.new) tree.new }
     ensures held { (B.shown blocks.new).held ≡ (B.shown blocks.old).held }
+    ensures used { (B.shown blocks.new).used ≡ (B.shown blocks.old).used }
     ensures counts { Counts (B.shown blocks.old) (B.shown blocks.new) }
     ensures cause { IfErr result (Fails (standing (under (B.shown blocks.old)) tree.old) (B.shown blocks.old) (B.shown blocks.new)) }
 {

@@ -1,6 +1,6 @@
 -- The label of a slot, as it was read; what is loaded from it, and why it isn't.
 use Rattle.std.proofs.Common.{◌≡◌, ◌≢◌, ◌<◌, ℕ, zero, suc, true, cond, nat_lt, List, length, Option, Some, None, get_or, inl, inr, refl, sym, ap, subst, ◌∙◌, arith}
-use Rattle.std.specs.Prelude.{◌⊎◌, false, IfErr, Result, Ok, Err}
+use Rattle.std.specs.Prelude.{◌⊎◌, IfErr, IfSome, Result, Ok, Err}
 use Rattle.std.specs.Result.{IsErrAnd}
 use Rattle.std.specs.Option.{option_map}
 use Rattle.std.proofs.lemmas.Bool.Decides.{nat_tests}
@@ -8,12 +8,12 @@ use Rattle.fv_disk.specs.Shown.{Image}
 use Rattle.fv_codec.specs.declared.label.Label.{Label}
 use Rattle.fv_codec.specs.Blocks.{label_at}
 use Rattle.fv_image.specs.Containers.{shaped}
-use Rattle.fv_image.specs.Views.{entry_count, head_of}
-use Rattle.fv_image.specs.Held.{label_in, label_place, lying_at}
+use Rattle.fv_bits.specs.Members.{is_member}
+use Rattle.fv_volmap.specs.Slots.{active_of}
+use Rattle.fv_image.specs.Views.{entry_count, head_of, volume_bit}
+use Rattle.fv_image.specs.Held.{label_in, label_place, lying_at, view_at}
 use Rattle.fv_container.specs.declared.fault.ContainerFault.{ContainerFault}
 use Rattle.fv_container.specs.declared.fault.ContainerFault.TheVariants as container
-use Rattle.std.proofs.lemmas.List.{get_or-set_same}
-use Rattle.fv_container.specs.Chains.{Slots, container_at, with_container, with_parent}
 use Rattle.fv_container.specs.Mapped.{IsMapped, Mapped}
 use Rattle.fv_container.specs.Spelled.{IsFault, Spelled}
 use Rattle.fv_root.specs.declared.find.Found.{Found}
@@ -22,7 +22,7 @@ use Rattle.fv_volume.specs.declared.fault.VolumeFault.{VolumeFault}
 use Rattle.fv_volume.specs.declared.fault.VolumeFault.TheVariants.{Refused, DiskFault, Damaged, Memory}
 use Rattle.fv_volume.specs.declared.state.VolumeState.{VolumeState}
 use Rattle.fv_volume.specs.Causes.{of_container}
-use Rattle.fv_volume.specs.Loading.{IsBadLabel, IsBadMap, IsBadTree, IsContainerOf, IsLoadFault, IsLoaded, form_in, label_of}
+use Rattle.fv_volume.specs.Loading.{IsBadLabel, IsBadMap, IsBadTree, IsContainerOf, IsLoadFault, IsLoaded, form_in, has_delayed, label_of}
 use Rattle.fv_volume.specs.States.{head_in}
 
 -- a fault that was handed on
@@ -57,16 +57,19 @@ module _ (found : Found) (i : Image) (s : ℕ) (lt : s < 64) where
     head = ap (option_map head_of) (sym (no_label none));
     tree = subst (λ (l : Option Label). IsContainerOf i l c) (sym (no_label none)) (subst (IsContainerOf i None) (sym empty) tt);
     label = sym (place_there ∙ none);
-    unchanged = tt;
+    bits = tt;
+    changed = tt;
   }
 
-  pub loaded_some : (l : Label) (y : VolumeState) (map : Mapped) (c : Option Mapped) → label_of found i s ≡ Some l → head_in y ≡ head_of l → y.label ≡ get_or found.root.labels s 0 → y.changed ≡ false → c ≡ Some map
-      → Spelled i l.container l.height map → length map.entries ≡ entry_count l.span → IsMapped map → IsLoaded i found s (Some y) c
-  loaded_some l y map c lies head place unchanged there spelled size valid = record {
+  pub loaded_some : (l : Label) (y : VolumeState) (map : Mapped) (c : Option Mapped) → label_of found i s ≡ Some l → head_in y ≡ head_of l → y.label ≡ get_or found.root.labels s 0 → c ≡ Some map
+      → Spelled i l.container l.height map → length map.entries ≡ entry_count l.span → IsMapped map
+      → ((v : ℕ) → is_member (active_of y.map) v ≡ volume_bit (view_at (root_found found) i) s y.span 0 v) → y.changed ≡ has_delayed map y.span → IsLoaded i found s (Some y) c
+  loaded_some l y map c lies head place there spelled size valid bits changed = record {
     head = ap Some head ∙ ap (option_map head_of) (sym lies);
     tree = subst (λ (o : Option Label). IsContainerOf i o c) (sym lies) (subst (IsContainerOf i (Some l)) (sym there) (spelled, (size, valid)));
     label = place ∙ sym place_there;
-    unchanged = unchanged;
+    bits = bits;
+    changed = subst (λ (o : Option Mapped). IfSome o (λ m. y.changed ≡ has_delayed m y.span)) (sym there) changed;
   }
 
   pub bad_label : (p : ℕ) (e : VolumeFault) → p ≡ get_or found.root.labels s 0 → p ≢ 0 → IsBadLabel (i p) p e → IsLoadFault i found e
@@ -86,12 +89,8 @@ module _ (found : Found) (i : Image) (s : ℕ) (lt : s < 64) where
   bad_tree l DiskFault lies bad = tt
   bad_tree l Memory lies bad = tt
 
-  pub bad_map : (l : Label) (map : Mapped) (e : VolumeFault) → label_of found i s ≡ Some l → Spelled i l.container l.height map → IsBadMap i map l.span e → IsLoadFault i found e
-  bad_map l map (Refused refusal) lies spelled bad = absurd bad
-  bad_map l map (Damaged at want number) lies spelled bad = inr (inr (record { slot = s; label = l; lies = lies; map = map; spelled = spelled; fault = bad }))
-  bad_map l map DiskFault lies spelled bad = tt
-  bad_map l map Memory lies spelled bad = tt
-
--- the container that was put into a slot
-pub put_there : (old : Slots) (s : ℕ) (map : Mapped) (new : Slots) → new ≡ with_parent (with_container old s (Some map)) s None → s < length old.containers → container_at new s ≡ Some map
-put_there old s map new is lt = ap (λ (x : Slots). container_at x s) is ∙ get_or-set_same old.containers s (Some map) None lt
+  pub bad_map : (l : Label) (map : Mapped) (e : VolumeFault) → label_of found i s ≡ Some l → Spelled i l.container l.height map → length map.entries ≡ entry_count l.span → IsBadMap i map l.span e → IsLoadFault i found e
+  bad_map l map (Refused refusal) lies spelled long bad = absurd bad
+  bad_map l map (Damaged at want number) lies spelled long bad = inr (inr (record { slot = s; label = l; lies = lies; map = map; spelled = spelled; long = long; fault = bad }))
+  bad_map l map DiskFault lies spelled long bad = tt
+  bad_map l map Memory lies spelled long bad = tt

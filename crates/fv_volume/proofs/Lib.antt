@@ -1,8 +1,13 @@
 mod Naming
+pub mod Labels
+pub mod Overheads
 pub mod Loaded
+mod Actives
+pub mod Delayed
 pub mod Labelled
 pub mod Stepping
 pub mod Viewed
+pub mod Mapping
 mod Writing
 pub mod Told
 pub mod Made

@@ -4,6 +4,7 @@ use Rattle.std.specs.Prelude.{not, ◌==◌, ◌+◌, ◌-◌, ◌&&◌, find, t
 use Rattle.std.specs.Option.{is_none, option_map}
 use Rattle.fv_model.specs.declared.commands.Kind.{Kind}
 use Rattle.fv_model.specs.Space.{use_of}
+use Rattle.fv_model.specs.Spelling.{is_name}
 use Rattle.fv_image.specs.Told.{has_none, volume_of}
 use Rattle.fv_image.proofs.Uses.{uses_nothing}
 use Rattle.fv_charge.specs.Ledgers.{IsLedgerOf}
@@ -14,9 +15,10 @@ use Rattle.fv_volume.specs.States.{IsState, head_in, ledger_of_empty, snap_in}
 use Rattle.std.proofs.lemmas.Bool.Decides.{nat_tests}
 use Rattle.fv_codec.specs.declared.label.Label.{Label}
 use Rattle.fv_codec.specs.declared.label.SnapRecord.{SnapRecord}
-use Rattle.fv_codec.specs.Blocks.{IsLabel}
+use Rattle.fv_codec.specs.Blocks.{IsLabel, IsPointer}
 use Rattle.fv_image.specs.Views.{Head, footing_of, head_of, kind_named, snaps_from}
 use Rattle.fv_image.specs.Told.{is_plain}
+use Rattle.fv_volume.proofs.Labels.{IsSayable, label_range}
 use Rattle.fv_volume.specs.Loading.{first_used, form_in, is_used}
 
 -- a label without forms
@@ -114,12 +116,39 @@ ledger_from h =
       span = refl;
     }
 
--- a volume with the head of such a label is told whole
-pub state_from : (l : Label) → IsLabel l → form_in l ≡ None → (y : VolumeState) (slot : ℕ) → y.slot ≡ slot → head_in y ≡ head_of l → y.ledger ≡ ledger_of_empty l.size (kind_named l.kind) l.span → IsState slot y
+-- it can be said by a label again
+sayable : (l : Label) → IsLabel l → (y : VolumeState) → head_in y ≡ head_of l → is_name y.name ≡ true → IsSayable y
 unfolding head_of
-state_from l range none y slot at head ledger = record {
+sayable l range y head named =
+    let size : y.size ≡ l.size = ap (λ h. h.size) head in
+    let most : y.most ≡ l.most = ap (λ h. h.most) head in
+    let span : y.span ≡ l.span = ap (λ h. h.span) head in
+    let now : y.now ≡ l.now = ap (λ h. h.now) head in
+    let levels : y.active.levels ≡ l.levels = ap (λ h. h.active.levels) head in
+    let root : y.active.root ≡ l.root = ap (λ h. h.active.root) head in
+    record {
+      name = named;
+      size_least = omega (arith, size, range.size_least);
+      size_greatest = rw (size, most) range.size_greatest;
+      most_least = omega (arith, most, range.most_least);
+      most_greatest = omega (arith, most, range.most_greatest);
+      span_least = omega (arith, span, range.span_least);
+      span_greatest = omega (arith, span, range.span_greatest);
+      span_step = rw span range.span_step;
+      now = rw now range.now;
+      levels = omega (arith, levels, range.levels);
+      root = subst IsPointer (sym root) range.root;
+    }
+
+-- a volume with the head of such a label is told whole
+pub state_from : (l : Label) → IsLabel l → form_in l ≡ None → (y : VolumeState) (slot : ℕ) → y.slot ≡ slot → head_in y ≡ head_of l → y.ledger ≡ ledger_of_empty l.size (kind_named l.kind) l.span → is_name y.name ≡ true → y.map.span ≡ y.span → IsState slot y
+unfolding head_of
+state_from l range none y slot at head ledger named map = record {
   slot_is = at;
   plain = ap is_plain head ∙ head_bare l range (bare l none);
   span = let same : y.span ≡ l.span = ap (λ h. h.span) head in omega (arith, same, range.span_greatest);
+  map = map;
   ledger = subst (λ h. IsLedgerOf (volume_of h) y.ledger) (sym head) (subst (IsLedgerOf (volume_of (head_of l))) (sym ledger) (ledger_from (head_of l)));
+  named = named;
+  label = label_range y (sayable l range y head named);
 }

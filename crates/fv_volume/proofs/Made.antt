@@ -1,5 +1,5 @@
 -- A new volume, and the machine with it.
-use Rattle.std.proofs.Common.{◌≡◌, ◌≢◌, ◌<◌, ◌≤◌, ◌+◌, ℕ, Bool, true, false, cond, not, List, [], length, Option, Some, None, sum_by, refl, sym, ap, subst, ◌∙◌, ⊎_elim, arith, length-set}
+use Rattle.std.proofs.Common.{◌≡◌, ◌≢◌, ◌<◌, ◌≤◌, ◌+◌, ◌*◌, ℕ, Bool, true, false, cond, not, List, [], length, Option, Some, None, sum_by, refl, sym, ap, subst, ◌∙◌, ⊎_elim, arith, length-set}
 use Rattle.std.specs.Prelude.{IfErr, IfSome, Result, Ok, Err}
 use Rattle.std.specs.Result.{IsErrAnd}
 use Rattle.std.specs.Option.{is_some}
@@ -15,9 +15,10 @@ use Rattle.fv_model.specs.declared.answers.Refusal.TheVariants.{Syntax, NoVolume
 use Rattle.fv_model.specs.declared.commands.Command.TheVariants.{VolCreate}
 use Rattle.fv_model.specs.declared.commands.Kind.{Kind}
 use Rattle.fv_model.specs.Numbers.{greatest_span, is_size}
-use Rattle.fv_model.specs.Spelling.{name_cmp}
-use Rattle.fv_model.specs.Machines.{Machine}
-use Rattle.fv_model.specs.Space.{commits, span_of, use_of}
+use Rattle.fv_codec.specs.Blocks.{IsPointer}
+use Rattle.fv_model.specs.Spelling.{is_name, name_cmp}
+use Rattle.fv_model.specs.Machines.{Machine, capacity}
+use Rattle.fv_model.specs.Space.{commits, overhead, span_of, use_of}
 use Rattle.fv_model.specs.Effects.{change_of, effect, empty_volume}
 use Rattle.fv_model.specs.Refusals.{conditions, has_all_volumes, is_aggregate_full, is_taken, next, refusal}
 use Rattle.fv_laws.proofs.Orders.{name_total, name_ties}
@@ -25,11 +26,16 @@ use Rattle.fv_laws.proofs.Commits.{commit_at, commits_new}
 use Rattle.fv_image.specs.Told.{is_plain, told, volume_of, volumes}
 use Rattle.fv_image.proofs.Uses.{uses_nothing}
 use Rattle.fv_charge.specs.Ledgers.{IsLedgerOf}
+use Rattle.fv_container.specs.Mapped.{Mapped, empty_map}
+use Rattle.fv_image.specs.Views.{entry_count}
+use Rattle.fv_volmap.specs.Slots.{Volume as MapSlots, empty_volume as no_numbers}
 use Rattle.fv_volume.specs.declared.fault.VolumeFault.{VolumeFault}
 use Rattle.fv_volume.specs.declared.fault.VolumeFault.TheVariants.{Refused}
 use Rattle.fv_volume.specs.declared.pool.Pool.{Pool}
 use Rattle.fv_volume.specs.declared.state.VolumeState.{VolumeState}
-use Rattle.fv_volume.specs.Creating.{Admits, IsMade, RefusedBy, Refuses, new_ledger_of}
+use Rattle.fv_volume.specs.Creating.{Admits, IsMade, IsNew, RefusedBy, Refuses, new_ledger_of}
+use Rattle.fv_volume.specs.Labels.{hole}
+use Rattle.fv_volume.proofs.Labels.{IsSayable, label_range}
 use Rattle.fv_volume.specs.Slots.{HasName, HaveSpans, HasSpan, IsFirstFree, IsFull, NoneHasName, sum_of}
 use Rattle.fv_volume.specs.States.{AreStates, IsState, States, empty_head, head_in, ledger_of_empty, machine_in, named_states, state_at, view_over, with_state}
 use Rattle.fv_volume.proofs.Told.{all_named, counted, distinct_set, fewer_named, find_set, ledger_commit, none_named, some_named, summed, summed_states, volumes_are}
@@ -175,9 +181,34 @@ plain_new : (name : List ℕ) (size : ℕ) (kind : Kind) (span : ℕ) → is_pla
 unfolding is_plain
 plain_new name size kind span = refl
 
+-- a label can say it
+sayable_new : (y : VolumeState) (name : List ℕ) (size : ℕ) (kind : Kind) (span : ℕ) → span ≤ greatest_span → span ≡ span_of size 0 0 → head_in y ≡ empty_head name size kind span → is_size size ≡ true → is_name name ≡ true → IsSayable y
+sayable_new y name size kind span fits is head sized named =
+    let size_is : y.size ≡ size = ap (λ h. h.size) head in
+    let most_is : y.most ≡ 2 * size = ap (λ h. h.most) head in
+    let span_is : y.span ≡ span = ap (λ h. h.span) head in
+    let now_is : y.now ≡ 0 = ap (λ h. h.now) head in
+    let levels_are : y.active.levels ≡ 0 = ap (λ h. h.active.levels) head in
+    let root_is : y.active.root ≡ hole = ap (λ h. h.active.root) head in
+    let least : 1 ≤ size = grind (arith, nat_tests, sized) in
+    let greatest : size ≤ 500000 = grind (arith, nat_tests, sized) in
+    record {
+      name = ap is_name (ap (λ h. h.name) head) ∙ named;
+      size_least = omega (arith, size_is, least);
+      size_greatest = omega (arith, size_is, most_is, greatest);
+      most_least = omega (arith, most_is, least);
+      most_greatest = omega (arith, most_is, greatest);
+      span_least = omega (arith, span_is, is);
+      span_greatest = omega (arith, span_is, fits);
+      span_step = omega (arith, span_is, is);
+      now = rw now_is (omega arith);
+      levels = omega (arith, levels_are);
+      root = subst IsPointer (sym root_is) (record { vvbn = omega arith; pvbn = omega arith; stamp = omega arith });
+    }
+
 -- a new volume in its slot
-pub new_state : (y : VolumeState) (slot : ℕ) (name : List ℕ) (size : ℕ) (kind : Kind) (span : ℕ) → span ≤ greatest_span → span ≡ span_of size 0 0 → y.slot ≡ slot → head_in y ≡ empty_head name size kind span → y.ledger ≡ ledger_of_empty size kind span → IsState slot y
-new_state y slot name size kind span fits is at head ledger =
+pub new_state : (y : VolumeState) (slot : ℕ) (name : List ℕ) (size : ℕ) (kind : Kind) (span : ℕ) → span ≤ greatest_span → span ≡ span_of size 0 0 → y.slot ≡ slot → head_in y ≡ empty_head name size kind span → y.ledger ≡ ledger_of_empty size kind span → is_size size ≡ true → is_name name ≡ true → y.map ≡ no_numbers span → IsState slot y
+new_state y slot name size kind span fits is at head ledger sized named map =
     let whole : head_in y ≡ empty_head name size kind (span_of size 0 0) = head ∙ ap (empty_head name size kind) is in
     let volume : volume_of (head_in y) ≡ empty_volume size kind = ap volume_of whole ∙ told_new name size kind in
     let books : y.ledger ≡ ledger_of_empty size kind (span_of size 0 0) = ledger ∙ ap (ledger_of_empty size kind) is in
@@ -186,7 +217,10 @@ new_state y slot name size kind span fits is at head ledger =
       slot_is = at;
       plain = ap is_plain head ∙ plain_new name size kind span;
       span = omega (arith, span_is, fits);
+      map = ap (λ (x : MapSlots). x.span) map ∙ sym span_is;
       ledger = subst₂ volume books;
+      named = ap is_name (ap (λ h. h.name) head) ∙ named;
+      label = label_range y (sayable_new y name size kind span fits is head sized named);
     }
   where
     subst₂ : volume_of (head_in y) ≡ empty_volume size kind → y.ledger ≡ ledger_of_empty size kind (span_of size 0 0) → IsLedgerOf (volume_of (head_in y)) y.ledger
@@ -209,8 +243,8 @@ unfolding volume_of
 told_span x = refl
 
 -- the ledgers' spans are such as a volume can have
-pub have_spans : (states : States) → AreStates states → HaveSpans states
-have_spans states are = record { each = λ s lt. span_at s (state_at states s) (are.each s) }
+pub have_spans : (states : States) → ((s : ℕ) → IfSome (state_at states s) (IsState s)) → HaveSpans states
+have_spans states each = record { each = λ s lt. span_at s (state_at states s) (each s) }
   where
     span_at : (s : ℕ) (x : Option VolumeState) → IfSome x (IsState s) → HasSpan x
     span_at s None is = tt
@@ -223,11 +257,23 @@ refused_result P r (Ok slot) is holds = tt
 refused_result P r (Err e) is holds = subst (RefusedBy P) (sym is) holds
 
 pub new_made : (states : States) (slot : ℕ) (name : List ℕ) (size : ℕ) (kind : Kind) (span blocks : ℕ) (y : VolumeState) → length states ≡ 64 → AreStates states → Admits states blocks name size kind slot span
-    → span ≤ greatest_span → y.slot ≡ slot → head_in y ≡ empty_head name size kind span → y.ledger ≡ ledger_of_empty size kind span → AreStates (with_state states slot (Some y))
-new_made states slot name size kind span blocks y long are is fits at head ledger =
+    → span ≤ greatest_span → y.slot ≡ slot → head_in y ≡ empty_head name size kind span → y.ledger ≡ ledger_of_empty size kind span → is_name name ≡ true → y.map ≡ no_numbers span → AreStates (with_state states slot (Some y))
+new_made states slot name size kind span blocks y long are is fits at head ledger named map =
     let called : y.name ≡ name = ap (λ h. h.name) head in
     let new : find name_cmp y.name (named_states states) ≡ None = ap (λ n. find name_cmp n (named_states states)) called ∙ none_named states name (λ s lt. is.name_is.none s (omega (arith, lt, long))) in
-    new_states states slot y long are is.free new (new_state y slot name size kind span fits is.span_is at head ledger)
+    new_states states slot y long are is.free new (new_state y slot name size kind span fits is.span_is at head ledger is.size_is named map)
+
+pub each_made : (states : States) (slot : ℕ) (name : List ℕ) (size : ℕ) (kind : Kind) (span blocks : ℕ) (y : VolumeState) → length states ≡ 64 → ((s : ℕ) → IfSome (state_at states s) (IsState s)) → Admits states blocks name size kind slot span
+    → span ≤ greatest_span → y.slot ≡ slot → head_in y ≡ empty_head name size kind span → y.ledger ≡ ledger_of_empty size kind span → is_name name ≡ true → y.map ≡ no_numbers span → (s : ℕ) → IfSome (state_at (with_state states slot (Some y)) s) (IsState s)
+each_made states slot name size kind span blocks y long each is fits at head ledger named map =
+    put_at states slot y (omega (arith, is.free.within, long)) (new_state y slot name size kind span fits is.span_is at head ledger is.size_is named map) each
+
+-- what all volumes commit leaves the capacity room for the new one's overhead twice
+pub room_beside : (pool : Pool) (states : States) (i : Image) → length states ≡ 64 → AreStates states → (name : List ℕ) (size : ℕ) (kind : Kind) (slot span blocks : ℕ) → Admits states blocks name size kind slot span
+    → commits (machine_in pool states i) + 2 * overhead span ≤ capacity blocks
+room_beside pool states i long are name size kind slot span blocks is =
+    let same : overhead span ≡ overhead (span_of size 0 0) = ap overhead is.span_is in
+    omega (arith, commits_are pool states i long are, is.room, same)
 
 pub made_machine : (pool : Pool) (states : States) (i : Image) (long : length states ≡ 64) (are : AreStates states) (new_pool : Pool) (items : States) (name : List ℕ) (size : ℕ) (kind : Kind) (slot span : ℕ) → new_pool.found ≡ pool.found → items ≡ states
     → Admits states pool.found.blocks name size kind slot span → (y : VolumeState) → head_in y ≡ empty_head name size kind span
@@ -238,3 +284,18 @@ made_machine pool states i long are new_pool items name size kind slot span same
       states = ap (λ s. with_state s slot (Some y)) items_are;
       head = head ∙ ap (empty_head name size kind) is.span_is;
     })
+
+-- the new volume as it lies in its slot
+pub is_new : (states : States) (slot : ℕ) (y : VolumeState) (container : Option Mapped) (name : List ℕ) (size : ℕ) (kind : Kind) (span : ℕ) → slot < length states → span ≡ span_of size 0 0 → head_in y ≡ empty_head name size kind span
+    → y.map ≡ no_numbers span → y.label ≡ 0 → y.changed ≡ true → container ≡ Some (empty_map (entry_count span)) → IsNew (state_at (with_state states slot (Some y)) slot) container name size kind
+is_new states slot y container name size kind span within is head map label changed holes =
+    let span_is : y.span ≡ span = ap (λ h. h.span) head in
+    record {
+      volume = y;
+      state_is = get_or-set_same states slot (Some y) None within;
+      head = head ∙ ap (empty_head name size kind) is;
+      map = map ∙ ap no_numbers (sym span_is);
+      label = label;
+      changed = changed;
+      holes = holes ∙ ap (λ (n : ℕ). Some (empty_map (entry_count n))) (sym span_is);
+    }

@@ -1,15 +1,16 @@
 -- The name that a label spells.
-use Rattle.std.proofs.Common.{◌≡◌, ℕ, Bool, true, false, List, [], ◌∷◌, length, length-take-le, take, Some, refl, sym, ap, ◌∙◌, arith}
-use Rattle.std.specs.Prelude.{Ok, Err, ◌&&◌, if◌then◌else◌}
+use Rattle.std.proofs.Common.{◌≡◌, ℕ, Bool, true, false, List, [], ◌∷◌, length, length-take-le, take, drop, replicate, Some, refl, sym, ap, ◌∙◌, arith}
+use Rattle.std.specs.Prelude.{Ok, Err, ◌-◌, ◌&&◌, if◌then◌else◌}
 use Rattle.std.specs.List.{list_all}
 use Rattle.std.proofs.lemmas.Bool.Decides.{nat_tests}
+use Rattle.std.proofs.lemmas.List.{drop-replicate}
 use Rattle.fv_codec.specs.declared.label.Label.{Label}
 use Rattle.fv_codec.specs.Blocks.{IsLabel}
 use Rattle.fv_codec.specs.Fields.{all_name, is_name_byte, name_filled}
 use Rattle.fv_codec.proofs.Ranges.{then_ok}
 use Rattle.fv_model.specs.Spelling.{is_name, is_name_byte as is_letter}
 
-same_byte : (x : ℕ) → is_name_byte x ≡ is_letter x
+pub same_byte : (x : ℕ) → is_name_byte x ≡ is_letter x
 same_byte x = grind (arith, nat_tests)
 
 letters : (xs : List ℕ) → all_name xs ≡ Ok tt → list_all is_letter xs ≡ true
@@ -32,3 +33,6 @@ named l long is =
 
 pub same_some : (a b : List ℕ) → Some a ≡ Some b → a ≡ b
 same_some a b e = cc
+
+pub zeros_left : (n : ℕ) → drop {A = ℕ} n (replicate 64 0) ≡ replicate (64 - n) 0
+zeros_left n = drop-replicate n 64 0

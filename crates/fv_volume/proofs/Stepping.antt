@@ -1,15 +1,17 @@
 -- One slot more is loaded.
-use Rattle.std.proofs.Common.{◌≡◌, ◌≢◌, ◌<◌, ◌≤◌, ◌+◌, ℕ, zero, suc, [], ◌∷◌, ◌++◌, length, length-append, replicate, Option, None, refl, sym, ap, subst, ◌∙◌, ⊎_elim, arith}
+use Rattle.std.proofs.Common.{◌≡◌, ◌≢◌, ◌<◌, ◌≤◌, ◌+◌, ℕ, zero, suc, [], ◌∷◌, ◌++◌, length, length-append, replicate, Option, Some, None, refl, sym, ap, subst, ◌∙◌, ⊎_elim, arith}
 use Rattle.std.specs.Prelude.{IfSome, slice_index_or}
 use Rattle.std.proofs.lemmas.Bool.{cases_eq, cases_lt}
 use Rattle.std.proofs.lemmas.List.{length-replicate}
 use Rattle.fv_disk.specs.Shown.{Image}
+use Rattle.fv_codec.specs.declared.label.Label.{Label}
+use Rattle.fv_image.specs.Views.{Head, entry_count, head_of}
 use Rattle.fv_container.specs.Chains.{Slots, container_at, no_containers, slot_count}
 use Rattle.fv_container.specs.Mapped.{Mapped}
 use Rattle.fv_root.specs.declared.find.Found.{Found}
 use Rattle.fv_volume.specs.declared.state.VolumeState.{VolumeState}
-use Rattle.fv_volume.specs.Loading.{IsLoaded, KeptTo, LoadedTo}
-use Rattle.fv_volume.specs.States.{IsState, States, state_at}
+use Rattle.fv_volume.specs.Loading.{Houses, IsLoaded, KeptTo, LoadedTo}
+use Rattle.fv_volume.specs.States.{IsState, States, head_in, state_at}
 
 at_front : (xs : States) (x : Option VolumeState) (s : ℕ) → s < length xs → state_at (xs ++ x ∷ []) s ≡ state_at xs s
 at_front [] x s lt = absurd (omega (arith, lt))
@@ -40,8 +42,8 @@ loaded_more i found count states old x new kept was others now = record {
 }
 
 pub kept_more : (count : ℕ) (states : States) (old : Slots) (x : Option VolumeState) (new : Slots) → KeptTo count states old → length new.containers ≡ slot_count
-    → ((s : ℕ) → s ≢ count → container_at new s ≡ container_at old s) → IfSome x (IsState count) → KeptTo (count + 1) (states ++ x ∷ []) new
-kept_more count states old x new kept few others is = record {
+    → ((s : ℕ) → s ≢ count → container_at new s ≡ container_at old s) → IfSome x (IsState count) → Houses x (container_at new count) → KeptTo (count + 1) (states ++ x ∷ []) new
+kept_more count states old x new kept few others is has = record {
   long = length-append states (x ∷ []) ∙ omega (arith, kept.long);
   few = few;
   free = λ s le. others s (omega (arith, le)) ∙ kept.free s (omega (arith, le));
@@ -53,12 +55,28 @@ kept_more count states old x new kept few others is = record {
       (λ (after : length states ≤ s). let past : length states < s = omega (arith, after, other, kept.long) in subst (λ (y : Option VolumeState). IfSome y (IsState s)) (sym (past_end states x s past)) tt)
       (cases_lt s (length states)))
       (cases_eq s count);
+  housed = λ s. ⊎_elim
+      (λ (here : s ≡ count). subst (λ k. Houses (state_at (states ++ x ∷ []) k) (container_at new k)) (sym here)
+      (subst (λ (y : Option VolumeState). Houses y (container_at new count)) (sym (ap (state_at (states ++ x ∷ [])) (sym kept.long) ∙ at_end states x)) has))
+      (λ (other : s ≢ count). ⊎_elim
+      (λ (before : s < length states). subst (λ (c : Option Mapped). Houses (state_at (states ++ x ∷ []) s) c) (sym (others s other))
+      (subst (λ (y : Option VolumeState). Houses y (container_at old s)) (sym (at_front states x s before)) (kept.housed s)))
+      (λ (after : length states ≤ s). let past : length states < s = omega (arith, after, other, kept.long) in subst (λ (y : Option VolumeState). Houses y (container_at new s)) (sym (past_end states x s past)) tt)
+      (cases_lt s (length states)))
+      (cases_eq s count);
 }
 
 none_in : {X : Type 0} (n s : ℕ) → ◌≡◌ {A = Option X} (slice_index_or (replicate n None) s None) None
 none_in zero s = refl
 none_in (suc n) zero = refl
 none_in (suc n) (suc s) = none_in n s
+
+-- a volume has the container that was read by its label
+pub has_container : (l : Label) (x : VolumeState) (map : Mapped) (c : Option Mapped) → head_in x ≡ head_of l → length map.entries ≡ entry_count l.span → c ≡ Some map → Houses (Some x) c
+unfolding head_of
+has_container l x map c head long there =
+    let span : x.span ≡ l.span = ap (λ (h : Head). h.span) head in
+    subst (λ (o : Option Mapped). Houses (Some x) o) (sym there) (long ∙ ap entry_count (sym span))
 
 -- no slot is loaded yet
 pub kept_none : (states : States) (containers : Slots) → states ≡ [] → containers ≡ no_containers → KeptTo 0 states containers
@@ -67,8 +85,13 @@ kept_none states containers empty none = record {
   few = ap (λ (c : Slots). length c.containers) none ∙ length-replicate {A = Option Mapped} slot_count None;
   free = λ s le. ap (λ (c : Slots). container_at c s) none ∙ none_in slot_count s;
   each = λ s. subst (λ (xs : States). IfSome (state_at xs s) (IsState s)) (sym empty) (nothing s);
+  housed = λ s. subst (λ (xs : States). Houses (state_at xs s) (container_at containers s)) (sym empty) (homeless s (container_at containers s));
 }
   where
+    homeless : (s : ℕ) (c : Option Mapped) → Houses (state_at [] s) c
+    homeless zero c = tt
+    homeless (suc s) c = tt
+
     nothing : (s : ℕ) → IfSome (state_at [] s) (IsState s)
     nothing zero = tt
     nothing (suc s) = tt

@@ -1,18 +1,18 @@
 -- What is loaded tells what its image tells.
-use Rattle.std.proofs.Common.{◌≡◌, ◌<◌, ◌≤◌, ℕ, suc, Bool, true, false, cond, not, nat_lt, List, [], ◌∷◌, length, Option, Some, None, get_or, refl, sym, ap, ◌∙◌, ⊎_elim, arith}
+use Rattle.std.proofs.Common.{◌≡◌, ◌<◌, ◌≤◌, ℕ, zero, suc, Bool, true, false, cond, not, nat_lt, List, [], ◌∷◌, length, Option, Some, None, get_or, refl, sym, ap, ◌∙◌, ⊎_elim, arith}
 use Rattle.std.specs.Prelude.{IfSome, ◌==◌}
 use Rattle.std.specs.List.{list_all, range_with_len}
 use Rattle.std.specs.Cmp.{eq_by_cmp_equiv}
-use Rattle.std.specs.Option.{option_map}
-use Rattle.fv_model.specs.Spelling.{is_same_name}
+use Rattle.std.specs.Option.{is_some, option_map}
+use Rattle.fv_model.specs.Spelling.{is_same_name, name_cmp}
 use Rattle.fv_laws.proofs.Orders.{name_total}
 use Rattle.fv_image.specs.Sound.{has_distinct_names, share_name}
 use Rattle.fv_image.proofs.Kept.{at_number}
 use Rattle.fv_volume.specs.Slots.{is_named}
-use Rattle.fv_volume.proofs.Told.{none_named}
+use Rattle.fv_volume.proofs.Told.{none_named, some_named}
 use Rattle.std.specs.FinMap as fin
 use Rattle.std.specs.Ordering.{nat_cmp}
-use Rattle.std.proofs.lemmas.Bool.{cases_lt}
+use Rattle.std.proofs.lemmas.Bool.{both_ways, cases_lt}
 use Rattle.std.proofs.lemmas.Bool.Decides.{nat_tests}
 use Rattle.std.proofs.lemmas.List.{get_or_past}
 use Rattle.std.proofs.lemmas.List.Elements.{All-get_or}
@@ -57,7 +57,7 @@ module _ (kept : Blocks) (i : Image) (empty : (b : ℕ) → fin.get kept b ≡ N
       nothing None is = tt
       nothing (Some e) is = cc
 
-  entry_of : (l : Option Label) (c : Option Mapped) (v : ℕ) → IsContainerOf i l c → placed_in kept i (own_entry c v) ≡ entry_from l i v
+  pub entry_of : (l : Option Label) (c : Option Mapped) (v : ℕ) → IsContainerOf i l c → placed_in kept i (own_entry c v) ≡ entry_from l i v
   unfolding entry_from
   entry_of None None v is = refl
   entry_of None (Some map) v is = absurd is
@@ -115,7 +115,7 @@ unnamed : (x : VolumeState) (y : Option VolumeState) → share_name (Some (head_
 unnamed x None is = refl
 unnamed x (Some y) is = turned y.name x.name ∙ is
 
-distinct_from : (xs : States) → ((e s : ℕ) → e < s → s < length xs → share xs e s ≡ false) → AreDistinct (named_states xs)
+pub distinct_from : (xs : States) → ((e s : ℕ) → e < s → s < length xs → share xs e s ≡ false) → AreDistinct (named_states xs)
 distinct_from [] apart = tt
 distinct_from (None ∷ xs) apart = distinct_from xs (λ e s lt inside. apart (suc e) (suc s) (omega (arith, lt)) (omega (arith, inside)))
 distinct_from (Some x ∷ xs) apart = (
@@ -139,3 +139,25 @@ loaded_states found i states containers kept loaded m is = record {
       let inner = at_number (λ earlier. not (share_name (option_map head_of (label_of found i earlier)) (option_map head_of (label_of found i s)))) 0 s e outer (omega arith) (omega (arith, lt)) in
       (λ j. share_name (head_is found i states containers kept loaded e j) (head_is found i states containers kept loaded s j)) ∙ opposite (share_name (option_map head_of (label_of found i e)) (option_map head_of (label_of found i s))) inner);
 }
+
+-- names of a machine's volumes are apart
+shared : (x : VolumeState) (y : Option VolumeState) → is_named y x.name ≡ false → share_name (Some (head_in x)) (option_map head_in y) ≡ false
+shared x None is = refl
+shared x (Some y) is = turned x.name y.name ∙ is
+
+not_named : (xs : States) (name : List ℕ) (s : ℕ) → fin.find name_cmp name (named_states xs) ≡ None → is_named (state_at xs s) name ≡ false
+not_named xs name s none = so (is_named (state_at xs s) name) refl
+  where
+    so : (t : Bool) → is_named (state_at xs s) name ≡ t → t ≡ false
+    so true e = absurd (both_ways _ (ap is_some none) (some_named xs s name e))
+    so false e = refl
+
+pub apart_from : (xs : States) → AreDistinct (named_states xs) → (e s : ℕ) → e < s → s < length xs → share xs e s ≡ false
+apart_from [] distinct e s lt inside = absurd (omega (arith, inside))
+apart_from (None ∷ xs) distinct zero s lt inside = refl
+apart_from (None ∷ xs) distinct (suc e) zero lt inside = absurd (omega (arith, lt))
+apart_from (None ∷ xs) distinct (suc e) (suc s) lt inside = apart_from xs distinct e s (omega (arith, lt)) (omega (arith, inside))
+apart_from (Some x ∷ xs) distinct zero zero lt inside = absurd (omega (arith, lt))
+apart_from (Some x ∷ xs) distinct zero (suc s) lt inside = shared x (state_at xs s) (not_named xs x.name s distinct.0)
+apart_from (Some x ∷ xs) distinct (suc e) zero lt inside = absurd (omega (arith, lt))
+apart_from (Some x ∷ xs) distinct (suc e) (suc s) lt inside = apart_from xs distinct.1 e s (omega (arith, lt)) (omega (arith, inside))

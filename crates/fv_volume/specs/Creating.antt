@@ -1,7 +1,7 @@
 -- Making a volume: why it is refused, and what it makes.
-use Rattle.std.specs.Prelude.{◌≡◌, ◌<◌, ◌≤◌, ◌+◌, ℕ, true, false, List, Some, None}
+use Rattle.std.specs.Prelude.{◌≡◌, ◌<◌, ◌≤◌, ◌+◌, ℕ, true, false, List, Option, Some, None}
 use Rattle.fv_container.specs.Chains.{with_container, with_parent}
-use Rattle.fv_container.specs.Mapped.{empty_map}
+use Rattle.fv_container.specs.Mapped.{Mapped, empty_map}
 use Rattle.fv_image.specs.Views.{entry_count}
 use Rattle.fv_model.specs.declared.answers.Refusal.{Refusal}
 use Rattle.fv_model.specs.declared.answers.Refusal.TheVariants.{VolumeExists, AggregateFull, Range, TooMany}
@@ -10,6 +10,7 @@ use Rattle.fv_model.specs.Machines.{capacity}
 use Rattle.fv_model.specs.Numbers.{is_size}
 use Rattle.fv_model.specs.Space.{span_of}
 use Rattle.fv_charge.specs.Ledgers.{committed}
+use Rattle.fv_volmap.specs.Slots.{empty_volume}
 use Rattle.fv_volume.specs.declared.fault.VolumeFault.{VolumeFault}
 use Rattle.fv_volume.specs.declared.fault.VolumeFault.TheVariants.{Refused, DiskFault, Damaged, Memory}
 use Rattle.fv_volume.specs.declared.pool.Pool.{Pool}
@@ -50,6 +51,17 @@ pub record IsMade (old : States) (slot : ℕ) (name : List ℕ) (size : ℕ) (ki
   pub state : VolumeState
   pub states : new ≡ with_state old slot (Some state)
   pub head : head_in state ≡ empty_head name size kind (span_of size 0 0)
+
+-- A new volume that a consistency point has yet to write: no number is held, no label lies anywhere, and its container has a hole for
+-- each VVBN.
+pub record IsNew (state : Option VolumeState) (container : Option Mapped) (name : List ℕ) (size : ℕ) (kind : Kind) : Type 0 where
+  pub volume : VolumeState
+  pub state_is : state ≡ Some volume
+  pub head : head_in volume ≡ empty_head name size kind (span_of size 0 0)
+  pub map : volume.map ≡ empty_volume volume.span
+  pub label : volume.label ≡ 0
+  pub changed : volume.changed ≡ true
+  pub holes : container ≡ Some (empty_map (entry_count volume.span))
 
 -- the pool with a container of holes for a slot: not even the blocks of the active map are placed before a consistency point
 abbrev pub with_holes : Pool → ℕ → ℕ → Pool

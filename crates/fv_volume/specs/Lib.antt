@@ -1,5 +1,6 @@
 pub mod Causes
 pub mod Keeping
+pub mod Labels
 pub mod States
 pub mod Slots
 pub mod Rows

@@ -1,14 +1,18 @@
 -- Volumes as they are read from their labels.
-use Rattle.std.specs.Prelude.{◌≡◌, ◌≢◌, ◌<◌, ◌≤◌, ◌+◌, ◌-◌, ◌⊎◌, ℕ, Bool, false, not, ◌==◌, if◌then◌else◌, List, length, find, Option, Some, None, IfSome, Ok, Err}
-use Rattle.std.specs.Option.{option_map}
+use Rattle.std.specs.Prelude.{◌≡◌, ◌≢◌, ◌<◌, ◌≤◌, ◌+◌, ◌-◌, ◌⊎◌, ◌*◌, ℕ, Bool, false, not, ◌&&◌, ◌==◌, nat_lt, nat_le, if◌then◌else◌, List, [], length, find, Option, Some, None, IfSome, Ok, Err}
+use Rattle.std.specs.List.{list_any, range_with_len}
+use Rattle.std.specs.Option.{is_some, option_map}
 use Rattle.fv_disk.specs.Shown.{Image}
-use Rattle.fv_bits.specs.Members.{IsFirstPast}
+use Rattle.fv_bits.specs.Bits.{bit_of_area, block_bits}
+use Rattle.fv_bits.specs.Members.{IsFirstPast, is_member}
 use Rattle.fv_codec.specs.declared.label.Label.{Label}
 use Rattle.fv_codec.specs.declared.label.SnapRecord.{SnapRecord}
 use Rattle.fv_codec.specs.Blocks.{label_at}
 use Rattle.fv_image.specs.Containers.{IsNodeFault}
-use Rattle.fv_image.specs.Views.{entry_count, head_of}
-use Rattle.fv_image.specs.Held.{label_in, label_lying, label_place}
+use Rattle.fv_image.specs.Views.{entry_count, head_of, volume_bit}
+use Rattle.fv_model.specs.Space.{map_blocks}
+use Rattle.fv_volmap.specs.Slots.{Volume, active_of}
+use Rattle.fv_image.specs.Held.{label_in, label_lying, label_place, view_at}
 use Rattle.fv_container.specs.declared.entry.Entry.{Entry}
 use Rattle.fv_container.specs.Mapped.{IsMapped, Mapped, entry_under}
 use Rattle.fv_container.specs.Spelled.{Spelled}
@@ -50,6 +54,7 @@ IsBadLabel block place Memory = ⊥
 -- a block of the active map has a bit set past the span: its place, the last VVBN of the span, and the bit's number
 pub record IsPastSpan (i : Image) (map : Mapped) (span at want number : ℕ) : Type 0 where
   pub index : ℕ
+  pub within : index < map_blocks span
   pub entry : Entry
   pub there : entry_under map (span + index) ≡ Some entry
   pub place : at ≡ entry.pvbn
@@ -87,6 +92,7 @@ pub record IsActiveFault (i : Image) (found : Found) (at want number : ℕ) : Ty
   pub lies : label_of found i slot ≡ Some label
   pub map : Mapped
   pub spelled : Spelled i label.container label.height map
+  pub long : length map.entries ≡ entry_count label.span
   pub fault : IsPastSpan i map label.span at want number
 
 -- why volumes aren't loaded, where the disk didn't fail and memory didn't run out
@@ -105,13 +111,42 @@ IsContainerOf i None (Some map) = ⊥
 IsContainerOf i (Some l) None = ⊥
 IsContainerOf i (Some l) (Some map) = Spelled i l.container l.height map × ((length map.entries ≡ entry_count l.span) × IsMapped map)
 
--- a slot's volume has the head that its label says, with the place of that label and no change since, and its container is the one
--- that the label names
+-- the block of an entry; a hole's has no bits
+abbrev pub entry_block : Image → Option Entry → List ℕ
+entry_block i None = []
+entry_block i (Some e) = i e.pvbn
+
+-- so many blocks of the active map were read, and no number behind them is a member yet
+pub record HasRead (i : Image) (map : Mapped) (span count : ℕ) (volume : Volume) : Type 0 where
+  pub size : volume.span ≡ span
+  pub bits : (v : ℕ) → v < block_bits * count → is_member (active_of volume) v ≡ bit_of_area (λ k. entry_block i (entry_under map (span + k))) v
+  pub clear : (v : ℕ) → block_bits * count ≤ v → is_member (active_of volume) v ≡ false
+
+-- a bit of the active map that a container names
+unfoldable pub active_bit : Image → Mapped → ℕ → ℕ → Bool
+active_bit i map span v = nat_lt v (block_bits * map_blocks span) && bit_of_area (λ k. entry_block i (entry_under map (span + k))) v
+
+-- the VVBNs of the active map's blocks
+abbrev pub is_map_vvbn : ℕ → ℕ → Bool
+is_map_vvbn span v = nat_le span v && nat_lt v (span + map_blocks span)
+
+-- an entry that isn't a hole, under a VVBN that isn't one of the active map's blocks
+abbrev pub is_delayed_entry : Mapped → ℕ → ℕ → Bool
+is_delayed_entry map span v = is_some (entry_under map v) && not (is_map_vvbn span v)
+
+-- Whether there is such an entry. A plain volume holds no VVBN outside its active map, so its block was freed in the volume and not yet
+-- in the aggregate: the next consistency point gives it back.
+unfoldable pub has_delayed : Mapped → ℕ → Bool
+has_delayed map span = list_any (is_delayed_entry map span) (range_with_len 0 (length map.entries))
+
+-- A slot's volume has the head that its label says, with the place of that label, and its container is the one that the label names.
+-- Its active map has the bits of its blocks. It is as the root on the disk has it, and has changed where an entry is delayed.
 pub record IsLoaded (i : Image) (found : Found) (s : ℕ) (state : Option VolumeState) (container : Option Mapped) : Type 0 where
   pub head : option_map head_in state ≡ option_map head_of (label_of found i s)
   pub tree : IsContainerOf i (label_of found i s) container
   pub label : place_in state ≡ label_place (root_found found) s
-  pub unchanged : IfSome state (λ x. x.changed ≡ false)
+  pub bits : IfSome state (λ x. (v : ℕ) → is_member (active_of x.map) v ≡ volume_bit (view_at (root_found found) i) s x.span 0 v)
+  pub changed : IfSome state (λ x. IfSome container (λ map. x.changed ≡ has_delayed map x.span))
 
 -- a node of a label's container is damaged
 abbrev pub IsBadTree : Image → Label → VolumeFault → Type 0
@@ -124,9 +159,16 @@ IsBadTree i l Memory = Unit {0}
 pub record LoadedTo (i : Image) (found : Found) (count : ℕ) (states : States) (containers : Slots) : Type 0 where
   pub each : (s : ℕ) → s < count → IsLoaded i found s (state_at states s) (container_at containers s)
 
+-- a volume has its container, with an entry for each of its VVBNs
+abbrev pub Houses : Option VolumeState → Option Mapped → Type 0
+Houses None container = Unit {0}
+Houses (Some x) None = ⊥
+Houses (Some x) (Some map) = length map.entries ≡ entry_count x.span
+
 -- the first slots are filled, and the others have no container yet
 pub record KeptTo (count : ℕ) (states : States) (containers : Slots) : Type 0 where
   pub long : length states ≡ count
   pub few : length containers.containers ≡ slot_count
   pub free : (s : ℕ) → count ≤ s → container_at containers s ≡ None
   pub each : (s : ℕ) → IfSome (state_at states s) (IsState s)
+  pub housed : (s : ℕ) → Houses (state_at states s) (container_at containers s)

@@ -3,10 +3,10 @@ use Rattle.std.specs.Prelude.{◌≡◌, ◌≤◌, ◌*◌, ℕ, true, List, []
 use Rattle.std.specs.Option.{option_map}
 use Rattle.std.specs.FinMap as fin
 use Rattle.fv_disk.specs.Shown.{Image}
-use Rattle.fv_codec.specs.declared.pointer.Pointer.{Pointer}
+use Rattle.fv_codec.specs.Blocks.{IsLabel, last_place}
 use Rattle.fv_model.specs.declared.commands.Kind.{Kind}
 use Rattle.fv_model.specs.Numbers.{greatest_span}
-use Rattle.fv_model.specs.Spelling.{name_cmp}
+use Rattle.fv_model.specs.Spelling.{is_name, name_cmp}
 use Rattle.fv_model.specs.Volumes.{Volume}
 use Rattle.fv_model.specs.Machines.{Machine}
 use Rattle.fv_image.specs.Views.{Footing, Head, Placed, View, Rooted as Table, Snap as HeadSnap}
@@ -21,6 +21,7 @@ use Rattle.fv_volume.specs.declared.state.Snap.{Snap}
 use Rattle.fv_volume.specs.declared.state.VolumeState.{VolumeState}
 use Rattle.fv_volume.specs.declared.pool.Pool.{Pool}
 use Rattle.fv_volume.specs.Keeping.{Blocks, seen}
+use Rattle.fv_volume.specs.Labels.{hole, label_said}
 
 -- ---- heads
 
@@ -47,10 +48,6 @@ head_in x = record {
   active = table_in x.active;
   snapshots = map snap_in x.snapshots;
 }
-
--- a pointer that leads nowhere
-abbrev pub hole : Pointer
-hole = record { vvbn = 0; pvbn = 0; stamp = 0 }
 
 -- the head of a new empty volume
 abbrev pub empty_head : List ℕ → ℕ → Kind → ℕ → Head
@@ -121,12 +118,15 @@ abbrev pub AreDistinct : List (List ℕ × Volume) → Type 0
 AreDistinct [] = Unit {0}
 AreDistinct (e ∷ es) = (fin.find name_cmp e.0 es ≡ None) × AreDistinct es
 
--- a volume that is told whole, in its slot, with its ledger
+-- a volume that is told whole, in its slot, with its ledger, and with a label that can be written
 pub record IsState (slot : ℕ) (x : VolumeState) : Type 0 where
   pub slot_is : x.slot ≡ slot
   pub plain : is_plain (head_in x) ≡ true
   pub span : x.span ≤ greatest_span
+  pub map : x.map.span ≡ x.span
   pub ledger : IsLedgerOf (volume_of (head_in x)) x.ledger
+  pub named : is_name x.name ≡ true
+  pub label : (container height : ℕ) → container ≤ last_place → 1 ≤ height → height ≤ 2 → IsLabel (label_said x container height)
 
 pub record AreStates (states : States) : Type 0 where
   pub each : (s : ℕ) → IfSome (state_at states s) (IsState s)

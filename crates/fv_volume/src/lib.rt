@@ -5,7 +5,7 @@
 mod admit;
 mod fault;
 mod kept;
-mod labels;
+mod label;
 mod load;
 mod pool;
 mod search;

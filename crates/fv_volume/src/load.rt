@@ -11,11 +11,11 @@ ghost use Rattle.fv_model.specs.Numbers.{greatest_span};
 ghost use Rattle.fv_model.specs.Space.{map_blocks};
 ghost use Rattle.fv_store.specs.Held.{StandsOn};
 ghost use Rattle.fv_volume.specs.Causes.{HasCause, of_container};
-ghost use Rattle.fv_volume.specs.Loading.{IsBadLabel, IsBadMap, IsBadTree, IsLoadFault, IsLoaded, KeptTo, LoadedTo, form_in};
+ghost use Rattle.fv_volume.specs.Loading.{HasRead, Houses, IsBadLabel, IsBadMap, IsBadTree, IsLoadFault, IsLoaded, KeptTo, LoadedTo, form_in, has_delayed, is_delayed_entry};
 ghost use Rattle.fv_volume.specs.States.{IsState, head_in, state_at};
 
 use crate::fault::VolumeFault;
-use crate::labels::read_label;
+use crate::label::read_label;
 use crate::sizes::entry_count;
 use crate::state::VolumeState;
 use fv_codec::Label;
@@ -44,6 +44,8 @@ fn read_map_block<D: Disk>(
     requires entries { length container.now.entries ≡ entry_count span }
     requires within { index < map_blocks span }
     ensures map { map.new.span ≡ map.old.span }
+    ensures read { IsTrue (D.shown disk.old).tells → HasRead (D.shown disk.old).reads container.now span index map.old
+        → OnOk result (HasRead (D.shown disk.old).reads container.now span (index + 1) map.new) }
     ensures fault { IsTrue (D.shown disk.old).tells → IfErr result (IsBadMap (D.shown disk.old).reads container.now span) }
     ensures only_reads { OnlyReads (D.shown disk.old) (D.shown disk.new) }
     ensures stands { StandsOn (D.shown disk.new) store.new.pairs }
@@ -77,6 +79,7 @@ fn read_map<D: Disk>(
     requires least { 1 ≤ span }
     requires entries { length container.now.entries ≡ entry_count span }
     ensures map { IfOk result (λ map. map.span ≡ span) }
+    ensures read { IsTrue (D.shown disk.old).tells → IfOk result (HasRead (D.shown disk.old).reads container.now span (map_blocks span)) }
     ensures fault { IsTrue (D.shown disk.old).tells → IfErr result (IsBadMap (D.shown disk.old).reads container.now span) }
     ensures only_reads { OnlyReads (D.shown disk.old) (D.shown disk.new) }
     ensures stands { StandsOn (D.shown disk.new) store.new.pairs }
@@ -101,6 +104,8 @@ fn read_map_blocks<D: Disk>(
     requires map { map.old.span ≡ span }
     requires entries { length container.now.entries ≡ entry_count span }
     ensures map { map.new.span ≡ map.old.span }
+    ensures read { IsTrue (D.shown disk.old).tells → HasRead (D.shown disk.old).reads container.now span 0 map.old
+        → OnOk result (HasRead (D.shown disk.old).reads container.now span (map_blocks span) map.new) }
     ensures fault { IsTrue (D.shown disk.old).tells → IfErr result (IsBadMap (D.shown disk.old).reads container.now span) }
     ensures only_reads { OnlyReads (D.shown disk.old) (D.shown disk.new) }
     ensures stands { StandsOn (D.shown disk.new) store.new.pairs }
@@ -110,6 +115,30 @@ fn read_map_blocks<D: Disk>(
         read_map_block(store, disk, container, map, span, index)?;
     }
     Ok(())
+}
+
+/// Whether the entry of a VVBN isn't a hole though the VVBN isn't one of the active map's blocks.
+fn is_delayed(container: &Container, span: u32, vvbn: u32) -> bool
+    requires span { span ≤ greatest_span }
+    requires within { vvbn < length container.now.entries }
+    ensures { result ≡ is_delayed_entry container.now span vvbn }
+{
+    let is_map_block = span <= vvbn && vvbn < span + span.div_ceil(32_768);
+    container.entry_at(vvbn).is_some() && !is_map_block
+}
+
+/// Whether an entry is delayed: there is something to give back.
+fn has_delayed(container: &Container, span: u32) -> bool
+    requires span { span ≤ greatest_span }
+    requires entries { length container.now.entries ≡ entry_count span }
+    ensures { result ≡ has_delayed container.now span }
+{
+    for vvbn in 0..entry_count(span) {
+        if is_delayed(container, span, vvbn) {
+            return true;
+        }
+    }
+    false
 }
 
 /// Reads the container that a label names.
@@ -157,6 +186,7 @@ fn load_volume<D: Disk>(
     ensures loaded { IsTrue (D.shown disk.old).tells → container_at containers.old slot ≡ None
         → IfOk result (λ state. IsLoaded (D.shown disk.old).reads found.now slot state (container_at containers.new slot)) }
     ensures state { IfOk result (λ state. IfSome state (IsState slot)) }
+    ensures housed { IfOk result (λ state. Houses state (container_at containers.new slot)) }
     ensures fault { IsTrue (D.shown disk.old).tells → IfErr result (IsLoadFault (D.shown disk.old).reads found.now) }
     ensures only_reads { OnlyReads (D.shown disk.old) (D.shown disk.new) }
     ensures stands { StandsOn (D.shown disk.new) store.new.pairs }
@@ -169,8 +199,9 @@ fn load_volume<D: Disk>(
     let label = read_label(store, disk, place)?;
     let container = read_container(alloc, store, disk, &label)?;
     let map = read_map(alloc, store, disk, &container, label.span)?;
+    let delayed = has_delayed(&container, label.span);
     containers.put(slot, container, None);
-    Ok(Some(VolumeState::of_label(alloc, slot, place, &label, map)))
+    Ok(Some(VolumeState::of_label(alloc, slot, place, &label, map, delayed)))
 }
 
 /// Reads the volume of the next slot.

@@ -4,23 +4,20 @@ ghost use Rattle.std.specs.Prelude.{◌≡◌, ◌≤◌, ◌*◌, ◌∷◌, []
 ghost use Rattle.fv_model.specs.Numbers.{greatest_span};
 ghost use Rattle.fv_codec.specs.Blocks.{IsLabel};
 ghost use Rattle.fv_image.specs.Views.{head_of, kind_named};
+ghost use Rattle.fv_image.specs.Told.{is_plain};
+ghost use Rattle.fv_model.specs.Spelling.{is_name};
+ghost use Rattle.fv_volmap.specs.Slots.{empty_volume};
+ghost use Rattle.fv_volume.specs.Labels.{label_said};
 ghost use Rattle.fv_volume.specs.Loading.{form_in};
 ghost use Rattle.fv_volume.specs.States.{empty_head, head_in, ledger_of_empty};
 
-use crate::labels::{kind_of, name_of};
+use crate::label::{FREE, HOLE, kind_number, kind_of, name_field, name_of};
 use fv_charge::Ledger;
 use fv_codec::{Label, Pointer};
 use fv_model::{Kind, Name};
 use fv_volmap::VolMap;
 use std::alloc::{AllocError, Global};
 use std::marker::Model;
-
-/// A pointer that leads nowhere.
-const HOLE: Pointer = Pointer {
-    vvbn: 0,
-    pvbn: 0,
-    stamp: 0,
-};
 
 /// A table as a label names it.
 #[derive(Clone, Copy, Debug, PartialEq, Eq)]
@@ -117,7 +114,7 @@ pub struct VolumeState {
     pub ledger: Ledger,
     /// Where the label lies that the root on the disk names; 0 where there is none yet.
     label: u32,
-    /// Whether something changed since the last consistency point.
+    /// Whether the next consistency point has something to write.
     changed: bool,
 }
 
@@ -135,9 +132,13 @@ impl VolumeState {
         ensures slot { IfOk result (λ state. state.slot ≡ slot) }
         ensures head { IfOk result (λ state. head_in state ≡ empty_head name.now size kind span) }
         ensures ledger { IfOk result (λ state. state.ledger ≡ ledger_of_empty size kind span) }
+        ensures map { IfOk result (λ state. state.map ≡ empty_volume span) }
         ensures label { IfOk result (λ state. state.label ≡ 0) }
         ensures changed { IfOk result (λ state. state.changed ≡ true) }
+        ensures named { is_name name.now ≡ true }
     {
+        // What the bytes are known to be is what a label needs of them.
+        let _ = name.as_bytes();
         Ok(VolumeState {
             slot,
             name: *name,
@@ -160,21 +161,25 @@ impl VolumeState {
         })
     }
 
-    /// The volume that a label at this PVBN says, for a slot, with the map of its active table. The label has
-    /// no form that can't be loaded.
+    /// The volume that a label at this PVBN says, for a slot, with the map of its active table, and whether
+    /// the next consistency point has something to do for it. The label has no form that can't be loaded.
     pub(crate) fn of_label(
         alloc: Global,
         slot: u8,
         place: u32,
         label: &Label,
         map: VolMap,
+        changed: bool,
     ) -> VolumeState
         requires range { IsLabel label.now }
         requires plain { form_in label.now ≡ None }
         ensures slot { result.slot ≡ slot }
         ensures head { head_in result ≡ head_of label.entry.now }
         ensures label { result.label ≡ place }
-        ensures changed { result.changed ≡ false }
+        ensures span { result.span ≡ label.entry.now.span }
+        ensures map { result.map ≡ map }
+        ensures changed { result.changed ≡ changed }
+        ensures named { is_name result.name ≡ true }
         ensures ledger { result.ledger ≡ ledger_of_empty label.entry.now.size (kind_named label.entry.now.kind) label.entry.now.span }
     {
         let kind = kind_of(label);
@@ -196,7 +201,7 @@ impl VolumeState {
             map,
             ledger: new_ledger(label.size, kind, label.span),
             label: place,
-            changed: false,
+            changed,
         }
     }
 
@@ -207,18 +212,52 @@ impl VolumeState {
         self.label
     }
 
-    /// Whether something changed since the last consistency point.
+    /// Whether the next consistency point has something to write: a change since the last one, or an entry
+    /// whose block it gives back.
     pub fn is_changed(&self) -> bool
         ensures { result ≡ self.entry.now.changed }
     {
         self.changed
     }
 
+    /// The label that says this volume, with the place of its container's root, 0 where that is all holes, and
+    /// with the container's height. The volume has no file, no snapshot and no base, and knows all places.
+    /// It takes no memory.
+    #[tactic(auto, unfolding(crate::specs::Labels::label_said))]
+    pub fn label(&self, container: u32, height: u8) -> Label
+        requires { is_plain (head_in self.now) ≡ true }
+        ensures { result ≡ label_said self.entry.now container height }
+    {
+        let (name_length, name) = name_field(&self.name);
+        Label {
+            name_length,
+            name,
+            kind: kind_number(self.kind),
+            size: self.size,
+            most: self.most,
+            span: self.span,
+            now: self.now,
+            parent: 0,
+            base_slot: 0,
+            splitting: 0,
+            known: 1,
+            container,
+            height,
+            levels: self.active.levels,
+            root: self.active.root,
+            snapshots: [FREE; 24],
+        }
+    }
+
     /// Says that the root on the disk names a label of this volume as it is now, at this PVBN.
     pub fn settled(&mut self, label: u32)
         ensures head { head_in self.new ≡ head_in self.old }
+        ensures map { self.new.map ≡ self.old.map }
+        ensures ledger { self.new.ledger ≡ self.old.ledger }
+        ensures slot { self.new.slot ≡ self.old.slot }
         ensures label { self.new.label ≡ label }
         ensures changed { self.new.changed ≡ false }
+        ensures others { self.new ≡ record self.old { label = label; changed = false } }
     {
         self.label = label;
         self.changed = false;

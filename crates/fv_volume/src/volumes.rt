@@ -3,25 +3,26 @@
 ghost use Rattle.std.specs.Prelude.{◌≡◌, ◌<◌, ◌≤◌, ◌+◌, ◌*◌, ◌^◌, ℕ, true, false, length, None, Some, IsSome, IsNone, IfSome, IfNone, IfOk, IfErr, IsTrue, OnOk, OnErr, option_copied, replicate, sum_by, take};
 ghost use Rattle.std.specs.Option.{is_some, option_map, option_copied_mut};
 ghost use Rattle.fv_disk.specs.Shown.{Image};
-ghost use Rattle.fv_container.specs.Chains.{slot_count, with_container, with_parent};
+ghost use Rattle.fv_container.specs.Chains.{container_at, slot_count, with_container, with_parent};
 ghost use Rattle.fv_container.specs.Mapped.{empty_map};
 ghost use Rattle.fv_image.specs.Views.{entry_count};
 ghost use Rattle.fv_model.specs.declared.commands.Command.TheVariants.{VolCreate};
 ghost use Rattle.fv_model.specs.Numbers.{greatest_span};
 ghost use Rattle.fv_model.specs.Refusals.{refusal, next};
-ghost use Rattle.fv_model.specs.Space.{commits, span_of};
+ghost use Rattle.fv_model.specs.Space.{commits, overhead, span_of};
 ghost use Rattle.fv_root.specs.Finding.{IsInRange, root_found};
 ghost use Rattle.std.specs.FinMap as fin;
 ghost use Rattle.fv_image.specs.Held.{layout_at, view_at};
 ghost use Rattle.fv_image.specs.MachineOf.{Tells};
-ghost use Rattle.fv_model.specs.Machines.{Machine};
+ghost use Rattle.fv_model.specs.Machines.{Machine, capacity};
+ghost use Rattle.fv_root.specs.Formatted.{IsSize};
 ghost use Rattle.fv_volume.specs.declared.pool.Pool.{Pool};
 ghost use Rattle.fv_disk.specs.DiskCalls.{OnlyReads};
 ghost use Rattle.fv_store.specs.Held.{StandsOn};
 ghost use Rattle.fv_volume.specs.Causes.{HasCause};
 ghost use Rattle.fv_volume.specs.Loading.{IsLoadFault, KeptTo, LoadedTo};
-ghost use Rattle.fv_volume.specs.Creating.{IsMade, RefusedBy, with_holes};
-ghost use Rattle.fv_volume.specs.States.{AreStates, view_over, machine_in, place_in, state_at, with_state};
+ghost use Rattle.fv_volume.specs.Creating.{IsMade, IsNew, RefusedBy, with_holes};
+ghost use Rattle.fv_volume.specs.States.{AreStates, IsState, view_over, machine_in, state_at, with_state};
 ghost use Rattle.fv_volume.specs.Slots.{IsFirstFree, IsFull, HasName, NoneHasName};
 
 use crate::admit::admit;
@@ -33,7 +34,7 @@ use crate::sizes::entry_count;
 use crate::state::VolumeState;
 use fv_container::{Container, Containers};
 use fv_disk::Disk;
-use fv_model::{Kind, Name};
+use fv_model::{Kind, Name, Refusal};
 use std::alloc::Global;
 use std::marker::Model;
 
@@ -71,7 +72,8 @@ impl Volumes {
     /// span. `DiskFault` comes only where a read failed in this call, and `Memory` where memory ran out. The
     /// pool's containers stay then.
     ///
-    /// Each label, each node of the containers and each block of the active maps is read once.
+    /// Each label, each node of the containers and each block of the active maps is read once, and each entry
+    /// of the containers is looked at once more.
     #[tactic(auto, using(crate::proofs::Viewed::viewed))]
     pub fn load<D: Disk>(
         alloc: Global,
@@ -138,8 +140,8 @@ impl Volumes {
         sum_commits(&self.states)
     }
 
-    /// Makes an empty volume and answers its slot, the least that is free. It has a container of holes: the
-    /// blocks of its active map are placed by the next consistency point.
+    /// Makes an empty volume and answers its slot, the least that is free. It has a container of holes: its
+    /// label and the blocks of its active map are placed by the next consistency point.
     ///
     /// # Errors
     /// `Refused` comes exactly where the machine refuses `vol create`, with the same refusal: a size that
@@ -154,16 +156,18 @@ impl Volumes {
         size: u32,
         kind: Kind,
     ) -> Result<u8, VolumeFault>
-        requires states { AreStates self.old }
+        requires each { (s : ℕ) → IfSome (state_at self.old s) (IsState s) }
         requires range { IsInRange pool.old.found }
         ensures slot { IfOk result (IsFirstFree self.old) }
         ensures made { IfOk result (λ slot. IsMade self.old slot name.now size kind self.new) }
-        ensures unlabelled { IfOk result (λ slot. (place_in (state_at self.new slot) ≡ 0) × IfSome (state_at self.new slot) (λ x. x.changed ≡ true)) }
+        ensures new { IfOk result (λ slot. IsNew (state_at self.new slot) (container_at pool.new.containers slot) name.now size kind) }
         ensures holes { IfOk result (λ slot. pool.new ≡ with_holes pool.old slot size) }
-        ensures states { OnOk result (AreStates self.new) }
-        ensures accepted { OnOk result ((i : Image) → refusal (machine_in pool.old self.old i) (VolCreate name.now size kind) ≡ None) }
-        ensures machine { OnOk result ((i : Image) → machine_in pool.new self.new i ≡ next (machine_in pool.old self.old i) (VolCreate name.now size kind)) }
-        ensures refused { IfErr result (RefusedBy (λ r. (i : Image) → refusal (machine_in pool.old self.old i) (VolCreate name.now size kind) ≡ Some r)) }
+        ensures long { length self.new ≡ slot_count }
+        ensures each { OnOk result ((s : ℕ) → IfSome (state_at self.new s) (IsState s)) }
+        ensures states { AreStates self.old → OnOk result (AreStates self.new) }
+        ensures accepted { AreStates self.old → OnOk result ((i : Image) → refusal (machine_in pool.old self.old i) (VolCreate name.now size kind) ≡ None) }
+        ensures machine { AreStates self.old → OnOk result ((i : Image) → machine_in pool.new self.new i ≡ next (machine_in pool.old self.old i) (VolCreate name.now size kind)) }
+        ensures refused { IfErr result (RefusedBy (λ r. AreStates self.old → (i : Image) → refusal (machine_in pool.old self.old i) (VolCreate name.now size kind) ≡ Some r)) }
         ensures same { OnErr result (self.new ≡ self.old) }
         ensures same_pool { OnErr result (pool.new ≡ pool.old) }
     {
@@ -173,5 +177,24 @@ impl Volumes {
         self.states[place.slot as usize] = Some(state);
         pool.containers.put(place.slot, container, None);
         Ok(place.slot)
+    }
+
+    /// What `create` would decide in an aggregate of so many blocks, without making the volume: its span, or why it is refused.
+    ///
+    /// Costs a step for each volume.
+    pub fn admit(&self, blocks: u32, name: &Name, size: u32, kind: Kind) -> Result<u32, Refusal>
+        requires each { (s : ℕ) → IfSome (state_at self.now s) (IsState s) }
+        requires blocks { IsSize blocks }
+        ensures span { IfOk result (λ span. span ≡ span_of size 0 0) }
+        ensures most { IfOk result (λ span. span ≤ greatest_span) }
+        ensures accepted { AreStates self.now → IfOk result (λ span. (pool : Pool) (i : Image) → pool.found.blocks ≡ blocks
+            → refusal (machine_in pool self.now i) (VolCreate name.now size kind) ≡ None) }
+        ensures room { AreStates self.now → IfOk result (λ span. (pool : Pool) (i : Image) → pool.found.blocks ≡ blocks
+            → commits (machine_in pool self.now i) + 2 * overhead span ≤ capacity blocks) }
+        ensures refused { AreStates self.now → IfErr result (λ r. (pool : Pool) (i : Image) → pool.found.blocks ≡ blocks
+            → refusal (machine_in pool self.now i) (VolCreate name.now size kind) ≡ Some r) }
+    {
+        let place = admit(&self.states, blocks, name, size, kind)?;
+        Ok(place.span)
     }
 }

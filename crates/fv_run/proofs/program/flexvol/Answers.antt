@@ -8,6 +8,9 @@ returns-in-Ok-clause-created g c = (tells _ _ _ (Ok tt) c.in-Ok.ensures.runs).cr
 pub returns-in-Ok-clause-acknowledged : goal.returns-in-Ok-clause-acknowledged
 returns-in-Ok-clause-acknowledged g c = (tells _ _ _ (Ok tt) c.in-Ok.ensures.runs).acknowledged
 
+pub returns-in-Err-clause-statuses : goal.returns-in-Err-clause-statuses
+returns-in-Err-clause-statuses g c = rw c.status.ensures (tells _ _ _ (Err c.in-Err.fault) c.in-Err.ensures.runs).statuses
+
 pub returns-in-Err-clause-usage : goal.returns-in-Err-clause-usage
 returns-in-Err-clause-usage g c = rw c.status.ensures (tells _ _ _ (Err c.in-Err.fault) c.in-Err.ensures.runs).usage
 
@@ -31,3 +34,15 @@ returns-in-Err-clause-acknowledged g c = (tells _ _ _ (Err c.in-Err.fault) c.in-
 
 pub returns-in-Err-clause-volumes : goal.returns-in-Err-clause-volumes
 returns-in-Err-clause-volumes g c = (tells _ _ _ (Err c.in-Err.fault) c.in-Err.ensures.runs).volumes
+
+pub returns-in-Err-clause-source_fault : goal.returns-in-Err-clause-source_fault
+returns-in-Err-clause-source_fault g c = rw c.status.ensures (tells _ _ _ (Err c.in-Err.fault) c.in-Err.ensures.runs).source_fault
+
+pub returns-in-Err-clause-create_statuses : goal.returns-in-Err-clause-create_statuses
+returns-in-Err-clause-create_statuses g c = rw c.status.ensures (tells _ _ _ (Err c.in-Err.fault) c.in-Err.ensures.runs).create_statuses
+
+pub returns-in-Err-clause-run : goal.returns-in-Err-clause-run
+returns-in-Err-clause-run g c = rw c.status.ensures (tells _ _ _ (Err c.in-Err.fault) c.in-Err.ensures.runs).run
+
+pub returns-in-Ok-clause-run : goal.returns-in-Ok-clause-run
+returns-in-Ok-clause-run g c = (tells _ _ _ (Ok tt) c.in-Ok.ensures.runs).run

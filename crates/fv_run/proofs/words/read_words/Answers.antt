@@ -2,24 +2,34 @@ use Rattle.std.proofs.Common.{◌≡◌, ◌∙◌, true, false, string_bytes, r
 use Rattle.std.specs.Prelude.{codes, bytes_eq}
 use Rattle.std.specs.Option.{option_map}
 use Rattle.fv_run.specs.Meaning.{create, number_in}
-use Rattle.fv_run.proofs.Phrases.{few, many, two, means_or_usage}
+use Rattle.fv_run.proofs.Phrases.{none, one, many, two, means_or_usage}
 use Rattle.fv_run.proofs.words.read_words.Goals as goal
+
+pub returns-in-len1 : goal.returns-in-len1
+returns-in-len1 c =
+    let is_run : bytes_eq (string_bytes c.command-item.result) (codes "run") ≡ true = rw (← c.as_str.ensures.value) (sym c.if-eq.ensures) in
+    one string_bytes c.args.words.now c.command-item.result c.in-len1.len_at_least c.in-len1.len_below c.command-item.is ∙ rw is_run refl
 
 pub returns-in-len2 : goal.returns-in-len2
 returns-in-len2 c =
-    let is_create : bytes_eq (string_bytes c.command-item.result) (codes "create") ≡ true = rw (← c.as_str.ensures.value) (sym c.if-eq.ensures) in
+    let is_create : bytes_eq (string_bytes c.command-item-then-words-lt3.result) (codes "create") ≡ true = rw (← c.as_str-then-words-lt3.ensures.value) (sym c.if-eq-2.ensures) in
     let size_is = ap (λ size. option_map create (number_in 512 1048576 size)) (sym c.as_bytes.ensures.value) in
     rw c.ok_or.ensures.value (means_or_usage _ _
-    (two string_bytes c.args.words.now c.command-item.result c.size-item.result c.in-len2.len_at_least c.in-len2.len_below c.command-item.is c.size-item.is
+    (two string_bytes c.args.words.now c.command-item-then-words-lt3.result c.size-item.result c.in-len2.len_at_least c.in-len2.len_below c.command-item-then-words-lt3.is c.size-item.is
     ∙ rw is_create size_is ∙ sym c.create.ensures))
 
 pub returns-in_default : goal.returns-in_default
-returns-in_default c = few string_bytes c.args.words.now c.in_default.len_below
+returns-in_default c = none string_bytes c.args.words.now c.in_default.len_below
 
 pub returns-in_default-2 : goal.returns-in_default-2
 returns-in_default-2 c =
-    let other : bytes_eq (string_bytes c.command-item.result) (codes "create") ≡ false = rw (← c.as_str.ensures.value) (sym c.if-eq.ensures) in
-    two string_bytes c.args.words.now c.command-item.result c.size-item.result c.in-len2.len_at_least c.in-len2.len_below c.command-item.is c.size-item.is ∙ rw other refl
+    let other : bytes_eq (string_bytes c.command-item.result) (codes "run") ≡ false = rw (← c.as_str.ensures.value) (sym c.if-eq.ensures) in
+    one string_bytes c.args.words.now c.command-item.result c.in-len1.len_at_least c.in-len1.len_below c.command-item.is ∙ rw other refl
 
 pub returns-in_default-3 : goal.returns-in_default-3
-returns-in_default-3 c = many string_bytes c.args.words.now c.in_default.len_at_least
+returns-in_default-3 c =
+    let other : bytes_eq (string_bytes c.command-item-then-words-lt3.result) (codes "create") ≡ false = rw (← c.as_str-then-words-lt3.ensures.value) (sym c.if-eq-2.ensures) in
+    two string_bytes c.args.words.now c.command-item-then-words-lt3.result c.size-item.result c.in-len2.len_at_least c.in-len2.len_below c.command-item-then-words-lt3.is c.size-item.is ∙ rw other refl
+
+pub returns-in_default-4 : goal.returns-in_default-4
+returns-in_default-4 c = many string_bytes c.args.words.now c.in_default.len_at_least

@@ -1,5 +1,6 @@
 use Rattle.std.proofs.Common.{arith}
 use Rattle.fv_tree.proofs.Held.{but_then}
+use Rattle.fv_tree.proofs.Newly.{more_same, more_tops}
 use Rattle.fv_tree.proofs.Grown.{one_grown, not_grown}
 use Rattle.fv_tree.proofs.grow.keep_grown.Goals as goal
 
@@ -9,7 +10,9 @@ loop-below-preserved c =
     let put = c.in_ok-keep.ensures.node in record {
       fields = but_then c.args.tree.now c.loop-below.tree c.keep.new.tree was.fields c.keep.ensures.fields;
       lowest = λ e. absurd (omega (arith, e, c.loop-below.auto.below));
-      higher = λ _. c.new_mark-child.ensures;
-      grown = one_grown c.args.tree.now c.loop-below.tree c.keep.new.tree c.args.stamp c.loop-below.below c.loop-below.child c.node_over.result.children put c.node_over.ensures c.node_over.result.long was.lowest was.higher was.grown;
+      higher = λ _. c.new_mark-child.ensures.is;
+      grown = one_grown c.args.tree.now c.loop-below.tree c.keep.new.tree c.args.stamp c.loop-below.below c.loop-below.child c.node_over.result.children put c.node_over.ensures.children c.node_over.result.long was.lowest was.higher was.grown;
+      same = more_same c.args.tree.now c.loop-below.tree c.keep.new.tree c.loop-below.below c.node_over.result c.in_ok-keep.ensures.kept c.loop-below.auto.below was.same;
+      tops = more_tops c.args.tree.now c.loop-below.tree c.keep.new.tree c.loop-below.below c.node_over.result c.in_ok-keep.ensures.kept c.node_over.ensures.changed c.node_over.ensures.placed was.tops;
       others = not_grown c.args.tree.now c.loop-below.tree c.keep.new.tree c.loop-below.below c.node_over.result.children put c.loop-below.auto.below was.others;
     }

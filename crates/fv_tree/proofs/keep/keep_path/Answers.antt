@@ -1,9 +1,20 @@
-use Rattle.std.proofs.Common.{refl, sym, ◌∙◌, arith, ◌/◌, ◌-◌, ◌^◌}
+use Rattle.std.proofs.Common.{inl, inr, ap, subst, refl, sym, ◌∙◌, arith, ◌/◌, ◌-◌, ◌^◌}
 use Rattle.fv_model.specs.Trees.{fan}
 use Rattle.fv_tree.specs.Standing.{standing, under}
-use Rattle.fv_tree.proofs.Held.{at_root, same_self, kept_from}
+use Rattle.std.proofs.lemmas.Bool.{cases_eq}
+use Rattle.fv_codec.specs.declared.pointer.Pointer.{Pointer}
+use Rattle.fv_tree.specs.Spelled.{pointer_at}
+use Rattle.fv_tree.specs.Flushing.{node_placed}
+use Rattle.fv_tree.specs.Carried.{kept_at, IsBlank, Brings}
+use Rattle.std.specs.FinMap as fin
+use Rattle.fv_tree.specs.Releasing.{KeepsBlocks}
+use Rattle.fv_tree.proofs.Released.{keeps_self, keeps_then}
+use Rattle.fv_tree.proofs.Brought.{blank_unplaced, brings_stands}
+use Rattle.fv_tree.proofs.Held.{but_then, at_root, same_self, kept_from}
 use Rattle.fv_tree.proofs.Ways.{same_then}
-use Rattle.fv_tree.proofs.Causes.{counts_then}
+use Rattle.fv_tree.specs.Sources.{Shown}
+use Rattle.std.proofs.lemmas.Result.{err_from_is_err_and}
+use Rattle.fv_tree.proofs.Causes.{counts_then, fails_later, fails_same}
 use Rattle.fv_tree.proofs.keep.keep_path.Goals as goal
 
 pub loop-level-init : goal.loop-level-init
@@ -12,8 +23,13 @@ loop-level-init g c =
       high = omega arith;
       pointer = at_root t c.args.index c.requires.index;
       kept = λ k lt le. absurd (omega arith);
+      unplaced = λ k lt le. absurd (omega arith);
+      fields = record { owner = refl; levels = refl; root = refl; cells = refl };
+      stands = λ stands. stands;
       same = same_self t;
+      blocks = keeps_self (under (g.B.Blocks.shown c.args.blocks.now)) c.args.tree.now;
       held = refl;
+      used = refl;
       counts = record { faults = omega arith; damages = omega arith };
     }
 
@@ -22,12 +38,45 @@ loop-level-preserved g c =
     let s = standing (under (g.B.Blocks.shown c.args.blocks.now)) c.args.tree.now in
     let t = standing (under (g.B.Blocks.shown c.loop-level.blocks)) c.loop-level.tree in
     let u = standing (under (g.B.Blocks.shown c.keep_step.new.blocks)) c.keep_step.new.tree in
+    let old = under (g.B.Blocks.shown c.args.blocks.now) in
     let now = c.in_ok-pointer.ensures in
     let was = c.loop-level.invariant in record {
       high = omega arith;
       pointer = now.below ∙ sym (now.same.pointers (c.loop-level.level - 1) (c.args.index / fan ^ (c.loop-level.level - 1)));
       kept = λ k lt le. kept_from t u c.loop-level.level c.args.index (omega arith) now.same now.others now.keeps (λ k lt le. was.kept k lt (omega (arith, le, was.same.levels))) k lt (omega (arith, le, was.same.levels));
+      unplaced = λ k lt le none. elim (cases_eq k c.loop-level.level) [
+        | inl e ↦ blank_unplaced c.keep_step.new.tree k (c.args.index / fan ^ k) (subst (λ n. IsBlank (kept_at c.keep_step.new.tree n (c.args.index / fan ^ n))) (sym e) (now.blank
+            (ap (λ (p : Pointer). p.stamp) (was.pointer ∙ was.same.pointers c.loop-level.level (c.args.index / fan ^ c.loop-level.level) ∙ (λ i. pointer_at s (sym e i) (c.args.index / fan ^ (sym e i)))) ∙ none)))
+        | inr differs ↦ ap node_placed (now.brings.others k (c.args.index / fan ^ k) (inl differs)) ∙ was.unplaced k (omega arith) le none
+      ];
+      fields = but_then c.args.tree.now c.loop-level.tree c.keep_step.new.tree was.fields now.fields;
+      stands = λ stands. brings_stands (g.B.Blocks.shown c.loop-level.blocks) (g.B.Blocks.shown c.keep_step.new.blocks) c.loop-level.tree c.keep_step.new.tree c.loop-level.level (c.args.index / fan ^ c.loop-level.level) (omega arith) now.held now.used now.fields now.same
+          (subst (Brings (under (g.B.Blocks.shown c.loop-level.blocks)) c.loop-level.tree c.keep_step.new.tree c.loop-level.level (c.args.index / fan ^ c.loop-level.level)) was.pointer now.brings) (was.stands stands);
       same = same_then s t u was.same now.same;
+      blocks = keeps_then old c.args.tree.now c.loop-level.tree c.keep_step.new.tree was.blocks (subst (λ b. KeepsBlocks b c.loop-level.tree c.keep_step.new.tree) (ap (λ h v. fin.get h v) was.held) now.blocks);
       held = now.held ∙ was.held;
+      used = now.used ∙ was.used;
       counts = counts_then (g.B.Blocks.shown c.args.blocks.now) (g.B.Blocks.shown c.loop-level.blocks) (g.B.Blocks.shown c.keep_step.new.blocks) was.counts now.counts;
     }
+
+pub returns-in_err-pointer-clause-blocks : goal.returns-in_err-pointer-clause-blocks
+returns-in_err-pointer-clause-blocks g c =
+    keeps_then (under (g.B.Blocks.shown c.args.blocks.now)) c.args.tree.now c.loop-level.tree c.keep_step.new.tree c.loop-level.invariant.blocks
+    (subst (λ b. KeepsBlocks b c.loop-level.tree c.keep_step.new.tree) (ap (λ h v. fin.get h v) c.loop-level.invariant.held) c.keep_step.ensures.blocks)
+
+pub returns-in_err-pointer-clause-stands : goal.returns-in_err-pointer-clause-stands
+returns-in_err-pointer-clause-stands g c = λ stands.
+    let was = c.loop-level.invariant in
+    let now = c.in_err-pointer.ensures in
+    brings_stands (g.B.Blocks.shown c.loop-level.blocks) (g.B.Blocks.shown c.keep_step.new.blocks) c.loop-level.tree c.keep_step.new.tree c.loop-level.level (c.args.index / fan ^ c.loop-level.level) (omega arith) now.held now.used now.fields now.same
+    (subst (Brings (under (g.B.Blocks.shown c.loop-level.blocks)) c.loop-level.tree c.keep_step.new.tree c.loop-level.level (c.args.index / fan ^ c.loop-level.level)) was.pointer now.brings) (was.stands stands)
+
+pub returns-in_err-pointer-clause-cause : goal.returns-in_err-pointer-clause-cause
+returns-in_err-pointer-clause-cause g c =
+    let old : Shown = g.B.Blocks.shown c.args.blocks.now in
+    let mid : Shown = g.B.Blocks.shown c.loop-level.blocks in
+    let new : Shown = g.B.Blocks.shown c.keep_step.new.blocks in
+    let was = c.loop-level.invariant in
+    let p = err_from_is_err_and c.from_residual.result c.from_residual.ensures.1 in
+    rw (p.1, p.2) (fails_later (standing (under old) c.args.tree.now) old mid new c.in_err-pointer.field-0.0 was.counts was.held
+    (fails_same (standing (under old) c.args.tree.now) (standing (under mid) c.loop-level.tree) mid new c.in_err-pointer.field-0.0 was.same c.in_err-pointer.ensures.cause))

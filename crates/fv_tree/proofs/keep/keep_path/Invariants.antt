@@ -1,9 +1,11 @@
-use Rattle.std.proofs.Common.{◌≡◌, ◌≤◌, ◌<◌, ◌/◌, ◌^◌, ℕ}
+use Rattle.std.proofs.Common.{false, ◌≡◌, ◌≤◌, ◌<◌, ◌/◌, ◌^◌, ℕ}
 use Rattle.fv_model.specs.Trees.{fan}
 use Rattle.fv_tree.specs.Spelled.{pointer_at}
+use Rattle.fv_tree.specs.Releasing.{KeepsBlocks}
 use Rattle.fv_tree.specs.Keeping.{IsKept, IsSame}
 use Rattle.fv_tree.specs.Sources.{Counts}
-use Rattle.fv_tree.specs.Standing.{standing, under}
+use Rattle.fv_tree.specs.Standing.{standing, under, IsSameBut}
+use Rattle.fv_tree.specs.Flushing.{placed_in, Stands}
 use Rattle.fv_tree.proofs.keep.keep_path.Given as goal
 
 abbrev pub invariant-loop-level : goal.invariant-loop-level
@@ -11,8 +13,13 @@ invariant-loop-level g l = record {
   high : l.level ≤ l.fn.tree.levels;
   pointer : l.pointer ≡ pointer_at (standing (under (g.B.Blocks.shown l.blocks)) l.tree) l.level (l.index / fan ^ l.level);
   kept : (k : ℕ) → l.level < k → k ≤ l.fn.tree.levels → IsKept (standing (under (g.B.Blocks.shown l.blocks)) l.tree) k (l.index / fan ^ k);
+  unplaced : (k : ℕ) → l.level < k → k ≤ l.fn.tree.levels → (pointer_at (standing (under (g.B.Blocks.shown l.fn.blocks)) l.fn.tree) k (l.index / fan ^ k)).stamp ≡ 0 → placed_in l.tree.nodes k (l.index / fan ^ k) ≡ false;
+  fields : IsSameBut l.fn.tree l.tree;
+  stands : Stands (g.B.Blocks.shown l.fn.blocks) l.fn.tree → Stands (g.B.Blocks.shown l.blocks) l.tree;
   same : IsSame (standing (under (g.B.Blocks.shown l.fn.blocks)) l.fn.tree) (standing (under (g.B.Blocks.shown l.blocks)) l.tree);
+  blocks : KeepsBlocks (under (g.B.Blocks.shown l.fn.blocks)) l.fn.tree l.tree;
   held : (g.B.Blocks.shown l.blocks).held ≡ (g.B.Blocks.shown l.fn.blocks).held;
+  used : (g.B.Blocks.shown l.blocks).used ≡ (g.B.Blocks.shown l.fn.blocks).used;
   counts : Counts (g.B.Blocks.shown l.fn.blocks) (g.B.Blocks.shown l.blocks);
 }
 

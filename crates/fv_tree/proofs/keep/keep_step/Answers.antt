@@ -1,10 +1,13 @@
-use Rattle.std.proofs.Common.{◌≡◌, ◌/◌, ◌%◌, ◌-◌, ◌^◌, ℕ, List, Some, get_or, ap, subst, ◌∙◌}
+use Rattle.std.proofs.Common.{◌≡◌, ◌/◌, ◌%◌, ◌-◌, ◌^◌, ℕ, List, Some, get_or, sym, ap, subst, ◌∙◌}
+use Rattle.std.specs.FinMap as fin
 use Rattle.fv_codec.specs.declared.pointer.Pointer.{Pointer}
 use Rattle.fv_model.specs.Trees.{fan}
 use Rattle.fv_tree.specs.Spelled.{Rooted, hole, pointers_at, pointer_at}
+use Rattle.fv_tree.specs.Carried.{kept_at, IsBlank}
 use Rattle.fv_tree.specs.Keeping.{Keeps, IsSame}
 use Rattle.fv_tree.specs.Standing.{standing, under}
 use Rattle.fv_tree.proofs.Held.{next_pointer, now_kept}
+use Rattle.fv_tree.proofs.Released.{keeps_brought}
 use Rattle.fv_tree.proofs.Ways.{keeps_same}
 use Rattle.fv_tree.proofs.keep.keep_step.Goals as goal
 
@@ -43,3 +46,22 @@ returns-clause-keeps g c =
 pub returns-clause-same : goal.returns-clause-same
 returns-clause-same g c =
     stays (standing (under (g.B.Blocks.shown c.args.blocks.now)) c.args.tree.now) _ c.args.level c.args.index c.width.result c.args.pointer.now c.width.ensures.is c.requires.pointer c.keep_node.ensures.keeps
+
+pub returns-in_err-children-clause-blocks : goal.returns-in_err-children-clause-blocks
+returns-in_err-children-clause-blocks g c =
+    let old = under (g.B.Blocks.shown c.args.blocks.now) in
+    keeps_brought old (under (g.B.Blocks.shown c.keep_node.new.blocks)) c.args.tree.now c.keep_node.new.tree c.args.level (c.args.index / c.width.result) c.args.pointer.now (ap (λ h v. fin.get h v) c.keep_node.ensures.held)
+    (stays (standing old c.args.tree.now) _ c.args.level c.args.index c.width.result c.args.pointer.now c.width.ensures.is c.requires.pointer c.keep_node.ensures.keeps)
+    (ap (λ w. pointer_at (standing old c.args.tree.now) c.args.level (c.args.index / w)) c.width.ensures.is ∙ sym c.requires.pointer)
+    c.keep_node.ensures.fields c.keep_node.ensures.brings
+
+pub returns-clause-blocks : goal.returns-clause-blocks
+returns-clause-blocks g c =
+    let old = under (g.B.Blocks.shown c.args.blocks.now) in
+    keeps_brought old (under (g.B.Blocks.shown c.keep_node.new.blocks)) c.args.tree.now c.keep_node.new.tree c.args.level (c.args.index / c.width.result) c.args.pointer.now (ap (λ h v. fin.get h v) c.keep_node.ensures.held)
+    (stays (standing old c.args.tree.now) _ c.args.level c.args.index c.width.result c.args.pointer.now c.width.ensures.is c.requires.pointer c.keep_node.ensures.keeps)
+    (ap (λ w. pointer_at (standing old c.args.tree.now) c.args.level (c.args.index / w)) c.width.ensures.is ∙ sym c.requires.pointer)
+    c.keep_node.ensures.fields c.keep_node.ensures.brings
+
+pub returns-clause-blank : goal.returns-clause-blank
+returns-clause-blank g c = λ none. subst (λ w. IsBlank (kept_at c.keep_node.new.tree c.args.level (c.args.index / w))) c.width.ensures.is (c.in_ok-children.ensures.blank none)

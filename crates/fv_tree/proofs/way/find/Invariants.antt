@@ -10,6 +10,7 @@ invariant-loop-level g l = record {
   high : l.level ≤ l.fn.tree.levels;
   pointer : l.pointer ≡ pointer_below (standing (under (g.B.Blocks.shown l.fn.blocks)) l.fn.tree) (l.fn.tree.levels - l.level) (l.index / fan ^ l.level);
   held : (g.B.Blocks.shown l.blocks).held ≡ (g.B.Blocks.shown l.fn.blocks).held;
+  used : (g.B.Blocks.shown l.blocks).used ≡ (g.B.Blocks.shown l.fn.blocks).used;
   counts : Counts (g.B.Blocks.shown l.fn.blocks) (g.B.Blocks.shown l.blocks);
 }
 

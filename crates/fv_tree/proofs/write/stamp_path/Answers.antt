@@ -1,8 +1,8 @@
 use Rattle.std.proofs.Common.{arith}
 use Rattle.fv_tree.proofs.write.stamp_path.Goals as goal
 
-pub returns : goal.returns
-returns c = record {
+pub returns-clause-stamps : goal.returns-clause-stamps
+returns-clause-stamps c = record {
   owner = c.loop-below.invariant.owner;
   levels = c.loop-below.invariant.levels;
   cells = c.loop-below.invariant.cells;

@@ -1,4 +1,11 @@
-use Rattle.std.proofs.Common.{cond, Some, nat_eq, sym, ◌∙◌, arith, subst}
+use Rattle.std.proofs.Common.{◌≡◌, ◌≢◌, ◌≤◌, ◌<◌, ◌==◌, ◌/◌, ◌^◌, ℕ, Bool, false, not, ap, cond, Some, nat_eq, sym, ◌∙◌, arith, subst}
+use Rattle.fv_codec.specs.declared.pointer.Pointer.{Pointer}
+use Rattle.fv_model.specs.Trees.{fan}
+use Rattle.fv_tree.specs.Spelled.{pointer_at}
+use Rattle.fv_tree.specs.Sources.{Shown}
+use Rattle.fv_tree.specs.Flushing.{loaded, placed_in, Stands}
+use Rattle.fv_tree.proofs.Marked.{marked_sound}
+use Rattle.fv_tree.proofs.Ready.{cells_again, within_ready, marked_is, cell_kept, cell_there, unstamped}
 use Rattle.fv_tree.specs.Standing.{standing, under}
 use Rattle.fv_tree.specs.Writing.{IsAlike}
 use Rattle.fv_tree.proofs.Causes.{at_err}
@@ -26,6 +33,35 @@ returns-clause-done g c =
     let same = c.keep_path.ensures.same in
     written_is t v u c.args.index c.args.stamp c.args.block.now
     (within_base t v c.args.index c.args.stamp same c.requires.index c.in_ok-pointer.ensures.kept)
-    (stamps_way blocks c.keep_path.new.tree c.keep_cell.new.tree c.stamp_path.new.tree c.args.index c.args.stamp c.keep_cell.ensures.fields c.stamp_path.ensures)
+    (stamps_way blocks c.keep_path.new.tree c.keep_cell.new.tree c.stamp_path.new.tree c.args.index c.args.stamp c.keep_cell.ensures.fields c.stamp_path.ensures.stamps)
     (omega (arith, c.requires.stamp))
-    (λ j. stamped_cells c.keep_path.new.tree c.keep_cell.new.tree c.stamp_path.new.tree c.args.index c.args.stamp c.args.block.now c.in_ok-keep_cell.ensures.cell c.stamp_path.ensures.cells j ∙ (λ k. cond (nat_eq j c.args.index) (Some c.args.block.now) (same.cells k j)))
+    (λ j. stamped_cells c.keep_path.new.tree c.keep_cell.new.tree c.stamp_path.new.tree c.args.index c.args.stamp c.args.block.now c.in_ok-keep_cell.ensures.cell c.stamp_path.ensures.stamps.cells j ∙ (λ k. cond (nat_eq j c.args.index) (Some c.args.block.now) (same.cells k j)))
+
+pub returns-in_err-keep_cell-clause-stands : goal.returns-in_err-keep_cell-clause-stands
+returns-in_err-keep_cell-clause-stands g c = λ stands.
+    let new : Shown = g.B.Blocks.shown c.keep_path.new.blocks in
+    cells_again (under new) new.used c.keep_path.new.tree c.keep_cell.new.tree c.keep_cell.ensures.fields c.in_err-keep_cell.ensures.same (c.keep_path.ensures.stands stands)
+
+pub returns-clause-stands : goal.returns-clause-stands
+returns-clause-stands g c = λ stands.
+    let new : Shown = g.B.Blocks.shown c.keep_path.new.blocks in
+    let i = c.args.index in
+    let old = standing (under (g.B.Blocks.shown c.args.blocks.now)) c.args.tree.now in
+    let w = c.keep_path.new.tree in
+    let v = c.keep_cell.new.tree in
+    let u = c.stamp_path.new.tree in
+    let path = c.in_ok-pointer.ensures in
+    let cell = c.in_ok-keep_cell.ensures in
+    let named : Bool = not (c.in_ok-pointer.pointer.stamp == 0) in
+    let some : c.args.stamp ≢ 0 = omega (arith, c.requires.stamp) in
+    let levels : v.levels ≡ c.args.tree.now.levels = cell.fields.levels ∙ path.fields.levels in
+    let covers : i < fan ^ v.levels = subst (λ n. i < fan ^ n) (sym levels) c.requires.index in
+    let unnamed : (pointer_at (standing (under new) w) 0 i).stamp ≡ 0 → named ≡ false = λ e. unstamped c.in_ok-pointer.pointer (ap (λ (p : Pointer). p.stamp) (path.pointer ∙ sym (path.same.pointers 0 i)) ∙ e) in
+    let unplaced : (level : ℕ) → 1 ≤ level → level ≤ w.levels → (pointer_at (standing (under new) w) level (i / fan ^ level)).stamp ≡ 0 → placed_in w.nodes level (i / fan ^ level) ≡ false =
+    λ level low high none. path.unplaced level low (omega (arith, high, path.fields.levels)) (ap (λ (p : Pointer). p.stamp) (sym (path.same.pointers level (i / fan ^ level))) ∙ none) in
+    let sound : Stands new w = path.stands stands in
+    marked_sound new.used (loaded new v) (loaded new u) i c.args.stamp some covers
+    (within_ready (under new) new.used w v i named sound cell.fields cell.own cell.others unnamed unplaced)
+    (marked_is (under new) v u i c.args.stamp c.stamp_path.ensures.stamps c.stamp_path.ensures.marks some covers
+    (λ level low high. cell_kept (under new) new.used w v i named sound cell.fields cell.own cell.others unnamed unplaced level (path.kept level low (omega (arith, high, levels))))
+    (cell_there w v i c.args.block.now cell.cell))

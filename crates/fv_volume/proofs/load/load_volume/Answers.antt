@@ -1,10 +1,19 @@
-use Rattle.std.proofs.Common.{◌∙◌, get_or, refl, sym, subst, arith}
+use Rattle.std.proofs.Common.{◌≡◌, ℕ, ap, ◌∙◌, get_or, refl, sym, subst}
 use Rattle.std.specs.Prelude.{IsTrue}
 use Rattle.fv_disk.specs.Shown.{Image}
+use Rattle.fv_bits.specs.Members.{is_member}
+use Rattle.fv_model.specs.Space.{map_blocks}
+use Rattle.fv_image.specs.Views.{volume_bit}
+use Rattle.fv_image.specs.Held.{view_at}
+use Rattle.fv_root.specs.Finding.{root_found}
+use Rattle.fv_volmap.specs.Slots.{Volume, active_of}
 use Rattle.fv_container.specs.Spelled.{Spelled}
-use Rattle.fv_volume.specs.Loading.{IsBadMap, IsBadTree, IsLoadFault}
-use Rattle.fv_volume.proofs.Labelled.{bad_label, bad_map, bad_tree, handed, is_label, loaded_none, loaded_some, put_there}
+use Rattle.fv_volume.specs.Loading.{HasRead, has_delayed, IsBadMap, IsBadTree, IsLoadFault}
+use Rattle.fv_volume.proofs.Labelled.{bad_label, bad_map, bad_tree, handed, is_label, loaded_none, loaded_some}
 use Rattle.fv_volume.proofs.Loaded.{state_from}
+use Rattle.fv_volume.proofs.Stepping.{has_container}
+use Rattle.fv_volume.proofs.Mapping.{read_bits}
+use Rattle.fv_volume.proofs.Stepping.{has_container}
 use Rattle.fv_volume.proofs.load.load_volume.Goals as goal
 
 pub returns-then-place-eq0-clause-loaded : goal.returns-then-place-eq0-clause-loaded
@@ -44,7 +53,7 @@ returns-in_err-map-clause-fault g c = λ tells.
     let lies = is_label found i c.args.slot c.requires.slot (get_or found.root.labels c.args.slot 0) l refl c.if-place-eq0.false (c.in_ok-label.ensures.label tells) in
     let spelled = subst (λ (j : Image). Spelled j l.container l.height map) first.reads (c.in_ok-container.ensures.spelled told) in
     handed (IsLoadFault i found) e c.from_residual-in_err-map.result c.from_residual-in_err-map.ensures.1
-    (bad_map found i c.args.slot c.requires.slot l map e lies spelled (subst (λ (j : Image). IsBadMap j map l.span e) (second.reads ∙ first.reads) (c.in_err-map.ensures.fault (subst IsTrue (sym second.tells) told))))
+    (bad_map found i c.args.slot c.requires.slot l map e lies spelled c.in_ok-container.ensures.size (subst (λ (j : Image). IsBadMap j map l.span e) (second.reads ∙ first.reads) (c.in_err-map.ensures.fault (subst IsTrue (sym second.tells) told))))
 
 pub returns-clause-loaded : goal.returns-clause-loaded
 returns-clause-loaded g c = λ tells empty.
@@ -56,7 +65,19 @@ returns-clause-loaded g c = λ tells empty.
     let told = subst IsTrue (sym first.tells) tells in
     let lies = is_label found i c.args.slot c.requires.slot (get_or found.root.labels c.args.slot 0) l refl c.if-place-eq0.false (c.in_ok-label.ensures.label tells) in
     let spelled = subst (λ (j : Image). Spelled j l.container l.height map) first.reads (c.in_ok-container.ensures.spelled told) in
-    loaded_some found i c.args.slot c.requires.slot l c.of_label.result map _ lies c.of_label.ensures.head c.of_label.ensures.label c.of_label.ensures.changed (put_there c.args.containers.now c.args.slot map c.put.new.self c.put.ensures (omega (arith, c.requires.slot, c.requires.few))) spelled c.in_ok-container.ensures.size c.in_ok-container.ensures.valid
+    let y = c.of_label.result in
+    let second = c.read_container.ensures.only_reads.stays in
+    let span : y.span ≡ l.span = c.of_label.ensures.span in
+    let m = c.in_ok-map.map in
+    let read = subst (λ (j : Image). HasRead j map l.span (map_blocks l.span) m) (second.reads ∙ first.reads) (c.in_ok-map.ensures.read (subst IsTrue (sym second.tells) told)) in
+    loaded_some found i c.args.slot c.requires.slot l y map _ lies c.of_label.ensures.head c.of_label.ensures.label c.put.ensures.there spelled c.in_ok-container.ensures.size c.in_ok-container.ensures.valid
+    (λ v. ap (λ (x : Volume). is_member (active_of x) v) c.of_label.ensures.map
+    ∙ read_bits found i c.args.slot l map lies spelled c.in_ok-container.ensures.size c.in_ok-container.ensures.valid m l.span read v
+    ∙ ap (λ (n : ℕ). volume_bit (view_at (root_found found) i) c.args.slot n 0 v) (sym span))
+    (c.of_label.ensures.changed ∙ c.has_delayed-delayed.ensures ∙ ap (λ (n : ℕ). has_delayed map n) (sym span))
 
 pub returns-clause-state : goal.returns-clause-state
-returns-clause-state g c = state_from c.in_ok-label.label c.in_ok-label.ensures.range c.in_ok-label.ensures.plain c.of_label.result c.args.slot c.of_label.ensures.slot c.of_label.ensures.head c.of_label.ensures.ledger
+returns-clause-state g c = state_from c.in_ok-label.label c.in_ok-label.ensures.range c.in_ok-label.ensures.plain c.of_label.result c.args.slot c.of_label.ensures.slot c.of_label.ensures.head c.of_label.ensures.ledger c.of_label.ensures.named (ap (λ (x : Volume). x.span) c.of_label.ensures.map ∙ c.in_ok-map.ensures.map ∙ sym c.of_label.ensures.span)
+
+pub returns-clause-housed : goal.returns-clause-housed
+returns-clause-housed g c = has_container c.in_ok-label.label c.of_label.result c.in_ok-container.container _ c.of_label.ensures.head c.in_ok-container.ensures.size c.put.ensures.there

@@ -2,12 +2,14 @@ use Rattle.std.proofs.Common.{ℕ, List, refl, sym, ap, ◌∙◌, arith}
 use Rattle.std.specs.Ordering.{nat_cmp}
 use Rattle.std.specs.BTreeMap as tree
 use Rattle.std.specs.FinMap as fin
+use Rattle.fv_tree.specs.InMemory.{used_in_memory}
 use Rattle.fv_tree.proofs.Maps.{found}
 use Rattle.fv_tree.proofs.memory.MemBlocksBlocks.load.Goals as goal
 
 pub returns : goal.returns
 returns c = record {
   held = ap (λ (b : tree.BTreeMap ℕ (List ℕ)). fin.from_entries {R = nat_cmp} b.entries) c.is_spent.ensures.blocks;
+  used = ap used_in_memory c.is_spent.ensures.blocks;
   gives = found c.args.self.now.blocks c.args.pointer.now.vvbn ∙ ap (λ (b : tree.BTreeMap ℕ (List ℕ)). tree.get nat_cmp b c.args.pointer.now.vvbn) (sym c.is_spent.ensures.blocks) ∙ sym c.in-Some.ensures.value;
   answers = refl;
   range = omega arith;

@@ -2,4 +2,4 @@ use Rattle.fv_volume.proofs.Loaded.{bare, head_from}
 use Rattle.fv_volume.proofs.state.VolumeState.of_label.Goals as goal
 
 pub returns-clause-head : goal.returns-clause-head
-returns-clause-head c = head_from c.args.label.now (bare c.args.label.now c.requires.plain) c.name_of.result c.kind_of-kind.result c.new.result c.name_of.ensures c.kind_of-kind.ensures c.new.ensures
+returns-clause-head c = head_from c.args.label.now (bare c.args.label.now c.requires.plain) c.name_of.result c.kind_of-kind.result c.new.result c.name_of.ensures.name c.kind_of-kind.ensures c.new.ensures

@@ -1,0 +1,261 @@
+-- A session with a new volume.
+use Rattle.std.proofs.Common.{◌≡◌, ◌≢◌, ◌<◌, ◌≤◌, ◌+◌, ◌*◌, ℕ, Bool, true, false, cond, List, length, Option, Some, None, refl, sym, ap, subst, ◌∙◌, ⊎_elim, inl, inr, arith, length-set, Result, Ok, Err}
+use Rattle.std.specs.Prelude.{◌⊎◌, IfOk, OnErr, max, nat_lt}
+use Rattle.std.specs.Option.{is_some, option_map}
+use Rattle.std.proofs.lemmas.Bool.{cases_eq}
+use Rattle.std.proofs.lemmas.Bool.Decides.{nat_tests}
+use Rattle.std.proofs.lemmas.List.{get_or-set_other, length-replicate}
+use Rattle.fv_disk.specs.Shown.{Image, Shown}
+use Rattle.fv_model.specs.declared.answers.Refusal.{Refusal}
+use Rattle.fv_model.specs.declared.answers.Refusal.TheVariants.{VolumeExists, AggregateFull, Range, TooMany}
+use Rattle.fv_model.specs.declared.answers.Reply.{Reply}
+use Rattle.fv_model.specs.declared.answers.Reply.TheVariants.{Done, Content, Number, Names, Stat, Refused}
+use Rattle.fv_model.specs.declared.commands.Kind.{Kind}
+use Rattle.fv_model.specs.declared.commands.Command.{Command}
+use Rattle.fv_model.specs.declared.commands.Command.TheVariants.{VolCreate}
+use Rattle.fv_model.specs.Machines.{Machine, capacity}
+use Rattle.fv_model.specs.Space.{commits, overhead, span_of}
+use Rattle.fv_model.specs.Effects.{change_of, effect}
+use Rattle.fv_model.specs.Refusals.{conditions, is_aggregate_full, next, refusal}
+use Rattle.fv_model.specs.Replies.{Allows, AllowsBy, answer}
+use Rattle.fv_image.specs.Views.{Head, Placed, View, entry_count}
+use Rattle.fv_image.specs.Held.{label_place, view_at}
+use Rattle.fv_image.specs.Sound.{committed, overheads}
+use Rattle.fv_image.specs.Adding.{IsEmptySlot, with_volume}
+use Rattle.fv_image.proofs.Added.{head_elsewhere, head_there, overheads_with}
+use Rattle.fv_root.specs.Finding.{root_found}
+use Rattle.fv_aggmap.specs.Space.{free_blocks}
+use Rattle.fv_container.specs.Mapped.{Mapped, empty_map}
+use Rattle.fv_container.specs.Chains.{container_at}
+use Rattle.fv_volume.specs.declared.pool.Pool.{Pool}
+use Rattle.fv_volume.specs.declared.state.VolumeState.{VolumeState}
+use Rattle.fv_volume.specs.Creating.{IsNew, with_holes}
+use Rattle.fv_volume.specs.Loading.{Houses, IsLoaded}
+use Rattle.fv_volume.specs.States.{AreStates, States, head_in, machine_in, place_in, state_at, view_over}
+use Rattle.fv_volume.proofs.Made.{blocks_are}
+use Rattle.fv_cp.specs.Lent.{AreHoused, IsUnnamed}
+use Rattle.fv_aggregate.specs.declared.fault.Fault.{Fault}
+use Rattle.fv_aggregate.specs.declared.session.Session.{Session}
+use Rattle.fv_aggregate.specs.Adding.{Adds, HasRoom, IsAdded}
+use Rattle.fv_aggregate.specs.Standing.{Stands, StandsAfter, StandsFor}
+use Rattle.fv_aggregate.proofs.Standing.{stays_for}
+use Rattle.fv_aggregate.proofs.Sums.{committed_is, same_overheads}
+
+none_some : {X : Type 0} (x : X) → None ≡ Some x → ⊥
+none_some x e = cc
+
+-- ---- what admission leaves
+
+last_of : (a b c d : Bool) → cond a (Some Range) (cond b (Some VolumeExists) (cond c (Some TooMany) (cond d (Some AggregateFull) None))) ≡ None → d ≡ false
+last_of true b c d e = absurd cc
+last_of false true c d e = absurd cc
+last_of false false true d e = absurd cc
+last_of false false false true e = absurd cc
+last_of false false false false e = refl
+
+-- the commits after an accepted `vol create` fit the capacity
+pub fits_after : (m : Machine) (name : List ℕ) (size : ℕ) (kind : Kind) → refusal m (VolCreate name size kind) ≡ None → commits (effect m (VolCreate name size kind)) ≤ capacity m.blocks
+unfolding conditions change_of
+fits_after m name size kind none =
+    let full : is_aggregate_full (effect m (VolCreate name size kind)) ≡ false = last_of _ _ _ _ none in
+    fits (capacity m.blocks) (commits (effect m (VolCreate name size kind))) full
+  where
+    fits : (a b : ℕ) → nat_lt a b ≡ false → b ≤ a
+    fits a b e = grind (arith, nat_tests)
+
+pub next_is : (m : Machine) (name : List ℕ) (size : ℕ) (kind : Kind) → refusal m (VolCreate name size kind) ≡ None → next m (VolCreate name size kind) ≡ effect m (VolCreate name size kind)
+next_is m name size kind none = ap (λ (r : Option Refusal). cond (is_some r) m (effect m (VolCreate name size kind))) none
+
+-- ---- the slots
+
+module _ (session : Session) (name : List ℕ) (size : ℕ) (kind : Kind) (room : ℕ) (new : Session) (added : IsAdded session name size kind room new) where
+  abbrev slot : ℕ
+  slot = added.slot
+
+  abbrev pool : Pool
+  pool = with_holes session.pool added.slot size
+
+  state_there : state_at new.volumes added.slot ≡ Some added.new_there.volume
+  state_there = added.new_there.state_is
+
+  state_elsewhere : (s : ℕ) → s ≢ added.slot → state_at new.volumes s ≡ state_at session.volumes s
+  state_elsewhere s ne = ap (λ (xs : States). state_at xs s) added.made.states ∙ get_or-set_other session.volumes added.slot s (Some added.made.state) None ne
+
+  container_elsewhere : (s : ℕ) → s ≢ added.slot → container_at pool.containers s ≡ container_at session.pool.containers s
+  container_elsewhere s ne = get_or-set_other session.pool.containers.containers added.slot s (Some (empty_map (entry_count (span_of size 0 0)))) None ne
+
+  new_slot : IsNew (state_at new.volumes added.slot) (container_at pool.containers added.slot) name size kind
+  new_slot = subst (λ (p : Pool). IsNew (state_at new.volumes added.slot) (container_at p.containers added.slot) name size kind) added.holes added.new_there
+
+  new_long : length session.volumes ≡ 64 → length new.volumes ≡ 64
+  new_long long = ap (λ (xs : States). length xs) added.made.states ∙ length-set session.volumes added.slot (Some added.made.state) ∙ long
+
+  housed_with : AreHoused session.pool.containers session.volumes → AreHoused pool.containers new.volumes
+  housed_with was = record {
+    long = new_long was.long;
+    volumes = added.each;
+    each = λ s. ⊎_elim
+        (λ (here : s ≡ added.slot). subst (λ (k : ℕ). Houses (state_at new.volumes k) (container_at pool.containers k)) (sym here) (both (state_at new.volumes added.slot) (container_at pool.containers added.slot) new_slot))
+        (λ (other : s ≢ added.slot). subst (λ (x : Option VolumeState). Houses x (container_at pool.containers s)) (sym (state_elsewhere s other))
+        (subst (λ (c : Option Mapped). Houses (state_at session.volumes s) c) (sym (container_elsewhere s other)) (was.each s)))
+        (cases_eq s added.slot);
+  }
+    where
+      both : (x : Option VolumeState) (c : Option Mapped) → IsNew x c name size kind → Houses x c
+      both x c is = subst (λ (y : Option VolumeState). Houses y c) (sym is.state_is) (subst (λ (d : Option Mapped). Houses (Some is.volume) d) (sym is.holes) (length-replicate (entry_count is.volume.span) None))
+
+  pub stands_added : (disk : Shown) → Stands disk session → Stands disk new
+  stands_added disk stands = subst (λ (p : Pool). Stands disk (record new { pool = p })) (sym added.holes) (record {
+    cache = stands.cache;
+    found = stands.found;
+    range = stands.range;
+    size = stands.size;
+    housed = housed_with stands.housed;
+    unkept = stands.unkept;
+  })
+
+  module _ (disk : Shown) (last m : Machine) (long : length session.volumes ≡ 64) (stands : StandsFor disk session last m) where
+    slot_is : (s : ℕ) → s < 64
+        → IsLoaded disk.reads pool.found s (state_at new.volumes s) (container_at pool.containers s) ⊎ IsUnnamed pool.found s (state_at new.volumes s) (container_at pool.containers s)
+    slot_is s inside = ⊎_elim
+        (λ (here : s ≡ added.slot). inr (subst (λ (k : ℕ). IsUnnamed pool.found k (state_at new.volumes k) (container_at pool.containers k)) (sym here)
+        (record { free = free_there (stands.lent.slots added.slot added.free.within); name = name; size = size; kind = kind; made = new_slot })))
+        (λ (other : s ≢ added.slot). ⊎_elim
+        (λ loaded. inl (subst (λ (x : Option VolumeState). IsLoaded disk.reads pool.found s x (container_at pool.containers s)) (sym (state_elsewhere s other))
+        (subst (λ (c : Option Mapped). IsLoaded disk.reads pool.found s (state_at session.volumes s) c) (sym (container_elsewhere s other)) loaded)))
+        (λ unnamed. inr (subst (λ (x : Option VolumeState). IsUnnamed pool.found s x (container_at pool.containers s)) (sym (state_elsewhere s other))
+        (subst (λ (c : Option Mapped). IsUnnamed pool.found s (state_at session.volumes s) c) (sym (container_elsewhere s other)) unnamed)))
+        (stands.lent.slots s inside))
+        (cases_eq s added.slot)
+      where
+        free_there : IsLoaded disk.reads session.pool.found added.slot (state_at session.volumes added.slot) (container_at session.pool.containers added.slot) ⊎ IsUnnamed session.pool.found added.slot (state_at session.volumes added.slot) (container_at session.pool.containers added.slot)
+            → label_place (root_found session.pool.found) added.slot ≡ 0
+        free_there (inl loaded) = sym loaded.label ∙ ap place_in added.free.free
+        free_there (inr unnamed) = absurd (none_some unnamed.made.volume (sym added.free.free ∙ unnamed.made.state_is))
+
+    are : AreStates session.volumes
+    are = stands.lent.states
+
+    accepted : refusal m (VolCreate name size kind) ≡ None
+    accepted = ap (λ (x : Machine). refusal x (VolCreate name size kind)) (sym stands.machine) ∙ added.accepted are disk.reads
+
+    machine_with : machine_in pool new.volumes disk.reads ≡ next m (VolCreate name size kind)
+    machine_with = ap (λ (p : Pool). machine_in p new.volumes disk.reads) (sym added.holes) ∙ added.machine are disk.reads ∙ ap (λ (x : Machine). next x (VolCreate name size kind)) stands.machine
+
+    blocks_kept : m.blocks ≡ session.pool.found.blocks
+    blocks_kept = ap (λ (x : Machine). x.blocks) (sym stands.machine) ∙ blocks_are session.pool session.volumes disk.reads long
+
+    commits_with : committed (view_over pool new.volumes disk.reads) ≤ capacity session.pool.found.blocks
+    commits_with =
+        let told = committed_is pool new.volumes disk.reads (new_long long) (added.states are) in
+        let after : commits (machine_in pool new.volumes disk.reads) ≡ commits (effect m (VolCreate name size kind)) = ap commits (machine_with ∙ next_is m name size kind accepted) in
+        omega (arith, told, after, fits_after m name size kind accepted, ap capacity blocks_kept)
+
+    overheads_now : overheads (view_over pool new.volumes disk.reads) ≡ overheads (view_over session.pool session.volumes disk.reads) + overhead (span_of size 0 0)
+    unfolding view_over
+    overheads_now =
+        let w : View = view_over session.pool session.volumes disk.reads in
+        let h : Head = head_in added.new_there.volume in
+        let nothing : ℕ → Option Placed = λ v. None in
+        let is : IsEmptySlot w added.slot = record { inside = added.free.within; empty = ap (option_map head_in) added.free.free } in
+        let span : h.span ≡ span_of size 0 0 = ap (λ (g : Head). g.span) added.new_there.head in
+        same_overheads (view_over pool new.volumes disk.reads) (with_volume w added.slot h nothing) (λ s inside. ⊎_elim
+        (λ (here : s ≡ added.slot). ap (λ (k : ℕ). option_map head_in (state_at new.volumes k)) here ∙ ap (option_map head_in) state_there ∙ sym (ap (with_volume w added.slot h nothing).head here ∙ head_there w added.slot h nothing))
+        (λ (other : s ≢ added.slot). ap (option_map head_in) (state_elsewhere s other) ∙ sym (head_elsewhere w added.slot h nothing s other))
+        (cases_eq s added.slot))
+        ∙ overheads_with w added.slot h nothing is ∙ ap (λ (n : ℕ). overheads w + overhead n) span
+
+    pub made_stands : room ≡ overhead (span_of size 0 0) → HasRoom disk session room → StandsFor disk new last (next m (VolCreate name size kind))
+    made_stands room_is enough =
+        let over = overheads_now in
+        let held = stands.pending in
+        subst (λ (p : Pool). StandsFor disk (record new { pool = p }) last (next m (VolCreate name size kind))) (sym added.holes) (record {
+          lent = record {
+            found = stands.lent.found;
+            tells = stands.lent.tells;
+            keeps = stands.lent.keeps;
+            map = stands.lent.map;
+            slots = slot_is;
+            states = added.states are;
+            commits = commits_with;
+          };
+          machine = machine_with;
+          settled = stands.settled;
+          pending = omega (arith, over, held, room_is, added.pending);
+          room = subst (λ (n : ℕ). overheads (view_at (root_found session.pool.found) disk.reads) + max 256 n ≤ free_blocks session.pool.map) (sym added.pending) enough;
+        })
+
+-- ---- the reply
+
+allowed : (m : Machine) (name : List ℕ) (size : ℕ) (kind : Kind) → refusal m (VolCreate name size kind) ≡ None → Allows m (VolCreate name size kind) Done
+unfolding answer
+allowed m name size kind none = subst (λ (r : Option Refusal). AllowsBy r m (VolCreate name size kind) Done) (sym none) refl
+
+-- a refusal is the reply that the machine allows, and leaves it
+pub refusal_allowed : (m : Machine) (name : List ℕ) (size : ℕ) (kind : Kind) (r : Refusal) → refusal m (VolCreate name size kind) ≡ Some r → Allows m (VolCreate name size kind) (Refused r)
+refusal_allowed m name size kind r is = subst (λ (x : Option Refusal). AllowsBy x m (VolCreate name size kind) (Refused r)) (sym is) refl
+
+pub refusal_leaves : (m : Machine) (name : List ℕ) (size : ℕ) (kind : Kind) (r : Refusal) → refusal m (VolCreate name size kind) ≡ Some r → next m (VolCreate name size kind) ≡ m
+refusal_leaves m name size kind r is = ap (λ (x : Option Refusal). cond (is_some x) m (effect m (VolCreate name size kind))) is
+
+-- what is known of a session's volumes, said of the machine that it stands for
+pub room_for : (disk : Shown) (session : Session) (last m : Machine) (room : ℕ) → length session.volumes ≡ 64 → StandsFor disk session last m
+    → (AreStates session.volumes → (i : Image) → commits (machine_in session.pool session.volumes i) + 2 * room ≤ capacity session.pool.found.blocks) → commits m + 2 * room ≤ capacity m.blocks
+room_for disk session last m room long stands enough =
+    let blocks : m.blocks ≡ session.pool.found.blocks = ap (λ (x : Machine). x.blocks) (sym stands.machine) ∙ blocks_are session.pool session.volumes disk.reads long in
+    omega (arith, enough stands.lent.states disk.reads, ap commits stands.machine, ap capacity blocks)
+
+pub answer_for : (disk : Shown) (session : Session) (last m : Machine) (command : Command) (answer : Option Refusal) → StandsFor disk session last m
+    → (AreStates session.volumes → (i : Image) → refusal (machine_in session.pool session.volumes i) command ≡ answer) → refusal m command ≡ answer
+answer_for disk session last m command answer stands is = ap (λ (x : Machine). refusal x command) (sym stands.machine) ∙ is stands.lent.states disk.reads
+
+pub stays_when_refused : (disk : Shown) (session : Session) (last m : Machine) (name : List ℕ) (size : ℕ) (kind : Kind) (r : Refusal) → StandsFor disk session last m → refusal m (VolCreate name size kind) ≡ Some r
+    → Allows m (VolCreate name size kind) (Refused r) × StandsAfter disk session last m (next m (VolCreate name size kind)) (next m (VolCreate name size kind))
+stays_when_refused disk session last m name size kind r stands is = (
+  refusal_allowed m name size kind r is,
+  subst (λ (after : Machine). StandsAfter disk session last m after after) (sym (refusal_leaves m name size kind r is)) (stays_for disk session last m m m stands),
+)
+
+pub replied : (disk : Shown) (session : Session) (last m : Machine) → length session.volumes ≡ 64 → StandsAfter disk session last m m m → (name : List ℕ) (size : ℕ) (kind : Kind) (room : ℕ) → room ≡ overhead (span_of size 0 0) → HasRoom disk session room
+    → refusal m (VolCreate name size kind) ≡ None → (new : Session) (result : Result Reply Fault) → IfOk result (Adds session name size kind room new)
+    → IfOk result (λ reply. Allows m (VolCreate name size kind) reply × StandsAfter disk new last m (next m (VolCreate name size kind)) (next m (VolCreate name size kind)))
+replied disk session last m long stands name size kind room room_is enough none new (Err fault) is = tt
+replied disk session last m long stands name size kind room room_is enough none new (Ok Done) is = (
+  allowed m name size kind none,
+  record {
+    point = stands.point;
+    one = ⊎_elim (λ l. inl l) (λ either. inr (inl (⊎_elim (λ x. x) (λ x. x) either))) stands.one;
+    stands = made_stands session name size kind room new is disk stands.point m long stands.stands room_is enough;
+  },
+)
+replied disk session last m long stands name size kind room room_is enough none new (Ok (Refused r)) is =
+    let other : refusal m (VolCreate name size kind) ≡ Some r = ap (λ (x : Machine). refusal x (VolCreate name size kind)) (sym stands.stands.machine) ∙ is.refused stands.stands.lent.states disk.reads in
+    absurd (none_some r (sym none ∙ other))
+replied disk session last m long stands name size kind room room_is enough none new (Ok (Content b)) is = absurd is
+replied disk session last m long stands name size kind room room_is enough none new (Ok (Number n)) is = absurd is
+replied disk session last m long stands name size kind room room_is enough none new (Ok (Names ns)) is = absurd is
+replied disk session last m long stands name size kind room room_is enough none new (Ok (Stat s)) is = absurd is
+
+-- the reply to a command that was admitted
+pub done_only : (disk : Shown) (session : Session) (last m : Machine) → StandsAfter disk session last m m m → (name : List ℕ) (size : ℕ) (kind : Kind) (room : ℕ) → refusal m (VolCreate name size kind) ≡ None
+    → (new : Session) (result : Result Reply Fault) → IfOk result (Adds session name size kind room new) → IfOk result (λ reply. reply ≡ Done)
+done_only disk session last m stands name size kind room none new (Err fault) is = tt
+done_only disk session last m stands name size kind room none new (Ok Done) is = refl
+done_only disk session last m stands name size kind room none new (Ok (Refused r)) is =
+    let other : refusal m (VolCreate name size kind) ≡ Some r = ap (λ (x : Machine). refusal x (VolCreate name size kind)) (sym stands.stands.machine) ∙ is.refused stands.stands.lent.states disk.reads in
+    absurd (none_some r (sym none ∙ other))
+done_only disk session last m stands name size kind room none new (Ok (Content b)) is = absurd is
+done_only disk session last m stands name size kind room none new (Ok (Number n)) is = absurd is
+done_only disk session last m stands name size kind room none new (Ok (Names ns)) is = absurd is
+done_only disk session last m stands name size kind room none new (Ok (Stat s)) is = absurd is
+
+-- the session stands on the disk whatever the reply is
+pub stands_replied : (disk : Shown) (session : Session) (name : List ℕ) (size : ℕ) (kind : Kind) (room : ℕ) (new : Session) (result : Result Reply Fault) → Stands disk session
+    → IfOk result (Adds session name size kind room new) → OnErr result (new ≡ session) → Stands disk new
+stands_replied disk session name size kind room new (Err fault) stands is same = subst (Stands disk) (sym same) stands
+stands_replied disk session name size kind room new (Ok Done) stands is same = stands_added session name size kind room new is disk stands
+stands_replied disk session name size kind room new (Ok (Refused r)) stands is same = subst (Stands disk) (sym is.same) stands
+stands_replied disk session name size kind room new (Ok (Content b)) stands is same = absurd is
+stands_replied disk session name size kind room new (Ok (Number n)) stands is same = absurd is
+stands_replied disk session name size kind room new (Ok (Names ns)) stands is same = absurd is
+stands_replied disk session name size kind room new (Ok (Stat s)) stands is same = absurd is

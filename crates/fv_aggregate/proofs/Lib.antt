@@ -1,0 +1,8 @@
+mod Sums
+mod Standing
+mod Points
+mod Added
+mod Telling
+mod Opened
+mod Whole
+mod Applied

@@ -1,0 +1,98 @@
+-- A session that was just opened.
+use Rattle.std.proofs.Common.{◌≡◌, ◌≤◌, Option, Some, refl, sym, ap, subst, ◌∙◌, inl, inr, arith, Result, Ok, Err, true}
+use Rattle.std.specs.Prelude.{IfErr, IfOk, nat_le}
+use Rattle.std.specs.Result.{IsErrAnd}
+use Rattle.std.proofs.lemmas.Bool.Decides.{nat_tests}
+use Rattle.fv_disk.specs.Shown.{Image, Shown, IsSettled}
+use Rattle.fv_disk.specs.DiskCalls.{OnlyReads}
+use Rattle.fv_disk.proofs.Resting.{settled_image}
+use Rattle.fv_model.specs.Machines.{Machine, capacity}
+use Rattle.fv_image.specs.NewerRoot.{Taken}
+use Rattle.fv_image.specs.Views.{View}
+use Rattle.fv_image.specs.Held.{Keeps, layout_at, view_at}
+use Rattle.fv_image.specs.Sound.{IsSound, committed, is_in_capacity, overheads}
+use Rattle.fv_image.specs.MachineOf.{Tells, machine_of}
+use Rattle.fv_image.proofs.Stands.{stands_for}
+use Rattle.fv_root.specs.declared.find.Found.{Found}
+use Rattle.fv_root.specs.Finding.{IsFound, root_found}
+use Rattle.fv_root.specs.Commits.{IsFoundOn}
+use Rattle.fv_aggmap.proofs.Room.{room_when_sound}
+use Rattle.fv_volume.specs.declared.fault.VolumeFault.{VolumeFault}
+use Rattle.fv_volume.specs.declared.fault.VolumeFault.TheVariants.{Refused, DiskFault, Damaged, Memory}
+use Rattle.fv_volume.specs.Loading.{IsLoadFault}
+use Rattle.fv_volume.specs.States.{view_over}
+use Rattle.fv_aggregate.specs.declared.fault.OpenFault.{OpenFault}
+use Rattle.fv_aggregate.specs.declared.session.Session.{Session}
+use Rattle.fv_aggregate.specs.Causes.{IsOpenFault, of_volume}
+use Rattle.fv_aggregate.specs.Opening.{IsFresh, IsOpened}
+use Rattle.fv_aggregate.specs.Standing.{StandsFor}
+
+-- ---- faults
+
+-- volumes that can't be loaded under the root that was found
+pub load_fault : (i : Image) (found : Found) → IsFound i found → (e : VolumeFault) → IsLoadFault i found e → IsOpenFault i (of_volume e)
+load_fault i found is (Refused refusal) fault = absurd fault
+load_fault i found is DiskFault fault = tt
+load_fault i found is (Damaged at want number) fault = inr (record { root = found; found = is; fault = inr fault })
+load_fault i found is Memory fault = tt
+
+pub handed : (P : OpenFault → Type 0) (e : OpenFault) (result : Result Session OpenFault) → IsErrAnd result (λ x. x ≡ e) → P e → IfErr result P
+handed P e (Ok session) is holds = tt
+handed P e (Err x) is holds = subst P (sym is) holds
+
+-- ---- what a settled image stands for
+
+-- the root that was found tells the machine of the image
+pub found_tells : (i : Image) (found : Found) (m : Machine) → IsFound i found → machine_of i ≡ Some m → Tells (layout_at (root_found found) i) m
+found_tells i found m is machine =
+    let stands = stands_for i m machine in
+    let same : stands.taken ≡ root_found found = so stands.taken (root_found found) (sym stands.counts ∙ is.root) in
+    subst (λ (t : Taken). Tells (layout_at t i) m) same stands.tells
+  where
+    so : (s t : Taken) → ◌≡◌ {A = Option Taken} (Some s) (Some t) → s ≡ t
+    so s t e = cc
+
+found_on : (disk : Shown) (found : Found) → IsSettled disk → IsFound disk.reads found → IsFoundOn disk found
+found_on disk found settled is = record {
+  reads = is;
+  images = λ c now. subst (λ (i : Image). IsFound i found) (sym (settled_image disk c settled now)) is;
+}
+
+fits : (y : View) → nat_le (committed y) (capacity y.blocks) ≡ true → committed y ≤ capacity y.blocks
+fits y e = grind (arith, nat_tests)
+
+view_fits : (t : Taken) (i : Image) → IsSound (layout_at t i) → committed (view_at t i) ≤ capacity t.blocks
+unfolding layout_at is_in_capacity view_at
+view_fits t i is = fits (view_at t i) is.commits
+
+pub opened_for : (disk : Shown) (session : Session) (m : Machine) → IsSettled disk → IsOpened disk.reads session → IsFresh session → machine_of disk.reads ≡ Some m → StandsFor disk session m m
+opened_for disk session m settled opened fresh machine =
+    let found = session.pool.found in
+    let t = root_found found in
+    let tells = found_tells disk.reads found m opened.found machine in
+    let seen : view_over session.pool session.volumes disk.reads ≡ view_at t disk.reads = opened.view in
+    let none : session.pending ≡ 0 = fresh.pending in
+    record {
+      lent = record {
+        found = found_on disk found settled opened.found;
+        tells = tells;
+        keeps = λ c now. subst (λ (i : Image). Keeps t disk.reads i) (sym (settled_image disk c settled now)) (record { root = opened.found.root; layout = refl });
+        map = opened.map;
+        slots = λ s inside. inl (opened.slots.each s inside);
+        states = opened.states m tells;
+        commits = subst (λ (w : View). committed w ≤ capacity found.blocks) (sym seen) (view_fits t disk.reads tells.sound);
+      };
+      machine = opened.machine m tells;
+      settled = settled;
+      pending = ap overheads seen ∙ omega (arith, none);
+      room = omega (arith, none, room_when_sound disk.reads found session.pool.map opened.map tells.sound);
+    }
+
+-- the answer of a call that only read, over a disk that a barrier had settled
+pub opened_result : (mid new : Shown) (m : Machine) (result : Result Session OpenFault) → IsSettled mid → OnlyReads mid new → IfOk result (IsOpened mid.reads) → IfOk result IsFresh → machine_of mid.reads ≡ Some m
+    → IfOk result (λ session. StandsFor new session m m)
+opened_result mid new m (Ok session) settled reads opened fresh machine =
+    let same : new.reads ≡ mid.reads = reads.stays.reads in
+    opened_for new session m (λ c now a. settled c (reads.stays.no_more c now) a ∙ ap (λ (i : Image). i a) (sym same))
+    (subst (λ (i : Image). IsOpened i session) (sym same) opened) fresh (ap machine_of same ∙ machine)
+opened_result mid new m (Err fault) settled reads opened fresh machine = tt

@@ -1,0 +1,78 @@
+-- Sessions over disks that change nothing, and images that keep what a session stands for.
+use Rattle.std.proofs.Common.{◌≡◌, ℕ, List, Some, refl, sym, ap, subst, ◌∙◌, inl, inr, ⊎_elim}
+use Rattle.std.specs.Prelude.{IsTrue}
+use Rattle.fv_disk.specs.Shown.{Image, Shown, IsDisk}
+use Rattle.fv_disk.specs.DiskCalls.{OnlyReads}
+use Rattle.fv_disk.specs.Crash.{Leaves}
+use Rattle.fv_disk.proofs.Moments.{started, weaken}
+use Rattle.fv_model.specs.Machines.{Machine}
+use Rattle.fv_store.specs.Held.{StandsOn}
+use Rattle.fv_image.specs.Held.{Layout}
+use Rattle.fv_image.specs.MachineOf.{Tells, machine_of}
+use Rattle.fv_image.proofs.Stands.{machine_stands}
+use Rattle.fv_root.specs.Finding.{IsFound, IsInRange, root_found}
+use Rattle.fv_root.specs.Commits.{IsFoundOn}
+use Rattle.fv_aggmap.specs.Space.{blocks_of}
+use Rattle.fv_cp.specs.Lent.{AreHoused, IsLent}
+use Rattle.fv_volume.specs.declared.pool.Pool.{Pool}
+use Rattle.fv_volume.specs.States.{States}
+use Rattle.fv_aggregate.specs.declared.session.Session.{Session}
+use Rattle.fv_aggregate.specs.Standing.{OneOf, Stands, StandsAfter, StandsFor}
+
+-- ---- a session on a disk that was only read
+
+held_after : (old new : Shown) (session : Session) → OnlyReads old new → StandsOn old session.pool.store.pairs → StandsOn new session.pool.store.pairs
+held_after old new session reads held = record {
+  same = λ tells pvbn block has. held.same (subst IsTrue reads.stays.tells tells) pvbn block has ∙ ap (λ (i : Image). i pvbn) (sym reads.stays.reads);
+}
+
+pub stands_after_reads : (old new : Shown) (session : Session) → OnlyReads old new → Stands old session → Stands new session
+stands_after_reads old new session reads stands = record {
+  cache = held_after old new session reads stands.cache;
+  found = λ tells.
+      let was = stands.found (subst IsTrue reads.stays.tells tells) in
+      record {
+        reads = subst (λ i. IsFound i session.pool.found) (sym reads.stays.reads) was.reads;
+        images = λ c now. was.images c (reads.stays.no_more c now);
+      };
+  range = stands.range;
+  size = stands.size;
+  housed = stands.housed;
+  unkept = stands.unkept;
+}
+
+-- a session that differs in no part that stands on the disk
+pub stands_same : (disk : Shown) (a b : Session) → b.pool ≡ a.pool → b.volumes ≡ a.volumes → Stands disk a → Stands disk b
+stands_same disk a b pool volumes stands = record {
+  cache = subst (λ (p : Pool). StandsOn disk p.store.pairs) (sym pool) stands.cache;
+  found = λ tells. subst (λ (p : Pool). IsFoundOn disk p.found) (sym pool) (stands.found tells);
+  range = subst (λ (p : Pool). IsInRange p.found) (sym pool) stands.range;
+  size = subst (λ (p : Pool). blocks_of p.map ≡ p.found.blocks) (sym pool) stands.size;
+  housed = subst (λ (p : Pool). AreHoused p.containers b.volumes) (sym pool) (subst (λ (v : States). AreHoused a.pool.containers v) (sym volumes) stands.housed);
+  unkept = ap (λ (p : Pool). p.kept) pool ∙ stands.unkept;
+}
+
+-- ---- what a crash leaves
+
+-- each image of a crash stands for the machine of the last point
+pub stands_for_last : (disk : Shown) (pool : Pool) (states : States) (last : Machine) → IsLent disk pool states last → (c : Image) → disk.images c → machine_of c ≡ Some last
+stands_for_last disk pool states last lent c now =
+    let keeps = lent.keeps c now in
+    machine_stands c last (record {
+      taken = root_found pool.found;
+      counts = keeps.root;
+      tells = subst (λ (y : Layout). Tells y last) (sym keeps.layout) lent.tells;
+    })
+
+-- so does each moment of a call that doesn't reach the disk
+pub rests_for_last : (disk : Shown) (session : Session) (last m after : Machine) → IsDisk disk → StandsFor disk session last m → Leaves disk disk (λ c g. OneOf last m after c × (g ≡ disk.given))
+rests_for_last disk session last m after laws stands =
+    started disk (λ c g. OneOf last m after c × (g ≡ disk.given)) laws (λ c now. (inl (stands_for_last disk session.pool session.volumes last stands.lent c now), refl))
+
+-- a moment of the machine before a command is one of the whole command
+pub earlier_moments : (old new : Shown) (last m after : Machine) (given : List ℕ) → Leaves old new (λ c g. OneOf last m m c × (g ≡ given)) → Leaves old new (λ c g. OneOf last m after c × (g ≡ given))
+earlier_moments old new last m after given left = weaken old new (λ c g. OneOf last m m c × (g ≡ given)) (λ c g. OneOf last m after c × (g ≡ given)) (λ c g one. (⊎_elim (λ l. inl l) (λ either. inr (inl (⊎_elim (λ x. x) (λ x. x) either))) one.0, one.1)) left
+
+-- the last point stays where nothing is done
+pub stays_for : (disk : Shown) (session : Session) (last m before after : Machine) → StandsFor disk session last m → StandsAfter disk session last before after m
+stays_for disk session last m before after stands = record { point = last; one = inl refl; stands = stands }

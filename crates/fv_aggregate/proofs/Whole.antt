@@ -1,0 +1,245 @@
+-- An image that stands for a machine is damaged nowhere.
+use Rattle.std.proofs.Common.{◌≡◌, ◌≢◌, ◌<◌, ◌+◌, ◌-◌, ◌*◌, ◌/◌, ◌%◌, ℕ, zero, suc, Bool, true, false, not, List, [], ◌∷◌, length, Option, Some, None, Result, Ok, Err, true≢false, refl, sym, ap, subst, ◌∙◌, ⊎_elim, inl, inr, arith}
+use Rattle.std.specs.Prelude.{◌⊎◌, ◌&&◌, ◌==◌, IfErr, IsErr, find, nat_lt, take, if◌then◌else◌}
+use Rattle.std.specs.Option.{is_none, option_map, option_map_or}
+use Rattle.std.proofs.lemmas.Bool.{and_parts, both_ways}
+use Rattle.std.proofs.lemmas.Bool.Decides.{nat_tests}
+use Rattle.fv_disk.specs.Shown.{Image}
+use Rattle.fv_bits.specs.Bits.{bit_of_area, bit_of_bytes}
+use Rattle.fv_codec.specs.declared.shape.Shape.{Shape}
+use Rattle.fv_codec.specs.declared.superblock.Super.{Super}
+use Rattle.fv_codec.specs.declared.root.Root.{Root}
+use Rattle.fv_codec.specs.declared.label.Label.{Label}
+use Rattle.fv_codec.specs.declared.label.SnapRecord.{SnapRecord}
+use Rattle.fv_codec.specs.Blocks.{gate_open, label_at, root_at, super_at}
+use Rattle.fv_codec.specs.Fields.{Verdict}
+use Rattle.fv_model.specs.Machines.{Machine}
+use Rattle.fv_model.specs.Space.{map_blocks}
+use Rattle.fv_image.specs.Layout.{block_bits, gate_place, root_place, superblock}
+use Rattle.fv_image.specs.NewerRoot.{Taken, behind, newer, root_of, taken_of}
+use Rattle.fv_image.specs.Maps.{area_bits, map_bit}
+use Rattle.fv_image.specs.Containers.{container_entry, node_of, node_verdict, shaped}
+use Rattle.fv_image.specs.Views.{Footing, block_in, entry_count, head_of, map_vvbn, slots, snaps_from, volume_bit}
+use Rattle.fv_image.specs.Told.{has_none, is_all_plain, is_plain}
+use Rattle.fv_image.specs.Held.{entry_from, is_held, label_in, label_place, layout_at, lying_at, placed, view_at}
+use Rattle.fv_image.specs.Sound.{IsSound, kind_at}
+use Rattle.fv_image.specs.MachineOf.{Tells, machine_of}
+use Rattle.fv_image.proofs.InRange.{held_in_range}
+use Rattle.fv_image.proofs.Kept.{at_number}
+use Rattle.fv_image.proofs.Room.{bit_is_held}
+use Rattle.fv_image.proofs.SameLayout.{slot_inside}
+use Rattle.fv_image.proofs.SoundFacts.{label_is_there, map_is_clear, map_is_there, tree_is_whole}
+use Rattle.fv_image.proofs.Stands.{stands_for}
+use Rattle.fv_root.specs.declared.find.Found.{Found}
+use Rattle.fv_root.specs.Finding.{IsDamaged, IsNoAggregate, root_found}
+use Rattle.fv_aggmap.specs.Loading.{IsPastMap}
+use Rattle.fv_container.specs.declared.entry.Entry.{Entry}
+use Rattle.fv_container.specs.Mapped.{Mapped, entry_under}
+use Rattle.fv_container.specs.Spelled.{Spelled, pair_of}
+use Rattle.fv_volume.specs.Loading.{IsActiveFault, IsLabelFault, IsTreeFault, first_used, form_in, is_used, label_of}
+use Rattle.fv_aggregate.specs.declared.fault.OpenFault.{OpenFault}
+use Rattle.fv_aggregate.specs.declared.fault.OpenFault.TheVariants.{DiskFault, NotAggregate, Damaged, Memory}
+use Rattle.fv_aggregate.specs.declared.session.Session.{Session}
+use Rattle.fv_aggregate.specs.Causes.{IsOpenFault}
+use Rattle.fv_aggregate.proofs.Opened.{found_tells}
+
+-- ---- the root
+
+none_some : {X : Type 0} (x : X) → None ≡ Some x → ⊥
+none_some x e = cc
+
+taken_super : (i : Image) (t : Taken) → root_of i ≡ Some t → IsErr (super_at (i superblock)) → ⊥
+unfolding root_of
+taken_super i t is err = so (super_at (i superblock)) err is
+  where
+    so : (super : Result Super Shape) → IsErr super → taken_of super (newer (behind i 0) (behind i 1)) ≡ Some t → ⊥
+    so (Ok super) err is = true≢false (sym err)
+    so (Err fault) err is = none_some t is
+
+taken_chosen : (i : Image) (t : Taken) → root_of i ≡ Some t → newer (behind i 0) (behind i 1) ≡ None → ⊥
+unfolding root_of
+taken_chosen i t is none = so (super_at (i superblock)) (sym (ap (taken_of (super_at (i superblock))) none) ∙ is)
+  where
+    so : (super : Result Super Shape) → taken_of super None ≡ Some t → ⊥
+    so (Ok super) e = none_some t e
+    so (Err fault) e = none_some t e
+
+behind_closed : (i : Image) (slot : ℕ) → gate_open (i (gate_place slot)) ≡ false → behind i slot ≡ None
+behind_closed i slot closed = ap (λ (gate : Bool). if gate then Some (root_at (i (root_place slot))) else None) closed
+
+pub no_aggregate : (i : Image) (t : Taken) → root_of i ≡ Some t → IsNoAggregate i → ⊥
+no_aggregate i t is (inl err) = taken_super i t is err
+no_aggregate i t is (inr closed) = taken_chosen i t is ((λ j. newer (behind_closed i 0 closed.0 j) (behind_closed i 1 closed.1 j)))
+
+first_fault : (fault : Shape) (other : Option (Result Root Shape)) → newer (Some (Err fault)) other ≡ None
+first_fault fault None = refl
+first_fault fault (Some (Ok root)) = refl
+first_fault fault (Some (Err shape)) = refl
+
+second_fault : (fault : Shape) (first : Option (Result Root Shape)) → newer first (Some (Err fault)) ≡ None
+second_fault fault None = refl
+second_fault fault (Some (Ok root)) = refl
+second_fault fault (Some (Err shape)) = refl
+
+pub no_root_damaged : (i : Image) (t : Taken) (at want number : ℕ) → root_of i ≡ Some t → IsDamaged i at want number → ⊥
+no_root_damaged i t at want number is damaged = so damaged.slot damaged.within damaged.fault
+  where
+    fault : Shape
+    fault = record { want = want; found = number }
+
+    so : (slot : ℕ) → slot < 2 → behind i slot ≡ Some (Err fault) → ⊥
+    so zero small e = taken_chosen i t is (ap (λ (b : Option (Result Root Shape)). newer b (behind i 1)) e ∙ first_fault fault (behind i 1))
+    so (suc zero) small e = taken_chosen i t is (ap (λ (b : Option (Result Root Shape)). newer (behind i 0) b) e ∙ second_fault fault (behind i 0))
+    so (suc (suc slot)) small e = absurd (omega (arith, small))
+
+-- ---- under the root
+
+module _ (i : Image) (found : Found) (m : Machine) (tells : Tells (layout_at (root_found found) i) m) where
+  sound : IsSound (layout_at (root_found found) i)
+  sound = tells.sound
+
+  -- a bit of the aggregate map is a held block, so it isn't past the last one
+  pub no_map_fault : (at want number : ℕ) → IsPastMap i found at want number → ⊥
+  unfolding layout_at view_at map_bit
+  no_map_fault at want number past =
+      let y = layout_at (root_found found) i in
+      let inside : nat_lt number (area_bits found.blocks) ≡ true = (and_parts (nat_lt number (area_bits found.blocks)) _ past.bit).0 in
+      let held : is_held y number ≡ true = sym (bit_is_held y number sound.map (fits number (area_bits found.blocks) inside)) ∙ past.bit in
+      omega (arith, (held_in_range y number sound held).1, past.past)
+    where
+      fits : (a b : ℕ) → nat_lt a b ≡ true → a < b
+      fits a b e = grind (arith, nat_tests)
+
+  -- ---- labels
+
+  lying_label : (p : ℕ) → p ≢ 0 → label_in (lying_at i p) ≡ shaped (label_at (i p))
+  unfolding label_in
+  lying_label zero some = absurd (some refl)
+  lying_label (suc p) some = refl
+
+  -- the label of a slot is told whole
+  plain_label : (s : ℕ) (l : Label) → label_of found i s ≡ Some l → is_plain (head_of l) ≡ true
+  unfolding layout_at view_at is_all_plain slots
+  plain_label s l there =
+      let one = at_number (λ k. option_map_or is_plain (option_map head_of (label_of found i k)) true) 0 64 s tells.plain (omega arith) (omega (arith, slot_inside (root_found found) i s l there)) in
+      subst (λ (o : Option Label). option_map_or is_plain (option_map head_of o) true ≡ true) there one
+
+  no_first : (records : List SnapRecord) (j : ℕ) → has_none (snaps_from j records) ≡ true → first_used records ≡ None
+  unfolding snaps_from
+  no_first [] j none = refl
+  no_first (r ∷ rs) j none = so (r.name_length == 0) (no_first rs (j + 1)) none
+    where
+      so : (b : Bool) → (has_none (snaps_from (j + 1) rs) ≡ true → first_used rs ≡ None)
+          → has_none (if b then snaps_from (j + 1) rs else record { slot = j; name = take r.name_length r.name; table = record { levels = r.levels; root = r.root } } ∷ snaps_from (j + 1) rs) ≡ true
+          → option_map {U = ℕ × ℕ} (λ (x : SnapRecord). (0, x.name_length)) (if not b then Some r else find is_used rs) ≡ None
+      so true rest e = rest e
+      so false rest e = absurd cc
+
+  no_form : (l : Label) → is_plain (head_of l) ≡ true → form_in l ≡ None
+  unfolding form_in is_plain head_of
+  no_form l plain =
+      let a = and_parts (l.root.stamp == 0) _ plain in
+      let b = and_parts (has_none (snaps_from 1 l.snapshots)) _ a.1 in
+      let c = and_parts _ (l.known == 1) b.1 in
+      let parent : (l.parent == 0) ≡ true = base (l.parent == 0) c.0 in
+      let known : (l.known == 0) ≡ false = let one : (l.known == 1) ≡ true = c.1 in grind (arith, nat_tests, one) in
+      rw (parent, known, a.0) (no_first l.snapshots 1 b.0)
+    where
+      base : (none : Bool) → is_none {T = Footing} (if none then None else Some (record { parent = l.parent - 1; slot = l.base_slot; splitting = l.splitting == 1 })) ≡ true → none ≡ true
+      base true e = refl
+      base false e = absurd cc
+
+  pub no_label_fault : (at want number : ℕ) → IsLabelFault i found at want number → ⊥
+  no_label_fault at want number bad =
+      let s = bad.slot in
+      let place : at ≡ label_place (root_found found) s = bad.place in
+      let there : (l : Label) × (label_of found i s ≡ Some l) = label_is_there (root_found found) i sound s (λ e. bad.some (place ∙ e)) in
+      let spelled : shaped (label_at (i at)) ≡ Some there.0 = sym (lying_label at bad.some) ∙ ap (λ (p : ℕ). label_in (lying_at i p)) place ∙ there.1 in
+      ⊎_elim
+      (λ (fault : label_at (i at) ≡ Err (record { want = want; found = number })). none_some there.0 (sym (ap shaped fault) ∙ spelled))
+      (λ form.
+      let same : form.0 ≡ there.0 = one form.0 there.0 (sym (ap shaped form.1.0) ∙ spelled) in
+      none_some (want, number) (sym (no_form form.0 (subst (λ (l : Label). is_plain (head_of l) ≡ true) (sym same) (plain_label s there.0 there.1))) ∙ form.1.1))
+      bad.fault.1
+    where
+      one : (a b : Label) → ◌≡◌ {A = Option Label} (Some a) (Some b) → a ≡ b
+      one a b e = cc
+
+  -- ---- containers
+
+  pub no_tree_fault : (at want number : ℕ) → IsTreeFault i found at want number → ⊥
+  no_tree_fault at want number bad =
+      let l = bad.label in
+      let node = bad.fault.node in
+      let some : node_of i l.container l.height node.level node.number ≢ 0 = λ e. node.some (node.place ∙ e) in
+      let fine : node_verdict node.level node.number (i at) ≡ Ok tt = ap (λ (b : ℕ). node_verdict node.level node.number (i b)) node.place ∙ (tree_is_whole (root_found found) i sound bad.slot l bad.lies).nodes node.level node.number node.below node.within some in
+      apart (node_verdict node.level node.number (i at)) fine bad.fault.fault
+    where
+      apart : (v : Verdict) → v ≡ Ok tt → v ≡ Err (record { want = want; found = number }) → ⊥
+      apart v a b = cc
+
+  -- ---- active maps
+
+  -- a block of the active map is there under its VVBN
+  active_block : (s : ℕ) (l : Label) → label_of found i s ≡ Some l → (map : Mapped) → Spelled i l.container l.height map → length map.entries ≡ entry_count l.span → (k : ℕ) → k < map_blocks l.span → (e : Entry) → entry_under map (l.span + k) ≡ Some e
+      → block_in ((view_at (root_found found) i).entry s (map_vvbn l.span 0 k)) ≡ i e.pvbn
+  unfolding view_at entry_from
+  active_block s l lies map spelled long k within e there =
+      let t = root_found found in
+      let vvbn : map_vvbn l.span 0 k ≡ l.span + k = omega arith in
+      let entry : (view_at t i).entry s (map_vvbn l.span 0 k) ≡ placed i (e.pvbn, e.kind) =
+      ap (λ (o : Option Label). entry_from o i (map_vvbn l.span 0 k)) lies
+      ∙ ap (λ (v : ℕ). placed i (container_entry i l.container l.height (entry_count l.span) v)) vvbn
+      ∙ ap (λ (n : ℕ). placed i (container_entry i l.container l.height n (l.span + k))) (sym long)
+      ∙ ap (placed i) (spelled.entries (l.span + k) ∙ ap pair_of there) in
+      ap block_in entry ∙ so (e.kind == 0) (ap kind_at (sym entry) ∙ map_is_there t i sound s l lies k within)
+    where
+      so : (hole : Bool) → kind_at (if hole then None else Some (record { pvbn = e.pvbn; kind = e.kind; block = i e.pvbn })) ≡ 8 → block_in (if hole then None else Some (record { pvbn = e.pvbn; kind = e.kind; block = i e.pvbn })) ≡ i e.pvbn
+      so true kind = absurd cc
+      so false kind = refl
+
+  below : (number k blocks : ℕ) → number / 32768 ≡ k → k < blocks → number < 32768 * blocks
+  below number k blocks place within = omega (arith, place, within)
+
+  pub no_active_fault : (at want number : ℕ) → IsActiveFault i found at want number → ⊥
+  unfolding volume_bit bit_of_area
+  no_active_fault at want number bad =
+      let t = root_found found in
+      let s = bad.slot in
+      let l = bad.label in
+      let fault = bad.fault in
+      let k = fault.index in
+      let block = active_block s l bad.lies bad.map bad.spelled bad.long k fault.within fault.entry fault.there in
+      let inside : number < block_bits * map_blocks l.span = below number k (map_blocks l.span) fault.past.place fault.within in
+      let test : nat_lt number (block_bits * map_blocks l.span) ≡ true = passes number (block_bits * map_blocks l.span) inside in
+      let here : block_in ((view_at t i).entry s (map_vvbn l.span 0 (number / block_bits))) ≡ i fault.entry.pvbn = ap (λ (n : ℕ). block_in ((view_at t i).entry s (map_vvbn l.span 0 n))) fault.past.place ∙ block in
+      let set : volume_bit (view_at t i) s l.span 0 number ≡ true = (λ j. test j && bit_of_bytes (here j) (number % block_bits)) ∙ fault.past.bit in
+      both_ways (volume_bit (view_at t i) s l.span 0 number) (map_is_clear t i sound s l bad.lies number inside) set
+    where
+      passes : (a b : ℕ) → a < b → nat_lt a b ≡ true
+      passes a b low = grind (arith, nat_tests)
+
+-- ---- opening
+
+-- an image that stands for a machine is opened, unless the disk fails or memory runs out
+pub whole : (i : Image) (m : Machine) → machine_of i ≡ Some m → (e : OpenFault) → IsOpenFault i e → (e ≡ DiskFault) ⊎ (e ≡ Memory)
+whole i m is DiskFault fault = inl refl
+whole i m is Memory fault = inr refl
+whole i m is NotAggregate fault = let stands = stands_for i m is in absurd (no_aggregate i stands.taken stands.counts fault)
+whole i m is (Damaged at want number) (inl damaged) = let stands = stands_for i m is in absurd (no_root_damaged i stands.taken at want number stands.counts damaged)
+whole i m is (Damaged at want number) (inr under) =
+    let tells = found_tells i under.root m under.found is in
+    absurd (⊎_elim
+    (λ past. no_map_fault i under.root m tells at want number past)
+    (λ load. ⊎_elim
+    (λ label. no_label_fault i under.root m tells at want number label)
+    (λ rest. ⊎_elim
+    (λ tree. no_tree_fault i under.root m tells at want number tree)
+    (λ active. no_active_fault i under.root m tells at want number active)
+    rest)
+    load)
+    under.fault)
+
+pub whole_result : (i : Image) (m : Machine) (result : Result Session OpenFault) → machine_of i ≡ Some m → IfErr result (IsOpenFault i) → IfErr result (λ fault. (fault ≡ DiskFault) ⊎ (fault ≡ Memory))
+whole_result i m (Ok session) is fault = tt
+whole_result i m (Err e) is fault = whole i m is e fault

@@ -1,0 +1,6 @@
+pub mod Standing
+pub mod Commands
+pub mod Causes
+pub mod Opening
+pub mod Adding
+pub mod Telling

@@ -1,0 +1,110 @@
+//! Why a session isn't opened, and why a call of one isn't done.
+
+use fv_disk::Failed;
+use fv_root::RootFault;
+use fv_volume::VolumeFault;
+use std::alloc::AllocError;
+use thiserror::Error;
+
+/// Why a session isn't opened.
+#[derive(Debug, Drop, Error, Clone, Copy, PartialEq, Eq)]
+pub enum OpenFault {
+    /// A read or the barrier failed.
+    #[error("DiskFault")]
+    DiskFault,
+    /// Block 0 is no superblock, or neither gate is open.
+    #[error("NotAggregate")]
+    NotAggregate,
+    /// A block isn't as it has to be.
+    #[error("Damaged")]
+    Damaged {
+        /// The place of the block.
+        at: u64,
+        /// What had to stand in its first field that isn't as said.
+        want: u64,
+        /// What stands there.
+        found: u64,
+    },
+    /// Memory ran out.
+    #[error("Memory")]
+    Memory,
+}
+
+impl From<Failed> for OpenFault {
+    ghost use Rattle.std.specs.Prelude.{◌≡◌};
+    ghost use Rattle.fv_aggregate.specs.declared.fault.OpenFault.TheVariants.{DiskFault};
+
+    ghost from_gives = { λ _ e. e ≡ DiskFault };
+
+    fn from(_: Failed) -> OpenFault {
+        OpenFault::DiskFault
+    }
+}
+
+impl From<RootFault> for OpenFault {
+    ghost use Rattle.std.specs.Prelude.{◌≡◌};
+    ghost use Rattle.fv_aggregate.specs.Causes.{of_root};
+
+    ghost from_gives = { λ fault e. e ≡ of_root fault };
+
+    fn from(fault: RootFault) -> OpenFault {
+        match fault {
+            RootFault::DiskFault => OpenFault::DiskFault,
+            RootFault::NotAggregate => OpenFault::NotAggregate,
+            RootFault::Damaged { at, want, found } => OpenFault::Damaged { at, want, found },
+        }
+    }
+}
+
+impl From<VolumeFault> for OpenFault {
+    ghost use Rattle.std.specs.Prelude.{◌≡◌};
+    ghost use Rattle.fv_aggregate.specs.Causes.{of_volume};
+
+    ghost from_gives = { λ fault e. e ≡ of_volume fault };
+
+    fn from(fault: VolumeFault) -> OpenFault {
+        match fault {
+            VolumeFault::DiskFault => OpenFault::DiskFault,
+            VolumeFault::Damaged { at, want, found } => OpenFault::Damaged { at, want, found },
+            VolumeFault::Refused(_) | VolumeFault::Memory => OpenFault::Memory,
+        }
+    }
+}
+
+/// Why a call of a session isn't done.
+#[derive(Debug, Drop, Error, Clone, Copy, PartialEq, Eq)]
+pub enum Fault {
+    /// A read, a write or a barrier failed in this call.
+    #[error("DiskFault")]
+    DiskFault,
+    /// Fewer blocks are free than a consistency point asks for.
+    #[error("Damaged")]
+    Damaged {
+        /// The place of the root that counts.
+        at: u64,
+        /// How many blocks it asks for.
+        want: u64,
+        /// How many are free.
+        found: u64,
+    },
+    /// Memory ran out.
+    #[error("Memory")]
+    Memory,
+    /// A write or a barrier failed in an earlier call.
+    #[error("Failed")]
+    Failed {
+        /// The disk's count of faults after that call.
+        faults: u64,
+    },
+}
+
+impl From<AllocError> for Fault {
+    ghost use Rattle.std.specs.Prelude.{◌≡◌};
+    ghost use Rattle.fv_aggregate.specs.declared.fault.Fault.TheVariants.{Memory};
+
+    ghost from_gives = { λ _ e. e ≡ Memory };
+
+    fn from(_: AllocError) -> Fault {
+        Fault::Memory
+    }
+}

@@ -1,0 +1,154 @@
+-- What a consistency point that was done ends with.
+use Rattle.std.proofs.Common.{◌≡◌, ℕ, ◌<◌, ◌≤◌, Bool, true, false, cond, List, length, refl, sym, ap, subst, ◌∙◌, arith, inl, get_or}
+use Rattle.std.specs.Prelude.{Option, Some, None, IfSome}
+use Rattle.std.specs.Option.{option_map}
+use Rattle.fv_disk.specs.Shown.{Image, Shown}
+use Rattle.fv_disk.proofs.Resting.{settled_image}
+use Rattle.fv_bits.specs.Members.{is_member}
+use Rattle.fv_model.specs.Machines.{Machine, capacity}
+use Rattle.fv_image.specs.NewerRoot.{Taken}
+use Rattle.fv_image.specs.Views.{delayed}
+use Rattle.fv_image.specs.Held.{AgreeOnHeld, Keeps, layout_at, view_at}
+use Rattle.fv_image.specs.Sound.{committed, share_name}
+use Rattle.fv_image.specs.MachineOf.{machine_of, map_bit, Tells}
+use Rattle.fv_image.proofs.Stands.{machine_under, tells_from}
+use Rattle.fv_image.proofs.SoundAgain.{none_delayed}
+use Rattle.fv_image.proofs.Rewritten.{held_has_bit}
+use Rattle.fv_container.specs.Mapped.{Mapped}
+use Rattle.fv_container.specs.Chains.{Slots, container_at}
+use Rattle.fv_root.specs.declared.find.Found.{Found}
+use Rattle.fv_root.specs.Finding.{IsInRange, root_found}
+use Rattle.fv_root.specs.Commits.{IsCommitted, IsFoundOn}
+use Rattle.fv_root.proofs.Crashes.{new_machine}
+use Rattle.fv_aggmap.specs.Space.{Space, blocks_of}
+use Rattle.fv_volume.specs.declared.pool.Pool.{Pool}
+use Rattle.fv_volume.specs.declared.state.VolumeState.{VolumeState}
+use Rattle.fv_volume.specs.Labels.{label_said}
+use Rattle.fv_volume.specs.States.{AreStates, IsState, States, head_in, state_at, view_over}
+use Rattle.fv_volume.specs.Loading.{Houses, IsLoaded}
+use Rattle.fv_volume.proofs.Viewed.{apart_from, distinct_from}
+use Rattle.fv_cp.specs.Lent.{AreHoused, IsLent}
+use Rattle.fv_cp.specs.Points.{IsPoint, machine_lent}
+use Rattle.fv_cp.specs.Course.{IsWrittenTo, found_with, settled_as, settled_at}
+use Rattle.fv_cp.proofs.OneSlot.{as_written}
+use Rattle.fv_cp.proofs.StillLoaded.{still_loaded}
+use Rattle.fv_cp.proofs.Ready.{alone_at, is_settled, ready, same_committed, same_head, same_told}
+
+-- ---- the volumes
+
+still_state : (s : ℕ) (x : VolumeState) (label : ℕ) → IsState s x → IsState s (as_written x label)
+unfolding label_said
+still_state s x label is = record {
+  slot_is = is.slot_is;
+  plain = is.plain;
+  span = is.span;
+  map = is.map;
+  ledger = is.ledger;
+  named = is.named;
+  label = is.label;
+}
+
+settled_state : (s : ℕ) (o : Option VolumeState) (label : ℕ) → IfSome o (IsState s) → IfSome (option_map (settled_as label) o) (IsState s)
+settled_state s None label is = tt
+settled_state s (Some x) label is = so x.changed
+  where
+    so : (t : Bool) → IsState s (cond t (as_written x label) x)
+    so true = still_state s x label is
+    so false = is
+
+settled_houses : (o : Option VolumeState) (label : ℕ) (c : Option Mapped) → Houses o c → Houses (option_map (settled_as label) o) c
+settled_houses None label c is = tt
+settled_houses (Some x) label None is = absurd is
+settled_houses (Some x) label (Some map) is = so x.changed
+  where
+    so : (t : Bool) → Houses (Some (cond t (as_written x label) x)) (Some map)
+    so true = is
+    so false = is
+
+module _ (states stay : States) (labels : List ℕ) (settled : (s : ℕ) → state_at stay s ≡ settled_at labels states s) where
+  pub housed_after : (containers : Slots) → length stay ≡ 64 → AreHoused containers states → AreHoused containers stay
+  housed_after containers long is = record {
+    long = long;
+    volumes = λ s. subst (λ (o : Option VolumeState). IfSome o (IsState s)) (sym (settled s)) (settled_state s (state_at states s) (get_or labels s 0) (is.volumes s));
+    each = λ s. subst (λ (o : Option VolumeState). Houses o (container_at containers s)) (sym (settled s)) (settled_houses (state_at states s) (get_or labels s 0) (container_at containers s) (is.each s));
+  }
+
+  pub heads_stay : (s : ℕ) → option_map head_in (state_at stay s) ≡ option_map head_in (state_at states s)
+  heads_stay s = ap (option_map head_in) (settled s) ∙ same_head (state_at states s) (get_or labels s 0)
+
+  states_stay : length stay ≡ length states → AreStates states → AreStates stay
+  states_stay long are = record {
+    each = λ s. subst (λ (o : Option VolumeState). IfSome o (IsState s)) (sym (settled s)) (settled_state s (state_at states s) (get_or labels s 0) (are.each s));
+    names = distinct_from stay (λ e s lt inside. (λ k. share_name (heads_stay e k) (heads_stay s k)) ∙ apart_from states are.names e s lt (omega (arith, inside, long)));
+  }
+
+  unchanged_stay : (s : ℕ) → IfSome (state_at stay s) (λ x. x.changed ≡ false)
+  unchanged_stay s = subst (λ (o : Option VolumeState). IfSome o (λ x. x.changed ≡ false)) (sym (settled s)) (is_settled (state_at states s) (get_or labels s 0))
+
+-- ---- the point
+
+module _ (disk : Shown) (pool : Pool) (states : States) (before : Machine) (lent : IsLent disk pool states before) (range : IsInRange pool.found) (long : length states ≡ 64) (labels : List ℕ) (written : Pool) (mid : Shown) (is : IsWrittenTo pool.found states 64 labels written mid.reads)
+    (new : Shown) (done : IsCommitted mid pool.found (record pool.found.root { labels = labels }) written.map.next new) (left : Pool) (stay : States) (found : left.found ≡ found_with pool.found labels) (map : left.map ≡ record { committed = written.map.next; next = written.map.next })
+    (size : blocks_of left.map ≡ pool.found.blocks) (containers : left.containers ≡ written.containers) (settled : (s : ℕ) → state_at stay s ≡ settled_at labels states s) (stay_long : length stay ≡ 64) where
+  abbrev f : Found
+  f = found_with pool.found labels
+
+  abbrev u : Taken
+  u = root_found f
+
+  abbrev m : Machine
+  m = machine_lent disk pool states
+
+  stands_now : machine_of new.reads ≡ Some m
+  stands_now = new_machine mid pool.found (record pool.found.root { labels = labels }) written.map.next m new.reads (ready disk pool states before lent range long labels written mid.reads is) done.side
+
+  tells_now : Tells (layout_at u new.reads) m
+  tells_now = tells_from (layout_at u new.reads) m (sym (machine_under new.reads u done.side.counts) ∙ stands_now)
+
+  agrees : AgreeOnHeld u mid.reads new.reads
+  agrees b held = done.side.volumes b (held_has_bit u mid.reads new.reads (is_member written.map.next) is.whole b held).0
+
+  loaded_now : (s : ℕ) → s < 64 → IsLoaded new.reads f s (state_at stay s) (container_at left.containers s)
+  loaded_now s inside = subst (λ (o : Option VolumeState). IsLoaded new.reads f s o (container_at left.containers s)) (sym (settled s))
+      (subst (λ (c : Slots). IsLoaded new.reads f s (settled_at labels states s) (container_at c s)) (sym containers)
+      (still_loaded f f mid.reads new.reads s inside refl agrees (settled_at labels states s) (container_at written.containers s) (is.done s inside inside)))
+
+  heads_now : (s : ℕ) → (view_over left stay new.reads).head s ≡ (view_over pool states disk.reads).head s
+  unfolding view_over
+  heads_now s = heads_stay states stay labels settled s
+
+  machine_now : machine_lent new left stay ≡ m
+  unfolding view_over
+  machine_now = same_told (view_over left stay new.reads) (view_over pool states disk.reads) (ap (λ (x : Found). x.blocks) found) (ap (λ (x : Found). x.root.version) found) heads_now
+
+  lent_now : IsLent new left stay m
+  lent_now = record {
+    found = subst (λ (x : Found). IsFoundOn new x) (sym found) done.stands;
+    tells = subst (λ (x : Found). Tells (layout_at (root_found x) new.reads) m) (sym found) tells_now;
+    keeps = λ c now. subst (λ (d : Image). Keeps (root_found left.found) new.reads d) (sym (settled_image new c done.settled now)) (record {
+      root = done.side.counts ∙ ap (λ (x : Found). Some (root_found x)) (sym found);
+      layout = refl;
+    });
+    map = record {
+      len = size ∙ ap (λ (x : Found). x.blocks) (sym found);
+      bits = λ b. ap (λ (x : Space). is_member x.committed b) map ∙ sym (subst (λ (x : Found). map_bit (root_found x) new.reads b ≡ is_member written.map.next b) (sym found) (done.side.bits b));
+      same = ap (λ (x : Space). x.next) map ∙ sym (ap (λ (x : Space). x.committed) map);
+    };
+    slots = λ s inside. inl (subst (λ (x : Found). IsLoaded new.reads x s (state_at stay s) (container_at left.containers s)) (sym found) (loaded_now s inside));
+    states = states_stay states stay labels settled (stay_long ∙ sym long) lent.states;
+    commits = subst (λ (n : ℕ). n ≤ capacity left.found.blocks) (sym (same_committed (view_over left stay new.reads) (view_over pool states disk.reads) heads_now))
+        (subst (λ (x : Found). committed (view_over pool states disk.reads) ≤ capacity x.blocks) (sym found) lent.commits);
+  }
+
+  pub point : IsPoint disk pool states new left stay
+  point = record {
+    settled = done.settled;
+    stands = stands_now;
+    lent = lent_now;
+    heads = heads_stay states stay labels settled;
+    machine = machine_now;
+    unchanged = unchanged_stay states stay labels settled;
+    reclaimed = subst (λ (x : Found). delayed (view_at (root_found x) new.reads) ≡ 0) (sym found)
+        (none_delayed (view_at u new.reads) (λ s inside. alone_at f new.reads s (state_at stay s) (container_at left.containers s) (loaded_now s inside) (unchanged_stay states stay labels settled s)));
+    blocks = ap (λ (x : Found). x.blocks) found;
+  }

@@ -1,0 +1,112 @@
+-- A loaded volume stays loaded in an image that has the blocks which its slot holds.
+use Rattle.std.proofs.Common.{◌≡◌, ◌≢◌, ℕ, ◌-◌, ◌*◌, ◌<◌, ◌≤◌, List, length, refl, sym, ap, subst, ◌∙◌, arith}
+use Rattle.std.specs.Prelude.{Option, Some, None, IfSome, ◌&&◌, nat_lt}
+use Rattle.std.specs.Option.{option_map}
+use Rattle.fv_disk.specs.Shown.{Image}
+use Rattle.fv_bits.specs.Bits.{bit_of_area}
+use Rattle.fv_bits.specs.Members.{is_member}
+use Rattle.fv_codec.specs.declared.label.Label.{Label}
+use Rattle.fv_model.specs.Space.{map_blocks}
+use Rattle.fv_image.specs.Layout.{block_bits}
+use Rattle.fv_image.specs.Containers.{level_width, node_of, node_verdict, IsNodePlace}
+use Rattle.fv_image.specs.Views.{head_of, map_vvbn, block_in, volume_bit}
+use Rattle.fv_image.specs.Held.{AgreeOnHeld, Layout, Lying, layout_at, view_at, label_place, label_lying, label_in, lying_at, entry_from, with_bits}
+use Rattle.fv_image.proofs.SameContainers.{AgreeOnTree, same_node, same_entries}
+use Rattle.fv_image.proofs.SameLayout.{same_but_bits}
+use Rattle.fv_image.proofs.Named.{node_held}
+use Rattle.fv_container.specs.Mapped.{Mapped}
+use Rattle.fv_container.specs.Spelled.{Spelled}
+use Rattle.fv_root.specs.declared.find.Found.{Found}
+use Rattle.fv_root.specs.Finding.{root_found}
+use Rattle.fv_volmap.specs.Slots.{active_of}
+use Rattle.fv_volume.specs.declared.state.VolumeState.{VolumeState}
+use Rattle.fv_volume.specs.Loading.{IsContainerOf, IsLoaded, label_of}
+
+-- ---- a container
+
+module _ (i j : Image) (root height : ℕ) (map : Mapped) (agree : AgreeOnTree i j root height (length map.entries)) where
+  same_place : (level number : ℕ) → level ≤ height → number < level_width (length map.entries) level → node_of j root height level number ≡ node_of i root height level number
+  same_place level number low within =
+      let back : height - (height - level) ≡ level = omega (arith, low) in
+      same_node i j root height (length map.entries) (height - level) number agree (omega arith) (subst (λ (k : ℕ). number < level_width (length map.entries) k) (sym back) within)
+
+  node_kept : (b : ℕ) → IsNodePlace i root height (length map.entries) b → IsNodePlace j root height (length map.entries) b
+  node_kept b node = record {
+    level = node.level;
+    number = node.number;
+    below = node.below;
+    within = node.within;
+    place = node.place ∙ sym (same_place node.level node.number node.below node.within);
+    some = node.some;
+  }
+
+  node_was : (b : ℕ) → IsNodePlace j root height (length map.entries) b → IsNodePlace i root height (length map.entries) b
+  node_was b node = record {
+    level = node.level;
+    number = node.number;
+    below = node.below;
+    within = node.within;
+    place = node.place ∙ same_place node.level node.number node.below node.within;
+    some = node.some;
+  }
+
+  pub spelled_kept : Spelled i root height map → Spelled j root height map
+  spelled_kept is = record {
+    whole = record {
+      nodes = λ level number low within some.
+          let same = same_place level number low within in
+          let was : node_of i root height level number ≢ 0 = λ none. some (same ∙ none) in
+          ap (λ (b : List ℕ). node_verdict level number b) (ap j same ∙ agree (node_of i root height level number) (record {
+            level = level;
+            number = number;
+            below = low;
+            within = within;
+            place = refl;
+            some = was;
+          })) ∙ is.whole.nodes level number low within was;
+    };
+    entries = λ v. same_entries i j root height (length map.entries) agree v ∙ is.entries v;
+    nodes = λ b node. is.nodes b (node_was b node);
+    places = λ b named. node_kept b (is.places b named);
+  }
+
+-- ---- a volume
+
+module _ (found next : Found) (i j : Image) (s : ℕ) (inside : s < 64) (place : label_place (root_found next) s ≡ label_place (root_found found) s) (agree : AgreeOnHeld (root_found found) i j) where
+  same_images : layout_at (root_found found) j ≡ with_bits (layout_at (root_found found) j).bit (layout_at (root_found found) i)
+  unfolding layout_at
+  same_images = same_but_bits (root_found found) i j agree (layout_at (root_found found) j).bit (λ b. refl)
+
+  same_label : label_lying (root_found next) j s ≡ label_lying (root_found found) i s
+  unfolding layout_at
+  same_label = ap (lying_at j) place ∙ ap (λ (y : Layout). y.label s) same_images
+
+  same_entry : (v : ℕ) → (view_at (root_found next) j).entry s v ≡ (view_at (root_found found) i).entry s v
+  unfolding layout_at view_at
+  same_entry v = ap (λ (p : ℕ). entry_from (label_in (lying_at j p)) j v) place ∙ ap (λ (y : Layout). y.view.entry s v) same_images
+
+  same_bit : (span v : ℕ) → volume_bit (view_at (root_found next) j) s span 0 v ≡ volume_bit (view_at (root_found found) i) s span 0 v
+  unfolding volume_bit
+  same_bit span v = λ k. nat_lt v (block_bits * map_blocks span) && bit_of_area (λ b. block_in (same_entry (map_vvbn span 0 b) k)) v
+
+  container_kept : (o : Option Label) (c : Option Mapped) → label_of found i s ≡ o → IsContainerOf i o c → IsContainerOf j o c
+  container_kept None None there is = tt
+  container_kept None (Some map) there is = absurd is
+  container_kept (Some l) None there is = absurd is
+  container_kept (Some l) (Some map) there is =
+      let agrees : AgreeOnTree i j l.container l.height (length map.entries) = λ b node. agree b (node_held (root_found found) i s b l inside there (subst (λ (n : ℕ). IsNodePlace i l.container l.height n b) is.1.0 node)) in
+      (spelled_kept i j l.container l.height map agrees is.0, is.1)
+
+  pub still_loaded : (state : Option VolumeState) (container : Option Mapped) → IsLoaded i found s state container → IsLoaded j next s state container
+  still_loaded state container is = record {
+    head = is.head ∙ ap (λ (o : Option Lying). option_map head_of (label_in o)) (sym same_label);
+    tree = subst (λ (o : Option Label). IsContainerOf j o container) (sym (ap label_in same_label)) (container_kept (label_of found i s) container refl is.tree);
+    label = is.label ∙ sym place;
+    bits = bits_kept state is.bits;
+    changed = is.changed;
+  }
+    where
+      bits_kept : (o : Option VolumeState) → IfSome o (λ x. (v : ℕ) → is_member (active_of x.map) v ≡ volume_bit (view_at (root_found found) i) s x.span 0 v)
+          → IfSome o (λ x. (v : ℕ) → is_member (active_of x.map) v ≡ volume_bit (view_at (root_found next) j) s x.span 0 v)
+      bits_kept None are = tt
+      bits_kept (Some x) are = λ v. are v ∙ sym (same_bit x.span v)

@@ -1,0 +1,5 @@
+pub mod Course
+pub mod Lent
+pub mod Points
+pub mod Steps
+pub mod Writing

@@ -1,0 +1,12 @@
+//! Consistency points: all that changed in the volumes is written to free blocks, and then a new root counts. A crash at any moment
+//! leaves the volumes of before or those of after. `docs/SPACE.md` has the order of a point.
+#![tactic(auto)]
+
+mod fault;
+mod giving;
+mod point;
+mod taking;
+mod write;
+
+pub use fault::CpFault;
+pub use point::consistency_point;

@@ -1,0 +1,220 @@
+//! The whole of a consistency point.
+
+ghost use Rattle.std.specs.Prelude.{◌≡◌, ◌≤◌, ◌<◌, ◌+◌, ℕ, IsTrue, OnOk, IfErr, IfSome, option_copied, length};
+ghost use Rattle.std.specs.Option.{option_map};
+ghost use Rattle.std.specs.FinMap as fin;
+ghost use Rattle.fv_disk.specs.Crash.{Leaves};
+ghost use Rattle.fv_disk.specs.DiskCalls.{Counted};
+ghost use Rattle.fv_disk.specs.Sparing.{Spares};
+ghost use Rattle.fv_codec.specs.Blocks.{IsRoot};
+ghost use Rattle.fv_model.specs.Machines.{Machine};
+ghost use Rattle.fv_model.specs.Numbers.{greatest_span};
+ghost use Rattle.fv_root.specs.Finding.{IsInRange};
+ghost use Rattle.fv_root.specs.Commits.{IsCommitted, IsFoundOn, OldOrNew, next_found};
+ghost use Rattle.fv_store.specs.Held.{StandsOn};
+ghost use Rattle.fv_container.specs.Chains.{slot_count};
+ghost use Rattle.fv_aggmap.specs.Space.{blocks_of, free_blocks};
+ghost use Rattle.fv_volume.specs.States.{IsState, state_at, with_state};
+ghost use Rattle.fv_cp.specs.Lent.{AreHoused, IsLent, asked_by, blocks_asked};
+ghost use Rattle.fv_cp.specs.Points.{Counts, IsPoint, LacksRoom, LeavesAll, OldOrLent};
+ghost use Rattle.fv_cp.specs.Steps.{IsTaken, on_disk};
+ghost use Rattle.fv_cp.specs.Course.{GoesPast, HasCome, settled_as, settled_at};
+
+use crate::fault::CpFault;
+use crate::write::write_volume;
+use fv_charge::overhead;
+use fv_codec::Root;
+use fv_disk::{Disk, Failed};
+use fv_root::{commit, first_block, next_found, root_place};
+use fv_volume::{Pool, VolumeState, Volumes};
+
+/// How many volumes there can be.
+const SLOTS: u8 = 64;
+
+/// Writes what changed in the volumes and makes a root count that names it, past the point's last barrier: each volume that changed is
+/// written anew to blocks that were free, in the order of slots, and then the root is committed. A volume without changes isn't
+/// written. `want` is the room in blocks that the event needs which asked for the point; so far a point gives all delayed blocks back
+/// whatever is wanted, so nothing depends on it.
+///
+/// A crash at any moment leaves an image that stands for the machine of before or for that of the volumes lent, and after `Ok` the
+/// latter, on a settled disk. It takes no memory and reads nothing.
+///
+/// # Errors
+/// `Damaged` comes only where fewer blocks are free than the overheads of the volumes that changed: at the place of the root that
+/// counts, with both numbers. Nothing changes then. `DiskFault` comes only where a write or a barrier failed in this call; of what is
+/// in memory nothing is said then, of images as above. `Memory` doesn't come.
+///
+/// Costs, for each volume that changed, a step for each entry and a write for each of at most `overhead` blocks; beside that a commit, a
+/// step for each fixed block, and one for each 64 blocks.
+pub fn consistency_point<D: Disk>(
+    volumes: &mut Volumes,
+    pool: &mut Pool,
+    disk: &mut D,
+    want: u64,
+) -> Result<(), CpFault>
+    requires stands { StandsOn (D.shown disk.old) pool.old.store.pairs }
+    requires range { IsInRange pool.old.found }
+    requires map { blocks_of pool.old.map ≡ pool.old.found.blocks }
+    requires found { IsTrue (D.shown disk.old).tells → IsFoundOn (D.shown disk.old) pool.old.found }
+    requires housed { AreHoused pool.old.containers volumes.old }
+    requires kept { pool.old.kept ≡ fin.empty }
+    ensures any_moment { IsTrue (D.shown disk.old).tells → (before : Machine) → IsLent (D.shown disk.old) pool.old volumes.old before
+        → Leaves (D.shown disk.old) (D.shown disk.new) (OldOrLent (D.shown disk.old) pool.old volumes.old before) }
+    ensures point { IsTrue (D.shown disk.old).tells → (before : Machine) → IsLent (D.shown disk.old) pool.old volumes.old before
+        → OnOk result (IsPoint (D.shown disk.old) pool.old volumes.old (D.shown disk.new) pool.new volumes.new) }
+    ensures room { IfErr result (LacksRoom pool.old volumes.old) }
+    ensures lacking { IfErr result (LeavesAll (D.shown disk.old) pool.old volumes.old (D.shown disk.new) pool.new volumes.new) }
+    ensures counts { Counts (D.shown disk.old) (D.shown disk.new) result }
+    ensures stands { OnOk result (StandsOn (D.shown disk.new) pool.new.store.pairs) }
+    ensures found { IsTrue (D.shown disk.old).tells → OnOk result (IsFoundOn (D.shown disk.new) pool.new.found) }
+    ensures range { OnOk result (IsInRange pool.new.found) }
+    ensures map { OnOk result (blocks_of pool.new.map ≡ pool.new.found.blocks) }
+    ensures housed { OnOk result (AreHoused pool.new.containers volumes.new) }
+    ensures kept { OnOk result (pool.new.kept ≡ fin.empty) }
+{
+    let asked = blocks_asked(volumes);
+    let free = u64::from(pool.map.free_count());
+    if free < asked {
+        return Err(CpFault::Damaged {
+            at: root_place(pool.found.slot),
+            want: asked,
+            found: free,
+        });
+    }
+    let mut root = pool.found.root;
+    write_volumes(volumes, pool, disk, &mut root.labels)?;
+    switch(pool, disk, &root)?;
+    settle(volumes, &root.labels);
+    Ok(())
+}
+
+/// The blocks that the volumes ask for: the overhead of each that changed.
+fn blocks_asked(volumes: &Volumes) -> u64
+    requires long { length volumes.now ≡ slot_count }
+    requires volumes { (s : ℕ) → IfSome (state_at volumes.now s) (IsState s) }
+    ensures { result ≡ blocks_asked volumes.now }
+{
+    let mut asked = 0;
+    for slot in 0..SLOTS {
+        asked += asked_by(volumes.get(slot));
+    }
+    asked
+}
+
+/// The blocks that the volume of a slot asks for.
+fn asked_by(state: Option<&VolumeState>) -> u64
+    requires { IfSome (option_copied state) (λ x. x.span ≤ greatest_span) }
+    ensures value { result ≡ asked_by (option_copied state.entry) }
+    ensures most { result ≤ 4151 }
+{
+    match state {
+        Some(state) if state.is_changed() => u64::from(overhead(state.span)),
+        _ => 0,
+    }
+}
+
+/// Writes each volume that changed, and names it by the labels of the new root.
+fn write_volumes<D: Disk>(
+    volumes: &Volumes,
+    pool: &mut Pool,
+    disk: &mut D,
+    labels: &mut [u32; 64],
+) -> Result<(), Failed>
+    requires labels { labels.old ≡ pool.old.found.root.labels }
+    requires range { IsInRange pool.old.found }
+    requires stands { StandsOn (D.shown disk.old) pool.old.store.pairs }
+    requires housed { AreHoused pool.old.containers volumes.now }
+    requires map { blocks_of pool.old.map ≡ pool.old.found.blocks }
+    requires room { blocks_asked volumes.now ≤ free_blocks pool.old.map }
+    ensures come { OnOk result (HasCome (D.shown disk.old) pool.old volumes.entry.now slot_count labels.new pool.new (D.shown disk.new)) }
+    ensures spares { Spares (IsTaken (on_disk pool.old.map)) (D.shown disk.old) (D.shown disk.new) result }
+{
+    for slot in 0..SLOTS {
+        write_slot(volumes, pool, disk, slot, labels)?;
+    }
+    Ok(())
+}
+
+/// Writes the volume of a slot, if it changed.
+fn write_slot<D: Disk>(
+    volumes: &Volumes,
+    pool: &mut Pool,
+    disk: &mut D,
+    slot: u8,
+    labels: &mut [u32; 64],
+) -> Result<(), Failed>
+    requires slot { slot < slot_count }
+    requires stands { StandsOn (D.shown disk.old) pool.old.store.pairs }
+    requires housed { AreHoused pool.old.containers volumes.now }
+    requires room { asked_by (state_at volumes.now slot) ≤ free_blocks pool.old.map }
+    ensures past { OnOk result (GoesPast (state_at volumes.entry.now slot) slot labels.old pool.old (D.shown disk.old) labels.new pool.new (D.shown disk.new)) }
+    ensures count { OnOk result (free_blocks pool.old.map ≤ free_blocks pool.new.map + asked_by (state_at volumes.entry.now slot)) }
+    ensures spares { Spares (IsTaken (on_disk pool.old.map)) (D.shown disk.old) (D.shown disk.new) result }
+    ensures committed { pool.new.map.committed ≡ pool.old.map.committed }
+    ensures found { pool.new.found ≡ pool.old.found }
+    ensures kept { pool.new.kept ≡ pool.old.kept }
+    ensures stands { StandsOn (D.shown disk.new) pool.new.store.pairs }
+{
+    let Some(state) = volumes.get(slot) else {
+        return Ok(());
+    };
+    if !state.is_changed() {
+        return Ok(());
+    }
+    let Some(container) = pool.containers.get_mut(slot) else {
+        return Ok(());
+    };
+    let label = write_volume(state, container, &mut pool.store, &mut pool.map, disk)?;
+    labels[slot as usize] = label;
+    Ok(())
+}
+
+/// Makes the new root count.
+fn switch<D: Disk>(pool: &mut Pool, disk: &mut D, root: &Root) -> Result<(), Failed>
+    requires stands { StandsOn (D.shown disk.old) pool.old.store.pairs }
+    requires range { IsInRange pool.old.found }
+    requires map { blocks_of pool.old.map ≡ pool.old.found.blocks }
+    requires found { IsTrue (D.shown disk.old).tells → IsFoundOn (D.shown disk.old) pool.old.found }
+    requires root { IsRoot root.now }
+    ensures any_moment { IsTrue (D.shown disk.old).tells
+        → Leaves (D.shown disk.old) (D.shown disk.new) (OldOrNew (D.shown disk.old) pool.old.found root.now pool.old.map.next) }
+    ensures committed { IsTrue (D.shown disk.old).tells
+        → OnOk result (IsCommitted (D.shown disk.old) pool.old.found root.now pool.old.map.next (D.shown disk.new)) }
+    ensures found { OnOk result (pool.new.found ≡ next_found pool.old.found root.now) }
+    ensures map { OnOk result (pool.new.map ≡ record { committed = pool.old.map.next; next = pool.old.map.next }) }
+    ensures size { OnOk result (blocks_of pool.new.map ≡ pool.old.found.blocks) }
+    ensures kept { pool.new.kept ≡ pool.old.kept }
+    ensures containers { pool.new.containers ≡ pool.old.containers }
+    ensures counted { Counted (D.shown disk.old) (D.shown disk.new) result }
+    ensures stands { StandsOn (D.shown disk.new) pool.new.store.pairs }
+{
+    pool.store.forget_before(first_block(pool.found.blocks));
+    commit(disk, &pool.found, root, pool.map.next_map())?;
+    pool.found = next_found(&pool.found, root);
+    pool.map.committed();
+    Ok(())
+}
+
+/// Says of each volume that changed that the root on the disk names it as it is now.
+fn settle(volumes: &mut Volumes, labels: &[u32; 64])
+    requires long { length volumes.old ≡ slot_count }
+    ensures settled { (s : ℕ) → state_at volumes.new s ≡ settled_at labels.now volumes.old s }
+    ensures long { length volumes.new ≡ slot_count }
+{
+    for slot in 0..SLOTS {
+        settle_slot(volumes, slot, labels[slot as usize]);
+    }
+}
+
+/// Says it of the volume of a slot.
+fn settle_slot(volumes: &mut Volumes, slot: u8, label: u32)
+    requires slot { slot < slot_count }
+    requires long { length volumes.old ≡ slot_count }
+    ensures settled { volumes.new ≡ with_state volumes.old slot (option_map (settled_as label) (state_at volumes.old slot)) }
+{
+    if let Some(state) = volumes.get_mut(slot)
+        && state.is_changed()
+    {
+        state.settled(label);
+    }
+}

@@ -1,0 +1,160 @@
+//! Writing one volume.
+
+ghost use Rattle.std.specs.Prelude.{◌≡◌, ◌<◌, ◌≤◌, ◌+◌, ℕ, IsTrue, IfOk, OnOk, Ok, None, true, length};
+ghost use Rattle.fv_bits.specs.Members.{is_member};
+ghost use Rattle.fv_codec.specs.Blocks.{label_at, last_place};
+ghost use Rattle.fv_disk.specs.Sparing.{Spares};
+ghost use Rattle.fv_model.specs.Numbers.{greatest_span};
+ghost use Rattle.fv_model.specs.Space.{overhead};
+ghost use Rattle.fv_image.specs.Containers.{height_of};
+ghost use Rattle.fv_image.specs.Views.{entry_count};
+ghost use Rattle.fv_root.specs.Formatted.{IsSize};
+ghost use Rattle.fv_store.specs.Held.{StandsOn};
+ghost use Rattle.fv_aggmap.specs.Space.{blocks_of, free_blocks};
+ghost use Rattle.fv_container.specs.Flushed.{without_value};
+ghost use Rattle.fv_container.specs.Mapped.{IsMapped, entry_under};
+ghost use Rattle.fv_volume.specs.Labels.{label_said};
+ghost use Rattle.fv_volume.specs.States.{IsState};
+ghost use Rattle.fv_cp.specs.Steps.{IsTaken, IsWritten, is_of, on_disk};
+ghost use Rattle.fv_cp.specs.Writing.{AreTaken, HasBlocks, HasLabel, IsOther, IsTakenOther};
+
+use crate::giving::{give_back, give_back_block};
+use crate::taking::{ZERO, map_blocks, take_block, write_map};
+use fv_aggmap::AggMap;
+use fv_container::{Container, height_of};
+use fv_disk::{Disk, Failed};
+use fv_store::Store;
+use fv_volume::VolumeState;
+
+/// How many maps a volume has entries for: the active one and those of 24 snapshots.
+const MAPS: u32 = 25;
+
+/// How many entries the container of a span has.
+fn entry_count(span: u32) -> u32
+    requires { span ≤ greatest_span }
+    ensures { result ≡ entry_count span }
+{
+    span + MAPS * map_blocks(span)
+}
+
+/// Writes the blocks of the active map and the container, which had holes alone, and answers the root of the container's tree. The
+/// old tree is given back.
+fn write_blocks<D: Disk>(
+    state: &VolumeState,
+    container: &mut Container,
+    store: &mut Store,
+    map: &mut AggMap,
+    disk: &mut D,
+) -> Result<u32, Failed>
+    requires stands { StandsOn (D.shown disk.old) store.old.pairs }
+    requires span { state.now.span ≤ greatest_span }
+    requires map { state.now.map.span ≡ state.now.span }
+    requires entries { length container.old.entries ≡ entry_count state.now.span }
+    requires holes { (v : ℕ) → entry_under container.old v ≡ None }
+    requires size { IsSize (blocks_of map.old) }
+    requires room { overhead state.now.span ≤ free_blocks map.old + 1 }
+    ensures written { IsTrue (D.shown disk.old).tells
+        → AreTaken map.old container.old.tree
+        → IfOk result (λ root. HasBlocks state.entry.now container.old.tree map.old root container.new (D.shown disk.new).reads map.new) }
+    ensures root_least { IfOk result (λ root. 1 ≤ root) }
+    ensures root_greatest { IfOk result (λ root. root ≤ last_place) }
+    ensures spares { Spares (IsTaken map.old) (D.shown disk.old) (D.shown disk.new) (without_value result) }
+    ensures entries { length container.new.entries ≡ entry_count state.entry.now.span }
+    ensures valid { OnOk result (IsMapped container.new) }
+    ensures committed { map.new.committed ≡ map.old.committed }
+    ensures count { OnOk result (free_blocks map.old + 1 ≤ free_blocks map.new + overhead state.entry.now.span) }
+    ensures stands { StandsOn (D.shown disk.new) store.new.pairs }
+{
+    write_map(state, container, store, map, disk)?;
+    let root = container.flush(store, disk, map)?;
+    Ok(root)
+}
+
+/// Writes the label of a volume to a place.
+fn write_label<D: Disk>(
+    state: &VolumeState,
+    root: u32,
+    label: u32,
+    store: &mut Store,
+    disk: &mut D,
+) -> Result<(), Failed>
+    requires stands { StandsOn (D.shown disk.old) store.old.pairs }
+    requires state { IsState state.now.slot state.now }
+    requires root { root ≤ last_place }
+    ensures said { IsTrue (D.shown disk.old).tells
+        → OnOk result (label_at ((D.shown disk.new).reads label) ≡ Ok (label_said state.entry.now root (height_of (entry_count state.entry.now.span)))) }
+    ensures spares { Spares (IsOther label) (D.shown disk.old) (D.shown disk.new) result }
+    ensures stands { StandsOn (D.shown disk.new) store.new.pairs }
+{
+    let mut block = ZERO;
+    state
+        .label(root, height_of(entry_count(state.span)))
+        .encode(&mut block);
+    store.put(disk, label, &block)
+}
+
+/// Writes a volume whose container has holes alone, with its label at a place that was taken for it.
+fn write_anew<D: Disk>(
+    state: &VolumeState,
+    container: &mut Container,
+    store: &mut Store,
+    map: &mut AggMap,
+    disk: &mut D,
+    label: u32,
+) -> Result<(), Failed>
+    requires stands { StandsOn (D.shown disk.old) store.old.pairs }
+    requires state { IsState state.now.slot state.now }
+    requires entries { length container.old.entries ≡ entry_count state.now.span }
+    requires holes { (v : ℕ) → entry_under container.old v ≡ None }
+    requires size { IsSize (blocks_of map.old) }
+    requires room { overhead state.now.span ≤ free_blocks map.old + 1 }
+    requires taken { IsTaken map.old label }
+    ensures written { IsTrue (D.shown disk.old).tells
+        → AreTaken map.old container.old.tree
+        → OnOk result (HasLabel state.entry.now container.old.tree map.old label container.new (D.shown disk.new).reads map.new) }
+    ensures spares { Spares (IsTakenOther map.old label) (D.shown disk.old) (D.shown disk.new) result }
+    ensures entries { length container.new.entries ≡ entry_count state.entry.now.span }
+    ensures valid { OnOk result (IsMapped container.new) }
+    ensures committed { map.new.committed ≡ map.old.committed }
+    ensures count { OnOk result (free_blocks map.old + 1 ≤ free_blocks map.new + overhead state.entry.now.span) }
+    ensures stands { StandsOn (D.shown disk.new) store.new.pairs }
+{
+    let root = write_blocks(state, container, store, map, disk)?;
+    write_label(state, root, label, store, disk)?;
+    Ok(())
+}
+
+/// Writes a volume anew: the blocks of its active map, its container, which has no other entries, and its label, whose PVBN it
+/// answers. What the volume had is given back. As many blocks are free as its overhead counts. It takes no memory and reads nothing.
+///
+/// The one error is a failed write: the blocks that were taken are then lost to the map, and the container isn't as before. Costs a
+/// step for each entry and a write for each block.
+pub fn write_volume<D: Disk>(
+    state: &VolumeState,
+    container: &mut Container,
+    store: &mut Store,
+    map: &mut AggMap,
+    disk: &mut D,
+) -> Result<u32, Failed>
+    requires stands { StandsOn (D.shown disk.old) store.old.pairs }
+    requires state { IsState state.now.slot state.now }
+    requires entries { length container.old.entries ≡ entry_count state.now.span }
+    requires room { overhead state.now.span ≤ free_blocks map.old }
+    ensures written { IsTrue (D.shown disk.old).tells
+        → ((b : ℕ) → is_of state.entry.now state.entry.now.label container.old b ≡ true → is_member map.old.committed b ≡ true)
+        → IfOk result (λ label. IsWritten state.entry.now container.old (D.shown disk.old).reads map.old label container.new (D.shown disk.new).reads map.new) }
+    ensures spares { Spares (IsTaken (on_disk map.old)) (D.shown disk.old) (D.shown disk.new) (without_value result) }
+    ensures entries { length container.new.entries ≡ entry_count state.entry.now.span }
+    ensures valid { OnOk result (IsMapped container.new) }
+    ensures label { IfOk result (λ label. label < blocks_of map.old) }
+    ensures committed { map.new.committed ≡ map.old.committed }
+    ensures size { blocks_of map.new ≡ blocks_of map.old }
+    ensures count { OnOk result (free_blocks map.old ≤ free_blocks map.new + overhead state.entry.now.span) }
+    ensures stands { StandsOn (D.shown disk.new) store.new.pairs }
+{
+    give_back(container, map, entry_count(state.span));
+    let label = take_block(map);
+    write_anew(state, container, store, map, disk, label)?;
+    give_back_block(map, state.label_place());
+    Ok(label)
+}

@@ -1,0 +1,4 @@
+pub mod Asking
+pub mod Ends
+mod Pieces
+mod LinesRead

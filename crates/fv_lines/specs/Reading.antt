@@ -1,0 +1,93 @@
+-- Reading a script from its front.
+use Rattle.std.specs.Prelude.{◌≡◌, ◌<◌, ◌≤◌, ◌+◌, ◌⊎◌, ℕ, List, [], ◌∷◌, ◌++◌, length, IsTrue, Result, IfOk, OnOk, OnErr}
+use Rattle.fv_disk.specs.declared.Failed.{Failed}
+use Rattle.fv_disk.specs.Shown.{Image, Shown, HasCause}
+use Rattle.fv_disk.specs.HostCalls.{Rests}
+use Rattle.fv_disk.specs.Crash.{Leaves}
+use Rattle.fv_model.specs.Runs.{whole}
+use Rattle.fv_model.specs.Lines.{line_of, lines}
+use Rattle.fv_lines.specs.declared.script.Next.{Next}
+use Rattle.fv_lines.specs.declared.script.Next.TheVariants as next
+use Rattle.fv_lines.specs.declared.reading.Found.{Found}
+use Rattle.fv_lines.specs.declared.reading.Found.TheVariants as found
+use Rattle.fv_lines.specs.Held.{Held}
+
+-- the bytes of the script that aren't read yet: those that were taken, and then those that the source has left
+abbrev pub unread : Held → Shown → List ℕ
+unread held host = held.bytes ++ host.ends.left
+
+-- an image of a crash as before, with the bytes that had been given
+abbrev pub IsStill : Shown → Image → List ℕ → Type 0
+IsStill old c g = old.images c × (g ≡ old.given)
+
+-- Calls of the source alone: the disk rests at each moment, and nothing is given.
+pub record Asks {T : Type 0} (old new : Shown) (result : Result T Failed) : Type 0 where
+  pub rests : Rests old new
+  pub any_moment : Leaves old new (IsStill old)
+  pub given : new.given ≡ old.given
+  pub sink_faults : new.ends.sink_faults ≡ old.ends.sink_faults
+  pub cause : HasCause old.ends.source_faults new.ends.source_faults result
+
+-- the first byte of those that were taken, if there is one and it may be read
+abbrev pub Pops : Held → Next → Held → Type 0
+Pops old (next.Byte byte) new = (old.bytes ≡ byte ∷ new.bytes) × (old.room ≡ new.room + 1)
+Pops old next.End new = (old.bytes ≡ []) × (new ≡ old)
+Pops old next.PastLimit new = (0 < length old.bytes) × ((old.room ≡ 0) × (new ≡ old))
+
+-- Nothing is read. Where no byte is held then, the source has none left, or it failed.
+pub record Fills (old_held : Held) (old : Shown) (new_held : Held) (new : Shown) (result : Result Unit Failed) : Type 0 where
+  pub same : IsTrue old.tells → unread old_held old ≡ unread new_held new
+  pub room : new_held.room ≡ old_held.room
+  pub end : IsTrue old.tells → OnOk result (new_held.bytes ≡ [] → new.ends.left ≡ [])
+  pub none : OnErr result (new_held.bytes ≡ [])
+  pub asks : Asks old new result
+
+-- the first byte of the script is read, where there is one and it may be read; one that may not is held
+abbrev pub Reads : Next → List ℕ → List ℕ → Type 0
+Reads (next.Byte byte) old new = old ≡ byte ∷ new
+Reads next.End old new = (old ≡ []) × (new ≡ [])
+Reads next.PastLimit old new = old ≡ new
+
+abbrev pub TakesRoom : Next → Held → Held → Type 0
+TakesRoom (next.Byte byte) old new = old.room ≡ new.room + 1
+TakesRoom next.End old new = new.room ≡ old.room
+TakesRoom next.PastLimit old new = (0 < length new.bytes) × ((old.room ≡ 0) × (new.room ≡ 0))
+
+pub record IsNext (old_held : Held) (old : Shown) (new_held : Held) (new : Shown) (result : Result Next Failed) : Type 0 where
+  pub byte : IsTrue old.tells → IfOk result (λ n. Reads n (unread old_held old) (unread new_held new))
+  pub room : IfOk result (λ n. TakesRoom n old_held new_held)
+  pub same : IsTrue old.tells → OnErr result (unread old_held old ≡ unread new_held new)
+  pub none : OnErr result ((new_held.bytes ≡ []) × (new_held.room ≡ old_held.room))
+  pub asks : Asks old new result
+
+-- what the bytes before the end of a script are
+abbrev pub found_last : List ℕ → Found
+found_last [] = found.End
+found_last (byte ∷ bytes) = found.Line
+
+-- The first line of the script is read: its bytes and its end, or all bytes that there are. Or there is none; or none that ends before
+-- the limit.
+abbrev pub IsFound : Found → List ℕ → List ℕ → List ℕ → List ℕ → Type 0
+IsFound found.Line line read old new = (lines old ≡ line_of line ∷ lines new) × ((whole read ≡ 1) ⊎ (new ≡ []))
+IsFound found.End line read old new = (old ≡ []) × (new ≡ [])
+IsFound found.PastLimit line read old new = whole read ≡ 0
+
+-- a line takes some room, and a byte past the limit is held, with no room left
+abbrev pub HasRoom : Found → Held → Held → Type 0
+HasRoom found.Line old new = new.room < old.room
+HasRoom found.End old new = new.room ≤ old.room
+HasRoom found.PastLimit old new = (0 < length new.bytes) × (new.room ≡ 0)
+
+-- These bytes are read from the front of the script.
+pub record IsRead (old_held : Held) (old : Shown) (new_held : Held) (new : Shown) (line : List ℕ) (result : Result Found Failed) : Type 0 where
+  pub read : List ℕ
+  pub front : unread old_held old ≡ read ++ unread new_held new
+  pub room : old_held.room ≡ length read + new_held.room
+  pub found : IfOk result (λ f. IsFound f line read (unread old_held old) (unread new_held new))
+
+-- The next line of the script is found, or there is none. The source has failed only where all that it gave was read.
+pub record Finds (old_held : Held) (old : Shown) (new_held : Held) (new : Shown) (line : List ℕ) (result : Result Found Failed) : Type 0 where
+  pub reads : IsTrue old.tells → IsRead old_held old new_held new line result
+  pub room : IfOk result (λ f. HasRoom f old_held new_held)
+  pub none : OnErr result (new_held.bytes ≡ [])
+  pub asks : Asks old new result

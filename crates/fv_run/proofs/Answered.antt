@@ -1,0 +1,143 @@
+-- Lines are answered, one after another.
+use Rattle.std.proofs.Common.{◌≡◌, ℕ, ◌+◌, ◌++◌, List, [], ◌∷◌, take, refl, sym, ap, subst, ◌∙◌, arith, append_assoc, append-nil}
+use Rattle.std.specs.Prelude.{flat_map, Some, IsTrue}
+use Rattle.fv_disk.specs.Shown.{Image, Shown, IsDisk}
+use Rattle.fv_disk.specs.HostCalls.{Rests}
+use Rattle.fv_disk.specs.Crash.{Leaves}
+use Rattle.fv_disk.specs.Partly.{PartlyGiven}
+use Rattle.fv_disk.proofs.Moments.{started, then, weaken}
+use Rattle.fv_model.specs.declared.answers.Reply.{Reply}
+use Rattle.fv_model.specs.Machines.{Machine}
+use Rattle.fv_model.specs.Runs.{Line, after, after_line, AllowsAt, AnswersAll, Follows, whole}
+use Rattle.fv_model.specs.Texts.{text}
+use Rattle.fv_image.specs.MachineOf.{machine_of}
+use Rattle.fv_lines.specs.Reading.{IsStill}
+use Rattle.fv_lines.proofs.Ends.{whole_append}
+use Rattle.fv_aggregate.specs.declared.session.Session.{Session}
+use Rattle.fv_aggregate.specs.Standing.{OneOf, StandsFor}
+use Rattle.fv_run.specs.Running.{HasFollowed, IsAfterSome, Survives}
+use Rattle.fv_run.specs.Answering.{HasAnswered, StandsOnward}
+use Rattle.fv_run.proofs.Acked.{up_to_take}
+use Rattle.fv_run.proofs.Following.{follows_first, follows_part, one_more, one_text, taken_next, left_next, left_below}
+use Rattle.fv_run.proofs.Sessions.{images_stand, rests_standing_for}
+use Rattle.fv_run.proofs.Surviving.{after_some, IsOnward, onward, one_of, one_told}
+
+-- what a crash leaves, with an output that is known
+pub survives : (m : Machine) (lines : List Line) (before : List ℕ) (c : Image) (g output : List ℕ) → g ≡ before ++ output → IsAfterSome m lines output c → Survives m lines before c g
+survives m lines before c g output is some = (output, is, some)
+
+-- before the first line
+pub none_answered : (m : Machine) (lines : List Line) (old : Shown) (session : Session) → IsDisk old → StandsFor old session m m → HasAnswered m lines lines old session old 0
+none_answered m lines old session laws stands = record {
+  replies = [];
+  allowed = tt;
+  given = sym (append-nil old.given);
+  answered = refl;
+  within = omega arith;
+  left_over = refl;
+  point = 0;
+  least = up_to_take 0 lines (omega arith);
+  most = omega arith;
+  stands = stands;
+  crash = started old (Survives m lines old.given) laws
+      (λ c now. survives m lines old.given c old.given [] (sym (append-nil old.given))
+      (after_some m lines 0 0 [] c refl (omega arith) (up_to_take 0 lines (omega arith)) (omega arith) (omega arith) (images_stand old session m m stands c now)));
+}
+
+module _ (m : Machine) (lines left : List Line) (old : Shown) (session : Session) (now : Shown) (count : ℕ) (so_far : HasAnswered m lines left old session now count) where
+  abbrev output : List ℕ
+  output = flat_map text so_far.replies
+
+  -- what was given by now follows the machine
+  pub followed : (new : Shown) → new.given ≡ now.given → HasFollowed m lines old new
+  followed new same = record { output = output; given = same ∙ so_far.given; follows = follows_first m lines count so_far.replies so_far.allowed }
+
+  here : (c : Image) (g : List ℕ) → machine_of c ≡ Some (after m lines so_far.point) → g ≡ now.given → Survives m lines old.given c g
+  here c g stands same = survives m lines old.given c g output (same ∙ so_far.given)
+      (after_some m lines count so_far.point output c so_far.answered so_far.within so_far.least (let most = so_far.most in omega (arith, most)) (let most = so_far.most in let within = so_far.within in omega (arith, most, within)) stands)
+
+  -- while the source is asked
+  pub crash_asked : (mid : Shown) → Leaves now mid (IsStill now) → Leaves old mid (Survives m lines old.given)
+  crash_asked mid still = then old now mid (Survives m lines old.given) so_far.crash
+      (weaken now mid (IsStill now) (Survives m lines old.given) (λ (c : Image) (g : List ℕ) s. here c g (images_stand now session (after m lines so_far.point) (after m lines count) so_far.stands c s.0) s.1) still)
+
+  pub asked : (mid : Shown) → Rests now mid → mid.given ≡ now.given → Leaves now mid (IsStill now) → HasAnswered m lines left old session mid count
+  asked mid rests same still = record {
+    replies = so_far.replies;
+    allowed = so_far.allowed;
+    given = same ∙ so_far.given;
+    answered = so_far.answered;
+    within = so_far.within;
+    left_over = so_far.left_over;
+    point = so_far.point;
+    least = so_far.least;
+    most = so_far.most;
+    stands = rests_standing_for now mid session (after m lines so_far.point) (after m lines count) rests so_far.stands;
+    crash = crash_asked mid still;
+  }
+
+-- the others are these
+pub left_as : (m : Machine) (lines left others : List Line) (old : Shown) (session : Session) (now : Shown) (count : ℕ) → left ≡ others → HasAnswered m lines left old session now count → HasAnswered m lines others old session now count
+left_as m lines left others old session now count is so_far = subst (λ (l : List Line). HasAnswered m lines l old session now count) is so_far
+
+-- the next line is applied, and then answered
+module _ (m : Machine) (lines : List Line) (line : Line) (rest : List Line) (old : Shown) (session : Session) (mid : Shown) (count : ℕ) (so_far : HasAnswered m lines (line ∷ rest) old session mid count)
+    (next_session : Session) (end : Shown) (meanwhile : Leaves mid end (λ c g. OneOf (after m lines so_far.point) (after m lines count) (after_line (after m lines count) line) c × (g ≡ mid.given))) where
+  abbrev given_so_far : List ℕ
+  given_so_far = flat_map text so_far.replies
+
+  -- while it is applied
+  pub crash_applied : Leaves old end (Survives m lines old.given)
+  crash_applied = then old mid end (Survives m lines old.given) so_far.crash
+      (weaken mid end (λ c g. OneOf (after m lines so_far.point) (after m lines count) (after_line (after m lines count) line) c × (g ≡ mid.given)) (Survives m lines old.given)
+      (λ (c : Image) (g : List ℕ) one. survives m lines old.given c g given_so_far (one.1 ∙ so_far.given)
+      (one_of m lines rest line count so_far.left_over so_far.point given_so_far c so_far.answered so_far.least so_far.most one.0)) meanwhile)
+
+  module _ (told : IsTrue end.tells) (same : end.given ≡ mid.given) (reply : Reply) (allowed : AllowsAt (after m lines count) line reply)
+      (stands : StandsOnward end next_session (after m lines so_far.point) (after m lines count) line)
+      (new : Shown) (any_moment : Leaves end new (PartlyGiven end (text reply))) (one : whole (text reply) ≡ 1) where
+    next : IsOnward m lines rest line count so_far.left_over end next_session
+    next = onward m lines rest line count so_far.left_over end next_session so_far.point so_far.least so_far.most stands
+
+    given_at : (k : ℕ) (g : List ℕ) → g ≡ end.given ++ take k (text reply) → g ≡ old.given ++ (given_so_far ++ take k (text reply))
+    given_at k g is = is ∙ ap (λ (l : List ℕ). l ++ take k (text reply)) (same ∙ so_far.given) ∙ append_assoc old.given given_so_far (take k (text reply))
+
+    -- while its reply is given
+    pub crash_told : Leaves old new (Survives m lines old.given)
+    crash_told = then old end new (Survives m lines old.given) crash_applied
+        (weaken end new (PartlyGiven end (text reply)) (Survives m lines old.given)
+        (λ (c : Image) (g : List ℕ) part.
+        let k = part.1 told in
+        survives m lines old.given c g (given_so_far ++ take k.0 (text reply)) (given_at k.0 g k.1)
+        (one_told m lines rest line count so_far.left_over next.point given_so_far (text reply) k.0 c so_far.answered one next.before next.least next.most
+        (images_stand end next_session (after m lines next.point) (after m lines (count + 1)) next.stands c part.0))) any_moment)
+
+    all_allowed : AnswersAll m (take (count + 1) lines) (so_far.replies ++ reply ∷ [])
+    all_allowed = subst (λ (l : List Line). AnswersAll m l (so_far.replies ++ reply ∷ [])) (sym (taken_next count lines rest line so_far.left_over)) (one_more m (take count lines) so_far.replies line reply so_far.allowed allowed)
+
+    -- a part of the reply was given
+    pub followed_part : (k : ℕ) × (new.given ≡ end.given ++ take k (text reply)) → HasFollowed m lines old new
+    followed_part part = record {
+      output = given_so_far ++ take part.0 (text reply);
+      given = given_at part.0 new.given part.1;
+      follows = follows_part m lines given_so_far (text reply) part.0 (subst (λ (l : List ℕ). Follows m lines l) (one_text so_far.replies reply) (follows_first m lines (count + 1) (so_far.replies ++ reply ∷ []) all_allowed));
+    }
+
+    more_text : whole (flat_map text (so_far.replies ++ reply ∷ [])) ≡ count + 1
+    more_text = ap whole (one_text so_far.replies reply) ∙ whole_append given_so_far (text reply) ∙ rw (so_far.answered, one) refl
+
+    -- all of it was given
+    pub answered_one : Rests end new → new.given ≡ end.given ++ text reply → HasAnswered m lines rest old next_session new (count + 1)
+    answered_one rests given = record {
+      replies = so_far.replies ++ reply ∷ [];
+      allowed = all_allowed;
+      given = given ∙ ap (λ (l : List ℕ). l ++ text reply) (same ∙ so_far.given) ∙ append_assoc old.given given_so_far (text reply) ∙ ap (λ (l : List ℕ). old.given ++ l) (sym (one_text so_far.replies reply));
+      answered = more_text;
+      within = let below = left_below count lines rest line so_far.left_over in omega (arith, below);
+      left_over = left_next count lines rest line so_far.left_over;
+      point = next.point;
+      least = next.least;
+      most = next.most;
+      stands = rests_standing_for end new next_session (after m lines next.point) (after m lines (count + 1)) rests next.stands;
+      crash = crash_told;
+    }

@@ -1,0 +1,137 @@
+-- What a session on a disk stands for, and that it goes on doing so while the disk rests.
+use Rattle.std.proofs.Common.{◌≡◌, ◌<◌, ⊎_elim, ℕ, suc, zero, true, false, refl, sym, subst, ◌∙◌, arith}
+use Rattle.std.specs.Prelude.{Some, None, Option, Result, Ok, Err, IsOk, IsErr, IsTrue}
+use Rattle.fv_disk.specs.Shown.{Image, Shown}
+use Rattle.fv_disk.specs.HostCalls.{Rests}
+use Rattle.fv_codec.specs.declared.shape.Shape.{Shape}
+use Rattle.fv_codec.specs.declared.superblock.Super.{Super}
+use Rattle.fv_codec.specs.declared.root.Root.{Root}
+use Rattle.fv_codec.specs.Blocks.{super_at, gate_open}
+use Rattle.fv_model.specs.Machines.{Machine}
+use Rattle.fv_image.specs.Layout.{superblock, gate_place}
+use Rattle.fv_image.specs.NewerRoot.{behind, newer, taken_of, root_of}
+use Rattle.fv_image.specs.Held.{Layout}
+use Rattle.fv_image.specs.MachineOf.{Tells, machine_of}
+use Rattle.fv_image.proofs.Stands.{machine_stands}
+use Rattle.fv_root.specs.Commits.{IsFoundOn}
+use Rattle.fv_volume.specs.declared.pool.Pool.{Pool}
+use Rattle.fv_volume.specs.States.{States}
+use Rattle.fv_cp.specs.Lent.{IsLent}
+use Rattle.fv_root.specs.declared.find.Found.{Found}
+use Rattle.fv_root.specs.Finding.{IsDamaged, IsFound, IsNoAggregate, root_found}
+use Rattle.fv_aggregate.specs.declared.fault.OpenFault.TheVariants.{Damaged}
+use Rattle.fv_aggregate.specs.declared.session.Session.{Session}
+use Rattle.fv_aggregate.specs.Standing.{Stands, StandsFor}
+use Rattle.fv_aggregate.specs.Causes.{IsOpenFault, IsUnder}
+
+abbrev nothing_behind : Option (Result Root Shape)
+nothing_behind = None
+
+-- each image that a crash now may leave stands for the machine of the last consistency point, as what reads give
+pub images_stand : (disk : Shown) (session : Session) (last m : Machine) → StandsFor disk session last m → (c : Image) → disk.images c → machine_of c ≡ Some last
+images_stand disk session last m stands c now =
+    let keeps = stands.lent.keeps c now in
+    machine_stands c last (record {
+      taken = root_found session.pool.found;
+      counts = keeps.root;
+      tells = subst (λ (y : Layout). Tells y last) (sym keeps.layout) stands.lent.tells;
+    })
+
+pub reads_stand : (disk : Shown) (session : Session) (last m : Machine) → StandsFor disk session last m → machine_of disk.reads ≡ Some last
+reads_stand disk session last m stands = machine_stands disk.reads last (record { taken = root_found session.pool.found; counts = stands.lent.found.reads.root; tells = stands.lent.tells })
+
+found_still : (old new : Shown) (found : Found) → Rests old new → IsFoundOn old found → IsFoundOn new found
+found_still old new found rests on = record { reads = rw rests.stays.reads on.reads; images = λ c now. on.images c (rests.stays.no_more c now) }
+
+pub rests_standing : (old new : Shown) (session : Session) → Rests old new → Stands old session → Stands new session
+rests_standing old new session rests stands = record {
+  cache = record { same = λ tells pvbn block has. rw rests.stays.reads (stands.cache.same (rw (← rests.stays.tells) tells) pvbn block has) };
+  found = λ tells. found_still old new session.pool.found rests (stands.found (rw (← rests.stays.tells) tells));
+  range = stands.range;
+  size = stands.size;
+  housed = stands.housed;
+  unkept = stands.unkept;
+}
+
+still_lent : (old new : Shown) (pool : Pool) (states : States) (last : Machine) → Rests old new → IsLent old pool states last → IsLent new pool states last
+still_lent old new pool states last rests lent = record {
+  found = found_still old new pool.found rests lent.found;
+  tells = rw rests.stays.reads lent.tells;
+  keeps = λ c now. rw rests.stays.reads (lent.keeps c (rests.stays.no_more c now));
+  map = rw rests.stays.reads lent.map;
+  slots = λ s below. rw rests.stays.reads (lent.slots s below);
+  states = lent.states;
+  commits = rw rests.stays.reads lent.commits;
+}
+
+pub rests_standing_for : (old new : Shown) (session : Session) (last m : Machine) → Rests old new → StandsFor old session last m → StandsFor new session last m
+rests_standing_for old new session last m rests stands = record {
+  lent = still_lent old new session.pool session.volumes last rests stands.lent;
+  machine = rw rests.stays.reads stands.machine;
+  settled = λ c now a. rw rests.stays.reads (stands.settled c (rests.stays.no_more c now) a);
+  pending = rw rests.stays.reads stands.pending;
+  room = rw rests.stays.reads stands.room;
+}
+
+-- ---- images that are no aggregate
+
+no_root : (i : Image) → IsNoAggregate i → root_of i ≡ None
+unfolding root_of
+no_root i none = ⊎_elim
+    (λ bad. no_super (super_at (i superblock)) (newer (behind i 0) (behind i 1)) bad)
+    (λ (shut : (gate_open (i (gate_place 0)) ≡ false) × (gate_open (i (gate_place 1)) ≡ false)). rw (shut.0, shut.1) (no_chosen (super_at (i superblock))))
+    none
+  where
+    no_super : (s : Result Super Shape) (chosen : Option (ℕ × Root)) → IsErr s → taken_of s chosen ≡ None
+    no_super (Err e) chosen is = refl
+    no_super (Ok s) chosen is = absurd (differ is)
+      where
+        differ : false ≡ true → ⊥
+        differ e = cc
+
+    no_chosen : (s : Result Super Shape) → taken_of s None ≡ None
+    no_chosen (Err e) = refl
+    no_chosen (Ok s) = refl
+
+-- a root that counts is found in an aggregate alone
+pub not_found : (i : Image) (found : Found) → IsNoAggregate i → IsFound i found → ⊥
+not_found i found none is = differ (sym (no_root i none) ∙ is.root)
+  where
+    differ : None ≡ Some (root_found found) → ⊥
+    differ e = cc
+
+pub not_opened : (disk : Shown) (session : Session) → IsTrue disk.tells → Stands disk session → IsNoAggregate disk.reads → ⊥
+not_opened disk session tells stands none = not_found disk.reads session.pool.found none (stands.found tells).reads
+
+not_behind : (i : Image) (at want number : ℕ) → IsNoAggregate i → IsDamaged i at want number → ⊥
+not_behind i at want number none is = ⊎_elim
+    (λ bad. both (super_at (i superblock)) bad is.super)
+    (λ (shut : (gate_open (i (gate_place 0)) ≡ false) × (gate_open (i (gate_place 1)) ≡ false)). shut_slot is.slot is.within shut is.fault)
+    none
+  where
+    both : (s : Result Super Shape) → IsErr s → IsOk s → ⊥
+    both (Ok s) bad good = differ bad
+      where
+        differ : false ≡ true → ⊥
+        differ e = cc
+    both (Err e) bad good = differ good
+      where
+        differ : false ≡ true → ⊥
+        differ e = cc
+
+    shut_slot : (slot : ℕ) → slot < 2 → (gate_open (i (gate_place 0)) ≡ false) × (gate_open (i (gate_place 1)) ≡ false) → behind i slot ≡ Some (Err (record { want = want; found = number })) → ⊥
+    shut_slot zero below shut fault = nothing (rw shut.0 at fault)
+      where
+        nothing : nothing_behind ≡ Some (Err (record { want = want; found = number })) → ⊥
+        nothing e = cc
+    shut_slot (suc zero) below shut fault = nothing (rw shut.1 at fault)
+      where
+        nothing : nothing_behind ≡ Some (Err (record { want = want; found = number })) → ⊥
+        nothing e = cc
+    shut_slot (suc (suc n)) below shut fault = omega arith
+
+pub not_damaged : (i : Image) (at want number : ℕ) → IsNoAggregate i → IsOpenFault i (Damaged at want number) → ⊥
+not_damaged i at want number none fault = ⊎_elim
+    (λ (is : IsDamaged i at want number). not_behind i at want number none is)
+    (λ (is : IsUnder i at want number). not_found i is.root none is.found)
+    fault

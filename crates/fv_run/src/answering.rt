@@ -1,0 +1,106 @@
+//! Answering the lines of a script, one after another.
+
+ghost use Rattle.std.specs.Prelude.{◌≡◌, length, true};
+ghost use Rattle.std.specs.List.{All};
+ghost use Rattle.fv_model.specs.Lines.{line_of};
+ghost use Rattle.fv_model.specs.Runs.{whole};
+ghost use Rattle.fv_model.specs.Spelling.{is_name};
+ghost use Rattle.fv_model.specs.Texts.{text};
+ghost use Rattle.fv_run.specs.Built.{built};
+ghost use Rattle.fv_run.specs.Answering.{AnswersLines, Applies, IsReady, Tells};
+
+use crate::ending::Fault;
+use fv_aggregate::Session;
+use fv_container::Steps;
+use fv_disk::{Failed, Host};
+use fv_lines::{Found, Line, Script, next_line};
+use fv_model::{Name, Refusal, Reply};
+use fv_script::{LineFault, read_line, write_reply};
+use std::sync::ledger::Ledger;
+
+/// Answers each line of the script that the host's source has, of at most `limit` bytes, and tells how many
+/// there were. Each reply is given before the next line is applied.
+pub(crate) fn answer_lines<H: Host, L: Ledger>(
+    session: &mut Session,
+    steps: &mut Steps<L>,
+    host: &mut H,
+    limit: u64,
+) -> Result<u64, Fault>
+    requires { IsReady (H.shown host.old) session.old }
+    ensures { AnswersLines limit session.old (H.shown host.old) session.new (H.shown host.new) result }
+{
+    let mut script = Script::new(limit);
+    let mut line = Line::new();
+    let mut count = 0;
+    loop {
+        let Ok(found) = next_line(&mut script, host, &mut line) else {
+            return Err(Fault::Source);
+        };
+        match found {
+            Found::Line => {
+                let reply = apply(session, steps, line.as_slice(), host)?;
+                tell(&reply, host)?;
+                count += 1;
+            }
+            Found::End => return Ok(count),
+            Found::PastLimit => return Err(Fault::Limit),
+        }
+    }
+}
+
+/// Applies what a line says to the session, and answers the reply.
+fn apply<H: Host, L: Ledger>(
+    session: &mut Session,
+    steps: &mut Steps<L>,
+    line: &[u8],
+    host: &mut H,
+) -> Result<Reply, Fault>
+    requires { IsReady (H.shown host.old) session.old }
+    ensures { Applies session.old (built (line_of line.now)) (H.shown host.old) session.new (H.shown host.new) result }
+{
+    match read_line(line) {
+        Ok(command) => {
+            let reply = session.apply(host, &command, steps)?;
+            Ok(reply)
+        }
+        Err(LineFault::Syntax) => Ok(Reply::Refused(Refusal::Syntax)),
+        Err(LineFault::Range) => Ok(Reply::Refused(Refusal::Range)),
+    }
+}
+
+/// Gives out the line of a reply.
+#[tactic(auto, using(crate::proofs::Telling::told, crate::proofs::Telling::untold))]
+fn tell<H: Host>(reply: &Reply, host: &mut H) -> Result<(), Fault>
+    ensures { Tells (H.shown host.old) (text reply.now) (H.shown host.new) result }
+{
+    prove!(ends_once(reply));
+    match write_reply(reply, host) {
+        Ok(()) => Ok(()),
+        Err(Failed) => Err(Fault::Sink),
+    }
+}
+
+/// Whether a reply's line has one end: each does, since no name has a byte that ends a line.
+#[tactic(auto, using(crate::proofs::OneEnd::done_once, crate::proofs::OneEnd::content_once, crate::proofs::OneEnd::number_once, crate::proofs::OneEnd::names_once, crate::proofs::OneEnd::stat_once, crate::proofs::OneEnd::refused_once))]
+fn ends_once(reply: &Reply) -> bool
+    ensures is_so { result ≡ true }
+    ensures one { whole (text reply.now) ≡ 1 }
+{
+    match reply {
+        Reply::Names(names) => are_names(names.as_slice()),
+        Reply::Done | Reply::Content(_) | Reply::Number(_) | Reply::Stat(_) | Reply::Refused(_) =>
+            true,
+    }
+}
+
+fn are_names(names: &[Name]) -> bool
+    ensures is_so { result ≡ true }
+    ensures form { All (λ name. is_name name ≡ true) names.now }
+{
+    for name in names {
+        if name.as_bytes().is_empty() {
+            return false;
+        }
+    }
+    true
+}

@@ -1,0 +1,83 @@
+//! Running a script on an aggregate.
+
+ghost use Rattle.std.specs.Prelude.{◌≡◌, ◌<◌};
+ghost use Rattle.fv_model.specs.Texts.{done_text};
+ghost use Rattle.fv_run.specs.Answering.{Tells};
+ghost use Rattle.fv_run.specs.Running.{IsRun, Ran};
+
+use crate::answering::answer_lines;
+use crate::ending::Fault;
+use arrayvec::ArrayString;
+use fv_aggregate::Session;
+use fv_container::Steps;
+use fv_disk::{Failed, Host, give_all};
+use itoa::Buffer;
+use std::alloc::Global;
+use std::marker::Brand;
+use std::sync::ledger::{Blank, Ledger};
+
+/// Runs the script of the host's source on the aggregate of its disk: opens it, applies one line after
+/// another and gives each reply before the next line is applied, makes a consistency point, and gives
+/// `done` with the number of replies. The reply to `cp` and the last line come after the last barrier of
+/// their point.
+///
+/// The status is 0 where all was done, 2 where block 0 is no superblock or neither gate is open, 3, 4 or 5
+/// where the source, the sink or the disk failed, 6 where memory ran out, 8 where a block isn't as it has to
+/// be, and 9 where the source gave byte `limit + 1` of the script. The first of these ends the call at once.
+/// It holds 4096 bytes of the script and a line of at most 9001 beside the session, and costs for each line
+/// what `Session::apply` does.
+pub fn run_script<H: Host>(alloc: Global, host: &mut H, limit: u64) -> u8
+    ensures { IsRun limit (H.shown host.old) (H.shown host.new) result }
+{
+    match run(alloc, host, limit) {
+        Ok(()) => 0,
+        Err(fault) => fault.status(),
+    }
+}
+
+/// The same, before a fault becomes a status.
+pub(crate) fn run<H: Host>(alloc: Global, host: &mut H, limit: u64) -> Result<(), Fault>
+    ensures { Ran limit (H.shown host.old) (H.shown host.new) result }
+{
+    run_with::<H, Brand>(alloc, host, limit, Blank::new(1))
+}
+
+fn run_with<H: Host, L: Ledger>(
+    alloc: Global,
+    host: &mut H,
+    limit: u64,
+    blank: Blank,
+) -> Result<(), Fault>
+    requires name { blank.name ≡ L.name }
+    requires parts { blank.parts ≡ L.parts }
+    requires some { 0 < L.parts }
+    ensures { Ran limit (H.shown host.old) (H.shown host.new) result }
+{
+    let mut steps: Steps<L> = Steps::open(blank);
+    let mut session = Session::open(alloc, host)?;
+    let count = answer_lines(&mut session, &mut steps, host, limit)?;
+    session.consistency_point(host)?;
+    tell_count(count, host)
+}
+
+/// Gives out the last line: it tells how many lines were answered.
+#[tactic(auto, using(crate::proofs::Telling::told, crate::proofs::Telling::untold, crate::proofs::OneEnd::count_once))]
+fn tell_count<H: Host>(count: u64, host: &mut H) -> Result<(), Fault>
+    ensures { Tells (H.shown host.old) (done_text count) (H.shown host.new) result }
+{
+    match give_all(host, done_line(count).as_str().as_bytes()) {
+        Ok(()) => Ok(()),
+        Err(Failed) => Err(Fault::Sink),
+    }
+}
+
+/// The last line: at most 26 bytes.
+fn done_line(count: u64) -> ArrayString<32>
+    ensures { result.bytes ≡ done_text count }
+{
+    let mut line = ArrayString::new();
+    line.push_str("done ");
+    line.push_str(Buffer::new().format(count));
+    line.push_str("\n");
+    line
+}

@@ -1,0 +1,167 @@
+-- Several steps of a flush.
+use Rattle.std.proofs.Common.{None, ◌≡◌, ◌≢◌, ◌≤◌, ℕ, ◌+◌, ◌/◌, ◌⊎◌, inl, inr, Bool, true, false, refl, sym, ap, ◌∙◌, arith}
+use Rattle.fv_codec.specs.declared.pointer.Pointer.{Pointer}
+use Rattle.fv_model.specs.Trees.{fan}
+use Rattle.fv_tree.specs.Spelled.{Rooted, pointer_at}
+use Rattle.fv_tree.specs.Writing.{IsAlike}
+use Rattle.fv_tree.specs.Flushing.{Loaded, Leads, IsSound, IsFlushed, IsReplaced, IsPlaced, Flushes}
+use Rattle.fv_tree.proofs.Flushed.{bit, there, some_none, false_is_true, reached_within}
+
+pub alike_then : (t u v : Rooted) → IsAlike t u → IsAlike u v → IsAlike t v
+alike_then t u v first second = record {
+  levels = second.levels ∙ first.levels;
+  stamps = λ j c. second.stamps j c ∙ first.stamps j c;
+  blocks = λ i. second.blocks i ∙ first.blocks i;
+}
+
+-- nothing was placed
+none_flushed : {P : Type 0} (s : Loaded) (j c : ℕ) → IsFlushed s s j c → P
+none_flushed s j c flushed = false_is_true (s.changed j c) flushed.done flushed.was
+
+pub flushes_nothing : (s : Loaded) (used : ℕ → Bool) → IsSound used s → Flushes s used s used
+flushes_nothing s used sound = record {
+  owner = refl;
+  sound = sound;
+  alike = record { levels = refl; stamps = λ j c. refl; blocks = λ i. refl };
+  stamps = λ j c. refl;
+  fewer = λ j c changed. (changed, refl);
+  stays = λ j c _. refl;
+  blocks = λ v block _ held. held;
+  others = λ v _ _. (refl, refl);
+  fresh = λ v placed _. none_flushed s placed.level placed.place placed.flushed;
+  gone = λ v replaced _. none_flushed s replaced.level replaced.place replaced.flushed;
+  unknown = λ j c flushed _ _. none_flushed s (j + 1) (c / fan) flushed;
+}
+
+module _ (s t u : Loaded) (before between after : ℕ → Bool) (first : Flushes s before t between) (second : Flushes t between u after) where
+  -- what was placed stays so
+  still : (j c : ℕ) → t.changed j c ≡ false → u.changed j c ≡ false
+  still j c done = elim (bit (u.changed j c)) [
+    | inl e ↦ e
+    | inr e ↦ false_is_true (t.changed j c) done (second.fewer j c e).0
+  ]
+
+  flushed_first : (j c : ℕ) → IsFlushed s t j c → IsFlushed s u j c
+  flushed_first j c flushed = record { was = flushed.was; done = still j c flushed.done; some = flushed.some }
+
+  flushed_second : (j c : ℕ) → IsFlushed t u j c → IsFlushed s u j c
+  flushed_second j c flushed = record { was = (first.fewer j c flushed.was).0; done = flushed.done; some = λ e. flushed.some (first.stamps j c ∙ e) }
+
+  leads_second : (j c v : ℕ) → t.changed j c ≡ true → Leads t j c v → Leads s j c v
+  leads_second j c v changed leads = record {
+    some = λ e. leads.some (first.stamps j c ∙ e);
+    placed = sym (first.fewer j c changed).1 ∙ leads.placed;
+    vvbn = sym (ap (λ (p : Pointer). p.vvbn) (first.stays j c (inl changed))) ∙ leads.vvbn;
+  }
+
+  leads_first : (j c v : ℕ) → t.changed j c ≡ true → Leads s j c v → Leads t j c v
+  leads_first j c v changed leads = record {
+    some = λ e. leads.some (sym (first.stamps j c) ∙ e);
+    placed = (first.fewer j c changed).1 ∙ leads.placed;
+    vvbn = ap (λ (p : Pointer). p.vvbn) (first.stays j c (inl changed)) ∙ leads.vvbn;
+  }
+
+  replaced_first : (v : ℕ) → IsReplaced s t v → IsReplaced s u v
+  replaced_first v r = record { level = r.level; place = r.place; flushed = flushed_first r.level r.place r.flushed; leads = r.leads }
+
+  replaced_second : (v : ℕ) → IsReplaced t u v → IsReplaced s u v
+  replaced_second v r = record { level = r.level; place = r.place; flushed = flushed_second r.level r.place r.flushed; leads = leads_second r.level r.place v r.flushed.was r.leads }
+
+  placed_first : (v : ℕ) → IsPlaced s t v → IsPlaced s u v
+  placed_first v r = record { level = r.level; place = r.place; flushed = flushed_first r.level r.place r.flushed; vvbn = ap (λ (p : Pointer). p.vvbn) (second.stays r.level r.place (inr r.flushed.done)) ∙ r.vvbn }
+
+  placed_second : (v : ℕ) → IsPlaced t u v → IsPlaced s u v
+  placed_second v r = record { level = r.level; place = r.place; flushed = flushed_second r.level r.place r.flushed; vvbn = r.vvbn }
+
+  unchanged_first : (j c : ℕ) → s.changed j c ≡ false → t.changed j c ≡ false
+  unchanged_first j c before = elim (bit (t.changed j c)) [
+    | inl e ↦ e
+    | inr e ↦ false_is_true (s.changed j c) before (first.fewer j c e).0
+  ]
+
+  stays : (j c : ℕ) → (u.changed j c ≡ true) ⊎ (s.changed j c ≡ false) → pointer_at u.tree j c ≡ pointer_at s.tree j c
+  stays j c (inl changed) = second.stays j c (inl changed) ∙ first.stays j c (inl (second.fewer j c changed).0)
+  stays j c (inr same) = second.stays j c (inr (unchanged_first j c same)) ∙ first.stays j c (inr same)
+
+  -- a VVBN at which nothing was then, and that wasn't replaced before, had nothing before
+  none_before : (v : ℕ) → (IsReplaced s t v → ⊥) → t.tree.under v ≡ None → s.tree.under v ≡ None
+  none_before v not_replaced none = elim (there (s.tree.under v)) [
+    | inl e ↦ e
+    | inr held ↦ some_none (t.tree.under v) held.0 none (first.blocks v held.0 not_replaced held.1)
+  ]
+
+  unused_before : (v : ℕ) → (IsReplaced s t v → ⊥) → between v ≡ false → before v ≡ false
+  unused_before v not_replaced unused = elim (bit (before v)) [
+    | inl e ↦ e
+    | inr e ↦ false_is_true (between v) unused ((first.others v not_replaced (λ p. false_is_true (before v) (first.fresh v p not_replaced).1 e)).1 ∙ e)
+  ]
+
+  fresh : (v : ℕ) → IsPlaced s u v → (IsReplaced s u v → ⊥) → (s.tree.under v ≡ None) × (before v ≡ false)
+  fresh v p not_replaced = elim (bit (t.changed p.level p.place)) [
+    | inl done ↦ first.fresh v (record {
+      level = p.level;
+      place = p.place;
+      flushed = record { was = p.flushed.was; done = done; some = p.flushed.some };
+      vvbn = sym (ap (λ (p : Pointer). p.vvbn) (second.stays p.level p.place (inr done))) ∙ p.vvbn;
+    }) (λ r. not_replaced (replaced_first v r))
+    | inr changed ↦
+        let new = second.fresh v (record {
+          level = p.level;
+          place = p.place;
+          flushed = record { was = changed; done = p.flushed.done; some = λ e. p.flushed.some (sym (first.stamps p.level p.place) ∙ e) };
+          vvbn = p.vvbn;
+        }) (λ r. not_replaced (replaced_second v r)) in
+        (none_before v (λ r. not_replaced (replaced_first v r)) new.0, unused_before v (λ r. not_replaced (replaced_first v r)) new.1)
+  ]
+
+  -- a VVBN that went in the first steps and didn't come back
+  gone_first : (v : ℕ) → IsReplaced s t v → (IsPlaced s u v → ⊥) → after v ≡ false
+  gone_first v replaced not_placed = elim (bit (after v)) [
+    | inl e ↦ e
+    | inr e ↦
+        let same = second.others v (λ r. false_is_true (after v) (second.gone v r (λ p. not_placed (placed_second v p))) e) (λ p. not_placed (placed_second v p)) in
+        false_is_true (after v) (same.1 ∙ first.gone v replaced (λ p. not_placed (placed_first v p))) e
+  ]
+
+  gone : (v : ℕ) → IsReplaced s u v → (IsPlaced s u v → ⊥) → after v ≡ false
+  gone v r not_placed = elim (bit (t.changed r.level r.place)) [
+    | inl done ↦ gone_first v (record { level = r.level; place = r.place; flushed = record { was = r.flushed.was; done = done; some = r.flushed.some }; leads = r.leads }) not_placed
+    | inr changed ↦
+        let leads = leads_first r.level r.place v changed r.leads in
+        second.gone v (record { level = r.level; place = r.place; flushed = record { was = changed; done = r.flushed.done; some = leads.some }; leads = leads }) (λ p. not_placed (placed_second v p))
+  ]
+
+  -- a node that was placed in the first steps stays as it was, and so do its children
+  unknown_first : (j c : ℕ) → IsFlushed s t (j + 1) (c / fan) → (pointer_at u.tree j c).stamp ≢ 0 → (pointer_at u.tree j c).pvbn ≡ 0 → (pointer_at u.tree (j + 1) (c / fan)).pvbn ≡ 0
+  unknown_first j c flushed some none =
+      let reached : (pointer_at t.tree j c).stamp ≢ 0 = λ e. some (second.stamps j c ∙ e) in
+      let within : j + 1 ≤ t.tree.levels = reached_within t.tree (j + 1) (c / fan) (λ e. flushed.some (sym (first.stamps (j + 1) (c / fan)) ∙ e)) in
+      let child : pointer_at u.tree j c ≡ pointer_at t.tree j c = elim (bit (t.changed j c)) [
+        | inl same ↦ second.stays j c (inr same)
+        | inr changed ↦ false_is_true (t.changed (j + 1) (c / fan)) flushed.done (first.sound.over j c changed reached (omega (arith, within)))
+      ] in
+      ap (λ (p : Pointer). p.pvbn) (second.stays (j + 1) (c / fan) (inr flushed.done)) ∙ first.unknown j c flushed reached (sym (ap (λ (p : Pointer). p.pvbn) child) ∙ none)
+
+  unknown : (j c : ℕ) → IsFlushed s u (j + 1) (c / fan) → (pointer_at u.tree j c).stamp ≢ 0 → (pointer_at u.tree j c).pvbn ≡ 0 → (pointer_at u.tree (j + 1) (c / fan)).pvbn ≡ 0
+  unknown j c flushed some none = elim (bit (t.changed (j + 1) (c / fan))) [
+    | inl done ↦ unknown_first j c (record { was = flushed.was; done = done; some = flushed.some }) some none
+    | inr changed ↦ second.unknown j c (record { was = changed; done = flushed.done; some = λ e. flushed.some (sym (first.stamps (j + 1) (c / fan)) ∙ e) }) some none
+  ]
+
+  pub flushes_then : Flushes s before u after
+  flushes_then = record {
+    owner = second.owner ∙ first.owner;
+    sound = second.sound;
+    alike = alike_then s.tree t.tree u.tree first.alike second.alike;
+    stamps = λ j c. second.stamps j c ∙ first.stamps j c;
+    fewer = λ j c changed. let mid = second.fewer j c changed in let was = first.fewer j c mid.0 in (was.0, mid.1 ∙ was.1);
+    stays = stays;
+    blocks = λ v block not_replaced held. second.blocks v block (λ r. not_replaced (replaced_second v r)) (first.blocks v block (λ r. not_replaced (replaced_first v r)) held);
+    others = λ v not_replaced not_placed.
+        let one = first.others v (λ r. not_replaced (replaced_first v r)) (λ p. not_placed (placed_first v p)) in
+        let two = second.others v (λ r. not_replaced (replaced_second v r)) (λ p. not_placed (placed_second v p)) in
+        (two.0 ∙ one.0, two.1 ∙ one.1);
+    fresh = fresh;
+    gone = gone;
+    unknown = unknown;
+  }

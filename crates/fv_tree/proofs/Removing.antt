@@ -1,0 +1,169 @@
+-- Whole removals, over the blocks that there were before and over those that there are afterwards.
+use Rattle.std.proofs.Common.{◌≡◌, ◌≤◌, ℕ, ◌/◌, ◌^◌, ◌⊎◌, inl, inr, Bool, false, ◌||◌, Result, Ok, Err, OnOk, OnErr, None, cond, nat_eq, sym, ap, subst, ◌∙◌, arith}
+use Rattle.std.specs.FinMap as fin
+use Rattle.std.proofs.lemmas.Bool.{cases_eq}
+use Rattle.std.proofs.lemmas.Bool.Decides.{nat_tests}
+use Rattle.fv_codec.specs.declared.pointer.Pointer.{Pointer}
+use Rattle.fv_model.specs.Trees.{fan}
+use Rattle.fv_tree.specs.declared.kept.Tree.{Tree}
+use Rattle.fv_tree.specs.declared.blocks.TreeFault.{TreeFault}
+use Rattle.fv_tree.specs.Writing.{Remains}
+use Rattle.fv_tree.specs.Spelled.{Under, Rooted, pointer_at, stamp_in}
+use Rattle.fv_tree.specs.Sources.{Shown, Counts}
+use Rattle.fv_tree.specs.Standing.{standing, under}
+use Rattle.fv_tree.specs.Keeping.{IsSame, IsKept}
+use Rattle.fv_tree.specs.Erasing.{StandsAt, HoldsCells, IsErased, Erases}
+use Rattle.fv_tree.specs.Releasing.{IsDropped, KeepsBlocks, Releases, Removes}
+use Rattle.fv_tree.specs.Flushing.{IsSound, Stands, loaded_over}
+use Rattle.fv_tree.specs.Unlinking.{HasWay, CellGoes}
+use Rattle.fv_tree.proofs.Erased.{nothing_erased, erased_then, erased_as, holds_cells, stands_as, no_choice, choice}
+use Rattle.fv_tree.proofs.Marks.{erases}
+use Rattle.fv_tree.proofs.Raised.{past_at}
+use Rattle.fv_tree.proofs.Writes.{no_stamp, same_alike}
+use Rattle.fv_tree.proofs.Released.{nothing_released, released_then, released_as, keeps_then, led_before, released_alike, released_sound, erased_alike}
+
+-- a tree that is the same over the same blocks
+pub same_over : (old new : Under) (t u : Tree) → new ≡ old → IsSame (standing old t) (standing new u) → IsSame (standing old t) (standing old u)
+same_over old new t u held same = subst (λ b. IsSame (standing old t) (standing b u)) held same
+
+-- a tree that stands on the same blocks
+stands_over : (old new : Shown) (u : Tree) → new.held ≡ old.held → new.used ≡ old.used → Stands new u → IsSound old.used (loaded_over (under old) u)
+stands_over old new u held used stands = subst (λ h. IsSound old.used (loaded_over (λ v. fin.get h v) u)) held (subst (λ f. IsSound f (loaded_over (under new) u)) used stands)
+
+-- ---- over the blocks of before
+
+-- nothing went
+pub removes_nothing : (old new : Shown) (t u : Tree) (gone : ℕ → Bool) (start s : ℕ) → new.held ≡ old.held → new.used ≡ old.used → Counts old new
+    → IsSame (standing (under old) t) (standing (under new) u) → KeepsBlocks (under old) t u → (Stands old t → Stands new u) → ((i : ℕ) → StandsAt (standing (under old) t) 0 i → gone i ≡ false) → Removes old new t u gone start s
+removes_nothing old new t u gone start s held used counts same keeps sound none =
+    let here = same_over (under old) (under new) t u (ap (λ h v. fin.get h v) held) same in record {
+      cells = λ i. ap stamp_in (here.pointers 0 i) ∙ elim (cases_eq (pointer_at (standing (under old) t) 0 i).stamp 0) [
+        | inl hole ↦ no_stamp (pointer_at (standing (under old) t) 0 i) hole ∙ sym (ap (cond (gone i) None) (no_stamp (pointer_at (standing (under old) t) 0 i) hole) ∙ no_choice (gone i))
+        | inr stands ↦ sym (ap (λ b. cond b None (stamp_in (pointer_at (standing (under old) t) 0 i))) (none i stands))
+      ];
+      erased = λ holds. nothing_erased (standing (under old) t) (standing (under old) u) gone start s here holds none;
+      keeps = keeps;
+      sound = λ stands. stands_over old new u held used (sound stands);
+      released = released_as old new _ _ (nothing_released old new held used counts) (λ v never. absurd never) (λ v dropped. dropped.led.some (ap (λ (p : Pointer). p.stamp) (sym (here.pointers dropped.level dropped.place)) ∙ dropped.goes));
+    }
+
+-- one more cell goes
+module _ (a b c : Shown) (t u w : Tree) (gone both : ℕ → Bool) (index start s : ℕ) (first : Removes a b t u gone start s)
+    (goes : CellGoes (under a) u w index start s) (released : Releases b c (IsDropped (under a) u w)) (joint : (i : ℕ) → both i ≡ (gone i || nat_eq index i))
+    (holds_then : HoldsCells (standing (under a) t) → HoldsCells (standing (under a) u)) where
+  keeps : KeepsBlocks (under a) u w
+  keeps = goes.keeps
+
+  earlier : (v : ℕ) → IsDropped (under a) t u v → IsDropped (under a) t w v
+  earlier v dropped = record {
+    level = dropped.level;
+    place = dropped.place;
+    led = dropped.led;
+    goes = elim (cases_eq (pointer_at (standing (under a) w) dropped.level dropped.place).stamp 0) [
+      | inl none ↦ none
+      | inr stands ↦ absurd (keeps.stood dropped.level dropped.place stands dropped.goes)
+    ];
+  }
+
+  later : (v : ℕ) → IsDropped (under a) u w v → IsDropped (under a) t w v
+  later v dropped = record {
+    level = dropped.level;
+    place = dropped.place;
+    led = led_before (under a) t u dropped.level dropped.place v first.keeps dropped.led;
+    goes = dropped.goes;
+  }
+
+  either_one : (v : ℕ) → IsDropped (under a) t w v → IsDropped (under a) t u v ⊎ IsDropped (under a) u w v
+  either_one v dropped = elim (cases_eq (pointer_at (standing (under a) u) dropped.level dropped.place).stamp 0) [
+    | inl none ↦ inl (record { level = dropped.level; place = dropped.place; led = dropped.led; goes = none })
+    | inr stands ↦ inr (record {
+      level = dropped.level;
+      place = dropped.place;
+      led = record {
+        some = stands;
+        placed = first.keeps.block dropped.level dropped.place stands ∙ dropped.led.placed;
+        vvbn = first.keeps.number dropped.level dropped.place stands ∙ dropped.led.vvbn;
+      };
+      goes = dropped.goes;
+    })
+  ]
+
+  pub removes_then : Removes a c t w both start s
+  removes_then = record {
+    cells = λ i. goes.cells i ∙ ap (cond (nat_eq index i) None) (first.cells i) ∙ choice (gone i) (nat_eq index i) (stamp_in (pointer_at (standing (under a) t) 0 i)) ∙ ap (λ x. cond x None (stamp_in (pointer_at (standing (under a) t) 0 i))) (sym (joint i));
+    erased = λ holds. erased_then (standing (under a) t) (standing (under a) u) (standing (under a) w) gone both index start s (first.erased holds) (goes.erased (holds_then holds)) joint;
+    keeps = keeps_then (under a) t u w first.keeps keeps;
+    sound = λ sound. goes.sound a.used (first.sound sound);
+    released = released_then a b c (IsDropped (under a) t u) (IsDropped (under a) u w) (IsDropped (under a) t w) first.released released earlier later either_one;
+  }
+
+-- a cell that is left
+pub removes_stands : (old new : Shown) (t u : Tree) (gone : ℕ → Bool) (start s : ℕ) → Removes old new t u gone start s → (i : ℕ) → StandsAt (standing (under old) t) 0 i → gone i ≡ false → StandsAt (standing (under old) u) 0 i
+removes_stands old new t u gone start s is i stands stays =
+    stands_as (pointer_at (standing (under old) u) 0 i) (pointer_at (standing (under old) t) 0 i) (is.cells i ∙ ap (λ b. cond b None (stamp_in (pointer_at (standing (under old) t) 0 i))) stays) stands
+
+-- no mark is left over holes alone
+pub removes_holds : (old new : Shown) (t u : Tree) (gone : ℕ → Bool) (start s : ℕ) → Removes old new t u gone start s → HoldsCells (standing (under old) t) → HoldsCells (standing (under old) u)
+removes_holds old new t u gone start s is holds = holds_cells (standing (under old) t) (standing (under old) u) gone start s (is.erased holds)
+
+-- the same cells, told in another way
+pub removes_as : (old new : Shown) (t u : Tree) (gone other : ℕ → Bool) (start s : ℕ) → Removes old new t u gone start s → ((i : ℕ) → StandsAt (standing (under old) t) 0 i → other i ≡ gone i) → Removes old new t u other start s
+removes_as old new t u gone other start s is same = record {
+  cells = λ i. is.cells i ∙ elim (cases_eq (pointer_at (standing (under old) t) 0 i).stamp 0) [
+    | inl hole ↦ ap (cond (gone i) None) (no_stamp (pointer_at (standing (under old) t) 0 i) hole) ∙ no_choice (gone i) ∙ sym (ap (cond (other i) None) (no_stamp (pointer_at (standing (under old) t) 0 i) hole) ∙ no_choice (other i))
+    | inr some ↦ ap (λ x. cond x None (stamp_in (pointer_at (standing (under old) t) 0 i))) (sym (same i some))
+  ];
+  erased = λ holds. erased_as (standing (under old) t) (standing (under old) u) gone other start s (is.erased holds) same;
+  keeps = is.keeps;
+  sound = is.sound;
+  released = is.released;
+}
+
+-- no mark lies over holes alone in a tree that is the same
+pub same_holds : (old new : Under) (t u : Tree) → new ≡ old → IsSame (standing old t) (standing new u) → HoldsCells (standing old t) → HoldsCells (standing old u)
+same_holds old new t u held same holds level place stands holes =
+    let here = same_over old new t u held same in
+    let stamps : (k q : ℕ) → (pointer_at (standing old u) k q).stamp ≡ (pointer_at (standing old t) k q).stamp = λ k q. ap (λ (p : Pointer). p.stamp) (here.pointers k q) in
+    holds level place (λ none. stands (stamps level place ∙ none)) (λ i at. sym (stamps 0 i) ∙ holes i at)
+
+-- a cell past the levels
+pub none_past : (t : Rooted) (i : ℕ) → fan ^ t.levels ≤ i → (pointer_at t 0 i).stamp ≡ 0
+none_past t i le = let first : i / fan ^ 0 ≡ i = omega arith in ap (λ q. (pointer_at t 0 q).stamp) (sym first) ∙ ap (λ (p : Pointer). p.stamp) (past_at t i 0 le (omega arith))
+
+-- no cell is one that is a hole
+pub not_a_hole : (t : Rooted) (i : ℕ) → (pointer_at t 0 i).stamp ≡ 0 → (k : ℕ) → StandsAt t 0 k → nat_eq i k ≡ false
+not_a_hole t i none k stands = elim (cases_eq i k) [
+  | inl same ↦ absurd (stands (ap (λ j. (pointer_at t 0 j).stamp) (sym same) ∙ none))
+  | inr differs ↦ grind (arith, nat_tests)
+]
+
+-- the nodes over a cell
+pub way_kept : (blocks : Under) (t : Tree) (i levels : ℕ) → t.levels ≡ levels → ((level : ℕ) → 1 ≤ level → level ≤ levels → IsKept (standing blocks t) level (i / fan ^ level)) → HasWay t i
+way_kept blocks t i levels same kept level low high = let node = kept level low (omega (arith, high, same)) in (node.pointers, node.node)
+
+-- ---- over the blocks of afterwards
+module _ (old new : Shown) (t u : Tree) (gone : ℕ → Bool) (start s : ℕ) (is : Removes old new t u gone start s) (stands : Stands old t) where
+  pub removed : HoldsCells (standing (under old) t) → IsErased (standing (under old) t) (standing (under new) u) gone start s
+  removed holds = erased_alike (standing (under old) t) (standing (under old) u) (standing (under new) u) gone start s (is.erased holds) (released_alike old new t u stands is.keeps is.released)
+
+  pub removed_seen : Erases (standing (under old) t) (standing (under new) u) gone start s
+  removed_seen = erases (standing (under old) t) (standing (under new) u) gone start s removed
+
+  pub removed_stands : Stands new u
+  removed_stands = released_sound old new t u stands is.keeps is.released (is.sound stands)
+
+-- ---- what a call answered
+
+pub stands_after : {X : Type 0} (r : Result X TreeFault) (old new : Shown) (t u : Tree) (gone : ℕ → Bool) (start s : ℕ) → OnOk r (Removes old new t u gone start s) → OnErr r (Stands old t → Stands new u)
+    → Stands old t → Stands new u
+stands_after (Ok x) old new t u gone start s done stays stands = removed_stands old new t u gone start s done stands
+stands_after (Err e) old new t u gone start s done stays stands = stays stands
+
+pub remains_after : {X : Type 0} (r : Result X TreeFault) (t u : Rooted) → OnErr r (IsSame t u) → OnErr r (Remains t u)
+remains_after (Ok x) t u same = tt
+remains_after (Err e) t u same = λ seen contents shows.
+    let alike = same_alike t u same in record {
+      levels = shows.levels ∙ sym alike.levels;
+      stamps = λ level place. shows.stamps level place ∙ sym (alike.stamps level place);
+      blocks = λ i. shows.blocks i ∙ sym (alike.blocks i);
+    }

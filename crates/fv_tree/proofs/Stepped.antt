@@ -1,0 +1,112 @@
+-- One step of a flush, from its calls.
+use Rattle.std.proofs.Common.{◌≡◌, ◌≤◌, ◌<◌, ℕ, ◌+◌, ◌⊎◌, inl, inr, Bool, true, false, List, [], ◌∷◌, Some, None, length, is_some, refl, sym, ap, subst, ◌∙◌, arith}
+use Rattle.std.specs.Map.{lookup}
+use Rattle.std.specs.Ordering.{nat_cmp}
+use Rattle.std.specs.Option.{option_map}
+use Rattle.std.specs.BTreeMap as tree
+use Rattle.std.proofs.lemmas.Bool.{cases_eq}
+use Rattle.fv_codec.specs.declared.pointer.Pointer.{Pointer}
+use Rattle.fv_model.specs.Trees.{spot_cmp}
+use Rattle.fv_tree.specs.declared.kept.Tree.{Tree}
+use Rattle.fv_tree.specs.declared.kept.KeptNode.{KeptNode}
+use Rattle.fv_tree.specs.declared.kept.KeptCell.{KeptCell}
+use Rattle.fv_tree.specs.Spelled.{pointer_at}
+use Rattle.fv_tree.specs.Sources.{Shown}
+use Rattle.fv_tree.specs.Standing.{standing, under, node_in}
+use Rattle.fv_tree.specs.Flushing.{Stands, Flushes, IsHidden, IsMoved, IsNodeStep, ForgetsCell, ForgetsNode, loaded, changed_of, node_changed, node_placed, cell_placed, all_known}
+use Rattle.fv_tree.proofs.Flushed.{bit, flushes_placed}
+use Rattle.fv_tree.proofs.Forgotten.{flushes_none}
+use Rattle.fv_tree.proofs.Gone.{Goes, cell_goes, node_goes, is_memory, map_some, cell_changed, spot_changed, cell_led, spot_led, forgets_is}
+use Rattle.fv_tree.proofs.Moved.{hidden_is, replaces_is, spells, one_unknown}
+use Rattle.fv_tree.proofs.Ways.{past}
+
+none_in : {K X : Type 0} (test : K → Bool) (es : List (K × X)) → length es ≡ 0 → lookup test es ≡ None
+none_in test [] e = refl
+none_in test (x ∷ xs) e = absurd (omega (arith, e))
+
+pub no_cell : (t : Tree) → tree.btree_map_len t.cells ≡ 0 → (i : ℕ) → tree.get nat_cmp t.cells i ≡ None
+no_cell t none i = none_in (tree.is_at (nat_cmp i)) t.cells.entries none
+
+pub no_node : (t : Tree) → tree.btree_map_len t.nodes ≡ 0 → (k q : ℕ) → tree.get spot_cmp t.nodes (k, q) ≡ None
+no_node t none k q = none_in (tree.is_at (spot_cmp (k, q))) t.nodes.entries none
+
+-- what goes out of memory and needs no place
+idle_step : (old new : Shown) (t u : Tree) (k q : ℕ) → Stands old t → new.held ≡ old.held → new.used ≡ old.used → Goes t u k q → (changed_of t k q ≡ false) ⊎ ((pointer_at (standing (under old) t) k q).stamp ≡ 0)
+    → Flushes (loaded old t) old.used (loaded new u) new.used
+idle_step old new t u k q stands held used goes why =
+    subst (Flushes (loaded old t) old.used (loaded new u)) (sym used) (flushes_none (loaded old t) (loaded new u) old.used k q stands (is_memory old t) (forgets_is old new t u k q held goes why))
+
+pub cell_step : (old new : Shown) (t mid u : Tree) (q : ℕ) (cell : KeptCell) → Stands old t → tree.get nat_cmp t.cells q ≡ Some cell → IsHidden old t 0 q new mid ⊎ IsMoved old t 0 q cell.block cell.placed true new mid → ForgetsCell mid u q
+    → Flushes (loaded old t) old.used (loaded new u) new.used
+cell_step old new t mid u q cell stands held (inl hidden) forgets =
+    let was : changed_of t 0 q ≡ true = cell_changed t 0 q refl ∙ ap is_some held in
+    idle_step old new t u 0 q stands hidden.held hidden.used (cell_goes t u q (subst (λ v. ForgetsCell v u q) hidden.tree forgets)) (inr (hidden_is old t stands 0 q was hidden.none))
+cell_step old new t mid u q cell stands held (inr moved) forgets =
+    let was : changed_of t 0 q ≡ true = cell_changed t 0 q refl ∙ ap is_some held in
+    flushes_placed (loaded old t) old.used (loaded new u) new.used 0 q moved.pointer stands (is_memory old t)
+    (replaces_is old new t mid u 0 q cell.block cell.placed true stands was (sym (cell_led t 0 q refl ∙ ap cell_placed held)) (λ j c e. absurd (omega (arith, e))) moved (cell_goes mid u q forgets)
+    (λ low. absurd (omega (arith, low))) (λ e. ap (option_map (λ (kept : KeptCell). kept.block)) held))
+
+module _ (old new : Shown) (t mid u : Tree) (k q : ℕ) (node : KeptNode) (stands : Stands old t) (none : tree.btree_map_len t.cells ≡ 0) (held : tree.get spot_cmp t.nodes (k, q) ≡ Some node) where
+  -- there are no nodes of level 0, and there is no cell
+  no_change : k ≡ 0 → changed_of t k q ≡ false
+  no_change e = cell_changed t k q e ∙ ap is_some (no_cell t none q)
+
+  goes_at : ForgetsNode t u k q → Goes t u k q
+  goes_at forgets = elim (cases_eq k 0) [
+    | inl e ↦ record {
+      owner = forgets.owner;
+      levels = forgets.levels;
+      root = forgets.root;
+      own_node = λ low. absurd (omega (arith, low, e));
+      own_cell = λ _. ap (λ (cells : tree.BTreeMap ℕ KeptCell). tree.get nat_cmp cells q) forgets.cells ∙ no_cell t none q;
+      nodes = λ j c _ other. forgets.others j c other;
+      cells = λ i _. ap (λ (cells : tree.BTreeMap ℕ KeptCell). tree.get nat_cmp cells i) forgets.cells;
+    }
+    | inr low ↦ node_goes t u k q (omega arith) forgets
+  ]
+
+  unchanged_or : (1 ≤ k → changed_of t k q ≡ true → (pointer_at (standing (under old) t) k q).stamp ≡ 0) → (changed_of t k q ≡ false) ⊎ ((pointer_at (standing (under old) t) k q).stamp ≡ 0)
+  unchanged_or then = elim (cases_eq k 0) [
+    | inl e ↦ inl (no_change e)
+    | inr low ↦ elim (bit (changed_of t k q)) [
+      | inl same ↦ inl same
+      | inr changed ↦ inr (then (omega arith) changed)
+    ]
+  ]
+
+  idle_why : (node.changed ≡ false) ⊎ ((k ≡ 0) ⊎ (t.levels < k)) → (changed_of t k q ≡ false) ⊎ ((pointer_at (standing (under old) t) k q).stamp ≡ 0)
+  idle_why (inl same) = elim (cases_eq k 0) [
+    | inl e ↦ inl (no_change e)
+    | inr low ↦ inl (spot_changed t k q (omega arith) ∙ ap node_changed held ∙ same)
+  ]
+  idle_why (inr (inl e)) = inl (no_change e)
+  idle_why (inr (inr lt)) = inr (ap (λ (p : Pointer). p.stamp) (past (standing (under old) t) k q lt))
+
+  -- below the lowest nothing changed
+  first : ((j c : ℕ) → j < k → tree.get spot_cmp t.nodes (j, c) ≡ None) → (j c : ℕ) → j + 1 ≡ k → changed_of t j c ≡ false
+  first lowest j c up = elim (cases_eq j 0) [
+    | inl e ↦ cell_changed t j c e ∙ ap is_some (no_cell t none c)
+    | inr low ↦ spot_changed t j c (omega arith) ∙ ap node_changed (lowest j c (omega (arith, up)))
+  ]
+
+  pub node_step : ((j c : ℕ) → j < k → tree.get spot_cmp t.nodes (j, c) ≡ None) → IsNodeStep old t k q node new mid → ForgetsNode mid u k q → Flushes (loaded old t) old.used (loaded new u) new.used
+  node_step lowest (inl idle) forgets =
+      idle_step old new t u k q stands idle.held idle.used (goes_at (subst (λ v. ForgetsNode v u k q) idle.tree forgets)) (idle_why idle.why)
+  node_step lowest (inr (inl hidden)) forgets =
+      idle_step old new t u k q stands hidden.held hidden.used (goes_at (subst (λ v. ForgetsNode v u k q) hidden.tree forgets)) (unchanged_or (λ _ changed. hidden_is old t stands k q changed hidden.none))
+  node_step lowest (inr (inr is)) forgets =
+      let was : changed_of t k q ≡ true = spot_changed t k q is.low ∙ ap node_changed held ∙ is.changed in
+      flushes_placed (loaded old t) old.used (loaded new u) new.used k q is.moved.pointer stands (is_memory old t)
+      (replaces_is old new t mid u k q is.block node.placed (all_known node.children) stands was (sym (spot_led t k q is.low ∙ ap node_placed held)) (first lowest) is.moved (node_goes mid u k q is.low forgets)
+      (λ low. (node.children, ap (option_map (λ (kept : KeptNode). kept.children)) held, spells t.owner k q node.children is.block is.spells, one_unknown node.children))
+      (λ e. absurd (omega (arith, e, is.low))))
+
+-- the node is still in memory before it goes, and all others are
+pub still_there : (old new : Shown) (t mid : Tree) (k q : ℕ) (node : KeptNode) → tree.get spot_cmp t.nodes (k, q) ≡ Some node → IsNodeStep old t k q node new mid
+    → (is_some (tree.get spot_cmp mid.nodes (k, q)) ≡ true) × (tree.btree_map_len mid.nodes ≡ tree.btree_map_len t.nodes)
+still_there old new t mid k q node held (inl idle) = (ap (λ (v : Tree). is_some (tree.get spot_cmp v.nodes (k, q))) idle.tree ∙ ap is_some held, ap (λ (v : Tree). tree.btree_map_len v.nodes) idle.tree)
+still_there old new t mid k q node held (inr (inl hidden)) = (ap (λ (v : Tree). is_some (tree.get spot_cmp v.nodes (k, q))) hidden.tree ∙ ap is_some held, ap (λ (v : Tree). tree.btree_map_len v.nodes) hidden.tree)
+still_there old new t mid k q node held (inr (inr is)) =
+    let kept : node_in mid k q ≡ Some node.children = is.moved.points.others k q (inl (omega arith)) ∙ ap (option_map (λ (kept : KeptNode). kept.children)) held in
+    (ap is_some (map_some (λ (kept : KeptNode). kept.children) (tree.get spot_cmp mid.nodes (k, q)) node.children kept).1, is.moved.points.len)

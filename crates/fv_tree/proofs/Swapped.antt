@@ -1,0 +1,60 @@
+-- A block that is placed, and another that is named as gone.
+use Rattle.std.proofs.Common.{◌≡◌, ◌≢◌, ℕ, ◌⊎◌, inl, inr, Bool, true, false, cond, nat_eq, List, Some, None, sym, ap, ◌∙◌, arith}
+use Rattle.std.specs.Ordering.{nat_cmp, eq_by_cmp}
+use Rattle.std.specs.Cmp.{nat_cmp_total}
+use Rattle.std.specs.FinMap as fin
+use Rattle.std.proofs.lemmas.Bool.Decides.{nat_tests}
+use Rattle.fv_tree.specs.Sources.{Shown, Drops}
+use Rattle.fv_tree.specs.Flushing.{Swaps}
+use Rattle.fv_tree.proofs.Flushed.{bit}
+
+differs_eq : (w v : ℕ) → w ≢ v → nat_eq w v ≡ false
+differs_eq w v differs = grind (arith, nat_tests)
+
+differs_cmp : (w v : ℕ) → w ≢ v → eq_by_cmp nat_cmp w v ≡ false
+differs_cmp w v differs = grind (arith, nat_tests)
+
+same_eq : (v : ℕ) → nat_eq v v ≡ true
+same_eq v = grind (arith, nat_tests)
+
+same_cmp : (v : ℕ) → eq_by_cmp nat_cmp v v ≡ true
+same_cmp v = grind (arith, nat_tests)
+
+pub record IsPlacedAt (old : Shown) (content : List ℕ) (v : ℕ) (new : Shown) : Type 0 where
+  pub fresh : fin.get old.held v ≡ None
+  pub unused : old.used v ≡ false
+  pub held : new.held ≡ fin.insert old.held v content
+  pub used : (w : ℕ) → new.used w ≡ cond (nat_eq w v) true (old.used w)
+
+module _ (old mid new : Shown) (content : List ℕ) (named : Bool) (r v : ℕ) (placed : IsPlacedAt old content v mid)
+    (drops : named ≡ true → Drops mid r new) (held : named ≡ false → new.held ≡ mid.held) (used : named ≡ false → new.used ≡ mid.used) where
+  dropped : (w : ℕ) → w ≢ r → Drops mid r new → fin.get new.held w ≡ fin.get mid.held w
+  dropped w differs gone = elim gone.held [
+    | inl e ↦ ap (λ h. fin.get h w) e ∙ fin.get-remove nat_cmp_total mid.held r w ∙ ap (λ b. cond b None (fin.get mid.held w)) (differs_cmp w r differs)
+    | inr e ↦ ap (λ h. fin.get h w) e
+  ]
+
+  -- all but the one that was named stay
+  stays : (w : ℕ) → (named ≡ false) ⊎ (w ≢ r) → (fin.get new.held w ≡ fin.get mid.held w) × (new.used w ≡ mid.used w)
+  stays w (inl none) = (ap (λ h. fin.get h w) (held none), ap (λ u. u w) (used none))
+  stays w (inr differs) = elim (bit named) [
+    | inl none ↦ (ap (λ h. fin.get h w) (held none), ap (λ u. u w) (used none))
+    | inr some ↦ let gone = drops some in (dropped w differs gone, gone.used w ∙ ap (λ b. cond b false (mid.used w)) (differs_eq w r differs))
+  ]
+
+  other : (named ≡ false) ⊎ (r ≢ v) → (named ≡ false) ⊎ (v ≢ r)
+  other (inl none) = inl none
+  other (inr differs) = inr (λ e. differs (sym e))
+
+  pub swapped : Swaps old content named r v new
+  swapped = record {
+    fresh = placed.fresh;
+    unused = placed.unused;
+    block = λ kept. (stays v (other kept)).0 ∙ ap (λ h. fin.get h v) placed.held ∙ fin.get-insert nat_cmp_total old.held v content v ∙ ap (λ b. cond b (Some content) (fin.get old.held v)) (same_cmp v);
+    used = λ kept. (stays v (other kept)).1 ∙ placed.used v ∙ ap (λ b. cond b true (old.used v)) (same_eq v);
+    gone = λ some. (drops some).used r ∙ ap (λ b. cond b false (mid.used r)) (same_eq r);
+    others = λ w differs kept. (
+      (stays w kept).0 ∙ ap (λ h. fin.get h w) placed.held ∙ fin.get-insert nat_cmp_total old.held v content w ∙ ap (λ b. cond b (Some content) (fin.get old.held w)) (differs_cmp w v differs),
+      (stays w kept).1 ∙ placed.used w ∙ ap (λ b. cond b true (old.used w)) (differs_eq w v differs),
+    );
+  }

@@ -1,0 +1,11 @@
+use Rattle.std.proofs.Common.{◌+◌, ◌*◌}
+use Rattle.fv_model.specs.Trees.{fan}
+use Rattle.fv_tree.specs.Collecting.{IsRising, AreBelow, Extends}
+use Rattle.fv_tree.proofs.Collected.{IsChildBefore}
+use Rattle.fv_tree.proofs.cut.add_ranges.Given as goal
+
+abbrev pub invariant-loop-slot : goal.invariant-loop-slot
+invariant-loop-slot l = record {
+  added : Extends (IsChildBefore l.children l.level l.most l.place l.slot) l.fn.below.items l.below.items;
+  rising : IsRising l.fn.below.items → AreBelow l.fn.below.items (l.place * fan) → IsRising l.below.items × AreBelow l.below.items (l.place * fan + l.slot);
+}

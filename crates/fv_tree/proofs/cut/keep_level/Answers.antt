@@ -1,0 +1,79 @@
+use Rattle.std.proofs.Common.{◌≡◌, ◌<◌, ◌+◌, ◌/◌, inl, inr, [], get_or, length, sym, ap, subst, ◌∙◌, arith}
+use Rattle.std.specs.FinMap as fin
+use Rattle.std.proofs.lemmas.Bool.{cases_lt}
+use Rattle.std.proofs.lemmas.Result.{err_from_is_err_and}
+use Rattle.fv_model.specs.Trees.{fan}
+use Rattle.fv_tree.specs.Standing.{standing, under}
+use Rattle.fv_tree.specs.Releasing.{KeepsBlocks}
+use Rattle.fv_tree.specs.Collecting.{Extends, IsHeld}
+use Rattle.fv_tree.proofs.Causes.{counts_then, fails_same, fails_later}
+use Rattle.fv_tree.proofs.Collected.{past_up, one_more_range, all_ranges, all_held, IsUnderOne}
+use Rattle.fv_tree.proofs.Released.{keeps_then}
+use Rattle.fv_tree.proofs.Ways.{same_then}
+use Rattle.fv_tree.proofs.cut.keep_level.Goals as goal
+
+pub keep_range-requires-clause-node : goal.keep_range-requires-clause-node
+keep_range-requires-clause-node g c = λ lt.
+    let s = standing (under (g.B.Blocks.shown c.args.blocks.now)) c.args.tree.now in
+    let was = c.loop-place.invariant in
+    let place = get_or c.args.places.now c.loop-place.place-index 0 in
+    let less : c.args.level < s.levels = omega (arith, lt, was.same.levels) in
+    was.still (c.args.level + 1) (place / fan) (c.requires.nodes (c.args.level + 1) (place / fan) (omega arith) (omega (arith, less)) (past_up s c.args.level c.args.most place less (c.requires.places.past c.loop-place.place-index c.loop-place-test.true)))
+
+pub returns-in_err-keep_range-clause-cause : goal.returns-in_err-keep_range-clause-cause
+returns-in_err-keep_range-clause-cause g c =
+    let old = g.B.Blocks.shown c.args.blocks.now in
+    let mid = g.B.Blocks.shown c.loop-place.blocks in
+    let new = g.B.Blocks.shown c.keep_range.new.blocks in
+    let was = c.loop-place.invariant in
+    let e = c.in_err-keep_range.field-0.0 in
+    let s = standing (under old) c.args.tree.now in
+    let p = err_from_is_err_and c.from_residual.result c.from_residual.ensures.1 in
+    rw (p.1, p.2) (fails_later s old mid new e was.counts was.held (fails_same s (standing (under mid) c.loop-place.tree) mid new e was.same c.in_err-keep_range.ensures.cause))
+
+pub loop-place-preserved : goal.loop-place-preserved
+loop-place-preserved g c =
+    let old = g.B.Blocks.shown c.args.blocks.now in
+    let mid = g.B.Blocks.shown c.loop-place.blocks in
+    let new = g.B.Blocks.shown c.keep_range.new.blocks in
+    let s = standing (under old) c.args.tree.now in
+    let t = standing (under mid) c.loop-place.tree in
+    let u = standing (under new) c.keep_range.new.tree in
+    let was = c.loop-place.invariant in
+    let now = c.in_ok-keep_range.ensures in
+    let at = c.loop-place.place-index in
+    let places = c.args.places.now in
+    let rises = now.rising was.rising (was.bound at (omega arith) c.loop-place-test.true) in record {
+      added = one_more_range s t c.args.level c.args.most at places [] c.loop-place.below.items c.keep_range.new.below.items was.same was.added now.added;
+      rising = rises.0;
+      bound = λ k le lt j less.
+          let first = rises.1 j less in
+          let next : get_or places at 0 < get_or places k 0 = c.requires.places.rising at k (omega (arith, le)) lt in
+          omega (arith, first, next);
+      nodes = λ j lt. elim (cases_lt j at) [
+        | inl less ↦ now.nodes c.args.level (get_or places j 0) (was.nodes j less)
+        | inr le ↦ let same : j ≡ at = omega (arith, lt, le) in subst (λ k. IsHeld c.keep_range.new.tree c.args.level (get_or places k 0)) (sym same) now.node
+      ];
+      still = λ level place held. now.nodes level place (was.still level place held);
+      same = same_then s t u was.same now.same;
+      blocks = keeps_then (under old) c.args.tree.now c.loop-place.tree c.keep_range.new.tree was.blocks (subst (λ b. KeepsBlocks b c.loop-place.tree c.keep_range.new.tree) (ap (λ h v. fin.get h v) was.held) now.blocks);
+      stands = λ stands. now.stands (was.stands stands);
+      held = now.held ∙ was.held;
+      used = now.used ∙ was.used;
+      counts = counts_then old mid new was.counts now.counts;
+    }
+
+pub returns-clause-places : goal.returns-clause-places
+returns-clause-places g c =
+    let s = standing (under (g.B.Blocks.shown c.args.blocks.now)) c.args.tree.now in
+    let was = c.loop-place.invariant in
+    let places = c.args.places.now in
+    let all : c.loop-place.place-index ≡ length places = omega (arith, c.loop-place-test.false, c.loop-place.auto.place-index-end) in
+    all_ranges s c.args.level c.args.most places c.loop-place.below.items c.requires.low c.requires.high c.requires.places
+    (subst (λ n. Extends (IsUnderOne s c.args.level c.args.most places n) [] c.loop-place.below.items) all was.added) was.rising
+
+pub returns-clause-nodes : goal.returns-clause-nodes
+returns-clause-nodes g c =
+    let s = standing (under (g.B.Blocks.shown c.args.blocks.now)) c.args.tree.now in
+    let was = c.loop-place.invariant in
+    all_held c.args.tree.now c.loop-place.tree s c.args.level c.args.most c.args.places.now c.requires.low c.requires.places c.requires.nodes was.still (λ j lt. was.nodes j (omega (arith, lt, c.loop-place-test.false)))

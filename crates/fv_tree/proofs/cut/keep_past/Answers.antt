@@ -1,0 +1,41 @@
+use Rattle.std.proofs.Common.{refl, sym, subst, arith}
+use Rattle.fv_tree.specs.Standing.{standing, under}
+use Rattle.fv_tree.specs.Collecting.{Collects}
+use Rattle.std.proofs.lemmas.Result.{err_from_is_err_and}
+use Rattle.fv_tree.proofs.Causes.{fails_same, fails_later}
+use Rattle.fv_tree.proofs.Collected.{collects_as}
+use Rattle.fv_tree.proofs.Held.{same_self}
+use Rattle.fv_tree.proofs.Released.{keeps_self}
+use Rattle.fv_tree.proofs.cut.keep_past.Goals as goal
+
+pub loop-level-init : goal.loop-level-init
+loop-level-init g c =
+    let old = under (g.B.Blocks.shown c.args.blocks.now) in record {
+      high = omega arith;
+      places = c.in_ok-places.ensures.places old;
+      nodes = λ k q lt le past. absurd (omega (arith, lt, le));
+      same = same_self (standing old c.args.tree.now);
+      blocks = keeps_self old c.args.tree.now;
+      stands = λ stands. stands;
+      held = refl;
+      used = refl;
+      counts = record { faults = omega arith; damages = omega arith };
+    }
+
+pub keep_level-requires-clause-places : goal.keep_level-requires-clause-places
+keep_level-requires-clause-places g c =
+    let was = c.loop-level.invariant in
+    let s = standing (under (g.B.Blocks.shown c.args.blocks.now)) c.args.tree.now in
+    let t = standing (under (g.B.Blocks.shown c.loop-level.blocks)) c.loop-level.tree in
+    subst (Collects t c.loop-level.level c.args.most) (sym c.as_slice.ensures.value) (collects_as s t c.loop-level.level c.args.most c.loop-level.places.items was.same was.places)
+
+pub returns-in_err-places-2-clause-cause : goal.returns-in_err-places-2-clause-cause
+returns-in_err-places-2-clause-cause g c =
+    let old = g.B.Blocks.shown c.args.blocks.now in
+    let mid = g.B.Blocks.shown c.loop-level.blocks in
+    let new = g.B.Blocks.shown c.keep_level.new.blocks in
+    let was = c.loop-level.invariant in
+    let e = c.in_err-places-2.field-0.0 in
+    let s = standing (under old) c.args.tree.now in
+    let p = err_from_is_err_and c.from_residual-in_err-places-2.result c.from_residual-in_err-places-2.ensures.1 in
+    rw (p.1, p.2) (fails_later s old mid new e was.counts was.held (fails_same s (standing (under mid) c.loop-level.tree) mid new e was.same c.in_err-places-2.ensures.cause))

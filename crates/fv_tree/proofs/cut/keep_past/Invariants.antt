@@ -1,0 +1,24 @@
+use Rattle.std.proofs.Common.{◌≡◌, ◌≤◌}
+use Rattle.fv_tree.specs.Keeping.{IsSame}
+use Rattle.fv_tree.specs.Sources.{Counts}
+use Rattle.fv_tree.specs.Standing.{standing, under}
+use Rattle.fv_tree.specs.Releasing.{KeepsBlocks}
+use Rattle.fv_tree.specs.Flushing.{Stands}
+use Rattle.fv_tree.specs.Collecting.{Collects, AreHeld}
+use Rattle.fv_tree.proofs.cut.keep_past.Given as goal
+
+abbrev pub invariant-loop-level : goal.invariant-loop-level
+invariant-loop-level g l = record {
+  high : l.level ≤ l.fn.tree.levels;
+  places : Collects (standing (under (g.B.Blocks.shown l.fn.blocks)) l.fn.tree) l.level l.most l.places.items;
+  nodes : AreHeld l.tree (standing (under (g.B.Blocks.shown l.fn.blocks)) l.fn.tree) l.level l.most;
+  same : IsSame (standing (under (g.B.Blocks.shown l.fn.blocks)) l.fn.tree) (standing (under (g.B.Blocks.shown l.blocks)) l.tree);
+  blocks : KeepsBlocks (under (g.B.Blocks.shown l.fn.blocks)) l.fn.tree l.tree;
+  stands : Stands (g.B.Blocks.shown l.fn.blocks) l.fn.tree → Stands (g.B.Blocks.shown l.blocks) l.tree;
+  held : (g.B.Blocks.shown l.blocks).held ≡ (g.B.Blocks.shown l.fn.blocks).held;
+  used : (g.B.Blocks.shown l.blocks).used ≡ (g.B.Blocks.shown l.fn.blocks).used;
+  counts : Counts (g.B.Blocks.shown l.fn.blocks) (g.B.Blocks.shown l.blocks);
+}
+
+abbrev pub decreases-loop-level : goal.decreases-loop-level
+decreases-loop-level g l = l.level

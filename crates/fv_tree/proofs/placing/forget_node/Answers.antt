@@ -1,0 +1,15 @@
+use Rattle.std.proofs.Common.{refl, cond, None, ap, ◌∙◌}
+use Rattle.std.specs.BTreeMap as maps
+use Rattle.fv_model.specs.Trees.{spot_cmp}
+use Rattle.fv_tree.proofs.Spots.{spot_differs}
+use Rattle.fv_tree.proofs.placing.forget_node.Goals as goal
+
+pub returns-clause-forgets : goal.returns-clause-forgets
+returns-clause-forgets c = record {
+  owner = refl;
+  levels = refl;
+  root = refl;
+  cells = refl;
+  own = c.remove.ensures.updates.1;
+  others = λ k q other. c.remove.ensures.updates.0 (k, q) ∙ ap (λ b. cond b None (maps.get spot_cmp c.args.tree.now.nodes (k, q))) (spot_differs c.args.level c.args.place k q other);
+}

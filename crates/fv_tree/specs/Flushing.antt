@@ -1,0 +1,240 @@
+-- How a tree in memory stands to its blocks, and what a flush does to both.
+use Rattle.std.specs.Prelude.{◌≡◌, ◌≢◌, ◌≤◌, ◌<◌, ◌⊎◌, ℕ, ◌+◌, ◌/◌, ◌%◌, Bool, true, false, not, min, ◌&&◌, List, [], ◌∷◌, Option, Some, None, Ok, get_or, is_some, slice_set, nat_lt, ◌==◌, if◌then◌else◌}
+use Rattle.std.specs.Ordering.{nat_cmp}
+use Rattle.std.specs.Option.{option_map}
+use Rattle.std.specs.BTreeMap as tree
+use Rattle.std.specs.FinMap as fin
+use Rattle.fv_codec.specs.declared.pointer.Pointer.{Pointer}
+use Rattle.fv_codec.specs.Blocks.{greatest_word, node_at}
+use Rattle.fv_model.specs.Trees.{fan, Spot, spot_cmp}
+use Rattle.fv_tree.specs.declared.kept.Tree.{Tree}
+use Rattle.fv_tree.specs.declared.kept.KeptNode.{KeptNode}
+use Rattle.fv_tree.specs.declared.kept.KeptCell.{KeptCell}
+use Rattle.fv_tree.specs.Spelled.{Under, Rooted, hole, pointers_in, pointer_at}
+use Rattle.fv_tree.specs.Sources.{Shown}
+use Rattle.fv_tree.specs.Standing.{standing, under, node_in}
+use Rattle.fv_tree.specs.Writing.{IsAlike}
+
+-- ---- what is in memory
+
+abbrev pub node_changed : Option KeptNode → Bool
+node_changed None = false
+node_changed (Some kept) = kept.changed
+
+abbrev pub node_placed : Option KeptNode → Bool
+node_placed None = true
+node_placed (Some kept) = kept.placed
+
+abbrev pub cell_placed : Option KeptCell → Bool
+cell_placed None = true
+cell_placed (Some kept) = kept.placed
+
+-- whether a node in memory differs from its block
+abbrev pub changed_in : tree.BTreeMap Spot KeptNode → ℕ → ℕ → Bool
+changed_in nodes level place = node_changed (tree.get spot_cmp nodes (level, place))
+
+-- whether the pointer to a node, where there is one, leads to its block
+abbrev pub placed_in : tree.BTreeMap Spot KeptNode → ℕ → ℕ → Bool
+placed_in nodes level place = node_placed (tree.get spot_cmp nodes (level, place))
+
+-- A tree, of which some nodes and cells are in memory: those that differ from their blocks, and those whose block the
+-- pointer to them leads to. What isn't in memory stands in its block.
+pub record Loaded : Type 0 where
+  pub tree : Rooted
+  pub changed : ℕ → ℕ → Bool
+  pub placed : ℕ → ℕ → Bool
+
+-- a cell in memory always differs from its block
+abbrev pub changed_of : Tree → ℕ → ℕ → Bool
+changed_of t level place = if level == 0 then is_some (tree.get nat_cmp t.cells place) else changed_in t.nodes level place
+
+abbrev pub placed_of : Tree → ℕ → ℕ → Bool
+placed_of t level place = if level == 0 then cell_placed (tree.get nat_cmp t.cells place) else placed_in t.nodes level place
+
+abbrev pub loaded_over : Under → Tree → Loaded
+loaded_over blocks t = record { tree = standing blocks t; changed = changed_of t; placed = placed_of t }
+
+abbrev pub loaded : Shown → Tree → Loaded
+loaded source = loaded_over (under source)
+
+-- the pointer to a cell or node leads to the block under this VVBN
+pub record Leads (s : Loaded) (level place v : ℕ) : Type 0 where
+  pub some : (pointer_at s.tree level place).stamp ≢ 0
+  pub placed : s.placed level place ≡ true
+  pub vvbn : (pointer_at s.tree level place).vvbn ≡ v
+
+-- no pointer is in a node of a position to which nothing leads
+abbrev pub IsEmptyNode : Rooted → ℕ → ℕ → Type 0
+IsEmptyNode t level place = (xs : List Pointer) → t.nodes level place ≡ Some xs → (slot : ℕ) → get_or xs slot hole ≡ hole
+
+-- A tree stands on the blocks that it leads to. It reaches each VVBN once.
+pub record IsSound (taken : ℕ → Bool) (s : Loaded) : Type 0 where
+  pub once : (level place k q v : ℕ) → Leads s level place v → Leads s k q v → (level ≡ k) × (place ≡ q)
+  pub held : (level place v : ℕ) → Leads s level place v → is_some (s.tree.under v) ≡ true
+  pub used : (level place v : ℕ) → Leads s level place v → taken v ≡ true
+  -- over what changed stands a node in memory that changed, too
+  pub over : (level place : ℕ) → s.changed level place ≡ true → (pointer_at s.tree level place).stamp ≢ 0 → level < s.tree.levels → s.changed (level + 1) (place / fan) ≡ true
+  -- what didn't change stands in its block
+  pub same : (level place : ℕ) (xs : List Pointer) → 1 ≤ level → s.tree.nodes level place ≡ Some xs → s.changed level place ≡ false → (pointer_at s.tree level place).stamp ≢ 0
+      → (pointers_in s.tree.owner level place (s.tree.under (pointer_at s.tree level place).vvbn) ≡ xs) × (s.placed level place ≡ true)
+  -- what nothing leads to is empty; above the levels a write that failed may have left nodes over the root
+  pub empty : (level place : ℕ) → 1 ≤ level → (pointer_at s.tree level place).stamp ≡ 0 → (level ≤ s.tree.levels) ⊎ ((place ≢ 0) ⊎ (s.tree.root.stamp ≡ 0)) → IsEmptyNode s.tree level place
+
+-- a tree stands on what a source shows
+abbrev pub Stands : Shown → Tree → Type 0
+Stands source t = IsSound source.used (loaded source t)
+
+-- ---- what a flush does
+
+-- a cell or node that changed was placed, and a pointer leads to it
+pub record IsFlushed (old new : Loaded) (level place : ℕ) : Type 0 where
+  pub was : old.changed level place ≡ true
+  pub done : new.changed level place ≡ false
+  pub some : (pointer_at old.tree level place).stamp ≢ 0
+
+-- the block under this VVBN was replaced
+pub record IsReplaced (old new : Loaded) (v : ℕ) : Type 0 where
+  pub level : ℕ
+  pub place : ℕ
+  pub flushed : IsFlushed old new level place
+  pub leads : Leads old level place v
+
+-- a block was placed under this VVBN
+pub record IsPlaced (old new : Loaded) (v : ℕ) : Type 0 where
+  pub level : ℕ
+  pub place : ℕ
+  pub flushed : IsFlushed old new level place
+  pub vvbn : (pointer_at new.tree level place).vvbn ≡ v
+
+-- Some of what changed was placed. Each of it has one place and one pointer, and the blocks that were placed and replaced are
+-- those alone.
+pub record Flushes (old : Loaded) (used : ℕ → Bool) (new : Loaded) (uses : ℕ → Bool) : Type 0 where
+  pub owner : new.tree.owner ≡ old.tree.owner
+  pub sound : IsSound uses new
+  pub alike : IsAlike old.tree new.tree
+  pub stamps : (level place : ℕ) → (pointer_at new.tree level place).stamp ≡ (pointer_at old.tree level place).stamp
+  -- what changed can't grow, and all pointers but those to what was placed stay
+  pub fewer : (level place : ℕ) → new.changed level place ≡ true → (old.changed level place ≡ true) × (new.placed level place ≡ old.placed level place)
+  pub stays : (level place : ℕ) → (new.changed level place ≡ true) ⊎ (old.changed level place ≡ false) → pointer_at new.tree level place ≡ pointer_at old.tree level place
+  -- blocks that aren't replaced stay
+  pub blocks : (v : ℕ) (block : List ℕ) → (IsReplaced old new v → ⊥) → old.tree.under v ≡ Some block → new.tree.under v ≡ Some block
+  pub others : (v : ℕ) → (IsReplaced old new v → ⊥) → (IsPlaced old new v → ⊥) → (new.tree.under v ≡ old.tree.under v) × (uses v ≡ used v)
+  -- a block is placed where none was held and no VVBN was in use, but for one that was replaced
+  pub fresh : (v : ℕ) → IsPlaced old new v → (IsReplaced old new v → ⊥) → (old.tree.under v ≡ None) × (used v ≡ false)
+  -- what was replaced is no longer in use
+  pub gone : (v : ℕ) → IsReplaced old new v → (IsPlaced old new v → ⊥) → uses v ≡ false
+  -- a node that was placed and holds an unknown pointer is led to by one
+  pub unknown : (level place : ℕ) → IsFlushed old new (level + 1) (place / fan) → (pointer_at new.tree level place).stamp ≢ 0 → (pointer_at new.tree level place).pvbn ≡ 0
+      → (pointer_at new.tree (level + 1) (place / fan)).pvbn ≡ 0
+
+-- ---- its steps
+
+-- a pointer that leads to a block of which the place isn't known
+abbrev pub is_unknown : Pointer → Bool
+is_unknown p = not (p.stamp == 0) && (p.pvbn == 0)
+
+-- none of the pointers is an unknown one
+abbrev pub all_known : List Pointer → Bool
+all_known [] = true
+all_known (p ∷ ps) = not (is_unknown p) && all_known ps
+
+-- the kind of a block of a level, by the tree's owner
+abbrev pub kind_for : ℕ → ℕ → ℕ
+kind_for owner level = if owner == greatest_word then 5 + min level 2 else 1 + level
+
+-- the pointer to a position, as the root or the node over it in memory has it
+abbrev pub child_of : Option (List Pointer) → ℕ → Pointer
+child_of None slot = hole
+child_of (Some xs) slot = get_or xs slot hole
+
+unfoldable pub pointer_in : Tree → ℕ → ℕ → Pointer
+pointer_in t level place =
+    if nat_lt level t.levels then child_of (node_in t (level + 1) (place / fan)) (place % fan)
+    else if level == t.levels && place == 0 then t.root else hole
+
+-- a pointer to a position is another one, where the node over it is in memory
+pub record Points (old new : Tree) (level place : ℕ) (p : Pointer) : Type 0 where
+  pub owner : new.owner ≡ old.owner
+  pub levels : new.levels ≡ old.levels
+  pub cells : new.cells ≡ old.cells
+  pub low : level < old.levels → new.root ≡ old.root
+  pub top : old.levels ≤ level → new.root ≡ p
+  pub node : level < old.levels → node_in new (level + 1) (place / fan) ≡ option_map (λ xs. slice_set xs (place % fan) p) (node_in old (level + 1) (place / fan))
+  pub others : (k q : ℕ) → (k ≢ level + 1) ⊎ (q ≢ place / fan) → node_in new k q ≡ node_in old k q
+  pub still : old.levels ≤ level → new.nodes ≡ old.nodes
+  pub len : tree.btree_map_len new.nodes ≡ tree.btree_map_len old.nodes
+  pub placed : (k q : ℕ) → placed_in new.nodes k q ≡ placed_in old.nodes k q
+  pub changed : (k q : ℕ) → ((k ≢ level + 1) ⊎ (q ≢ place / fan)) ⊎ (changed_in old.nodes k q ≡ true) → changed_in new.nodes k q ≡ changed_in old.nodes k q
+
+-- A block is placed under the VVBN v, and the VVBN r is named as gone, or none.
+pub record Swaps (old : Shown) (content : List ℕ) (named : Bool) (r v : ℕ) (new : Shown) : Type 0 where
+  pub fresh : fin.get old.held v ≡ None
+  pub unused : old.used v ≡ false
+  pub block : (named ≡ false) ⊎ (r ≢ v) → fin.get new.held v ≡ Some content
+  pub used : (named ≡ false) ⊎ (r ≢ v) → new.used v ≡ true
+  pub gone : named ≡ true → new.used r ≡ false
+  pub others : (w : ℕ) → w ≢ v → (named ≡ false) ⊎ (w ≢ r) → (fin.get new.held w ≡ fin.get old.held w) × (new.used w ≡ old.used w)
+
+-- nothing was placed, since nothing leads there
+pub record IsHidden (old : Shown) (t : Tree) (level place : ℕ) (new : Shown) (u : Tree) : Type 0 where
+  pub none : (pointer_in t level place).stamp ≡ 0
+  pub tree : u ≡ t
+  pub held : new.held ≡ old.held
+  pub used : new.used ≡ old.used
+
+-- a block was placed, and the pointer leads to it
+pub record IsMoved (old : Shown) (t : Tree) (level place : ℕ) (content : List ℕ) (named known : Bool) (new : Shown) (u : Tree) : Type 0 where
+  pub some : (pointer_in t level place).stamp ≢ 0
+  pub pointer : Pointer
+  pub stamp : pointer.stamp ≡ (pointer_in t level place).stamp
+  pub unknown : known ≡ false → pointer.pvbn ≡ 0
+  pub swaps : Swaps old content named (pointer_in t level place).vvbn pointer.vvbn new
+  pub points : Points t u level place pointer
+
+-- a cell or a node is no longer in memory
+pub record ForgetsCell (t u : Tree) (place : ℕ) : Type 0 where
+  pub owner : u.owner ≡ t.owner
+  pub levels : u.levels ≡ t.levels
+  pub root : u.root ≡ t.root
+  pub nodes : u.nodes ≡ t.nodes
+  pub own : tree.get nat_cmp u.cells place ≡ None
+  pub others : (i : ℕ) → i ≢ place → tree.get nat_cmp u.cells i ≡ tree.get nat_cmp t.cells i
+
+pub record ForgetsNode (t u : Tree) (level place : ℕ) : Type 0 where
+  pub owner : u.owner ≡ t.owner
+  pub levels : u.levels ≡ t.levels
+  pub root : u.root ≡ t.root
+  pub cells : u.cells ≡ t.cells
+  pub own : tree.get spot_cmp u.nodes (level, place) ≡ None
+  pub others : (k q : ℕ) → (k ≢ level) ⊎ (q ≢ place) → tree.get spot_cmp u.nodes (k, q) ≡ tree.get spot_cmp t.nodes (k, q)
+
+-- the tree has the same owner and levels
+pub record IsLeft (old new : Tree) : Type 0 where
+  pub owner : new.owner ≡ old.owner
+  pub levels : new.levels ≡ old.levels
+
+-- nothing was placed, since the node didn't change or isn't one of the tree's levels
+pub record IsIdle (old : Shown) (t : Tree) (level : ℕ) (changed : Bool) (new : Shown) (u : Tree) : Type 0 where
+  pub why : (changed ≡ false) ⊎ ((level ≡ 0) ⊎ (t.levels < level))
+  pub tree : u ≡ t
+  pub held : new.held ≡ old.held
+  pub used : new.used ≡ old.used
+
+-- the node's block was placed
+pub record IsNodeMoved (old : Shown) (t : Tree) (level place : ℕ) (node : KeptNode) (new : Shown) (u : Tree) : Type 0 where
+  pub low : 1 ≤ level
+  pub changed : node.changed ≡ true
+  pub block : List ℕ
+  pub spells : node_at block ≡ Ok (record { level = level; owner = t.owner; place = place; children = node.children })
+  pub moved : IsMoved old t level place block node.placed (all_known node.children) new u
+
+abbrev pub IsNodeStep : Shown → Tree → ℕ → ℕ → KeptNode → Shown → Tree → Type 0
+IsNodeStep old t level place node new u = IsIdle old t level node.changed new u ⊎ (IsHidden old t level place new u ⊎ IsNodeMoved old t level place node new u)
+
+-- ---- a tree of which nothing is in memory
+
+-- the tree reaches each VVBN once, and its block is held and in use
+pub record ReachesOnce (taken : ℕ → Bool) (t : Rooted) : Type 0 where
+  pub once : (level place k q : ℕ) → (pointer_at t level place).stamp ≢ 0 → (pointer_at t k q).stamp ≢ 0 → (pointer_at t level place).vvbn ≡ (pointer_at t k q).vvbn → (level ≡ k) × (place ≡ q)
+  pub held : (level place : ℕ) → (pointer_at t level place).stamp ≢ 0 → is_some (t.under (pointer_at t level place).vvbn) ≡ true
+  pub used : (level place : ℕ) → (pointer_at t level place).stamp ≢ 0 → taken (pointer_at t level place).vvbn ≡ true

@@ -1,0 +1,228 @@
+//! Removing a cell whose way is in memory: the marks that have no cell left go with it.
+
+ghost use Rattle.std.specs.Prelude.{◌≡◌, ◌≢◌, ◌≤◌, ◌<◌, ◌⊎◌, ◌+◌, ◌/◌, ◌%◌, ◌^◌, ◌&&◌, ℕ, List, true, false, cond, nat_eq, is_some, Some, None};
+ghost use Rattle.std.specs.Option.{option_map};
+ghost use Rattle.std.specs.Ordering.{nat_cmp};
+ghost use Rattle.std.specs.BTreeMap as tree_map;
+ghost use Rattle.fv_codec.specs.declared.pointer.Pointer.{Pointer};
+ghost use Rattle.fv_model.specs.Trees.{fan, spot_cmp};
+ghost use Rattle.fv_tree.specs.Spelled.{Under, hole};
+ghost use Rattle.fv_tree.specs.Sources.{Drops};
+ghost use Rattle.fv_tree.specs.Standing.{standing, node_in, cell_in, children_in};
+ghost use Rattle.fv_tree.specs.Writing.{stamped, stamped_in, slot_of};
+ghost use Rattle.fv_tree.specs.Erasing.{StandsAt};
+ghost use Rattle.fv_tree.specs.Releasing.{Releases, IsDropped};
+ghost use Rattle.fv_tree.specs.Flushing.{placed_in, placed_of, changed_in, changed_of};
+ghost use Rattle.fv_tree.specs.Unlinking.{HasWay, HasNoOther, HasOther, AreBare, Unlinks, CellGoes, cleared_in, IsNamed, IsOnWay};
+
+use crate::blocks::Blocks;
+use crate::kept::{HOLE, KeptNode, Tree};
+use crate::placing::pointer_in;
+use crate::sizes::{FAN, width};
+use crate::write::{is_placed, stamp_slot, stamped};
+use fv_codec::Pointer;
+use std::collections::BTreeMap;
+
+/// Removes a cell that stands and over which all nodes are in memory, and names the blocks that go.
+pub fn erase_cell<B: Blocks>(tree: &mut Tree, blocks: &mut B, index: u32, start: u8, stamp: u64)
+    requires way { HasWay tree.old index }
+    requires start { start ≤ 3 }
+    requires stamp { 1 ≤ stamp }
+    ensures goes { (held : Under) → StandsAt (standing held tree.old) 0 index → CellGoes held tree.old tree.new index start stamp }
+    ensures released { (held : Under) → StandsAt (standing held tree.old) 0 index → Releases (B.shown blocks.old) (B.shown blocks.new) (IsDropped held tree.old tree.new) }
+{
+    let lost = bare_levels(tree, index);
+    name_way(tree, blocks, index, lost);
+    unlink(tree, index, lost, start, stamp);
+}
+
+/// How many nodes over a cell, from the lowest up, lead to nothing but that cell.
+fn bare_levels(tree: &Tree, index: u32) -> u8
+    ensures { AreBare tree.now index result }
+{
+    let mut level = 0;
+    while level < tree.levels && is_bare(tree, level + 1, index) {
+        level += 1;
+    }
+    level
+}
+
+/// Whether the node of a level over a cell leads to nothing but what is over that cell.
+fn is_bare(tree: &Tree, level: u8, index: u32) -> bool
+    requires low { 1 ≤ level }
+    requires high { level ≤ 3 }
+    ensures bare { result ≡ true → (xs : List Pointer) → node_in tree.now level (index / fan ^ level) ≡ Some xs → HasNoOther xs (slot_of index level) }
+    ensures other { result ≡ false → (xs : List Pointer) → node_in tree.now level (index / fan ^ level) ≡ Some xs → HasOther xs (slot_of index level) }
+{
+    let slot = index / width(level - 1) % FAN;
+    match tree.nodes.get(&(level, index / width(level))) {
+        Some(node) => has_no_other(&node.children, slot),
+        None => false,
+    }
+}
+
+/// Whether all pointers of a node but one are holes.
+fn has_no_other(children: &[Pointer; 128], slot: u32) -> bool
+    ensures bare { result ≡ true → HasNoOther children.now slot }
+    ensures other { result ≡ false → HasOther children.now slot }
+{
+    for other in 0..128 {
+        if other != slot && children[other as usize].stamp != 0 {
+            return false;
+        }
+    }
+    true
+}
+
+/// Names the blocks of a cell and of so many nodes over it, the lowest.
+fn name_way<B: Blocks>(tree: &Tree, blocks: &mut B, index: u32, lost: u8)
+    requires { lost ≤ tree.now.levels }
+    ensures { Releases (B.shown blocks.old) (B.shown blocks.new) (IsOnWay tree.now index (lost + 1)) }
+{
+    for level in 0..lost + 1 {
+        name_place(tree, blocks, level, index);
+    }
+}
+
+/// Names the block of a cell, or of the node of a level over it, where it has one.
+fn name_place<B: Blocks>(tree: &Tree, blocks: &mut B, level: u8, index: u32)
+    requires { level ≤ tree.now.levels }
+    ensures { Releases (B.shown blocks.old) (B.shown blocks.new) (IsNamed tree.now level index) }
+{
+    let place = index / width(level);
+    if has_block(tree, level, place) {
+        let pointer = pointer_in(tree, level, place);
+        blocks.gone(pointer.vvbn as u32);
+    }
+}
+
+/// Whether a block lies under a place that a pointer leads to.
+fn has_block(tree: &Tree, level: u8, place: u32) -> bool
+    ensures { result ≡ placed_of tree.now level place }
+{
+    if level == 0 {
+        return is_placed(tree, place);
+    }
+    match tree.nodes.get(&(level, place)) {
+        Some(node) => node.placed,
+        None => true,
+    }
+}
+
+/// Lets nothing lead to a cell and to so many nodes over it, and stamps the marks that are left above.
+fn unlink(tree: &mut Tree, index: u32, lost: u8, start: u8, stamp: u64)
+    requires way { HasWay tree.old index }
+    requires bare { AreBare tree.old index lost }
+    requires start { start ≤ 3 }
+    requires stamp { 1 ≤ stamp }
+    ensures { Unlinks tree.old tree.new index lost start stamp }
+{
+    if lost == tree.levels {
+        clear(tree, start);
+    } else {
+        cut_way(tree, index, lost, stamp);
+    }
+}
+
+/// Makes a tree one without a cell.
+fn clear(tree: &mut Tree, start: u8)
+    requires { start ≤ 3 }
+    ensures owner { tree.new.owner ≡ tree.old.owner }
+    ensures levels { tree.new.levels ≡ start }
+    ensures root { tree.new.root ≡ hole }
+    ensures nodes { (level place : ℕ) → tree_map.get spot_cmp tree.new.nodes (level, place) ≡ None }
+    ensures cells { (i : ℕ) → tree_map.get nat_cmp tree.new.cells i ≡ None }
+{
+    tree.levels = start;
+    tree.root = HOLE;
+    tree.nodes.clear();
+    tree.cells.clear();
+}
+
+/// Lets nothing lead to a cell and to so many nodes over it, above which another mark stands.
+fn cut_way(tree: &mut Tree, index: u32, lost: u8, stamp: u64)
+    requires bare { AreBare tree.old index lost }
+    requires some { lost < tree.old.levels }
+    requires stamp { 1 ≤ stamp }
+    ensures owner { tree.new.owner ≡ tree.old.owner }
+    ensures levels { tree.new.levels ≡ tree.old.levels }
+    ensures root { tree.new.root ≡ stamped tree.old.root stamp }
+    ensures lowest { node_in tree.new (lost + 1) (index / fan ^ (lost + 1)) ≡ option_map (cleared_in (slot_of index (lost + 1))) (node_in tree.old (lost + 1) (index / fan ^ (lost + 1))) }
+    ensures above { (level : ℕ) → lost + 1 < level → level ≤ tree.old.levels → node_in tree.new level (index / fan ^ level) ≡ option_map (stamped_in (slot_of index level) stamp) (node_in tree.old level (index / fan ^ level)) }
+    ensures others { (level place : ℕ) → place ≢ index / fan ^ level → node_in tree.new level place ≡ node_in tree.old level place }
+    ensures cells { (i : ℕ) → i ≢ index → tree_map.get nat_cmp tree.new.cells i ≡ tree_map.get nat_cmp tree.old.cells i }
+    ensures placed { (level place : ℕ) → (lost < level) ⊎ (place ≢ index / fan ^ level) → placed_in tree.new.nodes level place ≡ placed_in tree.old.nodes level place }
+    ensures changed { (level : ℕ) → lost < level → level ≤ tree.old.levels → is_some (tree_map.get spot_cmp tree.old.nodes (level, index / fan ^ level)) ≡ true → changed_in tree.new.nodes level (index / fan ^ level) ≡ true }
+    ensures same { (level place : ℕ) → place ≢ index / fan ^ level → tree_map.get spot_cmp tree.new.nodes (level, place) ≡ tree_map.get spot_cmp tree.old.nodes (level, place) }
+    ensures gone { (level : ℕ) → 1 ≤ level → level ≤ lost → tree_map.get spot_cmp tree.new.nodes (level, index / fan ^ level) ≡ None }
+{
+    forget_way(tree, index, lost);
+    let place = index / width(lost + 1);
+    let slot = index / width(lost) % FAN;
+    clear_slot(&mut tree.nodes, lost + 1, place, slot);
+    stamp_above(tree, index, lost + 1, stamp);
+}
+
+/// Takes a cell and so many nodes over it out of memory, the lowest.
+fn forget_way(tree: &mut Tree, index: u32, lost: u8)
+    requires { lost ≤ 3 }
+    ensures owner { tree.new.owner ≡ tree.old.owner }
+    ensures levels { tree.new.levels ≡ tree.old.levels }
+    ensures root { tree.new.root ≡ tree.old.root }
+    ensures cells { (i : ℕ) → i ≢ index → tree_map.get nat_cmp tree.new.cells i ≡ tree_map.get nat_cmp tree.old.cells i }
+    ensures nodes { (level place : ℕ) → (lost < level) ⊎ (place ≢ index / fan ^ level) → tree_map.get spot_cmp tree.new.nodes (level, place) ≡ tree_map.get spot_cmp tree.old.nodes (level, place) }
+    ensures gone { (level : ℕ) → 1 ≤ level → level ≤ lost → tree_map.get spot_cmp tree.new.nodes (level, index / fan ^ level) ≡ None }
+{
+    let _ = tree.cells.remove(&index);
+    for below in 0..lost {
+        let _ = tree.nodes.remove(&(below + 1, index / width(below + 1)));
+    }
+}
+
+/// Makes one pointer of a node in memory a hole.
+fn clear_slot(nodes: &mut BTreeMap<(u8, u32), KeptNode>, level: u8, place: u32, slot: u32)
+    requires slot { slot < fan }
+    requires other { (xs : List Pointer) → children_in nodes.old level place ≡ Some xs → HasOther xs slot }
+    ensures children { (k q : ℕ) → children_in nodes.new k q ≡ cond (nat_eq k level && nat_eq q place) (option_map (cleared_in slot) (children_in nodes.old k q)) (children_in nodes.old k q) }
+    ensures placed { (k q : ℕ) → placed_in nodes.new k q ≡ placed_in nodes.old k q }
+    ensures changed { is_some (tree_map.get spot_cmp nodes.old (level, place)) ≡ true → changed_in nodes.new level place ≡ true }
+    ensures others { (k q : ℕ) → (k ≢ level) ⊎ (q ≢ place) → tree_map.get spot_cmp nodes.new (k, q) ≡ tree_map.get spot_cmp nodes.old (k, q) }
+{
+    if let Some(node) = nodes.get_mut(&(level, place)) {
+        clear_child(node, slot);
+    }
+}
+
+/// Makes one pointer of a node a hole, where another one isn't.
+fn clear_child(node: &mut KeptNode, slot: u32)
+    requires slot { slot < fan }
+    requires other { HasOther node.old.children slot }
+    ensures children { node.new.children ≡ cleared_in slot node.old.children }
+    ensures changed { node.new.changed ≡ true }
+    ensures placed { node.new.placed ≡ node.old.placed }
+{
+    node.children[slot as usize] = HOLE;
+    node.changed = true;
+}
+
+/// Gives the root and each pointer on the way to a cell, from a level up, a stamp.
+fn stamp_above(tree: &mut Tree, index: u32, lowest: u8, stamp: u64)
+    requires stamp { 1 ≤ stamp }
+    ensures owner { tree.new.owner ≡ tree.old.owner }
+    ensures levels { tree.new.levels ≡ tree.old.levels }
+    ensures cells { tree.new.cells ≡ tree.old.cells }
+    ensures root { tree.new.root ≡ stamped tree.old.root stamp }
+    ensures way { (level : ℕ) → lowest < level → level ≤ tree.old.levels → node_in tree.new level (index / fan ^ level) ≡ option_map (stamped_in (slot_of index level) stamp) (node_in tree.old level (index / fan ^ level)) }
+    ensures others { (level place : ℕ) → (level ≤ lowest) ⊎ (place ≢ index / fan ^ level) → node_in tree.new level place ≡ node_in tree.old level place }
+    ensures placed { (level place : ℕ) → placed_in tree.new.nodes level place ≡ placed_in tree.old.nodes level place }
+    ensures changed { (level : ℕ) → lowest < level → level ≤ tree.old.levels → is_some (tree_map.get spot_cmp tree.old.nodes (level, index / fan ^ level)) ≡ true → changed_in tree.new.nodes level (index / fan ^ level) ≡ true }
+    ensures same { (level place : ℕ) → (level ≤ lowest) ⊎ (place ≢ index / fan ^ level) → tree_map.get spot_cmp tree.new.nodes (level, place) ≡ tree_map.get spot_cmp tree.old.nodes (level, place) }
+{
+    let levels = tree.levels;
+    tree.root = stamped(&tree.root, stamp);
+    for below in lowest..levels {
+        let place = index / width(below + 1);
+        let slot = index / width(below) % FAN;
+        stamp_slot(&mut tree.nodes, below + 1, place, slot, stamp);
+    }
+}

@@ -1,0 +1,139 @@
+//! Placing what changed, from the cells up.
+
+ghost use Rattle.std.specs.Prelude.{◌≡◌, ◌≤◌, ◌-◌, ◌⊎◌, ℕ, true, false, Some, IfOk, IfErr, OnOk, OnErr};
+ghost use Rattle.std.specs.BTreeMap as maps;
+ghost use Rattle.fv_codec.specs.Blocks.{IsPointer};
+ghost use Rattle.fv_model.specs.Trees.{spot_cmp};
+ghost use Rattle.fv_tree.specs.Spelled.{stored};
+ghost use Rattle.fv_tree.specs.Sources.{Counts, HasCause};
+ghost use Rattle.fv_tree.specs.Standing.{standing, under};
+ghost use Rattle.fv_tree.specs.Writing.{Remains};
+ghost use Rattle.fv_tree.specs.Flushing.{loaded, Flushes, IsLeft, IsNodeStep, ReachesOnce, Stands};
+
+use crate::blocks::{Blocks, TreeFault};
+use crate::kept::{KeptNode, Tree};
+use crate::placing::{
+    all_known, first_cell, first_node, forget_cell, forget_node, replace, spelled,
+};
+use fv_codec::Pointer;
+
+/// Places the cells in memory.
+fn flush_cells<B: Blocks>(tree: &mut Tree, blocks: &mut B) -> Result<(), TreeFault>
+    ensures flushes { Stands (B.shown blocks.old) tree.old → Flushes (loaded (B.shown blocks.old) tree.old) (B.shown blocks.old).used (loaded (B.shown blocks.new) tree.new) (B.shown blocks.new).used }
+    ensures left { IsLeft tree.old tree.new }
+    ensures none { OnOk result (maps.btree_map_len tree.new.cells ≡ 0) }
+    ensures counts { Counts (B.shown blocks.old) (B.shown blocks.new) }
+    ensures cause { IfErr result (HasCause (B.shown blocks.old) (B.shown blocks.new)) }
+{
+    for _ in 0..tree.cells.len() {
+        flush_first_cell(tree, blocks)?;
+    }
+    Ok(())
+}
+
+/// Places the nodes in memory that changed, the lowest first.
+fn flush_nodes<B: Blocks>(tree: &mut Tree, blocks: &mut B) -> Result<(), TreeFault>
+    requires { maps.btree_map_len tree.old.cells ≡ 0 }
+    ensures flushes { Stands (B.shown blocks.old) tree.old → Flushes (loaded (B.shown blocks.old) tree.old) (B.shown blocks.old).used (loaded (B.shown blocks.new) tree.new) (B.shown blocks.new).used }
+    ensures left { IsLeft tree.old tree.new }
+    ensures cells { tree.new.cells ≡ tree.old.cells }
+    ensures none { OnOk result (maps.btree_map_len tree.new.nodes ≡ 0) }
+    ensures counts { Counts (B.shown blocks.old) (B.shown blocks.new) }
+    ensures cause { IfErr result (HasCause (B.shown blocks.old) (B.shown blocks.new)) }
+{
+    for _ in 0..tree.nodes.len() {
+        flush_first_node(tree, blocks)?;
+    }
+    Ok(())
+}
+
+/// Places the first cell in memory.
+fn flush_first_cell<B: Blocks>(tree: &mut Tree, blocks: &mut B) -> Result<(), TreeFault>
+    ensures flushes { Stands (B.shown blocks.old) tree.old → Flushes (loaded (B.shown blocks.old) tree.old) (B.shown blocks.old).used (loaded (B.shown blocks.new) tree.new) (B.shown blocks.new).used }
+    ensures left { IsLeft tree.old tree.new }
+    ensures fewer { OnOk result (maps.btree_map_len tree.new.cells ≡ maps.btree_map_len tree.old.cells - 1) }
+    ensures counts { Counts (B.shown blocks.old) (B.shown blocks.new) }
+    ensures cause { IfErr result (HasCause (B.shown blocks.old) (B.shown blocks.new)) }
+{
+    match first_cell(tree) {
+        None => Ok(()),
+        Some((index, cell)) => {
+            replace(tree, blocks, (0, index), &cell.block, cell.placed, true)?;
+            forget_cell(tree, index);
+            Ok(())
+        }
+    }
+}
+
+/// Places the first node in memory, where it changed.
+fn flush_first_node<B: Blocks>(tree: &mut Tree, blocks: &mut B) -> Result<(), TreeFault>
+    requires { maps.btree_map_len tree.old.cells ≡ 0 }
+    ensures flushes { Stands (B.shown blocks.old) tree.old → Flushes (loaded (B.shown blocks.old) tree.old) (B.shown blocks.old).used (loaded (B.shown blocks.new) tree.new) (B.shown blocks.new).used }
+    ensures left { IsLeft tree.old tree.new }
+    ensures cells { tree.new.cells ≡ tree.old.cells }
+    ensures fewer { OnOk result (maps.btree_map_len tree.new.nodes ≡ maps.btree_map_len tree.old.nodes - 1) }
+    ensures counts { Counts (B.shown blocks.old) (B.shown blocks.new) }
+    ensures cause { IfErr result (HasCause (B.shown blocks.old) (B.shown blocks.new)) }
+{
+    match first_node(tree) {
+        None => Ok(()),
+        Some(((level, place), node)) => {
+            flush_node(tree, blocks, level, place, &node)?;
+            forget_node(tree, level, place);
+            Ok(())
+        }
+    }
+}
+
+/// Places a node, where it changed and lies within the levels.
+fn flush_node<B: Blocks>(
+    tree: &mut Tree,
+    blocks: &mut B,
+    level: u8,
+    place: u32,
+    node: &KeptNode,
+) -> Result<(), TreeFault>
+    ensures node { OnOk result (IsNodeStep (B.shown blocks.old) tree.old level place node.now (B.shown blocks.new) tree.new) }
+    ensures failed { OnErr result (tree.new ≡ tree.old) }
+    ensures held { OnErr result ((B.shown blocks.new).held ≡ (B.shown blocks.old).held) }
+    ensures used { OnErr result ((B.shown blocks.new).used ≡ (B.shown blocks.old).used) }
+    ensures counts { Counts (B.shown blocks.old) (B.shown blocks.new) }
+    ensures cause { IfErr result (HasCause (B.shown blocks.old) (B.shown blocks.new)) }
+{
+    if node.changed && 1 <= level && level <= tree.levels {
+        let block = spelled(tree.owner, level, place, node);
+        let known = all_known(&node.children);
+        replace(tree, blocks, (level, place), &block, node.placed, known)
+    } else {
+        Ok(())
+    }
+}
+
+impl Tree {
+    /// Places each cell and each node that changed since the last flush once, a node after all that it leads
+    /// to, and names each block that one of them replaces once to `gone`. A node that holds an unknown pointer
+    /// gets an unknown pointer itself. Answers the root, and then nothing is in memory. Levels, cells and marks
+    /// stay as they are, also after a fault, and a later flush then goes on where this one ended. All this is
+    /// so for a tree that stands on its blocks. It takes no memory, loads nothing, and walks only what is in
+    /// memory.
+    ///
+    /// # Errors
+    ///
+    /// As `place` of the `Blocks` answers them.
+    pub fn flush<B: Blocks>(&mut self, blocks: &mut B) -> Result<Pointer, TreeFault>
+        ensures flushes { Stands (B.shown blocks.old) self.old → Flushes (loaded (B.shown blocks.old) self.old) (B.shown blocks.old).used (loaded (B.shown blocks.new) self.new) (B.shown blocks.new).used }
+        ensures remains { Stands (B.shown blocks.old) self.old → Remains (standing (under (B.shown blocks.old)) self.old) (standing (under (B.shown blocks.new)) self.new) }
+        ensures left { IsLeft self.old self.new }
+        ensures done { OnOk result ((level place : ℕ) → (loaded (B.shown blocks.new) self.new).changed level place ≡ false) }
+        ensures root { IfOk result (λ root. root ≡ self.new.root) }
+        ensures pointer { IfOk result IsPointer }
+        ensures stored { IfOk result (λ root. standing (under (B.shown blocks.new)) self.new ≡ stored (under (B.shown blocks.new)) self.old.owner self.old.levels root) }
+        ensures reaches { IfOk result (λ root. Stands (B.shown blocks.old) self.old → ReachesOnce (B.shown blocks.new).used (stored (under (B.shown blocks.new)) self.old.owner self.old.levels root)) }
+        ensures counts { Counts (B.shown blocks.old) (B.shown blocks.new) }
+        ensures cause { IfErr result (HasCause (B.shown blocks.old) (B.shown blocks.new)) }
+    {
+        flush_cells(self, blocks)?;
+        flush_nodes(self, blocks)?;
+        Ok(self.root)
+    }
+}

@@ -1,0 +1,267 @@
+//! The steps of a flush: placing one block, and what its pointer and the memory are like afterwards.
+
+ghost use Rattle.std.specs.Prelude.{◌≡◌, ◌≢◌, ◌≤◌, ◌<◌, ◌⊎◌, ◌+◌, ℕ, Bool, true, false, Ok, Some, None, is_some, slice_set, IfOk, IfErr, IfSome, IfNone, OnOk, OnErr};
+ghost use Rattle.std.specs.BTreeMap as maps;
+ghost use Rattle.std.specs.Ordering.{nat_cmp};
+ghost use Rattle.std.specs.Option.{option_map};
+ghost use Rattle.fv_codec.specs.Blocks.{IsPointer, last_place, node_at};
+ghost use Rattle.fv_model.specs.Trees.{fan, spot_cmp};
+ghost use Rattle.fv_tree.specs.Sources.{Counts, Drops, HasCause, IsKind};
+ghost use Rattle.fv_tree.specs.Standing.{children_in};
+ghost use Rattle.fv_tree.specs.Flushing.{all_known, changed_in, is_unknown, kind_for, placed_in, pointer_in, ForgetsCell, ForgetsNode, IsHidden, IsMoved, Points, Swaps};
+
+use crate::blocks::{Blocks, Placed, TreeFault};
+use crate::kept::{HOLE, KeptCell, KeptNode, Tree};
+use crate::sizes::FAN;
+use fv_codec::{Node, Pointer};
+use std::collections::BTreeMap;
+
+/// The cell in memory with the least index.
+pub fn first_cell(tree: &Tree) -> Option<(u32, KeptCell)>
+    ensures there { IfSome result (λ e. maps.get nat_cmp tree.now.cells e.0 ≡ Some e.1) }
+    ensures none { IfNone result (maps.btree_map_len tree.now.cells ≡ 0) }
+{
+    match tree.cells.first_key_value() {
+        None => None,
+        Some((index, cell)) => Some((*index, *cell)),
+    }
+}
+
+/// The first node of the lowest level in memory.
+pub fn first_node(tree: &Tree) -> Option<((u8, u32), KeptNode)>
+    ensures there { IfSome result (λ e. maps.get spot_cmp tree.now.nodes e.0 ≡ Some e.1) }
+    ensures none { IfNone result (maps.btree_map_len tree.now.nodes ≡ 0) }
+    ensures lowest { IfSome result (λ e. (k q : ℕ) → k < e.0.0 → maps.get spot_cmp tree.now.nodes (k, q) ≡ None) }
+{
+    match tree.nodes.first_key_value() {
+        None => None,
+        Some((spot, node)) => Some((*spot, *node)),
+    }
+}
+
+/// Takes a cell out of memory.
+pub fn forget_cell(tree: &mut Tree, index: u32)
+    ensures forgets { ForgetsCell tree.old tree.new index }
+    ensures len { is_some (maps.get nat_cmp tree.old.cells index) ≡ true → maps.btree_map_len tree.new.cells + 1 ≡ maps.btree_map_len tree.old.cells }
+{
+    let _ = tree.cells.remove(&index);
+}
+
+/// Takes a node out of memory.
+pub fn forget_node(tree: &mut Tree, level: u8, place: u32)
+    ensures forgets { ForgetsNode tree.old tree.new level place }
+    ensures len { is_some (maps.get spot_cmp tree.old.nodes (level, place)) ≡ true → maps.btree_map_len tree.new.nodes + 1 ≡ maps.btree_map_len tree.old.nodes }
+{
+    let _ = tree.nodes.remove(&(level, place));
+}
+
+/// The block of a node that changed.
+pub fn spelled(owner: u64, level: u8, place: u32, node: &KeptNode) -> [u8; 4096]
+    requires low { 1 ≤ level }
+    requires high { level ≤ 3 }
+    requires changed { node.now.changed ≡ true }
+    ensures { node_at result ≡ Ok (record { level = level; owner = owner; place = place; children = node.now.children }) }
+{
+    let mut block = [0; 4096];
+    let spelled = Node {
+        level,
+        owner,
+        place: u64::from(place),
+        children: node.children,
+    };
+    spelled.encode(&mut block);
+    block
+}
+
+/// Whether no pointer is an unknown one.
+pub fn all_known(children: &[Pointer]) -> bool
+    ensures { result ≡ all_known children.now }
+{
+    for child in children {
+        if is_unknown(child) {
+            return false;
+        }
+    }
+    true
+}
+
+/// Whether a pointer leads to a block of which the place isn't known.
+fn is_unknown(pointer: &Pointer) -> bool
+    ensures { result ≡ is_unknown pointer.now }
+{
+    pointer.stamp != 0 && pointer.pvbn == 0
+}
+
+/// The owner of the inode file's tree.
+const INODE_FILE: u64 = u64::MAX;
+
+/// The kind of a block of a level, by the tree's owner. An inode file has no nodes above level 2.
+pub fn kind_of(owner: u64, level: u8) -> u8
+    requires { level ≤ 3 }
+    ensures exact { result ≡ kind_for owner level }
+    ensures kind { IsKind result }
+{
+    match (owner == INODE_FILE, level) {
+        (false, _) => 1 + level,
+        (true, 0) => 5,
+        (true, 1) => 6,
+        (true, _) => 7,
+    }
+}
+
+/// Places a block of a position, where a pointer leads to it, and lets the pointer lead to it there. Names the
+/// block that it replaces, where it has `placed` one.
+pub fn replace<B: Blocks>(
+    tree: &mut Tree,
+    blocks: &mut B,
+    spot: (u8, u32),
+    block: &[u8; 4096],
+    placed: bool,
+    known: bool,
+) -> Result<(), TreeFault>
+    requires { spot.0 ≤ 3 }
+    ensures moves { OnOk result ((IsHidden (B.shown blocks.old) tree.old spot.0 spot.1 (B.shown blocks.new) tree.new) ⊎ (IsMoved (B.shown blocks.old) tree.old spot.0 spot.1 block.now placed known (B.shown blocks.new) tree.new)) }
+    ensures failed { OnErr result (tree.new ≡ tree.old) }
+    ensures held { OnErr result ((B.shown blocks.new).held ≡ (B.shown blocks.old).held) }
+    ensures used { OnErr result ((B.shown blocks.new).used ≡ (B.shown blocks.old).used) }
+    ensures counts { Counts (B.shown blocks.old) (B.shown blocks.new) }
+    ensures cause { IfErr result (HasCause (B.shown blocks.old) (B.shown blocks.new)) }
+{
+    let (level, place) = spot;
+    let old = pointer_in(tree, level, place);
+    if old.stamp == 0 {
+        return Ok(());
+    }
+    let kind = kind_of(tree.owner, level);
+    let new = swap(blocks, kind, block, &old, placed, known)?;
+    point(tree, level, place, &new);
+    Ok(())
+}
+
+/// Places a block in place of the one that a pointer leads to, and names that one where there is one. Answers
+/// the pointer to the new block.
+fn swap<B: Blocks>(
+    blocks: &mut B,
+    kind: u8,
+    block: &[u8; 4096],
+    old: &Pointer,
+    placed: bool,
+    known: bool,
+) -> Result<Pointer, TreeFault>
+    requires kind { IsKind kind }
+    requires pointer { IsPointer old.now }
+    requires some { old.now.stamp ≢ 0 }
+    ensures swaps { IfOk result (λ p. Swaps (B.shown blocks.old) block.now placed old.now.vvbn p.vvbn (B.shown blocks.new)) }
+    ensures stamp { IfOk result (λ p. p.stamp ≡ old.now.stamp) }
+    ensures unknown { IfOk result (λ p. known ≡ false → p.pvbn ≡ 0) }
+    ensures pointer { IfOk result IsPointer }
+    ensures held { OnErr result ((B.shown blocks.new).held ≡ (B.shown blocks.old).held) }
+    ensures used { OnErr result ((B.shown blocks.new).used ≡ (B.shown blocks.old).used) }
+    ensures counts { Counts (B.shown blocks.old) (B.shown blocks.new) }
+    ensures cause { IfErr result (HasCause (B.shown blocks.old) (B.shown blocks.new)) }
+{
+    let at = blocks.place(kind, block)?;
+    name_gone(blocks, placed, old.vvbn as u32);
+    Ok(pointer_to(at, known, old.stamp))
+}
+
+/// Names a block as gone, where that is asked.
+fn name_gone<B: Blocks>(blocks: &mut B, asked: bool, vvbn: u32)
+    ensures gone { asked ≡ true → Drops (B.shown blocks.old) vvbn (B.shown blocks.new) }
+    ensures held { asked ≡ false → (B.shown blocks.new).held ≡ (B.shown blocks.old).held }
+    ensures used { asked ≡ false → (B.shown blocks.new).used ≡ (B.shown blocks.old).used }
+    ensures counts { Counts (B.shown blocks.old) (B.shown blocks.new) }
+{
+    if asked {
+        blocks.gone(vvbn);
+    }
+}
+
+/// The pointer to a block that was placed.
+fn pointer_to(at: Placed, known: bool, stamp: u64) -> Pointer
+    requires vvbn { at.vvbn ≤ last_place }
+    requires pvbn { at.pvbn ≤ last_place }
+    requires some { stamp ≢ 0 }
+    ensures vvbn { result.vvbn ≡ at.vvbn }
+    ensures stamp { result.stamp ≡ stamp }
+    ensures unknown { known ≡ false → result.pvbn ≡ 0 }
+    ensures pointer { IsPointer result }
+{
+    Pointer {
+        vvbn: u64::from(at.vvbn),
+        pvbn: if known { u64::from(at.pvbn) } else { 0 },
+        stamp,
+    }
+}
+
+/// The pointer to a position, as the root or the node over it in memory has it.
+#[tactic(auto, unfolding(crate::specs::Flushing::pointer_in))]
+pub fn pointer_in(tree: &Tree, level: u8, place: u32) -> Pointer
+    ensures is { result ≡ pointer_in tree.now level place }
+    ensures pointer { IsPointer result }
+{
+    if level < tree.levels {
+        match tree.nodes.get(&(level + 1, place / FAN)) {
+            None => HOLE,
+            Some(node) => node.children[(place % FAN) as usize],
+        }
+    } else if level == tree.levels && place == 0 {
+        tree.root
+    } else {
+        HOLE
+    }
+}
+
+/// Puts another pointer to a position into the root, or into the node over it in memory.
+fn point(tree: &mut Tree, level: u8, place: u32, pointer: &Pointer)
+    requires pointer { IsPointer pointer.now }
+    requires some { pointer.now.stamp ≢ 0 }
+    ensures { Points tree.old tree.new level place pointer.now }
+{
+    if level < tree.levels {
+        point_slot(
+            &mut tree.nodes,
+            level + 1,
+            place / FAN,
+            place % FAN,
+            pointer,
+        );
+    } else {
+        tree.root = *pointer;
+    }
+}
+
+/// Puts another pointer into a node, where that is in memory.
+fn point_slot(
+    nodes: &mut BTreeMap<(u8, u32), KeptNode>,
+    level: u8,
+    place: u32,
+    slot: u32,
+    pointer: &Pointer,
+)
+    requires slot { slot < fan }
+    requires pointer { IsPointer pointer.now }
+    requires some { pointer.now.stamp ≢ 0 }
+    ensures node { children_in nodes.new level place ≡ option_map (λ xs. slice_set xs slot pointer.now) (children_in nodes.old level place) }
+    ensures others { (k q : ℕ) → (k ≢ level) ⊎ (q ≢ place) → children_in nodes.new k q ≡ children_in nodes.old k q }
+    ensures len { maps.btree_map_len nodes.new ≡ maps.btree_map_len nodes.old }
+    ensures placed { (k q : ℕ) → placed_in nodes.new k q ≡ placed_in nodes.old k q }
+    ensures changed { (k q : ℕ) → ((k ≢ level) ⊎ (q ≢ place)) ⊎ (changed_in nodes.old k q ≡ true) → changed_in nodes.new k q ≡ changed_in nodes.old k q }
+{
+    if let Some(node) = nodes.get_mut(&(level, place)) {
+        point_child(node, slot, pointer);
+    }
+}
+
+/// Puts another pointer into a node.
+fn point_child(node: &mut KeptNode, slot: u32, pointer: &Pointer)
+    requires slot { slot < fan }
+    requires pointer { IsPointer pointer.now }
+    requires some { pointer.now.stamp ≢ 0 }
+    ensures children { node.new.children ≡ slice_set node.old.children slot pointer.now }
+    ensures changed { node.new.changed ≡ true }
+    ensures placed { node.new.placed ≡ node.old.placed }
+{
+    node.children[slot as usize] = *pointer;
+    node.changed = true;
+}

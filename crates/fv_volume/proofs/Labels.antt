@@ -1,0 +1,199 @@
+-- The label of a plain volume: its fields are in range, and it says what the volume is.
+use Rattle.std.proofs.Common.{◌≡◌, ℕ, zero, suc, ◌-◌, ◌≤◌, Bool, true, false, List, [], ◌∷◌, ◌++◌, length, take, drop, replicate, Option, Some, None, refl, sym, ap, subst, ◌∙◌, arith}
+use Rattle.std.specs.Prelude.{◌&&◌, ◌%◌, ◌==◌, if◌then◌else◌, min, Ok}
+use Rattle.std.specs.List.{list_all}
+use Rattle.std.specs.Option.{is_none}
+use Rattle.std.proofs.Math.Seq.{drop-append_seam, take-append_seam}
+use Rattle.std.proofs.lemmas.Bool.{true≢false}
+use Rattle.std.proofs.lemmas.Bool.Decides.{nat_tests}
+use Rattle.std.proofs.lemmas.List.Elements.{All-replicate}
+use Rattle.fv_codec.specs.Blocks.{IsLabel, IsPointer, IsSnapRecord, last_place, most_stamps}
+use Rattle.fv_codec.specs.Fields.{all_name, all_zero, name_filled, ◌then◌}
+use Rattle.fv_model.specs.declared.commands.Kind.{Kind}
+use Rattle.fv_model.specs.declared.commands.Kind.TheVariants.{Volume as Whole, File as ByFile, Thin}
+use Rattle.fv_model.specs.Spelling.{is_name, is_name_byte as is_letter}
+use Rattle.fv_image.specs.Views.{Footing, Head, Snap, head_of, kind_named, snaps_from}
+use Rattle.fv_image.specs.Told.{has_none, is_plain, volume_of}
+use Rattle.fv_model.specs.Numbers.{greatest_span}
+use Rattle.fv_charge.specs.Ledgers.{IsLedgerOf}
+use Rattle.fv_volmap.specs.Slots.{Volume as MapSlots}
+use Rattle.fv_volume.specs.declared.state.VolumeState.{VolumeState}
+use Rattle.fv_volume.specs.Labels.{free_record, kind_number, label_said}
+use Rattle.fv_volume.specs.States.{IsState, head_in}
+use Rattle.fv_volume.proofs.Naming.{same_byte}
+
+-- ---- the name, filled up with zero bytes
+
+both : (a b : Bool) → (a && b) ≡ true → (a ≡ true) × (b ≡ true)
+both true b is = (refl, is)
+both false b is = absurd (true≢false (sym is))
+
+spelled : (xs : List ℕ) → list_all is_letter xs ≡ true → all_name xs ≡ Ok tt
+unfolding all_name
+spelled [] all = refl
+spelled (x ∷ xs) all =
+    let parts = both (is_letter x) (list_all is_letter xs) all in
+    rw (same_byte x, parts.0) (spelled xs parts.1)
+
+zeros : (n : ℕ) → all_zero (replicate n 0) ≡ Ok tt
+unfolding all_zero
+zeros zero = refl
+zeros (suc n) = zeros n
+
+parts : (w : List ℕ) → is_name w ≡ true → (1 ≤ length w) × ((length w ≤ 64) × (list_all is_letter w ≡ true))
+parts w is = grind (arith, nat_tests, is)
+
+filled : (w : List ℕ) → is_name w ≡ true → name_filled (length w) (w ++ replicate (64 - length w) 0) ≡ Ok tt
+unfolding name_filled
+filled w is =
+    let field = w ++ replicate (64 - length w) 0 in
+    let first : all_name (take (length w) field) ≡ Ok tt = ap all_name (take-append_seam w (replicate (64 - length w) 0)) ∙ spelled w (parts w is).1.1 in
+    let rest : all_zero (drop (length w) field) ≡ Ok tt = ap all_zero (drop-append_seam w (replicate (64 - length w) 0)) ∙ zeros (64 - length w) in
+    (λ i. first i then rest i)
+
+-- ---- the fields
+
+free_in_range : IsSnapRecord free_record
+unfolding name_filled all_name
+free_in_range = record {
+  name_length = omega arith;
+  name_long = refl;
+  name = zeros 64;
+  levels = omega arith;
+  root = record { vvbn = omega arith; pvbn = omega arith; stamp = omega arith };
+}
+
+kind_least : (k : Kind) → kind_number k ≤ 2
+kind_least Whole = omega arith
+kind_least ByFile = omega arith
+kind_least Thin = omega arith
+
+-- a volume whose numbers are such as a label can say
+pub record IsSayable (x : VolumeState) : Type 0 where
+  pub name : is_name x.name ≡ true
+  pub size_least : 1 ≤ x.size
+  pub size_greatest : x.size ≤ min 500000 x.most
+  pub most_least : 2 ≤ x.most
+  pub most_greatest : x.most ≤ 1000000
+  pub span_least : 4096 ≤ x.span
+  pub span_greatest : x.span ≤ 1048576
+  pub span_step : x.span % 4096 ≡ 0
+  pub now : x.now ≤ most_stamps
+  pub levels : x.active.levels ≤ 2
+  pub root : IsPointer x.active.root
+
+pub label_range : (x : VolumeState) → IsSayable x → (container height : ℕ) → container ≤ last_place → 1 ≤ height → height ≤ 2 → IsLabel (label_said x container height)
+unfolding label_said
+label_range x is container height placed least greatest = record {
+  name_least = (parts x.name is.name).0;
+  name_greatest = (parts x.name is.name).1.0;
+  name = filled x.name is.name;
+  kind = kind_least x.kind;
+  size_least = is.size_least;
+  size_greatest = is.size_greatest;
+  most_least = is.most_least;
+  most_greatest = is.most_greatest;
+  span_least = is.span_least;
+  span_greatest = is.span_greatest;
+  span_step = is.span_step;
+  now = is.now;
+  parent = omega arith;
+  base_least = omega arith;
+  base_greatest = omega arith;
+  splitting = omega arith;
+  known = omega arith;
+  container = placed;
+  height_least = least;
+  height_greatest = greatest;
+  levels = is.levels;
+  root = is.root;
+  snapshots = All-replicate IsSnapRecord 24 free_record free_in_range;
+}
+
+-- ---- what the label says
+
+kind_again : (k : Kind) → kind_named (kind_number k) ≡ k
+kind_again Whole = refl
+kind_again ByFile = refl
+kind_again Thin = refl
+
+free_snapshots : snaps_from 1 (replicate 24 free_record) ≡ []
+unfolding snaps_from
+free_snapshots = refl
+
+no_base : (o : Option Footing) → is_none o ≡ true → o ≡ None
+no_base None is = refl
+no_base (Some b) is = absurd (true≢false (sym is))
+
+no_snaps : (ss : List Snap) → has_none ss ≡ true → ss ≡ []
+no_snaps [] is = refl
+no_snaps (s ∷ ss) is = absurd (true≢false (sym is))
+
+-- a label says its volume's head, where that has no file, snapshot or base
+pub label_head : (x : VolumeState) → is_plain (head_in x) ≡ true → is_name x.name ≡ true → (container height : ℕ) → head_of (label_said x container height) ≡ head_in x
+unfolding head_of label_said is_plain
+label_head x plain named container height =
+    let name : take (length x.name) (x.name ++ replicate (64 - length x.name) 0) ≡ x.name = take-append_seam x.name (replicate (64 - length x.name) 0) in
+    let all = both (x.active.root.stamp == 0) (has_none (head_in x).snapshots && (is_none (head_in x).base && x.known)) plain in
+    let more = both (has_none (head_in x).snapshots) (is_none (head_in x).base && x.known) all.1 in
+    let last = both (is_none (head_in x).base) x.known more.1 in
+    (λ i. record {
+      name = name i;
+      kind = kind_again x.kind i;
+      size = x.size;
+      most = x.most;
+      span = x.span;
+      now = x.now;
+      base = sym (no_base (head_in x).base last.0) i;
+      known = sym last.1 i;
+      active = record { levels = x.active.levels; root = x.active.root };
+      snapshots = (free_snapshots ∙ sym (no_snaps (head_in x).snapshots more.0)) i;
+    })
+
+pub label_span : (x : VolumeState) (container height : ℕ) → (label_said x container height).span ≡ x.span
+unfolding label_said
+label_span x container height = refl
+
+pub label_container : (x : VolumeState) (container height : ℕ) → (label_said x container height).container ≡ container
+unfolding label_said
+label_container x container height = refl
+
+pub label_height : (x : VolumeState) (container height : ℕ) → (label_said x container height).height ≡ height
+unfolding label_said
+label_height x container height = refl
+
+-- ---- a volume of which a consistency point told
+
+-- volumes with one head have one label
+pub same_label : (x y : VolumeState) → head_in y ≡ head_in x → (container height : ℕ) → label_said y container height ≡ label_said x container height
+unfolding label_said
+same_label x y head container height = (λ i. record {
+  name_length = length (head i).name;
+  name = (head i).name ++ replicate (64 - length (head i).name) 0;
+  kind = kind_number (head i).kind;
+  size = (head i).size;
+  most = (head i).most;
+  span = (head i).span;
+  now = (head i).now;
+  parent = 0;
+  base_slot = 0;
+  splitting = 0;
+  known = 1;
+  container = container;
+  height = height;
+  levels = (head i).active.levels;
+  root = (head i).active.root;
+  snapshots = replicate 24 free_record;
+})
+
+-- what holds of a volume holds of one with its head, its map and its ledger
+pub same_state : (slot : ℕ) (x y : VolumeState) → head_in y ≡ head_in x → y.slot ≡ x.slot → y.map ≡ x.map → y.ledger ≡ x.ledger → IsState slot x → IsState slot y
+same_state slot x y head at map ledger is = record {
+  slot_is = at ∙ is.slot_is;
+  plain = ap is_plain head ∙ is.plain;
+  span = subst (λ (n : ℕ). n ≤ greatest_span) (sym (ap (λ (h : Head). h.span) head)) is.span;
+  map = ap (λ (m : MapSlots). m.span) map ∙ is.map ∙ sym (ap (λ (h : Head). h.span) head);
+  ledger = subst (λ (h : Head). IsLedgerOf (volume_of h) y.ledger) (sym head) (subst (IsLedgerOf (volume_of (head_in x))) (sym ledger) is.ledger);
+  named = ap (λ (h : Head). is_name h.name) head ∙ is.named;
+  label = λ container height placed least greatest. subst IsLabel (sym (same_label x y head container height)) (is.label container height placed least greatest);
+}

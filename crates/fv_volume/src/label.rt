@@ -1,0 +1,170 @@
+//! Labels as volumes.
+
+ghost use Rattle.std.specs.Prelude.{Ok, ◌≡◌, ◌≤◌, ◌-◌, ◌++◌, replicate, ◌⊎◌, ◌==◌, not, true, false, length, take, find, Some, None, IfOk, IfErr, IfNone, IsTrue, ℕ};
+ghost use Rattle.std.specs.Option.{option_map};
+ghost use Rattle.fv_codec.specs.Blocks.{IsLabel, label_at};
+ghost use Rattle.fv_disk.specs.DiskCalls.{OnlyReads};
+ghost use Rattle.fv_image.specs.Views.{head_of, kind_named};
+ghost use Rattle.fv_model.specs.Spelling.{is_name};
+ghost use Rattle.fv_store.specs.Held.{StandsOn};
+ghost use Rattle.fv_volume.specs.Causes.{HasCause};
+ghost use Rattle.fv_volume.specs.Labels.{kind_number};
+ghost use Rattle.fv_volume.specs.Loading.{IsBadLabel, first_used, form_in, is_used};
+ghost use Rattle.fv_volume.specs.States.{head_in, ledger_of_empty};
+
+use crate::fault::VolumeFault;
+use fv_codec::{Label, Pointer, SnapRecord};
+use fv_disk::{Block, Disk};
+use fv_model::{Kind, Name};
+use fv_store::Store;
+
+const ZERO: Block = [0; 4096];
+
+/// A pointer that leads nowhere.
+pub(crate) const HOLE: Pointer = Pointer {
+    vvbn: 0,
+    pvbn: 0,
+    stamp: 0,
+};
+
+/// The record of a snapshot that isn't there.
+pub(crate) const FREE: SnapRecord = SnapRecord {
+    name_length: 0,
+    name: [0; 64],
+    levels: 0,
+    root: HOLE,
+};
+
+/// The name's length of the first used record.
+fn first_used(records: &[SnapRecord]) -> Option<u64>
+    ensures { option_map (λ n. (0, n)) result ≡ first_used records.now }
+{
+    for record in records {
+        if record.name_length != 0 {
+            return Some(u64::from(record.name_length));
+        }
+    }
+    None
+}
+
+/// The first field that is set by a form which can't be loaded: its value without the form, and its own.
+#[tactic(auto, unfolding(crate::specs::Loading::form_in))]
+fn form_in(label: &Label) -> Option<(u64, u64)>
+    ensures { result ≡ form_in label.entry.now }
+{
+    if label.parent != 0 {
+        return Some((0, u64::from(label.parent)));
+    }
+    if label.known == 0 {
+        return Some((1, 0));
+    }
+    if label.root.stamp != 0 {
+        return Some((0, label.root.stamp));
+    }
+    let length = first_used(&label.snapshots)?;
+    Some((0, length))
+}
+
+/// The label that block `place` spells, where it has no form that can't be loaded.
+fn label_in(block: &Block, place: u32) -> Result<Label, VolumeFault>
+    ensures label { IfOk result (λ l. label_at block.now ≡ Ok l) }
+    ensures range { IfOk result IsLabel }
+    ensures plain { IfOk result (λ l. form_in l ≡ None) }
+    ensures fault { IfErr result (IsBadLabel block.now place) }
+    ensures cause { (n : ℕ) → HasCause n n result }
+{
+    let at = u64::from(place);
+    let label = match Label::decode(block) {
+        Ok(label) => label,
+        Err(shape) => {
+            return Err(VolumeFault::Damaged {
+                at,
+                want: shape.want,
+                found: shape.found,
+            });
+        }
+    };
+    match form_in(&label) {
+        Some((want, found)) => Err(VolumeFault::Damaged { at, want, found }),
+        None => Ok(label),
+    }
+}
+
+/// The name that a label says.
+pub(crate) fn name_of(label: &Label) -> Name
+    requires { IsLabel label.now }
+    ensures name { result ≡ take label.entry.now.name_length label.entry.now.name }
+    ensures form { is_name result ≡ true }
+{
+    Name::read(name_bytes(label)).unwrap()
+}
+
+/// The bytes of the name that a label says.
+fn name_bytes(label: &Label) -> &[u8]
+    requires { IsLabel label.now }
+    ensures bytes { result.now ≡ take label.entry.now.name_length label.entry.now.name }
+    ensures long { length label.entry.now.name ≡ 64 }
+{
+    &label.name[..label.name_length as usize]
+}
+
+/// The kind that a label says.
+pub(crate) fn kind_of(label: &Label) -> Kind
+    ensures { result ≡ kind_named label.entry.now.kind }
+{
+    match label.kind {
+        0 => Kind::Volume,
+        1 => Kind::File,
+        _ => Kind::Thin,
+    }
+}
+
+/// The number of a kind in a label.
+pub(crate) fn kind_number(kind: Kind) -> u8
+    ensures { result ≡ kind_number kind }
+{
+    match kind {
+        Kind::Volume => 0,
+        Kind::File => 1,
+        Kind::Thin => 2,
+    }
+}
+
+/// A name as a label has it: how many bytes it has, and the field, filled up with zero bytes.
+pub(crate) fn name_field(name: &Name) -> (u8, [u8; 64])
+    ensures length { result.0 ≡ length name.now }
+    ensures field { result.1 ≡ name.now ++ replicate (64 - length name.now) 0 }
+{
+    let bytes = name.as_bytes();
+    (bytes.len() as u8, filled(bytes))
+}
+
+/// A field with these bytes, and zero bytes after them.
+fn filled(bytes: &[u8]) -> [u8; 64]
+    requires { length bytes.now ≤ 64 }
+    ensures { result ≡ bytes.now ++ replicate (64 - length bytes.now) 0 }
+{
+    let mut field = [0; 64];
+    field[..bytes.len()].copy_from_slice(bytes);
+    field
+}
+
+/// Reads the label at a place.
+pub(crate) fn read_label<D: Disk>(
+    store: &mut Store,
+    disk: &mut D,
+    place: u32,
+) -> Result<Label, VolumeFault>
+    requires { StandsOn (D.shown disk.old) store.old.pairs }
+    ensures label { IsTrue (D.shown disk.old).tells → IfOk result (λ l. label_at ((D.shown disk.old).reads place) ≡ Ok l) }
+    ensures range { IfOk result IsLabel }
+    ensures plain { IfOk result (λ l. form_in l ≡ None) }
+    ensures fault { IsTrue (D.shown disk.old).tells → IfErr result (IsBadLabel ((D.shown disk.old).reads place) place) }
+    ensures only_reads { OnlyReads (D.shown disk.old) (D.shown disk.new) }
+    ensures stands { StandsOn (D.shown disk.new) store.new.pairs }
+    ensures cause { HasCause (D.shown disk.old).faults (D.shown disk.new).faults result }
+{
+    let mut block = ZERO;
+    store.get(disk, place, &mut block)?;
+    label_in(&block, place)
+}

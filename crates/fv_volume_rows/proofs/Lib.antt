@@ -1,0 +1,2 @@
+-- The proofs that tests need.
+mod Sessions
