@@ -75,10 +75,10 @@ module _ (session : Session) (name : List ℕ) (size : ℕ) (kind : Kind) (room 
   abbrev pool : Pool
   pool = with_holes session.pool added.slot size
 
-  state_there : state_at new.volumes added.slot ≡ Some added.new_there.volume
+  pub state_there : state_at new.volumes added.slot ≡ Some added.new_there.volume
   state_there = added.new_there.state_is
 
-  state_elsewhere : (s : ℕ) → s ≢ added.slot → state_at new.volumes s ≡ state_at session.volumes s
+  pub state_elsewhere : (s : ℕ) → s ≢ added.slot → state_at new.volumes s ≡ state_at session.volumes s
   state_elsewhere s ne = ap (λ (xs : States). state_at xs s) added.made.states ∙ get_or-set_other session.volumes added.slot s (Some added.made.state) None ne
 
   container_elsewhere : (s : ℕ) → s ≢ added.slot → container_at pool.containers s ≡ container_at session.pool.containers s
@@ -108,6 +108,7 @@ module _ (session : Session) (name : List ℕ) (size : ℕ) (kind : Kind) (room 
   stands_added disk stands = subst (λ (p : Pool). Stands disk (record new { pool = p })) (sym added.holes) (record {
     cache = stands.cache;
     found = stands.found;
+    map = stands.map;
     range = stands.range;
     size = stands.size;
     housed = housed_with stands.housed;

@@ -6,3 +6,5 @@ mod Telling
 mod Opened
 mod Whole
 mod Applied
+mod Lasting
+pub mod Lacking

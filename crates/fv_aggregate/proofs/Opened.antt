@@ -1,7 +1,6 @@
 -- A session that was just opened.
 use Rattle.std.proofs.Common.{◌≡◌, ◌≤◌, Option, Some, refl, sym, ap, subst, ◌∙◌, inl, inr, arith, Result, Ok, Err, true}
-use Rattle.std.specs.Prelude.{IfErr, IfOk, nat_le}
-use Rattle.std.specs.Result.{IsErrAnd}
+use Rattle.std.specs.Prelude.{IfOk, IsTrue, nat_le}
 use Rattle.std.proofs.lemmas.Bool.Decides.{nat_tests}
 use Rattle.fv_disk.specs.Shown.{Image, Shown, IsSettled}
 use Rattle.fv_disk.specs.DiskCalls.{OnlyReads}
@@ -14,31 +13,31 @@ use Rattle.fv_image.specs.Sound.{IsSound, committed, is_in_capacity, overheads}
 use Rattle.fv_image.specs.MachineOf.{Tells, machine_of}
 use Rattle.fv_image.proofs.Stands.{stands_for}
 use Rattle.fv_root.specs.declared.find.Found.{Found}
-use Rattle.fv_root.specs.Finding.{IsFound, root_found}
+use Rattle.fv_root.specs.Finding.{IsFound, IsInRange, root_found}
 use Rattle.fv_root.specs.Commits.{IsFoundOn}
+use Rattle.fv_store.specs.Held.{StandsOn}
+use Rattle.fv_container.specs.Chains.{slot_count}
+use Rattle.fv_aggmap.specs.Loading.{IsLoaded as IsMapLoaded}
+use Rattle.fv_aggmap.specs.Space.{blocks_of}
 use Rattle.fv_aggmap.proofs.Room.{room_when_sound}
 use Rattle.fv_volume.specs.declared.fault.VolumeFault.{VolumeFault}
 use Rattle.fv_volume.specs.declared.fault.VolumeFault.TheVariants.{Refused, DiskFault, Damaged, Memory}
-use Rattle.fv_volume.specs.Loading.{IsLoadFault}
+use Rattle.fv_volume.specs.Loading.{IsLoadFault, KeptTo}
 use Rattle.fv_volume.specs.States.{view_over}
 use Rattle.fv_aggregate.specs.declared.fault.OpenFault.{OpenFault}
 use Rattle.fv_aggregate.specs.declared.session.Session.{Session}
-use Rattle.fv_aggregate.specs.Causes.{IsOpenFault, of_volume}
+use Rattle.fv_aggregate.specs.Causes.{IsNotLoaded, IsOpenFault}
 use Rattle.fv_aggregate.specs.Opening.{IsFresh, IsOpened}
-use Rattle.fv_aggregate.specs.Standing.{StandsFor}
+use Rattle.fv_aggregate.specs.Standing.{Stands, StandsFor}
 
 -- ---- faults
 
 -- volumes that can't be loaded under the root that was found
-pub load_fault : (i : Image) (found : Found) → IsFound i found → (e : VolumeFault) → IsLoadFault i found e → IsOpenFault i (of_volume e)
-load_fault i found is (Refused refusal) fault = absurd fault
-load_fault i found is DiskFault fault = tt
-load_fault i found is (Damaged at want number) fault = inr (record { root = found; found = is; fault = inr fault })
-load_fault i found is Memory fault = tt
-
-pub handed : (P : OpenFault → Type 0) (e : OpenFault) (result : Result Session OpenFault) → IsErrAnd result (λ x. x ≡ e) → P e → IfErr result P
-handed P e (Ok session) is holds = tt
-handed P e (Err x) is holds = subst P (sym is) holds
+pub load_fault : (i : Image) (found : Found) → IsFound i found → (e : VolumeFault) (f : OpenFault) → IsLoadFault i found e → IsNotLoaded e f → IsOpenFault i f
+load_fault i found is (Refused refusal) f fault so = absurd so
+load_fault i found is DiskFault f fault so = subst (IsOpenFault i) (sym so) tt
+load_fault i found is (Damaged at want number) f fault so = subst (IsOpenFault i) (sym so) (inr (record { root = found; found = is; fault = inr fault }))
+load_fault i found is Memory f fault so = subst (IsOpenFault i) (sym so) tt
 
 -- ---- what a settled image stands for
 
@@ -87,6 +86,36 @@ opened_for disk session m settled opened fresh machine =
       pending = ap overheads seen ∙ omega (arith, none);
       room = omega (arith, none, room_when_sound disk.reads found session.pool.map opened.map tells.sound);
     }
+
+-- A session that was opened over a disk that a barrier had settled, by a call that only read, stands on it.
+module _ (mid new : Shown) (settled : IsTrue mid.tells → IsSettled mid) (reads : OnlyReads mid new) where
+  pub stands_opened : (session : Session) → (IsTrue mid.tells → IsOpened mid.reads session) → blocks_of session.pool.map ≡ session.pool.found.blocks → IsInRange session.pool.found
+      → KeptTo slot_count session.volumes session.pool.containers → StandsOn new session.pool.store.pairs → IsFresh session → Stands new session
+  stands_opened session opened size range housed cache fresh =
+      let same : new.reads ≡ mid.reads = reads.stays.reads in
+      record {
+        cache = cache;
+        found = λ tells.
+            let told = subst IsTrue reads.stays.tells tells in
+            let is = opened told in
+            let on = found_on mid session.pool.found (settled told) is.found in
+            record {
+              reads = subst (λ (i : Image). IsFound i session.pool.found) (sym same) on.reads;
+              images = λ c now. on.images c (reads.stays.no_more c now);
+            };
+        map = λ tells.
+            let is = opened (subst IsTrue reads.stays.tells tells) in
+            subst (λ (i : Image). IsMapLoaded i session.pool.found session.pool.map) (sym same) is.map;
+        range = range;
+        size = size;
+        housed = record { long = housed.long; volumes = housed.each; each = housed.housed };
+        unkept = fresh.unkept;
+      }
+
+  pub stands_result : (result : Result Session OpenFault) → (IsTrue mid.tells → IfOk result (IsOpened mid.reads)) → IfOk result (λ session. blocks_of session.pool.map ≡ session.pool.found.blocks) → IfOk result (λ session. IsInRange session.pool.found)
+      → IfOk result (λ session. KeptTo slot_count session.volumes session.pool.containers) → IfOk result (λ session. StandsOn new session.pool.store.pairs) → IfOk result (λ session. IsFresh session) → IfOk result (Stands new)
+  stands_result (Ok session) opened size range housed cache fresh = stands_opened session opened size range housed cache fresh
+  stands_result (Err fault) opened size range housed cache fresh = tt
 
 -- the answer of a call that only read, over a disk that a barrier had settled
 pub opened_result : (mid new : Shown) (m : Machine) (result : Result Session OpenFault) → IsSettled mid → OnlyReads mid new → IfOk result (IsOpened mid.reads) → IfOk result IsFresh → machine_of mid.reads ≡ Some m

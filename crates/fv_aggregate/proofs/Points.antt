@@ -39,6 +39,10 @@ lacks_none disk session last m long stands =
 pub no_lack : (disk : Shown) (session : Session) (last m : Machine) → length session.volumes ≡ 64 → StandsFor disk session last m → (want found : ℕ) → want ≡ blocks_asked session.volumes → found ≡ free_blocks session.pool.map → found < want → ⊥
 no_lack disk session last m long stands want found asked free lacks = omega (arith, lacks_none disk session last m long stands, asked, free, lacks)
 
+-- a point that lacks blocks leaves the session as it was
+pub same_session : (session : Session) (pool : Pool) (volumes : States) → pool ≡ session.pool → volumes ≡ session.volumes → record session { volumes = volumes; pool = pool } ≡ session
+same_session session pool volumes same_pool same_volumes = λ j. record session { volumes = same_volumes j; pool = same_pool j }
+
 -- what a crash leaves at each moment of a point
 pub point_moments : (old new : Shown) (session : Session) (last m : Machine) → StandsFor old session last m → Leaves old new (OldOrLent old session.pool session.volumes last) → Leaves old new (λ c g. OneOf last m m c × (g ≡ old.given))
 point_moments old new session last m stands left = weaken old new (OldOrLent old session.pool session.volumes last) (λ c g. OneOf last m m c × (g ≡ old.given))

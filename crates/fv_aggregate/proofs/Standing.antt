@@ -12,6 +12,7 @@ use Rattle.fv_image.specs.MachineOf.{Tells, machine_of}
 use Rattle.fv_image.proofs.Stands.{machine_stands}
 use Rattle.fv_root.specs.Finding.{IsFound, IsInRange, root_found}
 use Rattle.fv_root.specs.Commits.{IsFoundOn}
+use Rattle.fv_aggmap.specs.Loading.{IsLoaded as IsMapLoaded}
 use Rattle.fv_aggmap.specs.Space.{blocks_of}
 use Rattle.fv_cp.specs.Lent.{AreHoused, IsLent}
 use Rattle.fv_volume.specs.declared.pool.Pool.{Pool}
@@ -35,6 +36,7 @@ stands_after_reads old new session reads stands = record {
         reads = subst (λ i. IsFound i session.pool.found) (sym reads.stays.reads) was.reads;
         images = λ c now. was.images c (reads.stays.no_more c now);
       };
+  map = λ tells. subst (λ i. IsMapLoaded i session.pool.found session.pool.map) (sym reads.stays.reads) (stands.map (subst IsTrue reads.stays.tells tells));
   range = stands.range;
   size = stands.size;
   housed = stands.housed;
@@ -46,6 +48,7 @@ pub stands_same : (disk : Shown) (a b : Session) → b.pool ≡ a.pool → b.vol
 stands_same disk a b pool volumes stands = record {
   cache = subst (λ (p : Pool). StandsOn disk p.store.pairs) (sym pool) stands.cache;
   found = λ tells. subst (λ (p : Pool). IsFoundOn disk p.found) (sym pool) (stands.found tells);
+  map = λ tells. subst (λ (p : Pool). IsMapLoaded disk.reads p.found p.map) (sym pool) (stands.map tells);
   range = subst (λ (p : Pool). IsInRange p.found) (sym pool) stands.range;
   size = subst (λ (p : Pool). blocks_of p.map ≡ p.found.blocks) (sym pool) stands.size;
   housed = subst (λ (p : Pool). AreHoused p.containers b.volumes) (sym pool) (subst (λ (v : States). AreHoused a.pool.containers v) (sym volumes) stands.housed);

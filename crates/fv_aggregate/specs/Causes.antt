@@ -1,6 +1,7 @@
 -- Why a session isn't opened, and why a call of one isn't done.
 use Rattle.std.specs.Prelude.{◌≡◌, ◌⊎◌, ◌<◌, ℕ, Some, Result, Ok, Err, IsNone}
 use Rattle.fv_disk.specs.Shown.{Image, Shown, Rose, Elapses}
+use Rattle.fv_disk.specs.DiskCalls.{OnlyReads}
 use Rattle.fv_image.specs.Layout.{root_place}
 use Rattle.fv_root.specs.declared.find.Found.{Found}
 use Rattle.fv_root.specs.Finding.{IsFound, IsNoAggregate, IsDamaged}
@@ -26,12 +27,12 @@ of_root root.DiskFault = opening.DiskFault
 of_root root.NotAggregate = opening.NotAggregate
 of_root (root.Damaged at want found) = opening.Damaged at want found
 
--- no volume is refused when it is loaded, so that a refusal could as well be any other answer
-abbrev pub of_volume : VolumeFault → OpenFault
-of_volume (volume.Refused refusal) = opening.Memory
-of_volume volume.DiskFault = opening.DiskFault
-of_volume (volume.Damaged at want found) = opening.Damaged at want found
-of_volume volume.Memory = opening.Memory
+-- a fault of loading volumes, which is never a refusal, as a fault of opening
+abbrev pub IsNotLoaded : VolumeFault → OpenFault → Type 0
+IsNotLoaded (volume.Refused refusal) fault = ⊥
+IsNotLoaded volume.DiskFault fault = fault ≡ opening.DiskFault
+IsNotLoaded (volume.Damaged at want found) fault = fault ≡ opening.Damaged at want found
+IsNotLoaded volume.Memory fault = fault ≡ opening.Memory
 
 -- ---- causes
 
@@ -70,6 +71,11 @@ IsFault session DiskFault = IsNone session.failed
 IsFault session (Damaged at want number) = IsNone session.failed × ((at ≡ root_place session.pool.found.slot) × ((want ≡ blocks_asked session.volumes) × ((number ≡ free_blocks session.pool.map) × (number < want))))
 IsFault session Memory = IsNone session.failed
 IsFault session (Failed faults) = session.failed ≡ Some faults
+
+-- a call that lacked blocks left the session as it was, and wrote nothing
+abbrev pub LeavesAll : Shown → Session → Shown → Session → Fault → Type 0
+LeavesAll old session new left (Damaged at want number) = OnlyReads old new × (left ≡ session)
+LeavesAll old session new left fault = Unit {0}
 
 -- A session has failed from the call on in which a write or a barrier failed; it keeps the disk's count of faults of that moment.
 abbrev pub FailsBy : {T : Type 0} → Session → Session → ℕ → Result T Fault → Type 0

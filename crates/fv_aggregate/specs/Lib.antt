@@ -4,3 +4,4 @@ pub mod Causes
 pub mod Opening
 pub mod Adding
 pub mod Telling
+pub mod Lasting

@@ -11,16 +11,19 @@ use Rattle.fv_image.specs.Sound.{overheads}
 use Rattle.fv_image.specs.MachineOf.{machine_of}
 use Rattle.fv_root.specs.Finding.{IsInRange, root_found}
 use Rattle.fv_root.specs.Commits.{IsFoundOn}
+use Rattle.fv_aggmap.specs.Loading.{IsLoaded as IsMapLoaded}
 use Rattle.fv_aggmap.specs.Space.{blocks_of, free_blocks}
 use Rattle.fv_volume.specs.States.{view_over, machine_in}
 use Rattle.fv_cp.specs.Lent.{AreHoused, IsLent}
 use Rattle.fv_aggregate.specs.declared.session.Session.{Session}
 
 -- A session stands on a disk: its root is what `find_root` would answer, over what reads give and over each image that a crash now
--- may leave, and each block in its cache is what the disk reads there. The other fields are of no disk.
+-- may leave; its map has the blocks whose bits are set in that root's map area, for the root on the disk as for the next one; and each
+-- block in its cache is what the disk reads there. The other fields are of no disk.
 pub record Stands (disk : Shown) (session : Session) : Type 0 where
   pub cache : StandsOn disk session.pool.store.pairs
   pub found : IsTrue disk.tells → IsFoundOn disk session.pool.found
+  pub map : IsTrue disk.tells → IsMapLoaded disk.reads session.pool.found session.pool.map
   pub range : IsInRange session.pool.found
   pub size : blocks_of session.pool.map ≡ session.pool.found.blocks
   pub housed : AreHoused session.pool.containers session.volumes

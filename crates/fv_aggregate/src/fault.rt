@@ -1,5 +1,8 @@
 //! Why a session isn't opened, and why a call of one isn't done.
 
+ghost use Rattle.fv_volume.specs.Causes.{IsNoRefusal};
+ghost use Rattle.fv_aggregate.specs.Causes.{IsNotLoaded};
+
 use fv_disk::Failed;
 use fv_root::RootFault;
 use fv_volume::VolumeFault;
@@ -15,7 +18,7 @@ pub enum OpenFault {
     /// Block 0 is no superblock, or neither gate is open.
     #[error("NotAggregate")]
     NotAggregate,
-    /// A block isn't as it has to be.
+    /// A block isn't as it has to be, or a label is of a form that can't be loaded yet.
     #[error("Damaged")]
     Damaged {
         /// The place of the block.
@@ -56,18 +59,16 @@ impl From<RootFault> for OpenFault {
     }
 }
 
-impl From<VolumeFault> for OpenFault {
-    ghost use Rattle.std.specs.Prelude.{◌≡◌};
-    ghost use Rattle.fv_aggregate.specs.Causes.{of_volume};
-
-    ghost from_gives = { λ fault e. e ≡ of_volume fault };
-
-    fn from(fault: VolumeFault) -> OpenFault {
-        match fault {
-            VolumeFault::DiskFault => OpenFault::DiskFault,
-            VolumeFault::Damaged { at, want, found } => OpenFault::Damaged { at, want, found },
-            VolumeFault::Refused(_) | VolumeFault::Memory => OpenFault::Memory,
-        }
+/// A fault of loading volumes as one of opening: nothing that is loaded is refused.
+pub(crate) fn not_loaded(fault: VolumeFault) -> OpenFault
+    requires { IsNoRefusal fault }
+    ensures { IsNotLoaded fault result }
+{
+    match fault {
+        VolumeFault::DiskFault => OpenFault::DiskFault,
+        VolumeFault::Damaged { at, want, found } => OpenFault::Damaged { at, want, found },
+        VolumeFault::Memory => OpenFault::Memory,
+        VolumeFault::Refused(_) => unreachable!(),
     }
 }
 

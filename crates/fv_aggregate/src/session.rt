@@ -1,6 +1,6 @@
 //! A session.
 
-ghost use Rattle.std.specs.Prelude.{◌≡◌, ◌≤◌, ◌+◌, ◌*◌, ◌⊎◌, ℕ, List, IsTrue, IsNone, IfOk, IfErr, IfSome, OnOk, OnErr, None, Some};
+ghost use Rattle.std.specs.Prelude.{◌≡◌, ◌≤◌, ◌+◌, ◌*◌, ◌⊎◌, ℕ, List, IsTrue, IsNone, IsSome, IfOk, IfErr, IfSome, OnOk, OnErr, None, Some};
 ghost use Rattle.fv_disk.specs.Shown.{Image, IsSettled};
 ghost use Rattle.fv_disk.specs.DiskCalls.{Counted, OnlyReads};
 ghost use Rattle.fv_disk.specs.Crash.{Leaves};
@@ -19,11 +19,12 @@ ghost use Rattle.fv_volume.specs.Loading.{KeptTo};
 ghost use Rattle.fv_volume.specs.States.{AreStates, IsState, machine_in, state_at};
 ghost use Rattle.fv_aggregate.specs.Standing.{OneOf, Stands, StandsAfter, StandsFor, charged_in};
 ghost use Rattle.fv_aggregate.specs.Commands.{Replies, is_refusal, machine_after};
-ghost use Rattle.fv_aggregate.specs.Causes.{FailsBy, HasCause, HasOpenCause, IsFault, IsNoDamage, IsOpenFault, IsUnwritten, KeepsEnds};
+ghost use Rattle.fv_aggregate.specs.Causes.{FailsBy, HasCause, HasOpenCause, IsFault, IsNoDamage, IsOpenFault, IsUnwritten, KeepsEnds, LeavesAll};
+ghost use Rattle.fv_aggregate.specs.Lasting.{GoOn, GoOnBy};
 ghost use Rattle.fv_aggregate.specs.Opening.{IsFresh, IsOpened};
 ghost use Rattle.fv_aggregate.specs.Adding.{Adds, HasRoom};
 
-use crate::fault::{Fault, OpenFault};
+use crate::fault::{Fault, OpenFault, not_loaded};
 use crate::volumes::{names_of, sum_charges};
 use fv_charge::overhead;
 use fv_container::Steps;
@@ -56,6 +57,7 @@ impl Session {
         ensures stands { IfOk result (Stands (D.shown disk.new)) }
         ensures fresh { IfOk result (λ session. IsNone session.failed) }
         ensures settled { IsTrue (D.shown disk.old).tells → OnOk result (IsSettled (D.shown disk.new)) }
+        ensures loaded { IsTrue (D.shown disk.old).tells → IfOk result (IsOpened (D.shown disk.old).reads) }
         ensures machine { IsTrue (D.shown disk.old).tells → (m : Machine) → machine_of (D.shown disk.old).reads ≡ Some m
             → IfOk result (λ session. StandsFor (D.shown disk.new) session m m) }
         ensures whole { IsTrue (D.shown disk.old).tells → (m : Machine) → machine_of (D.shown disk.old).reads ≡ Some m
@@ -81,8 +83,14 @@ impl Session {
         ensures cause { HasOpenCause (D.shown disk.old).faults (D.shown disk.new).faults result }
     {
         let found = find_root(disk)?;
-        let mut pool = Pool::load(alloc, disk, found)?;
-        let volumes = Volumes::load(alloc, &mut pool, disk)?;
+        let mut pool = match Pool::load(alloc, disk, found) {
+            Ok(pool) => pool,
+            Err(fault) => return Err(not_loaded(fault)),
+        };
+        let volumes = match Volumes::load(alloc, &mut pool, disk) {
+            Ok(volumes) => volumes,
+            Err(fault) => return Err(not_loaded(fault)),
+        };
         Ok(Session {
             alloc,
             volumes,
@@ -115,10 +123,13 @@ impl Session {
         ensures stands { IsNone self.new.failed → Stands (D.shown disk.new) self.new }
         ensures fails { FailsBy self.old self.new (D.shown disk.new).faults result }
         ensures fault { IfErr result (IsFault self.old) }
+        ensures lacking { IfErr result (LeavesAll (D.shown disk.old) self.old (D.shown disk.new) self.new) }
+        ensures volumes { OnOk result (GoOnBy command.now self.old.volumes self.new.volumes) }
         ensures cause { HasCause (D.shown disk.old).faults (D.shown disk.new).faults result }
         ensures write_cause { HasCause (D.shown disk.old).write_faults (D.shown disk.new).write_faults result }
         ensures ends { KeepsEnds (D.shown disk.old) (D.shown disk.new) }
         ensures steps { steps.new ≡ steps.old }
+        ensures dead { IsSome self.old.failed → disk.new ≡ disk.old }
     {
         if let Some(faults) = self.failed {
             return Err(Fault::Failed { faults });
@@ -145,9 +156,12 @@ impl Session {
         ensures stands { IsNone self.new.failed → Stands (D.shown disk.new) self.new }
         ensures fails { FailsBy self.old self.new (D.shown disk.new).faults result }
         ensures fault { IfErr result (IsFault self.old) }
+        ensures lacking { IfErr result (LeavesAll (D.shown disk.old) self.old (D.shown disk.new) self.new) }
+        ensures volumes { OnOk result (GoOn self.old.volumes self.new.volumes) }
         ensures cause { HasCause (D.shown disk.old).faults (D.shown disk.new).faults result }
         ensures write_cause { HasCause (D.shown disk.old).write_faults (D.shown disk.new).write_faults result }
         ensures ends { KeepsEnds (D.shown disk.old) (D.shown disk.new) }
+        ensures dead { IsSome self.old.failed → disk.new ≡ disk.old }
     {
         if let Some(faults) = self.failed {
             return Err(Fault::Failed { faults });
@@ -178,6 +192,8 @@ impl Session {
         ensures stands { IsNone self.new.failed → Stands (D.shown disk.new) self.new }
         ensures fails { FailsBy self.old self.new (D.shown disk.new).faults result }
         ensures fault { IfErr result (IsFault self.old) }
+        ensures lacking { IfErr result (LeavesAll (D.shown disk.old) self.old (D.shown disk.new) self.new) }
+        ensures volumes { OnOk result (GoOnBy (VolCreate name.now size kind) self.old.volumes self.new.volumes) }
         ensures cause { HasCause (D.shown disk.old).faults (D.shown disk.new).faults result }
         ensures write_cause { HasCause (D.shown disk.old).write_faults (D.shown disk.new).write_faults result }
         ensures ends { KeepsEnds (D.shown disk.old) (D.shown disk.new) }
@@ -216,6 +232,8 @@ impl Session {
         ensures stands { IsNone self.new.failed → Stands (D.shown disk.new) self.new }
         ensures fails { FailsBy self.old self.new (D.shown disk.new).faults result }
         ensures fault { IfErr result (IsFault self.old) }
+        ensures lacking { IfErr result (LeavesAll (D.shown disk.old) self.old (D.shown disk.new) self.new) }
+        ensures volumes { OnOk result (GoOnBy (VolCreate name.now size kind) self.old.volumes self.new.volumes) }
         ensures cause { HasCause (D.shown disk.old).faults (D.shown disk.new).faults result }
         ensures write_cause { HasCause (D.shown disk.old).write_faults (D.shown disk.new).write_faults result }
         ensures ends { KeepsEnds (D.shown disk.old) (D.shown disk.new) }
@@ -224,7 +242,8 @@ impl Session {
         self.add(name, size, kind, room)
     }
 
-    /// Adds a volume in memory, with this room.
+    /// Adds a volume in memory, with this room. A refusal is the machine's (`added`), so that none comes to a volume that is admitted over
+    /// a session that stands for a machine: that is the clause `made` of `make`.
     fn add(&mut self, name: &Name, size: u32, kind: Kind, room: u64) -> Result<Reply, Fault>
         requires each { (s : ℕ) → IfSome (state_at self.old.volumes s) (IsState s) }
         requires range { IsInRange self.old.pool.found }
@@ -262,6 +281,8 @@ impl Session {
         ensures stands { IsNone self.new.failed → Stands (D.shown disk.new) self.new }
         ensures fails { FailsBy self.old self.new (D.shown disk.new).faults result }
         ensures fault { IfErr result (IsFault self.old) }
+        ensures lacking { IfErr result (LeavesAll (D.shown disk.old) self.old (D.shown disk.new) self.new) }
+        ensures volumes { OnOk result (GoOn self.old.volumes self.new.volumes) }
         ensures cause { HasCause (D.shown disk.old).faults (D.shown disk.new).faults result }
         ensures write_cause { HasCause (D.shown disk.old).write_faults (D.shown disk.new).write_faults result }
         ensures ends { KeepsEnds (D.shown disk.old) (D.shown disk.new) }
@@ -289,6 +310,8 @@ impl Session {
         ensures stands { IsNone self.new.failed → Stands (D.shown disk.new) self.new }
         ensures fails { FailsBy self.old self.new (D.shown disk.new).faults result }
         ensures fault { IfErr result (IsFault self.old) }
+        ensures lacking { IfErr result (LeavesAll (D.shown disk.old) self.old (D.shown disk.new) self.new) }
+        ensures volumes { OnOk result (GoOn self.old.volumes self.new.volumes) }
         ensures cause { HasCause (D.shown disk.old).faults (D.shown disk.new).faults result }
         ensures write_cause { HasCause (D.shown disk.old).write_faults (D.shown disk.new).write_faults result }
         ensures ends { KeepsEnds (D.shown disk.old) (D.shown disk.new) }
@@ -315,6 +338,8 @@ impl Session {
         ensures stands { IsNone self.new.failed → Stands (D.shown disk.new) self.new }
         ensures fails { FailsBy self.old self.new (D.shown disk.new).faults result }
         ensures fault { IfErr result (IsFault self.old) }
+        ensures lacking { IfErr result (LeavesAll (D.shown disk.old) self.old (D.shown disk.new) self.new) }
+        ensures volumes { OnOk result (GoOn self.old.volumes self.new.volumes) }
         ensures cause { HasCause (D.shown disk.old).faults (D.shown disk.new).faults result }
         ensures write_cause { HasCause (D.shown disk.old).write_faults (D.shown disk.new).write_faults result }
         ensures ends { KeepsEnds (D.shown disk.old) (D.shown disk.new) }
@@ -333,7 +358,7 @@ impl Session {
         }
     }
 
-    /// The sum of the charges of all volumes, in blocks.
+    /// The sum of the charges of all volumes, in blocks: so far 0, since an empty volume is charged for none.
     pub fn charged(&self) -> u64
         ensures { AreStates self.now.volumes → (i : Image) → result ≡ charged_in (machine_in self.now.pool self.now.volumes i) }
     {

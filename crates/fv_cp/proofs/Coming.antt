@@ -1,8 +1,7 @@
 -- The course of a consistency point: its start, and a slot more.
 use Rattle.std.proofs.Common.{◌≡◌, ◌≢◌, ℕ, suc, ◌+◌, ◌<◌, ◌≤◌, Bool, true, false, cond, List, length, All, refl, sym, ap, subst, ◌∙◌, arith, ⊎_elim, inl, inr, Ok, Result, get_or, length-set}
 use Rattle.std.specs.Prelude.{Option, Some, None, IsTrue, IfSome}
-use Rattle.std.specs.Option.{option_map}
-use Rattle.std.proofs.lemmas.Bool.{both_ways, cases_eq}
+use Rattle.std.proofs.lemmas.Bool.{cases_eq}
 use Rattle.std.proofs.lemmas.List.{get_or-set_same, get_or-set_other}
 use Rattle.std.proofs.lemmas.List.Elements.{All-set}
 use Rattle.fv_disk.specs.declared.Failed.{Failed}
@@ -31,8 +30,8 @@ use Rattle.fv_volume.specs.States.{IsState, States, state_at}
 use Rattle.fv_volume.specs.Loading.{Houses, IsLoaded}
 use Rattle.fv_cp.specs.Lent.{AreHoused, IsLent, IsUnnamed, asked_by, blocks_asked}
 use Rattle.fv_cp.specs.Steps.{IsTaken, on_disk}
-use Rattle.fv_cp.specs.Course.{GoesPast, HasCome, IsPassed, IsSlotWritten, IsWrittenTo, asked_from, found_with, settled_as, settled_at}
-use Rattle.fv_cp.proofs.OneSlot.{one_more, settled_unchanged, waits}
+use Rattle.fv_cp.specs.Course.{GoesPast, HasCome, IsPassed, IsSlotWritten, IsWrittenTo, asked_from, found_with, settled_at}
+use Rattle.fv_cp.proofs.OneSlot.{not_new, one_more, settled_same, waits}
 use Rattle.fv_cp.proofs.Settling.{asked_on}
 use Rattle.fv_cp.proofs.Sparing.{then_spares}
 use Rattle.fv_cp.proofs.StillLoaded.{still_loaded}
@@ -100,17 +99,6 @@ come_first disk pool states labels laws long same range stands housed room = rec
 
 module _ (found : Found) (states : States) (s : ℕ) (labels : List ℕ) (left after : Pool) (i j : Image) (containers : after.containers ≡ left.containers) (map : after.map ≡ left.map) (reads : j ≡ i)
     (unchanged : IfSome (state_at states s) (λ x. x.changed ≡ false)) where
-  settled_same : (o : Option VolumeState) (label : ℕ) → IfSome o (λ x. x.changed ≡ false) → option_map (settled_as label) o ≡ o
-  settled_same None label is = refl
-  settled_same (Some x) label is = ap Some (settled_unchanged x label is)
-
-  not_new : (o : Option VolumeState) (c : Option Mapped) → IfSome o (λ x. x.changed ≡ false) → IsUnnamed (found_with found labels) s o c → ⊥
-  not_new None c is new = (let e = new.made.state_is in cc)
-  not_new (Some x) c is new =
-      let e : ◌≡◌ {A = Option VolumeState} (Some x) (Some new.made.volume) = new.made.state_is in
-      let same : x ≡ new.made.volume = cc in
-      both_ways _ is (ap (λ (y : VolumeState). y.changed) same ∙ new.made.changed)
-
   passed_here : IsWrittenTo found states s labels left i → IsWrittenTo found states (suc s) labels left i
   passed_here is = record {
     whole = is.whole;
@@ -125,7 +113,7 @@ module _ (found : Found) (states : States) (s : ℕ) (labels : List ℕ) (left a
       here : s < 64 → IsLoaded i (found_with found labels) s (settled_at labels states s) (container_at left.containers s)
       here inside = subst (λ (o : Option VolumeState). IsLoaded i (found_with found labels) s o (container_at left.containers s)) (sym (settled_same (state_at states s) (get_or labels s 0) unchanged)) (⊎_elim
           (λ (loaded : IsLoaded i (found_with found labels) s (state_at states s) (container_at left.containers s)). loaded)
-          (λ (new : IsUnnamed (found_with found labels) s (state_at states s) (container_at left.containers s)). absurd (not_new (state_at states s) (container_at left.containers s) unchanged new))
+          (λ (new : IsUnnamed (found_with found labels) s (state_at states s) (container_at left.containers s)). absurd (not_new (found_with found labels) s (state_at states s) (container_at left.containers s) unchanged new))
           (is.waiting s (omega arith) inside))
 
   pub passed_one : IsWrittenTo found states s labels left i → IsWrittenTo found states (suc s) labels after j

@@ -1,14 +1,16 @@
 -- What a consistency point that was done ends with.
-use Rattle.std.proofs.Common.{◌≡◌, ℕ, ◌<◌, ◌≤◌, Bool, true, false, cond, List, length, refl, sym, ap, subst, ◌∙◌, arith, inl, get_or}
+use Rattle.std.proofs.Common.{◌≡◌, ℕ, ◌<◌, ◌≤◌, Bool, true, false, cond, List, length, refl, sym, ap, subst, ◌∙◌, arith, inl, ⊎_elim, get_or}
 use Rattle.std.specs.Prelude.{Option, Some, None, IfSome}
 use Rattle.std.specs.Option.{option_map}
+use Rattle.std.proofs.lemmas.Bool.{cases_lt}
+use Rattle.std.proofs.lemmas.List.{get_or_past}
 use Rattle.fv_disk.specs.Shown.{Image, Shown}
 use Rattle.fv_disk.proofs.Resting.{settled_image}
 use Rattle.fv_bits.specs.Members.{is_member}
 use Rattle.fv_model.specs.Machines.{Machine, capacity}
 use Rattle.fv_image.specs.NewerRoot.{Taken}
 use Rattle.fv_image.specs.Views.{delayed}
-use Rattle.fv_image.specs.Held.{AgreeOnHeld, Keeps, layout_at, view_at}
+use Rattle.fv_image.specs.Held.{AgreeOnHeld, Keeps, label_place, layout_at, view_at}
 use Rattle.fv_image.specs.Sound.{committed, share_name}
 use Rattle.fv_image.specs.MachineOf.{machine_of, map_bit, Tells}
 use Rattle.fv_image.proofs.Stands.{machine_under, tells_from}
@@ -16,21 +18,23 @@ use Rattle.fv_image.proofs.SoundAgain.{none_delayed}
 use Rattle.fv_image.proofs.Rewritten.{held_has_bit}
 use Rattle.fv_container.specs.Mapped.{Mapped}
 use Rattle.fv_container.specs.Chains.{Slots, container_at}
+use Rattle.fv_codec.specs.declared.root.Root.{Root}
 use Rattle.fv_root.specs.declared.find.Found.{Found}
 use Rattle.fv_root.specs.Finding.{IsInRange, root_found}
-use Rattle.fv_root.specs.Commits.{IsCommitted, IsFoundOn}
+use Rattle.fv_root.specs.Commits.{IsCommitted, IsFoundOn, next_found}
 use Rattle.fv_root.proofs.Crashes.{new_machine}
 use Rattle.fv_aggmap.specs.Space.{Space, blocks_of}
+use Rattle.fv_aggmap.specs.Loading.{IsLoaded as IsMapLoaded}
 use Rattle.fv_volume.specs.declared.pool.Pool.{Pool}
 use Rattle.fv_volume.specs.declared.state.VolumeState.{VolumeState}
 use Rattle.fv_volume.specs.Labels.{label_said}
-use Rattle.fv_volume.specs.States.{AreStates, IsState, States, head_in, state_at, view_over}
+use Rattle.fv_volume.specs.States.{AreStates, IsState, States, head_in, place_in, state_at, view_over}
 use Rattle.fv_volume.specs.Loading.{Houses, IsLoaded}
 use Rattle.fv_volume.proofs.Viewed.{apart_from, distinct_from}
-use Rattle.fv_cp.specs.Lent.{AreHoused, IsLent}
+use Rattle.fv_cp.specs.Lent.{AreHoused, IsLent, IsUnnamed}
 use Rattle.fv_cp.specs.Points.{IsPoint, machine_lent}
 use Rattle.fv_cp.specs.Course.{IsWrittenTo, found_with, settled_as, settled_at}
-use Rattle.fv_cp.proofs.OneSlot.{as_written}
+use Rattle.fv_cp.proofs.OneSlot.{as_written, not_new, settled_same}
 use Rattle.fv_cp.proofs.StillLoaded.{still_loaded}
 use Rattle.fv_cp.proofs.Ready.{alone_at, is_settled, ready, same_committed, same_head, same_told}
 
@@ -65,6 +69,10 @@ settled_houses (Some x) label (Some map) is = so x.changed
     so true = is
     so false = is
 
+settled_as_it_was : (o : Option VolumeState) (label : ℕ) → IfSome o (λ x. x.changed ≡ false → option_map (settled_as label) o ≡ Some x)
+settled_as_it_was None label = tt
+settled_as_it_was (Some x) label = λ unchanged. settled_same (Some x) label unchanged
+
 module _ (states stay : States) (labels : List ℕ) (settled : (s : ℕ) → state_at stay s ≡ settled_at labels states s) where
   pub housed_after : (containers : Slots) → length stay ≡ 64 → AreHoused containers states → AreHoused containers stay
   housed_after containers long is = record {
@@ -82,8 +90,22 @@ module _ (states stay : States) (labels : List ℕ) (settled : (s : ℕ) → sta
     names = distinct_from stay (λ e s lt inside. (λ k. share_name (heads_stay e k) (heads_stay s k)) ∙ apart_from states are.names e s lt (omega (arith, inside, long)));
   }
 
+  same_stay : (s : ℕ) → IfSome (state_at states s) (λ x. x.changed ≡ false → state_at stay s ≡ Some x)
+  same_stay s = subst (λ (new : Option VolumeState). IfSome (state_at states s) (λ x. x.changed ≡ false → new ≡ Some x)) (sym (settled s)) (settled_as_it_was (state_at states s) (get_or labels s 0))
+
   unchanged_stay : (s : ℕ) → IfSome (state_at stay s) (λ x. x.changed ≡ false)
   unchanged_stay s = subst (λ (o : Option VolumeState). IfSome o (λ x. x.changed ≡ false)) (sym (settled s)) (is_settled (state_at states s) (get_or labels s 0))
+
+-- ---- the map
+
+-- after a commit the map in memory is the one that the map area of the new root spells
+pub map_now : (mid : Shown) (found : Found) (root : Root) (next : List Bool) (new : Shown) → IsCommitted mid found root next new → (left : Pool) → left.found ≡ next_found found root → left.map ≡ record { committed = next; next = next } → blocks_of left.map ≡ found.blocks
+    → IsMapLoaded new.reads left.found left.map
+map_now mid found root next new done left now map size = record {
+  len = size ∙ ap (λ (x : Found). x.blocks) (sym now);
+  bits = λ b. ap (λ (x : Space). is_member x.committed b) map ∙ sym (subst (λ (x : Found). map_bit (root_found x) new.reads b ≡ is_member next b) (sym now) (done.side.bits b));
+  same = ap (λ (x : Space). x.next) map ∙ sym (ap (λ (x : Space). x.committed) map);
+}
 
 -- ---- the point
 
@@ -129,16 +151,33 @@ module _ (disk : Shown) (pool : Pool) (states : States) (before : Machine) (lent
       root = done.side.counts ∙ ap (λ (x : Found). Some (root_found x)) (sym found);
       layout = refl;
     });
-    map = record {
-      len = size ∙ ap (λ (x : Found). x.blocks) (sym found);
-      bits = λ b. ap (λ (x : Space). is_member x.committed b) map ∙ sym (subst (λ (x : Found). map_bit (root_found x) new.reads b ≡ is_member written.map.next b) (sym found) (done.side.bits b));
-      same = ap (λ (x : Space). x.next) map ∙ sym (ap (λ (x : Space). x.committed) map);
-    };
+    map = map_now mid pool.found (record pool.found.root { labels = labels }) written.map.next new done left found map size;
     slots = λ s inside. inl (subst (λ (x : Found). IsLoaded new.reads x s (state_at stay s) (container_at left.containers s)) (sym found) (loaded_now s inside));
     states = states_stay states stay labels settled (stay_long ∙ sym long) lent.states;
     commits = subst (λ (n : ℕ). n ≤ capacity left.found.blocks) (sym (same_committed (view_over left stay new.reads) (view_over pool states disk.reads) heads_now))
         (subst (λ (x : Found). committed (view_over pool states disk.reads) ≤ capacity x.blocks) (sym found) lent.commits);
   }
+
+  -- the volume of a slot without changes was named before, and its label's place stays
+  place_stays : (s : ℕ) → s < 64 → (o : Option VolumeState) → state_at states s ≡ o → IfSome o (λ x. x.changed ≡ false → label_place u s ≡ label_place (root_found pool.found) s)
+  place_stays s inside None there = tt
+  place_stays s inside (Some x) there = λ unchanged.
+      let stays : state_at stay s ≡ Some x = settled s ∙ ap (λ (o : Option VolumeState). option_map (settled_as (get_or labels s 0)) o) there ∙ settled_same (Some x) (get_or labels s 0) unchanged in
+      let now : x.label ≡ label_place u s = ap place_in (sym stays) ∙ (loaded_now s inside).label in
+      let was : x.label ≡ label_place (root_found pool.found) s = ap place_in (sym there) ∙ named_before s inside x there unchanged in
+      sym now ∙ was
+    where
+      named_before : (s : ℕ) → s < 64 → (x : VolumeState) → state_at states s ≡ Some x → x.changed ≡ false → place_in (state_at states s) ≡ label_place (root_found pool.found) s
+      named_before s inside x there unchanged = ⊎_elim
+          (λ (loaded : IsLoaded disk.reads pool.found s (state_at states s) (container_at pool.containers s)). loaded.label)
+          (λ (new : IsUnnamed pool.found s (state_at states s) (container_at pool.containers s)). absurd (not_new pool.found s (state_at states s) (container_at pool.containers s) (subst (λ (o : Option VolumeState). IfSome o (λ y. y.changed ≡ false)) (sym there) unchanged) new))
+          (lent.slots s inside)
+
+  places_stay : (s : ℕ) → IfSome (state_at states s) (λ x. x.changed ≡ false → label_place u s ≡ label_place (root_found pool.found) s)
+  places_stay s = ⊎_elim
+      (λ (inside : s < 64). place_stays s inside (state_at states s) refl)
+      (λ (past : 64 ≤ s). subst (λ (o : Option VolumeState). IfSome o (λ x. x.changed ≡ false → label_place u s ≡ label_place (root_found pool.found) s)) (sym (get_or_past states s None (omega (arith, past, long)))) tt)
+      (cases_lt s 64)
 
   pub point : IsPoint disk pool states new left stay
   point = record {
@@ -151,4 +190,6 @@ module _ (disk : Shown) (pool : Pool) (states : States) (before : Machine) (lent
     reclaimed = subst (λ (x : Found). delayed (view_at (root_found x) new.reads) ≡ 0) (sym found)
         (none_delayed (view_at u new.reads) (λ s inside. alone_at f new.reads s (state_at stay s) (container_at left.containers s) (loaded_now s inside) (unchanged_stay states stay labels settled s)));
     blocks = ap (λ (x : Found). x.blocks) found;
+    same = same_stay states stay labels settled;
+    label_same = λ s. subst (λ (t : Found). IfSome (state_at states s) (λ x. x.changed ≡ false → label_place (root_found t) s ≡ label_place (root_found pool.found) s)) (sym found) (places_stay s);
   }

@@ -1,9 +1,9 @@
 -- A slot more, by what writing its volume leaves.
 use Rattle.std.proofs.Common.{◌≡◌, ◌≢◌, ℕ, zero, suc, ◌+◌, ◌<◌, ◌≤◌, Bool, true, false, cond, not, List, length, refl, sym, ap, subst, ◌∙◌, arith, ⊎_elim, inl, inr, ◌⊎◌}
-use Rattle.std.specs.Prelude.{Option, Some, None, ◌||◌, ◌==◌, nat_le, nat_lt, slice_set}
+use Rattle.std.specs.Prelude.{Option, Some, None, IfSome, ◌||◌, ◌==◌, nat_le, nat_lt, slice_set}
 use Rattle.std.specs.List.{list_any, range_with_len}
 use Rattle.std.specs.Option.{is_some, option_map}
-use Rattle.std.proofs.lemmas.Bool.{and_from, and_left, and_right, cases_eq, cases_lt}
+use Rattle.std.proofs.lemmas.Bool.{and_from, and_left, and_right, both_ways, cases_eq, cases_lt}
 use Rattle.std.proofs.lemmas.Bool.Decides.{nat_tests}
 use Rattle.std.proofs.lemmas.List.{get_or-set_same, get_or-set_other}
 use Rattle.fv_disk.specs.Shown.{Image}
@@ -48,8 +48,21 @@ as_written x label = record x { label = label; changed = false }
 settled_changed : (x : VolumeState) (label : ℕ) → x.changed ≡ true → settled_as label x ≡ as_written x label
 settled_changed x label changed = ap (λ (t : Bool). cond t (as_written x label) x) changed
 
-pub settled_unchanged : (x : VolumeState) (label : ℕ) → x.changed ≡ false → settled_as label x ≡ x
+settled_unchanged : (x : VolumeState) (label : ℕ) → x.changed ≡ false → settled_as label x ≡ x
 settled_unchanged x label unchanged = ap (λ (t : Bool). cond t (as_written x label) x) unchanged
+
+-- a slot whose volume has no change is settled as it is
+pub settled_same : (o : Option VolumeState) (label : ℕ) → IfSome o (λ x. x.changed ≡ false) → option_map (settled_as label) o ≡ o
+settled_same None label is = refl
+settled_same (Some x) label is = ap Some (settled_unchanged x label is)
+
+-- and its volume isn't new
+pub not_new : (found : Found) (s : ℕ) (o : Option VolumeState) (c : Option Mapped) → IfSome o (λ x. x.changed ≡ false) → IsUnnamed found s o c → ⊥
+not_new found s None c is new = (let e = new.made.state_is in cc)
+not_new found s (Some x) c is new =
+    let e : ◌≡◌ {A = Option VolumeState} (Some x) (Some new.made.volume) = new.made.state_is in
+    let same : x ≡ new.made.volume = cc in
+    both_ways _ is (ap (λ (y : VolumeState). y.changed) same ∙ new.made.changed)
 
 module _ (found : Found) (states : States) (s : ℕ) (inside : s < 64) (labels : List ℕ) (long : length labels ≡ 64) (left after : Pool) (i j : Image) (x : VolumeState) (there : state_at states s ≡ Some x) (changed : x.changed ≡ true) (state : IsState s x)
     (old new : Mapped) (label : ℕ) (container : container_at left.containers s ≡ Some old) (put : after.containers ≡ with_container left.containers s (Some new)) (few : length left.containers.containers ≡ 64) (valid : IsMapped new)

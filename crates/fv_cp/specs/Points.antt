@@ -6,7 +6,7 @@ use Rattle.fv_disk.specs.DiskCalls.{OnlyReads}
 use Rattle.fv_model.specs.Machines.{Machine}
 use Rattle.fv_image.specs.Layout.{root_place}
 use Rattle.fv_image.specs.Views.{delayed}
-use Rattle.fv_image.specs.Held.{view_at}
+use Rattle.fv_image.specs.Held.{label_place, view_at}
 use Rattle.fv_image.specs.MachineOf.{machine_of}
 use Rattle.fv_root.specs.Finding.{root_found}
 use Rattle.fv_aggmap.specs.Space.{free_blocks}
@@ -15,6 +15,7 @@ use Rattle.fv_volume.specs.States.{States, state_at, head_in, machine_in}
 use Rattle.fv_cp.specs.declared.fault.CpFault.{CpFault}
 use Rattle.fv_cp.specs.declared.fault.CpFault.TheVariants.{DiskFault, Damaged, Memory}
 use Rattle.fv_cp.specs.Lent.{IsLent, blocks_asked}
+use Rattle.fv_cp.specs.Course.{settled_as}
 
 -- the machine of the volumes lent
 abbrev pub machine_lent : Shown → Pool → States → Machine
@@ -35,6 +36,13 @@ pub record IsPoint (old : Shown) (pool : Pool) (states : States) (new : Shown) (
   pub unchanged : (s : ℕ) → IfSome (state_at stay s) (λ x. x.changed ≡ false)
   pub reclaimed : delayed (view_at (root_found left.found) new.reads) ≡ 0
   pub blocks : left.found.blocks ≡ pool.found.blocks
+  -- a volume without changes isn't written: it stays as it is, and the root names the label for it that it had
+  pub same : (s : ℕ) → IfSome (state_at states s) (λ x. x.changed ≡ false → state_at stay s ≡ Some x)
+  pub label_same : (s : ℕ) → IfSome (state_at states s) (λ x. x.changed ≡ false → label_place (root_found left.found) s ≡ label_place (root_found pool.found) s)
+
+-- The volumes stay as they were, but that each that changed is now as the root on the disk names it.
+abbrev pub AreSettled : States → States → Type 0
+AreSettled states stay = (s : ℕ) → (label : ℕ) × (state_at stay s ≡ option_map (settled_as label) (state_at states s))
 
 -- why a point isn't done: fewer blocks are free than it asks for
 abbrev pub LacksRoom : Pool → States → CpFault → Type 0

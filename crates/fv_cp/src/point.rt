@@ -14,9 +14,10 @@ ghost use Rattle.fv_root.specs.Commits.{IsCommitted, IsFoundOn, OldOrNew, next_f
 ghost use Rattle.fv_store.specs.Held.{StandsOn};
 ghost use Rattle.fv_container.specs.Chains.{slot_count};
 ghost use Rattle.fv_aggmap.specs.Space.{blocks_of, free_blocks};
+ghost use Rattle.fv_aggmap.specs.Loading.{IsLoaded};
 ghost use Rattle.fv_volume.specs.States.{IsState, state_at, with_state};
 ghost use Rattle.fv_cp.specs.Lent.{AreHoused, IsLent, asked_by, blocks_asked};
-ghost use Rattle.fv_cp.specs.Points.{Counts, IsPoint, LacksRoom, LeavesAll, OldOrLent};
+ghost use Rattle.fv_cp.specs.Points.{AreSettled, Counts, IsPoint, LacksRoom, LeavesAll, OldOrLent};
 ghost use Rattle.fv_cp.specs.Steps.{IsTaken, on_disk};
 ghost use Rattle.fv_cp.specs.Course.{GoesPast, HasCome, settled_as, settled_at};
 
@@ -69,6 +70,8 @@ pub fn consistency_point<D: Disk>(
     ensures found { IsTrue (D.shown disk.old).tells → OnOk result (IsFoundOn (D.shown disk.new) pool.new.found) }
     ensures range { OnOk result (IsInRange pool.new.found) }
     ensures map { OnOk result (blocks_of pool.new.map ≡ pool.new.found.blocks) }
+    ensures loaded { IsTrue (D.shown disk.old).tells → OnOk result (IsLoaded (D.shown disk.new).reads pool.new.found pool.new.map) }
+    ensures volumes { OnOk result (AreSettled volumes.old volumes.new) }
     ensures housed { OnOk result (AreHoused pool.new.containers volumes.new) }
     ensures kept { OnOk result (pool.new.kept ≡ fin.empty) }
 {

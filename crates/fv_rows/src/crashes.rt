@@ -204,6 +204,30 @@ fn a_crash_at_each_moment(rt: HostRuntime) -> Result<(), Fail> {
     Ok(())
 }
 
+/// A script with a line of 9001 bytes, which reaches over three pieces of the source.
+fn with_long_line(alloc: Global) -> Result<Vec<u8>, AllocError> {
+    let mut script = Vec::from_slice(alloc, b"vol create a 1 none\n")?;
+    for _ in 0..9001 {
+        script.push(b'x')?;
+    }
+    for byte in b"\ncp\nvol create b 1 none" {
+        script.push(*byte)?;
+    }
+    Ok(script)
+}
+
+#[test]
+fn a_crash_around_a_line_that_is_too_long(rt: HostRuntime) -> Result<(), Fail> {
+    let script = with_long_line(rt.alloc())?;
+    let want = Seen {
+        fit: true,
+        least: 0,
+        greatest: 4,
+    };
+    assert_eq!(rt; stopped(rt.alloc(), script.as_slice())?, want);
+    Ok(())
+}
+
 /// What comes of a run in which one call fails: its status, whether it gave a prefix of all replies, and whether the disk has the
 /// volumes of some first lines that it may have.
 fn failing(

@@ -135,6 +135,46 @@ fn a_limit_of_bytes(rt: HostRuntime) -> Result<(), Fail> {
     Ok(())
 }
 
+/// The status of a run that ends before its last line, what it gave, and what its disk then lists.
+fn cut_off(
+    alloc: Global,
+    script: &[u8],
+    limit: u64,
+    call: Option<(Call, u64)>,
+) -> Result<(u8, Vec<u8>, Option<Vec<u8>>), AllocError> {
+    let mut host = aggregate(alloc)?;
+    host.next_run(Vec::from_slice(alloc, script)?);
+    if let Some((call, nth)) = call {
+        host.fail(call, nth)?;
+    }
+    let status = run_script(alloc, &mut host, limit);
+    let given = Vec::from_slice(alloc, host.given())?;
+    let listed = listed(alloc, &mut host)?;
+    Ok((status, given, listed))
+}
+
+/// The first status other than 0 ends a run without a further consistency point: the volume that was made since the last one is lost.
+#[test]
+fn a_run_that_is_cut_off_makes_no_point(rt: HostRuntime) -> Result<(), Fail> {
+    let script = b"vol create a 1 none\ncp\nvol create b 1 none\nvol list\n";
+    let rows: [(u64, Option<(Call, u64)>, u8, &[u8]); 4] = [
+        (51, None, 9, b"ok\nok\nok\n"),
+        (1000, Some((Call::Take, 1)), 3, b"ok\nok\nok\na b\n"),
+        (1000, Some((Call::Give, 3)), 4, b"ok\nok\nok\n"),
+        (1000, Some((Call::Give, 2)), 4, b"ok\nok\n"),
+    ];
+    for (limit, call, status, replies) in rows {
+        let (ended, given, listed) = cut_off(rt.alloc(), script, limit, call)?;
+        assert_eq!(rt; ended, status, "{status} {limit}");
+        assert_eq!(rt; given.as_slice(), replies, "{status} {limit}");
+        assert!(rt;
+            listed.as_deref() == Some(b"a".as_slice()),
+            "{status} {limit}"
+        );
+    }
+    Ok(())
+}
+
 /// The first call of each kind fails.
 #[test]
 fn a_first_call_that_fails(rt: HostRuntime) -> Result<(), Fail> {

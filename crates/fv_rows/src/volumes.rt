@@ -200,6 +200,35 @@ fn no_block_is_left(rt: HostRuntime) -> Result<(), Fail> {
     Ok(())
 }
 
+/// How many commands are applied before the first one that writes.
+fn before_a_write(session: &mut Session, host: &mut MemHost, commands: &[Command]) -> usize
+    requires stands { IsNone session.old.failed → Stands (shown_of host.old) session.old }
+{
+    let moments = host.moments();
+    let mut count: usize = 0;
+    for command in commands {
+        let _ = apply(session, host, command);
+        if host.moments() != moments {
+            return count;
+        }
+        count = count.saturating_add(1);
+    }
+    count
+}
+
+/// An empty volume asks for 20 blocks, so twelve stay within 256, and a point runs before the thirteenth.
+#[test]
+fn a_point_runs_by_itself(rt: HostRuntime) -> Result<(), Fail> {
+    let commands = making(rt.alloc(), 30, 1)?;
+    let mut host = fresh(rt.alloc(), 4096);
+    let count = match Session::open(rt.alloc(), &mut host) {
+        Ok(mut session) => before_a_write(&mut session, &mut host, commands.as_slice()),
+        Err(_) => 0,
+    };
+    assert_eq!(rt; count, 12);
+    Ok(())
+}
+
 /// Makes a volume and a point, and answers how many moments there are then.
 fn make(session: &mut Session, host: &mut MemHost, word: &str) -> Option<u64>
     requires stands { IsNone session.old.failed → Stands (shown_of host.old) session.old }

@@ -1,6 +1,6 @@
 -- A line is applied.
-use Rattle.std.proofs.Common.{◌≡◌, inl, Bool, true, false, cond, ℕ, refl, sym, subst, ap, ◌∙◌}
-use Rattle.std.specs.Prelude.{Option, Some, None, Ok, Err, IsTrue, IsNone}
+use Rattle.std.proofs.Common.{◌≡◌, inl, inr, ⊎_elim, Bool, true, false, cond, ℕ, [], ◌∷◌, refl, sym, subst, ap, ◌∙◌}
+use Rattle.std.specs.Prelude.{Contains, Option, Some, None, Ok, Err, IsTrue, IsNone}
 use Rattle.fv_disk.specs.Shown.{Shown, IsDisk, Ends}
 use Rattle.fv_disk.specs.Crash.{Leaves}
 use Rattle.fv_disk.proofs.Moments.{started}
@@ -19,14 +19,19 @@ use Rattle.fv_aggregate.specs.declared.fault.Fault.{Fault as SessionFault}
 use Rattle.fv_aggregate.specs.declared.fault.Fault.TheVariants as session_fault
 use Rattle.fv_aggregate.specs.declared.session.Session.{Session}
 use Rattle.fv_aggregate.specs.Standing.{OneOf, Stands, StandsAfter, StandsFor}
+use Rattle.fv_aggregate.specs.Lasting.{GoesOn, GoOnBy, IsMadeBy}
 use Rattle.fv_aggregate.specs.Commands.{is_built, machine_after, Replies, RepliesBy}
-use Rattle.fv_aggregate.specs.Causes.{FailsBy, HasCause, IsFault, IsNoDamage, KeepsEnds}
+use Rattle.fv_aggregate.specs.Causes.{FailsBy, HasCause, IsFault, IsNoDamage, KeepsEnds, LeavesAll}
 use Rattle.fv_run.specs.declared.ending.Fault.{Fault}
 use Rattle.fv_run.specs.declared.ending.Fault.TheVariants.{Disk, Memory, Damaged}
 use Rattle.fv_run.specs.Endings.{of_session, Counts, IsWholeFault, RoseFor}
 use Rattle.fv_run.specs.Built.{built}
+use Rattle.fv_volume.specs.declared.state.VolumeState.{VolumeState}
+use Rattle.fv_volume.specs.States.{state_at}
+use Rattle.fv_run.specs.Running.{GoOnIn}
 use Rattle.fv_run.specs.Answering.{Applies, IsReady, IsSessionFault}
-use Rattle.fv_run.proofs.Sessions.{images_stand}
+use Rattle.fv_run.proofs.Lasting.{first_in, made_by, stay_in}
+use Rattle.fv_run.proofs.Sessions.{images_stand, lacks}
 
 -- ---- a command, built or not
 
@@ -37,6 +42,11 @@ after_by false m c = refl
 pub after_built : (m : Machine) (c : Command) → machine_after m c ≡ after_line m (built (Says c))
 unfolding machine_after
 after_built m c = sym (after_by (is_built c) m c)
+
+-- a command that makes a volume is built
+creates_built : (command : Command) (now : Option VolumeState) → IsMadeBy command now → built (Says command) ≡ Says command
+unfolding is_built
+creates_built command now made = subst (λ (c : Command). built (Says c) ≡ Says c) (sym made.says) refl
 
 allowed_by : (is : Bool) (m : Machine) (c : Command) (reply : Reply) → RepliesBy is m c reply → AllowsAt m (cond is (Says c) NoCommand) reply
 allowed_by true m c reply replies = replies
@@ -117,6 +127,7 @@ no_change session line reply host laws ready no_point allowed stays = record {
   no_damage = λ tells last m stands. tt;
   ready = ready;
   ends = tt;
+  volumes = stay_in (line ∷ []) session.volumes;
   given = refl;
   left = refl;
   counts = record { tells = refl; source = refl; sink = refl; disk = refl; cause = tt };
@@ -145,12 +156,19 @@ module _ (session new_session : Session) (line : Line) (command : Command) (old 
   each_moment : IsTrue old.tells → (last m : Machine) → StandsFor old session last m → Leaves old new (λ c g. OneOf last m (after_line m (built line)) c × (g ≡ old.given))
   each_moment tells last m stands = subst (λ (x : Machine). Leaves old new (λ c g. OneOf last m x c × (g ≡ old.given))) (after_is m) (meanwhile tells last m stands ready.unfailed)
 
+  -- what the command made its line made
+  by_line : GoOnBy command session.volumes new_session.volumes → GoOnIn (built line ∷ []) session.volumes new_session.volumes
+  by_line on s = ⊎_elim
+      (λ (goes : GoesOn (state_at session.volumes s) (state_at new_session.volumes s)). inl goes)
+      (λ (made : IsMadeBy command (state_at new_session.volumes s)). inr (made_by (built line ∷ []) command (state_at new_session.volumes s) (subst (λ (l : Line). Contains (l ∷ []) (Says command)) (sym (ap built says ∙ creates_built command (state_at new_session.volumes s) made)) (first_in (Says command) [])) made))
+      (on s)
+
   pub applied : (reply : Reply)
       → (IsTrue old.tells → (last m : Machine) → StandsFor old session last m → Replies m command reply × StandsAfter new new_session last m (machine_after m command) (machine_after m command))
       → (IsTrue old.tells → (last m : Machine) → StandsFor old session last m → command ≡ Cp → StandsFor new new_session m m)
-      → (IsNone new_session.failed → Stands new new_session) → FailsBy session new_session new.faults (Ok reply) → HasCause {T = Reply} old.faults new.faults (Ok reply)
+      → (IsNone new_session.failed → Stands new new_session) → FailsBy session new_session new.faults (Ok reply) → GoOnBy command session.volumes new_session.volumes → HasCause {T = Reply} old.faults new.faults (Ok reply)
       → Applies session (built line) old new_session new (Ok reply)
-  applied reply done point stands fails cause = record {
+  applied reply done point stands fails on cause = record {
     done = λ tells last m so_far.
         let is = done tells last m so_far in (
           subst (λ (l : Line). AllowsAt m (built l) reply) (sym says) (allowed_built m command reply is.0),
@@ -163,6 +181,7 @@ module _ (session new_session : Session) (line : Line) (command : Command) (old 
     no_damage = λ tells last m so_far. tt;
     ready = record { unfailed = fails.1; stands = stands fails.1 };
     ends = tt;
+    volumes = by_line on;
     given = keeps.given;
     left = ap (λ (e : Ends). e.left) keeps.ends;
     counts = record { tells = keeps.tells; source = ap (λ (e : Ends). e.source_faults) keeps.ends; sink = ap (λ (e : Ends). e.sink_faults) keeps.ends; disk = cause; cause = tt };
@@ -171,13 +190,14 @@ module _ (session new_session : Session) (line : Line) (command : Command) (old 
       at_point : (m : Machine) → command ≡ Cp → (command ≡ Cp → StandsFor new new_session m m) → StandsFor new new_session (after_line m (built line)) (after_line m (built line))
       at_point m is stands = subst (λ (x : Machine). StandsFor new new_session x x) (sym (ap (machine_after m) is ∙ after_cp m) ∙ after_is m) (stands is)
 
-  stopped_by : (fault : Fault) → Counts {T = Reply} old new (Err fault) → (IsTrue old.tells → (last m : Machine) → StandsFor old session last m → IsWholeFault fault) → IsSessionFault fault → Applies session (built line) old new_session new (Err fault)
+  stopped_by : (fault : Fault) → Counts {T = Reply} old new (Err fault) → (IsTrue old.tells → (last m : Machine) → StandsFor old session last m → IsWholeFault fault) → IsSessionFault session new fault → Applies session (built line) old new_session new (Err fault)
   stopped_by fault counts no_damage ends = record {
     done = λ tells last m so_far. tt;
     any_moment = each_moment;
     no_damage = no_damage;
     ready = tt;
     ends = ends;
+    volumes = tt;
     given = keeps.given;
     left = ap (λ (e : Ends). e.left) keeps.ends;
     counts = counts;
@@ -186,12 +206,13 @@ module _ (session new_session : Session) (line : Line) (command : Command) (old 
   no_count : (fault : Fault) → RoseFor fault old new → Counts {T = Reply} old new (Err fault)
   no_count fault rose = record { tells = keeps.tells; source = tt; sink = tt; disk = tt; cause = rose }
 
-  pub unapplied : (fault : SessionFault) → (IsTrue old.tells → (last m : Machine) → StandsFor old session last m → IsNoDamage fault) → IsFault session fault → HasCause {T = Reply} old.faults new.faults (Err fault)
+  pub unapplied : (fault : SessionFault) → (IsTrue old.tells → (last m : Machine) → StandsFor old session last m → IsNoDamage fault) → IsFault session fault
+      → (IsNone new_session.failed → Stands new new_session) → FailsBy {T = Reply} session new_session new.faults (Err fault) → LeavesAll old session new new_session fault → HasCause {T = Reply} old.faults new.faults (Err fault)
       → Applies session (built line) old new_session new (Err (of_session fault))
-  unapplied session_fault.DiskFault whole reason cause = stopped_by Disk (no_count Disk cause) (λ tells last m so_far. tt) tt
-  unapplied session_fault.Memory whole reason cause = stopped_by Memory (no_count Memory tt) (λ tells last m so_far. tt) tt
-  unapplied (session_fault.Damaged at want found) whole reason cause = stopped_by Damaged (no_count Damaged tt) whole (record { session = session; at = at; want = want; found = found; fault = reason })
-  unapplied (session_fault.Failed faults) whole reason cause = absurd (never session.failed ready.unfailed reason)
+  unapplied session_fault.DiskFault whole reason stands fails stays cause = stopped_by Disk (no_count Disk cause) (λ tells last m so_far. tt) tt
+  unapplied session_fault.Memory whole reason stands fails stays cause = stopped_by Memory (no_count Memory tt) (λ tells last m so_far. tt) tt
+  unapplied (session_fault.Damaged at want found) whole reason stands fails stays cause = stopped_by Damaged (no_count Damaged tt) whole (lacks old new session new_session at want found stands fails.1 stays reason)
+  unapplied (session_fault.Failed faults) whole reason stands fails stays cause = absurd (never session.failed ready.unfailed reason)
     where
       never : (failed : Option ℕ) → IsNone failed → failed ≡ Some faults → ⊥
       never None none some = cc

@@ -25,6 +25,8 @@ untold blocks old mid e w = record {
   given = λ tells. w.counted.given;
   acknowledged = λ tells. before_it blocks old mid (Err e) w;
   volumes = w.reads;
+  left = ap (λ (ends : Ends). ends.left) w.counted.ends;
+  source_faults = ap (λ (ends : Ends). ends.source_faults) w.counted.ends;
 }
 
 while_telling : (blocks : ℕ) (old mid new : Shown) (bytes : List ℕ) → IsSettled mid → machine_of mid.reads ≡ Some (empty_machine blocks) → Leaves mid new (PartlyGiven mid bytes) → Leaves mid new (IsAcknowledged blocks old)
@@ -52,6 +54,8 @@ module _ (blocks : ℕ) (old mid new : Shown) (made : WritesFixed blocks old mid
     given = λ tells. tt;
     acknowledged = acknowledged;
     volumes = λ tells b volumes. rw gives.rests.stays.reads (made.reads tells b volumes);
+    left = gives.left ∙ ap (λ (ends : Ends). ends.left) made.counted.ends;
+    source_faults = gives.source_faults ∙ ap (λ (ends : Ends). ends.source_faults) made.counted.ends;
   }
 
   pub told_partly : (e : Failed) → GivesAll mid (created_text blocks) new (Err e) → Creates blocks old new (Err Sink)
@@ -61,4 +65,6 @@ module _ (blocks : ℕ) (old mid new : Shown) (made : WritesFixed blocks old mid
     given = λ tells. let part = gives.part (still_told tells) in (part.0, part.1 ∙ ap (λ (x : List ℕ). x ++ take part.0 (created_text blocks)) made.counted.given);
     acknowledged = acknowledged;
     volumes = λ tells b volumes. rw gives.rests.stays.reads (made.reads tells b volumes);
+    left = gives.left ∙ ap (λ (ends : Ends). ends.left) made.counted.ends;
+    source_faults = gives.source_faults ∙ ap (λ (ends : Ends). ends.source_faults) made.counted.ends;
   }

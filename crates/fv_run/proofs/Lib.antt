@@ -7,6 +7,7 @@ mod Created
 mod Digits
 mod Ended
 mod Following
+mod Lasting
 mod Limits
 mod OneEnd
 mod Phrases

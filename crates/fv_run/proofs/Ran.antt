@@ -21,18 +21,19 @@ use Rattle.fv_aggregate.specs.declared.fault.Fault.{Fault as SessionFault}
 use Rattle.fv_aggregate.specs.declared.fault.Fault.TheVariants as session_fault
 use Rattle.fv_aggregate.specs.declared.session.Session.{Session}
 use Rattle.fv_aggregate.specs.Standing.{OneOf, Stands, StandsFor}
-use Rattle.fv_aggregate.specs.Causes.{HasCause, HasOpenCause, IsFault, IsNoDamage, IsOpenFault, IsUnwritten, KeepsEnds}
+use Rattle.fv_aggregate.specs.Opening.{IsOpened}
+use Rattle.fv_aggregate.specs.Causes.{FailsBy, HasCause, HasOpenCause, LeavesAll, IsFault, IsNoDamage, IsOpenFault, IsUnwritten, KeepsEnds}
 use Rattle.fv_run.specs.declared.ending.Fault.{Fault}
 use Rattle.fv_run.specs.declared.ending.Fault.TheVariants.{Usage, NotAggregate, Source, Sink, Disk, Memory, Damaged, Limit}
 use Rattle.fv_run.specs.Built.{built, lines_built}
 use Rattle.fv_run.specs.Endings.{Counts, IsWholeFault, RoseFor, of_opening, of_session}
-use Rattle.fv_run.specs.Running.{HasAnsweredAll, HasFollowed, HasReason, Holds, IsCutOff, IsPastLimit, IsUnopened, Ran, Survives}
+use Rattle.fv_run.specs.Running.{HasAnsweredAll, HasFollowed, HasReason, Holds, IsCutOff, IsOverLimit, IsPastLimit, IsUnopened, LacksSince, Ran, Survives}
 use Rattle.fv_run.specs.Answering.{HasAnswered, IsAtEnd, IsEndOf, Stopped, Tells}
 use Rattle.fv_run.proofs.Acked.{up_to_take}
 use Rattle.fv_run.proofs.Counting.{counts_then}
 use Rattle.fv_run.proofs.Following.{follows_first, follows_part, follows_whole, full}
 use Rattle.fv_run.proofs.Limits.{all_read}
-use Rattle.fv_run.proofs.Sessions.{images_stand, reads_stand, rests_standing_for, not_opened, not_damaged}
+use Rattle.fv_run.proofs.Sessions.{images_stand, lacks, reads_stand, rests_standing_for, not_opened, not_damaged}
 use Rattle.fv_run.proofs.Surviving.{after_some, after_all, part_of_one}
 use Rattle.fv_run.proofs.Answered.{survives, followed}
 
@@ -51,7 +52,7 @@ module _ (limit : ℕ) (old mid : Shown) (laws : IsDisk old) (unwritten : IsUnwr
   none_given : (m : Machine) → HasFollowed m (lines_built old.ends.left) old mid
   none_given m = record { output = []; given = unwritten.kept.given ∙ sym (append-nil old.given); follows = follows_first m (lines_built old.ends.left) 0 [] tt }
 
-  none_taken : IsPastLimit limit old mid → ⊥
+  none_taken : IsOverLimit limit old mid → ⊥
   none_taken past = let same : mid.ends.left ≡ old.ends.left = ap (λ (e : Ends). e.left) unwritten.kept.ends in omega (arith, past.taken, ap (λ (l : List ℕ). length l) same)
 
   unopened_counts : (fault : Fault) → RoseFor fault old mid → Counts {T = Unit {0}} old mid (Err fault)
@@ -77,7 +78,7 @@ module _ (limit : ℕ) (old mid : Shown) (laws : IsDisk old) (unwritten : IsUnwr
     where
       neither : (opening.NotAggregate ≡ opening.DiskFault) ⊎ (opening.NotAggregate ≡ opening.Memory) → ⊥
       neither one = ⊎_elim (λ (e : opening.NotAggregate ≡ opening.DiskFault). cc) (λ (e : opening.NotAggregate ≡ opening.Memory). cc) one
-  not_open (opening.Damaged at want found) whole is cause = unopened_ran Damaged tt (λ tells. inl (at, want, found, is tells)) (λ tells m stands. neither (whole tells m stands)) (λ tells none. absurd (not_damaged old.reads at want found none (is tells)))
+  not_open (opening.Damaged at want found) whole is cause = unopened_ran Damaged tt (λ tells. inl (unwritten, (at, want, found, is tells))) (λ tells m stands. neither (whole tells m stands)) (λ tells none. absurd (not_damaged old.reads at want found none (is tells)))
     where
       neither : (opening.Damaged at want found ≡ opening.DiskFault) ⊎ (opening.Damaged at want found ≡ opening.Memory) → ⊥
       neither one = ⊎_elim (λ (e : opening.Damaged at want found ≡ opening.DiskFault). cc) (λ (e : opening.Damaged at want found ≡ opening.Memory). cc) one
@@ -90,8 +91,8 @@ pub record RanOpen (limit : ℕ) (session : Session) (mid new : Shown) (result :
   pub done : IsTrue mid.tells → (m : Machine) → StandsFor mid session m m → OnOk result (HasAnsweredAll m (lines_built mid.ends.left) mid new)
   pub no_damage : IsTrue mid.tells → (m : Machine) → StandsFor mid session m m → IfErr result IsWholeFault
   pub counts : Counts mid new result
-  pub reason : IfErr result (IsEndOf limit mid new)
-  pub cut_off : IsTrue mid.tells → IsPastLimit limit mid new → IsCutOff result
+  pub reason : IfErr result (IsEndOf limit session mid new)
+  pub cut_off : IsTrue mid.tells → IsOverLimit limit mid new → IsCutOff result
 
 pub stopped_open : (limit : ℕ) (session : Session) (mid new : Shown) (fault : Fault) → Stopped limit session mid new fault → RanOpen limit session mid new (Err fault)
 stopped_open limit session mid new fault stopped = record {
@@ -104,7 +105,7 @@ stopped_open limit session mid new fault stopped = record {
 }
 
 module _ (limit : ℕ) (session : Session) (old mid new : Shown) (laws : IsDisk old) (unwritten : IsUnwritten old mid) (stands : Stands mid session)
-    (machine : IsTrue old.tells → (m : Machine) → machine_of old.reads ≡ Some m → StandsFor mid session m m) (calm : mid.faults ≡ old.faults) where
+    (machine : IsTrue old.tells → (m : Machine) → machine_of old.reads ≡ Some m → StandsFor mid session m m) (opened : IsTrue old.tells → IsOpened old.reads session) (calm : mid.faults ≡ old.faults) where
   mid_told : IsTrue old.tells → IsTrue mid.tells
   mid_told tells = rw unwritten.kept.tells tells
 
@@ -126,12 +127,12 @@ module _ (limit : ℕ) (session : Session) (old mid new : Shown) (laws : IsDisk 
     settled = a.settled;
   }
 
-  past_before : IsPastLimit limit old new → IsPastLimit limit mid new
+  past_before : IsOverLimit limit old new → IsOverLimit limit mid new
   past_before past = record {
     output = past.output;
     given = past.given ∙ ap (λ (l : List ℕ). l ++ past.output) (sym unwritten.kept.given);
     taken = subst (λ (l : List ℕ). limit + length new.ends.left < length l) (sym same_left) past.taken;
-    answered = past.answered ∙ ap (λ (l : List ℕ). whole (take limit l)) (sym same_left);
+    answered = subst (λ (l : List ℕ). whole (take limit l) ≤ whole past.output) (sym same_left) past.answered;
   }
 
   past_since : IsPastLimit limit mid new → IsPastLimit limit old new
@@ -149,17 +150,21 @@ module _ (limit : ℕ) (session : Session) (old mid new : Shown) (laws : IsDisk 
   open_counts : Counts {T = Unit {0}} old mid (Ok (tt {0}))
   open_counts = record { tells = unwritten.kept.tells; source = ap (λ (e : Ends). e.source_faults) unwritten.kept.ends; sink = ap (λ (e : Ends). e.sink_faults) unwritten.kept.ends; disk = calm; cause = tt }
 
-  reason_since : (fault : Fault) → IsEndOf limit mid new fault → HasReason limit old new fault
+  reason_since : (fault : Fault) → IsEndOf limit session mid new fault → HasReason limit old new fault
   reason_since Usage is = is
   reason_since NotAggregate is = absurd is
   reason_since Source is = tt
   reason_since Sink is = tt
   reason_since Disk is = tt
   reason_since Memory is = tt
-  reason_since Damaged is = λ tells. inr is
+  reason_since Damaged is = λ tells. inr (record {
+    first = session;
+    opened = opened tells;
+    since = subst (λ (l : List ℕ). LacksSince (lines_built l) session new) same_left (is (mid_told tells));
+  })
   reason_since Limit is = λ tells. past_since (is (mid_told tells))
 
-  reasons_since : (result : Result Unit Fault) → IfErr result (IsEndOf limit mid new) → IfErr result (HasReason limit old new)
+  reasons_since : (result : Result Unit Fault) → IfErr result (IsEndOf limit session mid new) → IfErr result (HasReason limit old new)
   reasons_since (Ok done) is = tt
   reasons_since (Err fault) is = reason_since fault is
 
@@ -197,7 +202,7 @@ module _ (limit : ℕ) (session : Session) (mid : Shown) (last : Session) (end :
   all_answered : (tells : IsTrue mid.tells) (m : Machine) → StandsFor mid session m m → length (lines_built mid.ends.left) ≤ count
   all_answered tells m stands = none_left (lines_built mid.ends.left) count (sym (ap lines_built (at_end.none tells) ∙ no_lines) ∙ (answers tells m stands).left_over)
 
-  never_past : (new : Shown) → IsTrue mid.tells → IsPastLimit limit mid new → ⊥
+  never_past : (new : Shown) → IsTrue mid.tells → IsOverLimit limit mid new → ⊥
   never_past new tells past =
       let read = at_end.stands.reads tells in
       all_read limit at_end.held.room mid.ends.left read.read [] [] (read.front ∙ ap (λ (l : List ℕ). read.read ++ l) (at_end.none tells)) (read.room ∙ omega arith) (let taken = past.taken in omega (arith, taken))
@@ -225,7 +230,7 @@ module _ (limit : ℕ) (session : Session) (mid : Shown) (last : Session) (end :
         (weaken end point (λ c g. OneOf (after m L a.point) (after m L count) (after m L count) c × (g ≡ end.given)) (Survives m L mid.given) (point_image tells m stands)
         (meanwhile (end_told tells) (after m L a.point) (after m L count) a.stands at_end.stands.ready.unfailed))
 
-    point_stopped : (fault : Fault) → RoseFor fault end point → (IsTrue mid.tells → (m : Machine) → StandsFor mid session m m → IsWholeFault fault) → IsEndOf limit mid point fault → RanOpen limit session mid point (Err fault)
+    point_stopped : (fault : Fault) → RoseFor fault end point → (IsTrue mid.tells → (m : Machine) → StandsFor mid session m m → IsWholeFault fault) → IsEndOf limit session mid point fault → RanOpen limit session mid point (Err fault)
     point_stopped fault rose no_damage reason = record {
       holds = λ tells m stands. record {
         replies = followed m (lines_built mid.ends.left) (lines_built (unread at_end.held end)) mid last end count (answers tells m stands) point keeps.given;
@@ -238,14 +243,15 @@ module _ (limit : ℕ) (session : Session) (mid : Shown) (last : Session) (end :
       cut_off = λ tells past. absurd (never_past point tells past);
     }
 
-    pub point_failed : (fault : SessionFault) → (IsTrue end.tells → (before m : Machine) → StandsFor end last before m → IsNoDamage fault) → IsFault last fault → HasCause {T = Unit {0}} end.faults point.faults (Err fault)
+    pub point_failed : (fault : SessionFault) → (IsTrue end.tells → (before m : Machine) → StandsFor end last before m → IsNoDamage fault) → IsFault last fault
+        → (IsNone next.failed → Stands point next) → FailsBy {T = Unit {0}} last next point.faults (Err fault) → LeavesAll end last point next fault → HasCause {T = Unit {0}} end.faults point.faults (Err fault)
         → RanOpen limit session mid point (Err (of_session fault))
-    point_failed session_fault.DiskFault whole is cause = point_stopped Disk cause (λ tells m stands. tt) tt
-    point_failed session_fault.Memory whole is cause = point_stopped Memory tt (λ tells m stands. tt) tt
-    point_failed (session_fault.Damaged at want found) whole is cause =
+    point_failed session_fault.DiskFault whole is on fails stays cause = point_stopped Disk cause (λ tells m stands. tt) tt
+    point_failed session_fault.Memory whole is on fails stays cause = point_stopped Memory tt (λ tells m stands. tt) tt
+    point_failed (session_fault.Damaged at want found) whole is on fails stays cause =
         point_stopped Damaged tt (λ tells m stands. let a = answers tells m stands in whole (end_told tells) (after m (lines_built mid.ends.left) a.point) (after m (lines_built mid.ends.left) count) a.stands)
-        (record { session = last; at = at; want = want; found = found; fault = is })
-    point_failed (session_fault.Failed faults) whole is cause = absurd (never last.failed at_end.stands.ready.unfailed is)
+        (λ tells. record { session = last; lacks = lacks end point last next at want found on fails.1 stays is; volumes = at_end.stands.volumes tells })
+    point_failed (session_fault.Failed faults) whole is on fails stays cause = absurd (never last.failed at_end.stands.ready.unfailed is)
       where
         never : (failed : Option ℕ) → IsNone failed → failed ≡ Some faults → ⊥
         never None none some = cc
@@ -336,6 +342,6 @@ module _ (limit : ℕ) (session : Session) (mid : Shown) (last : Session) (end :
         done = λ tells m stands. tt;
         no_damage = λ tells m stands. subst IsWholeFault (sym told.sink) tt;
         counts = counts_then mid point new (tt {0}) (Err fault) point_counts told.counts;
-        reason = subst (λ (f : Fault). IsEndOf limit mid new f) (sym told.sink) tt;
+        reason = subst (λ (f : Fault). IsEndOf limit session mid new f) (sym told.sink) tt;
         cut_off = λ tells past. subst (λ (f : Fault). IsCutOff (Err f)) (sym told.sink) tt;
       }

@@ -1,6 +1,6 @@
 -- What a session on a disk stands for, and that it goes on doing so while the disk rests.
 use Rattle.std.proofs.Common.{◌≡◌, ◌<◌, ⊎_elim, ℕ, suc, zero, true, false, refl, sym, subst, ◌∙◌, arith}
-use Rattle.std.specs.Prelude.{Some, None, Option, Result, Ok, Err, IsOk, IsErr, IsTrue}
+use Rattle.std.specs.Prelude.{Some, None, Option, Result, Ok, Err, IsNone, IsOk, IsErr, IsTrue}
 use Rattle.fv_disk.specs.Shown.{Image, Shown}
 use Rattle.fv_disk.specs.HostCalls.{Rests}
 use Rattle.fv_codec.specs.declared.shape.Shape.{Shape}
@@ -22,7 +22,9 @@ use Rattle.fv_root.specs.Finding.{IsDamaged, IsFound, IsNoAggregate, root_found}
 use Rattle.fv_aggregate.specs.declared.fault.OpenFault.TheVariants.{Damaged}
 use Rattle.fv_aggregate.specs.declared.session.Session.{Session}
 use Rattle.fv_aggregate.specs.Standing.{Stands, StandsFor}
-use Rattle.fv_aggregate.specs.Causes.{IsOpenFault, IsUnder}
+use Rattle.fv_aggregate.specs.declared.fault.Fault.TheVariants.{Damaged as DamagedNow}
+use Rattle.fv_aggregate.specs.Causes.{IsFault, IsOpenFault, IsUnder, LeavesAll}
+use Rattle.fv_run.specs.Running.{Lacks}
 
 abbrev nothing_behind : Option (Result Root Shape)
 nothing_behind = None
@@ -47,6 +49,7 @@ pub rests_standing : (old new : Shown) (session : Session) → Rests old new →
 rests_standing old new session rests stands = record {
   cache = record { same = λ tells pvbn block has. rw rests.stays.reads (stands.cache.same (rw (← rests.stays.tells) tells) pvbn block has) };
   found = λ tells. found_still old new session.pool.found rests (stands.found (rw (← rests.stays.tells) tells));
+  map = λ tells. rw rests.stays.reads (stands.map (rw (← rests.stays.tells) tells));
   range = stands.range;
   size = stands.size;
   housed = stands.housed;
@@ -71,6 +74,16 @@ rests_standing_for old new session last m rests stands = record {
   settled = λ c now a. rw rests.stays.reads (stands.settled c (rests.stays.no_more c now) a);
   pending = rw rests.stays.reads stands.pending;
   room = rw rests.stays.reads stands.room;
+}
+
+-- a session that lacked blocks stays as it was, and stands on the disk
+pub lacks : (old new : Shown) (session left : Session) (at want found : ℕ) → (IsNone left.failed → Stands new left) → IsNone left.failed → LeavesAll old session new left (DamagedNow at want found) → IsFault session (DamagedNow at want found) → Lacks new session
+lacks old new session left at want found stands unfailed stays fault = record {
+  stands = subst (Stands new) stays.1 (stands unfailed);
+  at = at;
+  want = want;
+  found = found;
+  fault = fault;
 }
 
 -- ---- images that are no aggregate

@@ -1,6 +1,6 @@
 -- The loop over the lines of a script: how it goes on, and how it ends.
 use Rattle.std.proofs.Common.{◌≡◌, inl, inr, ⊎_elim, ℕ, ◌+◌, ◌<◌, ◌≤◌, ◌++◌, List, [], ◌∷◌, length, take, map, refl, sym, ap, subst, ◌∙◌, arith, append_assoc, append-nil}
-use Rattle.std.specs.Prelude.{Result, Ok, Err, IsTrue}
+use Rattle.std.specs.Prelude.{Contains, Result, Ok, Err, IsTrue}
 use Rattle.std.proofs.lemmas.List.{length-append}
 use Rattle.fv_disk.specs.declared.Failed.{Failed}
 use Rattle.fv_disk.specs.Shown.{Shown, IsDisk}
@@ -20,10 +20,11 @@ use Rattle.fv_run.specs.declared.ending.Fault.{Fault}
 use Rattle.fv_run.specs.declared.ending.Fault.TheVariants.{Usage, NotAggregate, Source, Sink, Disk, Memory, Damaged, Limit}
 use Rattle.fv_run.specs.Built.{built, lines_built}
 use Rattle.fv_run.specs.Endings.{Counts, IsWholeFault}
-use Rattle.fv_run.specs.Running.{Holds, IsCutOff, IsPastLimit, Survives}
+use Rattle.fv_run.specs.Running.{Holds, IsCutOff, IsOverLimit, IsPastLimit, Survives}
 use Rattle.fv_run.specs.Answering.{Applies, HasAnswered, HasRead, IsAtEnd, IsEndOf, IsReady, IsSessionFault, StandsAt, Stopped, Tells}
 use Rattle.fv_run.proofs.Counting.{counts_none, counts_then, counts_as, counts_failed, counts_over, counts_of, counts_of_failed}
 use Rattle.fv_run.proofs.Limits.{all_read, ends_before, ends_all, past_limit, same_behind, none_behind}
+use Rattle.fv_run.proofs.Lasting.{first_in, later_in, on_by_line, stay_in}
 use Rattle.fv_run.proofs.Sessions.{rests_standing}
 use Rattle.fv_run.proofs.Answered.{none_answered, followed, asked, crash_asked, left_as, crash_applied, crash_told, followed_part, answered_one}
 
@@ -34,6 +35,8 @@ starts limit first old laws ready = record {
   counts = counts_none old;
   room = omega arith;
   reads = λ tells. record { output = []; given = sym (append-nil old.given); answered = refl; read = []; front = refl; room = omega arith; ended = inl refl };
+  lines = λ tells line is. is;
+  volumes = λ tells. stay_in (lines_built old.ends.left) first.volumes;
   answers = λ tells m stands. none_answered m (lines_built old.ends.left) old first laws stands;
 }
 
@@ -49,7 +52,7 @@ module _ (limit : ℕ) (first : Session) (old : Shown) (held : Held) (session : 
         let answers = so_far.answers tells m stands in
         (record { replies = followed m _ _ old session now count answers mid finds.asks.given; crash = crash_asked m _ _ old session now count answers mid finds.asks.any_moment }, tt)
 
-    source_limit : IsTrue old.tells → IsPastLimit limit old mid → ⊥
+    source_limit : IsTrue old.tells → IsOverLimit limit old mid → ⊥
     source_limit tells past =
         let read = so_far.reads tells in
         let more = finds.reads (told tells) in
@@ -120,6 +123,8 @@ module _ (limit : ℕ) (first : Session) (old : Shown) (held : Held) (session : 
         counts = counts_then old now mid (tt {0}) (Ok (tt {0})) so_far.counts (counts_of now mid found.End finds.asks);
         room = omega (arith, so_far.room, finds.room);
         reads = end_reads;
+        lines = λ tells line is. let more = finds.reads (told tells) in so_far.lines tells line (subst (λ (l : List Line). Contains l line) (ap lines_built (more.found.1 ∙ sym more.found.0)) is);
+        volumes = so_far.volumes;
         answers = λ tells m stands.
             let more = finds.reads (told tells) in
             left_as m (lines_built old.ends.left) (lines_built (unread held now)) (lines_built (unread new_held mid)) old session mid count (ap lines_built (more.found.0 ∙ sym more.found.1))
@@ -139,6 +144,10 @@ module _ (limit : ℕ) (first : Session) (old : Shown) (held : Held) (session : 
     mid_told : IsTrue old.tells → IsTrue mid.tells
     mid_told tells = rw mid_counts.tells tells
 
+    -- the line and those behind it are lines of the script
+    all_lines : IsTrue old.tells → (line : Line) → Contains (built (line_of bytes) ∷ lines_built (unread new_held mid)) line → Contains (lines_built old.ends.left) line
+    all_lines tells line is = so_far.lines tells line (subst (λ (l : List Line). Contains l line) (sym (ap (λ (l : List Line). map built l) (finds.reads (told tells)).found.0)) is)
+
     found_next : IsTrue old.tells → (m : Machine) → StandsFor old first m m → HasAnswered m (lines_built old.ends.left) (built (line_of bytes) ∷ lines_built (unread new_held mid)) old session mid count
     found_next tells m stands =
         let more = finds.reads (told tells) in
@@ -152,7 +161,7 @@ module _ (limit : ℕ) (first : Session) (old : Shown) (held : Held) (session : 
           crash_applied m (lines_built old.ends.left) (built (line_of bytes)) (lines_built (unread new_held mid)) old session mid count answers next_session end
           (applies.any_moment (mid_told tells) (after m (lines_built old.ends.left) answers.point) (after m (lines_built old.ends.left) count) answers.stands)
 
-      none_past : (tells : IsTrue old.tells) → end.given ≡ mid.given → IsPastLimit limit old end → unread new_held mid ≡ [] → ⊥
+      none_past : (tells : IsTrue old.tells) → end.given ≡ mid.given → IsOverLimit limit old end → unread new_held mid ≡ [] → ⊥
       none_past tells same past none =
           let read = so_far.reads tells in
           let more = finds.reads (told tells) in
@@ -160,17 +169,18 @@ module _ (limit : ℕ) (first : Session) (old : Shown) (held : Held) (session : 
           all_read limit new_held.room old.ends.left read.read more.read [] is (read.room ∙ ap (λ (n : ℕ). length read.read + n) more.room) (let taken = past.taken in omega (arith, taken))
 
       -- the line that was found ends before the limit, and isn't answered
-      one_past : (tells : IsTrue old.tells) → end.given ≡ mid.given → IsPastLimit limit old end → whole (so_far.reads tells).read ≡ count → whole (finds.reads (told tells)).read ≡ 1 → ⊥
+      one_past : (tells : IsTrue old.tells) → end.given ≡ mid.given → IsOverLimit limit old end → whole (so_far.reads tells).read ≡ count → whole (finds.reads (told tells)).read ≡ 1 → ⊥
       one_past tells same past counted one =
           let read = so_far.reads tells in
           let more = finds.reads (told tells) in
           let is : old.ends.left ≡ read.read ++ (more.read ++ unread new_held mid) = read.front ∙ ap (λ (l : List ℕ). read.read ++ l) more.front in
           let before : whole read.read + whole more.read ≤ whole (take limit old.ends.left) = ends_before limit new_held.room old.ends.left read.read more.read (unread new_held mid) is (read.room ∙ ap (λ (n : ℕ). length read.read + n) more.room) in
           let output : past.output ≡ read.output = same_behind old.given past.output read.output (sym past.given ∙ same ∙ finds.asks.given ∙ read.given) in
-          let answered : whole (take limit old.ends.left) ≡ count = sym past.answered ∙ ap whole output ∙ read.answered in
-          omega (arith, before, answered, counted, one)
+          let answered : whole past.output ≡ count = ap whole output ∙ read.answered in
+          let all = past.answered in
+          omega (arith, before, all, answered, counted, one)
 
-      not_past : IsTrue old.tells → end.given ≡ mid.given → IsPastLimit limit old end → ⊥
+      not_past : IsTrue old.tells → end.given ≡ mid.given → IsOverLimit limit old end → ⊥
       not_past tells same past =
           let read = so_far.reads tells in
           let more = finds.reads (told tells) in
@@ -182,14 +192,14 @@ module _ (limit : ℕ) (first : Session) (old : Shown) (held : Held) (session : 
           (λ (none : unread new_held mid ≡ []). none_past tells same past none)
           more.found.1
 
-      ends_so : (fault : Fault) → IsSessionFault fault → IsEndOf limit old end fault
+      ends_so : (fault : Fault) → IsSessionFault session end fault → IsEndOf limit first old end fault
       ends_so Usage is = is
       ends_so NotAggregate is = is
       ends_so Source is = tt
       ends_so Sink is = tt
       ends_so Disk is = is
       ends_so Memory is = is
-      ends_so Damaged is = is
+      ends_so Damaged is = λ tells. record { session = session; lacks = is; volumes = so_far.volumes tells }
       ends_so Limit is = absurd is
 
       -- the line wasn't applied
@@ -232,7 +242,7 @@ module _ (limit : ℕ) (first : Session) (old : Shown) (held : Held) (session : 
         tell_failed fault tells_it = record {
           holds = λ tells m stands. (told_holds fault tells_it.sink tells_it tells m stands, subst IsWholeFault (sym tells_it.sink) tt);
           counts = counts_then old end new (tt {0}) (Err fault) end_counts tells_it.counts;
-          reason = subst (λ (f : Fault). IsEndOf limit old new f) (sym tells_it.sink) tt;
+          reason = subst (λ (f : Fault). IsEndOf limit first old new f) (sym tells_it.sink) tt;
           cut_off = λ tells past. subst (λ (f : Fault). IsCutOff (Err f)) (sym tells_it.sink) tt;
         }
 
@@ -265,6 +275,9 @@ module _ (limit : ℕ) (first : Session) (old : Shown) (held : Held) (session : 
           counts = counts_then old end new (tt {0}) (Ok tt) end_counts tells_it.counts;
           room = omega (arith, so_far.room, finds.room);
           reads = reads_next tells_it;
+          lines = λ tells line is. all_lines tells line (later_in (built (line_of bytes)) (lines_built (unread new_held mid)) line (subst (λ (l : List ℕ). Contains (lines_built l) line) (same_left tells_it) is));
+          volumes = λ tells. on_by_line (lines_built old.ends.left) (built (line_of bytes)) first.volumes session.volumes next_session.volumes
+              (all_lines tells (built (line_of bytes)) (first_in (built (line_of bytes)) (lines_built (unread new_held mid)))) (so_far.volumes tells) applies.volumes;
           answers = λ tells m stands.
               let answers = found_next tells m stands in
               let done = applies.done (mid_told tells) (after m (lines_built old.ends.left) answers.point) (after m (lines_built old.ends.left) count) answers.stands in

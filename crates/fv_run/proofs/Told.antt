@@ -82,6 +82,8 @@ pub record Tells (asked : Option Order) (old new : Shown) (status : ℕ) : Type 
   pub acknowledged : (blocks : ℕ) → asked ≡ Some (Create blocks) → IsTrue old.tells → Leaves old new (IsAcknowledged blocks old)
   pub volumes : (blocks : ℕ) → asked ≡ Some (Create blocks) → IsTrue old.tells → SameVolumes blocks old.reads new.reads
   pub create_statuses : (blocks : ℕ) → asked ≡ Some (Create blocks) → Contains (0 ∷ 4 ∷ 5 ∷ []) status
+  pub left : (blocks : ℕ) → asked ≡ Some (Create blocks) → new.ends.left ≡ old.ends.left
+  pub source_faults : (blocks : ℕ) → asked ≡ Some (Create blocks) → new.ends.source_faults ≡ old.ends.source_faults
   pub run : asked ≡ Some Run → IsRun most_bytes old new status
 
 abbrev nothing : Option Order
@@ -107,6 +109,8 @@ tells_usage old new = record {
   acknowledged = λ blocks e. asks_none blocks e;
   volumes = λ blocks e. asks_none blocks e;
   create_statuses = λ blocks e. asks_none blocks e;
+  left = λ blocks e. asks_none blocks e;
+  source_faults = λ blocks e. asks_none blocks e;
   run = λ e. absurd (no_run e);
 }
   where
@@ -151,6 +155,8 @@ tells_creation blocks old new result c =
       acknowledged = λ other same. subst (λ (n : ℕ). IsTrue old.tells → Leaves old new (IsAcknowledged n old)) (same_order blocks other same) c.acknowledged;
       volumes = λ other same. subst (λ (n : ℕ). IsTrue old.tells → SameVolumes n old.reads new.reads) (same_order blocks other same) c.volumes;
       create_statuses = λ other same. t.known;
+      left = λ other same. c.left;
+      source_faults = λ other same. c.source_faults;
       run = λ e. absurd (no_run blocks e);
     }
   where
@@ -174,6 +180,8 @@ tells_run old new result r =
       acknowledged = λ blocks same. absurd (no_create blocks same);
       volumes = λ blocks same. absurd (no_create blocks same);
       create_statuses = λ blocks same. absurd (no_create blocks same);
+      left = λ blocks same. absurd (no_create blocks same);
+      source_faults = λ blocks same. absurd (no_create blocks same);
       run = λ e. t;
     }
   where

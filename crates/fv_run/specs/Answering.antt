@@ -1,5 +1,5 @@
 -- Answering the lines of a script, one after another.
-use Rattle.std.specs.Prelude.{◌≡◌, ◌⊎◌, ◌≤◌, ◌+◌, ℕ, List, [], ◌++◌, length, take, drop, flat_map, true, IsTrue, IsNone, Result, Ok, Err, IfOk, IfErr, OnOk, OnErr}
+use Rattle.std.specs.Prelude.{◌≡◌, ◌⊎◌, ◌≤◌, ◌+◌, ℕ, List, [], ◌∷◌, ◌++◌, length, take, drop, flat_map, true, Contains, IsTrue, IsNone, Result, Ok, Err, IfOk, IfErr, OnOk, OnErr}
 use Rattle.fv_disk.specs.Shown.{Shown}
 use Rattle.fv_disk.specs.HostCalls.{Rests}
 use Rattle.fv_disk.specs.Crash.{Leaves}
@@ -16,21 +16,24 @@ use Rattle.fv_run.specs.declared.ending.Fault.{Fault}
 use Rattle.fv_run.specs.declared.ending.Fault.TheVariants.{Source, Sink, Disk, Memory, Damaged, Limit}
 use Rattle.fv_run.specs.Endings.{Counts, IsWholeFault}
 use Rattle.fv_run.specs.Built.{lines_built}
-use Rattle.fv_run.specs.Running.{Holds, IsCutOff, IsLacking, IsPastLimit, Survives}
+use Rattle.fv_run.specs.Running.{GoOnIn, Holds, IsCutOff, IsOverLimit, IsPastLimit, Lacks, LacksSince, Survives}
 
 -- a fault of a session's calls, each with its reason beside the counts
-abbrev pub IsSessionFault : Fault → Type 0
-IsSessionFault Disk = Unit {0}
-IsSessionFault Memory = Unit {0}
-IsSessionFault Damaged = IsLacking
-IsSessionFault fault = ⊥
+abbrev pub IsSessionFault : Session → Shown → Fault → Type 0
+IsSessionFault session new Disk = Unit {0}
+IsSessionFault session new Memory = Unit {0}
+IsSessionFault session new Damaged = Lacks new session
+IsSessionFault session new fault = ⊥
 
 -- why a run that was opened ended, beside the counts of faults
-abbrev pub IsEndOf : ℕ → Shown → Shown → Fault → Type 0
-IsEndOf limit old new Source = Unit {0}
-IsEndOf limit old new Sink = Unit {0}
-IsEndOf limit old new Limit = IsTrue old.tells → IsPastLimit limit old new
-IsEndOf limit old new fault = IsSessionFault fault
+abbrev pub IsEndOf : ℕ → Session → Shown → Shown → Fault → Type 0
+IsEndOf limit first old new Source = Unit {0}
+IsEndOf limit first old new Sink = Unit {0}
+IsEndOf limit first old new Disk = Unit {0}
+IsEndOf limit first old new Memory = Unit {0}
+IsEndOf limit first old new Damaged = IsTrue old.tells → LacksSince (lines_built old.ends.left) first new
+IsEndOf limit first old new Limit = IsTrue old.tells → IsPastLimit limit old new
+IsEndOf limit first old new fault = ⊥
 
 -- a session that hasn't failed, on its disk
 pub record IsReady (disk : Shown) (session : Session) : Type 0 where
@@ -48,7 +51,8 @@ pub record Applies (session : Session) (line : Line) (old : Shown) (new_session 
   pub any_moment : IsTrue old.tells → (last m : Machine) → StandsFor old session last m → Leaves old new (λ c g. OneOf last m (after_line m line) c × (g ≡ old.given))
   pub no_damage : IsTrue old.tells → (last m : Machine) → StandsFor old session last m → IfErr result IsWholeFault
   pub ready : OnOk result (IsReady new new_session)
-  pub ends : IfErr result IsSessionFault
+  pub ends : IfErr result (IsSessionFault session new)
+  pub volumes : OnOk result (GoOnIn (line ∷ []) session.volumes new_session.volumes)
   pub given : new.given ≡ old.given
   pub left : new.ends.left ≡ old.ends.left
   pub counts : Counts old new result
@@ -97,6 +101,8 @@ pub record StandsAt (limit : ℕ) (first : Session) (old : Shown) (held : Held) 
   pub counts : Counts {T = Unit {0}} old now (Ok tt)
   pub room : count + held.room ≤ limit
   pub reads : IsTrue old.tells → HasRead limit old held now count
+  pub lines : IsTrue old.tells → (line : Line) → Contains (lines_built (unread held now)) line → Contains (lines_built old.ends.left) line
+  pub volumes : IsTrue old.tells → GoOnIn (lines_built old.ends.left) first.volumes session.volumes
   pub answers : IsTrue old.tells → (m : Machine) → StandsFor old first m m → HasAnswered m (lines_built old.ends.left) (lines_built (unread held now)) old session now count
 
 -- All lines are answered, and so many there are.
@@ -109,8 +115,8 @@ pub record IsAtEnd (limit : ℕ) (first : Session) (old : Shown) (session : Sess
 pub record Stopped (limit : ℕ) (first : Session) (old new : Shown) (fault : Fault) : Type 0 where
   pub holds : IsTrue old.tells → (m : Machine) → StandsFor old first m m → Holds m old new × IsWholeFault fault
   pub counts : Counts {T = Unit {0}} old new (Err fault)
-  pub reason : IsEndOf limit old new fault
-  pub cut_off : IsTrue old.tells → IsPastLimit limit old new → IsCutOff (Err fault)
+  pub reason : IsEndOf limit first old new fault
+  pub cut_off : IsTrue old.tells → IsOverLimit limit old new → IsCutOff (Err fault)
 
 abbrev pub AnswersLines : ℕ → Session → Shown → Session → Shown → Result ℕ Fault → Type 0
 AnswersLines limit first old session new (Ok count) = IsAtEnd limit first old session new count

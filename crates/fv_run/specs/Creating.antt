@@ -40,3 +40,6 @@ pub record Creates (blocks : ℕ) (old new : Shown) (result : Result Unit Fault)
   pub given : IsTrue old.tells → IfErr result (λ fault. GaveUpTo fault blocks old new)
   pub acknowledged : IsTrue old.tells → Leaves old new (IsAcknowledged blocks old)
   pub volumes : IsTrue old.tells → SameVolumes blocks old.reads new.reads
+  -- nothing is asked of the source
+  pub left : new.ends.left ≡ old.ends.left
+  pub source_faults : new.ends.source_faults ≡ old.ends.source_faults

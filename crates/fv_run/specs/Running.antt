@@ -2,6 +2,7 @@
 use Rattle.std.specs.Prelude.{◌≡◌, ◌≢◌, ◌⊎◌, ◌<◌, ◌≤◌, ◌+◌, ℕ, List, [], ◌∷◌, ◌++◌, length, take, Option, Some, None, Contains, IsTrue, Result, Err, IfErr, OnOk}
 use Rattle.fv_disk.specs.Shown.{Image, Shown, IsSettled, Rose}
 use Rattle.fv_disk.specs.Crash.{Leaves}
+use Rattle.fv_model.specs.declared.commands.Command.{Command}
 use Rattle.fv_model.specs.Machines.{Machine}
 use Rattle.fv_model.specs.Runs.{Line, Says, NoCommand, OutOfRange, after, after_line, Full, Follows, whole, acked}
 use Rattle.fv_model.specs.Refusals.{home}
@@ -12,6 +13,11 @@ use Rattle.fv_aggregate.specs.declared.fault.OpenFault.TheVariants as opening
 use Rattle.fv_aggregate.specs.declared.fault.Fault.TheVariants.{Damaged as DamagedNow}
 use Rattle.fv_aggregate.specs.declared.session.Session.{Session}
 use Rattle.fv_aggregate.specs.Causes.{IsFault, IsOpenFault, IsUnwritten}
+use Rattle.fv_aggregate.specs.Lasting.{GoesOn, IsMadeBy}
+use Rattle.fv_aggregate.specs.Opening.{IsOpened}
+use Rattle.fv_aggregate.specs.Standing.{Stands}
+use Rattle.fv_volume.specs.declared.state.VolumeState.{VolumeState}
+use Rattle.fv_volume.specs.States.{States, state_at}
 use Rattle.fv_run.specs.declared.ending.Fault.{Fault}
 use Rattle.fv_run.specs.declared.ending.Fault.TheVariants.{Usage, NotAggregate, Source, Sink, Disk, Memory, Damaged, Limit}
 use Rattle.fv_run.specs.Endings.{Counts, IsWholeFault}
@@ -57,17 +63,48 @@ pub record IsPastLimit (limit : ℕ) (old new : Shown) : Type 0 where
   pub taken : limit + length new.ends.left < length old.ends.left
   pub answered : whole output ≡ whole (take limit old.ends.left)
 
--- a consistency point found fewer blocks free than it asks for
-pub record IsLacking : Type 0 where
-  pub session : Session
+-- The source gave a byte past the limit, and each line that ends before it was answered; more may have been given.
+pub record IsOverLimit (limit : ℕ) (old new : Shown) : Type 0 where
+  pub output : List ℕ
+  pub given : new.given ≡ old.given ++ output
+  pub taken : limit + length new.ends.left < length old.ends.left
+  pub answered : whole (take limit old.ends.left) ≤ whole output
+
+-- a line made the volume of a slot
+pub record IsMadeIn (lines : List Line) (now : Option VolumeState) : Type 0 where
+  pub command : Command
+  pub line : Contains lines (Says command)
+  pub made : IsMadeBy command now
+
+-- all slots go on, but for what lines made
+abbrev pub GoOnIn : List Line → States → States → Type 0
+GoOnIn lines were now = (s : ℕ) → GoesOn (state_at were s) (state_at now s) ⊎ IsMadeIn lines (state_at now s)
+
+-- A consistency point of a session lacks blocks: the session stands on the disk, so that its map is that of the root that counts there. `at`
+-- is that root's place; the map leaves `found` blocks free, and the volumes that have changed ask for `want`, which is more.
+pub record Lacks (disk : Shown) (session : Session) : Type 0 where
+  pub stands : Stands disk session
   pub at : ℕ
   pub want : ℕ
   pub found : ℕ
   pub fault : IsFault session (DamagedNow at want found)
 
--- opening found a block that isn't as it has to be, or a consistency point found fewer blocks free than it asks for
-abbrev pub IsDamage : Image → Type 0
-IsDamage i = ((at want found : ℕ) × IsOpenFault i (opening.Damaged at want found)) ⊎ IsLacking
+-- A consistency point lacks blocks in a session that goes on from `first`.
+pub record LacksSince (lines : List Line) (first : Session) (end : Shown) : Type 0 where
+  pub session : Session
+  pub lacks : Lacks end session
+  pub volumes : GoOnIn lines first.volumes session.volumes
+
+-- At the end of a run a consistency point lacks blocks: each volume is one that opening read from the image at the entry, with no change
+-- but one that opening found, or one that a line of the script made.
+pub record IsLacking (old end : Shown) : Type 0 where
+  pub first : Session
+  pub opened : IsOpened old.reads first
+  pub since : LacksSince (lines_built old.ends.left) first end
+
+-- opening found a block that isn't as it has to be, and nothing was written or given; or at the end a consistency point lacks blocks
+abbrev pub IsDamage : Shown → Shown → Type 0
+IsDamage old end = (IsUnwritten old end × ((at want found : ℕ) × IsOpenFault old.reads (opening.Damaged at want found))) ⊎ IsLacking old end
 
 -- why a run ended, beside the counts of faults
 abbrev pub HasReason : ℕ → Shown → Shown → Fault → Type 0
@@ -77,7 +114,7 @@ HasReason limit old new Source = Unit {0}
 HasReason limit old new Sink = Unit {0}
 HasReason limit old new Disk = Unit {0}
 HasReason limit old new Memory = Unit {0}
-HasReason limit old new Damaged = IsTrue old.tells → IsDamage old.reads
+HasReason limit old new Damaged = IsTrue old.tells → IsDamage old new
 HasReason limit old new Limit = IsTrue old.tells → IsPastLimit limit old new
 
 -- how a run may end that isn't opened
@@ -107,7 +144,7 @@ pub record Ran (limit : ℕ) (old new : Shown) (result : Result Unit Fault) : Ty
   pub counts : Counts old new result
   pub reason : IfErr result (HasReason limit old new)
   pub unopened : IsTrue old.tells → IsNoAggregate old.reads → IsUnopened result
-  pub cut_off : IsTrue old.tells → IsPastLimit limit old new → IsCutOff result
+  pub cut_off : IsTrue old.tells → IsOverLimit limit old new → IsCutOff result
 
 -- the volume that a line makes or names, where it says a command that has one
 abbrev pub home_of : Line → Option (List ℕ)
@@ -129,13 +166,13 @@ pub record IsRun (limit : ℕ) (old new : Shown) (status : ℕ) : Type 0 where
   pub no_damage : IsTrue old.tells → (m : Machine) → machine_of old.reads ≡ Some m → Contains (0 ∷ 3 ∷ 4 ∷ 5 ∷ 6 ∷ 9 ∷ []) status
   -- no line changes a volume that isn't its home
   pub isolated : (m : Machine) (line : Line) (name : List ℕ) → home_of line ≢ Some name → IsSameAt name m (after_line m line)
-  -- each status has its cause
+  -- each status but 6, want of memory, has its cause
   pub source_fault : status ≡ 3 → Rose old.ends.source_faults new.ends.source_faults
   pub sink_fault : status ≡ 4 → Rose old.ends.sink_faults new.ends.sink_faults
   pub disk_fault : status ≡ 5 → Rose old.faults new.faults
   pub unwritten : status ≡ 2 → IsUnwritten old new
   pub no_aggregate : IsTrue old.tells → status ≡ 2 → IsNoAggregate old.reads
   pub unopened : IsTrue old.tells → IsNoAggregate old.reads → Contains (2 ∷ 5 ∷ 6 ∷ []) status
-  pub damaged : IsTrue old.tells → status ≡ 8 → IsDamage old.reads
+  pub damaged : IsTrue old.tells → status ≡ 8 → IsDamage old new
   pub past_limit : IsTrue old.tells → status ≡ 9 → IsPastLimit limit old new
-  pub cut_off : IsTrue old.tells → IsPastLimit limit old new → ¬ Rose old.ends.sink_faults new.ends.sink_faults → status ≡ 9
+  pub cut_off : IsTrue old.tells → IsOverLimit limit old new → ¬ Rose old.ends.sink_faults new.ends.sink_faults → status ≡ 9

@@ -49,6 +49,12 @@ pub fn flexvol<H: Host>(alloc: Global, words: &[String], host: &mut H) -> u8
         → ¬ Rose (H.shown host.old).ends.sink_faults (H.shown host.new).ends.sink_faults
         → ¬ Rose (H.shown host.old).faults (H.shown host.new).faults → result ≡ 0 }
 
+    // It asks nothing of the source.
+    ensures left { (blocks : ℕ) → meaning (map string_bytes words.now) ≡ Some (Order.Create blocks)
+        → (H.shown host.new).ends.left ≡ (H.shown host.old).ends.left }
+    ensures source_faults { (blocks : ℕ) → meaning (map string_bytes words.now) ≡ Some (Order.Create blocks)
+        → (H.shown host.new).ends.source_faults ≡ (H.shown host.old).ends.source_faults }
+
     // Of a host that tells its content: at 0 the aggregate is made and told of, at 5 nothing was given,
     // and at 4 a part of the line.
     ensures created { (blocks : ℕ) → meaning (map string_bytes words.now) ≡ Some (Order.Create blocks)

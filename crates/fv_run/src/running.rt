@@ -23,7 +23,10 @@ use std::sync::ledger::{Blank, Ledger};
 ///
 /// The status is 0 where all was done, 2 where block 0 is no superblock or neither gate is open, 3, 4 or 5
 /// where the source, the sink or the disk failed, 6 where memory ran out, 8 where a block isn't as it has to
-/// be, and 9 where the source gave byte `limit + 1` of the script. The first of these ends the call at once.
+/// be, a label is of a form that can't be loaded yet or fewer blocks are free than a consistency point asks for,
+/// and 9 where the source gave byte `limit + 1` of the script. The first of these ends the call at once. That,
+/// and the order of replies and lines, no clause says: of the order `IsRun` has it that no image is more than one
+/// line past the replies.
 /// It holds 4096 bytes of the script and a line of at most 9001 beside the session, and costs for each line
 /// what `Session::apply` does.
 pub fn run_script<H: Host>(alloc: Global, host: &mut H, limit: u64) -> u8

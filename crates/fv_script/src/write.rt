@@ -1,13 +1,12 @@
 //! Writing a reply.
 
-ghost use Rattle.std.specs.Prelude.{◌≡◌, flat_map, ◌∷◌};
-ghost use Rattle.std.specs.List.{join_with_byte};
+ghost use Rattle.std.specs.Prelude.{◌≡◌, ◌≤◌, ◌<◌, ◌+◌, ◌*◌, ◌++◌, ◌∷◌, [], length};
 ghost use Rattle.fv_disk.specs.HostCalls.{GivesAll};
 ghost use Rattle.fv_disk.specs.Crash.{Leaves};
 ghost use Rattle.fv_disk.specs.Partly.{PartlyGiven};
 ghost use Rattle.fv_model.specs.Texts.{text};
 ghost use Rattle.fv_script.specs.Telling.{Tells};
-ghost use Rattle.fv_script.specs.Spelled.{behind_spaces};
+ghost use Rattle.fv_script.specs.Spelled.{before_spaces};
 
 use crate::content::content_line;
 use crate::lines::{done_line, number_line, refusal_line, stat_line};
@@ -15,9 +14,16 @@ use arrayvec::ArrayVec;
 use fv_disk::{Failed, Host, give_all};
 use fv_model::{Name, Reply};
 
+/// How many names are given at once, at most.
+const PIECE_NAMES: usize = 64;
+
+/// So many names, each of at most 64 bytes and with one byte behind it.
+type Piece = ArrayVec<u8, 4160>;
+
 /// Gives out the reply's line with its end. At `Err` the sink's count of faults rose, and a prefix of
-/// the line was given. It takes no memory, and costs by the line's bytes. A reply without names is
-/// handed to the sink in one piece, and one with names in a piece for each name.
+/// the line was given. It takes no memory, and costs by the line's bytes. The line is handed to the sink
+/// in one piece, and a line of more than 64 names in a piece for each 64. A piece takes one call where the
+/// sink takes all of it, and one of names costs a buffer of 4160 bytes beside them.
 #[tactic(auto, using(crate::proofs::Told::told))]
 pub fn write_reply<H: Host>(reply: &Reply, host: &mut H) -> Result<(), Failed>
     ensures gives { GivesAll (H.shown host.old) (text reply.now) (H.shown host.new) result }
@@ -40,34 +46,55 @@ fn give_line<H: Host>(line: &[u8], host: &mut H) -> Result<(), Failed>
 }
 
 /// Gives out names with a space between, or a dash, and the line's end.
-#[tactic(auto, using(crate::proofs::Told::both, crate::proofs::Told::stopped), unfolding(fv_model::specs::Texts::words))]
+#[tactic(auto, using(crate::proofs::NamesTold::begins), unfolding(fv_model::specs::Texts::words))]
 fn write_names<H: Host>(names: &[Name], host: &mut H) -> Result<(), Failed>
     ensures { Tells (H.shown host.old) (text (Reply.Names names.now)) (H.shown host.new) result }
 {
-    let Some((first, others)) = names.split_first() else {
+    let Some((last, others)) = names.split_last() else {
         return give_line(b"-\n", host);
     };
-    give_line(first.as_bytes(), host)?;
-    write_others(others, host)?;
-    give_line(b"\n", host)
-}
-
-#[tactic(auto, using(crate::proofs::Told::both, crate::proofs::Told::nothing, crate::proofs::Told::stopped))]
-fn write_others<H: Host>(names: &[Name], host: &mut H) -> Result<(), Failed>
-    ensures { Tells (H.shown host.old) (behind_spaces names.now) (H.shown host.new) result }
-{
-    for name in names {
-        give_line(spaced(name).as_slice(), host)?;
+    let last = last.as_bytes();
+    let mut rest = others;
+    while rest.len() >= PIECE_NAMES {
+        let (front, left) = rest.split_at(PIECE_NAMES);
+        give_line(spaced(front).as_slice(), host)?;
+        rest = left;
     }
-    Ok(())
+    give_line(ended(rest, last).as_slice(), host)
 }
 
-/// A name with a space before it.
-fn spaced(name: &Name) -> ArrayVec<u8, 65>
-    ensures { result.items ≡ 32 ∷ name.now }
+/// The names, each with a space behind it, and the last one with the line's end.
+fn ended(names: &[Name], last: &[u8]) -> Piece
+    requires few { length names.now < 64 }
+    requires short { length last.now ≤ 64 }
+    ensures { result.items ≡ before_spaces names.now ++ (last.now ++ 10 ∷ []) }
 {
-    let mut piece = ArrayVec::new();
-    piece.push(b' ');
-    piece.try_extend_from_slice(name.as_bytes()).unwrap();
+    let mut piece = spaced(names);
+    add(&mut piece, last, b'\n');
     piece
+}
+
+/// The names, each with a space behind it.
+#[tactic(auto, using(crate::proofs::NamesTold::none_spaced, crate::proofs::NamesTold::one_more, crate::proofs::NamesTold::all_spaced))]
+fn spaced(names: &[Name]) -> Piece
+    requires { length names.now ≤ 64 }
+    ensures spelled { result.items ≡ before_spaces names.now }
+    ensures short { length result.items ≤ 65 * length names.now }
+{
+    let mut piece = Piece::new();
+    for name in names {
+        add(&mut piece, name.as_bytes(), b' ');
+    }
+    piece
+}
+
+/// Adds a name with a byte behind it.
+fn add(piece: &mut Piece, name: &[u8], behind: u8)
+    requires room { length piece.old.items ≤ 4095 }
+    requires short { length name.now ≤ 64 }
+    ensures spelled { piece.new.items ≡ piece.old.items ++ (name.now ++ behind ∷ []) }
+    ensures short { length piece.new.items ≤ length piece.old.items + 65 }
+{
+    piece.try_extend_from_slice(name).unwrap();
+    piece.push(behind);
 }

@@ -78,14 +78,51 @@ fn each_reply_has_its_line(rt: HostRuntime) -> Result<(), Fail> {
     Ok(())
 }
 
+/// 64 names `a`, 64 names `b` and two names `c`.
+fn many_names(alloc: Global) -> Result<Names, AllocError> {
+    let mut names = Names::new(alloc);
+    for (text, count) in [("a", 64), ("b", 64), ("c", 2)] {
+        if let Some(name) = Name::read(text.as_bytes()) {
+            for _ in 0..count {
+                names.push(&name)?;
+            }
+        }
+    }
+    Ok(names)
+}
+
+/// The line of those names: two pieces of 128 bytes, and one of 4.
+fn line_of_many(alloc: Global) -> Result<Vec<u8>, AllocError> {
+    let mut line = Vec::new(alloc);
+    for (text, count) in [("a ", 64), ("b ", 64), ("c c\n", 1)] {
+        for _ in 0..count {
+            line.extend_from_slice(text.as_bytes())?;
+        }
+    }
+    Ok(line)
+}
+
+/// A line of names takes a call for each 64 of them. Each row has the call that fails and how many bytes were given then.
 #[test]
 fn a_sink_that_fails_has_a_prefix(rt: HostRuntime) -> Result<(), Fail> {
-    let reply = Reply::Names(names(rt.alloc(), &["a", "b"])?);
-    for (nth, given) in [(0, ""), (1, "a"), (2, "a b"), (3, "a b\n")] {
+    let few = Reply::Names(names(rt.alloc(), &["a", "b"])?);
+    let many = Reply::Names(many_names(rt.alloc())?);
+    let line = line_of_many(rt.alloc())?;
+    let rows: [(&Reply, &[u8], u64, usize); 6] = [
+        (&few, b"a b\n", 0, 0),
+        (&few, b"a b\n", 1, 4),
+        (&many, line.as_slice(), 0, 0),
+        (&many, line.as_slice(), 1, 128),
+        (&many, line.as_slice(), 2, 256),
+        (&many, line.as_slice(), 3, 260),
+    ];
+    for (reply, line, nth, length) in rows {
         let mut host = MemHost::new(rt.alloc(), Vec::new(rt.alloc()));
         host.fail(Call::Give, nth)?;
-        assert_eq!(rt; write_reply(&reply, &mut host).is_ok(), nth == 3, "{nth}");
-        assert_eq!(rt; host.given(), given.as_bytes(), "{nth}");
+        let done = write_reply(reply, &mut host).is_ok();
+        assert_eq!(rt; done, length == line.len(), "{nth}");
+        assert_eq!(rt; host.given().len(), length, "{nth}");
+        assert!(rt; line.starts_with(host.given()), "{nth}");
     }
     Ok(())
 }

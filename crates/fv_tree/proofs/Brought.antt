@@ -1,5 +1,5 @@
 -- A node that comes into memory, and how the tree stands to its blocks then.
-use Rattle.std.proofs.Common.{◌≡◌, ◌≢◌, ◌≤◌, ◌<◌, ℕ, ◌+◌, ◌/◌, ◌⊎◌, inl, inr, Bool, true, false, cond, ◌&&◌, List, Option, Some, None, Result, Ok, Err, OnOk, OnErr, get_or, is_some, nat_eq, replicate, sym, ap, ◌∙◌, arith}
+use Rattle.std.proofs.Common.{◌≡◌, ◌≢◌, ◌≤◌, ◌<◌, ℕ, ◌+◌, ◌/◌, ◌⊎◌, inl, inr, true, false, cond, ◌&&◌, List, Option, Some, None, Result, Ok, Err, OnOk, OnErr, get_or, is_some, nat_eq, replicate, sym, ap, ◌∙◌, arith}
 use Rattle.std.specs.Ordering.{nat_cmp}
 use Rattle.std.specs.Option.{option_map}
 use Rattle.std.specs.BTreeMap as tree
@@ -19,6 +19,7 @@ use Rattle.fv_tree.specs.Flushing.{Leads, IsEmptyNode, Stands, loaded, changed_o
 use Rattle.fv_tree.specs.Carried.{kept_at, IsBlank, IsRead, Brings}
 use Rattle.fv_tree.proofs.Flushed.{false_is_true, under_none}
 use Rattle.fv_tree.proofs.Gone.{cell_changed, spot_changed, cell_led, spot_led}
+use Rattle.fv_tree.proofs.Hints.{right_as}
 use Rattle.fv_tree.proofs.Spots.{here, elsewhere}
 use Rattle.fv_tree.proofs.Ways.{spot_is, nothing_there}
 
@@ -189,7 +190,8 @@ module _ (old new : Shown) (t u : Tree) (level place : ℕ) (low : 1 ≤ level) 
   brings_stands = record {
     once = λ j c k q v first second. stands.once j c k q v (leads_old j c v first) (leads_old k q v second);
     held = λ j c v leads. ap (λ (blocks : Under). is_some (blocks v)) seen_blocks ∙ stands.held j c v (leads_old j c v leads);
-    used = λ j c v leads. ap (λ (u : ℕ → Bool). u v) used ∙ stands.used j c v (leads_old j c v leads);
+    used = λ j c v leads.
+        right_as (pointer_at (standing (under old) t) j c) (pointer_at (standing (under new) u) j c) (old.used v) (new.used v) (ap (λ (p : Pointer). p.pvbn) (same.pointers j c)) (ap (λ (u : ℕ → Option ℕ). u v) used) (stands.used j c v (leads_old j c v leads));
     over = over;
     same = same_nodes;
     empty = λ j c some none which. empty_old j c (sym (stamps j c) ∙ none) (stands.empty j c some (sym (stamps j c) ∙ none) (empty_where j c which));

@@ -1,13 +1,14 @@
 -- A cell or node in memory of which the block is placed.
-use Rattle.std.proofs.Common.{◌≡◌, ◌≢◌, ◌≤◌, ◌<◌, ℕ, ◌+◌, ◌/◌, ◌%◌, ◌⊎◌, inl, inr, Bool, true, false, cond, ◌&&◌, List, Option, Some, None, get_or, length, is_some, slice_set, refl, sym, ap, subst, ◌∙◌, arith, ◌==◌, nat_eq, if◌then◌else◌}
+use Rattle.std.proofs.Common.{◌≡◌, ◌≢◌, ◌≤◌, ◌<◌, ℕ, ◌+◌, ◌*◌, ◌-◌, ◌/◌, ◌%◌, ◌⊎◌, inl, inr, Bool, true, false, cond, ◌&&◌, List, Option, Some, None, get_or, length, is_some, slice_set, refl, sym, ap, subst, ◌∙◌, arith, ◌==◌, nat_eq, if◌then◌else◌}
 use Rattle.std.proofs.lemmas.Bool.{cases_eq, cases_lt}
 use Rattle.std.proofs.lemmas.Bool.Decides.{nat_tests}
 use Rattle.std.proofs.lemmas.List.{get_or-set_same, get_or-set_other}
 use Rattle.fv_codec.specs.declared.pointer.Pointer.{Pointer}
 use Rattle.fv_model.specs.Trees.{fan}
 use Rattle.fv_tree.specs.Spelled.{Rooted, hole, pointers_at, pointers_in, pointer_at, block_at}
-use Rattle.fv_tree.specs.Flushing.{Loaded, Leads, IsSound, IsEmptyNode, IsFlushed, IsReplaced, IsPlaced, Flushes}
+use Rattle.fv_tree.specs.Flushing.{Loaded, Leads, IsRight, IsSound, IsEmptyNode, IsFlushed, IsReplaced, IsPlaced, HoldsUnknown, Flushes}
 use Rattle.fv_tree.proofs.Below.{no_pointers, kept_pointers, read_pointers}
+use Rattle.fv_tree.proofs.Hints.{HasUnknown, right_as}
 use Rattle.fv_tree.proofs.Spots.{here, elsewhere}
 use Rattle.fv_tree.proofs.Stamped.{apart}
 use Rattle.fv_tree.proofs.Ways.{own_way, is_way, past, spot_is}
@@ -41,6 +42,19 @@ pub record IsMemory (s : Loaded) : Type 0 where
   pub cells : (place : ℕ) → s.tree.cells place ≡ None → s.placed 0 place ≡ true
   pub cell : (place : ℕ) (block : List ℕ) → s.tree.cells place ≡ Some block → s.changed 0 place ≡ true
 
+-- what didn't change and is led to has its block
+pub unchanged_placed : (s : Loaded) (used : ℕ → Option ℕ) → IsSound used s → IsMemory s → (j c : ℕ) → s.changed j c ≡ false → (pointer_at s.tree j c).stamp ≢ 0 → s.placed j c ≡ true
+unchanged_placed s used sound memory j c same some = elim (cases_eq j 0) [
+  | inl e ↦ (λ i. s.placed (e i) c) ∙ elim (there (s.tree.cells c)) [
+    | inl absent ↦ memory.cells c absent
+    | inr held ↦ false_is_true (s.changed 0 c) (sym (λ i. s.changed (e i) c) ∙ same) (memory.cell c held.0 held.1)
+  ]
+  | inr low ↦ elim (there (s.tree.nodes j c)) [
+    | inl absent ↦ memory.nodes j c (omega arith) absent
+    | inr held ↦ (sound.same j c held.0 (omega arith) held.1 same some).1
+  ]
+]
+
 -- a child of what nothing leads to has nothing that leads to it
 pub under_none : (t : Rooted) (level place : ℕ) → level < t.levels → (pointer_at t (level + 1) (place / fan)).stamp ≡ 0 → (pointer_at t level place).stamp ≡ 0
 under_none t level place lt e = ap (λ (p : Pointer). p.stamp) ((own_way t).down level place lt ∙ ap (λ (xs : List Pointer). get_or xs (place % fan) hole) (no_pointers t (level + 1) (place / fan) (pointer_at t (level + 1) (place / fan)) e))
@@ -58,7 +72,7 @@ top_is_first t place some = elim (cases_eq place 0) [
 ]
 
 -- the pointer to a cell or node leads to a new block of it, and it goes out of memory
-pub record Replaces (s : Loaded) (used : ℕ → Bool) (u : Loaded) (uses : ℕ → Bool) (k q : ℕ) (p : Pointer) : Type 0 where
+pub record Replaces (s : Loaded) (used : ℕ → Option ℕ) (u : Loaded) (uses : ℕ → Option ℕ) (k q : ℕ) (p : Pointer) : Type 0 where
   pub was : s.changed k q ≡ true
   pub some : (pointer_at s.tree k q).stamp ≢ 0
   pub stamp : p.stamp ≡ (pointer_at s.tree k q).stamp
@@ -76,11 +90,12 @@ pub record Replaces (s : Loaded) (used : ℕ → Bool) (u : Loaded) (uses : ℕ 
       × ((slot : ℕ) → (get_or xs slot hole).stamp ≢ 0 → (get_or xs slot hole).pvbn ≡ 0 → p.pvbn ≡ 0)
   pub cell : k ≡ 0 → (block : List ℕ) × (s.tree.cells q ≡ Some block) × (u.tree.under p.vvbn ≡ Some block)
   pub fresh : s.tree.under p.vvbn ≡ None
-  pub unused : used p.vvbn ≡ false
+  pub unused : used p.vvbn ≡ None
   pub now : is_some (u.tree.under p.vvbn) ≡ true
-  pub taken : uses p.vvbn ≡ true
+  pub taken : IsRight p (uses p.vvbn)
+  pub told : (uses p.vvbn ≡ Some p.pvbn) ⊎ ((1 ≤ k) × HasUnknown (s.tree.nodes k q))
   pub others : (v : ℕ) → v ≢ p.vvbn → (Leads s k q v → ⊥) → (u.tree.under v ≡ s.tree.under v) × (uses v ≡ used v)
-  pub gone : (v : ℕ) → Leads s k q v → v ≢ p.vvbn → uses v ≡ false
+  pub gone : (v : ℕ) → Leads s k q v → v ≢ p.vvbn → uses v ≡ None
   pub changed : u.changed k q ≡ false
   pub changed_others : (j c : ℕ) → (j ≢ k) ⊎ (c ≢ q) → u.changed j c ≡ s.changed j c
   pub placed : u.placed k q ≡ true
@@ -98,7 +113,7 @@ moved_elsewhere : (f : ℕ → ℕ → Pointer) (k q : ℕ) (p : Pointer) (j c :
 unfolding moved_to
 moved_elsewhere f k q p j c other = ap (λ b. cond b p (f j c)) (elsewhere j c k q other)
 
-module _ (s : Loaded) (used : ℕ → Bool) (u : Loaded) (uses : ℕ → Bool) (k q : ℕ) (p : Pointer) (sound : IsSound used s) (memory : IsMemory s) (is : Replaces s used u uses k q p) where
+module _ (s : Loaded) (used : ℕ → Option ℕ) (u : Loaded) (uses : ℕ → Option ℕ) (k q : ℕ) (p : Pointer) (sound : IsSound used s) (memory : IsMemory s) (is : Replaces s used u uses k q p) where
   abbrev pub f : ℕ → ℕ → Pointer
   f = moved_to (pointer_at s.tree) k q p
 
@@ -298,10 +313,12 @@ module _ (s : Loaded) (used : ℕ → Bool) (u : Loaded) (uses : ℕ → Bool) (
     | inr other ↦ let was = leads_old j c v other leads in ap is_some (stays_under j c v was other).0 ∙ sound.held j c v was
   ]
 
-  in_use : (j c v : ℕ) → Leads u j c v → uses v ≡ true
+  in_use : (j c v : ℕ) → Leads u j c v → IsRight (pointer_at u.tree j c) (uses v)
   in_use j c v leads = elim (spot_is j c k q) [
-    | inl at ↦ ap uses (sym (own_vvbn j c v at.0 at.1 leads)) ∙ is.taken
-    | inr other ↦ let was = leads_old j c v other leads in (stays_under j c v was other).1 ∙ sound.used j c v was
+    | inl at ↦ right_as p (pointer_at u.tree j c) (uses p.vvbn) (uses v) (ap (λ (p : Pointer). p.pvbn) ((λ i. pointer_at u.tree (at.0 i) (at.1 i)) ∙ pointer_here)) (ap uses (sym (own_vvbn j c v at.0 at.1 leads))) is.taken
+    | inr other ↦
+        let was = leads_old j c v other leads in
+        right_as (pointer_at s.tree j c) (pointer_at u.tree j c) (used v) (uses v) (ap (λ (p : Pointer). p.pvbn) (pointer_there j c other)) (stays_under j c v was other).1 (sound.used j c v was)
   ]
 
   -- what still differs from its block is another
@@ -415,23 +432,49 @@ module _ (s : Loaded) (used : ℕ → Bool) (u : Loaded) (uses : ℕ → Bool) (
     | inr other ↦ other
   ])
 
-  gone : (v : ℕ) → IsReplaced s u v → (IsPlaced s u v → ⊥) → uses v ≡ false
+  gone : (v : ℕ) → IsReplaced s u v → (IsPlaced s u v → ⊥) → uses v ≡ None
   gone v replaced not_placed =
       let at = only_flushed replaced.level replaced.place replaced.flushed in
       is.gone v (subst (λ n. Leads s n q v) at.0 (subst (λ n. Leads s replaced.level n v) at.1 replaced.leads)) (λ e. not_placed (placed_here v e))
+
+  -- the children of what was placed
+  child_is : (j c : ℕ) (xs : List Pointer) → j + 1 ≡ k → c / fan ≡ q → s.tree.nodes k q ≡ Some xs → pointer_at u.tree j c ≡ get_or xs (c % fan) hole
+  child_is j c xs up at held =
+      let reached : (pointer_at s.tree (j + 1) (c / fan)).stamp ≢ 0 = λ e. is.some (sym (λ i. (pointer_at s.tree (up i) (at i)).stamp) ∙ e) in
+      pointer_there j c (inl (omega (arith, up))) ∙ (own_way s.tree).down j c (omega (arith, up, within))
+      ∙ ap (λ (xs : List Pointer). get_or xs (c % fan) hole) (kept_pointers s.tree (j + 1) (c / fan) (pointer_at s.tree (j + 1) (c / fan)) xs reached ((λ i. s.tree.nodes (up i) (at i)) ∙ held))
 
   unknown : (j c : ℕ) → IsFlushed s u (j + 1) (c / fan) → (pointer_at u.tree j c).stamp ≢ 0 → (pointer_at u.tree j c).pvbn ≡ 0 → (pointer_at u.tree (j + 1) (c / fan)).pvbn ≡ 0
   unknown j c flushed reached none =
       let at = only_flushed (j + 1) (c / fan) flushed in
       let node = is.node (omega (arith, at.0)) in
-      let lt : j < s.tree.levels = omega (arith, at.0, within) in
-      let child : pointer_at u.tree j c ≡ get_or node.0 (c % fan) hole =
-      pointer_there j c (inl (omega (arith, at.0))) ∙ (own_way s.tree).down j c lt
-      ∙ ap (λ (xs : List Pointer). get_or xs (c % fan) hole) (kept_pointers s.tree (j + 1) (c / fan) (pointer_at s.tree (j + 1) (c / fan)) node.0 flushed.some ((λ i. s.tree.nodes (at.0 i) (at.1 i)) ∙ node.1)) in
+      let child : pointer_at u.tree j c ≡ get_or node.0 (c % fan) hole = child_is j c node.0 at.0 at.1 node.1 in
       ap (λ (p : Pointer). p.pvbn) ((λ i. pointer_at u.tree (at.0 i) (at.1 i)) ∙ pointer_here)
       ∙ node.3 (c % fan) (λ e. reached (ap (λ (p : Pointer). p.stamp) child ∙ e)) (sym (ap (λ (p : Pointer). p.pvbn) child) ∙ none)
 
-  fresh : (v : ℕ) → IsPlaced s u v → (s.tree.under v ≡ None) × (used v ≡ false)
+  holds_unknown : (j c : ℕ) → j ≡ k → c ≡ q → 1 ≤ k → HasUnknown (s.tree.nodes k q) → HoldsUnknown u.tree j c
+  holds_unknown j c level place low has =
+      let over : (q * fan + has.slot) / fan ≡ q = omega (arith, has.low) in
+      let slot : (q * fan + has.slot) % fan ≡ has.slot = omega (arith, has.low) in
+      let child : pointer_at u.tree (k - 1) (q * fan + has.slot) ≡ get_or has.xs has.slot hole = child_is (k - 1) (q * fan + has.slot) has.xs (omega (arith, low)) over has.held ∙ ap (λ n. get_or has.xs n hole) slot in record {
+        below = k - 1;
+        child = q * fan + has.slot;
+        up = omega (arith, level, low);
+        over = over ∙ sym place;
+        some = λ e. has.some (sym (ap (λ (p : Pointer). p.stamp) child) ∙ e);
+        unknown = ap (λ (p : Pointer). p.pvbn) child ∙ has.unknown;
+      }
+
+  told : (j c : ℕ) → IsFlushed s u j c → (uses (pointer_at u.tree j c).vvbn ≡ Some (pointer_at u.tree j c).pvbn) ⊎ HoldsUnknown u.tree j c
+  told j c flushed =
+      let at = only_flushed j c flushed in
+      let own : pointer_at u.tree j c ≡ p = (λ i. pointer_at u.tree (at.0 i) (at.1 i)) ∙ pointer_here in
+      elim is.told [
+        | inl same ↦ inl (ap (λ (r : Pointer). uses r.vvbn) own ∙ same ∙ sym (ap (λ (r : Pointer). Some r.pvbn) own))
+        | inr hidden ↦ inr (holds_unknown j c at.0 at.1 hidden.0 hidden.1)
+      ]
+
+  fresh : (v : ℕ) → IsPlaced s u v → (s.tree.under v ≡ None) × (used v ≡ None)
   fresh v placed =
       let at = only_flushed placed.level placed.place placed.flushed in
       let own : p.vvbn ≡ v = ap (λ (p : Pointer). p.vvbn) (sym ((λ i. pointer_at u.tree (at.0 i) (at.1 i)) ∙ pointer_here)) ∙ placed.vvbn in
@@ -450,4 +493,5 @@ module _ (s : Loaded) (used : ℕ → Bool) (u : Loaded) (uses : ℕ → Bool) (
     fresh = λ v placed _. fresh v placed;
     gone = gone;
     unknown = unknown;
+    told = told;
   }

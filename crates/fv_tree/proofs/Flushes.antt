@@ -1,11 +1,11 @@
 -- Several steps of a flush.
-use Rattle.std.proofs.Common.{None, ◌≡◌, ◌≢◌, ◌≤◌, ℕ, ◌+◌, ◌/◌, ◌⊎◌, inl, inr, Bool, true, false, refl, sym, ap, ◌∙◌, arith}
+use Rattle.std.proofs.Common.{Option, Some, None, ◌≡◌, ◌≢◌, ◌≤◌, ℕ, ◌+◌, ◌/◌, ◌⊎◌, inl, inr, true, false, refl, sym, ap, subst, ◌∙◌, arith}
 use Rattle.fv_codec.specs.declared.pointer.Pointer.{Pointer}
 use Rattle.fv_model.specs.Trees.{fan}
 use Rattle.fv_tree.specs.Spelled.{Rooted, pointer_at}
 use Rattle.fv_tree.specs.Writing.{IsAlike}
-use Rattle.fv_tree.specs.Flushing.{Loaded, Leads, IsSound, IsFlushed, IsReplaced, IsPlaced, Flushes}
-use Rattle.fv_tree.proofs.Flushed.{bit, there, some_none, false_is_true, reached_within}
+use Rattle.fv_tree.specs.Flushing.{Loaded, Leads, IsSound, IsFlushed, IsReplaced, IsPlaced, HoldsUnknown, Flushes}
+use Rattle.fv_tree.proofs.Flushed.{IsMemory, bit, there, some_none, false_is_true, reached_within, unchanged_placed}
 
 pub alike_then : (t u v : Rooted) → IsAlike t u → IsAlike u v → IsAlike t v
 alike_then t u v first second = record {
@@ -18,7 +18,7 @@ alike_then t u v first second = record {
 none_flushed : {P : Type 0} (s : Loaded) (j c : ℕ) → IsFlushed s s j c → P
 none_flushed s j c flushed = false_is_true (s.changed j c) flushed.done flushed.was
 
-pub flushes_nothing : (s : Loaded) (used : ℕ → Bool) → IsSound used s → Flushes s used s used
+pub flushes_nothing : (s : Loaded) (used : ℕ → Option ℕ) → IsSound used s → Flushes s used s used
 flushes_nothing s used sound = record {
   owner = refl;
   sound = sound;
@@ -31,9 +31,10 @@ flushes_nothing s used sound = record {
   fresh = λ v placed _. none_flushed s placed.level placed.place placed.flushed;
   gone = λ v replaced _. none_flushed s replaced.level replaced.place replaced.flushed;
   unknown = λ j c flushed _ _. none_flushed s (j + 1) (c / fan) flushed;
+  told = λ j c flushed. none_flushed s j c flushed;
 }
 
-module _ (s t u : Loaded) (before between after : ℕ → Bool) (first : Flushes s before t between) (second : Flushes t between u after) where
+module _ (s t u : Loaded) (before between after : ℕ → Option ℕ) (memory : IsMemory t) (first : Flushes s before t between) (second : Flushes t between u after) where
   -- what was placed stays so
   still : (j c : ℕ) → t.changed j c ≡ false → u.changed j c ≡ false
   still j c done = elim (bit (u.changed j c)) [
@@ -90,13 +91,13 @@ module _ (s t u : Loaded) (before between after : ℕ → Bool) (first : Flushes
     | inr held ↦ some_none (t.tree.under v) held.0 none (first.blocks v held.0 not_replaced held.1)
   ]
 
-  unused_before : (v : ℕ) → (IsReplaced s t v → ⊥) → between v ≡ false → before v ≡ false
-  unused_before v not_replaced unused = elim (bit (before v)) [
+  unused_before : (v : ℕ) → (IsReplaced s t v → ⊥) → between v ≡ None → before v ≡ None
+  unused_before v not_replaced unused = elim (there (before v)) [
     | inl e ↦ e
-    | inr e ↦ false_is_true (between v) unused ((first.others v not_replaced (λ p. false_is_true (before v) (first.fresh v p not_replaced).1 e)).1 ∙ e)
+    | inr e ↦ some_none (between v) e.0 unused ((first.others v not_replaced (λ p. some_none (before v) e.0 (first.fresh v p not_replaced).1 e.1)).1 ∙ e.1)
   ]
 
-  fresh : (v : ℕ) → IsPlaced s u v → (IsReplaced s u v → ⊥) → (s.tree.under v ≡ None) × (before v ≡ false)
+  fresh : (v : ℕ) → IsPlaced s u v → (IsReplaced s u v → ⊥) → (s.tree.under v ≡ None) × (before v ≡ None)
   fresh v p not_replaced = elim (bit (t.changed p.level p.place)) [
     | inl done ↦ first.fresh v (record {
       level = p.level;
@@ -115,15 +116,15 @@ module _ (s t u : Loaded) (before between after : ℕ → Bool) (first : Flushes
   ]
 
   -- a VVBN that went in the first steps and didn't come back
-  gone_first : (v : ℕ) → IsReplaced s t v → (IsPlaced s u v → ⊥) → after v ≡ false
-  gone_first v replaced not_placed = elim (bit (after v)) [
+  gone_first : (v : ℕ) → IsReplaced s t v → (IsPlaced s u v → ⊥) → after v ≡ None
+  gone_first v replaced not_placed = elim (there (after v)) [
     | inl e ↦ e
     | inr e ↦
-        let same = second.others v (λ r. false_is_true (after v) (second.gone v r (λ p. not_placed (placed_second v p))) e) (λ p. not_placed (placed_second v p)) in
-        false_is_true (after v) (same.1 ∙ first.gone v replaced (λ p. not_placed (placed_first v p))) e
+        let same = second.others v (λ r. some_none (after v) e.0 (second.gone v r (λ p. not_placed (placed_second v p))) e.1) (λ p. not_placed (placed_second v p)) in
+        some_none (after v) e.0 (same.1 ∙ first.gone v replaced (λ p. not_placed (placed_first v p))) e.1
   ]
 
-  gone : (v : ℕ) → IsReplaced s u v → (IsPlaced s u v → ⊥) → after v ≡ false
+  gone : (v : ℕ) → IsReplaced s u v → (IsPlaced s u v → ⊥) → after v ≡ None
   gone v r not_placed = elim (bit (t.changed r.level r.place)) [
     | inl done ↦ gone_first v (record { level = r.level; place = r.place; flushed = record { was = r.flushed.was; done = done; some = r.flushed.some }; leads = r.leads }) not_placed
     | inr changed ↦
@@ -131,21 +132,58 @@ module _ (s t u : Loaded) (before between after : ℕ → Bool) (first : Flushes
         second.gone v (record { level = r.level; place = r.place; flushed = record { was = changed; done = r.flushed.done; some = leads.some }; leads = leads }) (λ p. not_placed (placed_second v p))
   ]
 
-  -- a node that was placed in the first steps stays as it was, and so do its children
+  -- the children of a node that was placed in the first steps stay as they were
+  same_child : (j c : ℕ) → IsFlushed s t (j + 1) (c / fan) → (pointer_at t.tree j c).stamp ≢ 0 → pointer_at u.tree j c ≡ pointer_at t.tree j c
+  same_child j c flushed reached =
+      let within : j + 1 ≤ t.tree.levels = reached_within t.tree (j + 1) (c / fan) (λ e. flushed.some (sym (first.stamps (j + 1) (c / fan)) ∙ e)) in
+      elim (bit (t.changed j c)) [
+        | inl same ↦ second.stays j c (inr same)
+        | inr changed ↦ false_is_true (t.changed (j + 1) (c / fan)) flushed.done (first.sound.over j c changed reached (omega (arith, within)))
+      ]
+
   unknown_first : (j c : ℕ) → IsFlushed s t (j + 1) (c / fan) → (pointer_at u.tree j c).stamp ≢ 0 → (pointer_at u.tree j c).pvbn ≡ 0 → (pointer_at u.tree (j + 1) (c / fan)).pvbn ≡ 0
   unknown_first j c flushed some none =
       let reached : (pointer_at t.tree j c).stamp ≢ 0 = λ e. some (second.stamps j c ∙ e) in
-      let within : j + 1 ≤ t.tree.levels = reached_within t.tree (j + 1) (c / fan) (λ e. flushed.some (sym (first.stamps (j + 1) (c / fan)) ∙ e)) in
-      let child : pointer_at u.tree j c ≡ pointer_at t.tree j c = elim (bit (t.changed j c)) [
-        | inl same ↦ second.stays j c (inr same)
-        | inr changed ↦ false_is_true (t.changed (j + 1) (c / fan)) flushed.done (first.sound.over j c changed reached (omega (arith, within)))
-      ] in
+      let child : pointer_at u.tree j c ≡ pointer_at t.tree j c = same_child j c flushed reached in
       ap (λ (p : Pointer). p.pvbn) (second.stays (j + 1) (c / fan) (inr flushed.done)) ∙ first.unknown j c flushed reached (sym (ap (λ (p : Pointer). p.pvbn) child) ∙ none)
 
   unknown : (j c : ℕ) → IsFlushed s u (j + 1) (c / fan) → (pointer_at u.tree j c).stamp ≢ 0 → (pointer_at u.tree j c).pvbn ≡ 0 → (pointer_at u.tree (j + 1) (c / fan)).pvbn ≡ 0
   unknown j c flushed some none = elim (bit (t.changed (j + 1) (c / fan))) [
     | inl done ↦ unknown_first j c (record { was = flushed.was; done = done; some = flushed.some }) some none
     | inr changed ↦ second.unknown j c (record { was = changed; done = flushed.done; some = λ e. flushed.some (sym (first.stamps (j + 1) (c / fan)) ∙ e) }) some none
+  ]
+
+  -- the VVBN of what was placed in the first steps stays in use as it was
+  same_use : (j c : ℕ) → IsFlushed s t j c → between (pointer_at t.tree j c).vvbn ≡ Some (pointer_at t.tree j c).pvbn → after (pointer_at t.tree j c).vvbn ≡ between (pointer_at t.tree j c).vvbn
+  same_use j c flushed use_ =
+      let v = (pointer_at t.tree j c).vvbn in
+      let reached : (pointer_at t.tree j c).stamp ≢ 0 = λ e. flushed.some (sym (first.stamps j c) ∙ e) in
+      let leads : Leads t j c v = record { some = reached; placed = unchanged_placed t between first.sound memory j c flushed.done reached; vvbn = refl } in
+      let not_replaced : IsReplaced t u v → ⊥ = λ r. let same = first.sound.once j c r.level r.place v leads r.leads in false_is_true (t.changed j c) flushed.done ((λ i. t.changed (same.0 i) (same.1 i)) ∙ r.flushed.was) in
+      (second.others v not_replaced (λ p. some_none (between v) (pointer_at t.tree j c).pvbn (second.fresh v p not_replaced).1 use_)).1
+
+  told_first : (j c : ℕ) → IsFlushed s t j c → (after (pointer_at u.tree j c).vvbn ≡ Some (pointer_at u.tree j c).pvbn) ⊎ HoldsUnknown u.tree j c
+  told_first j c flushed =
+      let same : pointer_at u.tree j c ≡ pointer_at t.tree j c = second.stays j c (inr flushed.done) in
+      elim (first.told j c flushed) [
+        | inl use_ ↦ inl (ap (λ (p : Pointer). after p.vvbn) same ∙ same_use j c flushed use_ ∙ use_ ∙ sym (ap (λ (p : Pointer). Some p.pvbn) same))
+        | inr holds ↦
+            let above : IsFlushed s t (holds.below + 1) (holds.child / fan) = subst (λ k. IsFlushed s t k (holds.child / fan)) (sym holds.up) (subst (IsFlushed s t j) (sym holds.over) flushed) in
+            let child : pointer_at u.tree holds.below holds.child ≡ pointer_at t.tree holds.below holds.child = same_child holds.below holds.child above holds.some in
+            inr (record {
+              below = holds.below;
+              child = holds.child;
+              up = holds.up;
+              over = holds.over;
+              some = λ e. holds.some (sym (ap (λ (p : Pointer). p.stamp) child) ∙ e);
+              unknown = ap (λ (p : Pointer). p.pvbn) child ∙ holds.unknown;
+            })
+      ]
+
+  told : (j c : ℕ) → IsFlushed s u j c → (after (pointer_at u.tree j c).vvbn ≡ Some (pointer_at u.tree j c).pvbn) ⊎ HoldsUnknown u.tree j c
+  told j c flushed = elim (bit (t.changed j c)) [
+    | inl done ↦ told_first j c (record { was = flushed.was; done = done; some = flushed.some })
+    | inr changed ↦ second.told j c (record { was = changed; done = flushed.done; some = λ e. flushed.some (sym (first.stamps j c) ∙ e) })
   ]
 
   pub flushes_then : Flushes s before u after
@@ -164,4 +202,5 @@ module _ (s t u : Loaded) (before between after : ℕ → Bool) (first : Flushes
     fresh = fresh;
     gone = gone;
     unknown = unknown;
+    told = told;
   }

@@ -1,12 +1,13 @@
 -- A cell or node that goes out of memory and needs no place: it didn't change, or nothing leads to it.
-use Rattle.std.proofs.Common.{◌≡◌, ◌≢◌, ◌≤◌, ◌<◌, ℕ, ◌+◌, ◌/◌, ◌%◌, ◌⊎◌, inl, inr, Bool, true, false, List, Some, None, get_or, is_some, refl, sym, ap, ◌∙◌, arith, ◌==◌, if◌then◌else◌}
+use Rattle.std.proofs.Common.{◌≡◌, ◌≢◌, ◌≤◌, ◌<◌, ℕ, ◌+◌, ◌/◌, ◌%◌, ◌⊎◌, inl, inr, true, false, List, Option, Some, None, get_or, is_some, refl, sym, ap, ◌∙◌, arith, ◌==◌, if◌then◌else◌}
 use Rattle.std.proofs.lemmas.Bool.{cases_eq, cases_lt}
 use Rattle.fv_codec.specs.declared.pointer.Pointer.{Pointer}
 use Rattle.fv_model.specs.Trees.{fan}
 use Rattle.fv_tree.specs.Spelled.{hole, pointers_at, pointers_in, pointer_at, stamp_in, block_at}
 use Rattle.fv_tree.specs.Flushing.{Loaded, Leads, IsSound, IsEmptyNode, IsFlushed, Flushes}
 use Rattle.fv_tree.proofs.Below.{no_pointers, kept_pointers, read_pointers}
-use Rattle.fv_tree.proofs.Flushed.{IsMemory, there, false_is_true, some_none, under_none}
+use Rattle.fv_tree.proofs.Flushed.{IsMemory, there, false_is_true, some_none, under_none, unchanged_placed}
+use Rattle.fv_tree.proofs.Hints.{right_as}
 use Rattle.fv_tree.proofs.Ways.{IsWay, own_way, is_way, past, alike, spot_is}
 use Rattle.fv_tree.proofs.Writes.{block_none, block_same}
 
@@ -24,7 +25,7 @@ pub record Forgets (s u : Loaded) (k q : ℕ) : Type 0 where
   pub changed_others : (j c : ℕ) → (j ≢ k) ⊎ (c ≢ q) → u.changed j c ≡ s.changed j c
   pub placed_others : (j c : ℕ) → (j ≢ k) ⊎ (c ≢ q) → u.placed j c ≡ s.placed j c
 
-module _ (s u : Loaded) (used : ℕ → Bool) (k q : ℕ) (sound : IsSound used s) (memory : IsMemory s) (is : Forgets s u k q) where
+module _ (s u : Loaded) (used : ℕ → Option ℕ) (k q : ℕ) (sound : IsSound used s) (memory : IsMemory s) (is : Forgets s u k q) where
   unchanged : (pointer_at s.tree k q).stamp ≢ 0 → s.changed k q ≡ false
   unchanged some = elim is.why [
     | inl same ↦ same
@@ -90,21 +91,8 @@ module _ (s u : Loaded) (used : ℕ → Bool) (k q : ℕ) (sound : IsSound used 
 
   -- ---- the tree stands on its blocks
 
-  -- what didn't change and has a pointer has its block
-  own_cell_placed : k ≡ 0 → (pointer_at s.tree k q).stamp ≢ 0 → s.placed k q ≡ true
-  own_cell_placed none some = (λ i. s.placed (none i) q) ∙ elim (there (s.tree.cells q)) [
-    | inl absent ↦ memory.cells q absent
-    | inr held ↦ false_is_true (s.changed 0 q) ((λ i. s.changed (sym none i) q) ∙ unchanged some) (memory.cell q held.0 held.1)
-  ]
-
   own_placed : (pointer_at s.tree k q).stamp ≢ 0 → s.placed k q ≡ true
-  own_placed some = elim (cases_eq k 0) [
-    | inl none ↦ own_cell_placed none some
-    | inr low ↦ elim (there (s.tree.nodes k q)) [
-      | inl absent ↦ memory.nodes k q (omega arith) absent
-      | inr held ↦ (sound.same k q held.0 (omega arith) held.1 (unchanged some) some).1
-    ]
-  ]
+  own_placed some = unchanged_placed s used sound memory k q (unchanged some) some
 
   leads_old : (j c v : ℕ) → Leads u j c v → Leads s j c v
   leads_old j c v leads = let some : (pointer_at s.tree j c).stamp ≢ 0 = λ e. leads.some (same_stamps j c ∙ e) in record {
@@ -158,7 +146,7 @@ module _ (s u : Loaded) (used : ℕ → Bool) (k q : ℕ) (sound : IsSound used 
   stands = record {
     once = λ j c m n v first second. sound.once j c m n v (leads_old j c v first) (leads_old m n v second);
     held = λ j c v leads. ap (λ under. is_some (under v)) is.under ∙ sound.held j c v (leads_old j c v leads);
-    used = λ j c v leads. sound.used j c v (leads_old j c v leads);
+    used = λ j c v leads. right_as (pointer_at s.tree j c) (pointer_at u.tree j c) (used v) (used v) (ap (λ (p : Pointer). p.pvbn) (pointers j c)) refl (sound.used j c v (leads_old j c v leads));
     over = over;
     same = same;
     empty = empty;
@@ -184,4 +172,5 @@ module _ (s u : Loaded) (used : ℕ → Bool) (k q : ℕ) (sound : IsSound used 
     fresh = λ v placed _. none_flushed placed.level placed.place placed.flushed;
     gone = λ v replaced _. none_flushed replaced.level replaced.place replaced.flushed;
     unknown = λ j c flushed _ _. none_flushed (j + 1) (c / fan) flushed;
+    told = λ j c flushed. none_flushed j c flushed;
   }

@@ -19,6 +19,7 @@ pub mod Unlinked
 pub mod Single
 pub mod Released
 pub mod Pointers
+pub mod Hints
 pub mod Removing
 pub mod Collected
 pub mod Flushed

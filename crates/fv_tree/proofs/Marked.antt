@@ -1,21 +1,22 @@
 -- A write, from what it marks as changed, and how the tree stands to its blocks then.
-use Rattle.std.proofs.Common.{◌≡◌, ◌≢◌, ◌≤◌, ◌<◌, ℕ, ◌+◌, ◌/◌, ◌^◌, ◌⊎◌, inl, inr, Bool, true, false, List, Some, is_some, sym, ap, ◌∙◌, arith}
+use Rattle.std.proofs.Common.{◌≡◌, ◌≢◌, ◌≤◌, ◌<◌, ℕ, ◌+◌, ◌/◌, ◌^◌, ◌⊎◌, inl, inr, true, false, List, Option, Some, is_some, refl, sym, ap, ◌∙◌, arith}
 use Rattle.std.proofs.Math.Nat.{div-eq_of_lt, pow-le-pow_right}
 use Rattle.std.proofs.lemmas.Bool.{cases_eq, cases_lt}
 use Rattle.fv_codec.specs.declared.pointer.Pointer.{Pointer}
 use Rattle.fv_model.specs.Trees.{fan}
 use Rattle.fv_tree.specs.Spelled.{hole, pointers_in, pointer_at}
 use Rattle.fv_tree.specs.Writing.{stamped}
-use Rattle.fv_tree.specs.Flushing.{Loaded, Leads, IsSound, IsEmptyNode}
+use Rattle.fv_tree.specs.Flushing.{Loaded, Leads, IsRight, IsSound, IsEmptyNode}
 use Rattle.fv_tree.proofs.Flushed.{false_is_true, reached_within}
+use Rattle.fv_tree.proofs.Hints.{right_as}
 use Rattle.fv_tree.proofs.Stamped.{on_way, on, off, above}
 use Rattle.fv_tree.proofs.Ways.{past}
 
 -- what holds of a tree of which the way to a cell is in memory, before that is marked
-pub record IsReady (taken : ℕ → Bool) (v : Loaded) (i : ℕ) : Type 0 where
+pub record IsReady (taken : ℕ → Option ℕ) (v : Loaded) (i : ℕ) : Type 0 where
   pub once : (level place k q w : ℕ) → Leads v level place w → Leads v k q w → (level ≡ k) × (place ≡ q)
   pub held : (level place w : ℕ) → Leads v level place w → is_some (v.tree.under w) ≡ true
-  pub used : (level place w : ℕ) → Leads v level place w → taken w ≡ true
+  pub used : (level place w : ℕ) → Leads v level place w → IsRight (pointer_at v.tree level place) (taken w)
   pub unplaced : (level : ℕ) → level ≤ v.tree.levels → (pointer_at v.tree level (i / fan ^ level)).stamp ≡ 0 → v.placed level (i / fan ^ level) ≡ false
   pub over : (level place : ℕ) → place ≢ i / fan ^ level → v.changed level place ≡ true → (pointer_at v.tree level place).stamp ≢ 0 → level < v.tree.levels → v.changed (level + 1) (place / fan) ≡ true
   pub same : (level place : ℕ) (xs : List Pointer) → place ≢ i / fan ^ level → 1 ≤ level → v.tree.nodes level place ≡ Some xs → v.changed level place ≡ false → (pointer_at v.tree level place).stamp ≢ 0
@@ -34,7 +35,7 @@ pub record IsMarked (v u : Loaded) (i s : ℕ) : Type 0 where
   pub way : (level : ℕ) → level ≤ v.tree.levels → u.changed level (i / fan ^ level) ≡ true
   pub others : (level place : ℕ) → place ≢ i / fan ^ level → u.changed level place ≡ v.changed level place
 
-module _ (taken : ℕ → Bool) (v u : Loaded) (i s : ℕ) (some : s ≢ 0) (covers : i < fan ^ v.tree.levels) (ready : IsReady taken v i) (marked : IsMarked v u i s) where
+module _ (taken : ℕ → Option ℕ) (v u : Loaded) (i s : ℕ) (some : s ≢ 0) (covers : i < fan ^ v.tree.levels) (ready : IsReady taken v i) (marked : IsMarked v u i s) where
   -- a range on the way, or another
   on_or_off : (level place : ℕ) → (place ≡ i / fan ^ level) ⊎ (place ≢ i / fan ^ level)
   on_or_off level place = cases_eq place (i / fan ^ level)
@@ -46,6 +47,12 @@ module _ (taken : ℕ → Bool) (v u : Loaded) (i s : ℕ) (some : s ≢ 0) (cov
   pointer_off level place differs = elim (cases_lt v.tree.levels level) [
     | inl lt ↦ past u.tree level place (omega (arith, lt, marked.levels)) ∙ sym (past v.tree level place lt)
     | inr le ↦ marked.pointers level place le ∙ off (pointer_at v.tree) i s level place differs
+  ]
+
+  same_hint : (level place : ℕ) → level ≤ v.tree.levels → (pointer_at u.tree level place).pvbn ≡ (pointer_at v.tree level place).pvbn
+  same_hint level place le = elim (on_or_off level place) [
+    | inl at ↦ ap (λ (p : Pointer). p.pvbn) (pointer_on level place le at)
+    | inr differs ↦ ap (λ (p : Pointer). p.pvbn) (pointer_off level place differs)
   ]
 
   within : (level place : ℕ) → (pointer_at u.tree level place).stamp ≢ 0 → level ≤ v.tree.levels
@@ -120,7 +127,7 @@ module _ (taken : ℕ → Bool) (v u : Loaded) (i s : ℕ) (some : s ≢ 0) (cov
   marked_sound = record {
     once = λ level place k q w first second. ready.once level place k q w (leads_old level place w first) (leads_old k q w second);
     held = λ level place w leads. ap (λ under. is_some (under w)) marked.under ∙ ready.held level place w (leads_old level place w leads);
-    used = λ level place w leads. ready.used level place w (leads_old level place w leads);
+    used = λ level place w leads. right_as (pointer_at v.tree level place) (pointer_at u.tree level place) (taken w) (taken w) (same_hint level place (within level place leads.some)) refl (ready.used level place w (leads_old level place w leads));
     over = over;
     same = same;
     empty = empty;

@@ -1,5 +1,5 @@
 -- A block that was placed, to which the pointer in the node above leads, as it is to the tree over its blocks.
-use Rattle.std.proofs.Common.{◌≡◌, ◌≢◌, ◌≤◌, ◌<◌, ℕ, ◌+◌, ◌/◌, ◌%◌, ◌⊎◌, inl, inr, Bool, true, false, not, ◌&&◌, List, [], ◌∷◌, zero, suc, Some, None, Ok, get_or, length, is_some, slice_set, refl, sym, ap, subst, ◌∙◌, arith, nat_lt, ◌==◌, if◌then◌else◌}
+use Rattle.std.proofs.Common.{◌≡◌, ◌≢◌, ◌≤◌, ◌<◌, ℕ, ◌+◌, ◌/◌, ◌%◌, ◌⊎◌, inl, inr, Bool, true, false, not, ◌&&◌, List, [], ◌∷◌, zero, suc, Option, Some, None, Ok, get_or, length, is_some, slice_set, refl, sym, ap, subst, ◌∙◌, arith, nat_lt, ◌==◌, if◌then◌else◌}
 use Rattle.std.specs.Ordering.{nat_cmp}
 use Rattle.std.specs.Option.{option_map}
 use Rattle.std.specs.BTreeMap as tree
@@ -20,6 +20,7 @@ use Rattle.fv_tree.specs.Flushing.{Leads, Stands, IsMoved, loaded, changed_of, p
 use Rattle.fv_tree.proofs.Below.{no_pointers, kept_pointers}
 use Rattle.fv_tree.proofs.Flushed.{Replaces, there, bit, false_is_true, none_some}
 use Rattle.fv_tree.proofs.Gone.{Goes, map_none, cell_changed, spot_changed, cell_led, spot_led, gone_changed, gone_led, other_changed, other_led, other_node, other_content, gone_node, gone_cell}
+use Rattle.fv_tree.proofs.Hints.{HasUnknown, find_unknown}
 use Rattle.fv_tree.proofs.Pointers.{both}
 use Rattle.fv_tree.proofs.Ways.{own_way, past}
 
@@ -41,6 +42,16 @@ one_unknown (x ∷ xs) zero some none =
     let two : (x.pvbn == 0) ≡ true = grind (arith, nat_tests) in
     (λ i. not (not (one i) && two i) && all_known xs)
 one_unknown (x ∷ xs) (suc slot) some none = ap (λ b. not (is_unknown x) && b) (one_unknown xs slot some none) ∙ both (not (is_unknown x))
+
+pub unknown_in : (node : KeptNode) (held : Option (List Pointer)) → held ≡ Some node.children → all_known node.children ≡ false → HasUnknown held
+unknown_in node held is some = let one = find_unknown node.children some in record {
+  xs = node.children;
+  held = is;
+  slot = one.0;
+  low = omega (arith, one.1, node.long);
+  some = one.2;
+  unknown = one.3;
+}
 
 -- ---- the pointer in memory is the tree's
 
@@ -115,7 +126,7 @@ module _ (source : Shown) (t : Tree) (stands : Stands source t) (k q : ℕ) wher
 module _ (old new : Shown) (t mid u : Tree) (k q : ℕ) (content : List ℕ) (named known : Bool) (stands : Stands old t) (was : changed_of t k q ≡ true) (led : named ≡ placed_of t k q)
     (first : (j c : ℕ) → j + 1 ≡ k → changed_of t j c ≡ false) (moved : IsMoved old t k q content named known new mid) (goes : Goes mid u k q)
     (node : 1 ≤ k → (xs : List Pointer) × (node_in t k q ≡ Some xs) × (pointers_in t.owner k q (Some content) ≡ xs) × ((slot : ℕ) → (get_or xs slot hole).stamp ≢ 0 → (get_or xs slot hole).pvbn ≡ 0 → known ≡ false))
-    (cell : k ≡ 0 → cell_in t q ≡ Some content) where
+    (cell : k ≡ 0 → cell_in t q ≡ Some content) (hidden : known ≡ false → (1 ≤ k) × HasUnknown (node_in t k q)) where
   p : Pointer
   p = moved.pointer
 
@@ -199,12 +210,16 @@ module _ (old new : Shown) (t mid u : Tree) (k q : ℕ) (content : List ℕ) (na
     own_cell = gone_cell mid u k q goes;
     nodes = λ j c low differs beside. other_node mid u k q goes j c low differs ∙ moved.points.others j c beside;
     cells = λ i differs. other_content mid u k q goes i differs ∙ ap (λ (cells : tree.BTreeMap ℕ KeptCell). option_map (λ (kept : KeptCell). kept.block) (tree.get nat_cmp cells i)) moved.points.cells;
-    node = λ low. let is = node low in (is.0, is.1, ap (pointers_in t.owner k q) placed_now ∙ is.2, λ slot filled none. moved.unknown (is.3 slot filled none));
+    node = λ low. let is = node low in (is.0, is.1, ap (pointers_in t.owner k q) placed_now ∙ is.2, λ slot filled none. moved.swaps.unknown (is.3 slot filled none));
     cell = λ e. (content, cell e, placed_now);
     fresh = moved.swaps.fresh;
     unused = moved.swaps.unused;
     now = ap is_some placed_now;
     taken = moved.swaps.used apart;
+    told = elim (bit known) [
+      | inl not_known ↦ inr (hidden not_known)
+      | inr shown ↦ inl (moved.swaps.told shown apart)
+    ];
     others = λ v differs not. moved.swaps.others v differs (other v not);
     gone = λ v to differs. ap new.used (sym (same_vvbn ∙ to.vvbn)) ∙ moved.swaps.gone (led ∙ to.placed);
     changed = gone_changed mid u k q goes;

@@ -1,5 +1,5 @@
 -- A cell's content that comes into memory, and the marks over it.
-use Rattle.std.proofs.Common.{◌≡◌, ◌≢◌, ◌≤◌, ◌<◌, ℕ, ◌+◌, ◌/◌, ◌%◌, ◌^◌, ◌⊎◌, inl, inr, Bool, true, false, not, cond, nat_eq, ◌&&◌, List, Some, get_or, is_some, refl, sym, ap, subst, ◌∙◌, arith, ◌==◌, if◌then◌else◌}
+use Rattle.std.proofs.Common.{◌≡◌, ◌≢◌, ◌≤◌, ◌<◌, ℕ, ◌+◌, ◌/◌, ◌%◌, ◌^◌, ◌⊎◌, inl, inr, Bool, true, false, not, cond, nat_eq, ◌&&◌, List, Option, Some, get_or, is_some, refl, sym, ap, subst, ◌∙◌, arith, ◌==◌, if◌then◌else◌}
 use Rattle.std.specs.Ordering.{nat_cmp}
 use Rattle.std.specs.Option.{option_map}
 use Rattle.std.specs.BTreeMap as tree
@@ -20,6 +20,7 @@ use Rattle.fv_tree.specs.Flushing.{Leads, IsSound, Stands, loaded, loaded_over, 
 use Rattle.fv_tree.specs.Carried.{kept_at, Marks}
 use Rattle.fv_tree.proofs.Flushed.{false_is_true}
 use Rattle.fv_tree.proofs.Gone.{map_some, cell_changed, spot_changed, cell_led, spot_led}
+use Rattle.fv_tree.proofs.Hints.{right_as}
 use Rattle.fv_tree.proofs.Marked.{IsReady, IsMarked}
 use Rattle.fv_tree.proofs.Stamped.{stamped_way}
 use Rattle.fv_tree.proofs.Steps.{stamps_way}
@@ -34,7 +35,7 @@ stands_again old new t u held used same stands =
     (subst (λ h. IsSound new.used (loaded_over (λ v. fin.get h v) t)) (sym held)
     (subst (λ w. IsSound w (loaded old t)) (sym used) stands))
 
-pub cells_again : (blocks : Under) (used : ℕ → Bool) (t u : Tree) → IsSameButCells t u → ((i : ℕ) → tree.get nat_cmp u.cells i ≡ tree.get nat_cmp t.cells i) → IsSound used (loaded_over blocks t) → IsSound used (loaded_over blocks u)
+pub cells_again : (blocks : Under) (used : ℕ → Option ℕ) (t u : Tree) → IsSameButCells t u → ((i : ℕ) → tree.get nat_cmp u.cells i ≡ tree.get nat_cmp t.cells i) → IsSound used (loaded_over blocks t) → IsSound used (loaded_over blocks u)
 cells_again blocks used t u same cells =
     let seen : loaded_over blocks u ≡ loaded_over blocks t = λ j. record {
       tree = same_standing blocks t u same (λ i. ap (option_map (λ (kept : KeptCell). kept.block)) (cells i)) j;
@@ -105,7 +106,7 @@ module _ (blocks : Under) (v u : Tree) (i s : ℕ) (stamps : Stamps v u i s) (ma
 
 -- ---- within the levels
 
-module _ (blocks : Under) (used : ℕ → Bool) (w v : Tree) (i : ℕ) (named : Bool) (sound : IsSound used (loaded_over blocks w)) (same : IsSameButCells w v)
+module _ (blocks : Under) (used : ℕ → Option ℕ) (w v : Tree) (i : ℕ) (named : Bool) (sound : IsSound used (loaded_over blocks w)) (same : IsSameButCells w v)
     (own : cell_placed (tree.get nat_cmp v.cells i) ≡ (named && cell_placed (tree.get nat_cmp w.cells i))) (others : (j : ℕ) → j ≢ i → tree.get nat_cmp v.cells j ≡ tree.get nat_cmp w.cells j)
     (unnamed : (pointer_at (standing blocks w) 0 i).stamp ≡ 0 → named ≡ false)
     (unplaced : (level : ℕ) → 1 ≤ level → level ≤ w.levels → (pointer_at (standing blocks w) level (i / fan ^ level)).stamp ≡ 0 → placed_in w.nodes level (i / fan ^ level) ≡ false) where
@@ -167,7 +168,8 @@ module _ (blocks : Under) (used : ℕ → Bool) (w v : Tree) (i : ℕ) (named : 
   within_ready = record {
     once = λ level place k q x first second. sound.once level place k q x (leads_old level place x first) (leads_old k q x second);
     held = λ level place x leads. sound.held level place x (leads_old level place x leads);
-    used = λ level place x leads. sound.used level place x (leads_old level place x leads);
+    used = λ level place x leads.
+        right_as (pointer_at (standing blocks w) level place) (pointer_at (standing blocks v) level place) (used x) (used x) (ap (λ (p : Pointer). p.pvbn) (cell_pointers level place)) refl (sound.used level place x (leads_old level place x leads));
     unplaced = way_unplaced;
     over = λ level place differs now reached lt.
         let above = sound.over level place (sym (changed_off level place differs) ∙ now) (λ e. reached (ap (λ (p : Pointer). p.stamp) (cell_pointers level place) ∙ e)) (omega (arith, lt, same.levels)) in

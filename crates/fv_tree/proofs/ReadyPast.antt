@@ -1,5 +1,5 @@
 -- A tree whose levels grow, before the marks of a write, and how it stands to its blocks.
-use Rattle.std.proofs.Common.{◌≡◌, ◌≢◌, ◌≤◌, ◌<◌, ℕ, ◌+◌, ◌/◌, ◌^◌, ◌⊎◌, inl, inr, Bool, true, false, List, Some, is_some, sym, ap, subst, ◌∙◌, arith}
+use Rattle.std.proofs.Common.{◌≡◌, ◌≢◌, ◌≤◌, ◌<◌, ℕ, ◌+◌, ◌/◌, ◌^◌, ◌⊎◌, inl, inr, true, false, List, Option, Some, is_some, refl, sym, ap, subst, ◌∙◌, arith}
 use Rattle.std.specs.Ordering.{nat_cmp}
 use Rattle.std.specs.Option.{option_map}
 use Rattle.std.specs.BTreeMap as tree
@@ -15,6 +15,7 @@ use Rattle.fv_tree.specs.Carried.{kept_at, IsBlank, BringsNew, IsTop}
 use Rattle.fv_tree.proofs.Brought.{blank_unplaced}
 use Rattle.fv_tree.proofs.Flushed.{false_is_true, under_none, reached_within, top_is_first}
 use Rattle.fv_tree.proofs.Gone.{cell_changed, spot_changed, cell_led, spot_led}
+use Rattle.fv_tree.proofs.Hints.{right_as}
 use Rattle.fv_tree.proofs.Marked.{IsReady}
 use Rattle.fv_tree.proofs.Past.{Raises, more, top, seen, alone}
 use Rattle.fv_tree.proofs.Raised.{raised_old, raised_first, raised_other, lone_elsewhere}
@@ -23,7 +24,7 @@ use Rattle.fv_tree.proofs.Ungrown.{not_past, kept_old, kept_off}
 use Rattle.fv_tree.proofs.Ways.{past, spot_is}
 use Rattle.fv_tree.proofs.Writes.{none_at}
 
-module _ (blocks : Under) (used : ℕ → Bool) (t v : Tree) (i s : ℕ) (is : Raises t v i s) (some : s ≢ 0) (sound : IsSound used (loaded_over blocks t)) (brings : BringsNew t v i)
+module _ (blocks : Under) (used : ℕ → Option ℕ) (t v : Tree) (i s : ℕ) (is : Raises t v i s) (some : s ≢ 0) (sound : IsSound used (loaded_over blocks t)) (brings : BringsNew t v i)
     (blank : (level : ℕ) → 1 ≤ level → level ≤ v.levels → (level < v.levels) ⊎ (t.root.stamp ≡ 0) → IsBlank (kept_at v level (i / fan ^ level)))
     (tops : t.root.stamp ≢ 0 → (level : ℕ) → t.levels < level → level ≤ v.levels → IsTop v level)
     (own : cell_placed (tree.get nat_cmp v.cells i) ≡ false) (others : (j : ℕ) → j ≢ i → tree.get nat_cmp v.cells j ≡ tree.get nat_cmp t.cells j) where
@@ -96,16 +97,20 @@ module _ (blocks : Under) (used : ℕ → Bool) (t v : Tree) (i s : ℕ) (is : R
   lone_on : (k q : ℕ) → k ≡ v.levels → q ≡ 0 → q ≡ i / fan ^ k
   lone_on k q at e = e ∙ sym top_range ∙ (λ j. i / fan ^ sym at j)
 
-  leads_old : (k q x : ℕ) → Leads (loaded_over blocks v) k q x → Leads (loaded_over blocks t) k q x
-  leads_old k q x leads = elim (old_or_new k q leads.some) [
-    | inl old ↦ record {
-      some = old.0;
-      placed = sym (led_old k q old.0) ∙ leads.placed;
-      vvbn = sym (ap (λ (p : Pointer). p.vvbn) old.1) ∙ leads.vvbn;
-    }
+  -- what leads to a block did before
+  was_pointer : (k q x : ℕ) → Leads (loaded_over blocks v) k q x → ((pointer_at (standing blocks t) k q).stamp ≢ 0) × (pointer_at (standing blocks v) k q ≡ pointer_at (standing blocks t) k q)
+  was_pointer k q x leads = elim (old_or_new k q leads.some) [
+    | inl old ↦ old
     | inr (inl high) ↦ false_is_true (placed_of v k q) (top_unplaced k q (reached_within (standing blocks v) k q leads.some) high.0 high.1 high.2) leads.placed
     | inr (inr lone) ↦ false_is_true (placed_of v k q) ((λ j. placed_of v k (lone_on k q lone.1 lone.2 j)) ∙ way_unplaced k (omega (arith, lone.1))) leads.placed
   ]
+
+  leads_old : (k q x : ℕ) → Leads (loaded_over blocks v) k q x → Leads (loaded_over blocks t) k q x
+  leads_old k q x leads = let old = was_pointer k q x leads in record {
+    some = old.0;
+    placed = sym (led_old k q old.0) ∙ leads.placed;
+    vvbn = sym (ap (λ (p : Pointer). p.vvbn) old.1) ∙ leads.vvbn;
+  }
 
   over_old : (k q : ℕ) → changed_of v k q ≡ true → (pointer_at (standing blocks t) k q).stamp ≢ 0 → k < v.levels → changed_of v (k + 1) (q / fan) ≡ true
   over_old k q now reached lt = elim (cases_lt k t.levels) [
@@ -170,7 +175,8 @@ module _ (blocks : Under) (used : ℕ → Bool) (t v : Tree) (i s : ℕ) (is : R
   past_ready = record {
     once = λ j c k q x first second. sound.once j c k q x (leads_old j c x first) (leads_old k q x second);
     held = λ k q x leads. sound.held k q x (leads_old k q x leads);
-    used = λ k q x leads. sound.used k q x (leads_old k q x leads);
+    used = λ k q x leads.
+        right_as (pointer_at (standing blocks t) k q) (pointer_at (standing blocks v) k q) (used x) (used x) (ap (λ (p : Pointer). p.pvbn) (was_pointer k q x leads).1) refl (sound.used k q x (leads_old k q x leads));
     unplaced = λ level le _. way_unplaced level le;
     over = over;
     same = same;

@@ -23,6 +23,7 @@ use Rattle.fv_tree.specs.Carried.{Brings}
 use Rattle.fv_tree.specs.Flushing.{Leads, IsSound, loaded, loaded_over, node_placed, cell_placed, placed_in, placed_of}
 use Rattle.fv_tree.proofs.Below.{no_pointers, kept_pointers, read_pointers}
 use Rattle.fv_tree.proofs.Causes.{counts_then}
+use Rattle.fv_tree.proofs.Hints.{right_as}
 use Rattle.fv_tree.proofs.Ways.{IsWay, own_way, is_way, past, spot_is}
 use Rattle.fv_tree.proofs.Writes.{block_none, block_here, same_alike}
 
@@ -40,8 +41,8 @@ nothing_released old new held used counts = record {
 
 pub one_released : (old new : Shown) (vvbn : ℕ) → Drops old vvbn new → Releases old new (λ v. v ≡ vvbn)
 one_released old new vvbn drops = record {
-  gone = λ v same. let test : nat_eq v vvbn ≡ true = grind (arith, nat_tests) in drops.used v ∙ ap (λ b. cond b false (old.used v)) test;
-  used = λ v differs. drops.used v ∙ ap (λ b. cond b false (old.used v)) (apart v differs);
+  gone = λ v same. let test : nat_eq v vvbn ≡ true = grind (arith, nat_tests) in drops.used v ∙ ap (λ b. cond b None (old.used v)) test;
+  used = λ v differs. drops.used v ∙ ap (λ b. cond b None (old.used v)) (apart v differs);
   held = λ v differs. elim drops.held [
     | inl removed ↦ ap (λ m. fin.get m v) removed ∙ fin.get-remove nat_cmp_total old.held vvbn v ∙ ap (λ b. cond b None (fin.get old.held v)) (turned v vvbn ∙ apart v differs)
     | inr same ↦ ap (λ m. fin.get m v) same
@@ -63,7 +64,7 @@ one_released old new vvbn drops = record {
     turned : (q k : ℕ) → eq_by_cmp nat_cmp q k ≡ nat_eq q k
     turned q k = grind (arith, nat_tests)
 
-    stays : (b c : Bool) → c ≡ false → cond b false c ≡ false
+    stays : (b : Bool) (c : Option ℕ) → c ≡ None → cond b None c ≡ None
     stays true c e = refl
     stays false c e = e
 
@@ -222,7 +223,8 @@ module _ (old new : Shown) (t u : Tree) (stands : IsSound old.used (loaded old t
       let stood : (level place : ℕ) → StandsAt (standing (under new) u) level place → StandsAt (standing (under old) u) level place = λ level place there none. there (ap (λ (p : Pointer). p.stamp) (pointers level place) ∙ none) in record {
         once = λ level place k q v one other. sound.once level place k q v (leads level place v one) (leads k q v other);
         held = λ level place v led. ap is_some (released.held v (not_dropped level place v (leads level place v led))) ∙ sound.held level place v (leads level place v led);
-        used = λ level place v led. released.used v (not_dropped level place v (leads level place v led)) ∙ sound.used level place v (leads level place v led);
+        used = λ level place v led.
+            right_as (pointer_at (standing (under old) u) level place) (pointer_at (standing (under new) u) level place) (old.used v) (new.used v) (ap (λ (p : Pointer). p.pvbn) (pointers level place)) (released.used v (not_dropped level place v (leads level place v led))) (sound.used level place v (leads level place v led));
         over = λ level place changed there lt. sound.over level place changed (stood level place there) lt;
         same = λ level place xs low node unchanged there.
             let was = sound.same level place xs low node unchanged (stood level place there) in

@@ -1,5 +1,5 @@
 -- The removal of one cell, from the pointers that it leaves.
-use Rattle.std.proofs.Common.{◌≡◌, ◌≢◌, ◌≤◌, ◌<◌, ℕ, zero, suc, ◌+◌, ◌-◌, ◌/◌, ◌^◌, ◌⊎◌, inl, inr, Bool, true, false, cond, List, Some, None, refl, sym, ap, subst, ◌∙◌, arith, is_some, nat_eq, ◌==◌, if◌then◌else◌}
+use Rattle.std.proofs.Common.{◌≡◌, ◌≢◌, ◌≤◌, ◌<◌, ℕ, zero, suc, ◌+◌, ◌-◌, ◌/◌, ◌^◌, ◌⊎◌, inl, inr, true, false, cond, List, Option, Some, None, refl, sym, ap, subst, ◌∙◌, arith, is_some, nat_eq, ◌==◌, if◌then◌else◌}
 use Rattle.std.proofs.Math.Nat.{div-eq_of_lt, pow-le-pow_right}
 use Rattle.std.specs.Option.{option_map}
 use Rattle.std.specs.BTreeMap as tree
@@ -16,6 +16,7 @@ use Rattle.fv_tree.specs.Erasing.{StandsAt, HoldsCells, IsErased}
 use Rattle.fv_tree.specs.Releasing.{IsDropped, KeepsBlocks}
 use Rattle.fv_tree.specs.Flushing.{Leads, IsSound, IsEmptyNode, loaded_over, placed_of, changed_in, changed_of, pointer_in}
 use Rattle.fv_tree.specs.Unlinking.{HasWay, AreBare, Unlinks, CellGoes, cleared_in, IsOnWay}
+use Rattle.fv_tree.proofs.Hints.{right_as}
 use Rattle.fv_tree.proofs.Erased.{hole_of, not_both}
 use Rattle.fv_tree.proofs.Collected.{pointer_in_is}
 use Rattle.fv_tree.proofs.Stamped.{above}
@@ -237,16 +238,17 @@ module _ (blocks : Under) (t u : Tree) (i lost start stamp : ℕ) (way : HasWay 
     | inr lt ↦ lt
   ]
 
-  kept : (level place : ℕ) → StandsAt v level place → (StandsAt s level place) × ((pointer_at v level place).vvbn ≡ (pointer_at s level place).vvbn) × (placed_of u level place ≡ placed_of t level place)
+  kept : (level place : ℕ) → StandsAt v level place → (StandsAt s level place) × ((pointer_at v level place).vvbn ≡ (pointer_at s level place).vvbn) × (placed_of u level place ≡ placed_of t level place) × ((pointer_at v level place).pvbn ≡ (pointer_at s level place).pvbn)
   kept level place there = let lt = not_all level place there in elim (cases_eq place (i / fan ^ level)) [
     | inl at ↦
         let high_enough = still level (subst (StandsAt v level) at there) in (
           subst (StandsAt s level) (sym at) (marks_above s level i high_enough.1 stands),
           ap (λ (p : Pointer). p.vvbn) (above_lost level place high_enough.0 high_enough.1 at),
           is.blocks lt level place (inl high_enough.0),
+          ap (λ (p : Pointer). p.pvbn) (above_lost level place high_enough.0 high_enough.1 at),
         )
     | inr differs ↦ elim (beside level place differs) [
-      | inl same ↦ ((λ none. there (ap (λ (p : Pointer). p.stamp) same ∙ none)), ap (λ (p : Pointer). p.vvbn) same, is.blocks lt level place (inr differs))
+      | inl same ↦ ((λ none. there (ap (λ (p : Pointer). p.stamp) same ∙ none)), ap (λ (p : Pointer). p.vvbn) same, is.blocks lt level place (inr differs), ap (λ (p : Pointer). p.pvbn) same)
       | inr none ↦ absurd (there none.0)
     ]
   ]
@@ -309,7 +311,7 @@ module _ (blocks : Under) (t u : Tree) (i lost start stamp : ℕ) (way : HasWay 
       none_is : (xs : List Pointer) → None ≡ Some xs → ⊥
       none_is xs e = absurd cc
 
-  empty_there : (used : ℕ → Bool) → IsSound used (loaded_over blocks t) → (level place : ℕ) → 1 ≤ level → (pointer_at v level place).stamp ≡ 0 → (level ≤ u.levels) ⊎ ((place ≢ 0) ⊎ (u.root.stamp ≡ 0)) → IsEmptyNode v level place
+  empty_there : (used : ℕ → Option ℕ) → IsSound used (loaded_over blocks t) → (level place : ℕ) → 1 ≤ level → (pointer_at v level place).stamp ≡ 0 → (level ≤ u.levels) ⊎ ((place ≢ 0) ⊎ (u.root.stamp ≡ 0)) → IsEmptyNode v level place
   empty_there used sound level place low none where_ xs node = elim all_or_not [
     | inl all ↦ absurd (no_node level place xs (is.emptied all level place) node)
     | inr lt ↦
@@ -345,11 +347,11 @@ module _ (blocks : Under) (t u : Tree) (i lost start stamp : ℕ) (way : HasWay 
           let more : fan ^ t.levels ≤ fan ^ level = pow-le-pow_right {n = fan} (omega arith) {i = t.levels} {j = level} (omega (arith, lt)) in
           div-eq_of_lt (let within = cell_within s i stands in omega (arith, more, within))
 
-  one_sound : (used : ℕ → Bool) → IsSound used (loaded_over blocks t) → IsSound used (loaded_over blocks u)
+  one_sound : (used : ℕ → Option ℕ) → IsSound used (loaded_over blocks t) → IsSound used (loaded_over blocks u)
   one_sound used sound = record {
     once = λ level place k q w one other. sound.once level place k q w (led level place w one) (led k q w other);
     held = λ level place w leads. sound.held level place w (led level place w leads);
-    used = λ level place w leads. sound.used level place w (led level place w leads);
+    used = λ level place w leads. right_as (pointer_at s level place) (pointer_at v level place) (used w) (used w) (kept level place leads.some).3 refl (sound.used level place w (led level place w leads));
     over = λ level place changed there lt.
         let less : level < t.levels = omega (arith, lt, new_levels (not_all level place there)) in
         changed_above level place there less (λ differs. sound.over level place (sym (is.unmarked (not_all level place there) level place differs) ∙ changed) (kept level place there).0 less);

@@ -14,10 +14,10 @@ use Rattle.fv_tree.specs.Spelled.{pointer_at}
 use Rattle.fv_tree.specs.Sources.{Shown}
 use Rattle.fv_tree.specs.Standing.{standing, under, node_in}
 use Rattle.fv_tree.specs.Flushing.{Stands, Flushes, IsHidden, IsMoved, IsNodeStep, ForgetsCell, ForgetsNode, loaded, changed_of, node_changed, node_placed, cell_placed, all_known}
-use Rattle.fv_tree.proofs.Flushed.{bit, flushes_placed}
+use Rattle.fv_tree.proofs.Flushed.{bit, false_is_true, flushes_placed}
 use Rattle.fv_tree.proofs.Forgotten.{flushes_none}
 use Rattle.fv_tree.proofs.Gone.{Goes, cell_goes, node_goes, is_memory, map_some, cell_changed, spot_changed, cell_led, spot_led, forgets_is}
-use Rattle.fv_tree.proofs.Moved.{hidden_is, replaces_is, spells, one_unknown}
+use Rattle.fv_tree.proofs.Moved.{hidden_is, replaces_is, spells, one_unknown, unknown_in}
 use Rattle.fv_tree.proofs.Ways.{past}
 
 none_in : {K X : Type 0} (test : K → Bool) (es : List (K × X)) → length es ≡ 0 → lookup test es ≡ None
@@ -45,7 +45,7 @@ cell_step old new t mid u q cell stands held (inr moved) forgets =
     let was : changed_of t 0 q ≡ true = cell_changed t 0 q refl ∙ ap is_some held in
     flushes_placed (loaded old t) old.used (loaded new u) new.used 0 q moved.pointer stands (is_memory old t)
     (replaces_is old new t mid u 0 q cell.block cell.placed true stands was (sym (cell_led t 0 q refl ∙ ap cell_placed held)) (λ j c e. absurd (omega (arith, e))) moved (cell_goes mid u q forgets)
-    (λ low. absurd (omega (arith, low))) (λ e. ap (option_map (λ (kept : KeptCell). kept.block)) held))
+    (λ low. absurd (omega (arith, low))) (λ e. ap (option_map (λ (kept : KeptCell). kept.block)) held) (λ hidden. false_is_true true hidden refl))
 
 module _ (old new : Shown) (t mid u : Tree) (k q : ℕ) (node : KeptNode) (stands : Stands old t) (none : tree.btree_map_len t.cells ≡ 0) (held : tree.get spot_cmp t.nodes (k, q) ≡ Some node) where
   -- there are no nodes of level 0, and there is no cell
@@ -100,7 +100,7 @@ module _ (old new : Shown) (t mid u : Tree) (k q : ℕ) (node : KeptNode) (stand
       flushes_placed (loaded old t) old.used (loaded new u) new.used k q is.moved.pointer stands (is_memory old t)
       (replaces_is old new t mid u k q is.block node.placed (all_known node.children) stands was (sym (spot_led t k q is.low ∙ ap node_placed held)) (first lowest) is.moved (node_goes mid u k q is.low forgets)
       (λ low. (node.children, ap (option_map (λ (kept : KeptNode). kept.children)) held, spells t.owner k q node.children is.block is.spells, one_unknown node.children))
-      (λ e. absurd (omega (arith, e, is.low))))
+      (λ e. absurd (omega (arith, e, is.low))) (λ hidden. (is.low, unknown_in node (node_in t k q) (ap (option_map (λ (kept : KeptNode). kept.children)) held) hidden)))
 
 -- the node is still in memory before it goes, and all others are
 pub still_there : (old new : Shown) (t mid : Tree) (k q : ℕ) (node : KeptNode) → tree.get spot_cmp t.nodes (k, q) ≡ Some node → IsNodeStep old t k q node new mid

@@ -1,11 +1,12 @@
 -- A block that is placed, and another that is named as gone.
-use Rattle.std.proofs.Common.{◌≡◌, ◌≢◌, ℕ, ◌⊎◌, inl, inr, Bool, true, false, cond, nat_eq, List, Some, None, sym, ap, ◌∙◌, arith}
+use Rattle.std.proofs.Common.{◌≡◌, ◌≢◌, ℕ, ◌⊎◌, inl, inr, Bool, true, false, cond, nat_eq, List, Some, None, sym, ap, subst, ◌∙◌, arith}
 use Rattle.std.specs.Ordering.{nat_cmp, eq_by_cmp}
 use Rattle.std.specs.Cmp.{nat_cmp_total}
 use Rattle.std.specs.FinMap as fin
 use Rattle.std.proofs.lemmas.Bool.Decides.{nat_tests}
+use Rattle.fv_codec.specs.declared.pointer.Pointer.{Pointer}
 use Rattle.fv_tree.specs.Sources.{Shown, Drops}
-use Rattle.fv_tree.specs.Flushing.{Swaps}
+use Rattle.fv_tree.specs.Flushing.{IsRight, Swaps}
 use Rattle.fv_tree.proofs.Flushed.{bit}
 
 differs_eq : (w v : ℕ) → w ≢ v → nat_eq w v ≡ false
@@ -20,13 +21,13 @@ same_eq v = grind (arith, nat_tests)
 same_cmp : (v : ℕ) → eq_by_cmp nat_cmp v v ≡ true
 same_cmp v = grind (arith, nat_tests)
 
-pub record IsPlacedAt (old : Shown) (content : List ℕ) (v : ℕ) (new : Shown) : Type 0 where
+pub record IsPlacedAt (old : Shown) (content : List ℕ) (v pvbn : ℕ) (new : Shown) : Type 0 where
   pub fresh : fin.get old.held v ≡ None
-  pub unused : old.used v ≡ false
+  pub unused : old.used v ≡ None
   pub held : new.held ≡ fin.insert old.held v content
-  pub used : (w : ℕ) → new.used w ≡ cond (nat_eq w v) true (old.used w)
+  pub used : (w : ℕ) → new.used w ≡ cond (nat_eq w v) (Some pvbn) (old.used w)
 
-module _ (old mid new : Shown) (content : List ℕ) (named : Bool) (r v : ℕ) (placed : IsPlacedAt old content v mid)
+module _ (old mid new : Shown) (content : List ℕ) (named known : Bool) (r pvbn : ℕ) (p : Pointer) (placed : IsPlacedAt old content p.vvbn pvbn mid) (tells : known ≡ true → p.pvbn ≡ pvbn) (hides : known ≡ false → p.pvbn ≡ 0)
     (drops : named ≡ true → Drops mid r new) (held : named ≡ false → new.held ≡ mid.held) (used : named ≡ false → new.used ≡ mid.used) where
   dropped : (w : ℕ) → w ≢ r → Drops mid r new → fin.get new.held w ≡ fin.get mid.held w
   dropped w differs gone = elim gone.held [
@@ -39,22 +40,34 @@ module _ (old mid new : Shown) (content : List ℕ) (named : Bool) (r v : ℕ) (
   stays w (inl none) = (ap (λ h. fin.get h w) (held none), ap (λ u. u w) (used none))
   stays w (inr differs) = elim (bit named) [
     | inl none ↦ (ap (λ h. fin.get h w) (held none), ap (λ u. u w) (used none))
-    | inr some ↦ let gone = drops some in (dropped w differs gone, gone.used w ∙ ap (λ b. cond b false (mid.used w)) (differs_eq w r differs))
+    | inr some ↦ let gone = drops some in (dropped w differs gone, gone.used w ∙ ap (λ b. cond b None (mid.used w)) (differs_eq w r differs))
   ]
 
-  other : (named ≡ false) ⊎ (r ≢ v) → (named ≡ false) ⊎ (v ≢ r)
+  other : (named ≡ false) ⊎ (r ≢ p.vvbn) → (named ≡ false) ⊎ (p.vvbn ≢ r)
   other (inl none) = inl none
   other (inr differs) = inr (λ e. differs (sym e))
 
-  pub swapped : Swaps old content named r v new
+  -- the new block is in use with its PVBN
+  now_used : (named ≡ false) ⊎ (r ≢ p.vvbn) → new.used p.vvbn ≡ Some pvbn
+  now_used kept = (stays p.vvbn (other kept)).1 ∙ placed.used p.vvbn ∙ ap (λ b. cond b (Some pvbn) (old.used p.vvbn)) (same_eq p.vvbn)
+
+  right : IsRight p (Some pvbn)
+  right = elim (bit known) [
+    | inl hidden ↦ inl (hides hidden)
+    | inr shown ↦ inr (tells shown)
+  ]
+
+  pub swapped : Swaps old content named known r p new
   swapped = record {
     fresh = placed.fresh;
     unused = placed.unused;
-    block = λ kept. (stays v (other kept)).0 ∙ ap (λ h. fin.get h v) placed.held ∙ fin.get-insert nat_cmp_total old.held v content v ∙ ap (λ b. cond b (Some content) (fin.get old.held v)) (same_cmp v);
-    used = λ kept. (stays v (other kept)).1 ∙ placed.used v ∙ ap (λ b. cond b true (old.used v)) (same_eq v);
-    gone = λ some. (drops some).used r ∙ ap (λ b. cond b false (mid.used r)) (same_eq r);
+    block = λ kept. (stays p.vvbn (other kept)).0 ∙ ap (λ h. fin.get h p.vvbn) placed.held ∙ fin.get-insert nat_cmp_total old.held p.vvbn content p.vvbn ∙ ap (λ b. cond b (Some content) (fin.get old.held p.vvbn)) (same_cmp p.vvbn);
+    used = λ kept. subst (IsRight p) (sym (now_used kept)) right;
+    told = λ shown kept. now_used kept ∙ ap Some (sym (tells shown));
+    unknown = hides;
+    gone = λ some. (drops some).used r ∙ ap (λ b. cond b None (mid.used r)) (same_eq r);
     others = λ w differs kept. (
-      (stays w kept).0 ∙ ap (λ h. fin.get h w) placed.held ∙ fin.get-insert nat_cmp_total old.held v content w ∙ ap (λ b. cond b (Some content) (fin.get old.held w)) (differs_cmp w v differs),
-      (stays w kept).1 ∙ placed.used w ∙ ap (λ b. cond b true (old.used w)) (differs_eq w v differs),
+      (stays w kept).0 ∙ ap (λ h. fin.get h w) placed.held ∙ fin.get-insert nat_cmp_total old.held p.vvbn content w ∙ ap (λ b. cond b (Some content) (fin.get old.held w)) (differs_cmp w p.vvbn differs),
+      (stays w kept).1 ∙ placed.used w ∙ ap (λ b. cond b (Some pvbn) (old.used w)) (differs_eq w p.vvbn differs),
     );
   }

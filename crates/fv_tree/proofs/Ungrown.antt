@@ -1,5 +1,5 @@
 -- Nodes past the levels that come into memory, and how the tree stands to its blocks while its levels are what they were.
-use Rattle.std.proofs.Common.{◌≡◌, ◌≢◌, ◌≤◌, ◌<◌, ℕ, ◌+◌, ◌/◌, ◌^◌, ◌⊎◌, inl, inr, Bool, true, false, List, Some, is_some, sym, ap, ◌∙◌, arith}
+use Rattle.std.proofs.Common.{◌≡◌, ◌≢◌, ◌≤◌, ◌<◌, ℕ, ◌+◌, ◌/◌, ◌^◌, ◌⊎◌, inl, inr, true, false, List, Option, Some, is_some, refl, sym, ap, ◌∙◌, arith}
 use Rattle.std.specs.Ordering.{nat_cmp}
 use Rattle.std.specs.Option.{option_map}
 use Rattle.std.specs.BTreeMap as tree
@@ -17,6 +17,7 @@ use Rattle.fv_tree.specs.Carried.{kept_at, BringsNew}
 use Rattle.fv_tree.proofs.Brought.{blank_empty}
 use Rattle.fv_tree.proofs.Flushed.{under_none, reached_within}
 use Rattle.fv_tree.proofs.Gone.{cell_changed, spot_changed, cell_led, spot_led}
+use Rattle.fv_tree.proofs.Hints.{right_as}
 use Rattle.fv_tree.proofs.Raised.{past_at}
 
 -- a range that something leads to isn't over a cell past the levels
@@ -47,7 +48,7 @@ module _ (blocks : Under) (t v : Tree) (i : ℕ) (far : fan ^ t.levels ≤ i) (b
 
 -- ---- the growth found no memory
 
-module _ (blocks : Under) (used : ℕ → Bool) (t v : Tree) (i : ℕ) (far : fan ^ t.levels ≤ i) (fields : IsSameBut t v) (same : IsSame (standing blocks t) (standing blocks v)) (brings : BringsNew t v i) (sound : IsSound used (loaded_over blocks t)) where
+module _ (blocks : Under) (used : ℕ → Option ℕ) (t v : Tree) (i : ℕ) (far : fan ^ t.levels ≤ i) (fields : IsSameBut t v) (same : IsSame (standing blocks t) (standing blocks v)) (brings : BringsNew t v i) (sound : IsSound used (loaded_over blocks t)) where
   stamps : (k q : ℕ) → (pointer_at (standing blocks v) k q).stamp ≡ (pointer_at (standing blocks t) k q).stamp
   stamps k q = ap (λ (p : Pointer). p.stamp) (same.pointers k q)
 
@@ -105,7 +106,8 @@ module _ (blocks : Under) (used : ℕ → Bool) (t v : Tree) (i : ℕ) (far : fa
   still_sound = record {
     once = λ j c k q x first second. sound.once j c k q x (leads_old j c x first) (leads_old k q x second);
     held = λ k q x leads. sound.held k q x (leads_old k q x leads);
-    used = λ k q x leads. sound.used k q x (leads_old k q x leads);
+    used = λ k q x leads.
+        right_as (pointer_at (standing blocks t) k q) (pointer_at (standing blocks v) k q) (used x) (used x) (ap (λ (p : Pointer). p.pvbn) (same.pointers k q)) refl (sound.used k q x (leads_old k q x leads));
     over = over;
     same = same_nodes;
     empty = empty;

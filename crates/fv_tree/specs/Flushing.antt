@@ -67,11 +67,16 @@ pub record Leads (s : Loaded) (level place v : ℕ) : Type 0 where
 abbrev pub IsEmptyNode : Rooted → ℕ → ℕ → Type 0
 IsEmptyNode t level place = (xs : List Pointer) → t.nodes level place ≡ Some xs → (slot : ℕ) → get_or xs slot hole ≡ hole
 
--- A tree stands on the blocks that it leads to. It reaches each VVBN once.
-pub record IsSound (taken : ℕ → Bool) (s : Loaded) : Type 0 where
+-- A pointer to a VVBN in use tells its PVBN, or that it is unknown.
+abbrev pub IsRight : Pointer → Option ℕ → Type 0
+IsRight p None = ⊥
+IsRight p (Some pvbn) = (p.pvbn ≡ 0) ⊎ (p.pvbn ≡ pvbn)
+
+-- A tree stands on the blocks that it leads to. It reaches each VVBN once, and tells no wrong PVBN.
+pub record IsSound (taken : ℕ → Option ℕ) (s : Loaded) : Type 0 where
   pub once : (level place k q v : ℕ) → Leads s level place v → Leads s k q v → (level ≡ k) × (place ≡ q)
   pub held : (level place v : ℕ) → Leads s level place v → is_some (s.tree.under v) ≡ true
-  pub used : (level place v : ℕ) → Leads s level place v → taken v ≡ true
+  pub used : (level place v : ℕ) → Leads s level place v → IsRight (pointer_at s.tree level place) (taken v)
   -- over what changed stands a node in memory that changed, too
   pub over : (level place : ℕ) → s.changed level place ≡ true → (pointer_at s.tree level place).stamp ≢ 0 → level < s.tree.levels → s.changed (level + 1) (place / fan) ≡ true
   -- what didn't change stands in its block
@@ -106,9 +111,18 @@ pub record IsPlaced (old new : Loaded) (v : ℕ) : Type 0 where
   pub flushed : IsFlushed old new level place
   pub vvbn : (pointer_at new.tree level place).vvbn ≡ v
 
+-- a node holds an unknown pointer, to a range or cell one level below
+pub record HoldsUnknown (t : Rooted) (level place : ℕ) : Type 0 where
+  pub below : ℕ
+  pub child : ℕ
+  pub up : below + 1 ≡ level
+  pub over : child / fan ≡ place
+  pub some : (pointer_at t below child).stamp ≢ 0
+  pub unknown : (pointer_at t below child).pvbn ≡ 0
+
 -- Some of what changed was placed. Each of it has one place and one pointer, and the blocks that were placed and replaced are
 -- those alone.
-pub record Flushes (old : Loaded) (used : ℕ → Bool) (new : Loaded) (uses : ℕ → Bool) : Type 0 where
+pub record Flushes (old : Loaded) (used : ℕ → Option ℕ) (new : Loaded) (uses : ℕ → Option ℕ) : Type 0 where
   pub owner : new.tree.owner ≡ old.tree.owner
   pub sound : IsSound uses new
   pub alike : IsAlike old.tree new.tree
@@ -120,12 +134,14 @@ pub record Flushes (old : Loaded) (used : ℕ → Bool) (new : Loaded) (uses : �
   pub blocks : (v : ℕ) (block : List ℕ) → (IsReplaced old new v → ⊥) → old.tree.under v ≡ Some block → new.tree.under v ≡ Some block
   pub others : (v : ℕ) → (IsReplaced old new v → ⊥) → (IsPlaced old new v → ⊥) → (new.tree.under v ≡ old.tree.under v) × (uses v ≡ used v)
   -- a block is placed where none was held and no VVBN was in use, but for one that was replaced
-  pub fresh : (v : ℕ) → IsPlaced old new v → (IsReplaced old new v → ⊥) → (old.tree.under v ≡ None) × (used v ≡ false)
+  pub fresh : (v : ℕ) → IsPlaced old new v → (IsReplaced old new v → ⊥) → (old.tree.under v ≡ None) × (used v ≡ None)
   -- what was replaced is no longer in use
-  pub gone : (v : ℕ) → IsReplaced old new v → (IsPlaced old new v → ⊥) → uses v ≡ false
+  pub gone : (v : ℕ) → IsReplaced old new v → (IsPlaced old new v → ⊥) → uses v ≡ None
   -- a node that was placed and holds an unknown pointer is led to by one
   pub unknown : (level place : ℕ) → IsFlushed old new (level + 1) (place / fan) → (pointer_at new.tree level place).stamp ≢ 0 → (pointer_at new.tree level place).pvbn ≡ 0
       → (pointer_at new.tree (level + 1) (place / fan)).pvbn ≡ 0
+  -- any other pointer to what was placed tells the PVBN that it was placed with
+  pub told : (level place : ℕ) → IsFlushed old new level place → (uses (pointer_at new.tree level place).vvbn ≡ Some (pointer_at new.tree level place).pvbn) ⊎ HoldsUnknown new.tree level place
 
 -- ---- its steps
 
@@ -166,14 +182,16 @@ pub record Points (old new : Tree) (level place : ℕ) (p : Pointer) : Type 0 wh
   pub placed : (k q : ℕ) → placed_in new.nodes k q ≡ placed_in old.nodes k q
   pub changed : (k q : ℕ) → ((k ≢ level + 1) ⊎ (q ≢ place / fan)) ⊎ (changed_in old.nodes k q ≡ true) → changed_in new.nodes k q ≡ changed_in old.nodes k q
 
--- A block is placed under the VVBN v, and the VVBN r is named as gone, or none.
-pub record Swaps (old : Shown) (content : List ℕ) (named : Bool) (r v : ℕ) (new : Shown) : Type 0 where
-  pub fresh : fin.get old.held v ≡ None
-  pub unused : old.used v ≡ false
-  pub block : (named ≡ false) ⊎ (r ≢ v) → fin.get new.held v ≡ Some content
-  pub used : (named ≡ false) ⊎ (r ≢ v) → new.used v ≡ true
-  pub gone : named ≡ true → new.used r ≡ false
-  pub others : (w : ℕ) → w ≢ v → (named ≡ false) ⊎ (w ≢ r) → (fin.get new.held w ≡ fin.get old.held w) × (new.used w ≡ old.used w)
+-- A block is placed, to which the pointer p leads, and the VVBN r is named as gone, or none. The pointer tells the block's PVBN where it may.
+pub record Swaps (old : Shown) (content : List ℕ) (named known : Bool) (r : ℕ) (p : Pointer) (new : Shown) : Type 0 where
+  pub fresh : fin.get old.held p.vvbn ≡ None
+  pub unused : old.used p.vvbn ≡ None
+  pub block : (named ≡ false) ⊎ (r ≢ p.vvbn) → fin.get new.held p.vvbn ≡ Some content
+  pub used : (named ≡ false) ⊎ (r ≢ p.vvbn) → IsRight p (new.used p.vvbn)
+  pub told : known ≡ true → (named ≡ false) ⊎ (r ≢ p.vvbn) → new.used p.vvbn ≡ Some p.pvbn
+  pub unknown : known ≡ false → p.pvbn ≡ 0
+  pub gone : named ≡ true → new.used r ≡ None
+  pub others : (w : ℕ) → w ≢ p.vvbn → (named ≡ false) ⊎ (w ≢ r) → (fin.get new.held w ≡ fin.get old.held w) × (new.used w ≡ old.used w)
 
 -- nothing was placed, since nothing leads there
 pub record IsHidden (old : Shown) (t : Tree) (level place : ℕ) (new : Shown) (u : Tree) : Type 0 where
@@ -187,8 +205,7 @@ pub record IsMoved (old : Shown) (t : Tree) (level place : ℕ) (content : List 
   pub some : (pointer_in t level place).stamp ≢ 0
   pub pointer : Pointer
   pub stamp : pointer.stamp ≡ (pointer_in t level place).stamp
-  pub unknown : known ≡ false → pointer.pvbn ≡ 0
-  pub swaps : Swaps old content named (pointer_in t level place).vvbn pointer.vvbn new
+  pub swaps : Swaps old content named known (pointer_in t level place).vvbn pointer new
   pub points : Points t u level place pointer
 
 -- a cell or a node is no longer in memory
@@ -233,8 +250,8 @@ IsNodeStep old t level place node new u = IsIdle old t level node.changed new u 
 
 -- ---- a tree of which nothing is in memory
 
--- the tree reaches each VVBN once, and its block is held and in use
-pub record ReachesOnce (taken : ℕ → Bool) (t : Rooted) : Type 0 where
+-- the tree reaches each VVBN once, its block is held and in use, and the pointer to it tells no wrong PVBN
+pub record ReachesOnce (taken : ℕ → Option ℕ) (t : Rooted) : Type 0 where
   pub once : (level place k q : ℕ) → (pointer_at t level place).stamp ≢ 0 → (pointer_at t k q).stamp ≢ 0 → (pointer_at t level place).vvbn ≡ (pointer_at t k q).vvbn → (level ≡ k) × (place ≡ q)
   pub held : (level place : ℕ) → (pointer_at t level place).stamp ≢ 0 → is_some (t.under (pointer_at t level place).vvbn) ≡ true
-  pub used : (level place : ℕ) → (pointer_at t level place).stamp ≢ 0 → taken (pointer_at t level place).vvbn ≡ true
+  pub used : (level place : ℕ) → (pointer_at t level place).stamp ≢ 0 → IsRight (pointer_at t level place) (taken (pointer_at t level place).vvbn)

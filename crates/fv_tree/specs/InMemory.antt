@@ -1,18 +1,23 @@
 -- What blocks in memory show.
-use Rattle.std.specs.Prelude.{ℕ, Bool, ◌+◌, List, is_some, refl}
+use Rattle.std.specs.Prelude.{ℕ, ◌+◌, List, map, Option, refl}
+use Rattle.std.specs.Option.{option_map}
 use Rattle.std.specs.Ordering.{nat_cmp}
 use Rattle.std.specs.BTreeMap as tree
 use Rattle.std.specs.FinMap as fin
 use Rattle.fv_tree.specs.Sources.{Shown, IsSource}
 
--- what is held is in use
-abbrev pub used_in_memory : tree.BTreeMap ℕ (List ℕ) → ℕ → Bool
-used_in_memory blocks v = is_some (fin.get (fin.from_entries {R = nat_cmp} blocks.entries) v)
+-- the blocks that are held
+abbrev pub held_in_memory : tree.BTreeMap ℕ (List ℕ × ℕ) → fin.FinMap nat_cmp (List ℕ)
+held_in_memory blocks = fin.from_entries (map (λ entry. (entry.0, entry.1.0)) blocks.entries)
+
+-- what is held is in use, with the PVBN that was told when it was placed
+abbrev pub used_in_memory : tree.BTreeMap ℕ (List ℕ × ℕ) → ℕ → Option ℕ
+used_in_memory blocks v = option_map (λ kept. kept.1) (tree.get nat_cmp blocks v)
 
 -- the block under a VVBN reads at the place after it, and no damage is answered
-abbrev pub shown_in_memory : tree.BTreeMap ℕ (List ℕ) → ℕ → Shown
+abbrev pub shown_in_memory : tree.BTreeMap ℕ (List ℕ × ℕ) → ℕ → Shown
 shown_in_memory blocks faults = record {
-  held = fin.from_entries blocks.entries;
+  held = held_in_memory blocks;
   used = used_in_memory blocks;
   read_at = λ p. p.vvbn + 1;
   faults = faults;
@@ -21,5 +26,5 @@ shown_in_memory blocks faults = record {
   is_damage = λ d. ⊥;
 }
 
-pub in_memory_is_source : (blocks : tree.BTreeMap ℕ (List ℕ)) (faults : ℕ) → IsSource (shown_in_memory blocks faults)
+pub in_memory_is_source : (blocks : tree.BTreeMap ℕ (List ℕ × ℕ)) (faults : ℕ) → IsSource (shown_in_memory blocks faults)
 in_memory_is_source blocks faults = record { damage = λ some. absurd (some refl) }

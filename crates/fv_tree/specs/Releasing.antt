@@ -1,5 +1,5 @@
 -- The blocks that lie under a tree, and those that go with a removal.
-use Rattle.std.specs.Prelude.{◌≡◌, ◌⊎◌, ℕ, Bool, false, cond, None}
+use Rattle.std.specs.Prelude.{◌≡◌, ◌⊎◌, ℕ, Bool, cond, None}
 use Rattle.std.specs.FinMap as fin
 use Rattle.fv_tree.specs.declared.kept.Tree.{Tree}
 use Rattle.fv_tree.specs.Spelled.{Under, pointer_at, stamp_in}
@@ -15,12 +15,12 @@ pub record IsDropped (blocks : Under) (old new : Tree) (vvbn : ℕ) : Type 0 whe
   pub led : Leads (loaded_over blocks old) level place vvbn
   pub goes : (pointer_at (standing blocks new) level place).stamp ≡ 0
 
--- Each block that is dropped goes out of use, and may go out of the map. All others stay, in use and in the map.
+-- Each block that is dropped goes out of use, and may go out of the map. All others stay, in use with their PVBNs and in the map.
 pub record Releases (old new : Shown) (dropped : ℕ → Type 0) : Type 0 where
-  pub gone : (v : ℕ) → dropped v → new.used v ≡ false
+  pub gone : (v : ℕ) → dropped v → new.used v ≡ None
   pub used : (v : ℕ) → (dropped v → ⊥) → new.used v ≡ old.used v
   pub held : (v : ℕ) → (dropped v → ⊥) → fin.get new.held v ≡ fin.get old.held v
-  pub unused : (v : ℕ) → old.used v ≡ false → new.used v ≡ false
+  pub unused : (v : ℕ) → old.used v ≡ None → new.used v ≡ None
   pub may_go : (v : ℕ) → (fin.get new.held v ≡ fin.get old.held v) ⊎ (fin.get new.held v ≡ None)
   pub counts : Counts old new
 

@@ -1,5 +1,5 @@
 -- What a source of blocks shows, and what its calls do.
-use Rattle.std.specs.Prelude.{◌≡◌, ◌≢◌, ◌≤◌, ◌⊎◌, ℕ, Bool, true, false, cond, nat_eq, List, Some, None, Result, IfOk, IfErr, OnOk, OnErr}
+use Rattle.std.specs.Prelude.{◌≡◌, ◌≢◌, ◌≤◌, ◌⊎◌, ℕ, cond, nat_eq, List, Option, Some, None, Result, IfOk, IfErr, OnOk, OnErr}
 use Rattle.std.specs.Ordering.{nat_cmp}
 use Rattle.std.specs.FinMap as fin
 use Rattle.fv_disk.specs.Shown.{Rose}
@@ -18,8 +18,9 @@ pub record Damage : Type 0 where
 pub record Shown : Type 1 where
   -- the blocks that are held, by VVBN
   pub held : fin.FinMap nat_cmp (List ℕ)
-  -- the VVBNs that the active tree has in use; a snapshot may hold others
-  pub used : ℕ → Bool
+  -- the VVBNs that the active tree has in use, each with the PVBN that a pointer to it may tell, 0 where that has to be unknown; a
+  -- snapshot may hold others
+  pub used : ℕ → Option ℕ
   -- the PVBN that a load answers: where the block was read, or 0 for one that isn't placed yet
   pub read_at : Pointer → ℕ
   -- failed calls of the disk; the count stays at 2^64 - 1
@@ -55,12 +56,13 @@ pub record Loads (old : Shown) (pointer : Pointer) (new : Shown) (block : List �
   pub counts : Counts old new
   pub cause : IfErr result (HasCause old new)
 
--- A block is placed under a VVBN that was neither held nor in use, and comes into use. A PVBN of 0 asks for an unknown pointer.
+-- A block is placed under a VVBN that was neither held nor in use, and comes into use with the PVBN that is answered. A PVBN of 0 asks
+-- for an unknown pointer.
 pub record Places (old : Shown) (block : List ℕ) (new : Shown) (result : Result Placed TreeFault) : Type 0 where
   pub fresh : IfOk result (λ placed. fin.get old.held placed.vvbn ≡ None)
-  pub unused : IfOk result (λ placed. old.used placed.vvbn ≡ false)
+  pub unused : IfOk result (λ placed. old.used placed.vvbn ≡ None)
   pub held : IfOk result (λ placed. new.held ≡ fin.insert old.held placed.vvbn block)
-  pub used : IfOk result (λ placed. (v : ℕ) → new.used v ≡ cond (nat_eq v placed.vvbn) true (old.used v))
+  pub used : IfOk result (λ placed. (v : ℕ) → new.used v ≡ cond (nat_eq v placed.vvbn) (Some placed.pvbn) (old.used v))
   pub vvbn : IfOk result (λ placed. placed.vvbn ≤ last_place)
   pub pvbn : IfOk result (λ placed. placed.pvbn ≤ last_place)
   pub failed : OnErr result (new.held ≡ old.held)
@@ -72,7 +74,7 @@ pub record Places (old : Shown) (block : List ℕ) (new : Shown) (result : Resul
 -- in use, and naming one that isn't in use changes nothing of that.
 pub record Drops (old : Shown) (vvbn : ℕ) (new : Shown) : Type 0 where
   pub held : (new.held ≡ fin.remove old.held vvbn) ⊎ (new.held ≡ old.held)
-  pub used : (v : ℕ) → new.used v ≡ cond (nat_eq v vvbn) false (old.used v)
+  pub used : (v : ℕ) → new.used v ≡ cond (nat_eq v vvbn) None (old.used v)
   pub counts : Counts old new
 
 -- the kinds of blocks that a tree has: data, nodes of the levels 1 to 3, inode blocks, and nodes of the inode file of the

@@ -1,5 +1,5 @@
 -- What the removal of a cell does to the nodes in memory.
-use Rattle.std.specs.Prelude.{◌≡◌, ◌≢◌, ◌≤◌, ◌<◌, ◌⊎◌, ℕ, ◌+◌, ◌/◌, ◌^◌, Bool, true, cond, nat_eq, List, Some, None, get_or, slice_set}
+use Rattle.std.specs.Prelude.{◌≡◌, ◌≢◌, ◌≤◌, ◌<◌, ◌⊎◌, ℕ, ◌+◌, ◌/◌, ◌^◌, true, cond, nat_eq, List, Option, Some, None, get_or, slice_set}
 use Rattle.std.specs.Option.{option_map}
 use Rattle.fv_codec.specs.declared.pointer.Pointer.{Pointer}
 use Rattle.fv_model.specs.Trees.{fan}
@@ -66,6 +66,6 @@ pub record CellGoes (blocks : Under) (old new : Tree) (i start s : ℕ) : Type 0
   pub erased : HoldsCells (standing blocks old) → IsErased (standing blocks old) (standing blocks new) (nat_eq i) start s
   pub cells : (k : ℕ) → stamp_in (pointer_at (standing blocks new) 0 k) ≡ cond (nat_eq i k) None (stamp_in (pointer_at (standing blocks old) 0 k))
   pub keeps : KeepsBlocks blocks old new
-  pub sound : (used : ℕ → Bool) → IsSound used (loaded_over blocks old) → IsSound used (loaded_over blocks new)
+  pub sound : (used : ℕ → Option ℕ) → IsSound used (loaded_over blocks old) → IsSound used (loaded_over blocks new)
   -- the nodes over the other cells stay in memory
   pub ways : (k : ℕ) → StandsAt (standing blocks new) 0 k → HasWay old k → HasWay new k

@@ -32,11 +32,12 @@ pub enum TreeFault {
 }
 
 /// The blocks of a volume: a finite map from the VVBNs that are held to their blocks, and the VVBNs of those
-/// that its active tree has in use. A snapshot may hold others.
+/// that its active tree has in use, each with the PVBN that a pointer to it may tell, or 0 where the pointer has
+/// to be unknown. A snapshot may hold others.
 ///
 /// It counts faults of the disk and damages that it answered, and both counts never fall.
 pub trait Blocks {
-    /// The map, the VVBNs in use, the counts and the last damage.
+    /// The map, the VVBNs in use with their PVBNs, the counts and the last damage.
     ghost shown: { Self → Shown };
 
     /// Gives the block under the pointer's VVBN, and answers the PVBN that was read, below 1,048,576, or 0
@@ -50,7 +51,7 @@ pub trait Blocks {
         ensures { Loads (shown self.old) pointer.now (shown self.new) into.new result };
 
     /// Adds a block of a kind from 1 to 7 under a VVBN that was neither in the map nor in use, and takes it
-    /// into use; all else stays.
+    /// into use with the PVBN that it answers; all else stays.
     ///
     /// # Errors
     ///

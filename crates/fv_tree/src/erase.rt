@@ -28,6 +28,7 @@ pub fn erase_cell<B: Blocks>(tree: &mut Tree, blocks: &mut B, index: u32, start:
     requires way { HasWay tree.old index }
     requires start { start ≤ 3 }
     requires stamp { 1 ≤ stamp }
+    ensures owner { tree.new.owner ≡ tree.old.owner }
     ensures goes { (held : Under) → StandsAt (standing held tree.old) 0 index → CellGoes held tree.old tree.new index start stamp }
     ensures released { (held : Under) → StandsAt (standing held tree.old) 0 index → Releases (B.shown blocks.old) (B.shown blocks.new) (IsDropped held tree.old tree.new) }
 {

@@ -112,10 +112,10 @@ fn flush_node<B: Blocks>(
 impl Tree {
     /// Places each cell and each node that changed since the last flush once, a node after all that it leads
     /// to, and names each block that one of them replaces once to `gone`. A node that holds an unknown pointer
-    /// gets an unknown pointer itself. Answers the root, and then nothing is in memory. Levels, cells and marks
-    /// stay as they are, also after a fault, and a later flush then goes on where this one ended. All this is
-    /// so for a tree that stands on its blocks. It takes no memory, loads nothing, and walks only what is in
-    /// memory.
+    /// gets an unknown pointer itself, and any other pointer to a new block tells the PVBN that `place` answered.
+    /// Answers the root, and then nothing is in memory. Levels, cells and marks stay as they are, also after a
+    /// fault, and a later flush then goes on where this one ended. All this is so for a tree that stands on its
+    /// blocks. It takes no memory, loads nothing, and walks only what is in memory.
     ///
     /// # Errors
     ///

@@ -1,21 +1,22 @@
 //! Blocks in memory, for tests of what stands on a tree.
 
-ghost use Rattle.std.specs.Prelude.{◌≡◌, ◌≤◌};
+ghost use Rattle.std.specs.Prelude.{◌≡◌, ◌≤◌, IfOk};
 ghost use Rattle.fv_disk.specs.Shown.{Rose};
 ghost use Rattle.fv_tree.specs.InMemory.{shown_in_memory, in_memory_is_source};
 
 use crate::blocks::{Blocks, Placed, TreeFault};
 use fv_codec::Pointer;
-use std::alloc::Global;
+use std::alloc::{AllocError, Global};
 use std::collections::BTreeMap;
 
 /// How many VVBNs there are.
 const MOST: u32 = 1_000_000;
 
-/// A map of blocks in memory that counts its calls. The block under VVBN `v` reads at PVBN `v + 1`.
+/// A map of blocks in memory that counts its calls. The block under VVBN `v` reads at PVBN `v + 1`. With each
+/// block it keeps the PVBN that `place` answered.
 #[derive(Drop)]
 pub struct MemBlocks {
-    blocks: BTreeMap<u32, [u8; 4096]>,
+    blocks: BTreeMap<u32, ([u8; 4096], u32)>,
     next: u32,
     faults: u64,
     fails_in: u64,
@@ -40,6 +41,21 @@ impl MemBlocks {
             strays: 0,
             unknown: None,
         }
+    }
+
+    /// A copy, which shows the same.
+    ///
+    /// # Errors
+    ///
+    /// `AllocError` for want of memory.
+    pub fn copy(&self) -> Result<MemBlocks, AllocError>
+        ensures blocks { IfOk result (λ b. b.blocks.entries ≡ self.now.blocks.entries) }
+        ensures faults { IfOk result (λ b. b.faults ≡ self.now.faults) }
+    {
+        Ok(MemBlocks {
+            blocks: self.blocks.clone()?,
+            ..*self
+        })
     }
 
     /// Lets the call with this number, counted from 0 on, answer `DiskFault`.
@@ -134,7 +150,7 @@ impl Blocks for MemBlocks {
         }
         let vvbn = pointer.vvbn as u32;
         match self.blocks.get(&vvbn) {
-            Some(block) => *into = *block,
+            Some(kept) => *into = kept.0,
             None => return Err(self.fault()),
         }
         Ok(vvbn + 1)
@@ -148,16 +164,14 @@ impl Blocks for MemBlocks {
         if vvbn >= MOST || self.blocks.contains_key(&vvbn) {
             return Err(TreeFault::Memory);
         }
-        match self.blocks.insert(vvbn, *block) {
+        let pvbn = self.pvbn_of(vvbn);
+        match self.blocks.insert(vvbn, (*block, pvbn)) {
             Ok(_) => {}
             Err(_) => return Err(TreeFault::Memory),
         }
         self.next = vvbn + 1;
         count_kind(&mut self.placed, kind);
-        Ok(Placed {
-            vvbn,
-            pvbn: self.pvbn_of(vvbn),
-        })
+        Ok(Placed { vvbn, pvbn })
     }
 
     fn gone(&mut self, vvbn: u32) {

@@ -151,9 +151,8 @@ fn swap<B: Blocks>(
     requires kind { IsKind kind }
     requires pointer { IsPointer old.now }
     requires some { old.now.stamp ≢ 0 }
-    ensures swaps { IfOk result (λ p. Swaps (B.shown blocks.old) block.now placed old.now.vvbn p.vvbn (B.shown blocks.new)) }
+    ensures swaps { IfOk result (λ p. Swaps (B.shown blocks.old) block.now placed known old.now.vvbn p (B.shown blocks.new)) }
     ensures stamp { IfOk result (λ p. p.stamp ≡ old.now.stamp) }
-    ensures unknown { IfOk result (λ p. known ≡ false → p.pvbn ≡ 0) }
     ensures pointer { IfOk result IsPointer }
     ensures held { OnErr result ((B.shown blocks.new).held ≡ (B.shown blocks.old).held) }
     ensures used { OnErr result ((B.shown blocks.new).used ≡ (B.shown blocks.old).used) }
@@ -184,6 +183,7 @@ fn pointer_to(at: Placed, known: bool, stamp: u64) -> Pointer
     requires some { stamp ≢ 0 }
     ensures vvbn { result.vvbn ≡ at.vvbn }
     ensures stamp { result.stamp ≡ stamp }
+    ensures known { known ≡ true → result.pvbn ≡ at.pvbn }
     ensures unknown { known ≡ false → result.pvbn ≡ 0 }
     ensures pointer { IsPointer result }
 {

@@ -36,6 +36,7 @@ impl Tree {
         ensures erased { OnOk result (Stands (B.shown blocks.old) self.old → Erases (standing (under (B.shown blocks.old)) self.old) (standing (under (B.shown blocks.new)) self.new) (nat_eq index) start stamp) }
         ensures place_by_place { OnOk result (Stands (B.shown blocks.old) self.old → HoldsCells (standing (under (B.shown blocks.old)) self.old) → IsErased (standing (under (B.shown blocks.old)) self.old) (standing (under (B.shown blocks.new)) self.new) (nat_eq index) start stamp) }
         ensures released { OnOk result (Releases (B.shown blocks.old) (B.shown blocks.new) (IsDropped (under (B.shown blocks.old)) self.old self.new)) }
+        ensures owner { self.new.owner ≡ self.old.owner }
         ensures stands { Stands (B.shown blocks.old) self.old → Stands (B.shown blocks.new) self.new }
         ensures failed { OnErr result (Remains (standing (under (B.shown blocks.old)) self.old) (standing (under (B.shown blocks.new)) self.new)) }
         ensures held { OnErr result ((B.shown blocks.new).held ≡ (B.shown blocks.old).held) }
@@ -59,6 +60,7 @@ fn remove_cell<B: Blocks>(
     requires stamp { 1 ≤ stamp }
     ensures done { OnOk result (Removes (B.shown blocks.old) (B.shown blocks.new) tree.old tree.new (nat_eq index) start stamp) }
     ensures failed { OnErr result (IsSame (standing (under (B.shown blocks.old)) tree.old) (standing (under (B.shown blocks.new)) tree.new)) }
+    ensures owner { tree.new.owner ≡ tree.old.owner }
     ensures stays { OnErr result (Stands (B.shown blocks.old) tree.old → Stands (B.shown blocks.new) tree.new) }
     ensures held { OnErr result ((B.shown blocks.new).held ≡ (B.shown blocks.old).held) }
     ensures used { OnErr result ((B.shown blocks.new).used ≡ (B.shown blocks.old).used) }

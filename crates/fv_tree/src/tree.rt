@@ -1,6 +1,6 @@
 //! The calls of a tree.
 
-ghost use Rattle.std.specs.Prelude.{◌≡◌, ◌≤◌, ◌<◌, ℕ, Bool, List, cond, Some, None, IfOk, IfErr, OnOk, OnErr};
+ghost use Rattle.std.specs.Prelude.{◌≡◌, ◌≤◌, ◌<◌, ℕ, List, Option, cond, Some, None, IfOk, IfErr, OnOk, OnErr};
 ghost use Rattle.std.specs.BTreeMap as maps;
 ghost use Rattle.std.specs.FinMap as fin;
 ghost use Rattle.std.specs.Ordering.{nat_cmp};
@@ -27,7 +27,7 @@ impl Tree {
         requires levels { levels ≤ 3 }
         ensures stored { (blocks : Under) → standing blocks result ≡ stored blocks owner levels hole }
         ensures seen { (blocks : Under) → Shows (standing blocks result) (record { levels = levels; stamps = fin.empty }) fin.empty }
-        ensures stands { (blocks : Under) (used : ℕ → Bool) → IsSound used (loaded_over blocks result) }
+        ensures stands { (blocks : Under) (used : ℕ → Option ℕ) → IsSound used (loaded_over blocks result) }
     {
         Tree::at(alloc, owner, levels, HOLE)
     }
@@ -37,7 +37,7 @@ impl Tree {
         requires levels { levels ≤ 3 }
         requires root { IsPointer root }
         ensures stored { (blocks : Under) → standing blocks result ≡ stored blocks owner levels root }
-        ensures stands { (blocks : Under) (used : ℕ → Bool) → ReachesOnce used (stored blocks owner levels root) → IsSound used (loaded_over blocks result) }
+        ensures stands { (blocks : Under) (used : ℕ → Option ℕ) → ReachesOnce used (stored blocks owner levels root) → IsSound used (loaded_over blocks result) }
     {
         unread(alloc, owner, levels, root)
     }
@@ -95,6 +95,7 @@ impl Tree {
         ensures written { OnOk result (Writes (standing (under (B.shown blocks.old)) self.old) (standing (under (B.shown blocks.new)) self.new) index stamp block.now) }
         ensures place_by_place { OnOk result (IsWritten (standing (under (B.shown blocks.old)) self.old) (standing (under (B.shown blocks.new)) self.new) index stamp block.now) }
         ensures failed { OnErr result (Remains (standing (under (B.shown blocks.old)) self.old) (standing (under (B.shown blocks.new)) self.new)) }
+        ensures owner { self.new.owner ≡ self.old.owner }
         ensures stands { Stands (B.shown blocks.old) self.old → Stands (B.shown blocks.new) self.new }
         ensures held { (B.shown blocks.new).held ≡ (B.shown blocks.old).held }
         ensures used { (B.shown blocks.new).used ≡ (B.shown blocks.old).used }

@@ -1,6 +1,6 @@
 //! Writing a cell: its content, and the stamps on the way to it.
 
-ghost use Rattle.std.specs.Prelude.{◌≡◌, ◌≢◌, ◌≤◌, ◌<◌, ◌^◌, ◌⊎◌, ◌&&◌, ℕ, Bool, true, is_some, cond, nat_eq, Some, IfErr, OnOk, OnErr};
+ghost use Rattle.std.specs.Prelude.{◌≡◌, ◌≢◌, ◌≤◌, ◌<◌, ◌^◌, ◌⊎◌, ◌&&◌, ℕ, Option, true, is_some, cond, nat_eq, Some, IfErr, OnOk, OnErr};
 ghost use Rattle.std.specs.BTreeMap as maps;
 ghost use Rattle.std.specs.Ordering.{nat_cmp};
 ghost use Rattle.std.specs.Option.{option_map};
@@ -127,6 +127,7 @@ pub fn write_within<B: Blocks>(
     requires stamp { 1 ≤ stamp }
     ensures done { OnOk result (IsWritten (standing (under (B.shown blocks.old)) tree.old) (standing (under (B.shown blocks.new)) tree.new) index stamp block.now) }
     ensures failed { OnErr result (IsAlike (standing (under (B.shown blocks.old)) tree.old) (standing (under (B.shown blocks.new)) tree.new)) }
+    ensures owner { tree.new.owner ≡ tree.old.owner }
     ensures stands { Stands (B.shown blocks.old) tree.old → Stands (B.shown blocks.new) tree.new }
     ensures held { (B.shown blocks.new).held ≡ (B.shown blocks.old).held }
     ensures used { (B.shown blocks.new).used ≡ (B.shown blocks.old).used }
@@ -151,7 +152,8 @@ pub fn write_past(
     requires stamp { 1 ≤ stamp }
     ensures done { (blocks : Under) → OnOk result (IsWritten (standing blocks tree.old) (standing blocks tree.new) index stamp block.now) }
     ensures failed { (blocks : Under) → OnErr result (IsAlike (standing blocks tree.old) (standing blocks tree.new)) }
-    ensures stands { (blocks : Under) (used : ℕ → Bool) → IsSound used (loaded_over blocks tree.old) → IsSound used (loaded_over blocks tree.new) }
+    ensures owner { tree.new.owner ≡ tree.old.owner }
+    ensures stands { (blocks : Under) (used : ℕ → Option ℕ) → IsSound used (loaded_over blocks tree.old) → IsSound used (loaded_over blocks tree.new) }
     ensures memory { IfErr result (λ e. e ≡ TreeFault.Memory) }
 {
     let levels = levels_over(index);
@@ -187,6 +189,7 @@ pub fn write_cell<B: Blocks>(
     requires stamp { 1 ≤ stamp }
     ensures done { OnOk result (IsWritten (standing (under (B.shown blocks.old)) tree.old) (standing (under (B.shown blocks.new)) tree.new) index stamp block.now) }
     ensures failed { OnErr result (IsAlike (standing (under (B.shown blocks.old)) tree.old) (standing (under (B.shown blocks.new)) tree.new)) }
+    ensures owner { tree.new.owner ≡ tree.old.owner }
     ensures stands { Stands (B.shown blocks.old) tree.old → Stands (B.shown blocks.new) tree.new }
     ensures held { (B.shown blocks.new).held ≡ (B.shown blocks.old).held }
     ensures used { (B.shown blocks.new).used ≡ (B.shown blocks.old).used }

@@ -20,10 +20,15 @@ of_container container.DiskFault = DiskFault
 of_container (container.Damaged at want found) = Damaged at want found
 of_container container.Memory = Memory
 
--- the count of faults rose in a call that answers a fault of the disk, and stays in each other call
+-- a fault that is no refusal
+abbrev pub IsNoRefusal : VolumeFault → Type 0
+IsNoRefusal (Refused refusal) = ⊥
+IsNoRefusal fault = Unit {0}
+
+-- what is loaded is refused by no rule; the count of faults rose in a call that answers a fault of the disk, and stays in each other call
 abbrev pub HasCause : {T : Type 0} → ℕ → ℕ → Result T VolumeFault → Type 0
 HasCause before now (Ok x) = now ≡ before
-HasCause before now (Err (Refused refusal)) = now ≡ before
+HasCause before now (Err (Refused refusal)) = ⊥
 HasCause before now (Err (Damaged at want found)) = now ≡ before
 HasCause before now (Err Memory) = now ≡ before
 HasCause before now (Err DiskFault) = Rose before now

@@ -10,7 +10,7 @@ ghost use Rattle.fv_aggmap.specs.Space.{blocks_of};
 ghost use Rattle.fv_container.specs.Chains.{no_containers};
 ghost use Rattle.fv_root.specs.Finding.{IsInRange};
 ghost use Rattle.fv_disk.specs.Sparing.{Spares};
-ghost use Rattle.fv_volume.specs.Causes.{HasCause, IsMapFault};
+ghost use Rattle.fv_volume.specs.Causes.{HasCause, IsMapFault, IsNoRefusal};
 ghost use Rattle.fv_volume.specs.Keeping.{IsUnkept, seen};
 
 use crate::fault::VolumeFault;
@@ -46,7 +46,7 @@ impl Pool {
     /// # Errors
     /// `Damaged` comes exactly where a bit of the map is set past the last block: the block of the map
     /// area, the last block's number and the bit's. `DiskFault` comes only where a read failed in this
-    /// call, and `Memory` where memory ran out. It reads one map area and writes nothing.
+    /// call, and `Memory` where memory ran out; nothing is `Refused`. It reads one map area and writes nothing.
     pub fn load<D: Disk>(alloc: Global, disk: &mut D, found: Found) -> Result<Pool, VolumeFault>
         requires range { IsInRange found }
         ensures map { IsTrue (D.shown disk.old).tells → IfOk result (λ pool. IsLoaded (D.shown disk.old).reads found pool.map) }
@@ -56,6 +56,7 @@ impl Pool {
         ensures found { IfOk result (λ pool. pool.found ≡ found) }
         ensures stands { IfOk result (λ pool. StandsOn (D.shown disk.new) pool.store.pairs) }
         ensures fault { IsTrue (D.shown disk.old).tells → IfErr result (IsMapFault (D.shown disk.old).reads found) }
+        ensures unrefused { IfErr result IsNoRefusal }
         ensures only_reads { OnlyReads (D.shown disk.old) (D.shown disk.new) }
         ensures cause { HasCause (D.shown disk.old).faults (D.shown disk.new).faults result }
     {

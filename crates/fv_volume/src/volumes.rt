@@ -19,7 +19,7 @@ ghost use Rattle.fv_root.specs.Formatted.{IsSize};
 ghost use Rattle.fv_volume.specs.declared.pool.Pool.{Pool};
 ghost use Rattle.fv_disk.specs.DiskCalls.{OnlyReads};
 ghost use Rattle.fv_store.specs.Held.{StandsOn};
-ghost use Rattle.fv_volume.specs.Causes.{HasCause};
+ghost use Rattle.fv_volume.specs.Causes.{HasCause, IsNoRefusal};
 ghost use Rattle.fv_volume.specs.Loading.{IsLoadFault, KeptTo, LoadedTo};
 ghost use Rattle.fv_volume.specs.Creating.{IsMade, IsNew, RefusedBy, with_holes};
 ghost use Rattle.fv_volume.specs.States.{AreStates, IsState, view_over, machine_in, state_at, with_state};
@@ -70,7 +70,7 @@ impl Volumes {
     /// shape, or with a base, an unknown place, a file or a snapshot, none of which can be loaded yet; a node
     /// of a container that isn't the one of its position; or a block of an active map with a bit set past the
     /// span. `DiskFault` comes only where a read failed in this call, and `Memory` where memory ran out. The
-    /// pool's containers stay then.
+    /// pool's containers stay then. Nothing is `Refused`.
     ///
     /// Each label, each node of the containers and each block of the active maps is read once, and each entry
     /// of the containers is looked at once more.
@@ -95,6 +95,7 @@ impl Volumes {
         ensures found { pool.new.found ≡ pool.old.found }
         ensures failed { OnErr result (pool.new.containers ≡ pool.old.containers) }
         ensures fault { IsTrue (D.shown disk.old).tells → IfErr result (IsLoadFault (D.shown disk.old).reads pool.old.found) }
+        ensures unrefused { IfErr result IsNoRefusal }
         ensures only_reads { OnlyReads (D.shown disk.old) (D.shown disk.new) }
         ensures stands { StandsOn (D.shown disk.new) pool.new.store.pairs }
         ensures cause { HasCause (D.shown disk.old).faults (D.shown disk.new).faults result }

@@ -1,4 +1,4 @@
-use Rattle.std.proofs.Common.{sym, ap, subst, ◌∙◌, Ok}
+use Rattle.std.proofs.Common.{sym, ap, subst, ◌∙◌, Ok, get_or}
 use Rattle.std.specs.Prelude.{IsTrue}
 use Rattle.fv_disk.specs.Shown.{Shown}
 use Rattle.fv_disk.specs.Crash.{Leaves}
@@ -10,7 +10,7 @@ use Rattle.fv_volume.specs.declared.pool.Pool.{Pool}
 use Rattle.fv_cp.specs.Lent.{AreHoused}
 use Rattle.fv_cp.specs.Steps.{on_disk}
 use Rattle.fv_cp.proofs.Crashing.{found_still, rests, switching, writing}
-use Rattle.fv_cp.proofs.Ending.{housed_after, point}
+use Rattle.fv_cp.proofs.Ending.{housed_after, map_now, point}
 use Rattle.fv_cp.proofs.Ready.{ready}
 use Rattle.fv_cp.proofs.point.consistency_point.Goals as goal
 
@@ -76,3 +76,15 @@ returns-clause-housed g c =
     let come = c.in_ok-write_volumes.ensures.come in
     housed_after c.args.volumes.now c.settle.new.volumes c.write_volumes.new.labels c.settle.ensures.settled c.switch.new.pool.containers c.settle.ensures.long
     (subst (λ (x : Slots). AreHoused x c.args.volumes.now) (sym c.in_ok-switch.ensures.containers) come.housed)
+
+pub returns-clause-loaded : goal.returns-clause-loaded
+returns-clause-loaded g c = λ tells.
+    let mid : Shown = g.D.Disk.shown c.write_volumes.new.disk in
+    let left : Pool = c.write_volumes.new.pool in
+    let come = c.in_ok-write_volumes.ensures.come in
+    let did = c.in_ok-switch.ensures in
+    let root : Root = record c.args.pool.now.found.root { labels = c.write_volumes.new.labels } in
+    map_now mid left.found root left.map.next (g.D.Disk.shown c.switch.new.disk) (did.committed (subst IsTrue (sym come.spares.counted.tells) tells)) c.switch.new.pool did.found did.map did.size
+
+pub returns-clause-volumes : goal.returns-clause-volumes
+returns-clause-volumes g c = λ s. (get_or c.write_volumes.new.labels s 0, c.settle.ensures.settled s)

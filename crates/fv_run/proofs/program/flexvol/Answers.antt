@@ -46,3 +46,15 @@ returns-in-Err-clause-run g c = rw c.status.ensures (tells _ _ _ (Err c.in-Err.f
 
 pub returns-in-Ok-clause-run : goal.returns-in-Ok-clause-run
 returns-in-Ok-clause-run g c = (tells _ _ _ (Ok tt) c.in-Ok.ensures.runs).run
+
+pub returns-in-Err-clause-left : goal.returns-in-Err-clause-left
+returns-in-Err-clause-left g c = (tells _ _ _ (Err c.in-Err.fault) c.in-Err.ensures.runs).left
+
+pub returns-in-Err-clause-source_faults : goal.returns-in-Err-clause-source_faults
+returns-in-Err-clause-source_faults g c = (tells _ _ _ (Err c.in-Err.fault) c.in-Err.ensures.runs).source_faults
+
+pub returns-in-Ok-clause-left : goal.returns-in-Ok-clause-left
+returns-in-Ok-clause-left g c = (tells _ _ _ (Ok tt) c.in-Ok.ensures.runs).left
+
+pub returns-in-Ok-clause-source_faults : goal.returns-in-Ok-clause-source_faults
+returns-in-Ok-clause-source_faults g c = (tells _ _ _ (Ok tt) c.in-Ok.ensures.runs).source_faults

@@ -18,7 +18,7 @@ returns-in_err-count g c =
     let failed : c.from_residual-in_err-count.result ≡ Err c.in_err-count.field-0.0 = search rules in
     let opened = c.in_ok-session.ensures in
     subst (λ (r : Result Unit Fault). Ran c.args.limit (g.H.Disk.shown c.args.host.now) (g.H.Disk.shown c.answer_lines.new.host) r) (sym failed)
-    (ran c.args.limit c.in_ok-session.session _ _ _ (g.met.H.Disk.laws c.args.host.now) opened.unwritten opened.stands opened.machine opened.cause _
+    (ran c.args.limit c.in_ok-session.session _ _ _ (g.met.H.Disk.laws c.args.host.now) opened.unwritten opened.stands opened.machine opened.loaded opened.cause _
     (stopped_open c.args.limit c.in_ok-session.session _ _ _ c.in_err-count.ensures))
 
 pub returns-in_err-consistency_point : goal.returns-in_err-consistency_point
@@ -27,12 +27,12 @@ returns-in_err-consistency_point g c =
     let opened = c.in_ok-session.ensures in
     let point = c.in_err-consistency_point.ensures in
     subst (λ (r : Result Unit Fault). Ran c.args.limit (g.H.Disk.shown c.args.host.now) (g.H.Disk.shown c.consistency_point.new.disk) r) (sym failed)
-    (ran c.args.limit c.in_ok-session.session _ _ _ (g.met.H.Disk.laws c.args.host.now) opened.unwritten opened.stands opened.machine opened.cause _
-    (point_failed c.args.limit c.in_ok-session.session _ _ _ _ c.in_ok-count.ensures c.consistency_point.new.self _ point.any_moment point.ends _ point.whole point.fault point.cause))
+    (ran c.args.limit c.in_ok-session.session _ _ _ (g.met.H.Disk.laws c.args.host.now) opened.unwritten opened.stands opened.machine opened.loaded opened.cause _
+    (point_failed c.args.limit c.in_ok-session.session _ _ _ _ c.in_ok-count.ensures c.consistency_point.new.self _ point.any_moment point.ends _ point.whole point.fault point.stands point.fails point.lacking point.cause))
 
 pub returns : goal.returns
 returns g c =
     let opened = c.in_ok-session.ensures in
     let point = c.in_ok-consistency_point.ensures in
-    ran c.args.limit c.in_ok-session.session _ _ _ (g.met.H.Disk.laws c.args.host.now) opened.unwritten opened.stands opened.machine opened.cause _
+    ran c.args.limit c.in_ok-session.session _ _ _ (g.met.H.Disk.laws c.args.host.now) opened.unwritten opened.stands opened.machine opened.loaded opened.cause _
     (ran_whole c.args.limit c.in_ok-session.session _ _ _ _ c.in_ok-count.ensures c.consistency_point.new.self _ point.any_moment point.ends point.done point.cause _ _ c.tell_count.ensures)

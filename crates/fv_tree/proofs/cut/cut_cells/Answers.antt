@@ -1,4 +1,4 @@
-use Rattle.std.proofs.Common.{◌≡◌, ◌+◌, get_or, length, sym, subst, arith, nat_le}
+use Rattle.std.proofs.Common.{◌≡◌, ◌+◌, get_or, length, sym, subst, ◌∙◌, arith, nat_le}
 use Rattle.fv_tree.specs.Standing.{standing, under}
 use Rattle.fv_tree.specs.Erasing.{StandsAt}
 use Rattle.fv_tree.specs.Releasing.{Removes}
@@ -18,6 +18,7 @@ loop-index-init g c =
     let now = c.in_ok-cells.ensures in
     let are : Collects s 0 c.args.most cells = subst (Collects s 0 c.args.most) (sym c.as_slice-index-items.ensures.value) now.cells in record {
       removes = removes_nothing a b t u (listed cells 0) c.args.start c.args.stamp now.held now.used now.counts now.same now.blocks now.stands (λ i _. none_listed cells i);
+      owner = now.same.owner;
       ways = λ j _ lt. way_held (under b) u s c.args.most (get_or cells j 0) now.same.levels now.nodes (are.past j lt);
     }
 
@@ -41,6 +42,7 @@ loop-index-preserved g c =
     let next : Removes a d t w (listed cells (at + 1)) c.args.start c.args.stamp =
     removes_then a b d t u w (listed cells at) (listed cells (at + 1)) index c.args.start c.args.stamp was.removes goes (c.erase_cell.ensures.released (under a) stands) (next_listed cells at) (removes_holds a b t u (listed cells at) c.args.start c.args.stamp was.removes) in record {
       removes = next;
+      owner = c.erase_cell.ensures.owner ∙ was.owner;
       ways = λ j le lt.
           goes.ways (get_or cells j 0) (removes_stands a d t w (listed cells (at + 1)) c.args.start c.args.stamp next (get_or cells j 0) (are.past j lt).stands (not_yet cells (at + 1) j are.rising le lt)) (was.ways j (omega (arith, le)) lt);
     }

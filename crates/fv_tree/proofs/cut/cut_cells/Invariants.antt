@@ -1,4 +1,4 @@
-use Rattle.std.proofs.Common.{◌≤◌, ◌<◌, ℕ, get_or, length}
+use Rattle.std.proofs.Common.{◌≡◌, ◌≤◌, ◌<◌, ℕ, get_or, length}
 use Rattle.fv_tree.specs.Releasing.{Removes}
 use Rattle.fv_tree.specs.Unlinking.{HasWay}
 use Rattle.fv_tree.proofs.Collected.{listed}
@@ -7,5 +7,6 @@ use Rattle.fv_tree.proofs.cut.cut_cells.Given as goal
 abbrev pub invariant-loop-index : goal.invariant-loop-index
 invariant-loop-index g l = record {
   removes : Removes (g.B.Blocks.shown l.fn.blocks) (g.B.Blocks.shown l.blocks) l.fn.tree l.tree (listed l.index-items l.index-index) l.start l.stamp;
+  owner : l.tree.owner ≡ l.fn.tree.owner;
   ways : (j : ℕ) → l.index-index ≤ j → j < length l.index-items → HasWay l.tree (get_or l.index-items j 0);
 }

@@ -3,6 +3,7 @@ use Rattle.fv_tree.specs.Sources.{Shown}
 use Rattle.fv_tree.specs.Flushing.{loaded}
 use Rattle.fv_tree.proofs.Causes.{counts_then}
 use Rattle.fv_tree.proofs.Flushes.{flushes_then}
+use Rattle.fv_tree.proofs.Gone.{is_memory}
 use Rattle.fv_tree.proofs.flush.flush_cells.Goals as goal
 
 pub returns-in_err-flush_first_cell-clause-flushes : goal.returns-in_err-flush_first_cell-clause-flushes
@@ -11,7 +12,7 @@ returns-in_err-flush_first_cell-clause-flushes g c = λ stands.
     let mid : Shown = g.B.Blocks.shown c.loop.blocks in
     let new : Shown = g.B.Blocks.shown c.flush_first_cell.new.blocks in
     let first = c.loop.invariant.flushes stands in
-    flushes_then (loaded old c.args.tree.now) (loaded mid c.loop.tree) (loaded new c.flush_first_cell.new.tree) old.used mid.used new.used first (c.in_err-flush_first_cell.ensures.flushes first.sound)
+    flushes_then (loaded old c.args.tree.now) (loaded mid c.loop.tree) (loaded new c.flush_first_cell.new.tree) old.used mid.used new.used (is_memory mid c.loop.tree) first (c.in_err-flush_first_cell.ensures.flushes first.sound)
 
 pub loop-preserved : goal.loop-preserved
 loop-preserved g c =
@@ -21,7 +22,7 @@ loop-preserved g c =
     let was = c.loop.invariant in
     let now = c.in_ok-flush_first_cell.ensures in record {
       flushes = λ stands. let first = was.flushes stands in
-          flushes_then (loaded old c.args.tree.now) (loaded mid c.loop.tree) (loaded new c.flush_first_cell.new.tree) old.used mid.used new.used first (now.flushes first.sound);
+          flushes_then (loaded old c.args.tree.now) (loaded mid c.loop.tree) (loaded new c.flush_first_cell.new.tree) old.used mid.used new.used (is_memory mid c.loop.tree) first (now.flushes first.sound);
       left = record { owner = now.left.owner ∙ was.left.owner; levels = now.left.levels ∙ was.left.levels };
       count = omega (arith, now.fewer, was.count);
       counts = counts_then old mid new was.counts now.counts;

@@ -1,6 +1,5 @@
 use Rattle.std.proofs.Common.{subst, sym}
 use Rattle.fv_tree.specs.Sources.{Shown}
-use Rattle.fv_tree.specs.Flushing.{Swaps}
 use Rattle.fv_tree.proofs.Swapped.{IsPlacedAt, swapped}
 use Rattle.fv_tree.proofs.placing.swap.Goals as goal
 
@@ -9,11 +8,12 @@ returns-clause-swaps g c =
     let old : Shown = g.B.Blocks.shown c.args.blocks.now in
     let mid : Shown = g.B.Blocks.shown c.place.new.self in
     let new : Shown = g.B.Blocks.shown c.name_gone.new.blocks in
-    let at : IsPlacedAt old c.args.block.now c.in_ok-at.at.vvbn mid = record {
+    let at : IsPlacedAt old c.args.block.now c.in_ok-at.at.vvbn c.in_ok-at.at.pvbn mid = record {
       fresh = c.in_ok-at.ensures.fresh;
       unused = c.in_ok-at.ensures.unused;
       held = c.in_ok-at.ensures.held;
       used = c.in_ok-at.ensures.used;
     } in
-    subst (λ v. Swaps old c.args.block.now c.args.placed c.args.old.now.vvbn v new) (sym c.pointer_to.ensures.vvbn)
-    (swapped old mid new c.args.block.now c.args.placed c.args.old.now.vvbn c.in_ok-at.at.vvbn at c.name_gone.ensures.gone c.name_gone.ensures.held c.name_gone.ensures.used)
+    swapped old mid new c.args.block.now c.args.placed c.args.known c.args.old.now.vvbn c.in_ok-at.at.pvbn c.pointer_to.result
+    (subst (λ v. IsPlacedAt old c.args.block.now v c.in_ok-at.at.pvbn mid) (sym c.pointer_to.ensures.vvbn) at) c.pointer_to.ensures.known c.pointer_to.ensures.unknown
+    c.name_gone.ensures.gone c.name_gone.ensures.held c.name_gone.ensures.used

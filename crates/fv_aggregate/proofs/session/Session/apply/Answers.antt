@@ -2,6 +2,7 @@ use Rattle.std.proofs.Common.{refl, sym, subst}
 use Rattle.std.specs.Prelude.{IsNone}
 use Rattle.fv_aggregate.specs.Commands.{machine_after}
 use Rattle.fv_aggregate.proofs.Applied.{cp_done, create_done, create_moments, list_done, not_refused, on_err, unbuilt, unbuilt_done}
+use Rattle.fv_aggregate.proofs.Lasting.{by_none, created_on, reclaimed_on, stay_on}
 use Rattle.fv_aggregate.proofs.Standing.{rests_for_last, stays_for}
 use Rattle.fv_aggregate.proofs.session.Session.apply.Goals as goal
 
@@ -49,10 +50,13 @@ returns-in_default-command g c =
       stands = c.requires.stands;
       fails = (whole, whole);
       fault = tt;
+      lacking = tt;
+      volumes = by_none c.args.command.now session.volumes session.volumes (stay_on session.volumes session.volumes refl);
       cause = refl;
       write_cause = refl;
       ends = record { tells = refl; given = refl; ends = refl };
       steps = refl;
+      dead = λ failed. refl;
     }
 
 pub returns-in-Cp-clause-refused : goal.returns-in-Cp-clause-refused
@@ -60,3 +64,14 @@ returns-in-Cp-clause-refused g c = λ tells last m stands. not_refused _ c.recla
 
 pub returns-in-Cp-clause-point : goal.returns-in-Cp-clause-point
 returns-in-Cp-clause-point g c = λ tells last m stands cp. c.reclaim.ensures.done tells last m stands
+
+pub returns-in-VolCreate-clause-volumes : goal.returns-in-VolCreate-clause-volumes
+returns-in-VolCreate-clause-volumes g c = created_on c.args.command.now _ _ _ c.in-VolCreate.is c.args.self.now.volumes c.create.new.self.volumes c.create.result c.create.ensures.volumes
+
+pub returns-in_ok-names_of-in-VolList-clause-volumes : goal.returns-in_ok-names_of-in-VolList-clause-volumes
+returns-in_ok-names_of-in-VolList-clause-volumes g c =
+    let volumes = c.args.self.now.volumes in
+    by_none c.args.command.now volumes volumes (stay_on volumes volumes refl)
+
+pub returns-in-Cp-clause-volumes : goal.returns-in-Cp-clause-volumes
+returns-in-Cp-clause-volumes g c = reclaimed_on c.args.command.now c.args.self.now.volumes c.reclaim.new.self.volumes c.reclaim.result c.reclaim.ensures.volumes

@@ -3,6 +3,7 @@ use Rattle.fv_model.specs.declared.commands.Command.TheVariants.{VolCreate}
 use Rattle.fv_model.specs.Refusals.{next}
 use Rattle.fv_aggregate.proofs.Added.{answer_for, stays_when_refused}
 use Rattle.fv_aggregate.proofs.Applied.{not_refused}
+use Rattle.fv_aggregate.proofs.Lasting.{by_none, stay_on}
 use Rattle.fv_aggregate.proofs.Standing.{rests_for_last}
 use Rattle.fv_aggregate.proofs.session.Session.create.Goals as goal
 
@@ -19,3 +20,8 @@ returns-in-Err-clause-any_moment g c = λ tells last m stands.
 
 pub returns-in-Ok-clause-refused : goal.returns-in-Ok-clause-refused
 returns-in-Ok-clause-refused g c = λ tells last m stands. not_refused _ c.make.result (c.make.ensures.made tells last m stands)
+
+pub returns-in-Err-clause-volumes : goal.returns-in-Err-clause-volumes
+returns-in-Err-clause-volumes g c =
+    let volumes = c.args.self.now.volumes in
+    by_none (VolCreate c.args.name.now c.args.size c.args.kind) volumes volumes (stay_on volumes volumes refl)

@@ -10,20 +10,19 @@ use Rattle.fv_aggmap.specs.Space.{Space}
 use Rattle.fv_aggmap.specs.Loading.{IsLoaded}
 use Rattle.fv_volume.specs.Loading.{IsLoadFault, LoadedTo}
 use Rattle.fv_volume.specs.States.{machine_in, view_over}
-use Rattle.fv_aggregate.specs.Causes.{IsOpenFault, of_volume}
-use Rattle.fv_aggregate.proofs.Opened.{handed, load_fault}
+use Rattle.fv_aggregate.proofs.Opened.{load_fault}
 use Rattle.fv_aggregate.proofs.session.Session.load.Goals as goal
 
-pub returns-in_err-volumes-clause-fault : goal.returns-in_err-volumes-clause-fault
-returns-in_err-volumes-clause-fault g c = λ tells.
+pub returns-in-Err-load-clause-fault : goal.returns-in-Err-load-clause-fault
+returns-in-Err-load-clause-fault g c = λ tells.
     let i = (g.D.Disk.shown c.args.disk.now).reads in
     let first = c.find_root.ensures.only_reads.stays in
     let second = c.load.ensures.only_reads.stays in
     let told = subst IsTrue (sym (second.tells ∙ first.tells)) tells in
-    let e = c.in_err-volumes.field-0.0 in
+    let e = c.in-Err-load.fault in
     let fault : IsLoadFault i c.in_ok-found.found e = subst (λ (j : Image). IsLoadFault j c.in_ok-found.found e) (second.reads ∙ first.reads)
-    (subst (λ (f : Found). IsLoadFault (g.D.Disk.shown c.load.new.disk).reads f e) c.in_ok-pool.ensures.found (c.in_err-volumes.ensures.fault told)) in
-    handed (IsOpenFault i) (of_volume e) c.from_residual-in_err-volumes.result c.from_residual-in_err-volumes.ensures.1 (load_fault i c.in_ok-found.found (c.in_ok-found.ensures.finds tells) e fault)
+    (subst (λ (f : Found). IsLoadFault (g.D.Disk.shown c.load.new.disk).reads f e) c.in-Ok.ensures.found (c.in-Err-load.ensures.fault told)) in
+    load_fault i c.in_ok-found.found (c.in_ok-found.ensures.finds tells) e c.not_loaded-in-Err-load.result fault c.not_loaded-in-Err-load.ensures
 
 pub returns-clause-loaded : goal.returns-clause-loaded
 returns-clause-loaded g c = λ tells.
@@ -35,16 +34,16 @@ returns-clause-loaded g c = λ tells.
     let still = subst IsTrue (sym second.tells) told in
     let same : j ≡ i = second.reads ∙ first.reads in
     let pool = c.load-2.new.pool in
-    let was : c.in_ok-pool.pool.found ≡ c.in_ok-found.found = c.in_ok-pool.ensures.found in
-    let now : pool.found ≡ c.in_ok-pool.pool.found = c.load-2.ensures.found in
-    let map : IsLoaded i c.in_ok-found.found c.in_ok-pool.pool.map = subst (λ (k : Image). IsLoaded k c.in_ok-found.found c.in_ok-pool.pool.map) first.reads (c.in_ok-pool.ensures.map told) in
-    let volumes = c.in_ok-volumes.volumes in
-    let e = c.in_ok-volumes.ensures in
+    let was : c.in-Ok.pool.found ≡ c.in_ok-found.found = c.in-Ok.ensures.found in
+    let now : pool.found ≡ c.in-Ok.pool.found = c.load-2.ensures.found in
+    let map : IsLoaded i c.in_ok-found.found c.in-Ok.pool.map = subst (λ (k : Image). IsLoaded k c.in_ok-found.found c.in-Ok.pool.map) first.reads (c.in-Ok.ensures.map told) in
+    let volumes = c.in-Ok-load.volumes in
+    let e = c.in-Ok-load.ensures in
     record {
       found = subst (IsFound i) (sym (now ∙ was)) (c.in_ok-found.ensures.finds tells);
-      map = subst (λ (m : Space). IsLoaded i pool.found m) (sym e.map) (subst (λ (f : Found). IsLoaded i f c.in_ok-pool.pool.map) (sym (now ∙ was)) map);
-      slots = subst (λ (f : Found). LoadedTo i f slot_count volumes pool.containers) (sym now) (subst (λ (k : Image). LoadedTo k c.in_ok-pool.pool.found slot_count volumes pool.containers) same (e.loaded still));
-      view = ap (λ (k : Image). view_over pool volumes k) (sym same) ∙ e.view still c.in_ok-pool.ensures.empty ∙ (λ t. view_at (root_found (sym now t)) (same t));
-      machine = λ m is. ap (λ (k : Image). machine_in pool volumes k) (sym same) ∙ e.machine still c.in_ok-pool.ensures.empty m (subst (λ (k : Image). Tells (layout_at (root_found c.in_ok-pool.pool.found) k) m) (sym same) (subst (λ (f : Found). Tells (layout_at (root_found f) i) m) now is));
-      states = λ m is. e.whole still m (subst (λ (k : Image). Tells (layout_at (root_found c.in_ok-pool.pool.found) k) m) (sym same) (subst (λ (f : Found). Tells (layout_at (root_found f) i) m) now is));
+      map = subst (λ (m : Space). IsLoaded i pool.found m) (sym e.map) (subst (λ (f : Found). IsLoaded i f c.in-Ok.pool.map) (sym (now ∙ was)) map);
+      slots = subst (λ (f : Found). LoadedTo i f slot_count volumes pool.containers) (sym now) (subst (λ (k : Image). LoadedTo k c.in-Ok.pool.found slot_count volumes pool.containers) same (e.loaded still));
+      view = ap (λ (k : Image). view_over pool volumes k) (sym same) ∙ e.view still c.in-Ok.ensures.empty ∙ (λ t. view_at (root_found (sym now t)) (same t));
+      machine = λ m is. ap (λ (k : Image). machine_in pool volumes k) (sym same) ∙ e.machine still c.in-Ok.ensures.empty m (subst (λ (k : Image). Tells (layout_at (root_found c.in-Ok.pool.found) k) m) (sym same) (subst (λ (f : Found). Tells (layout_at (root_found f) i) m) now is));
+      states = λ m is. e.whole still m (subst (λ (k : Image). Tells (layout_at (root_found c.in-Ok.pool.found) k) m) (sym same) (subst (λ (f : Found). Tells (layout_at (root_found f) i) m) now is));
     }

@@ -1,5 +1,6 @@
 use Rattle.fv_model.specs.declared.commands.Command.TheVariants.{VolCreate}
 use Rattle.std.proofs.Common.{None}
+use Rattle.fv_aggregate.proofs.Lasting.{replied_on}
 use Rattle.fv_aggregate.proofs.Added.{answer_for, done_only, replied, room_for, stands_replied}
 use Rattle.fv_aggregate.proofs.session.Session.make.Goals as goal
 
@@ -23,3 +24,6 @@ returns-clause-made g c = λ tells last m stands.
     let old = g.D.Disk.shown c.args.disk.now in
     let none = answer_for old c.args.self.now last m (VolCreate c.args.name.now c.args.size c.args.kind) None stands c.requires.accepted in
     done_only (g.D.Disk.shown c.make_room.new.disk) c.make_room.new.self last m (c.in_ok-make_room.ensures.done tells last m stands) c.args.name.now c.args.size c.args.kind c.args.room none c.add.new.self c.add.result c.add.ensures.added
+
+pub returns-clause-volumes : goal.returns-clause-volumes
+returns-clause-volumes g c = replied_on c.args.self.now.volumes c.make_room.new.self c.args.name.now c.args.size c.args.kind c.args.room c.add.new.self c.add.result c.in_ok-make_room.ensures.volumes c.add.ensures.added

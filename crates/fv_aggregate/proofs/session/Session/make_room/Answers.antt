@@ -5,6 +5,7 @@ use Rattle.fv_model.specs.Machines.{Machine}
 use Rattle.fv_aggregate.specs.declared.fault.Fault.{Fault}
 use Rattle.fv_aggregate.specs.declared.session.Session.{Session}
 use Rattle.fv_aggregate.specs.Standing.{StandsAfter, StandsFor}
+use Rattle.fv_aggregate.proofs.Lasting.{stay_on}
 use Rattle.fv_aggregate.proofs.Standing.{rests_for_last, stays_for}
 use Rattle.fv_aggregate.proofs.session.Session.make_room.Goals as goal
 
@@ -23,3 +24,6 @@ returns-else-self-le-DIRTY_LIMIT-clause-done g c = λ tells last m stands. point
 
 pub returns-else-self-le-DIRTY_LIMIT-clause-room : goal.returns-else-self-le-DIRTY_LIMIT-clause-room
 returns-else-self-le-DIRTY_LIMIT-clause-room g c = λ tells last m stands fits. c.point.ensures.room tells last m stands c.args.room fits
+
+pub returns-then-room-self-clause-volumes : goal.returns-then-room-self-clause-volumes
+returns-then-room-self-clause-volumes g c = stay_on c.args.self.now.volumes c.args.self.now.volumes refl

@@ -1,8 +1,9 @@
 use Rattle.std.proofs.Common.{refl, subst}
 use Rattle.fv_cp.specs.declared.fault.CpFault.TheVariants.{Damaged}
 use Rattle.fv_cp.specs.Points.{LacksRoom, LeavesAll}
+use Rattle.fv_aggregate.proofs.Lasting.{settled_all}
 use Rattle.fv_aggregate.proofs.Standing.{stands_after_reads, stands_same}
-use Rattle.fv_aggregate.proofs.Points.{no_lack, point_room, pointed}
+use Rattle.fv_aggregate.proofs.Points.{no_lack, point_room, pointed, same_session}
 use Rattle.fv_aggregate.proofs.session.Session.point.Goals as goal
 
 pub returns-in-Ok-clause-done : goal.returns-in-Ok-clause-done
@@ -39,3 +40,15 @@ returns-in-Err-Damaged-clause-stands g c = λ none.
     subst (LeavesAll old c.args.self.now.pool c.args.self.now.volumes new c.consistency_point.new.pool c.consistency_point.new.volumes) e.field-0-is e.ensures.lacking in
     stands_same (g.D.Disk.shown c.consistency_point.new.disk) c.args.self.now _ left.1.0 left.1.1
     (stands_after_reads (g.D.Disk.shown c.args.disk.now) (g.D.Disk.shown c.consistency_point.new.disk) c.args.self.now left.0 c.requires.stands)
+
+pub returns-in-Err-Damaged-clause-lacking : goal.returns-in-Err-Damaged-clause-lacking
+returns-in-Err-Damaged-clause-lacking g c =
+    let e = c.in-Err-Damaged in
+    let old = g.D.Disk.shown c.args.disk.now in
+    let new = g.D.Disk.shown c.consistency_point.new.disk in
+    let left : LeavesAll old c.args.self.now.pool c.args.self.now.volumes new c.consistency_point.new.pool c.consistency_point.new.volumes (Damaged e.at e.want e.found) =
+    subst (LeavesAll old c.args.self.now.pool c.args.self.now.volumes new c.consistency_point.new.pool c.consistency_point.new.volumes) e.field-0-is e.ensures.lacking in
+    (left.0, same_session c.args.self.now c.consistency_point.new.pool c.consistency_point.new.volumes left.1.0 left.1.1)
+
+pub returns-in-Ok-clause-volumes : goal.returns-in-Ok-clause-volumes
+returns-in-Ok-clause-volumes g c = settled_all c.args.self.now.volumes c.consistency_point.new.volumes c.in-Ok.ensures.volumes

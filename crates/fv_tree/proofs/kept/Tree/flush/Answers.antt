@@ -6,6 +6,7 @@ use Rattle.fv_tree.specs.Standing.{under}
 use Rattle.fv_tree.specs.Flushing.{loaded, ReachesOnce}
 use Rattle.fv_tree.specs.declared.kept.KeptCell.{KeptCell}
 use Rattle.fv_tree.proofs.Flushes.{flushes_then}
+use Rattle.fv_tree.proofs.Gone.{is_memory}
 use Rattle.fv_tree.proofs.Whole.{is_stored, reaches}
 use Rattle.fv_tree.proofs.kept.Tree.flush.Goals as goal
 
@@ -15,7 +16,7 @@ returns-in_err-flush_nodes-clause-flushes g c = λ stands.
     let mid : Shown = g.B.Blocks.shown c.flush_cells.new.blocks in
     let new : Shown = g.B.Blocks.shown c.flush_nodes.new.blocks in
     let first = c.in_ok-flush_cells.ensures.flushes stands in
-    flushes_then (loaded old c.args.self.now) (loaded mid c.flush_cells.new.tree) (loaded new c.flush_nodes.new.tree) old.used mid.used new.used first (c.in_err-flush_nodes.ensures.flushes first.sound)
+    flushes_then (loaded old c.args.self.now) (loaded mid c.flush_cells.new.tree) (loaded new c.flush_nodes.new.tree) old.used mid.used new.used (is_memory mid c.flush_cells.new.tree) first (c.in_err-flush_nodes.ensures.flushes first.sound)
 
 pub returns-clause-flushes : goal.returns-clause-flushes
 returns-clause-flushes g c = λ stands.
@@ -23,7 +24,7 @@ returns-clause-flushes g c = λ stands.
     let mid : Shown = g.B.Blocks.shown c.flush_cells.new.blocks in
     let new : Shown = g.B.Blocks.shown c.flush_nodes.new.blocks in
     let first = c.in_ok-flush_cells.ensures.flushes stands in
-    flushes_then (loaded old c.args.self.now) (loaded mid c.flush_cells.new.tree) (loaded new c.flush_nodes.new.tree) old.used mid.used new.used first (c.in_ok-flush_nodes.ensures.flushes first.sound)
+    flushes_then (loaded old c.args.self.now) (loaded mid c.flush_cells.new.tree) (loaded new c.flush_nodes.new.tree) old.used mid.used new.used (is_memory mid c.flush_cells.new.tree) first (c.in_ok-flush_nodes.ensures.flushes first.sound)
 
 pub returns-clause-reaches : goal.returns-clause-reaches
 returns-clause-reaches g c = λ stands.

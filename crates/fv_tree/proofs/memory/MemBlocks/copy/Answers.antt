@@ -1,0 +1,15 @@
+use Rattle.std.proofs.Common.{◌≡◌, ℕ, List, refl, subst}
+use Rattle.std.specs.Array.{AllZipBelow}
+use Rattle.std.specs.List.{each_same}
+use Rattle.std.proofs.lemmas.Map.Entries.{entries_from_clone}
+use Rattle.fv_tree.proofs.memory.MemBlocks.copy.Goals as goal
+
+-- a block and its PVBN are those of which they are clones
+same_kept : (x y : List ℕ × ℕ) → AllZipBelow (λ (a b : ℕ). b ≡ a) x.0 y.0 4096 × (y.1 ≡ x.1) → y ≡ x
+same_kept (xs, a) (ys, b) (cloned, is) =
+    subst (λ zs. ◌≡◌ {A = List ℕ × ℕ} (ys, b) (zs, a)) (each_same xs ys cloned.whole) (subst (λ n. ◌≡◌ {A = List ℕ × ℕ} (ys, b) (ys, n)) is refl)
+
+pub returns-clause-blocks : goal.returns-clause-blocks
+returns-clause-blocks c =
+    entries_from_clone (λ (x y : ℕ). y ≡ x) (λ x y. AllZipBelow (λ (a b : ℕ). b ≡ a) x.0 y.0 4096 × (y.1 ≡ x.1)) (λ x y is. is) same_kept
+    c.args.self.now.blocks.entries c.in_ok-clone.field-0.entries c.in_ok-clone.ensures.cases
