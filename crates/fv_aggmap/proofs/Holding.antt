@@ -32,30 +32,3 @@ none_left left right from at so_far full = record {
       (λ (past : at ≤ b). held_left left right b (full.full b past high))
       (cases_lt b at);
 }
-
-pub none_right : (left right : List Bool) (from at mid : ℕ) → length right ≡ length left → AreHeldTo left right from at → IsFirstFree left at mid → IsFullFrom right mid → AreHeldFrom left right from
-none_right left right from at mid long so_far first full = record {
-  held = λ b low high. ⊎_elim
-      (λ (below : b < at). so_far b low below)
-      (λ (past : at ≤ b). ⊎_elim
-      (λ (under : b < mid). held_left left right b (first.before b past under))
-      (λ (over : mid ≤ b). held_right left right b (full.full b over (omega (arith, high, long))))
-      (cases_lt b mid))
-      (cases_lt b at);
-}
-
-pub held_on : (left right : List Bool) (from at mid next : ℕ) → AreHeldTo left right from at → IsFirstFree left at mid → IsFirstFree right mid next → AreHeldTo left right from next
-held_on left right from at mid next so_far first second = λ b low high. ⊎_elim
-    (λ (below : b < at). so_far b low below)
-    (λ (past : at ≤ b). ⊎_elim
-    (λ (under : b < mid). held_left left right b (first.before b past under))
-    (λ (over : mid ≤ b). held_right left right b (second.before b over high))
-    (cases_lt b mid))
-    (cases_lt b at)
-
-pub both_free : (left right : List Bool) (from at mid next : ℕ) → from ≤ at → IsFirstFree left at mid → IsFirstFree right mid next → next ≡ mid → IsFreeIn left right from next
-both_free left right from at mid next low first second same = record {
-  after = omega (arith, low, first.after, second.after);
-  within = omega (arith, same, first.within);
-  free = held_neither left right next (ap (is_member left) same ∙ first.free) second.free;
-}

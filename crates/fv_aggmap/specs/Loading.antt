@@ -1,13 +1,13 @@
 -- The aggregate map as it is read from its area.
-use Rattle.std.specs.Prelude.{◌≡◌, ◌≤◌, ◌<◌, ◌/◌, ◌-◌, ◌*◌, ℕ, Bool, true, false, List, length, Result, Ok, Err}
-use Rattle.fv_disk.specs.Shown.{Image, Rose}
+use Rattle.std.specs.Prelude.{◌≡◌, ◌≤◌, ◌<◌, ◌/◌, ◌-◌, ◌*◌, ℕ, Bool, true, false, List, length}
+use Rattle.fv_disk.specs.Shown.{Image}
+use Rattle.fv_disk.specs.declared.fault.BlockFault.{BlockFault}
+use Rattle.fv_disk.specs.declared.fault.BlockFault.TheVariants.{DiskFault, Damaged, Memory}
 use Rattle.fv_bits.specs.Members.{is_member}
 use Rattle.fv_image.specs.Layout.{block_bits, area_place}
 use Rattle.fv_image.specs.MachineOf.{map_bit}
 use Rattle.fv_root.specs.declared.find.Found.{Found}
 use Rattle.fv_root.specs.Finding.{root_found}
-use Rattle.fv_aggmap.specs.declared.fault.AggFault.{AggFault}
-use Rattle.fv_aggmap.specs.declared.fault.AggFault.TheVariants.{DiskFault, Damaged, Memory}
 use Rattle.fv_aggmap.specs.Space.{Space}
 
 -- the first bit that is set past the last block, with its place in the map area and the last block's number
@@ -30,14 +30,7 @@ pub record IsLoaded (i : Image) (found : Found) (space : Space) : Type 0 where
   pub same : space.next ≡ space.committed
 
 -- a fault, where the disk didn't fail and memory didn't run out
-abbrev pub IsFault : Image → Found → AggFault → Type 0
+abbrev pub IsFault : Image → Found → BlockFault → Type 0
 IsFault i found (Damaged at want number) = IsPastMap i found at want number
 IsFault i found DiskFault = Unit {0}
 IsFault i found Memory = Unit {0}
-
--- the count of faults rose where a fault of the disk is answered, and stays elsewhere
-abbrev pub HasLoadCause : {T : Type 0} → ℕ → ℕ → Result T AggFault → Type 0
-HasLoadCause before now (Ok x) = now ≡ before
-HasLoadCause before now (Err (Damaged at want number)) = now ≡ before
-HasLoadCause before now (Err Memory) = now ≡ before
-HasLoadCause before now (Err DiskFault) = Rose before now

@@ -7,8 +7,6 @@ mod free;
 mod freeing;
 mod load;
 mod map;
-#[cfg(test)]
-mod tests;
 
 pub use fault::AggFault;
 pub use map::AggMap;

@@ -3,22 +3,20 @@
 ghost use Rattle.std.specs.Prelude.{◌≡◌, ◌<◌, ◌+◌, length, IsTrue, OnOk, IfErr};
 ghost use Rattle.fv_image.specs.Layout.{area_blocks};
 ghost use Rattle.fv_disk.specs.DiskCalls.{OnlyReads};
+ghost use Rattle.fv_disk.specs.Faults.{HasBlockCause};
 ghost use Rattle.fv_root.specs.Finding.{IsInRange};
-ghost use Rattle.fv_aggmap.specs.Loading.{HasLoadCause, HasRead, IsFault};
+ghost use Rattle.fv_aggmap.specs.Loading.{HasRead, IsFault};
 
-use crate::fault::AggFault;
 use fv_bits::BitMap;
-use fv_disk::{Block, Disk};
+use fv_disk::{BlockFault, Disk, ZERO};
 use fv_root::{Found, area_blocks, area_place};
-
-const ZERO: Block = [0; 4096];
 
 /// Reads the map area of the root that was found into a set with a number for each block.
 pub(crate) fn read_area<D: Disk>(
     disk: &mut D,
     found: &Found,
     into: &mut BitMap,
-) -> Result<(), AggFault>
+) -> Result<(), BlockFault>
     requires range { IsInRange found.now }
     requires len { length into.old ≡ found.now.blocks }
     ensures read { IsTrue (D.shown disk.old).tells
@@ -26,7 +24,7 @@ pub(crate) fn read_area<D: Disk>(
     ensures len { length into.new ≡ length into.old }
     ensures fault { IsTrue (D.shown disk.old).tells → IfErr result (IsFault (D.shown disk.old).reads found.now) }
     ensures only_reads { OnlyReads (D.shown disk.old) (D.shown disk.new) }
-    ensures cause { HasLoadCause (D.shown disk.old).faults (D.shown disk.new).faults result }
+    ensures cause { HasBlockCause (D.shown disk.old).faults (D.shown disk.new).faults result }
 {
     for k in 0..area_blocks(found.blocks) {
         read_map_block(disk, found, into, k)?;
@@ -40,7 +38,7 @@ fn read_map_block<D: Disk>(
     found: &Found,
     into: &mut BitMap,
     k: u32,
-) -> Result<(), AggFault>
+) -> Result<(), BlockFault>
     requires range { IsInRange found.now }
     requires len { length into.old ≡ found.now.blocks }
     requires within { k < area_blocks found.now.blocks }
@@ -52,14 +50,14 @@ fn read_map_block<D: Disk>(
         → HasRead (D.shown disk.old).reads found.now k into.old
         → IfErr result (IsFault (D.shown disk.old).reads found.now) }
     ensures only_reads { OnlyReads (D.shown disk.old) (D.shown disk.new) }
-    ensures cause { HasLoadCause (D.shown disk.old).faults (D.shown disk.new).faults result }
+    ensures cause { HasBlockCause (D.shown disk.old).faults (D.shown disk.new).faults result }
 {
     let mut block = ZERO;
     let at = area_place(found.blocks, found.slot, k);
     disk.read(at, &mut block)?;
     match into.from_block(k, &block) {
         None => Ok(()),
-        Some(number) => Err(AggFault::Damaged {
+        Some(number) => Err(BlockFault::Damaged {
             at,
             want: u64::from(found.blocks) - 1,
             found: u64::from(number),

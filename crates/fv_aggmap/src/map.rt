@@ -2,9 +2,10 @@
 
 ghost use Rattle.std.specs.Prelude.{◌≡◌, ◌<◌, ◌≤◌, length, slice_set, true, false, IsTrue, IfOk, IfErr, IfSome, IfNone};
 ghost use Rattle.fv_disk.specs.DiskCalls.{OnlyReads};
+ghost use Rattle.fv_disk.specs.Faults.{HasBlockCause};
 ghost use Rattle.fv_root.specs.Finding.{IsInRange};
 ghost use Rattle.fv_root.specs.Formatted.{IsSize};
-ghost use Rattle.fv_aggmap.specs.Loading.{HasLoadCause, IsFault, IsLoaded};
+ghost use Rattle.fv_aggmap.specs.Loading.{IsFault, IsLoaded};
 ghost use Rattle.std.specs.FinSet as set;
 ghost use Rattle.fv_aggmap.specs.Freeing.{room_of};
 ghost use Rattle.fv_aggmap.specs.Space.{IsFree, IsFull, blocks_of, free_blocks};
@@ -53,7 +54,7 @@ impl AggMap {
         ensures size { IfOk result (λ map. blocks_of map ≡ found.now.blocks) }
         ensures fault { IsTrue (D.shown disk.old).tells → IfErr result (IsFault (D.shown disk.old).reads found.now) }
         ensures only_reads { OnlyReads (D.shown disk.old) (D.shown disk.new) }
-        ensures cause { HasLoadCause (D.shown disk.old).faults (D.shown disk.new).faults result }
+        ensures cause { HasBlockCause (D.shown disk.old).faults (D.shown disk.new).faults result }
     {
         let mut committed = BitMap::new(alloc, found.blocks)?;
         let mut next = BitMap::new(alloc, found.blocks)?;

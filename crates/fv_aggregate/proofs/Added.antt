@@ -1,15 +1,16 @@
 -- A session with a new volume.
-use Rattle.std.proofs.Common.{◌≡◌, ◌≢◌, ◌<◌, ◌≤◌, ◌+◌, ◌*◌, ℕ, Bool, true, false, cond, List, length, Option, Some, None, refl, sym, ap, subst, ◌∙◌, ⊎_elim, inl, inr, arith, length-set, Result, Ok, Err}
-use Rattle.std.specs.Prelude.{◌⊎◌, IfOk, OnErr, max, nat_lt}
+use Rattle.std.proofs.Common.{◌≡◌, ◌≢◌, ◌<◌, ◌≤◌, ◌+◌, ◌*◌, ℕ, Bool, true, false, cond, List, length, Option, Some, None, refl, sym, ap, subst, ◌∙◌, ⊎_elim, inl, inr, true≢false, arith, length-set, Result, Ok, Err}
+use Rattle.std.specs.Prelude.{◌⊎◌, IfOk, IsNone, IsTrue, max, nat_lt}
 use Rattle.std.specs.Option.{is_some, option_map}
-use Rattle.std.proofs.lemmas.Bool.{cases_eq}
+use Rattle.std.proofs.lemmas.Bool.{cases_eq, cases_lt}
 use Rattle.std.proofs.lemmas.Bool.Decides.{nat_tests}
-use Rattle.std.proofs.lemmas.List.{get_or-set_other, length-replicate}
-use Rattle.fv_disk.specs.Shown.{Image, Shown}
+use Rattle.std.proofs.lemmas.List.{get_or-set_other}
+use Rattle.fv_disk.specs.Shown.{Image, IsDisk, Shown}
+use Rattle.fv_disk.specs.DiskCalls.{OnlyReads}
 use Rattle.fv_model.specs.declared.answers.Refusal.{Refusal}
 use Rattle.fv_model.specs.declared.answers.Refusal.TheVariants.{VolumeExists, AggregateFull, Range, TooMany}
 use Rattle.fv_model.specs.declared.answers.Reply.{Reply}
-use Rattle.fv_model.specs.declared.answers.Reply.TheVariants.{Done, Content, Number, Names, Stat, Refused}
+use Rattle.fv_model.specs.declared.answers.Reply.TheVariants.{Done, Refused}
 use Rattle.fv_model.specs.declared.commands.Kind.{Kind}
 use Rattle.fv_model.specs.declared.commands.Command.{Command}
 use Rattle.fv_model.specs.declared.commands.Command.TheVariants.{VolCreate}
@@ -30,15 +31,20 @@ use Rattle.fv_container.specs.Chains.{container_at}
 use Rattle.fv_volume.specs.declared.pool.Pool.{Pool}
 use Rattle.fv_volume.specs.declared.state.VolumeState.{VolumeState}
 use Rattle.fv_volume.specs.Creating.{IsNew, with_holes}
-use Rattle.fv_volume.specs.Loading.{Houses, IsLoaded}
+use Rattle.fv_volume.specs.Loading.{IsLoaded}
 use Rattle.fv_volume.specs.States.{AreStates, States, head_in, machine_in, place_in, state_at, view_over}
 use Rattle.fv_volume.proofs.Made.{blocks_are}
-use Rattle.fv_cp.specs.Lent.{AreHoused, IsUnnamed}
+use Rattle.fv_cp.specs.Lent.{IsUnnamed}
 use Rattle.fv_aggregate.specs.declared.fault.Fault.{Fault}
 use Rattle.fv_aggregate.specs.declared.session.Session.{Session}
-use Rattle.fv_aggregate.specs.Adding.{Adds, HasRoom, IsAdded}
-use Rattle.fv_aggregate.specs.Standing.{Stands, StandsAfter, StandsFor}
-use Rattle.fv_aggregate.proofs.Standing.{stays_for}
+use Rattle.fv_aggregate.specs.Adding.{HasRoom, IsAdded}
+use Rattle.fv_aggregate.specs.declared.fault.Fault.TheVariants.{Memory}
+use Rattle.fv_aggregate.specs.Asking.{AsksWithin}
+use Rattle.fv_aggregate.specs.Calls.{Goes, GoesFor}
+use Rattle.fv_aggregate.specs.Commands.{is_refusal}
+use Rattle.fv_aggregate.specs.Standing.{Stands, StandsFor}
+use Rattle.fv_aggregate.proofs.Applied.{rests_for}
+use Rattle.fv_aggregate.proofs.Standing.{earlier_moments}
 use Rattle.fv_aggregate.proofs.Sums.{committed_is, same_overheads}
 
 none_some : {X : Type 0} (x : X) → None ≡ Some x → ⊥
@@ -68,6 +74,10 @@ next_is m name size kind none = ap (λ (r : Option Refusal). cond (is_some r) m 
 
 -- ---- the slots
 
+-- the session to which a volume was added, under another name
+pub added_as : (was now new : Session) (name : List ℕ) (size : ℕ) (kind : Kind) (room : ℕ) → was ≡ now → IsAdded was name size kind room new → IsAdded now name size kind room new
+added_as was now new name size kind room same = subst (λ (s : Session). IsAdded s name size kind room new) same
+
 module _ (session : Session) (name : List ℕ) (size : ℕ) (kind : Kind) (room : ℕ) (new : Session) (added : IsAdded session name size kind room new) where
   abbrev slot : ℕ
   slot = added.slot
@@ -90,32 +100,19 @@ module _ (session : Session) (name : List ℕ) (size : ℕ) (kind : Kind) (room 
   new_long : length session.volumes ≡ 64 → length new.volumes ≡ 64
   new_long long = ap (λ (xs : States). length xs) added.made.states ∙ length-set session.volumes added.slot (Some added.made.state) ∙ long
 
-  housed_with : AreHoused session.pool.containers session.volumes → AreHoused pool.containers new.volumes
-  housed_with was = record {
-    long = new_long was.long;
-    volumes = added.each;
-    each = λ s. ⊎_elim
-        (λ (here : s ≡ added.slot). subst (λ (k : ℕ). Houses (state_at new.volumes k) (container_at pool.containers k)) (sym here) (both (state_at new.volumes added.slot) (container_at pool.containers added.slot) new_slot))
-        (λ (other : s ≢ added.slot). subst (λ (x : Option VolumeState). Houses x (container_at pool.containers s)) (sym (state_elsewhere s other))
-        (subst (λ (c : Option Mapped). Houses (state_at session.volumes s) c) (sym (container_elsewhere s other)) (was.each s)))
-        (cases_eq s added.slot);
-  }
-    where
-      both : (x : Option VolumeState) (c : Option Mapped) → IsNew x c name size kind → Houses x c
-      both x c is = subst (λ (y : Option VolumeState). Houses y c) (sym is.state_is) (subst (λ (d : Option Mapped). Houses (Some is.volume) d) (sym is.holes) (length-replicate (entry_count is.volume.span) None))
+  stands_added : (disk : Shown) → Stands disk session → Stands disk new
+  stands_added disk stands = subst (λ (p : Pool). Stands disk (record new { pool = p })) (sym added.holes) (record { found = stands.found; map = stands.map; cache = stands.cache })
 
-  pub stands_added : (disk : Shown) → Stands disk session → Stands disk new
-  stands_added disk stands = subst (λ (p : Pool). Stands disk (record new { pool = p })) (sym added.holes) (record {
-    cache = stands.cache;
-    found = stands.found;
-    map = stands.map;
-    range = stands.range;
-    size = stands.size;
-    housed = housed_with stands.housed;
-    unkept = stands.unkept;
+  asks_added : (disk : Shown) (kept : ℕ) → new.pending ≡ session.pending + room → session.pending + room ≤ max 256 room → AsksWithin disk session (max kept room) → AsksWithin disk new (max kept room)
+  asks_added disk kept pending few asks = subst (λ (p : Pool). AsksWithin disk (record new { pool = p }) (max kept room)) (sym added.holes) (record {
+    asked = omega (arith, asks.asked, added.asked, pending);
+    pending = omega (arith, few, pending);
   })
 
-  module _ (disk : Shown) (last m : Machine) (long : length session.volumes ≡ 64) (stands : StandsFor disk session last m) where
+  module _ (disk : Shown) (last m : Machine) (stands : StandsFor disk session last m) where
+    long : length session.volumes ≡ 64
+    long = added.long
+
     slot_is : (s : ℕ) → s < 64
         → IsLoaded disk.reads pool.found s (state_at new.volumes s) (container_at pool.containers s) ⊎ IsUnnamed pool.found s (state_at new.volumes s) (container_at pool.containers s)
     slot_is s inside = ⊎_elim
@@ -166,8 +163,8 @@ module _ (session : Session) (name : List ℕ) (size : ℕ) (kind : Kind) (room 
         (cases_eq s added.slot))
         ∙ overheads_with w added.slot h nothing is ∙ ap (λ (n : ℕ). overheads w + overhead n) span
 
-    pub made_stands : room ≡ overhead (span_of size 0 0) → HasRoom disk session room → StandsFor disk new last (next m (VolCreate name size kind))
-    made_stands room_is enough =
+    pub made_stands : new.pending ≡ session.pending + room → room ≡ overhead (span_of size 0 0) → HasRoom disk session room → StandsFor disk new last (next m (VolCreate name size kind))
+    made_stands pending room_is enough =
         let over = overheads_now in
         let held = stands.pending in
         subst (λ (p : Pool). StandsFor disk (record new { pool = p }) last (next m (VolCreate name size kind))) (sym added.holes) (record {
@@ -182,13 +179,13 @@ module _ (session : Session) (name : List ℕ) (size : ℕ) (kind : Kind) (room 
           };
           machine = machine_with;
           settled = stands.settled;
-          pending = omega (arith, over, held, room_is, added.pending);
-          room = subst (λ (n : ℕ). overheads (view_at (root_found session.pool.found) disk.reads) + max 256 n ≤ free_blocks session.pool.map) (sym added.pending) enough;
+          pending = omega (arith, over, held, room_is, pending);
+          room = subst (λ (n : ℕ). overheads (view_at (root_found session.pool.found) disk.reads) + max 256 n ≤ free_blocks session.pool.map) (sym pending) enough;
         })
 
 -- ---- the reply
 
-allowed : (m : Machine) (name : List ℕ) (size : ℕ) (kind : Kind) → refusal m (VolCreate name size kind) ≡ None → Allows m (VolCreate name size kind) Done
+pub allowed : (m : Machine) (name : List ℕ) (size : ℕ) (kind : Kind) → refusal m (VolCreate name size kind) ≡ None → Allows m (VolCreate name size kind) Done
 unfolding answer
 allowed m name size kind none = subst (λ (r : Option Refusal). AllowsBy r m (VolCreate name size kind) Done) (sym none) refl
 
@@ -210,53 +207,72 @@ pub answer_for : (disk : Shown) (session : Session) (last m : Machine) (command 
     → (AreStates session.volumes → (i : Image) → refusal (machine_in session.pool session.volumes i) command ≡ answer) → refusal m command ≡ answer
 answer_for disk session last m command answer stands is = ap (λ (x : Machine). refusal x command) (sym stands.machine) ∙ is stands.lent.states disk.reads
 
-pub stays_when_refused : (disk : Shown) (session : Session) (last m : Machine) (name : List ℕ) (size : ℕ) (kind : Kind) (r : Refusal) → StandsFor disk session last m → refusal m (VolCreate name size kind) ≡ Some r
-    → Allows m (VolCreate name size kind) (Refused r) × StandsAfter disk session last m (next m (VolCreate name size kind)) (next m (VolCreate name size kind))
-stays_when_refused disk session last m name size kind r stands is = (
-  refusal_allowed m name size kind r is,
-  subst (λ (after : Machine). StandsAfter disk session last m after after) (sym (refusal_leaves m name size kind r is)) (stays_for disk session last m m m stands),
-)
+-- a volume that is admitted is made, and nothing else is answered
+pub done_allowed : (m : Machine) (name : List ℕ) (size : ℕ) (kind : Kind) → refusal m (VolCreate name size kind) ≡ None → (result : Result Reply Fault) → IfOk result (λ reply. reply ≡ Done) → IfOk result (Allows m (VolCreate name size kind))
+done_allowed m name size kind none (Ok reply) done = subst (Allows m (VolCreate name size kind)) (sym done) (allowed m name size kind none)
+done_allowed m name size kind none (Err fault) done = tt
 
-pub replied : (disk : Shown) (session : Session) (last m : Machine) → length session.volumes ≡ 64 → StandsAfter disk session last m m m → (name : List ℕ) (size : ℕ) (kind : Kind) (room : ℕ) → room ≡ overhead (span_of size 0 0) → HasRoom disk session room
-    → refusal m (VolCreate name size kind) ≡ None → (new : Session) (result : Result Reply Fault) → IfOk result (Adds session name size kind room new)
-    → IfOk result (λ reply. Allows m (VolCreate name size kind) reply × StandsAfter disk new last m (next m (VolCreate name size kind)) (next m (VolCreate name size kind)))
-replied disk session last m long stands name size kind room room_is enough none new (Err fault) is = tt
-replied disk session last m long stands name size kind room room_is enough none new (Ok Done) is = (
-  allowed m name size kind none,
-  record {
-    point = stands.point;
-    one = ⊎_elim (λ l. inl l) (λ either. inr (inl (⊎_elim (λ x. x) (λ x. x) either))) stands.one;
-    stands = made_stands session name size kind room new is disk stands.point m long stands.stands room_is enough;
-  },
-)
-replied disk session last m long stands name size kind room room_is enough none new (Ok (Refused r)) is =
-    let other : refusal m (VolCreate name size kind) ≡ Some r = ap (λ (x : Machine). refusal x (VolCreate name size kind)) (sym stands.stands.machine) ∙ is.refused stands.stands.lent.states disk.reads in
-    absurd (none_some r (sym none ∙ other))
-replied disk session last m long stands name size kind room room_is enough none new (Ok (Content b)) is = absurd is
-replied disk session last m long stands name size kind room room_is enough none new (Ok (Number n)) is = absurd is
-replied disk session last m long stands name size kind room room_is enough none new (Ok (Names ns)) is = absurd is
-replied disk session last m long stands name size kind room room_is enough none new (Ok (Stat s)) is = absurd is
+pub not_refused : (X : Type 0) (result : Result Reply Fault) → IfOk result (λ reply. reply ≡ Done) → IfOk result (λ reply. IsTrue (is_refusal reply) → X)
+not_refused X (Ok reply) done = λ refused. absurd (true≢false (sym refused ∙ ap is_refusal done))
+not_refused X (Err fault) done = tt
 
--- the reply to a command that was admitted
-pub done_only : (disk : Shown) (session : Session) (last m : Machine) → StandsAfter disk session last m m m → (name : List ℕ) (size : ℕ) (kind : Kind) (room : ℕ) → refusal m (VolCreate name size kind) ≡ None
-    → (new : Session) (result : Result Reply Fault) → IfOk result (Adds session name size kind room new) → IfOk result (λ reply. reply ≡ Done)
-done_only disk session last m stands name size kind room none new (Err fault) is = tt
-done_only disk session last m stands name size kind room none new (Ok Done) is = refl
-done_only disk session last m stands name size kind room none new (Ok (Refused r)) is =
-    let other : refusal m (VolCreate name size kind) ≡ Some r = ap (λ (x : Machine). refusal x (VolCreate name size kind)) (sym stands.stands.machine) ∙ is.refused stands.stands.lent.states disk.reads in
-    absurd (none_some r (sym none ∙ other))
-done_only disk session last m stands name size kind room none new (Ok (Content b)) is = absurd is
-done_only disk session last m stands name size kind room none new (Ok (Number n)) is = absurd is
-done_only disk session last m stands name size kind room none new (Ok (Names ns)) is = absurd is
-done_only disk session last m stands name size kind room none new (Ok (Stat s)) is = absurd is
+-- a refusal leaves the session, which stands for the machine's next one
+pub refused_for : (disk : Shown) (session : Session) (last m : Machine) (name : List ℕ) (size : ℕ) (kind : Kind) (r : Refusal) → IsDisk disk → StandsFor disk session last m → refusal m (VolCreate name size kind) ≡ Some r
+    → GoesFor disk last m (next m (VolCreate name size kind)) disk session (Ok (Refused r))
+refused_for disk session last m name size kind r laws stands is = rests_for (Refused r) disk session last m (next m (VolCreate name size kind)) laws (refusal_leaves m name size kind r is) stands
 
--- the session stands on the disk whatever the reply is
-pub stands_replied : (disk : Shown) (session : Session) (name : List ℕ) (size : ℕ) (kind : Kind) (room : ℕ) (new : Session) (result : Result Reply Fault) → Stands disk session
-    → IfOk result (Adds session name size kind room new) → OnErr result (new ≡ session) → Stands disk new
-stands_replied disk session name size kind room new (Err fault) stands is same = subst (Stands disk) (sym same) stands
-stands_replied disk session name size kind room new (Ok Done) stands is same = stands_added session name size kind room new is disk stands
-stands_replied disk session name size kind room new (Ok (Refused r)) stands is same = subst (Stands disk) (sym is.same) stands
-stands_replied disk session name size kind room new (Ok (Content b)) stands is same = absurd is
-stands_replied disk session name size kind room new (Ok (Number n)) stands is same = absurd is
-stands_replied disk session name size kind room new (Ok (Names ns)) stands is same = absurd is
-stands_replied disk session name size kind room new (Ok (Stat s)) stands is same = absurd is
+-- ---- a volume that was admitted, after room was made for it
+
+module _ (before : Shown) (old : Session) (mid : Shown) (session : Session) (name : List ℕ) (size : ℕ) (kind : Kind) (room : ℕ) where
+  -- it was added
+  pub added_goes : Goes {T = Unit {0}} room before old mid session (Ok tt) → session.pending + room ≤ max 256 room → (new : Session) → IsAdded session name size kind room new → new.pending ≡ session.pending + room → Goes room before old mid new (Ok Done)
+  added_goes goes few new added pending = record {
+    ends = goes.ends;
+    stands = λ fresh. stands_added session name size kind room new added mid (goes.stands goes.done.goes_on);
+    asks = λ tells kept asks fresh. asks_added session name size kind room new added mid kept pending few (goes.asks tells kept asks goes.done.goes_on);
+    done = record { was = goes.done.was; goes_on = subst IsNone (sym added.failed) goes.done.goes_on; counts = goes.done.counts };
+    fault = tt;
+  }
+
+  pub added_for : (last m : Machine) → GoesFor {T = Unit {0}} before last m m mid session (Ok tt) → room ≡ overhead (span_of size 0 0) → HasRoom mid session room → (new : Session) → IsAdded session name size kind room new → new.pending ≡ session.pending + room
+      → GoesFor before last m (next m (VolCreate name size kind)) mid new (Ok Done)
+  added_for last m goes room_is enough new added pending =
+      let stands = goes.done in
+      record {
+        any_moment = earlier_moments before mid last m (next m (VolCreate name size kind)) before.given goes.any_moment;
+        done = record { point = stands.point; one = stands.one; stands = made_stands session name size kind room new added mid stands.point m stands.stands pending room_is enough };
+        still = λ fresh. tt;
+        whole = tt;
+      }
+
+  -- memory ran out
+  pub wanting_goes : Goes {T = Unit {0}} room before old mid session (Ok tt) → (old.pending + room ≤ 256 → OnlyReads before mid × (session ≡ old)) → Goes {T = Reply} room before old mid session (Err Memory)
+  wanting_goes goes calm = record {
+    ends = goes.ends;
+    stands = goes.stands;
+    asks = goes.asks;
+    done = tt;
+    fault = record {
+      reason = goes.done.was;
+      counts = goes.done.counts;
+      session = goes.done.goes_on;
+      disk = ⊎_elim (λ (past : 256 < old.pending + room). inr past) (λ (low : old.pending + room ≤ 256). inl (calm low)) (cases_lt 256 (old.pending + room));
+    };
+  }
+
+  pub wanting_for : (last m : Machine) → GoesFor {T = Unit {0}} before last m m mid session (Ok tt) → GoesFor {T = Reply} before last m (next m (VolCreate name size kind)) mid session (Err Memory)
+  wanting_for last m goes = record {
+    any_moment = earlier_moments before mid last m (next m (VolCreate name size kind)) before.given goes.any_moment;
+    done = tt;
+    still = λ fresh. goes.done;
+    whole = tt;
+  }
+
+  -- room couldn't be made
+  pub unmade_for : (last m : Machine) (e : Fault) → GoesFor {T = Unit {0}} before last m m mid session (Err e) → GoesFor {T = Reply} before last m (next m (VolCreate name size kind)) mid session (Err e)
+  unmade_for last m e goes = record {
+    any_moment = earlier_moments before mid last m (next m (VolCreate name size kind)) before.given goes.any_moment;
+    done = tt;
+    still = goes.still;
+    whole = goes.whole;
+  }

@@ -1,9 +1,8 @@
 -- The commands as `apply` has them.
-use Rattle.std.proofs.Common.{◌≡◌, ◌≢◌, ℕ, Bool, false, List, Result, Ok, Err, true≢false, refl, sym, ap, subst, ◌∙◌, inl, inr}
-use Rattle.std.specs.Prelude.{IfOk, IsTrue, OnErr, OnOk, if◌then◌else◌}
+use Rattle.std.proofs.Common.{◌≡◌, ◌≢◌, ℕ, Bool, false, List, Result, Ok, Err, refl, sym, ap, subst, ◌∙◌, arith}
+use Rattle.std.specs.Prelude.{IfOk, if◌then◌else◌}
 use Rattle.std.specs.FinMap as fin
-use Rattle.fv_disk.specs.Shown.{Image, Shown}
-use Rattle.fv_disk.specs.Crash.{Leaves}
+use Rattle.fv_disk.specs.Shown.{Image, Shown, IsDisk}
 use Rattle.fv_model.specs.declared.answers.Refusal.TheVariants.{Syntax}
 use Rattle.fv_model.specs.declared.answers.Reply.{Reply}
 use Rattle.fv_model.specs.declared.answers.Reply.TheVariants.{Done, Names, Refused}
@@ -14,77 +13,85 @@ use Rattle.fv_model.specs.Machines.{Machine}
 use Rattle.fv_model.specs.Effects.{change_of}
 use Rattle.fv_model.specs.Refusals.{conditions, next}
 use Rattle.fv_model.specs.Replies.{Allows, answer}
+use Rattle.fv_model.specs.Space.{overhead, span_of}
 use Rattle.fv_volume.specs.declared.pool.Pool.{Pool}
 use Rattle.fv_volume.specs.States.{machine_in}
 use Rattle.fv_aggregate.specs.declared.fault.Fault.{Fault}
 use Rattle.fv_aggregate.specs.declared.session.Session.{Session}
-use Rattle.fv_aggregate.specs.Commands.{Replies, RepliesBy, is_built, is_refusal, machine_after}
-use Rattle.fv_aggregate.specs.Standing.{OneOf, StandsAfter, StandsFor}
-use Rattle.fv_aggregate.proofs.Standing.{stays_for}
+use Rattle.fv_aggregate.specs.Calls.{Goes, GoesFor, IsNoDamage}
+use Rattle.fv_aggregate.specs.Commands.{Replies, RepliesBy, is_built, machine_after, room_of}
+use Rattle.fv_aggregate.specs.Standing.{StandsAfter, StandsFor}
+use Rattle.fv_aggregate.proofs.Standing.{rests_for_last, stays_for}
 
--- what is done by a command that leaves the machine as it is
-pub stays_by : (disk : Shown) (session : Session) (last m after : Machine) → after ≡ m → StandsFor disk session last m → StandsAfter disk session last m after after
-stays_by disk session last m after same stands = subst (λ (x : Machine). StandsAfter disk session last m x x) (sym same) (stays_for disk session last m m m stands)
+-- ---- a call that leaves the disk and the session
 
-pub on_err : {X : Type 0} (result : Result Reply Fault) → X → OnErr result X
-on_err (Ok reply) x = tt
-on_err (Err fault) x = x
+pub rests_for : {T : Type 0} (x : T) (disk : Shown) (session : Session) (last m after : Machine) → IsDisk disk → after ≡ m → StandsFor disk session last m → GoesFor disk last m after disk session (Ok x)
+rests_for x disk session last m after laws same stands = record {
+  any_moment = rests_for_last disk session last m after laws stands;
+  done = subst (λ (n : Machine). StandsAfter disk session last m n) (sym same) (stays_for disk session last m stands);
+  still = λ none. tt;
+  whole = tt;
+}
+
+pub rests_for_fault : {T : Type 0} (e : Fault) (disk : Shown) (session : Session) (last m after : Machine) → IsDisk disk → IsNoDamage e → StandsFor disk session last m → GoesFor {T = T} disk last m after disk session (Err e)
+rests_for_fault e disk session last m after laws no_damage stands = record {
+  any_moment = rests_for_last disk session last m after laws stands;
+  done = tt;
+  still = λ none. stays_for disk session last m stands;
+  whole = no_damage;
+}
 
 -- ---- vol create
 
-pub create_done : (command : Command) (name : List ℕ) (size : ℕ) (kind : Kind) → command ≡ VolCreate name size kind → (disk : Shown) (session : Session) (last m : Machine) (result : Result Reply Fault)
-    → IfOk result (λ reply. Allows m (VolCreate name size kind) reply × StandsAfter disk session last m (next m (VolCreate name size kind)) (next m (VolCreate name size kind)))
-    → IfOk result (λ reply. Replies m command reply × StandsAfter disk session last m (machine_after m command) (machine_after m command))
-unfolding is_built machine_after
-create_done command name size kind is disk session last m result done =
-    subst (λ (x : Command). IfOk result (λ reply. Replies m x reply × StandsAfter disk session last m (machine_after m x) (machine_after m x))) (sym is) done
+module _ (command : Command) (name : List ℕ) (size : ℕ) (kind : Kind) (is : command ≡ VolCreate name size kind) where
+  pub create_goes : (before : Shown) (old : Session) (after : Shown) (new : Session) (result : Result Reply Fault) → Goes (overhead (span_of size 0 0)) before old after new result → Goes (room_of command) before old after new result
+  unfolding room_of
+  create_goes before old after new result goes = subst (λ (c : Command). Goes (room_of c) before old after new result) (sym is) goes
 
-pub create_moments : (command : Command) (name : List ℕ) (size : ℕ) (kind : Kind) → command ≡ VolCreate name size kind → (old new : Shown) (last m : Machine) (given : List ℕ)
-    → Leaves old new (λ c g. OneOf last m (next m (VolCreate name size kind)) c × (g ≡ given)) → Leaves old new (λ c g. OneOf last m (machine_after m command) c × (g ≡ given))
-unfolding is_built machine_after
-create_moments command name size kind is old new last m given left = subst (λ (x : Command). Leaves old new (λ c g. OneOf last m (machine_after m x) c × (g ≡ given))) (sym is) left
+  pub create_goes_for : (before : Shown) (last m : Machine) (after : Shown) (new : Session) (result : Result Reply Fault) → GoesFor before last m (next m (VolCreate name size kind)) after new result → GoesFor before last m (machine_after m command) after new result
+  unfolding is_built machine_after
+  create_goes_for before last m after new result goes = subst (λ (c : Command). GoesFor before last m (machine_after m c) after new result) (sym is) goes
+
+  pub create_replies : (m : Machine) (result : Result Reply Fault) → IfOk result (Allows m (VolCreate name size kind)) → IfOk result (Replies m command)
+  unfolding is_built
+  create_replies m result allowed = subst (λ (c : Command). IfOk result (Replies m c)) (sym is) allowed
+
+  pub create_room : room_of command ≡ overhead (span_of size 0 0)
+  unfolding room_of
+  create_room = ap room_of is
+
+-- a volume has room of its own, whatever its size
+pub some_room : (size : ℕ) → overhead (span_of size 0 0) ≡ 0 → ⊥
+unfolding overhead
+some_room size none = omega (arith, none)
 
 -- ---- vol list
 
-list_after : (m : Machine) → machine_after m VolList ≡ m
+pub list_after : (command : Command) (m : Machine) → command ≡ VolList → machine_after m command ≡ m
 unfolding is_built machine_after conditions change_of
-list_after m = refl
+list_after command m is = ap (machine_after m) is
 
-list_replies : (m : Machine) → Replies m VolList (Names (fin.keys m.volumes))
+pub list_replies : (command : Command) → command ≡ VolList → (disk : Shown) (session : Session) (last m : Machine) → StandsFor disk session last m → (names : List (List ℕ))
+    → ((pool : Pool) (i : Image) → names ≡ fin.keys (machine_in pool session.volumes i).volumes) → Replies m command (Names names)
 unfolding is_built conditions answer
-list_replies m = refl
-
-pub list_done : (command : Command) → command ≡ VolList → (disk : Shown) (session : Session) (last m : Machine) → StandsFor disk session last m → (names : List (List ℕ))
-    → ((pool : Pool) (i : Image) → names ≡ fin.keys (machine_in pool session.volumes i).volumes)
-    → Replies m command (Names names) × StandsAfter disk session last m (machine_after m command) (machine_after m command)
-list_done command is disk session last m stands names listed =
+list_replies command is disk session last m stands names listed =
     let told : names ≡ fin.keys m.volumes = listed session.pool disk.reads ∙ ap (λ (x : Machine). fin.keys x.volumes) stands.machine in
-    subst (λ (x : Command). Replies m x (Names names) × StandsAfter disk session last m (machine_after m x) (machine_after m x)) (sym is)
-    (subst (λ (ns : List (List ℕ)). Replies m VolList (Names ns)) (sym told) (list_replies m), stays_by disk session last m (machine_after m VolList) (list_after m) stands)
+    subst (λ (c : Command). Replies m c (Names names)) (sym is) (ap Names told)
 
 -- ---- cp
 
-cp_after : (m : Machine) → machine_after m Cp ≡ m
+pub cp_goes : (command : Command) → command ≡ Cp → (before : Shown) (old : Session) (after : Shown) (new : Session) (result : Result Reply Fault) → Goes 0 before old after new result → Goes (room_of command) before old after new result
+unfolding room_of
+cp_goes command is before old after new result goes = subst (λ (c : Command). Goes (room_of c) before old after new result) (sym is) goes
+
+pub cp_goes_for : (command : Command) → command ≡ Cp → (before : Shown) (last m : Machine) (after : Shown) (new : Session) (result : Result Reply Fault) → GoesFor before last m m after new result → GoesFor before last m (machine_after m command) after new result
 unfolding is_built machine_after conditions change_of
-cp_after m = refl
+cp_goes_for command is before last m after new result goes = subst (λ (c : Command). GoesFor before last m (machine_after m c) after new result) (sym is) goes
 
-cp_replies : (m : Machine) → Replies m Cp Done
+pub cp_replies : (command : Command) → command ≡ Cp → (m : Machine) (result : Result Reply Fault) → IfOk result (λ reply. reply ≡ Done) → IfOk result (Replies m command)
 unfolding is_built conditions answer
-cp_replies m = refl
-
-pub cp_done : (command : Command) → command ≡ Cp → (disk : Shown) (session : Session) (last m : Machine) (result : Result Reply Fault) → IfOk result (λ reply. reply ≡ Done) → OnOk result (StandsFor disk session m m)
-    → IfOk result (λ reply. Replies m command reply × StandsAfter disk session last m (machine_after m command) (machine_after m command))
-cp_done command is disk session last m (Err fault) done stands = tt
-cp_done command is disk session last m (Ok reply) done stands =
-    subst (λ (x : Command). Replies m x reply × StandsAfter disk session last m (machine_after m x) (machine_after m x)) (sym is)
-    (subst (Replies m Cp) (sym done) (cp_replies m), subst (λ (x : Machine). StandsAfter disk session last m x x) (sym (cp_after m)) (record { point = m; one = inr (inl refl); stands = stands }))
-
--- ---- refusals
-
--- a command that was done isn't refused
-pub not_refused : (X : Type 0) (result : Result Reply Fault) → IfOk result (λ reply. reply ≡ Done) → IfOk result (λ reply. IsTrue (is_refusal reply) → X)
-not_refused X (Ok reply) done = λ refused. absurd (true≢false (sym refused ∙ ap is_refusal done))
-not_refused X (Err fault) done = tt
+cp_replies command is m (Err fault) done = tt
+cp_replies command is m (Ok reply) done = subst (λ (c : Command). Replies m c reply) (sym is) done
 
 -- ---- the others
 
@@ -116,10 +123,9 @@ unbuilt (Probe v f i) a b c = refl
 unbuilt (Work n) a b c = refl
 unbuilt Cp a b c = absurd (c refl)
 
-unbuilt_after : (m : Machine) (command : Command) → is_built command ≡ false → machine_after m command ≡ m
+pub unbuilt_after : (m : Machine) (command : Command) → is_built command ≡ false → machine_after m command ≡ m
 unfolding machine_after
 unbuilt_after m command none = ap (λ (b : Bool). if b then next m command else m) none
 
-pub unbuilt_done : (command : Command) → is_built command ≡ false → (disk : Shown) (session : Session) (last m : Machine) → StandsFor disk session last m
-    → Replies m command (Refused Syntax) × StandsAfter disk session last m (machine_after m command) (machine_after m command)
-unbuilt_done command none disk session last m stands = (subst (λ (b : Bool). RepliesBy b m command (Refused Syntax)) (sym none) refl, stays_by disk session last m (machine_after m command) (unbuilt_after m command none) stands)
+pub unbuilt_replies : (m : Machine) (command : Command) → is_built command ≡ false → Replies m command (Refused Syntax)
+unbuilt_replies m command none = subst (λ (b : Bool). RepliesBy b m command (Refused Syntax)) (sym none) refl

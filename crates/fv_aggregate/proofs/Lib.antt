@@ -1,10 +1,10 @@
 mod Sums
+mod Asking
+mod Calls
 mod Standing
-mod Points
+mod PointEnds
 mod Added
 mod Telling
 mod Opened
 mod Whole
 mod Applied
-mod Lasting
-pub mod Lacking

@@ -13,31 +13,36 @@ use Rattle.fv_image.specs.Sound.{IsSound, committed, is_in_capacity, overheads}
 use Rattle.fv_image.specs.MachineOf.{Tells, machine_of}
 use Rattle.fv_image.proofs.Stands.{stands_for}
 use Rattle.fv_root.specs.declared.find.Found.{Found}
-use Rattle.fv_root.specs.Finding.{IsFound, IsInRange, root_found}
+use Rattle.fv_root.specs.Finding.{IsFound, root_found}
 use Rattle.fv_root.specs.Commits.{IsFoundOn}
 use Rattle.fv_store.specs.Held.{StandsOn}
-use Rattle.fv_container.specs.Chains.{slot_count}
-use Rattle.fv_aggmap.specs.Loading.{IsLoaded as IsMapLoaded}
-use Rattle.fv_aggmap.specs.Space.{blocks_of}
+use Rattle.fv_aggmap.specs.Loading.{IsFault as IsMapFault, IsLoaded as IsMapLoaded}
+use Rattle.fv_cp.specs.Lent.{blocks_asked}
 use Rattle.fv_aggmap.proofs.Room.{room_when_sound}
-use Rattle.fv_volume.specs.declared.fault.VolumeFault.{VolumeFault}
-use Rattle.fv_volume.specs.declared.fault.VolumeFault.TheVariants.{Refused, DiskFault, Damaged, Memory}
-use Rattle.fv_volume.specs.Loading.{IsLoadFault, KeptTo}
+use Rattle.fv_disk.specs.declared.fault.BlockFault.{BlockFault}
+use Rattle.fv_disk.specs.declared.fault.BlockFault.TheVariants.{DiskFault, Damaged, Memory}
+use Rattle.fv_volume.specs.Loading.{IsLoadFault}
 use Rattle.fv_volume.specs.States.{view_over}
 use Rattle.fv_aggregate.specs.declared.fault.OpenFault.{OpenFault}
 use Rattle.fv_aggregate.specs.declared.session.Session.{Session}
-use Rattle.fv_aggregate.specs.Causes.{IsNotLoaded, IsOpenFault}
+use Rattle.fv_aggregate.specs.Causes.{IsOpenFault, of_block}
 use Rattle.fv_aggregate.specs.Opening.{IsFresh, IsOpened}
 use Rattle.fv_aggregate.specs.Standing.{Stands, StandsFor}
+use Rattle.fv_aggregate.specs.Asking.{AsksWithin}
+use Rattle.fv_aggregate.proofs.Asking.{asks_after_reads}
 
 -- ---- faults
 
--- volumes that can't be loaded under the root that was found
-pub load_fault : (i : Image) (found : Found) → IsFound i found → (e : VolumeFault) (f : OpenFault) → IsLoadFault i found e → IsNotLoaded e f → IsOpenFault i f
-load_fault i found is (Refused refusal) f fault so = absurd so
-load_fault i found is DiskFault f fault so = subst (IsOpenFault i) (sym so) tt
-load_fault i found is (Damaged at want number) f fault so = subst (IsOpenFault i) (sym so) (inr (record { root = found; found = is; fault = inr fault }))
-load_fault i found is Memory f fault so = subst (IsOpenFault i) (sym so) tt
+-- a map or volumes that can't be read under the root that was found
+pub map_fault : (i : Image) (found : Found) → IsFound i found → (e : BlockFault) → IsMapFault i found e → IsOpenFault i (of_block e)
+map_fault i found is DiskFault fault = tt
+map_fault i found is (Damaged at want number) fault = inr (record { root = found; found = is; fault = inl fault })
+map_fault i found is Memory fault = tt
+
+pub load_fault : (i : Image) (found : Found) → IsFound i found → (e : BlockFault) → IsLoadFault i found e → IsOpenFault i (of_block e)
+load_fault i found is DiskFault fault = tt
+load_fault i found is (Damaged at want number) fault = inr (record { root = found; found = is; fault = inr fault })
+load_fault i found is Memory fault = tt
 
 -- ---- what a settled image stands for
 
@@ -89,12 +94,10 @@ opened_for disk session m settled opened fresh machine =
 
 -- A session that was opened over a disk that a barrier had settled, by a call that only read, stands on it.
 module _ (mid new : Shown) (settled : IsTrue mid.tells → IsSettled mid) (reads : OnlyReads mid new) where
-  pub stands_opened : (session : Session) → (IsTrue mid.tells → IsOpened mid.reads session) → blocks_of session.pool.map ≡ session.pool.found.blocks → IsInRange session.pool.found
-      → KeptTo slot_count session.volumes session.pool.containers → StandsOn new session.pool.store.pairs → IsFresh session → Stands new session
-  stands_opened session opened size range housed cache fresh =
+  stands_opened : (session : Session) → (IsTrue mid.tells → IsOpened mid.reads session) → StandsOn new session.pool.store.pairs → Stands new session
+  stands_opened session opened cache =
       let same : new.reads ≡ mid.reads = reads.stays.reads in
       record {
-        cache = cache;
         found = λ tells.
             let told = subst IsTrue reads.stays.tells tells in
             let is = opened told in
@@ -106,16 +109,19 @@ module _ (mid new : Shown) (settled : IsTrue mid.tells → IsSettled mid) (reads
         map = λ tells.
             let is = opened (subst IsTrue reads.stays.tells tells) in
             subst (λ (i : Image). IsMapLoaded i session.pool.found session.pool.map) (sym same) is.map;
-        range = range;
-        size = size;
-        housed = record { long = housed.long; volumes = housed.each; each = housed.housed };
-        unkept = fresh.unkept;
+        cache = cache;
       }
 
-  pub stands_result : (result : Result Session OpenFault) → (IsTrue mid.tells → IfOk result (IsOpened mid.reads)) → IfOk result (λ session. blocks_of session.pool.map ≡ session.pool.found.blocks) → IfOk result (λ session. IsInRange session.pool.found)
-      → IfOk result (λ session. KeptTo slot_count session.volumes session.pool.containers) → IfOk result (λ session. StandsOn new session.pool.store.pairs) → IfOk result (λ session. IsFresh session) → IfOk result (Stands new)
-  stands_result (Ok session) opened size range housed cache fresh = stands_opened session opened size range housed cache fresh
-  stands_result (Err fault) opened size range housed cache fresh = tt
+  pub stands_result : (result : Result Session OpenFault) → (IsTrue mid.tells → IfOk result (IsOpened mid.reads)) → IfOk result (λ session. StandsOn new session.pool.store.pairs) → IfOk result (Stands new)
+  stands_result (Ok session) opened cache = stands_opened session opened cache
+  stands_result (Err fault) opened cache = tt
+
+  -- what a point of it asks for is what the volumes that were read have
+  pub asks_result : (result : Result Session OpenFault) → IfOk result IsFresh → IfOk result (λ session. blocks_asked session.volumes ≤ overheads (view_at (root_found session.pool.found) mid.reads)) → IfOk result (λ session. AsksWithin new session 0)
+  asks_result (Ok session) fresh asked =
+      let none : session.pending ≡ 0 = fresh.pending in
+      asks_after_reads mid new session 0 reads (record { asked = omega (arith, none, asked); pending = omega (arith, none) })
+  asks_result (Err fault) fresh asked = tt
 
 -- the answer of a call that only read, over a disk that a barrier had settled
 pub opened_result : (mid new : Shown) (m : Machine) (result : Result Session OpenFault) → IsSettled mid → OnlyReads mid new → IfOk result (IsOpened mid.reads) → IfOk result IsFresh → machine_of mid.reads ≡ Some m

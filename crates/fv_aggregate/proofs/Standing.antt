@@ -10,11 +10,9 @@ use Rattle.fv_store.specs.Held.{StandsOn}
 use Rattle.fv_image.specs.Held.{Layout}
 use Rattle.fv_image.specs.MachineOf.{Tells, machine_of}
 use Rattle.fv_image.proofs.Stands.{machine_stands}
-use Rattle.fv_root.specs.Finding.{IsFound, IsInRange, root_found}
-use Rattle.fv_root.specs.Commits.{IsFoundOn}
+use Rattle.fv_root.specs.Finding.{IsFound, root_found}
 use Rattle.fv_aggmap.specs.Loading.{IsLoaded as IsMapLoaded}
-use Rattle.fv_aggmap.specs.Space.{blocks_of}
-use Rattle.fv_cp.specs.Lent.{AreHoused, IsLent}
+use Rattle.fv_cp.specs.Lent.{IsLent}
 use Rattle.fv_volume.specs.declared.pool.Pool.{Pool}
 use Rattle.fv_volume.specs.States.{States}
 use Rattle.fv_aggregate.specs.declared.session.Session.{Session}
@@ -29,7 +27,6 @@ held_after old new session reads held = record {
 
 pub stands_after_reads : (old new : Shown) (session : Session) → OnlyReads old new → Stands old session → Stands new session
 stands_after_reads old new session reads stands = record {
-  cache = held_after old new session reads stands.cache;
   found = λ tells.
       let was = stands.found (subst IsTrue reads.stays.tells tells) in
       record {
@@ -37,22 +34,7 @@ stands_after_reads old new session reads stands = record {
         images = λ c now. was.images c (reads.stays.no_more c now);
       };
   map = λ tells. subst (λ i. IsMapLoaded i session.pool.found session.pool.map) (sym reads.stays.reads) (stands.map (subst IsTrue reads.stays.tells tells));
-  range = stands.range;
-  size = stands.size;
-  housed = stands.housed;
-  unkept = stands.unkept;
-}
-
--- a session that differs in no part that stands on the disk
-pub stands_same : (disk : Shown) (a b : Session) → b.pool ≡ a.pool → b.volumes ≡ a.volumes → Stands disk a → Stands disk b
-stands_same disk a b pool volumes stands = record {
-  cache = subst (λ (p : Pool). StandsOn disk p.store.pairs) (sym pool) stands.cache;
-  found = λ tells. subst (λ (p : Pool). IsFoundOn disk p.found) (sym pool) (stands.found tells);
-  map = λ tells. subst (λ (p : Pool). IsMapLoaded disk.reads p.found p.map) (sym pool) (stands.map tells);
-  range = subst (λ (p : Pool). IsInRange p.found) (sym pool) stands.range;
-  size = subst (λ (p : Pool). blocks_of p.map ≡ p.found.blocks) (sym pool) stands.size;
-  housed = subst (λ (p : Pool). AreHoused p.containers b.volumes) (sym pool) (subst (λ (v : States). AreHoused a.pool.containers v) (sym volumes) stands.housed);
-  unkept = ap (λ (p : Pool). p.kept) pool ∙ stands.unkept;
+  cache = held_after old new session reads stands.cache;
 }
 
 -- ---- what a crash leaves
@@ -77,5 +59,5 @@ pub earlier_moments : (old new : Shown) (last m after : Machine) (given : List �
 earlier_moments old new last m after given left = weaken old new (λ c g. OneOf last m m c × (g ≡ given)) (λ c g. OneOf last m after c × (g ≡ given)) (λ c g one. (⊎_elim (λ l. inl l) (λ either. inr (inl (⊎_elim (λ x. x) (λ x. x) either))) one.0, one.1)) left
 
 -- the last point stays where nothing is done
-pub stays_for : (disk : Shown) (session : Session) (last m before after : Machine) → StandsFor disk session last m → StandsAfter disk session last before after m
-stays_for disk session last m before after stands = record { point = last; one = inl refl; stands = stands }
+pub stays_for : (disk : Shown) (session : Session) (last m : Machine) → StandsFor disk session last m → StandsAfter disk session last m m
+stays_for disk session last m stands = record { point = last; one = inl refl; stands = stands }

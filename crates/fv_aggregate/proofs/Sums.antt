@@ -27,7 +27,7 @@ by_slot f g (x ∷ xs) from same =
     omega (arith, here, rest, sum_by-cons f x xs, sum_by-cons (λ s. f (g s)) from (range_with_len (from + 1) (length xs)))
 
 -- a sum over all slots
-over_slots : (f : Option VolumeState → ℕ) (states : States) → length states ≡ 64 → sum_by f states ≡ sum_by (λ s. f (state_at states s)) (range_with_len 0 64)
+pub over_slots : (f : Option VolumeState → ℕ) (states : States) → length states ≡ 64 → sum_by f states ≡ sum_by (λ s. f (state_at states s)) (range_with_len 0 64)
 over_slots f states long =
     by_slot f (state_at states) states 0 (λ k lt. ap (state_at states) (omega arith)) ∙ ap (λ n. sum_by (λ s. f (state_at states s)) (range_with_len 0 n)) long
 

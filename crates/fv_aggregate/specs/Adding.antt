@@ -1,25 +1,27 @@
--- The steps of `vol create`: room is made for the new volume, and then it is added in memory.
-use Rattle.std.specs.Prelude.{◌≡◌, ◌≤◌, ◌+◌, ℕ, List, max, Some, None, IfSome}
+-- The steps of `vol create`: it is admitted, room is made for it, and then it is added in memory.
+use Rattle.std.specs.Prelude.{◌≡◌, ◌≤◌, ◌+◌, ℕ, List, length, max, None, IfSome}
 use Rattle.fv_disk.specs.Shown.{Image, Shown}
-use Rattle.fv_model.specs.declared.answers.Refusal.{Refusal}
-use Rattle.fv_model.specs.declared.answers.Reply.{Reply}
-use Rattle.fv_model.specs.declared.answers.Reply.TheVariants.{Done, Refused}
 use Rattle.fv_model.specs.declared.commands.Kind.{Kind}
 use Rattle.fv_model.specs.declared.commands.Command.TheVariants.{VolCreate}
 use Rattle.fv_model.specs.Refusals.{next, refusal}
 use Rattle.fv_image.specs.Held.{view_at}
 use Rattle.fv_image.specs.Sound.{overheads}
 use Rattle.fv_root.specs.Finding.{root_found}
-use Rattle.fv_container.specs.Chains.{container_at}
+use Rattle.fv_container.specs.Chains.{container_at, slot_count}
 use Rattle.fv_aggmap.specs.Space.{free_blocks}
-use Rattle.fv_volume.specs.Creating.{IsMade, IsNew, with_holes}
+use Rattle.fv_volume.specs.Creating.{Admits, IsMade, IsNew, with_holes}
 use Rattle.fv_volume.specs.Slots.{IsFirstFree}
 use Rattle.fv_volume.specs.States.{AreStates, IsState, machine_in, state_at}
+use Rattle.fv_cp.specs.Lent.{blocks_asked}
 use Rattle.fv_aggregate.specs.declared.session.Session.{Session}
 
 -- Beside the overheads of the last point there is room for what is pending, and for so many blocks more.
 abbrev pub HasRoom : Shown → Session → ℕ → Type 0
 HasRoom disk session room = overheads (view_at (root_found session.pool.found) disk.reads) + max 256 (session.pending + room) ≤ free_blocks session.pool.map
+
+-- a new volume that was admitted is admitted still
+abbrev pub StillAdmits : Session → Session → Type 0
+StillAdmits old new = (name : List ℕ) (size : ℕ) (kind : Kind) (slot span : ℕ) → Admits old.volumes old.pool.found.blocks name size kind slot span → Admits new.volumes new.pool.found.blocks name size kind slot span
 
 -- a new volume was added to a session, with this room
 pub record IsAdded (old : Session) (name : List ℕ) (size : ℕ) (kind : Kind) (room : ℕ) (new : Session) : Type 0 where
@@ -32,16 +34,6 @@ pub record IsAdded (old : Session) (name : List ℕ) (size : ℕ) (kind : Kind) 
   pub states : AreStates old.volumes → AreStates new.volumes
   pub accepted : AreStates old.volumes → (i : Image) → refusal (machine_in old.pool old.volumes i) (VolCreate name size kind) ≡ None
   pub machine : AreStates old.volumes → (i : Image) → machine_in new.pool new.volumes i ≡ next (machine_in old.pool old.volumes i) (VolCreate name size kind)
-  pub pending : new.pending ≡ old.pending + room
+  pub long : length old.volumes ≡ slot_count
+  pub asked : blocks_asked new.volumes ≤ blocks_asked old.volumes + room
   pub failed : new.failed ≡ old.failed
-
--- a new volume was refused, and the session stays
-pub record IsRefused (old : Session) (name : List ℕ) (size : ℕ) (kind : Kind) (new : Session) (r : Refusal) : Type 0 where
-  pub same : new ≡ old
-  pub refused : AreStates old.volumes → (i : Image) → refusal (machine_in old.pool old.volumes i) (VolCreate name size kind) ≡ Some r
-
--- what the reply to `vol create` says of the session
-abbrev pub Adds : Session → List ℕ → ℕ → Kind → ℕ → Session → Reply → Type 0
-Adds old name size kind room new Done = IsAdded old name size kind room new
-Adds old name size kind room new (Refused r) = IsRefused old name size kind new r
-Adds old name size kind room new reply = ⊥

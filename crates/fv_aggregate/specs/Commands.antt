@@ -1,5 +1,5 @@
--- Which commands are carried out so far, and what a session answers to each.
-use Rattle.std.specs.Prelude.{◌≡◌, Bool, true, false, if◌then◌else◌}
+-- Which commands are carried out so far, what a session answers to each, and how many blocks it may add.
+use Rattle.std.specs.Prelude.{◌≡◌, ℕ, Bool, true, false, if◌then◌else◌}
 use Rattle.fv_model.specs.declared.answers.Refusal.TheVariants.{Syntax}
 use Rattle.fv_model.specs.declared.answers.Reply.{Reply}
 use Rattle.fv_model.specs.declared.answers.Reply.TheVariants.{Refused}
@@ -8,6 +8,7 @@ use Rattle.fv_model.specs.declared.commands.Command.TheVariants.{VolCreate, VolL
 use Rattle.fv_model.specs.Machines.{Machine}
 use Rattle.fv_model.specs.Refusals.{next}
 use Rattle.fv_model.specs.Replies.{Allows}
+use Rattle.fv_model.specs.Space.{overhead, span_of}
 
 -- the commands that are built; the others are refused as no command, until they are
 unfoldable pub is_built : Command → Bool
@@ -32,3 +33,12 @@ RepliesBy false m command reply = reply ≡ Refused Syntax
 
 abbrev pub Replies : Machine → Command → Reply → Type 0
 Replies m command reply = RepliesBy (is_built command) m command reply
+
+-- the room of a command: so many blocks it may add, which the next consistency point writes
+unfoldable pub room_of : Command → ℕ
+room_of (VolCreate volume size kind) = overhead (span_of size 0 0)
+room_of command = 0
+
+-- so many blocks may be pending, with the room of the next command, before a consistency point makes room for it
+abbrev pub dirty_limit : ℕ
+dirty_limit = 256

@@ -1,7 +1,9 @@
+pub mod Parts
 pub mod Standing
+pub mod Asking
 pub mod Commands
 pub mod Causes
+pub mod Calls
 pub mod Opening
 pub mod Adding
 pub mod Telling
-pub mod Lasting

@@ -1,6 +1,5 @@
 -- What is read when a session is opened.
 use Rattle.std.specs.Prelude.{◌≡◌, IsNone}
-use Rattle.std.specs.FinMap as fin
 use Rattle.fv_disk.specs.Shown.{Image}
 use Rattle.fv_model.specs.Machines.{Machine}
 use Rattle.fv_image.specs.Held.{layout_at, view_at}
@@ -21,8 +20,7 @@ pub record IsOpened (i : Image) (session : Session) : Type 0 where
   pub machine : (m : Machine) → Tells (layout_at (root_found session.pool.found) i) m → machine_in session.pool session.volumes i ≡ m
   pub states : (m : Machine) → Tells (layout_at (root_found session.pool.found) i) m → AreStates session.volumes
 
--- nothing has happened yet
+-- nothing is pending, and nothing has failed
 pub record IsFresh (session : Session) : Type 0 where
-  pub unkept : session.pool.kept ≡ fin.empty
   pub pending : session.pending ≡ 0
   pub failed : IsNone session.failed

@@ -1,4 +1,4 @@
--- What a session is: volumes over a disk on which they stand, and the machines that the two stand for.
+-- Where a session stands: on a disk, and for the machines that the two stand for together.
 use Rattle.std.specs.Prelude.{◌≡◌, ◌≤◌, ◌+◌, ◌⊎◌, ℕ, max, IsTrue, Some}
 use Rattle.std.specs.List.{sum_by}
 use Rattle.std.specs.FinMap as fin
@@ -9,25 +9,20 @@ use Rattle.fv_model.specs.Machines.{Machine}
 use Rattle.fv_image.specs.Held.{view_at}
 use Rattle.fv_image.specs.Sound.{overheads}
 use Rattle.fv_image.specs.MachineOf.{machine_of}
-use Rattle.fv_root.specs.Finding.{IsInRange, root_found}
+use Rattle.fv_root.specs.Finding.{root_found}
 use Rattle.fv_root.specs.Commits.{IsFoundOn}
 use Rattle.fv_aggmap.specs.Loading.{IsLoaded as IsMapLoaded}
-use Rattle.fv_aggmap.specs.Space.{blocks_of, free_blocks}
+use Rattle.fv_aggmap.specs.Space.{free_blocks}
 use Rattle.fv_volume.specs.States.{view_over, machine_in}
-use Rattle.fv_cp.specs.Lent.{AreHoused, IsLent}
+use Rattle.fv_cp.specs.Lent.{IsLent}
 use Rattle.fv_aggregate.specs.declared.session.Session.{Session}
 
 -- A session stands on a disk: its root is what `find_root` would answer, over what reads give and over each image that a crash now
--- may leave; its map has the blocks whose bits are set in that root's map area, for the root on the disk as for the next one; and each
--- block in its cache is what the disk reads there. The other fields are of no disk.
+-- may leave, with the blocks whose bits are set in that root's map area; and each block in its cache is what the disk reads there.
 pub record Stands (disk : Shown) (session : Session) : Type 0 where
-  pub cache : StandsOn disk session.pool.store.pairs
   pub found : IsTrue disk.tells → IsFoundOn disk session.pool.found
   pub map : IsTrue disk.tells → IsMapLoaded disk.reads session.pool.found session.pool.map
-  pub range : IsInRange session.pool.found
-  pub size : blocks_of session.pool.map ≡ session.pool.found.blocks
-  pub housed : AreHoused session.pool.containers session.volumes
-  pub unkept : session.pool.kept ≡ fin.empty
+  pub cache : StandsOn disk session.pool.store.pairs
 
 -- A session stands for a machine, and the image of its last consistency point for that point's machine.
 pub record StandsFor (disk : Shown) (session : Session) (last now : Machine) : Type 0 where
@@ -43,10 +38,11 @@ pub record StandsFor (disk : Shown) (session : Session) (last now : Machine) : T
 abbrev pub OneOf : Machine → Machine → Machine → Image → Type 0
 OneOf last before after c = (machine_of c ≡ Some last) ⊎ ((machine_of c ≡ Some before) ⊎ (machine_of c ≡ Some after))
 
--- a session stands for a machine, and its last point for one of three
-pub record StandsAfter (disk : Shown) (session : Session) (last before after now : Machine) : Type 0 where
+-- After a call on a session that stood for `m` and its last point for `last`: the session stands for a machine, and its last point for
+-- one of those two.
+pub record StandsAfter (disk : Shown) (session : Session) (last m now : Machine) : Type 0 where
   pub point : Machine
-  pub one : (point ≡ last) ⊎ ((point ≡ before) ⊎ (point ≡ after))
+  pub one : (point ≡ last) ⊎ (point ≡ m)
   pub stands : StandsFor disk session point now
 
 -- the charges of all volumes

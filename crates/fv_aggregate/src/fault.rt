@@ -1,11 +1,7 @@
 //! Why a session isn't opened, and why a call of one isn't done.
 
-ghost use Rattle.fv_volume.specs.Causes.{IsNoRefusal};
-ghost use Rattle.fv_aggregate.specs.Causes.{IsNotLoaded};
-
-use fv_disk::Failed;
+use fv_disk::{BlockFault, Failed};
 use fv_root::RootFault;
-use fv_volume::VolumeFault;
 use std::alloc::AllocError;
 use thiserror::Error;
 
@@ -59,16 +55,18 @@ impl From<RootFault> for OpenFault {
     }
 }
 
-/// A fault of loading volumes as one of opening: nothing that is loaded is refused.
-pub(crate) fn not_loaded(fault: VolumeFault) -> OpenFault
-    requires { IsNoRefusal fault }
-    ensures { IsNotLoaded fault result }
-{
-    match fault {
-        VolumeFault::DiskFault => OpenFault::DiskFault,
-        VolumeFault::Damaged { at, want, found } => OpenFault::Damaged { at, want, found },
-        VolumeFault::Memory => OpenFault::Memory,
-        VolumeFault::Refused(_) => unreachable!(),
+impl From<BlockFault> for OpenFault {
+    ghost use Rattle.std.specs.Prelude.{◌≡◌};
+    ghost use Rattle.fv_aggregate.specs.Causes.{of_block};
+
+    ghost from_gives = { λ fault e. e ≡ of_block fault };
+
+    fn from(fault: BlockFault) -> OpenFault {
+        match fault {
+            BlockFault::DiskFault => OpenFault::DiskFault,
+            BlockFault::Damaged { at, want, found } => OpenFault::Damaged { at, want, found },
+            BlockFault::Memory => OpenFault::Memory,
+        }
     }
 }
 

@@ -1,10 +1,11 @@
 //! Sessions over an aggregate: opening one, and the commands applied to it one after another.
 #![tactic(auto)]
 
+mod adding;
 mod fault;
+mod opening;
+mod points;
 mod session;
-#[cfg(test)]
-mod tests;
 mod volumes;
 
 pub use fault::{Fault, OpenFault};

@@ -8,19 +8,13 @@ use Rattle.std.proofs.lemmas.Nat.{le_bytes_8}
 use Rattle.std.proofs.lemmas.Nat.Bits.{bit_at_cat_low}
 use Rattle.fv_bits.specs.Bits.{bit_of_number, bit_of_bytes}
 use Rattle.fv_bits.specs.Stored.{bit_of_words, IsWordOf, PutsWord}
-use Rattle.fv_bits.proofs.Numbers.{bit_shr, bit_zero}
+use Rattle.fv_bits.proofs.Numbers.{bit_shr}
 use Rattle.fv_bits.proofs.Rows.{bit_at_place}
 
 -- bit b stands in byte b / 8
 pub bit_in_byte : (bytes : List ℕ) (b p r : ℕ) → b / 8 ≡ p → b % 8 ≡ r → bit_of_bytes bytes b ≡ bit_of_number (get_or bytes p 0) r
 unfolding bit_of_bytes
 bit_in_byte bytes b p r place rest = ap (λ q. bit_of_number (get_or bytes q 0) (b % 8)) place ∙ ap (bit_of_number (get_or bytes p 0)) rest
-
--- past the bytes no bit is set
-pub bit_past_bytes : (bytes : List ℕ) (b : ℕ) → 8 * length bytes ≤ b → bit_of_bytes bytes b ≡ false
-bit_past_bytes bytes b past =
-    bit_in_byte bytes b (b / 8) (b % 8) refl refl
-    ∙ ap (λ n. bit_of_number n (b % 8)) (get_or_past bytes (b / 8) 0 (omega arith)) ∙ bit_zero (b % 8)
 
 -- byte j of a word
 byte_of_word : (n j : ℕ) → j < 8 → get_or (to_le_bytes w64 n) j 0 ≡ n / 2 ^ (8 * j) % 2 ^ 8

@@ -8,8 +8,6 @@
 
 mod block;
 mod map;
-#[cfg(test)]
-mod tests;
 mod word;
 mod words;
 

@@ -4,8 +4,6 @@
 
 mod ledger;
 mod numbers;
-#[cfg(test)]
-mod tests;
 
 pub use ledger::Ledger;
 pub use numbers::{overhead, span_of};

@@ -70,9 +70,6 @@ pub length-half : (x : ℕ) → length (half x) ≡ 4
 unfolding half
 length-half x = length-bytes_high_first 4 x
 
-pub past_half : (at x : ℕ) (bytes rest : List ℕ) → drop at bytes ≡ half x ++ rest → drop (at + 4) bytes ≡ rest
-past_half at x bytes rest there = past at 4 (half x) bytes rest (length-half x) there
-
 pub half_there : (at x : ℕ) (bytes rest : List ℕ) → drop at bytes ≡ half x ++ rest → x < 2 ^ 32 → half_at at bytes ≡ x
 unfolding half_at half
 half_there at x bytes rest there small = rw there (big_number-reads_back 4 x rest small)

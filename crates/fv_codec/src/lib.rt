@@ -22,8 +22,3 @@ pub use pointer::Pointer;
 pub use root::Root;
 pub use shape::Shape;
 pub use superblock::Super;
-
-#[cfg(test)]
-mod tests;
-#[cfg(test)]
-mod vectors;

@@ -1,8 +1,9 @@
 -- A walk along a chain of parents.
 use Rattle.std.proofs.Common.{◌≡◌, ℕ, zero, suc, ◌+◌, ◌-◌, ◌<◌, ◌≤◌, Option, Some, None, refl, sym, ap, ◌∙◌, arith}
-use Rattle.std.specs.Prelude.{IfSome}
+use Rattle.std.specs.Prelude.{IfSome, length}
 use Rattle.std.proofs.lemmas.List.Elements.{All-get_or, All-replicate}
 use Rattle.fv_container.specs.declared.entry.Entry.{Entry}
+use Rattle.fv_container.specs.Mapped.{Mapped, IsMapped, IsHeld, entry_under}
 use Rattle.fv_container.specs.Chains.{Slots, IsSlots, slot_count, container_at, parent_at, own_entry, or_else, along, no_containers}
 
 -- the slot's own entry, or else what follows
@@ -48,3 +49,6 @@ slots_at_first = record {
   parents = refl;
   within = All-replicate (λ p. IfSome p (λ slot. slot < slot_count)) 64 None tt;
 }
+
+pub held_under : (map : Mapped) (v : ℕ) → IsMapped map → v < length map.entries → IfSome (entry_under map v) IsHeld
+held_under map v is within = All-get_or (λ entry. IfSome entry IsHeld) map.entries v None within is.entries

@@ -1,10 +1,9 @@
 -- A tree that was written.
-use Rattle.std.proofs.Common.{◌≡◌, ◌≢◌, ℕ, suc, ◌+◌, ◌-◌, ◌*◌, ◌/◌, ◌%◌, ◌<◌, ◌≤◌, List, length, get_or, take, Bool, true, false, not, ◌&&◌, ◌||◌, refl, sym, ap, subst, ◌∙◌, arith, ⊎_elim, Ok, Option, None}
+use Rattle.std.proofs.Common.{◌≡◌, ◌≢◌, ℕ, suc, ◌+◌, ◌-◌, ◌*◌, ◌/◌, ◌%◌, ◌<◌, ◌≤◌, List, length, get_or, take, Bool, true, false, not, ◌&&◌, refl, sym, ap, subst, ◌∙◌, arith, ⊎_elim, Ok, Option, None}
 use Rattle.std.specs.Prelude.{nat_lt, nat_le}
 use Rattle.std.specs.FinSet as set
-use Rattle.std.proofs.lemmas.Bool.{cases_Bool, cases_lt, true≢false}
+use Rattle.std.proofs.lemmas.Bool.{cases_Bool, cases_lt}
 use Rattle.std.proofs.lemmas.Bool.Decides.{nat_tests}
-use Rattle.std.proofs.lemmas.List.{take_all}
 use Rattle.fv_disk.specs.Shown.{Image}
 use Rattle.fv_codec.specs.Fields.{in_range}
 use Rattle.fv_codec.specs.Blocks.{inner_at, leaf_at}
@@ -15,8 +14,8 @@ use Rattle.fv_container.specs.Mapped.{node_count}
 use Rattle.fv_container.specs.Spelled.{Spelled, names, pair_of}
 use Rattle.fv_container.specs.Reading.{AreWhole}
 use Rattle.fv_container.specs.Freeing.{Room}
-use Rattle.fv_container.specs.Written.{AreWritten, IsInnerOf, IsLeafOf, HasReleased, HasTaken, has_entry, is_written, root_number}
-use Rattle.fv_container.specs.Flushed.{Exchanges, Loses}
+use Rattle.fv_container.specs.Written.{AreWritten, IsInnerOf, IsLeafOf, HasTaken, has_entry, is_written, root_number}
+use Rattle.fv_container.specs.Flushed.{Loses}
 use Rattle.fv_container.proofs.Nodes.{lying_read}
 use Rattle.fv_container.proofs.Regions.{hole_in}
 use Rattle.fv_container.proofs.Trees.{TreeAt, spelled}
@@ -200,41 +199,6 @@ module _ (es : List (Option Entry)) (few : length es ≤ most_entries) where
       tree_spelled = ⊎_elim high_spelled low_spelled (cases_lt 256 leaves)
 
 -- ---- the map
-
-all_named : (ps : List ℕ) (b : ℕ) → names (take (length ps) ps) b ≡ names ps b
-all_named ps b = ap (λ (l : List ℕ). names l b) (take_all (length ps) ps (omega arith))
-
-pub exchanged : (old mid new : Room) (es : List (Option Entry)) (taken given : List ℕ) → HasTaken old es taken (length taken) mid → HasReleased mid given (length given) new → Exchanges old taken given new
-exchanged old mid new es taken given takes gives = record {
-  free = λ b named. takes.free b (all_named taken b ∙ named);
-  stay = λ b was out. gives.keeps b (takes.left b ∙ both (set.contains old.free b) (names (take (length taken) taken) b) was (all_named taken b ∙ out));
-  come = λ b now not_given. ⊎_elim
-      (λ (before : set.contains mid.free b ≡ true).
-      let both_so = sym (takes.left b) ∙ before in
-      (first (set.contains old.free b) (names (take (length taken) taken) b) both_so, sym (all_named taken b) ∙ second (set.contains old.free b) (names (take (length taken) taken) b) both_so))
-      (λ (was_given : names (take (length given) given) b ≡ true). absurd (true≢false (sym (sym (all_named given b) ∙ was_given) ∙ not_given)))
-      (gives.adds b now);
-  held = λ apart b.
-      gives.held b ∙ ap (λ t. not t && mid.held b) (all_named given b) ∙ ap (λ t. not (names given b) && t) (takes.held b ∙ ap (λ t. t || old.held b) (all_named taken b))
-      ∙ swapped (names taken b) (names given b) (old.held b) (λ named. apart b (takes.free b (all_named taken b ∙ named)));
-  committed = gives.committed ∙ takes.committed;
-}
-  where
-    both : (o t : Bool) → o ≡ true → t ≡ false → (o && not t) ≡ true
-    both o t is out = rw (is, out) refl
-
-    first : (o t : Bool) → (o && not t) ≡ true → o ≡ true
-    first true t is = refl
-    first false t is = is
-
-    second : (o t : Bool) → (o && not t) ≡ true → t ≡ false
-    second true false is = refl
-    second true true is = sym is
-    second false t is = absurd (true≢false (sym is))
-
-    swapped : (t g h : Bool) → (t ≡ true → g ≡ false) → (not g && (t || h)) ≡ (t || (not g && h))
-    swapped true g h out = rw (out refl) refl
-    swapped false g h out = refl
 
 pub lost : (old mid : Room) (es : List (Option Entry)) (taken : List ℕ) (n : ℕ) → HasTaken old es taken n mid → Loses old mid
 lost old mid es taken n takes = record {

@@ -238,9 +238,6 @@ module _ (old mid new : Room) (es : List (Option Entry)) (ps : List ℕ) (n b : 
 
 -- ---- giving back
 
-pub released_none : (room : Room) (ps : List ℕ) → HasReleased room ps 0 room
-released_none room ps = record { keeps = λ b in_it. in_it; grows = omega arith; adds = λ b in_it. inl in_it; held = λ b. refl; committed = refl }
-
 pub released_skip : (old mid : Room) (ps : List ℕ) (n : ℕ) → n < length ps → get_or ps n 0 ≡ 0 → HasReleased old ps n mid → HasReleased old ps (n + 1) mid
 released_skip old mid ps n within none so_far =
     let same : (a : ℕ) → names (take (n + 1) ps) a ≡ names (take n ps) a = λ a. names_next ps n a within ∙ ap (λ t. names (take n ps) a || t) (at_none a (get_or ps n 0) none) ∙ or_false (names (take n ps) a) in

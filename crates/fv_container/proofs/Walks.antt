@@ -4,14 +4,14 @@ use Rattle.std.specs.Prelude.{IfErr, OnOk}
 use Rattle.fv_disk.specs.Shown.{Image}
 use Rattle.fv_codec.specs.Blocks.{inner_at}
 use Rattle.fv_image.specs.Containers.{child_in, level_width, lying, most_entries, node_below, node_of}
-use Rattle.fv_container.specs.declared.fault.ContainerFault.{ContainerFault}
-use Rattle.fv_container.specs.declared.fault.ContainerFault.TheVariants.{DiskFault, Damaged, Memory}
+use Rattle.fv_disk.specs.declared.fault.BlockFault.{BlockFault}
+use Rattle.fv_disk.specs.declared.fault.BlockFault.TheVariants.{DiskFault, Damaged, Memory}
 use Rattle.fv_container.specs.Mapped.{node_count}
 use Rattle.fv_container.specs.Spelled.{IsFault}
 use Rattle.fv_container.specs.Reading.{AreChildren, AreWhole, IsBadNode, IsLevelFault}
 use Rattle.fv_container.proofs.Trees.{TreeAt}
 
-pub fault_root : (i : Image) (root height entries : ℕ) (fault : ContainerFault) → height ≡ 2 → IsBadNode i root 2 0 fault → IsFault i root height entries fault
+pub fault_root : (i : Image) (root height entries : ℕ) (fault : BlockFault) → height ≡ 2 → IsBadNode i root 2 0 fault → IsFault i root height entries fault
 unfolding node_below
 fault_root i root height entries DiskFault high bad = tt
 fault_root i root height entries Memory high bad = tt
@@ -27,7 +27,7 @@ fault_root i root height entries (Damaged at want found) high bad = record {
   fault = rw (bad.0) (bad.2);
 }
 
-pub fault_level : (i j : Image) (root height entries level from : ℕ) (places : List ℕ) (fault : ContainerFault) → j ≡ i → level ≤ height → ((q : ℕ) → q < level_width entries level → get_or places (from + q) 0 ≡ node_of i root height level q)
+pub fault_level : (i j : Image) (root height entries level from : ℕ) (places : List ℕ) (fault : BlockFault) → j ≡ i → level ≤ height → ((q : ℕ) → q < level_width entries level → get_or places (from + q) 0 ≡ node_of i root height level q)
     → IsLevelFault j level places from (level_width entries level) fault → IsFault i root height entries fault
 fault_level i j root height entries level from places DiskFault same le at bad = tt
 fault_level i j root height entries level from places Memory same le at bad = tt
@@ -75,10 +75,10 @@ whole_at i j level from count above places same past whole = λ q within some.
     let at : get_or places (from + q) 0 ≡ get_or above (from + q) 0 = past (from + q) (omega arith) in
     rw (at, ← same) (whole q within (λ none. some (at ∙ none)))
 
-pub fault_of : (result : Result (Unit {0}) ContainerFault) (P Q : ContainerFault → Type 0) → ((fault : ContainerFault) → P fault → Q fault) → IfErr result P → IfErr result Q
+pub fault_of : (result : Result (Unit {0}) BlockFault) (P Q : BlockFault → Type 0) → ((fault : BlockFault) → P fault → Q fault) → IfErr result P → IfErr result Q
 fault_of (Ok unit) P Q weaker holds = tt
 fault_of (Err fault) P Q weaker holds = weaker fault holds
 
-pub both_ok : (result : Result (Unit {0}) ContainerFault) (P Q R : Type 0) → (P → Q → R) → OnOk result P → OnOk result Q → OnOk result R
+pub both_ok : (result : Result (Unit {0}) BlockFault) (P Q R : Type 0) → (P → Q → R) → OnOk result P → OnOk result Q → OnOk result R
 both_ok (Ok unit) P Q R gives p q = gives p q
 both_ok (Err fault) P Q R gives p q = tt

@@ -4,16 +4,16 @@ use Rattle.fv_disk.specs.Shown.{Image}
 use Rattle.fv_codec.specs.declared.shape.Shape.{Shape}
 use Rattle.fv_codec.specs.Blocks.{inner_at}
 use Rattle.fv_image.specs.Containers.{node_verdict, lying, child_in}
-use Rattle.fv_container.specs.declared.fault.ContainerFault.{ContainerFault}
-use Rattle.fv_container.specs.declared.fault.ContainerFault.TheVariants.{DiskFault, Damaged, Memory}
+use Rattle.fv_disk.specs.declared.fault.BlockFault.{BlockFault}
+use Rattle.fv_disk.specs.declared.fault.BlockFault.TheVariants.{DiskFault, Damaged, Memory}
 
 -- a block of a tree as it was read, or the fault of the block at this place
-abbrev pub ReadsAs : {X Y : Type 0} → ℕ → (X → Y) → Result X Shape → Result Y ContainerFault → Type 0
+abbrev pub ReadsAs : {X Y : Type 0} → ℕ → (X → Y) → Result X Shape → Result Y BlockFault → Type 0
 ReadsAs at value (Ok x) result = result ≡ Ok (value x)
 ReadsAs at value (Err shape) result = result ≡ Err (Damaged at shape.want shape.found)
 
 -- the block at this place isn't the node of its position
-abbrev pub IsBadNode : Image → ℕ → ℕ → ℕ → ContainerFault → Type 0
+abbrev pub IsBadNode : Image → ℕ → ℕ → ℕ → BlockFault → Type 0
 IsBadNode i place level number (Damaged at want found) = (at ≡ place) × (place ≢ 0) × (node_verdict level number (i place) ≡ Err (record { want = want; found = found }))
 IsBadNode i place level number DiskFault = Unit {0}
 IsBadNode i place level number Memory = Unit {0}
@@ -30,7 +30,7 @@ pub record IsBadOf (i : Image) (level : ℕ) (places : List ℕ) (from count at 
   pub some : at ≢ 0
   pub fault : node_verdict level number (i at) ≡ Err (record { want = want; found = found })
 
-abbrev pub IsLevelFault : Image → ℕ → List ℕ → ℕ → ℕ → ContainerFault → Type 0
+abbrev pub IsLevelFault : Image → ℕ → List ℕ → ℕ → ℕ → BlockFault → Type 0
 IsLevelFault i level places from count (Damaged at want found) = IsBadOf i level places from count at want found
 IsLevelFault i level places from count DiskFault = Unit {0}
 IsLevelFault i level places from count Memory = Unit {0}

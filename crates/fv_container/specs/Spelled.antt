@@ -4,8 +4,8 @@ use Rattle.std.specs.List.{list_any}
 use Rattle.fv_disk.specs.Shown.{Image}
 use Rattle.fv_image.specs.Containers.{container_entry, IsNodePlace, IsWholeTree, IsNodeFault}
 use Rattle.fv_container.specs.declared.entry.Entry.{Entry}
-use Rattle.fv_container.specs.declared.fault.ContainerFault.{ContainerFault}
-use Rattle.fv_container.specs.declared.fault.ContainerFault.TheVariants.{DiskFault, Damaged, Memory}
+use Rattle.fv_disk.specs.declared.fault.BlockFault.{BlockFault}
+use Rattle.fv_disk.specs.declared.fault.BlockFault.TheVariants.{DiskFault, Damaged, Memory}
 use Rattle.fv_container.specs.Mapped.{Mapped, entry_under}
 
 -- an entry as PVBN and kind, (0, 0) for a hole
@@ -29,7 +29,7 @@ pub record Spelled (i : Image) (root height : ℕ) (map : Mapped) : Type 0 where
   pub places : (b : ℕ) → names map.tree b ≡ true → IsNodePlace i root height (length map.entries) b
 
 -- a fault of a tree, where the disk didn't fail and memory didn't run out
-abbrev pub IsFault : Image → ℕ → ℕ → ℕ → ContainerFault → Type 0
+abbrev pub IsFault : Image → ℕ → ℕ → ℕ → BlockFault → Type 0
 IsFault i root height entries (Damaged at want found) = IsNodeFault i root height entries at want found
 IsFault i root height entries DiskFault = Unit {0}
 IsFault i root height entries Memory = Unit {0}

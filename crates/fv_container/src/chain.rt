@@ -1,11 +1,13 @@
 //! The containers of all volumes, and look-ups along chains of parents.
 
-ghost use Rattle.std.specs.Prelude.{◌≡◌, ◌<◌, ◌≤◌, ◌+◌, None, Some, IsSome, IfOk, IfSome, option_copied, length, replicate, slice_index_or};
+ghost use Rattle.std.specs.Prelude.{◌≡◌, ◌<◌, ◌≤◌, ◌+◌, None, Some, IsSome, IfOk, IfErr, IfSome, option_copied, length, replicate, slice_index_or};
 ghost use Rattle.std.specs.Option.{option_copied_mut};
 ghost use Rattle.fv_store.specs.Held.{StandsOn};
 ghost use Rattle.fv_disk.specs.DiskCalls.{OnlyReads};
-ghost use Rattle.fv_container.specs.Causes.{HasCause};
-ghost use Rattle.fv_container.specs.Chains.{IsSlots, along, chain_entry, container_at, no_containers, own_entry, parent_at, slot_count, with_container, with_parent};
+ghost use Rattle.fv_disk.specs.Faults.{HasBlockCause};
+ghost use Rattle.fv_disk.specs.declared.fault.BlockFault.TheVariants.{DiskFault};
+ghost use Rattle.fv_container.specs.Mapped.{IsHeld};
+ghost use Rattle.fv_container.specs.Chains.{IsSlots, along, chain_entry, container_at, no_containers, own_entry, parent_at, slot_count, told_entry, with_container, with_parent};
 
 use crate::container::Container;
 use crate::entry::Entry;
@@ -61,6 +63,7 @@ impl Containers {
         requires parent { IfSome parent (λ parent. parent < slot_count) }
         ensures put { self.new ≡ with_parent (with_container self.old slot (Some container)) slot parent }
         ensures there { container_at self.new slot ≡ Some container }
+        ensures parent { parent_at self.new slot ≡ parent }
         ensures valid { IsSlots self.new }
     {
         self.containers[slot as usize] = Some(container);
@@ -108,7 +111,7 @@ impl Containers {
     /// The first entry of a VVBN along the chain of a slot: the slot's own container, that of its parent,
     /// of the parent's parent and so on, at most 64 volumes. `None` exactly where all of them have a hole
     /// there; a container has one from its number of entries on. It counts one step for the whole chain.
-    /// `DiskFault` comes only where a read failed in this call.
+    /// The one error is `DiskFault`, and it comes only where a read failed in this call.
     pub fn look_up_chain<D: Disk, L: Ledger>(
         &mut self,
         store: &mut Store,
@@ -120,20 +123,38 @@ impl Containers {
         requires within { slot < slot_count }
         requires stands { StandsOn (D.shown disk.old) store.old.pairs }
         ensures entry { IfOk result (λ entry. entry ≡ chain_entry self.old slot vvbn) }
+        ensures held { IfOk result (λ entry. IfSome entry IsHeld) }
+        ensures fault { IfErr result (λ fault. fault ≡ DiskFault) }
         ensures same { self.new ≡ self.old }
         ensures step { steps.new ≡ steps.old + 1 }
         ensures only_reads { OnlyReads (D.shown disk.old) (D.shown disk.new) }
         ensures stands { StandsOn (D.shown disk.new) store.new.pairs }
-        ensures cause { HasCause (D.shown disk.old).faults (D.shown disk.new).faults result }
+        ensures cause { HasBlockCause (D.shown disk.old).faults (D.shown disk.new).faults result }
     {
         steps.tick();
         Ok(self.first_entry(slot, vvbn))
     }
 
+    /// The first entry of a VVBN along the chain of a slot, where a pointer's PVBN is the one of that entry; `None`
+    /// where it is 0, or another than the entry's, and where the VVBN has no entry. Nothing is looked up by it, so
+    /// it counts no step. It makes no disk call and takes no memory, and passes at most 64 volumes.
+    #[tactic(auto, unfolding(crate::specs::Chains::told_entry))]
+    pub fn told_by_hint(&self, slot: u8, vvbn: u32, hint: u64) -> Option<Entry>
+        requires { slot < slot_count }
+        ensures entry { result ≡ told_entry (chain_entry self.now slot vvbn) hint }
+        ensures held { IfSome result IsHeld }
+    {
+        match self.first_entry(slot, vvbn) {
+            Some(entry) => told_by(entry, hint),
+            None => None,
+        }
+    }
+
     #[tactic(auto, using(crate::proofs::Chains::found_here, crate::proofs::Chains::goes_up, crate::proofs::Chains::ends_above, crate::proofs::Chains::ends_after, crate::proofs::Chains::parent_within))]
     fn first_entry(&self, slot: u8, vvbn: u32) -> Option<Entry>
         requires { slot < slot_count }
-        ensures { result ≡ chain_entry self.now slot vvbn }
+        ensures entry { result ≡ chain_entry self.now slot vvbn }
+        ensures held { IfSome result IsHeld }
     {
         let mut at = slot;
         for _ in 0..SLOTS {
@@ -142,6 +163,20 @@ impl Containers {
             }
             at = parent_of(&self.parents, at)?;
         }
+        None
+    }
+}
+
+/// The entry, where a pointer's PVBN tells its place.
+#[tactic(auto, unfolding(crate::specs::Chains::told_entry))]
+fn told_by(entry: Entry, hint: u64) -> Option<Entry>
+    requires { IsHeld entry }
+    ensures entry { result ≡ told_entry (Some entry) hint }
+    ensures held { IfSome result IsHeld }
+{
+    if hint != 0 && u64::from(entry.pvbn) == hint {
+        Some(entry)
+    } else {
         None
     }
 }
@@ -159,7 +194,8 @@ fn free_slots(alloc: Global) -> Result<Vec<Option<Container>>, AllocError>
 /// The entry that a slot's own container has.
 fn own_entry(containers: &[Option<Container>], slot: u8, vvbn: u32) -> Option<Entry>
     requires { slot < length containers.now }
-    ensures { result ≡ own_entry (slice_index_or containers.now slot None) vvbn }
+    ensures entry { result ≡ own_entry (slice_index_or containers.now slot None) vvbn }
+    ensures held { IfSome result IsHeld }
 {
     match &containers[slot as usize] {
         Some(container) => container.entry_or_none(vvbn),

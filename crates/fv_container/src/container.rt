@@ -10,9 +10,9 @@ ghost use Rattle.fv_disk.specs.Shown.{Shown};
 ghost use Rattle.fv_image.specs.Containers.{height_of, level_width, most_entries};
 ghost use Rattle.fv_store.specs.Held.{StandsOn};
 ghost use Rattle.fv_disk.specs.DiskCalls.{OnlyReads};
-ghost use Rattle.fv_container.specs.Causes.{HasCause};
+ghost use Rattle.fv_disk.specs.Faults.{HasBlockCause};
 ghost use Rattle.fv_container.specs.Spelled.{IsFault, Spelled};
-ghost use Rattle.fv_container.specs.Mapped.{IsEntry, IsMapped, empty_map, entry_under, with_entry};
+ghost use Rattle.fv_container.specs.Mapped.{IsEntry, IsHeld, IsMapped, empty_map, entry_under, with_entry};
 
 use crate::entry::Entry;
 use crate::fault::ContainerFault;
@@ -94,7 +94,7 @@ impl Container {
         ensures fault { IsTrue (D.shown disk.old).tells → IfErr result (IsFault (D.shown disk.old).reads root height entries) }
         ensures only_reads { OnlyReads (D.shown disk.old) (D.shown disk.new) }
         ensures stands { StandsOn (D.shown disk.new) store.new.pairs }
-        ensures cause { HasCause (D.shown disk.old).faults (D.shown disk.new).faults result }
+        ensures cause { HasBlockCause (D.shown disk.old).faults (D.shown disk.new).faults result }
     {
         let nodes = node_count(entries as usize);
         let mut table = filled(alloc, entries as usize, None)?;
@@ -124,14 +124,14 @@ impl Container {
         ensures step { steps.new ≡ steps.old + 1 }
         ensures only_reads { OnlyReads (D.shown disk.old) (D.shown disk.new) }
         ensures stands { StandsOn (D.shown disk.new) store.new.pairs }
-        ensures cause { HasCause (D.shown disk.old).faults (D.shown disk.new).faults result }
+        ensures cause { HasBlockCause (D.shown disk.old).faults (D.shown disk.new).faults result }
     {
         steps.tick();
         Ok(self.entries[vvbn as usize])
     }
 
     /// Sets the entry of a VVBN below the number of entries, or makes it a hole. `DiskFault` comes only
-    /// where a read failed in this call; after an error nothing has changed.
+    /// where a read failed in this call; after an error nothing has changed. Costs one step, and takes no memory.
     pub fn set<D: Disk>(
         &mut self,
         store: &mut Store,
@@ -146,7 +146,7 @@ impl Container {
         ensures failed { OnErr result (self.new ≡ self.old) }
         ensures only_reads { OnlyReads (D.shown disk.old) (D.shown disk.new) }
         ensures stands { StandsOn (D.shown disk.new) store.new.pairs }
-        ensures cause { HasCause (D.shown disk.old).faults (D.shown disk.new).faults result }
+        ensures cause { HasBlockCause (D.shown disk.old).faults (D.shown disk.new).faults result }
     {
         self.entries[vvbn as usize] = entry;
         Ok(())
@@ -216,8 +216,10 @@ impl Container {
     }
 
     /// The entry of a VVBN, where the container has it.
+    #[tactic(auto, using(crate::proofs::Chains::held_under))]
     pub(crate) fn entry_or_none(&self, vvbn: u32) -> Option<Entry>
-        ensures { result ≡ entry_under self.now vvbn }
+        ensures entry { result ≡ entry_under self.now vvbn }
+        ensures held { IfSome result IsHeld }
     {
         if (vvbn as usize) < self.entries.len() {
             self.entries[vvbn as usize]

@@ -5,20 +5,17 @@ ghost use Rattle.fv_codec.specs.Blocks.{IsContainerLeaf, IsEntry as IsLeafEntry,
 ghost use Rattle.fv_image.specs.Containers.{child_in, entry_in, inner_for, leaf_for, level_width, lying, most_entries, node_below, node_verdict};
 ghost use Rattle.fv_store.specs.Held.{StandsOn};
 ghost use Rattle.fv_disk.specs.DiskCalls.{OnlyReads};
-ghost use Rattle.fv_container.specs.Causes.{HasCause};
+ghost use Rattle.fv_disk.specs.Faults.{HasBlockCause};
 ghost use Rattle.fv_container.specs.Kept.{map_of};
 ghost use Rattle.fv_container.specs.Mapped.{IsHeld, node_count};
 ghost use Rattle.fv_container.specs.Spelled.{IsFault, Spelled, pair_of};
 ghost use Rattle.fv_container.specs.Reading.{AreChildren, AreWhole, FillsFrom, IsBadNode, IsLevelFault, ReadsAs, StaysOutside};
 
 use crate::entry::Entry;
-use crate::fault::ContainerFault;
 use crate::layout::{FAN, inner_count, leaf_count};
 use fv_codec::{ContainerInner, ContainerLeaf, Shape};
-use fv_disk::{Block, Disk};
+use fv_disk::{Block, BlockFault, Disk, ZERO};
 use fv_store::Store;
-
-const ZERO: Block = [0; 4096];
 
 /// A leaf of holes.
 fn no_entries(index: u64) -> ContainerLeaf
@@ -33,13 +30,13 @@ fn no_entries(index: u64) -> ContainerLeaf
 }
 
 /// Reads a block.
-fn read_block<D: Disk>(store: &mut Store, disk: &mut D, at: u32) -> Result<Block, ContainerFault>
+fn read_block<D: Disk>(store: &mut Store, disk: &mut D, at: u32) -> Result<Block, BlockFault>
     requires stands { StandsOn (D.shown disk.old) store.old.pairs }
     ensures value { IsTrue (D.shown disk.old).tells → IfOk result (λ block. block ≡ (D.shown disk.old).reads at) }
-    ensures only_fault { IfErr result (λ fault. fault ≡ ContainerFault.DiskFault) }
+    ensures only_fault { IfErr result (λ fault. fault ≡ BlockFault.DiskFault) }
     ensures only_reads { OnlyReads (D.shown disk.old) (D.shown disk.new) }
     ensures stands { StandsOn (D.shown disk.new) store.new.pairs }
-    ensures cause { HasCause (D.shown disk.old).faults (D.shown disk.new).faults result }
+    ensures cause { HasBlockCause (D.shown disk.old).faults (D.shown disk.new).faults result }
 {
     let mut block = ZERO;
     store.get(disk, at, &mut block)?;
@@ -47,10 +44,10 @@ fn read_block<D: Disk>(store: &mut Store, disk: &mut D, at: u32) -> Result<Block
 }
 
 /// The fault of the block at a place.
-fn damaged(at: u32, want: u64, found: u64) -> ContainerFault
-    ensures { result ≡ ContainerFault.Damaged at want found }
+fn damaged(at: u32, want: u64, found: u64) -> BlockFault
+    ensures { result ≡ BlockFault.Damaged at want found }
 {
-    ContainerFault::Damaged {
+    BlockFault::Damaged {
         at: u64::from(at),
         want,
         found,
@@ -59,12 +56,7 @@ fn damaged(at: u32, want: u64, found: u64) -> ContainerFault
 
 /// The children that a block spells as the inner node of a level and number.
 #[tactic(auto, unfolding(fv_image::specs::Containers::inner_for))]
-fn inner_in(
-    block: &Block,
-    at: u32,
-    level: u8,
-    number: u64,
-) -> Result<ContainerInner, ContainerFault>
+fn inner_in(block: &Block, at: u32, level: u8, number: u64) -> Result<ContainerInner, BlockFault>
     ensures { ReadsAs at (λ node. node) (inner_for level number block.now) result }
 {
     let node = match ContainerInner::decode(block) {
@@ -82,7 +74,7 @@ fn inner_in(
 
 /// The leaf that a block spells as the one of an index.
 #[tactic(auto, unfolding(fv_image::specs::Containers::leaf_for))]
-fn leaf_in(block: &Block, at: u32, index: u64) -> Result<ContainerLeaf, ContainerFault>
+fn leaf_in(block: &Block, at: u32, index: u64) -> Result<ContainerLeaf, BlockFault>
     ensures said { ReadsAs at (λ leaf. leaf) (leaf_for index block.now) result }
     ensures range { IfOk result IsContainerLeaf }
     ensures pvbns { IfOk result (λ leaf. length leaf.pvbns ≡ 256) }
@@ -106,7 +98,7 @@ fn read_inner<D: Disk>(
     at: u32,
     level: u8,
     number: u64,
-) -> Result<[u32; 256], ContainerFault>
+) -> Result<[u32; 256], BlockFault>
     requires stands { StandsOn (D.shown disk.old) store.old.pairs }
     requires level { 1 ≤ level }
     ensures children { IsTrue (D.shown disk.old).tells
@@ -116,7 +108,7 @@ fn read_inner<D: Disk>(
     ensures fault { IsTrue (D.shown disk.old).tells → IfErr result (IsBadNode (D.shown disk.old).reads at level number) }
     ensures only_reads { OnlyReads (D.shown disk.old) (D.shown disk.new) }
     ensures stands { StandsOn (D.shown disk.new) store.new.pairs }
-    ensures cause { HasCause (D.shown disk.old).faults (D.shown disk.new).faults result }
+    ensures cause { HasBlockCause (D.shown disk.old).faults (D.shown disk.new).faults result }
 {
     if at == 0 {
         return Ok([0; 256]);
@@ -132,7 +124,7 @@ fn read_leaf<D: Disk>(
     disk: &mut D,
     at: u32,
     index: u64,
-) -> Result<ContainerLeaf, ContainerFault>
+) -> Result<ContainerLeaf, BlockFault>
     requires stands { StandsOn (D.shown disk.old) store.old.pairs }
     ensures entries { IsTrue (D.shown disk.old).tells
         → IfOk result (λ leaf. (c : ℕ) → (get_or leaf.pvbns c 0, get_or leaf.kinds c 0) ≡ entry_in (lying leaf_at (D.shown disk.old).reads at) c) }
@@ -142,7 +134,7 @@ fn read_leaf<D: Disk>(
     ensures fault { IsTrue (D.shown disk.old).tells → IfErr result (IsBadNode (D.shown disk.old).reads at 0 index) }
     ensures only_reads { OnlyReads (D.shown disk.old) (D.shown disk.new) }
     ensures stands { StandsOn (D.shown disk.new) store.new.pairs }
-    ensures cause { HasCause (D.shown disk.old).faults (D.shown disk.new).faults result }
+    ensures cause { HasBlockCause (D.shown disk.old).faults (D.shown disk.new).faults result }
 {
     if at == 0 {
         return Ok(no_entries(index));
@@ -176,7 +168,7 @@ fn read_level<D: Disk>(
     places: &mut [u32],
     leaves: usize,
     inner: usize,
-) -> Result<(), ContainerFault>
+) -> Result<(), BlockFault>
     requires stands { StandsOn (D.shown disk.old) store.old.pairs }
     requires within { leaves + inner ≤ length places.old }
     requires few { inner ≤ 256 }
@@ -189,7 +181,7 @@ fn read_level<D: Disk>(
     ensures fault { IsTrue (D.shown disk.old).tells → IfErr result (IsLevelFault (D.shown disk.old).reads 1 places.old leaves inner) }
     ensures only_reads { OnlyReads (D.shown disk.old) (D.shown disk.new) }
     ensures stands { StandsOn (D.shown disk.new) store.new.pairs }
-    ensures cause { HasCause (D.shown disk.old).faults (D.shown disk.new).faults result }
+    ensures cause { HasBlockCause (D.shown disk.old).faults (D.shown disk.new).faults result }
 {
     for q in 0..inner {
         let children = read_inner(store, disk, places[leaves + q], 1, q as u64)?;
@@ -238,7 +230,7 @@ fn read_leaves<D: Disk>(
     disk: &mut D,
     places: &[u32],
     entries: &mut [Option<Entry>],
-) -> Result<(), ContainerFault>
+) -> Result<(), BlockFault>
     requires stands { StandsOn (D.shown disk.old) store.old.pairs }
     requires few { length entries.old ≤ most_entries }
     requires within { level_width (length entries.old) 0 ≤ length places.now }
@@ -254,7 +246,7 @@ fn read_leaves<D: Disk>(
         → IfErr result (IsLevelFault (D.shown disk.old).reads 0 places.now 0 (level_width (length entries.old) 0)) }
     ensures only_reads { OnlyReads (D.shown disk.old) (D.shown disk.new) }
     ensures stands { StandsOn (D.shown disk.new) store.new.pairs }
-    ensures cause { HasCause (D.shown disk.old).faults (D.shown disk.new).faults result }
+    ensures cause { HasBlockCause (D.shown disk.old).faults (D.shown disk.new).faults result }
 {
     for k in 0..leaf_count(entries.len()) {
         let leaf = read_leaf(store, disk, places[k], k as u64)?;
@@ -274,7 +266,7 @@ fn read_root<D: Disk>(
     inner: usize,
     height: u8,
     root: u32,
-) -> Result<(), ContainerFault>
+) -> Result<(), BlockFault>
     requires stands { StandsOn (D.shown disk.old) store.old.pairs }
     requires within { leaves + (inner + 1) ≡ length places.old }
     requires zeros { (m : ℕ) → get_or places.old m 0 ≡ 0 }
@@ -292,7 +284,7 @@ fn read_root<D: Disk>(
     ensures fault { IsTrue (D.shown disk.old).tells → IfErr result (λ fault. (height ≡ 2) × IsBadNode (D.shown disk.old).reads root 2 0 fault) }
     ensures only_reads { OnlyReads (D.shown disk.old) (D.shown disk.new) }
     ensures stands { StandsOn (D.shown disk.new) store.new.pairs }
-    ensures cause { HasCause (D.shown disk.old).faults (D.shown disk.new).faults result }
+    ensures cause { HasBlockCause (D.shown disk.old).faults (D.shown disk.new).faults result }
 {
     if height == 1 {
         places[leaves] = root;
@@ -313,7 +305,7 @@ pub(crate) fn read_tree<D: Disk>(
     entries: &mut [Option<Entry>],
     height: u8,
     root: u32,
-) -> Result<(), ContainerFault>
+) -> Result<(), BlockFault>
     requires stands { StandsOn (D.shown disk.old) store.old.pairs }
     requires few { length entries.old ≤ most_entries }
     requires holes { (v : ℕ) → get_or entries.old v None ≡ None }
@@ -329,7 +321,7 @@ pub(crate) fn read_tree<D: Disk>(
     ensures fault { IsTrue (D.shown disk.old).tells → IfErr result (IsFault (D.shown disk.old).reads root height (length entries.old)) }
     ensures only_reads { OnlyReads (D.shown disk.old) (D.shown disk.new) }
     ensures stands { StandsOn (D.shown disk.new) store.new.pairs }
-    ensures cause { HasCause (D.shown disk.old).faults (D.shown disk.new).faults result }
+    ensures cause { HasBlockCause (D.shown disk.old).faults (D.shown disk.new).faults result }
 {
     let leaves = leaf_count(entries.len());
     let inner = inner_count(entries.len());

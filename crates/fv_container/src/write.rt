@@ -13,10 +13,8 @@ ghost use Rattle.fv_container.specs.Written.{AreWritten, IsElsewhere, IsInnerOf,
 use crate::entry::Entry;
 use crate::layout::{FAN, inner_count, leaf_count};
 use fv_codec::{ContainerInner, ContainerLeaf};
-use fv_disk::{Block, Disk, Failed};
+use fv_disk::{Block, Disk, Failed, ZERO};
 use fv_store::Store;
-
-const ZERO: Block = [0; 4096];
 
 /// An entry as a leaf has it.
 fn pair_of(entry: Option<Entry>) -> (u32, u32)

@@ -195,6 +195,7 @@ module _ (disk : Shown) (pool : Pool) (states : States) (s : ℕ) (inside : s < 
           (λ (e : k ≡ s). subst (λ (n : ℕ). Houses (state_at states n) (container_at (with_container left.containers s (Some is.new)) n)) (sym e) here)
           (λ (other : k ≢ s). subst (λ (c : Option Mapped). Houses (state_at states k) c) (sym (get_or-set_other left.containers.containers s k (Some is.new) None other)) (come.housed.each k))
           (cases_eq k s);
+      parents = come.housed.parents;
     });
     written = λ tells before lent.
         let was = come.written tells before lent in

@@ -18,6 +18,7 @@ use Rattle.fv_image.specs.MachineOf.{AllStandFor, machine_from, machine_of}
 use Rattle.fv_image.proofs.Kept.{area_before, slot_is_small}
 use Rattle.fv_image.proofs.SameLayout.{kept, same_root}
 use Rattle.fv_image.proofs.Stands.{machine_told, machine_under}
+use Rattle.fv_image.proofs.Counted.{image_has_heads}
 use Rattle.fv_image.proofs.Rewritten.{held_has_bit}
 use Rattle.fv_root.specs.declared.find.Found.{Found}
 use Rattle.fv_root.specs.Finding.{IsFound, other_slot, root_found}
@@ -84,7 +85,7 @@ module _ (disk : Shown) (pool : Pool) (states : States) (before : Machine) (lent
       record { root = still.root; layout = still.layout ∙ was.layout }
 
   kept_stands : (c : Image) → Keeps t disk.reads c → machine_of c ≡ Some before
-  kept_stands c keeps = machine_under c t keeps.root ∙ ap machine_from keeps.layout ∙ machine_told (layout_at t disk.reads) before lent.tells
+  kept_stands c keeps = machine_under c t keeps.root ∙ ap machine_from keeps.layout ∙ machine_told (layout_at t disk.reads) before (image_has_heads t disk.reads) lent.tells
 
   -- Nothing was written.
   pub rests : IsDisk disk → Leaves disk disk (OldOrLent disk pool states before)

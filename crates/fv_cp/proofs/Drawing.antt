@@ -135,9 +135,6 @@ given_then old mid new f g both same first second = record {
     joined true false t = refl
     joined false s t = refl
 
-pub given_more : (old mid new : Space) (map : Mapped) (n : ℕ) → HasGiven old (leads map n) mid → HasGiven mid (λ b. is_at b (place_at map n)) new → HasGiven old (leads map (n + 1)) new
-given_more old mid new map n first second = given_then old mid new (leads map n) (λ b. is_at b (place_at map n)) (leads map (n + 1)) (leads_more map n) first second
-
 eq_test : (a b : ℕ) → (a == b) ≡ nat_eq a b
 eq_test a b = grind (arith, nat_tests)
 

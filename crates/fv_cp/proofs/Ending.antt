@@ -14,6 +14,7 @@ use Rattle.fv_image.specs.Held.{AgreeOnHeld, Keeps, label_place, layout_at, view
 use Rattle.fv_image.specs.Sound.{committed, share_name}
 use Rattle.fv_image.specs.MachineOf.{machine_of, map_bit, Tells}
 use Rattle.fv_image.proofs.Stands.{machine_under, tells_from}
+use Rattle.fv_image.proofs.Counted.{image_has_heads}
 use Rattle.fv_image.proofs.SoundAgain.{none_delayed}
 use Rattle.fv_image.proofs.Rewritten.{held_has_bit}
 use Rattle.fv_container.specs.Mapped.{Mapped}
@@ -28,7 +29,7 @@ use Rattle.fv_aggmap.specs.Loading.{IsLoaded as IsMapLoaded}
 use Rattle.fv_volume.specs.declared.pool.Pool.{Pool}
 use Rattle.fv_volume.specs.declared.state.VolumeState.{VolumeState}
 use Rattle.fv_volume.specs.Labels.{label_said}
-use Rattle.fv_volume.specs.States.{AreStates, IsState, States, head_in, place_in, state_at, view_over}
+use Rattle.fv_volume.specs.States.{AreStates, IsState, States, head_in, parent_in, place_in, state_at, view_over}
 use Rattle.fv_volume.specs.Loading.{Houses, IsLoaded}
 use Rattle.fv_volume.proofs.Viewed.{apart_from, distinct_from}
 use Rattle.fv_cp.specs.Lent.{AreHoused, IsLent, IsUnnamed}
@@ -69,6 +70,14 @@ settled_houses (Some x) label (Some map) is = so x.changed
     so true = is
     so false = is
 
+settled_parent : (o : Option VolumeState) (label : ℕ) → parent_in (option_map (settled_as label) o) ≡ parent_in o
+settled_parent None label = refl
+settled_parent (Some x) label = so x.changed
+  where
+    so : (t : Bool) → parent_in (Some (cond t (as_written x label) x)) ≡ parent_in (Some x)
+    so true = refl
+    so false = refl
+
 settled_as_it_was : (o : Option VolumeState) (label : ℕ) → IfSome o (λ x. x.changed ≡ false → option_map (settled_as label) o ≡ Some x)
 settled_as_it_was None label = tt
 settled_as_it_was (Some x) label = λ unchanged. settled_same (Some x) label unchanged
@@ -79,6 +88,7 @@ module _ (states stay : States) (labels : List ℕ) (settled : (s : ℕ) → sta
     long = long;
     volumes = λ s. subst (λ (o : Option VolumeState). IfSome o (IsState s)) (sym (settled s)) (settled_state s (state_at states s) (get_or labels s 0) (is.volumes s));
     each = λ s. subst (λ (o : Option VolumeState). Houses o (container_at containers s)) (sym (settled s)) (settled_houses (state_at states s) (get_or labels s 0) (container_at containers s) (is.each s));
+    parents = λ s. is.parents s ∙ sym (ap parent_in (settled s) ∙ settled_parent (state_at states s) (get_or labels s 0));
   }
 
   pub heads_stay : (s : ℕ) → option_map head_in (state_at stay s) ≡ option_map head_in (state_at states s)
@@ -125,7 +135,7 @@ module _ (disk : Shown) (pool : Pool) (states : States) (before : Machine) (lent
   stands_now = new_machine mid pool.found (record pool.found.root { labels = labels }) written.map.next m new.reads (ready disk pool states before lent range long labels written mid.reads is) done.side
 
   tells_now : Tells (layout_at u new.reads) m
-  tells_now = tells_from (layout_at u new.reads) m (sym (machine_under new.reads u done.side.counts) ∙ stands_now)
+  tells_now = tells_from (layout_at u new.reads) m (image_has_heads u new.reads) (sym (machine_under new.reads u done.side.counts) ∙ stands_now)
 
   agrees : AgreeOnHeld u mid.reads new.reads
   agrees b held = done.side.volumes b (held_has_bit u mid.reads new.reads (is_member written.map.next) is.whole b held).0

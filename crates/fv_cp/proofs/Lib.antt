@@ -16,3 +16,5 @@ pub mod Coming
 pub mod Crashing
 pub mod Ready
 pub mod Ending
+pub mod Housing
+pub mod Admitted

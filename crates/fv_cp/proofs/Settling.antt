@@ -1,13 +1,12 @@
 -- The sum that the volumes ask for, slot by slot, and the volumes that are settled.
 use Rattle.std.proofs.Common.{◌≡◌, ◌≢◌, ℕ, zero, suc, ◌+◌, ◌<◌, ◌≤◌, List, [], ◌∷◌, length, drop, get_or, refl, sym, ap, subst, ◌∙◌, arith, ⊎_elim, drop-cons, length-set}
-use Rattle.std.specs.Prelude.{Option, Some, None, IfSome, sum_by}
+use Rattle.std.specs.Prelude.{Option, None, sum_by}
 use Rattle.std.specs.Option.{option_map}
 use Rattle.std.proofs.lemmas.Bool.{cases_eq, cases_lt}
 use Rattle.std.proofs.lemmas.List.{get_or_past, get_or-set_same, get_or-set_other}
 use Rattle.std.proofs.lemmas.List.Sums.{sum_by-cons}
-use Rattle.fv_model.specs.Numbers.{greatest_span}
 use Rattle.fv_volume.specs.declared.state.VolumeState.{VolumeState}
-use Rattle.fv_volume.specs.States.{IsState, States, state_at, with_state}
+use Rattle.fv_volume.specs.States.{States, state_at, with_state}
 use Rattle.fv_cp.specs.Lent.{asked_by}
 use Rattle.fv_cp.specs.Course.{asked_from, settled_as, settled_at}
 
@@ -25,10 +24,6 @@ asked_none states s past = ap (λ (xs : States). sum_by asked_by xs) (drop_past 
     drop_past [] (suc n) le = refl
     drop_past (x ∷ xs) zero le = absurd (omega (arith, le))
     drop_past (x ∷ xs) (suc n) le = drop_past xs n (omega (arith, le))
-
-pub span_within : (s : ℕ) (o : Option VolumeState) → IfSome o (IsState s) → IfSome o (λ x. x.span ≤ greatest_span)
-span_within s None is = tt
-span_within s (Some x) is = is.span
 
 -- one slot more is settled
 module _ (states old new : States) (labels : List ℕ) (s : ℕ) (inside : s < length old) (is : new ≡ with_state old s (option_map (settled_as (get_or labels s 0)) (state_at old s))) where

@@ -12,21 +12,22 @@ use Rattle.fv_root.specs.declared.find.Found.{Found}
 use Rattle.fv_root.specs.Finding.{root_found}
 use Rattle.fv_root.specs.Commits.{IsFoundOn}
 use Rattle.fv_container.specs.Mapped.{Mapped}
-use Rattle.fv_container.specs.Chains.{Slots, slot_count, container_at}
+use Rattle.fv_container.specs.Chains.{Slots, slot_count, container_at, parent_at}
 use Rattle.fv_aggmap.specs.Loading.{IsLoaded as IsMapLoaded}
 use Rattle.fv_volume.specs.declared.pool.Pool.{Pool}
 use Rattle.fv_volume.specs.declared.state.VolumeState.{VolumeState}
-use Rattle.fv_volume.specs.States.{States, AreStates, IsState, state_at, view_over}
+use Rattle.fv_volume.specs.States.{States, AreStates, IsState, parent_in, state_at, view_over}
 pub use Rattle.fv_volume.specs.Loading.{Houses}
 use Rattle.fv_volume.specs.Loading.{IsLoaded}
 use Rattle.fv_volume.specs.Creating.{IsNew}
 
--- The volumes are in order, whatever the disk tells: each in its slot is one of a machine, and has its container with an entry for each of
--- its VVBNs.
+-- The volumes are in order, whatever the disk tells: each in its slot is one of a machine, has its container with an entry for each of
+-- its VVBNs, and in the chain of containers the parent that it stands on.
 pub record AreHoused (containers : Slots) (states : States) : Type 0 where
   pub long : length states ≡ slot_count
   pub volumes : (s : ℕ) → IfSome (state_at states s) (IsState s)
   pub each : (s : ℕ) → Houses (state_at states s) (container_at containers s)
+  pub parents : (s : ℕ) → parent_at containers s ≡ parent_in (state_at states s)
 
 -- a volume that the root on the disk doesn't name yet: it is new, and its slot is free there
 pub record IsUnnamed (found : Found) (s : ℕ) (state : Option VolumeState) (container : Option Mapped) : Type 0 where

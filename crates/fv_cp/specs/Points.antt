@@ -1,8 +1,9 @@
 -- What a consistency point does, and why it isn't done.
-use Rattle.std.specs.Prelude.{◌≡◌, ◌<◌, ◌⊎◌, ℕ, List, Some, Result, Ok, Err, IfSome, false}
+use Rattle.std.specs.Prelude.{◌≡◌, ◌<◌, ◌⊎◌, ℕ, List, Some, Result, IfSome, false}
 use Rattle.std.specs.Option.{option_map}
-use Rattle.fv_disk.specs.Shown.{Image, Shown, IsSettled, Rose}
+use Rattle.fv_disk.specs.Shown.{Image, Shown, IsSettled}
 use Rattle.fv_disk.specs.DiskCalls.{OnlyReads}
+use Rattle.fv_disk.specs.Faults.{HasBlockCause}
 use Rattle.fv_model.specs.Machines.{Machine}
 use Rattle.fv_image.specs.Layout.{root_place}
 use Rattle.fv_image.specs.Views.{delayed}
@@ -12,8 +13,8 @@ use Rattle.fv_root.specs.Finding.{root_found}
 use Rattle.fv_aggmap.specs.Space.{free_blocks}
 use Rattle.fv_volume.specs.declared.pool.Pool.{Pool}
 use Rattle.fv_volume.specs.States.{States, state_at, head_in, machine_in}
-use Rattle.fv_cp.specs.declared.fault.CpFault.{CpFault}
-use Rattle.fv_cp.specs.declared.fault.CpFault.TheVariants.{DiskFault, Damaged, Memory}
+use Rattle.fv_disk.specs.declared.fault.BlockFault.{BlockFault}
+use Rattle.fv_disk.specs.declared.fault.BlockFault.TheVariants.{DiskFault, Damaged, Memory}
 use Rattle.fv_cp.specs.Lent.{IsLent, blocks_asked}
 use Rattle.fv_cp.specs.Course.{settled_as}
 
@@ -45,28 +46,21 @@ abbrev pub AreSettled : States → States → Type 0
 AreSettled states stay = (s : ℕ) → (label : ℕ) × (state_at stay s ≡ option_map (settled_as label) (state_at states s))
 
 -- why a point isn't done: fewer blocks are free than it asks for
-abbrev pub LacksRoom : Pool → States → CpFault → Type 0
+abbrev pub LacksRoom : Pool → States → BlockFault → Type 0
 LacksRoom pool states DiskFault = Unit {0}
 LacksRoom pool states (Damaged at want found) = (at ≡ root_place pool.found.slot) × ((want ≡ blocks_asked states) × ((found ≡ free_blocks pool.map) × (found < want)))
 LacksRoom pool states Memory = ⊥
 
 -- a point that lacked room changed nothing
-abbrev pub LeavesAll : Shown → Pool → States → Shown → Pool → States → CpFault → Type 0
+abbrev pub LeavesAll : Shown → Pool → States → Shown → Pool → States → BlockFault → Type 0
 LeavesAll old pool states new left stay DiskFault = Unit {0}
 LeavesAll old pool states new left stay (Damaged at want found) = OnlyReads old new × ((left ≡ pool) × (stay ≡ states))
 LeavesAll old pool states new left stay Memory = OnlyReads old new × ((left ≡ pool) × (stay ≡ states))
 
--- a count of faults rose in a call that answers a fault of the disk, and stays in each other call
-abbrev pub Causes : ℕ → ℕ → Result (Unit {0}) CpFault → Type 0
-Causes before now (Ok x) = now ≡ before
-Causes before now (Err (Damaged at want found)) = now ≡ before
-Causes before now (Err Memory) = now ≡ before
-Causes before now (Err DiskFault) = Rose before now
-
 -- both counts of faults rose where a write or barrier failed, and stay elsewhere
-pub record Counts (old new : Shown) (result : Result (Unit {0}) CpFault) : Type 0 where
+pub record Counts (old new : Shown) (result : Result (Unit {0}) BlockFault) : Type 0 where
   pub tells : new.tells ≡ old.tells
   pub given : new.given ≡ old.given
   pub ends : new.ends ≡ old.ends
-  pub cause : Causes old.faults new.faults result
-  pub write_cause : Causes old.write_faults new.write_faults result
+  pub cause : HasBlockCause old.faults new.faults result
+  pub write_cause : HasBlockCause old.write_faults new.write_faults result

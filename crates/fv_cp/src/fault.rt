@@ -1,32 +1,8 @@
 //! Why a consistency point wasn't done.
 
-use fv_disk::Failed;
+use fv_disk::BlockFault;
 
-/// Why a consistency point wasn't done.
-#[derive(Clone, Copy, Debug, PartialEq, Eq)]
-pub enum CpFault {
-    /// A write or a barrier failed.
-    DiskFault,
-    /// Fewer blocks are free than the point asks for.
-    Damaged {
-        /// The place of the root that counts.
-        at: u64,
-        /// How many blocks it asks for.
-        want: u64,
-        /// How many are free.
-        found: u64,
-    },
-    /// Memory ran out.
-    Memory,
-}
-
-impl From<Failed> for CpFault {
-    ghost use Rattle.std.specs.Prelude.{◌≡◌};
-    ghost use Rattle.fv_cp.specs.declared.fault.CpFault.TheVariants.{DiskFault};
-
-    ghost from_gives = { λ _ e. e ≡ DiskFault };
-
-    fn from(_: Failed) -> CpFault {
-        CpFault::DiskFault
-    }
-}
+/// Why a consistency point wasn't done: `DiskFault` where a write or a barrier failed, and `Damaged` where
+/// fewer blocks are free than the point asks for. That has the place of the root that counts, how many blocks
+/// the point asks for, and how many are free. `Memory` doesn't come.
+pub type CpFault = BlockFault;

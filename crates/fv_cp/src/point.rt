@@ -12,7 +12,7 @@ ghost use Rattle.fv_model.specs.Numbers.{greatest_span};
 ghost use Rattle.fv_root.specs.Finding.{IsInRange};
 ghost use Rattle.fv_root.specs.Commits.{IsCommitted, IsFoundOn, OldOrNew, next_found};
 ghost use Rattle.fv_store.specs.Held.{StandsOn};
-ghost use Rattle.fv_container.specs.Chains.{slot_count};
+ghost use Rattle.fv_container.specs.Chains.{parent_at, slot_count};
 ghost use Rattle.fv_aggmap.specs.Space.{blocks_of, free_blocks};
 ghost use Rattle.fv_aggmap.specs.Loading.{IsLoaded};
 ghost use Rattle.fv_volume.specs.States.{IsState, state_at, with_state};
@@ -38,7 +38,7 @@ const SLOTS: u8 = 64;
 /// whatever is wanted, so nothing depends on it.
 ///
 /// A crash at any moment leaves an image that stands for the machine of before or for that of the volumes lent, and after `Ok` the
-/// latter, on a settled disk. It takes no memory and reads nothing.
+/// latter, on a settled disk. Each slot keeps its parent in the chain of containers. It takes no memory and reads nothing.
 ///
 /// # Errors
 /// `Damaged` comes only where fewer blocks are free than the overheads of the volumes that changed: at the place of the root that
@@ -73,6 +73,8 @@ pub fn consistency_point<D: Disk>(
     ensures loaded { IsTrue (D.shown disk.old).tells → OnOk result (IsLoaded (D.shown disk.new).reads pool.new.found pool.new.map) }
     ensures volumes { OnOk result (AreSettled volumes.old volumes.new) }
     ensures housed { OnOk result (AreHoused pool.new.containers volumes.new) }
+    ensures parents { OnOk result ((s : ℕ) → parent_at pool.new.containers s ≡ parent_at pool.old.containers s) }
+    ensures blocks { OnOk result (pool.new.found.blocks ≡ pool.old.found.blocks) }
     ensures kept { OnOk result (pool.new.kept ≡ fin.empty) }
 {
     let asked = blocks_asked(volumes);
@@ -104,7 +106,7 @@ fn blocks_asked(volumes: &Volumes) -> u64
     asked
 }
 
-/// The blocks that the volume of a slot asks for.
+/// The blocks that the volume of a slot asks for; the greatest span, 1,048,576, has an overhead of 4151.
 fn asked_by(state: Option<&VolumeState>) -> u64
     requires { IfSome (option_copied state) (λ x. x.span ≤ greatest_span) }
     ensures value { result ≡ asked_by (option_copied state.entry) }

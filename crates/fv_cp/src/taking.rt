@@ -19,11 +19,9 @@ ghost use Rattle.fv_cp.specs.Writing.{HasDrawn, HasMap, IsOther, StandBits};
 use fv_aggmap::AggMap;
 use fv_bits::BitMap;
 use fv_container::{Container, Entry};
-use fv_disk::{Block, Disk, Failed};
+use fv_disk::{Disk, Failed, ZERO};
 use fv_store::Store;
 use fv_volume::VolumeState;
-
-pub(crate) const ZERO: Block = [0; 4096];
 
 /// How many bits of a map a block has.
 const BLOCK_BITS: u32 = 32768;

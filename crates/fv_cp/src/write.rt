@@ -19,10 +19,10 @@ ghost use Rattle.fv_cp.specs.Steps.{IsTaken, IsWritten, is_of, on_disk};
 ghost use Rattle.fv_cp.specs.Writing.{AreTaken, HasBlocks, HasLabel, IsOther, IsTakenOther};
 
 use crate::giving::{give_back, give_back_block};
-use crate::taking::{ZERO, map_blocks, take_block, write_map};
+use crate::taking::{map_blocks, take_block, write_map};
 use fv_aggmap::AggMap;
 use fv_container::{Container, height_of};
-use fv_disk::{Disk, Failed};
+use fv_disk::{Disk, Failed, ZERO};
 use fv_store::Store;
 use fv_volume::VolumeState;
 

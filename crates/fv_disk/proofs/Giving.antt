@@ -1,6 +1,6 @@
 -- Giving out bytes call by call.
-use Rattle.std.proofs.Common.{◌≡◌, ℕ, ◌+◌, ◌++◌, take, drop, List, [], refl, sym, ap, ◌∙◌, arith, append_assoc}
-use Rattle.std.proofs.lemmas.List.{append-nil, drop-drop, take-append-drop}
+use Rattle.std.proofs.Common.{◌≡◌, ◌<◌, ℕ, ◌+◌, ◌-◌, ◌++◌, take, drop, length, List, [], refl, sym, ap, ◌∙◌, arith, append_assoc}
+use Rattle.std.proofs.lemmas.List.{append-nil, drop-drop, length-drop, take-append-drop}
 use Rattle.std.proofs.Math.Seq.{take-add}
 use Rattle.std.specs.Prelude.{IsTrue, Ok, Err}
 use Rattle.fv_disk.specs.declared.Failed.{Failed}
@@ -63,12 +63,16 @@ ended old now bytes rest so_far none =
       cause = record { later = omega (arith, so_far.sink_faults); calm = so_far.sink_faults; rose = tt };
     }
 
-pub failed : (old now new : Shown) (bytes rest : List ℕ) (e : Failed) → HasGiven old bytes now rest → Gives now rest new (Err e) → GivesAll old bytes new (Err e)
-failed old now new bytes rest e so_far gives =
+-- bytes are left where the next of them are given
+before_end : (bytes rest : List ℕ) (k : ℕ) → rest ≡ drop k bytes → 0 < length rest → k < length bytes
+before_end bytes rest k e some = let n : length rest ≡ length bytes - k = ap length e ∙ length-drop k bytes in omega (arith, n, some)
+
+pub failed : (old now new : Shown) (bytes rest : List ℕ) (e : Failed) → 0 < length rest → HasGiven old bytes now rest → Gives now rest new (Err e) → GivesAll old bytes new (Err e)
+failed old now new bytes rest e some so_far gives =
     let k : ℕ = so_far.left_over.0 in
     record {
       all = λ tells. tt;
-      part = λ tells. (k, gives.none (rw so_far.rests.stays.tells tells) ∙ so_far.left_over.2 tells);
+      part = λ tells. (k, before_end bytes rest k so_far.left_over.1 some, gives.none (rw so_far.rests.stays.tells tells) ∙ so_far.left_over.2 tells);
       rests = rests_on old now new so_far.rests gives.rests;
       left = gives.left ∙ so_far.left;
       source_faults = gives.source_faults ∙ so_far.source_faults;

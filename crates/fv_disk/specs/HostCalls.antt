@@ -34,10 +34,10 @@ pub record Gives (old : Shown) (bytes : List ℕ) (new : Shown) (result : Result
   pub source_faults : new.ends.source_faults ≡ old.ends.source_faults
   pub cause : HasCause old.ends.sink_faults new.ends.sink_faults result
 
--- All bytes are given, or a prefix of them where the sink failed.
+-- All bytes are given, or a part of them where the sink failed: a prefix, and never the whole.
 pub record GivesAll (old : Shown) (bytes : List ℕ) (new : Shown) (result : Result Unit Failed) : Type 0 where
   pub all : IsTrue old.tells → OnOk result (new.given ≡ old.given ++ bytes)
-  pub part : IsTrue old.tells → OnErr result ((k : ℕ) × (new.given ≡ old.given ++ take k bytes))
+  pub part : IsTrue old.tells → OnErr result ((k : ℕ) × (k < length bytes) × (new.given ≡ old.given ++ take k bytes))
   pub rests : Rests old new
   pub left : new.ends.left ≡ old.ends.left
   pub source_faults : new.ends.source_faults ≡ old.ends.source_faults

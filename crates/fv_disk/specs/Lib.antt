@@ -4,3 +4,4 @@ pub mod HostCalls
 pub mod Crash
 pub mod Partly
 pub mod Sparing
+pub mod Faults

@@ -8,15 +8,20 @@
 #![tactic(auto)]
 
 mod disk;
+mod fault;
 mod give;
 mod host;
 
 pub use disk::Disk;
+pub use fault::BlockFault;
 pub use give::give_all;
 pub use host::Host;
 
 /// A block of the disk: 4096 bytes.
 pub type Block = [u8; 4096];
+
+/// The block of zeros, as which a block reads that was never written.
+pub const ZERO: Block = [0; 4096];
 
 /// A call of the outside failed. Which count rose tells of what kind it was.
 #[derive(Clone, Copy, Debug, PartialEq, Eq)]

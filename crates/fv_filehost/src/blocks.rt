@@ -1,8 +1,9 @@
 //! Blocks of a file.
 
-use fv_disk::{Block, Failed};
+use fv_disk::{Block, Failed, ZERO};
 use std::fs::{OpenFile, OpenOptions};
-use std::io::{ErrorKind, Read, Seek, SeekFrom, Write};
+use std::io::ErrorKind;
+use std::os::unix::fs::FileExt;
 use std::rt::Files;
 
 const BLOCK_BYTES: u64 = 4096;
@@ -28,21 +29,20 @@ fn take_or_open<R: Files>(
     }
 }
 
-fn seek_block<F: Seek>(file: &mut F, at: u64) -> Result<(), Failed> {
-    let offset = at.checked_mul(BLOCK_BYTES).ok_or(Failed)?;
-    file.seek(SeekFrom::Start(offset)).map_err(|_| Failed)?;
-    Ok(())
+/// Where a block begins in the file.
+fn offset_of(at: u64) -> Result<u64, Failed> {
+    at.checked_mul(BLOCK_BYTES).ok_or(Failed)
 }
 
-/// Fills the block from the file's position on, with zeros past the end of the file.
-fn fill<F: Read>(file: &mut F, into: &mut Block) -> Result<(), Failed> {
-    *into = [0; 4096];
+/// Fills the block with the file's bytes from an offset on, and with zeros past the end of the file.
+fn fill<F: FileExt>(file: &F, offset: u64, into: &mut Block) -> Result<(), Failed> {
+    *into = ZERO;
     let mut filled = 0;
     for _ in 0..u64::MAX {
         if filled == into.len() {
             return Ok(());
         }
-        match file.read(&mut into[filled..]) {
+        match file.read_at(&mut into[filled..], offset.saturating_add(filled as u64)) {
             Ok(0) => return Ok(()),
             Ok(count) => filled += count,
             Err(e) if e.kind() == ErrorKind::Interrupted => {}
@@ -52,14 +52,14 @@ fn fill<F: Read>(file: &mut F, into: &mut Block) -> Result<(), Failed> {
     Err(Failed)
 }
 
-/// Writes the block from the file's position on.
-fn put<F: Write>(file: &mut F, block: &Block) -> Result<(), Failed> {
+/// Writes the block to the file from an offset on.
+fn put<F: FileExt>(file: &F, offset: u64, block: &Block) -> Result<(), Failed> {
     let mut written = 0;
     for _ in 0..u64::MAX {
         if written == block.len() {
             return Ok(());
         }
-        match file.write(&block[written..]) {
+        match file.write_at(&block[written..], offset.saturating_add(written as u64)) {
             Ok(0) => return Err(Failed),
             Ok(count) => written += count,
             Err(e) if e.kind() == ErrorKind::Interrupted => {}
@@ -75,9 +75,12 @@ pub(crate) fn read_block<R: Files>(
     file: &mut Option<R::File>,
     at: u64,
     into: &mut Block,
-) -> Result<(), Failed> {
-    let mut open = take_or_open(rt, path, file, false)?;
-    let done = seek_block(&mut open, at).and_then(|()| fill(&mut open, into));
+) -> Result<(), Failed>
+where
+    R::File: FileExt,
+{
+    let open = take_or_open(rt, path, file, false)?;
+    let done = offset_of(at).and_then(|offset| fill(&open, offset, into));
     *file = Some(open);
     done
 }
@@ -88,9 +91,12 @@ pub(crate) fn write_block<R: Files>(
     file: &mut Option<R::File>,
     at: u64,
     block: &Block,
-) -> Result<(), Failed> {
-    let mut open = take_or_open(rt, path, file, true)?;
-    let done = seek_block(&mut open, at).and_then(|()| put(&mut open, block));
+) -> Result<(), Failed>
+where
+    R::File: FileExt,
+{
+    let open = take_or_open(rt, path, file, true)?;
+    let done = offset_of(at).and_then(|offset| put(&open, offset, block));
     *file = Some(open);
     done
 }

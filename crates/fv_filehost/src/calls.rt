@@ -7,6 +7,7 @@ use crate::FileHost;
 use crate::blocks::{read_block, sync, write_block};
 use crate::streams::{read_some, write_some};
 use fv_disk::{Block, Disk, Failed, Host};
+use std::os::unix::fs::FileExt;
 use std::rt::Runtime;
 
 /// Raises the count where the call failed.
@@ -20,7 +21,10 @@ fn counted<T>(done: Result<T, Failed>, count: &mut u64) -> Result<T, Failed>
     done
 }
 
-impl<R: Runtime> Disk for FileHost<R> {
+impl<R: Runtime> Disk for FileHost<R>
+where
+    R::File: FileExt,
+{
     ghost use Rattle.fv_filehost.specs.Unknown.{unknown, is_disk};
 
     ghost shown = { λ host. unknown host.faults host.write_faults host.source_faults host.sink_faults };
@@ -53,7 +57,10 @@ impl<R: Runtime> Disk for FileHost<R> {
     }
 }
 
-impl<R: Runtime> Host for FileHost<R> {
+impl<R: Runtime> Host for FileHost<R>
+where
+    R::File: FileExt,
+{
     fn take(&mut self, into: &mut [u8]) -> Result<usize, Failed> {
         let done = read_some(&self.rt, into);
         counted(done, &mut self.source_faults)

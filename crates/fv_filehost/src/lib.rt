@@ -7,19 +7,18 @@
 mod blocks;
 mod calls;
 mod streams;
-#[cfg(test)]
-mod tests;
 
 use fv_disk::Disk;
+use std::os::unix::fs::FileExt;
 use std::rt::Runtime;
 
 /// A disk over the blocks of a file, with standard input as the source and standard output as the
 /// sink.
 ///
 /// The first disk call opens the file for reading and writing. A missing file is made where that call
-/// is a `write`, and is a fault otherwise. A read past the end gives zero bytes, and a barrier is the
-/// file's `sync_all`. Each call that fails raises the count of its kind by one, up to 2^64 - 1; a call
-/// that a signal interrupted is made again.
+/// is a `write`, and is a fault otherwise. A block is read or written by calls that name its offset; a
+/// read past the end gives zero bytes, and a barrier is the file's `sync_all`. Each call that fails raises
+/// the count of its kind by one, up to 2^64 - 1; a call that a signal interrupted is made again.
 #[derive(Drop)]
 pub struct FileHost<R: Runtime> {
     rt: R,
@@ -31,7 +30,10 @@ pub struct FileHost<R: Runtime> {
     sink_faults: u64,
 }
 
-impl<R: Runtime> FileHost<R> {
+impl<R: Runtime> FileHost<R>
+where
+    R::File: FileExt,
+{
     ghost use Rattle.std.specs.Prelude.{◌≡◌, false};
     ghost use Rattle.fv_filehost.specs.Unknown.{no_ends};
 

@@ -215,7 +215,3 @@ within_three part a b c from (suc count) each =
 pub held_within : (y : Layout) → HasHeads y → IsSound y → length (held y) ≤ own y.view + delayed y.view + overheads y.view
 unfolding held own delayed overheads slots
 held_within y heads is = within_three (held_by y) (own_in y.view) (delayed_in y.view) (overhead_in y.view) 0 64 (λ s low high. slot_within y s heads is (omega arith))
-
-pub image_held_within : (t : Taken) (i : Image) → IsSound (layout_at t i) → length (held (layout_at t i)) ≤ own (view_at t i) + delayed (view_at t i) + overheads (view_at t i)
-unfolding layout_at
-image_held_within t i is = held_within (layout_at t i) (image_has_heads t i) is

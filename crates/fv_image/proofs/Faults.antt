@@ -17,12 +17,12 @@ use Rattle.fv_image.proofs.LoneVolumes.{meant}
 use Rattle.fv_image.proofs.Vectors.{root_of_slot, leaf_16, inner_over, label_of, image_of, name_a, head_a}
 use Rattle.fv_image.proofs.Samples.{says}
 
-abbrev root_one : Taken
+abbrev pub root_one : Taken
 root_one = root_of_slot 1024 1 2 10 0 0
 
 -- ---- labels and nodes, in the image of one volume with another leaf and another label
 
-abbrev with_blocks : List ℕ → List ℕ → Image
+abbrev pub with_blocks : List ℕ → List ℕ → Image
 with_blocks leaf label = image_of ([] ∷ [] ∷ [] ∷ [] ∷ [] ∷ [] ∷ [] ∷ zeros 4096 ∷ leaf ∷ inner_over 8 ∷ label ∷ [])
 
 label_of_zeros : has_shapes (layout_at root_one (with_blocks (leaf_16 7) (zeros 4096))) ≡ false
@@ -76,7 +76,7 @@ held_twice = refl
 -- ---- heads and entries
 
 -- one volume with this head and these entries
-abbrev view_of : Head → (ℕ → Option Placed) → View
+abbrev pub view_of : Head → (ℕ → Option Placed) → View
 view_of h entry = record { blocks = 1024; version = 1; head = λ s. if s == 0 then Some h else None; entry = λ s v. entry v }
 
 abbrev layout_of : View → Layout

@@ -33,3 +33,30 @@ pub mod ReclaimedSlots
 pub mod Rewritten
 pub mod SoundAgain
 pub mod WholeImages
+pub mod SoundTests
+pub mod SameSeen
+pub mod PlainVolumes
+pub mod PlainImages
+pub mod Points
+mod FileVectors
+mod FileRows
+mod FileFaults
+pub mod Spaced
+pub mod Counting
+pub mod OwnIds
+pub mod OwnUses
+pub mod OwnBases
+pub mod LabelNumbers
+pub mod Hints
+mod BlockFaults
+mod OneFile
+pub mod WellTrees
+pub mod WellNodes
+pub mod WellTables
+pub mod WellRoots
+pub mod WellVolumes
+pub mod WellImages
+pub mod WellLabels
+mod DeepFiles
+mod SmallTables
+mod OneSnapshot

@@ -1,9 +1,9 @@
 -- An image in which one slot was written anew, over blocks that were free: it stays whole.
 use Rattle.std.proofs.Common.{◌≡◌, ℕ, ◌<◌, ◌≤◌, Bool, true, List, length, refl, sym, ap, subst, ◌∙◌, arith}
-use Rattle.std.specs.Prelude.{Option, Some, None, nat_le, nat_lt, not, ◌&&◌, ◌||◌, ◌==◌, count_by, slice_set, get_or, if◌then◌else◌}
+use Rattle.std.specs.Prelude.{nat_le, nat_lt, not, ◌&&◌, ◌||◌, ◌==◌, count_by, slice_set, get_or, if◌then◌else◌}
 use Rattle.std.specs.List.{list_any}
 use Rattle.std.specs.Option.{option_map}
-use Rattle.std.proofs.lemmas.Bool.{and_parts, both_ways}
+use Rattle.std.proofs.lemmas.Bool.{and_parts}
 use Rattle.std.proofs.lemmas.Bool.Decides.{nat_tests}
 use Rattle.std.proofs.lemmas.List.{get_or-set_same, get_or-set_other}
 use Rattle.fv_disk.specs.Shown.{Image}
@@ -11,7 +11,7 @@ use Rattle.fv_codec.specs.declared.label.Label.{Label}
 use Rattle.fv_model.specs.Machines.{first_block}
 use Rattle.fv_image.specs.NewerRoot.{Taken}
 use Rattle.fv_image.specs.Views.{head_of}
-use Rattle.fv_image.specs.Held.{AgreeOnHeld, Lying, Layout, layout_at, view_at, lying_at, label_place, label_in, node_from, entry_from, held, is_held, with_bits}
+use Rattle.fv_image.specs.Held.{AgreeOnHeld, Layout, layout_at, view_at, lying_at, label_place, label_in, node_from, entry_from, held, is_held, with_bits}
 use Rattle.fv_image.specs.Sound.{is_in_range, is_place}
 use Rattle.fv_image.specs.Whole.{IsWhole, IsWholeVolume, IsWholeSlot, is_held_by, times_held, Replaces}
 use Rattle.fv_image.specs.Reclaimed.{IsReclaimed, AreApart, IsInOrder, with_label, SameLabelsBut, IsRewritten}
@@ -19,7 +19,6 @@ use Rattle.fv_image.proofs.InRange.{of_listed}
 use Rattle.fv_image.proofs.Counted.{HasHeads}
 use Rattle.fv_image.proofs.Room.{bit_is_held}
 use Rattle.fv_image.proofs.SameLayout.{same_but_bits, held_by_with_bits, held_with_bits}
-use Rattle.fv_image.proofs.HeldPlaces.{none_held}
 use Rattle.fv_image.proofs.Replaced.{whole_when_replaced}
 use Rattle.fv_image.proofs.ReclaimedSlots.{reclaimed_once, reclaimed_is_whole}
 
@@ -85,16 +84,6 @@ same_under t u i bits blocks version labels = λ k. record {
     place s = ap (λ (xs : List ℕ). if nat_lt s 64 then get_or xs s 0 else 0) labels
 
 -- ---- an empty slot
-
-pub empty_is_whole : (t : Taken) (i : Image) (s : ℕ) → label_place t s ≡ 0 → IsWholeSlot (layout_at t i) s
-unfolding layout_at
-empty_is_whole t i s none = record {
-  volume = λ x lies. absurd (no_label x (sym (ap (lying_at i) none) ∙ lies));
-  places = λ b held. absurd (both_ways _ (none_held t i s b none) held);
-}
-  where
-    no_label : (x : Lying) → ◌≡◌ {A = Option Lying} None (Some x) → ⊥
-    no_label x e = cc
 
 -- ---- an image that keeps what is held
 

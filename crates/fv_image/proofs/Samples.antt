@@ -63,16 +63,16 @@ none_past : (inside : Bool) {place : ℕ} → place ≡ 0 → (if inside then pl
 none_past true e = e
 none_past false e = refl
 
-agree_same : (x y : Bool) → agree x y ≡ true → x ≡ y
+pub agree_same : (x y : Bool) → agree x y ≡ true → x ≡ y
 agree_same true y e = sym e
 agree_same false y e = sym (not-true y e)
 
-agree_itself : (x : Bool) → agree x x ≡ true
+pub agree_itself : (x : Bool) → agree x x ≡ true
 agree_itself true = refl
 agree_itself false = refl
 
 -- bits past the third byte of a map of one block
-past_bits : (t : Taken) (i : Image) (x y z n : ℕ) → area_blocks t.blocks ≡ 1 → i (area_place t.blocks t.slot 0) ≡ x ∷ y ∷ z ∷ replicate 4093 0 → 32 ≤ n → map_bit t i n ≡ false
+pub past_bits : (t : Taken) (i : Image) (x y z n : ℕ) → area_blocks t.blocks ≡ 1 → i (area_place t.blocks t.slot 0) ≡ x ∷ y ∷ z ∷ replicate 4093 0 → 32 ≤ n → map_bit t i n ≡ false
 unfolding map_bit bit_of_area bit_of_bytes bit_of_number
 past_bits t i x y z n single block high = ⊎_elim
     (λ (inside : n < 32768).
@@ -87,7 +87,7 @@ past_bits t i x y z n single block high = ⊎_elim
     below n past = grind (arith, nat_tests)
 
 -- numbers below 32 aren't a greater one
-small_only : (xs : List ℕ) (n : ℕ) → list_all (λ x. nat_lt x 32) xs ≡ true → 32 ≤ n → list_any (λ x. x == n) xs ≡ false
+pub small_only : (xs : List ℕ) (n : ℕ) → list_all (λ x. nat_lt x 32) xs ≡ true → 32 ≤ n → list_any (λ x. x == n) xs ≡ false
 small_only [] n small high = refl
 small_only (x ∷ xs) n small high =
     let parts = and_parts (nat_lt x 32) (list_all (λ x. nat_lt x 32) xs) small in

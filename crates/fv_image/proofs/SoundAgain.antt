@@ -1,5 +1,5 @@
 -- A whole layout of empty volumes without delayed entries is sound where names and commits are right.
-use Rattle.std.proofs.Common.{◌≡◌, ℕ, ◌-◌, ◌<◌, ◌≤◌, Bool, true, false, not, refl, sym, ap, ◌∙◌, arith}
+use Rattle.std.proofs.Common.{◌≡◌, ℕ, ◌-◌, ◌<◌, ◌≤◌, Bool, true, false, not, refl, ap, ◌∙◌, arith}
 use Rattle.std.specs.Prelude.{Option, Some, None, count_by, nat_le}
 use Rattle.std.specs.Option.{is_some, option_map_or}
 use Rattle.std.proofs.lemmas.Bool.{and_left, and_right}
@@ -14,7 +14,7 @@ use Rattle.fv_image.specs.Sound.{IsSound, committed, has_distinct_names, is_in_c
 use Rattle.fv_image.specs.MachineOf.{machine_from}
 use Rattle.fv_image.specs.Whole.{IsWhole}
 use Rattle.fv_image.specs.Reclaimed.{HasMapsAlone}
-use Rattle.fv_image.proofs.Stands.{machine_told}
+use Rattle.fv_image.proofs.Stands.{machine_told, bits_have_heads}
 use Rattle.fv_image.proofs.Counts.{none_between, none_sum}
 use Rattle.fv_image.proofs.Counted.{delayed_in}
 use Rattle.fv_image.proofs.Added.{active_is_held}
@@ -47,13 +47,6 @@ none_delayed w alone = none_sum (delayed_in w) 0 64 (λ s low high. so s (omega 
     so s inside None e = refl
     so s inside (Some h) e = delays_none w s h (alone s inside h e)
 
--- an empty slot has none
-pub none_alone : (w : View) (s : ℕ) → w.head s ≡ None → HasMapsAlone w s
-none_alone w s none h head v past = absurd (no_head (sym none ∙ head))
-  where
-    no_head : ◌≡◌ {A = Option Head} None (Some h) → ⊥
-    no_head e = cc
-
 -- ---- soundness
 
 -- A whole layout of empty volumes without delayed entries is sound where names and commits are right.
@@ -76,7 +69,7 @@ pub machine_when_reclaimed : (t u : Taken) (i : Image) (bits : ℕ → Bool) →
 unfolding layout_at view_at
 machine_when_reclaimed t u i bits blocks version labels whole plain names fits alone large =
     ap machine_from (same_under t u i bits blocks version labels)
-    ∙ machine_told (with_bits bits (layout_at t i)) (told (view_at t i)) (record {
+    ∙ machine_told (with_bits bits (layout_at t i)) (told (view_at t i)) (bits_have_heads t i bits) (record {
       plain = plain;
       sound = sound_when_reclaimed (with_bits bits (layout_at t i)) whole plain names fits (none_delayed (view_at t i) alone) large;
       machine = refl;

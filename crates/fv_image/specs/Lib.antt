@@ -10,3 +10,16 @@ pub mod MachineOf
 pub mod Adding
 pub mod Whole
 pub mod Reclaimed
+pub mod Chains
+pub mod Volumes
+pub mod Seen
+pub mod BlockRules
+pub mod ReachRules
+pub mod TableRules
+pub mod HintRules
+pub mod VolumeRules
+pub mod Soundness
+pub mod WholeMachine
+pub mod Places
+pub mod Staying
+pub mod WellMachines

@@ -1,5 +1,6 @@
 -- When an image is sound: a field for each rule of the check that an image of empty volumes can break. Each is a test of
--- all slots, nodes, entries or blocks, so that the lines of the check for a rule are there exactly where its test fails.
+-- all slots, nodes, entries or blocks. A check has a line for a rule only where its test fails, and looks at a rule only where
+-- those before it are clean.
 use Rattle.std.specs.Prelude.{◌≡◌, ℕ, zero, suc, ◌+◌, ◌-◌, ◌*◌, max, Bool, true, not, ◌&&◌, ◌||◌, List, [], ◌∷◌, count_by, map, Option, Some, None, false, Ok, Err, nat_lt, nat_le, ◌==◌}
 use Rattle.std.specs.List.{list_all, range_with_len}
 use Rattle.std.specs.Option.{is_some, option_map_or}

@@ -5,21 +5,17 @@ use Rattle.std.specs.Option.{option_map_or}
 use Rattle.std.specs.Ordering.{eq_by_cmp, is_eq}
 use Rattle.std.specs.FinMap as fin
 use Rattle.std.specs.FinMap.{find}
-use Rattle.std.specs.FinSet as set
 use Rattle.fv_model.specs.Numbers.{most_volumes}
 use Rattle.fv_model.specs.Spelling.{name_cmp, is_same_name}
-use Rattle.fv_model.specs.Tables.{Table}
-use Rattle.fv_model.specs.Places.{ids_of}
 use Rattle.fv_model.specs.Volumes.{Base, Volume}
 use Rattle.fv_model.specs.Machines.{Machine}
 use Rattle.fv_model.specs.Effects.{Becomes, Goes, changed}
 use Rattle.fv_model.specs.Refusals.{some_base, is_parent, is_base, is_splitting}
-use Rattle.fv_laws.specs.WellFormed.{IsSpan, IsWellVolume, IsParent, IsWell}
+use Rattle.fv_laws.specs.WellFormed.{IsWellVolume, IsParent, IsWell}
 use Rattle.fv_laws.proofs.Orders.{name_total, name_ties}
 use Rattle.fv_laws.proofs.Changes.{same_name, differs, itself}
 use Rattle.fv_laws.proofs.Commits.{now_there}
 use Rattle.fv_laws.proofs.Lists.{In}
-use Rattle.fv_laws.proofs.Volumes.{span_stays}
 
 -- ---- volumes by name
 found_in : (n : List ℕ) (x : Volume) (es : List (List ℕ × Volume)) → find name_cmp n es ≡ Some x → In (n, x) es
@@ -127,7 +123,7 @@ update_well m is v x y e good most span base children = record {
           held = ap (fin.get parent.parent.snapshots) (sym was.3) ∙ parent.held ∙ ap Some was.4;
           known = parent.known;
           whole = parent.whole;
-          span = subst (λ (t : Table). IsSpan z (set.len (ids_of t)) parent.parent.span) was.4 (span_stays x z (set.len (ids_of was.0.table)) parent.parent.span (ap (λ (w : Volume). w.most) l.1 ∙ most) (ap (λ (w : Volume). w.span) l.1 ∙ span) parent.span);
+          span = let width : z.span ≡ x.span = ap (λ (w : Volume). w.span) l.1 ∙ span in let fits = parent.span in omega (arith, width, fits);
         }
 
     old : (name : List ℕ) (z : Volume) (b : Base) → (name ≢ v) × (fin.get m.volumes name ≡ Some z) → z.base ≡ Some b → IsParent (changed m (Becomes v y)) z b
@@ -145,7 +141,7 @@ update_well m is v x y e good most span base children = record {
                 held = service.held;
                 known = service.known;
                 whole = service.whole;
-                span = subst (λ (w : ℕ). IsSpan z (set.len (ids_of b.table)) w) width parent.span;
+                span = let fits = parent.span in omega (arith, width, fits);
               }
           | false ↦ λ d. untouched m v y z b (λ same. let yes : eq_by_cmp name_cmp b.parent v ≡ true = ap (λ (n : List ℕ). eq_by_cmp name_cmp n v) same ∙ itself v in let wrong : true ≡ false = sym yes ∙ d in cc) (is.bases name z b r.1 has)
         ] refl

@@ -12,7 +12,7 @@ use Rattle.fv_model.specs.Places.{id_cmp, ids_of}
 use Rattle.fv_model.specs.Volumes.{Base, Volume}
 use Rattle.fv_model.specs.Space.{base_ids, span_of}
 use Rattle.fv_model.specs.Effects.{stamped, empty_volume, clone_of, mirror_of, being_split}
-use Rattle.fv_laws.specs.WellFormed.{IsWellTable, IsSpan, IsWellVolume}
+use Rattle.fv_laws.specs.WellFormed.{IsWellTable, IsWellVolume}
 use Rattle.fv_laws.proofs.Orders.{name_total}
 use Rattle.fv_laws.proofs.Tables.{later_table, empty_well}
 
@@ -32,15 +32,9 @@ no_snapshot s t e = let wrong : None ≡ Some t = sym (fin.get-empty name_cmp s)
 none_kept : fin.len (fin.empty {K = List ℕ} {X = Table} {R = name_cmp}) ≤ most_snapshots
 none_kept = let none : fin.len (fin.empty {K = List ℕ} {X = Table} {R = name_cmp}) ≡ 0 = fin.len-empty name_cmp Table in subst (λ c. c ≤ most_snapshots) (sym none) (omega arith)
 
-pub clone_span : (v : List ℕ) (x : Volume) (s : List ℕ) (t : Table) (size : ℕ) (kind : Kind) → IsSpan (clone_of v x s t size kind) (set.len (ids_of t)) x.span
-clone_span v x s t size kind = record { size = size; most = refl; span = refl }
-
--- a span stays as defined while it and the greatest size stay
-pub span_stays : (x y : Volume) (base least : ℕ) → y.most ≡ x.most → y.span ≡ x.span → IsSpan x base least → IsSpan y base least
-span_stays x y base least most span is = record { size = is.size; most = most ∙ is.most; span = span ∙ is.span }
-
-same_span : (x y : Volume) → y.most ≡ x.most → y.span ≡ x.span → (base : ℕ) × (least : ℕ) × IsSpan x base least → (base : ℕ) × (least : ℕ) × IsSpan y base least
-same_span x y most span is = (is.0, is.1, span_stays x y is.0 is.1 most span is.2)
+-- a clone's span isn't below its parent's
+pub clone_span : (v : List ℕ) (x : Volume) (s : List ℕ) (t : Table) (size : ℕ) (kind : Kind) → x.span ≤ (clone_of v x s t size kind).span
+clone_span v x s t size kind = omega arith
 
 -- ---- new volumes
 pub empty_is_well : (size : ℕ) (kind : Kind) → size ≤ 500000 → IsWellVolume (empty_volume size kind)
@@ -52,7 +46,6 @@ empty_is_well size kind small = record {
   kept = none_kept;
   size = omega arith;
   room = let none = none_shared in let room = span_room size 0 0 in omega (arith, none, room);
-  defined = (0, 0, record { size = size; most = refl; span = refl });
   narrow = span_narrow size small;
 }
 
@@ -65,7 +58,6 @@ mirror_is_well x s t size kind is e narrow = record {
   kept = none_kept;
   size = omega arith;
   room = let none = none_shared in let room = span_room size 0 x.span in omega (arith, none, room);
-  defined = (0, x.span, record { size = size; most = refl; span = refl });
   narrow = narrow;
 }
 
@@ -78,16 +70,15 @@ clone_is_well v x s t size kind is e narrow = record {
   kept = none_kept;
   size = omega arith;
   room = span_room size (set.len (ids_of t)) x.span;
-  defined = (set.len (ids_of t), x.span, clone_span v x s t size kind);
   narrow = narrow;
 }
 
 -- ---- volumes that change
 pub recast : (x : Volume) → IsWellVolume x → (kind : Kind) (known : Bool) → IsWellVolume (record x { kind = kind; known = known })
-recast x is kind known = record { changes = is.changes; active = is.active; snapshots = is.snapshots; base = is.base; kept = is.kept; size = is.size; room = is.room; defined = same_span x _ refl refl is.defined; narrow = is.narrow }
+recast x is kind known = record { changes = is.changes; active = is.active; snapshots = is.snapshots; base = is.base; kept = is.kept; size = is.size; room = is.room; narrow = is.narrow }
 
 pub resized : (x : Volume) → IsWellVolume x → (size : ℕ) → size ≤ x.most → IsWellVolume (record x { size = size })
-resized x is size le = record { changes = is.changes; active = is.active; snapshots = is.snapshots; base = is.base; kept = is.kept; size = le; room = is.room; defined = same_span x _ refl refl is.defined; narrow = is.narrow }
+resized x is size le = record { changes = is.changes; active = is.active; snapshots = is.snapshots; base = is.base; kept = is.kept; size = le; room = is.room; narrow = is.narrow }
 
 pub changed_table : (x : Volume) → IsWellVolume x → (table : ℕ → Table) → x.now < most_changes → IsWellTable (x.now + 1) (table (x.now + 1)) → IsWellVolume (stamped x table)
 changed_table x is table few good = record {
@@ -98,12 +89,11 @@ changed_table x is table few good = record {
   kept = is.kept;
   size = is.size;
   room = is.room;
-  defined = same_span x _ refl refl is.defined;
   narrow = is.narrow;
 }
 
 pub restored : (x : Volume) → IsWellVolume x → (s : List ℕ) (t : Table) → fin.get x.snapshots s ≡ Some t → IsWellVolume (record x { active = t })
-restored x is s t e = record { changes = is.changes; active = is.snapshots s t e; snapshots = is.snapshots; base = is.base; kept = is.kept; size = is.size; room = is.room; defined = same_span x _ refl refl is.defined; narrow = is.narrow }
+restored x is s t e = record { changes = is.changes; active = is.snapshots s t e; snapshots = is.snapshots; base = is.base; kept = is.kept; size = is.size; room = is.room; narrow = is.narrow }
 
 at_most_one : (b : Bool) (n : ℕ) → cond b n (n + 1) ≤ n + 1
 at_most_one true n = omega arith
@@ -122,7 +112,6 @@ snapped x is s few = record {
   kept = let count : fin.len (fin.insert x.snapshots s x.active) ≤ fin.len x.snapshots + 1 = subst (λ c. c ≤ fin.len x.snapshots + 1) (sym (fin.len-insert name_total x.snapshots s x.active)) (at_most_one (fin.contains_key x.snapshots s) (fin.len x.snapshots)) in omega (arith, count, few);
   size = is.size;
   room = is.room;
-  defined = same_span x _ refl refl is.defined;
   narrow = is.narrow;
 }
   where
@@ -139,7 +128,6 @@ snapshot_gone x is s = record {
   kept = let few = is.kept in let count : fin.len (fin.remove x.snapshots s) ≤ fin.len x.snapshots = subst (λ c. c ≤ fin.len x.snapshots) (sym (fin.len-remove name_total x.snapshots s)) (at_most_all (fin.contains_key x.snapshots s) (fin.len x.snapshots)) in omega (arith, count, few);
   size = is.size;
   room = is.room;
-  defined = same_span x _ refl refl is.defined;
   narrow = is.narrow;
 }
   where
@@ -165,7 +153,6 @@ split_begun x is = record {
   kept = is.kept;
   size = is.size;
   room = let same = ap set.len (same_shared x.base) in let room = is.room in omega (arith, same, room);
-  defined = same_span x _ refl refl is.defined;
   narrow = is.narrow;
 }
 
@@ -178,6 +165,5 @@ split_ended x is = record {
   kept = is.kept;
   size = is.size;
   room = let none = none_shared in let room = is.room in omega (arith, none, room);
-  defined = same_span x _ refl refl is.defined;
   narrow = is.narrow;
 }

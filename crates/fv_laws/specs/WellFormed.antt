@@ -1,5 +1,5 @@
--- Well-formed machines: what holds of every machine that commands lead to.
-use Rattle.std.specs.Prelude.{◌≡◌, ℕ, ◌+◌, ◌*◌, ◌/◌, ◌^◌, ◌<◌, ◌≤◌, true, false, ◌&&◌, nat_le, List, length, map, Some}
+-- Well-formed machines: what holds of every machine that commands lead to, and asks no more than that an image is sound.
+use Rattle.std.specs.Prelude.{◌≡◌, ℕ, ◌+◌, ◌/◌, ◌^◌, ◌<◌, ◌≤◌, true, false, ◌&&◌, nat_le, List, length, map, Some}
 use Rattle.std.specs.List.{AllByRecursion}
 use Rattle.std.specs.Option.{is_some}
 use Rattle.std.specs.FinMap as fin
@@ -7,10 +7,9 @@ use Rattle.std.specs.FinSet as set
 use Rattle.fv_model.specs.Numbers.{is_reserve, most_volumes, most_snapshots, most_files, most_changes, greatest_span}
 use Rattle.fv_model.specs.Trees.{fan, Spot, Tree, least_levels, holds_one}
 use Rattle.fv_model.specs.Tables.{File, Table, inode_cell}
-use Rattle.fv_model.specs.Places.{ids_of}
 use Rattle.fv_model.specs.Volumes.{Base, Volume}
 use Rattle.fv_model.specs.Machines.{Machine}
-use Rattle.fv_model.specs.Space.{base_ids, span_of}
+use Rattle.fv_model.specs.Space.{base_ids}
 use Rattle.fv_model.specs.Refusals.{is_splitting}
 
 -- a tree over these cells, after so many changes, with a start of its levels
@@ -46,12 +45,6 @@ pub record IsWellTable (now : ℕ) (t : Table) : Type 0 where
   pub numbers : (n : ℕ) (f : File) → fin.get t.files n ≡ Some f → n < most_files
   pub count : fin.len t.files ≤ most_files
 
--- the span is that of a new volume, from its first size, so many ids of a base, and the span of a parent or source
-pub record IsSpan (x : Volume) (base least : ℕ) : Type 0 where
-  pub size : ℕ
-  pub most : x.most ≡ 2 * size
-  pub span : x.span ≡ span_of size base least
-
 pub record IsWellVolume (x : Volume) : Type 0 where
   pub changes : x.now ≤ most_changes
   pub active : IsWellTable x.now x.active
@@ -59,20 +52,19 @@ pub record IsWellVolume (x : Volume) : Type 0 where
   pub base : (b : Base) → x.base ≡ Some b → IsWellTable x.now b.table
   pub kept : fin.len x.snapshots ≤ most_snapshots
   pub size : x.size ≤ x.most
-  -- the span is as defined, has room for the greatest size and the base's ids, with 256 to spare, and is within its limit
-  pub defined : (base : ℕ) × (least : ℕ) × IsSpan x base least
+  -- the span has room for the greatest size and the base's ids, with 256 to spare, and is within its limit
   pub room : x.most + set.len (base_ids x.base) + 256 ≤ x.span
   pub narrow : x.span ≤ greatest_span
 
--- what a clone stands on: a volume that is there, is known and isn't being split, whose snapshot is the base's table; the
--- clone's span is made from that table's ids and the parent's span, so it is no less than that
+-- what a clone stands on: a volume that is there, is known and isn't being split, whose snapshot is the base's table, and whose span
+-- isn't greater than the clone's
 pub record IsParent (m : Machine) (clone : Volume) (b : Base) : Type 0 where
   pub parent : Volume
   pub there : fin.get m.volumes b.parent ≡ Some parent
   pub held : fin.get parent.snapshots b.snapshot ≡ Some b.table
   pub known : parent.known ≡ true
   pub whole : is_splitting parent ≡ false
-  pub span : IsSpan clone (set.len (ids_of b.table)) parent.span
+  pub span : parent.span ≤ clone.span
 
 -- bases lead from volume to volume, and each time to a lesser rank, so that every such chain ends
 pub record AreRooted (m : Machine) : Type 0 where

@@ -1,5 +1,5 @@
 -- A line is read byte by byte.
-use Rattle.std.proofs.Common.{◌≡◌, ℕ, ◌+◌, min, ⊎_elim, inl, inr, ◌<◌, ◌≤◌, ◌++◌, false, List, [], ◌∷◌, length, take, map, refl, sym, ap, ◌∙◌, subst, arith, append_assoc, append-nil}
+use Rattle.std.proofs.Common.{◌≡◌, ℕ, ◌+◌, min, ⊎_elim, inl, inr, ◌<◌, ◌≤◌, ◌++◌, Bool, true, false, List, [], ◌∷◌, length, take, map, refl, sym, ap, ◌∙◌, subst, arith, append_assoc, append-nil}
 use Rattle.std.specs.Prelude.{Ok, Err, IsTrue, nat_eq, nat_le}
 use Rattle.std.proofs.lemmas.List.{take_all, take-append-le, length-take, length-take-le, length-append}
 use Rattle.std.proofs.lemmas.Bool.{cases_lt}
@@ -14,9 +14,13 @@ use Rattle.fv_lines.specs.declared.reading.Found.TheVariants as found
 use Rattle.fv_lines.specs.declared.script.Next.{Next}
 use Rattle.fv_lines.specs.declared.script.Next.TheVariants as next
 use Rattle.fv_lines.specs.Held.{Held}
-use Rattle.fv_lines.specs.Reading.{unread, Asks, IsNext, found_last, IsFound, HasRoom, Finds}
+use Rattle.fv_lines.specs.Reading.{unread, Asks, IsNext, found_last, IsFound, HasEnded, IsOver, HasRoom, Finds}
 use Rattle.fv_lines.proofs.Ends.{none_in, one_in}
 use Rattle.fv_lines.proofs.Asking.{asks_none, asks_then, asks_as, asks_failed}
+
+-- a source that has said that it ends isn't asked again, over several calls
+pub asks_no_more : {A : Type 0} (old mid new : Bool) (first second third : A) → (old ≡ true → (mid ≡ true) × (second ≡ first)) → (mid ≡ true → (new ≡ true) × (third ≡ second)) → old ≡ true → (new ≡ true) × (third ≡ first)
+asks_no_more old mid new first second third before now ended = let so_far = before ended in let again = now so_far.0 in (again.0, again.1 ∙ so_far.1)
 
 -- the first bytes of a list, where there are fewer than so many
 short_of : (n : ℕ) (line whole : List ℕ) → length line < n → line ≡ take n whole → length whole < n
@@ -115,8 +119,10 @@ module _ (old_held : Held) (old : Shown) (held : Held) (now : Shown) (line : Lis
       front = further 10 comes tells;
       room = longer 10 so_far.room comes.room;
       found = (first_line (unread new_held new) (unread old_held old) (further 10 comes tells), inl (one_in so_far.front so_far.one));
+      ended = inl (one_in so_far.front so_far.one);
     };
     room = omega (arith, so_far.room, comes.room);
+    over = tt;
     none = tt;
     asks = asks_as old new (tt {0}) found.Line (asked (next.Byte 10) comes);
   }
@@ -132,6 +138,14 @@ module _ (old_held : Held) (old : Shown) (held : Held) (now : Shown) (line : Lis
   last_room [] kept room same = rw kept (omega (arith, room, same))
   last_room (b ∷ front) kept room same = rw kept (omega (arith, room, same))
 
+  last_ended : (front : List ℕ) → line ≡ take 9001 front → new_held.ended ≡ true → HasEnded (found_last line) front new_held
+  last_ended [] kept ended = rw kept ended
+  last_ended (b ∷ front) kept ended = rw kept (inr ended)
+
+  last_over : (bytes : List ℕ) → new_held.ended ≡ true → IsOver (found_last bytes) new_held
+  last_over [] ended = ended
+  last_over (b ∷ bytes) ended = tt
+
   -- the end of the script
   pub found_end : IsNext held now new_held new (Ok next.End) → Finds old_held old new_held new line (Ok (found_last line))
   found_end comes = record {
@@ -142,8 +156,10 @@ module _ (old_held : Held) (old : Shown) (held : Held) (now : Shown) (line : Lis
           front = so_far.bytes tells ∙ ap (λ (l : List ℕ). so_far.front ++ l) (end.0 ∙ sym end.1);
           room = so_far.room ∙ ap (λ (n : ℕ). length so_far.front + n) (sym comes.room);
           found = last_found so_far.front (unread old_held old) (unread new_held new) so_far.one so_far.kept (so_far.bytes tells ∙ ap (λ (l : List ℕ). so_far.front ++ l) end.0 ∙ append-nil so_far.front) end.1;
+          ended = last_ended so_far.front so_far.kept comes.end;
         };
     room = last_room so_far.front so_far.kept so_far.room comes.room;
+    over = last_over line comes.end;
     none = tt;
     asks = asks_as old new (tt {0}) (found_last line) (asked next.End comes);
   }
@@ -154,10 +170,12 @@ module _ (old_held : Held) (old : Shown) (held : Held) (now : Shown) (line : Lis
     reads = λ tells. record {
       read = so_far.front;
       front = so_far.bytes tells ∙ ap (λ (l : List ℕ). so_far.front ++ l) (comes.byte (told tells));
-      room = omega (arith, so_far.room, comes.room.1.0, comes.room.1.1);
+      room = omega (arith, so_far.room, comes.room.1, comes.room.2);
       found = none_in so_far.front so_far.one;
+      ended = tt;
     };
-    room = (comes.room.0, comes.room.1.1);
+    room = (comes.room.0, comes.room.2, comes.room.3);
+    over = tt;
     none = tt;
     asks = asks_as old new (tt {0}) found.PastLimit (asked next.PastLimit comes);
   }
@@ -169,8 +187,10 @@ module _ (old_held : Held) (old : Shown) (held : Held) (now : Shown) (line : Lis
       front = so_far.bytes tells ∙ ap (λ (l : List ℕ). so_far.front ++ l) (comes.same (told tells));
       room = so_far.room ∙ ap (λ (n : ℕ). length so_far.front + n) (sym comes.none.1);
       found = tt;
+      ended = tt;
     };
     room = tt;
+    over = tt;
     none = comes.none.0;
     asks = asks_then old now new (tt {0}) (Err e) so_far.asks (asks_failed now new e comes.asks);
   }

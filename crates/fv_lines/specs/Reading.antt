@@ -1,5 +1,5 @@
 -- Reading a script from its front.
-use Rattle.std.specs.Prelude.{◌≡◌, ◌<◌, ◌≤◌, ◌+◌, ◌⊎◌, ℕ, List, [], ◌∷◌, ◌++◌, length, IsTrue, Result, IfOk, OnOk, OnErr}
+use Rattle.std.specs.Prelude.{◌≡◌, ◌<◌, ◌≤◌, ◌+◌, ◌⊎◌, ℕ, Bool, true, false, List, [], ◌∷◌, ◌++◌, length, IsTrue, Result, IfOk, OnOk, OnErr}
 use Rattle.fv_disk.specs.declared.Failed.{Failed}
 use Rattle.fv_disk.specs.Shown.{Image, Shown, HasCause}
 use Rattle.fv_disk.specs.HostCalls.{Rests}
@@ -12,9 +12,14 @@ use Rattle.fv_lines.specs.declared.reading.Found.{Found}
 use Rattle.fv_lines.specs.declared.reading.Found.TheVariants as found
 use Rattle.fv_lines.specs.Held.{Held}
 
--- the bytes of the script that aren't read yet: those that were taken, and then those that the source has left
+-- what is still to come of a source that has these bytes left: none, once it has said that it ends
+abbrev pub to_come : Bool → List ℕ → List ℕ
+to_come true left = []
+to_come false left = left
+
+-- the bytes of the script that aren't read yet: those that were taken, and then those that are still to come
 abbrev pub unread : Held → Shown → List ℕ
-unread held host = held.bytes ++ host.ends.left
+unread held host = held.bytes ++ to_come held.ended host.ends.left
 
 -- an image of a crash as before, with the bytes that had been given
 abbrev pub IsStill : Shown → Image → List ℕ → Type 0
@@ -30,15 +35,15 @@ pub record Asks {T : Type 0} (old new : Shown) (result : Result T Failed) : Type
 
 -- the first byte of those that were taken, if there is one and it may be read
 abbrev pub Pops : Held → Next → Held → Type 0
-Pops old (next.Byte byte) new = (old.bytes ≡ byte ∷ new.bytes) × (old.room ≡ new.room + 1)
+Pops old (next.Byte byte) new = (old.bytes ≡ byte ∷ new.bytes) × (old.room ≡ new.room + 1) × (new.ended ≡ old.ended)
 Pops old next.End new = (old.bytes ≡ []) × (new ≡ old)
-Pops old next.PastLimit new = (0 < length old.bytes) × ((old.room ≡ 0) × (new ≡ old))
+Pops old next.PastLimit new = (0 < length old.bytes) × (old.room ≡ 0) × (old.ended ≡ false) × (new ≡ old)
 
--- Nothing is read. Where no byte is held then, the source has none left, or it failed.
+-- Nothing is read. Where no byte is held then, the source has said that it ends, or it failed.
 pub record Fills (old_held : Held) (old : Shown) (new_held : Held) (new : Shown) (result : Result Unit Failed) : Type 0 where
   pub same : IsTrue old.tells → unread old_held old ≡ unread new_held new
   pub room : new_held.room ≡ old_held.room
-  pub end : IsTrue old.tells → OnOk result (new_held.bytes ≡ [] → new.ends.left ≡ [])
+  pub end : OnOk result (new_held.bytes ≡ [] → new_held.ended ≡ true)
   pub none : OnErr result (new_held.bytes ≡ [])
   pub asks : Asks old new result
 
@@ -51,11 +56,17 @@ Reads next.PastLimit old new = old ≡ new
 abbrev pub TakesRoom : Next → Held → Held → Type 0
 TakesRoom (next.Byte byte) old new = old.room ≡ new.room + 1
 TakesRoom next.End old new = new.room ≡ old.room
-TakesRoom next.PastLimit old new = (0 < length new.bytes) × ((old.room ≡ 0) × (new.room ≡ 0))
+TakesRoom next.PastLimit old new = (0 < length new.bytes) × (old.room ≡ 0) × (new.room ≡ 0) × (new.ended ≡ false)
+
+-- the end of the script is where the source has said that it ends
+abbrev pub EndsAt : Next → Held → Type 0
+EndsAt next.End held = held.ended ≡ true
+EndsAt n held = Unit {0}
 
 pub record IsNext (old_held : Held) (old : Shown) (new_held : Held) (new : Shown) (result : Result Next Failed) : Type 0 where
   pub byte : IsTrue old.tells → IfOk result (λ n. Reads n (unread old_held old) (unread new_held new))
   pub room : IfOk result (λ n. TakesRoom n old_held new_held)
+  pub end : IfOk result (λ n. EndsAt n new_held)
   pub same : IsTrue old.tells → OnErr result (unread old_held old ≡ unread new_held new)
   pub none : OnErr result ((new_held.bytes ≡ []) × (new_held.room ≡ old_held.room))
   pub asks : Asks old new result
@@ -76,7 +87,18 @@ IsFound found.PastLimit line read old new = whole read ≡ 0
 abbrev pub HasRoom : Found → Held → Held → Type 0
 HasRoom found.Line old new = new.room < old.room
 HasRoom found.End old new = new.room ≤ old.room
-HasRoom found.PastLimit old new = (0 < length new.bytes) × (new.room ≡ 0)
+HasRoom found.PastLimit old new = (0 < length new.bytes) × (new.room ≡ 0) × (new.ended ≡ false)
+
+-- a line has its end, or it is the last, and the source has said that it ends; so it has at the end of the script
+abbrev pub HasEnded : Found → List ℕ → Held → Type 0
+HasEnded found.Line read new = (whole read ≡ 1) ⊎ (new.ended ≡ true)
+HasEnded found.End read new = new.ended ≡ true
+HasEnded found.PastLimit read new = Unit {0}
+
+-- where there is no line more, the source has said that it ends, whatever it tells
+abbrev pub IsOver : Found → Held → Type 0
+IsOver found.End held = held.ended ≡ true
+IsOver f held = Unit {0}
 
 -- These bytes are read from the front of the script.
 pub record IsRead (old_held : Held) (old : Shown) (new_held : Held) (new : Shown) (line : List ℕ) (result : Result Found Failed) : Type 0 where
@@ -84,10 +106,12 @@ pub record IsRead (old_held : Held) (old : Shown) (new_held : Held) (new : Shown
   pub front : unread old_held old ≡ read ++ unread new_held new
   pub room : old_held.room ≡ length read + new_held.room
   pub found : IfOk result (λ f. IsFound f line read (unread old_held old) (unread new_held new))
+  pub ended : IfOk result (λ f. HasEnded f read new_held)
 
 -- The next line of the script is found, or there is none. The source has failed only where all that it gave was read.
 pub record Finds (old_held : Held) (old : Shown) (new_held : Held) (new : Shown) (line : List ℕ) (result : Result Found Failed) : Type 0 where
   pub reads : IsTrue old.tells → IsRead old_held old new_held new line result
   pub room : IfOk result (λ f. HasRoom f old_held new_held)
+  pub over : IfOk result (λ f. IsOver f new_held)
   pub none : OnErr result (new_held.bytes ≡ [])
   pub asks : Asks old new result

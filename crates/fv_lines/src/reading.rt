@@ -1,14 +1,15 @@
 //! The lines of a script, one after another.
 
-ghost use Rattle.std.specs.Prelude.{◌≡◌, ℕ, List, ◌++◌, ◌∷◌, [], take};
+ghost use Rattle.std.specs.Prelude.{◌≡◌, ℕ, List, ◌++◌, ◌∷◌, [], take, true};
 ghost use Rattle.fv_lines.specs.Reading.{Finds, found_last};
 
 use crate::script::{Next, Script};
 use arrayvec::ArrayVec;
 use fv_disk::{Failed, Host};
+use fv_script::LONGEST;
 
 /// One byte more than a line may have: so many tell that a line is too long.
-const KEPT: usize = 9001;
+const KEPT: usize = LONGEST + 1;
 
 /// The first bytes of a line, without its end.
 pub type Line = ArrayVec<u8, KEPT>;
@@ -29,14 +30,16 @@ pub enum Found {
 /// are a line where the script ends, and none where the limit cuts them off.
 ///
 /// At `Err` the source failed, and what of the line was read by then is lost. It takes no memory, and asks
-/// the source for at most 4096 bytes at once, only where all that it gave before were read.
+/// the source for at most 4096 bytes at once, only where all that it gave before were read. Once the source
+/// has said that it ends, it isn't asked again.
 #[tactic(auto, using(crate::proofs::LinesRead::begins, crate::proofs::LinesRead::reads_on, crate::proofs::LinesRead::found_line, crate::proofs::LinesRead::found_end, crate::proofs::LinesRead::found_limit, crate::proofs::LinesRead::found_fault))]
 pub fn next_line<H: Host>(
     script: &mut Script,
     host: &mut H,
     line: &mut Line,
 ) -> Result<Found, Failed>
-    ensures { Finds script.old (H.shown host.old) script.new (H.shown host.new) line.new.items result }
+    ensures finds { Finds script.old (H.shown host.old) script.new (H.shown host.new) line.new.items result }
+    ensures again { script.old.ended ≡ true → (script.new.ended ≡ true) × (host.new ≡ host.old) }
 {
     line.clear();
     loop {

@@ -1,6 +1,6 @@
 //! The bytes of a script, taken from the source in pieces.
 
-ghost use Rattle.std.specs.Prelude.{◌≡◌};
+ghost use Rattle.std.specs.Prelude.{◌≡◌, true};
 ghost use Rattle.fv_lines.specs.Held.{Held};
 ghost use Rattle.fv_lines.specs.Reading.{Fills, IsNext, Pops};
 
@@ -10,14 +10,16 @@ use std::marker::Model;
 /// The most bytes that are asked of the source at once.
 const PIECE: usize = 4096;
 
-/// The bytes of a script that were taken of the source and aren't read yet, and how many bytes more may
-/// be read. A contract sees the two.
+/// The bytes of a script that were taken of the source and aren't read yet, how many bytes more may be read,
+/// and whether the source has said that it ends: then none is held, and it isn't asked again. A contract
+/// sees the three.
 #[derive(Drop)]
 pub struct Script {
     bytes: [u8; PIECE],
     start: usize,
     end: usize,
     room: u64,
+    ended: bool,
 }
 
 /// What comes next in a script.
@@ -32,14 +34,14 @@ pub(crate) enum Next {
 }
 
 impl Model for Script {
-    ghost use Rattle.std.specs.Prelude.{◌≤◌, drop, take};
+    ghost use Rattle.std.specs.Prelude.{◌≡◌, ◌≤◌, drop, take, true};
     ghost use Rattle.fv_lines.specs.Held.{Held};
 
     ghost Value = { Held };
 
-    ghost view = { λ s. record { bytes = drop s.start (take s.end s.bytes); room = s.room } };
+    ghost view = { λ s. record { bytes = drop s.start (take s.end s.bytes); room = s.room; ended = s.ended } };
 
-    ghost invariant = { λ s. (s.start ≤ s.end) × (s.end ≤ 4096) };
+    ghost invariant = { λ s. (s.start ≤ s.end) × (s.end ≤ 4096) × (s.ended ≡ true → s.start ≡ s.end) };
 }
 
 impl Script {
@@ -54,6 +56,7 @@ impl Script {
             start: 0,
             end: 0,
             room: limit,
+            ended: false,
         }
     }
 
@@ -74,24 +77,28 @@ impl Script {
         Next::Byte(byte)
     }
 
-    /// Takes bytes of the source where none are left that were taken.
+    /// Takes bytes of the source where none are left that were taken, and it hasn't said that it ends.
     #[tactic(auto, using(crate::proofs::Pieces::held_still, crate::proofs::Pieces::filled, crate::proofs::Pieces::unfilled, crate::proofs::Pieces::none_held))]
     fn fill<H: Host>(&mut self, host: &mut H) -> Result<(), Failed>
-        ensures { Fills self.old (H.shown host.old) self.new (H.shown host.new) result }
+        ensures fills { Fills self.old (H.shown host.old) self.new (H.shown host.new) result }
+        ensures again { self.old.ended ≡ true → (self.new.ended ≡ true) × (host.new ≡ host.old) }
     {
-        if self.start < self.end {
+        if self.start < self.end || self.ended {
             return Ok(());
         }
         self.start = 0;
         self.end = 0;
         self.end = host.take(&mut self.bytes)?;
+        self.ended = self.end == 0;
         Ok(())
     }
 
-    /// What comes next in the script. At `Err` the source failed.
+    /// What comes next in the script. At `Err` the source failed. A source that has said that it ends isn't
+    /// asked again.
     #[tactic(auto, using(crate::proofs::Pieces::nexts, crate::proofs::Pieces::no_next))]
     pub(crate) fn next_byte<H: Host>(&mut self, host: &mut H) -> Result<Next, Failed>
-        ensures { IsNext self.old (H.shown host.old) self.new (H.shown host.new) result }
+        ensures next { IsNext self.old (H.shown host.old) self.new (H.shown host.new) result }
+        ensures again { self.old.ended ≡ true → (self.new.ended ≡ true) × (host.new ≡ host.old) }
     {
         self.fill(host)?;
         Ok(self.pop())

@@ -221,6 +221,3 @@ without_is old new at forgets = λ i. record { base = forgets.base i; reads = fo
 
 pub sound_adds : (old new : Story) (e : Event) (bytes : List ℕ) → IsSound old → IsWhole e → Adds old new e bytes → IsSound new
 sound_adds old new e bytes sound whole adds = subst IsSound (sym (added_is old new e bytes adds)) (sound_added old e bytes new.reads sound whole adds.reads)
-
-pub sound_forgets : (old new : Story) (at : ℕ) → IsSound old → Forgets old new at → IsSound new
-sound_forgets old new at sound forgets = subst IsSound (sym (without_is old new at forgets)) (sound_without old at sound)

@@ -114,13 +114,6 @@ set_more m n places i lt updates so_far a =
 pub replayed_more : (P : State → Type 0) (s : State) (events : List Kept) (i : ℕ) (d : Kept) → i < length events → P (step (replay s (take i events)) (get_or events i d).event) → P (replay s (take (i + 1) events))
 replayed_more P s events i d lt holds = subst P (sym (replay_more s events i d lt)) holds
 
-pub in_ok : {X Y : Type 0} (r : Result X Y) (P Q : X → Type 0) (E : Y → Type 0) → ((x : X) → P x → Q x) → MatchResult r P E → IfOk r Q
-in_ok (Ok x) P Q E weaker holds = weaker x holds
-in_ok (Err e) P Q E weaker holds = tt
-
-pub same_disk : (m n : Blocks) → ((a : ℕ) → found n a ≡ found m a) → (a : ℕ) → disk_of n a ≡ disk_of m a
-same_disk m n same a = ap (λ o. unwrap_or o zeros) (same a)
-
 -- what is unsettled after one call more
 unsettled_note : (e : Event) (at : ℕ) → (e ≡ Torn at) ⊎ ((block : List ℕ) × (e ≡ Write at block)) → (start later : ℕ) (written more : List ℕ) → later ≡ start → more ≡ noted written at → (s : State) → IsUnsettled start written s → IsUnsettled later more (step s e)
 unfolding step

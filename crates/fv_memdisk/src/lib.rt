@@ -20,8 +20,6 @@ mod history;
 mod host;
 mod kept;
 mod tally;
-#[cfg(test)]
-mod tests;
 mod torn;
 mod unsettled;
 

@@ -22,7 +22,3 @@ same_rank None None = refl
 same_rank None (Some n) = grind (arith, nat_tests)
 same_rank (Some n) None = grind (arith, nat_tests)
 same_rank (Some n) (Some m) = grind (arith, nat_tests)
-
-pub place_order : (o p : Option ℕ) (k l i j : ℕ) → ordering_then (ordering_then (option_cmp nat_cmp o p) (nat_cmp k l)) (nat_cmp i j) ≡ slice_cmp nat_cmp (rank (owner_of o) ∷ k ∷ i ∷ []) (rank (owner_of p) ∷ l ∷ j ∷ [])
-place_order o p k l i j =
-    three (option_cmp nat_cmp o p) (nat_cmp k l) (nat_cmp i j) ∙ ap (λ r. ordering_then r (ordering_then (nat_cmp k l) (ordering_then (nat_cmp i j) Equal))) (same_rank o p)

@@ -1,11 +1,3 @@
-//! Scripts with the replies that a user gets, worked out by hand, run through the plain machine.
+//! Rows that the checker computes from the definitions alone: numbers and lines of replies (`proofs/Computed.antt`), and a whole script
+//! with its output (`proofs/Script.antt`). It has no code.
 #![tactic(auto)]
-
-#[cfg(test)]
-mod copies;
-#[cfg(test)]
-mod reading;
-#[cfg(test)]
-mod rows;
-#[cfg(test)]
-mod scripts;

@@ -1,6 +1,4 @@
-mod Counting
-mod Digits
-mod Prefixes
+mod Endings
 mod Answered
 mod Stepped
 mod Told

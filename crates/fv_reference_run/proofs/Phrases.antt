@@ -2,7 +2,8 @@
 use Rattle.std.proofs.Common.{◌≡◌, ℕ, ◌<◌, ◌≤◌, List, [], ◌∷◌, length, get_or, map, refl, arith}
 use Rattle.std.specs.Prelude.{Option, Some, None}
 use Rattle.std.specs.Option.{ok_or}
-use Rattle.fv_reference_run.specs.Meaning.{blocks_of, meaning, Means}
+use Rattle.fv_script.specs.CommandLine.{blocks_of}
+use Rattle.fv_reference_run.specs.Meaning.{meaning, Means}
 use Rattle.fv_reference_run.specs.declared.words.WordsFault.TheVariants.{Usage}
 
 module _ {X : Type 0} (text : X → List ℕ) where

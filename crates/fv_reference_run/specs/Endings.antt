@@ -1,7 +1,9 @@
 -- How a run ends.
-use Rattle.std.specs.Prelude.{◌≡◌, ℕ, Result, Ok, Err, OnOk, IfErr}
-use Rattle.fv_disk.specs.Shown.{Shown, Rose}
+use Rattle.std.specs.Prelude.{◌≡◌, ◌<◌, ◌≢◌, ℕ, List, ◌++◌, length, take, Option, Some, None, Result, Ok, Err}
+use Rattle.fv_disk.specs.Shown.{Shown}
 use Rattle.fv_disk.specs.HostCalls.{Rests}
+use Rattle.fv_lines.specs.Counts.{Count, Counts}
+use Rattle.fv_lines.specs.Counts as count
 use Rattle.fv_reference_run.specs.declared.ending.Fault.{Fault}
 use Rattle.fv_reference_run.specs.declared.ending.Fault.TheVariants.{Usage, Source, Sink, Memory}
 
@@ -16,16 +18,23 @@ abbrev pub status_in : Result Unit Fault → ℕ
 status_in (Ok done) = 0
 status_in (Err fault) = status_of fault
 
--- a fault of an end of the host comes only where its count rose; want of memory has no count
-abbrev pub RoseFor : Fault → Shown → Shown → Type 0
-RoseFor Usage old new = ⊥
-RoseFor Source old new = Rose old.ends.source_faults new.ends.source_faults
-RoseFor Sink old new = Rose old.ends.sink_faults new.ends.sink_faults
-RoseFor Memory old new = Unit {0}
+abbrev pub fault_in : {T : Type 0} → Result T Fault → Option Fault
+fault_in (Ok x) = None
+fault_in (Err fault) = Some fault
 
--- The disk rests, no count rose where all was done, and a fault has its cause.
-pub record Counts {T : Type 0} (old new : Shown) (result : Result T Fault) : Type 0 where
+-- the count of faults that an end raises: want of memory and words without meaning have none
+abbrev pub raised_by : Option Fault → Option Count
+raised_by (Some Source) = Some count.Source
+raised_by (Some Sink) = Some count.Sink
+raised_by other = None
+
+-- The disk rests, a fault has its cause, and words that were understood have a meaning.
+pub record Ends (old new : Shown) (fault : Option Fault) : Type 0 where
   pub rests : Rests old new
-  pub source : OnOk result (new.ends.source_faults ≡ old.ends.source_faults)
-  pub sink : OnOk result (new.ends.sink_faults ≡ old.ends.sink_faults)
-  pub cause : IfErr result (λ fault. RoseFor fault old new)
+  pub counts : Counts old new (raised_by fault)
+  pub understood : fault ≢ Some Usage
+
+-- all bytes are given, or a prefix of them, and never the whole, after a fault
+abbrev pub IsGiven : Option Fault → List ℕ → List ℕ → List ℕ → Type 0
+IsGiven None old bytes new = new ≡ old ++ bytes
+IsGiven (Some fault) old bytes new = (k : ℕ) × (k < length bytes) × (new ≡ old ++ take k bytes)

@@ -1,5 +1,5 @@
 -- Answering a script.
-use Rattle.std.specs.Prelude.{◌≡◌, ℕ, List, [], ◌∷◌, ◌++◌, take, IsTrue, Option, Some, None, Result, Err, IfOk, OnOk, OnErr}
+use Rattle.std.specs.Prelude.{◌≡◌, ℕ, List, [], ◌∷◌, ◌++◌, take, IsTrue, Option, Some, None, Result, Err, IfOk, OnErr}
 use Rattle.fv_disk.specs.Shown.{Shown}
 use Rattle.fv_disk.specs.HostCalls.{Rests}
 use Rattle.fv_lines.specs.Held.{Held}
@@ -11,7 +11,8 @@ use Rattle.fv_reference_run.specs.declared.ending.Fault.{Fault}
 use Rattle.fv_reference_run.specs.declared.ending.Fault.TheVariants.{Usage}
 use Rattle.fv_reference_run.specs.declared.program.Turn.{Turn}
 use Rattle.fv_reference_run.specs.declared.program.Turn.TheVariants.{Answered, Ended}
-use Rattle.fv_reference_run.specs.Endings.{Counts}
+use Rattle.fv_lines.specs.Counts.{Counts}
+use Rattle.fv_reference_run.specs.Endings.{fault_in, raised_by, Ends, IsGiven}
 use Rattle.fv_reference_run.specs.Output.{line_text, replies_text, output}
 
 -- one line is answered, or there is none
@@ -22,16 +23,16 @@ GoesOn Ended m old given new_m new new_given = (old ≡ []) × (new_given ≡ gi
 pub record Steps (m : Machine) (held : Held) (old : Shown) (new_m : Machine) (new_held : Held) (new : Shown) (result : Result Turn Fault) : Type 0 where
   pub goes_on : IsTrue old.tells → IfOk result (λ f. GoesOn f m (lines (unread held old)) old.given new_m (lines (unread new_held new)) new.given)
   pub part : IsTrue old.tells → OnErr result ((k : ℕ) × (new.given ≡ old.given ++ take k (replies_text m (lines (unread held old)))))
-  pub counts : Counts old new result
+  pub ends : Ends old new (fault_in result)
 
--- The whole output is given, or a prefix of it after a fault.
+-- The whole output is given, or a part of it after a fault.
 pub record Runs (m : Machine) (lines : List Line) (old new : Shown) (result : Result Unit Fault) : Type 0 where
-  pub all : IsTrue old.tells → OnOk result (new.given ≡ old.given ++ output m lines)
-  pub part : IsTrue old.tells → OnErr result ((k : ℕ) × (new.given ≡ old.given ++ take k (output m lines)))
-  pub counts : Counts old new result
+  pub given : IsTrue old.tells → IsGiven (fault_in result) old.given (output m lines) new.given
+  pub ends : Ends old new (fault_in result)
 
 -- What was asked is done, and nothing else than a fault of usage comes of words that ask for nothing.
 pub record Asked (blocks : Option ℕ) (old new : Shown) (result : Result Unit Fault) : Type 0 where
   pub usage : blocks ≡ None → result ≡ Err Usage
+  pub counts : Counts old new (raised_by (fault_in result))
   pub disk : Rests old new
   pub runs : (p : ℕ) → blocks ≡ Some p → Runs (empty_machine p) (lines old.ends.left) old new result

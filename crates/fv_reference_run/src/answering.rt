@@ -1,11 +1,12 @@
 //! Answering a line.
 
-ghost use Rattle.std.specs.Prelude.{◌≡◌};
-ghost use Rattle.fv_disk.specs.HostCalls.{GivesAll};
+ghost use Rattle.std.specs.Prelude.{◌≡◌, IfErr};
 ghost use Rattle.fv_model.specs.Lines.{line_of};
 ghost use Rattle.fv_model.specs.Runs.{Says};
+ghost use Rattle.fv_script.specs.Telling.{Tells, unnamed};
 ghost use Rattle.fv_reference_run.specs.Output.{refused, spoken};
-ghost use Rattle.fv_reference_run.specs.Answering.{Answers, Tells};
+ghost use Rattle.fv_reference_run.specs.declared.ending.Fault.TheVariants.{Sink};
+ghost use Rattle.fv_reference_run.specs.Answering.{Answers};
 
 use crate::ending::Fault;
 use fv_disk::{Failed, Host, give_all};
@@ -59,9 +60,9 @@ fn obey<H: Host>(
 }
 
 /// Gives out the line of a reply, or of a question mark where the machine leaves the number open.
-#[tactic(auto, using(crate::proofs::Answered::told, crate::proofs::Answered::untold))]
 fn tell<H: Host>(is_open: bool, reply: &Reply, host: &mut H) -> Result<(), Fault>
-    ensures { Tells (H.shown host.old) (spoken is_open reply.now) (H.shown host.new) result }
+    ensures tells { Tells (H.shown host.old) (spoken is_open reply.now) (H.shown host.new) (unnamed result) }
+    ensures sink { IfErr result (λ fault. fault ≡ Sink) }
 {
     match write(is_open, reply, host) {
         Ok(()) => Ok(()),
@@ -70,7 +71,7 @@ fn tell<H: Host>(is_open: bool, reply: &Reply, host: &mut H) -> Result<(), Fault
 }
 
 fn write<H: Host>(is_open: bool, reply: &Reply, host: &mut H) -> Result<(), Failed>
-    ensures { GivesAll (H.shown host.old) (spoken is_open reply.now) (H.shown host.new) result }
+    ensures { Tells (H.shown host.old) (spoken is_open reply.now) (H.shown host.new) result }
 {
     match reply {
         Reply::Number(_) if is_open => give_all(host, OPEN),

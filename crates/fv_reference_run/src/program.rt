@@ -1,24 +1,24 @@
 //! The program as one call over a host.
 
-ghost use Rattle.std.specs.Prelude.{◌≡◌, ◌∷◌, [], ◌++◌, ◌↔◌, ℕ, map, take, string_bytes, Some, None, Contains, IsTrue};
-ghost use Rattle.fv_disk.specs.Shown.{Rose};
+ghost use Rattle.std.specs.Prelude.{◌≡◌, ◌≢◌, ◌<◌, ◌∷◌, [], ◌++◌, ◌↔◌, ℕ, length, map, take, string_bytes, Some, None, Contains, IfErr, IsTrue};
 ghost use Rattle.fv_disk.specs.HostCalls.{Rests};
 ghost use Rattle.fv_model.specs.Lines.{lines};
 ghost use Rattle.fv_model.specs.Machines.{empty_machine};
 ghost use Rattle.fv_model.specs.Texts.{done_text};
 ghost use Rattle.fv_reference_run.specs.Meaning.{meaning};
 ghost use Rattle.fv_reference_run.specs.Output.{output};
-ghost use Rattle.fv_reference_run.specs.Answering.{Tells};
+ghost use Rattle.fv_script.specs.Telling.{Tells, unnamed};
+ghost use Rattle.fv_lines.specs.Counts.{Counts, told_by};
+ghost use Rattle.fv_reference_run.specs.declared.ending.Fault.TheVariants.{Sink};
 ghost use Rattle.fv_reference_run.specs.Running.{Asked, Runs, Steps};
 
 use crate::answering::answer;
 use crate::ending::Fault;
 use crate::words::read_words;
-use arrayvec::ArrayString;
-use fv_disk::{Host, give_all};
+use fv_disk::{Failed, Host};
 use fv_lines::{Found, Line, Script, next_line};
 use fv_reference::Machine;
-use itoa::Buffer;
+use fv_script::write_done;
 use std::alloc::Global;
 
 /// Answers the script in the host's source: each line is applied to a fresh machine of so many blocks as
@@ -35,22 +35,19 @@ pub fn reference<H: Host>(alloc: Global, words: &[String], host: &mut H) -> u8
     ensures usage { (result ≡ 7) ↔ (meaning (map string_bytes words.now) ≡ None) }
     ensures untouched { meaning (map string_bytes words.now) ≡ None → host.new ≡ host.old }
 
-    // A fault is answered only where its count rose in this call, and without one only memory can be wanting.
-    ensures source_fault { result ≡ 3 → Rose (H.shown host.old).ends.source_faults (H.shown host.new).ends.source_faults }
-    ensures sink_fault { result ≡ 4 → Rose (H.shown host.old).ends.sink_faults (H.shown host.new).ends.sink_faults }
-    ensures complete { (blocks : ℕ) → meaning (map string_bytes words.now) ≡ Some blocks
-        → ¬ Rose (H.shown host.old).ends.source_faults (H.shown host.new).ends.source_faults
-        → ¬ Rose (H.shown host.old).ends.sink_faults (H.shown host.new).ends.sink_faults
-        → Contains (0 ∷ 6 ∷ []) result }
+    // 3 raises the source's count of faults, 4 the sink's, and no status raises another count. So without a
+    // fault of either only memory can be wanting.
+    ensures counts { Counts (H.shown host.old) (H.shown host.new) (told_by result) }
 
     // Of a host that tells its content: at 0 exactly the machine's replies to the script's lines were given and
-    // then their number, and at every other exit a prefix of that.
+    // then their number, and at every other exit a prefix of that, and never the whole.
     ensures answered { (blocks : ℕ) → meaning (map string_bytes words.now) ≡ Some blocks
         → IsTrue (H.shown host.old).tells → result ≡ 0
         → (H.shown host.new).given ≡ (H.shown host.old).given ++ output (empty_machine blocks) (lines (H.shown host.old).ends.left) }
     ensures partly { (blocks : ℕ) → meaning (map string_bytes words.now) ≡ Some blocks
-        → IsTrue (H.shown host.old).tells
-        → (k : ℕ) × ((H.shown host.new).given ≡ (H.shown host.old).given ++ take k (output (empty_machine blocks) (lines (H.shown host.old).ends.left))) }
+        → IsTrue (H.shown host.old).tells → result ≢ 0
+        → (k : ℕ) × (k < length (output (empty_machine blocks) (lines (H.shown host.old).ends.left)))
+        × ((H.shown host.new).given ≡ (H.shown host.old).given ++ take k (output (empty_machine blocks) (lines (H.shown host.old).ends.left))) }
 
     // The disk and its counts stay as they were.
     ensures disk { Rests (H.shown host.old) (H.shown host.new) }
@@ -122,23 +119,13 @@ fn step<H: Host>(
     }
 }
 
-#[tactic(auto, using(crate::proofs::Answered::told, crate::proofs::Answered::untold))]
+/// Gives out the last line: it tells how many lines were answered.
 fn tell_count<H: Host>(count: u64, host: &mut H) -> Result<(), Fault>
-    ensures { Tells (H.shown host.old) (done_text count) (H.shown host.new) result }
+    ensures tells { Tells (H.shown host.old) (done_text count) (H.shown host.new) (unnamed result) }
+    ensures sink { IfErr result (λ fault. fault ≡ Sink) }
 {
-    match give_all(host, done_line(count).as_str().as_bytes()) {
+    match write_done(count, host) {
         Ok(()) => Ok(()),
-        Err(_) => Err(Fault::Sink),
+        Err(Failed) => Err(Fault::Sink),
     }
-}
-
-/// The last line: at most 26 bytes.
-fn done_line(count: u64) -> ArrayString<32>
-    ensures { result.bytes ≡ done_text count }
-{
-    let mut line = ArrayString::new();
-    line.push_str("done ");
-    line.push_str(Buffer::new().format(count));
-    line.push_str("\n");
-    line
 }

@@ -10,9 +10,7 @@ ghost use Rattle.fv_root.specs.Finding.{Finds, HasReadCause, IsInRange, ReadsBeh
 
 use crate::places::{SUPERBLOCK, gate_place, root_place};
 use fv_codec::{Root, Super, gate_open};
-use fv_disk::{Block, Disk, Failed};
-
-const ZERO: Block = [0; 4096];
+use fv_disk::{Block, Disk, Failed, ZERO};
 
 /// What stands in the fixed blocks of an aggregate.
 #[derive(Clone, Copy, Debug, PartialEq, Eq)]

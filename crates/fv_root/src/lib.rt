@@ -7,8 +7,6 @@ mod fresh;
 mod next;
 mod places;
 mod sizes;
-#[cfg(test)]
-mod tests;
 
 pub use find::{Found, RootFault, find_root};
 pub use fresh::format;

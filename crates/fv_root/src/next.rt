@@ -17,9 +17,7 @@ use crate::places::{area_place, gate_place, root_place};
 use crate::sizes::area_blocks;
 use fv_bits::BitMap;
 use fv_codec::{Root, open_gate};
-use fv_disk::{Block, Disk, Failed};
-
-const ZERO: Block = [0; 4096];
+use fv_disk::{Block, Disk, Failed, ZERO};
 
 /// Makes `root` the root that counts, with the map of all blocks that it holds, and with the generation
 /// that follows the one of `found` in place of its own. `found` is what `find_root` would answer, over

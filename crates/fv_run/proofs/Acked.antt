@@ -3,7 +3,7 @@ use Rattle.std.proofs.Common.{◌≡◌, ℕ, ◌+◌, ◌-◌, ◌<◌, ◌≤�
 use Rattle.std.specs.Prelude.{nat_eq}
 use Rattle.std.specs.List.{suffix_len}
 use Rattle.std.proofs.lemmas.List.{length-take-le}
-use Rattle.std.proofs.lemmas.List.Sums.{suffix_len-take_yes}
+use Rattle.std.proofs.lemmas.List.Sums.{suffix_len-take_no, suffix_len-take_yes}
 use Rattle.std.proofs.lemmas.Bool.{cases_lt}
 use Rattle.std.proofs.lemmas.Bool.Decides.{nat_tests}
 use Rattle.fv_model.specs.Runs.{Line, is_cp, up_to_cp, whole, acked}
@@ -32,12 +32,29 @@ up_to_next count lines line within is other =
     add_sub : (n : ℕ) → n + 1 - 1 ≡ n
     add_sub n = omega arith
 
+-- a `cp` acknowledges all lines up to it
+pub up_to_here : (count : ℕ) (lines : List Line) (line : Line) → count < length lines → get_or lines count line ≡ line → is_cp line ≡ true → up_to_cp (take (count + 1) lines) ≡ count + 1
+up_to_here count lines line within is cp =
+    let stops : not (is_cp (get_or lines (count + 1 - 1) line)) ≡ false = rw (add_sub count, is, cp) refl in
+    let none : suffix_len (λ l. not (is_cp l)) (take (count + 1) lines) ≡ 0 = suffix_len-take_no (λ l. not (is_cp l)) lines (count + 1) line (omega arith) (omega (arith, within)) stops in
+    omega (arith, none, length-take-le (count + 1) lines (omega (arith, within)))
+  where
+    add_sub : (n : ℕ) → n + 1 - 1 ≡ n
+    add_sub n = omega arith
+
 not_all : (n total : ℕ) → n ≤ total → nat_eq n (total + 1) ≡ false
 not_all n total within = grind (arith, nat_tests)
 
 -- an output without the last line acknowledges the lines up to the last `cp` that it answers
 pub acked_part : (lines : List Line) (output : List ℕ) (count : ℕ) → whole output ≡ count → count ≤ length lines → acked lines output ≡ up_to_cp (take count lines)
 acked_part lines output count is within = rw (is, not_all count (length lines) within) refl
+
+-- an output with the last line acknowledges all
+pub acked_whole : (lines : List Line) (output : List ℕ) → whole output ≡ length lines + 1 → acked lines output ≡ length lines
+acked_whole lines output all = rw (same (whole output) (length lines) all) refl
+  where
+    same : (n total : ℕ) → n ≡ total + 1 → nat_eq n (total + 1) ≡ true
+    same n total is = grind (arith, nat_tests)
 
 -- none acknowledges more than all
 pub acked_all : (lines : List Line) (output : List ℕ) → whole output ≤ length lines + 1 → acked lines output ≤ length lines

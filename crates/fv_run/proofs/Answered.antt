@@ -1,6 +1,6 @@
 -- Lines are answered, one after another.
-use Rattle.std.proofs.Common.{◌≡◌, ℕ, ◌+◌, ◌++◌, List, [], ◌∷◌, take, refl, sym, ap, subst, ◌∙◌, arith, append_assoc, append-nil}
-use Rattle.std.specs.Prelude.{flat_map, Some, IsTrue}
+use Rattle.std.proofs.Common.{◌≡◌, inl, false, ℕ, ◌+◌, ◌<◌, ◌++◌, List, [], ◌∷◌, length, take, refl, sym, ap, subst, ◌∙◌, arith, append_assoc, append-nil}
+use Rattle.std.specs.Prelude.{flat_map, Some, IsTrue, Result, Err}
 use Rattle.fv_disk.specs.Shown.{Image, Shown, IsDisk}
 use Rattle.fv_disk.specs.HostCalls.{Rests}
 use Rattle.fv_disk.specs.Crash.{Leaves}
@@ -14,13 +14,16 @@ use Rattle.fv_image.specs.MachineOf.{machine_of}
 use Rattle.fv_lines.specs.Reading.{IsStill}
 use Rattle.fv_lines.proofs.Ends.{whole_append}
 use Rattle.fv_aggregate.specs.declared.session.Session.{Session}
-use Rattle.fv_aggregate.specs.Standing.{OneOf, StandsFor}
-use Rattle.fv_run.specs.Running.{HasFollowed, IsAfterSome, Survives}
-use Rattle.fv_run.specs.Answering.{HasAnswered, StandsOnward}
+use Rattle.fv_aggregate.specs.Standing.{OneOf, StandsAfter, StandsFor}
+use Rattle.fv_run.specs.declared.ending.Fault.{Fault}
+use Rattle.fv_run.specs.declared.ending.Fault.TheVariants.{Sink}
+use Rattle.fv_run.specs.Running.{asks_point, begun, HasFollowed, IsAfterSome, IsAtRest, Survives}
+use Rattle.fv_run.specs.Answering.{HasAnswered, IsLine, StandsOnward}
 use Rattle.fv_run.proofs.Acked.{up_to_take}
 use Rattle.fv_run.proofs.Following.{follows_first, follows_part, one_more, one_text, taken_next, left_next, left_below}
-use Rattle.fv_run.proofs.Sessions.{images_stand, rests_standing_for}
-use Rattle.fv_run.proofs.Surviving.{after_some, IsOnward, onward, one_of, one_told}
+use Rattle.fv_run.proofs.Lines.{no_end}
+use Rattle.fv_run.proofs.Sessions.{images_stand, point_stays, rests_standing_for}
+use Rattle.fv_run.proofs.Surviving.{after_some, asked_for, rested, rested_after, which_point, IsOnward, onward, one_of, one_told}
 
 -- what a crash leaves, with an output that is known
 pub survives : (m : Machine) (lines : List Line) (before : List ℕ) (c : Image) (g output : List ℕ) → g ≡ before ++ output → IsAfterSome m lines output c → Survives m lines before c g
@@ -38,6 +41,7 @@ none_answered m lines old session laws stands = record {
   point = 0;
   least = up_to_take 0 lines (omega arith);
   most = omega arith;
+  asked = inl (omega (arith, up_to_take 0 lines (omega arith)));
   stands = stands;
   crash = started old (Survives m lines old.given) laws
       (λ c now. survives m lines old.given c old.given [] (sym (append-nil old.given))
@@ -56,6 +60,11 @@ module _ (m : Machine) (lines left : List Line) (old : Shown) (session : Session
   here c g stands same = survives m lines old.given c g output (same ∙ so_far.given)
       (after_some m lines count so_far.point output c so_far.answered so_far.within so_far.least (let most = so_far.most in omega (arith, most)) (let most = so_far.most in let within = so_far.within in omega (arith, most, within)) stands)
 
+  -- nothing more was done
+  pub rested_here : (new : Shown) → Rests now new → new.given ≡ now.given → (result : Result Unit Fault) → IsAtRest m lines result old new
+  rested_here new rests same result = rested m lines old new session (after m lines count) count so_far.point output (same ∙ so_far.given) so_far.answered so_far.within so_far.least so_far.most result
+      (asked_for lines output result count so_far.point so_far.answered so_far.within so_far.asked) (rests_standing_for now new session (after m lines so_far.point) (after m lines count) rests so_far.stands)
+
   -- while the source is asked
   pub crash_asked : (mid : Shown) → Leaves now mid (IsStill now) → Leaves old mid (Survives m lines old.given)
   crash_asked mid still = then old now mid (Survives m lines old.given) so_far.crash
@@ -72,6 +81,7 @@ module _ (m : Machine) (lines left : List Line) (old : Shown) (session : Session
     point = so_far.point;
     least = so_far.least;
     most = so_far.most;
+    asked = so_far.asked;
     stands = rests_standing_for now mid session (after m lines so_far.point) (after m lines count) rests so_far.stands;
     crash = crash_asked mid still;
   }
@@ -82,7 +92,7 @@ left_as m lines left others old session now count is so_far = subst (λ (l : Lis
 
 -- the next line is applied, and then answered
 module _ (m : Machine) (lines : List Line) (line : Line) (rest : List Line) (old : Shown) (session : Session) (mid : Shown) (count : ℕ) (so_far : HasAnswered m lines (line ∷ rest) old session mid count)
-    (next_session : Session) (end : Shown) (meanwhile : Leaves mid end (λ c g. OneOf (after m lines so_far.point) (after m lines count) (after_line (after m lines count) line) c × (g ≡ mid.given))) where
+    (next_session : Session) (end : Shown) (meanwhile : Leaves mid end (λ c g. OneOf (after m lines so_far.point) (after m lines count) (after_line (after m lines count) line) c × (g ≡ mid.given))) (calm : asks_point line ≡ false → end.reads ≡ mid.reads) where
   abbrev given_so_far : List ℕ
   given_so_far = flat_map text so_far.replies
 
@@ -93,11 +103,20 @@ module _ (m : Machine) (lines : List Line) (line : Line) (rest : List Line) (old
       (λ (c : Image) (g : List ℕ) one. survives m lines old.given c g given_so_far (one.1 ∙ so_far.given)
       (one_of m lines rest line count so_far.left_over so_far.point given_so_far c so_far.answered so_far.least so_far.most one.0)) meanwhile)
 
+  -- the last point stays where the line asks for none
+  stays : (now : Machine) (stands : StandsAfter end next_session (after m lines so_far.point) (after m lines count) now) → asks_point line ≡ false → stands.point ≡ after m lines so_far.point
+  stays now stands none = point_stays mid end session next_session (after m lines so_far.point) (after m lines count) (after m lines count) now (calm none) so_far.stands stands
+
+  -- it wasn't applied
+  pub rested_unapplied : end.given ≡ mid.given → (result : Result Unit Fault) → begun result given_so_far ≡ whole given_so_far + 1 → StandsAfter end next_session (after m lines so_far.point) (after m lines count) (after m lines count) → IsAtRest m lines result old end
+  rested_unapplied same result began stands = rested_after m lines old end next_session (after m lines count) count so_far.point given_so_far (same ∙ so_far.given) so_far.answered so_far.within so_far.least so_far.most result so_far.asked stands (omega (arith, began, so_far.answered))
+      (which_point m lines rest line count so_far.left_over stands.point (after m lines so_far.point) (stays (after m lines count) stands))
+
   module _ (told : IsTrue end.tells) (same : end.given ≡ mid.given) (reply : Reply) (allowed : AllowsAt (after m lines count) line reply)
       (stands : StandsOnward end next_session (after m lines so_far.point) (after m lines count) line)
       (new : Shown) (any_moment : Leaves end new (PartlyGiven end (text reply))) (one : whole (text reply) ≡ 1) where
     next : IsOnward m lines rest line count so_far.left_over end next_session
-    next = onward m lines rest line count so_far.left_over end next_session so_far.point so_far.least so_far.most stands
+    next = onward m lines rest line count so_far.left_over end next_session so_far.point so_far.least so_far.most so_far.asked stands (stays (after_line (after m lines count) line) stands.after)
 
     given_at : (k : ℕ) (g : List ℕ) → g ≡ end.given ++ take k (text reply) → g ≡ old.given ++ (given_so_far ++ take k (text reply))
     given_at k g is = is ∙ ap (λ (l : List ℕ). l ++ take k (text reply)) (same ∙ so_far.given) ∙ append_assoc old.given given_so_far (take k (text reply))
@@ -123,6 +142,15 @@ module _ (m : Machine) (lines : List Line) (line : Line) (rest : List Line) (old
       follows = follows_part m lines given_so_far (text reply) part.0 (subst (λ (l : List ℕ). Follows m lines l) (one_text so_far.replies reply) (follows_first m lines (count + 1) (so_far.replies ++ reply ∷ []) all_allowed));
     }
 
+    pub rested_part : Rests end new → IsLine (text reply) → (k : ℕ) × (k < length (text reply)) × (new.given ≡ end.given ++ take k (text reply)) → (fault : Fault) → fault ≡ Sink → IsAtRest m lines (Err fault) old new
+    rested_part rests is part fault sink =
+        let none : whole (take part.0 (text reply)) ≡ 0 = no_end (text reply) part.0 is part.1 in
+        let counted : whole (given_so_far ++ take part.0 (text reply)) ≡ count = whole_append given_so_far (take part.0 (text reply)) ∙ rw (so_far.answered, none) (omega arith) in
+        rested_after m lines old new next_session (after_line (after m lines count) line) count so_far.point (given_so_far ++ take part.0 (text reply)) (given_at part.0 new.given part.2) counted so_far.within so_far.least so_far.most (Err fault) so_far.asked
+        (record { point = stands.after.point; one = stands.after.one; stands = rests_standing_for end new next_session stands.after.point (after_line (after m lines count) line) rests stands.after.stands })
+        (subst (λ (f : Fault). count < begun (Err f) (given_so_far ++ take part.0 (text reply))) (sym sink) (omega (arith, counted)))
+        (which_point m lines rest line count so_far.left_over stands.after.point (after m lines so_far.point) (stays (after_line (after m lines count) line) stands.after))
+
     more_text : whole (flat_map text (so_far.replies ++ reply ∷ [])) ≡ count + 1
     more_text = ap whole (one_text so_far.replies reply) ∙ whole_append given_so_far (text reply) ∙ rw (so_far.answered, one) refl
 
@@ -138,6 +166,7 @@ module _ (m : Machine) (lines : List Line) (line : Line) (rest : List Line) (old
       point = next.point;
       least = next.least;
       most = next.most;
+      asked = next.asked;
       stands = rests_standing_for end new next_session (after m lines next.point) (after m lines (count + 1)) rests next.stands;
       crash = crash_told;
     }

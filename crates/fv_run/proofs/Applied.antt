@@ -1,7 +1,9 @@
 -- A line is applied.
-use Rattle.std.proofs.Common.{◌≡◌, inl, inr, ⊎_elim, Bool, true, false, cond, ℕ, [], ◌∷◌, refl, sym, subst, ap, ◌∙◌}
-use Rattle.std.specs.Prelude.{Contains, Option, Some, None, Ok, Err, IsTrue, IsNone}
-use Rattle.fv_disk.specs.Shown.{Shown, IsDisk, Ends}
+use Rattle.std.proofs.Common.{◌≡◌, ◌≢◌, ℕ, inl, inr, Bool, true, false, cond, [], ◌∷◌, refl, sym, subst, ap, ◌∙◌, arith}
+use Rattle.std.proofs.lemmas.Bool.Decides.{nat_tests}
+use Rattle.fv_model.specs.Space.{overhead, span_of}
+use Rattle.std.specs.Prelude.{nat_lt, None, Ok, Err, IsTrue, IsNone}
+use Rattle.fv_disk.specs.Shown.{Image, Shown, IsDisk, Ends, Rose}
 use Rattle.fv_disk.specs.Crash.{Leaves}
 use Rattle.fv_disk.proofs.Moments.{started}
 use Rattle.fv_model.specs.declared.answers.Refusal.TheVariants.{Syntax, Range}
@@ -15,23 +17,22 @@ use Rattle.fv_model.specs.Effects.{change_of}
 use Rattle.fv_model.specs.Runs.{Line, Says, NoCommand, OutOfRange, after_line, AllowsAt, is_cp}
 use Rattle.fv_script.specs.declared.fault.LineFault.TheVariants as fault
 use Rattle.fv_script.specs.Reading.{reading}
+use Rattle.fv_lines.specs.Counts.{Counts}
+use Rattle.fv_lines.proofs.Counting.{counts_none}
 use Rattle.fv_aggregate.specs.declared.fault.Fault.{Fault as SessionFault}
 use Rattle.fv_aggregate.specs.declared.fault.Fault.TheVariants as session_fault
 use Rattle.fv_aggregate.specs.declared.session.Session.{Session}
-use Rattle.fv_aggregate.specs.Standing.{OneOf, Stands, StandsAfter, StandsFor}
-use Rattle.fv_aggregate.specs.Lasting.{GoesOn, GoOnBy, IsMadeBy}
-use Rattle.fv_aggregate.specs.Commands.{is_built, machine_after, Replies, RepliesBy}
-use Rattle.fv_aggregate.specs.Causes.{FailsBy, HasCause, IsFault, IsNoDamage, KeepsEnds, LeavesAll}
+use Rattle.fv_aggregate.specs.Asking.{IsShort}
+use Rattle.fv_aggregate.specs.Calls.{Goes, GoesFor}
+use Rattle.fv_aggregate.specs.Commands.{is_built, machine_after, Replies, RepliesBy, room_of}
+use Rattle.fv_aggregate.specs.Standing.{OneOf, StandsAfter, StandsFor}
 use Rattle.fv_run.specs.declared.ending.Fault.{Fault}
 use Rattle.fv_run.specs.declared.ending.Fault.TheVariants.{Disk, Memory, Damaged}
-use Rattle.fv_run.specs.Endings.{of_session, Counts, IsWholeFault, RoseFor}
+use Rattle.fv_run.specs.Endings.{count_of, of_session, IsWholeFault}
 use Rattle.fv_run.specs.Built.{built}
-use Rattle.fv_volume.specs.declared.state.VolumeState.{VolumeState}
-use Rattle.fv_volume.specs.States.{state_at}
-use Rattle.fv_run.specs.Running.{GoOnIn}
+use Rattle.fv_run.specs.Running.{asks_point, IsRoomIn}
 use Rattle.fv_run.specs.Answering.{Applies, IsReady, IsSessionFault}
-use Rattle.fv_run.proofs.Lasting.{first_in, made_by, stay_in}
-use Rattle.fv_run.proofs.Sessions.{images_stand, lacks}
+use Rattle.fv_run.proofs.Sessions.{images_stand, never_failed}
 
 -- ---- a command, built or not
 
@@ -42,11 +43,6 @@ after_by false m c = refl
 pub after_built : (m : Machine) (c : Command) → machine_after m c ≡ after_line m (built (Says c))
 unfolding machine_after
 after_built m c = sym (after_by (is_built c) m c)
-
--- a command that makes a volume is built
-creates_built : (command : Command) (now : Option VolumeState) → IsMadeBy command now → built (Says command) ≡ Says command
-unfolding is_built
-creates_built command now made = subst (λ (c : Command). built (Says c) ≡ Says c) (sym made.says) refl
 
 allowed_by : (is : Bool) (m : Machine) (c : Command) (reply : Reply) → RepliesBy is m c reply → AllowsAt m (cond is (Says c) NoCommand) reply
 allowed_by true m c reply replies = replies
@@ -91,6 +87,22 @@ after_cp : (m : Machine) → machine_after m Cp ≡ m
 unfolding machine_after is_built conditions change_of
 after_cp m = refl
 
+-- the room of a command is that of its line
+room_said : (c : Command) → IsRoomIn (built (Says c) ∷ []) (room_of c)
+unfolding is_built room_of
+room_said (VolCreate v size kind) = inr (VolCreate v size kind, (0, omega arith, refl), refl)
+room_said c = inl refl
+
+-- a line that asks for no point says no `cp`, and no command with room
+quiet : (c : Command) → asks_point (built (Says c)) ≡ false → (c ≢ Cp) × (room_of c ≡ 0)
+unfolding is_built room_of
+quiet (VolCreate v size kind) none = (λ e. cc, nothing (overhead (span_of size 0 0)) none)
+  where
+    nothing : (n : ℕ) → nat_lt 0 n ≡ false → n ≡ 0
+    nothing n e = grind (arith, nat_tests)
+quiet Cp none = absurd cc
+quiet c none = (λ e. cc, refl)
+
 -- ---- what a line says
 
 pub said : (line : Line) (c : Command) → Ok c ≡ reading line → line ≡ Says c
@@ -124,13 +136,16 @@ no_change session line reply host laws ready no_point allowed stays = record {
     },
   );
   any_moment = λ tells last m stands. started host (λ c g. OneOf last m (after_line m line) c × (g ≡ host.given)) laws (λ c now. (inl (images_stand host session last m stands c now), refl));
+  still = λ tells last m stands calm. tt;
   no_damage = λ tells last m stands. tt;
   ready = ready;
   ends = tt;
-  volumes = stay_in (line ∷ []) session.volumes;
+  asks = λ tells room asks. (0, inl refl, record { asked = asks.asked; pending = omega (arith, asks.pending) });
   given = refl;
   left = refl;
-  counts = record { tells = refl; source = refl; sink = refl; disk = refl; cause = tt };
+  counts = counts_none host;
+  writes = refl;
+  calm = λ none. refl;
 }
   where
     never : is_cp line ≡ false → is_cp line ≡ true → ⊥
@@ -147,76 +162,75 @@ applied_range session line host laws ready is = subst (λ (l : Line). Applies se
 
 -- ---- commands
 
-module _ (session new_session : Session) (line : Line) (command : Command) (old new : Shown) (says : line ≡ Says command) (ready : IsReady old session)
-    (meanwhile : IsTrue old.tells → (last m : Machine) → StandsFor old session last m → IsNone session.failed → Leaves old new (λ c g. OneOf last m (machine_after m command) c × (g ≡ old.given)))
-    (keeps : KeepsEnds old new) where
+module _ (session new_session : Session) (line : Line) (command : Command) (old new : Shown) (says : line ≡ Says command) (ready : IsReady old session) where
   after_is : (m : Machine) → machine_after m command ≡ after_line m (built line)
   after_is m = after_built m command ∙ ap (λ (l : Line). after_line m (built l)) (sym says)
 
-  each_moment : IsTrue old.tells → (last m : Machine) → StandsFor old session last m → Leaves old new (λ c g. OneOf last m (after_line m (built line)) c × (g ≡ old.given))
-  each_moment tells last m stands = subst (λ (x : Machine). Leaves old new (λ c g. OneOf last m x c × (g ≡ old.given))) (after_is m) (meanwhile tells last m stands ready.unfailed)
+  calm_by : (command ≢ Cp → room_of command ≡ 0 → new.reads ≡ old.reads) → asks_point (built line) ≡ false → new.reads ≡ old.reads
+  calm_by calm none = let is = quiet command (subst (λ (l : Line). asks_point (built l) ≡ false) says none) in calm is.0 is.1
 
-  -- what the command made its line made
-  by_line : GoOnBy command session.volumes new_session.volumes → GoOnIn (built line ∷ []) session.volumes new_session.volumes
-  by_line on s = ⊎_elim
-      (λ (goes : GoesOn (state_at session.volumes s) (state_at new_session.volumes s)). inl goes)
-      (λ (made : IsMadeBy command (state_at new_session.volumes s)). inr (made_by (built line ∷ []) command (state_at new_session.volumes s) (subst (λ (l : Line). Contains (l ∷ []) (Says command)) (sym (ap built says ∙ creates_built command (state_at new_session.volumes s) made)) (first_in (Says command) [])) made))
-      (on s)
-
-  pub applied : (reply : Reply)
-      → (IsTrue old.tells → (last m : Machine) → StandsFor old session last m → Replies m command reply × StandsAfter new new_session last m (machine_after m command) (machine_after m command))
+  -- the command was carried out, or refused
+  pub applied : (reply : Reply) → (command ≢ Cp → room_of command ≡ 0 → new.reads ≡ old.reads) → Goes (room_of command) old session new new_session (Ok reply)
+      → (IsTrue old.tells → (last m : Machine) → StandsFor old session last m → GoesFor {T = Reply} old last m (machine_after m command) new new_session (Ok reply))
+      → (IsTrue old.tells → (last m : Machine) → StandsFor old session last m → Replies m command reply)
       → (IsTrue old.tells → (last m : Machine) → StandsFor old session last m → command ≡ Cp → StandsFor new new_session m m)
-      → (IsNone new_session.failed → Stands new new_session) → FailsBy session new_session new.faults (Ok reply) → GoOnBy command session.volumes new_session.volumes → HasCause {T = Reply} old.faults new.faults (Ok reply)
       → Applies session (built line) old new_session new (Ok reply)
-  applied reply done point stands fails on cause = record {
-    done = λ tells last m so_far.
-        let is = done tells last m so_far in (
-          subst (λ (l : Line). AllowsAt m (built l) reply) (sym says) (allowed_built m command reply is.0),
-          record {
-            after = subst (λ (x : Machine). StandsAfter new new_session last m x x) (after_is m) is.1;
-            point = λ cp. at_point m (cp_by (is_built command) command (subst (λ (l : Line). is_cp (built l) ≡ true) says cp)) (point tells last m so_far);
-          },
-        );
-    any_moment = each_moment;
+  applied reply calm goes goes_for replies point = record {
+    done = λ tells last m so_far. (
+      subst (λ (l : Line). AllowsAt m (built l) reply) (sym says) (allowed_built m command reply (replies tells last m so_far)),
+      record {
+        after = subst (λ (x : Machine). StandsAfter new new_session last m x) (after_is m) (goes_for tells last m so_far).done;
+        point = λ cp. at_point m (cp_by (is_built command) command (subst (λ (l : Line). is_cp (built l) ≡ true) says cp)) (point tells last m so_far);
+      },
+    );
+    any_moment = λ tells last m so_far. subst (λ (x : Machine). Leaves old new (λ c g. OneOf last m x c × (g ≡ old.given))) (after_is m) (goes_for tells last m so_far).any_moment;
+    still = λ tells last m so_far calm. tt;
     no_damage = λ tells last m so_far. tt;
-    ready = record { unfailed = fails.1; stands = stands fails.1 };
+    ready = record { unfailed = goes.done.goes_on; stands = goes.stands goes.done.goes_on };
     ends = tt;
-    volumes = by_line on;
-    given = keeps.given;
-    left = ap (λ (e : Ends). e.left) keeps.ends;
-    counts = record { tells = keeps.tells; source = ap (λ (e : Ends). e.source_faults) keeps.ends; sink = ap (λ (e : Ends). e.sink_faults) keeps.ends; disk = cause; cause = tt };
+    asks = λ tells room asks. (room_of command, subst (λ (l : Line). IsRoomIn (built l ∷ []) (room_of command)) (sym says) (room_said command), goes.asks tells room asks goes.done.goes_on);
+    given = goes.ends.given;
+    left = ap (λ (e : Ends). e.left) goes.ends.ends;
+    counts = record { tells = goes.ends.tells; source = ap (λ (e : Ends). e.source_faults) goes.ends.ends; sink = ap (λ (e : Ends). e.sink_faults) goes.ends.ends; disk = goes.done.counts.faults };
+    writes = goes.done.counts.write_faults;
+    calm = calm_by calm;
   }
     where
       at_point : (m : Machine) → command ≡ Cp → (command ≡ Cp → StandsFor new new_session m m) → StandsFor new new_session (after_line m (built line)) (after_line m (built line))
       at_point m is stands = subst (λ (x : Machine). StandsFor new new_session x x) (sym (ap (machine_after m) is ∙ after_cp m) ∙ after_is m) (stands is)
 
-  stopped_by : (fault : Fault) → Counts {T = Reply} old new (Err fault) → (IsTrue old.tells → (last m : Machine) → StandsFor old session last m → IsWholeFault fault) → IsSessionFault session new fault → Applies session (built line) old new_session new (Err fault)
-  stopped_by fault counts no_damage ends = record {
-    done = λ tells last m so_far. tt;
-    any_moment = each_moment;
-    no_damage = no_damage;
-    ready = tt;
-    ends = ends;
-    volumes = tt;
-    given = keeps.given;
-    left = ap (λ (e : Ends). e.left) keeps.ends;
-    counts = counts;
-  }
+  -- it wasn't
+  module _ (calm : command ≢ Cp → room_of command ≡ 0 → new.reads ≡ old.reads) (fault : SessionFault) (goes : Goes {T = Reply} (room_of command) old session new new_session (Err fault))
+      (goes_for : IsTrue old.tells → (last m : Machine) → StandsFor old session last m → GoesFor {T = Reply} old last m (machine_after m command) new new_session (Err fault)) where
+    stopped_by : (end : Fault) → Counts old new (count_of end) → (¬ Rose old.write_faults new.write_faults → IsNone new_session.failed)
+        → (IsTrue old.tells → (last m : Machine) → StandsFor old session last m → IsWholeFault end) → IsSessionFault old session new end → Applies session (built line) old new_session new (Err end)
+    stopped_by end counts lives no_damage ends = record {
+      done = λ tells last m so_far. tt;
+      any_moment = λ tells last m so_far. subst (λ (x : Machine). Leaves old new (λ c g. OneOf last m x c × (g ≡ old.given))) (after_is m) (goes_for tells last m so_far).any_moment;
+      still = λ tells last m so_far calm. (goes_for tells last m so_far).still (lives calm);
+      no_damage = no_damage;
+      ready = tt;
+      ends = ends;
+      asks = λ tells room asks. tt;
+      given = goes.ends.given;
+      left = ap (λ (e : Ends). e.left) goes.ends.ends;
+      counts = counts;
+      writes = tt;
+      calm = calm_by calm;
+    }
 
-  no_count : (fault : Fault) → RoseFor fault old new → Counts {T = Reply} old new (Err fault)
-  no_count fault rose = record { tells = keeps.tells; source = tt; sink = tt; disk = tt; cause = rose }
+    no_count : new.faults ≡ old.faults → Counts old new None
+    no_count same = record { tells = goes.ends.tells; source = ap (λ (e : Ends). e.source_faults) goes.ends.ends; sink = ap (λ (e : Ends). e.sink_faults) goes.ends.ends; disk = same }
 
-  pub unapplied : (fault : SessionFault) → (IsTrue old.tells → (last m : Machine) → StandsFor old session last m → IsNoDamage fault) → IsFault session fault
-      → (IsNone new_session.failed → Stands new new_session) → FailsBy {T = Reply} session new_session new.faults (Err fault) → LeavesAll old session new new_session fault → HasCause {T = Reply} old.faults new.faults (Err fault)
+  pub unapplied : (command ≢ Cp → room_of command ≡ 0 → new.reads ≡ old.reads) → (fault : SessionFault) → Goes {T = Reply} (room_of command) old session new new_session (Err fault)
+      → (IsTrue old.tells → (last m : Machine) → StandsFor old session last m → GoesFor {T = Reply} old last m (machine_after m command) new new_session (Err fault))
       → Applies session (built line) old new_session new (Err (of_session fault))
-  unapplied session_fault.DiskFault whole reason stands fails stays cause = stopped_by Disk (no_count Disk cause) (λ tells last m so_far. tt) tt
-  unapplied session_fault.Memory whole reason stands fails stays cause = stopped_by Memory (no_count Memory tt) (λ tells last m so_far. tt) tt
-  unapplied (session_fault.Damaged at want found) whole reason stands fails stays cause = stopped_by Damaged (no_count Damaged tt) whole (lacks old new session new_session at want found stands fails.1 stays reason)
-  unapplied (session_fault.Failed faults) whole reason stands fails stays cause = absurd (never session.failed ready.unfailed reason)
-    where
-      never : (failed : Option ℕ) → IsNone failed → failed ≡ Some faults → ⊥
-      never None none some = cc
-      never (Some x) none some = differ none
-        where
-          differ : true ≡ false → ⊥
-          differ e = cc
+  unapplied calm session_fault.DiskFault goes goes_for = stopped_by calm session_fault.DiskFault goes goes_for Disk
+      (record { tells = goes.ends.tells; source = ap (λ (e : Ends). e.source_faults) goes.ends.ends; sink = ap (λ (e : Ends). e.sink_faults) goes.ends.ends; disk = goes.fault.counts.faults })
+      goes.fault.session.by_read (λ tells last m so_far. tt) tt
+  unapplied calm session_fault.Memory goes goes_for = stopped_by calm session_fault.Memory goes goes_for Memory (no_count calm session_fault.Memory goes goes_for goes.fault.counts.faults) (λ calm. goes.fault.session) (λ tells last m so_far. tt) tt
+  unapplied calm (session_fault.Damaged at want found) goes goes_for = stopped_by calm (session_fault.Damaged at want found) goes goes_for Damaged (no_count calm (session_fault.Damaged at want found) goes goes_for goes.fault.counts.faults)
+      (λ calm. subst (λ (s : Session). IsNone s.failed) (sym goes.fault.session) ready.unfailed)
+      (λ tells last m so_far. absurd (goes_for tells last m so_far).whole)
+      (λ tells room asks. (at, want, found, subst (λ (i : Image). IsShort i room at want found) (sym goes.fault.disk.stays.reads) (goes.fault.reason.image tells room asks)))
+  unapplied calm (session_fault.Failed faults) goes goes_for = absurd (never_failed session.failed faults ready.unfailed goes.fault.reason)

@@ -21,12 +21,12 @@ before_it blocks old mid result w = weaken old mid (λ c g. KeepsVolumes blocks 
 pub untold : (blocks : ℕ) (old mid : Shown) (e : Failed) → WritesFixed blocks old mid (Err e) → Creates blocks old mid (Err Disk)
 untold blocks old mid e w = record {
   created = λ tells. tt;
-  cause = w.counted.cause.rose;
+  only = tt;
   given = λ tells. w.counted.given;
   acknowledged = λ tells. before_it blocks old mid (Err e) w;
   volumes = w.reads;
+  counts = record { tells = w.counted.tells; source = ap (λ (ends : Ends). ends.source_faults) w.counted.ends; sink = ap (λ (ends : Ends). ends.sink_faults) w.counted.ends; disk = w.counted.cause.rose };
   left = ap (λ (ends : Ends). ends.left) w.counted.ends;
-  source_faults = ap (λ (ends : Ends). ends.source_faults) w.counted.ends;
 }
 
 while_telling : (blocks : ℕ) (old mid new : Shown) (bytes : List ℕ) → IsSettled mid → machine_of mid.reads ≡ Some (empty_machine blocks) → Leaves mid new (PartlyGiven mid bytes) → Leaves mid new (IsAcknowledged blocks old)
@@ -50,21 +50,31 @@ module _ (blocks : ℕ) (old mid new : Shown) (made : WritesFixed blocks old mid
       stands = rw gives.rests.stays.reads (stands tells);
       given = gives.all (still_told tells) ∙ ap (λ (x : List ℕ). x ++ created_text blocks) made.counted.given;
     };
-    cause = tt;
+    only = tt;
     given = λ tells. tt;
     acknowledged = acknowledged;
     volumes = λ tells b volumes. rw gives.rests.stays.reads (made.reads tells b volumes);
+    counts = record {
+      tells = gives.rests.stays.tells ∙ made.counted.tells;
+      source = gives.source_faults ∙ ap (λ (ends : Ends). ends.source_faults) made.counted.ends;
+      sink = gives.cause.calm ∙ ap (λ (ends : Ends). ends.sink_faults) made.counted.ends;
+      disk = gives.rests.faults ∙ made.counted.cause.calm;
+    };
     left = gives.left ∙ ap (λ (ends : Ends). ends.left) made.counted.ends;
-    source_faults = gives.source_faults ∙ ap (λ (ends : Ends). ends.source_faults) made.counted.ends;
   }
 
   pub told_partly : (e : Failed) → GivesAll mid (created_text blocks) new (Err e) → Creates blocks old new (Err Sink)
   told_partly e gives = record {
     created = λ tells. tt;
-    cause = subst (λ (ends : Ends). Rose ends.sink_faults new.ends.sink_faults) made.counted.ends gives.cause.rose;
-    given = λ tells. let part = gives.part (still_told tells) in (part.0, part.1 ∙ ap (λ (x : List ℕ). x ++ take part.0 (created_text blocks)) made.counted.given);
+    only = tt;
+    given = λ tells. let part = gives.part (still_told tells) in (part.0, part.1, part.2 ∙ ap (λ (x : List ℕ). x ++ take part.0 (created_text blocks)) made.counted.given);
     acknowledged = acknowledged;
     volumes = λ tells b volumes. rw gives.rests.stays.reads (made.reads tells b volumes);
+    counts = record {
+      tells = gives.rests.stays.tells ∙ made.counted.tells;
+      source = gives.source_faults ∙ ap (λ (ends : Ends). ends.source_faults) made.counted.ends;
+      sink = subst (λ (ends : Ends). Rose ends.sink_faults new.ends.sink_faults) made.counted.ends gives.cause.rose;
+      disk = gives.rests.faults ∙ made.counted.cause.calm;
+    };
     left = gives.left ∙ ap (λ (ends : Ends). ends.left) made.counted.ends;
-    source_faults = gives.source_faults ∙ ap (λ (ends : Ends). ends.source_faults) made.counted.ends;
   }

@@ -108,5 +108,12 @@ left_next count lines rest line is = same_tail line (get_or lines count line) re
     same_tail : (line first : Line) (rest others : List Line) → line ∷ rest ≡ first ∷ others → rest ≡ others
     same_tail line first rest others e = cc
 
+-- the line behind the first `count`
+pub line_behind : (count : ℕ) (lines rest : List Line) (line : Line) → line ∷ rest ≡ drop count lines → get_or lines count NoCommand ≡ line
+line_behind count lines rest line is = same_head line (get_or lines count NoCommand) rest (drop (count + 1) lines) (is ∙ sym (rw add-one (sym (drop-cons lines count NoCommand (left_below count lines rest line is)))))
+  where
+    same_head : (line first : Line) (rest others : List Line) → line ∷ rest ≡ first ∷ others → first ≡ line
+    same_head line first rest others e = cc
+
 pub line_at : (count : ℕ) (lines rest : List Line) (line : Line) → line ∷ rest ≡ drop count lines → get_or lines count line ≡ line
 line_at count lines rest line is = next_line count lines rest line is (left_below count lines rest line is)

@@ -1,15 +1,21 @@
 -- Whether a byte past the limit was taken, and how many lines end before it.
-use Rattle.std.proofs.Common.{◌≡◌, ℕ, ◌+◌, ◌<◌, ◌≤◌, ◌++◌, List, [], ◌∷◌, length, take, sym, ap, ◌∙◌, arith, append_assoc, append-nil}
+use Rattle.std.proofs.Common.{◌≡◌, ℕ, ◌+◌, ◌<◌, ◌≤◌, ◌++◌, Bool, true, false, List, [], ◌∷◌, length, take, sym, ap, ◌∙◌, arith, append_assoc, append-nil}
 use Rattle.std.proofs.Math.Seq.{take-append-add}
 use Rattle.std.proofs.lemmas.List.{length-append}
 use Rattle.fv_model.specs.Runs.{whole}
+use Rattle.fv_lines.specs.Reading.{to_come}
 use Rattle.fv_lines.proofs.Ends.{whole_append}
 
 -- where all that was taken was read, no byte past the limit was
-pub all_read : (limit room : ℕ) (script read more left : List ℕ) → script ≡ read ++ (more ++ left) → limit ≡ length read + (length more + room) → limit + length left < length script → ⊥
-all_read limit room script read more left is room_is taken =
-    let long : length script ≡ length read + (length more + length left) = ap (λ (l : List ℕ). length l) is ∙ length-append read (more ++ left) ∙ ap (λ (n : ℕ). length read + n) (length-append more left) in
-    omega (arith, long, room_is, taken)
+pub all_read : (limit room : ℕ) (script read more rest left : List ℕ) → script ≡ read ++ (more ++ rest) → limit ≡ length read + (length more + room) → length rest ≤ length left → limit + length left < length script → ⊥
+all_read limit room script read more rest left is room_is most taken =
+    let long : length script ≡ length read + (length more + length rest) = ap (λ (l : List ℕ). length l) is ∙ length-append read (more ++ rest) ∙ ap (λ (n : ℕ). length read + n) (length-append more rest) in
+    omega (arith, long, room_is, most, taken)
+
+-- no more is still to come than the source has left
+pub to_come_most : (ended : Bool) (left : List ℕ) → length (to_come ended left) ≤ length left
+to_come_most true left = omega arith
+to_come_most false left = omega arith
 
 front : (script read more left : List ℕ) (room : ℕ) → script ≡ read ++ (more ++ left) → take (length read + (length more + room)) script ≡ (read ++ more) ++ take room left
 front script read more left room is =

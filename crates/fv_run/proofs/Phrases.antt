@@ -2,7 +2,8 @@
 use Rattle.std.proofs.Common.{◌≡◌, ℕ, ◌<◌, ◌≤◌, cond, List, [], ◌∷◌, length, get_or, map, refl, arith}
 use Rattle.std.specs.Prelude.{codes, bytes_eq, Option, Some, None}
 use Rattle.std.specs.Option.{option_map, ok_or}
-use Rattle.fv_run.specs.Meaning.{create, number_in, meaning, Means}
+use Rattle.fv_script.specs.CommandLine.{blocks_of}
+use Rattle.fv_run.specs.Meaning.{create, meaning, Means}
 use Rattle.fv_run.specs.declared.words.Order.{Order}
 use Rattle.fv_run.specs.declared.words.Order.TheVariants.{Run}
 use Rattle.fv_run.specs.declared.words.WordsFault.TheVariants.{Usage}
@@ -28,7 +29,7 @@ module _ {X : Type 0} (text : X → List ℕ) where
   many (a ∷ b ∷ c ∷ more) least = refl
 
   pub two : (words : List X) (command size : X) → 2 ≤ length words → length words < 3 → command ≡ get_or words 0 command → size ≡ get_or words 1 size
-      → meaning (map text words) ≡ cond (bytes_eq (text command) (codes "create")) (option_map create (number_in 512 1048576 (text size))) None
+      → meaning (map text words) ≡ cond (bytes_eq (text command) (codes "create")) (option_map create (blocks_of (text size))) None
   unfolding meaning
   two [] command size least below first second = absurd (omega arith)
   two (a ∷ []) command size least below first second = absurd (omega arith)

@@ -1,5 +1,5 @@
 -- What a session on a disk stands for, and that it goes on doing so while the disk rests.
-use Rattle.std.proofs.Common.{◌≡◌, ◌<◌, ⊎_elim, ℕ, suc, zero, true, false, refl, sym, subst, ◌∙◌, arith}
+use Rattle.std.proofs.Common.{◌≡◌, ◌<◌, ⊎_elim, ℕ, suc, zero, true, false, refl, sym, ap, subst, ◌∙◌, arith}
 use Rattle.std.specs.Prelude.{Some, None, Option, Result, Ok, Err, IsNone, IsOk, IsErr, IsTrue}
 use Rattle.fv_disk.specs.Shown.{Image, Shown}
 use Rattle.fv_disk.specs.HostCalls.{Rests}
@@ -21,10 +21,9 @@ use Rattle.fv_root.specs.declared.find.Found.{Found}
 use Rattle.fv_root.specs.Finding.{IsDamaged, IsFound, IsNoAggregate, root_found}
 use Rattle.fv_aggregate.specs.declared.fault.OpenFault.TheVariants.{Damaged}
 use Rattle.fv_aggregate.specs.declared.session.Session.{Session}
-use Rattle.fv_aggregate.specs.Standing.{Stands, StandsFor}
-use Rattle.fv_aggregate.specs.declared.fault.Fault.TheVariants.{Damaged as DamagedNow}
-use Rattle.fv_aggregate.specs.Causes.{IsFault, IsOpenFault, IsUnder, LeavesAll}
-use Rattle.fv_run.specs.Running.{Lacks}
+use Rattle.fv_aggregate.specs.Standing.{Stands, StandsAfter, StandsFor}
+use Rattle.fv_aggregate.specs.Asking.{AsksWithin}
+use Rattle.fv_aggregate.specs.Causes.{IsOpenFault, IsUnder}
 
 abbrev nothing_behind : Option (Result Root Shape)
 nothing_behind = None
@@ -42,19 +41,27 @@ images_stand disk session last m stands c now =
 pub reads_stand : (disk : Shown) (session : Session) (last m : Machine) → StandsFor disk session last m → machine_of disk.reads ≡ Some last
 reads_stand disk session last m stands = machine_stands disk.reads last (record { taken = root_found session.pool.found; counts = stands.lent.found.reads.root; tells = stands.lent.tells })
 
+-- where reads give what they gave, the last point is the one that it was
+pub point_stays : (old new : Shown) (session next : Session) (last m before now : Machine) → new.reads ≡ old.reads → StandsFor old session last m → (stands : StandsAfter new next last before now) → stands.point ≡ last
+point_stays old new session next last m before now same stood stands =
+    let is : Some stands.point ≡ Some last = sym (reads_stand new next stands.point now stands.stands) ∙ ap machine_of same ∙ reads_stand old session last m stood in
+    inside stands.point last is
+  where
+    inside : (a b : Machine) → Some a ≡ Some b → a ≡ b
+    inside a b e = cc
+
 found_still : (old new : Shown) (found : Found) → Rests old new → IsFoundOn old found → IsFoundOn new found
 found_still old new found rests on = record { reads = rw rests.stays.reads on.reads; images = λ c now. on.images c (rests.stays.no_more c now) }
 
 pub rests_standing : (old new : Shown) (session : Session) → Rests old new → Stands old session → Stands new session
 rests_standing old new session rests stands = record {
-  cache = record { same = λ tells pvbn block has. rw rests.stays.reads (stands.cache.same (rw (← rests.stays.tells) tells) pvbn block has) };
   found = λ tells. found_still old new session.pool.found rests (stands.found (rw (← rests.stays.tells) tells));
   map = λ tells. rw rests.stays.reads (stands.map (rw (← rests.stays.tells) tells));
-  range = stands.range;
-  size = stands.size;
-  housed = stands.housed;
-  unkept = stands.unkept;
+  cache = record { same = λ tells pvbn block has. rw rests.stays.reads (stands.cache.same (rw (← rests.stays.tells) tells) pvbn block has) };
 }
+
+pub rests_asking : (old new : Shown) (session : Session) (room : ℕ) → Rests old new → AsksWithin old session room → AsksWithin new session room
+rests_asking old new session room rests asks = record { asked = rw rests.stays.reads asks.asked; pending = asks.pending }
 
 still_lent : (old new : Shown) (pool : Pool) (states : States) (last : Machine) → Rests old new → IsLent old pool states last → IsLent new pool states last
 still_lent old new pool states last rests lent = record {
@@ -76,15 +83,12 @@ rests_standing_for old new session last m rests stands = record {
   room = rw rests.stays.reads stands.room;
 }
 
--- a session that lacked blocks stays as it was, and stands on the disk
-pub lacks : (old new : Shown) (session left : Session) (at want found : ℕ) → (IsNone left.failed → Stands new left) → IsNone left.failed → LeavesAll old session new left (DamagedNow at want found) → IsFault session (DamagedNow at want found) → Lacks new session
-lacks old new session left at want found stands unfailed stays fault = record {
-  stands = subst (Stands new) stays.1 (stands unfailed);
-  at = at;
-  want = want;
-  found = found;
-  fault = fault;
-}
+pub never_failed : (failed : Option ℕ) (faults : ℕ) → IsNone failed → failed ≡ Some faults → ⊥
+never_failed None faults none some = cc
+never_failed (Some x) faults none some = differ none
+  where
+    differ : true ≡ false → ⊥
+    differ e = cc
 
 -- ---- images that are no aggregate
 

@@ -1,18 +1,21 @@
 -- What a crash leaves of a run that answered some lines.
 use Rattle.std.proofs.Common.{◌≡◌, ◌⊎◌, inl, inr, ⊎_elim, ℕ, ◌+◌, ◌<◌, ◌≤◌, ◌++◌, Bool, true, false, List, ◌∷◌, length, take, drop, refl, sym, ap, subst, ◌∙◌, arith, suc, zero}
-use Rattle.std.specs.Prelude.{Some}
-use Rattle.std.proofs.lemmas.List.{take-append-drop}
+use Rattle.std.specs.Prelude.{Some, Result, Ok, Err}
 use Rattle.fv_disk.specs.Shown.{Image, Shown}
 use Rattle.fv_model.specs.Machines.{Machine}
 use Rattle.fv_model.specs.Runs.{Line, after, after_line, is_cp, up_to_cp, whole}
 use Rattle.fv_image.specs.MachineOf.{machine_of}
 use Rattle.fv_lines.proofs.Ends.{whole_append}
 use Rattle.fv_aggregate.specs.declared.session.Session.{Session}
-use Rattle.fv_aggregate.specs.Standing.{OneOf, StandsFor}
-use Rattle.fv_run.specs.Running.{IsAfterSome}
-use Rattle.fv_run.specs.Answering.{StandsOnward}
-use Rattle.fv_run.proofs.Acked.{acked_part, acked_all, up_to_take, up_to_next}
-use Rattle.fv_run.proofs.Following.{after_next, left_below, line_at}
+use Rattle.fv_aggregate.specs.Standing.{OneOf, StandsAfter, StandsFor}
+use Rattle.fv_run.specs.declared.ending.Fault.{Fault}
+use Rattle.fv_run.specs.declared.ending.Fault.TheVariants.{Usage, NotAggregate, Source, Sink, Disk, Memory, Damaged, Limit}
+use Rattle.fv_run.specs.Running.{asks_behind, asks_point, begun, IsAfterSome, IsAskedFor, IsAtRest}
+use Rattle.fv_run.specs.Answering.{IsLastPoint, StandsOnward}
+use Rattle.fv_run.proofs.Acked.{acked_part, acked_all, up_to_here, up_to_take, up_to_next}
+use Rattle.fv_run.proofs.Following.{after_next, left_below, line_at, line_behind}
+use Rattle.fv_run.proofs.Lines.{part_whole}
+use Rattle.fv_run.proofs.Sessions.{reads_stand}
 
 module _ (m : Machine) (lines : List Line) where
   -- an output with so many lines, and an image after at least the acknowledged ones and at most one more
@@ -36,10 +39,54 @@ module _ (m : Machine) (lines : List Line) where
     machine = stands;
   }
 
-part_whole : (bytes : List ℕ) (k : ℕ) → whole (take k bytes) ≤ whole bytes
-part_whole bytes k =
-    let both : whole bytes ≡ whole (take k bytes) + whole (drop k bytes) = ap whole (sym (take-append-drop k bytes)) ∙ whole_append (take k bytes) (drop k bytes) in
-    omega (arith, both)
+-- each line that is answered was begun
+pub begun_least : (result : Result Unit Fault) (output : List ℕ) → whole output ≤ begun result output
+begun_least (Ok done) output = omega arith
+begun_least (Err Usage) output = omega arith
+begun_least (Err NotAggregate) output = omega arith
+begun_least (Err Source) output = omega arith
+begun_least (Err Sink) output = omega arith
+begun_least (Err Disk) output = omega arith
+begun_least (Err Memory) output = omega arith
+begun_least (Err Damaged) output = omega arith
+begun_least (Err Limit) output = omega arith
+
+-- the last point over the lines that an output answers is one that was asked for
+pub asked_for : (lines : List Line) (output : List ℕ) (result : Result Unit Fault) (count n : ℕ) → whole output ≡ count → count ≤ length lines → IsLastPoint lines count n → IsAskedFor lines output result n
+asked_for lines output result count n counted within asked = ⊎_elim
+    (λ (e : n ≡ up_to_cp (take count lines)). inl (e ∙ sym (acked_part lines output count counted within)))
+    (λ (asks : (n < count) × (asks_behind lines n ≡ true)). inr (inl (omega (arith, asks.0, counted, begun_least result output), asks.1)))
+    asked
+
+-- the disk once a run has ended, with so many lines in the output, over the image of a session's last point
+pub rested : (m : Machine) (lines : List Line) (old new : Shown) (session : Session) (now : Machine) (count n : ℕ) (output : List ℕ) → new.given ≡ old.given ++ output → whole output ≡ count → count ≤ length lines
+    → up_to_cp (take count lines) ≤ n → n ≤ count → (result : Result Unit Fault) → IsAskedFor lines output result n → StandsFor new session (after m lines n) now → IsAtRest m lines result old new
+rested m lines old new session now count n output given counted within least most result asked stands = record {
+  output = output;
+  given = given;
+  count = n;
+  acknowledged = rw (acked_part lines output count counted within) least;
+  all = omega (arith, most, within);
+  answered = omega (arith, most, counted);
+  asked = asked;
+  machine = reads_stand new session (after m lines n) now stands;
+  settled = stands.settled;
+}
+
+-- the last point is one of the two that it may be
+pub rested_after : (m : Machine) (lines : List Line) (old new : Shown) (session : Session) (now : Machine) (count n : ℕ) (output : List ℕ) → new.given ≡ old.given ++ output → whole output ≡ count → count ≤ length lines
+    → up_to_cp (take count lines) ≤ n → n ≤ count → (result : Result Unit Fault) → IsLastPoint lines count n → (stands : StandsAfter new session (after m lines n) (after m lines count) now)
+    → count < begun result output → (asks_behind lines count ≡ true) ⊎ (stands.point ≡ after m lines n) → IsAtRest m lines result old new
+rested_after m lines old new session now count n output given counted within least most result asked stands began which = ⊎_elim
+    (λ (e : stands.point ≡ after m lines n). stayed e)
+    (λ (e : stands.point ≡ after m lines count). ⊎_elim
+    (λ (asks : asks_behind lines count ≡ true). rested m lines old new session now count count output given counted within (up_to_take count lines within) (omega arith) result (inr (inl (began, asks))) (subst (λ (x : Machine). StandsFor new session x now) e stands.stands))
+    (λ (same : stands.point ≡ after m lines n). stayed same)
+    which)
+    stands.one
+  where
+    stayed : stands.point ≡ after m lines n → IsAtRest m lines result old new
+    stayed e = rested m lines old new session now count n output given counted within least most result (asked_for lines output result count n counted within asked) (subst (λ (x : Machine). StandsFor new session x now) e stands.stands)
 
 none_or_one : (n : ℕ) → n ≤ 1 → (n ≡ 0) ⊎ (n ≡ 1)
 none_or_one zero most = inl refl
@@ -59,6 +106,7 @@ module _ (m : Machine) (lines rest : List Line) (line : Line) (count : ℕ) (is 
     pub before : up_to_cp (take count lines) ≤ point
     pub least : up_to_cp (take (count + 1) lines) ≤ point
     pub most : point ≤ count + 1
+    pub asked : IsLastPoint lines (count + 1) point
     pub stands : StandsFor disk session (after m lines point) (after m lines (count + 1))
 
   below : count < length lines
@@ -70,38 +118,61 @@ module _ (m : Machine) (lines rest : List Line) (line : Line) (count : ℕ) (is 
   still_before : up_to_cp (take count lines) ≤ count
   still_before = up_to_take count lines (omega (arith, below))
 
-  at_next : (disk : Shown) (session : Session) → StandsFor disk session (after m lines (count + 1)) (after m lines (count + 1)) → IsOnward disk session
-  at_next disk session stands = record {
+  at_next : (disk : Shown) (session : Session) → is_cp line ≡ true → StandsFor disk session (after m lines (count + 1)) (after m lines (count + 1)) → IsOnward disk session
+  at_next disk session cp stands = record {
     point = count + 1;
     before = omega (arith, still_before);
     least = up_to_take (count + 1) lines (omega (arith, below));
     most = omega arith;
+    asked = inl (sym (up_to_here count lines line below (line_at count lines rest line is) cp));
     stands = stands;
   }
 
-  at_old : (disk : Shown) (session : Session) (n : ℕ) → is_cp line ≡ false → up_to_cp (take count lines) ≤ n → n ≤ count → StandsFor disk session (after m lines n) (after m lines (count + 1)) → IsOnward disk session
-  at_old disk session n other least most stands = record {
+  at_old : (disk : Shown) (session : Session) (n : ℕ) → is_cp line ≡ false → up_to_cp (take count lines) ≤ n → n ≤ count → IsLastPoint lines (count + 1) n → StandsFor disk session (after m lines n) (after m lines (count + 1)) → IsOnward disk session
+  at_old disk session n other least most asked stands = record {
     point = n;
     before = least;
     least = omega (arith, least, up_to_next count lines line below (line_at count lines rest line is) other);
     most = omega (arith, most);
+    asked = asked;
     stands = stands;
   }
 
-  one_point : (disk : Shown) (session : Session) (n : ℕ) (point : Machine) → is_cp line ≡ false → up_to_cp (take count lines) ≤ n → n ≤ count
-      → (point ≡ after m lines n) ⊎ ((point ≡ after m lines count) ⊎ (point ≡ after_line (after m lines count) line)) → StandsFor disk session point (after m lines (count + 1)) → IsOnward disk session
-  one_point disk session n point other least most one stands = ⊎_elim
-      (λ (e : point ≡ after m lines n). at_old disk session n other least most (subst (λ (x : Machine). StandsFor disk session x (after m lines (count + 1))) e stands))
-      (λ (others : (point ≡ after m lines count) ⊎ (point ≡ after_line (after m lines count) line)). ⊎_elim
-      (λ (e : point ≡ after m lines count). at_old disk session count other still_before (omega arith) (subst (λ (x : Machine). StandsFor disk session x (after m lines (count + 1))) e stands))
-      (λ (e : point ≡ after_line (after m lines count) line). at_next disk session (subst (λ (x : Machine). StandsFor disk session x (after m lines (count + 1))) (e ∙ sym next_is) stands))
-      others)
-      one
+  -- a line more that is no `cp`
+  one_more : is_cp line ≡ false → (n : ℕ) → IsLastPoint lines count n → IsLastPoint lines (count + 1) n
+  one_more other n asked = ⊎_elim
+      (λ (e : n ≡ up_to_cp (take count lines)). inl (e ∙ sym (up_to_next count lines line below (line_at count lines rest line is) other)))
+      (λ (asks : (n < count) × (asks_behind lines n ≡ true)). inr (omega (arith, asks.0), asks.1))
+      asked
 
-  pub onward : (disk : Shown) (session : Session) (n : ℕ) → up_to_cp (take count lines) ≤ n → n ≤ count → StandsOnward disk session (after m lines n) (after m lines count) line → IsOnward disk session
-  onward disk session n least most stands = ⊎_elim
-      (λ (cp : is_cp line ≡ true). at_next disk session (subst (λ (x : Machine). StandsFor disk session x x) (sym next_is) (stands.point cp)))
-      (λ (other : is_cp line ≡ false). one_point disk session n stands.after.point other least most stands.after.one (subst (λ (x : Machine). StandsFor disk session stands.after.point x) (sym next_is) stands.after.stands))
+  one_point : (disk : Shown) (session : Session) (n : ℕ) (point : Machine) → is_cp line ≡ false → up_to_cp (take count lines) ≤ n → n ≤ count → IsLastPoint lines count n
+      → (point ≡ after m lines n) ⊎ (point ≡ after m lines count) → (asks_behind lines count ≡ true) ⊎ (point ≡ after m lines n) → StandsFor disk session point (after m lines (count + 1)) → IsOnward disk session
+  one_point disk session n point other least most asked one which stands = ⊎_elim
+      (λ (e : point ≡ after m lines n). stayed e)
+      (λ (e : point ≡ after m lines count). ⊎_elim
+      (λ (asks : asks_behind lines count ≡ true). at_old disk session count other still_before (omega arith) (inr (omega arith, asks)) (subst (λ (x : Machine). StandsFor disk session x (after m lines (count + 1))) e stands))
+      (λ (same : point ≡ after m lines n). stayed same)
+      which)
+      one
+    where
+      stayed : point ≡ after m lines n → IsOnward disk session
+      stayed e = at_old disk session n other least most (one_more other n asked) (subst (λ (x : Machine). StandsFor disk session x (after m lines (count + 1))) e stands)
+
+  -- a point over the first `count` lines is one that the next line asks for
+  pub which_point : (point last : Machine) → (asks_point line ≡ false → point ≡ last) → (asks_behind lines count ≡ true) ⊎ (point ≡ last)
+  which_point point last calm = ⊎_elim
+      (λ (asks : asks_point line ≡ true). inl (ap asks_point (line_behind count lines rest line is) ∙ asks))
+      (λ (none : asks_point line ≡ false). inr (calm none))
+      (yes_or_no (asks_point line))
+    where
+      yes_or_no : (b : Bool) → (b ≡ true) ⊎ (b ≡ false)
+      yes_or_no true = inl refl
+      yes_or_no false = inr refl
+
+  pub onward : (disk : Shown) (session : Session) (n : ℕ) → up_to_cp (take count lines) ≤ n → n ≤ count → IsLastPoint lines count n → (stands : StandsOnward disk session (after m lines n) (after m lines count) line) → (asks_point line ≡ false → stands.after.point ≡ after m lines n) → IsOnward disk session
+  onward disk session n least most asked stands calm = ⊎_elim
+      (λ (cp : is_cp line ≡ true). at_next disk session cp (subst (λ (x : Machine). StandsFor disk session x x) (sym next_is) (stands.point cp)))
+      (λ (other : is_cp line ≡ false). one_point disk session n stands.after.point other least most asked stands.after.one (which_point stands.after.point (after m lines n) calm) (subst (λ (x : Machine). StandsFor disk session stands.after.point x) (sym next_is) stands.after.stands))
       (true_or_false (is_cp line))
     where
       true_or_false : (b : Bool) → (b ≡ true) ⊎ (b ≡ false)

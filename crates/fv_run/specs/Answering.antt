@@ -1,73 +1,84 @@
 -- Answering the lines of a script, one after another.
-use Rattle.std.specs.Prelude.{◌≡◌, ◌⊎◌, ◌≤◌, ◌+◌, ℕ, List, [], ◌∷◌, ◌++◌, length, take, drop, flat_map, true, Contains, IsTrue, IsNone, Result, Ok, Err, IfOk, IfErr, OnOk, OnErr}
-use Rattle.fv_disk.specs.Shown.{Shown}
-use Rattle.fv_disk.specs.HostCalls.{Rests}
+use Rattle.std.specs.Prelude.{◌≡◌, ◌⊎◌, ◌<◌, ◌≤◌, ◌+◌, ℕ, List, [], ◌∷◌, ◌++◌, length, take, drop, flat_map, true, false, max, None, Contains, IsTrue, IsNone, Result, Ok, Err, IfOk, IfErr, OnOk, OnErr}
+use Rattle.fv_disk.specs.Shown.{Image, Shown, Rose}
 use Rattle.fv_disk.specs.Crash.{Leaves}
-use Rattle.fv_disk.specs.Partly.{PartlyGiven}
 use Rattle.fv_model.specs.declared.answers.Reply.{Reply}
 use Rattle.fv_model.specs.Machines.{Machine}
 use Rattle.fv_model.specs.Runs.{Line, after, after_line, AllowsAt, AnswersAll, is_cp, up_to_cp, whole}
 use Rattle.fv_model.specs.Texts.{text}
+use Rattle.fv_script.specs.Telling.{Tells, unnamed}
+use Rattle.fv_lines.specs.Counts.{Counts}
 use Rattle.fv_lines.specs.Held.{Held}
 use Rattle.fv_lines.specs.Reading.{unread}
 use Rattle.fv_aggregate.specs.declared.session.Session.{Session}
+use Rattle.fv_aggregate.specs.Asking.{AsksWithin, IsShort}
 use Rattle.fv_aggregate.specs.Standing.{OneOf, Stands, StandsAfter, StandsFor}
 use Rattle.fv_run.specs.declared.ending.Fault.{Fault}
 use Rattle.fv_run.specs.declared.ending.Fault.TheVariants.{Source, Sink, Disk, Memory, Damaged, Limit}
-use Rattle.fv_run.specs.Endings.{Counts, IsWholeFault}
+use Rattle.fv_run.specs.Endings.{IsWholeFault, count_of, raised_by}
 use Rattle.fv_run.specs.Built.{lines_built}
-use Rattle.fv_run.specs.Running.{GoOnIn, Holds, IsCutOff, IsOverLimit, IsPastLimit, Lacks, LacksSince, Survives}
+use Rattle.fv_run.specs.Running.{asks_behind, asks_point, Holds, IsLacking, IsOverLimit, IsPastLimit, IsRoomIn, Survives}
+
+-- ---- lines and their replies
+
+-- bytes that end once, with the last of them
+pub record IsLine (bytes : List ℕ) : Type 0 where
+  pub front : List ℕ
+  pub is : bytes ≡ front ++ 10 ∷ []
+  pub none : whole front ≡ 0
+
+-- all bytes of a line are given, or a part of them, and never all, where the sink failed
+pub record TellsLine (old : Shown) (bytes : List ℕ) (new : Shown) (result : Result Unit Fault) : Type 0 where
+  pub tells : Tells old bytes new (unnamed result)
+  pub sink : IfErr result (λ fault. fault ≡ Sink)
+  pub line : IsLine bytes
+
+-- ---- one line
+
+-- a consistency point lacks blocks that keeps room for an event with this room
+abbrev pub Lacks : ℕ → Image → Type 0
+Lacks room i = (at want found : ℕ) × IsShort i room at want found
 
 -- a fault of a session's calls, each with its reason beside the counts
-abbrev pub IsSessionFault : Session → Shown → Fault → Type 0
-IsSessionFault session new Disk = Unit {0}
-IsSessionFault session new Memory = Unit {0}
-IsSessionFault session new Damaged = Lacks new session
-IsSessionFault session new fault = ⊥
-
--- why a run that was opened ended, beside the counts of faults
-abbrev pub IsEndOf : ℕ → Session → Shown → Shown → Fault → Type 0
-IsEndOf limit first old new Source = Unit {0}
-IsEndOf limit first old new Sink = Unit {0}
-IsEndOf limit first old new Disk = Unit {0}
-IsEndOf limit first old new Memory = Unit {0}
-IsEndOf limit first old new Damaged = IsTrue old.tells → LacksSince (lines_built old.ends.left) first new
-IsEndOf limit first old new Limit = IsTrue old.tells → IsPastLimit limit old new
-IsEndOf limit first old new fault = ⊥
+abbrev pub IsSessionFault : Shown → Session → Shown → Fault → Type 0
+IsSessionFault old session new Disk = Unit {0}
+IsSessionFault old session new Memory = Unit {0}
+IsSessionFault old session new Damaged = IsTrue old.tells → (room : ℕ) → AsksWithin old session room → Lacks room new.reads
+IsSessionFault old session new fault = ⊥
 
 -- a session that hasn't failed, on its disk
 pub record IsReady (disk : Shown) (session : Session) : Type 0 where
   pub unfailed : IsNone session.failed
   pub stands : Stands disk session
 
--- after a line the session stands for the next machine, and after a `cp` its last consistency point does, too
+-- After a line the session stands for the next machine, and its last consistency point for that of before or for an earlier one; after a
+-- `cp` the point stands for the next machine, too.
 pub record StandsOnward (disk : Shown) (session : Session) (last m : Machine) (line : Line) : Type 0 where
-  pub after : StandsAfter disk session last m (after_line m line) (after_line m line)
+  pub after : StandsAfter disk session last m (after_line m line)
   pub point : is_cp line ≡ true → StandsFor disk session (after_line m line) (after_line m line)
+
+-- a session asks for no more than the space rule keeps, for the event of a line or for none
+pub record AsksFor (lines : List Line) (disk : Shown) (session : Session) : Type 0 where
+  pub room : ℕ
+  pub line : IsRoomIn lines room
+  pub asks : AsksWithin disk session room
 
 -- A line is applied, and nothing is given.
 pub record Applies (session : Session) (line : Line) (old : Shown) (new_session : Session) (new : Shown) (result : Result Reply Fault) : Type 0 where
   pub done : IsTrue old.tells → (last m : Machine) → StandsFor old session last m → IfOk result (λ reply. AllowsAt m line reply × StandsOnward new new_session last m line)
   pub any_moment : IsTrue old.tells → (last m : Machine) → StandsFor old session last m → Leaves old new (λ c g. OneOf last m (after_line m line) c × (g ≡ old.given))
+  pub still : IsTrue old.tells → (last m : Machine) → StandsFor old session last m → ¬ Rose old.write_faults new.write_faults → OnErr result (StandsAfter new new_session last m m)
   pub no_damage : IsTrue old.tells → (last m : Machine) → StandsFor old session last m → IfErr result IsWholeFault
   pub ready : OnOk result (IsReady new new_session)
-  pub ends : IfErr result (IsSessionFault session new)
-  pub volumes : OnOk result (GoOnIn (line ∷ []) session.volumes new_session.volumes)
+  pub ends : IfErr result (IsSessionFault old session new)
+  pub asks : IsTrue old.tells → (room : ℕ) → AsksWithin old session room → OnOk result ((more : ℕ) × IsRoomIn (line ∷ []) more × AsksWithin new new_session (max room more))
   pub given : new.given ≡ old.given
   pub left : new.ends.left ≡ old.ends.left
-  pub counts : Counts old new result
+  pub counts : Counts old new (raised_by result)
+  pub writes : OnOk result (new.write_faults ≡ old.write_faults)
+  pub calm : asks_point line ≡ false → new.reads ≡ old.reads
 
--- All bytes of a line are given, or a prefix of them where the sink failed; the line ends once. The disk rests, and nothing of the source is
--- taken.
-pub record Tells (old : Shown) (bytes : List ℕ) (new : Shown) (result : Result Unit Fault) : Type 0 where
-  pub all : IsTrue old.tells → OnOk result (new.given ≡ old.given ++ bytes)
-  pub part : IsTrue old.tells → OnErr result ((k : ℕ) × (new.given ≡ old.given ++ take k bytes))
-  pub sink : IfErr result (λ fault. fault ≡ Sink)
-  pub any_moment : Leaves old new (PartlyGiven old bytes)
-  pub rests : Rests old new
-  pub left : new.ends.left ≡ old.ends.left
-  pub counts : Counts old new result
-  pub one : whole bytes ≡ 1
+-- ---- all lines
 
 -- What was read and given so far: as many bytes of the script as the room fell by, and a line for each line read. A last line may have had
 -- no end.
@@ -79,6 +90,10 @@ pub record HasRead (limit : ℕ) (old : Shown) (held : Held) (now : Shown) (coun
   pub front : old.ends.left ≡ read ++ unread held now
   pub room : limit ≡ length read + held.room
   pub ended : (whole read ≡ count) ⊎ (unread held now ≡ [])
+
+-- The last point of a session that answered the first `count` lines is after the last `cp` of them, or before one that asks for a point.
+abbrev pub IsLastPoint : List Line → ℕ → ℕ → Type 0
+IsLastPoint lines count point = (point ≡ up_to_cp (take count lines)) ⊎ ((point < count) × (asks_behind lines point ≡ true))
 
 -- The first `count` lines are answered, and `left` are the others. The session stands for the machine after them, and its last consistency
 -- point for the one after `point` of them.
@@ -92,17 +107,19 @@ pub record HasAnswered (m : Machine) (lines left : List Line) (old : Shown) (ses
   pub point : ℕ
   pub least : up_to_cp (take count lines) ≤ point
   pub most : point ≤ count
+  pub asked : IsLastPoint lines count point
   pub stands : StandsFor now session (after m lines point) (after m lines count)
   pub crash : Leaves old now (Survives m lines old.given)
 
 -- so many lines of a script are answered, on a session that began at `old`
 pub record StandsAt (limit : ℕ) (first : Session) (old : Shown) (held : Held) (session : Session) (now : Shown) (count : ℕ) : Type 0 where
   pub ready : IsReady now session
-  pub counts : Counts {T = Unit {0}} old now (Ok tt)
+  pub counts : Counts old now None
+  pub writes : now.write_faults ≡ old.write_faults
   pub room : count + held.room ≤ limit
   pub reads : IsTrue old.tells → HasRead limit old held now count
   pub lines : IsTrue old.tells → (line : Line) → Contains (lines_built (unread held now)) line → Contains (lines_built old.ends.left) line
-  pub volumes : IsTrue old.tells → GoOnIn (lines_built old.ends.left) first.volumes session.volumes
+  pub asks : IsTrue old.tells → AsksWithin old first 0 → AsksFor (lines_built old.ends.left) now session
   pub answers : IsTrue old.tells → (m : Machine) → StandsFor old first m m → HasAnswered m (lines_built old.ends.left) (lines_built (unread held now)) old session now count
 
 -- All lines are answered, and so many there are.
@@ -111,12 +128,22 @@ pub record IsAtEnd (limit : ℕ) (first : Session) (old : Shown) (session : Sess
   pub stands : StandsAt limit first old held session now count
   pub none : IsTrue old.tells → unread held now ≡ []
 
+-- why a run that was opened ended, beside the counts of faults
+abbrev pub IsEndOf : ℕ → Session → Shown → Shown → Fault → Type 0
+IsEndOf limit first old new Source = Unit {0}
+IsEndOf limit first old new Sink = Unit {0}
+IsEndOf limit first old new Disk = Unit {0}
+IsEndOf limit first old new Memory = Unit {0}
+IsEndOf limit first old new Damaged = IsTrue old.tells → AsksWithin old first 0 → IsLacking (lines_built old.ends.left) new.reads
+IsEndOf limit first old new Limit = IsTrue old.tells → IsPastLimit limit old new
+IsEndOf limit first old new fault = ⊥
+
 -- A run that ended before all was done.
 pub record Stopped (limit : ℕ) (first : Session) (old new : Shown) (fault : Fault) : Type 0 where
-  pub holds : IsTrue old.tells → (m : Machine) → StandsFor old first m m → Holds m old new × IsWholeFault fault
-  pub counts : Counts {T = Unit {0}} old new (Err fault)
+  pub holds : IsTrue old.tells → (m : Machine) → StandsFor old first m m → Holds m (Err fault) old new × IsWholeFault fault
+  pub counts : Counts old new (count_of fault)
   pub reason : IsEndOf limit first old new fault
-  pub cut_off : IsTrue old.tells → IsOverLimit limit old new → IsCutOff (Err fault)
+  pub cut_off : IsTrue old.tells → IsOverLimit limit old new → fault ≡ Limit
 
 abbrev pub AnswersLines : ℕ → Session → Shown → Session → Shown → Result ℕ Fault → Type 0
 AnswersLines limit first old session new (Ok count) = IsAtEnd limit first old session new count

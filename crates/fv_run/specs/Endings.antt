@@ -1,6 +1,7 @@
--- How a run ends.
-use Rattle.std.specs.Prelude.{◌≡◌, ℕ, Result, Ok, Err, OnOk, IfErr}
-use Rattle.fv_disk.specs.Shown.{Shown, Rose}
+-- How a run ends: its faults, and for each of them the status and the count that tell of it.
+use Rattle.std.specs.Prelude.{◌≡◌, ℕ, Option, Some, None, Result, Ok, Err}
+use Rattle.fv_lines.specs.Counts.{Count}
+use Rattle.fv_lines.specs.Counts as count
 use Rattle.fv_aggregate.specs.declared.fault.OpenFault.{OpenFault}
 use Rattle.fv_aggregate.specs.declared.fault.OpenFault.TheVariants as opening
 use Rattle.fv_aggregate.specs.declared.fault.Fault.{Fault as SessionFault}
@@ -23,6 +24,23 @@ abbrev pub status_in : Result Unit Fault → ℕ
 status_in (Ok done) = 0
 status_in (Err fault) = status_of fault
 
+-- A call ends with a status that tells of its result, of which this holds.
+pub record EndsWith (Holds : Result Unit Fault → Type 0) (answer : ℕ) : Type 0 where
+  pub end : Result Unit Fault
+  pub status : answer ≡ status_in end
+  pub holds : Holds end
+
+-- the count that rose where a fault ended a run; the others have none
+abbrev pub count_of : Fault → Option Count
+count_of Source = Some count.Source
+count_of Sink = Some count.Sink
+count_of Disk = Some count.Disk
+count_of fault = None
+
+abbrev pub raised_by : {T : Type 0} → Result T Fault → Option Count
+raised_by (Ok done) = None
+raised_by (Err fault) = count_of fault
+
 abbrev pub of_opening : OpenFault → Fault
 of_opening opening.DiskFault = Disk
 of_opening opening.NotAggregate = NotAggregate
@@ -35,22 +53,7 @@ of_session (session.Failed faults) = Disk
 of_session (session.Damaged at want found) = Damaged
 of_session session.Memory = Memory
 
--- a fault of the disk or of an end of the host comes only where its count rose; the others have no count
-abbrev pub RoseFor : Fault → Shown → Shown → Type 0
-RoseFor Source old new = Rose old.ends.source_faults new.ends.source_faults
-RoseFor Sink old new = Rose old.ends.sink_faults new.ends.sink_faults
-RoseFor Disk old new = Rose old.faults new.faults
-RoseFor fault old new = Unit {0}
-
--- What is told stays, no count rose where all was done, and a fault has its cause.
-pub record Counts {T : Type 0} (old new : Shown) (result : Result T Fault) : Type 0 where
-  pub tells : new.tells ≡ old.tells
-  pub source : OnOk result (new.ends.source_faults ≡ old.ends.source_faults)
-  pub sink : OnOk result (new.ends.sink_faults ≡ old.ends.sink_faults)
-  pub disk : OnOk result (new.faults ≡ old.faults)
-  pub cause : IfErr result (λ fault. RoseFor fault old new)
-
--- a fault that a machine's image never leads to
+-- a fault that may end a run over the image of a machine
 abbrev pub IsWholeFault : Fault → Type 0
 IsWholeFault NotAggregate = ⊥
 IsWholeFault Damaged = ⊥

@@ -3,11 +3,10 @@
 ghost use Rattle.std.specs.Prelude.{◌≡◌, length, true};
 ghost use Rattle.std.specs.List.{All};
 ghost use Rattle.fv_model.specs.Lines.{line_of};
-ghost use Rattle.fv_model.specs.Runs.{whole};
 ghost use Rattle.fv_model.specs.Spelling.{is_name};
 ghost use Rattle.fv_model.specs.Texts.{text};
 ghost use Rattle.fv_run.specs.Built.{built};
-ghost use Rattle.fv_run.specs.Answering.{AnswersLines, Applies, IsReady, Tells};
+ghost use Rattle.fv_run.specs.Answering.{AnswersLines, Applies, IsLine, IsReady, TellsLine};
 
 use crate::ending::Fault;
 use fv_aggregate::Session;
@@ -69,9 +68,9 @@ fn apply<H: Host, L: Ledger>(
 }
 
 /// Gives out the line of a reply.
-#[tactic(auto, using(crate::proofs::Telling::told, crate::proofs::Telling::untold))]
+#[tactic(auto, using(crate::proofs::Lines::told, crate::proofs::Lines::untold))]
 fn tell<H: Host>(reply: &Reply, host: &mut H) -> Result<(), Fault>
-    ensures { Tells (H.shown host.old) (text reply.now) (H.shown host.new) result }
+    ensures { TellsLine (H.shown host.old) (text reply.now) (H.shown host.new) result }
 {
     prove!(ends_once(reply));
     match write_reply(reply, host) {
@@ -80,11 +79,11 @@ fn tell<H: Host>(reply: &Reply, host: &mut H) -> Result<(), Fault>
     }
 }
 
-/// Whether a reply's line has one end: each does, since no name has a byte that ends a line.
-#[tactic(auto, using(crate::proofs::OneEnd::done_once, crate::proofs::OneEnd::content_once, crate::proofs::OneEnd::number_once, crate::proofs::OneEnd::names_once, crate::proofs::OneEnd::stat_once, crate::proofs::OneEnd::refused_once))]
+/// Whether a reply's line ends once, with its last byte: each does, since no name has a byte that ends a line.
+#[tactic(auto, using(crate::proofs::Lines::done_line, crate::proofs::Lines::content_line, crate::proofs::Lines::number_line, crate::proofs::Lines::names_line, crate::proofs::Lines::stat_line, crate::proofs::Lines::refused_line))]
 fn ends_once(reply: &Reply) -> bool
     ensures is_so { result ≡ true }
-    ensures one { whole (text reply.now) ≡ 1 }
+    ensures line { IsLine (text reply.now) }
 {
     match reply {
         Reply::Names(names) => are_names(names.as_slice()),

@@ -12,6 +12,3 @@ mod words;
 pub use program::flexvol;
 pub use running::run_script;
 pub use words::{Order, WordsFault, read_words};
-
-#[cfg(test)]
-mod tests;

@@ -1,11 +1,9 @@
 //! The program as one call over a host.
 
-ghost use Rattle.std.specs.Prelude.{◌≡◌, ◌∷◌, [], ◌++◌, ◌↔◌, ℕ, map, take, string_bytes, Some, None, Contains, IsTrue};
-ghost use Rattle.fv_disk.specs.Shown.{Rose};
-ghost use Rattle.fv_disk.specs.Crash.{Leaves};
-ghost use Rattle.fv_root.specs.Formatted.{SameVolumes};
+ghost use Rattle.std.specs.Prelude.{◌≡◌, ◌∷◌, [], ◌↔◌, ℕ, map, string_bytes, Some, None, Contains};
+ghost use Rattle.fv_lines.specs.Counts.{Counts, told_by};
 ghost use Rattle.fv_run.specs.Meaning.{meaning};
-ghost use Rattle.fv_run.specs.Creating.{created_text, HasCreated, IsAcknowledged};
+ghost use Rattle.fv_run.specs.Creating.{IsCreation};
 ghost use Rattle.fv_run.specs.Running.{IsRun};
 ghost use Rattle.fv_run.specs.Statuses.{Runs, most_bytes};
 
@@ -35,44 +33,15 @@ pub fn flexvol<H: Host>(alloc: Global, words: &[String], host: &mut H) -> u8
     ensures usage { (result ≡ 7) ↔ (meaning (map string_bytes words.now) ≡ None) }
     ensures untouched { meaning (map string_bytes words.now) ≡ None → host.new ≡ host.old }
 
-    // A fault is answered only where its count rose in this call.
-    ensures source_fault { result ≡ 3 → Rose (H.shown host.old).ends.source_faults (H.shown host.new).ends.source_faults }
-    ensures sink_fault { result ≡ 4 → Rose (H.shown host.old).ends.sink_faults (H.shown host.new).ends.sink_faults }
-    ensures disk_fault { result ≡ 5 → Rose (H.shown host.old).faults (H.shown host.new).faults }
+    // 3, 4 and 5 come only where a count of faults rose in this call, and no other count rose.
+    ensures counts { Counts (H.shown host.old) (H.shown host.new) (told_by result) }
 
     // A script is run on the aggregate that the disk has: the replies, the crashes, the end and the causes.
     ensures run { meaning (map string_bytes words.now) ≡ Some Order.Run → IsRun most_bytes (H.shown host.old) (H.shown host.new) result }
 
-    // A new aggregate: without a fault all is done.
-    ensures create_statuses { (blocks : ℕ) → meaning (map string_bytes words.now) ≡ Some (Order.Create blocks) → Contains (0 ∷ 4 ∷ 5 ∷ []) result }
-    ensures complete { (blocks : ℕ) → meaning (map string_bytes words.now) ≡ Some (Order.Create blocks)
-        → ¬ Rose (H.shown host.old).ends.sink_faults (H.shown host.new).ends.sink_faults
-        → ¬ Rose (H.shown host.old).faults (H.shown host.new).faults → result ≡ 0 }
-
-    // It asks nothing of the source.
-    ensures left { (blocks : ℕ) → meaning (map string_bytes words.now) ≡ Some (Order.Create blocks)
-        → (H.shown host.new).ends.left ≡ (H.shown host.old).ends.left }
-    ensures source_faults { (blocks : ℕ) → meaning (map string_bytes words.now) ≡ Some (Order.Create blocks)
-        → (H.shown host.new).ends.source_faults ≡ (H.shown host.old).ends.source_faults }
-
-    // Of a host that tells its content: at 0 the aggregate is made and told of, at 5 nothing was given,
-    // and at 4 a part of the line.
-    ensures created { (blocks : ℕ) → meaning (map string_bytes words.now) ≡ Some (Order.Create blocks)
-        → IsTrue (H.shown host.old).tells → result ≡ 0 → HasCreated blocks (H.shown host.old) (H.shown host.new) }
-    ensures silent { (blocks : ℕ) → meaning (map string_bytes words.now) ≡ Some (Order.Create blocks)
-        → IsTrue (H.shown host.old).tells → result ≡ 5 → (H.shown host.new).given ≡ (H.shown host.old).given }
-    ensures partly { (blocks : ℕ) → meaning (map string_bytes words.now) ≡ Some (Order.Create blocks)
-        → IsTrue (H.shown host.old).tells → result ≡ 4
-        → (k : ℕ) × ((H.shown host.new).given ≡ (H.shown host.old).given ++ take k (created_text blocks)) }
-
-    // At each moment of the call: once a byte of the line was given, a crash leaves the new aggregate.
-    ensures acknowledged { (blocks : ℕ) → meaning (map string_bytes words.now) ≡ Some (Order.Create blocks)
-        → IsTrue (H.shown host.old).tells
-        → Leaves (H.shown host.old) (H.shown host.new) (IsAcknowledged blocks (H.shown host.old)) }
-
-    // No block past the two map areas changes.
-    ensures volumes { (blocks : ℕ) → meaning (map string_bytes words.now) ≡ Some (Order.Create blocks)
-        → IsTrue (H.shown host.old).tells → SameVolumes blocks (H.shown host.old).reads (H.shown host.new).reads }
+    // A new aggregate is made, and told of once it stands.
+    ensures create { (blocks : ℕ) → meaning (map string_bytes words.now) ≡ Some (Order.Create blocks)
+        → IsCreation blocks (H.shown host.old) (H.shown host.new) result }
 {
     match obey(alloc, words, host) {
         Ok(()) => 0,

@@ -2,16 +2,15 @@
 
 ghost use Rattle.std.specs.Prelude.{◌≡◌, ◌<◌};
 ghost use Rattle.fv_model.specs.Texts.{done_text};
-ghost use Rattle.fv_run.specs.Answering.{Tells};
+ghost use Rattle.fv_run.specs.Answering.{TellsLine};
 ghost use Rattle.fv_run.specs.Running.{IsRun, Ran};
 
 use crate::answering::answer_lines;
 use crate::ending::Fault;
-use arrayvec::ArrayString;
 use fv_aggregate::Session;
 use fv_container::Steps;
-use fv_disk::{Failed, Host, give_all};
-use itoa::Buffer;
+use fv_disk::{Failed, Host};
+use fv_script::write_done;
 use std::alloc::Global;
 use std::marker::Brand;
 use std::sync::ledger::{Blank, Ledger};
@@ -24,9 +23,10 @@ use std::sync::ledger::{Blank, Ledger};
 /// The status is 0 where all was done, 2 where block 0 is no superblock or neither gate is open, 3, 4 or 5
 /// where the source, the sink or the disk failed, 6 where memory ran out, 8 where a block isn't as it has to
 /// be, a label is of a form that can't be loaded yet or fewer blocks are free than a consistency point asks for,
-/// and 9 where the source gave byte `limit + 1` of the script. The first of these ends the call at once. That,
-/// and the order of replies and lines, no clause says: of the order `IsRun` has it that no image is more than one
-/// line past the replies.
+/// and 9 where the source gave byte `limit + 1` of the script. The first of these ends the call at once, without a
+/// further consistency point: where no write and no barrier failed the disk is settled then, with the image of the last point that
+/// was asked for, by a `cp`, by a line with room or by the end of the script. That each reply comes before the next line is applied,
+/// the tests show.
 /// It holds 4096 bytes of the script and a line of at most 9001 beside the session, and costs for each line
 /// what `Session::apply` does.
 pub fn run_script<H: Host>(alloc: Global, host: &mut H, limit: u64) -> u8
@@ -64,23 +64,12 @@ fn run_with<H: Host, L: Ledger>(
 }
 
 /// Gives out the last line: it tells how many lines were answered.
-#[tactic(auto, using(crate::proofs::Telling::told, crate::proofs::Telling::untold, crate::proofs::OneEnd::count_once))]
+#[tactic(auto, using(crate::proofs::Lines::told, crate::proofs::Lines::untold, crate::proofs::Lines::count_line))]
 fn tell_count<H: Host>(count: u64, host: &mut H) -> Result<(), Fault>
-    ensures { Tells (H.shown host.old) (done_text count) (H.shown host.new) result }
+    ensures { TellsLine (H.shown host.old) (done_text count) (H.shown host.new) result }
 {
-    match give_all(host, done_line(count).as_str().as_bytes()) {
+    match write_done(count, host) {
         Ok(()) => Ok(()),
         Err(Failed) => Err(Fault::Sink),
     }
-}
-
-/// The last line: at most 26 bytes.
-fn done_line(count: u64) -> ArrayString<32>
-    ensures { result.bytes ≡ done_text count }
-{
-    let mut line = ArrayString::new();
-    line.push_str("done ");
-    line.push_str(Buffer::new().format(count));
-    line.push_str("\n");
-    line
 }

@@ -2,10 +2,10 @@
 
 ghost use Rattle.std.specs.Prelude.{◌≡◌, map, string_bytes};
 ghost use Rattle.std.specs.Option.{option_map};
-ghost use Rattle.fv_run.specs.Meaning.{create, number_in, value_up_to, Means};
+ghost use Rattle.fv_script.specs.CommandLine.{blocks_of};
+ghost use Rattle.fv_run.specs.Meaning.{create, Means};
 
-/// The most digits that a number on the command line has.
-const MOST_DIGITS: usize = 20;
+use fv_script::read_blocks;
 
 /// What the words of the command line ask for.
 #[derive(Clone, Copy, Debug, PartialEq, Eq)]
@@ -42,42 +42,8 @@ pub fn read_words(words: &[String]) -> Result<Order, WordsFault>
 }
 
 fn create(size: &[u8]) -> Option<Order>
-    ensures { result ≡ option_map create (number_in 512 1048576 size.now) }
+    ensures { result ≡ option_map create (blocks_of size.now) }
 {
-    let blocks = number(size, 512, 1_048_576)?;
+    let blocks = read_blocks(size)?;
     Some(Order::Create { blocks })
-}
-
-/// The number that a word spells, if it is one from the least to the greatest.
-#[tactic(auto, unfolding(crate::specs::Meaning::number_in))]
-fn number(word: &[u8], least: u32, greatest: u32) -> Option<u32>
-    ensures { result ≡ number_in least greatest word.now }
-{
-    if word.is_empty() || word.len() > MOST_DIGITS {
-        return None;
-    }
-    let value = value_up_to(word, greatest)?;
-    if value < least {
-        return None;
-    }
-    Some(value)
-}
-
-/// The value of decimal digits, if each byte is one and their value isn't above the greatest. It stops
-/// at the first byte that decides.
-#[tactic(auto, using(crate::proofs::Digits::begins, crate::proofs::Digits::turn, crate::proofs::Digits::no_digit, crate::proofs::Digits::too_great, crate::proofs::Digits::ended))]
-fn value_up_to(digits: &[u8], greatest: u32) -> Option<u32>
-    ensures { result ≡ value_up_to greatest digits.now }
-{
-    let mut value = 0u64;
-    for digit in digits {
-        if !digit.is_ascii_digit() {
-            return None;
-        }
-        value = 10 * value + u64::from(*digit - b'0');
-        if value > u64::from(greatest) {
-            return None;
-        }
-    }
-    Some(value as u32)
 }

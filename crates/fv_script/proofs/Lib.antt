@@ -4,6 +4,7 @@ pub mod Spaces
 pub mod Ats
 pub mod Held
 pub mod Digits
+pub mod Prefixes
 pub mod Told
 pub mod Hexes
 pub mod NamesTold

@@ -1,7 +1,5 @@
 -- Giving out several pieces, one after another.
-use Rattle.std.proofs.Common.{◌≡◌, ℕ, ◌+◌, ◌++◌, List, [], length, take, min, refl, ap, sym, ◌∙◌, subst, arith, append_assoc, append-nil}
-use Rattle.std.proofs.Math.Seq.{take-append-add}
-use Rattle.std.proofs.lemmas.List.{take-append-le, take_all}
+use Rattle.std.proofs.Common.{◌≡◌, ℕ, ◌++◌, List, [], refl, ap, sym, ◌∙◌, subst, arith, append_assoc, append-nil}
 use Rattle.std.specs.Prelude.{Result, Ok, Err}
 use Rattle.fv_disk.specs.declared.Failed.{Failed}
 use Rattle.fv_disk.specs.Shown.{Image, Shown, IsDisk}
@@ -10,29 +8,17 @@ use Rattle.fv_disk.specs.Partly.{PartlyGiven}
 use Rattle.fv_disk.proofs.Moments as moments
 use Rattle.fv_disk.proofs.Resting.{rests_on}
 use Rattle.fv_script.specs.Telling.{Tells}
+use Rattle.fv_script.proofs.Prefixes.{in_front, behind, cut_in_front, cut_behind}
 
 pub told : (old new : Shown) (bytes line : List ℕ) (result : Result Unit Failed) → Tells old bytes new result → bytes ≡ line → Tells old line new result
 told old new bytes line result tells is = subst (λ (l : List ℕ). Tells old l new result) is tells
 
--- a prefix of the first piece is one of both
-front : (k : ℕ) (first second : List ℕ) → take k first ≡ take (min k (length first)) (first ++ second)
-front k first second = sym (take-append-le (min k (length first)) first second (omega arith) ∙ shorter k first)
-  where
-    shorter : (k : ℕ) (first : List ℕ) → take (min k (length first)) first ≡ take k first
-    shorter k first = grind (arith, take_all)
-
 partly_more : (old : Shown) (first second : List ℕ) (c : Image) (g : List ℕ) → PartlyGiven old first c g → PartlyGiven old (first ++ second) c g
-partly_more old first second c g p =
-    (p.0, λ tells. let given = p.1 tells in (min given.0 (length first), given.1 ∙ ap (λ (l : List ℕ). old.given ++ l) (front given.0 first second)))
-
--- what was given of the second piece stands behind the first
-behind : (old mid : Shown) (first second : List ℕ) (g : List ℕ) (k : ℕ) → mid.given ≡ old.given ++ first → g ≡ mid.given ++ take k second → g ≡ old.given ++ take (length first + k) (first ++ second)
-behind old mid first second g k so_far e =
-    e ∙ ap (λ (l : List ℕ). l ++ take k second) so_far ∙ append_assoc old.given first (take k second) ∙ ap (λ (l : List ℕ). old.given ++ l) (sym (take-append-add first second k))
+partly_more old first second c g p = (p.0, λ tells. in_front old.given first second g (p.1 tells))
 
 partly_behind : (old mid : Shown) (first second : List ℕ) → GivesAll old first mid (Ok tt) → (c : Image) (g : List ℕ) → PartlyGiven mid second c g → PartlyGiven old (first ++ second) c g
 partly_behind old mid first second gave c g p =
-    (gave.rests.stays.no_more c p.0, λ tells. let given = p.1 (rw gave.rests.stays.tells tells) in (length first + given.0, behind old mid first second g given.0 (gave.all tells) given.1))
+    (gave.rests.stays.no_more c p.0, λ tells. behind old.given first second mid.given g (gave.all tells) (p.1 (rw gave.rests.stays.tells tells)))
 
 gives_both : (old mid new : Shown) (first second : List ℕ) (result : Result Unit Failed) → GivesAll old first mid (Ok tt) → GivesAll mid second new result → GivesAll old (first ++ second) new result
 gives_both old mid new first second (Ok done) a b = record {
@@ -45,7 +31,7 @@ gives_both old mid new first second (Ok done) a b = record {
 }
 gives_both old mid new first second (Err e) a b = record {
   all = λ tells. tt;
-  part = λ tells. let given = b.part (rw a.rests.stays.tells tells) in (length first + given.0, behind old mid first second new.given given.0 (a.all tells) given.1);
+  part = λ tells. cut_behind old.given first second mid.given new.given (a.all tells) (b.part (rw a.rests.stays.tells tells));
   rests = rests_on old mid new a.rests b.rests;
   left = b.left ∙ a.left;
   source_faults = b.source_faults ∙ a.source_faults;
@@ -64,7 +50,7 @@ pub stopped : (old new : Shown) (first second : List ℕ) (e : Failed) → Tells
 stopped old new first second e a = record {
   gives = record {
     all = λ tells. tt;
-    part = λ tells. let given = a.gives.part tells in (min given.0 (length first), given.1 ∙ ap (λ (l : List ℕ). old.given ++ l) (front given.0 first second));
+    part = λ tells. cut_in_front old.given first second new.given (a.gives.part tells);
     rests = a.gives.rests;
     left = a.gives.left;
     source_faults = a.gives.source_faults;

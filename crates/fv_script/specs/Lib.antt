@@ -1,3 +1,4 @@
+pub mod CommandLine
 pub mod Reading
 pub mod Parts
 pub mod Telling

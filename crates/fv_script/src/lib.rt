@@ -1,19 +1,15 @@
-//! The script language: reading a line, writing a reply.
+//! The script language: reading a line, writing a reply; and the number of blocks on a command line.
 #![tactic(auto)]
 
 mod content;
 mod fault;
 mod files;
 mod generate;
-#[cfg(test)]
-mod generated;
 mod hex;
 mod lines;
 mod others;
 mod read;
 mod snapshots;
-#[cfg(test)]
-mod tests;
 mod values;
 mod volumes;
 mod words;
@@ -21,5 +17,6 @@ mod write;
 
 pub use fault::LineFault;
 pub use generate::Generator;
-pub use read::read_line;
-pub use write::write_reply;
+pub use read::{LONGEST, read_line};
+pub use values::read_blocks;
+pub use write::{write_done, write_reply};

@@ -2,7 +2,7 @@
 
 ghost use Rattle.std.specs.Prelude.{◌≡◌, ◌≤◌, ◌+◌, ◌++◌, codes, decimal, length};
 ghost use Rattle.arrayvec.specs.ArrayString.{array_string_len};
-ghost use Rattle.fv_model.specs.Texts.{kind_text, reason, stat_text, text, yes_or_no};
+ghost use Rattle.fv_model.specs.Texts.{done_text, kind_text, reason, stat_text, text, yes_or_no};
 
 use arrayvec::ArrayString;
 use fv_model::{Kind, Refusal, Reply, Stat};
@@ -10,10 +10,21 @@ use itoa::Buffer;
 
 /// The line of a command that was carried out.
 #[tactic(auto, unfolding(fv_model::specs::Texts::words))]
-pub fn done_line() -> &'static str
+pub fn ok_line() -> &'static str
     ensures { result.now ≡ text Reply.Done }
 {
     "ok\n"
+}
+
+/// The last line of a run, with the number of lines that it answered: at most 26 bytes.
+pub fn done_line(count: u64) -> ArrayString<32>
+    ensures { result.bytes ≡ done_text count }
+{
+    let mut line = ArrayString::new();
+    line.push_str("done ");
+    line.push_str(Buffer::new().format(count));
+    line.push_str("\n");
+    line
 }
 
 /// The line of a number: at most 20 digits and the end.

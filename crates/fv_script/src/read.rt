@@ -15,8 +15,8 @@ use crate::volumes::vol;
 use crate::words::{Words, word};
 use fv_model::Command;
 
-/// The most bytes that a line has, without its end.
-const LONGEST: usize = 9000;
+/// The most bytes that a line of a command has, without its end: a block takes 8192, and names and words the others.
+pub const LONGEST: usize = 9000;
 
 /// Reads a line, handed in without its end.
 ///

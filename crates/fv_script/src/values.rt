@@ -5,10 +5,36 @@ ghost use Rattle.std.specs.Char.{is_ascii_digit};
 ghost use Rattle.std.specs.List.{list_all};
 ghost use Rattle.fv_model.specs.Words.{is_number, kind_of, table_of, value_of};
 ghost use Rattle.fv_model.specs.Numbers.{is_size, is_reserve, is_index, is_step_count};
+ghost use Rattle.fv_script.specs.CommandLine.{blocks_of};
 ghost use Rattle.fv_script.specs.Parts.{before_at, held, in_range};
 
 use crate::LineFault;
 use fv_model::{Kind, Name, in_index, in_reserve, in_size, in_steps};
+
+/// The most digits that a number on a command line has.
+const MOST_DIGITS: usize = 20;
+
+/// The least and the most blocks of an aggregate.
+const LEAST: u32 = 512;
+
+const MOST: u32 = 1_048_576;
+
+/// The number of blocks that a word of a command line names: 1 to 20 decimal digits, from 512 to 1,048,576.
+/// Every other word names none. It costs by the word's bytes and takes no memory.
+#[tactic(auto, unfolding(crate::specs::CommandLine::blocks_of))]
+pub fn read_blocks(word: &[u8]) -> Option<u32>
+    ensures { result ≡ blocks_of word.now }
+{
+    if !is_number(word) || word.len() > MOST_DIGITS {
+        return None;
+    }
+    let blocks = value(word);
+    if LEAST <= blocks && blocks <= MOST {
+        Some(blocks)
+    } else {
+        None
+    }
+}
 
 /// Whether the word is one or more decimal digits.
 pub fn is_number(word: &[u8]) -> bool

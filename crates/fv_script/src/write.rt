@@ -1,15 +1,12 @@
 //! Writing a reply.
 
 ghost use Rattle.std.specs.Prelude.{◌≡◌, ◌≤◌, ◌<◌, ◌+◌, ◌*◌, ◌++◌, ◌∷◌, [], length};
-ghost use Rattle.fv_disk.specs.HostCalls.{GivesAll};
-ghost use Rattle.fv_disk.specs.Crash.{Leaves};
-ghost use Rattle.fv_disk.specs.Partly.{PartlyGiven};
-ghost use Rattle.fv_model.specs.Texts.{text};
+ghost use Rattle.fv_model.specs.Texts.{done_text, text};
 ghost use Rattle.fv_script.specs.Telling.{Tells};
 ghost use Rattle.fv_script.specs.Spelled.{before_spaces};
 
 use crate::content::content_line;
-use crate::lines::{done_line, number_line, refusal_line, stat_line};
+use crate::lines::{done_line, number_line, ok_line, refusal_line, stat_line};
 use arrayvec::ArrayVec;
 use fv_disk::{Failed, Host, give_all};
 use fv_model::{Name, Reply};
@@ -21,22 +18,28 @@ const PIECE_NAMES: usize = 64;
 type Piece = ArrayVec<u8, 4160>;
 
 /// Gives out the reply's line with its end. At `Err` the sink's count of faults rose, and a prefix of
-/// the line was given. It takes no memory, and costs by the line's bytes. The line is handed to the sink
+/// the line was given, never the whole. It takes no memory, and costs by the line's bytes. The line is handed to the sink
 /// in one piece, and a line of more than 64 names in a piece for each 64. A piece takes one call where the
 /// sink takes all of it, and one of names costs a buffer of 4160 bytes beside them.
 #[tactic(auto, using(crate::proofs::Told::told))]
 pub fn write_reply<H: Host>(reply: &Reply, host: &mut H) -> Result<(), Failed>
-    ensures gives { GivesAll (H.shown host.old) (text reply.now) (H.shown host.new) result }
-    ensures any_moment { Leaves (H.shown host.old) (H.shown host.new) (PartlyGiven (H.shown host.old) (text reply.now)) }
+    ensures { Tells (H.shown host.old) (text reply.now) (H.shown host.new) result }
 {
     match reply {
-        Reply::Done => give_line(done_line().as_bytes(), host),
+        Reply::Done => give_line(ok_line().as_bytes(), host),
         Reply::Content(block) => give_line(content_line(block).as_slice(), host),
         Reply::Number(number) => give_line(number_line(*number).as_str().as_bytes(), host),
         Reply::Names(names) => write_names(names.as_slice(), host),
         Reply::Stat(stat) => give_line(stat_line(stat).as_str().as_bytes(), host),
         Reply::Refused(refusal) => give_line(refusal_line(refusal).as_str().as_bytes(), host),
     }
+}
+
+/// Gives out the last line of a run that answered so many lines, in one piece, as `write_reply` does.
+pub fn write_done<H: Host>(count: u64, host: &mut H) -> Result<(), Failed>
+    ensures { Tells (H.shown host.old) (done_text count) (H.shown host.new) result }
+{
+    give_line(done_line(count).as_str().as_bytes(), host)
 }
 
 fn give_line<H: Host>(line: &[u8], host: &mut H) -> Result<(), Failed>

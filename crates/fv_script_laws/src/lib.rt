@@ -29,27 +29,3 @@ pub fn written_reads_back()
     ensures written { ReadsBack }
     ensures replies { RepliesReadBack }
 {}
-
-#[cfg(test)]
-mod tests {
-    use super::*;
-    use fv_model::Kind;
-    use std::test::Fail;
-
-    #[test]
-    fn lines_as_they_are_shown(rt: HostRuntime) -> Result<(), Fail> {
-        written_reads_back();
-        assert!(rt;
-            matches!(
-                read_shown(b"vol create a 100 none"),
-                Ok(Command::VolCreate {
-                    size: 100,
-                    kind: Kind::Thin,
-                    ..
-                })
-            )
-        );
-        assert!(rt; matches!(read_shown(b"cp"), Ok(Command::Cp)));
-        Ok(())
-    }
-}

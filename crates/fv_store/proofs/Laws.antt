@@ -1,24 +1,17 @@
 -- Laws of stores, for callers.
-use Rattle.std.proofs.Common.{◌≡◌, ℕ, true, false, cond, List, [], ◌∷◌, Some, None, refl, sym, ap, ◌∙◌, ⊎_elim, arith, nat_eq}
-use Rattle.std.specs.Map.{lookup}
+use Rattle.std.proofs.Common.{◌≡◌, ℕ, false, cond, [], ◌∷◌, Some, None, refl, sym, ap, ◌∙◌, ⊎_elim, arith, nat_eq}
 use Rattle.std.proofs.lemmas.Bool.{cases_Bool}
 use Rattle.std.proofs.lemmas.Bool.Decides.{nat_tests}
 use Rattle.lru.proofs.Splits.{Contains-nil}
 use Rattle.fv_disk.specs.Shown.{Shown}
-use Rattle.fv_store.specs.Held.{Pairs, block_at, without, to_front, StandsOn}
+use Rattle.fv_store.specs.Held.{Pairs, block_at, without, StandsOn}
 use Rattle.fv_store.proofs.Lists.{without_first, without_other}
 
 -- a store that holds nothing stands on every disk
 pub stands_at_first : (disk : Shown) → StandsOn disk []
 stands_at_first disk = record { same = λ told k b in_it. absurd (Contains-nil (k, b) in_it) }
 
--- a block that came to the front is held
-pub block_at-front : (pairs : Pairs) (k : ℕ) (b : List ℕ) → block_at (to_front pairs k b) k ≡ Some b
-block_at-front pairs k b =
-    let same : nat_eq k k ≡ true = grind (arith, nat_tests) in
-    ap (λ t. cond t (Some b) (lookup (nat_eq k) (without pairs k))) same
-
--- a forgotten block isn't
+-- a forgotten block isn't held
 pub block_at-without : (pairs : Pairs) (k : ℕ) → block_at (without pairs k) k ≡ None
 unfolding without
 block_at-without [] k = refl

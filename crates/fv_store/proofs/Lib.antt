@@ -1,3 +1,4 @@
+mod Boxes
 mod Lists
 mod Standing
 mod Calls

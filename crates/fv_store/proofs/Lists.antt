@@ -1,7 +1,7 @@
 -- The lists of held pairs.
 use Rattle.std.proofs.Common.{◌≡◌, ℕ, zero, suc, ◌-◌, ◌<◌, ◌≤◌, true, false, cond, not, List, [], ◌∷◌, length, take, Some, None, refl, sym, ap, subst, ◌∙◌, ⊎_elim, arith, nat_eq}
 use Rattle.std.specs.List.{IsDistinct, AllByRecursion}
-use Rattle.std.specs.Map.{keys_of, lookup, lookup_entry, remove_entry}
+use Rattle.std.specs.Map.{keys_of, lookup, lookup_entry, remove_entry, set_value}
 use Rattle.std.specs.Option.{option_map_or}
 use Rattle.std.proofs.lemmas.Bool.{cases_Bool}
 use Rattle.std.proofs.lemmas.Bool.Decides.{nat_tests}
@@ -60,15 +60,38 @@ promoted_is es capacity k b store found =
 pub promoted_none : (es : Pairs) (k : ℕ) → block_at es k ≡ None → promoted (nat_eq k) es ≡ es
 promoted_none es k absent = ap (λ o. option_map_or (λ e. e ∷ remove_entry (nat_eq k) es) o es) (entry_absent es k absent)
 
--- a pair is put
-pub put_present : (es : Pairs) (capacity k : ℕ) (b v : List ℕ) → IsStore (held es capacity) → block_at es k ≡ Some b → put_entries nat_eq (lru_cache es capacity) k v ≡ to_front es k v
-put_present es capacity k b v store found =
-    ap (λ o. option_map_or (λ e. (e.0, v) ∷ remove_entry (nat_eq k) es) o ((k, v) ∷ take (capacity - 1) es)) (entry_found es k b found)
-    ∙ ap (λ l. (k, v) ∷ l) (removed_is es capacity k store)
-
+-- a new pair is put
 pub put_absent : (es : Pairs) (capacity k : ℕ) (v : List ℕ) → block_at es k ≡ None → put_entries nat_eq (lru_cache es capacity) k v ≡ (k, v) ∷ take (capacity - 1) es
 put_absent es capacity k v absent =
     ap (λ o. option_map_or (λ e. (e.0, v) ∷ remove_entry (nat_eq k) es) o ((k, v) ∷ take (capacity - 1) es)) (entry_absent es k absent)
+
+-- a block is written over a held one, if there is one
+pub overwritten_absent : (es : Pairs) (k : ℕ) (v : List ℕ) → block_at es k ≡ None → set_value (nat_eq k) es v ≡ es
+overwritten_absent [] k v absent = refl
+overwritten_absent (e ∷ es) k v absent = ⊎_elim (λ same. (let h = rw same at absent in cc)) (λ other.
+    ap (λ t. cond t ((e.0, v) ∷ es) (e ∷ set_value (nat_eq k) es v)) other ∙ ap (λ l. e ∷ l) (overwritten_absent es k v (rw other at absent))) (cases_Bool (nat_eq k e.0))
+
+entry_overwritten : (es : Pairs) (k : ℕ) (b v : List ℕ) → block_at es k ≡ Some b → lookup_entry (nat_eq k) (set_value (nat_eq k) es v) ≡ Some (k, v)
+entry_overwritten [] k b v found = cc
+entry_overwritten (e ∷ es) k b v found = ⊎_elim (λ same.
+    ap (λ t. lookup_entry (nat_eq k) (cond t ((e.0, v) ∷ es) (e ∷ set_value (nat_eq k) es v))) same
+    ∙ ap (λ t. cond t (Some (e.0, v)) (lookup_entry (nat_eq k) es)) same ∙ ap Some (ap (λ j. (j, v)) (same_number k e.0 same))) (λ other.
+    ap (λ t. lookup_entry (nat_eq k) (cond t ((e.0, v) ∷ es) (e ∷ set_value (nat_eq k) es v))) other
+    ∙ ap (λ t. cond t (Some e) (lookup_entry (nat_eq k) (set_value (nat_eq k) es v))) other ∙ entry_overwritten es k b v (rw other at found)) (cases_Bool (nat_eq k e.0))
+
+removed_overwritten : (es : Pairs) (k : ℕ) (v : List ℕ) → remove_entry (nat_eq k) (set_value (nat_eq k) es v) ≡ remove_entry (nat_eq k) es
+removed_overwritten [] k v = refl
+removed_overwritten (e ∷ es) k v = ⊎_elim (λ same.
+    ap (λ t. remove_entry (nat_eq k) (cond t ((e.0, v) ∷ es) (e ∷ set_value (nat_eq k) es v))) same
+    ∙ ap (λ t. cond t es ((e.0, v) ∷ remove_entry (nat_eq k) es)) same ∙ sym (ap (λ t. cond t es (e ∷ remove_entry (nat_eq k) es)) same)) (λ other.
+    ap (λ t. remove_entry (nat_eq k) (cond t ((e.0, v) ∷ es) (e ∷ set_value (nat_eq k) es v))) other
+    ∙ ap (λ t. cond t (set_value (nat_eq k) es v) (e ∷ remove_entry (nat_eq k) (set_value (nat_eq k) es v))) other
+    ∙ ap (λ l. e ∷ l) (removed_overwritten es k v) ∙ sym (ap (λ t. cond t es (e ∷ remove_entry (nat_eq k) es)) other)) (cases_Bool (nat_eq k e.0))
+
+pub overwritten_front : (es : Pairs) (capacity k : ℕ) (b v : List ℕ) → IsStore (held es capacity) → block_at es k ≡ Some b → promoted (nat_eq k) (set_value (nat_eq k) es v) ≡ to_front es k v
+overwritten_front es capacity k b v store found =
+    ap (λ o. option_map_or (λ e. e ∷ remove_entry (nat_eq k) (set_value (nat_eq k) es v)) o (set_value (nat_eq k) es v)) (entry_overwritten es k b v found)
+    ∙ ap (λ l. (k, v) ∷ l) (removed_overwritten es k v ∙ removed_is es capacity k store)
 
 -- ---- distinct numbers
 
@@ -127,10 +150,6 @@ few_taken [] (suc n) = omega arith
 few_taken (e ∷ es) (suc n) = omega (arith, few_taken es n)
 
 -- ---- what holds of every store, after each change
-
-pub store_empty : (capacity : ℕ) → 1 ≤ capacity → IsStore (held [] capacity)
-unfolding IsDistinct
-store_empty capacity some = record { distinct = tt; bounded = omega arith; room = omega arith }
 
 pub store_front : (es : Pairs) (capacity k : ℕ) (b v : List ℕ) → IsStore (held es capacity) → block_at es k ≡ Some b → IsStore (held (to_front es k v) capacity)
 store_front es capacity k b v store found = record {

@@ -1,8 +1,10 @@
 //! The store itself.
 
-ghost use Rattle.std.specs.Prelude.{◌≡◌, ◌≤◌, [], cond, Some, None, IfOk, IfSome, option_copied, nat_eq};
+ghost use Rattle.std.specs.Prelude.{◌≡◌, ◌≤◌, [], cond, Some, None, IfOk, IfSome, option_copied, option_map, nat_eq};
 ghost use Rattle.fv_disk.specs.DiskCalls.{Reads, Writes};
 ghost use Rattle.fv_store.specs.Held.{Held, held, IsStore, StandsOn, Gets, Puts, block_at, to_front, without, Keeps, KeepsFrom, Renews};
+ghost use Rattle.fv_store.specs.Boxed.{held_in, unboxed};
+ghost use Rattle.std.specs.Map.{set_value};
 
 use fv_disk::{Block, Disk, Failed};
 use lru::LruCache;
@@ -10,23 +12,28 @@ use std::alloc::{AllocError, Global};
 use std::marker::Model;
 use std::num::NonZeroUsize;
 
+/// The held blocks, each in a box of its own: a cache of blocks by value takes the optimizer three minutes
+/// in each program.
+type Cache = LruCache<u32, Box<Block>>;
+
 /// The blocks of a disk that were used last, at most as many as its capacity.
 ///
 /// Contracts see the list of the held pairs of block number and block, the most recently used first,
 /// and the capacity.
 #[derive(Drop)]
 pub struct Store {
-    cache: LruCache<u32, Block>,
+    cache: Cache,
 }
 
 impl Model for Store {
-    ghost use Rattle.fv_store.specs.Held.{Held, held, IsStore};
+    ghost use Rattle.fv_store.specs.Held.{Held, IsStore};
+    ghost use Rattle.fv_store.specs.Boxed.{held_in};
 
     ghost Value = { Held };
 
-    ghost view = { λ store. held store.cache.entries store.cache.cap };
+    ghost view = { λ store. held_in store.cache };
 
-    ghost invariant = { λ store. IsStore (held store.cache.entries store.cache.cap) };
+    ghost invariant = { λ store. IsStore (held_in store.cache) };
 }
 
 impl Store {
@@ -79,18 +86,18 @@ impl Store {
 /// Reads a block, from the cache where it is held and else from the disk.
 #[tactic(auto, using(crate::proofs::Standing::held_read, crate::proofs::Standing::stands_front, crate::proofs::Standing::stands_kept, crate::proofs::Standing::stands_read))]
 fn read_through<D: Disk>(
-    cache: &mut LruCache<u32, Block>,
+    cache: &mut Cache,
     disk: &mut D,
     pvbn: u32,
     into: &mut Block,
 ) -> Result<(), Failed>
-    requires valid { IsStore (held cache.old.entries cache.old.cap) }
-    requires stands { StandsOn (D.shown disk.old) cache.old.entries }
+    requires valid { IsStore (held_in cache.old) }
+    requires stands { StandsOn (D.shown disk.old) (unboxed cache.old.entries) }
     ensures reads { Reads (D.shown disk.old) pvbn (D.shown disk.new) into.new result }
-    ensures untouched { IfSome (block_at cache.old.entries pvbn) (λ _. disk.new ≡ disk.old) }
-    ensures list { Gets (held cache.old.entries cache.old.cap) pvbn (held cache.new.entries cache.new.cap) into.new result }
-    ensures stands { StandsOn (D.shown disk.new) cache.new.entries }
-    ensures valid { IsStore (held cache.new.entries cache.new.cap) }
+    ensures untouched { IfSome (block_at (unboxed cache.old.entries) pvbn) (λ _. disk.new ≡ disk.old) }
+    ensures list { Gets (held_in cache.old) pvbn (held_in cache.new) into.new result }
+    ensures stands { StandsOn (D.shown disk.new) (unboxed cache.new.entries) }
+    ensures valid { IsStore (held_in cache.new) }
 {
     if take_held(cache, pvbn, into) {
         return Ok(());
@@ -103,17 +110,17 @@ fn read_through<D: Disk>(
 /// Writes a block to the disk, and to the cache where it is held.
 #[tactic(auto, using(crate::proofs::Standing::stands_renewed, crate::proofs::Standing::stands_forgotten))]
 fn write_through<D: Disk>(
-    cache: &mut LruCache<u32, Block>,
+    cache: &mut Cache,
     disk: &mut D,
     pvbn: u32,
     block: &Block,
 ) -> Result<(), Failed>
-    requires valid { IsStore (held cache.old.entries cache.old.cap) }
-    requires stands { StandsOn (D.shown disk.old) cache.old.entries }
+    requires valid { IsStore (held_in cache.old) }
+    requires stands { StandsOn (D.shown disk.old) (unboxed cache.old.entries) }
     ensures writes { Writes (D.shown disk.old) pvbn block.now (D.shown disk.new) result }
-    ensures list { Puts (held cache.old.entries cache.old.cap) pvbn block.now (held cache.new.entries cache.new.cap) result }
-    ensures stands { StandsOn (D.shown disk.new) cache.new.entries }
-    ensures valid { IsStore (held cache.new.entries cache.new.cap) }
+    ensures list { Puts (held_in cache.old) pvbn block.now (held_in cache.new) result }
+    ensures stands { StandsOn (D.shown disk.new) (unboxed cache.new.entries) }
+    ensures valid { IsStore (held_in cache.new) }
 {
     let written = disk.write(u64::from(pvbn), block);
     if written.is_ok() {
@@ -125,12 +132,12 @@ fn write_through<D: Disk>(
 }
 
 /// Copies a block, if there is one, and tells whether there is.
-fn copy_block(from: Option<&Block>, into: &mut Block) -> bool
-    ensures { option_copied from.entry ≡ cond result (Some into.new) None }
+fn copy_block(from: Option<&Box<Block>>, into: &mut Block) -> bool
+    ensures { option_map (λ block. block.value) (option_copied from.entry) ≡ cond result (Some into.new) None }
 {
     match from {
         Some(block) => {
-            *into = *block;
+            *into = **block;
             true
         }
         None => false,
@@ -140,12 +147,12 @@ fn copy_block(from: Option<&Block>, into: &mut Block) -> bool
 /// Copies the block that is held under this number, which comes to the front, and tells whether there is
 /// one.
 #[tactic(auto, using(crate::proofs::Calls::to_front_or_not, crate::proofs::Calls::to_front_store))]
-fn take_held(cache: &mut LruCache<u32, Block>, pvbn: u32, into: &mut Block) -> bool
-    requires { IsStore (held cache.old.entries cache.old.cap) }
-    ensures found { block_at cache.old.entries pvbn ≡ cond result (Some into.new) None }
-    ensures front { cache.new.entries ≡ cond result (to_front cache.old.entries pvbn into.new) cache.old.entries }
+fn take_held(cache: &mut Cache, pvbn: u32, into: &mut Block) -> bool
+    requires { IsStore (held_in cache.old) }
+    ensures found { block_at (unboxed cache.old.entries) pvbn ≡ cond result (Some into.new) None }
+    ensures front { unboxed cache.new.entries ≡ cond result (to_front (unboxed cache.old.entries) pvbn into.new) (unboxed cache.old.entries) }
     ensures capacity { cache.new.cap ≡ cache.old.cap }
-    ensures valid { IsStore (held cache.new.entries cache.new.cap) }
+    ensures valid { IsStore (held_in cache.new) }
 {
     let found = copy_block(cache.peek(&pvbn), into);
     cache.promote(&pvbn);
@@ -153,36 +160,47 @@ fn take_held(cache: &mut LruCache<u32, Block>, pvbn: u32, into: &mut Block) -> b
 }
 
 /// Holds a block that isn't held, at the front, where memory is found for it.
-#[tactic(auto, using(crate::proofs::Calls::put_new, crate::proofs::Calls::put_new_store))]
-fn keep(cache: &mut LruCache<u32, Block>, pvbn: u32, block: &Block)
-    requires valid { IsStore (held cache.old.entries cache.old.cap) }
-    requires absent { block_at cache.old.entries pvbn ≡ None }
-    ensures list { Keeps cache.old.entries cache.old.cap pvbn block.now cache.new.entries }
+#[tactic(auto, using(crate::proofs::Calls::put_new, crate::proofs::Calls::put_new_cap, crate::proofs::Calls::kept_store))]
+fn keep(cache: &mut Cache, pvbn: u32, block: &Block)
+    requires valid { IsStore (held_in cache.old) }
+    requires absent { block_at (unboxed cache.old.entries) pvbn ≡ None }
+    ensures list { Keeps (unboxed cache.old.entries) cache.old.cap pvbn block.now (unboxed cache.new.entries) }
     ensures capacity { cache.new.cap ≡ cache.old.cap }
-    ensures valid { IsStore (held cache.new.entries cache.new.cap) }
+    ensures valid { IsStore (held_in cache.new) }
 {
-    let _ = cache.put(pvbn, *block);
+    if let Ok(boxed) = Box::new(*cache.allocator(), *block) {
+        let _ = cache.put(pvbn, boxed);
+    }
 }
 
-/// Holds the new block in place of a held one, at the front.
-#[tactic(auto, using(crate::proofs::Calls::put_held, crate::proofs::Calls::put_held_store))]
-fn renew(cache: &mut LruCache<u32, Block>, pvbn: u32, block: &Block)
-    requires { IsStore (held cache.old.entries cache.old.cap) }
-    ensures list { Renews cache.old.entries pvbn block.now cache.new.entries }
+/// Holds the new block in place of a held one, at the front, in the box of the old one.
+#[tactic(auto, using(crate::proofs::Calls::renewed, crate::proofs::Calls::renewed_store))]
+fn renew(cache: &mut Cache, pvbn: u32, block: &Block)
+    requires { IsStore (held_in cache.old) }
+    ensures list { Renews (unboxed cache.old.entries) pvbn block.now (unboxed cache.new.entries) }
     ensures capacity { cache.new.cap ≡ cache.old.cap }
-    ensures valid { IsStore (held cache.new.entries cache.new.cap) }
+    ensures valid { IsStore (held_in cache.new) }
 {
-    if cache.contains(&pvbn) {
-        let _ = cache.put(pvbn, *block);
+    overwrite(cache, pvbn, block);
+    cache.promote(&pvbn);
+}
+
+/// Writes a block over the one that is held under this number, if there is one. The order stays.
+fn overwrite(cache: &mut Cache, pvbn: u32, block: &Block)
+    ensures list { unboxed cache.new.entries ≡ set_value (nat_eq pvbn) (unboxed cache.old.entries) block.now }
+    ensures capacity { cache.new.cap ≡ cache.old.cap }
+{
+    if let Some(held) = cache.peek_mut(&pvbn) {
+        **held = *block;
     }
 }
 
 /// Holds no block below this number any more.
-fn forget_before(cache: &mut LruCache<u32, Block>, first: u32)
-    requires { IsStore (held cache.old.entries cache.old.cap) }
-    ensures list { KeepsFrom first cache.old.entries cache.new.entries }
+fn forget_before(cache: &mut Cache, first: u32)
+    requires { IsStore (held_in cache.old) }
+    ensures list { KeepsFrom first (unboxed cache.old.entries) (unboxed cache.new.entries) }
     ensures capacity { cache.new.cap ≡ cache.old.cap }
-    ensures valid { IsStore (held cache.new.entries cache.new.cap) }
+    ensures valid { IsStore (held_in cache.new) }
 {
     for number in 0..first {
         forget(cache, number);
@@ -191,11 +209,11 @@ fn forget_before(cache: &mut LruCache<u32, Block>, first: u32)
 
 /// Holds no block under this number any more.
 #[tactic(auto, using(crate::proofs::Calls::popped, crate::proofs::Calls::popped_store))]
-fn forget(cache: &mut LruCache<u32, Block>, pvbn: u32)
-    requires { IsStore (held cache.old.entries cache.old.cap) }
-    ensures list { cache.new.entries ≡ without cache.old.entries pvbn }
+fn forget(cache: &mut Cache, pvbn: u32)
+    requires { IsStore (held_in cache.old) }
+    ensures list { unboxed cache.new.entries ≡ without (unboxed cache.old.entries) pvbn }
     ensures capacity { cache.new.cap ≡ cache.old.cap }
-    ensures valid { IsStore (held cache.new.entries cache.new.cap) }
+    ensures valid { IsStore (held_in cache.new) }
 {
     cache.pop(&pvbn);
 }

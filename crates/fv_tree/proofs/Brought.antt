@@ -7,15 +7,15 @@ use Rattle.std.specs.FinMap as fin
 use Rattle.std.proofs.lemmas.Bool.{cases_eq}
 use Rattle.fv_codec.specs.declared.pointer.Pointer.{Pointer}
 use Rattle.fv_model.specs.Trees.{fan}
-use Rattle.fv_tree.specs.declared.blocks.TreeFault.{TreeFault}
+use Rattle.fv_disk.specs.declared.fault.BlockFault.{BlockFault}
 use Rattle.fv_tree.specs.declared.kept.Tree.{Tree}
 use Rattle.fv_tree.specs.declared.kept.KeptNode.{KeptNode}
 use Rattle.fv_tree.specs.declared.kept.KeptCell.{KeptCell}
 use Rattle.fv_tree.specs.Spelled.{Under, hole, pointers_in, pointer_at}
-use Rattle.fv_tree.specs.Sources.{Shown}
+use Rattle.fv_tree.specs.Sources.{Shown, Use}
 use Rattle.fv_tree.specs.Standing.{standing, under, node_in, IsSameBut}
 use Rattle.fv_tree.specs.Keeping.{IsSame}
-use Rattle.fv_tree.specs.Flushing.{Leads, IsEmptyNode, Stands, loaded, changed_of, placed_of, changed_in, placed_in, node_changed, node_placed, cell_placed}
+use Rattle.fv_tree.specs.Flushing.{Leads, IsEmptyNode, Stands, loaded, changed_of, placed_of, placed_in, node_changed, node_placed, cell_placed, kind_for}
 use Rattle.fv_tree.specs.Carried.{kept_at, IsBlank, IsRead, Brings}
 use Rattle.fv_tree.proofs.Flushed.{false_is_true, under_none}
 use Rattle.fv_tree.proofs.Gone.{cell_changed, spot_changed, cell_led, spot_led}
@@ -31,7 +31,7 @@ pub some_same : {X : Type 0} (x y : X) → Some x ≡ Some y → x ≡ y
 unfolding or_this
 some_same x y e = ap (or_this x) e
 
-pub brought : (blocks : Under) (t u : Tree) (level place : ℕ) (p : Pointer) (node : KeptNode) (r : Result (List Pointer) TreeFault)
+pub brought : (blocks : Under) (t u : Tree) (level place : ℕ) (p : Pointer) (node : KeptNode) (r : Result (List Pointer) BlockFault)
     → OnOk r ((k q : ℕ) → kept_at u k q ≡ cond (nat_eq k level && nat_eq q place) (Some node) (kept_at t k q))
     → OnErr r ((k q : ℕ) → kept_at u k q ≡ kept_at t k q)
     → (kept_at u level place ≡ Some node → ((p.stamp ≡ 0) × IsBlank (kept_at u level place)) ⊎ ((p.stamp ≢ 0) × (kept_at t level place ≡ None) × IsRead t.owner level place blocks p.vvbn (kept_at u level place)))
@@ -45,7 +45,7 @@ brought blocks t u level place p node (Err e) done failed own = record {
   own = inl (failed level place);
 }
 
-pub blank_now : (t u : Tree) (level place : ℕ) (node : KeptNode) (r : Result (List Pointer) TreeFault) → node.children ≡ replicate 128 hole → node.changed ≡ false → node.placed ≡ false
+pub blank_now : (t u : Tree) (level place : ℕ) (node : KeptNode) (r : Result (List Pointer) BlockFault) → node.children ≡ replicate 128 hole → node.changed ≡ false → node.placed ≡ false
     → OnOk r ((k q : ℕ) → kept_at u k q ≡ cond (nat_eq k level && nat_eq q place) (Some node) (kept_at t k q)) → OnOk r (IsBlank (kept_at u level place))
 blank_now t u level place node (Ok xs) children changed placed done = record {
   node = node;
@@ -58,9 +58,6 @@ blank_now t u level place node (Err e) children changed placed done = tt
 
 pub blank_unplaced : (t : Tree) (k q : ℕ) → IsBlank (kept_at t k q) → placed_in t.nodes k q ≡ false
 blank_unplaced t k q blank = ap node_placed blank.is ∙ blank.placed
-
-pub blank_unchanged : (t : Tree) (k q : ℕ) → IsBlank (kept_at t k q) → changed_in t.nodes k q ≡ false
-blank_unchanged t k q blank = ap node_changed blank.is ∙ blank.changed
 
 pub blank_empty : (blocks : Under) (t : Tree) (k q : ℕ) → IsBlank (kept_at t k q) → IsEmptyNode (standing blocks t) k q
 blank_empty blocks t k q blank xs node slot =
@@ -191,7 +188,7 @@ module _ (old new : Shown) (t u : Tree) (level place : ℕ) (low : 1 ≤ level) 
     once = λ j c k q v first second. stands.once j c k q v (leads_old j c v first) (leads_old k q v second);
     held = λ j c v leads. ap (λ (blocks : Under). is_some (blocks v)) seen_blocks ∙ stands.held j c v (leads_old j c v leads);
     used = λ j c v leads.
-        right_as (pointer_at (standing (under old) t) j c) (pointer_at (standing (under new) u) j c) (old.used v) (new.used v) (ap (λ (p : Pointer). p.pvbn) (same.pointers j c)) (ap (λ (u : ℕ → Option ℕ). u v) used) (stands.used j c v (leads_old j c v leads));
+        right_as (kind_for t.owner j) (kind_for u.owner j) (ap (λ (o : ℕ). kind_for o j) fields.owner) (pointer_at (standing (under old) t) j c) (pointer_at (standing (under new) u) j c) (old.used v) (new.used v) (ap (λ (p : Pointer). p.pvbn) (same.pointers j c)) (ap (λ (u : ℕ → Option Use). u v) used) (stands.used j c v (leads_old j c v leads));
     over = over;
     same = same_nodes;
     empty = λ j c some none which. empty_old j c (sym (stamps j c) ∙ none) (stands.empty j c some (sym (stamps j c) ∙ none) (empty_where j c which));

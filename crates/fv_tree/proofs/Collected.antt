@@ -15,7 +15,7 @@ use Rattle.fv_tree.specs.Keeping.{IsSame}
 use Rattle.fv_tree.proofs.Below.{kept_pointers}
 use Rattle.fv_tree.specs.Unlinking.{HasWay}
 use Rattle.fv_tree.specs.Flushing.{pointer_in, child_of}
-use Rattle.fv_tree.specs.Collecting.{IsIn, IsRising, AreBelow, IsPast, Collects, IsHeld, StillHeld, AreHeld, Extends, IsAdded, IsChildPast, IsUnder}
+use Rattle.fv_tree.specs.Collecting.{IsRising, AreBelow, IsPast, Collects, IsHeld, StillHeld, AreHeld, Extends, IsAdded, IsChildPast, IsUnder}
 use Rattle.fv_tree.proofs.Stamped.{above}
 use Rattle.fv_tree.proofs.Unlinked.{hole_below, marks_above, mark_within, top_alone}
 use Rattle.fv_tree.proofs.Levels.{not_first, fan_pos}
@@ -37,22 +37,10 @@ module _ (xs : List ℕ) (p : ℕ) where
   last_at : get_or ys (length xs) 0 ≡ p
   last_at = get_or-append_seam xs p [] 0
 
-  pub was_in : (q : ℕ) → IsIn xs q → IsIn ys q
-  was_in q is = (is.0, (let one = longer in let lt = is.1 in omega (arith, one, lt)), old_at is.0 is.1 ∙ is.2)
-
-  pub last_in : IsIn ys p
-  last_in = (length xs, (let one = longer in omega (arith, one)), last_at)
-
   place_of : (j : ℕ) → j < length ys → (j < length xs) ⊎ (j ≡ length xs)
   place_of j lt = let one = longer in elim (cases_lt j (length xs)) [
     | inl less ↦ inl less
     | inr le ↦ inr (omega (arith, one, lt, le))
-  ]
-
-  pub only_in : (j : ℕ) → j < length ys → IsIn xs (get_or ys j 0) ⊎ (get_or ys j 0 ≡ p)
-  only_in j lt = elim (place_of j lt) [
-    | inl less ↦ inl (j, less, sym (old_at j less))
-    | inr same ↦ inr (ap (λ k. get_or ys k 0) same ∙ last_at)
   ]
 
   pub rises : IsRising xs → AreBelow xs p → IsRising ys
@@ -65,12 +53,6 @@ module _ (xs : List ℕ) (p : ℕ) where
         let first : get_or ys j 0 ≡ get_or xs j 0 = old_at j (omega (arith, lt, same)) in
         let second : get_or ys k 0 ≡ p = ap (λ k. get_or ys k 0) same ∙ last_at in
         let is = below j (omega (arith, lt, same)) in omega (arith, first, second, is)
-  ]
-
-  pub stay_below : (bound : ℕ) → AreBelow xs bound → p < bound → AreBelow ys bound
-  stay_below bound below last j lt = elim (place_of j lt) [
-    | inl less ↦ let here : get_or ys j 0 ≡ get_or xs j 0 = old_at j less in let is = below j less in omega (arith, here, is)
-    | inr same ↦ let here : get_or ys j 0 ≡ p = ap (λ k. get_or ys k 0) same ∙ last_at in omega (arith, here, last)
   ]
 
 -- ---- ranges past a length
@@ -186,23 +168,6 @@ extends_then P Q R a b c first second one other split = record {
   ];
 }
 
-pub extends_none : (P : ℕ → Type 0) (xs : List ℕ) → ((q : ℕ) → P q → ⊥) → Extends P xs xs
-extends_none P xs none = record {
-  only = λ j lt. inl (j, lt, refl);
-  stay = λ q is. is;
-  all = λ q p. absurd (none q p);
-}
-
-pub extends_one : (P : ℕ → Type 0) (xs : List ℕ) (p : ℕ) → P p → ((q : ℕ) → P q → q ≡ p) → Extends P xs (xs ++ p ∷ [])
-extends_one P xs p is only = record {
-  only = λ j lt. elim (only_in xs p j lt) [
-    | inl was ↦ inl was
-    | inr same ↦ inr (subst P (sym same) is)
-  ];
-  stay = was_in xs p;
-  all = λ q came. subst (IsIn (xs ++ p ∷ [])) (sym (only q came)) (last_in xs p);
-}
-
 -- ---- the pointers of a node, one after another
 
 pub record IsChildBefore (xs : List Pointer) (level most place count q : ℕ) : Type 0 where
@@ -252,19 +217,6 @@ collects_as t u level most xs same is = record {
   past = λ j lt. past_same t u level most (get_or xs j 0) same (is.past j lt);
   whole = λ q past. is.whole q (past_back t u level most q same past);
 }
-
-pub collects_back : (t u : Rooted) (level most : ℕ) (xs : List ℕ) → IsSame t u → Collects u level most xs → Collects t level most xs
-collects_back t u level most xs same is = record {
-  rising = is.rising;
-  past = λ j lt. past_back t u level most (get_or xs j 0) same (is.past j lt);
-  whole = λ q past. is.whole q (past_same t u level most q same past);
-}
-
-pub held_as : (v : Tree) (t u : Rooted) (level most : ℕ) → IsSame t u → AreHeld v t level most → AreHeld v u level most
-held_as v t u level most same held k q lt le past = held k q lt (let levels = same.levels in omega (arith, le, levels)) (past_back t u k most q same past)
-
-pub held_back : (v : Tree) (t u : Rooted) (level most : ℕ) → IsSame t u → AreHeld v u level most → AreHeld v t level most
-held_back v t u level most same held k q lt le past = held k q lt (let levels = same.levels in omega (arith, le, levels)) (past_same t u k most q same past)
 
 -- ---- one range of a level after another
 

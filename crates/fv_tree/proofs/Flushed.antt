@@ -5,10 +5,11 @@ use Rattle.std.proofs.lemmas.Bool.Decides.{nat_tests}
 use Rattle.std.proofs.lemmas.List.{get_or-set_same, get_or-set_other}
 use Rattle.fv_codec.specs.declared.pointer.Pointer.{Pointer}
 use Rattle.fv_model.specs.Trees.{fan}
+use Rattle.fv_tree.specs.Sources.{Use}
 use Rattle.fv_tree.specs.Spelled.{Rooted, hole, pointers_at, pointers_in, pointer_at, block_at}
-use Rattle.fv_tree.specs.Flushing.{Loaded, Leads, IsRight, IsSound, IsEmptyNode, IsFlushed, IsReplaced, IsPlaced, HoldsUnknown, Flushes}
+use Rattle.fv_tree.specs.Flushing.{Loaded, Leads, IsRight, IsSound, IsEmptyNode, IsFlushed, IsReplaced, IsPlaced, HoldsUnknown, Flushes, kind_for, use_told, HasKind}
 use Rattle.fv_tree.proofs.Below.{no_pointers, kept_pointers, read_pointers}
-use Rattle.fv_tree.proofs.Hints.{HasUnknown, right_as}
+use Rattle.fv_tree.proofs.Hints.{HasUnknown, right_as, right_kind}
 use Rattle.fv_tree.proofs.Spots.{here, elsewhere}
 use Rattle.fv_tree.proofs.Stamped.{apart}
 use Rattle.fv_tree.proofs.Ways.{own_way, is_way, past, spot_is}
@@ -43,7 +44,7 @@ pub record IsMemory (s : Loaded) : Type 0 where
   pub cell : (place : ℕ) (block : List ℕ) → s.tree.cells place ≡ Some block → s.changed 0 place ≡ true
 
 -- what didn't change and is led to has its block
-pub unchanged_placed : (s : Loaded) (used : ℕ → Option ℕ) → IsSound used s → IsMemory s → (j c : ℕ) → s.changed j c ≡ false → (pointer_at s.tree j c).stamp ≢ 0 → s.placed j c ≡ true
+pub unchanged_placed : (s : Loaded) (used : ℕ → Option Use) → IsSound used s → IsMemory s → (j c : ℕ) → s.changed j c ≡ false → (pointer_at s.tree j c).stamp ≢ 0 → s.placed j c ≡ true
 unchanged_placed s used sound memory j c same some = elim (cases_eq j 0) [
   | inl e ↦ (λ i. s.placed (e i) c) ∙ elim (there (s.tree.cells c)) [
     | inl absent ↦ memory.cells c absent
@@ -72,7 +73,7 @@ top_is_first t place some = elim (cases_eq place 0) [
 ]
 
 -- the pointer to a cell or node leads to a new block of it, and it goes out of memory
-pub record Replaces (s : Loaded) (used : ℕ → Option ℕ) (u : Loaded) (uses : ℕ → Option ℕ) (k q : ℕ) (p : Pointer) : Type 0 where
+pub record Replaces (s : Loaded) (used : ℕ → Option Use) (u : Loaded) (uses : ℕ → Option Use) (k q : ℕ) (p : Pointer) : Type 0 where
   pub was : s.changed k q ≡ true
   pub some : (pointer_at s.tree k q).stamp ≢ 0
   pub stamp : p.stamp ≡ (pointer_at s.tree k q).stamp
@@ -92,8 +93,8 @@ pub record Replaces (s : Loaded) (used : ℕ → Option ℕ) (u : Loaded) (uses 
   pub fresh : s.tree.under p.vvbn ≡ None
   pub unused : used p.vvbn ≡ None
   pub now : is_some (u.tree.under p.vvbn) ≡ true
-  pub taken : IsRight p (uses p.vvbn)
-  pub told : (uses p.vvbn ≡ Some p.pvbn) ⊎ ((1 ≤ k) × HasUnknown (s.tree.nodes k q))
+  pub taken : IsRight (kind_for s.tree.owner k) p (uses p.vvbn)
+  pub told : (uses p.vvbn ≡ Some (use_told p (kind_for s.tree.owner k))) ⊎ ((1 ≤ k) × HasUnknown (s.tree.nodes k q))
   pub others : (v : ℕ) → v ≢ p.vvbn → (Leads s k q v → ⊥) → (u.tree.under v ≡ s.tree.under v) × (uses v ≡ used v)
   pub gone : (v : ℕ) → Leads s k q v → v ≢ p.vvbn → uses v ≡ None
   pub changed : u.changed k q ≡ false
@@ -113,7 +114,7 @@ moved_elsewhere : (f : ℕ → ℕ → Pointer) (k q : ℕ) (p : Pointer) (j c :
 unfolding moved_to
 moved_elsewhere f k q p j c other = ap (λ b. cond b p (f j c)) (elsewhere j c k q other)
 
-module _ (s : Loaded) (used : ℕ → Option ℕ) (u : Loaded) (uses : ℕ → Option ℕ) (k q : ℕ) (p : Pointer) (sound : IsSound used s) (memory : IsMemory s) (is : Replaces s used u uses k q p) where
+module _ (s : Loaded) (used : ℕ → Option Use) (u : Loaded) (uses : ℕ → Option Use) (k q : ℕ) (p : Pointer) (sound : IsSound used s) (memory : IsMemory s) (is : Replaces s used u uses k q p) where
   abbrev pub f : ℕ → ℕ → Pointer
   f = moved_to (pointer_at s.tree) k q p
 
@@ -313,12 +314,15 @@ module _ (s : Loaded) (used : ℕ → Option ℕ) (u : Loaded) (uses : ℕ → O
     | inr other ↦ let was = leads_old j c v other leads in ap is_some (stays_under j c v was other).0 ∙ sound.held j c v was
   ]
 
-  in_use : (j c v : ℕ) → Leads u j c v → IsRight (pointer_at u.tree j c) (uses v)
+  same_kind : (j : ℕ) → j ≡ k → kind_for u.tree.owner j ≡ kind_for s.tree.owner k
+  same_kind j e = λ i. kind_for (is.owner i) (e i)
+
+  in_use : (j c v : ℕ) → Leads u j c v → IsRight (kind_for u.tree.owner j) (pointer_at u.tree j c) (uses v)
   in_use j c v leads = elim (spot_is j c k q) [
-    | inl at ↦ right_as p (pointer_at u.tree j c) (uses p.vvbn) (uses v) (ap (λ (p : Pointer). p.pvbn) ((λ i. pointer_at u.tree (at.0 i) (at.1 i)) ∙ pointer_here)) (ap uses (sym (own_vvbn j c v at.0 at.1 leads))) is.taken
+    | inl at ↦ right_as (kind_for s.tree.owner k) (kind_for u.tree.owner j) (same_kind j at.0) p (pointer_at u.tree j c) (uses p.vvbn) (uses v) (ap (λ (p : Pointer). p.pvbn) ((λ i. pointer_at u.tree (at.0 i) (at.1 i)) ∙ pointer_here)) (ap uses (sym (own_vvbn j c v at.0 at.1 leads))) is.taken
     | inr other ↦
         let was = leads_old j c v other leads in
-        right_as (pointer_at s.tree j c) (pointer_at u.tree j c) (used v) (uses v) (ap (λ (p : Pointer). p.pvbn) (pointer_there j c other)) (stays_under j c v was other).1 (sound.used j c v was)
+        right_as (kind_for s.tree.owner j) (kind_for u.tree.owner j) (ap (λ (o : ℕ). kind_for o j) is.owner) (pointer_at s.tree j c) (pointer_at u.tree j c) (used v) (uses v) (ap (λ (p : Pointer). p.pvbn) (pointer_there j c other)) (stays_under j c v was other).1 (sound.used j c v was)
   ]
 
   -- what still differs from its block is another
@@ -465,14 +469,21 @@ module _ (s : Loaded) (used : ℕ → Option ℕ) (u : Loaded) (uses : ℕ → O
         unknown = ap (λ (p : Pointer). p.pvbn) child ∙ has.unknown;
       }
 
-  told : (j c : ℕ) → IsFlushed s u j c → (uses (pointer_at u.tree j c).vvbn ≡ Some (pointer_at u.tree j c).pvbn) ⊎ HoldsUnknown u.tree j c
+  told : (j c : ℕ) → IsFlushed s u j c → (uses (pointer_at u.tree j c).vvbn ≡ Some (use_told (pointer_at u.tree j c) (kind_for u.tree.owner j))) ⊎ HoldsUnknown u.tree j c
   told j c flushed =
       let at = only_flushed j c flushed in
       let own : pointer_at u.tree j c ≡ p = (λ i. pointer_at u.tree (at.0 i) (at.1 i)) ∙ pointer_here in
       elim is.told [
-        | inl same ↦ inl (ap (λ (r : Pointer). uses r.vvbn) own ∙ same ∙ sym (ap (λ (r : Pointer). Some r.pvbn) own))
+        | inl same ↦ inl (ap (λ (r : Pointer). uses r.vvbn) own ∙ same ∙ sym (λ i. Some (use_told (own i) (same_kind j at.0 i))))
         | inr hidden ↦ inr (holds_unknown j c at.0 at.1 hidden.0 hidden.1)
       ]
+
+  kinds : (j c : ℕ) → IsFlushed s u j c → HasKind (kind_for u.tree.owner j) (uses (pointer_at u.tree j c).vvbn)
+  kinds j c flushed =
+      let at = only_flushed j c flushed in
+      let own : pointer_at u.tree j c ≡ p = (λ i. pointer_at u.tree (at.0 i) (at.1 i)) ∙ pointer_here in
+      subst (λ (kind : ℕ). HasKind kind (uses (pointer_at u.tree j c).vvbn)) (sym (same_kind j at.0))
+      (subst (λ (r : Pointer). HasKind (kind_for s.tree.owner k) (uses r.vvbn)) (sym own) (right_kind (kind_for s.tree.owner k) p (uses p.vvbn) is.taken))
 
   fresh : (v : ℕ) → IsPlaced s u v → (s.tree.under v ≡ None) × (used v ≡ None)
   fresh v placed =
@@ -494,4 +505,5 @@ module _ (s : Loaded) (used : ℕ → Option ℕ) (u : Loaded) (uses : ℕ → O
     gone = gone;
     unknown = unknown;
     told = told;
+    kinds = kinds;
   }

@@ -2,9 +2,10 @@
 use Rattle.std.proofs.Common.{Option, Some, None, ◌≡◌, ◌≢◌, ◌≤◌, ℕ, ◌+◌, ◌/◌, ◌⊎◌, inl, inr, true, false, refl, sym, ap, subst, ◌∙◌, arith}
 use Rattle.fv_codec.specs.declared.pointer.Pointer.{Pointer}
 use Rattle.fv_model.specs.Trees.{fan}
+use Rattle.fv_tree.specs.Sources.{Use}
 use Rattle.fv_tree.specs.Spelled.{Rooted, pointer_at}
 use Rattle.fv_tree.specs.Writing.{IsAlike}
-use Rattle.fv_tree.specs.Flushing.{Loaded, Leads, IsSound, IsFlushed, IsReplaced, IsPlaced, HoldsUnknown, Flushes}
+use Rattle.fv_tree.specs.Flushing.{Loaded, Leads, IsSound, IsFlushed, IsReplaced, IsPlaced, HoldsUnknown, Flushes, kind_for, use_told, HasKind}
 use Rattle.fv_tree.proofs.Flushed.{IsMemory, bit, there, some_none, false_is_true, reached_within, unchanged_placed}
 
 pub alike_then : (t u v : Rooted) → IsAlike t u → IsAlike u v → IsAlike t v
@@ -18,7 +19,7 @@ alike_then t u v first second = record {
 none_flushed : {P : Type 0} (s : Loaded) (j c : ℕ) → IsFlushed s s j c → P
 none_flushed s j c flushed = false_is_true (s.changed j c) flushed.done flushed.was
 
-pub flushes_nothing : (s : Loaded) (used : ℕ → Option ℕ) → IsSound used s → Flushes s used s used
+pub flushes_nothing : (s : Loaded) (used : ℕ → Option Use) → IsSound used s → Flushes s used s used
 flushes_nothing s used sound = record {
   owner = refl;
   sound = sound;
@@ -32,9 +33,10 @@ flushes_nothing s used sound = record {
   gone = λ v replaced _. none_flushed s replaced.level replaced.place replaced.flushed;
   unknown = λ j c flushed _ _. none_flushed s (j + 1) (c / fan) flushed;
   told = λ j c flushed. none_flushed s j c flushed;
+  kinds = λ j c flushed. none_flushed s j c flushed;
 }
 
-module _ (s t u : Loaded) (before between after : ℕ → Option ℕ) (memory : IsMemory t) (first : Flushes s before t between) (second : Flushes t between u after) where
+module _ (s t u : Loaded) (before between after : ℕ → Option Use) (memory : IsMemory t) (first : Flushes s before t between) (second : Flushes t between u after) where
   -- what was placed stays so
   still : (j c : ℕ) → t.changed j c ≡ false → u.changed j c ≡ false
   still j c done = elim (bit (u.changed j c)) [
@@ -154,19 +156,19 @@ module _ (s t u : Loaded) (before between after : ℕ → Option ℕ) (memory : 
   ]
 
   -- the VVBN of what was placed in the first steps stays in use as it was
-  same_use : (j c : ℕ) → IsFlushed s t j c → between (pointer_at t.tree j c).vvbn ≡ Some (pointer_at t.tree j c).pvbn → after (pointer_at t.tree j c).vvbn ≡ between (pointer_at t.tree j c).vvbn
-  same_use j c flushed use_ =
+  same_use : (j c : ℕ) (x : Use) → IsFlushed s t j c → between (pointer_at t.tree j c).vvbn ≡ Some x → after (pointer_at t.tree j c).vvbn ≡ between (pointer_at t.tree j c).vvbn
+  same_use j c x flushed use_ =
       let v = (pointer_at t.tree j c).vvbn in
       let reached : (pointer_at t.tree j c).stamp ≢ 0 = λ e. flushed.some (sym (first.stamps j c) ∙ e) in
       let leads : Leads t j c v = record { some = reached; placed = unchanged_placed t between first.sound memory j c flushed.done reached; vvbn = refl } in
       let not_replaced : IsReplaced t u v → ⊥ = λ r. let same = first.sound.once j c r.level r.place v leads r.leads in false_is_true (t.changed j c) flushed.done ((λ i. t.changed (same.0 i) (same.1 i)) ∙ r.flushed.was) in
-      (second.others v not_replaced (λ p. some_none (between v) (pointer_at t.tree j c).pvbn (second.fresh v p not_replaced).1 use_)).1
+      (second.others v not_replaced (λ p. some_none (between v) x (second.fresh v p not_replaced).1 use_)).1
 
-  told_first : (j c : ℕ) → IsFlushed s t j c → (after (pointer_at u.tree j c).vvbn ≡ Some (pointer_at u.tree j c).pvbn) ⊎ HoldsUnknown u.tree j c
+  told_first : (j c : ℕ) → IsFlushed s t j c → (after (pointer_at u.tree j c).vvbn ≡ Some (use_told (pointer_at u.tree j c) (kind_for u.tree.owner j))) ⊎ HoldsUnknown u.tree j c
   told_first j c flushed =
       let same : pointer_at u.tree j c ≡ pointer_at t.tree j c = second.stays j c (inr flushed.done) in
       elim (first.told j c flushed) [
-        | inl use_ ↦ inl (ap (λ (p : Pointer). after p.vvbn) same ∙ same_use j c flushed use_ ∙ use_ ∙ sym (ap (λ (p : Pointer). Some p.pvbn) same))
+        | inl use_ ↦ inl (ap (λ (p : Pointer). after p.vvbn) same ∙ same_use j c (use_told (pointer_at t.tree j c) (kind_for t.tree.owner j)) flushed use_ ∙ use_ ∙ sym (λ i. Some (use_told (same i) (kind_for (second.owner i) j))))
         | inr holds ↦
             let above : IsFlushed s t (holds.below + 1) (holds.child / fan) = subst (λ k. IsFlushed s t k (holds.child / fan)) (sym holds.up) (subst (IsFlushed s t j) (sym holds.over) flushed) in
             let child : pointer_at u.tree holds.below holds.child ≡ pointer_at t.tree holds.below holds.child = same_child holds.below holds.child above holds.some in
@@ -180,10 +182,28 @@ module _ (s t u : Loaded) (before between after : ℕ → Option ℕ) (memory : 
             })
       ]
 
-  told : (j c : ℕ) → IsFlushed s u j c → (after (pointer_at u.tree j c).vvbn ≡ Some (pointer_at u.tree j c).pvbn) ⊎ HoldsUnknown u.tree j c
+  told : (j c : ℕ) → IsFlushed s u j c → (after (pointer_at u.tree j c).vvbn ≡ Some (use_told (pointer_at u.tree j c) (kind_for u.tree.owner j))) ⊎ HoldsUnknown u.tree j c
   told j c flushed = elim (bit (t.changed j c)) [
     | inl done ↦ told_first j c (record { was = flushed.was; done = done; some = flushed.some })
     | inr changed ↦ second.told j c (record { was = changed; done = flushed.done; some = λ e. flushed.some (sym (first.stamps j c) ∙ e) })
+  ]
+
+  kinds_first : (j c : ℕ) → IsFlushed s t j c → HasKind (kind_for u.tree.owner j) (after (pointer_at u.tree j c).vvbn)
+  kinds_first j c flushed =
+      let same : pointer_at u.tree j c ≡ pointer_at t.tree j c = second.stays j c (inr flushed.done) in
+      let was = first.kinds j c flushed in
+      elim (there (between (pointer_at t.tree j c).vvbn)) [
+        | inl none ↦ absurd (subst (HasKind (kind_for t.tree.owner j)) none was)
+        | inr use_ ↦
+            subst (λ (r : Pointer). HasKind (kind_for u.tree.owner j) (after r.vvbn)) (sym same)
+            (subst (HasKind (kind_for u.tree.owner j)) (sym (same_use j c use_.0 flushed use_.1))
+            (subst (λ (o : ℕ). HasKind (kind_for o j) (between (pointer_at t.tree j c).vvbn)) (sym second.owner) was))
+      ]
+
+  kinds : (j c : ℕ) → IsFlushed s u j c → HasKind (kind_for u.tree.owner j) (after (pointer_at u.tree j c).vvbn)
+  kinds j c flushed = elim (bit (t.changed j c)) [
+    | inl done ↦ kinds_first j c (record { was = flushed.was; done = done; some = flushed.some })
+    | inr changed ↦ second.kinds j c (record { was = changed; done = flushed.done; some = λ e. flushed.some (sym (first.stamps j c) ∙ e) })
   ]
 
   pub flushes_then : Flushes s before u after
@@ -203,4 +223,5 @@ module _ (s t u : Loaded) (before between after : ℕ → Option ℕ) (memory : 
     gone = gone;
     unknown = unknown;
     told = told;
+    kinds = kinds;
   }

@@ -3,8 +3,9 @@ use Rattle.std.proofs.Common.{◌≡◌, ◌≢◌, ◌≤◌, ◌<◌, ℕ, ◌
 use Rattle.std.proofs.lemmas.Bool.{cases_eq, cases_lt}
 use Rattle.fv_codec.specs.declared.pointer.Pointer.{Pointer}
 use Rattle.fv_model.specs.Trees.{fan}
+use Rattle.fv_tree.specs.Sources.{Use}
 use Rattle.fv_tree.specs.Spelled.{hole, pointers_at, pointers_in, pointer_at, stamp_in, block_at}
-use Rattle.fv_tree.specs.Flushing.{Loaded, Leads, IsSound, IsEmptyNode, IsFlushed, Flushes}
+use Rattle.fv_tree.specs.Flushing.{Loaded, Leads, IsSound, IsEmptyNode, IsFlushed, Flushes, kind_for}
 use Rattle.fv_tree.proofs.Below.{no_pointers, kept_pointers, read_pointers}
 use Rattle.fv_tree.proofs.Flushed.{IsMemory, there, false_is_true, some_none, under_none, unchanged_placed}
 use Rattle.fv_tree.proofs.Hints.{right_as}
@@ -25,7 +26,7 @@ pub record Forgets (s u : Loaded) (k q : ℕ) : Type 0 where
   pub changed_others : (j c : ℕ) → (j ≢ k) ⊎ (c ≢ q) → u.changed j c ≡ s.changed j c
   pub placed_others : (j c : ℕ) → (j ≢ k) ⊎ (c ≢ q) → u.placed j c ≡ s.placed j c
 
-module _ (s u : Loaded) (used : ℕ → Option ℕ) (k q : ℕ) (sound : IsSound used s) (memory : IsMemory s) (is : Forgets s u k q) where
+module _ (s u : Loaded) (used : ℕ → Option Use) (k q : ℕ) (sound : IsSound used s) (memory : IsMemory s) (is : Forgets s u k q) where
   unchanged : (pointer_at s.tree k q).stamp ≢ 0 → s.changed k q ≡ false
   unchanged some = elim is.why [
     | inl same ↦ same
@@ -146,7 +147,7 @@ module _ (s u : Loaded) (used : ℕ → Option ℕ) (k q : ℕ) (sound : IsSound
   stands = record {
     once = λ j c m n v first second. sound.once j c m n v (leads_old j c v first) (leads_old m n v second);
     held = λ j c v leads. ap (λ under. is_some (under v)) is.under ∙ sound.held j c v (leads_old j c v leads);
-    used = λ j c v leads. right_as (pointer_at s.tree j c) (pointer_at u.tree j c) (used v) (used v) (ap (λ (p : Pointer). p.pvbn) (pointers j c)) refl (sound.used j c v (leads_old j c v leads));
+    used = λ j c v leads. right_as (kind_for s.tree.owner j) (kind_for u.tree.owner j) (ap (λ (o : ℕ). kind_for o j) is.owner) (pointer_at s.tree j c) (pointer_at u.tree j c) (used v) (used v) (ap (λ (p : Pointer). p.pvbn) (pointers j c)) refl (sound.used j c v (leads_old j c v leads));
     over = over;
     same = same;
     empty = empty;
@@ -173,4 +174,5 @@ module _ (s u : Loaded) (used : ℕ → Option ℕ) (k q : ℕ) (sound : IsSound
     gone = λ v replaced _. none_flushed replaced.level replaced.place replaced.flushed;
     unknown = λ j c flushed _ _. none_flushed (j + 1) (c / fan) flushed;
     told = λ j c flushed. none_flushed j c flushed;
+    kinds = λ j c flushed. none_flushed j c flushed;
   }

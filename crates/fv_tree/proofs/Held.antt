@@ -4,7 +4,7 @@ use Rattle.std.proofs.Math.Nat.{div-eq_of_lt}
 use Rattle.std.proofs.lemmas.Bool.{cases_eq}
 use Rattle.fv_codec.specs.declared.pointer.Pointer.{Pointer}
 use Rattle.fv_model.specs.Trees.{fan}
-use Rattle.fv_tree.specs.declared.blocks.TreeFault.{TreeFault}
+use Rattle.fv_disk.specs.declared.fault.BlockFault.{BlockFault}
 use Rattle.fv_tree.specs.declared.kept.Tree.{Tree}
 use Rattle.fv_tree.specs.Spelled.{Under, Rooted, hole, pointers_at, pointers_in, pointer_at}
 use Rattle.fv_tree.specs.Standing.{standing, node_in, IsSameBut}
@@ -21,7 +21,7 @@ pub read_as : (t : Rooted) (level place : ℕ) (p : Pointer) (xs : List Pointer)
     → get_or xs slot hole ≡ get_or (pointers_at t level place p) slot hole
 read_as t level place p xs some none is slot = sym (ap (λ (ys : List Pointer). get_or ys slot hole) (read_pointers t level place p some none ∙ is))
 
-pub kept_as : (old new : Under) → new ≡ old → (t u : Tree) (level place : ℕ) (p : Pointer) (xs : List Pointer) (r : Result (List Pointer) TreeFault) → IsSameBut t u
+pub kept_as : (old new : Under) → new ≡ old → (t u : Tree) (level place : ℕ) (p : Pointer) (xs : List Pointer) (r : Result (List Pointer) BlockFault) → IsSameBut t u
     → OnOk r ((k q : ℕ) → node_in u k q ≡ cond (nat_eq k level && nat_eq q place) (Some xs) (node_in t k q))
     → OnErr r ((k q : ℕ) → node_in u k q ≡ node_in t k q)
     → length xs ≡ 128

@@ -1,21 +1,32 @@
 -- Pointers that tell right PVBNs, and nodes that hold unknown pointers.
-use Rattle.std.proofs.Common.{◌≡◌, ◌≢◌, ◌<◌, ℕ, ◌⊎◌, inl, inr, Bool, true, false, not, ◌&&◌, List, [], ◌∷◌, suc, Option, Some, None, get_or, length, refl, sym, ap, subst, ◌∙◌, arith, ◌==◌}
+use Rattle.std.proofs.Common.{◌≡◌, ◌≢◌, ◌<◌, ℕ, ◌⊎◌, inl, inr, Bool, true, false, not, ◌&&◌, List, [], ◌∷◌, suc, Option, Some, None, is_some, get_or, length, refl, sym, ap, subst, ◌∙◌, arith, ◌==◌}
 use Rattle.std.proofs.lemmas.Bool.{cases_eq}
 use Rattle.std.proofs.lemmas.Bool.Decides.{nat_tests}
 use Rattle.fv_codec.specs.declared.pointer.Pointer.{Pointer}
 use Rattle.fv_model.specs.Trees.{fan}
+use Rattle.fv_tree.specs.Sources.{Use}
 use Rattle.fv_tree.specs.Spelled.{hole}
-use Rattle.fv_tree.specs.Flushing.{IsRight, is_unknown, all_known}
+use Rattle.fv_tree.specs.Flushing.{HasKind, IsRight, is_unknown, all_known}
 use Rattle.fv_tree.proofs.Pointers.{both}
 
-other_hint : (p r : Pointer) (use_ : Option ℕ) → r.pvbn ≡ p.pvbn → IsRight p use_ → IsRight r use_
-other_hint p r None same is = is
-other_hint p r (Some pvbn) same (inl unknown) = inl (same ∙ unknown)
-other_hint p r (Some pvbn) same (inr known) = inr (same ∙ known)
+other_hint : (k : ℕ) (p r : Pointer) (use_ : Option Use) → r.pvbn ≡ p.pvbn → IsRight k p use_ → IsRight k r use_
+other_hint k p r None same is = is
+other_hint k p r (Some x) same (inl unknown, kind) = (inl (same ∙ unknown), kind)
+other_hint k p r (Some x) same (inr known, kind) = (inr (same ∙ known), kind)
 
 -- another pointer that tells the same of the same use
-pub right_as : (p r : Pointer) (old new : Option ℕ) → r.pvbn ≡ p.pvbn → new ≡ old → IsRight p old → IsRight r new
-right_as p r old new same use_ is = subst (IsRight r) (sym use_) (other_hint p r old same is)
+pub right_as : (k l : ℕ) → l ≡ k → (p r : Pointer) (old new : Option Use) → r.pvbn ≡ p.pvbn → new ≡ old → IsRight k p old → IsRight l r new
+right_as k l level p r old new same use_ is = subst (λ (kind : ℕ). IsRight kind r new) (sym level) (subst (IsRight k r) (sym use_) (other_hint k p r old same is))
+
+-- what a pointer is right of is in use
+pub right_some : (k : ℕ) (p : Pointer) (use_ : Option Use) → IsRight k p use_ → is_some use_ ≡ true
+right_some k p None is = absurd is
+right_some k p (Some x) is = refl
+
+-- and has the kind
+pub right_kind : (k : ℕ) (p : Pointer) (use_ : Option Use) → IsRight k p use_ → HasKind k use_
+right_kind k p None is = is
+right_kind k p (Some x) is = is.1
 
 -- a node in memory holds an unknown pointer
 pub record HasUnknown (node : Option (List Pointer)) : Type 0 where

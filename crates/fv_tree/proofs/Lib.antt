@@ -12,7 +12,6 @@ pub mod Writes
 pub mod Past
 pub mod Steps
 pub mod Seen
-pub mod Maps
 pub mod Erased
 pub mod Marks
 pub mod Unlinked
@@ -34,6 +33,7 @@ pub mod Brought
 pub mod Newly
 pub mod Marked
 pub mod Ready
+pub mod Refilled
 pub mod Ungrown
 pub mod ReadyPast
 pub mod Flushes

@@ -1,57 +1,64 @@
 -- A write, from what it marks as changed, and how the tree stands to its blocks then.
-use Rattle.std.proofs.Common.{◌≡◌, ◌≢◌, ◌≤◌, ◌<◌, ℕ, ◌+◌, ◌/◌, ◌^◌, ◌⊎◌, inl, inr, true, false, List, Option, Some, is_some, refl, sym, ap, ◌∙◌, arith}
+use Rattle.std.proofs.Common.{◌≡◌, ◌≢◌, ◌≤◌, ◌<◌, ℕ, ◌+◌, ◌/◌, ◌^◌, ◌⊎◌, inl, inr, true, false, List, Option, Some, is_some, refl, sym, ap, subst, ◌∙◌, arith}
 use Rattle.std.proofs.Math.Nat.{div-eq_of_lt, pow-le-pow_right}
 use Rattle.std.proofs.lemmas.Bool.{cases_eq, cases_lt}
 use Rattle.fv_codec.specs.declared.pointer.Pointer.{Pointer}
 use Rattle.fv_model.specs.Trees.{fan}
+use Rattle.fv_tree.specs.Sources.{Use}
 use Rattle.fv_tree.specs.Spelled.{hole, pointers_in, pointer_at}
-use Rattle.fv_tree.specs.Writing.{stamped}
-use Rattle.fv_tree.specs.Flushing.{Loaded, Leads, IsRight, IsSound, IsEmptyNode}
+use Rattle.fv_tree.specs.Flushing.{Loaded, Leads, IsRight, IsSound, IsEmptyNode, kind_for}
 use Rattle.fv_tree.proofs.Flushed.{false_is_true, reached_within}
 use Rattle.fv_tree.proofs.Hints.{right_as}
-use Rattle.fv_tree.proofs.Stamped.{on_way, on, off, above}
+use Rattle.fv_tree.proofs.Stamped.{above}
 use Rattle.fv_tree.proofs.Ways.{past}
 
 -- what holds of a tree of which the way to a cell is in memory, before that is marked
-pub record IsReady (taken : ℕ → Option ℕ) (v : Loaded) (i : ℕ) : Type 0 where
+pub record IsReady (taken : ℕ → Option Use) (v : Loaded) (i : ℕ) : Type 0 where
   pub once : (level place k q w : ℕ) → Leads v level place w → Leads v k q w → (level ≡ k) × (place ≡ q)
   pub held : (level place w : ℕ) → Leads v level place w → is_some (v.tree.under w) ≡ true
-  pub used : (level place w : ℕ) → Leads v level place w → IsRight (pointer_at v.tree level place) (taken w)
+  pub used : (level place w : ℕ) → Leads v level place w → IsRight (kind_for v.tree.owner level) (pointer_at v.tree level place) (taken w)
   pub unplaced : (level : ℕ) → level ≤ v.tree.levels → (pointer_at v.tree level (i / fan ^ level)).stamp ≡ 0 → v.placed level (i / fan ^ level) ≡ false
   pub over : (level place : ℕ) → place ≢ i / fan ^ level → v.changed level place ≡ true → (pointer_at v.tree level place).stamp ≢ 0 → level < v.tree.levels → v.changed (level + 1) (place / fan) ≡ true
   pub same : (level place : ℕ) (xs : List Pointer) → place ≢ i / fan ^ level → 1 ≤ level → v.tree.nodes level place ≡ Some xs → v.changed level place ≡ false → (pointer_at v.tree level place).stamp ≢ 0
       → (pointers_in v.tree.owner level place (v.tree.under (pointer_at v.tree level place).vvbn) ≡ xs) × (v.placed level place ≡ true)
   pub empty : (level place : ℕ) → place ≢ i / fan ^ level → 1 ≤ level → (pointer_at v.tree level place).stamp ≡ 0 → (level ≤ v.tree.levels) ⊎ (place ≢ 0) → IsEmptyNode v.tree level place
 
--- the way to a cell has a stamp and is marked as changed
-pub record IsMarked (v u : Loaded) (i s : ℕ) : Type 0 where
+-- another pointer that leads to the same block, with some stamp
+pub record IsReached (p r : Pointer) : Type 0 where
+  pub vvbn : r.vvbn ≡ p.vvbn
+  pub pvbn : r.pvbn ≡ p.pvbn
+  pub some : r.stamp ≢ 0
+
+-- the way to a cell has stamps and is marked as changed
+pub record IsMarked (v u : Loaded) (i : ℕ) : Type 0 where
   pub owner : u.tree.owner ≡ v.tree.owner
   pub under : u.tree.under ≡ v.tree.under
   pub levels : u.tree.levels ≡ v.tree.levels
-  pub root : u.tree.root.stamp ≡ s
-  pub pointers : (level place : ℕ) → level ≤ v.tree.levels → pointer_at u.tree level place ≡ on_way (pointer_at v.tree) i s level place
+  pub root : u.tree.root.stamp ≢ 0
+  pub reached : (level : ℕ) → level ≤ v.tree.levels → IsReached (pointer_at v.tree level (i / fan ^ level)) (pointer_at u.tree level (i / fan ^ level))
+  pub beside : (level place : ℕ) → level ≤ v.tree.levels → place ≢ i / fan ^ level → pointer_at u.tree level place ≡ pointer_at v.tree level place
   pub nodes : (level place : ℕ) → place ≢ i / fan ^ level → u.tree.nodes level place ≡ v.tree.nodes level place
   pub placed : (level place : ℕ) → u.placed level place ≡ v.placed level place
   pub way : (level : ℕ) → level ≤ v.tree.levels → u.changed level (i / fan ^ level) ≡ true
   pub others : (level place : ℕ) → place ≢ i / fan ^ level → u.changed level place ≡ v.changed level place
 
-module _ (taken : ℕ → Option ℕ) (v u : Loaded) (i s : ℕ) (some : s ≢ 0) (covers : i < fan ^ v.tree.levels) (ready : IsReady taken v i) (marked : IsMarked v u i s) where
+module _ (taken : ℕ → Option Use) (v u : Loaded) (i : ℕ) (covers : i < fan ^ v.tree.levels) (ready : IsReady taken v i) (marked : IsMarked v u i) where
   -- a range on the way, or another
   on_or_off : (level place : ℕ) → (place ≡ i / fan ^ level) ⊎ (place ≢ i / fan ^ level)
   on_or_off level place = cases_eq place (i / fan ^ level)
 
-  pointer_on : (level place : ℕ) → level ≤ v.tree.levels → place ≡ i / fan ^ level → pointer_at u.tree level place ≡ stamped (pointer_at v.tree level place) s
-  pointer_on level place le at = marked.pointers level place le ∙ on (pointer_at v.tree) i s level place at
+  pointer_on : (level place : ℕ) → level ≤ v.tree.levels → place ≡ i / fan ^ level → IsReached (pointer_at v.tree level place) (pointer_at u.tree level place)
+  pointer_on level place le at = subst (λ q. IsReached (pointer_at v.tree level q) (pointer_at u.tree level q)) (sym at) (marked.reached level le)
 
   pointer_off : (level place : ℕ) → place ≢ i / fan ^ level → pointer_at u.tree level place ≡ pointer_at v.tree level place
   pointer_off level place differs = elim (cases_lt v.tree.levels level) [
     | inl lt ↦ past u.tree level place (omega (arith, lt, marked.levels)) ∙ sym (past v.tree level place lt)
-    | inr le ↦ marked.pointers level place le ∙ off (pointer_at v.tree) i s level place differs
+    | inr le ↦ marked.beside level place le differs
   ]
 
   same_hint : (level place : ℕ) → level ≤ v.tree.levels → (pointer_at u.tree level place).pvbn ≡ (pointer_at v.tree level place).pvbn
   same_hint level place le = elim (on_or_off level place) [
-    | inl at ↦ ap (λ (p : Pointer). p.pvbn) (pointer_on level place le at)
+    | inl at ↦ (pointer_on level place le at).pvbn
     | inr differs ↦ ap (λ (p : Pointer). p.pvbn) (pointer_off level place differs)
   ]
 
@@ -64,7 +71,7 @@ module _ (taken : ℕ → Option ℕ) (v u : Loaded) (i s : ℕ) (some : s ≢ 0
       let now : v.placed level place ≡ true = sym (marked.placed level place) ∙ leads.placed in record {
         some = λ e. false_is_true (v.placed level place) ((λ j. v.placed level (at j)) ∙ ready.unplaced level le (sym (λ j. (pointer_at v.tree level (at j)).stamp) ∙ e)) now;
         placed = now;
-        vvbn = sym (ap (λ (p : Pointer). p.vvbn) (pointer_on level place le at)) ∙ leads.vvbn;
+        vvbn = sym (pointer_on level place le at).vvbn ∙ leads.vvbn;
       }
 
   leads_old : (level place w : ℕ) → Leads u level place w → Leads v level place w
@@ -108,9 +115,9 @@ module _ (taken : ℕ → Option ℕ) (v u : Loaded) (i s : ℕ) (some : s ≢ 0
         elim which [
           | inl le ↦ absurd (omega (arith, le, lt, marked.levels))
           | inr (inl differs) ↦ absurd (differs first)
-          | inr (inr hole) ↦ absurd (some (sym marked.root ∙ hole))
+          | inr (inr hole) ↦ absurd (marked.root hole)
         ]
-    | inr le ↦ absurd (some (sym (ap (λ (p : Pointer). p.stamp) (pointer_on level place le at)) ∙ none))
+    | inr le ↦ absurd ((pointer_on level place le at).some none)
   ]
 
   empty : (level place : ℕ) → 1 ≤ level → (pointer_at u.tree level place).stamp ≡ 0 → (level ≤ u.tree.levels) ⊎ ((place ≢ 0) ⊎ (u.tree.root.stamp ≡ 0)) → IsEmptyNode u.tree level place
@@ -119,7 +126,7 @@ module _ (taken : ℕ → Option ℕ) (v u : Loaded) (i s : ℕ) (some : s ≢ 0
     | inr differs ↦ λ xs node. ready.empty level place differs low (sym (ap (λ (p : Pointer). p.stamp) (pointer_off level place differs)) ∙ none) (elim which [
       | inl le ↦ inl (omega (arith, le, marked.levels))
       | inr (inl other) ↦ inr other
-      | inr (inr hole) ↦ absurd (some (sym marked.root ∙ hole))
+      | inr (inr hole) ↦ absurd (marked.root hole)
     ]) xs (sym (marked.nodes level place differs) ∙ node)
   ]
 
@@ -127,7 +134,7 @@ module _ (taken : ℕ → Option ℕ) (v u : Loaded) (i s : ℕ) (some : s ≢ 0
   marked_sound = record {
     once = λ level place k q w first second. ready.once level place k q w (leads_old level place w first) (leads_old k q w second);
     held = λ level place w leads. ap (λ under. is_some (under w)) marked.under ∙ ready.held level place w (leads_old level place w leads);
-    used = λ level place w leads. right_as (pointer_at v.tree level place) (pointer_at u.tree level place) (taken w) (taken w) (same_hint level place (within level place leads.some)) refl (ready.used level place w (leads_old level place w leads));
+    used = λ level place w leads. right_as (kind_for v.tree.owner level) (kind_for u.tree.owner level) (ap (λ (o : ℕ). kind_for o level) marked.owner) (pointer_at v.tree level place) (pointer_at u.tree level place) (taken w) (taken w) (same_hint level place (within level place leads.some)) refl (ready.used level place w (leads_old level place w leads));
     over = over;
     same = same;
     empty = empty;

@@ -12,17 +12,17 @@ use Rattle.fv_tree.specs.declared.kept.Tree.{Tree}
 use Rattle.fv_tree.specs.declared.kept.KeptNode.{KeptNode}
 use Rattle.fv_tree.specs.declared.kept.KeptCell.{KeptCell}
 use Rattle.fv_tree.specs.Spelled.{Under, Rooted, hole, pointers_in, pointer_at}
-use Rattle.fv_tree.specs.Sources.{Shown}
+use Rattle.fv_tree.specs.Sources.{Shown, Use}
 use Rattle.fv_tree.specs.Standing.{standing, under, node_in, cell_in, IsSameButCells}
 use Rattle.fv_tree.specs.Keeping.{IsKept}
 use Rattle.fv_tree.specs.Writing.{Stamps}
-use Rattle.fv_tree.specs.Flushing.{Leads, IsSound, Stands, loaded, loaded_over, changed_of, placed_of, changed_in, placed_in, cell_placed}
+use Rattle.fv_tree.specs.Flushing.{Leads, IsSound, Stands, loaded, loaded_over, changed_of, placed_of, changed_in, placed_in, cell_placed, kind_for}
 use Rattle.fv_tree.specs.Carried.{kept_at, Marks}
 use Rattle.fv_tree.proofs.Flushed.{false_is_true}
 use Rattle.fv_tree.proofs.Gone.{map_some, cell_changed, spot_changed, cell_led, spot_led}
 use Rattle.fv_tree.proofs.Hints.{right_as}
 use Rattle.fv_tree.proofs.Marked.{IsReady, IsMarked}
-use Rattle.fv_tree.proofs.Stamped.{stamped_way}
+use Rattle.fv_tree.proofs.Stamped.{on_way, on, off, stamped_way}
 use Rattle.fv_tree.proofs.Steps.{stamps_way}
 use Rattle.fv_tree.proofs.Ways.{own_way, is_way, past, alike}
 use Rattle.fv_tree.proofs.Writes.{same_standing}
@@ -35,7 +35,7 @@ stands_again old new t u held used same stands =
     (subst (λ h. IsSound new.used (loaded_over (λ v. fin.get h v) t)) (sym held)
     (subst (λ w. IsSound w (loaded old t)) (sym used) stands))
 
-pub cells_again : (blocks : Under) (used : ℕ → Option ℕ) (t u : Tree) → IsSameButCells t u → ((i : ℕ) → tree.get nat_cmp u.cells i ≡ tree.get nat_cmp t.cells i) → IsSound used (loaded_over blocks t) → IsSound used (loaded_over blocks u)
+pub cells_again : (blocks : Under) (used : ℕ → Option Use) (t u : Tree) → IsSameButCells t u → ((i : ℕ) → tree.get nat_cmp u.cells i ≡ tree.get nat_cmp t.cells i) → IsSound used (loaded_over blocks t) → IsSound used (loaded_over blocks u)
 cells_again blocks used t u same cells =
     let seen : loaded_over blocks u ≡ loaded_over blocks t = λ j. record {
       tree = same_standing blocks t u same (λ i. ap (option_map (λ (kept : KeptCell). kept.block)) (cells i)) j;
@@ -67,46 +67,56 @@ and_false a b e = ap (λ c. c && b) e
 
 -- ---- the marks
 
+module _ (blocks : Under) (v u : Tree) (i : ℕ) (cells : u.cells ≡ v.cells) (marks : Marks v u i)
+    (kept : (level : ℕ) → 1 ≤ level → level ≤ v.levels → IsKept (standing blocks v) level (i / fan ^ level)) (cell : is_some (tree.get nat_cmp v.cells i) ≡ true) where
+  pub way_changed : (level : ℕ) → level ≤ v.levels → changed_of u level (i / fan ^ level) ≡ true
+  way_changed level le = elim (cases_eq level 0) [
+    | inl e ↦ (λ j. changed_of u (e j) (i / fan ^ e j)) ∙ ap (changed_of u 0) (first_range i) ∙ cell_changed u 0 i refl ∙ ap (λ (m : tree.BTreeMap ℕ KeptCell). is_some (tree.get nat_cmp m i)) cells ∙ cell
+    | inr low ↦ spot_changed u level (i / fan ^ level) (omega arith)
+        ∙ marks.way level (omega arith) le (ap is_some (map_some (λ (kept : KeptNode). kept.children) (kept_at v level (i / fan ^ level)) (kept level (omega arith) le).pointers (kept level (omega arith) le).node).1)
+  ]
+
+  pub others_changed : (level place : ℕ) → place ≢ i / fan ^ level → changed_of u level place ≡ changed_of v level place
+  others_changed level place differs = elim (cases_eq level 0) [
+    | inl e ↦ cell_changed u level place e ∙ ap (λ (m : tree.BTreeMap ℕ KeptCell). is_some (tree.get nat_cmp m place)) cells ∙ sym (cell_changed v level place e)
+    | inr low ↦ spot_changed u level place (omega arith) ∙ marks.others level place differs ∙ sym (spot_changed v level place (omega arith))
+  ]
+
+  pub all_led : (level place : ℕ) → placed_of u level place ≡ placed_of v level place
+  all_led level place = elim (cases_eq level 0) [
+    | inl e ↦ cell_led u level place e ∙ ap (λ (m : tree.BTreeMap ℕ KeptCell). cell_placed (tree.get nat_cmp m place)) cells ∙ sym (cell_led v level place e)
+    | inr low ↦ spot_led u level place (omega arith) ∙ marks.placed level place ∙ sym (spot_led v level place (omega arith))
+  ]
+
 module _ (blocks : Under) (v u : Tree) (i s : ℕ) (stamps : Stamps v u i s) (marks : Marks v u i) (some : s ≢ 0) (covers : i < fan ^ v.levels)
     (kept : (level : ℕ) → 1 ≤ level → level ≤ v.levels → IsKept (standing blocks v) level (i / fan ^ level)) (cell : is_some (tree.get nat_cmp v.cells i) ≡ true) where
   no_change : IsSameButCells v v
   no_change = record { owner = refl; levels = refl; root = refl; nodes = refl }
 
-  way_changed : (level : ℕ) → level ≤ v.levels → changed_of u level (i / fan ^ level) ≡ true
-  way_changed level le = elim (cases_eq level 0) [
-    | inl e ↦ (λ j. changed_of u (e j) (i / fan ^ e j)) ∙ ap (changed_of u 0) (first_range i) ∙ cell_changed u 0 i refl ∙ ap (λ (cells : tree.BTreeMap ℕ KeptCell). is_some (tree.get nat_cmp cells i)) stamps.cells ∙ cell
-    | inr low ↦ spot_changed u level (i / fan ^ level) (omega arith)
-        ∙ marks.way level (omega arith) le (ap is_some (map_some (λ (kept : KeptNode). kept.children) (kept_at v level (i / fan ^ level)) (kept level (omega arith) le).pointers (kept level (omega arith) le).node).1)
-  ]
+  pointers : (level place : ℕ) → level ≤ v.levels → pointer_at (standing blocks u) level place ≡ on_way (pointer_at (standing blocks v)) i s level place
+  pointers level place le = is_way (standing blocks u) _ (stamped_way (standing blocks v) (standing blocks u) i s (stamps_way blocks v v u i s no_change stamps) some covers kept) level place (omega (arith, le, stamps.levels))
 
-  others_changed : (level place : ℕ) → place ≢ i / fan ^ level → changed_of u level place ≡ changed_of v level place
-  others_changed level place differs = elim (cases_eq level 0) [
-    | inl e ↦ cell_changed u level place e ∙ ap (λ (cells : tree.BTreeMap ℕ KeptCell). is_some (tree.get nat_cmp cells place)) stamps.cells ∙ sym (cell_changed v level place e)
-    | inr low ↦ spot_changed u level place (omega arith) ∙ marks.others level place differs ∙ sym (spot_changed v level place (omega arith))
-  ]
-
-  all_led : (level place : ℕ) → placed_of u level place ≡ placed_of v level place
-  all_led level place = elim (cases_eq level 0) [
-    | inl e ↦ cell_led u level place e ∙ ap (λ (cells : tree.BTreeMap ℕ KeptCell). cell_placed (tree.get nat_cmp cells place)) stamps.cells ∙ sym (cell_led v level place e)
-    | inr low ↦ spot_led u level place (omega arith) ∙ marks.placed level place ∙ sym (spot_led v level place (omega arith))
-  ]
-
-  pub marked_is : IsMarked (loaded_over blocks v) (loaded_over blocks u) i s
+  pub marked_is : IsMarked (loaded_over blocks v) (loaded_over blocks u) i
   marked_is = record {
     owner = stamps.owner;
     under = refl;
     levels = stamps.levels;
-    root = ap (λ (p : Pointer). p.stamp) stamps.root;
-    pointers = λ level place le. is_way (standing blocks u) _ (stamped_way (standing blocks v) (standing blocks u) i s (stamps_way blocks v v u i s no_change stamps) some covers kept) level place (omega (arith, le, stamps.levels));
+    root = λ none. some (sym (ap (λ (p : Pointer). p.stamp) stamps.root) ∙ none);
+    reached = λ level le. let is = pointers level (i / fan ^ level) le ∙ on (pointer_at (standing blocks v)) i s level (i / fan ^ level) refl in record {
+      vvbn = ap (λ (p : Pointer). p.vvbn) is;
+      pvbn = ap (λ (p : Pointer). p.pvbn) is;
+      some = λ none. some (sym (ap (λ (p : Pointer). p.stamp) is) ∙ none);
+    };
+    beside = λ level place le differs. pointers level place le ∙ off (pointer_at (standing blocks v)) i s level place differs;
     nodes = stamps.others;
-    placed = all_led;
-    way = way_changed;
-    others = others_changed;
+    placed = all_led blocks v u i stamps.cells marks kept cell;
+    way = way_changed blocks v u i stamps.cells marks kept cell;
+    others = others_changed blocks v u i stamps.cells marks kept cell;
   }
 
 -- ---- within the levels
 
-module _ (blocks : Under) (used : ℕ → Option ℕ) (w v : Tree) (i : ℕ) (named : Bool) (sound : IsSound used (loaded_over blocks w)) (same : IsSameButCells w v)
+module _ (blocks : Under) (used : ℕ → Option Use) (w v : Tree) (i : ℕ) (named : Bool) (sound : IsSound used (loaded_over blocks w)) (same : IsSameButCells w v)
     (own : cell_placed (tree.get nat_cmp v.cells i) ≡ (named && cell_placed (tree.get nat_cmp w.cells i))) (others : (j : ℕ) → j ≢ i → tree.get nat_cmp v.cells j ≡ tree.get nat_cmp w.cells j)
     (unnamed : (pointer_at (standing blocks w) 0 i).stamp ≡ 0 → named ≡ false)
     (unplaced : (level : ℕ) → 1 ≤ level → level ≤ w.levels → (pointer_at (standing blocks w) level (i / fan ^ level)).stamp ≡ 0 → placed_in w.nodes level (i / fan ^ level) ≡ false) where
@@ -169,7 +179,7 @@ module _ (blocks : Under) (used : ℕ → Option ℕ) (w v : Tree) (i : ℕ) (na
     once = λ level place k q x first second. sound.once level place k q x (leads_old level place x first) (leads_old k q x second);
     held = λ level place x leads. sound.held level place x (leads_old level place x leads);
     used = λ level place x leads.
-        right_as (pointer_at (standing blocks w) level place) (pointer_at (standing blocks v) level place) (used x) (used x) (ap (λ (p : Pointer). p.pvbn) (cell_pointers level place)) refl (sound.used level place x (leads_old level place x leads));
+        right_as (kind_for w.owner level) (kind_for v.owner level) (ap (λ (o : ℕ). kind_for o level) same.owner) (pointer_at (standing blocks w) level place) (pointer_at (standing blocks v) level place) (used x) (used x) (ap (λ (p : Pointer). p.pvbn) (cell_pointers level place)) refl (sound.used level place x (leads_old level place x leads));
     unplaced = way_unplaced;
     over = λ level place differs now reached lt.
         let above = sound.over level place (sym (changed_off level place differs) ∙ now) (λ e. reached (ap (λ (p : Pointer). p.stamp) (cell_pointers level place) ∙ e)) (omega (arith, lt, same.levels)) in

@@ -6,11 +6,12 @@ use Rattle.std.specs.BTreeMap as tree
 use Rattle.std.proofs.lemmas.Bool.{cases_eq, cases_lt}
 use Rattle.fv_codec.specs.declared.pointer.Pointer.{Pointer}
 use Rattle.fv_model.specs.Trees.{fan}
+use Rattle.fv_tree.specs.Sources.{Use}
 use Rattle.fv_tree.specs.declared.kept.Tree.{Tree}
 use Rattle.fv_tree.specs.declared.kept.KeptNode.{KeptNode}
 use Rattle.fv_tree.specs.Spelled.{Under, hole, pointers_in, pointer_at}
 use Rattle.fv_tree.specs.Standing.{standing, node_in}
-use Rattle.fv_tree.specs.Flushing.{Leads, IsSound, IsEmptyNode, loaded_over, changed_of, placed_of, changed_in, placed_in, node_changed, node_placed, cell_placed}
+use Rattle.fv_tree.specs.Flushing.{Leads, IsSound, IsEmptyNode, loaded_over, changed_of, placed_of, changed_in, placed_in, node_changed, node_placed, cell_placed, kind_for}
 use Rattle.fv_tree.specs.Carried.{kept_at, IsBlank, BringsNew, IsTop}
 use Rattle.fv_tree.proofs.Brought.{blank_unplaced}
 use Rattle.fv_tree.proofs.Flushed.{false_is_true, under_none, reached_within, top_is_first}
@@ -24,7 +25,7 @@ use Rattle.fv_tree.proofs.Ungrown.{not_past, kept_old, kept_off}
 use Rattle.fv_tree.proofs.Ways.{past, spot_is}
 use Rattle.fv_tree.proofs.Writes.{none_at}
 
-module _ (blocks : Under) (used : ℕ → Option ℕ) (t v : Tree) (i s : ℕ) (is : Raises t v i s) (some : s ≢ 0) (sound : IsSound used (loaded_over blocks t)) (brings : BringsNew t v i)
+module _ (blocks : Under) (used : ℕ → Option Use) (t v : Tree) (i s : ℕ) (is : Raises t v i s) (some : s ≢ 0) (sound : IsSound used (loaded_over blocks t)) (brings : BringsNew t v i)
     (blank : (level : ℕ) → 1 ≤ level → level ≤ v.levels → (level < v.levels) ⊎ (t.root.stamp ≡ 0) → IsBlank (kept_at v level (i / fan ^ level)))
     (tops : t.root.stamp ≢ 0 → (level : ℕ) → t.levels < level → level ≤ v.levels → IsTop v level)
     (own : cell_placed (tree.get nat_cmp v.cells i) ≡ false) (others : (j : ℕ) → j ≢ i → tree.get nat_cmp v.cells j ≡ tree.get nat_cmp t.cells j) where
@@ -176,7 +177,7 @@ module _ (blocks : Under) (used : ℕ → Option ℕ) (t v : Tree) (i s : ℕ) (
     once = λ j c k q x first second. sound.once j c k q x (leads_old j c x first) (leads_old k q x second);
     held = λ k q x leads. sound.held k q x (leads_old k q x leads);
     used = λ k q x leads.
-        right_as (pointer_at (standing blocks t) k q) (pointer_at (standing blocks v) k q) (used x) (used x) (ap (λ (p : Pointer). p.pvbn) (was_pointer k q x leads).1) refl (sound.used k q x (leads_old k q x leads));
+        right_as (kind_for t.owner k) (kind_for v.owner k) (ap (λ (o : ℕ). kind_for o k) is.owner) (pointer_at (standing blocks t) k q) (pointer_at (standing blocks v) k q) (used x) (used x) (ap (λ (p : Pointer). p.pvbn) (was_pointer k q x leads).1) refl (sound.used k q x (leads_old k q x leads));
     unplaced = λ level le _. way_unplaced level le;
     over = over;
     same = same;

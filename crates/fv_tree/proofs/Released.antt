@@ -13,30 +13,30 @@ use Rattle.fv_tree.specs.declared.kept.Tree.{Tree}
 use Rattle.fv_tree.specs.declared.kept.KeptNode.{KeptNode}
 use Rattle.fv_tree.specs.declared.kept.KeptCell.{KeptCell}
 use Rattle.fv_tree.specs.Spelled.{Under, Rooted, hole, pointers_at, pointers_in, pointer_at, stamp_in, block_at}
-use Rattle.fv_tree.specs.Sources.{Shown, Counts, Drops}
+use Rattle.fv_tree.specs.Sources.{Shown, IsCalm, Drops, Use}
 use Rattle.fv_tree.specs.Standing.{standing, under, node_in, cell_in, IsSameBut}
 use Rattle.fv_tree.specs.Erasing.{StandsAt, IsErased}
 use Rattle.fv_tree.specs.Keeping.{IsSame}
 use Rattle.fv_tree.specs.Writing.{IsAlike}
 use Rattle.fv_tree.specs.Releasing.{IsDropped, Releases, KeepsBlocks}
 use Rattle.fv_tree.specs.Carried.{Brings}
-use Rattle.fv_tree.specs.Flushing.{Leads, IsSound, loaded, loaded_over, node_placed, cell_placed, placed_in, placed_of}
+use Rattle.fv_tree.specs.Flushing.{Leads, IsSound, loaded, loaded_over, node_placed, cell_placed, placed_in, placed_of, kind_for}
 use Rattle.fv_tree.proofs.Below.{no_pointers, kept_pointers, read_pointers}
-use Rattle.fv_tree.proofs.Causes.{counts_then}
+use Rattle.fv_tree.proofs.Causes.{calm_then}
 use Rattle.fv_tree.proofs.Hints.{right_as}
 use Rattle.fv_tree.proofs.Ways.{IsWay, own_way, is_way, past, spot_is}
-use Rattle.fv_tree.proofs.Writes.{block_none, block_here, same_alike}
+use Rattle.fv_tree.proofs.Writes.{block_none, block_here}
 
 -- ---- one after another
 
-pub nothing_released : (old new : Shown) → new.held ≡ old.held → new.used ≡ old.used → Counts old new → Releases old new (λ v. ⊥)
-nothing_released old new held used counts = record {
+pub nothing_released : (old new : Shown) → new.held ≡ old.held → new.used ≡ old.used → IsCalm old new → Releases old new (λ v. ⊥)
+nothing_released old new held used calm = record {
   gone = λ v none. absurd none;
   used = λ v _. ap (λ f. f v) used;
   held = λ v _. ap (λ m. fin.get m v) held;
   unused = λ v none. ap (λ f. f v) used ∙ none;
   may_go = λ v. inl (ap (λ m. fin.get m v) held);
-  counts = counts;
+  calm = calm;
 }
 
 pub one_released : (old new : Shown) (vvbn : ℕ) → Drops old vvbn new → Releases old new (λ v. v ≡ vvbn)
@@ -52,7 +52,7 @@ one_released old new vvbn drops = record {
     | inl removed ↦ either_way v (eq_by_cmp nat_cmp v vvbn) (ap (λ m. fin.get m v) removed ∙ fin.get-remove nat_cmp_total old.held vvbn v)
     | inr same ↦ inl (ap (λ m. fin.get m v) same)
   ];
-  counts = drops.counts;
+  calm = drops.calm;
 }
   where
     apart : (v : ℕ) → (v ≡ vvbn → ⊥) → nat_eq v vvbn ≡ false
@@ -64,7 +64,7 @@ one_released old new vvbn drops = record {
     turned : (q k : ℕ) → eq_by_cmp nat_cmp q k ≡ nat_eq q k
     turned q k = grind (arith, nat_tests)
 
-    stays : (b : Bool) (c : Option ℕ) → c ≡ None → cond b None c ≡ None
+    stays : (b : Bool) (c : Option Use) → c ≡ None → cond b None c ≡ None
     stays true c e = refl
     stays false c e = e
 
@@ -88,7 +88,7 @@ released_then a b c P Q R first second one other split = record {
     ]
     | inr none ↦ inr none
   ];
-  counts = counts_then a b c first.counts second.counts;
+  calm = calm_then a b c first.calm second.calm;
 }
 
 pub released_as : (a b : Shown) (P R : ℕ → Type 0) → Releases a b P → ((v : ℕ) → P v → R v) → ((v : ℕ) → R v → P v) → Releases a b R
@@ -98,7 +98,7 @@ released_as a b P R is to from = record {
   held = λ v not_. is.held v (λ p. not_ (to v p));
   unused = is.unused;
   may_go = is.may_go;
-  counts = is.counts;
+  calm = is.calm;
 }
 
 block_read : (t : Rooted) (i : ℕ) → StandsAt t 0 i → t.cells i ≡ None → block_at t i ≡ t.under (pointer_at t 0 i).vvbn
@@ -210,6 +210,18 @@ module _ (old new : Shown) (t u : Tree) (stands : IsSound old.used (loaded old t
       let same = stands.once level place dropped.level dropped.place v (led_before (under old) t u level place v keeps led) dropped.led in
       led.some ((λ j. (pointer_at (standing (under old) u) (same.0 j) (same.1 j)).stamp) ∙ dropped.goes)
 
+  -- so the tree over the blocks of before has what it leads to in use as before
+  pub sound_used : IsSound old.used (loaded_over (under old) u) → IsSound new.used (loaded_over (under old) u)
+  sound_used sound = record {
+    once = sound.once;
+    held = sound.held;
+    used = λ level place v led.
+        right_as (kind_for u.owner level) (kind_for u.owner level) refl (pointer_at (standing (under old) u) level place) (pointer_at (standing (under old) u) level place) (old.used v) (new.used v) refl (released.used v (not_dropped level place v led)) (sound.used level place v led);
+    over = sound.over;
+    same = sound.same;
+    empty = sound.empty;
+  }
+
   pub blocks_stay : (level place : ℕ) → Led (under old) u level place → under new (pointer_at (standing (under old) u) level place).vvbn ≡ under old (pointer_at (standing (under old) u) level place).vvbn
   blocks_stay level place led = let v = (pointer_at (standing (under old) u) level place).vvbn in released.held v (not_dropped level place v led)
 
@@ -224,7 +236,7 @@ module _ (old new : Shown) (t u : Tree) (stands : IsSound old.used (loaded old t
         once = λ level place k q v one other. sound.once level place k q v (leads level place v one) (leads k q v other);
         held = λ level place v led. ap is_some (released.held v (not_dropped level place v (leads level place v led))) ∙ sound.held level place v (leads level place v led);
         used = λ level place v led.
-            right_as (pointer_at (standing (under old) u) level place) (pointer_at (standing (under new) u) level place) (old.used v) (new.used v) (ap (λ (p : Pointer). p.pvbn) (pointers level place)) (released.used v (not_dropped level place v (leads level place v led))) (sound.used level place v (leads level place v led));
+            right_as (kind_for u.owner level) (kind_for u.owner level) refl (pointer_at (standing (under old) u) level place) (pointer_at (standing (under new) u) level place) (old.used v) (new.used v) (ap (λ (p : Pointer). p.pvbn) (pointers level place)) (released.used v (not_dropped level place v (leads level place v led))) (sound.used level place v (leads level place v led));
         over = λ level place changed there lt. sound.over level place changed (stood level place there) lt;
         same = λ level place xs low node unchanged there.
             let was = sound.same level place xs low node unchanged (stood level place there) in
@@ -257,22 +269,6 @@ erased_alike a b c gone start s is alike = record {
   none = λ stay. alike.levels ∙ is.none stay;
   back = λ goes j stood. alike.levels ∙ is.back goes j stood;
 }
-
--- and of a tree that is the same
-pub erased_from : (a b c : Rooted) (gone : ℕ → Bool) (start s : ℕ) → IsSame a b → IsErased b c gone start s → IsErased a c gone start s
-erased_from a b c gone start s same is =
-    let stood : (level place : ℕ) → StandsAt a level place → StandsAt b level place = λ level place there none. there (ap (λ (p : Pointer). p.stamp) (sym (same.pointers level place)) ∙ none) in
-    let stands : (level place : ℕ) → StandsAt b level place → StandsAt a level place = λ level place there none. there (ap (λ (p : Pointer). p.stamp) (same.pointers level place) ∙ none) in
-    let alike = same_alike a b same in record {
-      cells = λ i. is.cells i ∙ ap (cond (gone i) None) (alike.stamps 0 i);
-      blocks = λ i. is.blocks i ∙ ap (cond (gone i) None) (alike.blocks i);
-      bare = λ level place goes. is.bare level place (λ i at there. goes i at (stands 0 i there));
-      over = λ level i j le there stays was goes at. is.over level i j (omega (arith, le, alike.levels)) (stood 0 i there) stays (stood 0 j was) goes at;
-      others = λ level place stay. is.others level place (λ i at there. stay i at (stands 0 i there)) ∙ alike.stamps level place;
-      some = λ i there stays. is.some i (stood 0 i there) stays ∙ alike.levels;
-      none = λ stay. is.none (λ i there. stay i (stands 0 i there)) ∙ alike.levels;
-      back = λ goes j was. is.back (λ i there. goes i (stands 0 i there)) j (stood 0 j was);
-    }
 
 -- ---- what comes into memory
 

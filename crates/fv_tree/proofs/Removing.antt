@@ -6,10 +6,10 @@ use Rattle.std.proofs.lemmas.Bool.Decides.{nat_tests}
 use Rattle.fv_codec.specs.declared.pointer.Pointer.{Pointer}
 use Rattle.fv_model.specs.Trees.{fan}
 use Rattle.fv_tree.specs.declared.kept.Tree.{Tree}
-use Rattle.fv_tree.specs.declared.blocks.TreeFault.{TreeFault}
+use Rattle.fv_disk.specs.declared.fault.BlockFault.{BlockFault}
 use Rattle.fv_tree.specs.Writing.{Remains}
 use Rattle.fv_tree.specs.Spelled.{Under, Rooted, pointer_at, stamp_in}
-use Rattle.fv_tree.specs.Sources.{Shown, Counts}
+use Rattle.fv_tree.specs.Sources.{Shown, IsCalm, IsUntouched}
 use Rattle.fv_tree.specs.Standing.{standing, under}
 use Rattle.fv_tree.specs.Keeping.{IsSame, IsKept}
 use Rattle.fv_tree.specs.Erasing.{StandsAt, HoldsCells, IsErased, Erases}
@@ -20,7 +20,7 @@ use Rattle.fv_tree.proofs.Erased.{nothing_erased, erased_then, erased_as, holds_
 use Rattle.fv_tree.proofs.Marks.{erases}
 use Rattle.fv_tree.proofs.Raised.{past_at}
 use Rattle.fv_tree.proofs.Writes.{no_stamp, same_alike}
-use Rattle.fv_tree.proofs.Released.{nothing_released, released_then, released_as, keeps_then, led_before, released_alike, released_sound, erased_alike}
+use Rattle.fv_tree.proofs.Released.{nothing_released, released_then, released_as, keeps_then, led_before, released_alike, released_sound, sound_used, erased_alike}
 
 -- a tree that is the same over the same blocks
 pub same_over : (old new : Under) (t u : Tree) → new ≡ old → IsSame (standing old t) (standing new u) → IsSame (standing old t) (standing old u)
@@ -33,9 +33,11 @@ stands_over old new u held used stands = subst (λ h. IsSound old.used (loaded_o
 -- ---- over the blocks of before
 
 -- nothing went
-pub removes_nothing : (old new : Shown) (t u : Tree) (gone : ℕ → Bool) (start s : ℕ) → new.held ≡ old.held → new.used ≡ old.used → Counts old new
+pub removes_nothing : (old new : Shown) (t u : Tree) (gone : ℕ → Bool) (start s : ℕ) → IsUntouched old new → IsCalm old new
     → IsSame (standing (under old) t) (standing (under new) u) → KeepsBlocks (under old) t u → (Stands old t → Stands new u) → ((i : ℕ) → StandsAt (standing (under old) t) 0 i → gone i ≡ false) → Removes old new t u gone start s
-removes_nothing old new t u gone start s held used counts same keeps sound none =
+removes_nothing old new t u gone start s untouched calm same keeps sound none =
+    let held = untouched.held in
+    let used = untouched.used in
     let here = same_over (under old) (under new) t u (ap (λ h v. fin.get h v) held) same in record {
       cells = λ i. ap stamp_in (here.pointers 0 i) ∙ elim (cases_eq (pointer_at (standing (under old) t) 0 i).stamp 0) [
         | inl hole ↦ no_stamp (pointer_at (standing (under old) t) 0 i) hole ∙ sym (ap (cond (gone i) None) (no_stamp (pointer_at (standing (under old) t) 0 i) hole) ∙ no_choice (gone i))
@@ -44,12 +46,13 @@ removes_nothing old new t u gone start s held used counts same keeps sound none 
       erased = λ holds. nothing_erased (standing (under old) t) (standing (under old) u) gone start s here holds none;
       keeps = keeps;
       sound = λ stands. stands_over old new u held used (sound stands);
-      released = released_as old new _ _ (nothing_released old new held used counts) (λ v never. absurd never) (λ v dropped. dropped.led.some (ap (λ (p : Pointer). p.stamp) (sym (here.pointers dropped.level dropped.place)) ∙ dropped.goes));
+      released = released_as old new _ _ (nothing_released old new held used calm) (λ v never. absurd never) (λ v dropped. dropped.led.some (ap (λ (p : Pointer). p.stamp) (sym (here.pointers dropped.level dropped.place)) ∙ dropped.goes));
+      strays = λ _. untouched.strays;
     }
 
 -- one more cell goes
 module _ (a b c : Shown) (t u w : Tree) (gone both : ℕ → Bool) (index start s : ℕ) (first : Removes a b t u gone start s)
-    (goes : CellGoes (under a) u w index start s) (released : Releases b c (IsDropped (under a) u w)) (joint : (i : ℕ) → both i ≡ (gone i || nat_eq index i))
+    (goes : CellGoes (under a) u w index start s) (released : Releases b c (IsDropped (under a) u w)) (strays : IsSound b.used (loaded_over (under a) u) → c.strays ≡ b.strays) (joint : (i : ℕ) → both i ≡ (gone i || nat_eq index i))
     (holds_then : HoldsCells (standing (under a) t) → HoldsCells (standing (under a) u)) where
   keeps : KeepsBlocks (under a) u w
   keeps = goes.keeps
@@ -95,6 +98,7 @@ module _ (a b c : Shown) (t u w : Tree) (gone both : ℕ → Bool) (index start 
     keeps = keeps_then (under a) t u w first.keeps keeps;
     sound = λ sound. goes.sound a.used (first.sound sound);
     released = released_then a b c (IsDropped (under a) t u) (IsDropped (under a) u w) (IsDropped (under a) t w) first.released released earlier later either_one;
+    strays = λ sound. strays (sound_used a b t u sound first.keeps first.released (first.sound sound)) ∙ first.strays sound;
   }
 
 -- a cell that is left
@@ -117,6 +121,7 @@ removes_as old new t u gone other start s is same = record {
   keeps = is.keeps;
   sound = is.sound;
   released = is.released;
+  strays = is.strays;
 }
 
 -- no mark lies over holes alone in a tree that is the same
@@ -154,12 +159,17 @@ module _ (old new : Shown) (t u : Tree) (gone : ℕ → Bool) (start s : ℕ) (i
 
 -- ---- what a call answered
 
-pub stands_after : {X : Type 0} (r : Result X TreeFault) (old new : Shown) (t u : Tree) (gone : ℕ → Bool) (start s : ℕ) → OnOk r (Removes old new t u gone start s) → OnErr r (Stands old t → Stands new u)
+pub stands_after : {X : Type 0} (r : Result X BlockFault) (old new : Shown) (t u : Tree) (gone : ℕ → Bool) (start s : ℕ) → OnOk r (Removes old new t u gone start s) → OnErr r (Stands old t → Stands new u)
     → Stands old t → Stands new u
 stands_after (Ok x) old new t u gone start s done stays stands = removed_stands old new t u gone start s done stands
 stands_after (Err e) old new t u gone start s done stays stands = stays stands
 
-pub remains_after : {X : Type 0} (r : Result X TreeFault) (t u : Rooted) → OnErr r (IsSame t u) → OnErr r (Remains t u)
+pub strays_after : {X : Type 0} (r : Result X BlockFault) (old new : Shown) (t u : Tree) (gone : ℕ → Bool) (start s : ℕ) → OnOk r (Removes old new t u gone start s) → OnErr r (IsUntouched old new)
+    → Stands old t → new.strays ≡ old.strays
+strays_after (Ok x) old new t u gone start s done untouched stands = done.strays stands
+strays_after (Err e) old new t u gone start s done untouched stands = untouched.strays
+
+pub remains_after : {X : Type 0} (r : Result X BlockFault) (t u : Rooted) → OnErr r (IsSame t u) → OnErr r (Remains t u)
 remains_after (Ok x) t u same = tt
 remains_after (Err e) t u same = λ seen contents shows.
     let alike = same_alike t u same in record {

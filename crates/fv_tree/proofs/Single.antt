@@ -8,15 +8,16 @@ use Rattle.std.proofs.lemmas.Bool.{cases_eq, cases_lt}
 use Rattle.std.proofs.lemmas.Bool.Decides.{nat_tests}
 use Rattle.fv_codec.specs.declared.pointer.Pointer.{Pointer}
 use Rattle.fv_model.specs.Trees.{fan}
+use Rattle.fv_tree.specs.Sources.{Use}
 use Rattle.fv_tree.specs.declared.kept.Tree.{Tree}
 use Rattle.fv_tree.specs.Spelled.{Under, Rooted, pointers_in, pointer_at, stamp_in, block_at}
 use Rattle.fv_tree.specs.Standing.{standing, node_in}
 use Rattle.fv_tree.specs.Writing.{stamped, stamped_in, slot_of}
 use Rattle.fv_tree.specs.Erasing.{StandsAt, HoldsCells, IsErased}
 use Rattle.fv_tree.specs.Releasing.{IsDropped, KeepsBlocks}
-use Rattle.fv_tree.specs.Flushing.{Leads, IsSound, IsEmptyNode, loaded_over, placed_of, changed_in, changed_of, pointer_in}
-use Rattle.fv_tree.specs.Unlinking.{HasWay, AreBare, Unlinks, CellGoes, cleared_in, IsOnWay}
-use Rattle.fv_tree.proofs.Hints.{right_as}
+use Rattle.fv_tree.specs.Flushing.{Leads, IsSound, IsEmptyNode, loaded_over, placed_of, changed_in, changed_of, pointer_in, kind_for}
+use Rattle.fv_tree.specs.Unlinking.{HasWay, AreBare, Unlinks, CellGoes, cleared_in, IsOnWay, IsNamed, NamesOnce}
+use Rattle.fv_tree.proofs.Hints.{right_as, right_some}
 use Rattle.fv_tree.proofs.Erased.{hole_of, not_both}
 use Rattle.fv_tree.proofs.Collected.{pointer_in_is}
 use Rattle.fv_tree.proofs.Stamped.{above}
@@ -231,6 +232,22 @@ module _ (blocks : Under) (t u : Tree) (i lost start stamp : ℕ) (way : HasWay 
         goes = gone_below named.level (i / fan ^ named.level) refl (omega (arith, low_enough));
       }
 
+  leads_named : (level v : ℕ) → level < lost + 1 → IsNamed t level i v → Leads (loaded_over blocks t) level (i / fan ^ level) v
+  leads_named level v lt named =
+      let few = are.few in
+      let le : level ≤ t.levels = omega (arith, few, lt) in record {
+        some = marks_above s level i le stands;
+        placed = named.block;
+        vvbn = ap (λ (p : Pointer). p.vvbn) (sym (way_is level le)) ∙ named.number;
+      }
+
+  -- a tree that stands on its blocks has each of them in use, and once
+  pub named_once : (used : ℕ → Option Use) → IsSound used (loaded_over blocks t) → NamesOnce used t i (lost + 1)
+  named_once used sound = record {
+    in_use = λ level v lt named. right_some (kind_for t.owner level) (pointer_at s level (i / fan ^ level)) (used v) (sound.used level (i / fan ^ level) v (leads_named level v lt named));
+    once = λ k l v first second one two. (sound.once k (i / fan ^ k) l (i / fan ^ l) v (leads_named k v first one) (leads_named l v second two)).0;
+  }
+
   -- what still stands
   not_all : (level place : ℕ) → StandsAt v level place → lost < t.levels
   not_all level place there = elim all_or_not [
@@ -311,7 +328,7 @@ module _ (blocks : Under) (t u : Tree) (i lost start stamp : ℕ) (way : HasWay 
       none_is : (xs : List Pointer) → None ≡ Some xs → ⊥
       none_is xs e = absurd cc
 
-  empty_there : (used : ℕ → Option ℕ) → IsSound used (loaded_over blocks t) → (level place : ℕ) → 1 ≤ level → (pointer_at v level place).stamp ≡ 0 → (level ≤ u.levels) ⊎ ((place ≢ 0) ⊎ (u.root.stamp ≡ 0)) → IsEmptyNode v level place
+  empty_there : (used : ℕ → Option Use) → IsSound used (loaded_over blocks t) → (level place : ℕ) → 1 ≤ level → (pointer_at v level place).stamp ≡ 0 → (level ≤ u.levels) ⊎ ((place ≢ 0) ⊎ (u.root.stamp ≡ 0)) → IsEmptyNode v level place
   empty_there used sound level place low none where_ xs node = elim all_or_not [
     | inl all ↦ absurd (no_node level place xs (is.emptied all level place) node)
     | inr lt ↦
@@ -347,11 +364,11 @@ module _ (blocks : Under) (t u : Tree) (i lost start stamp : ℕ) (way : HasWay 
           let more : fan ^ t.levels ≤ fan ^ level = pow-le-pow_right {n = fan} (omega arith) {i = t.levels} {j = level} (omega (arith, lt)) in
           div-eq_of_lt (let within = cell_within s i stands in omega (arith, more, within))
 
-  one_sound : (used : ℕ → Option ℕ) → IsSound used (loaded_over blocks t) → IsSound used (loaded_over blocks u)
+  one_sound : (used : ℕ → Option Use) → IsSound used (loaded_over blocks t) → IsSound used (loaded_over blocks u)
   one_sound used sound = record {
     once = λ level place k q w one other. sound.once level place k q w (led level place w one) (led k q w other);
     held = λ level place w leads. sound.held level place w (led level place w leads);
-    used = λ level place w leads. right_as (pointer_at s level place) (pointer_at v level place) (used w) (used w) (kept level place leads.some).3 refl (sound.used level place w (led level place w leads));
+    used = λ level place w leads. right_as (kind_for t.owner level) (kind_for u.owner level) (ap (λ (o : ℕ). kind_for o level) is.owner) (pointer_at s level place) (pointer_at v level place) (used w) (used w) (kept level place leads.some).3 refl (sound.used level place w (led level place w leads));
     over = λ level place changed there lt.
         let less : level < t.levels = omega (arith, lt, new_levels (not_all level place there)) in
         changed_above level place there less (λ differs. sound.over level place (sym (is.unmarked (not_all level place there) level place differs) ∙ changed) (kept level place there).0 less);

@@ -17,7 +17,7 @@ use Rattle.fv_tree.specs.Flushing.{Stands, Flushes, IsHidden, IsMoved, IsNodeSte
 use Rattle.fv_tree.proofs.Flushed.{bit, false_is_true, flushes_placed}
 use Rattle.fv_tree.proofs.Forgotten.{flushes_none}
 use Rattle.fv_tree.proofs.Gone.{Goes, cell_goes, node_goes, is_memory, map_some, cell_changed, spot_changed, cell_led, spot_led, forgets_is}
-use Rattle.fv_tree.proofs.Moved.{hidden_is, replaces_is, spells, one_unknown, unknown_in}
+use Rattle.fv_tree.proofs.Moved.{hidden_is, no_stray, replaces_is, spells, one_unknown, unknown_in}
 use Rattle.fv_tree.proofs.Ways.{past}
 
 none_in : {K X : Type 0} (test : K → Bool) (es : List (K × X)) → length es ≡ 0 → lookup test es ≡ None
@@ -40,12 +40,24 @@ pub cell_step : (old new : Shown) (t mid u : Tree) (q : ℕ) (cell : KeptCell) �
     → Flushes (loaded old t) old.used (loaded new u) new.used
 cell_step old new t mid u q cell stands held (inl hidden) forgets =
     let was : changed_of t 0 q ≡ true = cell_changed t 0 q refl ∙ ap is_some held in
-    idle_step old new t u 0 q stands hidden.held hidden.used (cell_goes t u q (subst (λ v. ForgetsCell v u q) hidden.tree forgets)) (inr (hidden_is old t stands 0 q was hidden.none))
+    idle_step old new t u 0 q stands hidden.untouched.held hidden.untouched.used (cell_goes t u q (subst (λ v. ForgetsCell v u q) hidden.tree forgets)) (inr (hidden_is old t stands 0 q was hidden.none))
 cell_step old new t mid u q cell stands held (inr moved) forgets =
     let was : changed_of t 0 q ≡ true = cell_changed t 0 q refl ∙ ap is_some held in
     flushes_placed (loaded old t) old.used (loaded new u) new.used 0 q moved.pointer stands (is_memory old t)
     (replaces_is old new t mid u 0 q cell.block cell.placed true stands was (sym (cell_led t 0 q refl ∙ ap cell_placed held)) (λ j c e. absurd (omega (arith, e))) moved (cell_goes mid u q forgets)
     (λ low. absurd (omega (arith, low))) (λ e. ap (option_map (λ (kept : KeptCell). kept.block)) held) (λ hidden. false_is_true true hidden refl))
+
+-- it names no stray
+pub cell_strays : (old new : Shown) (t mid : Tree) (q : ℕ) (cell : KeptCell) → Stands old t → tree.get nat_cmp t.cells q ≡ Some cell → IsHidden old t 0 q new mid ⊎ IsMoved old t 0 q cell.block cell.placed true new mid → new.strays ≡ old.strays
+cell_strays old new t mid q cell stands held (inl hidden) = hidden.untouched.strays
+cell_strays old new t mid q cell stands held (inr moved) =
+    no_stray old new t mid 0 q cell.block cell.placed true stands (cell_changed t 0 q refl ∙ ap is_some held) (sym (cell_led t 0 q refl ∙ ap cell_placed held)) moved
+
+pub node_strays : (old new : Shown) (t mid : Tree) (k q : ℕ) (node : KeptNode) → Stands old t → tree.get spot_cmp t.nodes (k, q) ≡ Some node → IsNodeStep old t k q node new mid → new.strays ≡ old.strays
+node_strays old new t mid k q node stands held (inl idle) = idle.untouched.strays
+node_strays old new t mid k q node stands held (inr (inl hidden)) = hidden.untouched.strays
+node_strays old new t mid k q node stands held (inr (inr is)) =
+    no_stray old new t mid k q is.block node.placed (all_known node.children) stands (spot_changed t k q is.low ∙ ap node_changed held ∙ is.changed) (sym (spot_led t k q is.low ∙ ap node_placed held)) is.moved
 
 module _ (old new : Shown) (t mid u : Tree) (k q : ℕ) (node : KeptNode) (stands : Stands old t) (none : tree.btree_map_len t.cells ≡ 0) (held : tree.get spot_cmp t.nodes (k, q) ≡ Some node) where
   -- there are no nodes of level 0, and there is no cell
@@ -92,9 +104,9 @@ module _ (old new : Shown) (t mid u : Tree) (k q : ℕ) (node : KeptNode) (stand
 
   pub node_step : ((j c : ℕ) → j < k → tree.get spot_cmp t.nodes (j, c) ≡ None) → IsNodeStep old t k q node new mid → ForgetsNode mid u k q → Flushes (loaded old t) old.used (loaded new u) new.used
   node_step lowest (inl idle) forgets =
-      idle_step old new t u k q stands idle.held idle.used (goes_at (subst (λ v. ForgetsNode v u k q) idle.tree forgets)) (idle_why idle.why)
+      idle_step old new t u k q stands idle.untouched.held idle.untouched.used (goes_at (subst (λ v. ForgetsNode v u k q) idle.tree forgets)) (idle_why idle.why)
   node_step lowest (inr (inl hidden)) forgets =
-      idle_step old new t u k q stands hidden.held hidden.used (goes_at (subst (λ v. ForgetsNode v u k q) hidden.tree forgets)) (unchanged_or (λ _ changed. hidden_is old t stands k q changed hidden.none))
+      idle_step old new t u k q stands hidden.untouched.held hidden.untouched.used (goes_at (subst (λ v. ForgetsNode v u k q) hidden.tree forgets)) (unchanged_or (λ _ changed. hidden_is old t stands k q changed hidden.none))
   node_step lowest (inr (inr is)) forgets =
       let was : changed_of t k q ≡ true = spot_changed t k q is.low ∙ ap node_changed held ∙ is.changed in
       flushes_placed (loaded old t) old.used (loaded new u) new.used k q is.moved.pointer stands (is_memory old t)

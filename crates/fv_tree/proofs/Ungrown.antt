@@ -6,13 +6,14 @@ use Rattle.std.specs.BTreeMap as tree
 use Rattle.std.proofs.lemmas.Bool.{cases_eq}
 use Rattle.fv_codec.specs.declared.pointer.Pointer.{Pointer}
 use Rattle.fv_model.specs.Trees.{fan}
+use Rattle.fv_tree.specs.Sources.{Use}
 use Rattle.fv_tree.specs.declared.kept.Tree.{Tree}
 use Rattle.fv_tree.specs.declared.kept.KeptNode.{KeptNode}
 use Rattle.fv_tree.specs.declared.kept.KeptCell.{KeptCell}
 use Rattle.fv_tree.specs.Spelled.{Under, hole, pointers_in, pointer_at}
 use Rattle.fv_tree.specs.Standing.{standing, node_in, IsSameBut}
 use Rattle.fv_tree.specs.Keeping.{IsSame}
-use Rattle.fv_tree.specs.Flushing.{Leads, IsSound, IsEmptyNode, loaded_over, changed_of, placed_of, node_changed, node_placed, cell_placed}
+use Rattle.fv_tree.specs.Flushing.{Leads, IsSound, IsEmptyNode, loaded_over, changed_of, placed_of, node_changed, node_placed, cell_placed, kind_for}
 use Rattle.fv_tree.specs.Carried.{kept_at, BringsNew}
 use Rattle.fv_tree.proofs.Brought.{blank_empty}
 use Rattle.fv_tree.proofs.Flushed.{under_none, reached_within}
@@ -48,7 +49,7 @@ module _ (blocks : Under) (t v : Tree) (i : ℕ) (far : fan ^ t.levels ≤ i) (b
 
 -- ---- the growth found no memory
 
-module _ (blocks : Under) (used : ℕ → Option ℕ) (t v : Tree) (i : ℕ) (far : fan ^ t.levels ≤ i) (fields : IsSameBut t v) (same : IsSame (standing blocks t) (standing blocks v)) (brings : BringsNew t v i) (sound : IsSound used (loaded_over blocks t)) where
+module _ (blocks : Under) (used : ℕ → Option Use) (t v : Tree) (i : ℕ) (far : fan ^ t.levels ≤ i) (fields : IsSameBut t v) (same : IsSame (standing blocks t) (standing blocks v)) (brings : BringsNew t v i) (sound : IsSound used (loaded_over blocks t)) where
   stamps : (k q : ℕ) → (pointer_at (standing blocks v) k q).stamp ≡ (pointer_at (standing blocks t) k q).stamp
   stamps k q = ap (λ (p : Pointer). p.stamp) (same.pointers k q)
 
@@ -107,7 +108,7 @@ module _ (blocks : Under) (used : ℕ → Option ℕ) (t v : Tree) (i : ℕ) (fa
     once = λ j c k q x first second. sound.once j c k q x (leads_old j c x first) (leads_old k q x second);
     held = λ k q x leads. sound.held k q x (leads_old k q x leads);
     used = λ k q x leads.
-        right_as (pointer_at (standing blocks t) k q) (pointer_at (standing blocks v) k q) (used x) (used x) (ap (λ (p : Pointer). p.pvbn) (same.pointers k q)) refl (sound.used k q x (leads_old k q x leads));
+        right_as (kind_for t.owner k) (kind_for v.owner k) (ap (λ (o : ℕ). kind_for o k) fields.owner) (pointer_at (standing blocks t) k q) (pointer_at (standing blocks v) k q) (used x) (used x) (ap (λ (p : Pointer). p.pvbn) (same.pointers k q)) refl (sound.used k q x (leads_old k q x leads));
     over = over;
     same = same_nodes;
     empty = empty;

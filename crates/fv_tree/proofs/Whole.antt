@@ -4,12 +4,13 @@ use Rattle.std.specs.Option.{option_map}
 use Rattle.std.specs.BTreeMap as tree
 use Rattle.std.proofs.lemmas.Bool.{cases_eq}
 use Rattle.fv_codec.specs.declared.pointer.Pointer.{Pointer}
+use Rattle.fv_tree.specs.Sources.{Use}
 use Rattle.fv_tree.specs.declared.kept.Tree.{Tree}
 use Rattle.fv_tree.specs.declared.kept.KeptNode.{KeptNode}
 use Rattle.fv_tree.specs.declared.kept.KeptCell.{KeptCell}
 use Rattle.fv_tree.specs.Spelled.{Under, Rooted, pointer_at, stored}
 use Rattle.fv_tree.specs.Standing.{standing, node_in}
-use Rattle.fv_tree.specs.Flushing.{Leads, IsRight, IsSound, ReachesOnce, loaded_over, changed_of, placed_of, node_changed, node_placed, cell_placed}
+use Rattle.fv_tree.specs.Flushing.{Leads, IsRight, IsSound, ReachesOnce, loaded_over, changed_of, placed_of, node_changed, node_placed, cell_placed, kind_for}
 use Rattle.fv_tree.proofs.Flushed.{false_is_true, some_none}
 use Rattle.fv_tree.proofs.Gone.{cell_changed, spot_changed, cell_led, spot_led}
 use Rattle.fv_tree.proofs.Stepped.{no_cell, no_node}
@@ -41,7 +42,7 @@ module _ (t : Tree) (no_nodes : tree.btree_map_len t.nodes ≡ 0) (no_cells : tr
   no_kept : {P : Type 0} (level place : ℕ) (xs : List Pointer) → node_in t level place ≡ Some xs → P
   no_kept level place xs e = some_none (node_in t level place) xs (ap (option_map (λ (kept : KeptNode). kept.children)) (no_node t no_nodes level place)) e
 
-  module _ (blocks : Under) (used : ℕ → Option ℕ) where
+  module _ (blocks : Under) (used : ℕ → Option Use) where
     leads_to : (level place : ℕ) → (pointer_at (standing blocks t) level place).stamp ≢ 0 → Leads (loaded_over blocks t) level place (pointer_at (standing blocks t) level place).vvbn
     leads_to level place some = record { some = some; placed = all_placed level place; vvbn = refl }
 
@@ -56,14 +57,14 @@ module _ (t : Tree) (no_nodes : tree.btree_map_len t.nodes ≡ 0) (no_cells : tr
     stands_on is = record {
       once = λ level place k q v one two. is.once level place k q one.some two.some (one.vvbn ∙ sym two.vvbn);
       held = λ level place v leads. ap (λ v. is_some (blocks v)) (sym leads.vvbn) ∙ is.held level place leads.some;
-      used = λ level place v leads. subst (λ v. IsRight (pointer_at (standing blocks t) level place) (used v)) leads.vvbn (is.used level place leads.some);
+      used = λ level place v leads. subst (λ v. IsRight (kind_for t.owner level) (pointer_at (standing blocks t) level place) (used v)) leads.vvbn (is.used level place leads.some);
       over = λ level place changed. false_is_true (changed_of t level place) (none_changed level place) changed;
       same = λ level place xs _ node. no_kept level place xs node;
       empty = λ level place _ _ _ xs node. no_kept level place xs node;
     }
 
 -- a tree without a cell
-pub hole_reaches : (used : ℕ → Option ℕ) (t : Rooted) → t.root.stamp ≡ 0 → ReachesOnce used t
+pub hole_reaches : (used : ℕ → Option Use) (t : Rooted) → t.root.stamp ≡ 0 → ReachesOnce used t
 hole_reaches used t none = record {
   once = λ level place _ _ some. absurd (some (none_at t none level place));
   held = λ level place some. absurd (some (none_at t none level place));

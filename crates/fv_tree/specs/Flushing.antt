@@ -11,7 +11,7 @@ use Rattle.fv_tree.specs.declared.kept.Tree.{Tree}
 use Rattle.fv_tree.specs.declared.kept.KeptNode.{KeptNode}
 use Rattle.fv_tree.specs.declared.kept.KeptCell.{KeptCell}
 use Rattle.fv_tree.specs.Spelled.{Under, Rooted, hole, pointers_in, pointer_at}
-use Rattle.fv_tree.specs.Sources.{Shown}
+use Rattle.fv_tree.specs.Sources.{Shown, Use, IsUntouched}
 use Rattle.fv_tree.specs.Standing.{standing, under, node_in}
 use Rattle.fv_tree.specs.Writing.{IsAlike}
 
@@ -67,16 +67,29 @@ pub record Leads (s : Loaded) (level place v : ℕ) : Type 0 where
 abbrev pub IsEmptyNode : Rooted → ℕ → ℕ → Type 0
 IsEmptyNode t level place = (xs : List Pointer) → t.nodes level place ≡ Some xs → (slot : ℕ) → get_or xs slot hole ≡ hole
 
--- A pointer to a VVBN in use tells its PVBN, or that it is unknown.
-abbrev pub IsRight : Pointer → Option ℕ → Type 0
-IsRight p None = ⊥
-IsRight p (Some pvbn) = (p.pvbn ≡ 0) ⊎ (p.pvbn ≡ pvbn)
+-- the kind of a block of a level, by the tree's owner
+abbrev pub kind_for : ℕ → ℕ → ℕ
+kind_for owner level = if owner == greatest_word then 5 + min level 2 else 1 + level
 
--- A tree stands on the blocks that it leads to. It reaches each VVBN once, and tells no wrong PVBN.
-pub record IsSound (taken : ℕ → Option ℕ) (s : Loaded) : Type 0 where
+-- A VVBN is in use with this kind.
+abbrev pub HasKind : ℕ → Option Use → Type 0
+HasKind kind None = ⊥
+HasKind kind (Some x) = x.kind ≡ kind
+
+-- A pointer to a VVBN in use with this kind tells its PVBN, or that it is unknown.
+abbrev pub IsRight : ℕ → Pointer → Option Use → Type 0
+IsRight kind p None = ⊥
+IsRight kind p (Some x) = ((p.pvbn ≡ 0) ⊎ (p.pvbn ≡ x.pvbn)) × (x.kind ≡ kind)
+
+-- the use of a VVBN with this kind, of which a pointer tells the PVBN
+abbrev pub use_told : Pointer → ℕ → Use
+use_told p kind = record { pvbn = p.pvbn; kind = kind }
+
+-- A tree stands on the blocks that it leads to. It reaches each VVBN once, in use with the kind of its level, and tells no wrong PVBN.
+pub record IsSound (taken : ℕ → Option Use) (s : Loaded) : Type 0 where
   pub once : (level place k q v : ℕ) → Leads s level place v → Leads s k q v → (level ≡ k) × (place ≡ q)
   pub held : (level place v : ℕ) → Leads s level place v → is_some (s.tree.under v) ≡ true
-  pub used : (level place v : ℕ) → Leads s level place v → IsRight (pointer_at s.tree level place) (taken v)
+  pub used : (level place v : ℕ) → Leads s level place v → IsRight (kind_for s.tree.owner level) (pointer_at s.tree level place) (taken v)
   -- over what changed stands a node in memory that changed, too
   pub over : (level place : ℕ) → s.changed level place ≡ true → (pointer_at s.tree level place).stamp ≢ 0 → level < s.tree.levels → s.changed (level + 1) (place / fan) ≡ true
   -- what didn't change stands in its block
@@ -122,7 +135,7 @@ pub record HoldsUnknown (t : Rooted) (level place : ℕ) : Type 0 where
 
 -- Some of what changed was placed. Each of it has one place and one pointer, and the blocks that were placed and replaced are
 -- those alone.
-pub record Flushes (old : Loaded) (used : ℕ → Option ℕ) (new : Loaded) (uses : ℕ → Option ℕ) : Type 0 where
+pub record Flushes (old : Loaded) (used : ℕ → Option Use) (new : Loaded) (uses : ℕ → Option Use) : Type 0 where
   pub owner : new.tree.owner ≡ old.tree.owner
   pub sound : IsSound uses new
   pub alike : IsAlike old.tree new.tree
@@ -141,7 +154,9 @@ pub record Flushes (old : Loaded) (used : ℕ → Option ℕ) (new : Loaded) (us
   pub unknown : (level place : ℕ) → IsFlushed old new (level + 1) (place / fan) → (pointer_at new.tree level place).stamp ≢ 0 → (pointer_at new.tree level place).pvbn ≡ 0
       → (pointer_at new.tree (level + 1) (place / fan)).pvbn ≡ 0
   -- any other pointer to what was placed tells the PVBN that it was placed with
-  pub told : (level place : ℕ) → IsFlushed old new level place → (uses (pointer_at new.tree level place).vvbn ≡ Some (pointer_at new.tree level place).pvbn) ⊎ HoldsUnknown new.tree level place
+  pub told : (level place : ℕ) → IsFlushed old new level place → (uses (pointer_at new.tree level place).vvbn ≡ Some (use_told (pointer_at new.tree level place) (kind_for new.tree.owner level))) ⊎ HoldsUnknown new.tree level place
+  -- what was placed has the kind of its level
+  pub kinds : (level place : ℕ) → IsFlushed old new level place → HasKind (kind_for new.tree.owner level) (uses (pointer_at new.tree level place).vvbn)
 
 -- ---- its steps
 
@@ -153,10 +168,6 @@ is_unknown p = not (p.stamp == 0) && (p.pvbn == 0)
 abbrev pub all_known : List Pointer → Bool
 all_known [] = true
 all_known (p ∷ ps) = not (is_unknown p) && all_known ps
-
--- the kind of a block of a level, by the tree's owner
-abbrev pub kind_for : ℕ → ℕ → ℕ
-kind_for owner level = if owner == greatest_word then 5 + min level 2 else 1 + level
 
 -- the pointer to a position, as the root or the node over it in memory has it
 abbrev pub child_of : Option (List Pointer) → ℕ → Pointer
@@ -182,30 +193,31 @@ pub record Points (old new : Tree) (level place : ℕ) (p : Pointer) : Type 0 wh
   pub placed : (k q : ℕ) → placed_in new.nodes k q ≡ placed_in old.nodes k q
   pub changed : (k q : ℕ) → ((k ≢ level + 1) ⊎ (q ≢ place / fan)) ⊎ (changed_in old.nodes k q ≡ true) → changed_in new.nodes k q ≡ changed_in old.nodes k q
 
--- A block is placed, to which the pointer p leads, and the VVBN r is named as gone, or none. The pointer tells the block's PVBN where it may.
-pub record Swaps (old : Shown) (content : List ℕ) (named known : Bool) (r : ℕ) (p : Pointer) (new : Shown) : Type 0 where
+-- A block of a kind is placed, to which the pointer p leads, and the VVBN r is named as gone, or none. The pointer tells the block's PVBN
+-- where it may.
+pub record Swaps (old : Shown) (kind : ℕ) (content : List ℕ) (named known : Bool) (r : ℕ) (p : Pointer) (new : Shown) : Type 0 where
   pub fresh : fin.get old.held p.vvbn ≡ None
   pub unused : old.used p.vvbn ≡ None
   pub block : (named ≡ false) ⊎ (r ≢ p.vvbn) → fin.get new.held p.vvbn ≡ Some content
-  pub used : (named ≡ false) ⊎ (r ≢ p.vvbn) → IsRight p (new.used p.vvbn)
-  pub told : known ≡ true → (named ≡ false) ⊎ (r ≢ p.vvbn) → new.used p.vvbn ≡ Some p.pvbn
+  pub used : (named ≡ false) ⊎ (r ≢ p.vvbn) → IsRight kind p (new.used p.vvbn)
+  pub told : known ≡ true → (named ≡ false) ⊎ (r ≢ p.vvbn) → new.used p.vvbn ≡ Some (use_told p kind)
   pub unknown : known ≡ false → p.pvbn ≡ 0
   pub gone : named ≡ true → new.used r ≡ None
+  pub strays : (named ≡ true → is_some (old.used r) ≡ true) → new.strays ≡ old.strays
   pub others : (w : ℕ) → w ≢ p.vvbn → (named ≡ false) ⊎ (w ≢ r) → (fin.get new.held w ≡ fin.get old.held w) × (new.used w ≡ old.used w)
 
 -- nothing was placed, since nothing leads there
 pub record IsHidden (old : Shown) (t : Tree) (level place : ℕ) (new : Shown) (u : Tree) : Type 0 where
   pub none : (pointer_in t level place).stamp ≡ 0
   pub tree : u ≡ t
-  pub held : new.held ≡ old.held
-  pub used : new.used ≡ old.used
+  pub untouched : IsUntouched old new
 
 -- a block was placed, and the pointer leads to it
 pub record IsMoved (old : Shown) (t : Tree) (level place : ℕ) (content : List ℕ) (named known : Bool) (new : Shown) (u : Tree) : Type 0 where
   pub some : (pointer_in t level place).stamp ≢ 0
   pub pointer : Pointer
   pub stamp : pointer.stamp ≡ (pointer_in t level place).stamp
-  pub swaps : Swaps old content named known (pointer_in t level place).vvbn pointer new
+  pub swaps : Swaps old (kind_for t.owner level) content named known (pointer_in t level place).vvbn pointer new
   pub points : Points t u level place pointer
 
 -- a cell or a node is no longer in memory
@@ -234,8 +246,7 @@ pub record IsLeft (old new : Tree) : Type 0 where
 pub record IsIdle (old : Shown) (t : Tree) (level : ℕ) (changed : Bool) (new : Shown) (u : Tree) : Type 0 where
   pub why : (changed ≡ false) ⊎ ((level ≡ 0) ⊎ (t.levels < level))
   pub tree : u ≡ t
-  pub held : new.held ≡ old.held
-  pub used : new.used ≡ old.used
+  pub untouched : IsUntouched old new
 
 -- the node's block was placed
 pub record IsNodeMoved (old : Shown) (t : Tree) (level place : ℕ) (node : KeptNode) (new : Shown) (u : Tree) : Type 0 where
@@ -250,8 +261,8 @@ IsNodeStep old t level place node new u = IsIdle old t level node.changed new u 
 
 -- ---- a tree of which nothing is in memory
 
--- the tree reaches each VVBN once, its block is held and in use, and the pointer to it tells no wrong PVBN
-pub record ReachesOnce (taken : ℕ → Option ℕ) (t : Rooted) : Type 0 where
+-- the tree reaches each VVBN once, its block is held and in use with the kind of its level, and the pointer to it tells no wrong PVBN
+pub record ReachesOnce (taken : ℕ → Option Use) (t : Rooted) : Type 0 where
   pub once : (level place k q : ℕ) → (pointer_at t level place).stamp ≢ 0 → (pointer_at t k q).stamp ≢ 0 → (pointer_at t level place).vvbn ≡ (pointer_at t k q).vvbn → (level ≡ k) × (place ≡ q)
   pub held : (level place : ℕ) → (pointer_at t level place).stamp ≢ 0 → is_some (t.under (pointer_at t level place).vvbn) ≡ true
-  pub used : (level place : ℕ) → (pointer_at t level place).stamp ≢ 0 → IsRight (pointer_at t level place) (taken (pointer_at t level place).vvbn)
+  pub used : (level place : ℕ) → (pointer_at t level place).stamp ≢ 0 → IsRight (kind_for t.owner level) (pointer_at t level place) (taken (pointer_at t level place).vvbn)

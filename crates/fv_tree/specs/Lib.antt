@@ -3,10 +3,11 @@ pub mod Sources
 pub mod Standing
 pub mod Keeping
 pub mod Writing
-pub mod InMemory
 pub mod Erasing
 pub mod Releasing
 pub mod Unlinking
 pub mod Collecting
 pub mod Flushing
 pub mod Carried
+pub mod Refilling
+pub mod Reading

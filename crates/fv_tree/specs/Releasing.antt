@@ -3,7 +3,7 @@ use Rattle.std.specs.Prelude.{◌≡◌, ◌⊎◌, ℕ, Bool, cond, None}
 use Rattle.std.specs.FinMap as fin
 use Rattle.fv_tree.specs.declared.kept.Tree.{Tree}
 use Rattle.fv_tree.specs.Spelled.{Under, pointer_at, stamp_in}
-use Rattle.fv_tree.specs.Sources.{Shown, Counts}
+use Rattle.fv_tree.specs.Sources.{Shown, IsCalm}
 use Rattle.fv_tree.specs.Standing.{standing, under}
 use Rattle.fv_tree.specs.Flushing.{Leads, IsSound, loaded_over, placed_of}
 use Rattle.fv_tree.specs.Erasing.{StandsAt, HoldsCells, IsErased}
@@ -15,14 +15,14 @@ pub record IsDropped (blocks : Under) (old new : Tree) (vvbn : ℕ) : Type 0 whe
   pub led : Leads (loaded_over blocks old) level place vvbn
   pub goes : (pointer_at (standing blocks new) level place).stamp ≡ 0
 
--- Each block that is dropped goes out of use, and may go out of the map. All others stay, in use with their PVBNs and in the map.
+-- Each block that is dropped goes out of use, and may go out of the map. All others stay, in use as they were and in the map.
 pub record Releases (old new : Shown) (dropped : ℕ → Type 0) : Type 0 where
   pub gone : (v : ℕ) → dropped v → new.used v ≡ None
   pub used : (v : ℕ) → (dropped v → ⊥) → new.used v ≡ old.used v
   pub held : (v : ℕ) → (dropped v → ⊥) → fin.get new.held v ≡ fin.get old.held v
   pub unused : (v : ℕ) → old.used v ≡ None → new.used v ≡ None
   pub may_go : (v : ℕ) → (fin.get new.held v ≡ fin.get old.held v) ⊎ (fin.get new.held v ≡ None)
-  pub counts : Counts old new
+  pub calm : IsCalm old new
 
 -- what still stands stood, and leads to the block to which it led
 pub record KeepsBlocks (blocks : Under) (old new : Tree) : Type 0 where
@@ -37,3 +37,4 @@ pub record Removes (old new : Shown) (t u : Tree) (gone : ℕ → Bool) (start s
   pub keeps : KeepsBlocks (under old) t u
   pub sound : IsSound old.used (loaded_over (under old) t) → IsSound old.used (loaded_over (under old) u)
   pub released : Releases old new (IsDropped (under old) t u)
+  pub strays : IsSound old.used (loaded_over (under old) t) → new.strays ≡ old.strays

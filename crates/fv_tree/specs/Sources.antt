@@ -1,13 +1,13 @@
 -- What a source of blocks shows, and what its calls do.
-use Rattle.std.specs.Prelude.{◌≡◌, ◌≢◌, ◌≤◌, ◌⊎◌, ℕ, cond, nat_eq, List, Option, Some, None, Result, IfOk, IfErr, OnOk, OnErr}
+use Rattle.std.specs.Prelude.{◌≡◌, ◌≢◌, ◌≤◌, ◌⊎◌, ℕ, true, cond, nat_eq, is_some, List, Option, Some, None, Result, IfOk, IfErr, OnOk, OnErr}
 use Rattle.std.specs.Ordering.{nat_cmp}
 use Rattle.std.specs.FinMap as fin
 use Rattle.fv_disk.specs.Shown.{Rose}
+use Rattle.fv_disk.specs.declared.fault.BlockFault.{BlockFault}
+use Rattle.fv_disk.specs.declared.fault.BlockFault.TheVariants.{DiskFault, Damaged, Memory}
 use Rattle.fv_codec.specs.declared.pointer.Pointer.{Pointer}
 use Rattle.fv_codec.specs.Blocks.{last_place}
 use Rattle.fv_tree.specs.declared.blocks.Placed.{Placed}
-use Rattle.fv_tree.specs.declared.blocks.TreeFault.{TreeFault}
-use Rattle.fv_tree.specs.declared.blocks.TreeFault.TheVariants.{DiskFault, Damaged, Memory}
 
 -- a block that isn't as said: its place, the wanted and the found number
 pub record Damage : Type 0 where
@@ -15,12 +15,18 @@ pub record Damage : Type 0 where
   pub want : ℕ
   pub found : ℕ
 
+-- how a VVBN is in use: the PVBN that a pointer to it may tell, 0 where that has to be unknown, and the kind of its block
+pub record Use : Type 0 where
+  pub pvbn : ℕ
+  pub kind : ℕ
+
 pub record Shown : Type 1 where
   -- the blocks that are held, by VVBN
   pub held : fin.FinMap nat_cmp (List ℕ)
-  -- the VVBNs that the active tree has in use, each with the PVBN that a pointer to it may tell, 0 where that has to be unknown; a
-  -- snapshot may hold others
-  pub used : ℕ → Option ℕ
+  -- the VVBNs that the active tree has in use; a snapshot may hold others
+  pub used : ℕ → Option Use
+  -- how often a VVBN was named as gone that wasn't in use; the count stays at 2^64 - 1
+  pub strays : ℕ
   -- the PVBN that a load answers: where the block was read, or 0 for one that isn't placed yet
   pub read_at : Pointer → ℕ
   -- failed calls of the disk; the count stays at 2^64 - 1
@@ -35,47 +41,65 @@ pub record Shown : Type 1 where
 pub record IsSource (source : Shown) : Type 0 where
   pub damage : source.damages ≢ 0 → source.is_damage source.last
 
--- why a call of the source failed
-abbrev pub HasCause : Shown → Shown → TreeFault → Type 0
-HasCause old new DiskFault = Rose old.faults new.faults
-HasCause old new (Damaged at want found) = Rose old.damages new.damages × (new.last ≡ record { at = at; want = want; found = found })
-HasCause old new Memory = Unit {0}
+-- both counts are as before
+pub record IsCalm (old new : Shown) : Type 0 where
+  pub faults : new.faults ≡ old.faults
+  pub damages : new.damages ≡ old.damages
 
--- the counts never fall
-pub record Counts (old new : Shown) : Type 0 where
+-- damage was answered, and this one last
+abbrev pub WasDamaged : Shown → Shown → ℕ → ℕ → ℕ → Type 0
+WasDamaged old new at want found = Rose old.damages new.damages × (new.last ≡ record { at = at; want = want; found = found })
+
+-- Why a call of the source failed. One count rose, and the other stays; for want of memory both stay, so that it is never told in
+-- place of a fault of the disk or of damage.
+abbrev pub HasCause : Shown → Shown → BlockFault → Type 0
+HasCause old new DiskFault = Rose old.faults new.faults × (new.damages ≡ old.damages)
+HasCause old new (Damaged at want found) = (new.faults ≡ old.faults) × WasDamaged old new at want found
+HasCause old new Memory = IsCalm old new
+
+-- The counts never fall, and what was done leaves them.
+pub record Counts {T E : Type 0} (old new : Shown) (result : Result T E) : Type 0 where
   pub faults : old.faults ≤ new.faults
   pub damages : old.damages ≤ new.damages
+  pub calm : OnOk result (IsCalm old new)
 
--- A load gives the block under the pointer's VVBN and changes nothing.
-pub record Loads (old : Shown) (pointer : Pointer) (new : Shown) (block : List ℕ) (result : Result ℕ TreeFault) : Type 0 where
+-- the blocks that are held, what is in use, and the count of strays are as before
+pub record IsUntouched (old new : Shown) : Type 0 where
   pub held : new.held ≡ old.held
   pub used : new.used ≡ old.used
+  pub strays : new.strays ≡ old.strays
+
+-- A load gives the block under the pointer's VVBN and changes nothing.
+pub record Loads (old : Shown) (pointer : Pointer) (new : Shown) (block : List ℕ) (result : Result ℕ BlockFault) : Type 0 where
+  pub untouched : IsUntouched old new
   pub gives : OnOk result (fin.get old.held pointer.vvbn ≡ Some block)
   pub answers : IfOk result (λ pvbn. pvbn ≡ new.read_at pointer)
   pub range : IfOk result (λ pvbn. pvbn ≤ last_place)
-  pub counts : Counts old new
+  pub counts : Counts old new result
   pub cause : IfErr result (HasCause old new)
 
--- A block is placed under a VVBN that was neither held nor in use, and comes into use with the PVBN that is answered. A PVBN of 0 asks
--- for an unknown pointer.
-pub record Places (old : Shown) (block : List ℕ) (new : Shown) (result : Result Placed TreeFault) : Type 0 where
+-- A block of a kind is placed under a VVBN that was neither held nor in use, and comes into use with that kind and the PVBN that is
+-- answered. A PVBN of 0 asks for an unknown pointer.
+pub record Places (old : Shown) (kind : ℕ) (block : List ℕ) (new : Shown) (result : Result Placed BlockFault) : Type 0 where
   pub fresh : IfOk result (λ placed. fin.get old.held placed.vvbn ≡ None)
   pub unused : IfOk result (λ placed. old.used placed.vvbn ≡ None)
   pub held : IfOk result (λ placed. new.held ≡ fin.insert old.held placed.vvbn block)
-  pub used : IfOk result (λ placed. (v : ℕ) → new.used v ≡ cond (nat_eq v placed.vvbn) (Some placed.pvbn) (old.used v))
+  pub used : IfOk result (λ placed. (v : ℕ) → new.used v ≡ cond (nat_eq v placed.vvbn) (Some (record { pvbn = placed.pvbn; kind = kind })) (old.used v))
   pub vvbn : IfOk result (λ placed. placed.vvbn ≤ last_place)
   pub pvbn : IfOk result (λ placed. placed.pvbn ≤ last_place)
-  pub failed : OnErr result (new.held ≡ old.held)
-  pub no_use : OnErr result (new.used ≡ old.used)
-  pub counts : Counts old new
+  pub strays : new.strays ≡ old.strays
+  pub failed : OnErr result (IsUntouched old new)
+  pub counts : Counts old new result
   pub cause : IfErr result (HasCause old new)
 
 -- A block that is named as gone is no longer in use. It may stay, as a snapshot may still hold it. All others stay, in the map and
--- in use, and naming one that isn't in use changes nothing of that.
+-- in use. Naming one that isn't in use changes nothing of that, and is counted.
 pub record Drops (old : Shown) (vvbn : ℕ) (new : Shown) : Type 0 where
   pub held : (new.held ≡ fin.remove old.held vvbn) ⊎ (new.held ≡ old.held)
   pub used : (v : ℕ) → new.used v ≡ cond (nat_eq v vvbn) None (old.used v)
-  pub counts : Counts old new
+  pub named : is_some (old.used vvbn) ≡ true → new.strays ≡ old.strays
+  pub stray : old.used vvbn ≡ None → Rose old.strays new.strays
+  pub calm : IsCalm old new
 
 -- the kinds of blocks that a tree has: data, nodes of the levels 1 to 3, inode blocks, and nodes of the inode file of the
 -- levels 1 and 2

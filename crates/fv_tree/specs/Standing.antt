@@ -5,15 +5,15 @@ use Rattle.std.specs.Ordering.{nat_cmp}
 use Rattle.std.specs.BTreeMap as tree
 use Rattle.std.specs.FinMap as fin
 use Rattle.fv_disk.specs.Shown.{Rose}
+use Rattle.fv_disk.specs.declared.fault.BlockFault.{BlockFault}
+use Rattle.fv_disk.specs.declared.fault.BlockFault.TheVariants.{DiskFault, Damaged, Memory}
 use Rattle.fv_codec.specs.declared.pointer.Pointer.{Pointer}
 use Rattle.fv_model.specs.Trees as trees
 use Rattle.fv_model.specs.Trees.{Spot, spot_cmp}
-use Rattle.fv_tree.specs.declared.blocks.TreeFault.{TreeFault}
-use Rattle.fv_tree.specs.declared.blocks.TreeFault.TheVariants.{DiskFault, Damaged, Memory}
 use Rattle.fv_tree.specs.declared.kept.Tree.{Tree}
 use Rattle.fv_tree.specs.declared.kept.KeptNode.{KeptNode}
 use Rattle.fv_tree.specs.Spelled.{Under, Rooted, node_for, pointer_at, stamp_in, block_at}
-use Rattle.fv_tree.specs.Sources.{Shown}
+use Rattle.fv_tree.specs.Sources.{Shown, IsCalm, WasDamaged}
 
 -- the blocks of a source as a function
 abbrev pub under : Shown → Under
@@ -77,16 +77,16 @@ pub record IsNodeDamage (t : Rooted) (old new : Shown) (at want found : ℕ) : T
   pub high : level ≤ t.levels
   pub damage : IsBlockDamage old new t.owner level place (pointer_at t level place) at want found
 
--- why a node of this position, to which this pointer leads, wasn't loaded
-abbrev pub LoadFails : Shown → Shown → ℕ → ℕ → ℕ → Pointer → TreeFault → Type 0
-LoadFails old new owner level place p DiskFault = Rose old.faults new.faults
+-- why a node of this position, to which this pointer leads, wasn't loaded: as for the source, or its block was given and isn't the node's
+abbrev pub LoadFails : Shown → Shown → ℕ → ℕ → ℕ → Pointer → BlockFault → Type 0
+LoadFails old new owner level place p DiskFault = Rose old.faults new.faults × (new.damages ≡ old.damages)
 LoadFails old new owner level place p (Damaged at want found) =
-    (Rose old.damages new.damages × (new.last ≡ record { at = at; want = want; found = found })) ⊎ IsBlockDamage old new owner level place p at want found
-LoadFails old new owner level place p Memory = Unit {0}
+    (new.faults ≡ old.faults) × (WasDamaged old new at want found ⊎ ((new.damages ≡ old.damages) × IsBlockDamage old new owner level place p at want found))
+LoadFails old new owner level place p Memory = IsCalm old new
 
 -- why a call of a tree failed, where `old` is what the source showed at the call and `new` what it shows afterwards
-abbrev pub Fails : Rooted → Shown → Shown → TreeFault → Type 0
-Fails t old new DiskFault = Rose old.faults new.faults
+abbrev pub Fails : Rooted → Shown → Shown → BlockFault → Type 0
+Fails t old new DiskFault = Rose old.faults new.faults × (new.damages ≡ old.damages)
 Fails t old new (Damaged at want found) =
-    (Rose old.damages new.damages × (new.last ≡ record { at = at; want = want; found = found })) ⊎ IsNodeDamage t old new at want found
-Fails t old new Memory = Unit {0}
+    (new.faults ≡ old.faults) × (WasDamaged old new at want found ⊎ ((new.damages ≡ old.damages) × IsNodeDamage t old new at want found))
+Fails t old new Memory = IsCalm old new

@@ -1,10 +1,11 @@
 -- What the removal of a cell does to the nodes in memory.
-use Rattle.std.specs.Prelude.{◌≡◌, ◌≢◌, ◌≤◌, ◌<◌, ◌⊎◌, ℕ, ◌+◌, ◌/◌, ◌^◌, true, cond, nat_eq, List, Option, Some, None, get_or, slice_set}
+use Rattle.std.specs.Prelude.{◌≡◌, ◌≢◌, ◌≤◌, ◌<◌, ◌⊎◌, ℕ, ◌+◌, ◌/◌, ◌^◌, true, cond, nat_eq, List, Option, Some, None, is_some, get_or, slice_set}
 use Rattle.std.specs.Option.{option_map}
 use Rattle.fv_codec.specs.declared.pointer.Pointer.{Pointer}
 use Rattle.fv_model.specs.Trees.{fan}
 use Rattle.fv_tree.specs.declared.kept.Tree.{Tree}
 use Rattle.fv_tree.specs.Spelled.{Under, hole, pointer_at, stamp_in}
+use Rattle.fv_tree.specs.Sources.{Use}
 use Rattle.fv_tree.specs.Standing.{standing, node_in, cell_in}
 use Rattle.fv_tree.specs.Writing.{stamped, stamped_in, slot_of}
 use Rattle.fv_tree.specs.Erasing.{StandsAt, HoldsCells, IsErased}
@@ -61,11 +62,16 @@ pub record IsOnWay (t : Tree) (i lost vvbn : ℕ) : Type 0 where
   pub low : level < lost
   pub named : IsNamed t level i vvbn
 
+-- those blocks are in use, each under a VVBN of its own
+pub record NamesOnce (used : ℕ → Option Use) (t : Tree) (i lost : ℕ) : Type 0 where
+  pub in_use : (level v : ℕ) → level < lost → IsNamed t level i v → is_some (used v) ≡ true
+  pub once : (k l v : ℕ) → k < lost → l < lost → IsNamed t k i v → IsNamed t l i v → k ≡ l
+
 -- a cell that stood, and over which all nodes are in memory, was removed by a change with the stamp s
 pub record CellGoes (blocks : Under) (old new : Tree) (i start s : ℕ) : Type 0 where
   pub erased : HoldsCells (standing blocks old) → IsErased (standing blocks old) (standing blocks new) (nat_eq i) start s
   pub cells : (k : ℕ) → stamp_in (pointer_at (standing blocks new) 0 k) ≡ cond (nat_eq i k) None (stamp_in (pointer_at (standing blocks old) 0 k))
   pub keeps : KeepsBlocks blocks old new
-  pub sound : (used : ℕ → Option ℕ) → IsSound used (loaded_over blocks old) → IsSound used (loaded_over blocks new)
+  pub sound : (used : ℕ → Option Use) → IsSound used (loaded_over blocks old) → IsSound used (loaded_over blocks new)
   -- the nodes over the other cells stay in memory
   pub ways : (k : ℕ) → StandsAt (standing blocks new) 0 k → HasWay old k → HasWay new k

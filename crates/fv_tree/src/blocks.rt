@@ -3,6 +3,7 @@
 ghost use Rattle.fv_tree.specs.Sources.{Shown, IsSource, IsKind, Loads, Places, Drops};
 
 use fv_codec::Pointer;
+use fv_disk::BlockFault;
 
 /// Where a block was placed.
 #[derive(Clone, Copy, Debug, PartialEq, Eq)]
@@ -14,57 +15,70 @@ pub struct Placed {
 }
 
 /// Why a call on a tree failed.
-#[derive(Clone, Copy, Debug, PartialEq, Eq)]
-pub enum TreeFault {
-    /// A call of the disk failed.
-    DiskFault,
-    /// A block isn't as said.
-    Damaged {
-        /// The block's place in the aggregate.
-        at: u64,
-        /// What had to stand there.
-        want: u64,
-        /// What stands there.
-        found: u64,
-    },
-    /// Want of memory.
-    Memory,
-}
+pub type TreeFault = BlockFault;
 
 /// The blocks of a volume: a finite map from the VVBNs that are held to their blocks, and the VVBNs of those
 /// that its active tree has in use, each with the PVBN that a pointer to it may tell, or 0 where the pointer has
-/// to be unknown. A snapshot may hold others.
+/// to be unknown, and with the kind of its block. A snapshot may hold others.
 ///
-/// It counts faults of the disk and damages that it answered, and both counts never fall.
+/// It counts faults of the disk and damages that it answered. Both counts never fall, and a call that was done
+/// leaves them. It counts strays, too: how often a VVBN was named as gone that wasn't in use. Where that count
+/// stays and a VVBN went out of use, the VVBN was named once.
 pub trait Blocks {
-    /// The map, the VVBNs in use with their PVBNs, the counts and the last damage.
+    /// The map, the VVBNs in use with their PVBNs and kinds, the three counts and the last damage.
     ghost shown: { Self → Shown };
 
+    /// What a load leaves of all else that a source has, as of a pool and a disk that it was lent. Each call on a
+    /// tree that only loads ensures it, so its caller knows afterwards what its own parts are.
+    ghost reads: { Self → Self → Type 0 };
+
+    /// What any call leaves of all else that a source has. Each call on a tree ensures it.
+    ghost goes: { Self → Self → Type 0 };
+
     /// Gives the block under the pointer's VVBN, and answers the PVBN that was read, below 1,048,576, or 0
-    /// for a block that isn't placed yet. The map and what is in use stay. At `Err` the content of `into` is open.
+    /// for a block that isn't placed yet. The map, what is in use and the strays stay. At `Err` the content of
+    /// `into` is open.
     ///
     /// # Errors
     ///
     /// `DiskFault` only where the count of disk faults rose in the call, `Damaged` only where that of
-    /// damages rose, with the last damage, and `Memory` for want of memory.
+    /// damages rose, with the last damage, and the other count stays; `Memory` for want of memory alone, with
+    /// both counts as before.
     fn load(&mut self, pointer: &Pointer, into: &mut [u8; 4096]) -> Result<u32, TreeFault>
-        ensures { Loads (shown self.old) pointer.now (shown self.new) into.new result };
+        ensures loads { Loads (shown self.old) pointer.now (shown self.new) into.new result }
+        ensures reads { reads self.old self.new };
 
     /// Adds a block of a kind from 1 to 7 under a VVBN that was neither in the map nor in use, and takes it
-    /// into use with the PVBN that it answers; all else stays.
+    /// into use with that kind and the PVBN that it answers; all else stays.
     ///
     /// # Errors
     ///
-    /// As `load`; the map and what is in use stay then.
+    /// As `load`; the map, what is in use and the strays stay then.
     fn place(&mut self, kind: u8, block: &[u8; 4096]) -> Result<Placed, TreeFault>
         requires kind { IsKind kind }
-        ensures { Places (shown self.old) block.now (shown self.new) result };
+        ensures places { Places (shown self.old) kind block.now (shown self.new) result }
+        ensures calls { goes self.old self.new };
 
     /// Takes that one VVBN out of use, and may drop it from the map; all else stays. One that isn't in use
-    /// changes nothing of what is.
+    /// changes nothing of what is, and counts as a stray. It makes no call that can fail, so the counts of faults
+    /// and damages stay.
     fn gone(&mut self, vvbn: u32)
-        ensures { Drops (shown self.old) vvbn (shown self.new) };
+        ensures drops { Drops (shown self.old) vvbn (shown self.new) }
+        ensures calls { goes self.old self.new };
 
     /// What holds of every source of blocks: the last damage is one, wherever any was answered.
     ghost laws: { (blocks : Self) → IsSource (shown blocks) };
+
+    /// No call leaves what there is, and two loads leave what one may.
+    ghost reads_nothing: { (blocks : Self) → reads blocks blocks };
+
+    ghost reads_on: { (old mid new : Self) → reads old mid → reads mid new → reads old new };
+
+    /// A load leaves what any call may.
+    ghost reads_go: { (old new : Self) → reads old new → goes old new };
+
+    /// No call leaves what there is, and two calls leave what one may.
+    ghost goes_nothing: { (blocks : Self) → goes blocks blocks };
+
+    ghost goes_on: { (old mid new : Self) → goes old mid → goes mid new → goes old new };
 }

@@ -3,7 +3,7 @@
 ghost use Rattle.std.specs.Prelude.{◌≡◌, ◌≢◌, ◌≤◌, ◌<◌, ◌+◌, ◌-◌, ◌*◌, ◌/◌, ◌^◌, ℕ, nat_le, List, ◌++◌, ◌∷◌, [], OnOk, OnErr, IfOk, IfErr};
 ghost use Rattle.fv_model.specs.Trees.{fan};
 ghost use Rattle.fv_tree.specs.Spelled.{Under};
-ghost use Rattle.fv_tree.specs.Sources.{Counts};
+ghost use Rattle.fv_tree.specs.Sources.{Counts, IsUntouched};
 ghost use Rattle.fv_tree.specs.Standing.{standing, under, Fails};
 ghost use Rattle.fv_tree.specs.Keeping.{IsSame};
 ghost use Rattle.fv_tree.specs.Writing.{Remains};
@@ -11,6 +11,7 @@ ghost use Rattle.fv_tree.specs.Erasing.{StandsAt, HoldsCells, IsErased, Erases};
 ghost use Rattle.fv_tree.specs.Releasing.{IsDropped, KeepsBlocks, Releases, Removes};
 ghost use Rattle.fv_tree.specs.Flushing.{Stands};
 ghost use Rattle.fv_tree.specs.Collecting.{AreBelow, IsRising, IsPast, Collects, IsHeld, StillHeld, AreHeld, Extends, IsAdded, IsChildPast, IsUnder};
+ghost use Rattle.fv_disk.specs.declared.fault.BlockFault.TheVariants.{Memory};
 
 use crate::blocks::{Blocks, TreeFault};
 use crate::erase::erase_cell;
@@ -41,13 +42,14 @@ impl Tree {
         requires stamp { 1 ≤ stamp }
         ensures erased { OnOk result (Stands (B.shown blocks.old) self.old → Erases (standing (under (B.shown blocks.old)) self.old) (standing (under (B.shown blocks.new)) self.new) (nat_le length) start stamp) }
         ensures place_by_place { OnOk result (Stands (B.shown blocks.old) self.old → HoldsCells (standing (under (B.shown blocks.old)) self.old) → IsErased (standing (under (B.shown blocks.old)) self.old) (standing (under (B.shown blocks.new)) self.new) (nat_le length) start stamp) }
+        ensures strays { Stands (B.shown blocks.old) self.old → (B.shown blocks.new).strays ≡ (B.shown blocks.old).strays }
         ensures released { OnOk result (Releases (B.shown blocks.old) (B.shown blocks.new) (IsDropped (under (B.shown blocks.old)) self.old self.new)) }
         ensures owner { self.new.owner ≡ self.old.owner }
         ensures stands { Stands (B.shown blocks.old) self.old → Stands (B.shown blocks.new) self.new }
         ensures failed { OnErr result (Remains (standing (under (B.shown blocks.old)) self.old) (standing (under (B.shown blocks.new)) self.new)) }
-        ensures held { OnErr result ((B.shown blocks.new).held ≡ (B.shown blocks.old).held) }
-        ensures used { OnErr result ((B.shown blocks.new).used ≡ (B.shown blocks.old).used) }
-        ensures counts { Counts (B.shown blocks.old) (B.shown blocks.new) }
+        ensures untouched { OnErr result (IsUntouched (B.shown blocks.old) (B.shown blocks.new)) }
+        ensures calls { B.goes blocks.old blocks.new }
+        ensures counts { Counts (B.shown blocks.old) (B.shown blocks.new) result }
         ensures cause { IfErr result (Fails (standing (under (B.shown blocks.old)) self.old) (B.shown blocks.old) (B.shown blocks.new)) }
     {
         cut_cells(self, blocks, length, start, stamp)
@@ -68,9 +70,9 @@ fn cut_cells<B: Blocks>(
     ensures failed { OnErr result (IsSame (standing (under (B.shown blocks.old)) tree.old) (standing (under (B.shown blocks.new)) tree.new)) }
     ensures owner { tree.new.owner ≡ tree.old.owner }
     ensures stays { OnErr result (Stands (B.shown blocks.old) tree.old → Stands (B.shown blocks.new) tree.new) }
-    ensures held { OnErr result ((B.shown blocks.new).held ≡ (B.shown blocks.old).held) }
-    ensures used { OnErr result ((B.shown blocks.new).used ≡ (B.shown blocks.old).used) }
-    ensures counts { Counts (B.shown blocks.old) (B.shown blocks.new) }
+    ensures untouched { OnErr result (IsUntouched (B.shown blocks.old) (B.shown blocks.new)) }
+    ensures calls { B.goes blocks.old blocks.new }
+    ensures counts { Counts (B.shown blocks.old) (B.shown blocks.new) result }
     ensures cause { IfErr result (Fails (standing (under (B.shown blocks.old)) tree.old) (B.shown blocks.old) (B.shown blocks.new)) }
 {
     let cells = keep_past(tree, blocks, most)?;
@@ -87,9 +89,9 @@ fn keep_past<B: Blocks>(tree: &mut Tree, blocks: &mut B, most: u32) -> Result<Ve
     ensures same { IsSame (standing (under (B.shown blocks.old)) tree.old) (standing (under (B.shown blocks.new)) tree.new) }
     ensures blocks { KeepsBlocks (under (B.shown blocks.old)) tree.old tree.new }
     ensures stands { Stands (B.shown blocks.old) tree.old → Stands (B.shown blocks.new) tree.new }
-    ensures held { (B.shown blocks.new).held ≡ (B.shown blocks.old).held }
-    ensures used { (B.shown blocks.new).used ≡ (B.shown blocks.old).used }
-    ensures counts { Counts (B.shown blocks.old) (B.shown blocks.new) }
+    ensures untouched { IsUntouched (B.shown blocks.old) (B.shown blocks.new) }
+    ensures reads { B.reads blocks.old blocks.new }
+    ensures counts { Counts (B.shown blocks.old) (B.shown blocks.new) result }
     ensures cause { IfErr result (Fails (standing (under (B.shown blocks.old)) tree.old) (B.shown blocks.old) (B.shown blocks.new)) }
 {
     let mut level = tree.levels;
@@ -104,7 +106,7 @@ fn keep_past<B: Blocks>(tree: &mut Tree, blocks: &mut B, most: u32) -> Result<Ve
 /// The one range of the tree's levels, where it stands and has an index from a length on.
 fn top_places(tree: &Tree, most: u32) -> Result<Vec<u32>, TreeFault>
     ensures places { (held : Under) → IfOk result (λ places. Collects (standing held tree.now) tree.now.levels most places.items) }
-    ensures memory { IfErr result (λ e. e ≡ TreeFault.Memory) }
+    ensures memory { IfErr result (λ e. e ≡ Memory) }
 {
     let mut places = Vec::new(tree.alloc);
     if tree.root.stamp == 0 {
@@ -120,7 +122,7 @@ fn top_places(tree: &Tree, most: u32) -> Result<Vec<u32>, TreeFault>
 /// Adds a number.
 fn add(places: &mut Vec<u32>, place: u32) -> Result<(), TreeFault>
     ensures added { OnOk result (places.new.items ≡ places.old.items ++ place ∷ []) }
-    ensures memory { IfErr result (λ e. e ≡ TreeFault.Memory) }
+    ensures memory { IfErr result (λ e. e ≡ Memory) }
 {
     match places.push(place) {
         Ok(()) => Ok(()),
@@ -146,9 +148,9 @@ fn keep_level<B: Blocks>(
     ensures same { IsSame (standing (under (B.shown blocks.old)) tree.old) (standing (under (B.shown blocks.new)) tree.new) }
     ensures blocks { KeepsBlocks (under (B.shown blocks.old)) tree.old tree.new }
     ensures stands { Stands (B.shown blocks.old) tree.old → Stands (B.shown blocks.new) tree.new }
-    ensures held { (B.shown blocks.new).held ≡ (B.shown blocks.old).held }
-    ensures used { (B.shown blocks.new).used ≡ (B.shown blocks.old).used }
-    ensures counts { Counts (B.shown blocks.old) (B.shown blocks.new) }
+    ensures untouched { IsUntouched (B.shown blocks.old) (B.shown blocks.new) }
+    ensures reads { B.reads blocks.old blocks.new }
+    ensures counts { Counts (B.shown blocks.old) (B.shown blocks.new) result }
     ensures cause { IfErr result (Fails (standing (under (B.shown blocks.old)) tree.old) (B.shown blocks.old) (B.shown blocks.new)) }
 {
     let mut below = Vec::new(tree.alloc);
@@ -179,9 +181,9 @@ fn keep_range<B: Blocks>(
     ensures same { IsSame (standing (under (B.shown blocks.old)) tree.old) (standing (under (B.shown blocks.new)) tree.new) }
     ensures blocks { KeepsBlocks (under (B.shown blocks.old)) tree.old tree.new }
     ensures stands { Stands (B.shown blocks.old) tree.old → Stands (B.shown blocks.new) tree.new }
-    ensures held { (B.shown blocks.new).held ≡ (B.shown blocks.old).held }
-    ensures used { (B.shown blocks.new).used ≡ (B.shown blocks.old).used }
-    ensures counts { Counts (B.shown blocks.old) (B.shown blocks.new) }
+    ensures untouched { IsUntouched (B.shown blocks.old) (B.shown blocks.new) }
+    ensures reads { B.reads blocks.old blocks.new }
+    ensures counts { Counts (B.shown blocks.old) (B.shown blocks.new) result }
     ensures cause { IfErr result (Fails (standing (under (B.shown blocks.old)) tree.old) (B.shown blocks.old) (B.shown blocks.new)) }
 {
     let pointer = pointer_in(tree, level, place);
@@ -202,7 +204,7 @@ fn add_ranges(
     requires range { place < 16384 }
     ensures added { OnOk result (Extends (IsChildPast children.now level most place) below.old.items below.new.items) }
     ensures rising { OnOk result (IsRising below.old.items → AreBelow below.old.items (place * fan) → IsRising below.new.items × AreBelow below.new.items ((place + 1) * fan)) }
-    ensures memory { IfErr result (λ e. e ≡ TreeFault.Memory) }
+    ensures memory { IfErr result (λ e. e ≡ Memory) }
 {
     let far = most / width(level - 1);
     for slot in 0..FAN {
@@ -215,7 +217,7 @@ fn add_ranges(
 fn add_range(pointer: &Pointer, far: u32, place: u32, below: &mut Vec<u32>) -> Result<(), TreeFault>
     ensures added { OnOk result (Extends (IsAdded pointer.now far place) below.old.items below.new.items) }
     ensures rising { OnOk result (IsRising below.old.items → AreBelow below.old.items place → IsRising below.new.items × AreBelow below.new.items (place + 1)) }
-    ensures memory { IfErr result (λ e. e ≡ TreeFault.Memory) }
+    ensures memory { IfErr result (λ e. e ≡ Memory) }
 {
     if pointer.stamp != 0 && far <= place {
         return add(below, place);

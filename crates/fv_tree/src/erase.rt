@@ -12,8 +12,8 @@ ghost use Rattle.fv_tree.specs.Standing.{standing, node_in, cell_in, children_in
 ghost use Rattle.fv_tree.specs.Writing.{stamped, stamped_in, slot_of};
 ghost use Rattle.fv_tree.specs.Erasing.{StandsAt};
 ghost use Rattle.fv_tree.specs.Releasing.{Releases, IsDropped};
-ghost use Rattle.fv_tree.specs.Flushing.{placed_in, placed_of, changed_in, changed_of};
-ghost use Rattle.fv_tree.specs.Unlinking.{HasWay, HasNoOther, HasOther, AreBare, Unlinks, CellGoes, cleared_in, IsNamed, IsOnWay};
+ghost use Rattle.fv_tree.specs.Flushing.{placed_in, placed_of, changed_in, changed_of, IsSound, loaded_over};
+ghost use Rattle.fv_tree.specs.Unlinking.{HasWay, HasNoOther, HasOther, AreBare, Unlinks, CellGoes, cleared_in, IsNamed, IsOnWay, NamesOnce};
 
 use crate::blocks::Blocks;
 use crate::kept::{HOLE, KeptNode, Tree};
@@ -31,6 +31,8 @@ pub fn erase_cell<B: Blocks>(tree: &mut Tree, blocks: &mut B, index: u32, start:
     ensures owner { tree.new.owner ≡ tree.old.owner }
     ensures goes { (held : Under) → StandsAt (standing held tree.old) 0 index → CellGoes held tree.old tree.new index start stamp }
     ensures released { (held : Under) → StandsAt (standing held tree.old) 0 index → Releases (B.shown blocks.old) (B.shown blocks.new) (IsDropped held tree.old tree.new) }
+    ensures strays { (held : Under) → StandsAt (standing held tree.old) 0 index → IsSound (B.shown blocks.old).used (loaded_over held tree.old) → (B.shown blocks.new).strays ≡ (B.shown blocks.old).strays }
+    ensures calls { B.goes blocks.old blocks.new }
 {
     let lost = bare_levels(tree, index);
     name_way(tree, blocks, index, lost);
@@ -78,7 +80,9 @@ fn has_no_other(children: &[Pointer; 128], slot: u32) -> bool
 /// Names the blocks of a cell and of so many nodes over it, the lowest.
 fn name_way<B: Blocks>(tree: &Tree, blocks: &mut B, index: u32, lost: u8)
     requires { lost ≤ tree.now.levels }
-    ensures { Releases (B.shown blocks.old) (B.shown blocks.new) (IsOnWay tree.now index (lost + 1)) }
+    ensures released { Releases (B.shown blocks.old) (B.shown blocks.new) (IsOnWay tree.now index (lost + 1)) }
+    ensures strays { NamesOnce (B.shown blocks.old).used tree.now index (lost + 1) → (B.shown blocks.new).strays ≡ (B.shown blocks.old).strays }
+    ensures calls { B.goes blocks.old blocks.new }
 {
     for level in 0..lost + 1 {
         name_place(tree, blocks, level, index);
@@ -88,7 +92,9 @@ fn name_way<B: Blocks>(tree: &Tree, blocks: &mut B, index: u32, lost: u8)
 /// Names the block of a cell, or of the node of a level over it, where it has one.
 fn name_place<B: Blocks>(tree: &Tree, blocks: &mut B, level: u8, index: u32)
     requires { level ≤ tree.now.levels }
-    ensures { Releases (B.shown blocks.old) (B.shown blocks.new) (IsNamed tree.now level index) }
+    ensures released { Releases (B.shown blocks.old) (B.shown blocks.new) (IsNamed tree.now level index) }
+    ensures strays { ((v : ℕ) → IsNamed tree.now level index v → is_some ((B.shown blocks.old).used v) ≡ true) → (B.shown blocks.new).strays ≡ (B.shown blocks.old).strays }
+    ensures calls { B.goes blocks.old blocks.new }
 {
     let place = index / width(level);
     if has_block(tree, level, place) {

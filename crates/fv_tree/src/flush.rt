@@ -5,7 +5,7 @@ ghost use Rattle.std.specs.BTreeMap as maps;
 ghost use Rattle.fv_codec.specs.Blocks.{IsPointer};
 ghost use Rattle.fv_model.specs.Trees.{spot_cmp};
 ghost use Rattle.fv_tree.specs.Spelled.{stored};
-ghost use Rattle.fv_tree.specs.Sources.{Counts, HasCause};
+ghost use Rattle.fv_tree.specs.Sources.{Counts, HasCause, IsUntouched};
 ghost use Rattle.fv_tree.specs.Standing.{standing, under};
 ghost use Rattle.fv_tree.specs.Writing.{Remains};
 ghost use Rattle.fv_tree.specs.Flushing.{loaded, Flushes, IsLeft, IsNodeStep, ReachesOnce, Stands};
@@ -20,9 +20,11 @@ use fv_codec::Pointer;
 /// Places the cells in memory.
 fn flush_cells<B: Blocks>(tree: &mut Tree, blocks: &mut B) -> Result<(), TreeFault>
     ensures flushes { Stands (B.shown blocks.old) tree.old → Flushes (loaded (B.shown blocks.old) tree.old) (B.shown blocks.old).used (loaded (B.shown blocks.new) tree.new) (B.shown blocks.new).used }
+    ensures strays { Stands (B.shown blocks.old) tree.old → (B.shown blocks.new).strays ≡ (B.shown blocks.old).strays }
     ensures left { IsLeft tree.old tree.new }
     ensures none { OnOk result (maps.btree_map_len tree.new.cells ≡ 0) }
-    ensures counts { Counts (B.shown blocks.old) (B.shown blocks.new) }
+    ensures calls { B.goes blocks.old blocks.new }
+    ensures counts { Counts (B.shown blocks.old) (B.shown blocks.new) result }
     ensures cause { IfErr result (HasCause (B.shown blocks.old) (B.shown blocks.new)) }
 {
     for _ in 0..tree.cells.len() {
@@ -35,10 +37,12 @@ fn flush_cells<B: Blocks>(tree: &mut Tree, blocks: &mut B) -> Result<(), TreeFau
 fn flush_nodes<B: Blocks>(tree: &mut Tree, blocks: &mut B) -> Result<(), TreeFault>
     requires { maps.btree_map_len tree.old.cells ≡ 0 }
     ensures flushes { Stands (B.shown blocks.old) tree.old → Flushes (loaded (B.shown blocks.old) tree.old) (B.shown blocks.old).used (loaded (B.shown blocks.new) tree.new) (B.shown blocks.new).used }
+    ensures strays { Stands (B.shown blocks.old) tree.old → (B.shown blocks.new).strays ≡ (B.shown blocks.old).strays }
     ensures left { IsLeft tree.old tree.new }
     ensures cells { tree.new.cells ≡ tree.old.cells }
     ensures none { OnOk result (maps.btree_map_len tree.new.nodes ≡ 0) }
-    ensures counts { Counts (B.shown blocks.old) (B.shown blocks.new) }
+    ensures calls { B.goes blocks.old blocks.new }
+    ensures counts { Counts (B.shown blocks.old) (B.shown blocks.new) result }
     ensures cause { IfErr result (HasCause (B.shown blocks.old) (B.shown blocks.new)) }
 {
     for _ in 0..tree.nodes.len() {
@@ -50,9 +54,11 @@ fn flush_nodes<B: Blocks>(tree: &mut Tree, blocks: &mut B) -> Result<(), TreeFau
 /// Places the first cell in memory.
 fn flush_first_cell<B: Blocks>(tree: &mut Tree, blocks: &mut B) -> Result<(), TreeFault>
     ensures flushes { Stands (B.shown blocks.old) tree.old → Flushes (loaded (B.shown blocks.old) tree.old) (B.shown blocks.old).used (loaded (B.shown blocks.new) tree.new) (B.shown blocks.new).used }
+    ensures strays { Stands (B.shown blocks.old) tree.old → (B.shown blocks.new).strays ≡ (B.shown blocks.old).strays }
     ensures left { IsLeft tree.old tree.new }
     ensures fewer { OnOk result (maps.btree_map_len tree.new.cells ≡ maps.btree_map_len tree.old.cells - 1) }
-    ensures counts { Counts (B.shown blocks.old) (B.shown blocks.new) }
+    ensures calls { B.goes blocks.old blocks.new }
+    ensures counts { Counts (B.shown blocks.old) (B.shown blocks.new) result }
     ensures cause { IfErr result (HasCause (B.shown blocks.old) (B.shown blocks.new)) }
 {
     match first_cell(tree) {
@@ -69,10 +75,12 @@ fn flush_first_cell<B: Blocks>(tree: &mut Tree, blocks: &mut B) -> Result<(), Tr
 fn flush_first_node<B: Blocks>(tree: &mut Tree, blocks: &mut B) -> Result<(), TreeFault>
     requires { maps.btree_map_len tree.old.cells ≡ 0 }
     ensures flushes { Stands (B.shown blocks.old) tree.old → Flushes (loaded (B.shown blocks.old) tree.old) (B.shown blocks.old).used (loaded (B.shown blocks.new) tree.new) (B.shown blocks.new).used }
+    ensures strays { Stands (B.shown blocks.old) tree.old → (B.shown blocks.new).strays ≡ (B.shown blocks.old).strays }
     ensures left { IsLeft tree.old tree.new }
     ensures cells { tree.new.cells ≡ tree.old.cells }
     ensures fewer { OnOk result (maps.btree_map_len tree.new.nodes ≡ maps.btree_map_len tree.old.nodes - 1) }
-    ensures counts { Counts (B.shown blocks.old) (B.shown blocks.new) }
+    ensures calls { B.goes blocks.old blocks.new }
+    ensures counts { Counts (B.shown blocks.old) (B.shown blocks.new) result }
     ensures cause { IfErr result (HasCause (B.shown blocks.old) (B.shown blocks.new)) }
 {
     match first_node(tree) {
@@ -95,9 +103,9 @@ fn flush_node<B: Blocks>(
 ) -> Result<(), TreeFault>
     ensures node { OnOk result (IsNodeStep (B.shown blocks.old) tree.old level place node.now (B.shown blocks.new) tree.new) }
     ensures failed { OnErr result (tree.new ≡ tree.old) }
-    ensures held { OnErr result ((B.shown blocks.new).held ≡ (B.shown blocks.old).held) }
-    ensures used { OnErr result ((B.shown blocks.new).used ≡ (B.shown blocks.old).used) }
-    ensures counts { Counts (B.shown blocks.old) (B.shown blocks.new) }
+    ensures untouched { OnErr result (IsUntouched (B.shown blocks.old) (B.shown blocks.new)) }
+    ensures calls { B.goes blocks.old blocks.new }
+    ensures counts { Counts (B.shown blocks.old) (B.shown blocks.new) result }
     ensures cause { IfErr result (HasCause (B.shown blocks.old) (B.shown blocks.new)) }
 {
     if node.changed && 1 <= level && level <= tree.levels {
@@ -113,7 +121,8 @@ impl Tree {
     /// Places each cell and each node that changed since the last flush once, a node after all that it leads
     /// to, and names each block that one of them replaces once to `gone`. A node that holds an unknown pointer
     /// gets an unknown pointer itself, and any other pointer to a new block tells the PVBN that `place` answered.
-    /// Answers the root, and then nothing is in memory. Levels, cells and marks stay as they are, also after a
+    /// Each new block is placed with the kind of its level: 1 for a file's cell and 2 to 4 for its nodes, 5 for an
+    /// inode file's cell and 6 and 7 for its nodes. Answers the root, and then nothing is in memory. Levels, cells and marks stay as they are, also after a
     /// fault, and a later flush then goes on where this one ended. All this is so for a tree that stands on its
     /// blocks. It takes no memory, loads nothing, and walks only what is in memory.
     ///
@@ -122,6 +131,7 @@ impl Tree {
     /// As `place` of the `Blocks` answers them.
     pub fn flush<B: Blocks>(&mut self, blocks: &mut B) -> Result<Pointer, TreeFault>
         ensures flushes { Stands (B.shown blocks.old) self.old → Flushes (loaded (B.shown blocks.old) self.old) (B.shown blocks.old).used (loaded (B.shown blocks.new) self.new) (B.shown blocks.new).used }
+        ensures strays { Stands (B.shown blocks.old) self.old → (B.shown blocks.new).strays ≡ (B.shown blocks.old).strays }
         ensures remains { Stands (B.shown blocks.old) self.old → Remains (standing (under (B.shown blocks.old)) self.old) (standing (under (B.shown blocks.new)) self.new) }
         ensures left { IsLeft self.old self.new }
         ensures done { OnOk result ((level place : ℕ) → (loaded (B.shown blocks.new) self.new).changed level place ≡ false) }
@@ -129,7 +139,8 @@ impl Tree {
         ensures pointer { IfOk result IsPointer }
         ensures stored { IfOk result (λ root. standing (under (B.shown blocks.new)) self.new ≡ stored (under (B.shown blocks.new)) self.old.owner self.old.levels root) }
         ensures reaches { IfOk result (λ root. Stands (B.shown blocks.old) self.old → ReachesOnce (B.shown blocks.new).used (stored (under (B.shown blocks.new)) self.old.owner self.old.levels root)) }
-        ensures counts { Counts (B.shown blocks.old) (B.shown blocks.new) }
+        ensures calls { B.goes blocks.old blocks.new }
+        ensures counts { Counts (B.shown blocks.old) (B.shown blocks.new) result }
         ensures cause { IfErr result (HasCause (B.shown blocks.old) (B.shown blocks.new)) }
     {
         flush_cells(self, blocks)?;

@@ -5,12 +5,13 @@ ghost use Rattle.std.specs.List.{All};
 ghost use Rattle.fv_codec.specs.Blocks.{IsPointer};
 ghost use Rattle.fv_model.specs.Trees.{fan};
 ghost use Rattle.fv_tree.specs.Spelled.{hole, pointers_at, pointer_below, pointer_at};
-ghost use Rattle.fv_tree.specs.Sources.{Counts};
+ghost use Rattle.fv_tree.specs.Sources.{Counts, IsUntouched};
 ghost use Rattle.fv_tree.specs.Standing.{standing, under, node_in, IsSameBut, Fails, LoadFails};
 ghost use Rattle.fv_tree.specs.Releasing.{KeepsBlocks};
 ghost use Rattle.fv_tree.specs.Keeping.{IsKept, Keeps, IsSame, KeepsBelow};
 ghost use Rattle.fv_tree.specs.Flushing.{placed_in, Stands};
 ghost use Rattle.fv_tree.specs.Carried.{kept_at, Brings, IsBlank};
+ghost use Rattle.fv_disk.specs.declared.fault.BlockFault.TheVariants.{Memory};
 
 use crate::blocks::{Blocks, TreeFault};
 use crate::kept::{HOLE, KeptNode, Tree};
@@ -32,9 +33,9 @@ pub fn keep_path<B: Blocks>(
     ensures stands { Stands (B.shown blocks.old) tree.old → Stands (B.shown blocks.new) tree.new }
     ensures same { IsSame (standing (under (B.shown blocks.old)) tree.old) (standing (under (B.shown blocks.new)) tree.new) }
     ensures blocks { KeepsBlocks (under (B.shown blocks.old)) tree.old tree.new }
-    ensures held { (B.shown blocks.new).held ≡ (B.shown blocks.old).held }
-    ensures used { (B.shown blocks.new).used ≡ (B.shown blocks.old).used }
-    ensures counts { Counts (B.shown blocks.old) (B.shown blocks.new) }
+    ensures untouched { IsUntouched (B.shown blocks.old) (B.shown blocks.new) }
+    ensures reads { B.reads blocks.old blocks.new }
+    ensures counts { Counts (B.shown blocks.old) (B.shown blocks.new) result }
     ensures cause { IfErr result (Fails (standing (under (B.shown blocks.old)) tree.old) (B.shown blocks.old) (B.shown blocks.new)) }
 {
     let mut level = tree.levels;
@@ -65,9 +66,9 @@ fn keep_step<B: Blocks>(
     ensures others { KeepsBelow (standing (under (B.shown blocks.old)) tree.old) (standing (under (B.shown blocks.new)) tree.new) level }
     ensures same { IsSame (standing (under (B.shown blocks.old)) tree.old) (standing (under (B.shown blocks.new)) tree.new) }
     ensures blocks { KeepsBlocks (under (B.shown blocks.old)) tree.old tree.new }
-    ensures held { (B.shown blocks.new).held ≡ (B.shown blocks.old).held }
-    ensures used { (B.shown blocks.new).used ≡ (B.shown blocks.old).used }
-    ensures counts { Counts (B.shown blocks.old) (B.shown blocks.new) }
+    ensures untouched { IsUntouched (B.shown blocks.old) (B.shown blocks.new) }
+    ensures reads { B.reads blocks.old blocks.new }
+    ensures counts { Counts (B.shown blocks.old) (B.shown blocks.new) result }
     ensures cause { IfErr result (Fails (standing (under (B.shown blocks.old)) tree.old) (B.shown blocks.old) (B.shown blocks.new)) }
 {
     let place = index / width(level);
@@ -91,9 +92,9 @@ pub fn keep_node<B: Blocks>(
     ensures fields { IsSameBut tree.old tree.new }
     ensures long { IfOk result (λ xs. length xs ≡ 128) }
     ensures kept { IfOk result (λ xs. (standing (under (B.shown blocks.new)) tree.new).nodes level place ≡ Some xs) }
-    ensures held { (B.shown blocks.new).held ≡ (B.shown blocks.old).held }
-    ensures used { (B.shown blocks.new).used ≡ (B.shown blocks.old).used }
-    ensures counts { Counts (B.shown blocks.old) (B.shown blocks.new) }
+    ensures untouched { IsUntouched (B.shown blocks.old) (B.shown blocks.new) }
+    ensures reads { B.reads blocks.old blocks.new }
+    ensures counts { Counts (B.shown blocks.old) (B.shown blocks.new) result }
     ensures cause { IfErr result (LoadFails (B.shown blocks.old) (B.shown blocks.new) tree.old.owner level place pointer.now) }
 {
     if pointer.stamp == 0 {
@@ -121,7 +122,7 @@ pub fn keep(
     ensures failed { OnErr result ((k q : ℕ) → node_in tree.new k q ≡ node_in tree.old k q) }
     ensures kept { OnOk result ((k q : ℕ) → kept_at tree.new k q ≡ cond (nat_eq k level && nat_eq q place) (Some node) (kept_at tree.old k q)) }
     ensures same { OnErr result ((k q : ℕ) → kept_at tree.new k q ≡ kept_at tree.old k q) }
-    ensures memory { IfErr result (λ e. e ≡ TreeFault.Memory) }
+    ensures memory { IfErr result (λ e. e ≡ Memory) }
 {
     let children = node.children;
     match tree.nodes.insert((level, place), node) {

@@ -6,28 +6,20 @@
 
 mod blocks;
 mod cut;
-#[cfg(test)]
-mod cut_tests;
 mod erase;
 mod flush;
-#[cfg(test)]
-mod flush_tests;
 mod grow;
 mod keep;
 mod kept;
-mod memory;
 mod node;
 mod placing;
+mod read;
+mod refill;
 mod remove;
-#[cfg(test)]
-mod remove_tests;
 mod sizes;
-#[cfg(test)]
-mod tests;
 mod tree;
 mod way;
 mod write;
 
 pub use blocks::{Blocks, Placed, TreeFault};
 pub use kept::Tree;
-pub use memory::MemBlocks;

@@ -6,7 +6,7 @@ ghost use Rattle.std.specs.Ordering.{nat_cmp};
 ghost use Rattle.std.specs.Option.{option_map};
 ghost use Rattle.fv_codec.specs.Blocks.{IsPointer, last_place, node_at};
 ghost use Rattle.fv_model.specs.Trees.{fan, spot_cmp};
-ghost use Rattle.fv_tree.specs.Sources.{Counts, Drops, HasCause, IsKind};
+ghost use Rattle.fv_tree.specs.Sources.{Counts, Drops, HasCause, IsCalm, IsKind, IsUntouched};
 ghost use Rattle.fv_tree.specs.Standing.{children_in};
 ghost use Rattle.fv_tree.specs.Flushing.{all_known, changed_in, is_unknown, kind_for, placed_in, pointer_in, ForgetsCell, ForgetsNode, IsHidden, IsMoved, Points, Swaps};
 
@@ -122,9 +122,9 @@ pub fn replace<B: Blocks>(
     requires { spot.0 ≤ 3 }
     ensures moves { OnOk result ((IsHidden (B.shown blocks.old) tree.old spot.0 spot.1 (B.shown blocks.new) tree.new) ⊎ (IsMoved (B.shown blocks.old) tree.old spot.0 spot.1 block.now placed known (B.shown blocks.new) tree.new)) }
     ensures failed { OnErr result (tree.new ≡ tree.old) }
-    ensures held { OnErr result ((B.shown blocks.new).held ≡ (B.shown blocks.old).held) }
-    ensures used { OnErr result ((B.shown blocks.new).used ≡ (B.shown blocks.old).used) }
-    ensures counts { Counts (B.shown blocks.old) (B.shown blocks.new) }
+    ensures untouched { OnErr result (IsUntouched (B.shown blocks.old) (B.shown blocks.new)) }
+    ensures calls { B.goes blocks.old blocks.new }
+    ensures counts { Counts (B.shown blocks.old) (B.shown blocks.new) result }
     ensures cause { IfErr result (HasCause (B.shown blocks.old) (B.shown blocks.new)) }
 {
     let (level, place) = spot;
@@ -151,12 +151,12 @@ fn swap<B: Blocks>(
     requires kind { IsKind kind }
     requires pointer { IsPointer old.now }
     requires some { old.now.stamp ≢ 0 }
-    ensures swaps { IfOk result (λ p. Swaps (B.shown blocks.old) block.now placed known old.now.vvbn p (B.shown blocks.new)) }
+    ensures swaps { IfOk result (λ p. Swaps (B.shown blocks.old) kind block.now placed known old.now.vvbn p (B.shown blocks.new)) }
     ensures stamp { IfOk result (λ p. p.stamp ≡ old.now.stamp) }
     ensures pointer { IfOk result IsPointer }
-    ensures held { OnErr result ((B.shown blocks.new).held ≡ (B.shown blocks.old).held) }
-    ensures used { OnErr result ((B.shown blocks.new).used ≡ (B.shown blocks.old).used) }
-    ensures counts { Counts (B.shown blocks.old) (B.shown blocks.new) }
+    ensures untouched { OnErr result (IsUntouched (B.shown blocks.old) (B.shown blocks.new)) }
+    ensures calls { B.goes blocks.old blocks.new }
+    ensures counts { Counts (B.shown blocks.old) (B.shown blocks.new) result }
     ensures cause { IfErr result (HasCause (B.shown blocks.old) (B.shown blocks.new)) }
 {
     let at = blocks.place(kind, block)?;
@@ -167,9 +167,9 @@ fn swap<B: Blocks>(
 /// Names a block as gone, where that is asked.
 fn name_gone<B: Blocks>(blocks: &mut B, asked: bool, vvbn: u32)
     ensures gone { asked ≡ true → Drops (B.shown blocks.old) vvbn (B.shown blocks.new) }
-    ensures held { asked ≡ false → (B.shown blocks.new).held ≡ (B.shown blocks.old).held }
-    ensures used { asked ≡ false → (B.shown blocks.new).used ≡ (B.shown blocks.old).used }
-    ensures counts { Counts (B.shown blocks.old) (B.shown blocks.new) }
+    ensures untouched { asked ≡ false → IsUntouched (B.shown blocks.old) (B.shown blocks.new) }
+    ensures calls { B.goes blocks.old blocks.new }
+    ensures counts { IsCalm (B.shown blocks.old) (B.shown blocks.new) }
 {
     if asked {
         blocks.gone(vvbn);

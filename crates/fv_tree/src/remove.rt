@@ -1,7 +1,7 @@
 //! Removing a cell.
 
 ghost use Rattle.std.specs.Prelude.{◌≡◌, ◌≤◌, nat_eq, OnOk, OnErr, IfErr};
-ghost use Rattle.fv_tree.specs.Sources.{Counts};
+ghost use Rattle.fv_tree.specs.Sources.{Counts, IsUntouched};
 ghost use Rattle.fv_tree.specs.Standing.{standing, under, Fails};
 ghost use Rattle.fv_tree.specs.Keeping.{IsSame};
 ghost use Rattle.fv_tree.specs.Writing.{Remains};
@@ -35,13 +35,14 @@ impl Tree {
         requires stamp { 1 ≤ stamp }
         ensures erased { OnOk result (Stands (B.shown blocks.old) self.old → Erases (standing (under (B.shown blocks.old)) self.old) (standing (under (B.shown blocks.new)) self.new) (nat_eq index) start stamp) }
         ensures place_by_place { OnOk result (Stands (B.shown blocks.old) self.old → HoldsCells (standing (under (B.shown blocks.old)) self.old) → IsErased (standing (under (B.shown blocks.old)) self.old) (standing (under (B.shown blocks.new)) self.new) (nat_eq index) start stamp) }
+        ensures strays { Stands (B.shown blocks.old) self.old → (B.shown blocks.new).strays ≡ (B.shown blocks.old).strays }
         ensures released { OnOk result (Releases (B.shown blocks.old) (B.shown blocks.new) (IsDropped (under (B.shown blocks.old)) self.old self.new)) }
         ensures owner { self.new.owner ≡ self.old.owner }
         ensures stands { Stands (B.shown blocks.old) self.old → Stands (B.shown blocks.new) self.new }
         ensures failed { OnErr result (Remains (standing (under (B.shown blocks.old)) self.old) (standing (under (B.shown blocks.new)) self.new)) }
-        ensures held { OnErr result ((B.shown blocks.new).held ≡ (B.shown blocks.old).held) }
-        ensures used { OnErr result ((B.shown blocks.new).used ≡ (B.shown blocks.old).used) }
-        ensures counts { Counts (B.shown blocks.old) (B.shown blocks.new) }
+        ensures untouched { OnErr result (IsUntouched (B.shown blocks.old) (B.shown blocks.new)) }
+        ensures calls { B.goes blocks.old blocks.new }
+        ensures counts { Counts (B.shown blocks.old) (B.shown blocks.new) result }
         ensures cause { IfErr result (Fails (standing (under (B.shown blocks.old)) self.old) (B.shown blocks.old) (B.shown blocks.new)) }
     {
         remove_cell(self, blocks, index, start, stamp)
@@ -62,9 +63,9 @@ fn remove_cell<B: Blocks>(
     ensures failed { OnErr result (IsSame (standing (under (B.shown blocks.old)) tree.old) (standing (under (B.shown blocks.new)) tree.new)) }
     ensures owner { tree.new.owner ≡ tree.old.owner }
     ensures stays { OnErr result (Stands (B.shown blocks.old) tree.old → Stands (B.shown blocks.new) tree.new) }
-    ensures held { OnErr result ((B.shown blocks.new).held ≡ (B.shown blocks.old).held) }
-    ensures used { OnErr result ((B.shown blocks.new).used ≡ (B.shown blocks.old).used) }
-    ensures counts { Counts (B.shown blocks.old) (B.shown blocks.new) }
+    ensures untouched { OnErr result (IsUntouched (B.shown blocks.old) (B.shown blocks.new)) }
+    ensures calls { B.goes blocks.old blocks.new }
+    ensures counts { Counts (B.shown blocks.old) (B.shown blocks.new) result }
     ensures cause { IfErr result (Fails (standing (under (B.shown blocks.old)) tree.old) (B.shown blocks.old) (B.shown blocks.new)) }
 {
     if index >= width(tree.levels) {

@@ -7,7 +7,7 @@ ghost use Rattle.std.specs.Ordering.{nat_cmp};
 ghost use Rattle.fv_model.specs.Trees as trees;
 ghost use Rattle.fv_codec.specs.Blocks.{IsPointer};
 ghost use Rattle.fv_tree.specs.Spelled.{Under, hole, stored, block_at};
-ghost use Rattle.fv_tree.specs.Sources.{Counts};
+ghost use Rattle.fv_tree.specs.Sources.{Counts, Use, IsUntouched};
 ghost use Rattle.fv_tree.specs.Standing.{standing, under, Shows, Fails};
 ghost use Rattle.fv_tree.specs.Writing.{IsWritten, Writes, Remains};
 ghost use Rattle.fv_tree.specs.Flushing.{loaded_over, IsSound, ReachesOnce, Stands};
@@ -27,7 +27,7 @@ impl Tree {
         requires levels { levels ≤ 3 }
         ensures stored { (blocks : Under) → standing blocks result ≡ stored blocks owner levels hole }
         ensures seen { (blocks : Under) → Shows (standing blocks result) (record { levels = levels; stamps = fin.empty }) fin.empty }
-        ensures stands { (blocks : Under) (used : ℕ → Option ℕ) → IsSound used (loaded_over blocks result) }
+        ensures stands { (blocks : Under) (used : ℕ → Option Use) → IsSound used (loaded_over blocks result) }
     {
         Tree::at(alloc, owner, levels, HOLE)
     }
@@ -37,14 +37,15 @@ impl Tree {
         requires levels { levels ≤ 3 }
         requires root { IsPointer root }
         ensures stored { (blocks : Under) → standing blocks result ≡ stored blocks owner levels root }
-        ensures stands { (blocks : Under) (used : ℕ → Option ℕ) → ReachesOnce used (stored blocks owner levels root) → IsSound used (loaded_over blocks result) }
+        ensures stands { (blocks : Under) (used : ℕ → Option Use) → ReachesOnce used (stored blocks owner levels root) → IsSound used (loaded_over blocks result) }
     {
         unread(alloc, owner, levels, root)
     }
 
-    /// How many levels of nodes it has.
+    /// How many levels of nodes it has, at most 3.
     pub fn levels(&self) -> u8
-        ensures { result ≡ self.now.levels }
+        ensures levels { result ≡ self.now.levels }
+        ensures few { result ≤ 3 }
     {
         self.levels
     }
@@ -66,9 +67,9 @@ impl Tree {
         ensures seen { (seen : trees.Tree) (contents : fin.FinMap nat_cmp (List ℕ)) → Shows (standing (under (B.shown blocks.old)) self.old) seen contents → IfOk result (λ there. fin.get contents index ≡ cond there (Some into.new) None) }
         ensures tree { self.new ≡ self.old }
         ensures stands { Stands (B.shown blocks.old) self.old → Stands (B.shown blocks.new) self.new }
-        ensures held { (B.shown blocks.new).held ≡ (B.shown blocks.old).held }
-        ensures used { (B.shown blocks.new).used ≡ (B.shown blocks.old).used }
-        ensures counts { Counts (B.shown blocks.old) (B.shown blocks.new) }
+        ensures untouched { IsUntouched (B.shown blocks.old) (B.shown blocks.new) }
+        ensures reads { B.reads blocks.old blocks.new }
+        ensures counts { Counts (B.shown blocks.old) (B.shown blocks.new) result }
         ensures cause { IfErr result (Fails (standing (under (B.shown blocks.old)) self.old) (B.shown blocks.old) (B.shown blocks.new)) }
     {
         let pointer = find(self, blocks, index)?;
@@ -97,9 +98,9 @@ impl Tree {
         ensures failed { OnErr result (Remains (standing (under (B.shown blocks.old)) self.old) (standing (under (B.shown blocks.new)) self.new)) }
         ensures owner { self.new.owner ≡ self.old.owner }
         ensures stands { Stands (B.shown blocks.old) self.old → Stands (B.shown blocks.new) self.new }
-        ensures held { (B.shown blocks.new).held ≡ (B.shown blocks.old).held }
-        ensures used { (B.shown blocks.new).used ≡ (B.shown blocks.old).used }
-        ensures counts { Counts (B.shown blocks.old) (B.shown blocks.new) }
+        ensures untouched { IsUntouched (B.shown blocks.old) (B.shown blocks.new) }
+        ensures reads { B.reads blocks.old blocks.new }
+        ensures counts { Counts (B.shown blocks.old) (B.shown blocks.new) result }
         ensures cause { IfErr result (Fails (standing (under (B.shown blocks.old)) self.old) (B.shown blocks.old) (B.shown blocks.new)) }
     {
         write_cell(self, blocks, index, block, stamp)

@@ -4,7 +4,7 @@ ghost use Rattle.std.specs.Prelude.{◌≡◌, ◌≢◌, ◌≤◌, ◌<◌, �
 ghost use Rattle.fv_codec.specs.Blocks.{IsNode};
 ghost use Rattle.fv_model.specs.Trees.{fan};
 ghost use Rattle.fv_tree.specs.Spelled.{Under, hole, pointers_at, pointers_in, pointer_below, pointer_at, block_at};
-ghost use Rattle.fv_tree.specs.Sources.{Counts, HasCause};
+ghost use Rattle.fv_tree.specs.Sources.{Counts, HasCause, IsUntouched};
 ghost use Rattle.fv_tree.specs.Standing.{standing, under, Fails, LoadFails};
 
 use crate::blocks::{Blocks, TreeFault};
@@ -16,9 +16,9 @@ use fv_codec::{Node, Pointer};
 /// The pointer to a cell.
 pub fn find<B: Blocks>(tree: &Tree, blocks: &mut B, index: u32) -> Result<Pointer, TreeFault>
     ensures pointer { IfOk result (λ p. p ≡ pointer_at (standing (under (B.shown blocks.old)) tree.now) 0 index) }
-    ensures held { (B.shown blocks.new).held ≡ (B.shown blocks.old).held }
-    ensures used { (B.shown blocks.new).used ≡ (B.shown blocks.old).used }
-    ensures counts { Counts (B.shown blocks.old) (B.shown blocks.new) }
+    ensures untouched { IsUntouched (B.shown blocks.old) (B.shown blocks.new) }
+    ensures reads { B.reads blocks.old blocks.new }
+    ensures counts { Counts (B.shown blocks.old) (B.shown blocks.new) result }
     ensures cause { IfErr result (Fails (standing (under (B.shown blocks.old)) tree.now) (B.shown blocks.old) (B.shown blocks.new)) }
 {
     let mut level = tree.levels;
@@ -54,9 +54,9 @@ fn step<B: Blocks>(
     requires high { level ≤ tree.now.levels }
     requires pointer { pointer.now ≡ pointer_below (standing (under (B.shown blocks.old)) tree.now) (tree.now.levels - level) (index / fan ^ level) }
     ensures below { IfOk result (λ p. p ≡ pointer_below (standing (under (B.shown blocks.old)) tree.now) (tree.now.levels - (level - 1)) (index / fan ^ (level - 1))) }
-    ensures held { (B.shown blocks.new).held ≡ (B.shown blocks.old).held }
-    ensures used { (B.shown blocks.new).used ≡ (B.shown blocks.old).used }
-    ensures counts { Counts (B.shown blocks.old) (B.shown blocks.new) }
+    ensures untouched { IsUntouched (B.shown blocks.old) (B.shown blocks.new) }
+    ensures reads { B.reads blocks.old blocks.new }
+    ensures counts { Counts (B.shown blocks.old) (B.shown blocks.new) result }
     ensures cause { IfErr result (Fails (standing (under (B.shown blocks.old)) tree.now) (B.shown blocks.old) (B.shown blocks.new)) }
 {
     let place = index / width(level);
@@ -75,9 +75,9 @@ fn child<B: Blocks>(
 ) -> Result<Pointer, TreeFault>
     requires slot { slot < fan }
     ensures child { IfOk result (λ p. p ≡ get_or (pointers_at (standing (under (B.shown blocks.old)) tree.now) level place pointer.now) slot hole) }
-    ensures held { (B.shown blocks.new).held ≡ (B.shown blocks.old).held }
-    ensures used { (B.shown blocks.new).used ≡ (B.shown blocks.old).used }
-    ensures counts { Counts (B.shown blocks.old) (B.shown blocks.new) }
+    ensures untouched { IsUntouched (B.shown blocks.old) (B.shown blocks.new) }
+    ensures reads { B.reads blocks.old blocks.new }
+    ensures counts { Counts (B.shown blocks.old) (B.shown blocks.new) result }
     ensures cause { IfErr result (LoadFails (B.shown blocks.old) (B.shown blocks.new) tree.now.owner level place pointer.now) }
 {
     if pointer.stamp == 0 {
@@ -104,9 +104,9 @@ pub fn load_node<B: Blocks>(
     ensures node { IfOk result (λ n. pointers_in owner level place (under (B.shown blocks.old) pointer.now.vvbn) ≡ n.children) }
     ensures long { IfOk result (λ n. length n.children ≡ 128) }
     ensures range { IfOk result (λ n. IsNode n) }
-    ensures held { (B.shown blocks.new).held ≡ (B.shown blocks.old).held }
-    ensures used { (B.shown blocks.new).used ≡ (B.shown blocks.old).used }
-    ensures counts { Counts (B.shown blocks.old) (B.shown blocks.new) }
+    ensures untouched { IsUntouched (B.shown blocks.old) (B.shown blocks.new) }
+    ensures reads { B.reads blocks.old blocks.new }
+    ensures counts { Counts (B.shown blocks.old) (B.shown blocks.new) result }
     ensures cause { IfErr result (LoadFails (B.shown blocks.old) (B.shown blocks.new) owner level place pointer.now) }
 {
     let mut block = [0; 4096];
@@ -132,9 +132,9 @@ pub fn read_cell<B: Blocks>(
 ) -> Result<bool, TreeFault>
     requires pointer { pointer.now ≡ pointer_at (standing (under (B.shown blocks.old)) tree.now) 0 index }
     ensures cell { IfOk result (λ there. block_at (standing (under (B.shown blocks.old)) tree.now) index ≡ cond there (Some into.new) None) }
-    ensures held { (B.shown blocks.new).held ≡ (B.shown blocks.old).held }
-    ensures used { (B.shown blocks.new).used ≡ (B.shown blocks.old).used }
-    ensures counts { Counts (B.shown blocks.old) (B.shown blocks.new) }
+    ensures untouched { IsUntouched (B.shown blocks.old) (B.shown blocks.new) }
+    ensures reads { B.reads blocks.old blocks.new }
+    ensures counts { Counts (B.shown blocks.old) (B.shown blocks.new) result }
     ensures cause { IfErr result (HasCause (B.shown blocks.old) (B.shown blocks.new)) }
 {
     if pointer.stamp == 0 {

@@ -7,10 +7,11 @@ ghost use Rattle.std.specs.Option.{option_map};
 ghost use Rattle.fv_model.specs.Trees.{fan, spot_cmp};
 ghost use Rattle.fv_tree.specs.Standing.{standing, under, children_in, cell_in, IsSameButCells, Fails};
 ghost use Rattle.fv_tree.specs.Spelled.{Under};
-ghost use Rattle.fv_tree.specs.Sources.{Counts};
+ghost use Rattle.fv_tree.specs.Sources.{Counts, Use, IsUntouched};
 ghost use Rattle.fv_tree.specs.Flushing.{cell_placed, changed_in, loaded_over, placed_in, IsSound, Stands};
 ghost use Rattle.fv_tree.specs.Carried.{Marks};
 ghost use Rattle.fv_tree.specs.Writing.{stamped, stamped_in, new_child, Stamps, IsAlike, IsWritten};
+ghost use Rattle.fv_disk.specs.declared.fault.BlockFault.TheVariants.{Memory};
 
 use crate::blocks::{Blocks, TreeFault};
 use crate::grow::{keep_new_levels, levels_over, new_mark};
@@ -33,7 +34,7 @@ pub fn keep_cell(
     ensures own { OnOk result (cell_placed (maps.get nat_cmp tree.new.cells index) ≡ (placed && cell_placed (maps.get nat_cmp tree.old.cells index))) }
     ensures others { (i : ℕ) → i ≢ index → maps.get nat_cmp tree.new.cells i ≡ maps.get nat_cmp tree.old.cells i }
     ensures same { OnErr result ((i : ℕ) → maps.get nat_cmp tree.new.cells i ≡ maps.get nat_cmp tree.old.cells i) }
-    ensures memory { IfErr result (λ e. e ≡ TreeFault.Memory) }
+    ensures memory { IfErr result (λ e. e ≡ Memory) }
 {
     let cell = KeptCell {
         block: *block,
@@ -129,9 +130,9 @@ pub fn write_within<B: Blocks>(
     ensures failed { OnErr result (IsAlike (standing (under (B.shown blocks.old)) tree.old) (standing (under (B.shown blocks.new)) tree.new)) }
     ensures owner { tree.new.owner ≡ tree.old.owner }
     ensures stands { Stands (B.shown blocks.old) tree.old → Stands (B.shown blocks.new) tree.new }
-    ensures held { (B.shown blocks.new).held ≡ (B.shown blocks.old).held }
-    ensures used { (B.shown blocks.new).used ≡ (B.shown blocks.old).used }
-    ensures counts { Counts (B.shown blocks.old) (B.shown blocks.new) }
+    ensures untouched { IsUntouched (B.shown blocks.old) (B.shown blocks.new) }
+    ensures reads { B.reads blocks.old blocks.new }
+    ensures counts { Counts (B.shown blocks.old) (B.shown blocks.new) result }
     ensures cause { IfErr result (Fails (standing (under (B.shown blocks.old)) tree.old) (B.shown blocks.old) (B.shown blocks.new)) }
 {
     let pointer = keep_path(tree, blocks, index)?;
@@ -153,8 +154,8 @@ pub fn write_past(
     ensures done { (blocks : Under) → OnOk result (IsWritten (standing blocks tree.old) (standing blocks tree.new) index stamp block.now) }
     ensures failed { (blocks : Under) → OnErr result (IsAlike (standing blocks tree.old) (standing blocks tree.new)) }
     ensures owner { tree.new.owner ≡ tree.old.owner }
-    ensures stands { (blocks : Under) (used : ℕ → Option ℕ) → IsSound used (loaded_over blocks tree.old) → IsSound used (loaded_over blocks tree.new) }
-    ensures memory { IfErr result (λ e. e ≡ TreeFault.Memory) }
+    ensures stands { (blocks : Under) (used : ℕ → Option Use) → IsSound used (loaded_over blocks tree.old) → IsSound used (loaded_over blocks tree.new) }
+    ensures memory { IfErr result (λ e. e ≡ Memory) }
 {
     let levels = levels_over(index);
     keep_new_levels(tree, levels, index, stamp)?;
@@ -191,9 +192,9 @@ pub fn write_cell<B: Blocks>(
     ensures failed { OnErr result (IsAlike (standing (under (B.shown blocks.old)) tree.old) (standing (under (B.shown blocks.new)) tree.new)) }
     ensures owner { tree.new.owner ≡ tree.old.owner }
     ensures stands { Stands (B.shown blocks.old) tree.old → Stands (B.shown blocks.new) tree.new }
-    ensures held { (B.shown blocks.new).held ≡ (B.shown blocks.old).held }
-    ensures used { (B.shown blocks.new).used ≡ (B.shown blocks.old).used }
-    ensures counts { Counts (B.shown blocks.old) (B.shown blocks.new) }
+    ensures untouched { IsUntouched (B.shown blocks.old) (B.shown blocks.new) }
+    ensures reads { B.reads blocks.old blocks.new }
+    ensures counts { Counts (B.shown blocks.old) (B.shown blocks.new) result }
     ensures cause { IfErr result (Fails (standing (under (B.shown blocks.old)) tree.old) (B.shown blocks.old) (B.shown blocks.new)) }
 {
     if index < width(tree.levels) {

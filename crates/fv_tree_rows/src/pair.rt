@@ -2,9 +2,10 @@
 
 ghost use Rattle.std.specs.Prelude.{◌≤◌};
 
+use crate::memory::MemBlocks;
 use fv_codec::Pointer;
 use fv_reference::Tree as Machine;
-use fv_tree::{MemBlocks, Tree, TreeFault};
+use fv_tree::{Tree, TreeFault};
 use std::alloc::{AllocError, Global};
 
 /// The file's number.
@@ -207,7 +208,7 @@ pub fn replayed(pair: &Pair) -> Result<Stored, Wrong> {
 }
 
 /// The tree that a root spells.
-fn tree_at(alloc: Global, levels: u8, root: Pointer) -> Tree {
+pub fn tree_at(alloc: Global, levels: u8, root: Pointer) -> Tree {
     let fits = root.stamp != 0 && root.vvbn <= 1_048_575 && root.pvbn <= 1_048_575;
     Tree::at(
         alloc,

@@ -1,10 +1,10 @@
 //! Random changes of a tree, and of the machine's.
 
+use crate::memory::MemBlocks;
 use crate::pair::{
     Change, INDEXES, Kind, Pair, Wrong, block, change_both, flush, new_pair, replayed,
 };
 use crate::walk::spells;
-use fv_tree::MemBlocks;
 use std::alloc::Global;
 use std::test::Fail;
 

@@ -1,9 +1,10 @@
 //! What blocks spell, from a root down.
 
+use crate::memory::MemBlocks;
 use crate::pair::{OWNER, Stored, Wrong, block, cells, push};
 use fv_codec::{Node, Pointer};
 use fv_reference::Tree as Machine;
-use fv_tree::{Blocks, MemBlocks};
+use fv_tree::Blocks;
 use std::alloc::{AllocError, Global};
 use std::collections::BTreeMap;
 

@@ -12,28 +12,20 @@ use Rattle.fv_bits.specs.Members.{is_member}
 use Rattle.fv_volmap.specs.Slots.{active_of}
 use Rattle.fv_image.specs.Views.{entry_count, head_of, volume_bit}
 use Rattle.fv_image.specs.Held.{label_in, label_place, lying_at, view_at}
-use Rattle.fv_container.specs.declared.fault.ContainerFault.{ContainerFault}
-use Rattle.fv_container.specs.declared.fault.ContainerFault.TheVariants as container
+use Rattle.fv_disk.specs.declared.fault.BlockFault.{BlockFault}
+use Rattle.fv_disk.specs.declared.fault.BlockFault.TheVariants.{DiskFault, Damaged, Memory}
 use Rattle.fv_container.specs.Mapped.{IsMapped, Mapped}
 use Rattle.fv_container.specs.Spelled.{IsFault, Spelled}
 use Rattle.fv_root.specs.declared.find.Found.{Found}
 use Rattle.fv_root.specs.Finding.{root_found}
-use Rattle.fv_volume.specs.declared.fault.VolumeFault.{VolumeFault}
-use Rattle.fv_volume.specs.declared.fault.VolumeFault.TheVariants.{Refused, DiskFault, Damaged, Memory}
 use Rattle.fv_volume.specs.declared.state.VolumeState.{VolumeState}
-use Rattle.fv_volume.specs.Causes.{of_container}
-use Rattle.fv_volume.specs.Loading.{IsBadLabel, IsBadMap, IsBadTree, IsContainerOf, IsLoadFault, IsLoaded, form_in, has_delayed, label_of}
+use Rattle.fv_volume.specs.Loading.{IsBadLabel, IsBadMap, IsContainerOf, IsLoadFault, IsLoaded, form_in, has_delayed, label_of}
 use Rattle.fv_volume.specs.States.{head_in}
 
 -- a fault that was handed on
-pub handed : {T : Type 0} (P : VolumeFault → Type 0) (e : VolumeFault) (result : Result T VolumeFault) → IsErrAnd result (λ f. f ≡ e) → P e → IfErr result P
+pub handed : {T : Type 0} (P : BlockFault → Type 0) (e : BlockFault) (result : Result T BlockFault) → IsErrAnd result (λ f. f ≡ e) → P e → IfErr result P
 handed P e (Ok x) is holds = tt
 handed P e (Err f) is holds = subst P (sym is) holds
-
-pub bad_tree_of : (i : Image) (l : Label) (e : ContainerFault) → IsFault i l.container l.height (entry_count l.span) e → IsBadTree i l (of_container e)
-bad_tree_of i l container.DiskFault is = tt
-bad_tree_of i l (container.Damaged at want number) is = is
-bad_tree_of i l container.Memory is = tt
 
 module _ (found : Found) (i : Image) (s : ℕ) (lt : s < 64) where
   place_there : label_place (root_found found) s ≡ get_or found.root.labels s 0
@@ -72,8 +64,7 @@ module _ (found : Found) (i : Image) (s : ℕ) (lt : s < 64) where
     changed = subst (λ (o : Option Mapped). IfSome o (λ m. y.changed ≡ has_delayed m y.span)) (sym there) changed;
   }
 
-  pub bad_label : (p : ℕ) (e : VolumeFault) → p ≡ get_or found.root.labels s 0 → p ≢ 0 → IsBadLabel (i p) p e → IsLoadFault i found e
-  bad_label p (Refused refusal) is some bad = absurd bad
+  pub bad_label : (p : ℕ) (e : BlockFault) → p ≡ get_or found.root.labels s 0 → p ≢ 0 → IsBadLabel (i p) p e → IsLoadFault i found e
   bad_label p (Damaged at want number) is some bad = inl (record {
     slot = s;
     place = bad.0 ∙ is ∙ sym place_there;
@@ -83,14 +74,12 @@ module _ (found : Found) (i : Image) (s : ℕ) (lt : s < 64) where
   bad_label p DiskFault is some bad = tt
   bad_label p Memory is some bad = absurd bad
 
-  pub bad_tree : (l : Label) (e : VolumeFault) → label_of found i s ≡ Some l → IsBadTree i l e → IsLoadFault i found e
-  bad_tree l (Refused refusal) lies bad = absurd bad
+  pub bad_tree : (l : Label) (e : BlockFault) → label_of found i s ≡ Some l → IsFault i l.container l.height (entry_count l.span) e → IsLoadFault i found e
   bad_tree l (Damaged at want number) lies bad = inr (inl (record { slot = s; label = l; lies = lies; fault = bad }))
   bad_tree l DiskFault lies bad = tt
   bad_tree l Memory lies bad = tt
 
-  pub bad_map : (l : Label) (map : Mapped) (e : VolumeFault) → label_of found i s ≡ Some l → Spelled i l.container l.height map → length map.entries ≡ entry_count l.span → IsBadMap i map l.span e → IsLoadFault i found e
-  bad_map l map (Refused refusal) lies spelled long bad = absurd bad
+  pub bad_map : (l : Label) (map : Mapped) (e : BlockFault) → label_of found i s ≡ Some l → Spelled i l.container l.height map → length map.entries ≡ entry_count l.span → IsBadMap i map l.span e → IsLoadFault i found e
   bad_map l map (Damaged at want number) lies spelled long bad = inr (inr (record { slot = s; label = l; lies = lies; map = map; spelled = spelled; long = long; fault = bad }))
   bad_map l map DiskFault lies spelled long bad = tt
   bad_map l map Memory lies spelled long bad = tt

@@ -150,18 +150,6 @@ label_head x plain named container height =
       snapshots = (free_snapshots ∙ sym (no_snaps (head_in x).snapshots more.0)) i;
     })
 
-pub label_span : (x : VolumeState) (container height : ℕ) → (label_said x container height).span ≡ x.span
-unfolding label_said
-label_span x container height = refl
-
-pub label_container : (x : VolumeState) (container height : ℕ) → (label_said x container height).container ≡ container
-unfolding label_said
-label_container x container height = refl
-
-pub label_height : (x : VolumeState) (container height : ℕ) → (label_said x container height).height ≡ height
-unfolding label_said
-label_height x container height = refl
-
 -- ---- a volume of which a consistency point told
 
 -- volumes with one head have one label

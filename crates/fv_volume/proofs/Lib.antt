@@ -11,3 +11,5 @@ pub mod Mapping
 mod Writing
 pub mod Told
 pub mod Made
+mod Lent
+mod Holding

@@ -1,7 +1,6 @@
 -- A new volume, and the machine with it.
 use Rattle.std.proofs.Common.{◌≡◌, ◌≢◌, ◌<◌, ◌≤◌, ◌+◌, ◌*◌, ℕ, Bool, true, false, cond, not, List, [], length, Option, Some, None, sum_by, refl, sym, ap, subst, ◌∙◌, ⊎_elim, arith, length-set}
-use Rattle.std.specs.Prelude.{IfErr, IfSome, Result, Ok, Err}
-use Rattle.std.specs.Result.{IsErrAnd}
+use Rattle.std.specs.Prelude.{IfSome}
 use Rattle.std.specs.Option.{is_some}
 use Rattle.std.specs.FinMap as fin
 use Rattle.std.specs.Ordering.{eq_by_cmp}
@@ -29,11 +28,9 @@ use Rattle.fv_charge.specs.Ledgers.{IsLedgerOf}
 use Rattle.fv_container.specs.Mapped.{Mapped, empty_map}
 use Rattle.fv_image.specs.Views.{entry_count}
 use Rattle.fv_volmap.specs.Slots.{Volume as MapSlots, empty_volume as no_numbers}
-use Rattle.fv_volume.specs.declared.fault.VolumeFault.{VolumeFault}
-use Rattle.fv_volume.specs.declared.fault.VolumeFault.TheVariants.{Refused}
 use Rattle.fv_volume.specs.declared.pool.Pool.{Pool}
 use Rattle.fv_volume.specs.declared.state.VolumeState.{VolumeState}
-use Rattle.fv_volume.specs.Creating.{Admits, IsMade, IsNew, RefusedBy, Refuses, new_ledger_of}
+use Rattle.fv_volume.specs.Creating.{Admits, IsMade, IsNew, Refuses, new_ledger_of}
 use Rattle.fv_volume.specs.Labels.{hole}
 use Rattle.fv_volume.proofs.Labels.{IsSayable, label_range}
 use Rattle.fv_volume.specs.Slots.{HasName, HaveSpans, HasSpan, IsFirstFree, IsFull, NoneHasName, sum_of}
@@ -252,21 +249,17 @@ have_spans states each = record { each = λ s lt. span_at s (state_at states s) 
 
 -- ---- as the call has them
 
-pub refused_result : (P : Refusal → Type 0) (r : Refusal) (result : Result ℕ VolumeFault) → IsErrAnd result (λ e. e ≡ Refused r) → P r → IfErr result (RefusedBy P)
-refused_result P r (Ok slot) is holds = tt
-refused_result P r (Err e) is holds = subst (RefusedBy P) (sym is) holds
-
 pub new_made : (states : States) (slot : ℕ) (name : List ℕ) (size : ℕ) (kind : Kind) (span blocks : ℕ) (y : VolumeState) → length states ≡ 64 → AreStates states → Admits states blocks name size kind slot span
-    → span ≤ greatest_span → y.slot ≡ slot → head_in y ≡ empty_head name size kind span → y.ledger ≡ ledger_of_empty size kind span → is_name name ≡ true → y.map ≡ no_numbers span → AreStates (with_state states slot (Some y))
-new_made states slot name size kind span blocks y long are is fits at head ledger named map =
+    → y.slot ≡ slot → head_in y ≡ empty_head name size kind span → y.ledger ≡ ledger_of_empty size kind span → is_name name ≡ true → y.map ≡ no_numbers span → AreStates (with_state states slot (Some y))
+new_made states slot name size kind span blocks y long are is at head ledger named map =
     let called : y.name ≡ name = ap (λ h. h.name) head in
     let new : find name_cmp y.name (named_states states) ≡ None = ap (λ n. find name_cmp n (named_states states)) called ∙ none_named states name (λ s lt. is.name_is.none s (omega (arith, lt, long))) in
-    new_states states slot y long are is.free new (new_state y slot name size kind span fits is.span_is at head ledger is.size_is named map)
+    new_states states slot y long are is.free new (new_state y slot name size kind span is.most is.span_is at head ledger is.size_is named map)
 
 pub each_made : (states : States) (slot : ℕ) (name : List ℕ) (size : ℕ) (kind : Kind) (span blocks : ℕ) (y : VolumeState) → length states ≡ 64 → ((s : ℕ) → IfSome (state_at states s) (IsState s)) → Admits states blocks name size kind slot span
-    → span ≤ greatest_span → y.slot ≡ slot → head_in y ≡ empty_head name size kind span → y.ledger ≡ ledger_of_empty size kind span → is_name name ≡ true → y.map ≡ no_numbers span → (s : ℕ) → IfSome (state_at (with_state states slot (Some y)) s) (IsState s)
-each_made states slot name size kind span blocks y long each is fits at head ledger named map =
-    put_at states slot y (omega (arith, is.free.within, long)) (new_state y slot name size kind span fits is.span_is at head ledger is.size_is named map) each
+    → y.slot ≡ slot → head_in y ≡ empty_head name size kind span → y.ledger ≡ ledger_of_empty size kind span → is_name name ≡ true → y.map ≡ no_numbers span → (s : ℕ) → IfSome (state_at (with_state states slot (Some y)) s) (IsState s)
+each_made states slot name size kind span blocks y long each is at head ledger named map =
+    put_at states slot y (omega (arith, is.free.within, long)) (new_state y slot name size kind span is.most is.span_is at head ledger is.size_is named map) each
 
 -- what all volumes commit leaves the capacity room for the new one's overhead twice
 pub room_beside : (pool : Pool) (states : States) (i : Image) → length states ≡ 64 → AreStates states → (name : List ℕ) (size : ℕ) (kind : Kind) (slot span blocks : ℕ) → Admits states blocks name size kind slot span

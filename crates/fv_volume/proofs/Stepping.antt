@@ -2,16 +2,16 @@
 use Rattle.std.proofs.Common.{◌≡◌, ◌≢◌, ◌<◌, ◌≤◌, ◌+◌, ℕ, zero, suc, [], ◌∷◌, ◌++◌, length, length-append, replicate, Option, Some, None, refl, sym, ap, subst, ◌∙◌, ⊎_elim, arith}
 use Rattle.std.specs.Prelude.{IfSome, slice_index_or}
 use Rattle.std.proofs.lemmas.Bool.{cases_eq, cases_lt}
-use Rattle.std.proofs.lemmas.List.{length-replicate}
+use Rattle.std.proofs.lemmas.List.{get_or_past, length-replicate}
 use Rattle.fv_disk.specs.Shown.{Image}
 use Rattle.fv_codec.specs.declared.label.Label.{Label}
 use Rattle.fv_image.specs.Views.{Head, entry_count, head_of}
-use Rattle.fv_container.specs.Chains.{Slots, container_at, no_containers, slot_count}
+use Rattle.fv_container.specs.Chains.{Slots, container_at, no_containers, parent_at, slot_count}
 use Rattle.fv_container.specs.Mapped.{Mapped}
 use Rattle.fv_root.specs.declared.find.Found.{Found}
 use Rattle.fv_volume.specs.declared.state.VolumeState.{VolumeState}
 use Rattle.fv_volume.specs.Loading.{Houses, IsLoaded, KeptTo, LoadedTo}
-use Rattle.fv_volume.specs.States.{IsState, States, head_in, state_at}
+use Rattle.fv_volume.specs.States.{IsState, States, head_in, parent_in, state_at}
 
 at_front : (xs : States) (x : Option VolumeState) (s : ℕ) → s < length xs → state_at (xs ++ x ∷ []) s ≡ state_at xs s
 at_front [] x s lt = absurd (omega (arith, lt))
@@ -42,8 +42,9 @@ loaded_more i found count states old x new kept was others now = record {
 }
 
 pub kept_more : (count : ℕ) (states : States) (old : Slots) (x : Option VolumeState) (new : Slots) → KeptTo count states old → length new.containers ≡ slot_count
-    → ((s : ℕ) → s ≢ count → container_at new s ≡ container_at old s) → IfSome x (IsState count) → Houses x (container_at new count) → KeptTo (count + 1) (states ++ x ∷ []) new
-kept_more count states old x new kept few others is has = record {
+    → ((s : ℕ) → s ≢ count → container_at new s ≡ container_at old s) → ((s : ℕ) → s ≢ count → parent_at new s ≡ parent_at old s) → IfSome x (IsState count) → Houses x (container_at new count) → parent_at new count ≡ parent_in x
+    → KeptTo (count + 1) (states ++ x ∷ []) new
+kept_more count states old x new kept few others parents is has parent = record {
   long = length-append states (x ∷ []) ∙ omega (arith, kept.long);
   few = few;
   free = λ s le. others s (omega (arith, le)) ∙ kept.free s (omega (arith, le));
@@ -64,7 +65,18 @@ kept_more count states old x new kept few others is has = record {
       (λ (after : length states ≤ s). let past : length states < s = omega (arith, after, other, kept.long) in subst (λ (y : Option VolumeState). Houses y (container_at new s)) (sym (past_end states x s past)) tt)
       (cases_lt s (length states)))
       (cases_eq s count);
+  parents = λ s. ⊎_elim
+      (λ (here : s ≡ count). ap (parent_at new) here ∙ parent ∙ ap parent_in (sym (ap (state_at (states ++ x ∷ [])) (here ∙ sym kept.long) ∙ at_end states x)))
+      (λ (other : s ≢ count). parents s other ∙ kept.parents s ∙ ap parent_in (⊎_elim
+      (λ (before : s < length states). sym (at_front states x s before))
+      (λ (after : length states ≤ s). get_or_past states s None after ∙ sym (past_end states x s (omega (arith, after, other, kept.long))))
+      (cases_lt s (length states))))
+      (cases_eq s count);
 }
+
+-- a slot that isn't filled yet has no parent
+pub no_parent_yet : (count : ℕ) (states : States) (slots : Slots) → KeptTo count states slots → parent_at slots count ≡ None
+no_parent_yet count states slots kept = kept.parents count ∙ ap parent_in (get_or_past states count None (omega (arith, kept.long)))
 
 none_in : {X : Type 0} (n s : ℕ) → ◌≡◌ {A = Option X} (slice_index_or (replicate n None) s None) None
 none_in zero s = refl
@@ -86,11 +98,16 @@ kept_none states containers empty none = record {
   free = λ s le. ap (λ (c : Slots). container_at c s) none ∙ none_in slot_count s;
   each = λ s. subst (λ (xs : States). IfSome (state_at xs s) (IsState s)) (sym empty) (nothing s);
   housed = λ s. subst (λ (xs : States). Houses (state_at xs s) (container_at containers s)) (sym empty) (homeless s (container_at containers s));
+  parents = λ s. ap (λ (c : Slots). parent_at c s) none ∙ none_in slot_count s ∙ sym (ap (λ (xs : States). parent_in (state_at xs s)) empty ∙ parentless s);
 }
   where
     homeless : (s : ℕ) (c : Option Mapped) → Houses (state_at [] s) c
     homeless zero c = tt
     homeless (suc s) c = tt
+
+    parentless : (s : ℕ) → parent_in (state_at [] s) ≡ None
+    parentless zero = refl
+    parentless (suc s) = refl
 
     nothing : (s : ℕ) → IfSome (state_at [] s) (IsState s)
     nothing zero = tt

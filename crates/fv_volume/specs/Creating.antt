@@ -7,12 +7,10 @@ use Rattle.fv_model.specs.declared.answers.Refusal.{Refusal}
 use Rattle.fv_model.specs.declared.answers.Refusal.TheVariants.{VolumeExists, AggregateFull, Range, TooMany}
 use Rattle.fv_model.specs.declared.commands.Kind.{Kind}
 use Rattle.fv_model.specs.Machines.{capacity}
-use Rattle.fv_model.specs.Numbers.{is_size}
+use Rattle.fv_model.specs.Numbers.{greatest_span, is_size}
 use Rattle.fv_model.specs.Space.{span_of}
 use Rattle.fv_charge.specs.Ledgers.{committed}
 use Rattle.fv_volmap.specs.Slots.{empty_volume}
-use Rattle.fv_volume.specs.declared.fault.VolumeFault.{VolumeFault}
-use Rattle.fv_volume.specs.declared.fault.VolumeFault.TheVariants.{Refused, DiskFault, Damaged, Memory}
 use Rattle.fv_volume.specs.declared.pool.Pool.{Pool}
 use Rattle.fv_volume.specs.declared.state.VolumeState.{VolumeState}
 use Rattle.fv_volume.specs.Slots.{HasName, IsFirstFree, IsFull, NoneHasName, sum_of}
@@ -38,12 +36,14 @@ Refuses states blocks name size kind TooMany = (is_size size ≡ true) × (NoneH
 Refuses states blocks name size kind AggregateFull = IsTooMuch states blocks name size kind
 Refuses states blocks name size kind other = ⊥
 
--- a new volume is admitted, for this slot and with this span
+-- A new volume is admitted, for this slot and with this span. It speaks of the volumes' names, of the slots in use and of what the
+-- ledgers commit alone, so that it outlives a consistency point.
 pub record Admits (states : States) (blocks : ℕ) (name : List ℕ) (size : ℕ) (kind : Kind) (slot span : ℕ) : Type 0 where
   pub size_is : is_size size ≡ true
   pub name_is : NoneHasName states name
   pub free : IsFirstFree states slot
   pub span_is : span ≡ span_of size 0 0
+  pub most : span ≤ greatest_span
   pub room : sum_of states + new_ledger_of size kind ≤ capacity blocks
 
 -- a slot has a new empty volume, and the other slots are as before
@@ -66,10 +66,3 @@ pub record IsNew (state : Option VolumeState) (container : Option Mapped) (name 
 -- the pool with a container of holes for a slot: not even the blocks of the active map are placed before a consistency point
 abbrev pub with_holes : Pool → ℕ → ℕ → Pool
 with_holes pool slot size = record pool { containers = with_parent (with_container pool.containers slot (Some (empty_map (entry_count (span_of size 0 0))))) slot None }
-
--- a refusal comes by a rule, and no fault but want of memory
-abbrev pub RefusedBy : (Refusal → Type 0) → VolumeFault → Type 0
-RefusedBy rule (Refused refusal) = rule refusal
-RefusedBy rule DiskFault = ⊥
-RefusedBy rule (Damaged at want found) = ⊥
-RefusedBy rule Memory = Unit {0}

@@ -6,3 +6,5 @@ pub mod Slots
 pub mod Rows
 pub mod Creating
 pub mod Loading
+pub mod Opening
+pub mod BlocksOver

@@ -18,11 +18,11 @@ use Rattle.fv_container.specs.Mapped.{IsMapped, Mapped, entry_under}
 use Rattle.fv_container.specs.Spelled.{Spelled}
 use Rattle.fv_root.specs.declared.find.Found.{Found}
 use Rattle.fv_root.specs.Finding.{root_found}
-use Rattle.fv_volume.specs.declared.fault.VolumeFault.{VolumeFault}
-use Rattle.fv_volume.specs.declared.fault.VolumeFault.TheVariants.{Refused, DiskFault, Damaged, Memory}
+use Rattle.fv_disk.specs.declared.fault.BlockFault.{BlockFault}
+use Rattle.fv_disk.specs.declared.fault.BlockFault.TheVariants.{DiskFault, Damaged, Memory}
 use Rattle.fv_volume.specs.declared.state.VolumeState.{VolumeState}
-use Rattle.fv_container.specs.Chains.{Slots, container_at, slot_count}
-use Rattle.fv_volume.specs.States.{IsState, States, head_in, place_in, state_at}
+use Rattle.fv_container.specs.Chains.{Slots, container_at, parent_at, slot_count}
+use Rattle.fv_volume.specs.States.{IsState, States, head_in, parent_in, place_in, state_at}
 
 -- ---- forms that can't be loaded yet
 
@@ -45,8 +45,7 @@ form_in l =
 -- ---- faults
 
 -- a label hasn't its shape, or has a form that can't be loaded
-abbrev pub IsBadLabel : List ℕ → ℕ → VolumeFault → Type 0
-IsBadLabel block place (Refused refusal) = ⊥
+abbrev pub IsBadLabel : List ℕ → ℕ → BlockFault → Type 0
 IsBadLabel block place (Damaged at want number) = (at ≡ place) × ((label_at block ≡ Err (record { want = want; found = number })) ⊎ ((l : Label) × ((label_at block ≡ Ok l) × (form_in l ≡ Some (want, number)))))
 IsBadLabel block place DiskFault = Unit {0}
 IsBadLabel block place Memory = ⊥
@@ -61,8 +60,7 @@ pub record IsPastSpan (i : Image) (map : Mapped) (span at want number : ℕ) : T
   pub last : want ≡ span - 1
   pub past : IsFirstPast span index (i entry.pvbn) number
 
-abbrev pub IsBadMap : Image → Mapped → ℕ → VolumeFault → Type 0
-IsBadMap i map span (Refused refusal) = ⊥
+abbrev pub IsBadMap : Image → Mapped → ℕ → BlockFault → Type 0
 IsBadMap i map span (Damaged at want number) = IsPastSpan i map span at want number
 IsBadMap i map span DiskFault = Unit {0}
 IsBadMap i map span Memory = Unit {0}
@@ -96,8 +94,7 @@ pub record IsActiveFault (i : Image) (found : Found) (at want number : ℕ) : Ty
   pub fault : IsPastSpan i map label.span at want number
 
 -- why volumes aren't loaded, where the disk didn't fail and memory didn't run out
-abbrev pub IsLoadFault : Image → Found → VolumeFault → Type 0
-IsLoadFault i found (Refused refusal) = ⊥
+abbrev pub IsLoadFault : Image → Found → BlockFault → Type 0
 IsLoadFault i found (Damaged at want number) = IsLabelFault i found at want number ⊎ (IsTreeFault i found at want number ⊎ IsActiveFault i found at want number)
 IsLoadFault i found DiskFault = Unit {0}
 IsLoadFault i found Memory = Unit {0}
@@ -148,13 +145,6 @@ pub record IsLoaded (i : Image) (found : Found) (s : ℕ) (state : Option Volume
   pub bits : IfSome state (λ x. (v : ℕ) → is_member (active_of x.map) v ≡ volume_bit (view_at (root_found found) i) s x.span 0 v)
   pub changed : IfSome state (λ x. IfSome container (λ map. x.changed ≡ has_delayed map x.span))
 
--- a node of a label's container is damaged
-abbrev pub IsBadTree : Image → Label → VolumeFault → Type 0
-IsBadTree i l (Refused refusal) = ⊥
-IsBadTree i l (Damaged at want number) = IsNodeFault i l.container l.height (entry_count l.span) at want number
-IsBadTree i l DiskFault = Unit {0}
-IsBadTree i l Memory = Unit {0}
-
 -- the volumes of the first slots are loaded
 pub record LoadedTo (i : Image) (found : Found) (count : ℕ) (states : States) (containers : Slots) : Type 0 where
   pub each : (s : ℕ) → s < count → IsLoaded i found s (state_at states s) (container_at containers s)
@@ -165,10 +155,11 @@ Houses None container = Unit {0}
 Houses (Some x) None = ⊥
 Houses (Some x) (Some map) = length map.entries ≡ entry_count x.span
 
--- the first slots are filled, and the others have no container yet
+-- the first slots are filled, each with the slot of its volume's parent, and the others have no container and no parent yet
 pub record KeptTo (count : ℕ) (states : States) (containers : Slots) : Type 0 where
   pub long : length states ≡ count
   pub few : length containers.containers ≡ slot_count
   pub free : (s : ℕ) → count ≤ s → container_at containers s ≡ None
   pub each : (s : ℕ) → IfSome (state_at states s) (IsState s)
   pub housed : (s : ℕ) → Houses (state_at states s) (container_at containers s)
+  pub parents : (s : ℕ) → parent_at containers s ≡ parent_in (state_at states s)

@@ -72,6 +72,11 @@ abbrev pub place_in : Option VolumeState → ℕ
 place_in None = 0
 place_in (Some x) = x.label
 
+-- the slot of the volume that a volume stands on; a volume without a base has none, and neither has a free slot
+abbrev pub parent_in : Option VolumeState → Option ℕ
+parent_in None = None
+parent_in (Some x) = option_map (λ b. b.parent) x.base
+
 -- ---- a session
 
 -- the volumes by slot

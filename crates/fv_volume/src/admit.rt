@@ -14,13 +14,22 @@ use fv_charge::span_of;
 use fv_model::{Kind, Name, Refusal, in_size};
 use fv_root::capacity;
 
-/// Where a new volume goes.
-#[derive(Clone, Copy)]
-pub(crate) struct Place {
-    /// Its slot.
+/// Where a new volume goes: what `Volumes::admit` hands out and `Volumes::create` takes.
+#[derive(Debug, Drop)]
+pub struct Admitted {
+    /// Its slot, the least that is free.
     pub(crate) slot: u8,
     /// Its VVBNs for data.
     pub(crate) span: u32,
+}
+
+impl Admitted {
+    /// How many VVBNs for data the new volume gets, a multiple of 4096 up to 1,048,576. Costs one step.
+    pub fn span(&self) -> u32
+        ensures { result ≡ self.now.span }
+    {
+        self.span
+    }
 }
 
 /// The span of a new volume that stands on no base; one of up to 500,000 blocks always has one.
@@ -32,7 +41,7 @@ fn new_span(size: u32) -> u32
     span_of(size, 0, 0).unwrap_or(0)
 }
 
-/// The place of a new volume, or why it is refused: in this order a size out of range, a name that is
+/// Where a new volume goes, or why it is refused: in this order a size out of range, a name that is
 /// taken, no free slot, and commits that pass the capacity of an aggregate of so many blocks.
 pub(crate) fn admit(
     states: &[Option<VolumeState>],
@@ -40,12 +49,11 @@ pub(crate) fn admit(
     name: &Name,
     size: u32,
     kind: Kind,
-) -> Result<Place, Refusal>
+) -> Result<Admitted, Refusal>
     requires few { length states.now ≡ slot_count }
     requires spans { HaveSpans states.now }
     requires blocks { IsSize blocks }
-    ensures admitted { IfOk result (λ place. Admits states.now blocks name.now size kind place.slot place.span) }
-    ensures most { IfOk result (λ place. place.span ≤ greatest_span) }
+    ensures admitted { IfOk result (λ a. Admits states.now blocks name.now size kind a.slot a.span) }
     ensures refused { IfErr result (Refuses states.now blocks name.now size kind) }
 {
     if !in_size(u64::from(size)) {
@@ -62,5 +70,5 @@ pub(crate) fn admit(
     if sum_commits(states) + commit > u64::from(capacity(blocks)) {
         return Err(Refusal::AggregateFull);
     }
-    Ok(Place { slot, span })
+    Ok(Admitted { slot, span })
 }

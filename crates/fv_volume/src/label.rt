@@ -4,21 +4,18 @@ ghost use Rattle.std.specs.Prelude.{Ok, ◌≡◌, ◌≤◌, ◌-◌, ◌++◌,
 ghost use Rattle.std.specs.Option.{option_map};
 ghost use Rattle.fv_codec.specs.Blocks.{IsLabel, label_at};
 ghost use Rattle.fv_disk.specs.DiskCalls.{OnlyReads};
+ghost use Rattle.fv_disk.specs.Faults.{HasBlockCause};
 ghost use Rattle.fv_image.specs.Views.{head_of, kind_named};
 ghost use Rattle.fv_model.specs.Spelling.{is_name};
 ghost use Rattle.fv_store.specs.Held.{StandsOn};
-ghost use Rattle.fv_volume.specs.Causes.{HasCause};
 ghost use Rattle.fv_volume.specs.Labels.{kind_number};
 ghost use Rattle.fv_volume.specs.Loading.{IsBadLabel, first_used, form_in, is_used};
 ghost use Rattle.fv_volume.specs.States.{head_in, ledger_of_empty};
 
-use crate::fault::VolumeFault;
 use fv_codec::{Label, Pointer, SnapRecord};
-use fv_disk::{Block, Disk};
+use fv_disk::{Block, BlockFault, Disk, ZERO};
 use fv_model::{Kind, Name};
 use fv_store::Store;
-
-const ZERO: Block = [0; 4096];
 
 /// A pointer that leads nowhere.
 pub(crate) const HOLE: Pointer = Pointer {
@@ -66,18 +63,18 @@ fn form_in(label: &Label) -> Option<(u64, u64)>
 }
 
 /// The label that block `place` spells, where it has no form that can't be loaded.
-fn label_in(block: &Block, place: u32) -> Result<Label, VolumeFault>
+fn label_in(block: &Block, place: u32) -> Result<Label, BlockFault>
     ensures label { IfOk result (λ l. label_at block.now ≡ Ok l) }
     ensures range { IfOk result IsLabel }
     ensures plain { IfOk result (λ l. form_in l ≡ None) }
     ensures fault { IfErr result (IsBadLabel block.now place) }
-    ensures cause { (n : ℕ) → HasCause n n result }
+    ensures cause { (n : ℕ) → HasBlockCause n n result }
 {
     let at = u64::from(place);
     let label = match Label::decode(block) {
         Ok(label) => label,
         Err(shape) => {
-            return Err(VolumeFault::Damaged {
+            return Err(BlockFault::Damaged {
                 at,
                 want: shape.want,
                 found: shape.found,
@@ -85,7 +82,7 @@ fn label_in(block: &Block, place: u32) -> Result<Label, VolumeFault>
         }
     };
     match form_in(&label) {
-        Some((want, found)) => Err(VolumeFault::Damaged { at, want, found }),
+        Some((want, found)) => Err(BlockFault::Damaged { at, want, found }),
         None => Ok(label),
     }
 }
@@ -154,7 +151,7 @@ pub(crate) fn read_label<D: Disk>(
     store: &mut Store,
     disk: &mut D,
     place: u32,
-) -> Result<Label, VolumeFault>
+) -> Result<Label, BlockFault>
     requires { StandsOn (D.shown disk.old) store.old.pairs }
     ensures label { IsTrue (D.shown disk.old).tells → IfOk result (λ l. label_at ((D.shown disk.old).reads place) ≡ Ok l) }
     ensures range { IfOk result IsLabel }
@@ -162,7 +159,7 @@ pub(crate) fn read_label<D: Disk>(
     ensures fault { IsTrue (D.shown disk.old).tells → IfErr result (IsBadLabel ((D.shown disk.old).reads place) place) }
     ensures only_reads { OnlyReads (D.shown disk.old) (D.shown disk.new) }
     ensures stands { StandsOn (D.shown disk.new) store.new.pairs }
-    ensures cause { HasCause (D.shown disk.old).faults (D.shown disk.new).faults result }
+    ensures cause { HasBlockCause (D.shown disk.old).faults (D.shown disk.new).faults result }
 {
     let mut block = ZERO;
     store.get(disk, place, &mut block)?;

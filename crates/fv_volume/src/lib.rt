@@ -3,6 +3,7 @@
 #![tactic(auto)]
 
 mod admit;
+mod blocks;
 mod fault;
 mod kept;
 mod label;
@@ -11,10 +12,10 @@ mod pool;
 mod search;
 mod sizes;
 mod state;
-#[cfg(test)]
-mod tests;
 mod volumes;
 
+pub use admit::Admitted;
+pub use blocks::{Home, place_block, read_pointed};
 pub use fault::VolumeFault;
 pub use kept::Kept;
 pub use pool::Pool;

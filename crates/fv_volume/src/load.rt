@@ -2,31 +2,28 @@
 
 ghost use Rattle.std.specs.Prelude.{◌≡◌, ◌≢◌, ◌<◌, ◌≤◌, ◌+◌, ◌*◌, ℕ, length, None, Some, IfOk, IfErr, IfSome, OnOk, OnErr, IsTrue, get_or, ◌++◌, ◌∷◌, []};
 ghost use Rattle.fv_codec.specs.Blocks.{IsLabel, label_at};
-ghost use Rattle.fv_container.specs.Chains.{container_at, no_containers, slot_count, with_container, with_parent};
+ghost use Rattle.fv_container.specs.Chains.{container_at, no_containers, parent_at, slot_count, with_container, with_parent};
 ghost use Rattle.fv_container.specs.Mapped.{IsMapped};
 ghost use Rattle.fv_container.specs.Spelled.{Spelled, IsFault};
 ghost use Rattle.fv_disk.specs.DiskCalls.{OnlyReads};
+ghost use Rattle.fv_disk.specs.Faults.{HasBlockCause};
 ghost use Rattle.fv_image.specs.Views.{entry_count, head_of};
 ghost use Rattle.fv_model.specs.Numbers.{greatest_span};
 ghost use Rattle.fv_model.specs.Space.{map_blocks};
 ghost use Rattle.fv_store.specs.Held.{StandsOn};
-ghost use Rattle.fv_volume.specs.Causes.{HasCause, of_container};
-ghost use Rattle.fv_volume.specs.Loading.{HasRead, Houses, IsBadLabel, IsBadMap, IsBadTree, IsLoadFault, IsLoaded, KeptTo, LoadedTo, form_in, has_delayed, is_delayed_entry};
-ghost use Rattle.fv_volume.specs.States.{IsState, head_in, state_at};
+ghost use Rattle.fv_volume.specs.Loading.{HasRead, Houses, IsBadLabel, IsBadMap, IsLoadFault, IsLoaded, KeptTo, LoadedTo, form_in, has_delayed, is_delayed_entry};
+ghost use Rattle.fv_volume.specs.States.{IsState, head_in, parent_in, state_at};
 
-use crate::fault::VolumeFault;
 use crate::label::read_label;
 use crate::sizes::entry_count;
 use crate::state::VolumeState;
 use fv_codec::Label;
 use fv_container::{Container, Containers};
-use fv_disk::{Block, Disk};
+use fv_disk::{Block, BlockFault, Disk, ZERO};
 use fv_root::Found;
 use fv_store::Store;
 use fv_volmap::VolMap;
 use std::alloc::{AllocError, Global};
-
-const ZERO: Block = [0; 4096];
 
 /// Takes block `index` of the active map, where the container has it.
 fn read_map_block<D: Disk>(
@@ -36,7 +33,7 @@ fn read_map_block<D: Disk>(
     map: &mut VolMap,
     span: u32,
     index: u32,
-) -> Result<(), VolumeFault>
+) -> Result<(), BlockFault>
     requires stands { StandsOn (D.shown disk.old) store.old.pairs }
     requires span { span ≤ greatest_span }
     requires least { 1 ≤ span }
@@ -49,7 +46,7 @@ fn read_map_block<D: Disk>(
     ensures fault { IsTrue (D.shown disk.old).tells → IfErr result (IsBadMap (D.shown disk.old).reads container.now span) }
     ensures only_reads { OnlyReads (D.shown disk.old) (D.shown disk.new) }
     ensures stands { StandsOn (D.shown disk.new) store.new.pairs }
-    ensures cause { HasCause (D.shown disk.old).faults (D.shown disk.new).faults result }
+    ensures cause { HasBlockCause (D.shown disk.old).faults (D.shown disk.new).faults result }
 {
     let Some(entry) = container.entry_at(span + index) else {
         return Ok(());
@@ -58,7 +55,7 @@ fn read_map_block<D: Disk>(
     store.get(disk, entry.pvbn, &mut block)?;
     match map.load_slot(0, index, &block)? {
         None => Ok(()),
-        Some(number) => Err(VolumeFault::Damaged {
+        Some(number) => Err(BlockFault::Damaged {
             at: u64::from(entry.pvbn),
             want: u64::from(span) - 1,
             found: u64::from(number),
@@ -73,7 +70,7 @@ fn read_map<D: Disk>(
     disk: &mut D,
     container: &Container,
     span: u32,
-) -> Result<VolMap, VolumeFault>
+) -> Result<VolMap, BlockFault>
     requires stands { StandsOn (D.shown disk.old) store.old.pairs }
     requires span { span ≤ greatest_span }
     requires least { 1 ≤ span }
@@ -83,7 +80,7 @@ fn read_map<D: Disk>(
     ensures fault { IsTrue (D.shown disk.old).tells → IfErr result (IsBadMap (D.shown disk.old).reads container.now span) }
     ensures only_reads { OnlyReads (D.shown disk.old) (D.shown disk.new) }
     ensures stands { StandsOn (D.shown disk.new) store.new.pairs }
-    ensures cause { HasCause (D.shown disk.old).faults (D.shown disk.new).faults result }
+    ensures cause { HasBlockCause (D.shown disk.old).faults (D.shown disk.new).faults result }
 {
     let mut map = VolMap::new(alloc, span)?;
     read_map_blocks(store, disk, container, &mut map, span)?;
@@ -97,7 +94,7 @@ fn read_map_blocks<D: Disk>(
     container: &Container,
     map: &mut VolMap,
     span: u32,
-) -> Result<(), VolumeFault>
+) -> Result<(), BlockFault>
     requires stands { StandsOn (D.shown disk.old) store.old.pairs }
     requires span { span ≤ greatest_span }
     requires least { 1 ≤ span }
@@ -109,7 +106,7 @@ fn read_map_blocks<D: Disk>(
     ensures fault { IsTrue (D.shown disk.old).tells → IfErr result (IsBadMap (D.shown disk.old).reads container.now span) }
     ensures only_reads { OnlyReads (D.shown disk.old) (D.shown disk.new) }
     ensures stands { StandsOn (D.shown disk.new) store.new.pairs }
-    ensures cause { HasCause (D.shown disk.old).faults (D.shown disk.new).faults result }
+    ensures cause { HasBlockCause (D.shown disk.old).faults (D.shown disk.new).faults result }
 {
     for index in 0..span.div_ceil(32_768) {
         read_map_block(store, disk, container, map, span, index)?;
@@ -147,28 +144,29 @@ fn read_container<D: Disk>(
     store: &mut Store,
     disk: &mut D,
     label: &Label,
-) -> Result<Container, VolumeFault>
+) -> Result<Container, BlockFault>
     requires stands { StandsOn (D.shown disk.old) store.old.pairs }
     requires range { IsLabel label.now }
     ensures spelled { IsTrue (D.shown disk.old).tells → IfOk result (Spelled (D.shown disk.old).reads label.entry.now.container label.entry.now.height) }
     ensures size { IfOk result (λ container. length container.entries ≡ entry_count label.entry.now.span) }
     ensures valid { IfOk result IsMapped }
-    ensures fault { IsTrue (D.shown disk.old).tells → IfErr result (IsBadTree (D.shown disk.old).reads label.entry.now) }
+    ensures fault { IsTrue (D.shown disk.old).tells → IfErr result (IsFault (D.shown disk.old).reads label.entry.now.container label.entry.now.height (entry_count label.entry.now.span)) }
     ensures only_reads { OnlyReads (D.shown disk.old) (D.shown disk.new) }
     ensures stands { StandsOn (D.shown disk.new) store.new.pairs }
-    ensures cause { HasCause (D.shown disk.old).faults (D.shown disk.new).faults result }
+    ensures cause { HasBlockCause (D.shown disk.old).faults (D.shown disk.new).faults result }
 {
-    Ok(Container::at(
+    Container::at(
         alloc,
         store,
         disk,
         entry_count(label.span),
         label.height,
         label.container,
-    )?)
+    )
 }
 
-/// Reads the volume of a slot below 64, if it has one, and puts its container into that slot.
+/// Reads the volume of a slot below 64, if it has one, and puts its container into that slot, with the slot
+/// of its parent.
 #[tactic(auto, using(fv_disk::proofs::Resting::reads_then))]
 fn load_volume<D: Disk>(
     alloc: Global,
@@ -177,12 +175,15 @@ fn load_volume<D: Disk>(
     found: &Found,
     containers: &mut Containers,
     slot: u8,
-) -> Result<Option<VolumeState>, VolumeFault>
+) -> Result<Option<VolumeState>, BlockFault>
     requires stands { StandsOn (D.shown disk.old) store.old.pairs }
     requires slot { slot < slot_count }
     requires few { length containers.old.containers ≡ slot_count }
+    requires parent { parent_at containers.old slot ≡ None }
     ensures few { length containers.new.containers ≡ slot_count }
     ensures others { (s : ℕ) → s ≢ slot → container_at containers.new s ≡ container_at containers.old s }
+    ensures parents { (s : ℕ) → s ≢ slot → parent_at containers.new s ≡ parent_at containers.old s }
+    ensures parent { IfOk result (λ state. parent_at containers.new slot ≡ parent_in state) }
     ensures loaded { IsTrue (D.shown disk.old).tells → container_at containers.old slot ≡ None
         → IfOk result (λ state. IsLoaded (D.shown disk.old).reads found.now slot state (container_at containers.new slot)) }
     ensures state { IfOk result (λ state. IfSome state (IsState slot)) }
@@ -190,7 +191,7 @@ fn load_volume<D: Disk>(
     ensures fault { IsTrue (D.shown disk.old).tells → IfErr result (IsLoadFault (D.shown disk.old).reads found.now) }
     ensures only_reads { OnlyReads (D.shown disk.old) (D.shown disk.new) }
     ensures stands { StandsOn (D.shown disk.new) store.new.pairs }
-    ensures cause { HasCause (D.shown disk.old).faults (D.shown disk.new).faults result }
+    ensures cause { HasBlockCause (D.shown disk.old).faults (D.shown disk.new).faults result }
 {
     let place = found.root.labels[slot as usize];
     if place == 0 {
@@ -205,7 +206,6 @@ fn load_volume<D: Disk>(
 }
 
 /// Reads the volume of the next slot.
-#[tactic(auto, using(crate::proofs::Stepping::loaded_more, crate::proofs::Stepping::kept_more))]
 fn load_next<D: Disk>(
     alloc: Global,
     store: &mut Store,
@@ -214,7 +214,7 @@ fn load_next<D: Disk>(
     containers: &mut Containers,
     states: &mut Vec<Option<VolumeState>>,
     slot: u8,
-) -> Result<(), VolumeFault>
+) -> Result<(), BlockFault>
     requires stands { StandsOn (D.shown disk.old) store.old.pairs }
     requires slot { slot < slot_count }
     requires kept { KeptTo slot states.old.items containers.old }
@@ -224,7 +224,7 @@ fn load_next<D: Disk>(
     ensures fault { IsTrue (D.shown disk.old).tells → IfErr result (IsLoadFault (D.shown disk.old).reads found.now) }
     ensures only_reads { OnlyReads (D.shown disk.old) (D.shown disk.new) }
     ensures stands { StandsOn (D.shown disk.new) store.new.pairs }
-    ensures cause { HasCause (D.shown disk.old).faults (D.shown disk.new).faults result }
+    ensures cause { HasBlockCause (D.shown disk.old).faults (D.shown disk.new).faults result }
 {
     let state = load_volume(alloc, store, disk, found, containers, slot)?;
     add(states, state)?;
@@ -250,7 +250,7 @@ fn load_volumes<D: Disk>(
     found: &Found,
     containers: &mut Containers,
     states: &mut Vec<Option<VolumeState>>,
-) -> Result<(), VolumeFault>
+) -> Result<(), BlockFault>
     requires stands { StandsOn (D.shown disk.old) store.old.pairs }
     requires kept { KeptTo 0 states.old.items containers.old }
     ensures kept { OnOk result (KeptTo slot_count states.new.items containers.new) }
@@ -258,7 +258,7 @@ fn load_volumes<D: Disk>(
     ensures fault { IsTrue (D.shown disk.old).tells → IfErr result (IsLoadFault (D.shown disk.old).reads found.now) }
     ensures only_reads { OnlyReads (D.shown disk.old) (D.shown disk.new) }
     ensures stands { StandsOn (D.shown disk.new) store.new.pairs }
-    ensures cause { HasCause (D.shown disk.old).faults (D.shown disk.new).faults result }
+    ensures cause { HasBlockCause (D.shown disk.old).faults (D.shown disk.new).faults result }
 {
     for slot in 0..64 {
         load_next(alloc, store, disk, found, containers, states, slot)?;
@@ -273,7 +273,7 @@ pub(crate) fn load_states<D: Disk>(
     disk: &mut D,
     found: &Found,
     containers: &mut Containers,
-) -> Result<Vec<Option<VolumeState>>, VolumeFault>
+) -> Result<Vec<Option<VolumeState>>, BlockFault>
     requires stands { StandsOn (D.shown disk.old) store.old.pairs }
     requires none { containers.old ≡ no_containers }
     ensures kept { IfOk result (λ states. KeptTo slot_count states.items containers.new) }
@@ -281,7 +281,7 @@ pub(crate) fn load_states<D: Disk>(
     ensures fault { IsTrue (D.shown disk.old).tells → IfErr result (IsLoadFault (D.shown disk.old).reads found.now) }
     ensures only_reads { OnlyReads (D.shown disk.old) (D.shown disk.new) }
     ensures stands { StandsOn (D.shown disk.new) store.new.pairs }
-    ensures cause { HasCause (D.shown disk.old).faults (D.shown disk.new).faults result }
+    ensures cause { HasBlockCause (D.shown disk.old).faults (D.shown disk.new).faults result }
 {
     let mut states = Vec::new(alloc);
     load_volumes(alloc, store, disk, found, containers, &mut states)?;

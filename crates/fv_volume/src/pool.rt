@@ -3,26 +3,24 @@
 ghost use Rattle.std.specs.Prelude.{◌≡◌, IsTrue, IfOk, IfErr, OnOk, OnErr, ℕ, IfSome};
 ghost use Rattle.std.specs.FinMap as fin;
 ghost use Rattle.fv_disk.specs.DiskCalls.{OnlyReads};
-ghost use Rattle.fv_disk.specs.Shown.{HasCause as HasCallCause};
+ghost use Rattle.fv_disk.specs.Shown.{HasCause};
 ghost use Rattle.fv_store.specs.Held.{StandsOn};
-ghost use Rattle.fv_aggmap.specs.Loading.{IsLoaded};
-ghost use Rattle.fv_aggmap.specs.Space.{blocks_of};
-ghost use Rattle.fv_container.specs.Chains.{no_containers};
 ghost use Rattle.fv_root.specs.Finding.{IsInRange};
 ghost use Rattle.fv_disk.specs.Sparing.{Spares};
-ghost use Rattle.fv_volume.specs.Causes.{HasCause, IsMapFault, IsNoRefusal};
+ghost use Rattle.fv_volume.specs.Causes.{WithBlockFault};
 ghost use Rattle.fv_volume.specs.Keeping.{IsUnkept, seen};
+ghost use Rattle.fv_volume.specs.Opening.{OpensPool};
 
 use crate::fault::VolumeFault;
 use crate::kept::Kept;
 use fv_aggmap::AggMap;
 use fv_container::Containers;
-use fv_disk::{Block, Disk, Failed};
+use fv_disk::{Block, BlockFault, Disk, Failed};
 use fv_root::Found;
 use fv_store::Store;
 use std::alloc::{AllocError, Global};
 
-/// How many blocks the cache holds: 4 MiB of them.
+/// How many blocks the cache holds: 4 MiB of them, which bounds the memory for reads whatever the aggregate's size.
 const CACHED: usize = 1024;
 
 /// What the volumes of an aggregate share.
@@ -46,19 +44,13 @@ impl Pool {
     /// # Errors
     /// `Damaged` comes exactly where a bit of the map is set past the last block: the block of the map
     /// area, the last block's number and the bit's. `DiskFault` comes only where a read failed in this
-    /// call, and `Memory` where memory ran out; nothing is `Refused`. It reads one map area and writes nothing.
-    pub fn load<D: Disk>(alloc: Global, disk: &mut D, found: Found) -> Result<Pool, VolumeFault>
+    /// call, and `Memory` where memory ran out.
+    ///
+    /// It reads one map area and writes nothing. It takes memory for a bit twice for each block of the
+    /// aggregate, and for a cache of 1024 blocks as it fills.
+    pub fn open<D: Disk>(alloc: Global, disk: &mut D, found: Found) -> Result<Pool, BlockFault>
         requires range { IsInRange found }
-        ensures map { IsTrue (D.shown disk.old).tells → IfOk result (λ pool. IsLoaded (D.shown disk.old).reads found pool.map) }
-        ensures size { IfOk result (λ pool. blocks_of pool.map ≡ found.blocks) }
-        ensures empty { IfOk result (λ pool. pool.kept ≡ fin.empty) }
-        ensures holeless { IfOk result (λ pool. pool.containers ≡ no_containers) }
-        ensures found { IfOk result (λ pool. pool.found ≡ found) }
-        ensures stands { IfOk result (λ pool. StandsOn (D.shown disk.new) pool.store.pairs) }
-        ensures fault { IsTrue (D.shown disk.old).tells → IfErr result (IsMapFault (D.shown disk.old).reads found) }
-        ensures unrefused { IfErr result IsNoRefusal }
-        ensures only_reads { OnlyReads (D.shown disk.old) (D.shown disk.new) }
-        ensures cause { HasCause (D.shown disk.old).faults (D.shown disk.new).faults result }
+        ensures { OpensPool (D.shown disk.old) found (D.shown disk.new) result }
     {
         let map = AggMap::load(alloc, disk, &found)?;
         let store = Store::new(alloc, CACHED)?;
@@ -70,6 +62,14 @@ impl Pool {
             kept: Kept::new(alloc),
             found,
         })
+    }
+
+    /// As `open`, with its fault as one of volumes; nothing is `Refused`.
+    pub fn load<D: Disk>(alloc: Global, disk: &mut D, found: Found) -> Result<Pool, VolumeFault>
+        requires range { IsInRange found }
+        ensures { WithBlockFault (OpensPool (D.shown disk.old) found (D.shown disk.new)) result }
+    {
+        Ok(Pool::open(alloc, disk, found)?)
     }
 
     /// Reads the block of a PVBN: the kept one without a disk call, and else what the store reads there.
@@ -84,7 +84,7 @@ impl Pool {
         ensures found { self.new.found ≡ self.old.found }
         ensures stands { StandsOn (D.shown disk.new) self.new.store.pairs }
         ensures only_reads { OnlyReads (D.shown disk.old) (D.shown disk.new) }
-        ensures cause { HasCallCause (D.shown disk.old).faults (D.shown disk.new).faults result }
+        ensures cause { HasCause (D.shown disk.old).faults (D.shown disk.new).faults result }
     {
         if let Some(block) = self.kept.get(pvbn) {
             *into = *block;

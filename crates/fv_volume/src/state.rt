@@ -135,6 +135,7 @@ impl VolumeState {
         ensures map { IfOk result (λ state. state.map ≡ empty_volume span) }
         ensures label { IfOk result (λ state. state.label ≡ 0) }
         ensures changed { IfOk result (λ state. state.changed ≡ true) }
+        ensures base { IfOk result (λ state. state.base ≡ None) }
         ensures named { is_name name.now ≡ true }
     {
         // What the bytes are known to be is what a label needs of them.
@@ -179,6 +180,7 @@ impl VolumeState {
         ensures span { result.span ≡ label.entry.now.span }
         ensures map { result.map ≡ map }
         ensures changed { result.changed ≡ changed }
+        ensures base { result.base ≡ None }
         ensures named { is_name result.name ≡ true }
         ensures ledger { result.ledger ≡ ledger_of_empty label.entry.now.size (kind_named label.entry.now.kind) label.entry.now.span }
     {
@@ -249,7 +251,8 @@ impl VolumeState {
         }
     }
 
-    /// Says that the root on the disk names a label of this volume as it is now, at this PVBN.
+    /// Says that the root on the disk names a label of this volume as it is now, at this PVBN. Costs one step, and takes
+    /// no memory.
     pub fn settled(&mut self, label: u32)
         ensures head { head_in self.new ≡ head_in self.old }
         ensures map { self.new.map ≡ self.old.map }

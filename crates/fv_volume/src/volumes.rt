@@ -10,22 +10,17 @@ ghost use Rattle.fv_model.specs.declared.commands.Command.TheVariants.{VolCreate
 ghost use Rattle.fv_model.specs.Numbers.{greatest_span};
 ghost use Rattle.fv_model.specs.Refusals.{refusal, next};
 ghost use Rattle.fv_model.specs.Space.{commits, overhead, span_of};
-ghost use Rattle.fv_root.specs.Finding.{IsInRange, root_found};
-ghost use Rattle.std.specs.FinMap as fin;
-ghost use Rattle.fv_image.specs.Held.{layout_at, view_at};
-ghost use Rattle.fv_image.specs.MachineOf.{Tells};
-ghost use Rattle.fv_model.specs.Machines.{Machine, capacity};
+ghost use Rattle.fv_model.specs.Machines.{capacity};
 ghost use Rattle.fv_root.specs.Formatted.{IsSize};
 ghost use Rattle.fv_volume.specs.declared.pool.Pool.{Pool};
-ghost use Rattle.fv_disk.specs.DiskCalls.{OnlyReads};
 ghost use Rattle.fv_store.specs.Held.{StandsOn};
-ghost use Rattle.fv_volume.specs.Causes.{HasCause, IsNoRefusal};
-ghost use Rattle.fv_volume.specs.Loading.{IsLoadFault, KeptTo, LoadedTo};
-ghost use Rattle.fv_volume.specs.Creating.{IsMade, IsNew, RefusedBy, with_holes};
+ghost use Rattle.fv_volume.specs.Causes.{WithBlockFault};
+ghost use Rattle.fv_volume.specs.Creating.{Admits, IsMade, IsNew, with_holes};
+ghost use Rattle.fv_volume.specs.Opening.{OpensVolumes};
 ghost use Rattle.fv_volume.specs.States.{AreStates, IsState, view_over, machine_in, state_at, with_state};
 ghost use Rattle.fv_volume.specs.Slots.{IsFirstFree, IsFull, HasName, NoneHasName};
 
-use crate::admit::admit;
+use crate::admit::{Admitted, admit};
 use crate::fault::VolumeFault;
 use crate::load::load_states;
 use crate::pool::Pool;
@@ -33,9 +28,9 @@ use crate::search::{find_name, sum_commits};
 use crate::sizes::entry_count;
 use crate::state::VolumeState;
 use fv_container::{Container, Containers};
-use fv_disk::Disk;
+use fv_disk::{BlockFault, Disk};
 use fv_model::{Kind, Name, Refusal};
-use std::alloc::Global;
+use std::alloc::{AllocError, Global};
 use std::marker::Model;
 
 /// Up to 64 volumes by slot. Contracts see the row of 64 slots, each free or with its volume.
@@ -70,40 +65,35 @@ impl Volumes {
     /// shape, or with a base, an unknown place, a file or a snapshot, none of which can be loaded yet; a node
     /// of a container that isn't the one of its position; or a block of an active map with a bit set past the
     /// span. `DiskFault` comes only where a read failed in this call, and `Memory` where memory ran out. The
-    /// pool's containers stay then. Nothing is `Refused`.
+    /// pool's containers stay then.
     ///
     /// Each label, each node of the containers and each block of the active maps is read once, and each entry
-    /// of the containers is looked at once more.
-    #[tactic(auto, using(crate::proofs::Viewed::viewed))]
+    /// of the containers is looked at once more. Memory is taken for each entry and each node of the
+    /// containers, and for the bits of the maps.
+    pub fn open<D: Disk>(
+        alloc: Global,
+        pool: &mut Pool,
+        disk: &mut D,
+    ) -> Result<Volumes, BlockFault>
+        requires { StandsOn (D.shown disk.old) pool.old.store.pairs }
+        ensures { OpensVolumes (D.shown disk.old) pool.old (D.shown disk.new) pool.new result }
+    {
+        let mut containers = Containers::new(alloc)?;
+        let states = load_states(alloc, &mut pool.store, disk, &pool.found, &mut containers)?;
+        pool.containers = containers;
+        Ok(Volumes { alloc, states })
+    }
+
+    /// As `open`, with its fault as one of volumes; nothing is `Refused`.
     pub fn load<D: Disk>(
         alloc: Global,
         pool: &mut Pool,
         disk: &mut D,
     ) -> Result<Volumes, VolumeFault>
         requires { StandsOn (D.shown disk.old) pool.old.store.pairs }
-        ensures loaded { IsTrue (D.shown disk.old).tells → IfOk result (λ volumes. LoadedTo (D.shown disk.old).reads pool.old.found slot_count volumes pool.new.containers) }
-        ensures states { IfOk result (λ volumes. KeptTo slot_count volumes pool.new.containers) }
-        ensures view { IsTrue (D.shown disk.old).tells → pool.old.kept ≡ fin.empty
-            → IfOk result (λ volumes. view_over pool.new volumes (D.shown disk.old).reads ≡ view_at (root_found pool.old.found) (D.shown disk.old).reads) }
-        ensures machine { IsTrue (D.shown disk.old).tells → pool.old.kept ≡ fin.empty
-            → (m : Machine) → Tells (layout_at (root_found pool.old.found) (D.shown disk.old).reads) m
-            → IfOk result (λ volumes. machine_in pool.new volumes (D.shown disk.old).reads ≡ m) }
-        ensures whole { IsTrue (D.shown disk.old).tells → (m : Machine) → Tells (layout_at (root_found pool.old.found) (D.shown disk.old).reads) m
-            → IfOk result AreStates }
-        ensures map { pool.new.map ≡ pool.old.map }
-        ensures kept { pool.new.kept ≡ pool.old.kept }
-        ensures found { pool.new.found ≡ pool.old.found }
-        ensures failed { OnErr result (pool.new.containers ≡ pool.old.containers) }
-        ensures fault { IsTrue (D.shown disk.old).tells → IfErr result (IsLoadFault (D.shown disk.old).reads pool.old.found) }
-        ensures unrefused { IfErr result IsNoRefusal }
-        ensures only_reads { OnlyReads (D.shown disk.old) (D.shown disk.new) }
-        ensures stands { StandsOn (D.shown disk.new) pool.new.store.pairs }
-        ensures cause { HasCause (D.shown disk.old).faults (D.shown disk.new).faults result }
+        ensures { WithBlockFault (OpensVolumes (D.shown disk.old) pool.old (D.shown disk.new) pool.new) result }
     {
-        let mut containers = Containers::new(alloc)?;
-        let states = load_states(alloc, &mut pool.store, disk, &pool.found, &mut containers)?;
-        pool.containers = containers;
-        Ok(Volumes { alloc, states })
+        Ok(Volumes::open(alloc, pool, disk)?)
     }
 
     /// The volume of a slot below 64, `None` exactly for a free one. Costs one step.
@@ -141,24 +131,25 @@ impl Volumes {
         sum_commits(&self.states)
     }
 
-    /// Makes an empty volume and answers its slot, the least that is free. It has a container of holes: its
-    /// label and the blocks of its active map are placed by the next consistency point.
+    /// Makes an empty volume where it was admitted, and answers its slot, the least that is free. It has a
+    /// container of holes: its label and the blocks of its active map are placed by the next consistency point.
     ///
-    /// # Errors
-    /// `Refused` comes exactly where the machine refuses `vol create`, with the same refusal: a size that
-    /// isn't 1 to 500,000, a name that is taken, 64 volumes, and commits that would pass the capacity, in
-    /// this order. `Memory` comes where memory ran out. Nothing changes then. No other fault comes.
+    /// `admitted` is what `admit` handed out for this name, size and kind. A consistency point may lie between
+    /// the two calls, and nothing else that changes the volumes: `Admits` speaks of names, slots in use and what
+    /// is committed, which a point keeps. So nothing is refused here. The one error is want of memory; nothing
+    /// changes then.
     ///
-    /// Costs a step for each volume and for each VVBN of the new one.
+    /// Costs a step for each VVBN of the new volume, and takes memory for its container and its maps.
     pub fn create(
         &mut self,
         pool: &mut Pool,
         name: &Name,
         size: u32,
         kind: Kind,
-    ) -> Result<u8, VolumeFault>
+        admitted: Admitted,
+    ) -> Result<u8, AllocError>
         requires each { (s : ℕ) → IfSome (state_at self.old s) (IsState s) }
-        requires range { IsInRange pool.old.found }
+        requires admitted { Admits self.old pool.old.found.blocks name.now size kind admitted.slot admitted.span }
         ensures slot { IfOk result (IsFirstFree self.old) }
         ensures made { IfOk result (λ slot. IsMade self.old slot name.now size kind self.new) }
         ensures new { IfOk result (λ slot. IsNew (state_at self.new slot) (container_at pool.new.containers slot) name.now size kind) }
@@ -168,34 +159,42 @@ impl Volumes {
         ensures states { AreStates self.old → OnOk result (AreStates self.new) }
         ensures accepted { AreStates self.old → OnOk result ((i : Image) → refusal (machine_in pool.old self.old i) (VolCreate name.now size kind) ≡ None) }
         ensures machine { AreStates self.old → OnOk result ((i : Image) → machine_in pool.new self.new i ≡ next (machine_in pool.old self.old i) (VolCreate name.now size kind)) }
-        ensures refused { IfErr result (RefusedBy (λ r. AreStates self.old → (i : Image) → refusal (machine_in pool.old self.old i) (VolCreate name.now size kind) ≡ Some r)) }
         ensures same { OnErr result (self.new ≡ self.old) }
         ensures same_pool { OnErr result (pool.new ≡ pool.old) }
     {
-        let place = admit(&self.states, pool.found.blocks, name, size, kind)?;
-        let container = Container::new(self.alloc, entry_count(place.span))?;
-        let state = VolumeState::empty(self.alloc, place.slot, name, size, kind, place.span)?;
-        self.states[place.slot as usize] = Some(state);
-        pool.containers.put(place.slot, container, None);
-        Ok(place.slot)
+        let Admitted { slot, span } = admitted;
+        let container = Container::new(self.alloc, entry_count(span))?;
+        let state = VolumeState::empty(self.alloc, slot, name, size, kind, span)?;
+        self.states[slot as usize] = Some(state);
+        pool.containers.put(slot, container, None);
+        Ok(slot)
     }
 
-    /// What `create` would decide in an aggregate of so many blocks, without making the volume: its span, or why it is refused.
+    /// Whether a new volume is admitted in an aggregate of so many blocks: where it goes, for `create`, or why it
+    /// is refused.
     ///
-    /// Costs a step for each volume.
-    pub fn admit(&self, blocks: u32, name: &Name, size: u32, kind: Kind) -> Result<u32, Refusal>
+    /// # Errors
+    /// The refusal comes exactly where the machine refuses `vol create`, and is its refusal: a size that isn't 1 to
+    /// 500,000, a name that is taken, 64 volumes, and commits that would pass the capacity, in this order.
+    ///
+    /// Costs a comparison and a step for each volume. It takes no memory and changes nothing.
+    pub fn admit(
+        &self,
+        blocks: u32,
+        name: &Name,
+        size: u32,
+        kind: Kind,
+    ) -> Result<Admitted, Refusal>
         requires each { (s : ℕ) → IfSome (state_at self.now s) (IsState s) }
         requires blocks { IsSize blocks }
-        ensures span { IfOk result (λ span. span ≡ span_of size 0 0) }
-        ensures most { IfOk result (λ span. span ≤ greatest_span) }
-        ensures accepted { AreStates self.now → IfOk result (λ span. (pool : Pool) (i : Image) → pool.found.blocks ≡ blocks
+        ensures admitted { IfOk result (λ a. Admits self.now blocks name.now size kind a.slot a.span) }
+        ensures accepted { AreStates self.now → IfOk result (λ a. (pool : Pool) (i : Image) → pool.found.blocks ≡ blocks
             → refusal (machine_in pool self.now i) (VolCreate name.now size kind) ≡ None) }
-        ensures room { AreStates self.now → IfOk result (λ span. (pool : Pool) (i : Image) → pool.found.blocks ≡ blocks
-            → commits (machine_in pool self.now i) + 2 * overhead span ≤ capacity blocks) }
+        ensures room { AreStates self.now → IfOk result (λ a. (pool : Pool) (i : Image) → pool.found.blocks ≡ blocks
+            → commits (machine_in pool self.now i) + 2 * overhead a.span ≤ capacity blocks) }
         ensures refused { AreStates self.now → IfErr result (λ r. (pool : Pool) (i : Image) → pool.found.blocks ≡ blocks
             → refusal (machine_in pool self.now i) (VolCreate name.now size kind) ≡ Some r) }
     {
-        let place = admit(&self.states, blocks, name, size, kind)?;
-        Ok(place.span)
+        admit(&self.states, blocks, name, size, kind)
     }
 }

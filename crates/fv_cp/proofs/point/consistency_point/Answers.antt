@@ -3,7 +3,7 @@ use Rattle.std.specs.Prelude.{IsTrue}
 use Rattle.fv_disk.specs.Shown.{Shown}
 use Rattle.fv_disk.specs.Crash.{Leaves}
 use Rattle.fv_codec.specs.declared.root.Root.{Root}
-use Rattle.fv_container.specs.Chains.{Slots}
+use Rattle.fv_container.specs.Chains.{Slots, parent_at}
 use Rattle.fv_root.specs.declared.find.Found.{Found}
 use Rattle.fv_root.specs.Commits.{IsCommitted, IsFoundOn, OldOrNew, next_found}
 use Rattle.fv_volume.specs.declared.pool.Pool.{Pool}
@@ -76,6 +76,14 @@ returns-clause-housed g c =
     let come = c.in_ok-write_volumes.ensures.come in
     housed_after c.args.volumes.now c.settle.new.volumes c.write_volumes.new.labels c.settle.ensures.settled c.switch.new.pool.containers c.settle.ensures.long
     (subst (λ (x : Slots). AreHoused x c.args.volumes.now) (sym c.in_ok-switch.ensures.containers) come.housed)
+
+pub returns-clause-parents : goal.returns-clause-parents
+returns-clause-parents g c = λ s.
+    let come = c.in_ok-write_volumes.ensures.come in
+    ap (λ (x : Slots). parent_at x s) c.in_ok-switch.ensures.containers ∙ come.housed.parents s ∙ sym (c.requires.housed.parents s)
+
+pub returns-clause-blocks : goal.returns-clause-blocks
+returns-clause-blocks g c = ap (λ (x : Found). x.blocks) c.in_ok-switch.ensures.found ∙ ap (λ (x : Found). x.blocks) c.in_ok-write_volumes.ensures.come.found
 
 pub returns-clause-loaded : goal.returns-clause-loaded
 returns-clause-loaded g c = λ tells.

@@ -17,7 +17,7 @@ returns-in_err-step g c =
 pub returns-in-Ended : goal.returns-in-Ended
 returns-in-Ended g c =
     let steps : Steps c.loop-count.machine c.loop-count.script (g.H.Disk.shown c.loop-count.host) c.step.new.machine c.step.new.script (g.H.Disk.shown c.step.new.host) (Ok Ended) = rw (← c.in-Ended.is) c.in_ok-step.ensures in
-    ends _ _ _ _ _ _ _ c.loop-count.invariant _ _ _ steps _ _ c.tell_count.ensures
+    ends _ _ _ _ _ _ _ c.loop-count.invariant _ _ _ steps _ _ c.tell_count.ensures.tells c.tell_count.ensures.sink
 
 pub returns : goal.returns
 returns g c = too_many _ _ _ _ _ _ _ c.loop-count.invariant

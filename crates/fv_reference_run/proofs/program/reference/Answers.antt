@@ -1,6 +1,9 @@
-use Rattle.fv_reference_run.proofs.Told.{tells}
 use Rattle.std.specs.Prelude.{Ok, Err}
+use Rattle.fv_reference_run.proofs.Told.{tells}
 use Rattle.fv_reference_run.proofs.program.reference.Goals as goal
+
+pub returns-in-Ok-clause-counts : goal.returns-in-Ok-clause-counts
+returns-in-Ok-clause-counts g c = (tells _ _ _ (Ok tt) c.in-Ok.ensures.runs).counts
 
 pub returns-in-Ok-clause-partly : goal.returns-in-Ok-clause-partly
 returns-in-Ok-clause-partly g c = (tells _ _ _ (Ok tt) c.in-Ok.ensures.runs).partly
@@ -11,20 +14,14 @@ returns-in-Err-clause-statuses g c = rw c.status.ensures (tells _ _ _ (Err c.in-
 pub returns-in-Err-clause-usage : goal.returns-in-Err-clause-usage
 returns-in-Err-clause-usage g c = rw c.status.ensures (tells _ _ _ (Err c.in-Err.fault) c.in-Err.ensures.runs).usage
 
-pub returns-in-Err-clause-source_fault : goal.returns-in-Err-clause-source_fault
-returns-in-Err-clause-source_fault g c = rw c.status.ensures (tells _ _ _ (Err c.in-Err.fault) c.in-Err.ensures.runs).source_fault
-
-pub returns-in-Err-clause-sink_fault : goal.returns-in-Err-clause-sink_fault
-returns-in-Err-clause-sink_fault g c = rw c.status.ensures (tells _ _ _ (Err c.in-Err.fault) c.in-Err.ensures.runs).sink_fault
-
-pub returns-in-Err-clause-complete : goal.returns-in-Err-clause-complete
-returns-in-Err-clause-complete g c = rw c.status.ensures (tells _ _ _ (Err c.in-Err.fault) c.in-Err.ensures.runs).complete
+pub returns-in-Err-clause-counts : goal.returns-in-Err-clause-counts
+returns-in-Err-clause-counts g c = rw c.status.ensures (tells _ _ _ (Err c.in-Err.fault) c.in-Err.ensures.runs).counts
 
 pub returns-in-Err-clause-answered : goal.returns-in-Err-clause-answered
 returns-in-Err-clause-answered g c = rw c.status.ensures (tells _ _ _ (Err c.in-Err.fault) c.in-Err.ensures.runs).answered
 
 pub returns-in-Err-clause-partly : goal.returns-in-Err-clause-partly
-returns-in-Err-clause-partly g c = (tells _ _ _ (Err c.in-Err.fault) c.in-Err.ensures.runs).partly
+returns-in-Err-clause-partly g c = rw c.status.ensures (tells _ _ _ (Err c.in-Err.fault) c.in-Err.ensures.runs).partly
 
 pub returns-in-Err-clause-disk : goal.returns-in-Err-clause-disk
 returns-in-Err-clause-disk g c = (tells _ _ _ (Err c.in-Err.fault) c.in-Err.ensures.runs).disk

@@ -1,4 +1,4 @@
-use Rattle.std.proofs.Common.{◌≡◌, ◌∙◌, sym, subst, ap, rules}
+use Rattle.std.proofs.Common.{◌≡◌, ◌∙◌, inl, sym, subst, ap, rules}
 use Rattle.std.specs.Prelude.{Result, Err}
 use Rattle.fv_model.specs.declared.answers.Reply.{Reply}
 use Rattle.fv_model.specs.Lines.{line_of}
@@ -14,12 +14,12 @@ returns-in_err-reply-in-Ok g c =
     let failed : c.from_residual.result ≡ Err (of_session c.in_err-reply-in-Ok.field-0.0) = search rules in
     let done = c.in_err-reply-in-Ok.ensures in
     subst (λ (r : Result Reply Fault). Applies c.args.session.now (built (line_of c.args.line.now)) (g.H.Disk.shown c.args.host.now) c.apply.new.self (g.H.Disk.shown c.apply.new.disk) r) (sym failed)
-    (unapplied _ _ (line_of c.args.line.now) c.in-Ok.command _ _ (said _ _ (sym c.in-Ok.is ∙ c.read_line.ensures)) c.requires done.any_moment done.ends _ done.whole done.fault done.stands done.fails done.lacking done.cause)
+    (unapplied _ _ (line_of c.args.line.now) c.in-Ok.command _ _ (said _ _ (sym c.in-Ok.is ∙ c.read_line.ensures)) c.requires (λ other none. ap (λ h. (g.H.Disk.shown h).reads) (done.calm other (inl none))) _ done.goes done.goes_for)
 
 pub returns-in_ok-reply-in-Ok : goal.returns-in_ok-reply-in-Ok
 returns-in_ok-reply-in-Ok g c =
     let done = c.in_ok-reply-in-Ok.ensures in
-    applied _ _ (line_of c.args.line.now) c.in-Ok.command _ _ (said _ _ (sym c.in-Ok.is ∙ c.read_line.ensures)) c.requires done.any_moment done.ends _ done.done done.point done.stands done.fails done.volumes done.cause
+    applied _ _ (line_of c.args.line.now) c.in-Ok.command _ _ (said _ _ (sym c.in-Ok.is ∙ c.read_line.ensures)) c.requires _ (λ other none. ap (λ h. (g.H.Disk.shown h).reads) (done.calm other (inl none))) done.goes done.goes_for done.reply done.point
 
 pub returns-in-Err-Syntax : goal.returns-in-Err-Syntax
 returns-in-Err-Syntax g c = applied_none _ _ _ (g.met.H.Disk.laws c.args.host.now) c.requires (said_none _ (ap Err (sym c.in-Err-Syntax.field-0-is) ∙ sym c.in-Err-Syntax.is ∙ c.read_line.ensures))

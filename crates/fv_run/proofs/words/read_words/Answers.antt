@@ -1,7 +1,8 @@
 use Rattle.std.proofs.Common.{◌≡◌, ◌∙◌, true, false, string_bytes, refl, sym, ap}
 use Rattle.std.specs.Prelude.{codes, bytes_eq}
 use Rattle.std.specs.Option.{option_map}
-use Rattle.fv_run.specs.Meaning.{create, number_in}
+use Rattle.fv_script.specs.CommandLine.{blocks_of}
+use Rattle.fv_run.specs.Meaning.{create}
 use Rattle.fv_run.proofs.Phrases.{none, one, many, two, means_or_usage}
 use Rattle.fv_run.proofs.words.read_words.Goals as goal
 
@@ -13,7 +14,7 @@ returns-in-len1 c =
 pub returns-in-len2 : goal.returns-in-len2
 returns-in-len2 c =
     let is_create : bytes_eq (string_bytes c.command-item-then-words-lt3.result) (codes "create") ≡ true = rw (← c.as_str-then-words-lt3.ensures.value) (sym c.if-eq-2.ensures) in
-    let size_is = ap (λ size. option_map create (number_in 512 1048576 size)) (sym c.as_bytes.ensures.value) in
+    let size_is = ap (λ size. option_map create (blocks_of size)) (sym c.as_bytes.ensures.value) in
     rw c.ok_or.ensures.value (means_or_usage _ _
     (two string_bytes c.args.words.now c.command-item-then-words-lt3.result c.size-item.result c.in-len2.len_at_least c.in-len2.len_below c.command-item-then-words-lt3.is c.size-item.is
     ∙ rw is_create size_is ∙ sym c.create.ensures))

@@ -17,8 +17,9 @@ loop-index-init g c =
     let cells = c.as_slice-index-items.result.now in
     let now = c.in_ok-cells.ensures in
     let are : Collects s 0 c.args.most cells = subst (Collects s 0 c.args.most) (sym c.as_slice-index-items.ensures.value) now.cells in record {
-      removes = removes_nothing a b t u (listed cells 0) c.args.start c.args.stamp now.held now.used now.counts now.same now.blocks now.stands (λ i _. none_listed cells i);
+      removes = removes_nothing a b t u (listed cells 0) c.args.start c.args.stamp now.untouched now.counts.calm now.same now.blocks now.stands (λ i _. none_listed cells i);
       owner = now.same.owner;
+      calls = g.met.B.Blocks.reads_go c.args.blocks.now c.keep_past.new.blocks now.reads;
       ways = λ j _ lt. way_held (under b) u s c.args.most (get_or cells j 0) now.same.levels now.nodes (are.past j lt);
     }
 
@@ -40,9 +41,10 @@ loop-index-preserved g c =
     removes_stands a b t u (listed cells at) c.args.start c.args.stamp was.removes index (are.past at c.loop-index-test.true).stands (not_yet cells at at are.rising (omega arith) c.loop-index-test.true) in
     let goes = c.erase_cell.ensures.goes (under a) stands in
     let next : Removes a d t w (listed cells (at + 1)) c.args.start c.args.stamp =
-    removes_then a b d t u w (listed cells at) (listed cells (at + 1)) index c.args.start c.args.stamp was.removes goes (c.erase_cell.ensures.released (under a) stands) (next_listed cells at) (removes_holds a b t u (listed cells at) c.args.start c.args.stamp was.removes) in record {
+    removes_then a b d t u w (listed cells at) (listed cells (at + 1)) index c.args.start c.args.stamp was.removes goes (c.erase_cell.ensures.released (under a) stands) (c.erase_cell.ensures.strays (under a) stands) (next_listed cells at) (removes_holds a b t u (listed cells at) c.args.start c.args.stamp was.removes) in record {
       removes = next;
       owner = c.erase_cell.ensures.owner ∙ was.owner;
+      calls = g.met.B.Blocks.goes_on c.args.blocks.now c.loop-index.blocks c.erase_cell.new.blocks was.calls c.erase_cell.ensures.calls;
       ways = λ j le lt.
           goes.ways (get_or cells j 0) (removes_stands a d t w (listed cells (at + 1)) c.args.start c.args.stamp next (get_or cells j 0) (are.past j lt).stands (not_yet cells (at + 1) j are.rising le lt)) (was.ways j (omega (arith, le)) lt);
     }

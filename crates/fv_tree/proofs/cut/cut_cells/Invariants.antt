@@ -8,5 +8,6 @@ abbrev pub invariant-loop-index : goal.invariant-loop-index
 invariant-loop-index g l = record {
   removes : Removes (g.B.Blocks.shown l.fn.blocks) (g.B.Blocks.shown l.blocks) l.fn.tree l.tree (listed l.index-items l.index-index) l.start l.stamp;
   owner : l.tree.owner ≡ l.fn.tree.owner;
+  calls : g.B.Blocks.goes l.fn.blocks l.blocks;
   ways : (j : ℕ) → l.index-index ≤ j → j < length l.index-items → HasWay l.tree (get_or l.index-items j 0);
 }

@@ -1,4 +1,4 @@
-use Rattle.std.proofs.Common.{◌≡◌, ◌<◌, ◌+◌, ◌/◌, inl, inr, [], get_or, length, sym, ap, subst, ◌∙◌, arith}
+use Rattle.std.proofs.Common.{◌≡◌, ◌<◌, ◌+◌, ◌/◌, inl, inr, [], get_or, length, sym, ap, subst, arith}
 use Rattle.std.specs.FinMap as fin
 use Rattle.std.proofs.lemmas.Bool.{cases_lt}
 use Rattle.std.proofs.lemmas.Result.{err_from_is_err_and}
@@ -6,7 +6,7 @@ use Rattle.fv_model.specs.Trees.{fan}
 use Rattle.fv_tree.specs.Standing.{standing, under}
 use Rattle.fv_tree.specs.Releasing.{KeepsBlocks}
 use Rattle.fv_tree.specs.Collecting.{Extends, IsHeld}
-use Rattle.fv_tree.proofs.Causes.{counts_then, fails_same, fails_later}
+use Rattle.fv_tree.proofs.Causes.{calm_then, fails_same, fails_later, untouched_then}
 use Rattle.fv_tree.proofs.Collected.{past_up, one_more_range, all_ranges, all_held, IsUnderOne}
 use Rattle.fv_tree.proofs.Released.{keeps_then}
 use Rattle.fv_tree.proofs.Ways.{same_then}
@@ -29,7 +29,7 @@ returns-in_err-keep_range-clause-cause g c =
     let e = c.in_err-keep_range.field-0.0 in
     let s = standing (under old) c.args.tree.now in
     let p = err_from_is_err_and c.from_residual.result c.from_residual.ensures.1 in
-    rw (p.1, p.2) (fails_later s old mid new e was.counts was.held (fails_same s (standing (under mid) c.loop-place.tree) mid new e was.same c.in_err-keep_range.ensures.cause))
+    rw (p.1, p.2) (fails_later s old mid new e was.calm was.untouched.held (fails_same s (standing (under mid) c.loop-place.tree) mid new e was.same c.in_err-keep_range.ensures.cause))
 
 pub loop-place-preserved : goal.loop-place-preserved
 loop-place-preserved g c =
@@ -56,11 +56,11 @@ loop-place-preserved g c =
       ];
       still = λ level place held. now.nodes level place (was.still level place held);
       same = same_then s t u was.same now.same;
-      blocks = keeps_then (under old) c.args.tree.now c.loop-place.tree c.keep_range.new.tree was.blocks (subst (λ b. KeepsBlocks b c.loop-place.tree c.keep_range.new.tree) (ap (λ h v. fin.get h v) was.held) now.blocks);
+      blocks = keeps_then (under old) c.args.tree.now c.loop-place.tree c.keep_range.new.tree was.blocks (subst (λ b. KeepsBlocks b c.loop-place.tree c.keep_range.new.tree) (ap (λ h v. fin.get h v) was.untouched.held) now.blocks);
       stands = λ stands. now.stands (was.stands stands);
-      held = now.held ∙ was.held;
-      used = now.used ∙ was.used;
-      counts = counts_then old mid new was.counts now.counts;
+      untouched = untouched_then old mid new was.untouched now.untouched;
+      calm = calm_then old mid new was.calm now.counts.calm;
+      reads = g.met.B.Blocks.reads_on c.args.blocks.now c.loop-place.blocks c.keep_range.new.blocks was.reads now.reads;
     }
 
 pub returns-clause-places : goal.returns-clause-places

@@ -1,8 +1,8 @@
-use Rattle.std.proofs.Common.{refl, sym, subst, arith}
+use Rattle.std.proofs.Common.{sym, subst, arith}
 use Rattle.fv_tree.specs.Standing.{standing, under}
 use Rattle.fv_tree.specs.Collecting.{Collects}
 use Rattle.std.proofs.lemmas.Result.{err_from_is_err_and}
-use Rattle.fv_tree.proofs.Causes.{fails_same, fails_later}
+use Rattle.fv_tree.proofs.Causes.{calm_itself, fails_same, fails_later, untouched_itself}
 use Rattle.fv_tree.proofs.Collected.{collects_as}
 use Rattle.fv_tree.proofs.Held.{same_self}
 use Rattle.fv_tree.proofs.Released.{keeps_self}
@@ -17,9 +17,9 @@ loop-level-init g c =
       same = same_self (standing old c.args.tree.now);
       blocks = keeps_self old c.args.tree.now;
       stands = λ stands. stands;
-      held = refl;
-      used = refl;
-      counts = record { faults = omega arith; damages = omega arith };
+      untouched = untouched_itself _;
+      calm = calm_itself _;
+      reads = g.met.B.Blocks.reads_nothing c.args.blocks.now;
     }
 
 pub keep_level-requires-clause-places : goal.keep_level-requires-clause-places
@@ -38,4 +38,4 @@ returns-in_err-places-2-clause-cause g c =
     let e = c.in_err-places-2.field-0.0 in
     let s = standing (under old) c.args.tree.now in
     let p = err_from_is_err_and c.from_residual-in_err-places-2.result c.from_residual-in_err-places-2.ensures.1 in
-    rw (p.1, p.2) (fails_later s old mid new e was.counts was.held (fails_same s (standing (under mid) c.loop-level.tree) mid new e was.same c.in_err-places-2.ensures.cause))
+    rw (p.1, p.2) (fails_later s old mid new e was.calm was.untouched.held (fails_same s (standing (under mid) c.loop-level.tree) mid new e was.same c.in_err-places-2.ensures.cause))

@@ -1,6 +1,6 @@
-use Rattle.std.proofs.Common.{◌≡◌, ◌≤◌}
+use Rattle.std.proofs.Common.{◌≤◌}
 use Rattle.fv_tree.specs.Keeping.{IsSame}
-use Rattle.fv_tree.specs.Sources.{Counts}
+use Rattle.fv_tree.specs.Sources.{IsCalm, IsUntouched}
 use Rattle.fv_tree.specs.Standing.{standing, under}
 use Rattle.fv_tree.specs.Releasing.{KeepsBlocks}
 use Rattle.fv_tree.specs.Flushing.{Stands}
@@ -15,9 +15,9 @@ invariant-loop-level g l = record {
   same : IsSame (standing (under (g.B.Blocks.shown l.fn.blocks)) l.fn.tree) (standing (under (g.B.Blocks.shown l.blocks)) l.tree);
   blocks : KeepsBlocks (under (g.B.Blocks.shown l.fn.blocks)) l.fn.tree l.tree;
   stands : Stands (g.B.Blocks.shown l.fn.blocks) l.fn.tree → Stands (g.B.Blocks.shown l.blocks) l.tree;
-  held : (g.B.Blocks.shown l.blocks).held ≡ (g.B.Blocks.shown l.fn.blocks).held;
-  used : (g.B.Blocks.shown l.blocks).used ≡ (g.B.Blocks.shown l.fn.blocks).used;
-  counts : Counts (g.B.Blocks.shown l.fn.blocks) (g.B.Blocks.shown l.blocks);
+  untouched : IsUntouched (g.B.Blocks.shown l.fn.blocks) (g.B.Blocks.shown l.blocks);
+  calm : IsCalm (g.B.Blocks.shown l.fn.blocks) (g.B.Blocks.shown l.blocks);
+  reads : g.B.Blocks.reads l.fn.blocks l.blocks;
 }
 
 abbrev pub decreases-loop-level : goal.decreases-loop-level

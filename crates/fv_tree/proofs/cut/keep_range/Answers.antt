@@ -34,7 +34,7 @@ returns-in_err-children-clause-blocks g c =
     let s = standing old c.args.tree.now in
     let u = standing new c.keep_node.new.tree in
     let is = c.pointer_in-pointer.ensures.is ∙ pointer_in_is old c.args.tree.now c.args.level c.args.place c.requires.stands c.requires.node in
-    keeps_brought old new c.args.tree.now c.keep_node.new.tree c.args.level c.args.place c.pointer_in-pointer.result (ap (λ h v. fin.get h v) c.keep_node.ensures.held)
+    keeps_brought old new c.args.tree.now c.keep_node.new.tree c.args.level c.args.place c.pointer_in-pointer.result (ap (λ h v. fin.get h v) c.keep_node.ensures.untouched.held)
     (keeps_same s u c.args.level c.args.place (subst (λ p. Keeps s u c.args.level c.args.place p) is c.keep_node.ensures.keeps)) (sym is) c.keep_node.ensures.fields c.keep_node.ensures.brings
 
 pub returns-clause-blocks : goal.returns-clause-blocks
@@ -44,7 +44,7 @@ returns-clause-blocks g c =
     let s = standing old c.args.tree.now in
     let u = standing new c.keep_node.new.tree in
     let is = c.pointer_in-pointer.ensures.is ∙ pointer_in_is old c.args.tree.now c.args.level c.args.place c.requires.stands c.requires.node in
-    keeps_brought old new c.args.tree.now c.keep_node.new.tree c.args.level c.args.place c.pointer_in-pointer.result (ap (λ h v. fin.get h v) c.keep_node.ensures.held)
+    keeps_brought old new c.args.tree.now c.keep_node.new.tree c.args.level c.args.place c.pointer_in-pointer.result (ap (λ h v. fin.get h v) c.keep_node.ensures.untouched.held)
     (keeps_same s u c.args.level c.args.place (subst (λ p. Keeps s u c.args.level c.args.place p) is c.keep_node.ensures.keeps)) (sym is) c.keep_node.ensures.fields c.keep_node.ensures.brings
 
 pub returns-in_err-children-clause-cause : goal.returns-in_err-children-clause-cause
@@ -76,7 +76,7 @@ returns-in_err-children-clause-stands g c = λ stands.
     let s = standing (under old) c.args.tree.now in
     let u = standing (under new) c.keep_node.new.tree in
     let is = c.pointer_in-pointer.ensures.is ∙ pointer_in_is (under old) c.args.tree.now c.args.level c.args.place c.requires.stands c.requires.node in
-    brings_stands old new c.args.tree.now c.keep_node.new.tree c.args.level c.args.place c.requires.low c.keep_node.ensures.held c.keep_node.ensures.used c.keep_node.ensures.fields
+    brings_stands old new c.args.tree.now c.keep_node.new.tree c.args.level c.args.place c.requires.low c.keep_node.ensures.untouched.held c.keep_node.ensures.untouched.used c.keep_node.ensures.fields
     (keeps_same s u c.args.level c.args.place (subst (λ p. Keeps s u c.args.level c.args.place p) is c.keep_node.ensures.keeps))
     (subst (Brings (under old) c.args.tree.now c.keep_node.new.tree c.args.level c.args.place) is c.keep_node.ensures.brings) stands
 
@@ -87,6 +87,6 @@ returns-clause-stands g c = λ stands.
     let s = standing (under old) c.args.tree.now in
     let u = standing (under new) c.keep_node.new.tree in
     let is = c.pointer_in-pointer.ensures.is ∙ pointer_in_is (under old) c.args.tree.now c.args.level c.args.place c.requires.stands c.requires.node in
-    brings_stands old new c.args.tree.now c.keep_node.new.tree c.args.level c.args.place c.requires.low c.keep_node.ensures.held c.keep_node.ensures.used c.keep_node.ensures.fields
+    brings_stands old new c.args.tree.now c.keep_node.new.tree c.args.level c.args.place c.requires.low c.keep_node.ensures.untouched.held c.keep_node.ensures.untouched.used c.keep_node.ensures.fields
     (keeps_same s u c.args.level c.args.place (subst (λ p. Keeps s u c.args.level c.args.place p) is c.keep_node.ensures.keeps))
     (subst (Brings (under old) c.args.tree.now c.keep_node.new.tree c.args.level c.args.place) is c.keep_node.ensures.brings) stands

@@ -1,6 +1,6 @@
 use Rattle.std.proofs.Common.{arith}
 use Rattle.fv_tree.proofs.Released.{released_as}
-use Rattle.fv_tree.proofs.Single.{one_goes, one_dropped, one_named}
+use Rattle.fv_tree.proofs.Single.{one_goes, one_dropped, one_named, named_once}
 use Rattle.fv_tree.proofs.erase.erase_cell.Goals as goal
 
 pub returns-clause-goes : goal.returns-clause-goes
@@ -13,6 +13,11 @@ returns-clause-released g c = λ held stands.
     let u = c.unlink.new.tree in
     let i = c.args.index in
     let lost = c.bare_levels-lost.result in
-    released_as (g.B.Blocks.shown c.args.blocks.now) (g.B.Blocks.shown c.name_way.new.blocks) _ _ c.name_way.ensures
+    released_as (g.B.Blocks.shown c.args.blocks.now) (g.B.Blocks.shown c.name_way.new.blocks) _ _ c.name_way.ensures.released
     (one_named held t u i lost c.args.start c.args.stamp c.requires.way c.bare_levels-lost.ensures stands c.unlink.ensures (omega (arith, c.requires.stamp)))
     (one_dropped held t u i lost c.args.start c.args.stamp c.requires.way c.bare_levels-lost.ensures stands c.unlink.ensures (omega (arith, c.requires.stamp)))
+
+pub returns-clause-strays : goal.returns-clause-strays
+returns-clause-strays g c = λ held stands sound.
+    c.name_way.ensures.strays (named_once held c.args.tree.now c.unlink.new.tree c.args.index c.bare_levels-lost.result c.args.start c.args.stamp c.requires.way c.bare_levels-lost.ensures stands c.unlink.ensures (omega (arith, c.requires.stamp))
+    (g.B.Blocks.shown c.args.blocks.now).used sound)

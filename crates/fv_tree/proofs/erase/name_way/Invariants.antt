@@ -1,6 +1,11 @@
+use Rattle.std.proofs.Common.{◌≡◌, ◌+◌}
 use Rattle.fv_tree.specs.Releasing.{Releases}
-use Rattle.fv_tree.specs.Unlinking.{IsOnWay}
+use Rattle.fv_tree.specs.Unlinking.{IsOnWay, NamesOnce}
 use Rattle.fv_tree.proofs.erase.name_way.Given as goal
 
 abbrev pub invariant-loop-level : goal.invariant-loop-level
-invariant-loop-level g l = Releases (g.B.Blocks.shown l.fn.blocks) (g.B.Blocks.shown l.blocks) (IsOnWay l.tree l.index l.level)
+invariant-loop-level g l = record {
+  released : Releases (g.B.Blocks.shown l.fn.blocks) (g.B.Blocks.shown l.blocks) (IsOnWay l.tree l.index l.level);
+  strays : NamesOnce (g.B.Blocks.shown l.fn.blocks).used l.tree l.index (l.lost + 1) → (g.B.Blocks.shown l.blocks).strays ≡ (g.B.Blocks.shown l.fn.blocks).strays;
+  calls : g.B.Blocks.goes l.fn.blocks l.blocks;
+}

@@ -1,7 +1,7 @@
 use Rattle.std.proofs.Common.{◌∙◌, arith}
 use Rattle.fv_tree.specs.Sources.{Shown}
 use Rattle.fv_tree.specs.Flushing.{loaded}
-use Rattle.fv_tree.proofs.Causes.{counts_then}
+use Rattle.fv_tree.proofs.Causes.{calm_then}
 use Rattle.fv_tree.proofs.Flushes.{flushes_then}
 use Rattle.fv_tree.proofs.Gone.{is_memory}
 use Rattle.fv_tree.proofs.flush.flush_cells.Goals as goal
@@ -23,7 +23,12 @@ loop-preserved g c =
     let now = c.in_ok-flush_first_cell.ensures in record {
       flushes = λ stands. let first = was.flushes stands in
           flushes_then (loaded old c.args.tree.now) (loaded mid c.loop.tree) (loaded new c.flush_first_cell.new.tree) old.used mid.used new.used (is_memory mid c.loop.tree) first (now.flushes first.sound);
+      strays = λ stands. now.strays (was.flushes stands).sound ∙ was.strays stands;
       left = record { owner = now.left.owner ∙ was.left.owner; levels = now.left.levels ∙ was.left.levels };
       count = omega (arith, now.fewer, was.count);
-      counts = counts_then old mid new was.counts now.counts;
+      calm = calm_then old mid new was.calm now.counts.calm;
+      calls = g.met.B.Blocks.goes_on c.args.blocks.now c.loop.blocks c.flush_first_cell.new.blocks was.calls now.calls;
     }
+
+pub returns-in_err-flush_first_cell-clause-strays : goal.returns-in_err-flush_first_cell-clause-strays
+returns-in_err-flush_first_cell-clause-strays g c = λ stands. let was = c.loop.invariant in c.in_err-flush_first_cell.ensures.strays (was.flushes stands).sound ∙ was.strays stands

@@ -1,12 +1,12 @@
 use Rattle.std.proofs.Common.{arith}
 use Rattle.fv_tree.proofs.Gone.{flushes_still}
-use Rattle.fv_tree.proofs.Stepped.{node_step, still_there}
+use Rattle.fv_tree.proofs.Stepped.{node_step, node_strays, still_there}
 use Rattle.fv_tree.proofs.flush.flush_first_node.Goals as goal
 
 pub returns-in_err-flush_node-in-Some-clause-flushes : goal.returns-in_err-flush_node-in-Some-clause-flushes
 returns-in_err-flush_node-in-Some-clause-flushes g c = λ stands.
     let failed = c.in_err-flush_node-in-Some.ensures in
-    flushes_still (g.B.Blocks.shown c.args.blocks.now) (g.B.Blocks.shown c.flush_node.new.blocks) c.args.tree.now c.flush_node.new.tree failed.held failed.used failed.failed stands
+    flushes_still (g.B.Blocks.shown c.args.blocks.now) (g.B.Blocks.shown c.flush_node.new.blocks) c.args.tree.now c.flush_node.new.tree failed.untouched.held failed.untouched.used failed.failed stands
 
 pub returns-in_ok-flush_node-in-Some-clause-flushes : goal.returns-in_ok-flush_node-in-Some-clause-flushes
 returns-in_ok-flush_node-in-Some-clause-flushes g c = λ stands.
@@ -17,3 +17,7 @@ pub returns-in_ok-flush_node-in-Some-clause-fewer : goal.returns-in_ok-flush_nod
 returns-in_ok-flush_node-in-Some-clause-fewer g c =
     let there = still_there (g.B.Blocks.shown c.args.blocks.now) (g.B.Blocks.shown c.flush_node.new.blocks) c.args.tree.now c.flush_node.new.tree c.in-Some.level c.in-Some.place c.in-Some.node c.in-Some.ensures.there c.in_ok-flush_node-in-Some.ensures.node in
     omega (arith, c.forget_node.ensures.len there.0, there.1)
+
+pub returns-in_ok-flush_node-in-Some-clause-strays : goal.returns-in_ok-flush_node-in-Some-clause-strays
+returns-in_ok-flush_node-in-Some-clause-strays g c = λ stands.
+    node_strays (g.B.Blocks.shown c.args.blocks.now) (g.B.Blocks.shown c.flush_node.new.blocks) c.args.tree.now c.flush_node.new.tree c.in-Some.level c.in-Some.place c.in-Some.node stands c.in-Some.ensures.there c.in_ok-flush_node-in-Some.ensures.node

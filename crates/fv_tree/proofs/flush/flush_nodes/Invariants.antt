@@ -1,14 +1,16 @@
 use Rattle.std.proofs.Common.{◌≡◌, ◌-◌}
 use Rattle.std.specs.BTreeMap as maps
-use Rattle.fv_tree.specs.Sources.{Counts}
+use Rattle.fv_tree.specs.Sources.{IsCalm}
 use Rattle.fv_tree.specs.Flushing.{loaded, Flushes, IsLeft, Stands}
 use Rattle.fv_tree.proofs.flush.flush_nodes.Given as goal
 
 abbrev pub invariant-loop : goal.invariant-loop
 invariant-loop g l = record {
   flushes : Stands (g.B.Blocks.shown l.fn.blocks) l.fn.tree → Flushes (loaded (g.B.Blocks.shown l.fn.blocks) l.fn.tree) (g.B.Blocks.shown l.fn.blocks).used (loaded (g.B.Blocks.shown l.blocks) l.tree) (g.B.Blocks.shown l.blocks).used;
+  strays : Stands (g.B.Blocks.shown l.fn.blocks) l.fn.tree → (g.B.Blocks.shown l.blocks).strays ≡ (g.B.Blocks.shown l.fn.blocks).strays;
   left : IsLeft l.fn.tree l.tree;
   count : maps.btree_map_len l.tree.nodes ≡ maps.btree_map_len l.fn.tree.nodes - l.counter;
   cells : l.tree.cells ≡ l.fn.tree.cells;
-  counts : Counts (g.B.Blocks.shown l.fn.blocks) (g.B.Blocks.shown l.blocks);
+  calm : IsCalm (g.B.Blocks.shown l.fn.blocks) (g.B.Blocks.shown l.blocks);
+  calls : g.B.Blocks.goes l.fn.blocks l.blocks;
 }

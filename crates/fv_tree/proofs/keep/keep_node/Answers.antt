@@ -29,7 +29,7 @@ pub returns-in_ok-node-in-None-clause-keeps : goal.returns-in_ok-node-in-None-cl
 returns-in_ok-node-in-None-clause-keeps g c =
     let old = under (g.B.Blocks.shown c.args.blocks.now) in
     let new = under (g.B.Blocks.shown c.load_node.new.blocks) in
-    kept_as old new (ap (λ h v. fin.get h v) c.in_ok-node-in-None.ensures.held) c.args.tree.now c.keep-in-None.new.tree c.args.level c.args.place c.args.pointer.now _ c.keep-in-None.result c.keep-in-None.ensures.fields c.keep-in-None.ensures.node c.keep-in-None.ensures.failed c.read_node.result.long
+    kept_as old new (ap (λ h v. fin.get h v) c.in_ok-node-in-None.ensures.untouched.held) c.args.tree.now c.keep-in-None.new.tree c.args.level c.args.place c.args.pointer.now _ c.keep-in-None.result c.keep-in-None.ensures.fields c.keep-in-None.ensures.node c.keep-in-None.ensures.failed c.read_node.result.long
     (λ slot. ap (λ (ys : List Pointer). get_or ys slot hole) c.read_node.ensures.children ∙ read_as (standing old c.args.tree.now) c.args.level c.args.place c.args.pointer.now _ c.if-pointer-eq0.false (sym (ap (option_map (λ (kept : KeptNode). kept.children)) c.in-None.ensures.value)) c.in_ok-node-in-None.ensures.node slot)
 
 pub returns-in_ok-node-in-None-clause-children : goal.returns-in_ok-node-in-None-clause-children

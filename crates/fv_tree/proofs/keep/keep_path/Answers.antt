@@ -14,7 +14,7 @@ use Rattle.fv_tree.proofs.Held.{but_then, at_root, same_self, kept_from}
 use Rattle.fv_tree.proofs.Ways.{same_then}
 use Rattle.fv_tree.specs.Sources.{Shown}
 use Rattle.std.proofs.lemmas.Result.{err_from_is_err_and}
-use Rattle.fv_tree.proofs.Causes.{counts_then, fails_later, fails_same}
+use Rattle.fv_tree.proofs.Causes.{calm_itself, calm_then, fails_later, fails_same, untouched_itself, untouched_then}
 use Rattle.fv_tree.proofs.keep.keep_path.Goals as goal
 
 pub loop-level-init : goal.loop-level-init
@@ -28,9 +28,9 @@ loop-level-init g c =
       stands = λ stands. stands;
       same = same_self t;
       blocks = keeps_self (under (g.B.Blocks.shown c.args.blocks.now)) c.args.tree.now;
-      held = refl;
-      used = refl;
-      counts = record { faults = omega arith; damages = omega arith };
+      untouched = untouched_itself _;
+      calm = calm_itself _;
+      reads = g.met.B.Blocks.reads_nothing c.args.blocks.now;
     }
 
 pub loop-level-preserved : goal.loop-level-preserved
@@ -50,25 +50,25 @@ loop-level-preserved g c =
         | inr differs ↦ ap node_placed (now.brings.others k (c.args.index / fan ^ k) (inl differs)) ∙ was.unplaced k (omega arith) le none
       ];
       fields = but_then c.args.tree.now c.loop-level.tree c.keep_step.new.tree was.fields now.fields;
-      stands = λ stands. brings_stands (g.B.Blocks.shown c.loop-level.blocks) (g.B.Blocks.shown c.keep_step.new.blocks) c.loop-level.tree c.keep_step.new.tree c.loop-level.level (c.args.index / fan ^ c.loop-level.level) (omega arith) now.held now.used now.fields now.same
+      stands = λ stands. brings_stands (g.B.Blocks.shown c.loop-level.blocks) (g.B.Blocks.shown c.keep_step.new.blocks) c.loop-level.tree c.keep_step.new.tree c.loop-level.level (c.args.index / fan ^ c.loop-level.level) (omega arith) now.untouched.held now.untouched.used now.fields now.same
           (subst (Brings (under (g.B.Blocks.shown c.loop-level.blocks)) c.loop-level.tree c.keep_step.new.tree c.loop-level.level (c.args.index / fan ^ c.loop-level.level)) was.pointer now.brings) (was.stands stands);
       same = same_then s t u was.same now.same;
-      blocks = keeps_then old c.args.tree.now c.loop-level.tree c.keep_step.new.tree was.blocks (subst (λ b. KeepsBlocks b c.loop-level.tree c.keep_step.new.tree) (ap (λ h v. fin.get h v) was.held) now.blocks);
-      held = now.held ∙ was.held;
-      used = now.used ∙ was.used;
-      counts = counts_then (g.B.Blocks.shown c.args.blocks.now) (g.B.Blocks.shown c.loop-level.blocks) (g.B.Blocks.shown c.keep_step.new.blocks) was.counts now.counts;
+      blocks = keeps_then old c.args.tree.now c.loop-level.tree c.keep_step.new.tree was.blocks (subst (λ b. KeepsBlocks b c.loop-level.tree c.keep_step.new.tree) (ap (λ h v. fin.get h v) was.untouched.held) now.blocks);
+      untouched = untouched_then (g.B.Blocks.shown c.args.blocks.now) (g.B.Blocks.shown c.loop-level.blocks) (g.B.Blocks.shown c.keep_step.new.blocks) was.untouched now.untouched;
+      calm = calm_then (g.B.Blocks.shown c.args.blocks.now) (g.B.Blocks.shown c.loop-level.blocks) (g.B.Blocks.shown c.keep_step.new.blocks) was.calm now.counts.calm;
+      reads = g.met.B.Blocks.reads_on c.args.blocks.now c.loop-level.blocks c.keep_step.new.blocks was.reads now.reads;
     }
 
 pub returns-in_err-pointer-clause-blocks : goal.returns-in_err-pointer-clause-blocks
 returns-in_err-pointer-clause-blocks g c =
     keeps_then (under (g.B.Blocks.shown c.args.blocks.now)) c.args.tree.now c.loop-level.tree c.keep_step.new.tree c.loop-level.invariant.blocks
-    (subst (λ b. KeepsBlocks b c.loop-level.tree c.keep_step.new.tree) (ap (λ h v. fin.get h v) c.loop-level.invariant.held) c.keep_step.ensures.blocks)
+    (subst (λ b. KeepsBlocks b c.loop-level.tree c.keep_step.new.tree) (ap (λ h v. fin.get h v) c.loop-level.invariant.untouched.held) c.keep_step.ensures.blocks)
 
 pub returns-in_err-pointer-clause-stands : goal.returns-in_err-pointer-clause-stands
 returns-in_err-pointer-clause-stands g c = λ stands.
     let was = c.loop-level.invariant in
     let now = c.in_err-pointer.ensures in
-    brings_stands (g.B.Blocks.shown c.loop-level.blocks) (g.B.Blocks.shown c.keep_step.new.blocks) c.loop-level.tree c.keep_step.new.tree c.loop-level.level (c.args.index / fan ^ c.loop-level.level) (omega arith) now.held now.used now.fields now.same
+    brings_stands (g.B.Blocks.shown c.loop-level.blocks) (g.B.Blocks.shown c.keep_step.new.blocks) c.loop-level.tree c.keep_step.new.tree c.loop-level.level (c.args.index / fan ^ c.loop-level.level) (omega arith) now.untouched.held now.untouched.used now.fields now.same
     (subst (Brings (under (g.B.Blocks.shown c.loop-level.blocks)) c.loop-level.tree c.keep_step.new.tree c.loop-level.level (c.args.index / fan ^ c.loop-level.level)) was.pointer now.brings) (was.stands stands)
 
 pub returns-in_err-pointer-clause-cause : goal.returns-in_err-pointer-clause-cause
@@ -78,5 +78,5 @@ returns-in_err-pointer-clause-cause g c =
     let new : Shown = g.B.Blocks.shown c.keep_step.new.blocks in
     let was = c.loop-level.invariant in
     let p = err_from_is_err_and c.from_residual.result c.from_residual.ensures.1 in
-    rw (p.1, p.2) (fails_later (standing (under old) c.args.tree.now) old mid new c.in_err-pointer.field-0.0 was.counts was.held
+    rw (p.1, p.2) (fails_later (standing (under old) c.args.tree.now) old mid new c.in_err-pointer.field-0.0 was.calm was.untouched.held
     (fails_same (standing (under old) c.args.tree.now) (standing (under mid) c.loop-level.tree) mid new c.in_err-pointer.field-0.0 was.same c.in_err-pointer.ensures.cause))

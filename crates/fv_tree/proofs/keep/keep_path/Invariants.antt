@@ -3,7 +3,7 @@ use Rattle.fv_model.specs.Trees.{fan}
 use Rattle.fv_tree.specs.Spelled.{pointer_at}
 use Rattle.fv_tree.specs.Releasing.{KeepsBlocks}
 use Rattle.fv_tree.specs.Keeping.{IsKept, IsSame}
-use Rattle.fv_tree.specs.Sources.{Counts}
+use Rattle.fv_tree.specs.Sources.{IsCalm, IsUntouched}
 use Rattle.fv_tree.specs.Standing.{standing, under, IsSameBut}
 use Rattle.fv_tree.specs.Flushing.{placed_in, Stands}
 use Rattle.fv_tree.proofs.keep.keep_path.Given as goal
@@ -18,9 +18,9 @@ invariant-loop-level g l = record {
   stands : Stands (g.B.Blocks.shown l.fn.blocks) l.fn.tree → Stands (g.B.Blocks.shown l.blocks) l.tree;
   same : IsSame (standing (under (g.B.Blocks.shown l.fn.blocks)) l.fn.tree) (standing (under (g.B.Blocks.shown l.blocks)) l.tree);
   blocks : KeepsBlocks (under (g.B.Blocks.shown l.fn.blocks)) l.fn.tree l.tree;
-  held : (g.B.Blocks.shown l.blocks).held ≡ (g.B.Blocks.shown l.fn.blocks).held;
-  used : (g.B.Blocks.shown l.blocks).used ≡ (g.B.Blocks.shown l.fn.blocks).used;
-  counts : Counts (g.B.Blocks.shown l.fn.blocks) (g.B.Blocks.shown l.blocks);
+  untouched : IsUntouched (g.B.Blocks.shown l.fn.blocks) (g.B.Blocks.shown l.blocks);
+  calm : IsCalm (g.B.Blocks.shown l.fn.blocks) (g.B.Blocks.shown l.blocks);
+  reads : g.B.Blocks.reads l.fn.blocks l.blocks;
 }
 
 abbrev pub decreases-loop-level : goal.decreases-loop-level

@@ -50,7 +50,7 @@ returns-clause-same g c =
 pub returns-in_err-children-clause-blocks : goal.returns-in_err-children-clause-blocks
 returns-in_err-children-clause-blocks g c =
     let old = under (g.B.Blocks.shown c.args.blocks.now) in
-    keeps_brought old (under (g.B.Blocks.shown c.keep_node.new.blocks)) c.args.tree.now c.keep_node.new.tree c.args.level (c.args.index / c.width.result) c.args.pointer.now (ap (λ h v. fin.get h v) c.keep_node.ensures.held)
+    keeps_brought old (under (g.B.Blocks.shown c.keep_node.new.blocks)) c.args.tree.now c.keep_node.new.tree c.args.level (c.args.index / c.width.result) c.args.pointer.now (ap (λ h v. fin.get h v) c.keep_node.ensures.untouched.held)
     (stays (standing old c.args.tree.now) _ c.args.level c.args.index c.width.result c.args.pointer.now c.width.ensures.is c.requires.pointer c.keep_node.ensures.keeps)
     (ap (λ w. pointer_at (standing old c.args.tree.now) c.args.level (c.args.index / w)) c.width.ensures.is ∙ sym c.requires.pointer)
     c.keep_node.ensures.fields c.keep_node.ensures.brings
@@ -58,7 +58,7 @@ returns-in_err-children-clause-blocks g c =
 pub returns-clause-blocks : goal.returns-clause-blocks
 returns-clause-blocks g c =
     let old = under (g.B.Blocks.shown c.args.blocks.now) in
-    keeps_brought old (under (g.B.Blocks.shown c.keep_node.new.blocks)) c.args.tree.now c.keep_node.new.tree c.args.level (c.args.index / c.width.result) c.args.pointer.now (ap (λ h v. fin.get h v) c.keep_node.ensures.held)
+    keeps_brought old (under (g.B.Blocks.shown c.keep_node.new.blocks)) c.args.tree.now c.keep_node.new.tree c.args.level (c.args.index / c.width.result) c.args.pointer.now (ap (λ h v. fin.get h v) c.keep_node.ensures.untouched.held)
     (stays (standing old c.args.tree.now) _ c.args.level c.args.index c.width.result c.args.pointer.now c.width.ensures.is c.requires.pointer c.keep_node.ensures.keeps)
     (ap (λ w. pointer_at (standing old c.args.tree.now) c.args.level (c.args.index / w)) c.width.ensures.is ∙ sym c.requires.pointer)
     c.keep_node.ensures.fields c.keep_node.ensures.brings

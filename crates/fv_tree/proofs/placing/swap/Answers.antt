@@ -8,12 +8,13 @@ returns-clause-swaps g c =
     let old : Shown = g.B.Blocks.shown c.args.blocks.now in
     let mid : Shown = g.B.Blocks.shown c.place.new.self in
     let new : Shown = g.B.Blocks.shown c.name_gone.new.blocks in
-    let at : IsPlacedAt old c.args.block.now c.in_ok-at.at.vvbn c.in_ok-at.at.pvbn mid = record {
-      fresh = c.in_ok-at.ensures.fresh;
-      unused = c.in_ok-at.ensures.unused;
-      held = c.in_ok-at.ensures.held;
-      used = c.in_ok-at.ensures.used;
+    let at : IsPlacedAt old c.args.kind c.args.block.now c.in_ok-at.at.vvbn c.in_ok-at.at.pvbn mid = record {
+      fresh = c.in_ok-at.ensures.places.fresh;
+      unused = c.in_ok-at.ensures.places.unused;
+      held = c.in_ok-at.ensures.places.held;
+      used = c.in_ok-at.ensures.places.used;
+      strays = c.in_ok-at.ensures.places.strays;
     } in
-    swapped old mid new c.args.block.now c.args.placed c.args.known c.args.old.now.vvbn c.in_ok-at.at.pvbn c.pointer_to.result
-    (subst (λ v. IsPlacedAt old c.args.block.now v c.in_ok-at.at.pvbn mid) (sym c.pointer_to.ensures.vvbn) at) c.pointer_to.ensures.known c.pointer_to.ensures.unknown
-    c.name_gone.ensures.gone c.name_gone.ensures.held c.name_gone.ensures.used
+    swapped old mid new c.args.kind c.args.block.now c.args.placed c.args.known c.args.old.now.vvbn c.in_ok-at.at.pvbn c.pointer_to.result
+    (subst (λ v. IsPlacedAt old c.args.kind c.args.block.now v c.in_ok-at.at.pvbn mid) (sym c.pointer_to.ensures.vvbn) at) c.pointer_to.ensures.known c.pointer_to.ensures.unknown
+    c.name_gone.ensures.gone c.name_gone.ensures.untouched

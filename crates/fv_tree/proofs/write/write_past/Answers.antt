@@ -103,7 +103,7 @@ returns-clause-stands c = λ blocks used sound.
     })
     (ap (λ (cells : tree.BTreeMap ℕ KeptCell). cell_placed (tree.get nat_cmp cells i)) c.raise.ensures.cells ∙ cell.own)
     (λ j differs. ap (λ (cells : tree.BTreeMap ℕ KeptCell). tree.get nat_cmp cells j) c.raise.ensures.cells ∙ cell.others j differs ∙ ap (λ (cells : tree.BTreeMap ℕ KeptCell). tree.get nat_cmp cells j) fields.cells) in
-    marked_sound used (loaded_over blocks v) (loaded_over blocks u) i c.args.stamp some raised.covers ready
+    marked_sound used (loaded_over blocks v) (loaded_over blocks u) i raised.covers ready
     (marked_is blocks v u i c.args.stamp c.stamp_path.ensures.stamps c.stamp_path.ensures.marks some raised.covers
     (past_base blocks s v i c.args.stamp raised some).kept
     (ap (λ (cells : tree.BTreeMap ℕ KeptCell). is_some (tree.get nat_cmp cells i)) c.raise.ensures.cells ∙ cell_there t held i c.args.block.now cell.cell))

@@ -60,7 +60,7 @@ returns-clause-stands g c = λ stands.
     let unplaced : (level : ℕ) → 1 ≤ level → level ≤ w.levels → (pointer_at (standing (under new) w) level (i / fan ^ level)).stamp ≡ 0 → placed_in w.nodes level (i / fan ^ level) ≡ false =
     λ level low high none. path.unplaced level low (omega (arith, high, path.fields.levels)) (ap (λ (p : Pointer). p.stamp) (sym (path.same.pointers level (i / fan ^ level))) ∙ none) in
     let sound : Stands new w = path.stands stands in
-    marked_sound new.used (loaded new v) (loaded new u) i c.args.stamp some covers
+    marked_sound new.used (loaded new v) (loaded new u) i covers
     (within_ready (under new) new.used w v i named sound cell.fields cell.own cell.others unnamed unplaced)
     (marked_is (under new) v u i c.args.stamp c.stamp_path.ensures.stamps c.stamp_path.ensures.marks some covers
     (λ level low high. cell_kept (under new) new.used w v i named sound cell.fields cell.own cell.others unnamed unplaced level (path.kept level low (omega (arith, high, levels))))

@@ -3,12 +3,12 @@ use Rattle.std.specs.Prelude.{IsTrue}
 use Rattle.fv_disk.specs.Shown.{Image}
 use Rattle.fv_bits.specs.Members.{is_member}
 use Rattle.fv_model.specs.Space.{map_blocks}
-use Rattle.fv_image.specs.Views.{volume_bit}
+use Rattle.fv_image.specs.Views.{entry_count, volume_bit}
 use Rattle.fv_image.specs.Held.{view_at}
 use Rattle.fv_root.specs.Finding.{root_found}
 use Rattle.fv_volmap.specs.Slots.{Volume, active_of}
-use Rattle.fv_container.specs.Spelled.{Spelled}
-use Rattle.fv_volume.specs.Loading.{HasRead, has_delayed, IsBadMap, IsBadTree, IsLoadFault}
+use Rattle.fv_container.specs.Spelled.{IsFault, Spelled}
+use Rattle.fv_volume.specs.Loading.{HasRead, has_delayed, IsBadMap, IsLoadFault}
 use Rattle.fv_volume.proofs.Labelled.{bad_label, bad_map, bad_tree, handed, is_label, loaded_none, loaded_some}
 use Rattle.fv_volume.proofs.Loaded.{state_from}
 use Rattle.fv_volume.proofs.Stepping.{has_container}
@@ -38,7 +38,7 @@ returns-in_err-container-clause-fault g c = λ tells.
     let told = subst IsTrue (sym first.tells) tells in
     let lies = is_label found i c.args.slot c.requires.slot (get_or found.root.labels c.args.slot 0) l refl c.if-place-eq0.false (c.in_ok-label.ensures.label tells) in
     handed (IsLoadFault i found) e c.from_residual-in_err-container.result c.from_residual-in_err-container.ensures.1
-    (bad_tree found i c.args.slot c.requires.slot l e lies (subst (λ (j : Image). IsBadTree j l e) first.reads (c.in_err-container.ensures.fault told)))
+    (bad_tree found i c.args.slot c.requires.slot l e lies (subst (λ (j : Image). IsFault j l.container l.height (entry_count l.span) e) first.reads (c.in_err-container.ensures.fault told)))
 
 pub returns-in_err-map-clause-fault : goal.returns-in_err-map-clause-fault
 returns-in_err-map-clause-fault g c = λ tells.

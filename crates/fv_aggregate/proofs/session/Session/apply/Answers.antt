@@ -1,77 +1,90 @@
-use Rattle.std.proofs.Common.{refl, sym, subst}
+use Rattle.std.proofs.Common.{◌≡◌, ◌≤◌, ◌+◌, ℕ, rules, Err, refl, sym, subst, ◌∙◌, ⊎_elim}
 use Rattle.std.specs.Prelude.{IsNone}
-use Rattle.fv_aggregate.specs.Commands.{machine_after}
-use Rattle.fv_aggregate.proofs.Applied.{cp_done, create_done, create_moments, list_done, not_refused, on_err, unbuilt, unbuilt_done}
-use Rattle.fv_aggregate.proofs.Lasting.{by_none, created_on, reclaimed_on, stay_on}
-use Rattle.fv_aggregate.proofs.Standing.{rests_for_last, stays_for}
+use Rattle.std.specs.FinMap as fin
+use Rattle.fv_disk.specs.Shown.{Image}
+use Rattle.fv_model.specs.Space.{overhead, span_of}
+use Rattle.fv_volume.specs.declared.pool.Pool.{Pool}
+use Rattle.fv_volume.specs.States.{machine_in}
+use Rattle.fv_aggregate.specs.declared.session.Session.{Session}
+use Rattle.fv_model.specs.declared.answers.Reply.{Reply}
+use Rattle.fv_model.specs.declared.answers.Reply.TheVariants.{Names, Refused}
+use Rattle.fv_model.specs.declared.answers.Refusal.TheVariants.{Syntax}
+use Rattle.fv_aggregate.specs.declared.fault.Fault.TheVariants.{Failed, Memory}
+use Rattle.fv_aggregate.specs.Calls.{GoesFor}
+use Rattle.fv_aggregate.specs.Commands.{dirty_limit, machine_after, room_of}
+use Rattle.fv_aggregate.proofs.Applied.{cp_goes, cp_goes_for, cp_replies, create_goes, create_goes_for, create_replies, create_room, list_after, list_replies, some_room, rests_for, rests_for_fault, unbuilt, unbuilt_after, unbuilt_replies}
+use Rattle.fv_aggregate.proofs.Calls.{rests_done}
 use Rattle.fv_aggregate.proofs.session.Session.apply.Goals as goal
 
-pub returns-in_err-names_of-in-VolList-clause-any_moment : goal.returns-in_err-names_of-in-VolList-clause-any_moment
-returns-in_err-names_of-in-VolList-clause-any_moment g c = λ tells last m stands none.
-    rests_for_last (g.D.Disk.shown c.args.disk.now) c.args.self.now last m (machine_after m c.args.command.now) (g.met.D.Disk.laws c.args.disk.now) stands
+pub returns-in-Some-clause-goes_for : goal.returns-in-Some-clause-goes_for
+returns-in-Some-clause-goes_for g c = λ tells last m stands.
+    rests_for_fault (Failed c.in-Some.faults) (g.D.Disk.shown c.args.disk.now) c.args.self.now last m (machine_after m c.args.command.now) (g.met.D.Disk.laws c.args.disk.now) tt stands
 
-pub returns-in_err-names_of-in-VolList-clause-still : goal.returns-in_err-names_of-in-VolList-clause-still
-returns-in_err-names_of-in-VolList-clause-still g c = λ tells last m stands none.
-    on_err c.from_residual.result (stays_for (g.D.Disk.shown c.args.disk.now) c.args.self.now last m m m stands)
+pub returns-in-VolCreate-clause-goes : goal.returns-in-VolCreate-clause-goes
+returns-in-VolCreate-clause-goes g c =
+    create_goes c.args.command.now _ _ _ c.in-VolCreate.is (g.D.Disk.shown c.args.disk.now) c.args.self.now (g.D.Disk.shown c.create.new.disk) c.create.new.self c.create.result c.create.ensures.goes
 
-pub returns-in-VolCreate-clause-done : goal.returns-in-VolCreate-clause-done
-returns-in-VolCreate-clause-done g c = λ tells last m stands.
-    create_done c.args.command.now _ _ _ c.in-VolCreate.is (g.D.Disk.shown c.create.new.disk) c.create.new.self last m c.create.result (c.create.ensures.done tells last m stands)
+pub returns-in-VolCreate-clause-goes_for : goal.returns-in-VolCreate-clause-goes_for
+returns-in-VolCreate-clause-goes_for g c = λ tells last m stands.
+    create_goes_for c.args.command.now _ _ _ c.in-VolCreate.is (g.D.Disk.shown c.args.disk.now) last m (g.D.Disk.shown c.create.new.disk) c.create.new.self c.create.result (c.create.ensures.goes_for tells last m stands)
 
-pub returns-in-VolCreate-clause-any_moment : goal.returns-in-VolCreate-clause-any_moment
-returns-in-VolCreate-clause-any_moment g c = λ tells last m stands none.
-    create_moments c.args.command.now _ _ _ c.in-VolCreate.is (g.D.Disk.shown c.args.disk.now) (g.D.Disk.shown c.create.new.disk) last m (g.D.Disk.shown c.args.disk.now).given (c.create.ensures.any_moment tells last m stands)
+pub returns-in-VolCreate-clause-reply : goal.returns-in-VolCreate-clause-reply
+returns-in-VolCreate-clause-reply g c = λ tells last m stands.
+    create_replies c.args.command.now _ _ _ c.in-VolCreate.is m c.create.result (c.create.ensures.reply tells last m stands)
 
-pub returns-in_ok-names_of-in-VolList-clause-done : goal.returns-in_ok-names_of-in-VolList-clause-done
-returns-in_ok-names_of-in-VolList-clause-done g c = λ tells last m stands.
-    list_done c.args.command.now c.in-VolList.is (g.D.Disk.shown c.args.disk.now) c.args.self.now last m stands c.in_ok-names_of-in-VolList.field-0 c.in_ok-names_of-in-VolList.ensures
+pub returns-in-Cp-clause-goes : goal.returns-in-Cp-clause-goes
+returns-in-Cp-clause-goes g c =
+    cp_goes c.args.command.now c.in-Cp.is (g.D.Disk.shown c.args.disk.now) c.args.self.now (g.D.Disk.shown c.reclaim.new.disk) c.reclaim.new.self c.reclaim.result c.reclaim.ensures.goes
 
-pub returns-in_ok-names_of-in-VolList-clause-any_moment : goal.returns-in_ok-names_of-in-VolList-clause-any_moment
-returns-in_ok-names_of-in-VolList-clause-any_moment g c = λ tells last m stands none.
-    rests_for_last (g.D.Disk.shown c.args.disk.now) c.args.self.now last m (machine_after m c.args.command.now) (g.met.D.Disk.laws c.args.disk.now) stands
+pub returns-in-Cp-clause-goes_for : goal.returns-in-Cp-clause-goes_for
+returns-in-Cp-clause-goes_for g c = λ tells last m stands.
+    cp_goes_for c.args.command.now c.in-Cp.is (g.D.Disk.shown c.args.disk.now) last m (g.D.Disk.shown c.reclaim.new.disk) c.reclaim.new.self c.reclaim.result (c.reclaim.ensures.goes_for tells last m stands)
 
-pub returns-in-Cp-clause-done : goal.returns-in-Cp-clause-done
-returns-in-Cp-clause-done g c = λ tells last m stands.
-    cp_done c.args.command.now c.in-Cp.is (g.D.Disk.shown c.reclaim.new.disk) c.reclaim.new.self last m c.reclaim.result c.reclaim.ensures.reply (c.reclaim.ensures.done tells last m stands)
+pub returns-in-Cp-clause-reply : goal.returns-in-Cp-clause-reply
+returns-in-Cp-clause-reply g c = λ tells last m stands. cp_replies c.args.command.now c.in-Cp.is m c.reclaim.result c.reclaim.ensures.reply
+
+pub returns-in_err-names_of-in-VolList-clause-goes_for : goal.returns-in_err-names_of-in-VolList-clause-goes_for
+returns-in_err-names_of-in-VolList-clause-goes_for g c = λ tells last m stands.
+    let disk = g.D.Disk.shown c.args.disk.now in
+    let failed : c.from_residual.result ≡ Err Memory = search rules in
+    subst (GoesFor {T = Reply} disk last m (machine_after m c.args.command.now) disk c.args.self.now) (sym failed)
+    (rests_for_fault Memory disk c.args.self.now last m (machine_after m c.args.command.now) (g.met.D.Disk.laws c.args.disk.now) tt stands)
+
+pub returns-in_ok-names_of-in-VolList-clause-goes_for : goal.returns-in_ok-names_of-in-VolList-clause-goes_for
+returns-in_ok-names_of-in-VolList-clause-goes_for g c = λ tells last m stands.
+    rests_for (Names c.in_ok-names_of-in-VolList.field-0) (g.D.Disk.shown c.args.disk.now) c.args.self.now last m (machine_after m c.args.command.now) (g.met.D.Disk.laws c.args.disk.now) (list_after c.args.command.now m c.in-VolList.is) stands
+
+pub returns-in-VolCreate-clause-calm : goal.returns-in-VolCreate-clause-calm
+returns-in-VolCreate-clause-calm g c = λ other calm.
+    let size = c.in-VolCreate.size in
+    let room : room_of c.args.command.now ≡ overhead (span_of size 0 0) = create_room c.args.command.now _ size _ c.in-VolCreate.is in
+    ⊎_elim
+    (λ (none : room_of c.args.command.now ≡ 0). absurd (some_room size (sym room ∙ none)))
+    (λ (few : c.args.self.now.pending + room_of c.args.command.now ≤ dirty_limit). c.create.ensures.calm (subst (λ (n : ℕ). c.args.self.now.pending + n ≤ dirty_limit) room few))
+    calm
+
+pub returns-in_ok-names_of-in-VolList-clause-reply : goal.returns-in_ok-names_of-in-VolList-clause-reply
+returns-in_ok-names_of-in-VolList-clause-reply g c = λ tells last m stands.
+    let names = c.in_ok-names_of-in-VolList.field-0 in
+    let listed = subst (λ (s : Session). (pool : Pool) (i : Image) → names ≡ fin.keys (machine_in pool s.volumes i).volumes) c.self.view_is c.in_ok-names_of-in-VolList.ensures in
+    list_replies c.args.command.now c.in-VolList.is (g.D.Disk.shown c.args.disk.now) c.args.self.now last m stands names listed
+
+pub returns-in-Cp-clause-point : goal.returns-in-Cp-clause-point
+returns-in-Cp-clause-point g c = λ tells last m stands cp. c.reclaim.ensures.done tells last m stands
 
 pub returns-in_default-command : goal.returns-in_default-command
 returns-in_default-command g c =
     let disk = g.D.Disk.shown c.args.disk.now in
     let session = c.args.self.now in
     let other = unbuilt c.args.command.now c.in_default-command.not-VolCreate c.in_default-command.not-VolList c.in_default-command.not-Cp in
-    let whole : IsNone session.failed = subst IsNone (sym c.in_default.is) refl in
+    let fresh : IsNone session.failed = subst (λ (s : Session). IsNone s.failed) c.self.view_is (subst IsNone (sym c.in_default.is) refl) in
     record {
-      done = λ tells last m stands. unbuilt_done c.args.command.now other disk session last m stands;
-      refused = λ tells last m stands refused. (refl, refl);
+      goes = rests_done (Refused Syntax) (room_of c.args.command.now) disk session fresh (c.requires.stands fresh);
+      goes_for = λ tells last m stands. rests_for (Refused Syntax) disk session last m (machine_after m c.args.command.now) (g.met.D.Disk.laws c.args.disk.now) (unbuilt_after m c.args.command.now other) stands;
+      reply = λ tells last m stands. unbuilt_replies m c.args.command.now other;
+      refused = λ refused. (refl, refl);
       point = λ tells last m stands cp. absurd (c.in_default-command.not-Cp cp);
-      any_moment = λ tells last m stands none. rests_for_last disk session last m (machine_after m c.args.command.now) (g.met.D.Disk.laws c.args.disk.now) stands;
-      still = λ tells last m stands none. tt;
-      whole = λ tells last m stands. tt;
-      stands = c.requires.stands;
-      fails = (whole, whole);
-      fault = tt;
-      lacking = tt;
-      volumes = by_none c.args.command.now session.volumes session.volumes (stay_on session.volumes session.volumes refl);
-      cause = refl;
-      write_cause = refl;
-      ends = record { tells = refl; given = refl; ends = refl };
+      calm = λ not few. refl;
       steps = refl;
       dead = λ failed. refl;
     }
-
-pub returns-in-Cp-clause-refused : goal.returns-in-Cp-clause-refused
-returns-in-Cp-clause-refused g c = λ tells last m stands. not_refused _ c.reclaim.result c.reclaim.ensures.reply
-
-pub returns-in-Cp-clause-point : goal.returns-in-Cp-clause-point
-returns-in-Cp-clause-point g c = λ tells last m stands cp. c.reclaim.ensures.done tells last m stands
-
-pub returns-in-VolCreate-clause-volumes : goal.returns-in-VolCreate-clause-volumes
-returns-in-VolCreate-clause-volumes g c = created_on c.args.command.now _ _ _ c.in-VolCreate.is c.args.self.now.volumes c.create.new.self.volumes c.create.result c.create.ensures.volumes
-
-pub returns-in_ok-names_of-in-VolList-clause-volumes : goal.returns-in_ok-names_of-in-VolList-clause-volumes
-returns-in_ok-names_of-in-VolList-clause-volumes g c =
-    let volumes = c.args.self.now.volumes in
-    by_none c.args.command.now volumes volumes (stay_on volumes volumes refl)
-
-pub returns-in-Cp-clause-volumes : goal.returns-in-Cp-clause-volumes
-returns-in-Cp-clause-volumes g c = reclaimed_on c.args.command.now c.args.self.now.volumes c.reclaim.new.self.volumes c.reclaim.result c.reclaim.ensures.volumes

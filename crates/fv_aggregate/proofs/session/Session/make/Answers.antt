@@ -1,29 +1,52 @@
+use Rattle.std.proofs.Common.{◌≡◌, ◌≤◌, ◌+◌, ◌*◌, ℕ, rules, Ok, Err, sym, ap, subst, ◌∙◌, arith}
+use Rattle.fv_model.specs.declared.answers.Reply.{Reply}
+use Rattle.fv_model.specs.declared.answers.Reply.TheVariants.{Done}
 use Rattle.fv_model.specs.declared.commands.Command.TheVariants.{VolCreate}
-use Rattle.std.proofs.Common.{None}
-use Rattle.fv_aggregate.proofs.Lasting.{replied_on}
-use Rattle.fv_aggregate.proofs.Added.{answer_for, done_only, replied, room_for, stands_replied}
+use Rattle.fv_model.specs.Machines.{capacity}
+use Rattle.fv_model.specs.Refusals.{next}
+use Rattle.fv_model.specs.Space.{commits, overhead}
+use Rattle.fv_aggregate.specs.declared.fault.Fault.TheVariants.{Memory}
+use Rattle.fv_aggregate.specs.declared.session.Session.{Session}
+use Rattle.fv_aggregate.specs.Calls.{Goes, GoesFor}
+use Rattle.fv_aggregate.proofs.Added.{added_for, added_goes, room_for, unmade_for, wanting_for}
 use Rattle.fv_aggregate.proofs.session.Session.make.Goals as goal
 
-pub returns-clause-done : goal.returns-clause-done
-returns-clause-done g c = λ tells last m stands.
+pub returns-in_err-make_room-clause-goes_for : goal.returns-in_err-make_room-clause-goes_for
+returns-in_err-make_room-clause-goes_for g c = λ tells last m stands.
+    let old = g.D.Disk.shown c.args.disk.now in
+    let mid = g.D.Disk.shown c.make_room.new.disk in
+    let failed : c.from_residual.result ≡ Err c.in_err-make_room.field-0.0 = search rules in
+    subst (GoesFor {T = Reply} old last m (next m (VolCreate c.args.name.now c.args.size c.args.kind)) mid c.make_room.new.self) (sym failed)
+    (unmade_for old c.args.self.now mid c.make_room.new.self c.args.name.now c.args.size c.args.kind c.from-room.result last m c.in_err-make_room.field-0.0 (c.in_err-make_room.ensures.goes_for tells last m stands))
+
+pub add-requires-clause-admitted : goal.add-requires-clause-admitted
+add-requires-clause-admitted g c = c.in_ok-make_room.ensures.admits c.args.name.now c.args.size c.args.kind c.args.admitted.slot c.args.admitted.span c.requires.admitted
+
+pub returns-in_err-add-clause-goes_for : goal.returns-in_err-add-clause-goes_for
+returns-in_err-add-clause-goes_for g c = λ tells last m stands.
+    let old = g.D.Disk.shown c.args.disk.now in
+    let mid = g.D.Disk.shown c.make_room.new.disk in
+    let after = next m (VolCreate c.args.name.now c.args.size c.args.kind) in
+    let failed : c.from_residual-in_err-add.result ≡ Err Memory = search rules in
+    subst (GoesFor {T = Reply} old last m after mid c.add.new.self) (sym failed)
+    (subst (λ (s : Session). GoesFor {T = Reply} old last m after mid s (Err Memory)) (sym c.in_err-add.ensures.same)
+    (wanting_for old c.args.self.now mid c.make_room.new.self c.args.name.now c.args.size c.args.kind c.from-room.result last m (c.in_ok-make_room.ensures.goes_for tells last m stands)))
+
+pub returns-clause-goes : goal.returns-clause-goes
+returns-clause-goes g c =
     let old = g.D.Disk.shown c.args.disk.now in
     let mid = g.D.Disk.shown c.make_room.new.disk in
     let made = c.in_ok-make_room.ensures in
-    let fits = room_for old c.args.self.now last m c.args.room c.requires.stands.housed.long stands c.requires.admitted in
-    let none = answer_for old c.args.self.now last m (VolCreate c.args.name.now c.args.size c.args.kind) None stands c.requires.accepted in
-    replied mid c.make_room.new.self last m (made.stands made.fails.1).housed.long (made.done tells last m stands) c.args.name.now c.args.size c.args.kind c.args.room c.requires.room
-    (made.room tells last m stands fits) none c.add.new.self c.add.result c.add.ensures.added
+    let room : c.from-room.result ≡ overhead c.args.admitted.span = search rules in
+    subst (λ (n : ℕ). Goes n old c.args.self.now mid c.add.new.self (Ok Done)) room
+    (added_goes old c.args.self.now mid c.make_room.new.self c.args.name.now c.args.size c.args.kind c.from-room.result made.goes made.few c.add.new.self c.in_ok-add.ensures.added c.in_ok-add.ensures.pending)
 
-pub returns-clause-stands : goal.returns-clause-stands
-returns-clause-stands g c = λ none.
-    let made = c.in_ok-make_room.ensures in
-    stands_replied (g.D.Disk.shown c.make_room.new.disk) c.make_room.new.self c.args.name.now c.args.size c.args.kind c.args.room c.add.new.self c.add.result (made.stands made.fails.1) c.add.ensures.added c.add.ensures.same
-
-pub returns-clause-made : goal.returns-clause-made
-returns-clause-made g c = λ tells last m stands.
+pub returns-clause-goes_for : goal.returns-clause-goes_for
+returns-clause-goes_for g c = λ tells last m stands.
     let old = g.D.Disk.shown c.args.disk.now in
-    let none = answer_for old c.args.self.now last m (VolCreate c.args.name.now c.args.size c.args.kind) None stands c.requires.accepted in
-    done_only (g.D.Disk.shown c.make_room.new.disk) c.make_room.new.self last m (c.in_ok-make_room.ensures.done tells last m stands) c.args.name.now c.args.size c.args.kind c.args.room none c.add.new.self c.add.result c.add.ensures.added
-
-pub returns-clause-volumes : goal.returns-clause-volumes
-returns-clause-volumes g c = replied_on c.args.self.now.volumes c.make_room.new.self c.args.name.now c.args.size c.args.kind c.args.room c.add.new.self c.add.result c.in_ok-make_room.ensures.volumes c.add.ensures.added
+    let mid = g.D.Disk.shown c.make_room.new.disk in
+    let made = c.in_ok-make_room.ensures in
+    let room : c.from-room.result ≡ overhead c.args.admitted.span = search rules in
+    let fits : commits m + 2 * c.from-room.result ≤ capacity m.blocks = omega (arith, room, room_for old c.args.self.now last m (overhead c.args.admitted.span) c.requires.long stands c.requires.commits) in
+    added_for old c.args.self.now mid c.make_room.new.self c.args.name.now c.args.size c.args.kind c.from-room.result last m (made.goes_for tells last m stands) (room ∙ ap overhead c.requires.admitted.span_is)
+    (made.room tells last m stands fits) c.add.new.self c.in_ok-add.ensures.added c.in_ok-add.ensures.pending

@@ -1,7 +1,7 @@
 use Rattle.std.proofs.Common.{◌∙◌, sym, ap, subst}
 use Rattle.std.specs.Prelude.{IsTrue}
 use Rattle.fv_image.specs.MachineOf.{machine_of}
-use Rattle.fv_aggregate.proofs.Opened.{opened_result, stands_result}
+use Rattle.fv_aggregate.proofs.Opened.{asks_result, opened_result, stands_result}
 use Rattle.fv_aggregate.proofs.Whole.{whole_result}
 use Rattle.fv_aggregate.proofs.session.Session.open.Goals as goal
 
@@ -21,4 +21,11 @@ pub returns-clause-stands : goal.returns-clause-stands
 returns-clause-stands g c =
     let mid = g.D.Disk.shown c.barrier.new.self in
     let done = c.load.ensures in
-    stands_result mid (g.D.Disk.shown c.load.new.disk) (λ tells. c.in_ok-barrier.ensures.durable (subst IsTrue c.barrier.ensures.tells tells)) done.only_reads c.load.result done.loaded done.size done.range done.housed done.cache done.fresh
+    stands_result mid (g.D.Disk.shown c.load.new.disk) (λ tells. c.in_ok-barrier.ensures.durable (subst IsTrue c.barrier.ensures.tells tells)) done.only_reads c.load.result done.loaded done.cache
+
+pub returns-clause-asks : goal.returns-clause-asks
+returns-clause-asks g c = λ tells.
+    let mid = g.D.Disk.shown c.barrier.new.self in
+    let told = subst IsTrue (sym c.barrier.ensures.tells) tells in
+    let done = c.load.ensures in
+    asks_result mid (g.D.Disk.shown c.load.new.disk) (λ tells. c.in_ok-barrier.ensures.durable (subst IsTrue c.barrier.ensures.tells tells)) done.only_reads c.load.result done.fresh (done.asked told)

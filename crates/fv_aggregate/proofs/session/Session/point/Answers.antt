@@ -1,54 +1,81 @@
-use Rattle.std.proofs.Common.{refl, subst}
-use Rattle.fv_cp.specs.declared.fault.CpFault.TheVariants.{Damaged}
-use Rattle.fv_cp.specs.Points.{LacksRoom, LeavesAll}
-use Rattle.fv_aggregate.proofs.Lasting.{settled_all}
-use Rattle.fv_aggregate.proofs.Standing.{stands_after_reads, stands_same}
-use Rattle.fv_aggregate.proofs.Points.{no_lack, point_room, pointed, same_session}
+use Rattle.std.proofs.Common.{◌∙◌, length, inr, refl, sym, ap, subst}
+use Rattle.std.specs.Prelude.{IsNone}
+use Rattle.fv_disk.specs.declared.fault.BlockFault.{BlockFault}
+use Rattle.fv_disk.specs.declared.fault.BlockFault.TheVariants.{Damaged}
+use Rattle.fv_volume.specs.States.{States}
+use Rattle.fv_cp.specs.Points.{AreSettled, LacksRoom, LeavesAll}
+use Rattle.fv_aggregate.specs.declared.session.Session.{Session}
+use Rattle.fv_aggregate.proofs.PointEnds.{admits_still, lent_as, no_lack, point_done, point_lacks, point_moments, point_room, pointed}
 use Rattle.fv_aggregate.proofs.session.Session.point.Goals as goal
+
+pub returns-in-Ok-clause-goes : goal.returns-in-Ok-clause-goes
+returns-in-Ok-clause-goes g c =
+    let e = c.in-Ok.ensures in
+    point_done (g.D.Disk.shown c.args.disk.now) c.args.self.now (g.D.Disk.shown c.consistency_point.new.disk) _ c.requires.fresh (subst (λ (s : Session). IsNone s.failed) (sym c.self.view_is) c.requires.fresh) refl
+    e.counts e.stands e.found e.loaded e.housed.long (subst (λ (s : Session). AreSettled s.volumes c.consistency_point.new.volumes) c.self.view_is e.volumes)
+
+pub returns-in-Ok-clause-goes_for : goal.returns-in-Ok-clause-goes_for
+returns-in-Ok-clause-goes_for g c = λ tells last m stands.
+    let session = c.args.self.now in
+    let pool = ap (λ (s : Session). s.pool) (sym c.self.view_is) in
+    let volumes = ap (λ (s : Session). s.volumes) (sym c.self.view_is) in
+    let lent = lent_as (g.D.Disk.shown c.args.disk.now) session last m stands c.self.inside.pool c.self.inside.volumes pool volumes in
+    record {
+      any_moment = point_moments (g.D.Disk.shown c.args.disk.now) (g.D.Disk.shown c.consistency_point.new.disk) session last m stands c.self.inside.pool c.self.inside.volumes pool volumes (c.in-Ok.ensures.any_moment tells last lent);
+      done = record {
+        point = m;
+        one = inr refl;
+        stands = pointed (g.D.Disk.shown c.args.disk.now) c.self.inside.pool c.self.inside.volumes (g.D.Disk.shown c.consistency_point.new.disk) c.consistency_point.new.pool c.consistency_point.new.volumes
+            (c.in-Ok.ensures.point tells last lent) session last m stands pool volumes _ refl refl refl;
+      };
+      still = λ none. tt;
+      whole = tt;
+    }
 
 pub returns-in-Ok-clause-done : goal.returns-in-Ok-clause-done
 returns-in-Ok-clause-done g c = λ tells last m stands.
     let session = c.args.self.now in
-    pointed (g.D.Disk.shown c.args.disk.now) session.pool session.volumes (g.D.Disk.shown c.consistency_point.new.disk) c.consistency_point.new.pool c.consistency_point.new.volumes
-    (c.in-Ok.ensures.point tells last stands.lent) session last m stands refl refl _ refl refl refl
+    let pool = ap (λ (s : Session). s.pool) (sym c.self.view_is) in
+    let volumes = ap (λ (s : Session). s.volumes) (sym c.self.view_is) in
+    let lent = lent_as (g.D.Disk.shown c.args.disk.now) session last m stands c.self.inside.pool c.self.inside.volumes pool volumes in
+    pointed (g.D.Disk.shown c.args.disk.now) c.self.inside.pool c.self.inside.volumes (g.D.Disk.shown c.consistency_point.new.disk) c.consistency_point.new.pool c.consistency_point.new.volumes
+    (c.in-Ok.ensures.point tells last lent) session last m stands pool volumes _ refl refl refl
 
 pub returns-in-Ok-clause-room : goal.returns-in-Ok-clause-room
 returns-in-Ok-clause-room g c = λ tells last m stands room fits.
     let session = c.args.self.now in
-    point_room (g.D.Disk.shown c.args.disk.now) session.pool session.volumes (g.D.Disk.shown c.consistency_point.new.disk) c.consistency_point.new.pool c.consistency_point.new.volumes
-    (c.in-Ok.ensures.point tells last stands.lent) session last m stands refl refl
-    (record session { volumes = c.consistency_point.new.volumes; pool = c.consistency_point.new.pool; pending = 0 }) refl refl room fits
+    let pool = ap (λ (s : Session). s.pool) (sym c.self.view_is) in
+    let volumes = ap (λ (s : Session). s.volumes) (sym c.self.view_is) in
+    let lent = lent_as (g.D.Disk.shown c.args.disk.now) session last m stands c.self.inside.pool c.self.inside.volumes pool volumes in
+    point_room (g.D.Disk.shown c.args.disk.now) c.self.inside.pool c.self.inside.volumes (g.D.Disk.shown c.consistency_point.new.disk) c.consistency_point.new.pool c.consistency_point.new.volumes
+    (c.in-Ok.ensures.point tells last lent) session last m stands pool volumes (record { volumes = c.consistency_point.new.volumes; pool = c.consistency_point.new.pool; pending = 0; failed = c.self.inside.failed }) refl refl room fits
 
-pub returns-in-Err-Damaged-clause-still : goal.returns-in-Err-Damaged-clause-still
-returns-in-Err-Damaged-clause-still g c = λ tells last m stands.
-    let e = c.in-Err-Damaged in
-    let lacks : LacksRoom c.args.self.now.pool c.args.self.now.volumes (Damaged e.at e.want e.found) = subst (LacksRoom c.args.self.now.pool c.args.self.now.volumes) e.field-0-is e.ensures.room in
-    absurd (no_lack (g.D.Disk.shown c.args.disk.now) c.args.self.now last m c.requires.stands.housed.long stands _ _ lacks.1.0 lacks.1.1.0 lacks.1.1.1)
-
-pub returns-in-Err-Damaged-clause-whole : goal.returns-in-Err-Damaged-clause-whole
-returns-in-Err-Damaged-clause-whole g c = λ tells last m stands.
-    let e = c.in-Err-Damaged in
-    let lacks : LacksRoom c.args.self.now.pool c.args.self.now.volumes (Damaged e.at e.want e.found) = subst (LacksRoom c.args.self.now.pool c.args.self.now.volumes) e.field-0-is e.ensures.room in
-    no_lack (g.D.Disk.shown c.args.disk.now) c.args.self.now last m c.requires.stands.housed.long stands _ _ lacks.1.0 lacks.1.1.0 lacks.1.1.1
-
-pub returns-in-Err-Damaged-clause-stands : goal.returns-in-Err-Damaged-clause-stands
-returns-in-Err-Damaged-clause-stands g c = λ none.
+pub returns-in-Err-Damaged-clause-goes : goal.returns-in-Err-Damaged-clause-goes
+returns-in-Err-Damaged-clause-goes g c =
     let e = c.in-Err-Damaged in
     let old = g.D.Disk.shown c.args.disk.now in
     let new = g.D.Disk.shown c.consistency_point.new.disk in
-    let left : LeavesAll old c.args.self.now.pool c.args.self.now.volumes new c.consistency_point.new.pool c.consistency_point.new.volumes (Damaged e.at e.want e.found) =
-    subst (LeavesAll old c.args.self.now.pool c.args.self.now.volumes new c.consistency_point.new.pool c.consistency_point.new.volumes) e.field-0-is e.ensures.lacking in
-    stands_same (g.D.Disk.shown c.consistency_point.new.disk) c.args.self.now _ left.1.0 left.1.1
-    (stands_after_reads (g.D.Disk.shown c.args.disk.now) (g.D.Disk.shown c.consistency_point.new.disk) c.args.self.now left.0 c.requires.stands)
+    let fault : BlockFault = Damaged e.at e.want e.found in
+    let left : LeavesAll old c.self.inside.pool c.self.inside.volumes new c.consistency_point.new.pool c.consistency_point.new.volumes fault =
+    subst (LeavesAll old c.self.inside.pool c.self.inside.volumes new c.consistency_point.new.pool c.consistency_point.new.volumes) e.field-0-is e.ensures.lacking in
+    let lacks : LacksRoom c.args.self.now.pool c.args.self.now.volumes fault = subst (λ (s : Session). LacksRoom s.pool s.volumes fault) c.self.view_is (subst (LacksRoom c.self.inside.pool c.self.inside.volumes) e.field-0-is e.ensures.room) in
+    point_lacks old c.args.self.now new _ e.at e.want e.found c.requires.fresh c.requires.stands (rw e.field-0-is at e.ensures.counts) lacks left.0
+    ((λ j. record { volumes = left.1.1 j; pool = left.1.0 j; pending = c.self.inside.pending; failed = c.self.inside.failed }) ∙ c.self.view_is)
 
-pub returns-in-Err-Damaged-clause-lacking : goal.returns-in-Err-Damaged-clause-lacking
-returns-in-Err-Damaged-clause-lacking g c =
+pub returns-in-Err-Damaged-clause-goes_for : goal.returns-in-Err-Damaged-clause-goes_for
+returns-in-Err-Damaged-clause-goes_for g c = λ tells last m stands.
     let e = c.in-Err-Damaged in
-    let old = g.D.Disk.shown c.args.disk.now in
-    let new = g.D.Disk.shown c.consistency_point.new.disk in
-    let left : LeavesAll old c.args.self.now.pool c.args.self.now.volumes new c.consistency_point.new.pool c.consistency_point.new.volumes (Damaged e.at e.want e.found) =
-    subst (LeavesAll old c.args.self.now.pool c.args.self.now.volumes new c.consistency_point.new.pool c.consistency_point.new.volumes) e.field-0-is e.ensures.lacking in
-    (left.0, same_session c.args.self.now c.consistency_point.new.pool c.consistency_point.new.volumes left.1.0 left.1.1)
+    let fault : BlockFault = Damaged e.at e.want e.found in
+    let lacks : LacksRoom c.args.self.now.pool c.args.self.now.volumes fault = subst (λ (s : Session). LacksRoom s.pool s.volumes fault) c.self.view_is (subst (LacksRoom c.self.inside.pool c.self.inside.volumes) e.field-0-is e.ensures.room) in
+    absurd (no_lack (g.D.Disk.shown c.args.disk.now) c.args.self.now last m (ap (λ (s : Session). length s.volumes) (sym c.self.view_is) ∙ (c.self.invariant (subst (λ (s : Session). IsNone s.failed) (sym c.self.view_is) c.requires.fresh)).housed.long) stands e.want e.found lacks.1.0 lacks.1.1.0 lacks.1.1.1)
 
-pub returns-in-Ok-clause-volumes : goal.returns-in-Ok-clause-volumes
-returns-in-Ok-clause-volumes g c = settled_all c.args.self.now.volumes c.consistency_point.new.volumes c.in-Ok.ensures.volumes
+pub returns-in-Err-Damaged-clause-kept : goal.returns-in-Err-Damaged-clause-kept
+returns-in-Err-Damaged-clause-kept g c = λ tells last m stands. absurd (returns-in-Err-Damaged-clause-goes_for g c tells last m stands).whole
+
+pub returns-in-Ok-clause-admits : goal.returns-in-Ok-clause-admits
+returns-in-Ok-clause-admits g c =
+    let e = c.in-Ok.ensures in
+    let fresh = subst (λ (s : Session). IsNone s.failed) (sym c.self.view_is) c.requires.fresh in
+    let was = ap (λ (s : Session). s.volumes) c.self.view_is in
+    admits_still c.args.self.now (record { volumes = c.consistency_point.new.volumes; pool = c.consistency_point.new.pool; pending = 0; failed = c.self.inside.failed }) (e.housed.long ∙ sym (c.self.invariant fresh).housed.long ∙ ap (λ (v : States). length v) was) (subst (λ (s : Session). AreSettled s.volumes c.consistency_point.new.volumes) c.self.view_is e.volumes)
+    (e.blocks ∙ ap (λ (s : Session). s.pool.found.blocks) c.self.view_is)

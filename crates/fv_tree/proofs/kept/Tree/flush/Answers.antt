@@ -36,3 +36,9 @@ returns-clause-reaches g c = λ stands.
     subst (λ owner. ReachesOnce new.used (stored (under new) owner c.args.self.now.levels t.root)) (nodes.left.owner ∙ cells.left.owner)
     (subst (λ levels. ReachesOnce new.used (stored (under new) t.owner levels t.root)) (nodes.left.levels ∙ cells.left.levels)
     (subst (ReachesOnce new.used) (is_stored t nodes.none none (under new)) (reaches t nodes.none none (under new) new.used (nodes.flushes (cells.flushes stands).sound).sound)))
+
+pub returns-in_err-flush_nodes-clause-strays : goal.returns-in_err-flush_nodes-clause-strays
+returns-in_err-flush_nodes-clause-strays g c = λ stands. let cells = c.in_ok-flush_cells.ensures in c.in_err-flush_nodes.ensures.strays (cells.flushes stands).sound ∙ cells.strays stands
+
+pub returns-clause-strays : goal.returns-clause-strays
+returns-clause-strays g c = λ stands. let cells = c.in_ok-flush_cells.ensures in c.in_ok-flush_nodes.ensures.strays (cells.flushes stands).sound ∙ cells.strays stands

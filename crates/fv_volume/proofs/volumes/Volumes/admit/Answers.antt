@@ -1,7 +1,7 @@
 use Rattle.std.proofs.Common.{◌≡◌, ◌∙◌, ℕ, length, sym, ap, subst}
-use Rattle.std.specs.Prelude.{IfErr, Result, Ok, Err}
-use Rattle.std.specs.Result.{IsErrAnd}
+use Rattle.std.specs.Prelude.{IfOk, IfErr, Result, Ok, Err}
 use Rattle.fv_model.specs.declared.answers.Refusal.{Refusal}
+use Rattle.fv_volume.specs.declared.admit.Admitted.{Admitted}
 use Rattle.fv_volume.specs.Creating.{Admits, Refuses}
 use Rattle.fv_volume.specs.Slots.{HaveSpans}
 use Rattle.fv_volume.specs.States.{States}
@@ -11,33 +11,39 @@ use Rattle.fv_volume.proofs.volumes.Volumes.admit.Goals as goal
 pub admit-requires-clause-spans : goal.admit-requires-clause-spans
 admit-requires-clause-spans c = subst HaveSpans (sym (c.deref.ensures.value ∙ c.self.view_is)) (have_spans c.args.self.now c.requires.each)
 
-handed : (P : Refusal → Type 0) (r : Refusal) (result : Result ℕ Refusal) → IsErrAnd result (λ e. e ≡ r) → P r → IfErr result P
-handed P r (Ok span) is holds = tt
-handed P r (Err e) is holds = subst P (sym is) holds
+ok_of : (P Q : Admitted → Type 0) (result : Result Admitted Refusal) → ((a : Admitted) → P a → Q a) → IfOk result P → IfOk result Q
+ok_of P Q (Ok a) so holds = so a holds
+ok_of P Q (Err r) so holds = tt
 
-pub returns-in_err-place-clause-refused : goal.returns-in_err-place-clause-refused
-returns-in_err-place-clause-refused c = λ are.
-    let states : States = c.args.self.now in
-    let long : length states ≡ 64 = ap (λ (s : States). length s) (sym c.self.view_is) ∙ c.self.invariant in
-    let r : Refusal = c.in_err-place.field-0.0 in
-    let by : Refuses states c.args.blocks c.args.name.now c.args.size c.args.kind r =
-    subst (λ (s : States). Refuses s c.args.blocks c.args.name.now c.args.size c.args.kind r) (c.deref.ensures.value ∙ c.self.view_is) c.in_err-place.ensures.refused in
-    handed _ r c.from_residual.result c.from_residual.ensures.1 (λ pool i same. refused_as pool states i long are c.args.name.now c.args.size c.args.kind r
-    (subst (λ (n : ℕ). Refuses states n c.args.name.now c.args.size c.args.kind r) (sym same) by))
+err_of : (P Q : Refusal → Type 0) (result : Result Admitted Refusal) → ((r : Refusal) → P r → Q r) → IfErr result P → IfErr result Q
+err_of P Q (Ok a) so holds = tt
+err_of P Q (Err r) so holds = so r holds
 
 pub returns-clause-accepted : goal.returns-clause-accepted
-returns-clause-accepted c = λ are pool i same.
+returns-clause-accepted c = λ are.
     let states : States = c.args.self.now in
     let long : length states ≡ 64 = ap (λ (s : States). length s) (sym c.self.view_is) ∙ c.self.invariant in
-    let is : Admits states c.args.blocks c.args.name.now c.args.size c.args.kind c.in_ok-place.place.slot c.in_ok-place.place.span =
-    subst (λ (s : States). Admits s c.args.blocks c.args.name.now c.args.size c.args.kind c.in_ok-place.place.slot c.in_ok-place.place.span) (c.deref.ensures.value ∙ c.self.view_is) c.in_ok-place.ensures.admitted in
-    accepted pool states i long are c.args.name.now c.args.size c.args.kind c.in_ok-place.place.slot c.in_ok-place.place.span
-    (subst (λ (n : ℕ). Admits states n c.args.name.now c.args.size c.args.kind c.in_ok-place.place.slot c.in_ok-place.place.span) (sym same) is)
+    let admitted : IfOk c.admit.result (λ (a : Admitted). Admits states c.args.blocks c.args.name.now c.args.size c.args.kind a.slot a.span) =
+    subst (λ (s : States). IfOk c.admit.result (λ (a : Admitted). Admits s c.args.blocks c.args.name.now c.args.size c.args.kind a.slot a.span)) (c.deref.ensures.value ∙ c.self.view_is) c.admit.ensures.admitted in
+    ok_of (λ (a : Admitted). Admits states c.args.blocks c.args.name.now c.args.size c.args.kind a.slot a.span) _ c.admit.result
+    (λ a is pool i same. accepted pool states i long are c.args.name.now c.args.size c.args.kind a.slot a.span
+    (subst (λ (n : ℕ). Admits states n c.args.name.now c.args.size c.args.kind a.slot a.span) (sym same) is)) admitted
 
 pub returns-clause-room : goal.returns-clause-room
-returns-clause-room c = λ are pool i same.
+returns-clause-room c = λ are.
     let states : States = c.args.self.now in
     let long : length states ≡ 64 = ap (λ (s : States). length s) (sym c.self.view_is) ∙ c.self.invariant in
-    let is : Admits states c.args.blocks c.args.name.now c.args.size c.args.kind c.in_ok-place.place.slot c.in_ok-place.place.span =
-    subst (λ (s : States). Admits s c.args.blocks c.args.name.now c.args.size c.args.kind c.in_ok-place.place.slot c.in_ok-place.place.span) (c.deref.ensures.value ∙ c.self.view_is) c.in_ok-place.ensures.admitted in
-    room_beside pool states i long are c.args.name.now c.args.size c.args.kind c.in_ok-place.place.slot c.in_ok-place.place.span c.args.blocks is
+    let admitted : IfOk c.admit.result (λ (a : Admitted). Admits states c.args.blocks c.args.name.now c.args.size c.args.kind a.slot a.span) =
+    subst (λ (s : States). IfOk c.admit.result (λ (a : Admitted). Admits s c.args.blocks c.args.name.now c.args.size c.args.kind a.slot a.span)) (c.deref.ensures.value ∙ c.self.view_is) c.admit.ensures.admitted in
+    ok_of (λ (a : Admitted). Admits states c.args.blocks c.args.name.now c.args.size c.args.kind a.slot a.span) _ c.admit.result
+    (λ a is pool i same. room_beside pool states i long are c.args.name.now c.args.size c.args.kind a.slot a.span c.args.blocks is) admitted
+
+pub returns-clause-refused : goal.returns-clause-refused
+returns-clause-refused c = λ are.
+    let states : States = c.args.self.now in
+    let long : length states ≡ 64 = ap (λ (s : States). length s) (sym c.self.view_is) ∙ c.self.invariant in
+    let refused : IfErr c.admit.result (Refuses states c.args.blocks c.args.name.now c.args.size c.args.kind) =
+    subst (λ (s : States). IfErr c.admit.result (Refuses s c.args.blocks c.args.name.now c.args.size c.args.kind)) (c.deref.ensures.value ∙ c.self.view_is) c.admit.ensures.refused in
+    err_of (Refuses states c.args.blocks c.args.name.now c.args.size c.args.kind) _ c.admit.result
+    (λ r by pool i same. refused_as pool states i long are c.args.name.now c.args.size c.args.kind r
+    (subst (λ (n : ℕ). Refuses states n c.args.name.now c.args.size c.args.kind r) (sym same) by)) refused

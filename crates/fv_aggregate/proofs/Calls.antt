@@ -1,0 +1,123 @@
+-- What a call of a session does, from its parts.
+use Rattle.std.proofs.Common.{◌≡◌, ◌≤◌, ℕ, Option, Some, Result, Ok, Err, refl, sym, subst, ⊎_elim, inl, inr, arith}
+use Rattle.std.specs.Prelude.{IsNone}
+use Rattle.fv_disk.specs.Shown.{Shown}
+use Rattle.fv_disk.specs.DiskCalls.{OnlyReads}
+use Rattle.fv_disk.proofs.Resting.{stays_itself}
+use Rattle.fv_model.specs.Machines.{Machine}
+use Rattle.fv_aggregate.specs.declared.fault.Fault.{Fault}
+use Rattle.fv_aggregate.specs.declared.fault.Fault.TheVariants.{DiskFault, Damaged, Memory, Failed}
+use Rattle.fv_aggregate.specs.declared.session.Session.{Session}
+use Rattle.fv_aggregate.specs.Calls.{Goes, GoesFor, HasFault, SameCounts}
+use Rattle.fv_aggregate.specs.Causes.{KeepsEnds}
+use Rattle.fv_aggregate.specs.Standing.{Stands}
+use Rattle.fv_aggregate.proofs.Asking.{asks_more}
+
+-- ---- a call that leaves the disk and the session
+
+same_ends : (disk : Shown) → KeepsEnds disk disk
+same_ends disk = record { tells = refl; given = refl; ends = refl }
+
+same_counts : (disk : Shown) → SameCounts disk disk
+same_counts disk = record { faults = refl; write_faults = refl }
+
+pub reads_itself : (disk : Shown) → OnlyReads disk disk
+reads_itself disk = record {
+  stays = stays_itself disk;
+  time = record { later = omega arith; nothing_else = λ t c g low since. inl since; keeps = λ t c g low since. since };
+  given = refl;
+  ends = refl;
+  faults = omega arith;
+  write_faults = refl;
+}
+
+pub rests_done : {T : Type 0} (x : T) (room : ℕ) (disk : Shown) (session : Session) → IsNone session.failed → Stands disk session → Goes room disk session disk session (Ok x)
+rests_done x room disk session fresh stands = record {
+  ends = same_ends disk;
+  stands = λ none. stands;
+  asks = λ tells kept asks none. asks_more disk session kept room asks;
+  done = record { was = fresh; goes_on = fresh; counts = same_counts disk };
+  fault = tt;
+}
+
+pub rests_wanting : {T : Type 0} (room : ℕ) (disk : Shown) (session : Session) → IsNone session.failed → Stands disk session → Goes {T = T} room disk session disk session (Err Memory)
+rests_wanting room disk session fresh stands = record {
+  ends = same_ends disk;
+  stands = λ none. stands;
+  asks = λ tells kept asks none. asks_more disk session kept room asks;
+  done = tt;
+  fault = record { reason = fresh; counts = same_counts disk; session = fresh; disk = inl (reads_itself disk, refl) };
+}
+
+-- a session that failed before
+pub stays_failed : {T : Type 0} (faults room : ℕ) (disk : Shown) (session : Session) → session.failed ≡ Some faults → Goes {T = T} room disk session disk session (Err (Failed faults))
+stays_failed faults room disk session failed = record {
+  ends = same_ends disk;
+  stands = λ none. absurd (both session.failed none failed);
+  asks = λ tells kept asks none. asks_more disk session kept room asks;
+  done = tt;
+  fault = record { reason = failed; counts = same_counts disk; session = refl; disk = reads_itself disk };
+}
+  where
+    both : (o : Option ℕ) → IsNone o → o ≡ Some faults → ⊥
+    both o none some = cc
+
+-- ---- a call whose answer is that of another
+
+-- the two aren't done by the same fault, or both are done
+abbrev pub EndsAs : {T U : Type 0} → Result T Fault → Result U Fault → Type 0
+EndsAs (Ok x) (Ok y) = Unit {0}
+EndsAs (Err e) (Err f) = f ≡ e
+EndsAs (Ok x) (Err f) = ⊥
+EndsAs (Err e) (Ok y) = ⊥
+
+more_room : (least room : ℕ) → least ≤ room → (before : Shown) (old : Session) (after : Shown) (new : Session) (e : Fault) → HasFault least before old after new e → HasFault room before old after new e
+more_room least room le before old after new DiskFault row = row
+more_room least room le before old after new (Damaged at want found) row = row
+more_room least room le before old after new (Failed faults) row = row
+more_room least room le before old after new Memory row = record {
+  reason = row.reason;
+  counts = row.counts;
+  session = row.session;
+  disk = ⊎_elim (λ untouched. inl untouched) (λ past. inr (omega (arith, past, le))) row.disk;
+}
+
+pub goes_as : {T U : Type 0} (least room : ℕ) → least ≤ room → (before : Shown) (old : Session) (after : Shown) (new : Session) (r : Result T Fault) (s : Result U Fault) → EndsAs r s
+    → Goes least before old after new r → Goes room before old after new s
+goes_as least room le before old after new (Ok x) (Ok y) same goes = record {
+  ends = goes.ends;
+  stands = goes.stands;
+  asks = λ tells kept asks none. let is = goes.asks tells kept asks none in record { asked = is.asked; pending = omega (arith, is.pending, le) };
+  done = goes.done;
+  fault = tt;
+}
+goes_as least room le before old after new (Err e) (Err f) same goes = record {
+  ends = goes.ends;
+  stands = goes.stands;
+  asks = λ tells kept asks none. let is = goes.asks tells kept asks none in record { asked = is.asked; pending = omega (arith, is.pending, le) };
+  done = tt;
+  fault = subst (HasFault room before old after new) (sym same) (more_room least room le before old after new e goes.fault);
+}
+goes_as least room le before old after new (Ok x) (Err f) same goes = absurd same
+goes_as least room le before old after new (Err e) (Ok y) same goes = absurd same
+
+-- ---- with more room
+
+pub goes_more : (room : ℕ) (before : Shown) (old : Session) (after : Shown) (new : Session) (r : Result (Unit {0}) Fault) → Goes 0 before old after new r → Goes room before old after new r
+goes_more room before old after new (Ok x) goes = goes_as 0 room (omega arith) before old after new (Ok x) (Ok x) tt goes
+goes_more room before old after new (Err e) goes = goes_as 0 room (omega arith) before old after new (Err e) (Err e) refl goes
+
+-- ---- answered otherwise
+
+-- a call that has a reply where this one was done
+pub replies_done : {T : Type 0} (x : T) (room : ℕ) (before : Shown) (old : Session) (after : Shown) (new : Session) → Goes {T = Unit {0}} room before old after new (Ok tt) → Goes room before old after new (Ok x)
+replies_done x room before old after new goes = goes_as room room (omega arith) before old after new (Ok tt) (Ok x) tt goes
+
+pub fails_alike : {T : Type 0} (e : Fault) (room : ℕ) (before : Shown) (old : Session) (after : Shown) (new : Session) → Goes {T = Unit {0}} room before old after new (Err e) → Goes {T = T} room before old after new (Err e)
+fails_alike e room before old after new goes = goes_as room room (omega arith) before old after new (Err e) (Err e) refl goes
+
+pub replies_for : {T : Type 0} (x : T) (before : Shown) (last m next : Machine) (after : Shown) (new : Session) → GoesFor {T = Unit {0}} before last m next after new (Ok tt) → GoesFor before last m next after new (Ok x)
+replies_for x before last m next after new goes = record { any_moment = goes.any_moment; done = goes.done; still = λ none. tt; whole = tt }
+
+pub fails_for : {T : Type 0} (e : Fault) (before : Shown) (last m next : Machine) (after : Shown) (new : Session) → GoesFor {T = Unit {0}} before last m next after new (Err e) → GoesFor {T = T} before last m next after new (Err e)
+fails_for e before last m next after new goes = record { any_moment = goes.any_moment; done = tt; still = goes.still; whole = goes.whole }

@@ -1,0 +1,59 @@
+use Rattle.std.proofs.Common.{◌≡◌, ◌∙◌, Result, Err, rules, sym, ap, subst}
+use Rattle.std.specs.Prelude.{IfErr, IsTrue}
+use Rattle.fv_disk.specs.declared.fault.BlockFault.{BlockFault}
+use Rattle.fv_aggregate.specs.declared.fault.OpenFault.{OpenFault}
+use Rattle.fv_aggregate.specs.declared.session.Session.{Session}
+use Rattle.fv_aggregate.specs.Causes.{IsOpenFault, of_block}
+use Rattle.fv_aggregate.proofs.Opened.{load_fault}
+use Rattle.fv_disk.specs.Shown.{Image}
+use Rattle.fv_root.specs.declared.find.Found.{Found}
+use Rattle.fv_container.specs.Chains.{slot_count}
+use Rattle.fv_image.specs.Held.{layout_at, view_at}
+use Rattle.fv_image.specs.MachineOf.{Tells}
+use Rattle.fv_root.specs.Finding.{IsFound, root_found}
+use Rattle.fv_aggmap.specs.Space.{Space}
+use Rattle.fv_aggmap.specs.Loading.{IsLoaded}
+use Rattle.fv_volume.specs.Loading.{IsLoadFault, LoadedTo}
+use Rattle.fv_volume.specs.States.{machine_in, view_over}
+use Rattle.fv_aggregate.proofs.Asking.{asked_opened}
+use Rattle.fv_aggregate.proofs.opening.load.Goals as goal
+
+pub returns-clause-loaded : goal.returns-clause-loaded
+returns-clause-loaded g c = λ tells.
+    let i = (g.D.Disk.shown c.args.disk.now).reads in
+    let j = (g.D.Disk.shown c.open.new.disk).reads in
+    let first = c.find_root.ensures.only_reads.stays in
+    let second = c.open.ensures.only_reads.stays in
+    let told : IsTrue (g.D.Disk.shown c.find_root.new.disk).tells = subst IsTrue (sym first.tells) tells in
+    let still = subst IsTrue (sym second.tells) told in
+    let same : j ≡ i = second.reads ∙ first.reads in
+    let pool = c.open-2.new.pool in
+    let was : c.in_ok-pool.pool.found ≡ c.in_ok-found.found = c.in_ok-pool.ensures.found in
+    let now : pool.found ≡ c.in_ok-pool.pool.found = c.open-2.ensures.found in
+    let map : IsLoaded i c.in_ok-found.found c.in_ok-pool.pool.map = subst (λ (k : Image). IsLoaded k c.in_ok-found.found c.in_ok-pool.pool.map) first.reads (c.in_ok-pool.ensures.map told) in
+    let volumes = c.in_ok-volumes.volumes in
+    let e = c.in_ok-volumes.ensures in
+    record {
+      found = subst (IsFound i) (sym (now ∙ was)) (c.in_ok-found.ensures.finds tells);
+      map = subst (λ (m : Space). IsLoaded i pool.found m) (sym e.map) (subst (λ (f : Found). IsLoaded i f c.in_ok-pool.pool.map) (sym (now ∙ was)) map);
+      slots = subst (λ (f : Found). LoadedTo i f slot_count volumes pool.containers) (sym now) (subst (λ (k : Image). LoadedTo k c.in_ok-pool.pool.found slot_count volumes pool.containers) same (e.loaded still));
+      view = ap (λ (k : Image). view_over pool volumes k) (sym same) ∙ e.view still c.in_ok-pool.ensures.empty ∙ (λ t. view_at (root_found (sym now t)) (same t));
+      machine = λ m is. ap (λ (k : Image). machine_in pool volumes k) (sym same) ∙ e.machine still c.in_ok-pool.ensures.empty m (subst (λ (k : Image). Tells (layout_at (root_found c.in_ok-pool.pool.found) k) m) (sym same) (subst (λ (f : Found). Tells (layout_at (root_found f) i) m) now is));
+      states = λ m is. e.whole still m (subst (λ (k : Image). Tells (layout_at (root_found c.in_ok-pool.pool.found) k) m) (sym same) (subst (λ (f : Found). Tells (layout_at (root_found f) i) m) now is));
+    }
+
+pub returns-clause-asked : goal.returns-clause-asked
+returns-clause-asked g c = λ tells.
+    asked_opened c.open-2.new.pool c.in_ok-volumes.volumes (g.D.Disk.shown c.args.disk.now).reads c.in_ok-volumes.ensures.states.long (returns-clause-loaded g c tells).view
+
+pub returns-in_err-volumes-clause-fault : goal.returns-in_err-volumes-clause-fault
+returns-in_err-volumes-clause-fault g c = λ tells.
+    let i = (g.D.Disk.shown c.args.disk.now).reads in
+    let first = c.find_root.ensures.only_reads.stays in
+    let second = c.open.ensures.only_reads.stays in
+    let told = subst IsTrue (sym (second.tells ∙ first.tells)) tells in
+    let e : BlockFault = c.in_err-volumes.field-0.0 in
+    let fault : IsLoadFault i c.in_ok-found.found e = subst (λ (j : Image). IsLoadFault j c.in_ok-found.found e) (second.reads ∙ first.reads)
+    (subst (λ (f : Found). IsLoadFault (g.D.Disk.shown c.open.new.disk).reads f e) c.in_ok-pool.ensures.found (c.in_err-volumes.ensures.fault told)) in
+    let failed : c.from_residual-in_err-volumes.result ≡ Err (of_block e) = search rules in
+    subst (λ (r : Result Session OpenFault). IfErr r (IsOpenFault i)) (sym failed) (load_fault i c.in_ok-found.found (c.in_ok-found.ensures.finds tells) e fault)

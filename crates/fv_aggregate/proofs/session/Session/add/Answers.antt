@@ -1,0 +1,50 @@
+use Rattle.std.proofs.Common.{◌≡◌, ◌≤◌, ◌+◌, refl, sym, ap, subst, ◌∙◌, arith}
+use Rattle.std.specs.Prelude.{IsNone}
+use Rattle.fv_model.specs.Space.{overhead, span_of}
+use Rattle.fv_container.specs.Chains.{container_at}
+use Rattle.fv_volume.specs.declared.pool.Pool.{Pool}
+use Rattle.fv_volume.specs.Creating.{IsNew}
+use Rattle.fv_volume.specs.States.{state_at}
+use Rattle.fv_cp.specs.Lent.{blocks_asked}
+use Rattle.fv_cp.proofs.Housing.{housed_with}
+use Rattle.fv_aggregate.specs.declared.session.Session.{Session}
+use Rattle.fv_aggregate.specs.Parts.{IsWhole}
+use Rattle.fv_aggregate.proofs.Added.{added_as}
+use Rattle.fv_aggregate.proofs.Asking.{asked_made}
+use Rattle.fv_aggregate.proofs.session.Session.add.Goals as goal
+
+pub invariant_of-self-2 : goal.invariant_of-self-2
+invariant_of-self-2 c = λ fresh.
+    let was = c.self.invariant fresh in
+    let e = c.in_ok-create.ensures in
+    let slot = c.in_ok-create.field-0 in
+    let new = subst (λ (p : Pool). IsNew (state_at c.create.new.self slot) (container_at p.containers slot) c.args.name.now c.args.size c.args.kind) e.holes e.new in
+    subst (λ (p : Pool). IsWhole p c.create.new.self) (sym e.holes) (record {
+      range = was.range;
+      size = was.size;
+      housed = housed_with c.self.inside.pool c.self.inside.volumes c.create.new.self slot c.args.name.now c.args.size c.args.kind e.made new e.each was.housed;
+      unkept = was.unkept;
+    })
+
+pub returns-clause-added : goal.returns-clause-added
+returns-clause-added c =
+    let e = c.in_ok-create.ensures in
+    let slot = c.in_ok-create.field-0 in
+    let long = (c.self.invariant (subst (λ (s : Session). IsNone s.failed) (sym c.self.view_is) c.requires.fresh)).housed.long in
+    let room : c.args.room ≡ overhead (span_of c.args.size 0 0) = c.requires.room ∙ ap overhead c.requires.admitted.span_is in
+    let asked : blocks_asked c.create.new.self ≤ blocks_asked c.self.inside.volumes + c.args.room =
+    omega (arith, asked_made c.self.inside.volumes slot c.args.name.now c.args.size c.args.kind c.create.new.self long e.slot e.made, room) in
+    added_as _ c.args.self.now _ c.args.name.now c.args.size c.args.kind c.args.room c.self.view_is (record {
+      slot = slot;
+      free = e.slot;
+      made = e.made;
+      new_there = e.new;
+      holes = e.holes;
+      each = e.each;
+      states = e.states;
+      accepted = e.accepted;
+      machine = e.machine;
+      long = long;
+      asked = asked;
+      failed = refl;
+    })

@@ -1,0 +1,101 @@
+//! The volumes that a session makes.
+
+ghost use Rattle.std.specs.Prelude.{◌≡◌, ◌≤◌, ◌+◌, ◌*◌, ℕ, length, max, IsTrue, IsNone, IfOk, OnOk, OnErr};
+ghost use Rattle.fv_disk.specs.Shown.{Image};
+ghost use Rattle.fv_container.specs.Chains.{slot_count};
+ghost use Rattle.fv_model.specs.Machines.{Machine, capacity};
+ghost use Rattle.fv_model.specs.Space.{commits, overhead, span_of};
+ghost use Rattle.fv_model.specs.Refusals.{next};
+ghost use Rattle.fv_model.specs.Replies.{Allows};
+ghost use Rattle.fv_model.specs.declared.answers.Reply.TheVariants.{Done};
+ghost use Rattle.fv_model.specs.declared.commands.Command.TheVariants.{VolCreate};
+ghost use Rattle.fv_volume.specs.Creating.{Admits};
+ghost use Rattle.fv_volume.specs.States.{AreStates, machine_in};
+ghost use Rattle.fv_aggregate.specs.Adding.{IsAdded};
+ghost use Rattle.fv_aggregate.specs.Calls.{Goes, GoesFor};
+ghost use Rattle.fv_aggregate.specs.Commands.{dirty_limit, is_refusal};
+ghost use Rattle.fv_aggregate.specs.Standing.{Stands, StandsFor};
+
+use crate::fault::Fault;
+use crate::session::Session;
+use fv_charge::overhead;
+use fv_disk::Disk;
+use fv_model::{Kind, Name, Refusal, Reply};
+use fv_volume::Admitted;
+use std::alloc::AllocError;
+
+impl Session {
+    /// Makes a volume: it is decided first, so that what is refused is refused before the point that its room would ask for.
+    pub(crate) fn create<D: Disk>(
+        &mut self,
+        disk: &mut D,
+        name: &Name,
+        size: u32,
+        kind: Kind,
+    ) -> Result<Reply, Fault>
+        requires fresh { IsNone self.old.failed }
+        requires stands { Stands (D.shown disk.old) self.old }
+        ensures goes { Goes (overhead (span_of size 0 0)) (D.shown disk.old) self.old (D.shown disk.new) self.new result }
+        ensures goes_for { IsTrue (D.shown disk.old).tells → (last m : Machine) → StandsFor (D.shown disk.old) self.old last m
+            → GoesFor (D.shown disk.old) last m (next m (VolCreate name.now size kind)) (D.shown disk.new) self.new result }
+        ensures reply { IsTrue (D.shown disk.old).tells → (last m : Machine) → StandsFor (D.shown disk.old) self.old last m
+            → IfOk result (Allows m (VolCreate name.now size kind)) }
+        ensures refused { IfOk result (λ reply. IsTrue (is_refusal reply) → (disk.new ≡ disk.old) × (self.new ≡ self.old)) }
+        ensures calm { self.old.pending + overhead (span_of size 0 0) ≤ dirty_limit → disk.new ≡ disk.old }
+    {
+        match self.volumes.admit(self.pool.found.blocks, name, size, kind) {
+            Ok(admitted) => self.make(disk, name, size, kind, admitted),
+            Err(refusal) => Ok(Reply::Refused(refusal)),
+        }
+    }
+
+    /// Makes a volume that is admitted: first room for it, and then the volume in memory.
+    fn make<D: Disk>(
+        &mut self,
+        disk: &mut D,
+        name: &Name,
+        size: u32,
+        kind: Kind,
+        admitted: Admitted,
+    ) -> Result<Reply, Fault>
+        requires fresh { IsNone self.old.failed }
+        requires stands { Stands (D.shown disk.old) self.old }
+        requires long { length self.old.volumes ≡ slot_count }
+        requires admitted { Admits self.old.volumes self.old.pool.found.blocks name.now size kind admitted.slot admitted.span }
+        requires commits { AreStates self.old.volumes → (i : Image) → commits (machine_in self.old.pool self.old.volumes i) + 2 * overhead admitted.span ≤ capacity self.old.pool.found.blocks }
+        ensures goes { Goes (overhead admitted.span) (D.shown disk.old) self.old (D.shown disk.new) self.new result }
+        ensures goes_for { IsTrue (D.shown disk.old).tells → (last m : Machine) → StandsFor (D.shown disk.old) self.old last m
+            → GoesFor (D.shown disk.old) last m (next m (VolCreate name.now size kind)) (D.shown disk.new) self.new result }
+        ensures reply { IfOk result (λ reply. reply ≡ Done) }
+        ensures calm { self.old.pending + overhead admitted.span ≤ dirty_limit → disk.new ≡ disk.old }
+    {
+        let room = u64::from(overhead(admitted.span()));
+        self.make_room(disk, room)?;
+        self.add(name, size, kind, admitted, room)?;
+        Ok(Reply::Done)
+    }
+
+    /// Adds a volume in memory, with this room.
+    fn add(
+        &mut self,
+        name: &Name,
+        size: u32,
+        kind: Kind,
+        admitted: Admitted,
+        room: u64,
+    ) -> Result<(), AllocError>
+        requires fresh { IsNone self.old.failed }
+        requires few { self.old.pending + room ≤ max dirty_limit room }
+        requires least { room ≤ 4151 }
+        requires room { room ≡ overhead admitted.span }
+        requires admitted { Admits self.old.volumes self.old.pool.found.blocks name.now size kind admitted.slot admitted.span }
+        ensures added { OnOk result (IsAdded self.old name.now size kind room self.new) }
+        ensures pending { OnOk result (self.new.pending ≡ self.old.pending + room) }
+        ensures same { OnErr result (self.new ≡ self.old) }
+    {
+        self.volumes
+            .create(&mut self.pool, name, size, kind, admitted)?;
+        self.pending += room;
+        Ok(())
+    }
+}

@@ -1,0 +1,103 @@
+//! The consistency points of a session.
+
+ghost use Rattle.std.specs.Prelude.{◌≡◌, ◌≤◌, ◌+◌, ◌*◌, ℕ, max, IsTrue, IsNone, IfOk, OnErr, OnOk, Some};
+ghost use Rattle.fv_disk.specs.Shown.{Rose};
+ghost use Rattle.fv_model.specs.Machines.{Machine, capacity};
+ghost use Rattle.fv_model.specs.Space.{commits};
+ghost use Rattle.fv_model.specs.declared.answers.Reply.TheVariants.{Done};
+ghost use Rattle.fv_aggregate.specs.Adding.{HasRoom, StillAdmits};
+ghost use Rattle.fv_aggregate.specs.Calls.{Goes, GoesFor};
+ghost use Rattle.fv_aggregate.specs.Commands.{dirty_limit};
+ghost use Rattle.fv_aggregate.specs.Standing.{Stands, StandsFor};
+
+use crate::fault::Fault;
+use crate::session::Session;
+use fv_cp::{CpFault, consistency_point};
+use fv_disk::Disk;
+use fv_model::Reply;
+
+/// The dirty limit: so many blocks may be pending, with the room of the next event, before a consistency point runs. `docs/SPACE.md`
+/// has the rule; beside the overheads of the last point at least as many blocks are free.
+const DIRTY_LIMIT: u64 = 256;
+
+impl Session {
+    /// Runs a consistency point where what is pending and this room would pass the dirty limit together.
+    pub(crate) fn make_room<D: Disk>(&mut self, disk: &mut D, room: u64) -> Result<(), Fault>
+        requires fresh { IsNone self.old.failed }
+        requires stands { Stands (D.shown disk.old) self.old }
+        ensures goes { Goes room (D.shown disk.old) self.old (D.shown disk.new) self.new result }
+        ensures goes_for { IsTrue (D.shown disk.old).tells → (last m : Machine) → StandsFor (D.shown disk.old) self.old last m
+            → GoesFor (D.shown disk.old) last m m (D.shown disk.new) self.new result }
+        ensures room { IsTrue (D.shown disk.old).tells → (last m : Machine) → StandsFor (D.shown disk.old) self.old last m
+            → commits m + 2 * room ≤ capacity m.blocks → OnOk result (HasRoom (D.shown disk.new) self.new room) }
+        ensures few { OnOk result (self.new.pending + room ≤ max dirty_limit room) }
+        ensures admits { OnOk result (StillAdmits self.old self.new) }
+        ensures calm { self.old.pending + room ≤ dirty_limit → (disk.new ≡ disk.old) × (self.new ≡ self.old) }
+    {
+        if self.pending <= DIRTY_LIMIT && room <= DIRTY_LIMIT - self.pending {
+            Ok(())
+        } else {
+            self.point(disk, room)
+        }
+    }
+
+    /// The consistency point that a command asks for.
+    pub(crate) fn reclaim<D: Disk>(&mut self, disk: &mut D) -> Result<Reply, Fault>
+        requires fresh { IsNone self.old.failed }
+        requires stands { Stands (D.shown disk.old) self.old }
+        ensures goes { Goes 0 (D.shown disk.old) self.old (D.shown disk.new) self.new result }
+        ensures goes_for { IsTrue (D.shown disk.old).tells → (last m : Machine) → StandsFor (D.shown disk.old) self.old last m
+            → GoesFor (D.shown disk.old) last m m (D.shown disk.new) self.new result }
+        ensures done { IsTrue (D.shown disk.old).tells → (last m : Machine) → StandsFor (D.shown disk.old) self.old last m
+            → OnOk result (StandsFor (D.shown disk.new) self.new m m) }
+        ensures reply { IfOk result (λ reply. reply ≡ Done) }
+    {
+        self.point(disk, 0)?;
+        Ok(Reply::Done)
+    }
+
+    /// A consistency point in a session that hasn't failed; the event that asks for it has this room.
+    pub(crate) fn point<D: Disk>(&mut self, disk: &mut D, want: u64) -> Result<(), Fault>
+        requires fresh { IsNone self.old.failed }
+        requires stands { Stands (D.shown disk.old) self.old }
+        ensures goes { Goes 0 (D.shown disk.old) self.old (D.shown disk.new) self.new result }
+        ensures goes_for { IsTrue (D.shown disk.old).tells → (last m : Machine) → StandsFor (D.shown disk.old) self.old last m
+            → GoesFor (D.shown disk.old) last m m (D.shown disk.new) self.new result }
+        ensures done { IsTrue (D.shown disk.old).tells → (last m : Machine) → StandsFor (D.shown disk.old) self.old last m
+            → OnOk result (StandsFor (D.shown disk.new) self.new m m) }
+        ensures kept { IsTrue (D.shown disk.old).tells → (last m : Machine) → StandsFor (D.shown disk.old) self.old last m
+            → IsNone self.new.failed → OnErr result (StandsFor (D.shown disk.new) self.new last m) }
+        ensures room { IsTrue (D.shown disk.old).tells → (last m : Machine) → StandsFor (D.shown disk.old) self.old last m
+            → (room : ℕ) → commits m + 2 * room ≤ capacity m.blocks → OnOk result (HasRoom (D.shown disk.new) self.new room) }
+        ensures pending { OnOk result (self.new.pending ≡ 0) }
+        ensures admits { OnOk result (StillAdmits self.old self.new) }
+    {
+        let before = disk.write_faults();
+        match consistency_point(&mut self.volumes, &mut self.pool, disk, want) {
+            Ok(()) => {
+                self.pending = 0;
+                Ok(())
+            }
+            Err(CpFault::DiskFault) => {
+                self.failed = failure(disk, before);
+                Err(Fault::DiskFault)
+            }
+            Err(CpFault::Damaged { at, want, found }) => Err(Fault::Damaged { at, want, found }),
+            Err(CpFault::Memory) => Err(Fault::Memory),
+        }
+    }
+}
+
+/// The disk's count of faults, where a write or a barrier has failed since its count of those was `before`. A count that stands at its
+/// greatest value counts as risen.
+fn failure<D: Disk>(disk: &D, before: u64) -> Option<u64>
+    ensures failed { Rose before (D.shown disk.now).write_faults → result ≡ Some (D.shown disk.now).faults }
+    ensures goes_on { ¬ Rose before (D.shown disk.now).write_faults → IsNone result }
+{
+    let now = disk.write_faults();
+    if before < now || now == u64::MAX {
+        Some(disk.faults())
+    } else {
+        None
+    }
+}

@@ -1,0 +1,14 @@
+//! Tests of what stands in blocks and in lines, by values from outside: images that another implementation
+//! wrote, and rows worked out by hand.
+#![tactic(auto)]
+
+#[cfg(test)]
+mod bits;
+#[cfg(test)]
+mod blocks;
+#[cfg(test)]
+mod lines;
+#[cfg(test)]
+mod scripts;
+#[cfg(test)]
+mod vectors;

@@ -1,0 +1,39 @@
+-- The machine that an image stands for, with volumes of every form.
+use Rattle.std.specs.Prelude.{◌≡◌, Bool, true, ◌&&◌, Option, Some, None, ◌==◌, if◌then◌else◌}
+use Rattle.std.specs.List.{list_all}
+use Rattle.std.specs.Option.{is_none, option_map_or, option_and_then}
+use Rattle.fv_disk.specs.Shown.{Image}
+use Rattle.fv_model.specs.Machines.{Machine}
+use Rattle.fv_image.specs.NewerRoot.{Taken, root_of}
+use Rattle.fv_image.specs.Views.{Head, View, slots}
+use Rattle.fv_image.specs.Told.{has_none}
+use Rattle.fv_image.specs.Held.{Layout, layout_at}
+use Rattle.fv_image.specs.Volumes.{told}
+use Rattle.fv_image.specs.Soundness.{IsSound, is_sound}
+
+-- The forms of volumes that the program has: no file, no snapshot, no base and no unknown place. Each form that is built takes its
+-- part out of this predicate, and no definition below it moves.
+unfoldable pub is_built_head : Head → Bool
+is_built_head h = (h.active.root.stamp == 0) && (has_none h.snapshots && (is_none h.base && h.known))
+
+-- no volume has a form that isn't built yet
+unfoldable pub is_built : View → Bool
+is_built w = list_all (λ s. option_map_or is_built_head (w.head s) true) slots
+
+-- The machine of a layout: what its view tells of, where it is sound. An image with a form that isn't built stands for none.
+unfoldable pub machine_from : Layout → Option Machine
+machine_from y = if is_built y.view && is_sound y then Some (told y.view) else None
+
+-- the machine that an image stands for under a root
+abbrev pub machine_at : Taken → Image → Option Machine
+machine_at t i = machine_from (layout_at t i)
+
+-- the machine that an image stands for, if it stands for one
+unfoldable pub machine_of : Image → Option Machine
+machine_of i = option_and_then (λ t. machine_at t i) (root_of i)
+
+-- what makes a layout stand for a machine
+pub record Tells (y : Layout) (m : Machine) : Type 0 where
+  pub built : is_built y.view ≡ true
+  pub sound : IsSound y
+  pub machine : told y.view ≡ m

@@ -1,0 +1,93 @@
+-- Why calls of an inode file fail, over several calls of its source.
+use Rattle.std.proofs.Common.{refl, ◌≡◌, ℕ, inl, inr, subst, sym, ap, ◌∙◌, List, Result, Ok, Err, OnOk, ⊎_elim, arith}
+use Rattle.std.specs.Prelude.{IfErr}
+use Rattle.std.specs.Ordering.{nat_cmp}
+use Rattle.std.specs.FinMap as fin
+use Rattle.std.proofs.lemmas.Result.{IfErr-weaker}
+use Rattle.fv_disk.specs.declared.fault.BlockFault.{BlockFault}
+use Rattle.fv_tables.specs.Spelled.{Rooted}
+use Rattle.fv_tree.specs.declared.kept.Tree.{Tree}
+use Rattle.fv_tree.specs.Sources.{Shown, Counts, IsCalm, IsUntouched}
+use Rattle.fv_tree.specs.Standing.{standing, under, Fails}
+use Rattle.fv_tree.specs.Flushing.{IsSound, loaded_over, Stands}
+use Rattle.fv_tree.specs.Releasing.{IsDropped, Releases}
+use Rattle.fv_tree.proofs.Causes.{calm_itself, calm_then, counts_then, fails_later}
+use Rattle.fv_inode.specs.Failing.{InodeFails, Looks}
+
+abbrev pub Held : Type 0
+Held = fin.FinMap nat_cmp (List ℕ)
+
+-- a tree over the blocks that are held
+abbrev pub over : Held → Tree → Rooted
+over held = standing (λ v. fin.get held v)
+
+-- what is said of a tree over the blocks of a later source is said of it over those of the earlier one, where they are the same
+pub earlier : (P : Rooted → Type 0) (t : Tree) (old mid : Shown) → mid.held ≡ old.held → P (standing (under mid) t) → P (standing (under old) t)
+earlier P t old mid held fact = subst (λ (h : Held). P (over h t)) held fact
+
+pub stands_on : (t : Tree) (old new : Shown) → new.held ≡ old.held → new.used ≡ old.used → Stands old t → Stands new t
+stands_on t old new held used stands =
+    subst (λ (h : Held). IsSound new.used (loaded_over (λ v. fin.get h v) t)) (sym held) (subst (λ u. IsSound u (loaded_over (under old) t)) (sym used) stands)
+
+inode_fails_later : (t : Rooted) (old mid new : Shown) (e : BlockFault) → IsCalm old mid → mid.held ≡ old.held → InodeFails t mid new e → InodeFails t old new e
+inode_fails_later t old mid new e calm held (inl h) = inl (fails_later t old mid new e calm held h)
+inode_fails_later t old mid new e calm held (inr h) = inr (calm_then old mid new calm h.0, h.1)
+
+untouched_then : (old mid new : Shown) → IsUntouched old mid → IsUntouched mid new → IsUntouched old new
+untouched_then old mid new first second = record { held = second.held ∙ first.held; used = second.used ∙ first.used; strays = second.strays ∙ first.strays }
+
+-- a call that reads, after others that only read
+pub looks_then : {S T : Type 0} (t : Tree) (old mid new : Shown) (x : S) (r : Result T BlockFault) → Looks (standing (under old) t) old mid (Ok x) → Looks (standing (under mid) t) mid new r
+    → Looks (standing (under old) t) old new r
+looks_then t old mid new x r first second = record {
+  untouched = untouched_then old mid new first.untouched second.untouched;
+  counts = counts_then old mid new r first.counts.calm second.counts;
+  cause = IfErr-weaker r _ _ (λ e h. inode_fails_later (standing (under old) t) old mid new e first.counts.calm first.untouched.held (earlier (λ u. InodeFails u mid new e) t old mid first.untouched.held h)) second.cause;
+}
+
+-- a call of the tree that leaves the map and what is in use
+pub looks_at : {T : Type 0} (t : Rooted) (old new : Shown) (r : Result T BlockFault) → IsUntouched old new → Counts old new r → IfErr r (Fails t old new) → Looks t old new r
+looks_at t old new r untouched counts cause = record { untouched = untouched; counts = counts; cause = IfErr-weaker r _ _ (λ e h. inl h) cause }
+
+-- of a call that failed, or was done, another answer
+pub looks_failed : {S T : Type 0} (t : Rooted) (old new : Shown) (e : BlockFault) → Looks {T = S} t old new (Err e) → Looks {T = T} t old new (Err e)
+looks_failed t old new e looks = record { untouched = looks.untouched; counts = record { faults = looks.counts.faults; damages = looks.counts.damages; calm = tt }; cause = looks.cause }
+
+pub looks_done : {S T : Type 0} (t : Rooted) (old new : Shown) (x : S) (y : T) → Looks t old new (Ok x) → Looks t old new (Ok y)
+looks_done t old new x y looks = record { untouched = looks.untouched; counts = record { faults = looks.counts.faults; damages = looks.counts.damages; calm = looks.counts.calm }; cause = tt }
+
+-- and the other way round
+pub later : (P : Rooted → Type 0) (t : Tree) (old mid : Shown) → mid.held ≡ old.held → P (standing (under old) t) → P (standing (under mid) t)
+later P t old mid held fact = subst (λ (h : Held). P (over h t)) (sym held) fact
+
+-- what a change drops, where a call before it only read
+pub released_on : (t u : Tree) (old mid new : Shown) → mid.held ≡ old.held → mid.used ≡ old.used → IsCalm old mid → Releases mid new (IsDropped (under mid) t u) → Releases old new (IsDropped (under old) t u)
+released_on t u old mid new held used calm releases =
+    let was : Releases mid new (IsDropped (under old) t u) = subst (λ (h : Held). Releases mid new (IsDropped (λ v. fin.get h v) t u)) held releases in
+    record {
+      gone = was.gone;
+      used = λ v stays. was.used v stays ∙ ap (λ o. o v) used;
+      held = λ v stays. was.held v stays ∙ ap (λ (h : Held). fin.get h v) held;
+      unused = λ v none. was.unused v (ap (λ o. o v) used ∙ none);
+      may_go = λ v. ⊎_elim (λ same. inl (same ∙ ap (λ (h : Held). fin.get h v) held)) (λ none. inr none) (was.may_go v);
+      calm = calm_then old mid new calm was.calm;
+    }
+
+-- a call that drops nothing
+pub releases_none : (old new : Shown) (dropped : ℕ → Type 0) → ((v : ℕ) → dropped v → ⊥) → IsUntouched old new → IsCalm old new → Releases old new dropped
+releases_none old new dropped none same calm = record {
+  gone = λ v is. absurd (none v is);
+  used = λ v stays. ap (λ o. o v) same.used;
+  held = λ v stays. ap (λ (h : Held). fin.get h v) same.held;
+  unused = λ v free. ap (λ o. o v) same.used ∙ free;
+  may_go = λ v. inl (ap (λ (h : Held). fin.get h v) same.held);
+  calm = calm;
+}
+
+pub both_ok : {T E P Q R : Type 0} (r : Result T E) → OnOk r P → OnOk r Q → (P → Q → R) → OnOk r R
+both_ok (Ok x) p q so = so p q
+both_ok (Err e) p q so = tt
+
+-- no call at all
+pub looks_self : (t : Rooted) (old : Shown) → Looks t old old (Ok (tt {0}))
+looks_self t old = record { untouched = record { held = refl; used = refl; strays = refl }; counts = record { faults = omega arith; damages = omega arith; calm = calm_itself old }; cause = tt }

@@ -1,0 +1,147 @@
+-- The records of an inode block by the numbers of their files.
+use Rattle.std.proofs.Common.{◌≡◌, ◌≢◌, ℕ, ◌+◌, ◌-◌, ◌*◌, ◌/◌, ◌%◌, ◌^◌, ◌<◌, ◌≤◌, Bool, true, false, List, [], ◌∷◌, length, get_or, replicate, refl, sym, ap, ◌∙◌, arith, ⊎_elim, zero, suc}
+use Rattle.std.specs.Prelude.{Option, Some, None, Ok, is_some, ◌==◌, ◌&&◌, slice_set, if◌then◌else◌}
+use Rattle.std.specs.Option.{option_map}
+use Rattle.std.proofs.Math.Nat.{div-add-mod, pow-le-pow_right}
+use Rattle.std.proofs.lemmas.Bool.{cases_lt, both_ways}
+use Rattle.std.proofs.lemmas.Bool.Decides.{nat_tests}
+use Rattle.std.proofs.lemmas.List.{get_or-set_same, get_or-replicate, get_or_default, length-set}
+use Rattle.fv_codec.specs.declared.inode.InodeRecord.{InodeRecord}
+use Rattle.fv_codec.specs.declared.inode.InodeBlock.{InodeBlock}
+use Rattle.fv_codec.specs.Blocks.{all_free, inodes_at, IsInodeRecord}
+use Rattle.fv_model.specs.Trees.{fan}
+use Rattle.fv_tables.specs.Spelled.{Rooted, block_at}
+use Rattle.fv_tables.specs.Told.{records_each, records_of, records_in, free_record, used_record, file_at}
+use Rattle.fv_tables.proofs.Tables.{no_file}
+use Rattle.fv_tables.proofs.Pointers.{past, no_block}
+use Rattle.fv_codec.specs.declared.pointer.Pointer.{Pointer}
+use Rattle.fv_inode.specs.Files.{AreRecords, blank_record, with_info}
+use Rattle.fv_inode.specs.declared.info.Info.{Info}
+use Rattle.fv_tree.specs.Writing.{IsAlike}
+use Rattle.fv_codec.specs.Fields.{name_filled, all_name, all_zero}
+
+-- ---- numbers
+
+pub cell_of : (cell k : ℕ) → k < 16 → (16 * cell + k) / 16 ≡ cell
+cell_of cell k lt = omega (arith, lt)
+
+pub slot_of : (cell k : ℕ) → k < 16 → (16 * cell + k) % 16 ≡ k
+slot_of cell k lt = omega (arith, lt)
+
+pub number_of : (n : ℕ) → 16 * (n / 16) + n % 16 ≡ n
+number_of n = div-add-mod n 16
+
+-- ---- records
+
+pub file_is : (t : Rooted) (cell k : ℕ) → k < 16 → file_at t (16 * cell + k) ≡ used_record (get_or (records_in (block_at t cell)) k free_record)
+unfolding file_at
+file_is t cell k lt = λ i. used_record (get_or (records_in (block_at t (cell_of cell k lt i))) (slot_of cell k lt i) free_record)
+
+-- the records of a block that is an inode block
+pub inodes_of : (block : List ℕ) (b : InodeBlock) → inodes_at block ≡ Ok b → records_in (Some block) ≡ b.files
+unfolding records_in
+inodes_of block b is = ap records_of is
+
+-- the records of a block that stands at a cell
+pub records_are : (t : Rooted) (cell : ℕ) (o : Option (List ℕ)) (files : List InodeRecord) → block_at t cell ≡ o → records_in o ≡ files → AreRecords t cell files
+records_are t cell o files at is k lt = sym (file_is t cell k lt ∙ ap (λ b. used_record (get_or (records_in b) k free_record)) at ∙ ap (λ (rs : List InodeRecord). used_record (get_or rs k free_record)) is)
+
+no_record : (k : ℕ) → used_record (get_or (records_in None) k free_record) ≡ None
+unfolding records_in
+no_record k = refl
+
+-- a cell that isn't there has free records
+pub none_are : (t : Rooted) (cell : ℕ) (files : List InodeRecord) → block_at t cell ≡ None → files ≡ replicate 16 blank_record → AreRecords t cell files
+none_are t cell files none is k lt =
+    ap (λ (rs : List InodeRecord). used_record (get_or rs k free_record)) is
+    ∙ ap used_record (get_or-replicate 16 k blank_record free_record lt)
+    ∙ sym (file_is t cell k lt ∙ ap (λ b. used_record (get_or (records_in b) k free_record)) none ∙ no_record k)
+
+-- the record of a number among those of its inode block
+pub own_record : (t : Rooted) (n : ℕ) (files : List InodeRecord) → AreRecords t (n / 16) files → used_record (get_or files (n % 16) free_record) ≡ file_at t n
+own_record t n files are = are (n % 16) (omega arith) ∙ ap (file_at t) (number_of n)
+
+-- ---- numbers of files
+
+is_there : {X : Type 0} (o : Option X) → is_some o ≡ true → o ≡ None → ⊥
+is_there (Some x) is none = absurd (grind (arith, ap is_some none))
+is_there None is none = absurd (grind (arith, is))
+
+-- a file's inode cell lies within the levels
+pub cell_within : (t : Rooted) (n : ℕ) → is_some (file_at t n) ≡ true → n / 16 < fan ^ t.levels
+cell_within t n some = ⊎_elim
+    (λ (lt : n < 16 * fan ^ t.levels). omega (arith, lt))
+    (λ far. absurd (is_there (file_at t n) some (no_file t n far)))
+    (cases_lt n (16 * fan ^ t.levels))
+
+pub cell_small : (t : Rooted) (n : ℕ) → t.levels ≤ 3 → is_some (file_at t n) ≡ true → n / 16 < 2097152
+cell_small t n few some =
+    let wide : fan ^ t.levels ≤ fan ^ 3 = pow-le-pow_right (omega arith) few in
+    omega (arith, wide, cell_within t n some)
+
+-- no cell lies past the levels
+pub no_cell : (t : Rooted) (cell : ℕ) → fan ^ t.levels ≤ cell → block_at t cell ≡ None
+no_cell t cell far =
+    let whole : fan ^ (t.levels - 0) ≡ fan ^ t.levels = ap (λ k. fan ^ k) (let e : t.levels - 0 ≡ t.levels = omega arith in e) in
+    no_block t cell (ap (λ (p : Pointer). p.stamp) (past t 0 cell (omega (arith, far, whole))))
+
+-- a blank record is in range
+pub blank_fits : IsInodeRecord blank_record
+unfolding name_filled all_name all_zero
+blank_fits = record {
+  name_length = omega arith;
+  name_long = refl;
+  name = refl;
+  length = omega arith;
+  reserve = omega arith;
+  levels = omega arith;
+  root = record { vvbn = omega arith; pvbn = omega arith; stamp = omega arith };
+}
+
+-- a tree that has the same cells has the same files
+pub alike_files : (old new : Rooted) → IsAlike old new → (n : ℕ) → file_at new n ≡ file_at old n
+unfolding file_at
+alike_files old new alike n = ap (λ b. used_record (get_or (records_in b) (n % records_each) free_record)) (alike.blocks (n / records_each))
+
+-- ---- blocks with a record in use
+
+used_name : (r : InodeRecord) → is_some (used_record r) ≡ true → r.name_length ≢ 0
+used_name r some none = let test : (r.name_length == 0) ≡ true = grind (arith, nat_tests, none) in absurd (both_ways (is_some (used_record r)) (rw test refl) some)
+
+-- the numbers of a record change, and its name stays
+pub changed_record : (info : Info) (f : InodeRecord) → used_record (with_info info f) ≡ option_map (with_info info) (used_record f)
+changed_record info f = so (f.name_length == 0)
+  where
+    so : (b : Bool) → (if b then None else Some (with_info info f)) ≡ option_map (with_info info) (if b then None else Some f)
+    so true = refl
+    so false = refl
+
+pub some_used : (files : List InodeRecord) (slot : ℕ) → slot < length files → (get_or files slot free_record).name_length ≢ 0 → all_free files ≡ false
+some_used [] slot lt used = absurd (omega (arith, lt))
+some_used (r ∷ rs) zero lt used = let test : (r.name_length == 0) ≡ false = grind (arith, nat_tests, used) in rw test refl
+some_used (r ∷ rs) (suc slot) lt used = so (r.name_length == 0) (some_used rs slot (omega (arith, lt)) used)
+  where
+    so : (b : Bool) → all_free rs ≡ false → (b && all_free rs) ≡ false
+    so true e = e
+    so false e = refl
+
+-- a block in which a record in use was put
+pub put_used : (fs : List InodeRecord) (slot : ℕ) (r : InodeRecord) → slot < length fs → is_some (used_record r) ≡ true → all_free (slice_set fs slot r) ≡ false
+put_used fs slot r lt some = some_used (slice_set fs slot r) slot (omega (arith, lt, length-set fs slot r)) (λ none. used_name r some (ap (λ (q : InodeRecord). q.name_length) (sym (get_or-set_same fs slot r free_record lt)) ∙ none))
+
+-- a record with other numbers in place of a file's
+pub changed_is : (t : Rooted) (n : ℕ) (fs : List InodeRecord) (info : Info) (r d : InodeRecord) → length fs ≡ 16 → AreRecords t (n / 16) fs → r ≡ with_info info (get_or fs (n % 16) d)
+    → used_record r ≡ option_map (with_info info) (file_at t n)
+changed_is t n fs info r d long are is =
+    ap used_record is
+    ∙ changed_record info (get_or fs (n % 16) d)
+    ∙ ap (option_map (with_info info)) (ap used_record (get_or_default fs (n % 16) d free_record (omega (arith, long))) ∙ own_record t n fs are)
+
+still_some : {X Y : Type 0} (f : X → Y) (o : Option X) → is_some (option_map f o) ≡ is_some o
+still_some f None = refl
+still_some f (Some x) = refl
+
+pub changed_some : (t : Rooted) (n : ℕ) (fs : List InodeRecord) (info : Info) (r d : InodeRecord) → length fs ≡ 16 → AreRecords t (n / 16) fs → r ≡ with_info info (get_or fs (n % 16) d)
+    → is_some (file_at t n) ≡ true → all_free (slice_set fs (n % 16) r) ≡ false
+changed_some t n fs info r d long are is some =
+    put_used fs (n % 16) r (omega (arith, long)) (ap is_some (changed_is t n fs info r d long are is) ∙ still_some (with_info info) (file_at t n) ∙ some)

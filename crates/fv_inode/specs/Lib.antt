@@ -1,0 +1,4 @@
+pub mod Files
+pub mod Failing
+pub mod Changing
+pub mod Listing

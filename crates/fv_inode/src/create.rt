@@ -1,0 +1,137 @@
+//! Making a file.
+
+ghost use Rattle.std.specs.Prelude.{◌≡◌, ◌≤◌, ◌<◌, ◌-◌, ◌/◌, ◌++◌, ℕ, true, None, Some, is_some, get_or, IfOk, OnErr, length, replicate};
+ghost use Rattle.std.specs.List.{All};
+ghost use Rattle.fv_codec.specs.Blocks.{IsInodeRecord, most_cells};
+ghost use Rattle.fv_model.specs.Spelling.{is_name};
+ghost use Rattle.fv_model.specs.Trees.{least_levels};
+ghost use Rattle.fv_tables.specs.Spelled.{Rooted};
+ghost use Rattle.fv_tables.specs.Told.{records_each, free_record, used_record, file_at};
+ghost use Rattle.fv_tree.specs.Standing.{standing, under};
+ghost use Rattle.fv_tree.specs.Writing.{Remains};
+ghost use Rattle.fv_tree.specs.Flushing.{Stands};
+ghost use Rattle.fv_inode.specs.Files.{rooted, AreRecords, IsInfo, IsLeastFree, new_record};
+ghost use Rattle.fv_inode.specs.Failing.{Looks};
+ghost use Rattle.fv_inode.specs.Changing.{Makes};
+
+use crate::file::InodeFile;
+use crate::find::info_of;
+use crate::info::{Info, InodeFault};
+use crate::records::{EACH, HOLE, cells, free_files, read_files, write_files};
+use fv_codec::InodeRecord;
+use fv_model::Name;
+use fv_tree::{Blocks, Tree};
+
+impl InodeFile {
+    /// Makes a file of a name under the least free number, without a cell and with the levels with which its reserve
+    /// begins, of at most 2,097,152 blocks; answers what is known of it. Its inode cell, the marks over that and those
+    /// that a growth makes get the stamp, which is at least 1. A number below 262,144 is free. That no file has the
+    /// name is the caller's to see to. It reads the inode blocks up to the first with a free record, each once, with at
+    /// most a node for each level before it; the nodes over that one are loaded once more for the write. After a fault
+    /// the inode file is seen as before.
+    ///
+    /// # Errors
+    ///
+    /// As `find`, and `Memory` where there is no memory for the nodes and the inode block.
+    pub fn create<B: Blocks>(
+        &mut self,
+        blocks: &mut B,
+        name: &Name,
+        reserve: u32,
+        stamp: u64,
+    ) -> Result<Info, InodeFault>
+        requires stamp { 1 ≤ stamp }
+        requires reserve { reserve ≤ most_cells }
+        requires free { (n : ℕ) × (n < 262144) × (file_at (rooted (B.shown blocks.old) self.old) n ≡ None) }
+        ensures made { IfOk result (Makes (rooted (B.shown blocks.old) self.old) (rooted (B.shown blocks.new) self.new) name.now reserve stamp) }
+        ensures range { IfOk result IsInfo }
+        ensures failed { OnErr result (Remains (rooted (B.shown blocks.old) self.old) (rooted (B.shown blocks.new) self.new)) }
+        ensures owner { self.new.tree.owner ≡ self.old.tree.owner }
+        ensures stands { Stands (B.shown blocks.old) self.old.tree → Stands (B.shown blocks.new) self.new.tree }
+        ensures looks { Looks (rooted (B.shown blocks.old) self.old) (B.shown blocks.old) (B.shown blocks.new) result }
+        ensures reads { B.reads blocks.old blocks.new }
+    {
+        let (number, mut files) = find_free(&self.tree, blocks)?;
+        let file = new_record(name, reserve);
+        files[(number % EACH) as usize] = file;
+        write_files(&mut self.tree, blocks, number / EACH, &files, stamp)?;
+        Ok(info_of(number, &file))
+    }
+}
+
+/// The least free number, and the records of its inode block.
+fn find_free<B: Blocks>(tree: &Tree, blocks: &mut B) -> Result<(u32, [InodeRecord; 16]), InodeFault>
+    ensures number { IfOk result (λ found. IsLeastFree (standing (under (B.shown blocks.old)) tree.now) found.0) }
+    ensures files { IfOk result (λ found. AreRecords (standing (under (B.shown blocks.old)) tree.now) (found.0 / records_each) found.1) }
+    ensures range { IfOk result (λ found. All IsInodeRecord found.1) }
+    ensures long { IfOk result (λ found. length found.1 ≡ 16) }
+    ensures looks { Looks (standing (under (B.shown blocks.old)) tree.now) (B.shown blocks.old) (B.shown blocks.new) result }
+    ensures reads { B.reads blocks.old blocks.new }
+{
+    let count = cells(tree);
+    for cell in 0..count {
+        let files = read_files(tree, blocks, cell)?;
+        if let Some(slot) = first_free(&files) {
+            return Ok((EACH * cell + slot, files));
+        }
+    }
+    Ok((EACH * count, free_files()))
+}
+
+/// The first free record of an inode block.
+fn first_free(files: &[InodeRecord; 16]) -> Option<u32>
+    ensures none { result ≡ None → (k : ℕ) → k < records_each → is_some (used_record (get_or files.now k free_record)) ≡ true }
+    ensures some { (slot : ℕ) → result ≡ Some slot → (slot < records_each) × (used_record (get_or files.now slot free_record) ≡ None) × ((k : ℕ) → k < slot → is_some (used_record (get_or files.now k free_record)) ≡ true) }
+{
+    for slot in 0..EACH {
+        if files[slot as usize].name_length == 0 {
+            return Some(slot);
+        }
+    }
+    None
+}
+
+/// The record of a new file.
+fn new_record(name: &Name, reserve: u32) -> InodeRecord
+    requires reserve { reserve ≤ most_cells }
+    ensures record { result ≡ new_record name.now reserve }
+    ensures range { IsInodeRecord result }
+    ensures form { is_name name.now ≡ true }
+{
+    let bytes = name.as_bytes();
+    InodeRecord {
+        name_length: bytes.len() as u8,
+        name: padded(bytes),
+        length: 0,
+        reserve,
+        levels: least_levels(reserve),
+        root: HOLE,
+    }
+}
+
+/// Bytes with zero bytes after them.
+fn padded(bytes: &[u8]) -> [u8; 64]
+    requires { length bytes.now ≤ 64 }
+    ensures { result ≡ bytes.now ++ replicate (64 - length bytes.now) 0 }
+{
+    let mut padded = [0; 64];
+    padded[..bytes.len()].copy_from_slice(bytes);
+    padded
+}
+
+/// The least number of levels that hold so many cells.
+fn least_levels(cells: u32) -> u8
+    requires { cells ≤ most_cells }
+    ensures least { result ≡ least_levels cells }
+    ensures few { result ≤ 3 }
+{
+    if cells <= 1 {
+        0
+    } else if cells <= 128 {
+        1
+    } else if cells <= 16_384 {
+        2
+    } else {
+        3
+    }
+}

@@ -1,0 +1,109 @@
+//! Looking a file up by its name.
+
+ghost use Rattle.std.specs.Prelude.{◌≡◌, ◌≤◌, ◌<◌, ◌*◌, ◌+◌, IfOk};
+ghost use Rattle.std.specs.List.{All};
+ghost use Rattle.fv_codec.specs.Blocks.{IsInodeRecord};
+ghost use Rattle.fv_tables.specs.Spelled.{Rooted};
+ghost use Rattle.fv_tables.specs.Told.{records_each};
+ghost use Rattle.fv_tree.specs.Standing.{standing, under};
+ghost use Rattle.fv_inode.specs.Files.{rooted, info_of, AreRecords, IsInfoIf, Finds, FindsBelow, HasNoneBelow};
+ghost use Rattle.fv_inode.specs.Failing.{Looks};
+
+use crate::file::InodeFile;
+use crate::info::{Info, InodeFault};
+use crate::records::{EACH, cells, is_named, read_files};
+use fv_codec::InodeRecord;
+use fv_model::Name;
+use fv_tree::{Blocks, Tree};
+
+impl InodeFile {
+    /// What is known of the file of a name; `None` exactly where no file has it, and of several files of one name
+    /// that with the least number. It goes over the inode blocks by number, reads each at most once, with at most
+    /// a node for each level before it, and stops where it finds the name. It keeps nothing in memory.
+    ///
+    /// # Errors
+    ///
+    /// `DiskFault` and `Damaged` as the `Blocks` answers them, and `Damaged` for a block that isn't the node of
+    /// its position or hasn't the shape of an inode block: its place, and its first field that isn't as said.
+    /// `Memory` only from the `Blocks`.
+    pub fn find<B: Blocks>(
+        &mut self,
+        blocks: &mut B,
+        name: &Name,
+    ) -> Result<Option<Info>, InodeFault>
+        ensures found { IfOk result (Finds (rooted (B.shown blocks.old) self.old) name.now) }
+        ensures range { IfOk result IsInfoIf }
+        ensures tree { self.new ≡ self.old }
+        ensures looks { Looks (rooted (B.shown blocks.old) self.old) (B.shown blocks.old) (B.shown blocks.new) result }
+        ensures reads { B.reads blocks.old blocks.new }
+    {
+        find_named(&self.tree, blocks, name)
+    }
+}
+
+/// The first file of a name.
+fn find_named<B: Blocks>(
+    tree: &Tree,
+    blocks: &mut B,
+    name: &Name,
+) -> Result<Option<Info>, InodeFault>
+    ensures found { IfOk result (Finds (standing (under (B.shown blocks.old)) tree.now) name.now) }
+    ensures range { IfOk result IsInfoIf }
+    ensures looks { Looks (standing (under (B.shown blocks.old)) tree.now) (B.shown blocks.old) (B.shown blocks.new) result }
+    ensures reads { B.reads blocks.old blocks.new }
+{
+    for cell in 0..cells(tree) {
+        let found = find_at(tree, blocks, cell, name)?;
+        if found.is_some() {
+            return Ok(found);
+        }
+    }
+    Ok(None)
+}
+
+/// The first file of a name, where no inode block before that at a cell has it.
+fn find_at<B: Blocks>(
+    tree: &Tree,
+    blocks: &mut B,
+    cell: u32,
+    name: &Name,
+) -> Result<Option<Info>, InodeFault>
+    requires cell { cell < 2097152 }
+    ensures found { IfOk result (λ found. HasNoneBelow (standing (under (B.shown blocks.old)) tree.now) name.now (records_each * cell) → FindsBelow (standing (under (B.shown blocks.old)) tree.now) name.now (records_each * cell + records_each) found) }
+    ensures range { IfOk result IsInfoIf }
+    ensures few { tree.now.levels ≤ 3 }
+    ensures looks { Looks (standing (under (B.shown blocks.old)) tree.now) (B.shown blocks.old) (B.shown blocks.new) result }
+    ensures reads { B.reads blocks.old blocks.new }
+{
+    let files = read_files(tree, blocks, cell)?;
+    Ok(first_named(&files, cell, name))
+}
+
+/// The first file of a name among the records of the inode block at a cell.
+fn first_named(files: &[InodeRecord; 16], cell: u32, name: &Name) -> Option<Info>
+    requires cell { cell < 2097152 }
+    requires range { All IsInodeRecord files.now }
+    ensures range { IsInfoIf result }
+    ensures found { (t : Rooted) → AreRecords t cell files.now → HasNoneBelow t name.now (records_each * cell) → FindsBelow t name.now (records_each * cell + records_each) result }
+{
+    for slot in 0..EACH {
+        let file = &files[slot as usize];
+        if is_named(file, name) {
+            return Some(info_of(EACH * cell + slot, file));
+        }
+    }
+    None
+}
+
+/// What a record says of a file.
+pub fn info_of(number: u32, file: &InodeRecord) -> Info
+    ensures { result ≡ info_of number file.now }
+{
+    Info {
+        number,
+        length: file.length,
+        reserve: file.reserve,
+        levels: file.levels,
+        root: file.root,
+    }
+}

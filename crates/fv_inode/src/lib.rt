@@ -1,0 +1,14 @@
+//! Inode files: the files of a table by their names, as records in the cells of a tree.
+#![tactic(auto)]
+
+mod change;
+mod create;
+mod file;
+mod find;
+mod info;
+mod list;
+mod records;
+mod remove;
+
+pub use file::InodeFile;
+pub use info::{Info, InodeFault};

@@ -1,0 +1,195 @@
+//! The records of one inode block.
+
+ghost use Rattle.std.specs.Prelude.{◌≡◌, ◌≤◌, ◌<◌, ◌^◌, ℕ, Some, false, IfOk, IfErr, OnOk, OnErr, Ok, Err, length, replicate};
+ghost use Rattle.std.specs.List.{All};
+ghost use Rattle.fv_codec.specs.declared.shape.Shape.{Shape};
+ghost use Rattle.fv_disk.specs.declared.fault.BlockFault.TheVariants.{Damaged};
+ghost use Rattle.fv_codec.specs.Blocks.{all_free, inodes_at, IsInodeRecord};
+ghost use Rattle.fv_model.specs.Spelling.{is_same_name};
+ghost use Rattle.fv_model.specs.Trees.{fan};
+ghost use Rattle.fv_tables.specs.Told.{used_record, records_in};
+ghost use Rattle.fv_tree.specs.Sources.{Counts, IsUntouched};
+ghost use Rattle.fv_tree.specs.Standing.{standing, under, Fails};
+ghost use Rattle.fv_tree.specs.Writing.{Remains};
+ghost use Rattle.fv_tree.specs.Flushing.{Stands};
+ghost use Rattle.fv_inode.specs.Files.{AreRecords, blank_record, has_name};
+ghost use Rattle.fv_inode.specs.Failing.{Looks};
+ghost use Rattle.fv_inode.specs.Changing.{WritesFiles};
+
+use crate::info::InodeFault;
+use fv_codec::{InodeBlock, InodeRecord, Pointer, Shape};
+use fv_model::Name;
+use fv_tree::{Blocks, Tree};
+use std::cmp::Ordering;
+
+/// How many files an inode block has records of.
+pub const EACH: u32 = 16;
+
+/// A pointer that leads to nothing.
+pub const HOLE: Pointer = Pointer {
+    vvbn: 0,
+    pvbn: 0,
+    stamp: 0,
+};
+
+/// A record that is free.
+pub fn free_record() -> InodeRecord
+    ensures { result ≡ blank_record }
+{
+    InodeRecord {
+        name_length: 0,
+        name: [0; 64],
+        length: 0,
+        reserve: 0,
+        levels: 0,
+        root: HOLE,
+    }
+}
+
+/// The records of an inode block without a file.
+pub fn free_files() -> [InodeRecord; 16]
+    ensures { result ≡ replicate 16 blank_record }
+{
+    [free_record(); 16]
+}
+
+/// How many cells the levels of a tree hold.
+pub fn cells(tree: &Tree) -> u32
+    ensures is { result ≡ fan ^ tree.now.levels }
+    ensures few { result ≤ 2097152 }
+{
+    match tree.levels() {
+        0 => 1,
+        1 => 128,
+        2 => 16_384,
+        _ => 2_097_152,
+    }
+}
+
+/// The records of the inode block at a cell; free ones where there is no cell. It loads at most a node for each
+/// level and the inode block.
+///
+/// # Errors
+///
+/// As a tree's `read`, and `Damaged` for a block without the shape of an inode block: its place, and its first
+/// field that isn't as said.
+pub fn read_files<B: Blocks>(
+    tree: &Tree,
+    blocks: &mut B,
+    cell: u32,
+) -> Result<[InodeRecord; 16], InodeFault>
+    ensures files { IfOk result (AreRecords (standing (under (B.shown blocks.old)) tree.now) cell) }
+    ensures range { IfOk result (All IsInodeRecord) }
+    ensures long { IfOk result (λ files. length files ≡ 16) }
+    ensures few { tree.now.levels ≤ 3 }
+    ensures looks { Looks (standing (under (B.shown blocks.old)) tree.now) (B.shown blocks.old) (B.shown blocks.new) result }
+    ensures reads { B.reads blocks.old blocks.new }
+{
+    let mut block = [0; 4096];
+    match tree.read(blocks, cell, &mut block)? {
+        None => Ok(free_files()),
+        Some(at) => files_of(at, &block),
+    }
+}
+
+/// The records of the inode block that a block spells, which was read at a place.
+fn files_of(at: u32, block: &[u8; 4096]) -> Result<[InodeRecord; 16], InodeFault>
+    ensures files { IfOk result (λ files. records_in (Some block.now) ≡ files) }
+    ensures range { IfOk result (All IsInodeRecord) }
+    ensures long { IfOk result (λ files. length files ≡ 16) }
+    ensures damage { IfErr result (λ e. (shape : Shape) × (inodes_at block.now ≡ Err shape) × (e ≡ Damaged at shape.want shape.found)) }
+{
+    let inodes = decoded(at, block)?;
+    Ok(records(&inodes))
+}
+
+/// The records of an inode block.
+fn records(inodes: &InodeBlock) -> [InodeRecord; 16]
+    ensures { result ≡ inodes.now.files }
+{
+    inodes.files
+}
+
+/// The inode block that a block spells, which was read at a place.
+fn decoded(at: u32, block: &[u8; 4096]) -> Result<InodeBlock, InodeFault>
+    ensures inodes { IfOk result (λ inodes. inodes_at block.now ≡ Ok inodes) }
+    ensures range { IfOk result (λ inodes. All IsInodeRecord inodes.files) }
+    ensures long { IfOk result (λ inodes. length inodes.files ≡ 16) }
+    ensures damage { IfErr result (λ e. (shape : Shape) × (inodes_at block.now ≡ Err shape) × (e ≡ Damaged at shape.want shape.found)) }
+{
+    match InodeBlock::decode(block) {
+        Ok(inodes) => Ok(inodes),
+        Err(shape) => Err(InodeFault::Damaged {
+            at: u64::from(at),
+            want: shape.want,
+            found: shape.found,
+        }),
+    }
+}
+
+/// Writes the inode block at a cell below 2,097,152, of which not all records are free, with a stamp of at least 1.
+pub fn write_files<B: Blocks>(
+    tree: &mut Tree,
+    blocks: &mut B,
+    cell: u32,
+    files: &[InodeRecord; 16],
+    stamp: u64,
+) -> Result<(), InodeFault>
+    requires cell { cell < 2097152 }
+    requires stamp { 1 ≤ stamp }
+    requires range { All IsInodeRecord files.now }
+    requires some { all_free files.now ≡ false }
+    ensures written { OnOk result (WritesFiles (standing (under (B.shown blocks.old)) tree.old) (standing (under (B.shown blocks.new)) tree.new) cell stamp files.now) }
+    ensures failed { OnErr result (Remains (standing (under (B.shown blocks.old)) tree.old) (standing (under (B.shown blocks.new)) tree.new)) }
+    ensures owner { tree.new.owner ≡ tree.old.owner }
+    ensures stands { Stands (B.shown blocks.old) tree.old → Stands (B.shown blocks.new) tree.new }
+    ensures untouched { IsUntouched (B.shown blocks.old) (B.shown blocks.new) }
+    ensures reads { B.reads blocks.old blocks.new }
+    ensures counts { Counts (B.shown blocks.old) (B.shown blocks.new) result }
+    ensures cause { IfErr result (Fails (standing (under (B.shown blocks.old)) tree.old) (B.shown blocks.old) (B.shown blocks.new)) }
+{
+    let block = spelled(cell, files);
+    tree.put(blocks, cell, &block, stamp)
+}
+
+/// The inode block of an index with these records.
+fn spelled(cell: u32, files: &[InodeRecord; 16]) -> [u8; 4096]
+    requires range { All IsInodeRecord files.now }
+    requires some { all_free files.now ≡ false }
+    ensures { inodes_at result ≡ Ok (record { index = cell; files = files.now }) }
+{
+    let mut block = [0; 4096];
+    let inodes = InodeBlock {
+        index: u64::from(cell),
+        files: *files,
+    };
+    inodes.encode(&mut block);
+    block
+}
+
+/// Whether a record isn't free and has this name.
+pub fn is_named(file: &InodeRecord, name: &Name) -> bool
+    requires { file.now.name_length ≤ 64 }
+    ensures { result ≡ has_name (used_record file.now) name.now }
+{
+    file.name_length != 0 && is_same(&file.name[..usize::from(file.name_length)], name)
+}
+
+/// Whether bytes are a name.
+fn is_same(bytes: &[u8], name: &Name) -> bool
+    ensures { result ≡ is_same_name bytes.now name.now }
+{
+    bytes.cmp(name.as_bytes()) == Ordering::Equal
+}
+
+/// Whether all records are free.
+pub fn all_free(files: &[InodeRecord; 16]) -> bool
+    ensures { result ≡ all_free files.now }
+{
+    for file in files {
+        if file.name_length != 0 {
+            return false;
+        }
+    }
+    true
+}

@@ -1,0 +1,76 @@
+//! Changes of files by their names.
+
+ghost use Rattle.std.specs.Prelude.{◌≡◌};
+
+use fv_inode::{Info, InodeFault, InodeFile};
+use fv_model::Name;
+use fv_tree::Blocks;
+
+/// The most cells that a file has.
+const MOST_CELLS: u32 = 2_097_152;
+
+/// Makes a file, where the inode file has at most one level, so that a number is free; `None` where it doesn't.
+///
+/// # Errors
+///
+/// As `InodeFile::create`.
+pub fn create<B: Blocks>(
+    file: &mut InodeFile,
+    blocks: &mut B,
+    name: &Name,
+    reserve: u32,
+    stamp: u64,
+) -> Result<Option<Info>, InodeFault> {
+    if stamp == 0 || reserve > MOST_CELLS || file.levels() > 1 {
+        return Ok(None);
+    }
+    let info = file.create(blocks, name, reserve, stamp)?;
+    Ok(Some(info))
+}
+
+/// Gives the file of a name a length; false where there is none.
+///
+/// # Errors
+///
+/// As `InodeFile::change`.
+pub fn change<B: Blocks>(
+    file: &mut InodeFile,
+    blocks: &mut B,
+    name: &Name,
+    length: u32,
+    stamp: u64,
+) -> Result<bool, InodeFault> {
+    if stamp == 0 || length > MOST_CELLS {
+        return Ok(false);
+    }
+    match file.find(blocks, name)? {
+        None => Ok(false),
+        Some(info) => {
+            file.change(blocks, &Info { length, ..info }, stamp)?;
+            Ok(true)
+        }
+    }
+}
+
+/// Takes the file of a name away; false where there is none.
+///
+/// # Errors
+///
+/// As `InodeFile::remove`.
+pub fn remove<B: Blocks>(
+    file: &mut InodeFile,
+    blocks: &mut B,
+    name: &Name,
+    stamp: u64,
+) -> Result<bool, InodeFault> {
+    if stamp == 0 {
+        return Ok(false);
+    }
+    match file.find(blocks, name)? {
+        None => Ok(false),
+        Some(info) => {
+            file.remove(blocks, info.number, stamp)?;
+            Ok(true)
+        }
+    }
+}

@@ -1,0 +1,11 @@
+//! Tests of inode files: calls that meet their premises by a look-up, what no clause of `fv_inode` says, and random changes beside a
+//! plain list of files.
+#![tactic(auto)]
+
+#[cfg(test)]
+mod beside;
+mod calls;
+#[cfg(test)]
+mod rows;
+
+pub use calls::{change, create, remove};

@@ -1,0 +1,5 @@
+pub mod Lists
+pub mod Pointers
+pub mod Tables
+pub mod Items
+pub mod Bare

@@ -1,0 +1,4 @@
+pub mod Spelled
+pub mod Told
+pub mod Reached
+pub mod Kept

@@ -1,0 +1,72 @@
+//! Reading a cell with the place where it was read.
+
+ghost use Rattle.std.specs.Prelude.{◌≡◌, ◌≤◌, ℕ, Option, Some, None, IfOk, IfErr};
+ghost use Rattle.std.specs.Option.{option_map};
+ghost use Rattle.fv_tree.specs.Spelled.{pointer_at, block_at};
+ghost use Rattle.fv_tree.specs.Sources.{Counts, HasCause, IsUntouched};
+ghost use Rattle.fv_tree.specs.Standing.{standing, under, Fails};
+ghost use Rattle.fv_tree.specs.Reading.{cell_read_at};
+
+use crate::blocks::{Blocks, TreeFault};
+use crate::kept::Tree;
+use crate::way::find;
+use fv_codec::Pointer;
+
+impl Tree {
+    /// The content of the cell at `index`, and the PVBN where it was read, or 0 for one that is in memory or isn't
+    /// placed yet; `None` exactly for a hole. It keeps nothing in memory and loads at most one block for each
+    /// level, of at most 3, and one for the cell.
+    ///
+    /// # Errors
+    ///
+    /// As `get`.
+    pub fn read<B: Blocks>(
+        &self,
+        blocks: &mut B,
+        index: u32,
+        into: &mut [u8; 4096],
+    ) -> Result<Option<u32>, TreeFault>
+        ensures cell { IfOk result (λ at. block_at (standing (under (B.shown blocks.old)) self.now) index ≡ option_map (λ (place : ℕ). into.new) at) }
+        ensures place { IfOk result (λ at. (place : ℕ) → at ≡ Some place → place ≡ cell_read_at (standing (under (B.shown blocks.old)) self.now) (B.shown blocks.new) index) }
+        ensures few { self.now.levels ≤ 3 }
+        ensures untouched { IsUntouched (B.shown blocks.old) (B.shown blocks.new) }
+        ensures reads { B.reads blocks.old blocks.new }
+        ensures counts { Counts (B.shown blocks.old) (B.shown blocks.new) result }
+        ensures cause { IfErr result (Fails (standing (under (B.shown blocks.old)) self.now) (B.shown blocks.old) (B.shown blocks.new)) }
+    {
+        let pointer = find(self, blocks, index)?;
+        read_pointed(self, blocks, index, &pointer, into)
+    }
+}
+
+/// Copies a cell's content from memory, or loads it.
+#[tactic(auto, unfolding(crate::specs::Spelled::block_at))]
+fn read_pointed<B: Blocks>(
+    tree: &Tree,
+    blocks: &mut B,
+    index: u32,
+    pointer: &Pointer,
+    into: &mut [u8; 4096],
+) -> Result<Option<u32>, TreeFault>
+    requires pointer { pointer.now ≡ pointer_at (standing (under (B.shown blocks.old)) tree.now) 0 index }
+    ensures cell { IfOk result (λ at. block_at (standing (under (B.shown blocks.old)) tree.now) index ≡ option_map (λ (place : ℕ). into.new) at) }
+    ensures place { IfOk result (λ at. (place : ℕ) → at ≡ Some place → place ≡ cell_read_at (standing (under (B.shown blocks.old)) tree.now) (B.shown blocks.new) index) }
+    ensures untouched { IsUntouched (B.shown blocks.old) (B.shown blocks.new) }
+    ensures reads { B.reads blocks.old blocks.new }
+    ensures counts { Counts (B.shown blocks.old) (B.shown blocks.new) result }
+    ensures cause { IfErr result (HasCause (B.shown blocks.old) (B.shown blocks.new)) }
+{
+    if pointer.stamp == 0 {
+        return Ok(None);
+    }
+    match tree.cells.get(&index) {
+        Some(cell) => {
+            *into = cell.block;
+            Ok(Some(0))
+        }
+        None => {
+            let at = blocks.load(pointer, into)?;
+            Ok(Some(at))
+        }
+    }
+}

@@ -1,0 +1,114 @@
+//! Another content for a cell, under the stamps that it has.
+
+ghost use Rattle.std.specs.Prelude.{◌≡◌, ◌≢◌, ◌≤◌, ◌⊎◌, ℕ, List, true, false, is_some, Some, IfOk, IfErr, OnErr};
+ghost use Rattle.std.specs.BTreeMap as maps;
+ghost use Rattle.fv_codec.specs.declared.pointer.Pointer.{Pointer};
+ghost use Rattle.fv_codec.specs.Blocks.{all_holes};
+ghost use Rattle.fv_model.specs.Trees.{spot_cmp};
+ghost use Rattle.fv_tree.specs.Sources.{Counts, IsUntouched};
+ghost use Rattle.fv_tree.specs.Standing.{standing, under, node_in, children_in, Fails, IsSameBut};
+ghost use Rattle.fv_tree.specs.Writing.{IsAlike, Remains};
+ghost use Rattle.fv_tree.specs.Refilling.{IsFilledWay, IsRefilled, Refills};
+ghost use Rattle.fv_tree.specs.Flushing.{changed_in, placed_in, Stands};
+ghost use Rattle.fv_tree.specs.Carried.{Marks};
+
+use crate::blocks::{Blocks, TreeFault};
+use crate::keep::keep_path;
+use crate::kept::{KeptNode, Tree};
+use crate::sizes::width;
+use crate::write::keep_cell;
+use std::collections::BTreeMap;
+
+impl Tree {
+    /// Gives the cell at `index` another content, under the stamps that it has, as the roots of files come into an
+    /// inode block after their flush; false exactly for a hole, and then nothing changes. Levels, marks and all
+    /// other cells stay. It loads at most the nodes over the cell that aren't in memory, and not the content that
+    /// it replaces. Those nodes and the new content stay in memory, and the next `flush` places them. After a fault
+    /// the tree is seen as before.
+    ///
+    /// # Errors
+    ///
+    /// As `get`, and `Memory` where there is no memory for the nodes and the content.
+    pub fn refill<B: Blocks>(
+        &mut self,
+        blocks: &mut B,
+        index: u32,
+        block: &[u8; 4096],
+    ) -> Result<bool, TreeFault>
+        ensures refilled { IfOk result (Refills (standing (under (B.shown blocks.old)) self.old) (standing (under (B.shown blocks.new)) self.new) index block.now) }
+        ensures place_by_place { IfOk result (IsRefilled (standing (under (B.shown blocks.old)) self.old) (standing (under (B.shown blocks.new)) self.new) index block.now) }
+        ensures failed { OnErr result (Remains (standing (under (B.shown blocks.old)) self.old) (standing (under (B.shown blocks.new)) self.new)) }
+        ensures owner { self.new.owner ≡ self.old.owner }
+        ensures stands { Stands (B.shown blocks.old) self.old → Stands (B.shown blocks.new) self.new }
+        ensures untouched { IsUntouched (B.shown blocks.old) (B.shown blocks.new) }
+        ensures reads { B.reads blocks.old blocks.new }
+        ensures counts { Counts (B.shown blocks.old) (B.shown blocks.new) result }
+        ensures cause { IfErr result (Fails (standing (under (B.shown blocks.old)) self.old) (B.shown blocks.old) (B.shown blocks.new)) }
+    {
+        refill_cell(self, blocks, index, block)
+    }
+}
+
+/// Gives a cell another content, where it stands.
+fn refill_cell<B: Blocks>(
+    tree: &mut Tree,
+    blocks: &mut B,
+    index: u32,
+    block: &[u8; 4096],
+) -> Result<bool, TreeFault>
+    ensures done { IfOk result (IsRefilled (standing (under (B.shown blocks.old)) tree.old) (standing (under (B.shown blocks.new)) tree.new) index block.now) }
+    ensures failed { OnErr result (IsAlike (standing (under (B.shown blocks.old)) tree.old) (standing (under (B.shown blocks.new)) tree.new)) }
+    ensures owner { tree.new.owner ≡ tree.old.owner }
+    ensures stands { Stands (B.shown blocks.old) tree.old → Stands (B.shown blocks.new) tree.new }
+    ensures untouched { IsUntouched (B.shown blocks.old) (B.shown blocks.new) }
+    ensures reads { B.reads blocks.old blocks.new }
+    ensures counts { Counts (B.shown blocks.old) (B.shown blocks.new) result }
+    ensures cause { IfErr result (Fails (standing (under (B.shown blocks.old)) tree.old) (B.shown blocks.old) (B.shown blocks.new)) }
+{
+    if index >= width(tree.levels) {
+        return Ok(false);
+    }
+    let pointer = keep_path(tree, blocks, index)?;
+    if pointer.stamp == 0 {
+        return Ok(false);
+    }
+    keep_cell(tree, index, block, true)?;
+    mark_path(tree, index);
+    Ok(true)
+}
+
+/// Marks the nodes over a cell as changed.
+fn mark_path(tree: &mut Tree, index: u32)
+    requires { IsFilledWay tree.old index }
+    ensures fields { IsSameBut tree.old tree.new }
+    ensures nodes { (level place : ℕ) → node_in tree.new level place ≡ node_in tree.old level place }
+    ensures marks { Marks tree.old tree.new index }
+{
+    let levels = tree.levels;
+    for below in 0..levels {
+        mark_spot(&mut tree.nodes, below + 1, index / width(below + 1));
+    }
+}
+
+/// Marks a node in memory as changed.
+fn mark_spot(nodes: &mut BTreeMap<(u8, u32), KeptNode>, level: u8, place: u32)
+    requires filled { (xs : List Pointer) → children_in nodes.old level place ≡ Some xs → all_holes xs ≡ false }
+    ensures children { (k q : ℕ) → children_in nodes.new k q ≡ children_in nodes.old k q }
+    ensures placed { (k q : ℕ) → placed_in nodes.new k q ≡ placed_in nodes.old k q }
+    ensures changed { is_some (maps.get spot_cmp nodes.old (level, place)) ≡ true → changed_in nodes.new level place ≡ true }
+    ensures others { (k q : ℕ) → (k ≢ level) ⊎ (q ≢ place) → maps.get spot_cmp nodes.new (k, q) ≡ maps.get spot_cmp nodes.old (k, q) }
+{
+    if let Some(node) = nodes.get_mut(&(level, place)) {
+        mark(node);
+    }
+}
+
+/// Marks a node as changed.
+fn mark(node: &mut KeptNode)
+    requires filled { all_holes node.old.children ≡ false }
+    ensures children { node.new.children ≡ node.old.children }
+    ensures changed { node.new.changed ≡ true }
+    ensures placed { node.new.placed ≡ node.old.placed }
+{
+    node.changed = true;
+}

@@ -1,0 +1,234 @@
+//! What no clause says: how many blocks calls load and place and of which kinds, that a damaged node is answered
+//! as damage, and that a flush goes on where an earlier one failed.
+
+ghost use Rattle.std.specs.Prelude.{◌≤◌};
+
+use crate::memory::MemBlocks;
+use crate::pair::{INDEXES, OWNER, block};
+use crate::spelled::{MARK, large, node, small, wrong};
+use fv_tree::{Tree, TreeFault};
+use std::alloc::Global;
+use std::test::Fail;
+
+const INODE_FILE: u64 = u64::MAX;
+
+/// Writes a cell.
+fn put(tree: &mut Tree, blocks: &mut MemBlocks, index: u32, stamp: u64) -> Result<(), TreeFault> {
+    if index >= INDEXES || stamp == 0 {
+        return Ok(());
+    }
+    tree.put(blocks, index, &block(stamp), stamp)
+}
+
+/// A tree that got the cells 0, 128 and another, none of them placed.
+fn written(
+    alloc: Global,
+    owner: u64,
+    blocks: &mut MemBlocks,
+    other: u32,
+) -> Result<Tree, TreeFault> {
+    let mut tree = Tree::new(alloc, owner, 0);
+    put(&mut tree, blocks, 0, 1)?;
+    put(&mut tree, blocks, 128, 2)?;
+    put(&mut tree, blocks, other, 3)?;
+    Ok(tree)
+}
+
+/// How many blocks of each kind from 1 to 7 were placed.
+fn kinds(blocks: &MemBlocks) -> [u64; 7] {
+    let mut kinds = [0; 7];
+    for kind in 0..7 {
+        kinds[kind] = blocks.placed(kind as u8 + 1);
+    }
+    kinds
+}
+
+/// The kinds that flushes of a tree with three cells place, where the call with this number fails first; whether
+/// the root is known; and how many blocks one more flush places.
+fn flushed(
+    alloc: Global,
+    owner: u64,
+    other: u32,
+    fails: Option<u64>,
+    hidden: u32,
+) -> Result<([u64; 7], bool, u64), TreeFault> {
+    let mut blocks = MemBlocks::new(alloc);
+    let mut tree = written(alloc, owner, &mut blocks, other)?;
+    blocks.hide(hidden);
+    if let Some(call) = fails {
+        blocks.fail(call);
+        if tree.flush(&mut blocks) != Err(TreeFault::DiskFault) {
+            return Err(TreeFault::Memory);
+        }
+    }
+    let root = tree.flush(&mut blocks)?;
+    let kinds = kinds(&blocks);
+    let before = blocks.calls();
+    tree.flush(&mut blocks)?;
+    let more = blocks.calls().saturating_sub(before);
+    Ok((kinds, root.pvbn != 0, more))
+}
+
+#[test]
+fn kinds_of_blocks(rt: HostRuntime) -> Result<(), Fail> {
+    let file = [3, 3, 2, 1, 0, 0, 0];
+    assert_eq!(rt;
+        flushed(rt.alloc(), OWNER, 16_384, None, 99),
+        Ok((file, true, 0))
+    );
+    assert_eq!(rt;
+        flushed(rt.alloc(), OWNER, 16_384, None, 0),
+        Ok((file, false, 0))
+    );
+    let inodes = [0, 0, 0, 0, 3, 2, 1];
+    assert_eq!(rt;
+        flushed(rt.alloc(), INODE_FILE, 127, None, 99),
+        Ok((inodes, true, 0))
+    );
+    Ok(())
+}
+
+/// A flush that fails places the rest the next time, and no block twice.
+#[test]
+fn each_place_fails(rt: HostRuntime) -> Result<(), Fail> {
+    for call in 0..9 {
+        assert_eq!(rt;
+            flushed(rt.alloc(), OWNER, 16_384, Some(call), 99),
+            Ok(([3, 3, 2, 1, 0, 0, 0], true, 0))
+        );
+    }
+    Ok(())
+}
+
+/// A call on a stored tree.
+#[derive(Clone, Copy)]
+enum Call {
+    Get(u32),
+    Put(u32),
+    Refill(u32),
+    Remove(u32),
+    Cut(u32),
+}
+
+/// Makes a call.
+fn make(tree: &mut Tree, blocks: &mut MemBlocks, call: Call) -> Result<(), TreeFault> {
+    match call {
+        Call::Get(index) => {
+            if index < INDEXES {
+                let mut into = [0; 4096];
+                tree.get(blocks, index, &mut into)?;
+            }
+            Ok(())
+        }
+        Call::Put(index) => put(tree, blocks, index, 9),
+        Call::Refill(index) => {
+            tree.refill(blocks, index, &block(9))?;
+            Ok(())
+        }
+        Call::Remove(index) => tree.remove(blocks, index, 0, 9),
+        Call::Cut(length) => tree.cut(blocks, length, 0, 9),
+    }
+}
+
+/// How many blocks are loaded by a call and by another one after it, in a stored tree with the cells 0, 1 and 128; and
+/// how many blocks were named, and how often one that was gone.
+fn loads(alloc: Global, first: Call, second: Call) -> Result<([u64; 2], (u64, u64)), TreeFault> {
+    let (mut tree, mut blocks) = small(alloc)?;
+    let start = blocks.calls();
+    make(&mut tree, &mut blocks, first)?;
+    let once = blocks.calls();
+    make(&mut tree, &mut blocks, second)?;
+    let twice = blocks.calls();
+    Ok((
+        [once.saturating_sub(start), twice.saturating_sub(once)],
+        blocks.gone(),
+    ))
+}
+
+#[test]
+fn loads_of_calls(rt: HostRuntime) -> Result<(), Fail> {
+    let rows = [
+        (Call::Get(1), Call::Get(129), ([3, 2], (0, 0))),
+        (Call::Put(2), Call::Put(3), ([2, 0], (0, 0))),
+        (Call::Refill(1), Call::Refill(2), ([2, 0], (0, 0))),
+        (Call::Remove(128), Call::Remove(0), ([2, 1], (3, 0))),
+        (Call::Cut(129), Call::Cut(2), ([2, 1], (2, 0))),
+        (Call::Cut(16_384), Call::Cut(0), ([0, 3], (6, 0))),
+    ];
+    for (first, second, want) in rows {
+        assert_eq!(rt; loads(rt.alloc(), first, second), Ok(want));
+    }
+    Ok(())
+}
+
+/// Whether another content for a cell of a stored tree with the cells 0, 1 and 128 was taken; whether it is read
+/// after a flush; how many blocks that placed; and the root's stamp.
+fn refilled(alloc: Global, index: u32) -> Result<(bool, bool, u64, u64), TreeFault> {
+    let (mut tree, mut blocks) = small(alloc)?;
+    let there = tree.refill(&mut blocks, index, &block(77))?;
+    let before = blocks.calls();
+    let root = tree.flush(&mut blocks)?;
+    let placed = blocks.calls().saturating_sub(before);
+    let mut into = [0; 4096];
+    let found = tree.get(&mut blocks, index, &mut into)?;
+    Ok((there, found && into == block(77), placed, root.stamp))
+}
+
+#[test]
+fn another_content_keeps_the_stamps(rt: HostRuntime) -> Result<(), Fail> {
+    assert_eq!(rt; refilled(rt.alloc(), 1), Ok((true, true, 3, 1)));
+    assert_eq!(rt; refilled(rt.alloc(), 2), Ok((false, false, 0, 1)));
+    assert_eq!(rt; refilled(rt.alloc(), 16_384), Ok((false, false, 0, 1)));
+    Ok(())
+}
+
+/// The answer of a call on a tree of one level over a block that stands in place of its node.
+fn answer(alloc: Global, root: &[u8; 4096], call: Call) -> Result<(), TreeFault> {
+    let (mut tree, mut blocks) = wrong(alloc, root)?;
+    make(&mut tree, &mut blocks, call)
+}
+
+#[test]
+fn nodes_of_other_positions(rt: HostRuntime) -> Result<(), Fail> {
+    let damaged = |want, found| Err(TreeFault::Damaged { at: 2, want, found });
+    for call in [
+        Call::Get(0),
+        Call::Put(1),
+        Call::Refill(0),
+        Call::Remove(0),
+        Call::Cut(0),
+    ] {
+        assert_eq!(rt; answer(rt.alloc(), &node(1, 0, 1, 0, 1), call), Ok(()));
+        assert_eq!(rt;
+            answer(rt.alloc(), &node(2, 0, 1, 0, 1), call),
+            damaged(1, 2)
+        );
+        assert_eq!(rt;
+            answer(rt.alloc(), &node(1, 5, 1, 0, 1), call),
+            damaged(0, 5)
+        );
+        assert_eq!(rt; answer(rt.alloc(), &block(0), call), damaged(MARK, 0));
+    }
+    Ok(())
+}
+
+/// The loads of a write and the places of the flush after it, in a file of 100,000 cells after a flush.
+fn cost(alloc: Global, index: u32) -> Result<(u64, u64), TreeFault> {
+    let (mut tree, mut blocks) = large(alloc)?;
+    put(&mut tree, &mut blocks, 100_000, 2)?;
+    tree.flush(&mut blocks)?;
+    let start = blocks.calls();
+    put(&mut tree, &mut blocks, index, 3)?;
+    let loaded = blocks.calls();
+    tree.flush(&mut blocks)?;
+    let placed = blocks.calls();
+    Ok((loaded.saturating_sub(start), placed.saturating_sub(loaded)))
+}
+
+#[test]
+fn a_write_costs_its_path(rt: HostRuntime) -> Result<(), Fail> {
+    for index in [1, 54_321, 98_304] {
+        assert_eq!(rt; cost(rt.alloc(), index), Ok((3, 4)));
+    }
+    Ok(())
+}

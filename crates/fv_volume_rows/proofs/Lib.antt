@@ -1,2 +1,0 @@
--- The proofs that tests need.
-mod Sessions
