@@ -18,7 +18,7 @@ use Rattle.fv_model.specs.Space.{map_blocks}
 use Rattle.fv_image.specs.Layout.{block_bits, gate_place, root_place, superblock}
 use Rattle.fv_image.specs.NewerRoot.{Taken, behind, newer, root_of, taken_of}
 use Rattle.fv_image.specs.Maps.{area_bits, map_bit}
-use Rattle.fv_image.specs.Containers.{container_entry, node_of, node_verdict, shaped}
+use Rattle.fv_image.specs.Containers.{container_entry, node_of, node_shape, shaped}
 use Rattle.fv_image.specs.Views.{Footing, block_in, entry_count, head_of, map_vvbn, slots, snaps_from, volume_bit}
 use Rattle.fv_image.specs.Told.{has_none, is_all_plain, is_plain}
 use Rattle.fv_image.specs.Held.{entry_from, is_held, label_in, label_place, layout_at, lying_at, placed, view_at}
@@ -29,6 +29,7 @@ use Rattle.fv_image.proofs.Kept.{at_number}
 use Rattle.fv_image.proofs.Room.{bit_is_held}
 use Rattle.fv_image.proofs.SameLayout.{slot_inside}
 use Rattle.fv_image.proofs.SoundFacts.{label_is_there, map_is_clear, map_is_there, tree_is_whole}
+use Rattle.fv_image.proofs.NodesOnce.{shaped_when_whole}
 use Rattle.fv_image.proofs.Stands.{stands_for}
 use Rattle.fv_root.specs.declared.find.Found.{Found}
 use Rattle.fv_root.specs.Finding.{IsDamaged, IsNoAggregate, root_found}
@@ -172,8 +173,9 @@ module _ (i : Image) (found : Found) (m : Machine) (tells : Tells (layout_at (ro
       let l = bad.label in
       let node = bad.fault.node in
       let some : node_of i l.container l.height node.level node.number ≢ 0 = λ e. node.some (node.place ∙ e) in
-      let fine : node_verdict node.level node.number (i at) ≡ Ok tt = ap (λ (b : ℕ). node_verdict node.level node.number (i b)) node.place ∙ (tree_is_whole (root_found found) i sound bad.slot l bad.lies).nodes node.level node.number node.below node.within some in
-      apart (node_verdict node.level node.number (i at)) fine bad.fault.fault
+      let shaped = shaped_when_whole i l.container l.height (entry_count l.span) (tree_is_whole (root_found found) i sound bad.slot l bad.lies) in
+      let fine : node_shape node.level (i at) ≡ Ok tt = ap (λ (b : ℕ). node_shape node.level (i b)) node.place ∙ shaped.nodes node.level node.number node.below node.within some in
+      apart (node_shape node.level (i at)) fine bad.fault.fault
     where
       apart : (v : Verdict) → v ≡ Ok tt → v ≡ Err (record { want = want; found = number }) → ⊥
       apart v a b = cc

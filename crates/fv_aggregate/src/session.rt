@@ -39,7 +39,8 @@ pub struct Session {
 
 impl Model for Session {
     ghost use Rattle.std.specs.Prelude.{IsNone};
-    ghost use Rattle.fv_aggregate.specs.Parts.{IsWhole, Parts, parts_code};
+    ghost use Rattle.fv_cp.specs.Lent.{FitTogether};
+    ghost use Rattle.fv_aggregate.specs.Parts.{Parts, parts_code};
 
     ghost Value = { Parts };
 
@@ -47,7 +48,7 @@ impl Model for Session {
 
     ghost view = { λ s. record { volumes = s.volumes; pool = s.pool; pending = s.pending; failed = s.failed } };
 
-    ghost invariant = { λ s. IsNone s.failed → IsWhole s.pool s.volumes };
+    ghost invariant = { λ s. IsNone s.failed → FitTogether s.pool s.volumes };
 }
 
 impl Session {

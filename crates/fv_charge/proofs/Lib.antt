@@ -1,0 +1,2 @@
+pub mod Admissions
+mod Counting

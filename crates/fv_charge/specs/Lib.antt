@@ -1,1 +1,3 @@
 pub mod Ledgers
+pub mod Changes
+pub mod Counted

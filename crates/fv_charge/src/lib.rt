@@ -2,8 +2,11 @@
 //! its span. `docs/SPACE.md` and `docs/MACHINE.md` have the rules.
 #![tactic(auto)]
 
+mod count;
+mod delta;
 mod ledger;
 mod numbers;
 
+pub use delta::Delta;
 pub use ledger::Ledger;
 pub use numbers::{overhead, span_of};

@@ -1,24 +1,29 @@
 -- A tree that was written.
-use Rattle.std.proofs.Common.{◌≡◌, ◌≢◌, ℕ, suc, ◌+◌, ◌-◌, ◌*◌, ◌/◌, ◌%◌, ◌<◌, ◌≤◌, List, length, get_or, take, Bool, true, false, not, ◌&&◌, refl, sym, ap, subst, ◌∙◌, arith, ⊎_elim, Ok, Option, None}
-use Rattle.std.specs.Prelude.{nat_lt, nat_le}
+use Rattle.std.proofs.Common.{◌≡◌, ◌≢◌, ℕ, suc, ◌+◌, ◌-◌, ◌*◌, ◌/◌, ◌%◌, ◌<◌, ◌≤◌, List, length, get_or, take, Bool, true, false, not, ◌&&◌, refl, sym, ap, subst, ◌∙◌, arith, ⊎_elim, Result, Ok, Option, None}
+use Rattle.std.specs.Prelude.{nat_lt, nat_le, ◌||◌, ◌==◌, if◌then◌else◌}
 use Rattle.std.specs.FinSet as set
-use Rattle.std.proofs.lemmas.Bool.{cases_Bool, cases_lt}
+use Rattle.std.proofs.lemmas.Bool.{cases_Bool, cases_lt, or_left, or_right}
 use Rattle.std.proofs.lemmas.Bool.Decides.{nat_tests}
+use Rattle.std.proofs.lemmas.List.{get_or_past}
 use Rattle.fv_disk.specs.Shown.{Image}
+use Rattle.fv_codec.specs.declared.shape.Shape.{Shape}
+use Rattle.fv_codec.specs.declared.container.ContainerLeaf.{ContainerLeaf}
+use Rattle.fv_codec.specs.declared.container.ContainerInner.{ContainerInner}
 use Rattle.fv_codec.specs.Fields.{in_range}
 use Rattle.fv_codec.specs.Blocks.{inner_at, leaf_at}
-use Rattle.fv_image.specs.Containers.{child_in, entry_in, height_of, inner_for, leaf_for, level_width, lying, most_entries, node_below, node_verdict}
+use Rattle.fv_image.specs.Containers.{child_in, entry_in, has_none_past, height_of, inner_for, leaf_for, level_width, lying, most_entries, node_below, node_verdict, shaped, IsWholeTree}
+use Rattle.fv_image.proofs.NodesOnce.{shaped_when_whole}
+use Rattle.fv_image.proofs.WholeSlots.{all_between}
 use Rattle.fv_container.specs.declared.entry.Entry.{Entry}
 use Rattle.fv_container.specs.Kept.{map_of}
 use Rattle.fv_container.specs.Mapped.{node_count}
-use Rattle.fv_container.specs.Spelled.{Spelled, names, pair_of}
-use Rattle.fv_container.specs.Reading.{AreWhole}
+use Rattle.fv_container.specs.Spelled.{names, pair_of}
 use Rattle.fv_container.specs.Freeing.{Room}
 use Rattle.fv_container.specs.Written.{AreWritten, IsInnerOf, IsLeafOf, HasTaken, has_entry, is_written, root_number}
-use Rattle.fv_container.specs.Flushed.{Loses}
+use Rattle.fv_container.specs.Flushed.{IsFlushed, Loses}
 use Rattle.fv_container.proofs.Nodes.{lying_read}
 use Rattle.fv_container.proofs.Regions.{hole_in}
-use Rattle.fv_container.proofs.Trees.{TreeAt, spelled}
+use Rattle.fv_container.proofs.Trees.{TreeAt, each_node, spelled}
 
 -- ---- one node
 
@@ -37,6 +42,39 @@ child_of : (i : Image) (places : List ℕ) (level number from end p c : ℕ) →
 child_of i places level number from end p c is some lt inside =
     let test : nat_lt (from + c) end ≡ true = grind (arith, nat_tests) in
     ap (λ n. child_in n c) (lying_read inner_at i p is.node some is.said) ∙ is.children c lt ∙ rw test refl
+
+-- ---- nothing past the entries
+
+is_less : (a b : ℕ) → a < b → nat_lt a b ≡ true
+is_less a b lt = grind (arith, nat_tests)
+
+is_none : (a : ℕ) → a ≡ 0 → (a == 0) ≡ true
+is_none a none = grind (arith, nat_tests)
+
+leaf_ends : (es : List (Option Entry)) (index : ℕ) (block : List ℕ) → IsLeafOf es index block → has_none_past (length es) 0 index block ≡ true
+leaf_ends es index block is = all_between (λ c. nat_lt (index * 256 + c) (length es) || ((entry_in (shaped (leaf_at block)) c).1 == 0)) 0 256 (λ c low high. ⊎_elim
+    (λ (inside : index * 256 + c < length es). or_left (nat_lt (index * 256 + c) (length es)) _ (is_less (index * 256 + c) (length es) inside))
+    (λ (past : length es ≤ index * 256 + c).
+    let kind : (entry_in (shaped (leaf_at block)) c).1 ≡ 0 =
+    ap (λ (r : Result ContainerLeaf Shape). (entry_in (shaped r) c).1) is.said ∙ ap (λ (e : ℕ × ℕ). e.1) (is.entries c (omega (arith, high)))
+    ∙ ap (λ (e : Option Entry). (pair_of e).1) (get_or_past es (256 * index + c) None (omega (arith, past))) in
+    or_right (nat_lt (index * 256 + c) (length es)) _ (is_none _ kind))
+    (cases_lt (index * 256 + c) (length es)))
+
+inner_ends : (places : List ℕ) (entries level number from end : ℕ) (block : List ℕ) → IsInnerOf places (suc level) number from end block
+    → ((c : ℕ) → level_width entries level ≤ number * 256 + c → end ≤ from + c) → has_none_past entries (suc level) number block ≡ true
+inner_ends places entries level number from end block is far =
+    all_between (λ c. nat_lt (number * 256 + c) (level_width entries level) || (child_in (shaped (inner_at block)) c == 0)) 0 256 (λ c low high. ⊎_elim
+    (λ (inside : number * 256 + c < level_width entries level). or_left (nat_lt (number * 256 + c) (level_width entries level)) _ (is_less (number * 256 + c) (level_width entries level) inside))
+    (λ (past : level_width entries level ≤ number * 256 + c).
+    let out : nat_lt (from + c) end ≡ false = not_less (from + c) end (far c past) in
+    let child : child_in (shaped (inner_at block)) c ≡ 0 =
+    ap (λ (r : Result ContainerInner Shape). child_in (shaped r) c) is.said ∙ is.children c (omega (arith, high)) ∙ ap (λ (t : Bool). if t then get_or places (from + c) 0 else 0) out in
+    or_right (nat_lt (number * 256 + c) (level_width entries level)) _ (is_none _ child))
+    (cases_lt (number * 256 + c) (level_width entries level)))
+  where
+    not_less : (a b : ℕ) → b ≤ a → nat_lt a b ≡ false
+    not_less a b le = grind (arith, nat_tests)
 
 -- ---- which nodes are written
 
@@ -99,14 +137,17 @@ module _ (es : List (Option Entry)) (few : length es ≤ most_entries) where
           child_of i ps 1 (k / 256) (256 * (k / 256)) leaves (get_or ps (leaves + k / 256) 0) (k % 256) (inner_block (k / 256) up) (inner_place (k / 256) up) (omega arith) (omega (arith, at, within))
           ∙ ap (λ (m : ℕ). get_or ps m 0) at
 
-      leaves_whole : AreWhole i 0 ps 0 leaves
-      leaves_whole = λ k within some.
-          let first : 0 + k ≡ k = omega arith in
-          let some_at : get_or ps k 0 ≢ 0 = λ none. some (ap (λ (m : ℕ). get_or ps m 0) first ∙ none) in
-          subst (λ (m : ℕ). node_verdict 0 k (i (get_or ps m 0)) ≡ Ok tt) (sym first) (leaf_whole es k (i (get_or ps k 0)) ((written k (omega (arith, long, within)) some_at).leaf within))
+      leaves_whole : (k : ℕ) → k < leaves → get_or ps k 0 ≢ 0 → node_verdict 0 k (i (get_or ps k 0)) ≡ Ok tt
+      leaves_whole k within some = leaf_whole es k (i (get_or ps k 0)) ((written k (omega (arith, long, within)) some).leaf within)
 
-      inner_all_whole : AreWhole i 1 ps leaves inner
-      inner_all_whole = λ q within some. inner_whole ps 0 q (256 * q) leaves (i (get_or ps (leaves + q) 0)) (inner_block q within)
+      inner_all_whole : (q : ℕ) → q < inner → get_or ps (leaves + q) 0 ≢ 0 → node_verdict 1 q (i (get_or ps (leaves + q) 0)) ≡ Ok tt
+      inner_all_whole q within some = inner_whole ps 0 q (256 * q) leaves (i (get_or ps (leaves + q) 0)) (inner_block q within)
+
+      leaves_end : (k : ℕ) → k < leaves → get_or ps k 0 ≢ 0 → has_none_past n 0 k (i (get_or ps k 0)) ≡ true
+      leaves_end k within some = leaf_ends es k (i (get_or ps k 0)) ((written k (omega (arith, long, within)) some).leaf within)
+
+      inner_end : (q : ℕ) → q < inner → get_or ps (leaves + q) 0 ≢ 0 → has_none_past n 1 q (i (get_or ps (leaves + q) 0)) ≡ true
+      inner_end q within some = inner_ends ps n 0 q (256 * q) leaves (i (get_or ps (leaves + q) 0)) (inner_block q within) (λ c past. omega (arith, past))
 
       read : (v : ℕ) → v < n → pair_of (get_or es v None) ≡ entry_in (lying leaf_at i (get_or ps (v / 256) 0)) (v % 256)
       read v within =
@@ -123,6 +164,18 @@ module _ (es : List (Option Entry)) (few : length es ≤ most_entries) where
           let hole : get_or es v None ≡ None = ap (λ (m : ℕ). get_or es m None) (sym at) ∙ hole_in es k (v % 256) none (omega arith) in
           ap pair_of hole ∙ sym (ap (λ (p : ℕ). entry_in (lying leaf_at i p) (v % 256)) place))
           (cases_Bool (has_entry es k))
+
+      -- a tree with these places, whose top node ends and is whole
+      flushed : (root height : ℕ) → TreeAt i root height n ps → (height ≡ 2 → (node_verdict 2 0 (i root) ≡ Ok tt) × (has_none_past n 2 0 (i root) ≡ true)) → IsFlushed i root height (map_of es ps)
+      flushed root height tree top =
+          let whole : IsWholeTree i root height n = record {
+            nodes = each_node i root height es ps tree (λ level number b. node_verdict level number b ≡ Ok tt) leaves_whole inner_all_whole (λ two some. (top two).0);
+          } in
+          record {
+            spelled = spelled i root height es ps tree (shaped_when_whole i root height n whole) read;
+            whole = whole;
+            ends = record { nodes = each_node i root height es ps tree (λ level number b. has_none_past n level number b ≡ true) leaves_end inner_end (λ two some. (top two).1) };
+          }
 
       module _ (low : leaves ≤ 256) where
         low_height : height_of n ≡ 1
@@ -154,8 +207,8 @@ module _ (es : List (Option Entry)) (few : length es ≤ most_entries) where
             alone : nat_lt 1 inner ≡ false
             alone = grind (arith, nat_tests, low_inner low)
 
-        low_spelled : Spelled i (get_or ps (root_number n) 0) (height_of n) (map_of es ps)
-        low_spelled = rw (low_height, low_root) (spelled i (get_or ps leaves 0) 1 es ps low_tree leaves_whole inner_all_whole (λ high. absurd (omega (arith, high))) read)
+        low_flushed : IsFlushed i (get_or ps (root_number n) 0) (height_of n) (map_of es ps)
+        low_flushed = rw (low_height, low_root) (flushed (get_or ps leaves 0) 1 low_tree (λ high. absurd (omega (arith, high))))
 
       module _ (high : 256 < leaves) where
         high_height : height_of n ≡ 2
@@ -192,11 +245,14 @@ module _ (es : List (Option Entry)) (few : length es ≤ most_entries) where
           top = refl;
         }
 
-        high_spelled : Spelled i (get_or ps (root_number n) 0) (height_of n) (map_of es ps)
-        high_spelled = rw (high_height, high_root) (spelled i (get_or ps (leaves + inner) 0) 2 es ps high_tree leaves_whole inner_all_whole (λ two some. inner_whole ps 1 0 leaves (leaves + inner) (i (get_or ps (leaves + inner) 0)) top_block) read)
+        high_flushed : IsFlushed i (get_or ps (root_number n) 0) (height_of n) (map_of es ps)
+        high_flushed = rw (high_height, high_root) (flushed (get_or ps (leaves + inner) 0) 2 high_tree (λ two. (
+          inner_whole ps 1 0 leaves (leaves + inner) (i (get_or ps (leaves + inner) 0)) top_block,
+          inner_ends ps n 1 0 leaves (leaves + inner) (i (get_or ps (leaves + inner) 0)) top_block (λ c past. omega (arith, past)),
+        )))
 
-      pub tree_spelled : Spelled i (get_or ps (root_number n) 0) (height_of n) (map_of es ps)
-      tree_spelled = ⊎_elim high_spelled low_spelled (cases_lt 256 leaves)
+      pub tree_flushed : IsFlushed i (get_or ps (root_number n) 0) (height_of n) (map_of es ps)
+      tree_flushed = ⊎_elim high_flushed low_flushed (cases_lt 256 leaves)
 
 -- ---- the map
 

@@ -9,30 +9,19 @@ use Rattle.fv_disk.specs.Shown.{Image}
 use Rattle.fv_codec.specs.declared.shape.Shape.{Shape}
 use Rattle.fv_codec.specs.declared.container.ContainerLeaf.{ContainerLeaf}
 use Rattle.fv_codec.specs.declared.container.ContainerInner.{ContainerInner}
-use Rattle.fv_codec.specs.Fields.{Verdict, reading}
 use Rattle.fv_codec.specs.Blocks.{IsContainerLeaf, IsEntry, inner_at, leaf_at}
-use Rattle.fv_image.specs.Containers.{child_in, entry_in, inner_for, judged, leaf_for, lying}
+use Rattle.fv_image.specs.Containers.{child_in, entry_in, lying}
 use Rattle.fv_container.specs.Reading.{ReadsAs}
-
-read_ok : {X : Type 0} (v : Verdict) (y x : X) → reading v y ≡ Ok x → ◌≡◌ {A = Result X Shape} (Ok y) (Ok x)
-read_ok (Ok fine) y x is = is
-read_ok (Err fault) y x is = cc
-
-judged_ok : {X : Type 0} (r : Result X Shape) (asks : X → Verdict) (x : X) → judged r asks ≡ Ok x → r ≡ Ok x
-judged_ok (Err s) asks x is = cc
-judged_ok (Ok y) asks x is = read_ok (asks y) y x is
 
 said_ok : {X : Type 0} (at : ℕ) (r : Result X Shape) (x : X) → ReadsAs at (λ n. n) r (Ok x) → r ≡ Ok x
 said_ok at (Ok y) x is = cc
 said_ok at (Err s) x is = cc
 
-shaped_inner : (i : Image) (at level number : ℕ) (block : List ℕ) (node : ContainerInner) → block ≡ i at → ReadsAs at (λ n. n) (inner_for level number block) (Ok node) → inner_at (i at) ≡ Ok node
-unfolding inner_for
-shaped_inner i at level number block node is said = ap inner_at (sym is) ∙ judged_ok (inner_at block) _ node (said_ok at (inner_for level number block) node said)
+shaped_inner : (i : Image) (at : ℕ) (block : List ℕ) (node : ContainerInner) → block ≡ i at → ReadsAs at (λ n. n) (inner_at block) (Ok node) → inner_at (i at) ≡ Ok node
+shaped_inner i at block node is said = ap inner_at (sym is) ∙ said_ok at (inner_at block) node said
 
-shaped_leaf : (i : Image) (at index : ℕ) (block : List ℕ) (leaf : ContainerLeaf) → block ≡ i at → ReadsAs at (λ n. n) (leaf_for index block) (Ok leaf) → leaf_at (i at) ≡ Ok leaf
-unfolding leaf_for
-shaped_leaf i at index block leaf is said = ap leaf_at (sym is) ∙ judged_ok (leaf_at block) _ leaf (said_ok at (leaf_for index block) leaf said)
+shaped_leaf : (i : Image) (at : ℕ) (block : List ℕ) (leaf : ContainerLeaf) → block ≡ i at → ReadsAs at (λ n. n) (leaf_at block) (Ok leaf) → leaf_at (i at) ≡ Ok leaf
+shaped_leaf i at block leaf is said = ap leaf_at (sym is) ∙ said_ok at (leaf_at block) leaf said
 
 pub zeros_at : (n c : ℕ) → ◌≡◌ {A = ℕ} (get_or (replicate n 0) c 0) 0
 zeros_at n c = ⊎_elim (λ (lt : c < n). get_or-replicate n c 0 0 lt) (λ (le : n ≤ c). get_or_past (replicate n 0) c 0 (omega (arith, le, length-replicate {A = ℕ} n 0))) (cases_lt c n)
@@ -41,14 +30,14 @@ pub lying_read : {X : Type 0} (read : List ℕ → Result X Shape) (i : Image) (
 lying_read read i zero x some is = absurd (some refl)
 lying_read read i (suc p) x some is = rw is refl
 
-pub inner_children : (i : Image) (at level number : ℕ) (block : List ℕ) (node : ContainerInner) → at ≢ 0 → block ≡ i at → ReadsAs at (λ n. n) (inner_for level number block) (Ok node) → (c : ℕ) → get_or node.children c 0 ≡ child_in (lying inner_at i at) c
-inner_children i at level number block node some is said c = sym (ap (λ n. child_in n c) (lying_read inner_at i at node some (shaped_inner i at level number block node is said)))
+pub inner_children : (i : Image) (at : ℕ) (block : List ℕ) (node : ContainerInner) → at ≢ 0 → block ≡ i at → ReadsAs at (λ n. n) (inner_at block) (Ok node) → (c : ℕ) → get_or node.children c 0 ≡ child_in (lying inner_at i at) c
+inner_children i at block node some is said c = sym (ap (λ n. child_in n c) (lying_read inner_at i at node some (shaped_inner i at block node is said)))
 
 pub no_children : (i : Image) (at c : ℕ) → at ≡ 0 → get_or (replicate 256 0) c 0 ≡ child_in (lying inner_at i at) c
 no_children i at c none = zeros_at 256 c ∙ sym (ap (λ p. child_in (lying inner_at i p) c) none)
 
-pub leaf_entries : (i : Image) (at index : ℕ) (block : List ℕ) (leaf : ContainerLeaf) → at ≢ 0 → block ≡ i at → ReadsAs at (λ n. n) (leaf_for index block) (Ok leaf) → (c : ℕ) → (get_or leaf.pvbns c 0, get_or leaf.kinds c 0) ≡ entry_in (lying leaf_at i at) c
-leaf_entries i at index block leaf some is said c = sym (ap (λ l. entry_in l c) (lying_read leaf_at i at leaf some (shaped_leaf i at index block leaf is said)))
+pub leaf_entries : (i : Image) (at : ℕ) (block : List ℕ) (leaf : ContainerLeaf) → at ≢ 0 → block ≡ i at → ReadsAs at (λ n. n) (leaf_at block) (Ok leaf) → (c : ℕ) → (get_or leaf.pvbns c 0, get_or leaf.kinds c 0) ≡ entry_in (lying leaf_at i at) c
+leaf_entries i at block leaf some is said c = sym (ap (λ l. entry_in l c) (lying_read leaf_at i at leaf some (shaped_leaf i at block leaf is said)))
 
 pub no_entries : (i : Image) (at c : ℕ) → at ≡ 0 → (get_or (replicate 256 0) c 0, get_or (replicate 256 0) c 0) ≡ entry_in (lying leaf_at i at) c
 no_entries i at c none = ap (λ (z : ℕ). (z, z)) (zeros_at 256 c) ∙ sym (ap (λ p. entry_in (lying leaf_at i p) c) none)

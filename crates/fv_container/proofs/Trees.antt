@@ -6,12 +6,12 @@ use Rattle.std.proofs.lemmas.Bool.Decides.{nat_tests}
 use Rattle.std.proofs.lemmas.List.{get_or-set_same, get_or-set_other, get_or_past}
 use Rattle.fv_disk.specs.Shown.{Image}
 use Rattle.fv_codec.specs.Blocks.{inner_at, leaf_at}
-use Rattle.fv_image.specs.Containers.{child_in, container_entry, entry_in, level_width, lying, most_entries, node_below, node_of, node_verdict, IsNodePlace}
+use Rattle.fv_image.specs.Containers.{child_in, container_entry, entry_in, level_width, lying, most_entries, node_below, node_of, node_shape, IsNodePlace, IsShapedTree}
 use Rattle.fv_container.specs.declared.entry.Entry.{Entry}
 use Rattle.fv_container.specs.Kept.{map_of}
 use Rattle.fv_container.specs.Mapped.{node_count}
 use Rattle.fv_container.specs.Spelled.{Spelled, names, pair_of}
-use Rattle.fv_container.specs.Reading.{AreWhole, FillsFrom}
+use Rattle.fv_container.specs.Reading.{AreShaped, FillsFrom}
 use Rattle.fv_container.proofs.Named.{named_at, named_where}
 
 -- ---- the root, and the level above the leaves
@@ -67,21 +67,32 @@ module _ (i : Image) (root height : ℕ) (es : List (Option Entry)) (places : Li
   top_node : (number : ℕ) → height ≡ 2 → number < level_width n 2 → node_of i root height 2 number ≡ root
   top_node number high within = rw (high, one_top n number tree.few within) (top_root i root)
 
-  whole_node : AreWhole i 0 places 0 (level_width n 0) → AreWhole i 1 places (level_width n 0) (level_width n 1) → (height ≡ 2 → root ≢ 0 → node_verdict 2 0 (i root) ≡ Ok tt)
-      → (level number : ℕ) → level ≤ height → number < level_width n level → node_of i root height level number ≢ 0 → node_verdict level number (i (node_of i root height level number)) ≡ Ok tt
-  whole_node leaves inner top zero number le within some =
-      let first : 0 + number ≡ number = omega arith in
-      let is : get_or places (0 + number) 0 ≡ node_of i root height 0 number = ap (λ (k : ℕ). get_or places k 0) first ∙ tree.leaf number within in
-      subst (λ (p : ℕ). node_verdict 0 number (i p) ≡ Ok tt) is (leaves number within (λ none. some (sym is ∙ none)))
-  whole_node leaves inner top (suc zero) number le within some =
+  -- what is said of the nodes by their places is said of each node
+  pub each_node : (Says : ℕ → ℕ → List ℕ → Type 0) → ((k : ℕ) → k < level_width n 0 → get_or places k 0 ≢ 0 → Says 0 k (i (get_or places k 0)))
+      → ((q : ℕ) → q < level_width n 1 → get_or places (level_width n 0 + q) 0 ≢ 0 → Says 1 q (i (get_or places (level_width n 0 + q) 0))) → (height ≡ 2 → root ≢ 0 → Says 2 0 (i root))
+      → (level number : ℕ) → level ≤ height → number < level_width n level → node_of i root height level number ≢ 0 → Says level number (i (node_of i root height level number))
+  each_node Says leaves inner top zero number le within some =
+      let is = tree.leaf number within in
+      subst (λ (p : ℕ). Says 0 number (i p)) is (leaves number within (λ none. some (sym is ∙ none)))
+  each_node Says leaves inner top (suc zero) number le within some =
       let is = tree.inner number within in
-      subst (λ (p : ℕ). node_verdict 1 number (i p) ≡ Ok tt) is (inner number within (λ none. some (sym is ∙ none)))
-  whole_node leaves inner top (suc (suc zero)) number le within some =
+      subst (λ (p : ℕ). Says 1 number (i p)) is (inner number within (λ none. some (sym is ∙ none)))
+  each_node Says leaves inner top (suc (suc zero)) number le within some =
       let high : height ≡ 2 = omega (arith, le, tree.greatest) in
       let is = top_node number high within in
       let none : number ≡ 0 = one_top n number tree.few within in
-      rw (is, none) (top high (λ z. some (is ∙ z)))
-  whole_node leaves inner top (suc (suc (suc level))) number le within some = absurd (omega (arith, le, tree.greatest))
+      subst (λ (q : ℕ). Says 2 q (i (node_of i root height 2 number))) (sym none) (subst (λ (p : ℕ). Says 2 0 (i p)) (sym is) (top high (λ z. some (is ∙ z))))
+  each_node Says leaves inner top (suc (suc (suc level))) number le within some = absurd (omega (arith, le, tree.greatest))
+
+  pub shaped_tree : AreShaped i 0 places 0 (level_width n 0) → AreShaped i 1 places (level_width n 0) (level_width n 1) → (height ≡ 2 → root ≢ 0 → node_shape 1 (i root) ≡ Ok tt) → IsShapedTree i root height n
+  shaped_tree leaves inner top = record {
+    nodes = each_node (λ level number b. node_shape level b ≡ Ok tt)
+        (λ k within some.
+        let first : 0 + k ≡ k = omega arith in
+        let is : get_or places (0 + k) 0 ≡ get_or places k 0 = ap (λ (m : ℕ). get_or places m 0) first in
+        subst (λ (p : ℕ). node_shape 0 (i p) ≡ Ok tt) is (leaves k within (λ none. some (sym is ∙ none))))
+        inner top;
+  }
 
   named_node : (level number b : ℕ) → level ≤ height → number < level_width n level → b ≡ node_of i root height level number → b ≢ 0 → names places b ≡ true
   named_node zero number b le within is some = named_at places number b (omega (arith, tree.long, within)) (tree.leaf number within ∙ sym is) some
@@ -129,11 +140,9 @@ module _ (i : Image) (root height : ℕ) (es : List (Option Entry)) (places : Li
       all : (h : ℕ) → h - 0 ≡ h
       all h = omega arith
 
-  pub spelled : AreWhole i 0 places 0 (level_width n 0) → AreWhole i 1 places (level_width n 0) (level_width n 1) → (height ≡ 2 → root ≢ 0 → node_verdict 2 0 (i root) ≡ Ok tt)
-      → ((v : ℕ) → v < n → pair_of (get_or es v None) ≡ entry_in (lying leaf_at i (get_or places (v / 256) 0)) (v % 256))
-      → Spelled i root height (map_of es places)
-  spelled leaves inner top read = record {
-    whole = record { nodes = whole_node leaves inner top };
+  pub spelled : IsShapedTree i root height n → ((v : ℕ) → v < n → pair_of (get_or es v None) ≡ entry_in (lying leaf_at i (get_or places (v / 256) 0)) (v % 256)) → Spelled i root height (map_of es places)
+  spelled shaped read = record {
+    shaped = shaped;
     entries = entry_spelled read;
     nodes = λ b node. named_node node.level node.number b node.below node.within node.place node.some;
     places = λ b named. let at = named_where places b named in node_named at.number b at.within at.place at.some;

@@ -8,10 +8,10 @@ use Rattle.fv_disk.specs.declared.fault.BlockFault.{BlockFault}
 use Rattle.fv_disk.specs.declared.fault.BlockFault.TheVariants.{DiskFault, Damaged, Memory}
 use Rattle.fv_container.specs.Mapped.{node_count}
 use Rattle.fv_container.specs.Spelled.{IsFault}
-use Rattle.fv_container.specs.Reading.{AreChildren, AreWhole, IsBadNode, IsLevelFault}
+use Rattle.fv_container.specs.Reading.{AreChildren, AreShaped, IsBadNode, IsLevelFault}
 use Rattle.fv_container.proofs.Trees.{TreeAt}
 
-pub fault_root : (i : Image) (root height entries : ℕ) (fault : BlockFault) → height ≡ 2 → IsBadNode i root 2 0 fault → IsFault i root height entries fault
+pub fault_root : (i : Image) (root height entries : ℕ) (fault : BlockFault) → height ≡ 2 → IsBadNode i root 1 fault → IsFault i root height entries fault
 unfolding node_below
 fault_root i root height entries DiskFault high bad = tt
 fault_root i root height entries Memory high bad = tt
@@ -70,10 +70,10 @@ module _ (i j : Image) (root height entries : ℕ) (above places : List ℕ)
       top = past (level_width entries 0 + level_width entries 1) (omega arith) ∙ top;
     }
 
-pub whole_at : (i j : Image) (level from count : ℕ) (above places : List ℕ) → j ≡ i → ((m : ℕ) → from ≤ m → get_or places m 0 ≡ get_or above m 0) → AreWhole j level above from count → AreWhole i level places from count
-whole_at i j level from count above places same past whole = λ q within some.
+pub shaped_at : (i j : Image) (level from count : ℕ) (above places : List ℕ) → j ≡ i → ((m : ℕ) → from ≤ m → get_or places m 0 ≡ get_or above m 0) → AreShaped j level above from count → AreShaped i level places from count
+shaped_at i j level from count above places same past shaped = λ q within some.
     let at : get_or places (from + q) 0 ≡ get_or above (from + q) 0 = past (from + q) (omega arith) in
-    rw (at, ← same) (whole q within (λ none. some (at ∙ none)))
+    rw (at, ← same) (shaped q within (λ none. some (at ∙ none)))
 
 pub fault_of : (result : Result (Unit {0}) BlockFault) (P Q : BlockFault → Type 0) → ((fault : BlockFault) → P fault → Q fault) → IfErr result P → IfErr result Q
 fault_of (Ok unit) P Q weaker holds = tt

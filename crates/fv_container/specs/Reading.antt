@@ -1,34 +1,36 @@
 -- Nodes as they are read.
-use Rattle.std.specs.Prelude.{◌≡◌, ◌≢◌, ◌<◌, ◌≤◌, ◌+◌, ◌/◌, ◌%◌, ◌⊎◌, ℕ, List, get_or, Result, Ok, Err}
+use Rattle.std.specs.Prelude.{◌≡◌, ◌≢◌, ◌<◌, ◌≤◌, ◌+◌, ◌/◌, ◌%◌, ◌^◌, ◌⊎◌, ℕ, List, length, get_or, Option, None, Result, Ok, Err}
 use Rattle.fv_disk.specs.Shown.{Image}
 use Rattle.fv_codec.specs.declared.shape.Shape.{Shape}
 use Rattle.fv_codec.specs.Blocks.{inner_at}
-use Rattle.fv_image.specs.Containers.{node_verdict, lying, child_in}
+use Rattle.fv_image.specs.Containers.{node_shape, lying, child_in, most_entries}
 use Rattle.fv_disk.specs.declared.fault.BlockFault.{BlockFault}
 use Rattle.fv_disk.specs.declared.fault.BlockFault.TheVariants.{DiskFault, Damaged, Memory}
+use Rattle.fv_container.specs.declared.entry.Entry.{Entry}
+use Rattle.fv_container.specs.Mapped.{node_count}
 
 -- a block of a tree as it was read, or the fault of the block at this place
 abbrev pub ReadsAs : {X Y : Type 0} → ℕ → (X → Y) → Result X Shape → Result Y BlockFault → Type 0
 ReadsAs at value (Ok x) result = result ≡ Ok (value x)
 ReadsAs at value (Err shape) result = result ≡ Err (Damaged at shape.want shape.found)
 
--- the block at this place isn't the node of its position
-abbrev pub IsBadNode : Image → ℕ → ℕ → ℕ → BlockFault → Type 0
-IsBadNode i place level number (Damaged at want found) = (at ≡ place) × (place ≢ 0) × (node_verdict level number (i place) ≡ Err (record { want = want; found = found }))
-IsBadNode i place level number DiskFault = Unit {0}
-IsBadNode i place level number Memory = Unit {0}
+-- the block at this place hasn't the shape of a node of this level; inner nodes have one shape, that of level 1
+abbrev pub IsBadNode : Image → ℕ → ℕ → BlockFault → Type 0
+IsBadNode i place level (Damaged at want found) = (at ≡ place) × (place ≢ 0) × (node_shape level (i place) ≡ Err (record { want = want; found = found }))
+IsBadNode i place level DiskFault = Unit {0}
+IsBadNode i place level Memory = Unit {0}
 
--- of so many nodes of a level, whose places stand in a row from one number on, each is the one of its position
-abbrev pub AreWhole : Image → ℕ → List ℕ → ℕ → ℕ → Type 0
-AreWhole i level places from count = (q : ℕ) → q < count → get_or places (from + q) 0 ≢ 0 → node_verdict level q (i (get_or places (from + q) 0)) ≡ Ok tt
+-- of so many nodes of a level, whose places stand in a row from one number on, each has its shape
+abbrev pub AreShaped : Image → ℕ → List ℕ → ℕ → ℕ → Type 0
+AreShaped i level places from count = (q : ℕ) → q < count → get_or places (from + q) 0 ≢ 0 → node_shape level (i (get_or places (from + q) 0)) ≡ Ok tt
 
--- of these nodes, this one isn't
+-- of these nodes, this one hasn't its shape
 pub record IsBadOf (i : Image) (level : ℕ) (places : List ℕ) (from count at want found : ℕ) : Type 0 where
   pub number : ℕ
   pub within : number < count
   pub place : at ≡ get_or places (from + number) 0
   pub some : at ≢ 0
-  pub fault : node_verdict level number (i at) ≡ Err (record { want = want; found = found })
+  pub fault : node_shape level (i at) ≡ Err (record { want = want; found = found })
 
 abbrev pub IsLevelFault : Image → ℕ → List ℕ → ℕ → ℕ → BlockFault → Type 0
 IsLevelFault i level places from count (Damaged at want found) = IsBadOf i level places from count at want found
@@ -46,3 +48,18 @@ FillsFrom items places from end = (c : ℕ) → c < 256 → from + c < end → g
 -- what stands elsewhere stays
 abbrev pub StaysOutside : {X : Type 0} → X → List X → List X → ℕ → Type 0
 StaysOutside default old new from = (m : ℕ) → (m < from) ⊎ (from + 256 ≤ m) → get_or new m default ≡ get_or old m default
+
+-- rows for the entries and the places of a tree that is to be read: holes alone, and no places
+pub record IsBlank (entries : List (Option Entry)) (places : List ℕ) : Type 0 where
+  pub few : length entries ≤ most_entries
+  pub holes : (v : ℕ) → get_or entries v None ≡ None
+  pub nodes : length places ≡ node_count (length entries)
+  pub zeros : (m : ℕ) → get_or places m 0 ≡ 0
+
+-- a row of zeros for the places of so many leaves, of so many nodes above them, and of a root
+pub record HasLevels (places : List ℕ) (leaves inner : ℕ) : Type 0 where
+  pub within : leaves + (inner + 1) ≡ length places
+  pub zeros : (m : ℕ) → get_or places m 0 ≡ 0
+  pub few : inner ≤ 256
+  pub some : 1 ≤ inner
+  pub small : leaves < 2 ^ 32

@@ -2,7 +2,7 @@
 use Rattle.std.specs.Prelude.{◌≡◌, ℕ, Bool, true, not, ◌&&◌, nat_eq, ◌==◌, List, length, Option, Some, None}
 use Rattle.std.specs.List.{list_any}
 use Rattle.fv_disk.specs.Shown.{Image}
-use Rattle.fv_image.specs.Containers.{container_entry, IsNodePlace, IsWholeTree, IsNodeFault}
+use Rattle.fv_image.specs.Containers.{container_entry, IsNodePlace, IsShapedTree, IsNodeFault}
 use Rattle.fv_container.specs.declared.entry.Entry.{Entry}
 use Rattle.fv_disk.specs.declared.fault.BlockFault.{BlockFault}
 use Rattle.fv_disk.specs.declared.fault.BlockFault.TheVariants.{DiskFault, Damaged, Memory}
@@ -20,10 +20,10 @@ is_at b place = nat_eq b place && not (place == 0)
 abbrev pub names : List ℕ → ℕ → Bool
 names places b = list_any (is_at b) places
 
--- each node of a tree is the one of its position, the tree's entries are the map's, and its nodes stand at the
--- map's places
+-- each node of a tree has its shape, whatever position it names, the tree's entries are the map's, and its nodes stand at the map's
+-- places
 pub record Spelled (i : Image) (root height : ℕ) (map : Mapped) : Type 0 where
-  pub whole : IsWholeTree i root height (length map.entries)
+  pub shaped : IsShapedTree i root height (length map.entries)
   pub entries : (v : ℕ) → container_entry i root height (length map.entries) v ≡ pair_of (entry_under map v)
   pub nodes : (b : ℕ) → IsNodePlace i root height (length map.entries) b → names map.tree b ≡ true
   pub places : (b : ℕ) → names map.tree b ≡ true → IsNodePlace i root height (length map.entries) b

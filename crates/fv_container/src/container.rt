@@ -5,7 +5,7 @@ ghost use Rattle.std.specs.FinSet as set;
 ghost use Rattle.fv_codec.specs.Blocks.{last_place};
 ghost use Rattle.fv_disk.specs.Sparing.{Spares};
 ghost use Rattle.fv_container.specs.Written.{blocks_needed};
-ghost use Rattle.fv_container.specs.Flushed.{Exchanges, IsApart, IsOnce, Loses, WasTaken, without_value};
+ghost use Rattle.fv_container.specs.Flushed.{IsApart, IsFlushed, IsMoved, Loses, WasTaken, without_value};
 ghost use Rattle.fv_disk.specs.Shown.{Shown};
 ghost use Rattle.fv_image.specs.Containers.{height_of, level_width, most_entries};
 ghost use Rattle.fv_store.specs.Held.{StandsOn};
@@ -71,11 +71,14 @@ impl Container {
     /// The map that the tree on the disk spells with this root, height and number of entries: at most
     /// 16,777,216 entries, and one or two levels of inner nodes. A root of 0 is a tree of holes.
     ///
+    /// A node is taken by where the pointer led: the level, the number or the index that it names isn't
+    /// asked, nor whether its place lies past the aggregate, whose size isn't known here.
+    ///
     /// # Errors
-    /// `Damaged` comes exactly where a block of the tree isn't the node of its position, whose way from the
-    /// root is whole: the first field without its shape, or its level, number or index, with the wanted and
-    /// the found number. `DiskFault` comes only where a read failed in this call, and `Memory` where memory
-    /// ran out. It reads each node of the tree once.
+    /// `Damaged` comes only where a block of the tree hasn't the shape of a node, and `Ok` never does there:
+    /// its place, and the wanted and the found number of its first field that isn't as said. `DiskFault`
+    /// comes only where a read failed in this call, and `Memory` where memory ran out. It reads one block
+    /// for each node of the tree.
     pub fn at<D: Disk>(
         alloc: Global,
         store: &mut Store,
@@ -182,7 +185,7 @@ impl Container {
 
     /// Writes the container to blocks that are free in `map`, and answers the root of its tree, which has
     /// the least height, at least 1, whose fan-out of 256 covers the leaves. A leaf that holds only holes
-    /// is absent. The blocks of the old tree are given back. `map` has as many free blocks as it writes:
+    /// is absent, and no node has anything past the last entry. The blocks of the old tree are given back. `map` has as many free blocks as it writes:
     /// one for each leaf that has an entry and each inner node, and has at most so many fewer afterwards.
     ///
     /// It takes no memory and reads nothing, and no block is written that wasn't free in `map` at the
@@ -198,14 +201,12 @@ impl Container {
         requires room { blocks_needed self.old.entries ≤ set.len (F.room map.old).free }
         ensures entries { self.new.entries ≡ self.old.entries }
         ensures failed { OnErr result (self.new ≡ self.old) }
-        ensures spelled { IsTrue (D.shown disk.old).tells
+        ensures flushed { IsTrue (D.shown disk.old).tells
             → IsApart (F.room map.old) self.old.tree
-            → IfOk result (λ root. Spelled (D.shown disk.new).reads root (height_of (length self.new.entries)) self.new) }
+            → IfOk result (λ root. IsFlushed (D.shown disk.new).reads root (height_of (length self.new.entries)) self.new) }
         ensures root { IfOk result (λ root. (1 ≤ root) × (root ≤ last_place)) }
-        ensures once { OnOk result (IsOnce self.new.tree) }
         ensures writes { Spares (WasTaken (F.room map.old)) (D.shown disk.old) (D.shown disk.new) (without_value result) }
-        ensures map { OnOk result (Exchanges (F.room map.old) self.new.tree self.old.tree (F.room map.new)) }
-        ensures count { OnOk result (set.len (F.room map.old).free ≤ set.len (F.room map.new).free + blocks_needed self.old.entries) }
+        ensures moved { OnOk result (IsMoved (F.room map.old) self.old self.new (F.room map.new)) }
         ensures lost { OnErr result (Loses (F.room map.old) (F.room map.new)) }
         ensures valid { IsMapped self.new }
         ensures stands { StandsOn (D.shown disk.new) store.new.pairs }

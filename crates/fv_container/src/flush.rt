@@ -1,6 +1,6 @@
 //! Writing a tree to free blocks.
 
-ghost use Rattle.std.specs.Prelude.{◌≡◌, ◌≢◌, ◌<◌, ◌≤◌, ◌+◌, ℕ, true, length, get_or, None, IfSome, IsTrue, OnOk, OnErr};
+ghost use Rattle.std.specs.Prelude.{◌≡◌, ◌≢◌, ◌<◌, ◌≤◌, ℕ, true, length, get_or, None, IfSome, IsTrue, OnOk, OnErr};
 ghost use Rattle.std.specs.FinSet as set;
 ghost use Rattle.fv_codec.specs.Blocks.{last_place};
 ghost use Rattle.fv_image.specs.Containers.{height_of, most_entries};
@@ -8,9 +8,8 @@ ghost use Rattle.fv_store.specs.Held.{StandsOn};
 ghost use Rattle.fv_disk.specs.Sparing.{Spares};
 ghost use Rattle.fv_container.specs.Kept.{map_of};
 ghost use Rattle.fv_container.specs.Mapped.{IsHeld, node_count};
-ghost use Rattle.fv_container.specs.Spelled.{Spelled};
 ghost use Rattle.fv_container.specs.Written.{blocks_needed, root_number};
-ghost use Rattle.fv_container.specs.Flushed.{Exchanges, IsOnce, Loses, WasTaken};
+ghost use Rattle.fv_container.specs.Flushed.{IsFlushed, IsMoved, Loses, WasTaken};
 
 use crate::entry::Entry;
 use crate::free::Free;
@@ -35,14 +34,11 @@ pub(crate) fn flush_tree<D: Disk, F: Free>(
     requires nodes { length next.old ≡ node_count (length entries.now) }
     requires room { blocks_needed entries.now ≤ set.len (F.room map.old).free }
     ensures len { length next.new ≡ length next.old }
-    ensures spelled { IsTrue (D.shown disk.old).tells
-        → OnOk result (Spelled (D.shown disk.new).reads (get_or next.new (root_number (length entries.now)) 0) (height_of (length entries.now)) (map_of entries.now next.new)) }
-    ensures root_least { OnOk result (1 ≤ get_or next.new (root_number (length entries.now)) 0) }
-    ensures root_greatest { OnOk result (get_or next.new (root_number (length entries.now)) 0 ≤ last_place) }
-    ensures once { OnOk result (IsOnce next.new) }
+    ensures flushed { IsTrue (D.shown disk.old).tells
+        → OnOk result (IsFlushed (D.shown disk.new).reads (get_or next.new (root_number (length entries.now)) 0) (height_of (length entries.now)) (map_of entries.now next.new)) }
+    ensures root { OnOk result ((1 ≤ get_or next.new (root_number (length entries.now)) 0) × (get_or next.new (root_number (length entries.now)) 0 ≤ last_place)) }
     ensures spares { Spares (WasTaken (F.room map.old)) (D.shown disk.old) (D.shown disk.new) result }
-    ensures map { OnOk result (Exchanges (F.room map.old) next.new tree.now (F.room map.new)) }
-    ensures count { OnOk result (set.len (F.room map.old).free ≤ set.len (F.room map.new).free + blocks_needed entries.now) }
+    ensures moved { OnOk result (IsMoved (F.room map.old) (map_of entries.now tree.now) (map_of entries.now next.new) (F.room map.new)) }
     ensures lost { OnErr result (Loses (F.room map.old) (F.room map.new)) }
     ensures stands { StandsOn (D.shown disk.new) store.new.pairs }
 {

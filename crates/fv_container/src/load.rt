@@ -1,15 +1,16 @@
-//! Reading the tree of a container, from its root down to the leaves.
+//! Reading the tree of a container, from its root down to the leaves. A node is taken by where the pointer led: its shape alone is
+//! judged, and the position that it names isn't asked.
 
 ghost use Rattle.std.specs.Prelude.{◌≡◌, ◌≢◌, ◌<◌, ◌≤◌, ◌+◌, ◌*◌, ◌/◌, ◌%◌, ◌^◌, ◌-◌, ◌⊎◌, ◌==◌, if◌then◌else◌, ℕ, length, get_or, replicate, IsTrue, Ok, Err, None, IfOk, IfErr, IfSome, OnOk};
 ghost use Rattle.fv_codec.specs.Blocks.{IsContainerLeaf, IsEntry as IsLeafEntry, inner_at, leaf_at};
-ghost use Rattle.fv_image.specs.Containers.{child_in, entry_in, inner_for, leaf_for, level_width, lying, most_entries, node_below, node_verdict};
+ghost use Rattle.fv_image.specs.Containers.{child_in, entry_in, level_width, lying, most_entries, node_below, node_shape};
 ghost use Rattle.fv_store.specs.Held.{StandsOn};
 ghost use Rattle.fv_disk.specs.DiskCalls.{OnlyReads};
 ghost use Rattle.fv_disk.specs.Faults.{HasBlockCause};
 ghost use Rattle.fv_container.specs.Kept.{map_of};
-ghost use Rattle.fv_container.specs.Mapped.{IsHeld, node_count};
+ghost use Rattle.fv_container.specs.Mapped.{IsHeld};
 ghost use Rattle.fv_container.specs.Spelled.{IsFault, Spelled, pair_of};
-ghost use Rattle.fv_container.specs.Reading.{AreChildren, AreWhole, FillsFrom, IsBadNode, IsLevelFault, ReadsAs, StaysOutside};
+ghost use Rattle.fv_container.specs.Reading.{AreChildren, AreShaped, FillsFrom, HasLevels, IsBadNode, IsBlank, IsLevelFault, ReadsAs, StaysOutside};
 
 use crate::entry::Entry;
 use crate::layout::{FAN, inner_count, leaf_count};
@@ -18,12 +19,12 @@ use fv_disk::{Block, BlockFault, Disk, ZERO};
 use fv_store::Store;
 
 /// A leaf of holes.
-fn no_entries(index: u64) -> ContainerLeaf
+fn no_entries() -> ContainerLeaf
     ensures pvbns { result.pvbns ≡ replicate 256 0 }
     ensures kinds { result.kinds ≡ replicate 256 0 }
 {
     ContainerLeaf {
-        index,
+        index: 0,
         pvbns: [0; 256],
         kinds: [0; 256],
     }
@@ -54,58 +55,38 @@ fn damaged(at: u32, want: u64, found: u64) -> BlockFault
     }
 }
 
-/// The children that a block spells as the inner node of a level and number.
-#[tactic(auto, unfolding(fv_image::specs::Containers::inner_for))]
-fn inner_in(block: &Block, at: u32, level: u8, number: u64) -> Result<ContainerInner, BlockFault>
-    ensures { ReadsAs at (λ node. node) (inner_for level number block.now) result }
+/// The inner node that a block spells.
+fn inner_in(block: &Block, at: u32) -> Result<ContainerInner, BlockFault>
+    ensures { ReadsAs at (λ node. node) (inner_at block.now) result }
 {
-    let node = match ContainerInner::decode(block) {
-        Ok(node) => node,
-        Err(shape) => return Err(damaged(at, shape.want, shape.found)),
-    };
-    if node.level != level {
-        return Err(damaged(at, u64::from(level), u64::from(node.level)));
+    match ContainerInner::decode(block) {
+        Ok(node) => Ok(node),
+        Err(shape) => Err(damaged(at, shape.want, shape.found)),
     }
-    if node.place != number {
-        return Err(damaged(at, number, node.place));
-    }
-    Ok(node)
 }
 
-/// The leaf that a block spells as the one of an index.
-#[tactic(auto, unfolding(fv_image::specs::Containers::leaf_for))]
-fn leaf_in(block: &Block, at: u32, index: u64) -> Result<ContainerLeaf, BlockFault>
-    ensures said { ReadsAs at (λ leaf. leaf) (leaf_for index block.now) result }
+/// The leaf that a block spells.
+fn leaf_in(block: &Block, at: u32) -> Result<ContainerLeaf, BlockFault>
+    ensures said { ReadsAs at (λ leaf. leaf) (leaf_at block.now) result }
     ensures range { IfOk result IsContainerLeaf }
     ensures pvbns { IfOk result (λ leaf. length leaf.pvbns ≡ 256) }
     ensures kinds { IfOk result (λ leaf. length leaf.kinds ≡ 256) }
 {
-    let leaf = match ContainerLeaf::decode(block) {
-        Ok(leaf) => leaf,
-        Err(shape) => return Err(damaged(at, shape.want, shape.found)),
-    };
-    if leaf.index != index {
-        return Err(damaged(at, index, leaf.index));
+    match ContainerLeaf::decode(block) {
+        Ok(leaf) => Ok(leaf),
+        Err(shape) => Err(damaged(at, shape.want, shape.found)),
     }
-    Ok(leaf)
 }
 
-/// Reads the inner node of a level and number, and answers the places of its children. Where `at` is 0
-/// the node is absent, and so are they.
-fn read_inner<D: Disk>(
-    store: &mut Store,
-    disk: &mut D,
-    at: u32,
-    level: u8,
-    number: u64,
-) -> Result<[u32; 256], BlockFault>
+/// Reads an inner node, and answers the places of its children. Where `at` is 0 the node is absent, and so
+/// are they.
+fn read_inner<D: Disk>(store: &mut Store, disk: &mut D, at: u32) -> Result<[u32; 256], BlockFault>
     requires stands { StandsOn (D.shown disk.old) store.old.pairs }
-    requires level { 1 ≤ level }
     ensures children { IsTrue (D.shown disk.old).tells
         → IfOk result (λ children. (c : ℕ) → get_or children c 0 ≡ child_in (lying inner_at (D.shown disk.old).reads at) c) }
-    ensures whole { IsTrue (D.shown disk.old).tells
-        → OnOk result (at ≢ 0 → node_verdict level number ((D.shown disk.old).reads at) ≡ Ok tt) }
-    ensures fault { IsTrue (D.shown disk.old).tells → IfErr result (IsBadNode (D.shown disk.old).reads at level number) }
+    ensures shaped { IsTrue (D.shown disk.old).tells
+        → OnOk result (at ≢ 0 → node_shape 1 ((D.shown disk.old).reads at) ≡ Ok tt) }
+    ensures fault { IsTrue (D.shown disk.old).tells → IfErr result (IsBadNode (D.shown disk.old).reads at 1) }
     ensures only_reads { OnlyReads (D.shown disk.old) (D.shown disk.new) }
     ensures stands { StandsOn (D.shown disk.new) store.new.pairs }
     ensures cause { HasBlockCause (D.shown disk.old).faults (D.shown disk.new).faults result }
@@ -114,33 +95,28 @@ fn read_inner<D: Disk>(
         return Ok([0; 256]);
     }
     let block = read_block(store, disk, at)?;
-    let node = inner_in(&block, at, level, number)?;
+    let node = inner_in(&block, at)?;
     Ok(node.children)
 }
 
-/// Reads the leaf of an index. Where `at` is 0 the leaf is absent, and all of its entries are holes.
-fn read_leaf<D: Disk>(
-    store: &mut Store,
-    disk: &mut D,
-    at: u32,
-    index: u64,
-) -> Result<ContainerLeaf, BlockFault>
+/// Reads a leaf. Where `at` is 0 the leaf is absent, and all of its entries are holes.
+fn read_leaf<D: Disk>(store: &mut Store, disk: &mut D, at: u32) -> Result<ContainerLeaf, BlockFault>
     requires stands { StandsOn (D.shown disk.old) store.old.pairs }
     ensures entries { IsTrue (D.shown disk.old).tells
         → IfOk result (λ leaf. (c : ℕ) → (get_or leaf.pvbns c 0, get_or leaf.kinds c 0) ≡ entry_in (lying leaf_at (D.shown disk.old).reads at) c) }
     ensures range { IfOk result (λ leaf. (c : ℕ) → c < 256 → IsLeafEntry (get_or leaf.pvbns c 0, get_or leaf.kinds c 0)) }
-    ensures whole { IsTrue (D.shown disk.old).tells
-        → OnOk result (at ≢ 0 → node_verdict 0 index ((D.shown disk.old).reads at) ≡ Ok tt) }
-    ensures fault { IsTrue (D.shown disk.old).tells → IfErr result (IsBadNode (D.shown disk.old).reads at 0 index) }
+    ensures shaped { IsTrue (D.shown disk.old).tells
+        → OnOk result (at ≢ 0 → node_shape 0 ((D.shown disk.old).reads at) ≡ Ok tt) }
+    ensures fault { IsTrue (D.shown disk.old).tells → IfErr result (IsBadNode (D.shown disk.old).reads at 0) }
     ensures only_reads { OnlyReads (D.shown disk.old) (D.shown disk.new) }
     ensures stands { StandsOn (D.shown disk.new) store.new.pairs }
     ensures cause { HasBlockCause (D.shown disk.old).faults (D.shown disk.new).faults result }
 {
     if at == 0 {
-        return Ok(no_entries(index));
+        return Ok(no_entries());
     }
     let block = read_block(store, disk, at)?;
-    let leaf = leaf_in(&block, at, index)?;
+    let leaf = leaf_in(&block, at)?;
     Ok(leaf)
 }
 
@@ -177,14 +153,14 @@ fn read_level<D: Disk>(
     ensures leaves { IsTrue (D.shown disk.old).tells
         → OnOk result (AreChildren (D.shown disk.old).reads places.old places.new leaves leaves) }
     ensures past { (m : ℕ) → leaves ≤ m → get_or places.new m 0 ≡ get_or places.old m 0 }
-    ensures whole { IsTrue (D.shown disk.old).tells → OnOk result (AreWhole (D.shown disk.old).reads 1 places.old leaves inner) }
+    ensures shaped { IsTrue (D.shown disk.old).tells → OnOk result (AreShaped (D.shown disk.old).reads 1 places.old leaves inner) }
     ensures fault { IsTrue (D.shown disk.old).tells → IfErr result (IsLevelFault (D.shown disk.old).reads 1 places.old leaves inner) }
     ensures only_reads { OnlyReads (D.shown disk.old) (D.shown disk.new) }
     ensures stands { StandsOn (D.shown disk.new) store.new.pairs }
     ensures cause { HasBlockCause (D.shown disk.old).faults (D.shown disk.new).faults result }
 {
     for q in 0..inner {
-        let children = read_inner(store, disk, places[leaves + q], 1, q as u64)?;
+        let children = read_inner(store, disk, places[leaves + q])?;
         fill_children(places, FAN * q, leaves, &children);
     }
     Ok(())
@@ -240,8 +216,8 @@ fn read_leaves<D: Disk>(
         → OnOk result ((v : ℕ) → v < length entries.old
         → pair_of (get_or entries.new v None) ≡ entry_in (lying leaf_at (D.shown disk.old).reads (get_or places.now (v / 256) 0)) (v % 256)) }
     ensures held { (v : ℕ) → IfSome (get_or entries.new v None) IsHeld }
-    ensures whole { IsTrue (D.shown disk.old).tells
-        → OnOk result (AreWhole (D.shown disk.old).reads 0 places.now 0 (level_width (length entries.old) 0)) }
+    ensures shaped { IsTrue (D.shown disk.old).tells
+        → OnOk result (AreShaped (D.shown disk.old).reads 0 places.now 0 (level_width (length entries.old) 0)) }
     ensures fault { IsTrue (D.shown disk.old).tells
         → IfErr result (IsLevelFault (D.shown disk.old).reads 0 places.now 0 (level_width (length entries.old) 0)) }
     ensures only_reads { OnlyReads (D.shown disk.old) (D.shown disk.new) }
@@ -249,7 +225,7 @@ fn read_leaves<D: Disk>(
     ensures cause { HasBlockCause (D.shown disk.old).faults (D.shown disk.new).faults result }
 {
     for k in 0..leaf_count(entries.len()) {
-        let leaf = read_leaf(store, disk, places[k], k as u64)?;
+        let leaf = read_leaf(store, disk, places[k])?;
         fill_entries(entries, FAN * k, &leaf);
     }
     Ok(())
@@ -268,20 +244,16 @@ fn read_root<D: Disk>(
     root: u32,
 ) -> Result<(), BlockFault>
     requires stands { StandsOn (D.shown disk.old) store.old.pairs }
-    requires within { leaves + (inner + 1) ≡ length places.old }
-    requires zeros { (m : ℕ) → get_or places.old m 0 ≡ 0 }
-    requires few { inner ≤ 256 }
-    requires some { 1 ≤ inner }
-    requires small { leaves < 2 ^ 32 }
+    requires levels { HasLevels places.old leaves inner }
     requires least { 1 ≤ height }
     requires greatest { height ≤ 2 }
     ensures len { length places.new ≡ length places.old }
     ensures inner { IsTrue (D.shown disk.old).tells
         → OnOk result ((q : ℕ) → q < inner → get_or places.new (leaves + q) 0 ≡ node_below (D.shown disk.old).reads root (height - 1) q) }
     ensures top { OnOk result (get_or places.new (leaves + inner) 0 ≡ (if height == 2 then root else 0)) }
-    ensures whole { IsTrue (D.shown disk.old).tells
-        → OnOk result (height ≡ 2 → root ≢ 0 → node_verdict 2 0 ((D.shown disk.old).reads root) ≡ Ok tt) }
-    ensures fault { IsTrue (D.shown disk.old).tells → IfErr result (λ fault. (height ≡ 2) × IsBadNode (D.shown disk.old).reads root 2 0 fault) }
+    ensures shaped { IsTrue (D.shown disk.old).tells
+        → OnOk result (height ≡ 2 → root ≢ 0 → node_shape 1 ((D.shown disk.old).reads root) ≡ Ok tt) }
+    ensures fault { IsTrue (D.shown disk.old).tells → IfErr result (λ fault. (height ≡ 2) × IsBadNode (D.shown disk.old).reads root 1 fault) }
     ensures only_reads { OnlyReads (D.shown disk.old) (D.shown disk.new) }
     ensures stands { StandsOn (D.shown disk.new) store.new.pairs }
     ensures cause { HasBlockCause (D.shown disk.old).faults (D.shown disk.new).faults result }
@@ -290,7 +262,7 @@ fn read_root<D: Disk>(
         places[leaves] = root;
         return Ok(());
     }
-    let children = read_inner(store, disk, root, 2, 0)?;
+    let children = read_inner(store, disk, root)?;
     fill_children(places, leaves, leaves + inner, &children);
     places[leaves + inner] = root;
     Ok(())
@@ -307,10 +279,7 @@ pub(crate) fn read_tree<D: Disk>(
     root: u32,
 ) -> Result<(), BlockFault>
     requires stands { StandsOn (D.shown disk.old) store.old.pairs }
-    requires few { length entries.old ≤ most_entries }
-    requires holes { (v : ℕ) → get_or entries.old v None ≡ None }
-    requires nodes { length places.old ≡ node_count (length entries.old) }
-    requires zeros { (m : ℕ) → get_or places.old m 0 ≡ 0 }
+    requires blank { IsBlank entries.old places.old }
     requires least { 1 ≤ height }
     requires greatest { height ≤ 2 }
     ensures places { length places.new ≡ length places.old }

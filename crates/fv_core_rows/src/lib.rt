@@ -16,3 +16,5 @@ mod points;
 mod store;
 #[cfg(test)]
 mod texts;
+#[cfg(test)]
+mod trees;

@@ -20,6 +20,7 @@ use Rattle.fv_image.proofs.Rewritten.{held_has_bit}
 use Rattle.fv_container.specs.Mapped.{Mapped}
 use Rattle.fv_container.specs.Chains.{Slots, container_at}
 use Rattle.fv_codec.specs.declared.root.Root.{Root}
+use Rattle.fv_codec.specs.Blocks.{IsRoot}
 use Rattle.fv_root.specs.declared.find.Found.{Found}
 use Rattle.fv_root.specs.Finding.{IsInRange, root_found}
 use Rattle.fv_root.specs.Commits.{IsCommitted, IsFoundOn, next_found}
@@ -105,6 +106,16 @@ module _ (states stay : States) (labels : List ℕ) (settled : (s : ℕ) → sta
 
   unchanged_stay : (s : ℕ) → IfSome (state_at stay s) (λ x. x.changed ≡ false)
   unchanged_stay s = subst (λ (o : Option VolumeState). IfSome o (λ x. x.changed ≡ false)) (sym (settled s)) (is_settled (state_at states s) (get_or labels s 0))
+
+-- ---- the root
+
+-- what is found once another root counts is in range
+pub next_in_range : (found : Found) (root : Root) → IsInRange found → IsRoot root → IsInRange (next_found found root)
+next_in_range found root range is = record {
+  size = range.size;
+  slot = omega arith;
+  root = record { least = is.least; greatest = is.greatest; labels = is.labels };
+}
 
 -- ---- the map
 

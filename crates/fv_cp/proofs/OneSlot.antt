@@ -149,7 +149,7 @@ module _ (found : Found) (states : States) (s : ℕ) (inside : s < 64) (labels :
     unfolding label_said
     loaded_now = record {
       head = ap Some (sym head_now) ∙ ap (option_map head_of) (sym label_now);
-      tree = subst (λ (o : Option Label). IsContainerOf j o (Some new)) (sym label_now) (w.tree, (w.long, valid));
+      tree = subst (λ (o : Option Label). IsContainerOf j o (Some new)) (sym label_now) (w.tree.spelled, (w.long, valid));
       label = sym label_there;
       bits = λ v. waits.plain.clear v ∙ sym (bits_clear g j (is_member after.map.next) whole_now s inside x new state said label_now (sym head_now) v);
       changed = sym no_delay;

@@ -10,7 +10,7 @@ use Rattle.fv_model.specs.Machines.{first_block}
 use Rattle.fv_model.specs.Space.{map_blocks}
 use Rattle.fv_image.specs.Layout.{block_bits}
 use Rattle.fv_image.specs.NewerRoot.{Taken}
-use Rattle.fv_image.specs.Containers.{height_of, container_entry, IsNodePlace, IsWholeTree}
+use Rattle.fv_image.specs.Containers.{height_of, container_entry, HasNonePast, IsNodePlace, IsWholeTree}
 use Rattle.std.specs.List.{list_all}
 use Rattle.fv_model.specs.Spelling.{is_name}
 use Rattle.fv_image.specs.Views.{Head, entry_count, head_of}
@@ -61,7 +61,7 @@ module _ (t u : Taken) (i j : Image) (s : ℕ) (x : VolumeState) (old new : Mapp
 
   entry_is : (v : ℕ) → entry_at j said v ≡ pair_of (entry_under new v)
   unfolding label_said
-  entry_is v = ap (λ (n : ℕ). container_entry j w.root (height_of (entry_count x.span)) n v) (sym w.long) ∙ w.tree.entries v
+  entry_is v = ap (λ (n : ℕ). container_entry j w.root (height_of (entry_count x.span)) n v) (sym w.long) ∙ w.tree.spelled.entries v
 
   pub reclaimed : IsReclaimed u j s said w.place
   unfolding label_said
@@ -69,6 +69,7 @@ module _ (t u : Taken) (i j : Image) (s : ℕ) (x : VolumeState) (old new : Mapp
     some = λ none. omega (arith, w.some, at, none);
     label = ap (λ (p : ℕ). label_at (j p)) at ∙ w.said;
     tree = subst (λ (n : ℕ). IsWholeTree j w.root (height_of (entry_count x.span)) n) w.long w.tree.whole;
+    ends = subst (λ (n : ℕ). HasNonePast j w.root (height_of (entry_count x.span)) n) w.long w.tree.ends;
     maps = λ k within. entry_is (x.span + k) ∙ ap pair_of (w.active k within);
     below = λ v low. entry_is v ∙ ap pair_of (w.holes v (inl low));
     above = λ v high. entry_is v ∙ ap pair_of (w.holes v (inr high));
@@ -76,7 +77,7 @@ module _ (t u : Taken) (i j : Image) (s : ℕ) (x : VolumeState) (old new : Mapp
 
   node_named : (b : ℕ) → IsNodeOf j said b → names new.tree b ≡ true
   unfolding label_said
-  node_named b node = w.tree.nodes b (subst (λ (n : ℕ). IsNodePlace j w.root (height_of (entry_count x.span)) n b) (sym w.long) node)
+  node_named b node = w.tree.spelled.nodes b (subst (λ (n : ℕ). IsNodePlace j w.root (height_of (entry_count x.span)) n b) (sym w.long) node)
 
   pub apart : AreApart u j s said w.place
   unfolding label_said
@@ -140,7 +141,7 @@ module _ (t u : Taken) (i j : Image) (s : ℕ) (x : VolumeState) (old new : Mapp
   pub after_is : (b : ℕ) → is_held_by (layout_at u j) s b ≡ is_of x label new b
   unfolding label_said
   after_is b =
-      held_is_of u j s said x new (label_is u j s said w.place reclaimed) refl w.tree w.long kinds none_at_start b
+      held_is_of u j s said x new (label_is u j s said w.place reclaimed) refl w.tree.spelled w.long kinds none_at_start b
       ∙ ap (λ (p : ℕ). is_of x p new b) at
     where
       kinds : (v : ℕ) → IfSome (entry_under new v) (λ e. 1 ≤ e.kind)

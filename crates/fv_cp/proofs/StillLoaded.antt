@@ -1,5 +1,5 @@
 -- A loaded volume stays loaded in an image that has the blocks which its slot holds.
-use Rattle.std.proofs.Common.{◌≡◌, ◌≢◌, ℕ, ◌-◌, ◌*◌, ◌<◌, ◌≤◌, List, length, refl, sym, ap, subst, ◌∙◌, arith}
+use Rattle.std.proofs.Common.{◌≡◌, ℕ, ◌*◌, ◌<◌, length, refl, sym, ap, subst, ◌∙◌}
 use Rattle.std.specs.Prelude.{Option, Some, None, IfSome, ◌&&◌, nat_lt}
 use Rattle.std.specs.Option.{option_map}
 use Rattle.fv_disk.specs.Shown.{Image}
@@ -8,69 +8,19 @@ use Rattle.fv_bits.specs.Members.{is_member}
 use Rattle.fv_codec.specs.declared.label.Label.{Label}
 use Rattle.fv_model.specs.Space.{map_blocks}
 use Rattle.fv_image.specs.Layout.{block_bits}
-use Rattle.fv_image.specs.Containers.{level_width, node_of, node_verdict, IsNodePlace}
+use Rattle.fv_image.specs.Containers.{IsNodePlace}
 use Rattle.fv_image.specs.Views.{head_of, map_vvbn, block_in, volume_bit}
 use Rattle.fv_image.specs.Held.{AgreeOnHeld, Layout, Lying, layout_at, view_at, label_place, label_lying, label_in, lying_at, entry_from, with_bits}
-use Rattle.fv_image.proofs.SameContainers.{AgreeOnTree, same_node, same_entries}
+use Rattle.fv_image.proofs.SameContainers.{AgreeOnTree}
 use Rattle.fv_image.proofs.SameLayout.{same_but_bits}
 use Rattle.fv_image.proofs.Named.{node_held}
 use Rattle.fv_container.specs.Mapped.{Mapped}
-use Rattle.fv_container.specs.Spelled.{Spelled}
 use Rattle.fv_root.specs.declared.find.Found.{Found}
 use Rattle.fv_root.specs.Finding.{root_found}
 use Rattle.fv_volmap.specs.Slots.{active_of}
 use Rattle.fv_volume.specs.declared.state.VolumeState.{VolumeState}
 use Rattle.fv_volume.specs.Loading.{IsContainerOf, IsLoaded, label_of}
-
--- ---- a container
-
-module _ (i j : Image) (root height : ℕ) (map : Mapped) (agree : AgreeOnTree i j root height (length map.entries)) where
-  same_place : (level number : ℕ) → level ≤ height → number < level_width (length map.entries) level → node_of j root height level number ≡ node_of i root height level number
-  same_place level number low within =
-      let back : height - (height - level) ≡ level = omega (arith, low) in
-      same_node i j root height (length map.entries) (height - level) number agree (omega arith) (subst (λ (k : ℕ). number < level_width (length map.entries) k) (sym back) within)
-
-  node_kept : (b : ℕ) → IsNodePlace i root height (length map.entries) b → IsNodePlace j root height (length map.entries) b
-  node_kept b node = record {
-    level = node.level;
-    number = node.number;
-    below = node.below;
-    within = node.within;
-    place = node.place ∙ sym (same_place node.level node.number node.below node.within);
-    some = node.some;
-  }
-
-  node_was : (b : ℕ) → IsNodePlace j root height (length map.entries) b → IsNodePlace i root height (length map.entries) b
-  node_was b node = record {
-    level = node.level;
-    number = node.number;
-    below = node.below;
-    within = node.within;
-    place = node.place ∙ same_place node.level node.number node.below node.within;
-    some = node.some;
-  }
-
-  pub spelled_kept : Spelled i root height map → Spelled j root height map
-  spelled_kept is = record {
-    whole = record {
-      nodes = λ level number low within some.
-          let same = same_place level number low within in
-          let was : node_of i root height level number ≢ 0 = λ none. some (same ∙ none) in
-          ap (λ (b : List ℕ). node_verdict level number b) (ap j same ∙ agree (node_of i root height level number) (record {
-            level = level;
-            number = number;
-            below = low;
-            within = within;
-            place = refl;
-            some = was;
-          })) ∙ is.whole.nodes level number low within was;
-    };
-    entries = λ v. same_entries i j root height (length map.entries) agree v ∙ is.entries v;
-    nodes = λ b node. is.nodes b (node_was b node);
-    places = λ b named. node_kept b (is.places b named);
-  }
-
--- ---- a volume
+use Rattle.fv_cp.proofs.Spelling.{spelled_kept}
 
 module _ (found next : Found) (i j : Image) (s : ℕ) (inside : s < 64) (place : label_place (root_found next) s ≡ label_place (root_found found) s) (agree : AgreeOnHeld (root_found found) i j) where
   same_images : layout_at (root_found found) j ≡ with_bits (layout_at (root_found found) j).bit (layout_at (root_found found) i)

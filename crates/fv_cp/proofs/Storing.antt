@@ -12,15 +12,15 @@ use Rattle.fv_image.specs.Containers.{height_of}
 use Rattle.fv_image.specs.Views.{entry_count}
 use Rattle.fv_container.specs.declared.entry.Entry.{Entry}
 use Rattle.fv_container.specs.Mapped.{Mapped, entry_under}
-use Rattle.fv_container.specs.Spelled.{Spelled, names}
-use Rattle.fv_container.specs.Flushed.{Exchanges, IsApart, WasTaken}
+use Rattle.fv_container.specs.Spelled.{names}
+use Rattle.fv_container.specs.Flushed.{Exchanges, IsApart, IsFlushed, WasTaken}
 use Rattle.fv_aggmap.specs.Freeing.{free_has, in_range, is_clear, room_of}
 use Rattle.fv_aggmap.specs.Space.{Space, IsFree, blocks_of, is_held}
 use Rattle.fv_volume.specs.declared.state.VolumeState.{VolumeState}
 use Rattle.fv_cp.specs.Steps.{IsTaken, leads, place_in}
 use Rattle.fv_cp.specs.Writing.{AreTaken, HasBlocks, HasDrawn, HasMap, StandBits, place_at}
 use Rattle.fv_cp.proofs.Drawing.{free_before, leads_at, not_so}
-use Rattle.fv_cp.proofs.Spelling.{spelled_still}
+use Rattle.fv_cp.proofs.Spelling.{flushed_still}
 
 -- a block of the set of the free ones is free
 pub free_in : (space : Space) (b : ℕ) → set.contains (room_of space).free b ≡ true → IsFree space b
@@ -63,7 +63,7 @@ module _ (old new : Mapped) (same : new.entries ≡ old.entries) where
 module _ (x : VolumeState) (nodes : List ℕ) (space mid left : Space) (root : ℕ) (old new : Mapped) (before after : Image)
     (map : HasMap x.span (map_blocks x.span) old) (bits : StandBits x (map_blocks x.span) old before) (drawn : HasDrawn space (leads old (entry_count x.span)) (map_blocks x.span) mid)
     (tree : old.tree ≡ nodes) (same : new.entries ≡ old.entries) (exchanges : Exchanges (room_of mid) new.tree old.tree (room_of left))
-    (spelled : IsApart (room_of mid) old.tree → Spelled after root (height_of (length new.entries)) new) (long : length new.entries ≡ entry_count x.span)
+    (flushed : IsApart (room_of mid) old.tree → IsFlushed after root (height_of (length new.entries)) new) (long : length new.entries ≡ entry_count x.span)
     (still : (b : ℕ) → WasTaken (room_of mid) b → after b ≡ before b) (taken : AreTaken space nodes)
   where
     n : ℕ
@@ -108,7 +108,7 @@ module _ (x : VolumeState) (nodes : List ℕ) (space mid left : Space) (root : �
     pub blocks_written : HasBlocks x nodes space root new after left
     unfolding n
     blocks_written = record {
-      tree = subst (λ (k : ℕ). Spelled after root (height_of k) new) long (spelled apart);
+      tree = subst (λ (k : ℕ). IsFlushed after root (height_of k) new) long (flushed apart);
       map = map_same old new same x.span (map_blocks x.span) map;
       bits = bits_still;
       fresh_nodes = λ b named. (from_mid b (node_free b named)).0;
@@ -126,7 +126,7 @@ pub blocks_still : (x : VolumeState) (nodes : List ℕ) (space left : Space) (ro
 blocks_still x nodes space left root label new before after has taken others =
     let other : (b : ℕ) → IsFree space b → b ≢ label = λ b free e. taken (rw (← e) free) in
     record {
-      tree = spelled_still before after root (height_of (entry_count x.span)) new has.tree (λ b named. others b (other b (has.fresh_nodes b named)));
+      tree = flushed_still before after root (height_of (entry_count x.span)) new has.tree (λ b named. others b (other b (has.fresh_nodes b named)));
       map = has.map;
       bits = λ k lt.
           let some = has.map.some k lt in

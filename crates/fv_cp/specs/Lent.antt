@@ -1,6 +1,7 @@
 -- What a consistency point is lent: volumes with what they share, over a disk on which they stand.
 use Rattle.std.specs.Prelude.{◌≡◌, ◌≤◌, ◌<◌, ◌⊎◌, ℕ, List, Option, Some, None, IfSome, length, cond}
 use Rattle.std.specs.List.{sum_by}
+use Rattle.std.specs.FinMap as fin
 use Rattle.fv_disk.specs.Shown.{Shown}
 use Rattle.fv_model.specs.declared.commands.Kind.{Kind}
 use Rattle.fv_model.specs.Machines.{Machine, capacity}
@@ -9,11 +10,12 @@ use Rattle.fv_image.specs.Held.{layout_at, label_place, AllKeep}
 use Rattle.fv_image.specs.Sound.{committed}
 use Rattle.fv_image.specs.MachineOf.{Tells}
 use Rattle.fv_root.specs.declared.find.Found.{Found}
-use Rattle.fv_root.specs.Finding.{root_found}
+use Rattle.fv_root.specs.Finding.{root_found, IsInRange}
 use Rattle.fv_root.specs.Commits.{IsFoundOn}
 use Rattle.fv_container.specs.Mapped.{Mapped}
 use Rattle.fv_container.specs.Chains.{Slots, slot_count, container_at, parent_at}
 use Rattle.fv_aggmap.specs.Loading.{IsLoaded as IsMapLoaded}
+use Rattle.fv_aggmap.specs.Space.{blocks_of}
 use Rattle.fv_volume.specs.declared.pool.Pool.{Pool}
 use Rattle.fv_volume.specs.declared.state.VolumeState.{VolumeState}
 use Rattle.fv_volume.specs.States.{States, AreStates, IsState, parent_in, state_at, view_over}
@@ -28,6 +30,14 @@ pub record AreHoused (containers : Slots) (states : States) : Type 0 where
   pub volumes : (s : ℕ) → IfSome (state_at states s) (IsState s)
   pub each : (s : ℕ) → Houses (state_at states s) (container_at containers s)
   pub parents : (s : ℕ) → parent_at containers s ≡ parent_in (state_at states s)
+
+-- The pool and the volumes fit together, whatever the disk tells: the root is in range and of the map's size, the volumes are housed,
+-- and no block waits to be written.
+pub record FitTogether (pool : Pool) (states : States) : Type 0 where
+  pub range : IsInRange pool.found
+  pub size : blocks_of pool.map ≡ pool.found.blocks
+  pub housed : AreHoused pool.containers states
+  pub unkept : pool.kept ≡ fin.empty
 
 -- a volume that the root on the disk doesn't name yet: it is new, and its slot is free there
 pub record IsUnnamed (found : Found) (s : ℕ) (state : Option VolumeState) (container : Option Mapped) : Type 0 where

@@ -1,21 +1,26 @@
 -- What a consistency point does, and why it isn't done.
-use Rattle.std.specs.Prelude.{◌≡◌, ◌<◌, ◌⊎◌, ℕ, List, Some, Result, IfSome, false}
+use Rattle.std.specs.Prelude.{◌≡◌, ◌<◌, ◌⊎◌, ℕ, List, Some, Result, IfSome, IsTrue, false}
 use Rattle.std.specs.Option.{option_map}
 use Rattle.fv_disk.specs.Shown.{Image, Shown, IsSettled}
 use Rattle.fv_disk.specs.DiskCalls.{OnlyReads}
 use Rattle.fv_disk.specs.Faults.{HasBlockCause}
+use Rattle.fv_codec.specs.declared.root.Root.{Root}
 use Rattle.fv_model.specs.Machines.{Machine}
 use Rattle.fv_image.specs.Layout.{root_place}
 use Rattle.fv_image.specs.Views.{delayed}
 use Rattle.fv_image.specs.Held.{label_place, view_at}
 use Rattle.fv_image.specs.MachineOf.{machine_of}
 use Rattle.fv_root.specs.Finding.{root_found}
-use Rattle.fv_aggmap.specs.Space.{free_blocks}
+use Rattle.fv_root.specs.Commits.{IsFoundOn, next_found}
+use Rattle.fv_store.specs.Held.{StandsOn}
+use Rattle.fv_container.specs.Chains.{parent_at}
+use Rattle.fv_aggmap.specs.Loading.{IsLoaded}
+use Rattle.fv_aggmap.specs.Space.{blocks_of, free_blocks}
 use Rattle.fv_volume.specs.declared.pool.Pool.{Pool}
 use Rattle.fv_volume.specs.States.{States, state_at, head_in, machine_in}
 use Rattle.fv_disk.specs.declared.fault.BlockFault.{BlockFault}
 use Rattle.fv_disk.specs.declared.fault.BlockFault.TheVariants.{DiskFault, Damaged, Memory}
-use Rattle.fv_cp.specs.Lent.{IsLent, blocks_asked}
+use Rattle.fv_cp.specs.Lent.{FitTogether, IsLent, blocks_asked}
 use Rattle.fv_cp.specs.Course.{settled_as}
 
 -- the machine of the volumes lent
@@ -44,6 +49,23 @@ pub record IsPoint (old : Shown) (pool : Pool) (states : States) (new : Shown) (
 -- The volumes stay as they were, but that each that changed is now as the root on the disk names it.
 abbrev pub AreSettled : States → States → Type 0
 AreSettled states stay = (s : ℕ) → (label : ℕ) × (state_at stay s ≡ option_map (settled_as label) (state_at states s))
+
+-- The pool once another root counts: that root is the one found, and the map of the next root is the one that it has.
+pub record IsSwitched (pool : Pool) (root : Root) (left : Pool) : Type 0 where
+  pub found : left.found ≡ next_found pool.found root
+  pub map : left.map ≡ record { committed = pool.map.next; next = pool.map.next }
+  pub size : blocks_of left.map ≡ pool.found.blocks
+
+-- What a point that was done leaves of any disk, and of any volumes that it was lent: the cache tells what the disk reads, the root and
+-- the map in memory are those of the new root, all fits together as the next point needs it, and parents and the aggregate's size stay.
+pub record GoesOn (old : Shown) (pool : Pool) (states : States) (new : Shown) (left : Pool) (stay : States) : Type 0 where
+  pub stands : StandsOn new left.store.pairs
+  pub found : IsTrue old.tells → IsFoundOn new left.found
+  pub loaded : IsTrue old.tells → IsLoaded new.reads left.found left.map
+  pub fit : FitTogether left stay
+  pub settled : AreSettled states stay
+  pub parents : (s : ℕ) → parent_at left.containers s ≡ parent_at pool.containers s
+  pub blocks : left.found.blocks ≡ pool.found.blocks
 
 -- why a point isn't done: fewer blocks are free than it asks for
 abbrev pub LacksRoom : Pool → States → BlockFault → Type 0

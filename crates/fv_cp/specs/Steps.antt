@@ -8,7 +8,8 @@ use Rattle.fv_model.specs.Space.{map_blocks}
 use Rattle.fv_image.specs.Views.{entry_count}
 use Rattle.fv_image.specs.Containers.{height_of}
 use Rattle.fv_container.specs.Mapped.{Mapped, entry_under}
-use Rattle.fv_container.specs.Spelled.{Spelled, names, is_at}
+use Rattle.fv_container.specs.Spelled.{names, is_at}
+use Rattle.fv_container.specs.Flushed.{IsFlushed}
 use Rattle.fv_container.specs.declared.entry.Entry.{Entry}
 use Rattle.fv_aggmap.specs.Space.{Space, IsFree}
 use Rattle.fv_volmap.specs.Slots.{active_of}
@@ -43,7 +44,7 @@ pub record IsWritten (x : VolumeState) (old : Mapped) (before : Image) (space : 
   pub root_least : 1 ≤ root
   pub root_greatest : root ≤ last_place
   pub said : label_at (after label) ≡ Ok (label_said x root (height_of (entry_count x.span)))
-  pub tree : Spelled after root (height_of (entry_count x.span)) new
+  pub tree : IsFlushed after root (height_of (entry_count x.span)) new
   pub long : length new.entries ≡ entry_count x.span
   -- the place of each block of the active map
   pub place : ℕ → ℕ

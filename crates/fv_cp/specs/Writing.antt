@@ -1,14 +1,17 @@
 -- The steps by which one volume is written.
-use Rattle.std.specs.Prelude.{◌≡◌, ◌≢◌, ◌≤◌, ◌<◌, ◌+◌, ◌⊎◌, ℕ, Bool, not, ◌||◌, ◌&&◌, true, false, List, Some, None, Ok}
+use Rattle.std.specs.Prelude.{◌≡◌, ◌≢◌, ◌≤◌, ◌<◌, ◌+◌, ◌⊎◌, ℕ, Bool, not, ◌||◌, ◌&&◌, true, false, List, Some, None, Ok, length}
 use Rattle.fv_disk.specs.Shown.{Image}
 use Rattle.fv_codec.specs.Blocks.{label_at, last_place}
 use Rattle.fv_bits.specs.Members.{IsBlockOf, is_member}
-use Rattle.fv_model.specs.Space.{map_blocks}
+use Rattle.fv_model.specs.Numbers.{greatest_span}
+use Rattle.fv_model.specs.Space.{map_blocks, overhead}
 use Rattle.fv_image.specs.Views.{entry_count}
 use Rattle.fv_image.specs.Containers.{height_of}
 use Rattle.fv_container.specs.Mapped.{Mapped, entry_under}
-use Rattle.fv_container.specs.Spelled.{Spelled, names}
-use Rattle.fv_aggmap.specs.Space.{Space, IsFree, free_blocks}
+use Rattle.fv_container.specs.Spelled.{names}
+use Rattle.fv_container.specs.Flushed.{IsFlushed}
+use Rattle.fv_root.specs.Formatted.{IsSize}
+use Rattle.fv_aggmap.specs.Space.{Space, IsFree, blocks_of, free_blocks}
 use Rattle.fv_volmap.specs.Slots.{active_of}
 use Rattle.fv_volume.specs.declared.state.VolumeState.{VolumeState}
 use Rattle.fv_volume.specs.Labels.{label_said}
@@ -29,6 +32,18 @@ IsTakenOther space place b = IsTaken space b × IsOther place b
 -- no node of a tree stands on a free block
 abbrev pub AreTaken : Space → List ℕ → Type 0
 AreTaken space nodes = (b : ℕ) → names nodes b ≡ true → IsTaken space b
+
+-- A volume whose container has an entry for each VVBN, and only holes.
+pub record IsBare (x : VolumeState) (map : Mapped) : Type 0 where
+  pub span : x.span ≤ greatest_span
+  pub bits : x.map.span ≡ x.span
+  pub entries : length map.entries ≡ entry_count x.span
+  pub holes : (v : ℕ) → entry_under map v ≡ None
+
+-- As many blocks are free as a volume asks for beside its label.
+pub record HasRoomFor (x : VolumeState) (space : Space) : Type 0 where
+  pub size : IsSize (blocks_of space)
+  pub room : overhead x.span ≤ free_blocks space + 1
 
 -- some blocks won't be held by the next root any more
 pub record HasGiven (old : Space) (given : ℕ → Bool) (new : Space) : Type 0 where
@@ -56,7 +71,7 @@ StandBits x count map i = (k : ℕ) → k < count → IsBlockOf (active_of x.map
 
 -- The blocks of the active map and the nodes of the container stand on blocks that were free, and the old nodes were given back.
 pub record HasBlocks (x : VolumeState) (nodes : List ℕ) (space : Space) (root : ℕ) (new : Mapped) (after : Image) (left : Space) : Type 0 where
-  pub tree : Spelled after root (height_of (entry_count x.span)) new
+  pub tree : IsFlushed after root (height_of (entry_count x.span)) new
   pub map : HasMap x.span (map_blocks x.span) new
   pub bits : StandBits x (map_blocks x.span) new after
   pub fresh_nodes : (b : ℕ) → names new.tree b ≡ true → IsFree space b

@@ -2,7 +2,6 @@
 
 ghost use Rattle.std.specs.Prelude.{◌≡◌, ◌≤◌, ◌<◌, ◌+◌, ℕ, IsTrue, OnOk, IfErr, IfSome, option_copied, length};
 ghost use Rattle.std.specs.Option.{option_map};
-ghost use Rattle.std.specs.FinMap as fin;
 ghost use Rattle.fv_disk.specs.Crash.{Leaves};
 ghost use Rattle.fv_disk.specs.DiskCalls.{Counted};
 ghost use Rattle.fv_disk.specs.Sparing.{Spares};
@@ -10,14 +9,13 @@ ghost use Rattle.fv_codec.specs.Blocks.{IsRoot};
 ghost use Rattle.fv_model.specs.Machines.{Machine};
 ghost use Rattle.fv_model.specs.Numbers.{greatest_span};
 ghost use Rattle.fv_root.specs.Finding.{IsInRange};
-ghost use Rattle.fv_root.specs.Commits.{IsCommitted, IsFoundOn, OldOrNew, next_found};
+ghost use Rattle.fv_root.specs.Commits.{IsCommitted, IsFoundOn, OldOrNew};
 ghost use Rattle.fv_store.specs.Held.{StandsOn};
-ghost use Rattle.fv_container.specs.Chains.{parent_at, slot_count};
+ghost use Rattle.fv_container.specs.Chains.{slot_count};
 ghost use Rattle.fv_aggmap.specs.Space.{blocks_of, free_blocks};
-ghost use Rattle.fv_aggmap.specs.Loading.{IsLoaded};
 ghost use Rattle.fv_volume.specs.States.{IsState, state_at, with_state};
-ghost use Rattle.fv_cp.specs.Lent.{AreHoused, IsLent, asked_by, blocks_asked};
-ghost use Rattle.fv_cp.specs.Points.{AreSettled, Counts, IsPoint, LacksRoom, LeavesAll, OldOrLent};
+ghost use Rattle.fv_cp.specs.Lent.{AreHoused, FitTogether, IsLent, asked_by, blocks_asked};
+ghost use Rattle.fv_cp.specs.Points.{Counts, GoesOn, IsPoint, IsSwitched, LacksRoom, LeavesAll, OldOrLent};
 ghost use Rattle.fv_cp.specs.Steps.{IsTaken, on_disk};
 ghost use Rattle.fv_cp.specs.Course.{GoesPast, HasCome, settled_as, settled_at};
 
@@ -54,28 +52,16 @@ pub fn consistency_point<D: Disk>(
     want: u64,
 ) -> Result<(), CpFault>
     requires stands { StandsOn (D.shown disk.old) pool.old.store.pairs }
-    requires range { IsInRange pool.old.found }
-    requires map { blocks_of pool.old.map ≡ pool.old.found.blocks }
     requires found { IsTrue (D.shown disk.old).tells → IsFoundOn (D.shown disk.old) pool.old.found }
-    requires housed { AreHoused pool.old.containers volumes.old }
-    requires kept { pool.old.kept ≡ fin.empty }
+    requires fit { FitTogether pool.old volumes.old }
     ensures any_moment { IsTrue (D.shown disk.old).tells → (before : Machine) → IsLent (D.shown disk.old) pool.old volumes.old before
         → Leaves (D.shown disk.old) (D.shown disk.new) (OldOrLent (D.shown disk.old) pool.old volumes.old before) }
     ensures point { IsTrue (D.shown disk.old).tells → (before : Machine) → IsLent (D.shown disk.old) pool.old volumes.old before
         → OnOk result (IsPoint (D.shown disk.old) pool.old volumes.old (D.shown disk.new) pool.new volumes.new) }
+    ensures goes_on { OnOk result (GoesOn (D.shown disk.old) pool.old volumes.old (D.shown disk.new) pool.new volumes.new) }
     ensures room { IfErr result (LacksRoom pool.old volumes.old) }
     ensures lacking { IfErr result (LeavesAll (D.shown disk.old) pool.old volumes.old (D.shown disk.new) pool.new volumes.new) }
     ensures counts { Counts (D.shown disk.old) (D.shown disk.new) result }
-    ensures stands { OnOk result (StandsOn (D.shown disk.new) pool.new.store.pairs) }
-    ensures found { IsTrue (D.shown disk.old).tells → OnOk result (IsFoundOn (D.shown disk.new) pool.new.found) }
-    ensures range { OnOk result (IsInRange pool.new.found) }
-    ensures map { OnOk result (blocks_of pool.new.map ≡ pool.new.found.blocks) }
-    ensures loaded { IsTrue (D.shown disk.old).tells → OnOk result (IsLoaded (D.shown disk.new).reads pool.new.found pool.new.map) }
-    ensures volumes { OnOk result (AreSettled volumes.old volumes.new) }
-    ensures housed { OnOk result (AreHoused pool.new.containers volumes.new) }
-    ensures parents { OnOk result ((s : ℕ) → parent_at pool.new.containers s ≡ parent_at pool.old.containers s) }
-    ensures blocks { OnOk result (pool.new.found.blocks ≡ pool.old.found.blocks) }
-    ensures kept { OnOk result (pool.new.kept ≡ fin.empty) }
 {
     let asked = blocks_asked(volumes);
     let free = u64::from(pool.map.free_count());
@@ -185,9 +171,7 @@ fn switch<D: Disk>(pool: &mut Pool, disk: &mut D, root: &Root) -> Result<(), Fai
         → Leaves (D.shown disk.old) (D.shown disk.new) (OldOrNew (D.shown disk.old) pool.old.found root.now pool.old.map.next) }
     ensures committed { IsTrue (D.shown disk.old).tells
         → OnOk result (IsCommitted (D.shown disk.old) pool.old.found root.now pool.old.map.next (D.shown disk.new)) }
-    ensures found { OnOk result (pool.new.found ≡ next_found pool.old.found root.now) }
-    ensures map { OnOk result (pool.new.map ≡ record { committed = pool.old.map.next; next = pool.old.map.next }) }
-    ensures size { OnOk result (blocks_of pool.new.map ≡ pool.old.found.blocks) }
+    ensures switched { OnOk result (IsSwitched pool.old root.now pool.new) }
     ensures kept { pool.new.kept ≡ pool.old.kept }
     ensures containers { pool.new.containers ≡ pool.old.containers }
     ensures counted { Counted (D.shown disk.old) (D.shown disk.new) result }

@@ -1,20 +1,18 @@
 //! Taking blocks, and writing the blocks of an active map to them.
 
-ghost use Rattle.std.specs.Prelude.{◌≡◌, ◌<◌, ◌≤◌, ◌+◌, ◌*◌, ℕ, None, IsTrue, OnOk, length};
+ghost use Rattle.std.specs.Prelude.{◌≡◌, ◌<◌, ◌≤◌, ◌+◌, ◌*◌, IsTrue, OnOk, length};
 ghost use Rattle.fv_codec.specs.Blocks.{last_place};
 ghost use Rattle.fv_disk.specs.Sparing.{Spares};
 ghost use Rattle.fv_bits.specs.Members.{IsBlockOf};
-ghost use Rattle.fv_model.specs.Numbers.{greatest_span};
 ghost use Rattle.fv_model.specs.Space.{map_blocks};
 ghost use Rattle.fv_image.specs.Views.{entry_count};
 ghost use Rattle.fv_root.specs.Formatted.{IsSize};
 ghost use Rattle.fv_store.specs.Held.{StandsOn};
 ghost use Rattle.fv_aggmap.specs.Space.{IsFree, blocks_of, free_blocks};
-ghost use Rattle.fv_container.specs.Mapped.{entry_under};
 ghost use Rattle.fv_container.specs.Spelled.{is_at};
 ghost use Rattle.fv_volmap.specs.Slots.{active_of};
 ghost use Rattle.fv_cp.specs.Steps.{IsTaken, leads};
-ghost use Rattle.fv_cp.specs.Writing.{HasDrawn, HasMap, IsOther, StandBits};
+ghost use Rattle.fv_cp.specs.Writing.{HasDrawn, HasMap, IsBare, IsOther, StandBits};
 
 use fv_aggmap::AggMap;
 use fv_bits::BitMap;
@@ -77,10 +75,7 @@ pub(crate) fn write_map<D: Disk>(
     disk: &mut D,
 ) -> Result<(), Failed>
     requires stands { StandsOn (D.shown disk.old) store.old.pairs }
-    requires span { state.now.span ≤ greatest_span }
-    requires map { state.now.map.span ≡ state.now.span }
-    requires entries { length container.old.entries ≡ entry_count state.now.span }
-    requires holes { (v : ℕ) → entry_under container.old v ≡ None }
+    requires bare { IsBare state.now container.old }
     requires room { map_blocks state.now.span ≤ free_blocks map.old }
     ensures map { OnOk result (HasMap state.entry.now.span (map_blocks state.entry.now.span) container.new) }
     ensures bits { IsTrue (D.shown disk.old).tells → OnOk result (StandBits state.entry.now (map_blocks state.entry.now.span) container.new (D.shown disk.new).reads) }

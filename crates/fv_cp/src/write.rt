@@ -1,6 +1,6 @@
 //! Writing one volume.
 
-ghost use Rattle.std.specs.Prelude.{◌≡◌, ◌<◌, ◌≤◌, ◌+◌, ℕ, IsTrue, IfOk, OnOk, Ok, None, true, length};
+ghost use Rattle.std.specs.Prelude.{◌≡◌, ◌<◌, ◌≤◌, ◌+◌, ℕ, IsTrue, IfOk, OnOk, Ok, true, length};
 ghost use Rattle.fv_bits.specs.Members.{is_member};
 ghost use Rattle.fv_codec.specs.Blocks.{label_at, last_place};
 ghost use Rattle.fv_disk.specs.Sparing.{Spares};
@@ -8,15 +8,14 @@ ghost use Rattle.fv_model.specs.Numbers.{greatest_span};
 ghost use Rattle.fv_model.specs.Space.{overhead};
 ghost use Rattle.fv_image.specs.Containers.{height_of};
 ghost use Rattle.fv_image.specs.Views.{entry_count};
-ghost use Rattle.fv_root.specs.Formatted.{IsSize};
 ghost use Rattle.fv_store.specs.Held.{StandsOn};
 ghost use Rattle.fv_aggmap.specs.Space.{blocks_of, free_blocks};
 ghost use Rattle.fv_container.specs.Flushed.{without_value};
-ghost use Rattle.fv_container.specs.Mapped.{IsMapped, entry_under};
+ghost use Rattle.fv_container.specs.Mapped.{IsMapped};
 ghost use Rattle.fv_volume.specs.Labels.{label_said};
 ghost use Rattle.fv_volume.specs.States.{IsState};
 ghost use Rattle.fv_cp.specs.Steps.{IsTaken, IsWritten, is_of, on_disk};
-ghost use Rattle.fv_cp.specs.Writing.{AreTaken, HasBlocks, HasLabel, IsOther, IsTakenOther};
+ghost use Rattle.fv_cp.specs.Writing.{AreTaken, HasBlocks, HasLabel, HasRoomFor, IsBare, IsOther, IsTakenOther};
 
 use crate::giving::{give_back, give_back_block};
 use crate::taking::{map_blocks, take_block, write_map};
@@ -47,17 +46,12 @@ fn write_blocks<D: Disk>(
     disk: &mut D,
 ) -> Result<u32, Failed>
     requires stands { StandsOn (D.shown disk.old) store.old.pairs }
-    requires span { state.now.span ≤ greatest_span }
-    requires map { state.now.map.span ≡ state.now.span }
-    requires entries { length container.old.entries ≡ entry_count state.now.span }
-    requires holes { (v : ℕ) → entry_under container.old v ≡ None }
-    requires size { IsSize (blocks_of map.old) }
-    requires room { overhead state.now.span ≤ free_blocks map.old + 1 }
+    requires bare { IsBare state.now container.old }
+    requires space { HasRoomFor state.now map.old }
     ensures written { IsTrue (D.shown disk.old).tells
         → AreTaken map.old container.old.tree
         → IfOk result (λ root. HasBlocks state.entry.now container.old.tree map.old root container.new (D.shown disk.new).reads map.new) }
-    ensures root_least { IfOk result (λ root. 1 ≤ root) }
-    ensures root_greatest { IfOk result (λ root. root ≤ last_place) }
+    ensures root { IfOk result (λ root. (1 ≤ root) × (root ≤ last_place)) }
     ensures spares { Spares (IsTaken map.old) (D.shown disk.old) (D.shown disk.new) (without_value result) }
     ensures entries { length container.new.entries ≡ entry_count state.entry.now.span }
     ensures valid { OnOk result (IsMapped container.new) }
@@ -104,10 +98,8 @@ fn write_anew<D: Disk>(
 ) -> Result<(), Failed>
     requires stands { StandsOn (D.shown disk.old) store.old.pairs }
     requires state { IsState state.now.slot state.now }
-    requires entries { length container.old.entries ≡ entry_count state.now.span }
-    requires holes { (v : ℕ) → entry_under container.old v ≡ None }
-    requires size { IsSize (blocks_of map.old) }
-    requires room { overhead state.now.span ≤ free_blocks map.old + 1 }
+    requires bare { IsBare state.now container.old }
+    requires space { HasRoomFor state.now map.old }
     requires taken { IsTaken map.old label }
     ensures written { IsTrue (D.shown disk.old).tells
         → AreTaken map.old container.old.tree
@@ -148,7 +140,6 @@ pub fn write_volume<D: Disk>(
     ensures valid { OnOk result (IsMapped container.new) }
     ensures label { IfOk result (λ label. label < blocks_of map.old) }
     ensures committed { map.new.committed ≡ map.old.committed }
-    ensures size { blocks_of map.new ≡ blocks_of map.old }
     ensures count { OnOk result (free_blocks map.old ≤ free_blocks map.new + overhead state.entry.now.span) }
     ensures stands { StandsOn (D.shown disk.new) store.new.pairs }
 {

@@ -4,47 +4,32 @@ use Rattle.std.specs.Prelude.{◌≡◌, ◌<◌, ◌+◌, ◌++◌, ℕ, Bool, 
 use Rattle.std.specs.List.{list_all, range_with_len}
 use Rattle.std.proofs.Common.{refl, arith}
 use Rattle.std.proofs.lemmas.Bool.{both_ways}
-use Rattle.fv_bits.specs.Bits.{bit_of_area, bit_of_bytes, bit_of_number}
-use Rattle.fv_codec.specs.Bytes.{word_at, half_at, byte_at, word, half, zeros}
-use Rattle.fv_codec.specs.Fields.{all_zero, each, items, none_filled, all_name, name_filled}
-use Rattle.fv_codec.specs.Blocks.{label_at, asks_snap, snap_of, asks_pointer, pointer_of, leaf_at, asks_entry, inner_at, inodes_at, asks_file, file_of, node_at}
-use Rattle.fv_model.specs.Trees.{least_levels}
-use Rattle.fv_model.specs.Space.{overhead, nodes_above}
-use Rattle.fv_tables.specs.Spelled.{node_for, pointers_at, pointer_below, pointer_at, block_at}
-use Rattle.fv_tables.specs.Told.{listed, spots, records_in, file_at, records}
-use Rattle.fv_tables.specs.Reached.{tree_items, items as table_items}
+use Rattle.fv_codec.specs.Bytes.{zeros}
+use Rattle.fv_codec.specs.Blocks.{open_gate}
 use Rattle.fv_image.specs.Maps.{map_bit, area_bits}
-use Rattle.fv_image.specs.Containers.{node_below, container_entry, leaf_for, inner_for}
-use Rattle.fv_image.specs.Views.{View, volume_bit, is_held_in, own, delayed, vvbns, head_of, snaps_from, slots}
-use Rattle.fv_image.specs.Held.{Layout, view_at, layout_at, node_from, at_positions, label_place, label_in, entry_from, held_by_container, held_by, held, is_held}
-use Rattle.fv_image.specs.Chains.{along, place, under}
-use Rattle.fv_image.specs.Volumes.{snap_at, volume_with}
-use Rattle.fv_image.specs.Seen.{root_seen, base_seen, volume_seen, seen}
-use Rattle.fv_image.specs.Sound.{agree, overheads}
+use Rattle.fv_image.specs.Views.{View}
+use Rattle.fv_image.specs.Held.{Layout, view_at, layout_at, is_held}
+use Rattle.fv_image.specs.Seen.{seen}
+use Rattle.fv_image.specs.Sound.{agree}
 use Rattle.fv_image.specs.BlockRules.{has_shapes, are_in_range, is_in_position, is_held_once, has_true_map}
-use Rattle.fv_image.specs.ReachRules.{has_reached_shapes, has_pointers_in_range, has_reached_positions, has_distinct_files, reaches_once, has_map_blocks, has_reached_kinds}
-use Rattle.fv_image.specs.TableRules.{has_one_to_one, has_stamps_past, has_marks_over, has_cells_within, has_levels}
-use Rattle.fv_image.specs.VolumeRules.{commits_seen, has_commits_in_capacity, leaves_room, comes_to_end, has_wide_spans, has_bases, has_distinct_names, has_distinct_snapshots}
-use Rattle.fv_image.proofs.Vectors.{leaf_16, label_of, name_a, head_a}
+use Rattle.fv_image.specs.VolumeRules.{commits_seen, has_commits_in_capacity, leaves_room, has_wide_spans, has_distinct_names}
+use Rattle.fv_image.proofs.Computing.{bits_compute, tables_compute, layouts_compute, rules_compute, space_compute}
+use Rattle.fv_image.proofs.Vectors.{super_of, root_with, leaf_16, inner_over, label_of, image_of, name_a, head_a}
 use Rattle.fv_image.proofs.Kept.{at_number}
 use Rattle.fv_image.proofs.FileVectors.{one_file, one_file_root, clone, clone_root}
-use Rattle.fv_image.proofs.Faults.{root_one, with_blocks, view_of}
-use Rattle.fv_image.proofs.FileFaults.{with_block, second_pass, third_pass}
+use Rattle.fv_image.proofs.Faults.{root_one, view_of}
+use Rattle.fv_image.proofs.FileFaults.{with_block, first_blocks, second_pass, third_pass}
 
 -- an image of one file with another block
 abbrev changed : ℕ → List ℕ → Layout
 changed at block = layout_at one_file_root (with_block at block one_file)
-
--- the rules of the first pass on blocks
-abbrev first_blocks : Layout → Bool
-first_blocks y = has_shapes y && (are_in_range y && (is_in_position y && (has_distinct_names y && has_map_blocks y.view)))
 
 -- Rule 1: a label with another mark.
 abbrev no_label : Layout
 no_label = changed 13 (71 ∷ 86 ∷ 76 ∷ 65 ∷ 66 ∷ 69 ∷ 76 ∷ 48 ∷ (zeros 7 ++ (1 ∷ 97 ∷ (zeros 78 ++ (100 ∷ (zeros 7 ++ (200 ∷ (zeros 6 ++ (16 ∷ (zeros 8 ++ (2 ∷ (zeros 31 ++ (1 ∷ (zeros 7 ++ (12 ∷ (zeros 7 ++ (1 ∷ (zeros 23 ++ (7 ∷ (zeros 7 ++ (2 ∷ zeros 3896)))))))))))))))))))))
 
 no_label_refused : not (has_shapes no_label) ≡ true
-unfolding has_shapes are_in_range is_in_position is_held_once has_distinct_names has_map_blocks has_wide_spans held held_by held_by_container at_positions node_from layout_at leaf_for inner_for vvbns seen volume_seen root_seen base_seen has_reached_shapes has_pointers_in_range has_bases comes_to_end has_distinct_snapshots has_distinct_files has_reached_positions reaches_once records table_items tree_items records_in file_at spots listed node_for pointers_at pointer_below pointer_at block_at slots along place under snap_at view_at label_place label_in label_at head_of snaps_from entry_from container_entry node_below inner_at leaf_at inodes_at node_at asks_entry asks_file file_of none_filled word_at half_at byte_at word half zeros all_zero each items all_name name_filled asks_snap snap_of asks_pointer pointer_of map_bit bit_of_area bit_of_bytes bit_of_number
+unfolding bits_compute layouts_compute rules_compute has_wide_spans map_bit
 no_label_refused = refl
 
 -- Rule 1: a leaf with a kind that there isn't.
@@ -52,7 +37,7 @@ abbrev no_kind : Layout
 no_kind = changed 10 (70 ∷ 86 ∷ 67 ∷ 76 ∷ 69 ∷ 65 ∷ 70 ∷ 48 ∷ (zeros 1023 ++ (7 ∷ 0 ∷ 0 ∷ 0 ∷ 5 ∷ (zeros 7 ++ (8 ∷ 0 ∷ 0 ∷ 0 ∷ 9 ∷ zeros 3048)))))
 
 no_kind_refused : not (has_shapes no_kind) ≡ true
-unfolding has_shapes are_in_range is_in_position is_held_once has_distinct_names has_map_blocks has_wide_spans held held_by held_by_container at_positions node_from layout_at leaf_for inner_for vvbns seen volume_seen root_seen base_seen has_reached_shapes has_pointers_in_range has_bases comes_to_end has_distinct_snapshots has_distinct_files has_reached_positions reaches_once records table_items tree_items records_in file_at spots listed node_for pointers_at pointer_below pointer_at block_at slots along place under snap_at view_at label_place label_in label_at head_of snaps_from entry_from container_entry node_below inner_at leaf_at inodes_at node_at asks_entry asks_file file_of none_filled word_at half_at byte_at word half zeros all_zero each items all_name name_filled asks_snap snap_of asks_pointer pointer_of map_bit bit_of_area bit_of_bytes bit_of_number
+unfolding bits_compute layouts_compute rules_compute has_wide_spans map_bit
 no_kind_refused = refl
 
 -- Rule 1: a container's root with another mark.
@@ -60,7 +45,7 @@ abbrev no_inner : Layout
 no_inner = changed 12 (70 ∷ 86 ∷ 67 ∷ 73 ∷ 78 ∷ 78 ∷ 69 ∷ 83 ∷ (zeros 7 ++ (1 ∷ (zeros 1015 ++ (10 ∷ (zeros 127 ++ (11 ∷ zeros 2936)))))))
 
 no_inner_refused : not (has_shapes no_inner) ≡ true
-unfolding has_shapes are_in_range is_in_position is_held_once has_distinct_names has_map_blocks has_wide_spans held held_by held_by_container at_positions node_from layout_at leaf_for inner_for vvbns seen volume_seen root_seen base_seen has_reached_shapes has_pointers_in_range has_bases comes_to_end has_distinct_snapshots has_distinct_files has_reached_positions reaches_once records table_items tree_items records_in file_at spots listed node_for pointers_at pointer_below pointer_at block_at slots along place under snap_at view_at label_place label_in label_at head_of snaps_from entry_from container_entry node_below inner_at leaf_at inodes_at node_at asks_entry asks_file file_of none_filled word_at half_at byte_at word half zeros all_zero each items all_name name_filled asks_snap snap_of asks_pointer pointer_of map_bit bit_of_area bit_of_bytes bit_of_number
+unfolding bits_compute layouts_compute rules_compute has_wide_spans map_bit
 no_inner_refused = refl
 
 -- Rule 2: an entry in the last of the aggregate's own blocks.
@@ -68,7 +53,7 @@ abbrev before_first : Layout
 before_first = changed 10 (70 ∷ 86 ∷ 67 ∷ 76 ∷ 69 ∷ 65 ∷ 70 ∷ 48 ∷ (zeros 1023 ++ (7 ∷ 0 ∷ 0 ∷ 0 ∷ 5 ∷ (zeros 7 ++ (6 ∷ 0 ∷ 0 ∷ 0 ∷ 1 ∷ zeros 3048)))))
 
 before_first_refused : (has_shapes before_first && not (are_in_range before_first)) ≡ true
-unfolding has_shapes are_in_range is_in_position is_held_once has_distinct_names has_map_blocks has_wide_spans held held_by held_by_container at_positions node_from layout_at leaf_for inner_for vvbns seen volume_seen root_seen base_seen has_reached_shapes has_pointers_in_range has_bases comes_to_end has_distinct_snapshots has_distinct_files has_reached_positions reaches_once records table_items tree_items records_in file_at spots listed node_for pointers_at pointer_below pointer_at block_at slots along place under snap_at view_at label_place label_in label_at head_of snaps_from entry_from container_entry node_below inner_at leaf_at inodes_at node_at asks_entry asks_file file_of none_filled word_at half_at byte_at word half zeros all_zero each items all_name name_filled asks_snap snap_of asks_pointer pointer_of map_bit bit_of_area bit_of_bytes bit_of_number
+unfolding bits_compute layouts_compute rules_compute has_wide_spans map_bit
 before_first_refused = refl
 
 -- Rule 2: an entry past the last block.
@@ -76,7 +61,7 @@ abbrev past_last : Layout
 past_last = changed 10 (70 ∷ 86 ∷ 67 ∷ 76 ∷ 69 ∷ 65 ∷ 70 ∷ 48 ∷ (zeros 1023 ++ (7 ∷ 0 ∷ 0 ∷ 0 ∷ 5 ∷ (zeros 6 ++ (4 ∷ 8 ∷ 0 ∷ 0 ∷ 0 ∷ 1 ∷ zeros 3048)))))
 
 past_last_refused : (has_shapes past_last && not (are_in_range past_last)) ≡ true
-unfolding has_shapes are_in_range is_in_position is_held_once has_distinct_names has_map_blocks has_wide_spans held held_by held_by_container at_positions node_from layout_at leaf_for inner_for vvbns seen volume_seen root_seen base_seen has_reached_shapes has_pointers_in_range has_bases comes_to_end has_distinct_snapshots has_distinct_files has_reached_positions reaches_once records table_items tree_items records_in file_at spots listed node_for pointers_at pointer_below pointer_at block_at slots along place under snap_at view_at label_place label_in label_at head_of snaps_from entry_from container_entry node_below inner_at leaf_at inodes_at node_at asks_entry asks_file file_of none_filled word_at half_at byte_at word half zeros all_zero each items all_name name_filled asks_snap snap_of asks_pointer pointer_of map_bit bit_of_area bit_of_bytes bit_of_number
+unfolding bits_compute layouts_compute rules_compute has_wide_spans map_bit
 past_last_refused = refl
 
 -- Rule 4: leaf 1 where leaf 0 should be.
@@ -84,7 +69,7 @@ abbrev other_leaf : Layout
 other_leaf = changed 10 (70 ∷ 86 ∷ 67 ∷ 76 ∷ 69 ∷ 65 ∷ 70 ∷ 48 ∷ (zeros 7 ++ (1 ∷ (zeros 1015 ++ (7 ∷ 0 ∷ 0 ∷ 0 ∷ 5 ∷ (zeros 7 ++ (8 ∷ 0 ∷ 0 ∷ 0 ∷ 1 ∷ zeros 3048)))))))
 
 other_leaf_refused : (has_shapes other_leaf && (are_in_range other_leaf && not (is_in_position other_leaf))) ≡ true
-unfolding has_shapes are_in_range is_in_position is_held_once has_distinct_names has_map_blocks has_wide_spans held held_by held_by_container at_positions node_from layout_at leaf_for inner_for vvbns seen volume_seen root_seen base_seen has_reached_shapes has_pointers_in_range has_bases comes_to_end has_distinct_snapshots has_distinct_files has_reached_positions reaches_once records table_items tree_items records_in file_at spots listed node_for pointers_at pointer_below pointer_at block_at slots along place under snap_at view_at label_place label_in label_at head_of snaps_from entry_from container_entry node_below inner_at leaf_at inodes_at node_at asks_entry asks_file file_of none_filled word_at half_at byte_at word half zeros all_zero each items all_name name_filled asks_snap snap_of asks_pointer pointer_of map_bit bit_of_area bit_of_bytes bit_of_number
+unfolding bits_compute layouts_compute rules_compute has_wide_spans map_bit
 other_leaf_refused = refl
 
 -- Rule 4: a node of level 2 where the one of level 1 should be.
@@ -92,7 +77,7 @@ abbrev other_level : Layout
 other_level = changed 12 (70 ∷ 86 ∷ 67 ∷ 73 ∷ 78 ∷ 78 ∷ 69 ∷ 82 ∷ (zeros 7 ++ (2 ∷ (zeros 1015 ++ (10 ∷ (zeros 127 ++ (11 ∷ zeros 2936)))))))
 
 other_level_refused : (has_shapes other_level && (are_in_range other_level && not (is_in_position other_level))) ≡ true
-unfolding has_shapes are_in_range is_in_position is_held_once has_distinct_names has_map_blocks has_wide_spans held held_by held_by_container at_positions node_from layout_at leaf_for inner_for vvbns seen volume_seen root_seen base_seen has_reached_shapes has_pointers_in_range has_bases comes_to_end has_distinct_snapshots has_distinct_files has_reached_positions reaches_once records table_items tree_items records_in file_at spots listed node_for pointers_at pointer_below pointer_at block_at slots along place under snap_at view_at label_place label_in label_at head_of snaps_from entry_from container_entry node_below inner_at leaf_at inodes_at node_at asks_entry asks_file file_of none_filled word_at half_at byte_at word half zeros all_zero each items all_name name_filled asks_snap snap_of asks_pointer pointer_of map_bit bit_of_area bit_of_bytes bit_of_number
+unfolding bits_compute layouts_compute rules_compute has_wide_spans map_bit
 other_level_refused = refl
 
 -- Rule 4: two volumes of one name.
@@ -100,7 +85,7 @@ abbrev one_name : Layout
 one_name = layout_at clone_root (with_block 23 (70 ∷ 86 ∷ 76 ∷ 65 ∷ 66 ∷ 69 ∷ 76 ∷ 48 ∷ (zeros 7 ++ (1 ∷ 97 ∷ (zeros 70 ++ (2 ∷ (zeros 7 ++ (100 ∷ (zeros 7 ++ (200 ∷ (zeros 6 ++ (16 ∷ (zeros 8 ++ (4 ∷ (zeros 7 ++ (1 ∷ (zeros 7 ++ (1 ∷ (zeros 15 ++ (1 ∷ (zeros 7 ++ (22 ∷ (zeros 7 ++ (1 ∷ (zeros 15 ++ (1 ∷ (zeros 7 ++ (11 ∷ (zeros 7 ++ (4 ∷ zeros 3896))))))))))))))))))))))))))))) clone)
 
 one_name_refused : (has_shapes one_name && (are_in_range one_name && (is_in_position one_name && not (has_distinct_names one_name)))) ≡ true
-unfolding has_shapes are_in_range is_in_position is_held_once has_distinct_names has_map_blocks has_wide_spans held held_by held_by_container at_positions node_from layout_at leaf_for inner_for vvbns seen volume_seen root_seen base_seen has_reached_shapes has_pointers_in_range has_bases comes_to_end has_distinct_snapshots has_distinct_files has_reached_positions reaches_once records table_items tree_items records_in file_at spots listed node_for pointers_at pointer_below pointer_at block_at slots along place under snap_at view_at label_place label_in label_at head_of snaps_from entry_from container_entry node_below inner_at leaf_at inodes_at node_at asks_entry asks_file file_of none_filled word_at half_at byte_at word half zeros all_zero each items all_name name_filled asks_snap snap_of asks_pointer pointer_of map_bit bit_of_area bit_of_bytes bit_of_number
+unfolding bits_compute layouts_compute rules_compute has_wide_spans map_bit
 one_name_refused = refl
 
 -- Rule 7: two VVBNs of one block.
@@ -108,7 +93,7 @@ abbrev one_block : Layout
 one_block = changed 10 (70 ∷ 86 ∷ 67 ∷ 76 ∷ 69 ∷ 65 ∷ 70 ∷ 48 ∷ (zeros 1023 ++ (7 ∷ 0 ∷ 0 ∷ 0 ∷ 5 ∷ (zeros 7 ++ (7 ∷ 0 ∷ 0 ∷ 0 ∷ 1 ∷ zeros 3048)))))
 
 one_block_refused : (second_pass (seen one_block.view) && (first_blocks one_block && not (is_held_once one_block))) ≡ true
-unfolding has_shapes are_in_range is_in_position is_held_once has_distinct_names has_map_blocks has_wide_spans held held_by held_by_container at_positions node_from layout_at leaf_for inner_for vvbns seen volume_seen root_seen base_seen has_reached_shapes has_pointers_in_range has_bases comes_to_end has_distinct_snapshots has_distinct_files has_reached_positions reaches_once records table_items tree_items records_in file_at spots listed node_for pointers_at pointer_below pointer_at block_at slots along place under snap_at view_at label_place label_in label_at head_of snaps_from entry_from container_entry node_below inner_at leaf_at inodes_at node_at asks_entry asks_file file_of none_filled word_at half_at byte_at word half zeros all_zero each items all_name name_filled asks_snap snap_of asks_pointer pointer_of map_bit bit_of_area bit_of_bytes bit_of_number
+unfolding bits_compute layouts_compute rules_compute has_wide_spans map_bit
 one_block_refused = refl
 
 -- Rule 7: a delayed entry of a block that is held.
@@ -116,7 +101,7 @@ abbrev held_and_delayed : Layout
 held_and_delayed = changed 10 (70 ∷ 86 ∷ 67 ∷ 76 ∷ 69 ∷ 65 ∷ 70 ∷ 48 ∷ (zeros 1023 ++ (7 ∷ 0 ∷ 0 ∷ 0 ∷ 5 ∷ (zeros 7 ++ (8 ∷ 0 ∷ 0 ∷ 0 ∷ 1 ∷ (zeros 7 ++ (8 ∷ 0 ∷ 0 ∷ 0 ∷ 1 ∷ zeros 3036)))))))
 
 held_and_delayed_refused : (second_pass (seen held_and_delayed.view) && (first_blocks held_and_delayed && not (is_held_once held_and_delayed))) ≡ true
-unfolding has_shapes are_in_range is_in_position is_held_once has_distinct_names has_map_blocks has_wide_spans held held_by held_by_container at_positions node_from layout_at leaf_for inner_for vvbns seen volume_seen root_seen base_seen has_reached_shapes has_pointers_in_range has_bases comes_to_end has_distinct_snapshots has_distinct_files has_reached_positions reaches_once records table_items tree_items records_in file_at spots listed node_for pointers_at pointer_below pointer_at block_at slots along place under snap_at view_at label_place label_in label_at head_of snaps_from entry_from container_entry node_below inner_at leaf_at inodes_at node_at asks_entry asks_file file_of none_filled word_at half_at byte_at word half zeros all_zero each items all_name name_filled asks_snap snap_of asks_pointer pointer_of map_bit bit_of_area bit_of_bytes bit_of_number
+unfolding bits_compute layouts_compute rules_compute has_wide_spans map_bit
 held_and_delayed_refused = refl
 
 -- Rule 8: no bit of a block that is held.
@@ -124,7 +109,7 @@ abbrev bit_too_few : Layout
 bit_too_few = changed 6 (128 ∷ 62 ∷ zeros 4094)
 
 bit_too_few_refused : (second_pass (seen bit_too_few.view) && (first_blocks bit_too_few && not (agree (bit_too_few.bit 8) (is_held bit_too_few 8)))) ≡ true
-unfolding has_shapes are_in_range is_in_position is_held_once has_distinct_names has_map_blocks has_wide_spans held held_by held_by_container at_positions node_from layout_at leaf_for inner_for vvbns seen volume_seen root_seen base_seen has_reached_shapes has_pointers_in_range has_bases comes_to_end has_distinct_snapshots has_distinct_files has_reached_positions reaches_once records table_items tree_items records_in file_at spots listed node_for pointers_at pointer_below pointer_at block_at slots along place under snap_at view_at label_place label_in label_at head_of snaps_from entry_from container_entry node_below inner_at leaf_at inodes_at node_at asks_entry asks_file file_of none_filled word_at half_at byte_at word half zeros all_zero each items all_name name_filled asks_snap snap_of asks_pointer pointer_of map_bit bit_of_area bit_of_bytes bit_of_number
+unfolding bits_compute layouts_compute rules_compute has_wide_spans map_bit
 bit_too_few_refused = refl
 
 -- Rule 8: a bit of a block that isn't.
@@ -132,7 +117,7 @@ abbrev bit_too_many : Layout
 bit_too_many = changed 6 (128 ∷ 127 ∷ zeros 4094)
 
 bit_too_many_refused : (second_pass (seen bit_too_many.view) && (first_blocks bit_too_many && not (agree (bit_too_many.bit 14) (is_held bit_too_many 14)))) ≡ true
-unfolding has_shapes are_in_range is_in_position is_held_once has_distinct_names has_map_blocks has_wide_spans held held_by held_by_container at_positions node_from layout_at leaf_for inner_for vvbns seen volume_seen root_seen base_seen has_reached_shapes has_pointers_in_range has_bases comes_to_end has_distinct_snapshots has_distinct_files has_reached_positions reaches_once records table_items tree_items records_in file_at spots listed node_for pointers_at pointer_below pointer_at block_at slots along place under snap_at view_at label_place label_in label_at head_of snaps_from entry_from container_entry node_below inner_at leaf_at inodes_at node_at asks_entry asks_file file_of none_filled word_at half_at byte_at word half zeros all_zero each items all_name name_filled asks_snap snap_of asks_pointer pointer_of map_bit bit_of_area bit_of_bytes bit_of_number
+unfolding bits_compute layouts_compute rules_compute has_wide_spans map_bit
 bit_too_many_refused = refl
 
 -- a map that isn't true of one block isn't true
@@ -162,15 +147,15 @@ many_refused = not_true bit_too_many 14 (omega arith) (of_not (second_pass (seen
 
 -- an aggregate of 1024 blocks has 761 for its volumes, and a volume's overhead counts 40 of them
 abbrev of_size : ℕ → Layout
-of_size size = layout_at root_one (with_blocks (leaf_16 7) (label_of name_a 0 size 1000 9))
+of_size size = layout_at root_one (image_of (super_of 1024 ∷ open_gate ∷ open_gate ∷ root_with 1 0 0 0 ∷ root_with 2 10 0 0 ∷ zeros 4096 ∷ (128 ∷ 7 ∷ zeros 4094) ∷ zeros 4096 ∷ leaf_16 7 ∷ inner_over 8 ∷ label_of name_a 0 size 1000 9 ∷ []))
 
 commits_fit : (third_pass (seen (of_size 721).view) && has_commits_in_capacity (seen (of_size 721).view)) ≡ true
-unfolding has_reached_kinds has_one_to_one has_stamps_past has_marks_over has_cells_within has_levels least_levels has_commits_in_capacity commits_seen volume_with overhead nodes_above has_shapes are_in_range is_in_position is_held_once has_distinct_names has_map_blocks held held_by held_by_container at_positions node_from layout_at leaf_for inner_for vvbns seen volume_seen root_seen base_seen has_reached_shapes has_pointers_in_range has_bases comes_to_end has_distinct_snapshots has_distinct_files has_reached_positions reaches_once records table_items tree_items records_in file_at spots listed node_for pointers_at pointer_below pointer_at block_at slots along place under snap_at view_at label_place label_in label_at head_of snaps_from entry_from container_entry node_below inner_at leaf_at inodes_at node_at asks_entry asks_file file_of none_filled word_at half_at byte_at word half zeros all_zero each items all_name name_filled asks_snap snap_of asks_pointer pointer_of map_bit bit_of_area bit_of_bytes bit_of_number
+unfolding tables_compute rules_compute layouts_compute space_compute commits_seen has_commits_in_capacity
 commits_fit = refl
 
 -- Rule 14: commits that pass the capacity.
 commits_pass : (third_pass (seen (of_size 722).view) && not (has_commits_in_capacity (seen (of_size 722).view))) ≡ true
-unfolding has_reached_kinds has_one_to_one has_stamps_past has_marks_over has_cells_within has_levels least_levels has_commits_in_capacity commits_seen volume_with overhead nodes_above has_shapes are_in_range is_in_position is_held_once has_distinct_names has_map_blocks held held_by held_by_container at_positions node_from layout_at leaf_for inner_for vvbns seen volume_seen root_seen base_seen has_reached_shapes has_pointers_in_range has_bases comes_to_end has_distinct_snapshots has_distinct_files has_reached_positions reaches_once records table_items tree_items records_in file_at spots listed node_for pointers_at pointer_below pointer_at block_at slots along place under snap_at view_at label_place label_in label_at head_of snaps_from entry_from container_entry node_below inner_at leaf_at inodes_at node_at asks_entry asks_file file_of none_filled word_at half_at byte_at word half zeros all_zero each items all_name name_filled asks_snap snap_of asks_pointer pointer_of map_bit bit_of_area bit_of_bytes bit_of_number
+unfolding tables_compute rules_compute layouts_compute space_compute commits_seen has_commits_in_capacity
 commits_pass = refl
 
 -- so many delayed entries; of 1017 blocks 40 are kept for the overheads and 256 beside them
@@ -180,10 +165,10 @@ with_delayed count = view_of head_a (λ v. if v == 4096
     else (if nat_lt v count then Some (record { pvbn = 11 + v; kind = 1; block = [] }) else None))
 
 room_left : leaves_room (with_delayed 721) 0 ≡ true
-unfolding overheads overhead nodes_above own delayed is_held_in volume_bit bit_of_area bit_of_bytes bit_of_number slots vvbns zeros
+unfolding space_compute
 room_left = refl
 
 -- Rule 14: one delayed entry more than there is room for.
 no_room_left : leaves_room (with_delayed 722) 0 ≡ false
-unfolding overheads overhead nodes_above own delayed is_held_in volume_bit bit_of_area bit_of_bytes bit_of_number slots vvbns zeros
+unfolding space_compute
 no_room_left = refl

@@ -1,410 +1,345 @@
--- An image with a file of two levels, as an independent implementation of the format wrote it: the machine of its script is told, by the
--- laws on positions. (Its tree has 16,513 of them, so a listing doesn't compute.)
-use Rattle.std.proofs.Common.{◌≡◌, ◌≢◌, ℕ, zero, suc, ◌/◌, ◌%◌, ◌<◌, Bool, true, false, cond, not, List, [], ◌∷◌, ◌++◌, replicate, refl, sym, ap, subst, ◌∙◌, arith, ⊎_elim, get_or, inl}
-use Rattle.std.specs.Prelude.{Some, None, ◌&&◌, ◌==◌, if◌then◌else◌, ◌||◌, nat_le}
-use Rattle.std.specs.List.{list_all}
-use Rattle.std.specs.Ordering.{nat_cmp, eq_by_cmp}
+-- An image with a file of two levels, as an independent implementation of the format wrote it: it tells the machine of its script and is
+-- sound. What its tree lists and reaches goes by the laws of `DeepTrees`, and all else computes. Then changes of it that rules refuse.
+use Rattle.std.proofs.Common.{◌≡◌, ℕ, zero, suc, ◌≤◌, Bool, true, false, not, List, [], ◌∷◌, ◌++◌, replicate, refl, sym, ap, subst, ◌∙◌, arith, get_or}
+use Rattle.std.specs.Prelude.{Option, Some, None, map, ◌&&◌, ◌==◌, if◌then◌else◌, nat_lt}
+use Rattle.std.specs.Option.{option_map}
 use Rattle.std.specs.FinMap as fin
-use Rattle.std.specs.FinMap.{find}
-use Rattle.std.proofs.lemmas.Bool.{cases_eq, and_parts, not-true}
+use Rattle.std.specs.FinSet as set
+use Rattle.std.proofs.lemmas.Bool.{and_from}
 use Rattle.std.proofs.lemmas.Bool.Decides.{nat_tests}
-use Rattle.std.proofs.lemmas.Cmp.{nat_cmp_total}
 use Rattle.fv_disk.specs.Shown.{Image}
 use Rattle.fv_codec.specs.declared.pointer.Pointer.{Pointer}
 use Rattle.fv_codec.specs.declared.inode.InodeRecord.{InodeRecord}
-use Rattle.fv_codec.specs.Bytes.{word_at, half_at, byte_at, word, half, zeros}
-use Rattle.fv_codec.specs.Fields.{all_zero, each, items, none_filled, all_name, name_filled}
-use Rattle.fv_codec.specs.Blocks.{super_at, gate_open, root_at, label_at, asks_snap, snap_of, asks_pointer, pointer_of, leaf_at, asks_entry, inner_at, inodes_at, asks_file, file_of, node_at}
-use Rattle.fv_model.specs.declared.commands.Kind.TheVariants.{Volume as Whole}
-use Rattle.fv_model.specs.Trees.{fan, Spot, Tree, spot_cmp}
+use Rattle.fv_codec.specs.Bytes.{zeros}
+use Rattle.fv_codec.specs.Blocks.{greatest_word}
+use Rattle.fv_model.specs.Trees.{Spot}
 use Rattle.fv_model.specs.Tables.{File, Table}
 use Rattle.fv_model.specs.Machines.{Machine}
-use Rattle.fv_laws.proofs.Orders.{spot_total, spot_ties}
-use Rattle.fv_tables.specs.Spelled.{Rooted, hole, stored, node_for, pointers_at, pointer_below, pointer_at, stamp_in, block_at}
-use Rattle.fv_tables.specs.Told.{Standing, listed, spots, tree_told, cells_told, records_in, file_at, file_told, file_in, table_told}
-use Rattle.fv_tables.specs.Reached.{is_listed, items as table_items}
-use Rattle.fv_tables.proofs.Lists.{tied}
-use Rattle.fv_tables.proofs.Pointers.{none_under, no_stamp, no_block, above}
-use Rattle.fv_tables.proofs.Tables.{stamps_told, blocks_told}
-use Rattle.fv_tables.proofs.Items.{at_file, listed_inode, listed_file}
-use Rattle.fv_image.specs.NewerRoot.{Taken, root_of}
-use Rattle.fv_image.specs.Containers.{node_below, container_entry}
-use Rattle.fv_image.specs.Views.{Rooted as Named, Head, View, slots, head_of, snaps_from}
-use Rattle.fv_image.specs.Held.{view_at, label_place, label_in, entry_from}
-use Rattle.fv_image.specs.Chains.{along, place, under}
-use Rattle.fv_image.specs.Volumes.{standing_of, snap_at, volume_with, volumes_with, told_with, told}
-use Rattle.fv_image.specs.Seen.{Reached, Root, reached_at, root_seen, roots_of, volume_seen, seen}
-use Rattle.fv_image.specs.TableRules.{is_below_mark, has_marks_over}
-use Rattle.fv_image.proofs.FileFaults.{with_block}
-use Rattle.fv_image.proofs.SameSeen.{of_volume}
-use Rattle.fv_image.proofs.WellRoots.{all_one}
-use Rattle.std.proofs.lemmas.List.Folds.{list_all-map}
+use Rattle.fv_model.specs.Places.{ids_of}
+use Rattle.fv_model.specs.Space.{use_of}
+use Rattle.fv_laws.proofs.Orders.{spot_total}
+use Rattle.fv_tables.specs.Spelled.{Rooted, hole, stored}
+use Rattle.fv_tables.specs.Told.{Standing, tree_told, cells_told, file_told, file_in, records, table_told}
+use Rattle.fv_tables.specs.Reached.{Item, tree_items, items as table_items, is_listed}
+use Rattle.fv_image.specs.NewerRoot.{Taken}
+use Rattle.fv_image.specs.Views.{Head, View, head_of}
+use Rattle.fv_image.specs.Held.{layout_at, view_at, lying_at, label_place, label_in}
+use Rattle.fv_image.specs.Chains.{under}
+use Rattle.fv_image.specs.Volumes.{standing_of, volume_with, volumes_with, told_with, volume_told, told}
+use Rattle.fv_image.specs.Seen.{VolumeSeen, Seen, reached_at, root_seen, base_seen, volume_seen, head_at, seen}
+use Rattle.fv_image.specs.BlockRules.{has_true_map}
+use Rattle.fv_image.specs.ReachRules.{has_maps_of_reach}
+use Rattle.fv_image.specs.TableRules.{has_marks_over}
+use Rattle.fv_image.specs.HintRules.{leads_unknown}
+use Rattle.fv_image.specs.VolumeRules.{has_wide_spans, has_use_in_size, commits_seen, has_commits_in_capacity}
+use Rattle.fv_image.specs.Soundness.{IsSound, are_tables}
+use Rattle.fv_image.proofs.Computing.{bytes_compute, roots_compute, heads_compute, pointers_compute, views_compute, layouts_compute, rules_compute, space_compute, soundness_computes}
+use Rattle.fv_image.proofs.Counting.{len_within}
+use Rattle.fv_image.proofs.DeepTrees.{IsDeep, deep_tree, deep_cells, deep_items}
+use Rattle.fv_image.proofs.FileFaults.{with_block, first_blocks, second_pass, third_pass}
+use Rattle.fv_image.proofs.FileVectors.{super_1024, gate, first_root, hi, map_leaf, inner_with, taken, rooted, head_whole, one_cell, machine_with, whole}
+use Rattle.fv_image.proofs.SmallImages.{map_is_true, map_is_reach, no_base, span_is_wide, use_alone, use_fits, tables_with, sound_with}
+use Rattle.fv_image.proofs.SmallTables.{ids_of_one}
+use Rattle.fv_image.proofs.SoundFiles.{Means}
 use Rattle.fv_image.proofs.Vectors.{image_of}
-use Rattle.fv_image.proofs.WellTrees.{in_node}
+use Rattle.fv_image.proofs.Zeros.{zero_in}
+
+-- ---- the image
+
+-- its inode block by the stamp of the file's root, the topmost node by the stamp of its first mark, and the node of the first 128 cells by
+-- the place of the first
+abbrev inodes : ℕ → List ℕ
+inodes stamp = 70 ∷ 86 ∷ 73 ∷ 78 ∷ 79 ∷ 68 ∷ 69 ∷ 83 ∷ (zeros 248 ++ (1 ∷ 102 ∷ (zeros 77 ++ (129 ∷ (zeros 15 ++ (2 ∷ (zeros 7 ++ (1 ∷ (zeros 7 ++ (8 ∷ (zeros 7 ++ (stamp ∷ zeros 3720))))))))))))
+
+abbrev top_node : ℕ → List ℕ
+top_node stamp = 70 ∷ 86 ∷ 78 ∷ 79 ∷ 68 ∷ 69 ∷ 48 ∷ 48 ∷ (zeros 7 ++ (2 ∷ (zeros 1015 ++ (2 ∷ (zeros 7 ++ (9 ∷ (zeros 7 ++ (stamp ∷ (zeros 7 ++ (3 ∷ (zeros 7 ++ (10 ∷ (zeros 7 ++ (4 ∷ zeros 3024))))))))))))))
+
+abbrev first_node : ℕ → List ℕ
+first_node place = 70 ∷ 86 ∷ 78 ∷ 79 ∷ 68 ∷ 69 ∷ 48 ∷ 48 ∷ (zeros 7 ++ (1 ∷ (zeros 1015 ++ (4 ∷ (zeros 7 ++ (place ∷ (zeros 7 ++ (2 ∷ (zeros 7 ++ (5 ∷ (zeros 7 ++ (12 ∷ (zeros 7 ++ (3 ∷ zeros 3024))))))))))))))
 
 abbrev levels : Image
 levels = image_of (
-    (70 ∷ 86 ∷ 65 ∷ 71 ∷ 71 ∷ 82 ∷ 48 ∷ 49 ∷ (zeros 6 ++ (4 ∷ zeros 4081))) ∷
-    (71 ∷ 65 ∷ 84 ∷ 69 ∷ 79 ∷ 80 ∷ 69 ∷ 78 ∷ zeros 4088) ∷
-    (71 ∷ 65 ∷ 84 ∷ 69 ∷ 79 ∷ 80 ∷ 69 ∷ 78 ∷ zeros 4088) ∷
-    (70 ∷ 86 ∷ 82 ∷ 79 ∷ 79 ∷ 84 ∷ 48 ∷ 48 ∷ (zeros 7 ++ (1 ∷ (zeros 7 ++ (1 ∷ zeros 4072))))) ∷
+    super_1024 ∷ gate ∷ gate ∷ first_root ∷
     (70 ∷ 86 ∷ 82 ∷ 79 ∷ 79 ∷ 84 ∷ 48 ∷ 48 ∷ (zeros 7 ++ (2 ∷ (zeros 7 ++ (1 ∷ (zeros 47 ++ (18 ∷ zeros 4024))))))) ∷
     zeros 4096 ∷
     (128 ∷ 255 ∷ 7 ∷ zeros 4093) ∷
-    (70 ∷ 86 ∷ 73 ∷ 78 ∷ 79 ∷ 68 ∷ 69 ∷ 83 ∷ (zeros 248 ++ (1 ∷ 102 ∷ (zeros 77 ++ (129 ∷ (zeros 15 ++ (2 ∷ (zeros 7 ++ (1 ∷ (zeros 7 ++ (8 ∷ (zeros 7 ++ (4 ∷ zeros 3720))))))))))))) ∷
-    (70 ∷ 86 ∷ 78 ∷ 79 ∷ 68 ∷ 69 ∷ 48 ∷ 48 ∷ (zeros 7 ++ (2 ∷ (zeros 1015 ++ (2 ∷ (zeros 7 ++ (9 ∷ (zeros 7 ++ (3 ∷ (zeros 7 ++ (3 ∷ (zeros 7 ++ (10 ∷ (zeros 7 ++ (4 ∷ zeros 3024))))))))))))))) ∷
-    (70 ∷ 86 ∷ 78 ∷ 79 ∷ 68 ∷ 69 ∷ 48 ∷ 48 ∷ (zeros 7 ++ (1 ∷ (zeros 1015 ++ (4 ∷ (zeros 7 ++ (11 ∷ (zeros 7 ++ (2 ∷ (zeros 7 ++ (5 ∷ (zeros 7 ++ (12 ∷ (zeros 7 ++ (3 ∷ zeros 3024))))))))))))))) ∷
+    inodes 4 ∷
+    top_node 3 ∷
+    first_node 11 ∷
     (70 ∷ 86 ∷ 78 ∷ 79 ∷ 68 ∷ 69 ∷ 48 ∷ 48 ∷ (zeros 7 ++ (1 ∷ (zeros 15 ++ (1 ∷ (zeros 999 ++ (6 ∷ (zeros 7 ++ (13 ∷ (zeros 7 ++ (4 ∷ zeros 3048))))))))))) ∷
-    (104 ∷ 105 ∷ zeros 4094) ∷
+    hi ∷
     (1 ∷ zeros 4095) ∷
     (1 ∷ zeros 4095) ∷
     (127 ∷ zeros 4095) ∷
     (70 ∷ 86 ∷ 67 ∷ 76 ∷ 69 ∷ 65 ∷ 70 ∷ 48 ∷ (zeros 1023 ++ (7 ∷ 0 ∷ 0 ∷ 0 ∷ 5 ∷ (zeros 7 ++ (8 ∷ 0 ∷ 0 ∷ 0 ∷ 3 ∷ (zeros 7 ++ (9 ∷ 0 ∷ 0 ∷ 0 ∷ 2 ∷ (zeros 7 ++ (10 ∷ 0 ∷ 0 ∷ 0 ∷ 2 ∷ (zeros 7 ++ (11 ∷ 0 ∷ 0 ∷ 0 ∷ 1 ∷ (zeros 7 ++ (12 ∷ 0 ∷ 0 ∷ 0 ∷ 1 ∷ (zeros 7 ++ (13 ∷ 0 ∷ 0 ∷ 0 ∷ 1 ∷ zeros 2988))))))))))))))) ∷
-    (70 ∷ 86 ∷ 67 ∷ 76 ∷ 69 ∷ 65 ∷ 70 ∷ 48 ∷ (zeros 7 ++ (16 ∷ (zeros 1015 ++ (14 ∷ 0 ∷ 0 ∷ 0 ∷ 8 ∷ zeros 3060))))) ∷
-    (70 ∷ 86 ∷ 67 ∷ 73 ∷ 78 ∷ 78 ∷ 69 ∷ 82 ∷ (zeros 7 ++ (1 ∷ (zeros 1015 ++ (15 ∷ (zeros 127 ++ (16 ∷ zeros 2936))))))) ∷
+    map_leaf 14 ∷
+    inner_with 15 16 ∷
     (70 ∷ 86 ∷ 76 ∷ 65 ∷ 66 ∷ 69 ∷ 76 ∷ 48 ∷ (zeros 7 ++ (1 ∷ 97 ∷ (zeros 78 ++ (100 ∷ (zeros 7 ++ (200 ∷ (zeros 6 ++ (16 ∷ (zeros 8 ++ (4 ∷ (zeros 31 ++ (1 ∷ (zeros 7 ++ (17 ∷ (zeros 7 ++ (1 ∷ (zeros 23 ++ (7 ∷ (zeros 7 ++ (4 ∷ zeros 3896))))))))))))))))))))) ∷ [])
 
 abbrev levels_root : Taken
-levels_root = record { blocks = 1024; slot = 1; root = record { generation = 2; version = 1; labels = 18 ∷ replicate 63 0 } }
+levels_root = taken (18 ∷ replicate 63 0)
 
-abbrev levels_view : View
-levels_view = view_at levels_root levels
+abbrev view_of : Image → View
+view_of i = view_at levels_root i
 
-levels_counts : root_of levels ≡ Some levels_root
-unfolding root_of super_at gate_open root_at word_at word zeros all_zero each items
-levels_counts = refl
+abbrev head : Head
+head = head_whole 4 (rooted 0 7 4) []
 
--- ---- its table
-
-abbrev table_read : Standing
-table_read = standing_of levels_view 0 (record { levels = 0; root = record { vvbn = 0; pvbn = 7; stamp = 4 } })
-
-abbrev record_f : InodeRecord
-record_f = record { name_length = 1; name = 102 ∷ replicate 63 0; length = 129; reserve = 0; levels = 2; root = record { vvbn = 1; pvbn = 8; stamp = 4 } }
-
-record_is : file_at table_read.inode 0 ≡ Some record_f
-unfolding records_in file_at spots listed node_for pointers_at pointer_below pointer_at block_at slots along place under snap_at view_at label_place label_in label_at head_of snaps_from entry_from container_entry node_below inner_at leaf_at inodes_at node_at asks_entry asks_file file_of none_filled word_at half_at byte_at word half zeros all_zero each items all_name name_filled asks_snap snap_of asks_pointer pointer_of
-record_is = refl
-
--- the tree of its file
-abbrev tree_read : Rooted
-tree_read = stored (under levels_view 0) 0 2 record_f.root
+abbrev table_in : Image → Standing
+table_in i = standing_of (view_of i) 0 head.active
 
 abbrev known : ℕ → ℕ → ℕ → Pointer
 known vvbn pvbn stamp = record { vvbn = vvbn; pvbn = pvbn; stamp = stamp }
 
-root_pointer : pointer_at tree_read 2 0 ≡ known 1 8 4
-unfolding records_in file_at spots listed node_for pointers_at pointer_below pointer_at block_at slots along place under snap_at view_at label_place label_in label_at head_of snaps_from entry_from container_entry node_below inner_at leaf_at inodes_at node_at asks_entry asks_file file_of none_filled word_at half_at byte_at word half zeros all_zero each items all_name name_filled asks_snap snap_of asks_pointer pointer_of
-root_pointer = refl
+-- the tree of its file
+abbrev tree_in : Image → Pointer → Rooted
+tree_in i root = stored (under (view_of i) 0) 0 2 root
 
-under_root : pointers_at tree_read 2 0 (pointer_at tree_read 2 0) ≡ known 2 9 3 ∷ known 3 10 4 ∷ replicate 126 hole
-unfolding records_in file_at spots listed node_for pointers_at pointer_below pointer_at block_at slots along place under snap_at view_at label_place label_in label_at head_of snaps_from entry_from container_entry node_below inner_at leaf_at inodes_at node_at asks_entry asks_file file_of none_filled word_at half_at byte_at word half zeros all_zero each items all_name name_filled asks_snap snap_of asks_pointer pointer_of
-under_root = refl
+abbrev item_at : ℕ → ℕ → Pointer → Pointer → Item
+item_at level place p holder = record { owner = 0; levels = 2; level = level; place = place; pointer = p; holder = holder }
 
-under_first : pointers_at tree_read 1 0 (pointer_at tree_read 1 0) ≡ known 4 11 2 ∷ known 5 12 3 ∷ replicate 126 hole
-unfolding records_in file_at spots listed node_for pointers_at pointer_below pointer_at block_at slots along place under snap_at view_at label_place label_in label_at head_of snaps_from entry_from container_entry node_below inner_at leaf_at inodes_at node_at asks_entry asks_file file_of none_filled word_at half_at byte_at word half zeros all_zero each items all_name name_filled asks_snap snap_of asks_pointer pointer_of
-under_first = refl
+abbrev inode_item : Item
+inode_item = record { owner = greatest_word; levels = 0; level = 0; place = 0; pointer = known 0 7 4; holder = hole }
 
-under_second : pointers_at tree_read 1 1 (pointer_at tree_read 1 1) ≡ known 6 13 4 ∷ replicate 127 hole
-unfolding records_in file_at spots listed node_for pointers_at pointer_below pointer_at block_at slots along place under snap_at view_at label_place label_in label_at head_of snaps_from entry_from container_entry node_below inner_at leaf_at inodes_at node_at asks_entry asks_file file_of none_filled word_at half_at byte_at word half zeros all_zero each items all_name name_filled asks_snap snap_of asks_pointer pointer_of
-under_second = refl
+-- what it reaches: the inode block, and the tree's cells and marks
+abbrev reached_by : Pointer → Pointer → Pointer → Pointer → Pointer → Pointer → List Item
+reached_by root a b c d e = inode_item ∷ item_at 0 0 c a ∷ item_at 0 1 d a ∷ item_at 0 128 e b ∷ item_at 1 0 a root ∷ item_at 1 1 b root ∷ item_at 2 0 root (known 0 7 4) ∷ []
 
--- ---- no other position has a pointer
+-- ---- its tree, and the machine
 
-only_holes : (n k : ℕ) → (get_or (replicate n hole) k hole).stamp ≡ 0
-only_holes zero k = refl
-only_holes (suc n) zero = refl
-only_holes (suc n) (suc k) = only_holes n k
-
-past_one : (a : Pointer) (n k : ℕ) → k ≢ 0 → (get_or (a ∷ replicate n hole) k hole).stamp ≡ 0
-past_one a n zero ne = absurd (ne refl)
-past_one a n (suc k) ne = only_holes n k
-
-past_two : (a b : Pointer) (n k : ℕ) → k ≢ 0 → k ≢ 1 → (get_or (a ∷ b ∷ replicate n hole) k hole).stamp ≡ 0
-past_two a b n zero ne other = absurd (ne refl)
-past_two a b n (suc zero) ne other = absurd (other refl)
-past_two a b n (suc (suc k)) ne other = only_holes n k
-
-level_two : (place : ℕ) → place ≢ 0 → (pointer_at tree_read 2 place).stamp ≡ 0
-unfolding pointer_at pointer_below
-level_two place ne = let test : (place == 0) ≡ false = grind (arith, nat_tests) in ap (λ (b : Bool). (if b then tree_read.root else hole).stamp) test
-
-level_one : (place : ℕ) → place ≢ 0 → place ≢ 1 → (pointer_at tree_read 1 place).stamp ≡ 0
-level_one place ne other = ap (λ (p : Pointer). p.stamp) (in_node tree_read 1 place (omega arith)) ∙ ⊎_elim
-    (λ (low : place / fan ≡ 0).
-    let same : place % fan ≡ place = omega (arith, low) in
-    ap (λ (q : ℕ). (get_or (pointers_at tree_read 2 q (pointer_at tree_read 2 q)) (place % fan) hole).stamp) low
-    ∙ ap (λ (k : ℕ). (get_or (pointers_at tree_read 2 0 (pointer_at tree_read 2 0)) k hole).stamp) same
-    ∙ ap (λ (ps : List Pointer). (get_or ps place hole).stamp) under_root
-    ∙ past_two (known 2 9 3) (known 3 10 4) 126 place ne other)
-    (λ (high : place / fan ≢ 0). ap (λ (ps : List Pointer). (get_or ps (place % fan) hole).stamp) (none_under tree_read 2 (place / fan) (pointer_at tree_read 2 (place / fan)) (level_two (place / fan) high)))
-    (cases_eq (place / fan) 0)
-
-level_zero : (i : ℕ) → i ≢ 0 → i ≢ 1 → i ≢ 128 → (pointer_at tree_read 0 i).stamp ≡ 0
-level_zero i ne other last = ap (λ (p : Pointer). p.stamp) (in_node tree_read 0 i (omega arith)) ∙ ⊎_elim
-    (λ (low : i / fan ≡ 0).
-    let same : i % fan ≡ i = omega (arith, low) in
-    ap (λ (q : ℕ). (get_or (pointers_at tree_read 1 q (pointer_at tree_read 1 q)) (i % fan) hole).stamp) low
-    ∙ ap (λ (k : ℕ). (get_or (pointers_at tree_read 1 0 (pointer_at tree_read 1 0)) k hole).stamp) same
-    ∙ ap (λ (ps : List Pointer). (get_or ps i hole).stamp) under_first
-    ∙ past_two (known 4 11 2) (known 5 12 3) 126 i ne other)
-    (λ (high : i / fan ≢ 0). ⊎_elim
-    (λ (second : i / fan ≡ 1).
-    let rest : i % fan ≢ 0 = λ none. last (omega (arith, second, none)) in
-    ap (λ (q : ℕ). (get_or (pointers_at tree_read 1 q (pointer_at tree_read 1 q)) (i % fan) hole).stamp) second
-    ∙ ap (λ (ps : List Pointer). (get_or ps (i % fan) hole).stamp) under_second
-    ∙ past_one (known 6 13 4) 127 (i % fan) rest)
-    (λ (far : i / fan ≢ 1). ap (λ (ps : List Pointer). (get_or ps (i % fan) hole).stamp) (none_under tree_read 1 (i / fan) (pointer_at tree_read 1 (i / fan)) (level_one (i / fan) high far)))
-    (cases_eq (i / fan) 1))
-    (cases_eq (i / fan) 0)
-
--- ---- the tree is told
+levels_deep : IsDeep (tree_in levels (known 1 8 4)) (known 2 9 3) (known 3 10 4) (known 4 11 2) (known 5 12 3) (known 6 13 4)
+unfolding pointers_compute
+levels_deep = record { levels = refl; under_root = refl; under_first = refl; under_second = refl }
 
 abbrev marked : List (Spot × ℕ)
 marked = ((0, 0), 2) ∷ ((0, 1), 3) ∷ ((0, 128), 4) ∷ ((1, 0), 3) ∷ ((1, 1), 4) ∷ ((2, 0), 4) ∷ []
 
--- nothing is found where no entry has the position
-find_none : (es : List (Spot × ℕ)) (level place : ℕ) → list_all (λ e. not ((e.0.0 == level) && (e.0.1 == place))) es ≡ true → find spot_cmp (level, place) es ≡ None
-find_none [] level place none = refl
-find_none (e ∷ es) level place none =
-    let parts = and_parts (not ((e.0.0 == level) && (e.0.1 == place))) _ none in
-    ap (λ (b : Bool). cond b (Some e.1) (find spot_cmp (level, place) es)) (other (eq_by_cmp spot_cmp (level, place) e.0) refl (not-true _ parts.0)) ∙ find_none es level place parts.1
-  where
-    wrong : ((e.0.0 == e.0.0) && (e.0.1 == e.0.1)) ≡ false → ⊥
-    wrong f = absurd (grind (arith, nat_tests, f))
-
-    other : (b : Bool) → eq_by_cmp spot_cmp (level, place) e.0 ≡ b → ((e.0.0 == level) && (e.0.1 == place)) ≡ false → b ≡ false
-    other false is apart = refl
-    other true is apart =
-        let same : (level, place) ≡ e.0 = tied spot_cmp spot_ties (level, place) e.0 is in
-        absurd (wrong (sym (ap (λ (s : Spot). (e.0.0 == s.0) && (e.0.1 == s.1)) same) ∙ apart))
-
-bare : (level place : ℕ) → (pointer_at tree_read level place).stamp ≡ 0 → list_all (λ e. not ((e.0.0 == level) && (e.0.1 == place))) marked ≡ true → stamp_in (pointer_at tree_read level place) ≡ find spot_cmp (level, place) marked
-bare level place none apart = no_stamp (pointer_at tree_read level place) none ∙ sym (find_none marked level place apart)
-
-at_0 : stamp_in (pointer_at tree_read 0 0) ≡ find spot_cmp (0, 0) marked
-unfolding records_in file_at spots listed node_for pointers_at pointer_below pointer_at block_at slots along place under snap_at view_at label_place label_in label_at head_of snaps_from entry_from container_entry node_below inner_at leaf_at inodes_at node_at asks_entry asks_file file_of none_filled word_at half_at byte_at word half zeros all_zero each items all_name name_filled asks_snap snap_of asks_pointer pointer_of
-at_0 = refl
-
-at_1 : stamp_in (pointer_at tree_read 0 1) ≡ find spot_cmp (0, 1) marked
-unfolding records_in file_at spots listed node_for pointers_at pointer_below pointer_at block_at slots along place under snap_at view_at label_place label_in label_at head_of snaps_from entry_from container_entry node_below inner_at leaf_at inodes_at node_at asks_entry asks_file file_of none_filled word_at half_at byte_at word half zeros all_zero each items all_name name_filled asks_snap snap_of asks_pointer pointer_of
-at_1 = refl
-
-at_128 : stamp_in (pointer_at tree_read 0 128) ≡ find spot_cmp (0, 128) marked
-unfolding records_in file_at spots listed node_for pointers_at pointer_below pointer_at block_at slots along place under snap_at view_at label_place label_in label_at head_of snaps_from entry_from container_entry node_below inner_at leaf_at inodes_at node_at asks_entry asks_file file_of none_filled word_at half_at byte_at word half zeros all_zero each items all_name name_filled asks_snap snap_of asks_pointer pointer_of
-at_128 = refl
-
-mark_0 : stamp_in (pointer_at tree_read 1 0) ≡ find spot_cmp (1, 0) marked
-unfolding records_in file_at spots listed node_for pointers_at pointer_below pointer_at block_at slots along place under snap_at view_at label_place label_in label_at head_of snaps_from entry_from container_entry node_below inner_at leaf_at inodes_at node_at asks_entry asks_file file_of none_filled word_at half_at byte_at word half zeros all_zero each items all_name name_filled asks_snap snap_of asks_pointer pointer_of
-mark_0 = refl
-
-mark_1 : stamp_in (pointer_at tree_read 1 1) ≡ find spot_cmp (1, 1) marked
-unfolding records_in file_at spots listed node_for pointers_at pointer_below pointer_at block_at slots along place under snap_at view_at label_place label_in label_at head_of snaps_from entry_from container_entry node_below inner_at leaf_at inodes_at node_at asks_entry asks_file file_of none_filled word_at half_at byte_at word half zeros all_zero each items all_name name_filled asks_snap snap_of asks_pointer pointer_of
-mark_1 = refl
-
-mark_top : stamp_in (pointer_at tree_read 2 0) ≡ find spot_cmp (2, 0) marked
-unfolding records_in file_at spots listed node_for pointers_at pointer_below pointer_at block_at slots along place under snap_at view_at label_place label_in label_at head_of snaps_from entry_from container_entry node_below inner_at leaf_at inodes_at node_at asks_entry asks_file file_of none_filled word_at half_at byte_at word half zeros all_zero each items all_name name_filled asks_snap snap_of asks_pointer pointer_of
-mark_top = refl
-
-stamps_zero : (i : ℕ) → stamp_in (pointer_at tree_read 0 i) ≡ find spot_cmp (0, i) marked
-stamps_zero i = ⊎_elim (λ (e : i ≡ 0). subst (λ (i : ℕ). stamp_in (pointer_at tree_read 0 i) ≡ find spot_cmp (0, i) marked) (sym e) at_0)
-    (λ (a : i ≢ 0). ⊎_elim (λ (e : i ≡ 1). subst (λ (i : ℕ). stamp_in (pointer_at tree_read 0 i) ≡ find spot_cmp (0, i) marked) (sym e) at_1)
-    (λ (b : i ≢ 1). ⊎_elim (λ (e : i ≡ 128). subst (λ (i : ℕ). stamp_in (pointer_at tree_read 0 i) ≡ find spot_cmp (0, i) marked) (sym e) at_128)
-    (λ (c : i ≢ 128). bare 0 i (level_zero i a b c) (apart a b c))
-    (cases_eq i 128)) (cases_eq i 1)) (cases_eq i 0)
-  where
-    apart : i ≢ 0 → i ≢ 1 → i ≢ 128 → list_all (λ e. not ((e.0.0 == 0) && (e.0.1 == i))) marked ≡ true
-    apart a b c =
-        let first : (0 == i) ≡ false = grind (arith, nat_tests) in
-        let second : (1 == i) ≡ false = grind (arith, nat_tests) in
-        let third : (128 == i) ≡ false = grind (arith, nat_tests) in
-        rw (first, second, third) refl
-
-stamps_one : (i : ℕ) → stamp_in (pointer_at tree_read 1 i) ≡ find spot_cmp (1, i) marked
-stamps_one i = ⊎_elim (λ (e : i ≡ 0). subst (λ (i : ℕ). stamp_in (pointer_at tree_read 1 i) ≡ find spot_cmp (1, i) marked) (sym e) mark_0)
-    (λ (a : i ≢ 0). ⊎_elim (λ (e : i ≡ 1). subst (λ (i : ℕ). stamp_in (pointer_at tree_read 1 i) ≡ find spot_cmp (1, i) marked) (sym e) mark_1)
-    (λ (b : i ≢ 1). bare 1 i (level_one i a b) (apart a b))
-    (cases_eq i 1)) (cases_eq i 0)
-  where
-    apart : i ≢ 0 → i ≢ 1 → list_all (λ e. not ((e.0.0 == 1) && (e.0.1 == i))) marked ≡ true
-    apart a b =
-        let first : (0 == i) ≡ false = grind (arith, nat_tests) in
-        let second : (1 == i) ≡ false = grind (arith, nat_tests) in
-        rw (first, second) refl
-
-stamps_two : (i : ℕ) → stamp_in (pointer_at tree_read 2 i) ≡ find spot_cmp (2, i) marked
-stamps_two i = ⊎_elim (λ (e : i ≡ 0). subst (λ (i : ℕ). stamp_in (pointer_at tree_read 2 i) ≡ find spot_cmp (2, i) marked) (sym e) mark_top)
-    (λ (a : i ≢ 0). let first : (0 == i) ≡ false = grind (arith, nat_tests) in bare 2 i (level_two i a) (rw first refl))
-    (cases_eq i 0)
-
-stamps_above : (level i : ℕ) → 2 < level → stamp_in (pointer_at tree_read level i) ≡ find spot_cmp (level, i) marked
-stamps_above level i high =
-    let first : (0 == level) ≡ false = grind (arith, nat_tests, high) in
-    let second : (1 == level) ≡ false = grind (arith, nat_tests, high) in
-    let third : (2 == level) ≡ false = grind (arith, nat_tests, high) in
-    bare level i (ap (λ (p : Pointer). p.stamp) (above tree_read level i high)) (rw (first, second, third) refl)
-
-stamps_are : (level i : ℕ) → stamp_in (pointer_at tree_read level i) ≡ find spot_cmp (level, i) marked
-stamps_are zero i = stamps_zero i
-stamps_are (suc zero) i = stamps_one i
-stamps_are (suc (suc zero)) i = stamps_two i
-stamps_are (suc (suc (suc level))) i = stamps_above (suc (suc (suc level))) i (omega arith)
-
-abbrev tree : Tree
-tree = record { levels = 2; stamps = fin.from_entries marked }
-
-tree_is : tree_told tree_read ≡ tree
-unfolding tree_told
-tree_is = λ i. record { levels = 2; stamps = stamps i }
-  where
-    stamps : (tree_told tree_read).stamps ≡ fin.from_entries {R = spot_cmp} marked
-    stamps = fin.same_map spot_total spot_ties _ _ (λ p. stamps_told tree_read p.0 p.1 ∙ stamps_are p.0 p.1 ∙ sym (fin.get-from_entries spot_total marked p))
-
--- ---- its cells
-
 abbrev written : List (ℕ × List ℕ)
-written = (0, 104 ∷ 105 ∷ zeros 4094) ∷ (1, 1 ∷ zeros 4095) ∷ (128, 1 ∷ zeros 4095) ∷ []
-
-cell_0 : block_at tree_read 0 ≡ find nat_cmp 0 written
-unfolding records_in file_at spots listed node_for pointers_at pointer_below pointer_at block_at slots along place under snap_at view_at label_place label_in label_at head_of snaps_from entry_from container_entry node_below inner_at leaf_at inodes_at node_at asks_entry asks_file file_of none_filled word_at half_at byte_at word half zeros all_zero each items all_name name_filled asks_snap snap_of asks_pointer pointer_of
-cell_0 = refl
-
-cell_1 : block_at tree_read 1 ≡ find nat_cmp 1 written
-unfolding records_in file_at spots listed node_for pointers_at pointer_below pointer_at block_at slots along place under snap_at view_at label_place label_in label_at head_of snaps_from entry_from container_entry node_below inner_at leaf_at inodes_at node_at asks_entry asks_file file_of none_filled word_at half_at byte_at word half zeros all_zero each items all_name name_filled asks_snap snap_of asks_pointer pointer_of
-cell_1 = refl
-
-cell_128 : block_at tree_read 128 ≡ find nat_cmp 128 written
-unfolding records_in file_at spots listed node_for pointers_at pointer_below pointer_at block_at slots along place under snap_at view_at label_place label_in label_at head_of snaps_from entry_from container_entry node_below inner_at leaf_at inodes_at node_at asks_entry asks_file file_of none_filled word_at half_at byte_at word half zeros all_zero each items all_name name_filled asks_snap snap_of asks_pointer pointer_of
-cell_128 = refl
-
-blocks_are : (i : ℕ) → block_at tree_read i ≡ find nat_cmp i written
-blocks_are i = ⊎_elim (λ (e : i ≡ 0). subst (λ (i : ℕ). block_at tree_read i ≡ find nat_cmp i written) (sym e) cell_0)
-    (λ (a : i ≢ 0). ⊎_elim (λ (e : i ≡ 1). subst (λ (i : ℕ). block_at tree_read i ≡ find nat_cmp i written) (sym e) cell_1)
-    (λ (b : i ≢ 1). ⊎_elim (λ (e : i ≡ 128). subst (λ (i : ℕ). block_at tree_read i ≡ find nat_cmp i written) (sym e) cell_128)
-    (λ (c : i ≢ 128). no_block tree_read i (level_zero i a b c) ∙ sym (apart a b c))
-    (cases_eq i 128)) (cases_eq i 1)) (cases_eq i 0)
-  where
-    apart : i ≢ 0 → i ≢ 1 → i ≢ 128 → find nat_cmp i written ≡ None
-    apart a b c =
-        let first : eq_by_cmp nat_cmp i 0 ≡ false = grind (arith, nat_tests) in
-        let second : eq_by_cmp nat_cmp i 1 ≡ false = grind (arith, nat_tests) in
-        let third : eq_by_cmp nat_cmp i 128 ≡ false = grind (arith, nat_tests) in
-        rw (first, second, third) refl
-
-cells_are : cells_told tree_read ≡ fin.from_entries {R = nat_cmp} written
-cells_are = fin.same_map nat_cmp_total fin.nat_cmp-IsAntisymmetric _ _ (λ i. blocks_told tree_read i ∙ blocks_are i ∙ sym (fin.get-from_entries nat_cmp_total written i))
-
--- ---- the machine
+written = (0, hi) ∷ (1, 1 ∷ zeros 4095) ∷ (128, 1 ∷ zeros 4095) ∷ []
 
 abbrev file : File
-file = record { name = 102 ∷ []; length = 129; reserve = 0; blocks = fin.from_entries written; tree = tree }
+file = record { name = 102 ∷ []; length = 129; reserve = 0; blocks = fin.from_entries written; tree = record { levels = 2; stamps = fin.from_entries marked } }
 
-file_is : file_told tree_read record_f ≡ file
+abbrev record_with : Pointer → InodeRecord
+record_with root = record { name_length = 1; name = 102 ∷ replicate 63 0; length = 129; reserve = 0; levels = 2; root = root }
+
+tree_is : tree_told (tree_in levels (known 1 8 4)) ≡ file.tree
+unfolding pointers_compute
+tree_is = deep_tree (under (view_of levels) 0) 0 (known 1 8 4) (known 2 9 3) (known 3 10 4) (known 4 11 2) (known 5 12 3) (known 6 13 4) levels_deep
+
+cells_are : cells_told (tree_in levels (known 1 8 4)) ≡ file.blocks
+unfolding pointers_compute
+cells_are = deep_cells (under (view_of levels) 0) 0 (known 1 8 4) (known 2 9 3) (known 3 10 4) (known 4 11 2) (known 5 12 3) (known 6 13 4) levels_deep
+
+file_is : file_told (tree_in levels (known 1 8 4)) (record_with (known 1 8 4)) ≡ file
 unfolding file_told
 file_is = λ i. record { name = 102 ∷ []; length = 129; reserve = 0; blocks = cells_are i; tree = tree_is i }
 
-abbrev table_of : File → Table
-table_of f = record { files = fin.from_entries ((0, f) ∷ []); inode = record { levels = 0; stamps = fin.from_entries (((0, 0), 4) ∷ []) } }
+abbrev table_with : File → Table
+table_with f = record { files = fin.from_entries ((0, f) ∷ []); inode = one_cell 4 }
 
-table_is : table_told table_read ≡ table_of (file_told tree_read record_f)
-unfolding table_told tree_told file_in records_in file_at spots listed node_for pointers_at pointer_below pointer_at block_at slots along place under snap_at view_at label_place label_in label_at head_of snaps_from entry_from container_entry node_below inner_at leaf_at inodes_at node_at asks_entry asks_file file_of none_filled word_at half_at byte_at word half zeros all_zero each items all_name name_filled asks_snap snap_of asks_pointer pointer_of
-table_is = refl
+table_from : table_told (table_in levels) ≡ table_with (file_told (tree_in levels (known 1 8 4)) (record_with (known 1 8 4)))
+unfolding views_compute tree_told file_in table_told
+table_from = refl
+
+table_is : table_told (table_in levels) ≡ table_with file
+table_is = table_from ∙ ap table_with file_is
 
 abbrev machine_of_table : Table → Machine
-machine_of_table a = record {
-  blocks = 1024;
-  version = 1;
-  volumes = fin.from_entries ((
-    97 ∷ [],
-    record { kind = Whole; size = 100; most = 200; span = 4096; now = 4; active = a; snapshots = fin.from_entries []; base = None; known = true },
-  ) ∷ []);
-}
+machine_of_table a = machine_with ((97 ∷ [], whole 4 a []) ∷ [])
 
-told_is : told levels_view ≡ machine_of_table (table_told table_read)
-unfolding told_with volumes_with volume_with records_in file_at spots listed node_for pointers_at pointer_below pointer_at block_at slots along place under snap_at view_at label_place label_in label_at head_of snaps_from entry_from container_entry node_below inner_at leaf_at inodes_at node_at asks_entry asks_file file_of none_filled word_at half_at byte_at word half zeros all_zero each items all_name name_filled asks_snap snap_of asks_pointer pointer_of
+told_is : told (view_of levels) ≡ machine_of_table (table_told (table_in levels))
+unfolding heads_compute volume_with volumes_with told_with
 told_is = refl
 
--- The image tells the machine of its script.
-pub levels_told : told levels_view ≡ machine_of_table (table_of file)
-levels_told = told_is ∙ ap machine_of_table (table_is ∙ ap table_of file_is)
+-- ---- what is reached
 
--- ---- marks are reached
+inode_items : tree_items hole (table_in levels).inode ≡ inode_item ∷ []
+unfolding views_compute
+inode_items = refl
 
-mark_pointer : pointer_at tree_read 1 0 ≡ known 2 9 3
-unfolding records_in file_at spots listed node_for pointers_at pointer_below pointer_at block_at slots along place under snap_at view_at label_place label_in label_at head_of snaps_from entry_from container_entry node_below inner_at leaf_at inodes_at node_at asks_entry asks_file file_of none_filled word_at half_at byte_at word half zeros all_zero each items all_name name_filled asks_snap snap_of asks_pointer pointer_of
-mark_pointer = refl
+levels_items : table_items (table_in levels) ≡ reached_by (known 1 8 4) (known 2 9 3) (known 3 10 4) (known 4 11 2) (known 5 12 3) (known 6 13 4)
+unfolding pointers_compute table_items
+levels_items =
+    let of_file = deep_items (under (view_of levels) 0) 0 (known 1 8 4) (known 2 9 3) (known 3 10 4) (known 4 11 2) (known 5 12 3) (known 6 13 4) levels_deep (known 0 7 4) in
+    λ i. inode_items i ++ (of_file i ++ [])
 
-inode_pointer : pointer_at table_read.inode 0 0 ≡ known 0 7 4
-unfolding records_in file_at spots listed node_for pointers_at pointer_below pointer_at block_at slots along place under snap_at view_at label_place label_in label_at head_of snaps_from entry_from container_entry node_below inner_at leaf_at inodes_at node_at asks_entry asks_file file_of none_filled word_at half_at byte_at word half zeros all_zero each items all_name name_filled asks_snap snap_of asks_pointer pointer_of
-inode_pointer = refl
+-- Each mark counts as reached, as cells do: the topmost, one below it, and the inode block.
+top_reached : is_listed (table_items (table_in levels)) 1 ≡ true
+top_reached = ap (λ (es : List Item). is_listed es 1) levels_items
 
-some_stamp : (p : Pointer) (vvbn pvbn stamp : ℕ) → p ≡ known vvbn pvbn (suc stamp) → p.stamp ≢ 0
-some_stamp p vvbn pvbn stamp is none = let same : p.stamp ≡ suc stamp = ap (λ (p : Pointer). p.stamp) is in absurd (omega (arith, same, none))
+mark_reached : is_listed (table_items (table_in levels)) 2 ≡ true
+mark_reached = ap (λ (es : List Item). is_listed es 2) levels_items
 
--- Each mark counts as reached, as cells do: the topmost,
-top_reached : is_listed (table_items table_read) 1 ≡ true
-top_reached = subst (λ (p : Pointer). is_listed (table_items table_read) p.vvbn ≡ true) root_pointer (listed_file table_read 0 record_f record_is 2 0 (some_stamp (pointer_at tree_read 2 0) 1 8 3 root_pointer))
+block_reached : is_listed (table_items (table_in levels)) 0 ≡ true
+block_reached = ap (λ (es : List Item). is_listed es 0) levels_items
 
--- one below it,
-mark_reached : is_listed (table_items table_read) 2 ≡ true
-mark_reached = subst (λ (p : Pointer). is_listed (table_items table_read) p.vvbn ≡ true) mark_pointer (listed_file table_read 0 record_f record_is 1 0 (some_stamp (pointer_at tree_read 1 0) 2 9 2 mark_pointer))
+-- ---- what the rules look at
 
--- and so does the inode block.
-block_reached : is_listed (table_items table_read) 0 ≡ true
-block_reached = subst (λ (p : Pointer). is_listed (table_items table_read) p.vvbn ≡ true) inode_pointer (listed_inode table_read 0 0 (some_stamp (pointer_at table_read.inode 0 0) 0 7 3 inode_pointer))
-
--- ---- a mark below its cell
-
--- the image with a stamp of a mark that is less than that of a cell under it
-abbrev lowered : View
-lowered = view_at levels_root (with_block 8 (70 ∷ 86 ∷ 78 ∷ 79 ∷ 68 ∷ 69 ∷ 48 ∷ 48 ∷ (zeros 7 ++ (2 ∷ (zeros 1015 ++ (2 ∷ (zeros 7 ++ (9 ∷ (zeros 7 ++ (2 ∷ (zeros 7 ++ (3 ∷ (zeros 7 ++ (10 ∷ (zeros 7 ++ (4 ∷ zeros 3024))))))))))))))) levels)
-
-abbrev head : Head
-head = record {
-  name = 97 ∷ [];
-  kind = Whole;
-  size = 100;
-  most = 200;
-  span = 4096;
-  now = 4;
-  base = None;
-  known = true;
-  active = record { levels = 0; root = record { vvbn = 0; pvbn = 7; stamp = 4 } };
-  snapshots = [];
+abbrev volume_with_items : Image → List Item → VolumeSeen
+volume_with_items i es = record {
+  head = head;
+  volume = volume_told (view_of i) 0 head;
+  roots = record { map = 0; rooted = head.active; files = records (table_in i); reached = map (reached_at (view_of i) 0) es } ∷ [];
+  base = [];
 }
 
-head_there : lowered.head 0 ≡ Some head
-unfolding records_in file_at spots listed node_for pointers_at pointer_below pointer_at block_at slots along place under snap_at view_at label_place label_in label_at head_of snaps_from entry_from container_entry node_below inner_at leaf_at inodes_at node_at asks_entry asks_file file_of none_filled word_at half_at byte_at word half zeros all_zero each items all_name name_filled asks_snap snap_of asks_pointer pointer_of
-head_there = refl
+abbrev seen_with : Image → List Item → Seen
+seen_with i es = record { blocks = 1024; volume = λ s. if s == 0 then Some (volume_with_items i es) else None }
 
-abbrev table_lowered : Standing
-table_lowered = standing_of lowered 0 head.active
-
-record_there : file_at table_lowered.inode 0 ≡ Some record_f
-unfolding records_in file_at spots listed node_for pointers_at pointer_below pointer_at block_at slots along place under snap_at view_at label_place label_in label_at head_of snaps_from entry_from container_entry node_below inner_at leaf_at inodes_at node_at asks_entry asks_file file_of none_filled word_at half_at byte_at word half zeros all_zero each items all_name name_filled asks_snap snap_of asks_pointer pointer_of
-record_there = refl
-
-abbrev tree_lowered : Rooted
-tree_lowered = stored (under lowered 0) 0 2 record_f.root
-
-low_mark : pointer_at tree_lowered 1 0 ≡ known 2 9 2
-unfolding records_in file_at spots listed node_for pointers_at pointer_below pointer_at block_at slots along place under snap_at view_at label_place label_in label_at head_of snaps_from entry_from container_entry node_below inner_at leaf_at inodes_at node_at asks_entry asks_file file_of none_filled word_at half_at byte_at word half zeros all_zero each items all_name name_filled asks_snap snap_of asks_pointer pointer_of
-low_mark = refl
-
-high_cell : pointer_at tree_lowered 0 1 ≡ known 5 12 3
-unfolding records_in file_at spots listed node_for pointers_at pointer_below pointer_at block_at slots along place under snap_at view_at label_place label_in label_at head_of snaps_from entry_from container_entry node_below inner_at leaf_at inodes_at node_at asks_entry asks_file file_of none_filled word_at half_at byte_at word half zeros all_zero each items all_name name_filled asks_snap snap_of asks_pointer pointer_of
-high_cell = refl
-
--- Rule 10, marks: refused by the law on positions.
-lowered_refused : has_marks_over (seen lowered) ≡ true → ⊥
-unfolding has_marks_over volume_seen root_seen
-lowered_refused passes =
-    let test : Reached → Bool = λ e. not (is_below_mark e.item) || nat_le e.item.pointer.stamp e.item.holder.stamp in
-    let volume = of_volume lowered (λ s v. list_all (λ r. list_all (λ e. not (is_below_mark e.item) || nat_le e.item.pointer.stamp e.item.holder.stamp) r.reached) v.roots) 0 head passes (omega arith) head_there in
-    let root = all_one (λ (r : Root). list_all (λ e. not (is_below_mark e.item) || nat_le e.item.pointer.stamp e.item.holder.stamp) r.reached) (λ (r : ℕ × Named). root_seen lowered 0 r.0 r.1) (roots_of head) (0, head.active) volume (inl refl) in
-    let all = sym (list_all-map (λ (e : Reached). not (is_below_mark e.item) || nat_le e.item.pointer.stamp e.item.holder.stamp) (reached_at lowered 0) (table_items table_lowered)) ∙ root in
-    let at = at_file (λ e. not (is_below_mark e) || nat_le e.pointer.stamp e.holder.stamp) table_lowered all 0 record_f record_there 0 1 (some_stamp (pointer_at tree_lowered 0 1) 5 12 2 high_cell) in
-    wrong (sym (ap (λ (p : Pointer). nat_le p.stamp (pointer_at tree_lowered 1 0).stamp) high_cell ∙ ap (λ (p : Pointer). nat_le 3 p.stamp) low_mark) ∙ at)
+-- no other slot has a label
+no_place : (s : ℕ) → label_place levels_root (suc s) ≡ 0
+unfolding label_place
+no_place s = so (nat_lt (suc s) 64)
   where
-    wrong : false ≡ true → ⊥
-    wrong e = cc
+    so : (inside : Bool) → ◌≡◌ {A = ℕ} (if inside then get_or (18 ∷ replicate 63 0) (suc s) 0 else 0) 0
+    so true = zero_in 63 s
+    so false = refl
+
+no_head : (i : Image) (s : ℕ) → head_at (view_of i) (suc s) ≡ None
+unfolding view_at label_in
+no_head i s = ap (λ (p : ℕ). if nat_lt (suc s) 64 then option_map head_of (label_in (lying_at i p)) else None) (no_place s) ∙ so (nat_lt (suc s) 64)
+  where
+    so : (inside : Bool) → ◌≡◌ {A = Option Head} (if inside then None else None) None
+    so true = refl
+    so false = refl
+
+volume_at : (i : Image) (es : List Item) → (view_of i).head 0 ≡ Some head → table_items (table_in i) ≡ es → (s : ℕ) → option_map (volume_seen (view_of i) s) (head_at (view_of i) s) ≡ (if s == 0 then Some (volume_with_items i es) else None)
+unfolding volume_seen root_seen base_seen
+volume_at i es there are zero = ap (option_map (volume_seen (view_of i) 0)) there ∙ (λ k. Some (volume_with_items i (are k)))
+volume_at i es there are (suc s) =
+    let other : (suc s == 0) ≡ false = grind (arith, nat_tests) in
+    ap (option_map (volume_seen (view_of i) (suc s))) (no_head i s) ∙ sym (ap (λ (b : Bool). if b then Some (volume_with_items i es) else None) other)
+
+seen_is : (i : Image) (es : List Item) → (view_of i).head 0 ≡ Some head → table_items (table_in i) ≡ es → seen (view_of i) ≡ seen_with i es
+unfolding seen view_at
+seen_is i es there are = λ k. record { blocks = 1024; volume = λ s. volume_at i es there are s k }
+
+-- ---- it is sound
+
+head_is : (view_of levels).head 0 ≡ Some head
+unfolding heads_compute
+head_is = refl
+
+abbrev levels_shown : Seen
+levels_shown = seen_with levels (reached_by (known 1 8 4) (known 2 9 3) (known 3 10 4) (known 4 11 2) (known 5 12 3) (known 6 13 4))
+
+-- the file has six ids, and the inode file one
+levels_ids : set.len (ids_of (table_told (table_in levels))) ≤ 7
+levels_ids =
+    let all = ids_of_one file (one_cell 4) in
+    let one = len_within {X = ℕ} spot_total (((0, 0), 4) ∷ []) in
+    let six = len_within {X = ℕ} spot_total marked in
+    let few : set.len (ids_of (table_with file)) ≤ 7 = omega (arith, all, one, six) in
+    subst (λ (t : Table). set.len (ids_of t) ≤ 7) (sym table_is) few
+
+levels_uses : use_of (volume_told (view_of levels) 0 head) ≤ 7
+unfolding volume_with
+levels_uses = use_alone (volume_told (view_of levels) 0 head) 7 refl levels_ids refl
+
+levels_spans : has_wide_spans levels_shown ≡ true
+unfolding rules_compute volume_with has_wide_spans
+levels_spans = and_from _ true (span_is_wide 200 4096 0 (volume_told (view_of levels) 0 head) (volume_told (view_of levels) 0 head) refl no_base (omega arith)) refl
+
+levels_sizes : has_use_in_size levels_shown ≡ true
+unfolding rules_compute has_use_in_size
+levels_sizes = and_from _ true (use_fits (volume_told (view_of levels) 0 head) (volume_told (view_of levels) 0 head) 7 100 refl levels_uses (omega arith)) refl
+
+levels_commits : has_commits_in_capacity levels_shown ≡ true
+unfolding rules_compute space_compute volume_with commits_seen has_commits_in_capacity
+levels_commits = refl
+
+levels_tests : are_tables levels_shown ≡ true
+unfolding rules_compute are_tables
+levels_tests = tables_with levels_shown refl levels_spans levels_sizes levels_commits
+
+levels_tables : are_tables (seen (view_of levels)) ≡ true
+levels_tables = ap are_tables (seen_is levels _ head_is levels_items) ∙ levels_tests
+
+levels_map : has_true_map (layout_at levels_root levels) ≡ true
+unfolding layouts_compute bytes_compute
+levels_map = map_is_true levels_root levels 128 255 7 (18 ∷ 15 ∷ 16 ∷ 17 ∷ 7 ∷ 8 ∷ 9 ∷ 10 ∷ 11 ∷ 12 ∷ 13 ∷ 14 ∷ []) refl refl refl refl
+
+levels_reach : has_maps_of_reach (view_of levels) ≡ true
+unfolding pointers_compute bytes_compute has_maps_of_reach
+levels_reach = and_from _ true (and_from _ true (map_is_reach (view_of levels) 0 head 0 head.active 127 0 0 (0 ∷ 4 ∷ 5 ∷ 6 ∷ 2 ∷ 3 ∷ 1 ∷ []) refl refl refl (λ v. ap (λ (es : List Item). is_listed es v) levels_items)) refl) refl
+
+levels_sound : IsSound (layout_at levels_root levels)
+unfolding soundness_computes
+levels_sound = sound_with (layout_at levels_root levels) refl levels_map levels_tables levels_reach
+
+-- The image is sound, and tells the machine of its script.
+levels_means : Means levels levels_root (machine_of_table (table_with file))
+unfolding roots_compute
+levels_means = record { counts = refl; sound = levels_sound; machine = told_is ∙ ap machine_of_table table_is }
+
+-- ---- changes of one field that a rule refuses, and no rule of an earlier pass
+
+-- Rule 10, marks: one with a stamp below that of a cell under it.
+abbrev lowered : Image
+lowered = with_block 8 (top_node 2) levels
+
+lowered_inode : tree_items hole (table_in lowered).inode ≡ inode_item ∷ []
+unfolding views_compute
+lowered_inode = refl
+
+lowered_items : table_items (table_in lowered) ≡ reached_by (known 1 8 4) (known 2 9 2) (known 3 10 4) (known 4 11 2) (known 5 12 3) (known 6 13 4)
+unfolding pointers_compute table_items
+lowered_items =
+    let deep : IsDeep (tree_in lowered (known 1 8 4)) (known 2 9 2) (known 3 10 4) (known 4 11 2) (known 5 12 3) (known 6 13 4) = record { levels = refl; under_root = refl; under_first = refl; under_second = refl } in
+    let of_file = deep_items (under (view_of lowered) 0) 0 (known 1 8 4) (known 2 9 2) (known 3 10 4) (known 4 11 2) (known 5 12 3) (known 6 13 4) deep (known 0 7 4) in
+    λ i. lowered_inode i ++ (of_file i ++ [])
+
+lowered_test : (first_blocks (layout_at levels_root lowered) && (second_pass (seen_with lowered (reached_by (known 1 8 4) (known 2 9 2) (known 3 10 4) (known 4 11 2) (known 5 12 3) (known 6 13 4))) && not (has_marks_over (seen_with lowered (reached_by (known 1 8 4) (known 2 9 2) (known 3 10 4) (known 4 11 2) (known 5 12 3) (known 6 13 4)))))) ≡ true
+unfolding layouts_compute rules_compute
+lowered_test = refl
+
+lowered_refused : (first_blocks (layout_at levels_root lowered) && (second_pass (seen (view_of lowered)) && not (has_marks_over (seen (view_of lowered))))) ≡ true
+unfolding heads_compute
+lowered_refused = ap (λ (w : Seen). first_blocks (layout_at levels_root lowered) && (second_pass w && not (has_marks_over w))) (seen_is lowered _ refl lowered_items) ∙ lowered_test
+
+-- Rule 10, marks: the topmost with a stamp below that of one under it.
+abbrev low_root : Image
+low_root = with_block 7 (inodes 3) levels
+
+low_root_inode : tree_items hole (table_in low_root).inode ≡ inode_item ∷ []
+unfolding views_compute
+low_root_inode = refl
+
+low_root_items : table_items (table_in low_root) ≡ reached_by (known 1 8 3) (known 2 9 3) (known 3 10 4) (known 4 11 2) (known 5 12 3) (known 6 13 4)
+unfolding pointers_compute table_items
+low_root_items =
+    let deep : IsDeep (tree_in low_root (known 1 8 3)) (known 2 9 3) (known 3 10 4) (known 4 11 2) (known 5 12 3) (known 6 13 4) = record { levels = refl; under_root = refl; under_first = refl; under_second = refl } in
+    let of_file = deep_items (under (view_of low_root) 0) 0 (known 1 8 3) (known 2 9 3) (known 3 10 4) (known 4 11 2) (known 5 12 3) (known 6 13 4) deep (known 0 7 4) in
+    λ i. low_root_inode i ++ (of_file i ++ [])
+
+low_root_test : (first_blocks (layout_at levels_root low_root) && (second_pass (seen_with low_root (reached_by (known 1 8 3) (known 2 9 3) (known 3 10 4) (known 4 11 2) (known 5 12 3) (known 6 13 4))) && not (has_marks_over (seen_with low_root (reached_by (known 1 8 3) (known 2 9 3) (known 3 10 4) (known 4 11 2) (known 5 12 3) (known 6 13 4)))))) ≡ true
+unfolding layouts_compute rules_compute
+low_root_test = refl
+
+low_root_refused : (first_blocks (layout_at levels_root low_root) && (second_pass (seen (view_of low_root)) && not (has_marks_over (seen (view_of low_root))))) ≡ true
+unfolding heads_compute
+low_root_refused = ap (λ (w : Seen). first_blocks (layout_at levels_root low_root) && (second_pass w && not (has_marks_over w))) (seen_is low_root _ refl low_root_items) ∙ low_root_test
+
+-- Rule 12: a known pointer to a node with an unknown one.
+abbrev over_unknown : Image
+over_unknown = with_block 9 (first_node 0) levels
+
+over_unknown_inode : tree_items hole (table_in over_unknown).inode ≡ inode_item ∷ []
+unfolding views_compute
+over_unknown_inode = refl
+
+over_unknown_items : table_items (table_in over_unknown) ≡ reached_by (known 1 8 4) (known 2 9 3) (known 3 10 4) (known 4 0 2) (known 5 12 3) (known 6 13 4)
+unfolding pointers_compute table_items
+over_unknown_items =
+    let deep : IsDeep (tree_in over_unknown (known 1 8 4)) (known 2 9 3) (known 3 10 4) (known 4 0 2) (known 5 12 3) (known 6 13 4) = record { levels = refl; under_root = refl; under_first = refl; under_second = refl } in
+    let of_file = deep_items (under (view_of over_unknown) 0) 0 (known 1 8 4) (known 2 9 3) (known 3 10 4) (known 4 0 2) (known 5 12 3) (known 6 13 4) deep (known 0 7 4) in
+    λ i. over_unknown_inode i ++ (of_file i ++ [])
+
+over_unknown_test : (first_blocks (layout_at levels_root over_unknown) && (third_pass (seen_with over_unknown (reached_by (known 1 8 4) (known 2 9 3) (known 3 10 4) (known 4 0 2) (known 5 12 3) (known 6 13 4))) && not (leads_unknown (seen_with over_unknown (reached_by (known 1 8 4) (known 2 9 3) (known 3 10 4) (known 4 0 2) (known 5 12 3) (known 6 13 4)))))) ≡ true
+unfolding layouts_compute rules_compute
+over_unknown_test = refl
+
+over_unknown_refused : (first_blocks (layout_at levels_root over_unknown) && (third_pass (seen (view_of over_unknown)) && not (leads_unknown (seen (view_of over_unknown))))) ≡ true
+unfolding heads_compute
+over_unknown_refused = ap (λ (w : Seen). first_blocks (layout_at levels_root over_unknown) && (third_pass w && not (leads_unknown w))) (seen_is over_unknown _ refl over_unknown_items) ∙ over_unknown_test

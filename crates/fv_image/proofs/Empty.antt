@@ -10,7 +10,7 @@ use Rattle.fv_image.specs.Maps.{area_bits, map_bit}
 use Rattle.fv_image.specs.Views.{View, slots, own, delayed}
 use Rattle.fv_image.specs.Told.{is_all_plain, volumes, told}
 use Rattle.fv_image.specs.Held.{Layout, layout_at, view_at, label_place, label_lying, label_in, lying_at, node_from, entry_from, held_by, held_by_container, held}
-use Rattle.fv_image.specs.Sound.{IsSound, has_shapes, is_in_range, has_distinct_names, is_in_position, has_true_maps, is_held_once, has_true_map, has_true_kinds, has_true_levels, has_true_labels, is_in_size, is_in_capacity, has_room, committed, overheads}
+use Rattle.fv_image.specs.Sound.{IsSound, has_shapes, is_in_range, has_entries_within, has_distinct_names, is_in_position, has_true_maps, is_held_once, has_true_map, has_true_kinds, has_true_levels, has_true_labels, is_in_size, is_in_capacity, has_room, committed, overheads}
 use Rattle.fv_image.specs.MachineOf.{machine_of, Tells}
 use Rattle.fv_image.proofs.Stands.{machine_stands}
 
@@ -61,10 +61,11 @@ module _ (blocks version : ℕ) (size : 512 ≤ blocks) where
   none_held = refl
 
   empty_is_sound : IsSound (empty_layout blocks version)
-  unfolding has_shapes is_in_range has_distinct_names is_in_position has_true_maps is_held_once has_true_map has_true_kinds has_true_levels has_true_labels is_in_size is_in_capacity has_room committed overheads own delayed slots held held_by held_by_container label_in
+  unfolding has_shapes is_in_range has_entries_within has_distinct_names is_in_position has_true_maps is_held_once has_true_map has_true_kinds has_true_levels has_true_labels is_in_size is_in_capacity has_room committed overheads own delayed slots held held_by held_by_container label_in
   empty_is_sound = record {
     shapes = refl;
     ranges = refl;
+    entries = refl;
     names = refl;
     positions = refl;
     maps = refl;

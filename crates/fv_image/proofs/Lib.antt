@@ -38,7 +38,9 @@ pub mod SameSeen
 pub mod PlainVolumes
 pub mod PlainImages
 pub mod Points
+mod Computing
 mod FileVectors
+mod SmallImages
 mod FileRows
 mod FileFaults
 pub mod Spaced
@@ -49,7 +51,7 @@ pub mod OwnBases
 pub mod LabelNumbers
 pub mod Hints
 mod BlockFaults
-mod OneFile
+mod SoundFiles
 pub mod WellTrees
 pub mod WellNodes
 pub mod WellTables
@@ -57,6 +59,8 @@ pub mod WellRoots
 pub mod WellVolumes
 pub mod WellImages
 pub mod WellLabels
+mod DeepTrees
 mod DeepFiles
 mod SmallTables
-mod OneSnapshot
+mod SpaceFaults
+pub mod ChargeBits

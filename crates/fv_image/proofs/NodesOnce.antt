@@ -1,4 +1,4 @@
--- Distinct positions of a whole tree have distinct blocks, since a node says its level and number.
+-- Each node of a whole tree has its shape. Distinct positions have distinct blocks, since a node says its level and number.
 use Rattle.std.proofs.Common.{◌≡◌, ◌≢◌, ℕ, zero, suc, ◌<◌, ◌≤◌, Bool, true, false, List, refl, sym, ap, subst, ◌∙◌, Result, Ok, Err, arith}
 use Rattle.std.specs.Prelude.{nat_lt, if◌then◌else◌}
 use Rattle.std.proofs.lemmas.Bool.Decides.{nat_tests}
@@ -9,7 +9,7 @@ use Rattle.fv_codec.specs.declared.container.ContainerInner.{ContainerInner}
 use Rattle.fv_codec.specs.Bytes.{word_at}
 use Rattle.fv_codec.specs.Fields.{Verdict, verdict_of, verdicts, reading, in_range, ◌then◌}
 use Rattle.fv_codec.specs.Blocks.{leaf_at, inner_at, leaf_fields, inner_fields}
-use Rattle.fv_image.specs.Containers.{level_width, node_of, judged, leaf_for, inner_for, node_verdict, IsWholeTree}
+use Rattle.fv_image.specs.Containers.{level_width, node_of, node_shape, judged, leaf_for, inner_for, node_verdict, IsShapedTree, IsWholeTree}
 
 -- ---- verdicts
 
@@ -64,6 +64,17 @@ inner_says level number block e =
     let w = well_judged (inner_at block) (λ n. in_range (suc level) (suc level) n.level then in_range number number n.place) e in
     let both = both_fine _ _ w.2 in
     (w.0, w.1, in_one (suc level) w.0.level both.0, in_one number w.0.place both.1)
+
+-- The node of a position has its shape,
+pub has_shape : (level number : ℕ) (block : List ℕ) → node_verdict level number block ≡ Ok tt → node_shape level block ≡ Ok tt
+has_shape zero number block e = ap verdict_of (leaf_says number block e).1
+has_shape (suc level) number block e = ap verdict_of (inner_says level number block e).1
+
+-- and so have all nodes of a whole tree.
+pub shaped_when_whole : (i : Image) (root height entries : ℕ) → IsWholeTree i root height entries → IsShapedTree i root height entries
+shaped_when_whole i root height entries whole = record {
+  nodes = λ level number low within some. has_shape level number (i (node_of i root height level number)) (whole.nodes level number low within some);
+}
 
 not_both : (block : List ℕ) (level number other : ℕ) → node_verdict 0 number block ≡ Ok tt → node_verdict (suc level) other block ≡ Ok tt → ⊥
 not_both block level number other leaf inner =

@@ -136,6 +136,7 @@ module _ (y : Layout) (heads : HasHeads y) (built : is_built y.view ≡ true) wh
           let at = of_each (λ s. label_in (y.label s)) (λ s l. not (l.container == 0) && ((l.height == height_of (entry_count l.span)) && nat_le (l.most + 256) l.span)) s l (and_parts (list_all (is_place y) (held y)) _ is.ranges).1 inside e in
           let root = and_parts (not (l.container == 0)) _ at in
           and_from (not (l.container == 0)) _ root.0 (and_parts (l.height == height_of (entry_count l.span)) _ root.1).0));
+      entries = is.entries;
       positions = is.positions;
       once = is.once;
       map = is.map;
@@ -284,6 +285,7 @@ module _ (y : Layout) (heads : HasHeads y) (built : is_built y.view ≡ true) wh
     plain_sound = record {
       shapes = is.blocks.shapes;
       ranges = ranges_back;
+      entries = is.blocks.entries;
       names = is.names;
       positions = is.blocks.positions;
       maps = clear_back;

@@ -14,7 +14,7 @@ use Rattle.fv_model.specs.Machines.{first_block}
 use Rattle.fv_model.specs.Space.{map_blocks}
 use Rattle.fv_image.specs.Layout.{block_bits}
 use Rattle.fv_image.specs.NewerRoot.{Taken}
-use Rattle.fv_image.specs.Containers.{shaped, level_width, node_of, node_verdict, IsWholeTree}
+use Rattle.fv_image.specs.Containers.{shaped, level_width, node_of, node_verdict, has_none_past, IsWholeTree}
 use Rattle.fv_image.specs.Views.{Placed, Head, head_of, entry_count, vvbns, map_vvbn, block_in, volume_bit}
 use Rattle.fv_image.specs.Held.{Lying, layout_at, view_at, lying_at, label_place, label_lying, label_in, node_from, entry_from, placed, place_lying, place_of, at_positions}
 use Rattle.fv_image.specs.Sound.{is_place, kind_at}
@@ -238,12 +238,22 @@ module _ (t : Taken) (i : Image) (s : ℕ) (l : Label) (place : ℕ → ℕ) (is
         let bit : v % 32768 < block_bits = omega arith in
         and_right (nat_lt v (block_bits * map_blocks l.span)) _ (ap (λ (o : Option Placed). bit_of_bytes (block_in o) (v % 32768)) (map_entry (v / 32768) block) ∙ order.clear (v / 32768) (v % 32768) block bit)
 
-    node_is_fine : (level number : ℕ) (x : Lying) → level ≤ l.height → number < level_width (entry_count l.span) level → (layout_at t i).node s level number ≡ Some x → node_verdict level number x.block ≡ Ok tt
+    -- a node is the block at its place, which isn't 0
+    node_there : (level number : ℕ) (x : Lying) → level ≤ l.height → number < level_width (entry_count l.span) level → (layout_at t i).node s level number ≡ Some x
+        → (node_of i l.container l.height level number ≢ 0) × (x.block ≡ i (node_of i l.container l.height level number))
     unfolding layout_at
+    node_there level number x low within node =
+        lying_is (node_of i l.container l.height level number) x (sym (node_lies i l level number low within) ∙ sym (ap (λ (o : Option Label). node_from o i level number) label_is) ∙ node)
+
+    node_is_fine : (level number : ℕ) (x : Lying) → level ≤ l.height → number < level_width (entry_count l.span) level → (layout_at t i).node s level number ≡ Some x → node_verdict level number x.block ≡ Ok tt
     node_is_fine level number x low within node =
-        let p = node_of i l.container l.height level number in
-        let lies = lying_is p x (sym (node_lies i l level number low within) ∙ sym (ap (λ (o : Option Label). node_from o i level number) label_is) ∙ node) in
+        let lies = node_there level number x low within node in
         subst (λ (block : List ℕ). node_verdict level number block ≡ Ok tt) (sym lies.1) (is.tree.nodes level number low within lies.0)
+
+    node_ends : (level number : ℕ) (x : Lying) → level ≤ l.height → number < level_width (entry_count l.span) level → (layout_at t i).node s level number ≡ Some x → has_none_past (entry_count l.span) level number x.block ≡ true
+    node_ends level number x low within node =
+        let lies = node_there level number x low within node in
+        subst (λ (block : List ℕ). has_none_past (entry_count l.span) level number block ≡ true) (sym lies.1) (is.ends.nodes level number low within lies.0)
 
     allocatable : (b : ℕ) → IsAllocatable t.blocks b → is_place (layout_at t i) b ≡ true
     unfolding layout_at view_at
@@ -269,6 +279,7 @@ module _ (t : Taken) (i : Image) (s : ℕ) (l : Label) (place : ℕ → ℕ) (is
           height = order.height;
           span = order.span;
           nodes = node_is_fine;
+          ends = node_ends;
           clear = map_bit_is_clear;
           kinds = λ k within. ap kind_at (map_entry k within);
           levels = order.levels;

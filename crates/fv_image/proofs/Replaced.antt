@@ -117,6 +117,7 @@ module _ (y z : Layout) (s : ℕ) (r : Replaces y z s) (k : ℕ) (other : k ≢ 
     height = is.height;
     span = is.span;
     nodes = λ level number x low within node. is.nodes level number x low within (sym (r.node k other level number) ∙ node);
+    ends = λ level number x low within node. is.ends level number x low within (sym (r.node k other level number) ∙ node);
     clear = λ v within. same_volume_bit l.span v ∙ is.clear v within;
     kinds = λ j within. ap kind_at (r.entry k other (map_vvbn l.span 0 j)) ∙ is.kinds j within;
     levels = is.levels;

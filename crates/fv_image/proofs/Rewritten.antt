@@ -46,6 +46,7 @@ whole_with_bits bits y s is = record {
       height = is.height;
       span = is.span;
       nodes = is.nodes;
+      ends = is.ends;
       clear = is.clear;
       kinds = is.kinds;
       levels = is.levels;

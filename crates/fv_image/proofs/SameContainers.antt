@@ -1,12 +1,12 @@
 -- Images that agree on the nodes of a container's tree spell the same map.
-use Rattle.std.proofs.Common.{◌≡◌, ◌≢◌, ℕ, zero, suc, ◌-◌, ◌/◌, ◌%◌, ◌<◌, ◌≤◌, List, refl, ap, arith, ⊎_elim}
+use Rattle.std.proofs.Common.{◌≡◌, ◌≢◌, ℕ, zero, suc, ◌-◌, ◌/◌, ◌%◌, ◌<◌, ◌≤◌, List, refl, sym, ap, subst, ◌∙◌, arith, ⊎_elim}
 use Rattle.std.specs.Prelude.{Result, nat_lt, true, false}
 use Rattle.std.proofs.lemmas.Bool.{cases_lt}
 use Rattle.std.proofs.lemmas.Bool.Decides.{nat_tests}
 use Rattle.fv_disk.specs.Shown.{Image}
 use Rattle.fv_codec.specs.declared.shape.Shape.{Shape}
 use Rattle.fv_codec.specs.Blocks.{inner_at, leaf_at}
-use Rattle.fv_image.specs.Containers.{level_width, lying, child_in, entry_in, node_below, container_entry, IsNodePlace}
+use Rattle.fv_image.specs.Containers.{level_width, lying, child_in, entry_in, node_below, node_of, container_entry, has_none_past, HasNonePast, IsNodePlace}
 
 -- the images agree on each node of the tree
 abbrev pub AgreeOnTree : Image → Image → ℕ → ℕ → ℕ → Type 0
@@ -37,6 +37,33 @@ same_node i j root height entries (suc steps) q agree le within =
       place = rw level refl;
       some = some;
     }))))
+
+-- each node lies at the same place
+pub same_place : (i j : Image) (root height entries level number : ℕ) → AgreeOnTree i j root height entries → level ≤ height → number < level_width entries level → node_of j root height level number ≡ node_of i root height level number
+same_place i j root height entries level number agree low within =
+    let back : height - (height - level) ≡ level = omega (arith, low) in
+    same_node i j root height entries (height - level) number agree (omega arith) (subst (λ (k : ℕ). number < level_width entries k) (sym back) within)
+
+-- so what is said of each node stays
+pub nodes_still : (i j : Image) (root height entries : ℕ) (Says : ℕ → ℕ → List ℕ → Type 0) → AgreeOnTree i j root height entries
+    → ((level number : ℕ) → level ≤ height → number < level_width entries level → node_of i root height level number ≢ 0 → Says level number (i (node_of i root height level number)))
+    → (level number : ℕ) → level ≤ height → number < level_width entries level → node_of j root height level number ≢ 0 → Says level number (j (node_of j root height level number))
+nodes_still i j root height entries Says agree each level number low within some =
+    let same : node_of j root height level number ≡ node_of i root height level number = same_place i j root height entries level number agree low within in
+    let there : node_of i root height level number ≢ 0 = λ none. some (same ∙ none) in
+    let block : j (node_of i root height level number) ≡ i (node_of i root height level number) = agree (node_of i root height level number) (record {
+      level = level;
+      number = number;
+      below = low;
+      within = within;
+      place = refl;
+      some = there;
+    }) in
+    subst (λ (b : List ℕ). Says level number b) (sym (ap j same ∙ block)) (each level number low within there)
+
+-- and so does that no node has anything past the entries
+pub ends_still : (i j : Image) (root height entries : ℕ) → AgreeOnTree i j root height entries → HasNonePast i root height entries → HasNonePast j root height entries
+ends_still i j root height entries agree is = record { nodes = nodes_still i j root height entries (λ level number b. has_none_past entries level number b ≡ true) agree is.nodes }
 
 pub same_entries : (i j : Image) (root height entries : ℕ) → AgreeOnTree i j root height entries → (v : ℕ) → container_entry j root height entries v ≡ container_entry i root height entries v
 unfolding container_entry

@@ -16,7 +16,7 @@ use Rattle.fv_image.specs.Maps.{map_bit}
 use Rattle.fv_image.specs.Views.{slots, vvbns, head_of, snaps_from, Head}
 use Rattle.fv_image.specs.Told.{is_all_plain, is_plain, volume_of, volumes, told}
 use Rattle.fv_image.specs.Held.{Layout, label_place, label_in, at_positions, held_by_container, held_by, held, is_held}
-use Rattle.fv_image.specs.Sound.{IsSound, agree, has_shapes, is_in_range, has_distinct_names, is_in_position, is_held_once, has_true_map, has_true_kinds, has_true_levels, has_true_labels, is_in_capacity, has_room, committed, overheads}
+use Rattle.fv_image.specs.Sound.{IsSound, agree, has_shapes, is_in_range, has_entries_within, has_distinct_names, is_in_position, is_held_once, has_true_map, has_true_kinds, has_true_levels, has_true_labels, is_in_capacity, has_room, committed, overheads}
 use Rattle.fv_image.proofs.LoneVolumes.{Given, HasSlot, HasSpan, meant, is_meant, none_own, none_delayed, maps_are_clear, sizes_fit}
 use Rattle.fv_image.proofs.Vectors.{root_of_slot, leaf_16, inner_over, label_of, image_of, name_a, one_volume, three_volumes, super_of, root_with, name_b2, name_c_3, one_root}
 use Rattle.fv_image.specs.Containers.{leaf_for, inner_for}
@@ -143,10 +143,11 @@ module _ (a b c d e f g : List ℕ) where
   spans_one (suc s) = tt
 
   sound_one : (slot generation : ℕ) → IsSound (layout_one slot generation)
-  unfolding has_shapes is_in_range has_distinct_names is_in_position is_held_once has_true_map has_true_kinds has_true_levels has_true_labels is_in_capacity has_room committed overheads overhead nodes_above volume_of slots vvbns head_of snaps_from at_positions label_in label_at leaf_at inner_at leaf_for inner_for asks_entry word_at half_at word half zeros all_zero each items all_name name_filled asks_snap snap_of asks_pointer pointer_of
+  unfolding has_shapes is_in_range has_entries_within has_distinct_names is_in_position is_held_once has_true_map has_true_kinds has_true_levels has_true_labels is_in_capacity has_room committed overheads overhead nodes_above volume_of slots vvbns head_of snaps_from at_positions label_in label_at leaf_at inner_at leaf_for inner_for asks_entry word_at half_at word half zeros all_zero each items all_name name_filled asks_snap snap_of asks_pointer pointer_of
   sound_one slot generation = record {
     shapes = refl;
     ranges = rw (holds_one slot generation) refl;
+    entries = refl;
     names = refl;
     positions = refl;
     maps = maps_are_clear (root_of_slot 1024 slot generation 10 0 0) given_one spans_one one_like bits_one;
@@ -311,10 +312,11 @@ committed_three =
     rw (commit_is first, commit_is second) (refl {a = 220})
 
 sound_three : IsSound layout_three
-unfolding has_shapes is_in_range has_distinct_names is_in_position is_held_once has_true_map has_true_kinds has_true_levels has_true_labels is_in_capacity has_room overheads overhead nodes_above slots vvbns head_of snaps_from at_positions label_in label_at leaf_at inner_at leaf_for inner_for asks_entry word_at half_at word half zeros all_zero each items all_name name_filled asks_snap snap_of asks_pointer pointer_of
+unfolding has_shapes is_in_range has_entries_within has_distinct_names is_in_position is_held_once has_true_map has_true_kinds has_true_levels has_true_labels is_in_capacity has_room overheads overhead nodes_above slots vvbns head_of snaps_from at_positions label_in label_at leaf_at inner_at leaf_for inner_for asks_entry word_at half_at word half zeros all_zero each items all_name name_filled asks_snap snap_of asks_pointer pointer_of
 sound_three = record {
   shapes = refl;
   ranges = rw holds_three refl;
+  entries = refl;
   names = refl;
   positions = refl;
   maps = maps_are_clear root_three given_three spans_three three_volumes bits_three;

@@ -10,7 +10,7 @@ use Rattle.fv_image.specs.Views.{View}
 use Rattle.fv_image.specs.Held.{Layout, layout_at, AgreeOnNamed}
 use Rattle.fv_image.specs.Volumes.{told}
 use Rattle.fv_image.specs.Seen.{Seen, seen}
-use Rattle.fv_image.specs.BlockRules.{has_shapes, are_in_range, is_in_position, is_held_once, has_true_map}
+use Rattle.fv_image.specs.BlockRules.{has_shapes, are_in_range, has_entries_within, is_in_position, is_held_once, has_true_map}
 use Rattle.fv_image.specs.ReachRules.{has_reached_shapes, has_pointers_in_range, has_reached_positions, has_distinct_files, reaches_once, has_maps_of_reach, has_map_blocks, has_map_kinds, has_reached_kinds}
 use Rattle.fv_image.specs.TableRules.{has_one_to_one, has_stamps_past, has_marks_over, has_cells_within, has_levels}
 use Rattle.fv_image.specs.HintRules.{has_true_hints, leads_unknown, has_known_places, has_split_places, leaves_base, rests_on_base}
@@ -26,11 +26,13 @@ unfolding are_blocks
 blocks_from_test y all =
     let p0 = and_parts (has_shapes y) _ all in
     let p1 = and_parts (are_in_range y) _ p0.1 in
-    let p3 = and_parts (is_in_position y) _ p1.1 in
+    let p2 = and_parts (has_entries_within y) _ p1.1 in
+    let p3 = and_parts (is_in_position y) _ p2.1 in
     let p4 = and_parts (is_held_once y) (has_true_map y) p3.1 in
     record {
       shapes = p0.0;
       ranges = p1.0;
+      entries = p2.0;
       positions = p3.0;
       once = p4.0;
       map = p4.1;
@@ -38,7 +40,7 @@ blocks_from_test y all =
 
 pub blocks_to_test : (y : Layout) → AreBlocks y → are_blocks y ≡ true
 unfolding are_blocks
-blocks_to_test y is = and_from (has_shapes y) _ is.shapes (and_from (are_in_range y) _ is.ranges (and_from (is_in_position y) _ is.positions (and_from (is_held_once y) _ is.once (is.map))))
+blocks_to_test y is = and_from (has_shapes y) _ is.shapes (and_from (are_in_range y) _ is.ranges (and_from (has_entries_within y) _ is.entries (and_from (is_in_position y) _ is.positions (and_from (is_held_once y) _ is.once (is.map)))))
 
 pub tables_from_test : (w : Seen) → are_tables w ≡ true → AreTables w
 unfolding are_tables

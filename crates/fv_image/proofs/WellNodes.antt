@@ -1,6 +1,6 @@
 -- The nodes and cells of a tree of which all that it reaches is sound.
-use Rattle.std.proofs.Common.{◌≡◌, ◌≢◌, ℕ, zero, suc, ◌+◌, ◌/◌, ◌<◌, ◌≤◌, Bool, true, false, not, List, [], ◌∷◌, length, refl, sym, ap, ◌∙◌, arith, get_or, Result, Ok, Err}
-use Rattle.std.specs.Prelude.{Option, Some, None, ◌&&◌, ◌||◌, ◌==◌, nat_le, drop, if◌then◌else◌}
+use Rattle.std.proofs.Common.{◌≡◌, ◌≢◌, ℕ, zero, suc, ◌+◌, ◌/◌, ◌<◌, ◌≤◌, Bool, true, false, List, [], ◌∷◌, length, refl, sym, ap, ◌∙◌, arith, get_or, Result, Ok, Err}
+use Rattle.std.specs.Prelude.{Option, Some, None, ◌&&◌, ◌==◌, nat_le, drop, if◌then◌else◌}
 use Rattle.std.specs.Option.{is_some}
 use Rattle.std.specs.FinMap as fin
 use Rattle.std.proofs.lemmas.Bool.Decides.{nat_tests}
@@ -17,13 +17,13 @@ use Rattle.fv_model.specs.Trees.{fan, least_levels}
 use Rattle.fv_laws.specs.WellFormed.{IsTree}
 use Rattle.fv_laws.proofs.Lists.{In}
 use Rattle.fv_laws.proofs.Tables.{key_there, there_key}
-use Rattle.fv_tables.specs.Spelled.{Under, Rooted, hole, positioned, node_for, position, pointers_of, pointers_in, stored, pointers_at, pointer_at, block_at}
+use Rattle.fv_tables.specs.Spelled.{Under, Rooted, hole, pointers_of, pointers_in, stored, pointers_at, pointer_at, block_at}
 use Rattle.fv_tables.specs.Told.{tree_told, cells_told}
-use Rattle.fv_tables.specs.Reached.{Item, item_of}
+use Rattle.fv_tables.specs.Reached.{item_of}
 use Rattle.fv_tables.proofs.Pointers.{no_block}
 use Rattle.fv_tables.proofs.Tables.{blocks_told}
 use Rattle.fv_image.specs.Sound.{is_fine}
-use Rattle.fv_image.specs.ReachRules.{shape_for, node_is, inodes_are, is_of_position}
+use Rattle.fv_image.specs.ReachRules.{shape_for}
 use Rattle.fv_image.specs.TableRules.{are_levels}
 use Rattle.fv_image.proofs.WellTrees.{StandsAt, IsNoded, well_tree}
 
@@ -58,35 +58,29 @@ some_pointer (p ∷ ps) e = so (p.stamp == 0) refl (some_pointer ps) e
     so true test rest e = let one = rest e in let low : one.0 < length ps = one.1.0 in (suc one.0, (omega (arith, low), one.1.1))
     so false test rest e = (0, (omega arith, let some : p.stamp ≢ 0 = grind (arith, nat_tests, test) in some))
 
--- the verdict on a node that has its position
-node_has : (e : Item) (block : List ℕ) → length block ≡ 4096 → is_fine (verdict_of (node_at block)) ≡ true → node_is e (node_at block) ≡ true
-    → (c : ℕ) × ((c < fan) × ((get_or (pointers_in e.owner e.level e.place (Some block)) c hole).stamp ≢ 0))
-unfolding node_for
-node_has e block long shape at = so (node_at block) refl shape at
+-- a node of its shape has a pointer
+node_has : (block : List ℕ) → length block ≡ 4096 → is_fine (verdict_of (node_at block)) ≡ true
+    → (c : ℕ) × ((c < fan) × ((get_or (pointers_in (Some block)) c hole).stamp ≢ 0))
+node_has block long shape = so (node_at block) refl shape
   where
-    fine : (n : Node) (v : Verdict) → is_fine v ≡ true → pointers_of (reading v n) ≡ n.children
-    fine n (Ok f) e = refl
-    fine n (Err f) e = absurd cc
-
-    so : (r : Result Node Shape) → node_at block ≡ r → is_fine (verdict_of r) ≡ true → node_is e r ≡ true → (c : ℕ) × ((c < fan) × ((get_or (pointers_in e.owner e.level e.place (Some block)) c hole).stamp ≢ 0))
-    so (Err f) is shape at = absurd cc
-    so (Ok n) is shape at =
+    so : (r : Result Node Shape) → node_at block ≡ r → is_fine (verdict_of r) ≡ true → (c : ℕ) × ((c < fan) × ((get_or (pointers_in (Some block)) c hole).stamp ≢ 0))
+    so (Err f) is shape = absurd cc
+    so (Ok n) is shape =
         let node : IsNode n = node_in_range block (Ok n) long (sym is) in
         let one = some_pointer n.children node.some in
         let children = children_of block n is in
         let low : one.0 < length n.children = one.1.0 in
-        let same : pointers_of (node_for e.owner e.level e.place block) ≡ n.children = ap (λ (r : Result Node Shape). pointers_of (positioned e.owner e.level e.place r)) is ∙ fine n (position e.owner e.level e.place n) at in
+        let same : pointers_of (node_at block) ≡ n.children = ap pointers_of is in
         (one.0, (omega (arith, low, children), λ none. one.1.1 (sym (ap (λ (ps : List Pointer). (get_or ps one.0 hole).stamp) same) ∙ none)))
 
 -- ---- a tree of which all that it reaches is sound
 
--- the block of a position, of its shape and place
+-- the block of a position, of its shape
 pub record HasBlock (top : Pointer) (t : Rooted) (level place : ℕ) : Type 0 where
   pub block : List ℕ
   pub there : t.under (pointer_at t level place).vvbn ≡ Some block
   pub long : length block ≡ 4096
   pub shape : is_fine (shape_for (item_of top t level place) block) ≡ true
-  pub position : is_of_position (item_of top t level place) block ≡ true
 
 pub record IsSoundTree (now reserve : ℕ) (top : Pointer) (t : Rooted) : Type 0 where
   pub blocks : (level place : ℕ) → StandsAt t level place → HasBlock top t level place
@@ -109,14 +103,12 @@ noded now reserve top under owner levels root is = record {
   some = λ level place low some.
       let t : Rooted = stored under owner levels root in
       let b : HasBlock top t (level + 1) place = is.blocks (level + 1) place some in
-      let e : Item = item_of top t (level + 1) place in
       let above : (level + 1 == 0) ≡ false = grind (arith, nat_tests) in
       let shape : is_fine (verdict_of (node_at b.block)) ≡ true = sym (ap (λ (z : Bool). is_fine (if z then (if owner == greatest_word then verdict_of (inodes_at b.block) else Ok tt) else verdict_of (node_at b.block))) above) ∙ b.shape in
-      let at : node_is e (node_at b.block) ≡ true = sym (ap (λ (z : Bool). if z then (not (owner == greatest_word) || inodes_are e (inodes_at b.block)) else node_is e (node_at b.block)) above) ∙ b.position in
-      let one = node_has e b.block b.long shape at in
+      let one = node_has b.block b.long shape in
       let stands : ((pointer_at t (level + 1) place).stamp == 0) ≡ false = grind (arith, nat_tests, some) in
-      let same : pointers_at t (level + 1) place (pointer_at t (level + 1) place) ≡ pointers_in owner (level + 1) place (Some b.block) =
-      ap (λ (z : Bool). if z then [] else pointers_in owner (level + 1) place (under (pointer_at t (level + 1) place).vvbn)) stands ∙ ap (pointers_in owner (level + 1) place) b.there in
+      let same : pointers_at t (level + 1) place (pointer_at t (level + 1) place) ≡ pointers_in (Some b.block) =
+      ap (λ (z : Bool). if z then [] else pointers_in (under (pointer_at t (level + 1) place).vvbn)) stands ∙ ap pointers_in b.there in
       (one.0, (one.1.0, λ none. one.1.1 (sym (ap (λ (ps : List Pointer). (get_or ps one.0 hole).stamp) same) ∙ none)));
   stamps = is.stamps;
   marks = is.marks;

@@ -22,7 +22,7 @@ use Rattle.fv_image.specs.Chains.{along, place, under, parent_in, span_at}
 use Rattle.fv_image.specs.Volumes.{standing_of, table_at}
 use Rattle.fv_image.specs.Seen.{Reached, Root, VolumeSeen, reached_at, root_seen, roots_of, volume_seen, seen}
 use Rattle.fv_image.specs.Sound.{is_fine}
-use Rattle.fv_image.specs.ReachRules.{all_roots, shape_for, block_is, has_reached_shapes, is_of_position, has_reached_positions, are_distinct, has_distinct_files, reaches_once, is_same_position}
+use Rattle.fv_image.specs.ReachRules.{all_roots, shape_for, block_is, has_reached_shapes, are_distinct, has_distinct_files, reaches_once, is_same_position}
 use Rattle.fv_image.specs.TableRules.{is_below_mark, has_marks_over, is_cell_of, has_cells_within, are_levels, has_levels}
 use Rattle.fv_image.specs.Soundness.{AreTables}
 use Rattle.fv_image.proofs.SameSeen.{of_volume}
@@ -76,7 +76,6 @@ module _ (w : View) (whole : HasWholeBlocks w) (s now : ℕ) (r : Rooted) where
   -- what is asked of all that a root reaches
   pub record AreReached : Type 0 where
     pub shapes : list_all (λ e. block_is (λ block. is_fine (shape_for e block)) (place w s e.pointer.vvbn)) (items (standing_of w s r)) ≡ true
-    pub positions : list_all (λ e. block_is (is_of_position e) (place w s e.pointer.vvbn)) (items (standing_of w s r)) ≡ true
     pub there : list_all (λ e. is_some (place w s e.pointer.vvbn)) (items (standing_of w s r)) ≡ true
     pub stamps : list_all (λ e. nat_le e.pointer.stamp now) (items (standing_of w s r)) ≡ true
     pub marks : list_all (λ e. not (is_below_mark e) || nat_le e.pointer.stamp e.holder.stamp) (items (standing_of w s r)) ≡ true
@@ -90,18 +89,15 @@ module _ (w : View) (whole : HasWholeBlocks w) (s now : ℕ) (r : Rooted) where
         by (place w s e.pointer.vvbn) refl
         (each (λ e. is_some (place w s e.pointer.vvbn)) are.there level q some)
         (each (λ e. block_is (λ block. is_fine (shape_for e block)) (place w s e.pointer.vvbn)) are.shapes level q some)
-        (each (λ e. block_is (is_of_position e) (place w s e.pointer.vvbn)) are.positions level q some)
       where
         by : (o : Option Placed) → place w s (pointer_at (stored (under w s) owner levels root) level q).vvbn ≡ o → is_some o ≡ true
-            → block_is (λ block. is_fine (shape_for (item_of top (stored (under w s) owner levels root) level q) block)) o ≡ true
-            → block_is (is_of_position (item_of top (stored (under w s) owner levels root) level q)) o ≡ true → HasBlock top (stored (under w s) owner levels root) level q
-        by None is there shape at = absurd cc
-        by (Some p) is there shape at = record {
+            → block_is (λ block. is_fine (shape_for (item_of top (stored (under w s) owner levels root) level q) block)) o ≡ true → HasBlock top (stored (under w s) owner levels root) level q
+        by None is there shape = absurd cc
+        by (Some p) is there shape = record {
           block = p.block;
           there = ap (option_map (λ (p : Placed). p.block)) is;
           long = place_whole w whole s _ p is;
           shape = shape;
-          position = at;
         }
 
     pub sound_tree : IsSoundTree now reserve top (stored (under w s) owner levels root)
@@ -134,10 +130,9 @@ module _ (w : View) (tables : AreTables (seen w)) (whole : HasWholeBlocks w) (s 
   of_reached test all = sym (list_all-map test (reached_at w s) (items (standing_of w s r.1))) ∙ of_root (λ x r. list_all test r.reached) all
 
   reached_with : (now : ℕ) → list_all (λ e. nat_le e.pointer.stamp now) (items (standing_of w s r.1)) ≡ true → AreReached w whole s now r.1
-  unfolding has_reached_shapes has_reached_positions reaches_once has_marks_over root_seen
+  unfolding has_reached_shapes reaches_once has_marks_over root_seen
   reached_with now stamps = record {
     shapes = of_reached (λ e. block_is (λ block. is_fine (shape_for e.item block)) e.at) tables.shapes;
-    positions = of_reached (λ e. block_is (is_of_position e.item) e.at) tables.positions;
     there = once;
     stamps = stamps;
     marks = of_reached (λ e. not (is_below_mark e.item) || nat_le e.item.pointer.stamp e.item.holder.stamp) tables.marks;

@@ -12,11 +12,11 @@ use Rattle.fv_codec.specs.Fields.{Verdict, verdict_of, in_range, ◌then◌}
 use Rattle.fv_codec.specs.Blocks.{label_at, leaf_at, inner_at}
 use Rattle.fv_model.specs.Space.{map_blocks, use_of}
 use Rattle.fv_image.specs.Layout.{block_bits}
-use Rattle.fv_image.specs.Containers.{shaped, level_width, height_of, judged, leaf_for, inner_for, node_verdict}
+use Rattle.fv_image.specs.Containers.{shaped, level_width, height_of, judged, leaf_for, inner_for, node_verdict, has_none_past}
 use Rattle.fv_image.specs.Views.{Head, head_of, slots, entry_count, map_vvbn, volume_bit}
 use Rattle.fv_image.specs.Told.{volume_of}
 use Rattle.fv_image.specs.Held.{Lying, Layout, label_in, at_positions, held_by, held}
-use Rattle.fv_image.specs.Sound.{IsSound, has_shapes, is_in_range, is_in_position, has_true_maps, is_held_once, has_true_map, has_true_kinds, has_true_levels, has_true_labels, is_in_size, has_distinct_names, is_in_capacity, has_room, is_fine, is_place, kind_at, is_unknown, pointers_of, all_lying, all_labels, all_nodes, all_heads, has_node_shape}
+use Rattle.fv_image.specs.Sound.{IsSound, has_shapes, is_in_range, has_entries_within, is_in_position, has_true_maps, is_held_once, has_true_map, has_true_kinds, has_true_levels, has_true_labels, is_in_size, has_distinct_names, is_in_capacity, has_room, is_fine, is_place, kind_at, is_unknown, pointers_of, all_lying, all_labels, all_nodes, all_heads, has_node_shape}
 use Rattle.fv_image.specs.Whole.{IsWhole, IsWholeVolume, IsWholeSlot, is_held_by}
 use Rattle.fv_image.proofs.Kept.{at_number}
 use Rattle.fv_image.proofs.Named.{slot_in}
@@ -114,18 +114,18 @@ module _ (y : Layout) (heads : HasHeads y) (each : (s : ℕ) → s < 64 → IsWh
       (λ (v : (l : Label) × (label_in (y.label s) ≡ Some l) × IsWholeVolume y s l). ap (λ (o : Option Head). option_map_or (test s) o true) (heads.heads s ∙ ap (option_map head_of) v.1) ∙ holds s v.0 v.2)
       (labelled y s (each s (omega (arith, high))) (y.label s) refl))
 
-  of_nodes : (test : ℕ → ℕ → Lying → Bool) → ((level number : ℕ) (x : Lying) → node_verdict level number x.block ≡ Ok tt → test level number x ≡ true) → (s : ℕ) (l : Label) → IsWholeVolume y s l → all_nodes y s l test ≡ true
-  of_nodes test holds s l is = all_positions l (λ level number. option_map_or (test level number) (y.node s level number) true) (λ level number low within. so level number low within (y.node s level number) refl)
+  of_nodes : (s : ℕ) (l : Label) (test : ℕ → ℕ → Lying → Bool) → ((level number : ℕ) (x : Lying) → level ≤ l.height → number < level_width (entry_count l.span) level → y.node s level number ≡ Some x → test level number x ≡ true) → all_nodes y s l test ≡ true
+  of_nodes s l test holds = all_positions l (λ level number. option_map_or (test level number) (y.node s level number) true) (λ level number low within. so level number low within (y.node s level number) refl)
     where
       so : (level number : ℕ) → level ≤ l.height → number < level_width (entry_count l.span) level → (o : Option Lying) → y.node s level number ≡ o → option_map_or (test level number) o true ≡ true
       so level number low within None e = refl
-      so level number low within (Some x) e = holds level number x (is.nodes level number x low within e)
+      so level number low within (Some x) e = holds level number x low within e
 
   shapes_hold : has_shapes y ≡ true
   unfolding has_shapes slots
   shapes_hold = and_from _ _
       (all_between (λ s. option_map_or (λ x. is_some (shaped (label_at x.block))) (y.label s) true) 0 64 (λ s low high. shaped_label s (each s (omega (arith, high))) (y.label s) refl))
-      (of_labels _ (λ s l is. of_nodes (λ level number x. has_node_shape level x.block) (λ level number x fine. node_shape level number x.block fine) s l is))
+      (of_labels _ (λ s l is. of_nodes s l (λ level number x. has_node_shape level x.block) (λ level number x low within e. node_shape level number x.block (is.nodes level number x low within e))))
     where
       shaped_label : (s : ℕ) → IsWholeSlot y s → (o : Option Lying) → y.label s ≡ o → option_map_or (λ x. is_some (shaped (label_at x.block))) o true ≡ true
       shaped_label s is None lies = refl
@@ -139,7 +139,11 @@ module _ (y : Layout) (heads : HasHeads y) (each : (s : ℕ) → s < 64 → IsWh
 
   positions_hold : is_in_position y ≡ true
   unfolding is_in_position
-  positions_hold = of_labels _ (λ s l is. of_nodes (λ level number x. is_fine (node_verdict level number x.block)) (λ level number x fine. fine_from _ fine) s l is)
+  positions_hold = of_labels _ (λ s l is. of_nodes s l (λ level number x. is_fine (node_verdict level number x.block)) (λ level number x low within e. fine_from _ (is.nodes level number x low within e)))
+
+  entries_hold : has_entries_within y ≡ true
+  unfolding has_entries_within
+  entries_hold = of_labels _ (λ s l is. of_nodes s l (λ level number x. has_none_past (entry_count l.span) level number x.block) is.ends)
 
   maps_hold : has_true_maps y ≡ true
   unfolding has_true_maps head_of
@@ -166,6 +170,7 @@ module _ (y : Layout) (heads : HasHeads y) (each : (s : ℕ) → s < 64 → IsWh
   from_slots once map = record {
     shapes = shapes_hold;
     ranges = ranges_hold;
+    entries = entries_hold;
     positions = positions_hold;
     maps = maps_hold;
     once = once;
@@ -214,6 +219,14 @@ module _ (y : Layout) (is : IsWhole y) (heads : HasHeads y) (s : ℕ) (inside : 
         let one = of_position l (λ k n. option_map_or (test k n) (y.node s k n) true) level number all low within in
         fine_is _ (subst (λ (o : Option Lying). option_map_or (test level number) o true ≡ true) node one)
 
+    node_ends : (level number : ℕ) (x : Lying) → level ≤ l.height → number < level_width (entry_count l.span) level → y.node s level number ≡ Some x → has_none_past (entry_count l.span) level number x.block ≡ true
+    unfolding has_entries_within
+    node_ends level number x low within node =
+        let test : ℕ → ℕ → ℕ → Lying → Bool = λ n k q x. has_none_past n k q x.block in
+        let all = label_test (λ s l. all_nodes y s l (test (entry_count l.span))) is.entries in
+        let one = of_position l (λ k q. option_map_or (test (entry_count l.span) k q) (y.node s k q) true) level number all low within in
+        subst (λ (o : Option Lying). option_map_or (test (entry_count l.span) level number) o true ≡ true) node one
+
     map_clear : (v : ℕ) → v < block_bits * map_blocks l.span → volume_bit y.view s l.span 0 v ≡ false
     unfolding has_true_maps head_of
     map_clear v within =
@@ -243,6 +256,7 @@ module _ (y : Layout) (is : IsWhole y) (heads : HasHeads y) (s : ℕ) (inside : 
           height = is_same l.height (height_of (entry_count l.span)) sizes.0;
           span = is_within (l.most + 256) l.span sizes.1;
           nodes = node_fine;
+          ends = node_ends;
           clear = map_clear;
           kinds = map_kinds;
           levels = no_levels;
@@ -267,6 +281,7 @@ pub whole_of_sound : (y : Layout) → IsSound y → IsWhole y
 whole_of_sound y is = record {
   shapes = is.shapes;
   ranges = is.ranges;
+  entries = is.entries;
   positions = is.positions;
   maps = is.maps;
   once = is.once;
@@ -282,6 +297,7 @@ pub sound_from_whole : (y : Layout) → IsWhole y → has_distinct_names y ≡ t
 sound_from_whole y is names commits room = record {
   shapes = is.shapes;
   ranges = is.ranges;
+  entries = is.entries;
   names = names;
   positions = is.positions;
   maps = is.maps;

@@ -1,7 +1,8 @@
 -- The map that a container's tree on the disk spells. A tree is named by the place of its root, its height,
 -- which counts the levels of inner nodes, and its number of entries. Leaves are level 0, the root has the
 -- height as its level, and the nodes of a level are numbered from 0.
-use Rattle.std.specs.Prelude.{◌≡◌, ◌≢◌, ◌<◌, ◌≤◌, ◌-◌, ◌/◌, ◌%◌, ℕ, zero, suc, max, List, Option, Some, None, Result, Ok, Err, get_or, nat_lt, nat_le, ◌==◌, if◌then◌else◌}
+use Rattle.std.specs.Prelude.{◌≡◌, ◌≢◌, ◌<◌, ◌≤◌, ◌+◌, ◌-◌, ◌*◌, ◌/◌, ◌%◌, ℕ, zero, suc, max, Bool, true, ◌||◌, List, Option, Some, None, Result, Ok, Err, get_or, nat_lt, nat_le, ◌==◌, if◌then◌else◌}
+use Rattle.std.specs.List.{list_all, range_with_len}
 use Rattle.fv_disk.specs.Shown.{Image}
 use Rattle.fv_model.specs.Numbers.{ceil_div}
 use Rattle.fv_codec.specs.declared.shape.Shape.{Shape}
@@ -72,6 +73,11 @@ pub record IsNodePlace (i : Image) (root height entries b : ℕ) : Type 0 where
   pub place : b ≡ node_of i root height level number
   pub some : b ≢ 0
 
+-- the verdict on a block as a node by its shape alone, a leaf's at level 0 and an inner node's above, whatever position it names
+abbrev pub node_shape : ℕ → List ℕ → Verdict
+node_shape zero block = verdict_of (leaf_at block)
+node_shape (suc level) block = verdict_of (inner_at block)
+
 -- what a block says as the leaf of this index, or as the inner node of this level and number
 abbrev pub judged : {X : Type 0} → Result X Shape → (X → Verdict) → Result X Shape
 judged (Err fault) asks = Err fault
@@ -88,12 +94,31 @@ abbrev pub node_verdict : ℕ → ℕ → List ℕ → Verdict
 node_verdict zero number block = verdict_of (leaf_for number block)
 node_verdict (suc level) number block = verdict_of (inner_for (suc level) number block)
 
+-- each node that isn't absent has its shape. A node is taken by where the pointer led, so the tree spells its entries all the same
+-- where one names another position.
+pub record IsShapedTree (i : Image) (root height entries : ℕ) : Type 0 where
+  pub nodes : (level number : ℕ) → level ≤ height → number < level_width entries level → node_of i root height level number ≢ 0
+      → node_shape level (i (node_of i root height level number)) ≡ Ok tt
+
 -- each node that isn't absent is the one of its position
 pub record IsWholeTree (i : Image) (root height entries : ℕ) : Type 0 where
   pub nodes : (level number : ℕ) → level ≤ height → number < level_width entries level → node_of i root height level number ≢ 0
       → node_verdict level number (i (node_of i root height level number)) ≡ Ok tt
 
--- a node that isn't the one of its position: its place, and the wanted and the found number
+-- what a block has, as the node of this level and number, past so many entries: a leaf holes, and an inner node no child of which all
+-- leaves lie there; a block without its shape has nothing
+abbrev pub has_none_past : ℕ → ℕ → ℕ → List ℕ → Bool
+has_none_past entries zero number block =
+    list_all (λ c. nat_lt (number * fan + c) entries || ((entry_in (shaped (leaf_at block)) c).1 == 0)) (range_with_len 0 fan)
+has_none_past entries (suc level) number block =
+    list_all (λ c. nat_lt (number * fan + c) (level_width entries level) || (child_in (shaped (inner_at block)) c == 0)) (range_with_len 0 fan)
+
+-- no node of a tree has anything past its entries
+pub record HasNonePast (i : Image) (root height entries : ℕ) : Type 0 where
+  pub nodes : (level number : ℕ) → level ≤ height → number < level_width entries level → node_of i root height level number ≢ 0
+      → has_none_past entries level number (i (node_of i root height level number)) ≡ true
+
+-- a node without its shape: its place, and the wanted and the found number
 pub record IsNodeFault (i : Image) (root height entries at want found : ℕ) : Type 0 where
   pub node : IsNodePlace i root height entries at
-  pub fault : node_verdict node.level node.number (i at) ≡ Err (record { want = want; found = found })
+  pub fault : node_shape node.level (i at) ≡ Err (record { want = want; found = found })

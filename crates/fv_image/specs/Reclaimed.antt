@@ -10,7 +10,7 @@ use Rattle.fv_model.specs.Machines.{first_block}
 use Rattle.fv_model.specs.Space.{map_blocks}
 use Rattle.fv_image.specs.Layout.{block_bits}
 use Rattle.fv_image.specs.NewerRoot.{Taken}
-use Rattle.fv_image.specs.Containers.{height_of, container_entry, IsNodePlace, IsWholeTree}
+use Rattle.fv_image.specs.Containers.{height_of, container_entry, HasNonePast, IsNodePlace, IsWholeTree}
 use Rattle.fv_image.specs.Views.{Head, View, head_of, entry_count, is_active_map}
 use Rattle.fv_image.specs.Held.{label_place, layout_at}
 use Rattle.fv_image.specs.Sound.{is_unknown, pointers_of}
@@ -53,12 +53,13 @@ IsReclaimedPlace t i s l place b = (b ≡ label_place t s) ⊎ (IsNodeOf i l b �
 abbrev pub HasMapsAlone : View → ℕ → Type 0
 HasMapsAlone w s = (h : Head) → w.head s ≡ Some h → (v : ℕ) → is_active_map h v ≡ false → w.entry s v ≡ None
 
--- The label of a slot says this, the tree that it names is whole, and that holds the blocks of the active map, at these places, and
--- nothing else.
+-- The label of a slot says this, the tree that it names is whole and has nothing past its entries, and that holds the blocks of the
+-- active map, at these places, and nothing else.
 pub record IsReclaimed (t : Taken) (i : Image) (s : ℕ) (l : Label) (place : ℕ → ℕ) : Type 0 where
   pub some : label_place t s ≢ 0
   pub label : label_at (i (label_place t s)) ≡ Ok l
   pub tree : IsWholeTree i l.container l.height (entry_count l.span)
+  pub ends : HasNonePast i l.container l.height (entry_count l.span)
   pub maps : (k : ℕ) → k < map_blocks l.span → entry_at i l (l.span + k) ≡ (place k, 8)
   pub below : (v : ℕ) → v < l.span → entry_at i l v ≡ (0, 0)
   pub above : (v : ℕ) → l.span + map_blocks l.span ≤ v → entry_at i l v ≡ (0, 0)

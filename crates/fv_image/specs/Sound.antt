@@ -13,7 +13,7 @@ use Rattle.fv_model.specs.Machines.{first_block, capacity}
 use Rattle.fv_model.specs.Space.{map_blocks, overhead, use_of, commit}
 use Rattle.fv_image.specs.Layout.{block_bits}
 use Rattle.fv_image.specs.Maps.{area_bits}
-use Rattle.fv_image.specs.Containers.{shaped, height_of, node_verdict}
+use Rattle.fv_image.specs.Containers.{shaped, height_of, node_verdict, has_none_past}
 use Rattle.fv_image.specs.Views.{Placed, Head, View, slots, entry_count, map_vvbn, volume_bit, sum_of_heads, delayed, own}
 use Rattle.fv_image.specs.Told.{volume_of}
 use Rattle.fv_image.specs.Held.{Lying, Layout, label_in, at_positions, held, is_held}
@@ -63,6 +63,10 @@ has_shapes y =
 unfoldable pub is_in_range : Layout → Bool
 is_in_range y = list_all (is_place y) (held y) && all_labels y (λ s l.
     not (l.container == 0) && ((l.height == height_of (entry_count l.span)) && nat_le (l.most + 256) l.span))
+
+-- Entries: no container has an entry that isn't a hole at or past the count of its entries, nor a node that would hold such.
+unfoldable pub has_entries_within : Layout → Bool
+has_entries_within y = all_labels y (λ s l. all_nodes y s l (λ level number x. has_none_past (entry_count l.span) level number x.block))
 
 -- whether the heads of two slots have one name
 abbrev pub share_name : Option Head → Option Head → Bool
@@ -149,6 +153,7 @@ has_room y = leaves_room y.view 0
 pub record IsSound (y : Layout) : Type 0 where
   pub shapes : has_shapes y ≡ true
   pub ranges : is_in_range y ≡ true
+  pub entries : has_entries_within y ≡ true
   pub names : has_distinct_names y ≡ true
   pub positions : is_in_position y ≡ true
   pub maps : has_true_maps y ≡ true
@@ -164,5 +169,5 @@ pub record IsSound (y : Layout) : Type 0 where
 -- the same, as a test
 unfoldable pub is_sound : Layout → Bool
 is_sound y =
-    has_shapes y && (is_in_range y && (has_distinct_names y && (is_in_position y && (has_true_maps y && (is_held_once y && (has_true_map y
-    && (has_true_kinds y && (has_true_levels y && (has_true_labels y && (is_in_size y && (is_in_capacity y && has_room y)))))))))))
+    has_shapes y && (is_in_range y && (has_entries_within y && (has_distinct_names y && (is_in_position y && (has_true_maps y && (is_held_once y
+    && (has_true_map y && (has_true_kinds y && (has_true_levels y && (has_true_labels y && (is_in_size y && (is_in_capacity y && has_room y))))))))))))

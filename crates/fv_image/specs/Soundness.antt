@@ -4,7 +4,7 @@
 -- | Rule | Tests |
 -- |---|---|
 -- | 1 shapes | `has_shapes` (BlockRules), `has_reached_shapes` (ReachRules) |
--- | 2 ranges | `are_in_range` (BlockRules; `has_entries_within` isn't asked yet), `has_map_blocks`, `has_pointers_in_range` (ReachRules), `has_wide_spans` (VolumeRules) |
+-- | 2 ranges | `are_in_range`, `has_entries_within` (BlockRules), `has_map_blocks`, `has_pointers_in_range` (ReachRules), `has_wide_spans` (VolumeRules) |
 -- | 3 bases | `has_bases` (VolumeRules) |
 -- | 4 names and positions | `has_distinct_names`, `has_distinct_snapshots` (VolumeRules), `is_in_position` (BlockRules), `has_distinct_files`, `has_reached_positions` (ReachRules) |
 -- | 5 reach | `reaches_once` (ReachRules) |
@@ -21,7 +21,7 @@ use Rattle.std.specs.Prelude.{◌≡◌, Bool, true, ◌&&◌}
 use Rattle.fv_image.specs.Views.{View}
 use Rattle.fv_image.specs.Held.{Layout}
 use Rattle.fv_image.specs.Seen.{Seen, seen}
-use Rattle.fv_image.specs.BlockRules.{has_shapes, are_in_range, is_in_position, is_held_once, has_true_map}
+use Rattle.fv_image.specs.BlockRules.{has_shapes, are_in_range, has_entries_within, is_in_position, is_held_once, has_true_map}
 use Rattle.fv_image.specs.ReachRules.{has_reached_shapes, has_pointers_in_range, has_reached_positions, has_distinct_files, reaches_once, has_maps_of_reach, has_map_blocks, has_map_kinds, has_reached_kinds}
 use Rattle.fv_image.specs.TableRules.{has_one_to_one, has_stamps_past, has_marks_over, has_cells_within, has_levels}
 use Rattle.fv_image.specs.HintRules.{has_true_hints, leads_unknown, has_known_places, has_split_places, leaves_base, rests_on_base}
@@ -31,6 +31,7 @@ use Rattle.fv_image.specs.VolumeRules.{has_wide_spans, has_bases, has_distinct_n
 pub record AreBlocks (y : Layout) : Type 0 where
   pub shapes : has_shapes y ≡ true
   pub ranges : are_in_range y ≡ true
+  pub entries : has_entries_within y ≡ true
   pub positions : is_in_position y ≡ true
   pub once : is_held_once y ≡ true
   pub map : has_true_map y ≡ true
@@ -77,7 +78,7 @@ pub record IsSound (y : Layout) : Type 0 where
 -- ---- the same, as tests
 
 unfoldable pub are_blocks : Layout → Bool
-are_blocks y = has_shapes y && (are_in_range y && (is_in_position y && (is_held_once y && has_true_map y)))
+are_blocks y = has_shapes y && (are_in_range y && (has_entries_within y && (is_in_position y && (is_held_once y && has_true_map y))))
 
 unfoldable pub are_tables : Seen → Bool
 are_tables w =

@@ -6,15 +6,16 @@ use Rattle.fv_codec.specs.declared.label.Label.{Label}
 use Rattle.fv_codec.specs.Blocks.{label_at}
 use Rattle.fv_model.specs.Space.{map_blocks}
 use Rattle.fv_image.specs.Layout.{block_bits}
-use Rattle.fv_image.specs.Containers.{level_width, height_of, node_verdict}
+use Rattle.fv_image.specs.Containers.{level_width, height_of, node_verdict, has_none_past}
 use Rattle.fv_image.specs.Views.{head_of, entry_count, map_vvbn, volume_bit}
 use Rattle.fv_image.specs.Held.{Lying, Layout, held_by}
-use Rattle.fv_image.specs.Sound.{is_place, has_shapes, is_in_range, is_in_position, has_true_maps, is_held_once, has_true_map, kind_at, has_true_kinds, has_true_levels, is_unknown, pointers_of, has_true_labels, is_in_size}
+use Rattle.fv_image.specs.Sound.{is_place, has_shapes, is_in_range, has_entries_within, is_in_position, has_true_maps, is_held_once, has_true_map, kind_at, has_true_kinds, has_true_levels, is_unknown, pointers_of, has_true_labels, is_in_size}
 
 -- the rules of soundness but for names, commits and room
 pub record IsWhole (y : Layout) : Type 0 where
   pub shapes : has_shapes y ≡ true
   pub ranges : is_in_range y ≡ true
+  pub entries : has_entries_within y ≡ true
   pub positions : is_in_position y ≡ true
   pub maps : has_true_maps y ≡ true
   pub once : is_held_once y ≡ true
@@ -41,6 +42,8 @@ pub record IsWholeVolume (y : Layout) (s : ℕ) (l : Label) : Type 0 where
   pub span : l.most + 256 ≤ l.span
   -- each node that isn't absent is the one of its position
   pub nodes : (level number : ℕ) (x : Lying) → level ≤ l.height → number < level_width (entry_count l.span) level → y.node s level number ≡ Some x → node_verdict level number x.block ≡ Ok tt
+  -- and has nothing past the entries
+  pub ends : (level number : ℕ) (x : Lying) → level ≤ l.height → number < level_width (entry_count l.span) level → y.node s level number ≡ Some x → has_none_past (entry_count l.span) level number x.block ≡ true
   -- the active map has no bit, and its blocks are there
   pub clear : (v : ℕ) → v < block_bits * map_blocks l.span → volume_bit y.view s l.span 0 v ≡ false
   pub kinds : (k : ℕ) → k < map_blocks l.span → kind_at (y.view.entry s (map_vvbn l.span 0 k)) ≡ 8

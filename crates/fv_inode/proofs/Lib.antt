@@ -6,3 +6,8 @@ pub mod Numbered
 pub mod Taken
 pub mod Views
 pub mod Machines
+pub mod Placed
+pub mod Told
+pub mod Grown
+pub mod Gone
+pub mod Cuts

@@ -1,14 +1,18 @@
 -- Why calls of an inode file fail, over several calls of its source.
 use Rattle.std.proofs.Common.{refl, ◌≡◌, ℕ, inl, inr, subst, sym, ap, ◌∙◌, List, Result, Ok, Err, OnOk, ⊎_elim, arith}
-use Rattle.std.specs.Prelude.{IfErr}
+use Rattle.std.specs.Prelude.{Some, IfErr}
 use Rattle.std.specs.Ordering.{nat_cmp}
 use Rattle.std.specs.FinMap as fin
 use Rattle.std.proofs.lemmas.Result.{IfErr-weaker}
 use Rattle.fv_disk.specs.declared.fault.BlockFault.{BlockFault}
-use Rattle.fv_tables.specs.Spelled.{Rooted}
+use Rattle.fv_disk.specs.declared.fault.BlockFault.TheVariants.{Damaged}
+use Rattle.fv_codec.specs.declared.shape.Shape.{Shape}
+use Rattle.fv_codec.specs.Blocks.{inodes_at}
+use Rattle.fv_tables.specs.Spelled.{Rooted, block_at}
 use Rattle.fv_tree.specs.declared.kept.Tree.{Tree}
 use Rattle.fv_tree.specs.Sources.{Shown, Counts, IsCalm, IsUntouched}
 use Rattle.fv_tree.specs.Standing.{standing, under, Fails}
+use Rattle.fv_tree.specs.Reading.{cell_read_at}
 use Rattle.fv_tree.specs.Flushing.{IsSound, loaded_over, Stands}
 use Rattle.fv_tree.specs.Releasing.{IsDropped, Releases}
 use Rattle.fv_tree.proofs.Causes.{calm_itself, calm_then, counts_then, fails_later}
@@ -29,32 +33,32 @@ pub stands_on : (t : Tree) (old new : Shown) → new.held ≡ old.held → new.u
 stands_on t old new held used stands =
     subst (λ (h : Held). IsSound new.used (loaded_over (λ v. fin.get h v) t)) (sym held) (subst (λ u. IsSound u (loaded_over (under old) t)) (sym used) stands)
 
-inode_fails_later : (t : Rooted) (old mid new : Shown) (e : BlockFault) → IsCalm old mid → mid.held ≡ old.held → InodeFails t mid new e → InodeFails t old new e
-inode_fails_later t old mid new e calm held (inl h) = inl (fails_later t old mid new e calm held h)
-inode_fails_later t old mid new e calm held (inr h) = inr (calm_then old mid new calm h.0, h.1)
+inode_fails_later : (told : Type 0) (t : Rooted) (old mid new : Shown) (e : BlockFault) → IsCalm old mid → mid.held ≡ old.held → InodeFails told t mid new e → InodeFails told t old new e
+inode_fails_later told t old mid new e calm held (inl h) = inl (fails_later told t old mid new e calm held h)
+inode_fails_later told t old mid new e calm held (inr h) = inr (calm_then old mid new calm h.0, h.1)
 
 untouched_then : (old mid new : Shown) → IsUntouched old mid → IsUntouched mid new → IsUntouched old new
 untouched_then old mid new first second = record { held = second.held ∙ first.held; used = second.used ∙ first.used; strays = second.strays ∙ first.strays }
 
 -- a call that reads, after others that only read
-pub looks_then : {S T : Type 0} (t : Tree) (old mid new : Shown) (x : S) (r : Result T BlockFault) → Looks (standing (under old) t) old mid (Ok x) → Looks (standing (under mid) t) mid new r
-    → Looks (standing (under old) t) old new r
-looks_then t old mid new x r first second = record {
+pub looks_then : {S T : Type 0} (told : Type 0) (t : Tree) (old mid new : Shown) (x : S) (r : Result T BlockFault) → Looks told (standing (under old) t) old mid (Ok x)
+    → Looks told (standing (under mid) t) mid new r → Looks told (standing (under old) t) old new r
+looks_then told t old mid new x r first second = record {
   untouched = untouched_then old mid new first.untouched second.untouched;
   counts = counts_then old mid new r first.counts.calm second.counts;
-  cause = IfErr-weaker r _ _ (λ e h. inode_fails_later (standing (under old) t) old mid new e first.counts.calm first.untouched.held (earlier (λ u. InodeFails u mid new e) t old mid first.untouched.held h)) second.cause;
+  cause = IfErr-weaker r _ _ (λ e h. inode_fails_later told (standing (under old) t) old mid new e first.counts.calm first.untouched.held (earlier (λ u. InodeFails told u mid new e) t old mid first.untouched.held h)) second.cause;
 }
 
 -- a call of the tree that leaves the map and what is in use
-pub looks_at : {T : Type 0} (t : Rooted) (old new : Shown) (r : Result T BlockFault) → IsUntouched old new → Counts old new r → IfErr r (Fails t old new) → Looks t old new r
-looks_at t old new r untouched counts cause = record { untouched = untouched; counts = counts; cause = IfErr-weaker r _ _ (λ e h. inl h) cause }
+pub looks_at : {T : Type 0} (told : Type 0) (t : Rooted) (old new : Shown) (r : Result T BlockFault) → IsUntouched old new → Counts old new r → IfErr r (Fails told t old new) → Looks told t old new r
+looks_at told t old new r untouched counts cause = record { untouched = untouched; counts = counts; cause = IfErr-weaker r _ _ (λ e h. inl h) cause }
 
 -- of a call that failed, or was done, another answer
-pub looks_failed : {S T : Type 0} (t : Rooted) (old new : Shown) (e : BlockFault) → Looks {T = S} t old new (Err e) → Looks {T = T} t old new (Err e)
-looks_failed t old new e looks = record { untouched = looks.untouched; counts = record { faults = looks.counts.faults; damages = looks.counts.damages; calm = tt }; cause = looks.cause }
+pub looks_failed : {S T : Type 0} (told : Type 0) (t : Rooted) (old new : Shown) (e : BlockFault) → Looks {T = S} told t old new (Err e) → Looks {T = T} told t old new (Err e)
+looks_failed told t old new e looks = record { untouched = looks.untouched; counts = record { faults = looks.counts.faults; damages = looks.counts.damages; calm = tt }; cause = looks.cause }
 
-pub looks_done : {S T : Type 0} (t : Rooted) (old new : Shown) (x : S) (y : T) → Looks t old new (Ok x) → Looks t old new (Ok y)
-looks_done t old new x y looks = record { untouched = looks.untouched; counts = record { faults = looks.counts.faults; damages = looks.counts.damages; calm = looks.counts.calm }; cause = tt }
+pub looks_done : {S T : Type 0} (told : Type 0) (t : Rooted) (old new : Shown) (x : S) (y : T) → Looks told t old new (Ok x) → Looks told t old new (Ok y)
+looks_done told t old new x y looks = record { untouched = looks.untouched; counts = record { faults = looks.counts.faults; damages = looks.counts.damages; calm = looks.counts.calm }; cause = tt }
 
 -- and the other way round
 pub later : (P : Rooted → Type 0) (t : Tree) (old mid : Shown) → mid.held ≡ old.held → P (standing (under old) t) → P (standing (under mid) t)
@@ -89,5 +93,19 @@ both_ok (Ok x) p q so = so p q
 both_ok (Err e) p q so = tt
 
 -- no call at all
-pub looks_self : (t : Rooted) (old : Shown) → Looks t old old (Ok (tt {0}))
-looks_self t old = record { untouched = record { held = refl; used = refl; strays = refl }; counts = record { faults = omega arith; damages = omega arith; calm = calm_itself old }; cause = tt }
+pub looks_self : (told : Type 0) (t : Rooted) (old : Shown) → Looks told t old old (Ok (tt {0}))
+looks_self told t old = record { untouched = record { held = refl; used = refl; strays = refl }; counts = record { faults = omega arith; damages = omega arith; calm = calm_itself old }; cause = tt }
+
+on_ok_of : {T P : Type 0} (r : Result T BlockFault) → P → OnOk r P
+on_ok_of (Ok x) p = p
+on_ok_of (Err e) p = tt
+
+-- a block that was read at a place is judged as an inode block
+pub looks_judged : {T : Type 0} (told : Type 0) (t : Rooted) (old new : Shown) (r : Result T BlockFault) (cell at : ℕ) (block : List ℕ) → IsUntouched old new → IsCalm old new
+    → (told → block_at t cell ≡ Some block) → (told → at ≡ cell_read_at t new cell)
+    → IfErr r (λ e. (shape : Shape) × (inodes_at block ≡ Err shape) × (e ≡ Damaged at shape.want shape.found)) → Looks told t old new r
+looks_judged told t old new r cell at block untouched calm lies place damage = record {
+  untouched = untouched;
+  counts = record { faults = omega (arith, calm.faults); damages = omega (arith, calm.damages); calm = on_ok_of r calm };
+  cause = IfErr-weaker r _ _ (λ e h. inr (calm, record { at = at; block = block; shape = h.0; fault = h.1; is = h.2; cell = cell; lies = lies; place = place })) damage;
+}

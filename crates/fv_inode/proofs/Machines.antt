@@ -21,10 +21,10 @@ both_equal Less s e = (e, cc)
 both_equal Equal s e = (refl, e)
 both_equal Greater s e = (e, cc)
 
-spot_total : IsTotalOrder spot_cmp
+pub spot_total : IsTotalOrder spot_cmp
 spot_total = search (comparing, rules)
 
-spot_ties : fin.IsAntisymmetric spot_cmp
+pub spot_ties : fin.IsAntisymmetric spot_cmp
 spot_ties x y e =
     let both : (nat_cmp x.0 y.0 ≡ Equal) × (nat_cmp x.1 y.1 ≡ Equal) = both_equal _ _ e in
     λ i. (fin.nat_cmp-IsAntisymmetric x.0 y.0 both.0 i, fin.nat_cmp-IsAntisymmetric x.1 y.1 both.1 i)

@@ -51,6 +51,14 @@ least_small t n k is free = ⊎_elim
     (λ le. le)
     (cases_lt k n)
 
+-- past the cells that were searched, where a number is free
+pub least_searched : (t : Rooted) (count : ℕ) → count ≤ 16384 → (count < 16384 → count ≡ fan ^ t.levels) → ((k : ℕ) → k < 16 * count → is_some (file_at t k) ≡ true)
+    → (n : ℕ) × (n < 262144) × (file_at t n ≡ None) → (count ≡ fan ^ t.levels) × IsLeastFree t (16 * count)
+least_searched t count few all least free = ⊎_elim
+    (λ (lt : count < 16384). (all lt, least_past t count (all lt) least))
+    (λ high. absurd (none_some (file_at t free.0) free.2 (least free.0 (let low = free.1 in omega (arith, high, low)))))
+    (cases_lt count 16384)
+
 -- ---- the new record
 
 zero_bytes : (n : ℕ) → all_zero (replicate n 0) ≡ Ok tt

@@ -2,7 +2,7 @@
 use Rattle.std.proofs.Common.{◌≡◌, ◌≢◌, ℕ, ◌+◌, ◌-◌, ◌*◌, ◌/◌, ◌%◌, ◌^◌, ◌<◌, ◌≤◌, Bool, true, false, List, [], ◌∷◌, length, get_or, replicate, refl, sym, ap, ◌∙◌, arith, ⊎_elim, zero, suc}
 use Rattle.std.specs.Prelude.{Option, Some, None, Ok, is_some, ◌==◌, ◌&&◌, slice_set, if◌then◌else◌}
 use Rattle.std.specs.Option.{option_map}
-use Rattle.std.proofs.Math.Nat.{div-add-mod, pow-le-pow_right}
+use Rattle.std.proofs.Math.Nat.{div-add-mod}
 use Rattle.std.proofs.lemmas.Bool.{cases_lt, both_ways}
 use Rattle.std.proofs.lemmas.Bool.Decides.{nat_tests}
 use Rattle.std.proofs.lemmas.List.{get_or-set_same, get_or-replicate, get_or_default, length-set}
@@ -10,13 +10,12 @@ use Rattle.fv_codec.specs.declared.inode.InodeRecord.{InodeRecord}
 use Rattle.fv_codec.specs.declared.inode.InodeBlock.{InodeBlock}
 use Rattle.fv_codec.specs.Blocks.{all_free, inodes_at, IsInodeRecord}
 use Rattle.fv_model.specs.Trees.{fan}
-use Rattle.fv_tables.specs.Spelled.{Rooted, block_at}
+use Rattle.fv_tables.specs.Spelled.{Rooted, pointer_at, stamp_in, block_or, block_at}
 use Rattle.fv_tables.specs.Told.{records_each, records_of, records_in, free_record, used_record, file_at}
 use Rattle.fv_tables.proofs.Tables.{no_file}
 use Rattle.fv_tables.proofs.Pointers.{past, no_block}
 use Rattle.fv_codec.specs.declared.pointer.Pointer.{Pointer}
-use Rattle.fv_inode.specs.Files.{AreRecords, blank_record, with_info}
-use Rattle.fv_inode.specs.declared.info.Info.{Info}
+use Rattle.fv_inode.specs.Files.{AreRecords, blank_record}
 use Rattle.fv_tree.specs.Writing.{IsAlike}
 use Rattle.fv_codec.specs.Fields.{name_filled, all_name, all_zero}
 
@@ -74,11 +73,6 @@ cell_within t n some = ⊎_elim
     (λ far. absurd (is_there (file_at t n) some (no_file t n far)))
     (cases_lt n (16 * fan ^ t.levels))
 
-pub cell_small : (t : Rooted) (n : ℕ) → t.levels ≤ 3 → is_some (file_at t n) ≡ true → n / 16 < 2097152
-cell_small t n few some =
-    let wide : fan ^ t.levels ≤ fan ^ 3 = pow-le-pow_right (omega arith) few in
-    omega (arith, wide, cell_within t n some)
-
 -- no cell lies past the levels
 pub no_cell : (t : Rooted) (cell : ℕ) → fan ^ t.levels ≤ cell → block_at t cell ≡ None
 no_cell t cell far =
@@ -108,11 +102,14 @@ alike_files old new alike n = ap (λ b. used_record (get_or (records_in b) (n % 
 used_name : (r : InodeRecord) → is_some (used_record r) ≡ true → r.name_length ≢ 0
 used_name r some none = let test : (r.name_length == 0) ≡ true = grind (arith, nat_tests, none) in absurd (both_ways (is_some (used_record r)) (rw test refl) some)
 
--- the numbers of a record change, and its name stays
-pub changed_record : (info : Info) (f : InodeRecord) → used_record (with_info info f) ≡ option_map (with_info info) (used_record f)
-changed_record info f = so (f.name_length == 0)
+-- another record of the same name
+abbrev pub KeepsName : (InodeRecord → InodeRecord) → Type 0
+KeepsName f = (r : InodeRecord) → (f r).name_length ≡ r.name_length
+
+changed_record : (f : InodeRecord → InodeRecord) → KeepsName f → (r : InodeRecord) → used_record (f r) ≡ option_map f (used_record r)
+changed_record f keeps r = ap (λ n. if n == 0 then None else Some (f r)) (keeps r) ∙ so (r.name_length == 0)
   where
-    so : (b : Bool) → (if b then None else Some (with_info info f)) ≡ option_map (with_info info) (if b then None else Some f)
+    so : (b : Bool) → (if b then None else Some (f r)) ≡ option_map f (if b then None else Some r)
     so true = refl
     so false = refl
 
@@ -130,18 +127,53 @@ pub put_used : (fs : List InodeRecord) (slot : ℕ) (r : InodeRecord) → slot <
 put_used fs slot r lt some = some_used (slice_set fs slot r) slot (omega (arith, lt, length-set fs slot r)) (λ none. used_name r some (ap (λ (q : InodeRecord). q.name_length) (sym (get_or-set_same fs slot r free_record lt)) ∙ none))
 
 -- a record with other numbers in place of a file's
-pub changed_is : (t : Rooted) (n : ℕ) (fs : List InodeRecord) (info : Info) (r d : InodeRecord) → length fs ≡ 16 → AreRecords t (n / 16) fs → r ≡ with_info info (get_or fs (n % 16) d)
-    → used_record r ≡ option_map (with_info info) (file_at t n)
-changed_is t n fs info r d long are is =
+pub changed_is : (t : Rooted) (n : ℕ) (fs : List InodeRecord) (f : InodeRecord → InodeRecord) → KeepsName f → (r d : InodeRecord) → length fs ≡ 16 → AreRecords t (n / 16) fs → r ≡ f (get_or fs (n % 16) d)
+    → used_record r ≡ option_map f (file_at t n)
+changed_is t n fs f keeps r d long are is =
     ap used_record is
-    ∙ changed_record info (get_or fs (n % 16) d)
-    ∙ ap (option_map (with_info info)) (ap used_record (get_or_default fs (n % 16) d free_record (omega (arith, long))) ∙ own_record t n fs are)
+    ∙ changed_record f keeps (get_or fs (n % 16) d)
+    ∙ ap (option_map f) (ap used_record (get_or_default fs (n % 16) d free_record (omega (arith, long))) ∙ own_record t n fs are)
 
-still_some : {X Y : Type 0} (f : X → Y) (o : Option X) → is_some (option_map f o) ≡ is_some o
+pub still_some : {X Y : Type 0} (f : X → Y) (o : Option X) → is_some (option_map f o) ≡ is_some o
 still_some f None = refl
 still_some f (Some x) = refl
 
-pub changed_some : (t : Rooted) (n : ℕ) (fs : List InodeRecord) (info : Info) (r d : InodeRecord) → length fs ≡ 16 → AreRecords t (n / 16) fs → r ≡ with_info info (get_or fs (n % 16) d)
-    → is_some (file_at t n) ≡ true → all_free (slice_set fs (n % 16) r) ≡ false
-changed_some t n fs info r d long are is some =
-    put_used fs (n % 16) r (omega (arith, long)) (ap is_some (changed_is t n fs info r d long are is) ∙ still_some (with_info info) (file_at t n) ∙ some)
+-- a record in use is one of its block's
+pub used_all : (fs : List InodeRecord) (n : ℕ) (d : InodeRecord) → length fs ≡ 16 → (get_or fs (n % 16) d).name_length ≢ 0 → all_free fs ≡ false
+used_all fs n d long used =
+    some_used fs (n % 16) (omega (arith, long)) (λ none. used (ap (λ (q : InodeRecord). q.name_length) (get_or_default fs (n % 16) d free_record (omega (arith, long))) ∙ none))
+
+-- and it stays in use with other numbers
+pub still_used : (fs : List InodeRecord) (n : ℕ) (f : InodeRecord → InodeRecord) → KeepsName f → (r d : InodeRecord) → length fs ≡ 16 → r ≡ f (get_or fs (n % 16) d) → (get_or fs (n % 16) d).name_length ≢ 0
+    → all_free (slice_set fs (n % 16) r) ≡ false
+still_used fs n f keeps r d long is used =
+    some_used (slice_set fs (n % 16) r) (n % 16) (omega (arith, long, length-set fs (n % 16) r))
+    (λ none. used (sym (keeps (get_or fs (n % 16) d)) ∙ ap (λ (q : InodeRecord). q.name_length) (sym is ∙ sym (get_or-set_same fs (n % 16) r free_record (omega (arith, long)))) ∙ none))
+
+-- a free record is that of no file
+pub no_such : {P : Type 0} (t : Rooted) (n : ℕ) (fs : List InodeRecord) (d : InodeRecord) → length fs ≡ 16 → AreRecords t (n / 16) fs → (get_or fs (n % 16) d).name_length ≡ 0 → is_some (file_at t n) ≡ true → P
+no_such t n fs d long are none some =
+    let free : used_record (get_or fs (n % 16) d) ≡ None = rw none refl in
+    absurd (is_there (file_at t n) some (sym (ap used_record (get_or_default fs (n % 16) d free_record (omega (arith, long))) ∙ own_record t n fs are) ∙ free))
+
+-- records of a block that isn't there
+pub none_used : {P : Type 0} (fs : List InodeRecord) → fs ≡ replicate 16 blank_record → all_free fs ≡ false → P
+none_used fs is some = absurd (both_ways (all_free fs) some (ap all_free is))
+
+-- ---- a file's inode cell stands
+
+some_block : (k : ℕ) (o : Option (List ℕ)) → is_some (used_record (get_or (records_in o) k free_record)) ≡ true → is_some o ≡ true
+some_block k None some = absurd (is_there (used_record (get_or (records_in None) k free_record)) some (no_record k))
+some_block k (Some block) some = refl
+
+pub block_there : (t : Rooted) (n : ℕ) → is_some (file_at t n) ≡ true → is_some (block_at t (n / 16)) ≡ true
+unfolding file_at
+block_there t n some = some_block (n % 16) (block_at t (n / 16)) some
+
+pub cell_there : (t : Rooted) (cell : ℕ) → is_some (block_at t cell) ≡ true → is_some (stamp_in (pointer_at t 0 cell)) ≡ true
+unfolding block_at
+cell_there t cell some = so ((pointer_at t 0 cell).stamp == 0) some
+  where
+    so : (b : Bool) → is_some (if b then None else block_or (t.cells cell) (t.under (pointer_at t 0 cell).vvbn)) ≡ true → is_some (if b then None else Some (pointer_at t 0 cell).stamp) ≡ true
+    so true e = e
+    so false e = refl

@@ -1,13 +1,16 @@
 -- What the changes of an inode file do: to the records of its files, and to its tree.
-use Rattle.std.specs.Prelude.{◌≡◌, ◌⊎◌, ◌/◌, ◌≢◌, ℕ, cond, nat_eq, List, Option, Some, None, Ok}
+use Rattle.std.specs.Prelude.{◌≡◌, ◌⊎◌, ◌/◌, ◌≢◌, ℕ, true, cond, nat_eq, List, Option, Some, None, Ok}
+use Rattle.std.specs.Option.{option_map}
+use Rattle.fv_codec.specs.declared.pointer.Pointer.{Pointer}
 use Rattle.fv_codec.specs.declared.inode.InodeRecord.{InodeRecord}
 use Rattle.fv_codec.specs.Blocks.{inodes_at}
 use Rattle.fv_tables.specs.Spelled.{Rooted}
 use Rattle.fv_tables.specs.Told.{records_each, file_at}
 use Rattle.fv_tree.specs.Writing.{IsWritten, Writes}
+use Rattle.fv_tree.specs.Refilling.{IsRefilled, Refills}
 use Rattle.fv_tree.specs.Erasing.{Erases}
 use Rattle.fv_inode.specs.declared.info.Info.{Info}
-use Rattle.fv_inode.specs.Files.{info_of, new_record, IsLeastFree}
+use Rattle.fv_inode.specs.Files.{info_of, new_record, with_root, IsLeastFree}
 
 -- A change with the stamp s wrote a cell, with an inode block of these records.
 pub record WritesFiles (old new : Rooted) (cell s : ℕ) (files : List InodeRecord) : Type 0 where
@@ -45,3 +48,17 @@ pub record HasNeighbor (t : Rooted) (n : ℕ) : Type 0 where
 pub record Takes (old new : Rooted) (n s : ℕ) : Type 0 where
   pub files : (k : ℕ) → file_at new k ≡ cond (nat_eq k n) None (file_at old k)
   pub tree : (HasNeighbor old n × Rewrites old new n s None) ⊎ ((HasNeighbor old n → ⊥) × Erases old new (nat_eq (n / records_each)) 0 s)
+
+-- A cell that stands got an inode block of these records, under the stamp that it has.
+pub record FillsFiles (old new : Rooted) (cell : ℕ) (files : List InodeRecord) : Type 0 where
+  pub block : List ℕ
+  pub spelled : inodes_at block ≡ Ok (record { index = cell; files = files })
+  pub refilled : Refills old new cell block true
+  pub place_by_place : IsRefilled old new cell block true
+
+-- The record of file n says where the root of its tree lies now, and how many levels the tree has. The inode block of n has the index
+-- of its cell. The records of all other files stay, and so do the levels and every stamp of the inode file.
+pub record SetsRoot (old new : Rooted) (n levels : ℕ) (root : Pointer) : Type 0 where
+  pub files : (k : ℕ) → file_at new k ≡ cond (nat_eq k n) (option_map (with_root levels root) (file_at old n)) (file_at old k)
+  pub inodes : List InodeRecord
+  pub fills : FillsFiles old new (n / records_each) inodes

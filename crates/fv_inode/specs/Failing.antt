@@ -9,21 +9,24 @@ use Rattle.fv_tree.specs.Sources.{Shown, IsCalm, IsUntouched, Counts}
 use Rattle.fv_tree.specs.Standing.{Fails}
 use Rattle.fv_tree.specs.Reading.{cell_read_at}
 
--- a cell of an inode file hasn't the shape of an inode block: its place, and its first field that isn't as said
-pub record IsInodeDamage (t : Rooted) (new : Shown) (e : BlockFault) : Type 0 where
-  pub cell : ℕ
+-- A block hasn't the shape of an inode block: the place where it was read, and its first field that isn't as said. Where content is
+-- told it is that of a cell.
+pub record IsInodeDamage (told : Type 0) (t : Rooted) (new : Shown) (e : BlockFault) : Type 0 where
+  pub at : ℕ
   pub block : List ℕ
-  pub lies : block_at t cell ≡ Some block
   pub shape : Shape
   pub fault : inodes_at block ≡ Err shape
-  pub is : e ≡ Damaged (cell_read_at t new cell) shape.want shape.found
+  pub is : e ≡ Damaged at shape.want shape.found
+  pub cell : ℕ
+  pub lies : told → block_at t cell ≡ Some block
+  pub place : told → at ≡ cell_read_at t new cell
 
 -- why a call of an inode file failed: as a call of its tree, or for an inode block without its shape, where both counts stay
-abbrev pub InodeFails : Rooted → Shown → Shown → BlockFault → Type 0
-InodeFails t old new e = Fails t old new e ⊎ (IsCalm old new × IsInodeDamage t new e)
+abbrev pub InodeFails : Type 0 → Rooted → Shown → Shown → BlockFault → Type 0
+InodeFails told t old new e = Fails told t old new e ⊎ (IsCalm old new × IsInodeDamage told t new e)
 
 -- A call that only reads leaves the map, what is in use and the count of strays, and tells why it failed.
-pub record Looks {T : Type 0} (t : Rooted) (old new : Shown) (result : Result T BlockFault) : Type 0 where
+pub record Looks {T : Type 0} (told : Type 0) (t : Rooted) (old new : Shown) (result : Result T BlockFault) : Type 0 where
   pub untouched : IsUntouched old new
   pub counts : Counts old new result
-  pub cause : IfErr result (InodeFails t old new)
+  pub cause : IfErr result (InodeFails told t old new)

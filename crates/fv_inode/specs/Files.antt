@@ -1,5 +1,6 @@
 -- Files by their names, as the records of an inode file tell them.
 use Rattle.std.specs.Prelude.{◌≡◌, ℕ, ◌+◌, ◌*◌, ◌<◌, ◌≤◌, ◌++◌, ◌-◌, Bool, true, false, List, take, length, replicate, get_or, Option, Some, None, is_some}
+use Rattle.fv_codec.specs.declared.pointer.Pointer.{Pointer}
 use Rattle.fv_codec.specs.declared.inode.InodeRecord.{InodeRecord}
 use Rattle.fv_codec.specs.Blocks.{IsPointer, most_cells}
 use Rattle.fv_model.specs.Spelling.{is_same_name}
@@ -53,6 +54,17 @@ with_info info r = record {
   reserve = info.reserve;
   levels = info.levels;
   root = info.root;
+}
+
+-- the record with another root, of a tree of so many levels; the name and the other numbers stay
+abbrev pub with_root : ℕ → Pointer → InodeRecord → InodeRecord
+with_root levels root r = record {
+  name_length = r.name_length;
+  name = r.name;
+  length = r.length;
+  reserve = r.reserve;
+  levels = levels;
+  root = root;
 }
 
 -- the numbers of an info are in the ranges of a record

@@ -17,9 +17,9 @@ use fv_tree::Blocks;
 
 impl InodeFile {
     /// Lets the record of a file say this of it; its name stays. The file's inode cell and the marks over it get the
-    /// stamp, which is at least 1. A file has the number. It loads at most the file's inode block and the nodes over
-    /// it, once for the read and once for the write. Those nodes and the inode block stay in memory. After a fault
-    /// the inode file is seen as before.
+    /// stamp, which is at least 1. A file has the number; over content that isn't told, one that has no file changes
+    /// nothing. It loads at most the file's inode block and the nodes over it, once for the read and once for the
+    /// write. Those nodes and the inode block stay in memory. After a fault the inode file is seen as before.
     ///
     /// # Errors
     ///
@@ -31,18 +31,21 @@ impl InodeFile {
         stamp: u64,
     ) -> Result<(), InodeFault>
         requires stamp { 1 ≤ stamp }
-        requires there { is_some (file_at (rooted (B.shown blocks.old) self.old) info.now.number) ≡ true }
+        requires there { B.told → is_some (file_at (rooted (B.shown blocks.old) self.old) info.now.number) ≡ true }
         requires info { IsInfo info.now }
-        ensures changed { OnOk result (Rewrites (rooted (B.shown blocks.old) self.old) (rooted (B.shown blocks.new) self.new) info.now.number stamp (option_map (with_info info.now) (file_at (rooted (B.shown blocks.old) self.old) info.now.number))) }
-        ensures failed { OnErr result (Remains (rooted (B.shown blocks.old) self.old) (rooted (B.shown blocks.new) self.new)) }
+        ensures changed { B.told → OnOk result (Rewrites (rooted (B.shown blocks.old) self.old) (rooted (B.shown blocks.new) self.new) info.now.number stamp (option_map (with_info info.now) (file_at (rooted (B.shown blocks.old) self.old) info.now.number))) }
+        ensures failed { B.told → OnErr result (Remains (rooted (B.shown blocks.old) self.old) (rooted (B.shown blocks.new) self.new)) }
         ensures owner { self.new.tree.owner ≡ self.old.tree.owner }
-        ensures stands { Stands (B.shown blocks.old) self.old.tree → Stands (B.shown blocks.new) self.new.tree }
-        ensures looks { Looks (rooted (B.shown blocks.old) self.old) (B.shown blocks.old) (B.shown blocks.new) result }
+        ensures stands { B.told → Stands (B.shown blocks.old) self.old.tree → Stands (B.shown blocks.new) self.new.tree }
+        ensures looks { Looks B.told (rooted (B.shown blocks.old) self.old) (B.shown blocks.old) (B.shown blocks.new) result }
         ensures reads { B.reads blocks.old blocks.new }
     {
         let cell = info.number / EACH;
         let slot = (info.number % EACH) as usize;
         let mut files = read_files(&self.tree, blocks, cell)?;
+        if files[slot].name_length == 0 {
+            return Ok(());
+        }
         files[slot] = with_info(&files[slot], info);
         write_files(&mut self.tree, blocks, cell, &files, stamp)
     }

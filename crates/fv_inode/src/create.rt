@@ -1,10 +1,10 @@
 //! Making a file.
 
-ghost use Rattle.std.specs.Prelude.{◌≡◌, ◌≤◌, ◌<◌, ◌-◌, ◌/◌, ◌++◌, ℕ, true, None, Some, is_some, get_or, IfOk, OnErr, length, replicate};
+ghost use Rattle.std.specs.Prelude.{◌≡◌, ◌≤◌, ◌<◌, ◌-◌, ◌/◌, ◌^◌, ◌++◌, ℕ, true, None, Some, is_some, get_or, IfOk, OnErr, length, replicate};
 ghost use Rattle.std.specs.List.{All};
 ghost use Rattle.fv_codec.specs.Blocks.{IsInodeRecord, most_cells};
 ghost use Rattle.fv_model.specs.Spelling.{is_name};
-ghost use Rattle.fv_model.specs.Trees.{least_levels};
+ghost use Rattle.fv_model.specs.Trees.{fan, least_levels};
 ghost use Rattle.fv_tables.specs.Spelled.{Rooted};
 ghost use Rattle.fv_tables.specs.Told.{records_each, free_record, used_record, file_at};
 ghost use Rattle.fv_tree.specs.Standing.{standing, under};
@@ -21,6 +21,9 @@ use crate::records::{EACH, HOLE, cells, free_files, read_files, write_files};
 use fv_codec::InodeRecord;
 use fv_model::Name;
 use fv_tree::{Blocks, Tree};
+
+/// How many cells the greatest inode file has.
+const MOST_CELLS: u32 = 16_384;
 
 impl InodeFile {
     /// Makes a file of a name under the least free number, without a cell and with the levels with which its reserve
@@ -42,13 +45,13 @@ impl InodeFile {
     ) -> Result<Info, InodeFault>
         requires stamp { 1 ≤ stamp }
         requires reserve { reserve ≤ most_cells }
-        requires free { (n : ℕ) × (n < 262144) × (file_at (rooted (B.shown blocks.old) self.old) n ≡ None) }
-        ensures made { IfOk result (Makes (rooted (B.shown blocks.old) self.old) (rooted (B.shown blocks.new) self.new) name.now reserve stamp) }
+        requires free { B.told → (n : ℕ) × (n < 262144) × (file_at (rooted (B.shown blocks.old) self.old) n ≡ None) }
+        ensures made { B.told → IfOk result (Makes (rooted (B.shown blocks.old) self.old) (rooted (B.shown blocks.new) self.new) name.now reserve stamp) }
         ensures range { IfOk result IsInfo }
-        ensures failed { OnErr result (Remains (rooted (B.shown blocks.old) self.old) (rooted (B.shown blocks.new) self.new)) }
+        ensures failed { B.told → OnErr result (Remains (rooted (B.shown blocks.old) self.old) (rooted (B.shown blocks.new) self.new)) }
         ensures owner { self.new.tree.owner ≡ self.old.tree.owner }
-        ensures stands { Stands (B.shown blocks.old) self.old.tree → Stands (B.shown blocks.new) self.new.tree }
-        ensures looks { Looks (rooted (B.shown blocks.old) self.old) (B.shown blocks.old) (B.shown blocks.new) result }
+        ensures stands { B.told → Stands (B.shown blocks.old) self.old.tree → Stands (B.shown blocks.new) self.new.tree }
+        ensures looks { Looks B.told (rooted (B.shown blocks.old) self.old) (B.shown blocks.old) (B.shown blocks.new) result }
         ensures reads { B.reads blocks.old blocks.new }
     {
         let (number, mut files) = find_free(&self.tree, blocks)?;
@@ -59,16 +62,18 @@ impl InodeFile {
     }
 }
 
-/// The least free number, and the records of its inode block.
+/// The least free number, and the records of its inode block. A number below 262,144 is free.
 fn find_free<B: Blocks>(tree: &Tree, blocks: &mut B) -> Result<(u32, [InodeRecord; 16]), InodeFault>
-    ensures number { IfOk result (λ found. IsLeastFree (standing (under (B.shown blocks.old)) tree.now) found.0) }
-    ensures files { IfOk result (λ found. AreRecords (standing (under (B.shown blocks.old)) tree.now) (found.0 / records_each) found.1) }
+    requires free { B.told → (n : ℕ) × (n < 262144) × (file_at (standing (under (B.shown blocks.old)) tree.now) n ≡ None) }
+    ensures number { B.told → IfOk result (λ found. IsLeastFree (standing (under (B.shown blocks.old)) tree.now) found.0) }
+    ensures files { B.told → IfOk result (λ found. AreRecords (standing (under (B.shown blocks.old)) tree.now) (found.0 / records_each) found.1) }
     ensures range { IfOk result (λ found. All IsInodeRecord found.1) }
     ensures long { IfOk result (λ found. length found.1 ≡ 16) }
-    ensures looks { Looks (standing (under (B.shown blocks.old)) tree.now) (B.shown blocks.old) (B.shown blocks.new) result }
+    ensures bound { IfOk result (λ found. found.0 ≤ 262144) }
+    ensures looks { Looks B.told (standing (under (B.shown blocks.old)) tree.now) (B.shown blocks.old) (B.shown blocks.new) result }
     ensures reads { B.reads blocks.old blocks.new }
 {
-    let count = cells(tree);
+    let count = numbered_cells(tree);
     for cell in 0..count {
         let files = read_files(tree, blocks, cell)?;
         if let Some(slot) = first_free(&files) {
@@ -76,6 +81,20 @@ fn find_free<B: Blocks>(tree: &Tree, blocks: &mut B) -> Result<(u32, [InodeRecor
         }
     }
     Ok((EACH * count, free_files()))
+}
+
+/// How many cells of a tree have numbers below 262,144.
+fn numbered_cells(tree: &Tree) -> u32
+    ensures few { result ≤ 16384 }
+    ensures within { result ≤ fan ^ tree.now.levels }
+    ensures all { result < 16384 → result ≡ fan ^ tree.now.levels }
+{
+    let count = cells(tree);
+    if count < MOST_CELLS {
+        count
+    } else {
+        MOST_CELLS
+    }
 }
 
 /// The first free record of an inode block.

@@ -69,15 +69,15 @@ impl InodeFile {
     ///
     /// As `place` of the `Blocks` answers them.
     pub fn flush<B: Blocks>(&mut self, blocks: &mut B) -> Result<Pointer, InodeFault>
-        ensures flushes { Stands (B.shown blocks.old) self.old.tree → Flushes (loaded (B.shown blocks.old) self.old.tree) (B.shown blocks.old).used (loaded (B.shown blocks.new) self.new.tree) (B.shown blocks.new).used }
-        ensures strays { Stands (B.shown blocks.old) self.old.tree → (B.shown blocks.new).strays ≡ (B.shown blocks.old).strays }
-        ensures remains { Stands (B.shown blocks.old) self.old.tree → Remains (rooted (B.shown blocks.old) self.old) (rooted (B.shown blocks.new) self.new) }
-        ensures files { Stands (B.shown blocks.old) self.old.tree → (n : ℕ) → file_at (rooted (B.shown blocks.new) self.new) n ≡ file_at (rooted (B.shown blocks.old) self.old) n }
+        ensures flushes { B.told → Stands (B.shown blocks.old) self.old.tree → Flushes (loaded (B.shown blocks.old) self.old.tree) (B.shown blocks.old).used (loaded (B.shown blocks.new) self.new.tree) (B.shown blocks.new).used }
+        ensures strays { B.told → Stands (B.shown blocks.old) self.old.tree → (B.shown blocks.new).strays ≡ (B.shown blocks.old).strays }
+        ensures remains { B.told → Stands (B.shown blocks.old) self.old.tree → Remains (rooted (B.shown blocks.old) self.old) (rooted (B.shown blocks.new) self.new) }
+        ensures files { B.told → Stands (B.shown blocks.old) self.old.tree → (n : ℕ) → file_at (rooted (B.shown blocks.new) self.new) n ≡ file_at (rooted (B.shown blocks.old) self.old) n }
         ensures left { IsLeft self.old.tree self.new.tree }
         ensures root { IfOk result (λ root. root ≡ self.new.tree.root) }
         ensures pointer { IfOk result IsPointer }
         ensures stored { IfOk result (λ root. rooted (B.shown blocks.new) self.new ≡ stored (under (B.shown blocks.new)) self.old.tree.owner self.old.tree.levels root) }
-        ensures reaches { IfOk result (λ root. Stands (B.shown blocks.old) self.old.tree → ReachesOnce (B.shown blocks.new).used (stored (under (B.shown blocks.new)) self.old.tree.owner self.old.tree.levels root)) }
+        ensures reaches { B.told → IfOk result (λ root. Stands (B.shown blocks.old) self.old.tree → ReachesOnce (B.shown blocks.new).used (stored (under (B.shown blocks.new)) self.old.tree.owner self.old.tree.levels root)) }
         ensures calls { B.goes blocks.old blocks.new }
         ensures counts { Counts (B.shown blocks.old) (B.shown blocks.new) result }
         ensures cause { IfErr result (HasCause (B.shown blocks.old) (B.shown blocks.new)) }

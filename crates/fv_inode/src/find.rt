@@ -23,18 +23,18 @@ impl InodeFile {
     ///
     /// # Errors
     ///
-    /// `DiskFault` and `Damaged` as the `Blocks` answers them, and `Damaged` for a block that isn't the node of
-    /// its position or hasn't the shape of an inode block: its place, and its first field that isn't as said.
+    /// `DiskFault` and `Damaged` as the `Blocks` answers them, and `Damaged` for a block without the shape of a
+    /// node or of an inode block, whatever position it names: its place, and its first field that isn't as said.
     /// `Memory` only from the `Blocks`.
     pub fn find<B: Blocks>(
         &mut self,
         blocks: &mut B,
         name: &Name,
     ) -> Result<Option<Info>, InodeFault>
-        ensures found { IfOk result (Finds (rooted (B.shown blocks.old) self.old) name.now) }
+        ensures found { B.told → IfOk result (Finds (rooted (B.shown blocks.old) self.old) name.now) }
         ensures range { IfOk result IsInfoIf }
         ensures tree { self.new ≡ self.old }
-        ensures looks { Looks (rooted (B.shown blocks.old) self.old) (B.shown blocks.old) (B.shown blocks.new) result }
+        ensures looks { Looks B.told (rooted (B.shown blocks.old) self.old) (B.shown blocks.old) (B.shown blocks.new) result }
         ensures reads { B.reads blocks.old blocks.new }
     {
         find_named(&self.tree, blocks, name)
@@ -47,9 +47,9 @@ fn find_named<B: Blocks>(
     blocks: &mut B,
     name: &Name,
 ) -> Result<Option<Info>, InodeFault>
-    ensures found { IfOk result (Finds (standing (under (B.shown blocks.old)) tree.now) name.now) }
+    ensures found { B.told → IfOk result (Finds (standing (under (B.shown blocks.old)) tree.now) name.now) }
     ensures range { IfOk result IsInfoIf }
-    ensures looks { Looks (standing (under (B.shown blocks.old)) tree.now) (B.shown blocks.old) (B.shown blocks.new) result }
+    ensures looks { Looks B.told (standing (under (B.shown blocks.old)) tree.now) (B.shown blocks.old) (B.shown blocks.new) result }
     ensures reads { B.reads blocks.old blocks.new }
 {
     for cell in 0..cells(tree) {
@@ -69,10 +69,10 @@ fn find_at<B: Blocks>(
     name: &Name,
 ) -> Result<Option<Info>, InodeFault>
     requires cell { cell < 2097152 }
-    ensures found { IfOk result (λ found. HasNoneBelow (standing (under (B.shown blocks.old)) tree.now) name.now (records_each * cell) → FindsBelow (standing (under (B.shown blocks.old)) tree.now) name.now (records_each * cell + records_each) found) }
+    ensures found { B.told → IfOk result (λ found. HasNoneBelow (standing (under (B.shown blocks.old)) tree.now) name.now (records_each * cell) → FindsBelow (standing (under (B.shown blocks.old)) tree.now) name.now (records_each * cell + records_each) found) }
     ensures range { IfOk result IsInfoIf }
     ensures few { tree.now.levels ≤ 3 }
-    ensures looks { Looks (standing (under (B.shown blocks.old)) tree.now) (B.shown blocks.old) (B.shown blocks.new) result }
+    ensures looks { Looks B.told (standing (under (B.shown blocks.old)) tree.now) (B.shown blocks.old) (B.shown blocks.new) result }
     ensures reads { B.reads blocks.old blocks.new }
 {
     let files = read_files(tree, blocks, cell)?;

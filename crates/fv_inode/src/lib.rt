@@ -9,6 +9,7 @@ mod info;
 mod list;
 mod records;
 mod remove;
+mod root;
 
 pub use file::InodeFile;
 pub use info::{Info, InodeFault};

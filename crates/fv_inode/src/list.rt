@@ -31,9 +31,9 @@ impl InodeFile {
     ///
     /// As `find`, and `Memory` where there is no memory for the names.
     pub fn list<B: Blocks>(&mut self, blocks: &mut B) -> Result<Names, InodeFault>
-        ensures names { IfOk result (λ names. names ≡ fin.keys (names_told (rooted (B.shown blocks.old) self.old))) }
+        ensures names { B.told → IfOk result (λ names. names ≡ fin.keys (names_told (rooted (B.shown blocks.old) self.old))) }
         ensures tree { self.new ≡ self.old }
-        ensures looks { Looks (rooted (B.shown blocks.old) self.old) (B.shown blocks.old) (B.shown blocks.new) result }
+        ensures looks { Looks B.told (rooted (B.shown blocks.old) self.old) (B.shown blocks.old) (B.shown blocks.new) result }
         ensures reads { B.reads blocks.old blocks.new }
     {
         list_names(self.alloc, &self.tree, blocks)
@@ -42,8 +42,8 @@ impl InodeFile {
 
 /// The names of all files, in byte order.
 fn list_names<B: Blocks>(alloc: Global, tree: &Tree, blocks: &mut B) -> Result<Names, InodeFault>
-    ensures names { IfOk result (λ names. names ≡ fin.keys (names_told (standing (under (B.shown blocks.old)) tree.now))) }
-    ensures looks { Looks (standing (under (B.shown blocks.old)) tree.now) (B.shown blocks.old) (B.shown blocks.new) result }
+    ensures names { B.told → IfOk result (λ names. names ≡ fin.keys (names_told (standing (under (B.shown blocks.old)) tree.now))) }
+    ensures looks { Looks B.told (standing (under (B.shown blocks.old)) tree.now) (B.shown blocks.old) (B.shown blocks.new) result }
     ensures reads { B.reads blocks.old blocks.new }
 {
     let numbers = numbers_by_name(alloc, tree, blocks)?;
@@ -56,8 +56,8 @@ fn numbers_by_name<B: Blocks>(
     tree: &Tree,
     blocks: &mut B,
 ) -> Result<BTreeMap<Name, u32>, InodeFault>
-    ensures numbers { IfOk result (λ numbers. numbers_in numbers ≡ names_told (standing (under (B.shown blocks.old)) tree.now)) }
-    ensures looks { Looks (standing (under (B.shown blocks.old)) tree.now) (B.shown blocks.old) (B.shown blocks.new) result }
+    ensures numbers { B.told → IfOk result (λ numbers. numbers_in numbers ≡ names_told (standing (under (B.shown blocks.old)) tree.now)) }
+    ensures looks { Looks B.told (standing (under (B.shown blocks.old)) tree.now) (B.shown blocks.old) (B.shown blocks.new) result }
     ensures reads { B.reads blocks.old blocks.new }
 {
     let mut numbers = BTreeMap::new(alloc);

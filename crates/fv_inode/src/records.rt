@@ -57,6 +57,7 @@ pub fn free_files() -> [InodeRecord; 16]
 pub fn cells(tree: &Tree) -> u32
     ensures is { result ≡ fan ^ tree.now.levels }
     ensures few { result ≤ 2097152 }
+    ensures levels { tree.now.levels ≤ 3 }
 {
     match tree.levels() {
         0 => 1,
@@ -66,8 +67,8 @@ pub fn cells(tree: &Tree) -> u32
     }
 }
 
-/// The records of the inode block at a cell; free ones where there is no cell. It loads at most a node for each
-/// level and the inode block.
+/// The records of the inode block at a cell; free ones where there is no cell, and past the levels without a load.
+/// It loads at most a node for each level and the inode block.
 ///
 /// # Errors
 ///
@@ -78,13 +79,17 @@ pub fn read_files<B: Blocks>(
     blocks: &mut B,
     cell: u32,
 ) -> Result<[InodeRecord; 16], InodeFault>
-    ensures files { IfOk result (AreRecords (standing (under (B.shown blocks.old)) tree.now) cell) }
+    ensures files { B.told → IfOk result (AreRecords (standing (under (B.shown blocks.old)) tree.now) cell) }
     ensures range { IfOk result (All IsInodeRecord) }
     ensures long { IfOk result (λ files. length files ≡ 16) }
+    ensures within { IfOk result (λ files. all_free files ≡ false → cell < 2097152) }
     ensures few { tree.now.levels ≤ 3 }
-    ensures looks { Looks (standing (under (B.shown blocks.old)) tree.now) (B.shown blocks.old) (B.shown blocks.new) result }
+    ensures looks { Looks B.told (standing (under (B.shown blocks.old)) tree.now) (B.shown blocks.old) (B.shown blocks.new) result }
     ensures reads { B.reads blocks.old blocks.new }
 {
+    if cell >= cells(tree) {
+        return Ok(free_files());
+    }
     let mut block = [0; 4096];
     match tree.read(blocks, cell, &mut block)? {
         None => Ok(free_files()),
@@ -139,21 +144,21 @@ pub fn write_files<B: Blocks>(
     requires stamp { 1 ≤ stamp }
     requires range { All IsInodeRecord files.now }
     requires some { all_free files.now ≡ false }
-    ensures written { OnOk result (WritesFiles (standing (under (B.shown blocks.old)) tree.old) (standing (under (B.shown blocks.new)) tree.new) cell stamp files.now) }
-    ensures failed { OnErr result (Remains (standing (under (B.shown blocks.old)) tree.old) (standing (under (B.shown blocks.new)) tree.new)) }
+    ensures written { B.told → OnOk result (WritesFiles (standing (under (B.shown blocks.old)) tree.old) (standing (under (B.shown blocks.new)) tree.new) cell stamp files.now) }
+    ensures failed { B.told → OnErr result (Remains (standing (under (B.shown blocks.old)) tree.old) (standing (under (B.shown blocks.new)) tree.new)) }
     ensures owner { tree.new.owner ≡ tree.old.owner }
-    ensures stands { Stands (B.shown blocks.old) tree.old → Stands (B.shown blocks.new) tree.new }
+    ensures stands { B.told → Stands (B.shown blocks.old) tree.old → Stands (B.shown blocks.new) tree.new }
     ensures untouched { IsUntouched (B.shown blocks.old) (B.shown blocks.new) }
     ensures reads { B.reads blocks.old blocks.new }
     ensures counts { Counts (B.shown blocks.old) (B.shown blocks.new) result }
-    ensures cause { IfErr result (Fails (standing (under (B.shown blocks.old)) tree.old) (B.shown blocks.old) (B.shown blocks.new)) }
+    ensures cause { IfErr result (Fails B.told (standing (under (B.shown blocks.old)) tree.old) (B.shown blocks.old) (B.shown blocks.new)) }
 {
     let block = spelled(cell, files);
     tree.put(blocks, cell, &block, stamp)
 }
 
 /// The inode block of an index with these records.
-fn spelled(cell: u32, files: &[InodeRecord; 16]) -> [u8; 4096]
+pub fn spelled(cell: u32, files: &[InodeRecord; 16]) -> [u8; 4096]
     requires range { All IsInodeRecord files.now }
     requires some { all_free files.now ≡ false }
     ensures { inodes_at result ≡ Ok (record { index = cell; files = files.now }) }

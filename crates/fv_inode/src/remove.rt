@@ -21,11 +21,12 @@ use fv_codec::InodeRecord;
 use fv_tree::{Blocks, Tree};
 
 impl InodeFile {
-    /// Takes a file away; a file has the number. While another file is in its inode block, the inode cell and the marks
-    /// over it get the stamp, which is at least 1. With the last one the cell goes, each mark without a cell goes, and
-    /// the other marks over it get the stamp; with the last file of all the levels become 0. It loads at most the file's
-    /// inode block and the nodes over it, once for the read and once for the change. Each placed block that it drops is
-    /// named once to `gone`, after its last load. After a fault the inode file is seen as before, and none was named.
+    /// Takes a file away; a file has the number, and over content that isn't told one that has no file changes nothing.
+    /// While another file is in its inode block, the inode cell and the marks over it get the stamp, which is at least 1.
+    /// With the last one the cell goes, each mark without a cell goes, and the other marks over it get the stamp; with the
+    /// last file of all the levels become 0. It loads at most the file's inode block and the nodes over it, once for the
+    /// read and once for the change. Each placed block that it drops is named once to `gone`, after its last load. After a
+    /// fault the inode file is seen as before, and none was named.
     ///
     /// # Errors
     ///
@@ -37,21 +38,24 @@ impl InodeFile {
         stamp: u64,
     ) -> Result<(), InodeFault>
         requires stamp { 1 ≤ stamp }
-        requires there { is_some (file_at (rooted (B.shown blocks.old) self.old) number) ≡ true }
-        ensures removed { OnOk result (Stands (B.shown blocks.old) self.old.tree → HoldsCells (rooted (B.shown blocks.old) self.old) → Takes (rooted (B.shown blocks.old) self.old) (rooted (B.shown blocks.new) self.new) number stamp) }
-        ensures strays { Stands (B.shown blocks.old) self.old.tree → (B.shown blocks.new).strays ≡ (B.shown blocks.old).strays }
-        ensures released { OnOk result (Releases (B.shown blocks.old) (B.shown blocks.new) (IsDropped (under (B.shown blocks.old)) self.old.tree self.new.tree)) }
-        ensures failed { OnErr result (Remains (rooted (B.shown blocks.old) self.old) (rooted (B.shown blocks.new) self.new)) }
+        requires there { B.told → is_some (file_at (rooted (B.shown blocks.old) self.old) number) ≡ true }
+        ensures removed { B.told → OnOk result (Stands (B.shown blocks.old) self.old.tree → HoldsCells (rooted (B.shown blocks.old) self.old) → Takes (rooted (B.shown blocks.old) self.old) (rooted (B.shown blocks.new) self.new) number stamp) }
+        ensures strays { B.told → Stands (B.shown blocks.old) self.old.tree → (B.shown blocks.new).strays ≡ (B.shown blocks.old).strays }
+        ensures released { B.told → OnOk result (Releases (B.shown blocks.old) (B.shown blocks.new) (IsDropped (under (B.shown blocks.old)) self.old.tree self.new.tree)) }
+        ensures failed { B.told → OnErr result (Remains (rooted (B.shown blocks.old) self.old) (rooted (B.shown blocks.new) self.new)) }
         ensures owner { self.new.tree.owner ≡ self.old.tree.owner }
-        ensures stands { Stands (B.shown blocks.old) self.old.tree → Stands (B.shown blocks.new) self.new.tree }
+        ensures stands { B.told → Stands (B.shown blocks.old) self.old.tree → Stands (B.shown blocks.new) self.new.tree }
         ensures untouched { OnErr result (IsUntouched (B.shown blocks.old) (B.shown blocks.new)) }
         ensures calls { B.goes blocks.old blocks.new }
         ensures counts { Counts (B.shown blocks.old) (B.shown blocks.new) result }
-        ensures cause { IfErr result (InodeFails (rooted (B.shown blocks.old) self.old) (B.shown blocks.old) (B.shown blocks.new)) }
+        ensures cause { IfErr result (InodeFails B.told (rooted (B.shown blocks.old) self.old) (B.shown blocks.old) (B.shown blocks.new)) }
     {
         let cell = number / EACH;
         let slot = (number % EACH) as usize;
         let mut files = read_files(&self.tree, blocks, cell)?;
+        if files[slot].name_length == 0 {
+            return Ok(());
+        }
         files[slot] = free_record();
         put_rest(&mut self.tree, blocks, cell, &files, stamp)
     }
@@ -68,18 +72,18 @@ fn put_rest<B: Blocks>(
     requires cell { cell < 2097152 }
     requires stamp { 1 ≤ stamp }
     requires range { All IsInodeRecord files.now }
-    ensures written { OnOk result (all_free files.now ≡ false → WritesFiles (standing (under (B.shown blocks.old)) tree.old) (standing (under (B.shown blocks.new)) tree.new) cell stamp files.now) }
-    ensures erased { OnOk result (all_free files.now ≡ true → Stands (B.shown blocks.old) tree.old → Erases (standing (under (B.shown blocks.old)) tree.old) (standing (under (B.shown blocks.new)) tree.new) (nat_eq cell) 0 stamp) }
-    ensures place_by_place { OnOk result (all_free files.now ≡ true → Stands (B.shown blocks.old) tree.old → HoldsCells (standing (under (B.shown blocks.old)) tree.old) → IsErased (standing (under (B.shown blocks.old)) tree.old) (standing (under (B.shown blocks.new)) tree.new) (nat_eq cell) 0 stamp) }
-    ensures strays { Stands (B.shown blocks.old) tree.old → (B.shown blocks.new).strays ≡ (B.shown blocks.old).strays }
-    ensures released { OnOk result (Releases (B.shown blocks.old) (B.shown blocks.new) (IsDropped (under (B.shown blocks.old)) tree.old tree.new)) }
-    ensures failed { OnErr result (Remains (standing (under (B.shown blocks.old)) tree.old) (standing (under (B.shown blocks.new)) tree.new)) }
+    ensures written { B.told → OnOk result (all_free files.now ≡ false → WritesFiles (standing (under (B.shown blocks.old)) tree.old) (standing (under (B.shown blocks.new)) tree.new) cell stamp files.now) }
+    ensures erased { B.told → OnOk result (all_free files.now ≡ true → Stands (B.shown blocks.old) tree.old → Erases (standing (under (B.shown blocks.old)) tree.old) (standing (under (B.shown blocks.new)) tree.new) (nat_eq cell) 0 stamp) }
+    ensures place_by_place { B.told → OnOk result (all_free files.now ≡ true → Stands (B.shown blocks.old) tree.old → HoldsCells (standing (under (B.shown blocks.old)) tree.old) → IsErased (standing (under (B.shown blocks.old)) tree.old) (standing (under (B.shown blocks.new)) tree.new) (nat_eq cell) 0 stamp) }
+    ensures strays { B.told → Stands (B.shown blocks.old) tree.old → (B.shown blocks.new).strays ≡ (B.shown blocks.old).strays }
+    ensures released { B.told → OnOk result (Releases (B.shown blocks.old) (B.shown blocks.new) (IsDropped (under (B.shown blocks.old)) tree.old tree.new)) }
+    ensures failed { B.told → OnErr result (Remains (standing (under (B.shown blocks.old)) tree.old) (standing (under (B.shown blocks.new)) tree.new)) }
     ensures owner { tree.new.owner ≡ tree.old.owner }
-    ensures stands { Stands (B.shown blocks.old) tree.old → Stands (B.shown blocks.new) tree.new }
+    ensures stands { B.told → Stands (B.shown blocks.old) tree.old → Stands (B.shown blocks.new) tree.new }
     ensures untouched { OnErr result (IsUntouched (B.shown blocks.old) (B.shown blocks.new)) }
     ensures calls { B.goes blocks.old blocks.new }
     ensures counts { Counts (B.shown blocks.old) (B.shown blocks.new) result }
-    ensures cause { IfErr result (Fails (standing (under (B.shown blocks.old)) tree.old) (B.shown blocks.old) (B.shown blocks.new)) }
+    ensures cause { IfErr result (Fails B.told (standing (under (B.shown blocks.old)) tree.old) (B.shown blocks.old) (B.shown blocks.new)) }
 {
     if all_free(files) {
         tree.remove(blocks, cell, 0, stamp)

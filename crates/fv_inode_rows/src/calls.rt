@@ -2,12 +2,16 @@
 
 ghost use Rattle.std.specs.Prelude.{◌≡◌};
 
+use fv_codec::Pointer;
 use fv_inode::{Info, InodeFault, InodeFile};
 use fv_model::Name;
 use fv_tree::Blocks;
 
 /// The most cells that a file has.
 const MOST_CELLS: u32 = 2_097_152;
+
+/// The last VVBN and the last PVBN that there can be.
+const LAST_PLACE: u64 = 1_048_575;
 
 /// Makes a file, where the inode file has at most one level, so that a number is free; `None` where it doesn't.
 ///
@@ -70,6 +74,31 @@ pub fn remove<B: Blocks>(
         None => Ok(false),
         Some(info) => {
             file.remove(blocks, info.number, stamp)?;
+            Ok(true)
+        }
+    }
+}
+
+/// Lets the record of the file of a name lead to another root, of a tree of so many levels; false where there is no
+/// such file, or where the levels or the root aren't of the format.
+///
+/// # Errors
+///
+/// As `InodeFile::set_root`.
+pub fn set_root<B: Blocks>(
+    file: &mut InodeFile,
+    blocks: &mut B,
+    name: &Name,
+    levels: u8,
+    root: Pointer,
+) -> Result<bool, InodeFault> {
+    if root.stamp == 0 || root.vvbn > LAST_PLACE || root.pvbn > LAST_PLACE || levels > 3 {
+        return Ok(false);
+    }
+    match file.find(blocks, name)? {
+        None => Ok(false),
+        Some(info) => {
+            file.set_root(blocks, info.number, levels, root)?;
             Ok(true)
         }
     }

@@ -6,6 +6,12 @@
 mod beside;
 mod calls;
 #[cfg(test)]
+mod far;
+#[cfg(test)]
 mod rows;
+#[cfg(test)]
+mod stored;
+mod tables;
 
-pub use calls::{change, create, remove};
+pub use calls::{change, create, remove, set_root};
+pub use tables::{make, write};

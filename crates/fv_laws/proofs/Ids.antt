@@ -18,7 +18,7 @@ use Rattle.fv_laws.proofs.Maps.{first, second, less}
 abbrev pub is_stamp : ℕ → Option ℕ → Bool
 is_stamp s at = option_map_or (eq_by_cmp nat_cmp s) at false
 
-not_below : (p : Place) (s : ℕ) (es : List Id) → T (below_all place_cmp p es) → list_any (eq_by_cmp id_cmp (p, s)) es ≡ false
+pub not_below : (p : Place) (s : ℕ) (es : List Id) → T (below_all place_cmp p es) → list_any (eq_by_cmp id_cmp (p, s)) es ≡ false
 not_below p s [] h = refl
 not_below p s (e ∷ es) h =
     ap (λ r. is_eq (ordering_then r (nat_cmp s e.1)) || list_any (eq_by_cmp id_cmp (p, s)) es) (less _ (first _ _ h)) ∙ not_below p s es (second _ _ h)

@@ -25,3 +25,12 @@ pub mod Sound
 pub mod Releases
 pub mod Counts
 pub mod Paths
+pub mod Ranges
+pub mod Positions
+pub mod Growth
+pub mod Removals
+pub mod Charges
+pub mod Moves
+pub mod Along
+pub mod PathCharges
+pub mod Neighbors

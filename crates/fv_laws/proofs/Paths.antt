@@ -129,11 +129,11 @@ with_stamp s p = (p, s)
 abbrev new_ids : ℕ → List Place → Ids
 new_ids s path = set.from_list (map (with_stamp s) path)
 
-stamp_is : (u : ℕ) (at : Option ℕ) → is_stamp u at ≡ true → at ≡ Some u
+pub stamp_is : (u : ℕ) (at : Option ℕ) → is_stamp u at ≡ true → at ≡ Some u
 stamp_is u None e = absurd cc
 stamp_is u (Some w) e = ap Some (sym (nat_same u w e))
 
-is_there : (u : ℕ) (at : Option ℕ) → at ≡ Some u → is_stamp u at ≡ true
+pub is_there : (u : ℕ) (at : Option ℕ) → at ≡ Some u → is_stamp u at ≡ true
 is_there u at e = ap (is_stamp u) e ∙ ap is_eq (tied_itself nat_cmp_total u)
 
 old_or_new : (s : ℕ) (path : List Place) (t after : Table) → Adds s path t after → (q : Id) → set.contains (ids_of after) q ≡ true → (set.contains (ids_of t) q || set.contains (new_ids s path) q) ≡ true

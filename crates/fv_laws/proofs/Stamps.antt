@@ -45,11 +45,11 @@ cond_else : {X : Type 0} (b : Bool) (x : X) (o p : Option X) → cond b (Some x)
 cond_else true x o p = refl
 cond_else false x o p = refl
 
-found_append : (p : Place) (es fs : List (Place × ℕ)) → find place_cmp p (es ++ fs) ≡ or_else (find place_cmp p es) (find place_cmp p fs)
+pub found_append : (p : Place) (es fs : List (Place × ℕ)) → find place_cmp p (es ++ fs) ≡ or_else (find place_cmp p es) (find place_cmp p fs)
 found_append p [] fs = refl
 found_append p (e ∷ es) fs = ap (cond (eq_by_cmp place_cmp p e.0) (Some e.1)) (found_append p es fs) ∙ cond_else (eq_by_cmp place_cmp p e.0) e.1 (find place_cmp p es) (find place_cmp p fs)
 
-found_in_tree : (o : Owner) (p : Spot) (es : List (Spot × ℕ)) → find place_cmp (placed o p) (map (λ e. (placed o e.0, e.1)) es) ≡ find spot_cmp p es
+pub found_in_tree : (o : Owner) (p : Spot) (es : List (Spot × ℕ)) → find place_cmp (placed o p) (map (λ e. (placed o e.0, e.1)) es) ≡ find spot_cmp p es
 found_in_tree o p [] = refl
 found_in_tree o p (e ∷ es) = λ i. cond (at_owner o p e.0 i) (Some e.1) (found_in_tree o p es i)
 
@@ -69,13 +69,13 @@ less_not e = cc
 greater_not : Greater ≢ Equal
 greater_not e = cc
 
-no_inode : (p : Spot) (es : List (ℕ × File)) → find place_cmp (placed InodeFile p) (files_entries es) ≡ None
+pub no_inode : (p : Spot) (es : List (ℕ × File)) → find place_cmp (placed InodeFile p) (files_entries es) ≡ None
 no_inode p [] = refl
 no_inode p (e ∷ es) =
     found_append (placed InodeFile p) (tree_entries (OfFile e.0) e.1.tree) (files_entries es)
     ∙ (λ i. or_else (not_in_tree InodeFile (OfFile e.0) p (λ s. absurd (omega arith)) (fin.entries e.1.tree.stamps) i) (no_inode p es i))
 
-not_in_files : (n : ℕ) (p : Spot) (es : List (ℕ × File)) → T (below_all nat_cmp n es) → find place_cmp (placed (OfFile n) p) (files_entries es) ≡ None
+pub not_in_files : (n : ℕ) (p : Spot) (es : List (ℕ × File)) → T (below_all nat_cmp n es) → find place_cmp (placed (OfFile n) p) (files_entries es) ≡ None
 not_in_files n p [] h = refl
 not_in_files n p (e ∷ es) h =
     found_append (placed (OfFile n) p) (tree_entries (OfFile e.0) e.1.tree) (files_entries es)
@@ -145,7 +145,7 @@ get-stamp_spots s (p ∷ ps) m q =
 abbrev pub put_places : Table → ℕ → File → ℕ → List Place
 put_places t n f i = map (placed (OfFile n)) (written_spots f.tree i) ++ map (placed InodeFile) (written_spots t.inode (inode_cell n))
 
-any_append : (q : Place) (ps qs : List Place) → list_any (eq_by_cmp place_cmp q) (ps ++ qs) ≡ (list_any (eq_by_cmp place_cmp q) ps || list_any (eq_by_cmp place_cmp q) qs)
+pub any_append : (q : Place) (ps qs : List Place) → list_any (eq_by_cmp place_cmp q) (ps ++ qs) ≡ (list_any (eq_by_cmp place_cmp q) ps || list_any (eq_by_cmp place_cmp q) qs)
 any_append q [] qs = refl
 any_append q (p ∷ ps) qs = ap (λ b. eq_by_cmp place_cmp q p || b) (any_append q ps qs) ∙ grouped (eq_by_cmp place_cmp q p) _ _
   where
@@ -153,11 +153,11 @@ any_append q (p ∷ ps) qs = ap (λ b. eq_by_cmp place_cmp q p || b) (any_append
     grouped true b c = refl
     grouped false b c = refl
 
-any_there : (o : Owner) (p : Spot) (ps : List Spot) → list_any (eq_by_cmp place_cmp (placed o p)) (map (placed o) ps) ≡ list_any (eq_by_cmp spot_cmp p) ps
+pub any_there : (o : Owner) (p : Spot) (ps : List Spot) → list_any (eq_by_cmp place_cmp (placed o p)) (map (placed o) ps) ≡ list_any (eq_by_cmp spot_cmp p) ps
 any_there o p [] = refl
 any_there o p (q ∷ ps) = λ i. at_owner o p q i || any_there o p ps i
 
-any_elsewhere : (o u : Owner) (p : Spot) → rank o ≢ rank u → (ps : List Spot) → list_any (eq_by_cmp place_cmp (placed o p)) (map (placed u) ps) ≡ false
+pub any_elsewhere : (o u : Owner) (p : Spot) → rank o ≢ rank u → (ps : List Spot) → list_any (eq_by_cmp place_cmp (placed o p)) (map (placed u) ps) ≡ false
 any_elsewhere o u p ne [] = refl
 any_elsewhere o u p ne (q ∷ ps) = λ i. apart o u p q ne i || any_elsewhere o u p ne ps i
 

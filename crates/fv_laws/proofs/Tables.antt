@@ -62,7 +62,7 @@ adds_map g i xs ys adds = record {
 }
 
 -- ---- the least free number
-prefix_passes : (p : ℕ → Bool) (a c k : ℕ) → k < prefix_len p (range_with_len a c) → p (a + k) ≡ true
+pub prefix_passes : (p : ℕ → Bool) (a c k : ℕ) → k < prefix_len p (range_with_len a c) → p (a + k) ≡ true
 prefix_passes p a zero k lt = absurd (omega arith)
 prefix_passes p a (suc c) k lt =
     elim (p a) as (λ b. p a ≡ b → k < cond b (1 + prefix_len p (range_with_len (a + 1) c)) 0 → p (a + k) ≡ true) [

@@ -6,3 +6,4 @@ pub mod Reserve
 pub mod WellFormed
 pub mod Releases
 pub mod Paths
+pub mod Positions

@@ -13,6 +13,7 @@ pub use laws::{
     releases_raise_nothing, reserves_hold, stays_well_formed, the_least_free_number_is_taken,
 };
 pub use space::{
-    a_change_adds_its_path, charge_is_within_the_tables, ids_are_counted,
-    no_volume_outgrows_its_size, space_is_tried_last, use_does_not_rise,
+    a_change_adds_its_path, a_change_charges_its_path, charge_is_within_the_tables,
+    ids_are_counted, no_volume_outgrows_its_size, positions_are_charged, removals_use_no_more,
+    space_is_tried_last, use_does_not_rise,
 };

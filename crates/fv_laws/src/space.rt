@@ -8,12 +8,14 @@ ghost use Rattle.fv_model.specs.declared.commands.Command.{Command};
 ghost use Rattle.fv_model.specs.Volumes.{Volume};
 ghost use Rattle.fv_model.specs.Machines.{Machine, empty_machine};
 ghost use Rattle.fv_model.specs.Space.{charge, use_of};
-ghost use Rattle.fv_model.specs.Tables.{File, new, put, cut, rm};
-ghost use Rattle.fv_model.specs.Places.{Id, Ids};
+ghost use Rattle.fv_model.specs.Tables.{File, free_number, inode_cell, new, put, cut, rm};
+ghost use Rattle.fv_model.specs.Places.{Place, Id, Ids};
 ghost use Rattle.fv_model.specs.Effects.{stamped, empty_volume};
 ghost use Rattle.fv_model.specs.Refusals.{is_splitting, first_of, refusal, next};
 ghost use Rattle.fv_laws.specs.Halves.{before_space, for_space};
 ghost use Rattle.fv_laws.specs.Paths.{new_path, put_path, cut_path, rm_path, ids_and_maps};
+ghost use Rattle.fv_laws.specs.Positions.{positions, added_by, taken_by_cut, taken_by_rm, IsAlone, HasNoReserve, rm_places, staying};
+ghost use Rattle.fv_laws.specs.WellFormed.{IsWellTable, IsWellVolume};
 ghost use Rattle.fv_laws.specs.Within.{IsWithin};
 
 /// No volume ever uses more than its size: there is none in an empty machine, and each command keeps it so.
@@ -62,4 +64,35 @@ pub fn a_change_adds_its_path()
     ensures put { (x : Volume) (n : ℕ) (f : File) (i : ℕ) (block : List ℕ) → fin.get x.active.files n ≡ Some f → charge (stamped x (put x.active n f i block)) ≤ charge x + length (put_path x.active n f i) }
     ensures cut { (x : Volume) (n : ℕ) (f : File) (most : ℕ) → fin.get x.active.files n ≡ Some f → charge (stamped x (cut x.active n f most)) ≤ charge x + length (cut_path x.active n f most) }
     ensures rm { (x : Volume) (n : ℕ) → charge (stamped x (rm x.active n)) ≤ charge x + length (rm_path x.active n) }
+{}
+
+/// A volume without snapshots and base is charged for the cells and marks that stand in its table, one block each. A change leaves no id
+/// charged there beside those.
+#[tactic(auto, using(crate::proofs::Charges::charge_by_positions, crate::proofs::PathCharges::none_stay))]
+pub fn positions_are_charged()
+    ensures alone { (x : Volume) → IsAlone x → charge x ≡ positions x.active }
+    ensures none_stay { (x : Volume) → IsAlone x → (path : List Place) → staying x path ≡ 0 }
+{}
+
+/// What a volume is charged for after a change, exactly: one block more for each cell and mark that comes, one less for each that goes, and
+/// none for a stamp that changes, unless a snapshot, or a base that isn't charged, has the id with the old stamp.
+#[tactic(auto, using(crate::proofs::PathCharges::new_charged, crate::proofs::PathCharges::put_charged, crate::proofs::PathCharges::cut_charged, crate::proofs::PathCharges::rm_charged))]
+pub fn a_change_charges_its_path()
+    ensures new { (x : Volume) → IsWellVolume x → (name : List ℕ) (reserve : ℕ)
+        → charge (stamped x (new x.active name reserve)) ≡ charge x + added_by x.active.inode (inode_cell (free_number x.active)) + staying x (new_path x.active) }
+    ensures put { (x : Volume) → IsWellVolume x → (n : ℕ) (f : File) (i : ℕ) (block : List ℕ) → fin.get x.active.files n ≡ Some f
+        → charge (stamped x (put x.active n f i block)) ≡ charge x + added_by f.tree i + staying x (put_path x.active n f i) }
+    ensures cut { (x : Volume) → IsWellVolume x → (n : ℕ) (f : File) (most : ℕ) → fin.get x.active.files n ≡ Some f
+        → charge (stamped x (cut x.active n f most)) + taken_by_cut f most ≡ charge x + staying x (cut_path x.active n f most) }
+    ensures rm { (x : Volume) → IsWellVolume x → (n : ℕ) (f : File) → fin.get x.active.files n ≡ Some f
+        → charge (stamped x (rm x.active n)) + taken_by_rm x.active n f ≡ charge x + staying x (rm_places x.active n f) }
+{}
+
+/// Without snapshots, a base and reserves a `cut` and an `rm` use no more than before, so an admitted machine never refuses them for space.
+#[tactic(auto, using(crate::proofs::PathCharges::cut_uses_less, crate::proofs::PathCharges::rm_uses_less))]
+pub fn removals_use_no_more()
+    ensures cut { (x : Volume) → IsAlone x → IsWellTable x.now x.active → HasNoReserve x.active → (n : ℕ) (f : File) (most : ℕ) → fin.get x.active.files n ≡ Some f
+        → use_of (stamped x (cut x.active n f most)) ≤ use_of x }
+    ensures rm { (x : Volume) → IsAlone x → IsWellTable x.now x.active → HasNoReserve x.active → (n : ℕ) (f : File) → fin.get x.active.files n ≡ Some f
+        → use_of (stamped x (rm x.active n)) ≤ use_of x }
 {}

@@ -3,3 +3,4 @@ pub mod Pointers
 pub mod Tables
 pub mod Items
 pub mod Bare
+pub mod Changes

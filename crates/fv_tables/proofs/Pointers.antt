@@ -62,7 +62,7 @@ module _ (t : Rooted) (n : Under) (agree : AgreeOnTree t n) where
   unfolding pointers_at
   same_under level place p same = ⊎_elim
       (λ (e : p.stamp ≡ 0). let test : (p.stamp == 0) ≡ true = grind (arith, nat_tests) in rw test refl)
-      (λ (some : p.stamp ≢ 0). ap (λ (b : Option (List ℕ)). if p.stamp == 0 then [] else kept_or (t.nodes level place) (pointers_in t.owner level place b)) (same some))
+      (λ (some : p.stamp ≢ 0). ap (λ (b : Option (List ℕ)). if p.stamp == 0 then [] else kept_or (t.nodes level place) (pointers_in b)) (same some))
       (cases_eq p.stamp 0)
 
   same_below : (steps place : ℕ) → steps ≤ t.levels → pointer_below (over n t) steps place ≡ pointer_below t steps place

@@ -3,11 +3,13 @@
 -- A tree is named by its owner, its levels and its root pointer. Level 0 are its cells, and the node of range p at a level
 -- above holds 128 pointers, to the ranges 128 * p and up of the level below. A pointer's stamp is that of the mark or the
 -- cell that it leads to, and a hole leads to nothing. A pointer's PVBN plays no part here.
+--
+-- A node is taken by where the pointer led, whatever owner, level and place its block names.
 use Rattle.std.specs.Prelude.{ℕ, zero, suc, ◌-◌, ◌/◌, ◌%◌, List, [], Option, Some, None, Result, Ok, Err, get_or, nat_le, ◌==◌, if◌then◌else◌}
 use Rattle.fv_codec.specs.declared.shape.Shape.{Shape}
 use Rattle.fv_codec.specs.declared.pointer.Pointer.{Pointer}
 use Rattle.fv_codec.specs.declared.node.Node.{Node}
-use Rattle.fv_codec.specs.Fields.{Verdict, in_range, reading, ◌then◌}
+use Rattle.fv_codec.specs.Fields.{Verdict, in_range, ◌then◌}
 use Rattle.fv_codec.specs.Blocks.{node_at}
 use Rattle.fv_model.specs.Trees.{fan}
 
@@ -22,22 +24,14 @@ hole = record { vvbn = 0; pvbn = 0; stamp = 0 }
 abbrev pub position : ℕ → ℕ → ℕ → Node → Verdict
 position owner level place n = in_range level level n.level then in_range owner owner n.owner then in_range place place n.place
 
-abbrev pub positioned : ℕ → ℕ → ℕ → Result Node Shape → Result Node Shape
-positioned owner level place (Err fault) = Err fault
-positioned owner level place (Ok n) = reading (position owner level place n) n
-
--- the node of this position that a block spells, or its first field that isn't as said
-unfoldable pub node_for : ℕ → ℕ → ℕ → List ℕ → Result Node Shape
-node_for owner level place block = positioned owner level place (node_at block)
-
--- the pointers of a block; none where it isn't the node of its position
+-- the pointers of a node's block; none where it hasn't the shape
 abbrev pub pointers_of : Result Node Shape → List Pointer
 pointers_of (Ok n) = n.children
 pointers_of (Err fault) = []
 
-abbrev pub pointers_in : ℕ → ℕ → ℕ → Option (List ℕ) → List Pointer
-pointers_in owner level place None = []
-pointers_in owner level place (Some block) = pointers_of (node_for owner level place block)
+abbrev pub pointers_in : Option (List ℕ) → List Pointer
+pointers_in None = []
+pointers_in (Some block) = pointers_of (node_at block)
 
 -- The pointers of the nodes that are held in memory, by level and range; None for a node that isn't.
 abbrev pub Kept : Type 0
@@ -64,7 +58,7 @@ kept_or (Some kept) pointers = kept
 -- the pointers of the node to which a pointer leads
 unfoldable pub pointers_at : Rooted → ℕ → ℕ → Pointer → List Pointer
 pointers_at t level place p =
-    if p.stamp == 0 then [] else kept_or (t.nodes level place) (pointers_in t.owner level place (t.under p.vvbn))
+    if p.stamp == 0 then [] else kept_or (t.nodes level place) (pointers_in (t.under p.vvbn))
 
 -- the pointer to the range `place` that lies so many steps below the root
 unfoldable pub pointer_below : Rooted → ℕ → ℕ → Pointer

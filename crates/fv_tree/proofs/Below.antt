@@ -20,7 +20,7 @@ pub kept_pointers : (t : Rooted) (level place : ℕ) (p : Pointer) (xs : List Po
 unfolding pointers_at
 kept_pointers t level place p xs some is = rw (something p.stamp some, is) refl
 
-pub read_pointers : (t : Rooted) (level place : ℕ) (p : Pointer) → p.stamp ≢ 0 → t.nodes level place ≡ None → pointers_at t level place p ≡ pointers_in t.owner level place (t.under p.vvbn)
+pub read_pointers : (t : Rooted) (level place : ℕ) (p : Pointer) → p.stamp ≢ 0 → t.nodes level place ≡ None → pointers_at t level place p ≡ pointers_in (t.under p.vvbn)
 unfolding pointers_at
 read_pointers t level place p some is = rw (something p.stamp some, is) refl
 

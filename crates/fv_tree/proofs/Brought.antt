@@ -1,11 +1,12 @@
 -- A node that comes into memory, and how the tree stands to its blocks then.
-use Rattle.std.proofs.Common.{◌≡◌, ◌≢◌, ◌≤◌, ◌<◌, ℕ, ◌+◌, ◌/◌, ◌⊎◌, inl, inr, true, false, cond, ◌&&◌, List, Option, Some, None, Result, Ok, Err, OnOk, OnErr, get_or, is_some, nat_eq, replicate, sym, ap, ◌∙◌, arith}
+use Rattle.std.proofs.Common.{◌≡◌, ◌≢◌, ◌≤◌, ◌<◌, ℕ, ◌+◌, ◌/◌, ◌⊎◌, inl, inr, true, false, cond, ◌&&◌, List, Option, Some, None, Result, Ok, Err, OnOk, OnErr, get_or, is_some, nat_eq, replicate, sym, ap, subst, ◌∙◌, arith}
 use Rattle.std.specs.Ordering.{nat_cmp}
 use Rattle.std.specs.Option.{option_map}
 use Rattle.std.specs.BTreeMap as tree
 use Rattle.std.specs.FinMap as fin
 use Rattle.std.proofs.lemmas.Bool.{cases_eq}
 use Rattle.fv_codec.specs.declared.pointer.Pointer.{Pointer}
+use Rattle.fv_codec.specs.Blocks.{all_holes}
 use Rattle.fv_model.specs.Trees.{fan}
 use Rattle.fv_disk.specs.declared.fault.BlockFault.{BlockFault}
 use Rattle.fv_tree.specs.declared.kept.Tree.{Tree}
@@ -17,9 +18,11 @@ use Rattle.fv_tree.specs.Standing.{standing, under, node_in, IsSameBut}
 use Rattle.fv_tree.specs.Keeping.{IsSame}
 use Rattle.fv_tree.specs.Flushing.{Leads, IsEmptyNode, Stands, loaded, changed_of, placed_of, placed_in, node_changed, node_placed, cell_placed, kind_for}
 use Rattle.fv_tree.specs.Carried.{kept_at, IsBlank, IsRead, Brings}
+use Rattle.fv_tree.specs.Refilling.{IsFilled}
 use Rattle.fv_tree.proofs.Flushed.{false_is_true, under_none}
 use Rattle.fv_tree.proofs.Gone.{cell_changed, spot_changed, cell_led, spot_led}
 use Rattle.fv_tree.proofs.Hints.{right_as}
+use Rattle.fv_tree.proofs.Pointers.{one_filled}
 use Rattle.fv_tree.proofs.Spots.{here, elsewhere}
 use Rattle.fv_tree.proofs.Ways.{spot_is, nothing_there}
 
@@ -31,13 +34,21 @@ pub some_same : {X : Type 0} (x y : X) → Some x ≡ Some y → x ≡ y
 unfolding or_this
 some_same x y e = ap (or_this x) e
 
+-- all other nodes are in memory as they were
+pub but_one : (t u : Tree) (level place : ℕ) (node : KeptNode) (r : Result (List Pointer) BlockFault)
+    → OnOk r ((k q : ℕ) → kept_at u k q ≡ cond (nat_eq k level && nat_eq q place) (Some node) (kept_at t k q))
+    → OnErr r ((k q : ℕ) → kept_at u k q ≡ kept_at t k q)
+    → (k q : ℕ) → (k ≢ level) ⊎ (q ≢ place) → kept_at u k q ≡ kept_at t k q
+but_one t u level place node (Ok xs) done failed k q other = done k q ∙ ap (λ b. cond b (Some node) (kept_at t k q)) (elsewhere k q level place other)
+but_one t u level place node (Err e) done failed k q other = failed k q
+
 pub brought : (blocks : Under) (t u : Tree) (level place : ℕ) (p : Pointer) (node : KeptNode) (r : Result (List Pointer) BlockFault)
     → OnOk r ((k q : ℕ) → kept_at u k q ≡ cond (nat_eq k level && nat_eq q place) (Some node) (kept_at t k q))
     → OnErr r ((k q : ℕ) → kept_at u k q ≡ kept_at t k q)
-    → (kept_at u level place ≡ Some node → ((p.stamp ≡ 0) × IsBlank (kept_at u level place)) ⊎ ((p.stamp ≢ 0) × (kept_at t level place ≡ None) × IsRead t.owner level place blocks p.vvbn (kept_at u level place)))
+    → (kept_at u level place ≡ Some node → ((p.stamp ≡ 0) × IsBlank (kept_at u level place)) ⊎ ((p.stamp ≢ 0) × (kept_at t level place ≡ None) × IsRead blocks p.vvbn (kept_at u level place)))
     → Brings blocks t u level place p
 brought blocks t u level place p node (Ok xs) done failed own = record {
-  others = λ k q other. done k q ∙ ap (λ b. cond b (Some node) (kept_at t k q)) (elsewhere k q level place other);
+  others = but_one t u level place node (Ok xs) done tt;
   own = inr (own (done level place ∙ ap (λ b. cond b (Some node) (kept_at t level place)) (here level place)));
 }
 brought blocks t u level place p node (Err e) done failed own = record {
@@ -63,6 +74,14 @@ pub blank_empty : (blocks : Under) (t : Tree) (k q : ℕ) → IsBlank (kept_at t
 blank_empty blocks t k q blank xs node slot =
     let is : xs ≡ replicate 128 hole = some_same xs (replicate 128 hole) (sym node ∙ ap (option_map (λ (kept : KeptNode). kept.children)) blank.is ∙ ap Some blank.children) in
     ap (λ (ys : List Pointer). get_or ys slot hole) is ∙ nothing_there slot
+
+-- A pointer that isn't a hole is in a node to which one leads, and that leads somewhere.
+pub leads_on : (t : Tree) (level place slot : ℕ) (p : Pointer) (xs : List Pointer) → node_in t level place ≡ Some xs → (p.stamp ≡ 0 → IsBlank (kept_at t level place)) → (get_or xs slot hole).stamp ≢ 0
+    → (p.stamp ≢ 0) × IsFilled t level place
+leads_on t level place slot p xs node blank some = (
+  λ none. some (ap (λ (q : Pointer). q.stamp) (blank_empty (λ _. None) t level place (blank none) xs node slot)),
+  λ ys other. subst (λ zs. all_holes zs ≡ false) (some_same xs ys (sym node ∙ other)) (one_filled xs slot some),
+)
 
 -- the tree stands on its blocks as it did
 module _ (old new : Shown) (t u : Tree) (level place : ℕ) (low : 1 ≤ level) (held : new.held ≡ old.held) (used : new.used ≡ old.used) (fields : IsSameBut t u)
@@ -135,7 +154,7 @@ module _ (old new : Shown) (t u : Tree) (level place : ℕ) (low : 1 ≤ level) 
   seen_blocks i v = fin.get (held i) v
 
   own_same : (xs : List Pointer) → node_in u level place ≡ Some xs → changed_of u level place ≡ false → (pointer_at (standing (under old) t) level place).stamp ≢ 0
-      → (pointers_in t.owner level place (under old (pointer_at (standing (under old) t) level place).vvbn) ≡ xs) × (placed_of u level place ≡ true)
+      → (pointers_in (under old (pointer_at (standing (under old) t) level place).vvbn) ≡ xs) × (placed_of u level place ≡ true)
   own_same xs node now some = elim brings.own [
     | inl kept ↦
         let was = stands.same level place xs low (sym (ap (option_map (λ (kept : KeptNode). kept.children)) kept) ∙ node) (spot_changed t level place low ∙ sym (ap node_changed kept) ∙ sym (spot_changed u level place low) ∙ now) some in
@@ -149,21 +168,21 @@ module _ (old new : Shown) (t u : Tree) (level place : ℕ) (low : 1 ≤ level) 
   other_node j c other = ap (option_map (λ (kept : KeptNode). kept.children)) (brings.others j c other)
 
   same_old : (j c : ℕ) (xs : List Pointer) → 1 ≤ j → node_in u j c ≡ Some xs → changed_of u j c ≡ false → (pointer_at (standing (under old) t) j c).stamp ≢ 0
-      → (pointers_in t.owner j c (under old (pointer_at (standing (under old) t) j c).vvbn) ≡ xs) × (placed_of u j c ≡ true)
+      → (pointers_in (under old (pointer_at (standing (under old) t) j c).vvbn) ≡ xs) × (placed_of u j c ≡ true)
   same_old j c xs some node now reached = elim (spot_is j c level place) [
     | inl at ↦
         let own = own_same xs (sym (λ i. node_in u (at.0 i) (at.1 i)) ∙ node) (sym (λ i. changed_of u (at.0 i) (at.1 i)) ∙ now) (λ e. reached ((λ i. (pointer_at (standing (under old) t) (at.0 i) (at.1 i)).stamp) ∙ e)) in
-        ((λ i. pointers_in t.owner (at.0 i) (at.1 i) (under old (pointer_at (standing (under old) t) (at.0 i) (at.1 i)).vvbn)) ∙ own.0, (λ i. placed_of u (at.0 i) (at.1 i)) ∙ own.1)
+        ((λ i. pointers_in (under old (pointer_at (standing (under old) t) (at.0 i) (at.1 i)).vvbn)) ∙ own.0, (λ i. placed_of u (at.0 i) (at.1 i)) ∙ own.1)
     | inr other ↦
         let was = stands.same j c xs some (sym (other_node j c other) ∙ node) (sym (other_changed j c other) ∙ now) reached in
         (was.0, other_led j c other ∙ was.1)
   ]
 
   same_nodes : (j c : ℕ) (xs : List Pointer) → 1 ≤ j → node_in u j c ≡ Some xs → changed_of u j c ≡ false → (pointer_at (standing (under new) u) j c).stamp ≢ 0
-      → (pointers_in u.owner j c (under new (pointer_at (standing (under new) u) j c).vvbn) ≡ xs) × (placed_of u j c ≡ true)
+      → (pointers_in (under new (pointer_at (standing (under new) u) j c).vvbn) ≡ xs) × (placed_of u j c ≡ true)
   same_nodes j c xs some node now reached =
       let was = same_old j c xs some node now (λ e. reached (stamps j c ∙ e)) in
-      ((λ i. pointers_in (fields.owner i) j c (seen_blocks i (same.pointers j c i).vvbn)) ∙ was.0, was.1)
+      ((λ i. pointers_in (seen_blocks i (same.pointers j c i).vvbn)) ∙ was.0, was.1)
 
   own_empty : (pointer_at (standing (under old) t) level place).stamp ≡ 0 → IsEmptyNode (standing (under old) t) level place → IsEmptyNode (standing (under new) u) level place
   own_empty none was = elim brings.own [

@@ -7,27 +7,55 @@ use Rattle.fv_codec.specs.declared.pointer.Pointer.{Pointer}
 use Rattle.fv_tree.specs.Spelled.{Rooted, pointer_at}
 use Rattle.fv_tree.specs.Sources.{Shown, Counts, IsCalm, IsUntouched}
 use Rattle.fv_tree.specs.Keeping.{IsSame}
-use Rattle.fv_tree.specs.Standing.{IsBlockDamage, LoadFails, Fails}
+use Rattle.fv_tree.specs.Standing.{under, IsBlockDamage, LeadsAway, PointerFails, LoadFails, Fails}
+
+-- a cell of the tree that wasn't loaded
+pub cell_fails : (told : Type 0) (t : Rooted) (old new : Shown) (index : ℕ) (p : Pointer) (e : BlockFault) → t.under ≡ under old → (told → p ≡ pointer_at t 0 index) → PointerFails old new p e → Fails told t old new e
+cell_fails told t old new index p DiskFault held is (cause, away) = cause
+cell_fails told t old new index p (Damaged at want found) held is ((faults, was), away) = (
+  faults,
+  inl (
+    was,
+    λ tells. record {
+      level = 0;
+      place = index;
+      high = omega arith;
+      away = subst (LeadsAway t.under) (is tells) (subst (λ b. LeadsAway b p) (sym held) (away tt));
+    },
+  ),
+)
+cell_fails told t old new index p Memory held is (cause, away) = cause
 
 -- a node of the tree that wasn't loaded
-pub node_fails : (t : Rooted) (old new : Shown) (level place : ℕ) (p : Pointer) (e : BlockFault) → 1 ≤ level → level ≤ t.levels → pointer_at t level place ≡ p
-    → LoadFails old new t.owner level place p e → Fails t old new e
-node_fails t old new level place p DiskFault low high is h = h
-node_fails t old new level place p (Damaged at want found) low high is (faults, inl h) = (faults, inl h)
-node_fails t old new level place p (Damaged at want found) low high is (faults, inr h) = (
+pub node_fails : (told : Type 0) (t : Rooted) (old new : Shown) (level place : ℕ) (p : Pointer) (e : BlockFault) → t.under ≡ under old → 1 ≤ level → level ≤ t.levels → (told → pointer_at t level place ≡ p)
+    → LoadFails told old new p e → Fails told t old new e
+node_fails told t old new level place p DiskFault held low high is h = h
+node_fails told t old new level place p (Damaged at want found) held low high is (faults, inl h) = (
+  faults,
+  inl (
+    h.0,
+    λ tells. record {
+      level = level;
+      place = place;
+      high = high;
+      away = subst (LeadsAway t.under) (sym (is tells)) (subst (λ b. LeadsAway b p) (sym held) h.1);
+    },
+  ),
+)
+node_fails told t old new level place p (Damaged at want found) held low high is (faults, inr h) = (
   faults,
   inr (
     h.0,
-    record {
+    λ tells. record {
       level = level;
       place = place;
       low = low;
       high = high;
-      damage = subst (λ q. IsBlockDamage old new t.owner level place q at want found) (sym is) h.1;
+      damage = subst (λ q. IsBlockDamage old new q at want found) (sym (is tells)) (h.1 tells);
     },
   ),
 )
-node_fails t old new level place p Memory low high is h = h
+node_fails told t old new level place p Memory held low high is h = h
 
 -- ---- over several calls
 
@@ -56,14 +84,14 @@ counts_then old mid new (Err e) first second = record {
 }
 
 -- a tree over the same blocks fails for the same reason when the calls began earlier
-pub fails_later : (t : Rooted) (old mid new : Shown) (e : BlockFault) → IsCalm old mid → mid.held ≡ old.held → Fails t mid new e → Fails t old new e
-fails_later t old mid new DiskFault calm held h = (rw (← calm.faults) h.0, h.1 ∙ calm.damages)
-fails_later t old mid new (Damaged at want found) calm held (faults, inl h) = (faults ∙ calm.faults, inl (rw (← calm.damages) h.0, h.1))
-fails_later t old mid new (Damaged at want found) calm held (faults, inr (damages, h)) = (
+pub fails_later : (told : Type 0) (t : Rooted) (old mid new : Shown) (e : BlockFault) → IsCalm old mid → mid.held ≡ old.held → Fails told t mid new e → Fails told t old new e
+fails_later told t old mid new DiskFault calm held h = (rw (← calm.faults) h.0, h.1 ∙ calm.damages)
+fails_later told t old mid new (Damaged at want found) calm held (faults, inl h) = (faults ∙ calm.faults, inl ((rw (← calm.damages) h.0.0, h.0.1), h.1))
+fails_later told t old mid new (Damaged at want found) calm held (faults, inr (damages, is)) = (
   faults ∙ calm.faults,
   inr (
     damages ∙ calm.damages,
-    record {
+    λ tells. let h = is tells in record {
       level = h.level;
       place = h.place;
       low = h.low;
@@ -78,7 +106,7 @@ fails_later t old mid new (Damaged at want found) calm held (faults, inr (damage
     },
   ),
 )
-fails_later t old mid new Memory calm held h = calm_then old mid new calm h
+fails_later told t old mid new Memory calm held h = calm_then old mid new calm h
 
 pub at_ok : {T E P : Type 0} (r : Result T E) → P → OnOk r P
 at_ok (Ok x) p = p
@@ -89,21 +117,31 @@ at_err (Ok x) p = tt
 at_err (Err e) p = p
 
 -- a tree that is the same fails for the same reason
-pub fails_same : (t u : Rooted) (old new : Shown) (e : BlockFault) → IsSame t u → Fails u old new e → Fails t old new e
-fails_same t u old new DiskFault same h = h
-fails_same t u old new (Damaged at want found) same (faults, inl h) = (faults, inl h)
-fails_same t u old new (Damaged at want found) same (faults, inr (damages, h)) = (
+pub fails_same : (told : Type 0) (t u : Rooted) (old new : Shown) (e : BlockFault) → (told → IsSame t u) → Fails told u old new e → Fails told t old new e
+fails_same told t u old new DiskFault same h = h
+fails_same told t u old new (Damaged at want found) same (faults, inl h) = (
   faults,
-  inr (
-    damages,
-    record {
-      level = h.level;
-      place = h.place;
-      low = h.low;
-      high = omega (arith, h.high, same.levels);
-      damage = subst (λ owner. IsBlockDamage old new owner h.level h.place (pointer_at t h.level h.place) at want found) same.owner
-          (subst (λ p. IsBlockDamage old new u.owner h.level h.place p at want found) (same.pointers h.level h.place) h.damage);
+  inl (
+    h.0,
+    λ tells. let was = h.1 tells in let alike = same tells in record {
+      level = was.level;
+      place = was.place;
+      high = omega (arith, was.high, alike.levels);
+      away = subst (λ b. LeadsAway b (pointer_at t was.level was.place)) alike.under (subst (LeadsAway u.under) (alike.pointers was.level was.place) was.away);
     },
   ),
 )
-fails_same t u old new Memory same h = h
+fails_same told t u old new (Damaged at want found) same (faults, inr (damages, is)) = (
+  faults,
+  inr (
+    damages,
+    λ tells. let h = is tells in let alike = same tells in record {
+      level = h.level;
+      place = h.place;
+      low = h.low;
+      high = omega (arith, h.high, alike.levels);
+      damage = subst (λ p. IsBlockDamage old new p at want found) (alike.pointers h.level h.place) h.damage;
+    },
+  ),
+)
+fails_same told t u old new Memory same h = h

@@ -1,6 +1,6 @@
 -- The ranges that stand past a length, level by level.
 use Rattle.std.proofs.Common.{◌≡◌, ◌≢◌, ◌≤◌, ◌<◌, ℕ, zero, suc, ◌+◌, ◌-◌, ◌*◌, ◌/◌, ◌%◌, ◌^◌, ◌⊎◌, inl, inr, Bool, true, false, ◌||◌, List, [], ◌∷◌, ◌++◌, get_or, length, ◌==◌, if◌then◌else◌, nat_eq, nat_le, refl, sym, ap, subst, ◌∙◌, arith, length-append, ◌&&◌, nat_lt}
-use Rattle.std.proofs.Math.Nat.{div-eq_of_lt}
+use Rattle.std.proofs.Math.Nat.{div-eq_of_lt, pow-le-pow_right, pow-suc}
 use Rattle.std.proofs.Math.Seq.{get_or-append_seam}
 use Rattle.std.proofs.lemmas.List.{get_or_append_left}
 use Rattle.std.proofs.lemmas.Bool.{cases_eq, cases_lt}
@@ -55,6 +55,30 @@ module _ (xs : List ℕ) (p : ℕ) where
         let is = below j (omega (arith, lt, same)) in omega (arith, first, second, is)
   ]
 
+  pub all_below : (bound : ℕ) → p < bound → AreBelow xs bound → AreBelow ys bound
+  all_below bound lt below j less = elim (place_of j less) [
+    | inl old ↦ let first : get_or ys j 0 ≡ get_or xs j 0 = old_at j old in let is = below j old in omega (arith, first, is)
+    | inr same ↦ let last : get_or ys j 0 ≡ p = ap (λ k. get_or ys k 0) same ∙ last_at in omega (arith, last, lt)
+  ]
+
+pub none_below : (bound : ℕ) → AreBelow [] bound
+none_below bound j lt = absurd (omega (arith, lt))
+
+pub first_below : (bound : ℕ) → 0 < bound → AreBelow (0 ∷ []) bound
+first_below bound some = all_below [] 0 bound some (none_below bound)
+
+-- ---- how many ranges of a level there are
+
+-- a level below the third has so many at most
+pub range_within : (level place : ℕ) → 1 ≤ level → level ≤ 3 → place < fan ^ (3 - level) → place < 16384
+range_within level place low high lt = let le : fan ^ (3 - level) ≤ fan ^ 2 = pow-le-pow_right {n = fan} (omega arith) {i = 3 - level} {j = 2} (omega arith) in omega (arith, lt, le)
+
+-- those under one of them are among those of the level below
+pub ranges_under : (level place : ℕ) → 1 ≤ level → level ≤ 3 → place < fan ^ (3 - level) → (place + 1) * fan ≤ fan ^ (3 - (level - 1))
+ranges_under level place low high lt =
+    let n : 3 - (level - 1) ≡ suc (3 - level) = omega arith in
+    let wide : fan ^ (3 - (level - 1)) ≡ fan ^ (3 - level) * fan = ap (λ k. fan ^ k) n ∙ pow-suc fan (3 - level) in omega (arith, lt, wide)
+
 -- ---- ranges past a length
 
 pub far_up : (a b k : ℕ) → a ≤ b → a / fan ^ k ≤ b / fan ^ k
@@ -99,23 +123,6 @@ pointer_in_is blocks t level place stands held =
           let node = held lt in
           rw low (ap (λ o. child_of o (place % fan)) node.1
           ∙ sym ((own_way s).down level place lt ∙ ap (λ (xs : List Pointer). get_or xs (place % fan) hole) (kept_pointers s (level + 1) (place / fan) (pointer_at s (level + 1) (place / fan)) node.0 (λ none. stands (hole_below s level place lt none)) node.1)))
-    ]
-
--- how many ranges of a level there are
-pub place_within : (t : Rooted) (level place : ℕ) → 1 ≤ level → t.levels ≤ 3 → StandsAt t level place → place < 16384
-place_within t level place low few stands =
-    let le = mark_within t level place stands in
-    elim (cases_eq level t.levels) [
-      | inl top ↦ let none : place ≡ 0 = top_alone t place (subst (λ k. StandsAt t k place) top stands) in omega (arith, none)
-      | inr differs ↦
-          let up : StandsAt t (level + 1) (place / fan) = λ none. stands (hole_below t level place (omega (arith, le, differs)) none) in
-          elim (cases_eq (level + 1) t.levels) [
-            | inl top ↦ let none : place / fan ≡ 0 = top_alone t (place / fan) (subst (λ k. StandsAt t k (place / fan)) top up) in omega (arith, none)
-            | inr differs_too ↦
-                let over : StandsAt t (level + 1 + 1) (place / fan / fan) = λ none. up (hole_below t (level + 1) (place / fan) (omega (arith, le, differs, differs_too)) none) in
-                let top : level + 1 + 1 ≡ t.levels = omega (arith, le, low, few, differs, differs_too) in
-                let none : place / fan / fan ≡ 0 = top_alone t (place / fan / fan) (subst (λ k. StandsAt t k (place / fan / fan)) top over) in omega (arith, none)
-          ]
     ]
 
 -- ---- one level down

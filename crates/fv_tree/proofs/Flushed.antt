@@ -7,7 +7,7 @@ use Rattle.fv_codec.specs.declared.pointer.Pointer.{Pointer}
 use Rattle.fv_model.specs.Trees.{fan}
 use Rattle.fv_tree.specs.Sources.{Use}
 use Rattle.fv_tree.specs.Spelled.{Rooted, hole, pointers_at, pointers_in, pointer_at, block_at}
-use Rattle.fv_tree.specs.Flushing.{Loaded, Leads, IsRight, IsSound, IsEmptyNode, IsFlushed, IsReplaced, IsPlaced, HoldsUnknown, Flushes, kind_for, use_told, HasKind}
+use Rattle.fv_tree.specs.Flushing.{Loaded, Leads, IsRight, IsSound, IsEmptyNode, IsFlushed, IsReplaced, IsPlaced, HoldsUnknown, IsNodeOf, NamesPosition, Flushes, kind_for, use_told, HasKind}
 use Rattle.fv_tree.proofs.Below.{no_pointers, kept_pointers, read_pointers}
 use Rattle.fv_tree.proofs.Hints.{HasUnknown, right_as, right_kind}
 use Rattle.fv_tree.proofs.Spots.{here, elsewhere}
@@ -87,8 +87,9 @@ pub record Replaces (s : Loaded) (used : ℕ → Option Use) (u : Loaded) (uses 
   pub own_cell : k ≡ 0 → u.tree.cells q ≡ None
   pub nodes : (j c : ℕ) → 1 ≤ j → (j ≢ k) ⊎ (c ≢ q) → (j ≢ k + 1) ⊎ (c ≢ q / fan) → u.tree.nodes j c ≡ s.tree.nodes j c
   pub cells : (i : ℕ) → (k ≢ 0) ⊎ (i ≢ q) → u.tree.cells i ≡ s.tree.cells i
-  pub node : 1 ≤ k → (xs : List Pointer) × (s.tree.nodes k q ≡ Some xs) × (pointers_in s.tree.owner k q (u.tree.under p.vvbn) ≡ xs)
+  pub node : 1 ≤ k → (xs : List Pointer) × (s.tree.nodes k q ≡ Some xs) × (pointers_in (u.tree.under p.vvbn) ≡ xs)
       × ((slot : ℕ) → (get_or xs slot hole).stamp ≢ 0 → (get_or xs slot hole).pvbn ≡ 0 → p.pvbn ≡ 0)
+  pub names : 1 ≤ k → IsNodeOf s.tree.owner k q (u.tree.under p.vvbn)
   pub cell : k ≡ 0 → (block : List ℕ) × (s.tree.cells q ≡ Some block) × (u.tree.under p.vvbn ≡ Some block)
   pub fresh : s.tree.under p.vvbn ≡ None
   pub unused : used p.vvbn ≡ None
@@ -159,7 +160,7 @@ module _ (s : Loaded) (used : ℕ → Option Use) (u : Loaded) (uses : ℕ → O
       let node = is.node (omega (arith, up)) in
       let reached : (pointer_at s.tree (j + 1) (c / fan)).stamp ≢ 0 = λ e. is.some (sym (λ i. (pointer_at s.tree (up i) (at i)).stamp) ∙ e) in
       let held : s.tree.nodes (j + 1) (c / fan) ≡ Some node.0 = (λ i. s.tree.nodes (up i) (at i)) ∙ node.1 in
-      let read : pointers_at u.tree k q p ≡ node.0 = read_pointers u.tree k q p some (is.own (omega (arith, up))) ∙ ap (λ n. pointers_in n k q (u.tree.under p.vvbn)) is.owner ∙ node.2 in
+      let read : pointers_at u.tree k q p ≡ node.0 = read_pointers u.tree k q p some (is.own (omega (arith, up))) ∙ node.2 in
       moved_elsewhere (pointer_at s.tree) k q p j c (inl (omega (arith, up))) ∙ (own_way s.tree).down j c lt
       ∙ ap (λ (xs : List Pointer). get_or xs (c % fan) hole) (kept_pointers s.tree (j + 1) (c / fan) (pointer_at s.tree (j + 1) (c / fan)) node.0 reached held)
       ∙ sym (ap (λ (xs : List Pointer). get_or xs (c % fan) hole) ((λ i. pointers_at u.tree (up i) (at i) (moved_here (pointer_at s.tree) k q p (j + 1) (c / fan) up at i)) ∙ read))
@@ -197,7 +198,7 @@ module _ (s : Loaded) (used : ℕ → Option Use) (u : Loaded) (uses : ℕ → O
       | inl none ↦
           let leads : Leads s j c (pointer_at s.tree j c).vvbn = record { some = reached; placed = memory.nodes j c low none; vvbn = refl } in
           read_pointers u.tree j c (pointer_at s.tree j c) reached (is.nodes j c low other beside ∙ none)
-          ∙ (λ i. pointers_in (is.owner i) j c ((stays_under j c (pointer_at s.tree j c).vvbn leads other).0 i))
+          ∙ ap pointers_in (stays_under j c (pointer_at s.tree j c).vvbn leads other).0
           ∙ sym (read_pointers s.tree j c (pointer_at s.tree j c) reached none)
       | inr held ↦ kept_pointers u.tree j c (pointer_at s.tree j c) held.0 reached (is.nodes j c low other beside ∙ held.1) ∙ sym (kept_pointers s.tree j c (pointer_at s.tree j c) held.0 reached held.1)
     ]
@@ -345,18 +346,18 @@ module _ (s : Loaded) (used : ℕ → Option Use) (u : Loaded) (uses : ℕ → O
 
   -- a node that is neither the one that went nor the one over it
   same_other : (j c : ℕ) (xs : List Pointer) → 1 ≤ j → u.tree.nodes j c ≡ Some xs → u.changed j c ≡ false → (pointer_at u.tree j c).stamp ≢ 0 → (j ≢ k) ⊎ (c ≢ q) → (j ≢ k + 1) ⊎ (c ≢ q / fan)
-      → (pointers_in u.tree.owner j c (u.tree.under (pointer_at u.tree j c).vvbn) ≡ xs) × (u.placed j c ≡ true)
+      → (pointers_in (u.tree.under (pointer_at u.tree j c).vvbn) ≡ xs) × (u.placed j c ≡ true)
   same_other j c xs low node changed reached other beside =
       let pointer : pointer_at u.tree j c ≡ pointer_at s.tree j c = pointer_there j c other in
       let some_old : (pointer_at s.tree j c).stamp ≢ 0 = λ e. reached (same_stamps j c ∙ e) in
       let was = sound.same j c xs low (sym (is.nodes j c low other beside) ∙ node) (sym (is.changed_others j c other) ∙ changed) some_old in
       let leads : Leads s j c (pointer_at s.tree j c).vvbn = record { some = some_old; placed = was.1; vvbn = refl } in (
-        (λ i. pointers_in (is.owner i) j c (u.tree.under (pointer i).vvbn)) ∙ ap (pointers_in s.tree.owner j c) (stays_under j c (pointer_at s.tree j c).vvbn leads other).0 ∙ was.0,
+        (λ i. pointers_in (u.tree.under (pointer i).vvbn)) ∙ ap pointers_in (stays_under j c (pointer_at s.tree j c).vvbn leads other).0 ∙ was.0,
         is.placed_others j c other ∙ was.1,
       )
 
   same : (j c : ℕ) (xs : List Pointer) → 1 ≤ j → u.tree.nodes j c ≡ Some xs → u.changed j c ≡ false → (pointer_at u.tree j c).stamp ≢ 0
-      → (pointers_in u.tree.owner j c (u.tree.under (pointer_at u.tree j c).vvbn) ≡ xs) × (u.placed j c ≡ true)
+      → (pointers_in (u.tree.under (pointer_at u.tree j c).vvbn) ≡ xs) × (u.placed j c ≡ true)
   same j c xs low node changed reached = elim (spot_is j c k q) [
     | inl at ↦ some_none (u.tree.nodes j c) xs ((λ i. u.tree.nodes (at.0 i) (at.1 i)) ∙ is.own (omega (arith, low, at.0))) node
     | inr other ↦ elim (spot_is j c (k + 1) (q / fan)) [
@@ -485,6 +486,15 @@ module _ (s : Loaded) (used : ℕ → Option Use) (u : Loaded) (uses : ℕ → O
       subst (λ (kind : ℕ). HasKind kind (uses (pointer_at u.tree j c).vvbn)) (sym (same_kind j at.0))
       (subst (λ (r : Pointer). HasKind (kind_for s.tree.owner k) (uses r.vvbn)) (sym own) (right_kind (kind_for s.tree.owner k) p (uses p.vvbn) is.taken))
 
+  positions : (j c : ℕ) → 1 ≤ j → IsFlushed s u j c → NamesPosition u.tree j c
+  positions j c low flushed =
+      let at = only_flushed j c flushed in
+      let own : pointer_at u.tree j c ≡ p = (λ i. pointer_at u.tree (at.0 i) (at.1 i)) ∙ pointer_here in
+      subst (λ (r : Pointer). IsNodeOf u.tree.owner j c (u.tree.under r.vvbn)) (sym own)
+      (subst (λ (o : ℕ). IsNodeOf o j c (u.tree.under p.vvbn)) (sym is.owner)
+      (subst (λ (n : ℕ). IsNodeOf s.tree.owner n c (u.tree.under p.vvbn)) (sym at.0)
+      (subst (λ (n : ℕ). IsNodeOf s.tree.owner k n (u.tree.under p.vvbn)) (sym at.1) (is.names (omega (arith, low, at.0))))))
+
   fresh : (v : ℕ) → IsPlaced s u v → (s.tree.under v ≡ None) × (used v ≡ None)
   fresh v placed =
       let at = only_flushed placed.level placed.place placed.flushed in
@@ -506,4 +516,5 @@ module _ (s : Loaded) (used : ℕ → Option Use) (u : Loaded) (uses : ℕ → O
     unknown = unknown;
     told = told;
     kinds = kinds;
+    positions = positions;
   }

@@ -5,7 +5,7 @@ use Rattle.fv_model.specs.Trees.{fan}
 use Rattle.fv_tree.specs.Sources.{Use}
 use Rattle.fv_tree.specs.Spelled.{Rooted, pointer_at}
 use Rattle.fv_tree.specs.Writing.{IsAlike}
-use Rattle.fv_tree.specs.Flushing.{Loaded, Leads, IsSound, IsFlushed, IsReplaced, IsPlaced, HoldsUnknown, Flushes, kind_for, use_told, HasKind}
+use Rattle.fv_tree.specs.Flushing.{Loaded, Leads, IsSound, IsFlushed, IsReplaced, IsPlaced, HoldsUnknown, IsNodeOf, NamesPosition, Flushes, kind_for, use_told, HasKind}
 use Rattle.fv_tree.proofs.Flushed.{IsMemory, bit, there, some_none, false_is_true, reached_within, unchanged_placed}
 
 pub alike_then : (t u v : Rooted) → IsAlike t u → IsAlike u v → IsAlike t v
@@ -34,6 +34,7 @@ flushes_nothing s used sound = record {
   unknown = λ j c flushed _ _. none_flushed s (j + 1) (c / fan) flushed;
   told = λ j c flushed. none_flushed s j c flushed;
   kinds = λ j c flushed. none_flushed s j c flushed;
+  positions = λ j c low flushed. none_flushed s j c flushed;
 }
 
 module _ (s t u : Loaded) (before between after : ℕ → Option Use) (memory : IsMemory t) (first : Flushes s before t between) (second : Flushes t between u after) where
@@ -155,14 +156,20 @@ module _ (s t u : Loaded) (before between after : ℕ → Option Use) (memory : 
     | inr changed ↦ second.unknown j c (record { was = changed; done = flushed.done; some = λ e. flushed.some (sym (first.stamps (j + 1) (c / fan)) ∙ e) }) some none
   ]
 
-  -- the VVBN of what was placed in the first steps stays in use as it was
-  same_use : (j c : ℕ) (x : Use) → IsFlushed s t j c → between (pointer_at t.tree j c).vvbn ≡ Some x → after (pointer_at t.tree j c).vvbn ≡ between (pointer_at t.tree j c).vvbn
-  same_use j c x flushed use_ =
+  -- the block of what was placed in the first steps isn't replaced in the others
+  not_again : (j c : ℕ) → IsFlushed s t j c → IsReplaced t u (pointer_at t.tree j c).vvbn → ⊥
+  not_again j c flushed r =
       let v = (pointer_at t.tree j c).vvbn in
       let reached : (pointer_at t.tree j c).stamp ≢ 0 = λ e. flushed.some (sym (first.stamps j c) ∙ e) in
       let leads : Leads t j c v = record { some = reached; placed = unchanged_placed t between first.sound memory j c flushed.done reached; vvbn = refl } in
-      let not_replaced : IsReplaced t u v → ⊥ = λ r. let same = first.sound.once j c r.level r.place v leads r.leads in false_is_true (t.changed j c) flushed.done ((λ i. t.changed (same.0 i) (same.1 i)) ∙ r.flushed.was) in
-      (second.others v not_replaced (λ p. some_none (between v) x (second.fresh v p not_replaced).1 use_)).1
+      let same = first.sound.once j c r.level r.place v leads r.leads in
+      false_is_true (t.changed j c) flushed.done ((λ i. t.changed (same.0 i) (same.1 i)) ∙ r.flushed.was)
+
+  -- its VVBN stays in use as it was
+  same_use : (j c : ℕ) (x : Use) → IsFlushed s t j c → between (pointer_at t.tree j c).vvbn ≡ Some x → after (pointer_at t.tree j c).vvbn ≡ between (pointer_at t.tree j c).vvbn
+  same_use j c x flushed use_ =
+      let v = (pointer_at t.tree j c).vvbn in
+      (second.others v (not_again j c flushed) (λ p. some_none (between v) x (second.fresh v p (not_again j c flushed)).1 use_)).1
 
   told_first : (j c : ℕ) → IsFlushed s t j c → (after (pointer_at u.tree j c).vvbn ≡ Some (use_told (pointer_at u.tree j c) (kind_for u.tree.owner j))) ⊎ HoldsUnknown u.tree j c
   told_first j c flushed =
@@ -206,6 +213,23 @@ module _ (s t u : Loaded) (before between after : ℕ → Option Use) (memory : 
     | inr changed ↦ second.kinds j c (record { was = changed; done = flushed.done; some = λ e. flushed.some (sym (first.stamps j c) ∙ e) })
   ]
 
+  -- and its block stays
+  positions_first : (j c : ℕ) → 1 ≤ j → IsFlushed s t j c → NamesPosition u.tree j c
+  positions_first j c low flushed =
+      let v = (pointer_at t.tree j c).vvbn in
+      let same : pointer_at u.tree j c ≡ pointer_at t.tree j c = second.stays j c (inr flushed.done) in
+      let was = first.positions j c low flushed in
+      let still_there : u.tree.under v ≡ Some was.block = second.blocks v was.block (not_again j c flushed) was.lies in
+      subst (λ (r : Pointer). IsNodeOf u.tree.owner j c (u.tree.under r.vvbn)) (sym same)
+      (subst (λ (o : ℕ). IsNodeOf o j c (u.tree.under v)) (sym second.owner)
+      (record { block = was.block; lies = still_there; children = was.children; spells = was.spells }))
+
+  positions : (j c : ℕ) → 1 ≤ j → IsFlushed s u j c → NamesPosition u.tree j c
+  positions j c low flushed = elim (bit (t.changed j c)) [
+    | inl done ↦ positions_first j c low (record { was = flushed.was; done = done; some = flushed.some })
+    | inr changed ↦ second.positions j c low (record { was = changed; done = flushed.done; some = λ e. flushed.some (sym (first.stamps j c) ∙ e) })
+  ]
+
   pub flushes_then : Flushes s before u after
   flushes_then = record {
     owner = second.owner ∙ first.owner;
@@ -224,4 +248,5 @@ module _ (s t u : Loaded) (before between after : ℕ → Option Use) (memory : 
     unknown = unknown;
     told = told;
     kinds = kinds;
+    positions = positions;
   }

@@ -39,8 +39,8 @@ module _ (s u : Loaded) (used : ℕ → Option Use) (k q : ℕ) (sound : IsSound
   own_pointers low = elim (cases_eq (pointer_at s.tree k q).stamp 0) [
     | inl e ↦ no_pointers u.tree k q (pointer_at s.tree k q) e ∙ sym (no_pointers s.tree k q (pointer_at s.tree k q) e)
     | inr some ↦
-        let now : pointers_at u.tree k q (pointer_at s.tree k q) ≡ pointers_in s.tree.owner k q (s.tree.under (pointer_at s.tree k q).vvbn) =
-        read_pointers u.tree k q (pointer_at s.tree k q) some (is.own low) ∙ (λ i. pointers_in (is.owner i) k q (is.under i (pointer_at s.tree k q).vvbn)) in
+        let now : pointers_at u.tree k q (pointer_at s.tree k q) ≡ pointers_in (s.tree.under (pointer_at s.tree k q).vvbn) =
+        read_pointers u.tree k q (pointer_at s.tree k q) some (is.own low) ∙ (λ i. pointers_in (is.under i (pointer_at s.tree k q).vvbn)) in
         elim (there (s.tree.nodes k q)) [
           | inl none ↦ now ∙ sym (read_pointers s.tree k q (pointer_at s.tree k q) some none)
           | inr held ↦ now ∙ (sound.same k q held.0 low held.1 (unchanged some) some).0 ∙ sym (kept_pointers s.tree k q (pointer_at s.tree k q) held.0 some held.1)
@@ -125,12 +125,12 @@ module _ (s u : Loaded) (used : ℕ → Option Use) (k q : ℕ) (sound : IsSound
       ]
 
   same : (j c : ℕ) (xs : List Pointer) → 1 ≤ j → u.tree.nodes j c ≡ Some xs → u.changed j c ≡ false → (pointer_at u.tree j c).stamp ≢ 0
-      → (pointers_in u.tree.owner j c (u.tree.under (pointer_at u.tree j c).vvbn) ≡ xs) × (u.placed j c ≡ true)
+      → (pointers_in (u.tree.under (pointer_at u.tree j c).vvbn) ≡ xs) × (u.placed j c ≡ true)
   same j c xs low node changed reached = elim (spot_is j c k q) [
     | inl at ↦ some_none (u.tree.nodes j c) xs ((λ i. u.tree.nodes (at.0 i) (at.1 i)) ∙ is.own (omega (arith, low, at.0))) node
     | inr other ↦
         let was = sound.same j c xs low (sym (is.nodes j c low other) ∙ node) (sym (is.changed_others j c other) ∙ changed) (λ e. reached (same_stamps j c ∙ e)) in
-        ((λ i. pointers_in (is.owner i) j c (is.under i (pointers j c i).vvbn)) ∙ was.0, is.placed_others j c other ∙ was.1)
+        ((λ i. pointers_in (is.under i (pointers j c i).vvbn)) ∙ was.0, is.placed_others j c other ∙ was.1)
   ]
 
   empty : (j c : ℕ) → 1 ≤ j → (pointer_at u.tree j c).stamp ≡ 0 → (j ≤ u.tree.levels) ⊎ ((c ≢ 0) ⊎ (u.tree.root.stamp ≡ 0)) → IsEmptyNode u.tree j c
@@ -175,4 +175,5 @@ module _ (s u : Loaded) (used : ℕ → Option Use) (k q : ℕ) (sound : IsSound
     unknown = λ j c flushed _ _. none_flushed (j + 1) (c / fan) flushed;
     told = λ j c flushed. none_flushed j c flushed;
     kinds = λ j c flushed. none_flushed j c flushed;
+    positions = λ j c low flushed. none_flushed j c flushed;
   }

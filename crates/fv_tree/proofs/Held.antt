@@ -17,7 +17,7 @@ use Rattle.fv_tree.proofs.Ways.{nothing_there, own_way}
 pub empty_as : (t : Rooted) (level place : ℕ) (p : Pointer) → p.stamp ≡ 0 → (slot : ℕ) → get_or (replicate 128 hole) slot hole ≡ get_or (pointers_at t level place p) slot hole
 empty_as t level place p e slot = nothing_there slot ∙ sym (ap (λ (xs : List Pointer). get_or xs slot hole) (no_pointers t level place p e))
 
-pub read_as : (t : Rooted) (level place : ℕ) (p : Pointer) (xs : List Pointer) → p.stamp ≢ 0 → t.nodes level place ≡ None → pointers_in t.owner level place (t.under p.vvbn) ≡ xs → (slot : ℕ)
+pub read_as : (t : Rooted) (level place : ℕ) (p : Pointer) (xs : List Pointer) → p.stamp ≢ 0 → t.nodes level place ≡ None → pointers_in (t.under p.vvbn) ≡ xs → (slot : ℕ)
     → get_or xs slot hole ≡ get_or (pointers_at t level place p) slot hole
 read_as t level place p xs some none is slot = sym (ap (λ (ys : List Pointer). get_or ys slot hole) (read_pointers t level place p some none ∙ is))
 

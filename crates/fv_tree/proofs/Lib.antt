@@ -37,3 +37,4 @@ pub mod Refilled
 pub mod Ungrown
 pub mod ReadyPast
 pub mod Flushes
+pub mod Seeking

@@ -20,7 +20,7 @@ pub record IsReady (taken : ℕ → Option Use) (v : Loaded) (i : ℕ) : Type 0 
   pub unplaced : (level : ℕ) → level ≤ v.tree.levels → (pointer_at v.tree level (i / fan ^ level)).stamp ≡ 0 → v.placed level (i / fan ^ level) ≡ false
   pub over : (level place : ℕ) → place ≢ i / fan ^ level → v.changed level place ≡ true → (pointer_at v.tree level place).stamp ≢ 0 → level < v.tree.levels → v.changed (level + 1) (place / fan) ≡ true
   pub same : (level place : ℕ) (xs : List Pointer) → place ≢ i / fan ^ level → 1 ≤ level → v.tree.nodes level place ≡ Some xs → v.changed level place ≡ false → (pointer_at v.tree level place).stamp ≢ 0
-      → (pointers_in v.tree.owner level place (v.tree.under (pointer_at v.tree level place).vvbn) ≡ xs) × (v.placed level place ≡ true)
+      → (pointers_in (v.tree.under (pointer_at v.tree level place).vvbn) ≡ xs) × (v.placed level place ≡ true)
   pub empty : (level place : ℕ) → place ≢ i / fan ^ level → 1 ≤ level → (pointer_at v.tree level place).stamp ≡ 0 → (level ≤ v.tree.levels) ⊎ (place ≢ 0) → IsEmptyNode v.tree level place
 
 -- another pointer that leads to the same block, with some stamp
@@ -98,12 +98,12 @@ module _ (taken : ℕ → Option Use) (v u : Loaded) (i : ℕ) (covers : i < fan
   ]
 
   same : (level place : ℕ) (xs : List Pointer) → 1 ≤ level → u.tree.nodes level place ≡ Some xs → u.changed level place ≡ false → (pointer_at u.tree level place).stamp ≢ 0
-      → (pointers_in u.tree.owner level place (u.tree.under (pointer_at u.tree level place).vvbn) ≡ xs) × (u.placed level place ≡ true)
+      → (pointers_in (u.tree.under (pointer_at u.tree level place).vvbn) ≡ xs) × (u.placed level place ≡ true)
   same level place xs low node now reached = elim (on_or_off level place) [
     | inl at ↦ false_is_true (u.changed level place) now ((λ j. u.changed level (at j)) ∙ marked.way level (within level place reached))
     | inr differs ↦
         let was = ready.same level place xs differs low (sym (marked.nodes level place differs) ∙ node) (sym (marked.others level place differs) ∙ now) (λ e. reached (ap (λ (p : Pointer). p.stamp) (pointer_off level place differs) ∙ e)) in
-        ((λ j. pointers_in (marked.owner j) level place (marked.under j (pointer_off level place differs j).vvbn)) ∙ was.0, marked.placed level place ∙ was.1)
+        ((λ j. pointers_in (marked.under j (pointer_off level place differs j).vvbn)) ∙ was.0, marked.placed level place ∙ was.1)
   ]
 
   -- a range on the way that nothing leads to lies above the levels

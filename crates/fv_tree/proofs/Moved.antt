@@ -1,5 +1,5 @@
 -- A block that was placed, to which the pointer in the node above leads, as it is to the tree over its blocks.
-use Rattle.std.proofs.Common.{◌≡◌, ◌≢◌, ◌≤◌, ◌<◌, ℕ, ◌+◌, ◌/◌, ◌%◌, ◌⊎◌, inl, inr, Bool, true, false, not, ◌&&◌, List, [], ◌∷◌, zero, suc, Option, Some, None, Ok, get_or, length, is_some, slice_set, refl, sym, ap, subst, ◌∙◌, arith, nat_lt, ◌==◌, if◌then◌else◌}
+use Rattle.std.proofs.Common.{◌≡◌, ◌≢◌, ◌≤◌, ◌<◌, ℕ, ◌+◌, ◌/◌, ◌%◌, ◌⊎◌, inl, inr, Bool, true, false, not, ◌&&◌, List, [], ◌∷◌, zero, suc, Option, Some, None, Ok, get_or, length, is_some, slice_set, refl, sym, ap, subst, ◌∙◌, arith, nat_lt, ◌==◌}
 use Rattle.std.specs.Ordering.{nat_cmp}
 use Rattle.std.specs.Option.{option_map}
 use Rattle.std.specs.BTreeMap as tree
@@ -7,16 +7,15 @@ use Rattle.std.specs.FinMap as fin
 use Rattle.std.proofs.lemmas.Bool.{cases_eq, cases_lt}
 use Rattle.std.proofs.lemmas.Bool.Decides.{nat_tests}
 use Rattle.fv_codec.specs.declared.pointer.Pointer.{Pointer}
-use Rattle.fv_codec.specs.Fields.{in_range, reading, ◌then◌}
 use Rattle.fv_codec.specs.Blocks.{node_at}
 use Rattle.fv_model.specs.Trees.{fan, Spot, spot_cmp}
 use Rattle.fv_tree.specs.declared.kept.Tree.{Tree}
 use Rattle.fv_tree.specs.declared.kept.KeptNode.{KeptNode}
 use Rattle.fv_tree.specs.declared.kept.KeptCell.{KeptCell}
-use Rattle.fv_tree.specs.Spelled.{Rooted, hole, node_for, positioned, pointers_of, pointers_in, pointer_at}
+use Rattle.fv_tree.specs.Spelled.{Rooted, hole, pointers_of, pointers_in, pointer_at}
 use Rattle.fv_tree.specs.Sources.{Shown}
 use Rattle.fv_tree.specs.Standing.{standing, under, node_in, cell_in}
-use Rattle.fv_tree.specs.Flushing.{Leads, Stands, IsMoved, loaded, changed_of, placed_of, changed_in, node_changed, cell_placed, pointer_in, is_unknown, all_known, kind_for}
+use Rattle.fv_tree.specs.Flushing.{Leads, Stands, IsMoved, IsNodeOf, loaded, changed_of, placed_of, changed_in, node_changed, cell_placed, pointer_in, is_unknown, all_known, kind_for}
 use Rattle.fv_tree.proofs.Below.{no_pointers, kept_pointers}
 use Rattle.fv_tree.proofs.Flushed.{Replaces, there, bit, false_is_true, none_some}
 use Rattle.fv_tree.proofs.Gone.{Goes, map_none, cell_changed, spot_changed, cell_led, spot_led, gone_changed, gone_led, other_changed, other_led, other_node, other_content, gone_node, gone_cell}
@@ -26,14 +25,8 @@ use Rattle.fv_tree.proofs.Ways.{own_way, past}
 
 -- ---- the block of a node
 
-in_place : (n : ℕ) → in_range n n n ≡ Ok tt
-in_place n = let test : nat_lt n n ≡ false = grind (arith, nat_tests) in rw test refl
-
-pub spells : (owner level place : ℕ) (xs : List Pointer) (block : List ℕ) → node_at block ≡ Ok (record { level = level; owner = owner; place = place; children = xs }) → pointers_in owner level place (Some block) ≡ xs
-unfolding node_for
-spells owner level place xs block is =
-    ap (λ r. pointers_of (positioned owner level place r)) is
-    ∙ (λ i. pointers_of (reading (in_place level i then in_place owner i then in_place place i) (record { level = level; owner = owner; place = place; children = xs })))
+pub spells : (owner level place : ℕ) (xs : List Pointer) (block : List ℕ) → node_at block ≡ Ok (record { level = level; owner = owner; place = place; children = xs }) → pointers_in (Some block) ≡ xs
+spells owner level place xs block is = ap pointers_of is
 
 pub one_unknown : (xs : List Pointer) (slot : ℕ) → (get_or xs slot hole).stamp ≢ 0 → (get_or xs slot hole).pvbn ≡ 0 → all_known xs ≡ false
 one_unknown [] slot some none = absurd (some refl)
@@ -133,8 +126,8 @@ no_stray old new t mid k q content named known stands was led moved =
 
 module _ (old new : Shown) (t mid u : Tree) (k q : ℕ) (content : List ℕ) (named known : Bool) (stands : Stands old t) (was : changed_of t k q ≡ true) (led : named ≡ placed_of t k q)
     (first : (j c : ℕ) → j + 1 ≡ k → changed_of t j c ≡ false) (moved : IsMoved old t k q content named known new mid) (goes : Goes mid u k q)
-    (node : 1 ≤ k → (xs : List Pointer) × (node_in t k q ≡ Some xs) × (pointers_in t.owner k q (Some content) ≡ xs) × ((slot : ℕ) → (get_or xs slot hole).stamp ≢ 0 → (get_or xs slot hole).pvbn ≡ 0 → known ≡ false))
-    (cell : k ≡ 0 → cell_in t q ≡ Some content) (hidden : known ≡ false → (1 ≤ k) × HasUnknown (node_in t k q)) where
+    (node : 1 ≤ k → (xs : List Pointer) × (node_in t k q ≡ Some xs) × (pointers_in (Some content) ≡ xs) × ((slot : ℕ) → (get_or xs slot hole).stamp ≢ 0 → (get_or xs slot hole).pvbn ≡ 0 → known ≡ false))
+    (names : 1 ≤ k → IsNodeOf t.owner k q (Some content)) (cell : k ≡ 0 → cell_in t q ≡ Some content) (hidden : known ≡ false → (1 ≤ k) × HasUnknown (node_in t k q)) where
   p : Pointer
   p = moved.pointer
 
@@ -218,7 +211,8 @@ module _ (old new : Shown) (t mid u : Tree) (k q : ℕ) (content : List ℕ) (na
     own_cell = gone_cell mid u k q goes;
     nodes = λ j c low differs beside. other_node mid u k q goes j c low differs ∙ moved.points.others j c beside;
     cells = λ i differs. other_content mid u k q goes i differs ∙ ap (λ (cells : tree.BTreeMap ℕ KeptCell). option_map (λ (kept : KeptCell). kept.block) (tree.get nat_cmp cells i)) moved.points.cells;
-    node = λ low. let is = node low in (is.0, is.1, ap (pointers_in t.owner k q) placed_now ∙ is.2, λ slot filled none. moved.swaps.unknown (is.3 slot filled none));
+    node = λ low. let is = node low in (is.0, is.1, ap pointers_in placed_now ∙ is.2, λ slot filled none. moved.swaps.unknown (is.3 slot filled none));
+    names = λ low. subst (IsNodeOf t.owner k q) (sym placed_now) (names low);
     cell = λ e. (content, cell e, placed_now);
     fresh = moved.swaps.fresh;
     unused = moved.swaps.unused;

@@ -186,7 +186,7 @@ module _ (blocks : Under) (used : ℕ → Option Use) (w v : Tree) (i : ℕ) (na
         spot_changed v (level + 1) (place / fan) (omega arith) ∙ ap (λ (nodes : tree.BTreeMap Spot KeptNode). changed_in nodes (level + 1) (place / fan)) same.nodes ∙ sym (spot_changed w (level + 1) (place / fan) (omega arith)) ∙ above;
     same = λ level place xs differs low node now reached.
         let was = sound.same level place xs low (sym (same_node level place) ∙ node) (sym (changed_off level place differs) ∙ now) (λ e. reached (ap (λ (p : Pointer). p.stamp) (cell_pointers level place) ∙ e)) in
-        ((λ j. pointers_in (same.owner j) level place (blocks (cell_pointers level place j).vvbn)) ∙ was.0, led_off level place (inl (omega (arith, low))) ∙ was.1);
+        ((λ j. pointers_in (blocks (cell_pointers level place j).vvbn)) ∙ was.0, led_off level place (inl (omega (arith, low))) ∙ was.1);
     empty = λ level place differs low none which xs node. sound.empty level place low (sym (ap (λ (p : Pointer). p.stamp) (cell_pointers level place)) ∙ none) (elim which [
       | inl le ↦ inl (omega (arith, le, same.levels))
       | inr other ↦ inr (inl other)

@@ -131,11 +131,11 @@ module _ (blocks : Under) (used : ℕ → Option Use) (t v : Tree) (i s : ℕ) (
   ]
 
   same : (k q : ℕ) (xs : List Pointer) → q ≢ i / fan ^ k → 1 ≤ k → node_in v k q ≡ Some xs → changed_of v k q ≡ false → (pointer_at (standing blocks v) k q).stamp ≢ 0
-      → (pointers_in v.owner k q (blocks (pointer_at (standing blocks v) k q).vvbn) ≡ xs) × (placed_of v k q ≡ true)
+      → (pointers_in (blocks (pointer_at (standing blocks v) k q).vvbn) ≡ xs) × (placed_of v k q ≡ true)
   same k q xs differs low node now reached = elim (old_or_new k q reached) [
     | inl old ↦
         let was = sound.same k q xs low (sym (ap (option_map (λ (kept : KeptNode). kept.children)) (kept_old blocks t v i is.far brings k q old.0)) ∙ node) (sym (changed_old k q old.0) ∙ now) old.0 in
-        ((λ j. pointers_in (is.owner j) k q (blocks (old.1 j).vvbn)) ∙ was.0, led_old k q old.0 ∙ was.1)
+        ((λ j. pointers_in (blocks (old.1 j).vvbn)) ∙ was.0, led_old k q old.0 ∙ was.1)
     | inr (inl high) ↦ false_is_true (changed_of v k q) now (top_changed k q (reached_within (standing blocks v) k q reached) high.0 high.1 high.2)
     | inr (inr lone) ↦ absurd (differs (lone_on k q lone.1 lone.2))
   ]

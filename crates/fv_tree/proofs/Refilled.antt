@@ -1,5 +1,5 @@
 -- A cell that has another content, under the stamps that it had.
-use Rattle.std.proofs.Common.{◌≡◌, ◌≢◌, ◌≤◌, ℕ, ◌+◌, ◌-◌, ◌/◌, ◌%◌, ◌^◌, inl, inr, Bool, true, false, cond, List, Option, Some, None, is_some, nat_eq, refl, sym, ap, subst, ◌∙◌, arith}
+use Rattle.std.proofs.Common.{◌≡◌, ◌≢◌, ◌≤◌, ℕ, ◌/◌, ◌^◌, inl, inr, Bool, true, false, cond, List, Option, Some, is_some, nat_eq, refl, sym, ap, ◌∙◌, arith}
 use Rattle.std.specs.Ordering.{nat_cmp, eq_by_cmp}
 use Rattle.std.specs.Cmp.{nat_cmp_total}
 use Rattle.std.specs.Option.{option_map}
@@ -8,7 +8,6 @@ use Rattle.std.specs.FinMap as fin
 use Rattle.std.proofs.lemmas.Bool.{cases_eq}
 use Rattle.std.proofs.lemmas.Bool.Decides.{nat_tests}
 use Rattle.fv_codec.specs.declared.pointer.Pointer.{Pointer}
-use Rattle.fv_codec.specs.Blocks.{all_holes}
 use Rattle.fv_model.specs.Trees.{fan, Spot}
 use Rattle.fv_tree.specs.declared.kept.Tree.{Tree}
 use Rattle.fv_tree.specs.declared.kept.KeptNode.{KeptNode}
@@ -17,15 +16,12 @@ use Rattle.fv_tree.specs.Spelled.{Under, Rooted, pointer_at, stamp_in, block_at}
 use Rattle.fv_tree.specs.Standing.{standing, node_in, cell_in, children_in, IsSameBut, IsSameButCells}
 use Rattle.fv_tree.specs.Keeping.{IsKept, IsSame}
 use Rattle.fv_tree.specs.Erasing.{StandsAt}
-use Rattle.fv_tree.specs.Refilling.{IsRefilled, Refills, IsFilledWay}
+use Rattle.fv_tree.specs.Refilling.{IsRefilled, Refills}
 use Rattle.fv_tree.specs.Flushing.{loaded_over}
 use Rattle.fv_tree.specs.Carried.{Marks}
-use Rattle.fv_tree.proofs.Below.{range_above}
 use Rattle.fv_tree.proofs.Erased.{stamp_there}
 use Rattle.fv_tree.proofs.Marked.{IsMarked}
-use Rattle.fv_tree.proofs.Pointers.{one_filled}
 use Rattle.fv_tree.proofs.Ready.{nodes_alone, way_changed, others_changed, all_led}
-use Rattle.fv_tree.proofs.Stamped.{child_kept}
 use Rattle.fv_tree.proofs.Unlinked.{marks_above}
 use Rattle.fv_tree.proofs.Writes.{no_stamp, none_at, block_here, block_none, block_same, same_alike}
 
@@ -41,22 +37,6 @@ refilled_none t u i block same none = let alike = same_alike t u same in record 
 }
 
 -- ---- a cell
-
--- nodes over a cell that stands lead somewhere
-pub filled_way : (blocks : Under) (t : Tree) (i : ℕ) → StandsAt (standing blocks t) 0 i → ((level : ℕ) → 1 ≤ level → level ≤ t.levels → IsKept (standing blocks t) level (i / fan ^ level)) → IsFilledWay t i
-filled_way blocks t i stands kept level low high xs node =
-    let s = standing blocks t in
-    let n : (level - 1) + 1 ≡ level = omega arith in
-    let up : i / fan ^ (level - 1) / fan ≡ i / fan ^ level = range_above i level low in
-    let over : IsKept s ((level - 1) + 1) (i / fan ^ (level - 1) / fan) = subst (λ k. IsKept s k (i / fan ^ (level - 1) / fan)) (sym n) (subst (IsKept s level) (sym up) (kept level low high)) in
-    let child = child_kept s (level - 1) (i / fan ^ (level - 1)) (omega (arith, high, low)) over in
-    let same : Some over.pointers ≡ Some xs = sym over.node ∙ (λ j. node_in t (n j) (up j)) ∙ node in
-    let some : (pointer_at s (level - 1) (i / fan ^ (level - 1))).stamp ≢ 0 = marks_above s (level - 1) i (omega (arith, high)) stands in
-    ap filled (sym same) ∙ one_filled over.pointers (i / fan ^ (level - 1) % fan) (λ e. some (ap (λ (p : Pointer). p.stamp) child ∙ e))
-  where
-    filled : Option (List Pointer) → Bool
-    filled None = false
-    filled (Some ys) = all_holes ys
 
 module _ (blocks : Under) (v w u : Tree) (i : ℕ) (block : List ℕ) (fields : IsSameButCells v w) (put : (j : ℕ) → cell_in w j ≡ cond (nat_eq j i) (Some block) (cell_in v j)) (but : IsSameBut w u)
     (nodes : (level place : ℕ) → node_in u level place ≡ node_in w level place) where

@@ -150,7 +150,7 @@ module _ (old new : Under) (u : Tree) (stay : (level place : ℕ) → Led old u 
       at (Some xs) is stands = kept_pointers w level place (pointer_at t level place) xs stands is ∙ sym (kept_pointers t level place (pointer_at t level place) xs stands is)
       at None is stands =
           read_pointers w level place (pointer_at t level place) stands is
-          ∙ ap (pointers_in u.owner level place) (stay level place (read_block level place stands (tree.get spot_cmp u.nodes (level, place)) refl is some))
+          ∙ ap pointers_in (stay level place (read_block level place stands (tree.get spot_cmp u.nodes (level, place)) refl is some))
           ∙ sym (read_pointers t level place (pointer_at t level place) stands is)
 
   moved_way : IsWay w (pointer_at t)
@@ -241,7 +241,7 @@ module _ (old new : Shown) (t u : Tree) (stands : IsSound old.used (loaded old t
         same = λ level place xs low node unchanged there.
             let was = sound.same level place xs low node unchanged (stood level place there) in
             let led : Led (under old) u level place = record { some = stood level place there; placed = was.1; vvbn = refl } in
-            (ap (λ (p : Pointer). pointers_in u.owner level place (under new p.vvbn)) (pointers level place) ∙ ap (pointers_in u.owner level place) (blocks_stay level place led) ∙ was.0, was.1);
+            (ap (λ (p : Pointer). pointers_in (under new p.vvbn)) (pointers level place) ∙ ap pointers_in (blocks_stay level place led) ∙ was.0, was.1);
         empty = λ level place low none where_. sound.empty level place low (ap (λ (p : Pointer). p.stamp) (sym (pointers level place)) ∙ none) where_;
       }
 

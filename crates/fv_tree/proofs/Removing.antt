@@ -1,20 +1,22 @@
 -- Whole removals, over the blocks that there were before and over those that there are afterwards.
-use Rattle.std.proofs.Common.{◌≡◌, ◌≤◌, ℕ, ◌/◌, ◌^◌, ◌⊎◌, inl, inr, Bool, false, ◌||◌, Result, Ok, Err, OnOk, OnErr, None, cond, nat_eq, sym, ap, subst, ◌∙◌, arith}
+use Rattle.std.proofs.Common.{◌≡◌, ◌≤◌, ℕ, ◌/◌, ◌^◌, ◌⊎◌, inl, inr, Bool, false, ◌||◌, Result, Ok, Err, OnOk, OnErr, IfErr, None, cond, nat_eq, sym, ap, subst, ◌∙◌, arith}
 use Rattle.std.specs.FinMap as fin
 use Rattle.std.proofs.lemmas.Bool.{cases_eq}
 use Rattle.std.proofs.lemmas.Bool.Decides.{nat_tests}
+use Rattle.std.proofs.lemmas.Result.{on_ok_weaker}
 use Rattle.fv_codec.specs.declared.pointer.Pointer.{Pointer}
 use Rattle.fv_model.specs.Trees.{fan}
 use Rattle.fv_tree.specs.declared.kept.Tree.{Tree}
 use Rattle.fv_disk.specs.declared.fault.BlockFault.{BlockFault}
 use Rattle.fv_tree.specs.Writing.{Remains}
 use Rattle.fv_tree.specs.Spelled.{Under, Rooted, pointer_at, stamp_in}
-use Rattle.fv_tree.specs.Sources.{Shown, IsCalm, IsUntouched}
-use Rattle.fv_tree.specs.Standing.{standing, under}
+use Rattle.fv_tree.specs.Sources.{Shown, Counts, IsCalm, IsUntouched}
+use Rattle.fv_tree.specs.Standing.{standing, under, Fails}
 use Rattle.fv_tree.specs.Keeping.{IsSame, IsKept}
 use Rattle.fv_tree.specs.Erasing.{StandsAt, HoldsCells, IsErased, Erases}
 use Rattle.fv_tree.specs.Releasing.{IsDropped, KeepsBlocks, Releases, Removes}
 use Rattle.fv_tree.specs.Flushing.{IsSound, Stands, loaded_over}
+use Rattle.fv_tree.specs.Removal.{Removal}
 use Rattle.fv_tree.specs.Unlinking.{HasWay, CellGoes}
 use Rattle.fv_tree.proofs.Erased.{nothing_erased, erased_then, erased_as, holds_cells, stands_as, no_choice, choice}
 use Rattle.fv_tree.proofs.Marks.{erases}
@@ -177,3 +179,21 @@ remains_after (Err e) t u same = λ seen contents shows.
       stamps = λ level place. shows.stamps level place ∙ sym (alike.stamps level place);
       blocks = λ i. shows.blocks i ∙ sym (alike.blocks i);
     }
+
+-- a whole removal, from what it did over the blocks of before
+pub removal_after : (told calls : Type 0) (r : Result Unit BlockFault) (old new : Shown) (t u : Tree) (gone : ℕ → Bool) (start s : ℕ) → (told → OnOk r (Removes old new t u gone start s))
+    → (told → OnErr r (IsSame (standing (under old) t) (standing (under new) u))) → u.owner ≡ t.owner → (told → OnErr r (Stands old t → Stands new u)) → OnErr r (IsUntouched old new) → calls → Counts old new r
+    → IfErr r (Fails told (standing (under old) t) old new) → Removal told calls old new t u gone start s r
+removal_after told calls r old new t u gone start s done same owner stays untouched called counts cause = record {
+  erased = λ tells. on_ok_weaker r (removed_seen old new t u gone start s) (done tells);
+  place_by_place = λ tells. on_ok_weaker r (removed old new t u gone start s) (done tells);
+  strays = λ tells. strays_after r old new t u gone start s (done tells) untouched;
+  released = λ tells. on_ok_weaker r (λ removes. removes.released) (done tells);
+  owner = owner;
+  stands = λ tells. stands_after r old new t u gone start s (done tells) (stays tells);
+  failed = λ tells. remains_after r (standing (under old) t) (standing (under new) u) (same tells);
+  untouched = untouched;
+  called = called;
+  counts = counts;
+  cause = cause;
+}

@@ -377,7 +377,7 @@ module _ (blocks : Under) (t u : Tree) (i lost start stamp : ℕ) (way : HasWay 
         let lt = not_all level place there in
         let was_so = kept level place there in
         let before_it = sound.same level place xs low (sym (is.others lt level place differs) ∙ node) (sym (is.unmarked lt level place differs) ∙ unchanged) was_so.0 in
-        ((λ j. pointers_in (is.owner j) level place (blocks (was_so.1 j))) ∙ before_it.0, was_so.2 ∙ before_it.1);
+        ((λ j. pointers_in (blocks (was_so.1 j))) ∙ before_it.0, was_so.2 ∙ before_it.1);
     empty = empty_there used sound;
   }
 

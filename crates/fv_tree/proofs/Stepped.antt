@@ -1,24 +1,24 @@
 -- One step of a flush, from its calls.
-use Rattle.std.proofs.Common.{◌≡◌, ◌≤◌, ◌<◌, ℕ, ◌+◌, ◌⊎◌, inl, inr, Bool, true, false, List, [], ◌∷◌, Some, None, length, is_some, refl, sym, ap, subst, ◌∙◌, arith}
+use Rattle.std.proofs.Common.{◌≡◌, ◌≤◌, ◌<◌, ℕ, ◌+◌, ◌/◌, ◌%◌, ◌⊎◌, inl, inr, Bool, true, false, List, [], ◌∷◌, Option, Some, None, length, is_some, slice_set, refl, sym, ap, subst, ◌∙◌, arith}
 use Rattle.std.specs.Map.{lookup}
 use Rattle.std.specs.Ordering.{nat_cmp}
 use Rattle.std.specs.Option.{option_map}
 use Rattle.std.specs.BTreeMap as tree
-use Rattle.std.proofs.lemmas.Bool.{cases_eq}
+use Rattle.std.proofs.lemmas.Bool.{cases_eq, cases_lt}
 use Rattle.fv_codec.specs.declared.pointer.Pointer.{Pointer}
-use Rattle.fv_model.specs.Trees.{spot_cmp}
+use Rattle.fv_model.specs.Trees.{fan, Spot, spot_cmp}
 use Rattle.fv_tree.specs.declared.kept.Tree.{Tree}
 use Rattle.fv_tree.specs.declared.kept.KeptNode.{KeptNode}
 use Rattle.fv_tree.specs.declared.kept.KeptCell.{KeptCell}
 use Rattle.fv_tree.specs.Spelled.{pointer_at}
 use Rattle.fv_tree.specs.Sources.{Shown}
-use Rattle.fv_tree.specs.Standing.{standing, under, node_in}
-use Rattle.fv_tree.specs.Flushing.{Stands, Flushes, IsHidden, IsMoved, IsNodeStep, ForgetsCell, ForgetsNode, loaded, changed_of, node_changed, node_placed, cell_placed, all_known}
+use Rattle.fv_tree.specs.Standing.{standing, under, children_in, node_in}
+use Rattle.fv_tree.specs.Flushing.{Stands, Flushes, HoldsAsMuch, Points, IsHidden, IsMoved, IsNodeStep, ForgetsCell, ForgetsNode, loaded, changed_of, node_changed, node_placed, cell_placed, all_known}
 use Rattle.fv_tree.proofs.Flushed.{bit, false_is_true, flushes_placed}
 use Rattle.fv_tree.proofs.Forgotten.{flushes_none}
-use Rattle.fv_tree.proofs.Gone.{Goes, cell_goes, node_goes, is_memory, map_some, cell_changed, spot_changed, cell_led, spot_led, forgets_is}
+use Rattle.fv_tree.proofs.Gone.{Goes, cell_goes, node_goes, is_memory, cell_changed, spot_changed, cell_led, spot_led, forgets_is}
 use Rattle.fv_tree.proofs.Moved.{hidden_is, no_stray, replaces_is, spells, one_unknown, unknown_in}
-use Rattle.fv_tree.proofs.Ways.{past}
+use Rattle.fv_tree.proofs.Ways.{past, spot_is}
 
 none_in : {K X : Type 0} (test : K → Bool) (es : List (K × X)) → length es ≡ 0 → lookup test es ≡ None
 none_in test [] e = refl
@@ -45,7 +45,7 @@ cell_step old new t mid u q cell stands held (inr moved) forgets =
     let was : changed_of t 0 q ≡ true = cell_changed t 0 q refl ∙ ap is_some held in
     flushes_placed (loaded old t) old.used (loaded new u) new.used 0 q moved.pointer stands (is_memory old t)
     (replaces_is old new t mid u 0 q cell.block cell.placed true stands was (sym (cell_led t 0 q refl ∙ ap cell_placed held)) (λ j c e. absurd (omega (arith, e))) moved (cell_goes mid u q forgets)
-    (λ low. absurd (omega (arith, low))) (λ e. ap (option_map (λ (kept : KeptCell). kept.block)) held) (λ hidden. false_is_true true hidden refl))
+    (λ low. absurd (omega (arith, low))) (λ low. absurd (omega (arith, low))) (λ e. ap (option_map (λ (kept : KeptCell). kept.block)) held) (λ hidden. false_is_true true hidden refl))
 
 -- it names no stray
 pub cell_strays : (old new : Shown) (t mid : Tree) (q : ℕ) (cell : KeptCell) → Stands old t → tree.get nat_cmp t.cells q ≡ Some cell → IsHidden old t 0 q new mid ⊎ IsMoved old t 0 q cell.block cell.placed true new mid → new.strays ≡ old.strays
@@ -112,13 +112,32 @@ module _ (old new : Shown) (t mid u : Tree) (k q : ℕ) (node : KeptNode) (stand
       flushes_placed (loaded old t) old.used (loaded new u) new.used k q is.moved.pointer stands (is_memory old t)
       (replaces_is old new t mid u k q is.block node.placed (all_known node.children) stands was (sym (spot_led t k q is.low ∙ ap node_placed held)) (first lowest) is.moved (node_goes mid u k q is.low forgets)
       (λ low. (node.children, ap (option_map (λ (kept : KeptNode). kept.children)) held, spells t.owner k q node.children is.block is.spells, one_unknown node.children))
+      (λ _. record { block = is.block; lies = refl; children = node.children; spells = is.spells })
       (λ e. absurd (omega (arith, e, is.low))) (λ hidden. (is.low, unknown_in node (node_in t k q) (ap (option_map (λ (kept : KeptNode). kept.children)) held) hidden)))
 
--- the node is still in memory before it goes, and all others are
-pub still_there : (old new : Shown) (t mid : Tree) (k q : ℕ) (node : KeptNode) → tree.get spot_cmp t.nodes (k, q) ≡ Some node → IsNodeStep old t k q node new mid
-    → (is_some (tree.get spot_cmp mid.nodes (k, q)) ≡ true) × (tree.btree_map_len mid.nodes ≡ tree.btree_map_len t.nodes)
-still_there old new t mid k q node held (inl idle) = (ap (λ (v : Tree). is_some (tree.get spot_cmp v.nodes (k, q))) idle.tree ∙ ap is_some held, ap (λ (v : Tree). tree.btree_map_len v.nodes) idle.tree)
-still_there old new t mid k q node held (inr (inl hidden)) = (ap (λ (v : Tree). is_some (tree.get spot_cmp v.nodes (k, q))) hidden.tree ∙ ap is_some held, ap (λ (v : Tree). tree.btree_map_len v.nodes) hidden.tree)
-still_there old new t mid k q node held (inr (inr is)) =
-    let kept : node_in mid k q ≡ Some node.children = is.moved.points.others k q (inl (omega arith)) ∙ ap (option_map (λ (kept : KeptNode). kept.children)) held in
-    (ap is_some (map_some (λ (kept : KeptNode). kept.children) (tree.get spot_cmp mid.nodes (k, q)) node.children kept).1, is.moved.points.len)
+-- another pointer in a node
+pub holds_as_much : (t u : Tree) (level place : ℕ) (p : Pointer) → Points t u level place p → HoldsAsMuch t u
+holds_as_much t u level place p points = record {
+  owner = points.owner;
+  levels = points.levels;
+  cells = points.cells;
+  len = points.len;
+  there = λ k q. seen (tree.get spot_cmp u.nodes (k, q)) ∙ there k q ∙ sym (seen (tree.get spot_cmp t.nodes (k, q)));
+}
+  where
+    seen : (o : Option KeptNode) → is_some o ≡ is_some (option_map (λ (kept : KeptNode). kept.children) o)
+    seen None = refl
+    seen (Some kept) = refl
+
+    written : (o : Option (List Pointer)) (slot : ℕ) → is_some (option_map (λ (xs : List Pointer). slice_set xs slot p) o) ≡ is_some o
+    written None slot = refl
+    written (Some xs) slot = refl
+
+    there : (k q : ℕ) → is_some (node_in u k q) ≡ is_some (node_in t k q)
+    there k q = elim (cases_lt level t.levels) [
+      | inr top ↦ ap (λ (nodes : tree.BTreeMap Spot KeptNode). is_some (children_in nodes k q)) (points.still top)
+      | inl low ↦ elim (spot_is k q (level + 1) (place / fan)) [
+        | inl at ↦ (λ i. is_some (node_in u (at.0 i) (at.1 i))) ∙ ap is_some (points.node low) ∙ written (node_in t (level + 1) (place / fan)) (place % fan) ∙ sym (λ i. is_some (node_in t (at.0 i) (at.1 i)))
+        | inr other ↦ ap is_some (points.others k q other)
+      ]
+    ]

@@ -79,11 +79,11 @@ module _ (blocks : Under) (used : ℕ → Option Use) (t v : Tree) (i : ℕ) (fa
       changed_old (k + 1) (q / fan) (λ e. some (under_none (standing blocks t) k q less e)) ∙ sound.over k q (sym (changed_old k q some) ∙ now) some less
 
   same_nodes : (k q : ℕ) (xs : List Pointer) → 1 ≤ k → node_in v k q ≡ Some xs → changed_of v k q ≡ false → (pointer_at (standing blocks v) k q).stamp ≢ 0
-      → (pointers_in v.owner k q (blocks (pointer_at (standing blocks v) k q).vvbn) ≡ xs) × (placed_of v k q ≡ true)
+      → (pointers_in (blocks (pointer_at (standing blocks v) k q).vvbn) ≡ xs) × (placed_of v k q ≡ true)
   same_nodes k q xs low node now reached =
       let some : (pointer_at (standing blocks t) k q).stamp ≢ 0 = λ e. reached (stamps k q ∙ e) in
       let was = sound.same k q xs low (sym (ap (option_map (λ (kept : KeptNode). kept.children)) (kept_old blocks t v i far brings k q some)) ∙ node) (sym (changed_old k q some) ∙ now) some in
-      ((λ j. pointers_in (fields.owner j) k q (blocks (same.pointers k q j).vvbn)) ∙ was.0, led_old k q some ∙ was.1)
+      ((λ j. pointers_in (blocks (same.pointers k q j).vvbn)) ∙ was.0, led_old k q some ∙ was.1)
 
   empty : (k q : ℕ) → 1 ≤ k → (pointer_at (standing blocks v) k q).stamp ≡ 0 → (k ≤ v.levels) ⊎ ((q ≢ 0) ⊎ (v.root.stamp ≡ 0)) → IsEmptyNode (standing blocks v) k q
   empty k q low none which =

@@ -54,7 +54,7 @@ past t level place lt = let test : nat_le level t.levels ≡ false = grind (arit
 pub alike : (t u : Rooted) (level place : ℕ) (p : Pointer) → u.owner ≡ t.owner → u.under ≡ t.under → u.nodes level place ≡ t.nodes level place → pointers_at u level place p ≡ pointers_at t level place p
 unfolding pointers_at
 alike t u level place p owner under nodes =
-    λ j. if p.stamp == 0 then [] else kept_or (nodes j) (pointers_in (owner j) level place (under j p.vvbn))
+    λ j. if p.stamp == 0 then [] else kept_or (nodes j) (pointers_in (under j p.vvbn))
 
 pub nothing_there : (slot : ℕ) → get_or (replicate 128 hole) slot hole ≡ hole
 nothing_there slot = elim (cases_lt slot 128) [

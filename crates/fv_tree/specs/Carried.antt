@@ -20,10 +20,10 @@ pub record IsBlank (kept : Option KeptNode) : Type 0 where
   pub placed : node.placed ≡ false
 
 -- a node as its block spells it
-pub record IsRead (owner level place : ℕ) (blocks : Under) (vvbn : ℕ) (kept : Option KeptNode) : Type 0 where
+pub record IsRead (blocks : Under) (vvbn : ℕ) (kept : Option KeptNode) : Type 0 where
   pub node : KeptNode
   pub is : kept ≡ Some node
-  pub spelled : pointers_in owner level place (blocks vvbn) ≡ node.children
+  pub spelled : pointers_in (blocks vvbn) ≡ node.children
   pub changed : node.changed ≡ false
   pub placed : node.placed ≡ true
 
@@ -32,7 +32,7 @@ pub record Brings (blocks : Under) (old new : Tree) (level place : ℕ) (p : Poi
   pub others : (k q : ℕ) → (k ≢ level) ⊎ (q ≢ place) → kept_at new k q ≡ kept_at old k q
   pub own : (kept_at new level place ≡ kept_at old level place)
       ⊎ (((p.stamp ≡ 0) × IsBlank (kept_at new level place))
-      ⊎ ((p.stamp ≢ 0) × (kept_at old level place ≡ None) × IsRead old.owner level place blocks p.vvbn (kept_at new level place)))
+      ⊎ ((p.stamp ≢ 0) × (kept_at old level place ≡ None) × IsRead blocks p.vvbn (kept_at new level place)))
 
 -- nodes over a cell past the levels come into memory, and nodes over the root where there is one
 abbrev pub BringsNew : Tree → Tree → ℕ → Type 0

@@ -94,7 +94,7 @@ pub record IsSound (taken : ℕ → Option Use) (s : Loaded) : Type 0 where
   pub over : (level place : ℕ) → s.changed level place ≡ true → (pointer_at s.tree level place).stamp ≢ 0 → level < s.tree.levels → s.changed (level + 1) (place / fan) ≡ true
   -- what didn't change stands in its block
   pub same : (level place : ℕ) (xs : List Pointer) → 1 ≤ level → s.tree.nodes level place ≡ Some xs → s.changed level place ≡ false → (pointer_at s.tree level place).stamp ≢ 0
-      → (pointers_in s.tree.owner level place (s.tree.under (pointer_at s.tree level place).vvbn) ≡ xs) × (s.placed level place ≡ true)
+      → (pointers_in (s.tree.under (pointer_at s.tree level place).vvbn) ≡ xs) × (s.placed level place ≡ true)
   -- what nothing leads to is empty; above the levels a write that failed may have left nodes over the root
   pub empty : (level place : ℕ) → 1 ≤ level → (pointer_at s.tree level place).stamp ≡ 0 → (level ≤ s.tree.levels) ⊎ ((place ≢ 0) ⊎ (s.tree.root.stamp ≡ 0)) → IsEmptyNode s.tree level place
 
@@ -133,6 +133,17 @@ pub record HoldsUnknown (t : Rooted) (level place : ℕ) : Type 0 where
   pub some : (pointer_at t below child).stamp ≢ 0
   pub unknown : (pointer_at t below child).pvbn ≡ 0
 
+-- a block is that of a node that names this owner, level and place
+pub record IsNodeOf (owner level place : ℕ) (held : Option (List ℕ)) : Type 0 where
+  pub block : List ℕ
+  pub lies : held ≡ Some block
+  pub children : List Pointer
+  pub spells : node_at block ≡ Ok (record { level = level; owner = owner; place = place; children = children })
+
+-- the block of a node of the tree names its position
+abbrev pub NamesPosition : Rooted → ℕ → ℕ → Type 0
+NamesPosition t level place = IsNodeOf t.owner level place (t.under (pointer_at t level place).vvbn)
+
 -- Some of what changed was placed. Each of it has one place and one pointer, and the blocks that were placed and replaced are
 -- those alone.
 pub record Flushes (old : Loaded) (used : ℕ → Option Use) (new : Loaded) (uses : ℕ → Option Use) : Type 0 where
@@ -157,6 +168,8 @@ pub record Flushes (old : Loaded) (used : ℕ → Option Use) (new : Loaded) (us
   pub told : (level place : ℕ) → IsFlushed old new level place → (uses (pointer_at new.tree level place).vvbn ≡ Some (use_told (pointer_at new.tree level place) (kind_for new.tree.owner level))) ⊎ HoldsUnknown new.tree level place
   -- what was placed has the kind of its level
   pub kinds : (level place : ℕ) → IsFlushed old new level place → HasKind (kind_for new.tree.owner level) (uses (pointer_at new.tree level place).vvbn)
+  -- a node that was placed names its position, by which no reader judges it
+  pub positions : (level place : ℕ) → 1 ≤ level → IsFlushed old new level place → NamesPosition new.tree level place
 
 -- ---- its steps
 
@@ -192,6 +205,14 @@ pub record Points (old new : Tree) (level place : ℕ) (p : Pointer) : Type 0 wh
   pub len : tree.btree_map_len new.nodes ≡ tree.btree_map_len old.nodes
   pub placed : (k q : ℕ) → placed_in new.nodes k q ≡ placed_in old.nodes k q
   pub changed : (k q : ℕ) → ((k ≢ level + 1) ⊎ (q ≢ place / fan)) ⊎ (changed_in old.nodes k q ≡ true) → changed_in new.nodes k q ≡ changed_in old.nodes k q
+
+-- as much is in memory: the same cells, and nodes of the same places
+pub record HoldsAsMuch (old new : Tree) : Type 0 where
+  pub owner : new.owner ≡ old.owner
+  pub levels : new.levels ≡ old.levels
+  pub cells : new.cells ≡ old.cells
+  pub len : tree.btree_map_len new.nodes ≡ tree.btree_map_len old.nodes
+  pub there : (k q : ℕ) → is_some (tree.get spot_cmp new.nodes (k, q)) ≡ is_some (tree.get spot_cmp old.nodes (k, q))
 
 -- A block of a kind is placed, to which the pointer p leads, and the VVBN r is named as gone, or none. The pointer tells the block's PVBN
 -- where it may.

@@ -8,6 +8,8 @@ pub mod Releasing
 pub mod Unlinking
 pub mod Collecting
 pub mod Flushing
+pub mod Removal
 pub mod Carried
 pub mod Refilling
 pub mod Reading
+pub mod Seeking

@@ -23,6 +23,10 @@ abbrev pub Refills : Rooted → Rooted → ℕ → List ℕ → Bool → Type 0
 Refills old new i block there =
     (seen : trees.Tree) (contents : fin.FinMap nat_cmp (List ℕ)) → Shows old seen contents → Shows new seen (cond there (fin.insert contents i block) contents)
 
--- the nodes over a cell that are in memory lead somewhere
+-- a node leads somewhere, where it is in memory
+abbrev pub IsFilled : Tree → ℕ → ℕ → Type 0
+IsFilled t level place = (xs : List Pointer) → node_in t level place ≡ Some xs → all_holes xs ≡ false
+
+-- so do the nodes over a cell
 abbrev pub IsFilledWay : Tree → ℕ → Type 0
-IsFilledWay t i = (level : ℕ) → 1 ≤ level → level ≤ t.levels → (xs : List Pointer) → node_in t level (i / fan ^ level) ≡ Some xs → all_holes xs ≡ false
+IsFilledWay t i = (level : ℕ) → 1 ≤ level → level ≤ t.levels → IsFilled t level (i / fan ^ level)

@@ -69,21 +69,31 @@ pub record IsUntouched (old new : Shown) : Type 0 where
   pub used : new.used ≡ old.used
   pub strays : new.strays ≡ old.strays
 
--- A load gives the block under the pointer's VVBN and changes nothing.
-pub record Loads (old : Shown) (pointer : Pointer) (new : Shown) (block : List ℕ) (result : Result ℕ BlockFault) : Type 0 where
+abbrev pub IsDamaged : BlockFault → Type 0
+IsDamaged DiskFault = ⊥
+IsDamaged (Damaged at want found) = Unit {0}
+IsDamaged Memory = ⊥
+
+-- damage is answered only for a pointer whose VVBN isn't held
+abbrev pub IsLoose : Shown → Pointer → BlockFault → Type 0
+IsLoose source p e = IsDamaged e → fin.get source.held p.vvbn ≡ None
+
+-- A load changes nothing. From a source whose content is told it gives the block under the pointer's VVBN.
+pub record Loads (told : Type 0) (old : Shown) (pointer : Pointer) (new : Shown) (block : List ℕ) (result : Result ℕ BlockFault) : Type 0 where
   pub untouched : IsUntouched old new
-  pub gives : OnOk result (fin.get old.held pointer.vvbn ≡ Some block)
+  pub gives : told → OnOk result (fin.get old.held pointer.vvbn ≡ Some block)
   pub answers : IfOk result (λ pvbn. pvbn ≡ new.read_at pointer)
   pub range : IfOk result (λ pvbn. pvbn ≤ last_place)
   pub counts : Counts old new result
   pub cause : IfErr result (HasCause old new)
+  pub loose : IfErr result (IsLoose old pointer)
 
 -- A block of a kind is placed under a VVBN that was neither held nor in use, and comes into use with that kind and the PVBN that is
--- answered. A PVBN of 0 asks for an unknown pointer.
-pub record Places (old : Shown) (kind : ℕ) (block : List ℕ) (new : Shown) (result : Result Placed BlockFault) : Type 0 where
+-- answered. A PVBN of 0 asks for an unknown pointer. Where a source's content is told, that block alone is new in the map.
+pub record Places (told : Type 0) (old : Shown) (kind : ℕ) (block : List ℕ) (new : Shown) (result : Result Placed BlockFault) : Type 0 where
   pub fresh : IfOk result (λ placed. fin.get old.held placed.vvbn ≡ None)
   pub unused : IfOk result (λ placed. old.used placed.vvbn ≡ None)
-  pub held : IfOk result (λ placed. new.held ≡ fin.insert old.held placed.vvbn block)
+  pub held : told → IfOk result (λ placed. new.held ≡ fin.insert old.held placed.vvbn block)
   pub used : IfOk result (λ placed. (v : ℕ) → new.used v ≡ cond (nat_eq v placed.vvbn) (Some (record { pvbn = placed.pvbn; kind = kind })) (old.used v))
   pub vvbn : IfOk result (λ placed. placed.vvbn ≤ last_place)
   pub pvbn : IfOk result (λ placed. placed.pvbn ≤ last_place)

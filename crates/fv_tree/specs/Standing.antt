@@ -1,5 +1,5 @@
 -- A tree over what a source of blocks holds, and why its calls fail.
-use Rattle.std.specs.Prelude.{◌≡◌, ◌≢◌, ◌≤◌, ◌⊎◌, ℕ, List, Option, Some, Err}
+use Rattle.std.specs.Prelude.{◌≡◌, ◌≢◌, ◌≤◌, ◌⊎◌, ℕ, List, Option, Some, None, Err}
 use Rattle.std.specs.Option.{option_map}
 use Rattle.std.specs.Ordering.{nat_cmp}
 use Rattle.std.specs.BTreeMap as tree
@@ -8,12 +8,13 @@ use Rattle.fv_disk.specs.Shown.{Rose}
 use Rattle.fv_disk.specs.declared.fault.BlockFault.{BlockFault}
 use Rattle.fv_disk.specs.declared.fault.BlockFault.TheVariants.{DiskFault, Damaged, Memory}
 use Rattle.fv_codec.specs.declared.pointer.Pointer.{Pointer}
+use Rattle.fv_codec.specs.Blocks.{node_at}
 use Rattle.fv_model.specs.Trees as trees
 use Rattle.fv_model.specs.Trees.{Spot, spot_cmp}
 use Rattle.fv_tree.specs.declared.kept.Tree.{Tree}
 use Rattle.fv_tree.specs.declared.kept.KeptNode.{KeptNode}
-use Rattle.fv_tree.specs.Spelled.{Under, Rooted, node_for, pointer_at, stamp_in, block_at}
-use Rattle.fv_tree.specs.Sources.{Shown, IsCalm, WasDamaged}
+use Rattle.fv_tree.specs.Spelled.{Under, Rooted, pointer_at, stamp_in, block_at}
+use Rattle.fv_tree.specs.Sources.{Shown, HasCause, IsCalm, IsDamaged, WasDamaged}
 
 -- the blocks of a source as a function
 abbrev pub under : Shown → Under
@@ -61,32 +62,49 @@ pub record Shows (t : Rooted) (seen : trees.Tree) (contents : fin.FinMap nat_cmp
   pub stamps : (level place : ℕ) → fin.get seen.stamps (level, place) ≡ stamp_in (pointer_at t level place)
   pub blocks : (index : ℕ) → fin.get contents index ≡ block_at t index
 
--- the block to which a pointer leads isn't the node of this position
-pub record IsBlockDamage (old new : Shown) (owner level place : ℕ) (p : Pointer) (at want found : ℕ) : Type 0 where
+-- the block to which a pointer leads hasn't the shape of a node
+pub record IsBlockDamage (old new : Shown) (p : Pointer) (at want found : ℕ) : Type 0 where
   pub some : p.stamp ≢ 0
   pub block : List ℕ
   pub lies : fin.get old.held p.vvbn ≡ Some block
-  pub fault : node_for owner level place block ≡ Err (record { want = want; found = found })
+  pub fault : node_at block ≡ Err (record { want = want; found = found })
   pub read : at ≡ new.read_at p
 
--- the block of a node of the tree isn't the one of its position
+-- the block of a node of the tree hasn't its shape
 pub record IsNodeDamage (t : Rooted) (old new : Shown) (at want found : ℕ) : Type 0 where
   pub level : ℕ
   pub place : ℕ
   pub low : 1 ≤ level
   pub high : level ≤ t.levels
-  pub damage : IsBlockDamage old new t.owner level place (pointer_at t level place) at want found
+  pub damage : IsBlockDamage old new (pointer_at t level place) at want found
 
--- why a node of this position, to which this pointer leads, wasn't loaded: as for the source, or its block was given and isn't the node's
-abbrev pub LoadFails : Shown → Shown → ℕ → ℕ → ℕ → Pointer → BlockFault → Type 0
-LoadFails old new owner level place p DiskFault = Rose old.faults new.faults × (new.damages ≡ old.damages)
-LoadFails old new owner level place p (Damaged at want found) =
-    (new.faults ≡ old.faults) × (WasDamaged old new at want found ⊎ ((new.damages ≡ old.damages) × IsBlockDamage old new owner level place p at want found))
-LoadFails old new owner level place p Memory = IsCalm old new
+-- a pointer leads to a VVBN that isn't held
+abbrev pub LeadsAway : Under → Pointer → Type 0
+LeadsAway blocks p = (p.stamp ≢ 0) × (blocks p.vvbn ≡ None)
 
--- why a call of a tree failed, where `old` is what the source showed at the call and `new` what it shows afterwards
-abbrev pub Fails : Rooted → Shown → Shown → BlockFault → Type 0
-Fails t old new DiskFault = Rose old.faults new.faults × (new.damages ≡ old.damages)
-Fails t old new (Damaged at want found) =
-    (new.faults ≡ old.faults) × (WasDamaged old new at want found ⊎ ((new.damages ≡ old.damages) × IsNodeDamage t old new at want found))
-Fails t old new Memory = IsCalm old new
+-- so does one of the tree
+pub record LacksBlock (t : Rooted) : Type 0 where
+  pub level : ℕ
+  pub place : ℕ
+  pub high : level ≤ t.levels
+  pub away : LeadsAway t.under (pointer_at t level place)
+
+-- why a load of this pointer failed
+abbrev pub PointerFails : Shown → Shown → Pointer → BlockFault → Type 0
+PointerFails old new p e = HasCause old new e × (IsDamaged e → LeadsAway (under old) p)
+
+-- Why the node to which this pointer leads wasn't loaded: as for the source, or its block was given and hasn't its shape.
+-- Which block that was is known where content is told.
+abbrev pub LoadFails : Type 0 → Shown → Shown → Pointer → BlockFault → Type 0
+LoadFails told old new p DiskFault = Rose old.faults new.faults × (new.damages ≡ old.damages)
+LoadFails told old new p (Damaged at want found) =
+    (new.faults ≡ old.faults) × ((WasDamaged old new at want found × LeadsAway (under old) p) ⊎ ((new.damages ≡ old.damages) × (told → IsBlockDamage old new p at want found)))
+LoadFails told old new p Memory = IsCalm old new
+
+-- Why a call of a tree failed, where `old` is what the source showed at the call and `new` what it shows afterwards. Where content is
+-- told, the source answered damage of a pointer of the tree, or the damage is that of a node of the tree.
+abbrev pub Fails : Type 0 → Rooted → Shown → Shown → BlockFault → Type 0
+Fails told t old new DiskFault = Rose old.faults new.faults × (new.damages ≡ old.damages)
+Fails told t old new (Damaged at want found) =
+    (new.faults ≡ old.faults) × ((WasDamaged old new at want found × (told → LacksBlock t)) ⊎ ((new.damages ≡ old.damages) × (told → IsNodeDamage t old new at want found)))
+Fails told t old new Memory = IsCalm old new

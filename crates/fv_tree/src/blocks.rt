@@ -28,6 +28,12 @@ pub trait Blocks {
     /// The map, the VVBNs in use with their PVBNs and kinds, the three counts and the last damage.
     ghost shown: { Self → Shown };
 
+    /// Whether content is told: then a load gives the block that the map has under its VVBN, and what is placed
+    /// comes into the map. A source over a disk that promises nothing of its content takes a statement that can't be
+    /// shown; all else that it promises stands without it. It is one statement for a type, so it holds for all calls
+    /// on a tree or for none.
+    ghost told: { Type 0 };
+
     /// What a load leaves of all else that a source has, as of a pool and a disk that it was lent. Each call on a
     /// tree that only loads ensures it, so its caller knows afterwards what its own parts are.
     ghost reads: { Self → Self → Type 0 };
@@ -35,28 +41,30 @@ pub trait Blocks {
     /// What any call leaves of all else that a source has. Each call on a tree ensures it.
     ghost goes: { Self → Self → Type 0 };
 
-    /// Gives the block under the pointer's VVBN, and answers the PVBN that was read, below 1,048,576, or 0
-    /// for a block that isn't placed yet. The map, what is in use and the strays stay. At `Err` the content of
-    /// `into` is open.
+    /// Gives the block under the pointer's VVBN, where content is told, and answers the PVBN that was read, below
+    /// 1,048,576, or 0 for a block that isn't placed yet. The map, what is in use and the strays stay. At `Err` the
+    /// content of `into` is open.
     ///
     /// # Errors
     ///
     /// `DiskFault` only where the count of disk faults rose in the call, `Damaged` only where that of
-    /// damages rose, with the last damage, and the other count stays; `Memory` for want of memory alone, with
-    /// both counts as before.
+    /// damages rose, with the last damage, and the other count stays, and only where the VVBN isn't in the map;
+    /// `Memory` for want of memory alone, with both counts as before.
     fn load(&mut self, pointer: &Pointer, into: &mut [u8; 4096]) -> Result<u32, TreeFault>
-        ensures loads { Loads (shown self.old) pointer.now (shown self.new) into.new result }
+        ensures loads { Loads told (shown self.old) pointer.now (shown self.new) into.new result }
         ensures reads { reads self.old self.new };
 
     /// Adds a block of a kind from 1 to 7 under a VVBN that was neither in the map nor in use, and takes it
-    /// into use with that kind and the PVBN that it answers; all else stays.
+    /// into use with that kind and the PVBN that it answers; all else stays in use as it was, and in the map where
+    /// content is told.
     ///
     /// # Errors
     ///
-    /// As `load`; the map, what is in use and the strays stay then.
+    /// `DiskFault`, `Damaged` and `Memory` with the counts as for `load`; the map, what is in use and the strays
+    /// stay then.
     fn place(&mut self, kind: u8, block: &[u8; 4096]) -> Result<Placed, TreeFault>
         requires kind { IsKind kind }
-        ensures places { Places (shown self.old) kind block.now (shown self.new) result }
+        ensures places { Places told (shown self.old) kind block.now (shown self.new) result }
         ensures calls { goes self.old self.new };
 
     /// Takes that one VVBN out of use, and may drop it from the map; all else stays. One that isn't in use

@@ -4,12 +4,12 @@ ghost use Rattle.std.specs.Prelude.{◌≡◌, ◌≢◌, ◌≤◌, ◌<◌, �
 ghost use Rattle.fv_model.specs.Trees.{fan};
 ghost use Rattle.fv_tree.specs.Spelled.{Under};
 ghost use Rattle.fv_tree.specs.Sources.{Counts, IsUntouched};
-ghost use Rattle.fv_tree.specs.Standing.{standing, under, Fails};
+ghost use Rattle.fv_tree.specs.Standing.{standing, under, Fails, IsSameBut};
 ghost use Rattle.fv_tree.specs.Keeping.{IsSame};
-ghost use Rattle.fv_tree.specs.Writing.{Remains};
-ghost use Rattle.fv_tree.specs.Erasing.{StandsAt, HoldsCells, IsErased, Erases};
-ghost use Rattle.fv_tree.specs.Releasing.{IsDropped, KeepsBlocks, Releases, Removes};
+ghost use Rattle.fv_tree.specs.Erasing.{StandsAt};
+ghost use Rattle.fv_tree.specs.Releasing.{KeepsBlocks, Removes};
 ghost use Rattle.fv_tree.specs.Flushing.{Stands};
+ghost use Rattle.fv_tree.specs.Removal.{Removal};
 ghost use Rattle.fv_tree.specs.Collecting.{AreBelow, IsRising, IsPast, Collects, IsHeld, StillHeld, AreHeld, Extends, IsAdded, IsChildPast, IsUnder};
 ghost use Rattle.fv_disk.specs.declared.fault.BlockFault.TheVariants.{Memory};
 
@@ -40,17 +40,7 @@ impl Tree {
     ) -> Result<(), TreeFault>
         requires start { start ≤ 3 }
         requires stamp { 1 ≤ stamp }
-        ensures erased { OnOk result (Stands (B.shown blocks.old) self.old → Erases (standing (under (B.shown blocks.old)) self.old) (standing (under (B.shown blocks.new)) self.new) (nat_le length) start stamp) }
-        ensures place_by_place { OnOk result (Stands (B.shown blocks.old) self.old → HoldsCells (standing (under (B.shown blocks.old)) self.old) → IsErased (standing (under (B.shown blocks.old)) self.old) (standing (under (B.shown blocks.new)) self.new) (nat_le length) start stamp) }
-        ensures strays { Stands (B.shown blocks.old) self.old → (B.shown blocks.new).strays ≡ (B.shown blocks.old).strays }
-        ensures released { OnOk result (Releases (B.shown blocks.old) (B.shown blocks.new) (IsDropped (under (B.shown blocks.old)) self.old self.new)) }
-        ensures owner { self.new.owner ≡ self.old.owner }
-        ensures stands { Stands (B.shown blocks.old) self.old → Stands (B.shown blocks.new) self.new }
-        ensures failed { OnErr result (Remains (standing (under (B.shown blocks.old)) self.old) (standing (under (B.shown blocks.new)) self.new)) }
-        ensures untouched { OnErr result (IsUntouched (B.shown blocks.old) (B.shown blocks.new)) }
-        ensures calls { B.goes blocks.old blocks.new }
-        ensures counts { Counts (B.shown blocks.old) (B.shown blocks.new) result }
-        ensures cause { IfErr result (Fails (standing (under (B.shown blocks.old)) self.old) (B.shown blocks.old) (B.shown blocks.new)) }
+        ensures { Removal B.told (B.goes blocks.old blocks.new) (B.shown blocks.old) (B.shown blocks.new) self.old self.new (nat_le length) start stamp result }
     {
         cut_cells(self, blocks, length, start, stamp)
     }
@@ -66,14 +56,14 @@ fn cut_cells<B: Blocks>(
 ) -> Result<(), TreeFault>
     requires start { start ≤ 3 }
     requires stamp { 1 ≤ stamp }
-    ensures done { OnOk result (Removes (B.shown blocks.old) (B.shown blocks.new) tree.old tree.new (nat_le most) start stamp) }
-    ensures failed { OnErr result (IsSame (standing (under (B.shown blocks.old)) tree.old) (standing (under (B.shown blocks.new)) tree.new)) }
+    ensures done { B.told → OnOk result (Removes (B.shown blocks.old) (B.shown blocks.new) tree.old tree.new (nat_le most) start stamp) }
+    ensures failed { B.told → OnErr result (IsSame (standing (under (B.shown blocks.old)) tree.old) (standing (under (B.shown blocks.new)) tree.new)) }
     ensures owner { tree.new.owner ≡ tree.old.owner }
-    ensures stays { OnErr result (Stands (B.shown blocks.old) tree.old → Stands (B.shown blocks.new) tree.new) }
+    ensures stays { B.told → OnErr result (Stands (B.shown blocks.old) tree.old → Stands (B.shown blocks.new) tree.new) }
     ensures untouched { OnErr result (IsUntouched (B.shown blocks.old) (B.shown blocks.new)) }
     ensures calls { B.goes blocks.old blocks.new }
     ensures counts { Counts (B.shown blocks.old) (B.shown blocks.new) result }
-    ensures cause { IfErr result (Fails (standing (under (B.shown blocks.old)) tree.old) (B.shown blocks.old) (B.shown blocks.new)) }
+    ensures cause { IfErr result (Fails B.told (standing (under (B.shown blocks.old)) tree.old) (B.shown blocks.old) (B.shown blocks.new)) }
 {
     let cells = keep_past(tree, blocks, most)?;
     for index in cells.as_slice() {
@@ -84,15 +74,16 @@ fn cut_cells<B: Blocks>(
 
 /// Holds all nodes over the cells from a length on in memory, and answers those cells.
 fn keep_past<B: Blocks>(tree: &mut Tree, blocks: &mut B, most: u32) -> Result<Vec<u32>, TreeFault>
-    ensures cells { IfOk result (λ cells. Collects (standing (under (B.shown blocks.old)) tree.old) 0 most cells.items) }
-    ensures nodes { OnOk result (AreHeld tree.new (standing (under (B.shown blocks.old)) tree.old) 0 most) }
-    ensures same { IsSame (standing (under (B.shown blocks.old)) tree.old) (standing (under (B.shown blocks.new)) tree.new) }
-    ensures blocks { KeepsBlocks (under (B.shown blocks.old)) tree.old tree.new }
-    ensures stands { Stands (B.shown blocks.old) tree.old → Stands (B.shown blocks.new) tree.new }
+    ensures cells { B.told → IfOk result (λ cells. Collects (standing (under (B.shown blocks.old)) tree.old) 0 most cells.items) }
+    ensures nodes { B.told → OnOk result (AreHeld tree.new (standing (under (B.shown blocks.old)) tree.old) 0 most) }
+    ensures fields { IsSameBut tree.old tree.new }
+    ensures same { B.told → IsSame (standing (under (B.shown blocks.old)) tree.old) (standing (under (B.shown blocks.new)) tree.new) }
+    ensures blocks { B.told → KeepsBlocks (under (B.shown blocks.old)) tree.old tree.new }
+    ensures stands { B.told → Stands (B.shown blocks.old) tree.old → Stands (B.shown blocks.new) tree.new }
     ensures untouched { IsUntouched (B.shown blocks.old) (B.shown blocks.new) }
     ensures reads { B.reads blocks.old blocks.new }
     ensures counts { Counts (B.shown blocks.old) (B.shown blocks.new) result }
-    ensures cause { IfErr result (Fails (standing (under (B.shown blocks.old)) tree.old) (B.shown blocks.old) (B.shown blocks.new)) }
+    ensures cause { IfErr result (Fails B.told (standing (under (B.shown blocks.old)) tree.old) (B.shown blocks.old) (B.shown blocks.new)) }
 {
     let mut level = tree.levels;
     let mut places = top_places(tree, most)?;
@@ -106,6 +97,7 @@ fn keep_past<B: Blocks>(tree: &mut Tree, blocks: &mut B, most: u32) -> Result<Ve
 /// The one range of the tree's levels, where it stands and has an index from a length on.
 fn top_places(tree: &Tree, most: u32) -> Result<Vec<u32>, TreeFault>
     ensures places { (held : Under) → IfOk result (λ places. Collects (standing held tree.now) tree.now.levels most places.items) }
+    ensures bound { IfOk result (λ places. AreBelow places.items (fan ^ (3 - tree.now.levels))) }
     ensures memory { IfErr result (λ e. e ≡ Memory) }
 {
     let mut places = Vec::new(tree.alloc);
@@ -141,17 +133,20 @@ fn keep_level<B: Blocks>(
 ) -> Result<Vec<u32>, TreeFault>
     requires low { 1 ≤ level }
     requires high { level ≤ tree.old.levels }
-    requires places { Collects (standing (under (B.shown blocks.old)) tree.old) level most places.now }
-    requires nodes { AreHeld tree.old (standing (under (B.shown blocks.old)) tree.old) level most }
-    ensures places { IfOk result (λ below. Collects (standing (under (B.shown blocks.old)) tree.old) (level - 1) most below.items) }
-    ensures nodes { OnOk result (AreHeld tree.new (standing (under (B.shown blocks.old)) tree.old) (level - 1) most) }
-    ensures same { IsSame (standing (under (B.shown blocks.old)) tree.old) (standing (under (B.shown blocks.new)) tree.new) }
-    ensures blocks { KeepsBlocks (under (B.shown blocks.old)) tree.old tree.new }
-    ensures stands { Stands (B.shown blocks.old) tree.old → Stands (B.shown blocks.new) tree.new }
+    requires places { B.told → Collects (standing (under (B.shown blocks.old)) tree.old) level most places.now }
+    requires nodes { B.told → AreHeld tree.old (standing (under (B.shown blocks.old)) tree.old) level most }
+    requires bound { AreBelow places.now (fan ^ (3 - level)) }
+    ensures places { B.told → IfOk result (λ below. Collects (standing (under (B.shown blocks.old)) tree.old) (level - 1) most below.items) }
+    ensures nodes { B.told → OnOk result (AreHeld tree.new (standing (under (B.shown blocks.old)) tree.old) (level - 1) most) }
+    ensures bound { IfOk result (λ below. AreBelow below.items (fan ^ (3 - (level - 1)))) }
+    ensures fields { IsSameBut tree.old tree.new }
+    ensures same { B.told → IsSame (standing (under (B.shown blocks.old)) tree.old) (standing (under (B.shown blocks.new)) tree.new) }
+    ensures blocks { B.told → KeepsBlocks (under (B.shown blocks.old)) tree.old tree.new }
+    ensures stands { B.told → Stands (B.shown blocks.old) tree.old → Stands (B.shown blocks.new) tree.new }
     ensures untouched { IsUntouched (B.shown blocks.old) (B.shown blocks.new) }
     ensures reads { B.reads blocks.old blocks.new }
     ensures counts { Counts (B.shown blocks.old) (B.shown blocks.new) result }
-    ensures cause { IfErr result (Fails (standing (under (B.shown blocks.old)) tree.old) (B.shown blocks.old) (B.shown blocks.new)) }
+    ensures cause { IfErr result (Fails B.told (standing (under (B.shown blocks.old)) tree.old) (B.shown blocks.old) (B.shown blocks.new)) }
 {
     let mut below = Vec::new(tree.alloc);
     for place in places {
@@ -172,19 +167,22 @@ fn keep_range<B: Blocks>(
 ) -> Result<(), TreeFault>
     requires low { 1 ≤ level }
     requires high { level ≤ tree.old.levels }
-    requires stands { StandsAt (standing (under (B.shown blocks.old)) tree.old) level place }
-    requires node { level < tree.old.levels → IsHeld tree.old (level + 1) (place / fan) }
-    ensures added { OnOk result (Extends (IsUnder (standing (under (B.shown blocks.old)) tree.old) level most place) below.old.items below.new.items) }
+    requires stands { B.told → StandsAt (standing (under (B.shown blocks.old)) tree.old) level place }
+    requires node { B.told → level < tree.old.levels → IsHeld tree.old (level + 1) (place / fan) }
+    requires range { place < fan ^ (3 - level) }
+    ensures added { B.told → OnOk result (Extends (IsUnder (standing (under (B.shown blocks.old)) tree.old) level most place) below.old.items below.new.items) }
     ensures rising { OnOk result (IsRising below.old.items → AreBelow below.old.items (place * fan) → IsRising below.new.items × AreBelow below.new.items ((place + 1) * fan)) }
-    ensures node { OnOk result (IsHeld tree.new level place) }
-    ensures nodes { StillHeld tree.old tree.new }
-    ensures same { IsSame (standing (under (B.shown blocks.old)) tree.old) (standing (under (B.shown blocks.new)) tree.new) }
-    ensures blocks { KeepsBlocks (under (B.shown blocks.old)) tree.old tree.new }
-    ensures stands { Stands (B.shown blocks.old) tree.old → Stands (B.shown blocks.new) tree.new }
+    ensures bound { OnOk result ((bound : ℕ) → (place + 1) * fan ≤ bound → AreBelow below.old.items bound → AreBelow below.new.items bound) }
+    ensures node { B.told → OnOk result (IsHeld tree.new level place) }
+    ensures fields { IsSameBut tree.old tree.new }
+    ensures nodes { B.told → StillHeld tree.old tree.new }
+    ensures same { B.told → IsSame (standing (under (B.shown blocks.old)) tree.old) (standing (under (B.shown blocks.new)) tree.new) }
+    ensures blocks { B.told → KeepsBlocks (under (B.shown blocks.old)) tree.old tree.new }
+    ensures stands { B.told → Stands (B.shown blocks.old) tree.old → Stands (B.shown blocks.new) tree.new }
     ensures untouched { IsUntouched (B.shown blocks.old) (B.shown blocks.new) }
     ensures reads { B.reads blocks.old blocks.new }
     ensures counts { Counts (B.shown blocks.old) (B.shown blocks.new) result }
-    ensures cause { IfErr result (Fails (standing (under (B.shown blocks.old)) tree.old) (B.shown blocks.old) (B.shown blocks.new)) }
+    ensures cause { IfErr result (Fails B.told (standing (under (B.shown blocks.old)) tree.old) (B.shown blocks.old) (B.shown blocks.new)) }
 {
     let pointer = pointer_in(tree, level, place);
     let children = keep_node(tree, blocks, level, place, &pointer)?;
@@ -204,6 +202,7 @@ fn add_ranges(
     requires range { place < 16384 }
     ensures added { OnOk result (Extends (IsChildPast children.now level most place) below.old.items below.new.items) }
     ensures rising { OnOk result (IsRising below.old.items → AreBelow below.old.items (place * fan) → IsRising below.new.items × AreBelow below.new.items ((place + 1) * fan)) }
+    ensures bound { OnOk result ((bound : ℕ) → (place + 1) * fan ≤ bound → AreBelow below.old.items bound → AreBelow below.new.items bound) }
     ensures memory { IfErr result (λ e. e ≡ Memory) }
 {
     let far = most / width(level - 1);
@@ -217,6 +216,7 @@ fn add_ranges(
 fn add_range(pointer: &Pointer, far: u32, place: u32, below: &mut Vec<u32>) -> Result<(), TreeFault>
     ensures added { OnOk result (Extends (IsAdded pointer.now far place) below.old.items below.new.items) }
     ensures rising { OnOk result (IsRising below.old.items → AreBelow below.old.items place → IsRising below.new.items × AreBelow below.new.items (place + 1)) }
+    ensures bound { OnOk result ((bound : ℕ) → place < bound → AreBelow below.old.items bound → AreBelow below.new.items bound) }
     ensures memory { IfErr result (λ e. e ≡ Memory) }
 {
     if pointer.stamp != 0 && far <= place {

@@ -7,7 +7,7 @@ ghost use Rattle.std.specs.BTreeMap as tree_map;
 ghost use Rattle.fv_codec.specs.declared.pointer.Pointer.{Pointer};
 ghost use Rattle.fv_model.specs.Trees.{fan, spot_cmp};
 ghost use Rattle.fv_tree.specs.Spelled.{Under, hole};
-ghost use Rattle.fv_tree.specs.Sources.{Drops};
+ghost use Rattle.fv_tree.specs.Sources.{Drops, IsCalm};
 ghost use Rattle.fv_tree.specs.Standing.{standing, node_in, cell_in, children_in};
 ghost use Rattle.fv_tree.specs.Writing.{stamped, stamped_in, slot_of};
 ghost use Rattle.fv_tree.specs.Erasing.{StandsAt};
@@ -23,15 +23,16 @@ use crate::write::{is_placed, stamp_slot, stamped};
 use fv_codec::Pointer;
 use std::collections::BTreeMap;
 
-/// Removes a cell that stands and over which all nodes are in memory, and names the blocks that go.
+/// Removes a cell that stands and over which all nodes are in memory, and names the blocks that go. Over an image
+/// of which nothing is known a node may be missing; then nothing is said of what goes.
 pub fn erase_cell<B: Blocks>(tree: &mut Tree, blocks: &mut B, index: u32, start: u8, stamp: u64)
-    requires way { HasWay tree.old index }
     requires start { start ≤ 3 }
     requires stamp { 1 ≤ stamp }
     ensures owner { tree.new.owner ≡ tree.old.owner }
-    ensures goes { (held : Under) → StandsAt (standing held tree.old) 0 index → CellGoes held tree.old tree.new index start stamp }
-    ensures released { (held : Under) → StandsAt (standing held tree.old) 0 index → Releases (B.shown blocks.old) (B.shown blocks.new) (IsDropped held tree.old tree.new) }
-    ensures strays { (held : Under) → StandsAt (standing held tree.old) 0 index → IsSound (B.shown blocks.old).used (loaded_over held tree.old) → (B.shown blocks.new).strays ≡ (B.shown blocks.old).strays }
+    ensures goes { HasWay tree.old index → (held : Under) → StandsAt (standing held tree.old) 0 index → CellGoes held tree.old tree.new index start stamp }
+    ensures released { HasWay tree.old index → (held : Under) → StandsAt (standing held tree.old) 0 index → Releases (B.shown blocks.old) (B.shown blocks.new) (IsDropped held tree.old tree.new) }
+    ensures strays { HasWay tree.old index → (held : Under) → StandsAt (standing held tree.old) 0 index → IsSound (B.shown blocks.old).used (loaded_over held tree.old) → (B.shown blocks.new).strays ≡ (B.shown blocks.old).strays }
+    ensures calm { IsCalm (B.shown blocks.old) (B.shown blocks.new) }
     ensures calls { B.goes blocks.old blocks.new }
 {
     let lost = bare_levels(tree, index);
@@ -118,11 +119,11 @@ fn has_block(tree: &Tree, level: u8, place: u32) -> bool
 
 /// Lets nothing lead to a cell and to so many nodes over it, and stamps the marks that are left above.
 fn unlink(tree: &mut Tree, index: u32, lost: u8, start: u8, stamp: u64)
-    requires way { HasWay tree.old index }
     requires bare { AreBare tree.old index lost }
     requires start { start ≤ 3 }
     requires stamp { 1 ≤ stamp }
-    ensures { Unlinks tree.old tree.new index lost start stamp }
+    ensures owner { tree.new.owner ≡ tree.old.owner }
+    ensures unlinks { HasWay tree.old index → Unlinks tree.old tree.new index lost start stamp }
 {
     if lost == tree.levels {
         clear(tree, start);

@@ -8,7 +8,7 @@ ghost use Rattle.fv_tree.specs.Spelled.{stored};
 ghost use Rattle.fv_tree.specs.Sources.{Counts, HasCause, IsUntouched};
 ghost use Rattle.fv_tree.specs.Standing.{standing, under};
 ghost use Rattle.fv_tree.specs.Writing.{Remains};
-ghost use Rattle.fv_tree.specs.Flushing.{loaded, Flushes, IsLeft, IsNodeStep, ReachesOnce, Stands};
+ghost use Rattle.fv_tree.specs.Flushing.{loaded, Flushes, HoldsAsMuch, IsLeft, IsNodeStep, ReachesOnce, Stands};
 
 use crate::blocks::{Blocks, TreeFault};
 use crate::kept::{KeptNode, Tree};
@@ -19,8 +19,8 @@ use fv_codec::Pointer;
 
 /// Places the cells in memory.
 fn flush_cells<B: Blocks>(tree: &mut Tree, blocks: &mut B) -> Result<(), TreeFault>
-    ensures flushes { Stands (B.shown blocks.old) tree.old → Flushes (loaded (B.shown blocks.old) tree.old) (B.shown blocks.old).used (loaded (B.shown blocks.new) tree.new) (B.shown blocks.new).used }
-    ensures strays { Stands (B.shown blocks.old) tree.old → (B.shown blocks.new).strays ≡ (B.shown blocks.old).strays }
+    ensures flushes { B.told → Stands (B.shown blocks.old) tree.old → Flushes (loaded (B.shown blocks.old) tree.old) (B.shown blocks.old).used (loaded (B.shown blocks.new) tree.new) (B.shown blocks.new).used }
+    ensures strays { B.told → Stands (B.shown blocks.old) tree.old → (B.shown blocks.new).strays ≡ (B.shown blocks.old).strays }
     ensures left { IsLeft tree.old tree.new }
     ensures none { OnOk result (maps.btree_map_len tree.new.cells ≡ 0) }
     ensures calls { B.goes blocks.old blocks.new }
@@ -36,8 +36,8 @@ fn flush_cells<B: Blocks>(tree: &mut Tree, blocks: &mut B) -> Result<(), TreeFau
 /// Places the nodes in memory that changed, the lowest first.
 fn flush_nodes<B: Blocks>(tree: &mut Tree, blocks: &mut B) -> Result<(), TreeFault>
     requires { maps.btree_map_len tree.old.cells ≡ 0 }
-    ensures flushes { Stands (B.shown blocks.old) tree.old → Flushes (loaded (B.shown blocks.old) tree.old) (B.shown blocks.old).used (loaded (B.shown blocks.new) tree.new) (B.shown blocks.new).used }
-    ensures strays { Stands (B.shown blocks.old) tree.old → (B.shown blocks.new).strays ≡ (B.shown blocks.old).strays }
+    ensures flushes { B.told → Stands (B.shown blocks.old) tree.old → Flushes (loaded (B.shown blocks.old) tree.old) (B.shown blocks.old).used (loaded (B.shown blocks.new) tree.new) (B.shown blocks.new).used }
+    ensures strays { B.told → Stands (B.shown blocks.old) tree.old → (B.shown blocks.new).strays ≡ (B.shown blocks.old).strays }
     ensures left { IsLeft tree.old tree.new }
     ensures cells { tree.new.cells ≡ tree.old.cells }
     ensures none { OnOk result (maps.btree_map_len tree.new.nodes ≡ 0) }
@@ -53,8 +53,8 @@ fn flush_nodes<B: Blocks>(tree: &mut Tree, blocks: &mut B) -> Result<(), TreeFau
 
 /// Places the first cell in memory.
 fn flush_first_cell<B: Blocks>(tree: &mut Tree, blocks: &mut B) -> Result<(), TreeFault>
-    ensures flushes { Stands (B.shown blocks.old) tree.old → Flushes (loaded (B.shown blocks.old) tree.old) (B.shown blocks.old).used (loaded (B.shown blocks.new) tree.new) (B.shown blocks.new).used }
-    ensures strays { Stands (B.shown blocks.old) tree.old → (B.shown blocks.new).strays ≡ (B.shown blocks.old).strays }
+    ensures flushes { B.told → Stands (B.shown blocks.old) tree.old → Flushes (loaded (B.shown blocks.old) tree.old) (B.shown blocks.old).used (loaded (B.shown blocks.new) tree.new) (B.shown blocks.new).used }
+    ensures strays { B.told → Stands (B.shown blocks.old) tree.old → (B.shown blocks.new).strays ≡ (B.shown blocks.old).strays }
     ensures left { IsLeft tree.old tree.new }
     ensures fewer { OnOk result (maps.btree_map_len tree.new.cells ≡ maps.btree_map_len tree.old.cells - 1) }
     ensures calls { B.goes blocks.old blocks.new }
@@ -74,8 +74,8 @@ fn flush_first_cell<B: Blocks>(tree: &mut Tree, blocks: &mut B) -> Result<(), Tr
 /// Places the first node in memory, where it changed.
 fn flush_first_node<B: Blocks>(tree: &mut Tree, blocks: &mut B) -> Result<(), TreeFault>
     requires { maps.btree_map_len tree.old.cells ≡ 0 }
-    ensures flushes { Stands (B.shown blocks.old) tree.old → Flushes (loaded (B.shown blocks.old) tree.old) (B.shown blocks.old).used (loaded (B.shown blocks.new) tree.new) (B.shown blocks.new).used }
-    ensures strays { Stands (B.shown blocks.old) tree.old → (B.shown blocks.new).strays ≡ (B.shown blocks.old).strays }
+    ensures flushes { B.told → Stands (B.shown blocks.old) tree.old → Flushes (loaded (B.shown blocks.old) tree.old) (B.shown blocks.old).used (loaded (B.shown blocks.new) tree.new) (B.shown blocks.new).used }
+    ensures strays { B.told → Stands (B.shown blocks.old) tree.old → (B.shown blocks.new).strays ≡ (B.shown blocks.old).strays }
     ensures left { IsLeft tree.old tree.new }
     ensures cells { tree.new.cells ≡ tree.old.cells }
     ensures fewer { OnOk result (maps.btree_map_len tree.new.nodes ≡ maps.btree_map_len tree.old.nodes - 1) }
@@ -101,7 +101,8 @@ fn flush_node<B: Blocks>(
     place: u32,
     node: &KeptNode,
 ) -> Result<(), TreeFault>
-    ensures node { OnOk result (IsNodeStep (B.shown blocks.old) tree.old level place node.now (B.shown blocks.new) tree.new) }
+    ensures node { B.told → OnOk result (IsNodeStep (B.shown blocks.old) tree.old level place node.now (B.shown blocks.new) tree.new) }
+    ensures still { HoldsAsMuch tree.old tree.new }
     ensures failed { OnErr result (tree.new ≡ tree.old) }
     ensures untouched { OnErr result (IsUntouched (B.shown blocks.old) (B.shown blocks.new)) }
     ensures calls { B.goes blocks.old blocks.new }
@@ -130,15 +131,15 @@ impl Tree {
     ///
     /// As `place` of the `Blocks` answers them.
     pub fn flush<B: Blocks>(&mut self, blocks: &mut B) -> Result<Pointer, TreeFault>
-        ensures flushes { Stands (B.shown blocks.old) self.old → Flushes (loaded (B.shown blocks.old) self.old) (B.shown blocks.old).used (loaded (B.shown blocks.new) self.new) (B.shown blocks.new).used }
-        ensures strays { Stands (B.shown blocks.old) self.old → (B.shown blocks.new).strays ≡ (B.shown blocks.old).strays }
-        ensures remains { Stands (B.shown blocks.old) self.old → Remains (standing (under (B.shown blocks.old)) self.old) (standing (under (B.shown blocks.new)) self.new) }
+        ensures flushes { B.told → Stands (B.shown blocks.old) self.old → Flushes (loaded (B.shown blocks.old) self.old) (B.shown blocks.old).used (loaded (B.shown blocks.new) self.new) (B.shown blocks.new).used }
+        ensures strays { B.told → Stands (B.shown blocks.old) self.old → (B.shown blocks.new).strays ≡ (B.shown blocks.old).strays }
+        ensures remains { B.told → Stands (B.shown blocks.old) self.old → Remains (standing (under (B.shown blocks.old)) self.old) (standing (under (B.shown blocks.new)) self.new) }
         ensures left { IsLeft self.old self.new }
         ensures done { OnOk result ((level place : ℕ) → (loaded (B.shown blocks.new) self.new).changed level place ≡ false) }
         ensures root { IfOk result (λ root. root ≡ self.new.root) }
         ensures pointer { IfOk result IsPointer }
         ensures stored { IfOk result (λ root. standing (under (B.shown blocks.new)) self.new ≡ stored (under (B.shown blocks.new)) self.old.owner self.old.levels root) }
-        ensures reaches { IfOk result (λ root. Stands (B.shown blocks.old) self.old → ReachesOnce (B.shown blocks.new).used (stored (under (B.shown blocks.new)) self.old.owner self.old.levels root)) }
+        ensures reaches { B.told → IfOk result (λ root. Stands (B.shown blocks.old) self.old → ReachesOnce (B.shown blocks.new).used (stored (under (B.shown blocks.new)) self.old.owner self.old.levels root)) }
         ensures calls { B.goes blocks.old blocks.new }
         ensures counts { Counts (B.shown blocks.old) (B.shown blocks.new) result }
         ensures cause { IfErr result (HasCause (B.shown blocks.old) (B.shown blocks.new)) }

@@ -1,6 +1,6 @@
 //! Holding the nodes over a cell in memory.
 
-ghost use Rattle.std.specs.Prelude.{◌≡◌, ◌≤◌, ◌<◌, ◌/◌, ◌-◌, ◌^◌, ◌&&◌, ℕ, true, false, cond, nat_eq, Some, IfOk, IfErr, OnOk, OnErr, get_or, length, replicate};
+ghost use Rattle.std.specs.Prelude.{◌≡◌, ◌≢◌, ◌≤◌, ◌<◌, ◌/◌, ◌-◌, ◌^◌, ◌&&◌, ◌⊎◌, ℕ, true, false, cond, nat_eq, Some, IfOk, IfErr, OnOk, OnErr, get_or, length, replicate};
 ghost use Rattle.std.specs.List.{All};
 ghost use Rattle.fv_codec.specs.Blocks.{IsPointer};
 ghost use Rattle.fv_model.specs.Trees.{fan};
@@ -11,6 +11,7 @@ ghost use Rattle.fv_tree.specs.Releasing.{KeepsBlocks};
 ghost use Rattle.fv_tree.specs.Keeping.{IsKept, Keeps, IsSame, KeepsBelow};
 ghost use Rattle.fv_tree.specs.Flushing.{placed_in, Stands};
 ghost use Rattle.fv_tree.specs.Carried.{kept_at, Brings, IsBlank};
+ghost use Rattle.fv_tree.specs.Refilling.{IsFilled, IsFilledWay};
 ghost use Rattle.fv_disk.specs.declared.fault.BlockFault.TheVariants.{Memory};
 
 use crate::blocks::{Blocks, TreeFault};
@@ -26,17 +27,18 @@ pub fn keep_path<B: Blocks>(
     index: u32,
 ) -> Result<Pointer, TreeFault>
     requires index { index < fan ^ tree.old.levels }
-    ensures pointer { IfOk result (λ p. p ≡ pointer_at (standing (under (B.shown blocks.old)) tree.old) 0 index) }
-    ensures kept { OnOk result ((level : ℕ) → 1 ≤ level → level ≤ tree.old.levels → IsKept (standing (under (B.shown blocks.new)) tree.new) level (index / fan ^ level)) }
-    ensures unplaced { OnOk result ((level : ℕ) → 1 ≤ level → level ≤ tree.old.levels → (pointer_at (standing (under (B.shown blocks.old)) tree.old) level (index / fan ^ level)).stamp ≡ 0 → placed_in tree.new.nodes level (index / fan ^ level) ≡ false) }
+    ensures pointer { B.told → IfOk result (λ p. p ≡ pointer_at (standing (under (B.shown blocks.old)) tree.old) 0 index) }
+    ensures kept { B.told → OnOk result ((level : ℕ) → 1 ≤ level → level ≤ tree.old.levels → IsKept (standing (under (B.shown blocks.new)) tree.new) level (index / fan ^ level)) }
+    ensures unplaced { B.told → OnOk result ((level : ℕ) → 1 ≤ level → level ≤ tree.old.levels → (pointer_at (standing (under (B.shown blocks.old)) tree.old) level (index / fan ^ level)).stamp ≡ 0 → placed_in tree.new.nodes level (index / fan ^ level) ≡ false) }
+    ensures filled { IfOk result (λ p. p.stamp ≢ 0 → IsFilledWay tree.new index) }
     ensures fields { IsSameBut tree.old tree.new }
-    ensures stands { Stands (B.shown blocks.old) tree.old → Stands (B.shown blocks.new) tree.new }
-    ensures same { IsSame (standing (under (B.shown blocks.old)) tree.old) (standing (under (B.shown blocks.new)) tree.new) }
-    ensures blocks { KeepsBlocks (under (B.shown blocks.old)) tree.old tree.new }
+    ensures stands { B.told → Stands (B.shown blocks.old) tree.old → Stands (B.shown blocks.new) tree.new }
+    ensures same { B.told → IsSame (standing (under (B.shown blocks.old)) tree.old) (standing (under (B.shown blocks.new)) tree.new) }
+    ensures blocks { B.told → KeepsBlocks (under (B.shown blocks.old)) tree.old tree.new }
     ensures untouched { IsUntouched (B.shown blocks.old) (B.shown blocks.new) }
     ensures reads { B.reads blocks.old blocks.new }
     ensures counts { Counts (B.shown blocks.old) (B.shown blocks.new) result }
-    ensures cause { IfErr result (Fails (standing (under (B.shown blocks.old)) tree.old) (B.shown blocks.old) (B.shown blocks.new)) }
+    ensures cause { IfErr result (Fails B.told (standing (under (B.shown blocks.old)) tree.old) (B.shown blocks.old) (B.shown blocks.new)) }
 {
     let mut level = tree.levels;
     let mut pointer = tree.root;
@@ -57,19 +59,20 @@ fn keep_step<B: Blocks>(
 ) -> Result<Pointer, TreeFault>
     requires low { 1 ≤ level }
     requires high { level ≤ tree.old.levels }
-    requires pointer { pointer.now ≡ pointer_at (standing (under (B.shown blocks.old)) tree.old) level (index / fan ^ level) }
-    ensures below { IfOk result (λ p. p ≡ pointer_at (standing (under (B.shown blocks.old)) tree.old) (level - 1) (index / fan ^ (level - 1))) }
-    ensures keeps { OnOk result (IsKept (standing (under (B.shown blocks.new)) tree.new) level (index / fan ^ level)) }
-    ensures brings { Brings (under (B.shown blocks.old)) tree.old tree.new level (index / fan ^ level) pointer.now }
+    requires pointer { B.told → pointer.now ≡ pointer_at (standing (under (B.shown blocks.old)) tree.old) level (index / fan ^ level) }
+    ensures below { B.told → IfOk result (λ p. p ≡ pointer_at (standing (under (B.shown blocks.old)) tree.old) (level - 1) (index / fan ^ (level - 1))) }
+    ensures keeps { B.told → OnOk result (IsKept (standing (under (B.shown blocks.new)) tree.new) level (index / fan ^ level)) }
+    ensures brings { B.told → Brings (under (B.shown blocks.old)) tree.old tree.new level (index / fan ^ level) pointer.now }
     ensures blank { OnOk result (pointer.now.stamp ≡ 0 → IsBlank (kept_at tree.new level (index / fan ^ level))) }
+    ensures filled { IfOk result (λ p. p.stamp ≢ 0 → (pointer.now.stamp ≢ 0) × IsFilled tree.new level (index / fan ^ level)) }
     ensures fields { IsSameBut tree.old tree.new }
     ensures others { KeepsBelow (standing (under (B.shown blocks.old)) tree.old) (standing (under (B.shown blocks.new)) tree.new) level }
-    ensures same { IsSame (standing (under (B.shown blocks.old)) tree.old) (standing (under (B.shown blocks.new)) tree.new) }
-    ensures blocks { KeepsBlocks (under (B.shown blocks.old)) tree.old tree.new }
+    ensures same { B.told → IsSame (standing (under (B.shown blocks.old)) tree.old) (standing (under (B.shown blocks.new)) tree.new) }
+    ensures blocks { B.told → KeepsBlocks (under (B.shown blocks.old)) tree.old tree.new }
     ensures untouched { IsUntouched (B.shown blocks.old) (B.shown blocks.new) }
     ensures reads { B.reads blocks.old blocks.new }
     ensures counts { Counts (B.shown blocks.old) (B.shown blocks.new) result }
-    ensures cause { IfErr result (Fails (standing (under (B.shown blocks.old)) tree.old) (B.shown blocks.old) (B.shown blocks.new)) }
+    ensures cause { IfErr result (Fails B.told (standing (under (B.shown blocks.old)) tree.old) (B.shown blocks.old) (B.shown blocks.new)) }
 {
     let place = index / width(level);
     let slot = index / width(level - 1) % FAN;
@@ -85,17 +88,18 @@ pub fn keep_node<B: Blocks>(
     place: u32,
     pointer: &Pointer,
 ) -> Result<[Pointer; 128], TreeFault>
-    ensures keeps { Keeps (standing (under (B.shown blocks.old)) tree.old) (standing (under (B.shown blocks.new)) tree.new) level place pointer.now }
-    ensures children { IfOk result (λ xs. (slot : ℕ) → get_or xs slot hole ≡ get_or (pointers_at (standing (under (B.shown blocks.old)) tree.old) level place pointer.now) slot hole) }
-    ensures brings { Brings (under (B.shown blocks.old)) tree.old tree.new level place pointer.now }
+    ensures keeps { B.told → Keeps (standing (under (B.shown blocks.old)) tree.old) (standing (under (B.shown blocks.new)) tree.new) level place pointer.now }
+    ensures children { B.told → IfOk result (λ xs. (slot : ℕ) → get_or xs slot hole ≡ get_or (pointers_at (standing (under (B.shown blocks.old)) tree.old) level place pointer.now) slot hole) }
+    ensures brings { B.told → Brings (under (B.shown blocks.old)) tree.old tree.new level place pointer.now }
     ensures blank { OnOk result (pointer.now.stamp ≡ 0 → IsBlank (kept_at tree.new level place)) }
+    ensures others { (k q : ℕ) → (k ≢ level) ⊎ (q ≢ place) → kept_at tree.new k q ≡ kept_at tree.old k q }
     ensures fields { IsSameBut tree.old tree.new }
     ensures long { IfOk result (λ xs. length xs ≡ 128) }
     ensures kept { IfOk result (λ xs. (standing (under (B.shown blocks.new)) tree.new).nodes level place ≡ Some xs) }
     ensures untouched { IsUntouched (B.shown blocks.old) (B.shown blocks.new) }
     ensures reads { B.reads blocks.old blocks.new }
     ensures counts { Counts (B.shown blocks.old) (B.shown blocks.new) result }
-    ensures cause { IfErr result (LoadFails (B.shown blocks.old) (B.shown blocks.new) tree.old.owner level place pointer.now) }
+    ensures cause { IfErr result (LoadFails B.told (B.shown blocks.old) (B.shown blocks.new) pointer.now) }
 {
     if pointer.stamp == 0 {
         return keep(tree, level, place, empty_node());
@@ -103,7 +107,7 @@ pub fn keep_node<B: Blocks>(
     match tree.nodes.get(&(level, place)) {
         Some(node) => Ok(node.children),
         None => {
-            let node = load_node(blocks, tree.owner, level, place, pointer)?;
+            let node = load_node(blocks, pointer)?;
             keep(tree, level, place, read_node(node.children))
         }
     }

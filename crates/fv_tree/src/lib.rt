@@ -11,7 +11,7 @@ mod flush;
 mod grow;
 mod keep;
 mod kept;
-mod node;
+mod next;
 mod placing;
 mod read;
 mod refill;

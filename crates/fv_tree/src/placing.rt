@@ -8,7 +8,7 @@ ghost use Rattle.fv_codec.specs.Blocks.{IsPointer, last_place, node_at};
 ghost use Rattle.fv_model.specs.Trees.{fan, spot_cmp};
 ghost use Rattle.fv_tree.specs.Sources.{Counts, Drops, HasCause, IsCalm, IsKind, IsUntouched};
 ghost use Rattle.fv_tree.specs.Standing.{children_in};
-ghost use Rattle.fv_tree.specs.Flushing.{all_known, changed_in, is_unknown, kind_for, placed_in, pointer_in, ForgetsCell, ForgetsNode, IsHidden, IsMoved, Points, Swaps};
+ghost use Rattle.fv_tree.specs.Flushing.{all_known, changed_in, is_unknown, kind_for, placed_in, pointer_in, ForgetsCell, ForgetsNode, HoldsAsMuch, IsHidden, IsMoved, Points, Swaps};
 
 use crate::blocks::{Blocks, Placed, TreeFault};
 use crate::kept::{HOLE, KeptCell, KeptNode, Tree};
@@ -120,7 +120,8 @@ pub fn replace<B: Blocks>(
     known: bool,
 ) -> Result<(), TreeFault>
     requires { spot.0 ≤ 3 }
-    ensures moves { OnOk result ((IsHidden (B.shown blocks.old) tree.old spot.0 spot.1 (B.shown blocks.new) tree.new) ⊎ (IsMoved (B.shown blocks.old) tree.old spot.0 spot.1 block.now placed known (B.shown blocks.new) tree.new)) }
+    ensures moves { B.told → OnOk result ((IsHidden (B.shown blocks.old) tree.old spot.0 spot.1 (B.shown blocks.new) tree.new) ⊎ (IsMoved (B.shown blocks.old) tree.old spot.0 spot.1 block.now placed known (B.shown blocks.new) tree.new)) }
+    ensures still { HoldsAsMuch tree.old tree.new }
     ensures failed { OnErr result (tree.new ≡ tree.old) }
     ensures untouched { OnErr result (IsUntouched (B.shown blocks.old) (B.shown blocks.new)) }
     ensures calls { B.goes blocks.old blocks.new }
@@ -151,7 +152,7 @@ fn swap<B: Blocks>(
     requires kind { IsKind kind }
     requires pointer { IsPointer old.now }
     requires some { old.now.stamp ≢ 0 }
-    ensures swaps { IfOk result (λ p. Swaps (B.shown blocks.old) kind block.now placed known old.now.vvbn p (B.shown blocks.new)) }
+    ensures swaps { B.told → IfOk result (λ p. Swaps (B.shown blocks.old) kind block.now placed known old.now.vvbn p (B.shown blocks.new)) }
     ensures stamp { IfOk result (λ p. p.stamp ≡ old.now.stamp) }
     ensures pointer { IfOk result IsPointer }
     ensures untouched { OnErr result (IsUntouched (B.shown blocks.old) (B.shown blocks.new)) }

@@ -3,8 +3,8 @@
 ghost use Rattle.std.specs.Prelude.{◌≡◌, ◌≤◌, ℕ, Option, Some, None, IfOk, IfErr};
 ghost use Rattle.std.specs.Option.{option_map};
 ghost use Rattle.fv_tree.specs.Spelled.{pointer_at, block_at};
-ghost use Rattle.fv_tree.specs.Sources.{Counts, HasCause, IsUntouched};
-ghost use Rattle.fv_tree.specs.Standing.{standing, under, Fails};
+ghost use Rattle.fv_tree.specs.Sources.{Counts, IsUntouched};
+ghost use Rattle.fv_tree.specs.Standing.{standing, under, Fails, PointerFails};
 ghost use Rattle.fv_tree.specs.Reading.{cell_read_at};
 
 use crate::blocks::{Blocks, TreeFault};
@@ -26,13 +26,13 @@ impl Tree {
         index: u32,
         into: &mut [u8; 4096],
     ) -> Result<Option<u32>, TreeFault>
-        ensures cell { IfOk result (λ at. block_at (standing (under (B.shown blocks.old)) self.now) index ≡ option_map (λ (place : ℕ). into.new) at) }
-        ensures place { IfOk result (λ at. (place : ℕ) → at ≡ Some place → place ≡ cell_read_at (standing (under (B.shown blocks.old)) self.now) (B.shown blocks.new) index) }
+        ensures cell { B.told → IfOk result (λ at. block_at (standing (under (B.shown blocks.old)) self.now) index ≡ option_map (λ (place : ℕ). into.new) at) }
+        ensures place { B.told → IfOk result (λ at. (place : ℕ) → at ≡ Some place → place ≡ cell_read_at (standing (under (B.shown blocks.old)) self.now) (B.shown blocks.new) index) }
         ensures few { self.now.levels ≤ 3 }
         ensures untouched { IsUntouched (B.shown blocks.old) (B.shown blocks.new) }
         ensures reads { B.reads blocks.old blocks.new }
         ensures counts { Counts (B.shown blocks.old) (B.shown blocks.new) result }
-        ensures cause { IfErr result (Fails (standing (under (B.shown blocks.old)) self.now) (B.shown blocks.old) (B.shown blocks.new)) }
+        ensures cause { IfErr result (Fails B.told (standing (under (B.shown blocks.old)) self.now) (B.shown blocks.old) (B.shown blocks.new)) }
     {
         let pointer = find(self, blocks, index)?;
         read_pointed(self, blocks, index, &pointer, into)
@@ -48,13 +48,13 @@ fn read_pointed<B: Blocks>(
     pointer: &Pointer,
     into: &mut [u8; 4096],
 ) -> Result<Option<u32>, TreeFault>
-    requires pointer { pointer.now ≡ pointer_at (standing (under (B.shown blocks.old)) tree.now) 0 index }
-    ensures cell { IfOk result (λ at. block_at (standing (under (B.shown blocks.old)) tree.now) index ≡ option_map (λ (place : ℕ). into.new) at) }
-    ensures place { IfOk result (λ at. (place : ℕ) → at ≡ Some place → place ≡ cell_read_at (standing (under (B.shown blocks.old)) tree.now) (B.shown blocks.new) index) }
+    requires pointer { B.told → pointer.now ≡ pointer_at (standing (under (B.shown blocks.old)) tree.now) 0 index }
+    ensures cell { B.told → IfOk result (λ at. block_at (standing (under (B.shown blocks.old)) tree.now) index ≡ option_map (λ (place : ℕ). into.new) at) }
+    ensures place { B.told → IfOk result (λ at. (place : ℕ) → at ≡ Some place → place ≡ cell_read_at (standing (under (B.shown blocks.old)) tree.now) (B.shown blocks.new) index) }
     ensures untouched { IsUntouched (B.shown blocks.old) (B.shown blocks.new) }
     ensures reads { B.reads blocks.old blocks.new }
     ensures counts { Counts (B.shown blocks.old) (B.shown blocks.new) result }
-    ensures cause { IfErr result (HasCause (B.shown blocks.old) (B.shown blocks.new)) }
+    ensures cause { IfErr result (PointerFails (B.shown blocks.old) (B.shown blocks.new) pointer.now) }
 {
     if pointer.stamp == 0 {
         return Ok(None);

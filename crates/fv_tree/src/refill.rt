@@ -35,15 +35,15 @@ impl Tree {
         index: u32,
         block: &[u8; 4096],
     ) -> Result<bool, TreeFault>
-        ensures refilled { IfOk result (Refills (standing (under (B.shown blocks.old)) self.old) (standing (under (B.shown blocks.new)) self.new) index block.now) }
-        ensures place_by_place { IfOk result (IsRefilled (standing (under (B.shown blocks.old)) self.old) (standing (under (B.shown blocks.new)) self.new) index block.now) }
-        ensures failed { OnErr result (Remains (standing (under (B.shown blocks.old)) self.old) (standing (under (B.shown blocks.new)) self.new)) }
+        ensures refilled { B.told → IfOk result (Refills (standing (under (B.shown blocks.old)) self.old) (standing (under (B.shown blocks.new)) self.new) index block.now) }
+        ensures place_by_place { B.told → IfOk result (IsRefilled (standing (under (B.shown blocks.old)) self.old) (standing (under (B.shown blocks.new)) self.new) index block.now) }
+        ensures failed { B.told → OnErr result (Remains (standing (under (B.shown blocks.old)) self.old) (standing (under (B.shown blocks.new)) self.new)) }
         ensures owner { self.new.owner ≡ self.old.owner }
-        ensures stands { Stands (B.shown blocks.old) self.old → Stands (B.shown blocks.new) self.new }
+        ensures stands { B.told → Stands (B.shown blocks.old) self.old → Stands (B.shown blocks.new) self.new }
         ensures untouched { IsUntouched (B.shown blocks.old) (B.shown blocks.new) }
         ensures reads { B.reads blocks.old blocks.new }
         ensures counts { Counts (B.shown blocks.old) (B.shown blocks.new) result }
-        ensures cause { IfErr result (Fails (standing (under (B.shown blocks.old)) self.old) (B.shown blocks.old) (B.shown blocks.new)) }
+        ensures cause { IfErr result (Fails B.told (standing (under (B.shown blocks.old)) self.old) (B.shown blocks.old) (B.shown blocks.new)) }
     {
         refill_cell(self, blocks, index, block)
     }
@@ -56,14 +56,14 @@ fn refill_cell<B: Blocks>(
     index: u32,
     block: &[u8; 4096],
 ) -> Result<bool, TreeFault>
-    ensures done { IfOk result (IsRefilled (standing (under (B.shown blocks.old)) tree.old) (standing (under (B.shown blocks.new)) tree.new) index block.now) }
-    ensures failed { OnErr result (IsAlike (standing (under (B.shown blocks.old)) tree.old) (standing (under (B.shown blocks.new)) tree.new)) }
+    ensures done { B.told → IfOk result (IsRefilled (standing (under (B.shown blocks.old)) tree.old) (standing (under (B.shown blocks.new)) tree.new) index block.now) }
+    ensures failed { B.told → OnErr result (IsAlike (standing (under (B.shown blocks.old)) tree.old) (standing (under (B.shown blocks.new)) tree.new)) }
     ensures owner { tree.new.owner ≡ tree.old.owner }
-    ensures stands { Stands (B.shown blocks.old) tree.old → Stands (B.shown blocks.new) tree.new }
+    ensures stands { B.told → Stands (B.shown blocks.old) tree.old → Stands (B.shown blocks.new) tree.new }
     ensures untouched { IsUntouched (B.shown blocks.old) (B.shown blocks.new) }
     ensures reads { B.reads blocks.old blocks.new }
     ensures counts { Counts (B.shown blocks.old) (B.shown blocks.new) result }
-    ensures cause { IfErr result (Fails (standing (under (B.shown blocks.old)) tree.old) (B.shown blocks.old) (B.shown blocks.new)) }
+    ensures cause { IfErr result (Fails B.told (standing (under (B.shown blocks.old)) tree.old) (B.shown blocks.old) (B.shown blocks.new)) }
 {
     if index >= width(tree.levels) {
         return Ok(false);

@@ -4,10 +4,9 @@ ghost use Rattle.std.specs.Prelude.{◌≡◌, ◌≤◌, nat_eq, OnOk, OnErr, I
 ghost use Rattle.fv_tree.specs.Sources.{Counts, IsUntouched};
 ghost use Rattle.fv_tree.specs.Standing.{standing, under, Fails};
 ghost use Rattle.fv_tree.specs.Keeping.{IsSame};
-ghost use Rattle.fv_tree.specs.Writing.{Remains};
-ghost use Rattle.fv_tree.specs.Erasing.{HoldsCells, IsErased, Erases};
-ghost use Rattle.fv_tree.specs.Releasing.{IsDropped, Releases, Removes};
+ghost use Rattle.fv_tree.specs.Releasing.{Removes};
 ghost use Rattle.fv_tree.specs.Flushing.{Stands};
+ghost use Rattle.fv_tree.specs.Removal.{Removal};
 
 use crate::blocks::{Blocks, TreeFault};
 use crate::erase::erase_cell;
@@ -33,17 +32,7 @@ impl Tree {
     ) -> Result<(), TreeFault>
         requires start { start ≤ 3 }
         requires stamp { 1 ≤ stamp }
-        ensures erased { OnOk result (Stands (B.shown blocks.old) self.old → Erases (standing (under (B.shown blocks.old)) self.old) (standing (under (B.shown blocks.new)) self.new) (nat_eq index) start stamp) }
-        ensures place_by_place { OnOk result (Stands (B.shown blocks.old) self.old → HoldsCells (standing (under (B.shown blocks.old)) self.old) → IsErased (standing (under (B.shown blocks.old)) self.old) (standing (under (B.shown blocks.new)) self.new) (nat_eq index) start stamp) }
-        ensures strays { Stands (B.shown blocks.old) self.old → (B.shown blocks.new).strays ≡ (B.shown blocks.old).strays }
-        ensures released { OnOk result (Releases (B.shown blocks.old) (B.shown blocks.new) (IsDropped (under (B.shown blocks.old)) self.old self.new)) }
-        ensures owner { self.new.owner ≡ self.old.owner }
-        ensures stands { Stands (B.shown blocks.old) self.old → Stands (B.shown blocks.new) self.new }
-        ensures failed { OnErr result (Remains (standing (under (B.shown blocks.old)) self.old) (standing (under (B.shown blocks.new)) self.new)) }
-        ensures untouched { OnErr result (IsUntouched (B.shown blocks.old) (B.shown blocks.new)) }
-        ensures calls { B.goes blocks.old blocks.new }
-        ensures counts { Counts (B.shown blocks.old) (B.shown blocks.new) result }
-        ensures cause { IfErr result (Fails (standing (under (B.shown blocks.old)) self.old) (B.shown blocks.old) (B.shown blocks.new)) }
+        ensures { Removal B.told (B.goes blocks.old blocks.new) (B.shown blocks.old) (B.shown blocks.new) self.old self.new (nat_eq index) start stamp result }
     {
         remove_cell(self, blocks, index, start, stamp)
     }
@@ -59,14 +48,14 @@ fn remove_cell<B: Blocks>(
 ) -> Result<(), TreeFault>
     requires start { start ≤ 3 }
     requires stamp { 1 ≤ stamp }
-    ensures done { OnOk result (Removes (B.shown blocks.old) (B.shown blocks.new) tree.old tree.new (nat_eq index) start stamp) }
-    ensures failed { OnErr result (IsSame (standing (under (B.shown blocks.old)) tree.old) (standing (under (B.shown blocks.new)) tree.new)) }
+    ensures done { B.told → OnOk result (Removes (B.shown blocks.old) (B.shown blocks.new) tree.old tree.new (nat_eq index) start stamp) }
+    ensures failed { B.told → OnErr result (IsSame (standing (under (B.shown blocks.old)) tree.old) (standing (under (B.shown blocks.new)) tree.new)) }
     ensures owner { tree.new.owner ≡ tree.old.owner }
-    ensures stays { OnErr result (Stands (B.shown blocks.old) tree.old → Stands (B.shown blocks.new) tree.new) }
+    ensures stays { B.told → OnErr result (Stands (B.shown blocks.old) tree.old → Stands (B.shown blocks.new) tree.new) }
     ensures untouched { OnErr result (IsUntouched (B.shown blocks.old) (B.shown blocks.new)) }
     ensures calls { B.goes blocks.old blocks.new }
     ensures counts { Counts (B.shown blocks.old) (B.shown blocks.new) result }
-    ensures cause { IfErr result (Fails (standing (under (B.shown blocks.old)) tree.old) (B.shown blocks.old) (B.shown blocks.new)) }
+    ensures cause { IfErr result (Fails B.told (standing (under (B.shown blocks.old)) tree.old) (B.shown blocks.old) (B.shown blocks.new)) }
 {
     if index >= width(tree.levels) {
         return Ok(());

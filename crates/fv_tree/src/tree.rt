@@ -55,22 +55,23 @@ impl Tree {
     ///
     /// # Errors
     ///
-    /// `DiskFault` and `Damaged` as the `Blocks` answers them, and `Damaged` for a block that isn't the node
-    /// of its position: its place, and its first field that isn't as said. `Memory` only from the `Blocks`.
+    /// `DiskFault` and `Damaged` as the `Blocks` answers them, and `Damaged` for a block without the shape of a
+    /// node, whatever position it names: its place, and its first field that isn't as said. `Memory` only from
+    /// the `Blocks`.
     pub fn get<B: Blocks>(
         &mut self,
         blocks: &mut B,
         index: u32,
         into: &mut [u8; 4096],
     ) -> Result<bool, TreeFault>
-        ensures cell { IfOk result (λ there. block_at (standing (under (B.shown blocks.old)) self.old) index ≡ cond there (Some into.new) None) }
-        ensures seen { (seen : trees.Tree) (contents : fin.FinMap nat_cmp (List ℕ)) → Shows (standing (under (B.shown blocks.old)) self.old) seen contents → IfOk result (λ there. fin.get contents index ≡ cond there (Some into.new) None) }
+        ensures cell { B.told → IfOk result (λ there. block_at (standing (under (B.shown blocks.old)) self.old) index ≡ cond there (Some into.new) None) }
+        ensures seen { B.told → (seen : trees.Tree) (contents : fin.FinMap nat_cmp (List ℕ)) → Shows (standing (under (B.shown blocks.old)) self.old) seen contents → IfOk result (λ there. fin.get contents index ≡ cond there (Some into.new) None) }
         ensures tree { self.new ≡ self.old }
         ensures stands { Stands (B.shown blocks.old) self.old → Stands (B.shown blocks.new) self.new }
         ensures untouched { IsUntouched (B.shown blocks.old) (B.shown blocks.new) }
         ensures reads { B.reads blocks.old blocks.new }
         ensures counts { Counts (B.shown blocks.old) (B.shown blocks.new) result }
-        ensures cause { IfErr result (Fails (standing (under (B.shown blocks.old)) self.old) (B.shown blocks.old) (B.shown blocks.new)) }
+        ensures cause { IfErr result (Fails B.told (standing (under (B.shown blocks.old)) self.old) (B.shown blocks.old) (B.shown blocks.new)) }
     {
         let pointer = find(self, blocks, index)?;
         read_cell(self, blocks, index, &pointer, into)
@@ -93,15 +94,15 @@ impl Tree {
     ) -> Result<(), TreeFault>
         requires index { index < 2097152 }
         requires stamp { 1 ≤ stamp }
-        ensures written { OnOk result (Writes (standing (under (B.shown blocks.old)) self.old) (standing (under (B.shown blocks.new)) self.new) index stamp block.now) }
-        ensures place_by_place { OnOk result (IsWritten (standing (under (B.shown blocks.old)) self.old) (standing (under (B.shown blocks.new)) self.new) index stamp block.now) }
-        ensures failed { OnErr result (Remains (standing (under (B.shown blocks.old)) self.old) (standing (under (B.shown blocks.new)) self.new)) }
+        ensures written { B.told → OnOk result (Writes (standing (under (B.shown blocks.old)) self.old) (standing (under (B.shown blocks.new)) self.new) index stamp block.now) }
+        ensures place_by_place { B.told → OnOk result (IsWritten (standing (under (B.shown blocks.old)) self.old) (standing (under (B.shown blocks.new)) self.new) index stamp block.now) }
+        ensures failed { B.told → OnErr result (Remains (standing (under (B.shown blocks.old)) self.old) (standing (under (B.shown blocks.new)) self.new)) }
         ensures owner { self.new.owner ≡ self.old.owner }
-        ensures stands { Stands (B.shown blocks.old) self.old → Stands (B.shown blocks.new) self.new }
+        ensures stands { B.told → Stands (B.shown blocks.old) self.old → Stands (B.shown blocks.new) self.new }
         ensures untouched { IsUntouched (B.shown blocks.old) (B.shown blocks.new) }
         ensures reads { B.reads blocks.old blocks.new }
         ensures counts { Counts (B.shown blocks.old) (B.shown blocks.new) result }
-        ensures cause { IfErr result (Fails (standing (under (B.shown blocks.old)) self.old) (B.shown blocks.old) (B.shown blocks.new)) }
+        ensures cause { IfErr result (Fails B.told (standing (under (B.shown blocks.old)) self.old) (B.shown blocks.old) (B.shown blocks.new)) }
     {
         write_cell(self, blocks, index, block, stamp)
     }

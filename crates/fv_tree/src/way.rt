@@ -4,22 +4,21 @@ ghost use Rattle.std.specs.Prelude.{◌≡◌, ◌≢◌, ◌≤◌, ◌<◌, �
 ghost use Rattle.fv_codec.specs.Blocks.{IsNode};
 ghost use Rattle.fv_model.specs.Trees.{fan};
 ghost use Rattle.fv_tree.specs.Spelled.{Under, hole, pointers_at, pointers_in, pointer_below, pointer_at, block_at};
-ghost use Rattle.fv_tree.specs.Sources.{Counts, HasCause, IsUntouched};
-ghost use Rattle.fv_tree.specs.Standing.{standing, under, Fails, LoadFails};
+ghost use Rattle.fv_tree.specs.Sources.{Counts, IsUntouched};
+ghost use Rattle.fv_tree.specs.Standing.{standing, under, Fails, LoadFails, PointerFails};
 
 use crate::blocks::{Blocks, TreeFault};
 use crate::kept::{HOLE, Tree};
-use crate::node::node_for;
 use crate::sizes::{FAN, width};
 use fv_codec::{Node, Pointer};
 
 /// The pointer to a cell.
 pub fn find<B: Blocks>(tree: &Tree, blocks: &mut B, index: u32) -> Result<Pointer, TreeFault>
-    ensures pointer { IfOk result (λ p. p ≡ pointer_at (standing (under (B.shown blocks.old)) tree.now) 0 index) }
+    ensures pointer { B.told → IfOk result (λ p. p ≡ pointer_at (standing (under (B.shown blocks.old)) tree.now) 0 index) }
     ensures untouched { IsUntouched (B.shown blocks.old) (B.shown blocks.new) }
     ensures reads { B.reads blocks.old blocks.new }
     ensures counts { Counts (B.shown blocks.old) (B.shown blocks.new) result }
-    ensures cause { IfErr result (Fails (standing (under (B.shown blocks.old)) tree.now) (B.shown blocks.old) (B.shown blocks.new)) }
+    ensures cause { IfErr result (Fails B.told (standing (under (B.shown blocks.old)) tree.now) (B.shown blocks.old) (B.shown blocks.new)) }
 {
     let mut level = tree.levels;
     let mut pointer = top(tree, index);
@@ -52,12 +51,12 @@ fn step<B: Blocks>(
 ) -> Result<Pointer, TreeFault>
     requires low { 1 ≤ level }
     requires high { level ≤ tree.now.levels }
-    requires pointer { pointer.now ≡ pointer_below (standing (under (B.shown blocks.old)) tree.now) (tree.now.levels - level) (index / fan ^ level) }
-    ensures below { IfOk result (λ p. p ≡ pointer_below (standing (under (B.shown blocks.old)) tree.now) (tree.now.levels - (level - 1)) (index / fan ^ (level - 1))) }
+    requires pointer { B.told → pointer.now ≡ pointer_below (standing (under (B.shown blocks.old)) tree.now) (tree.now.levels - level) (index / fan ^ level) }
+    ensures below { B.told → IfOk result (λ p. p ≡ pointer_below (standing (under (B.shown blocks.old)) tree.now) (tree.now.levels - (level - 1)) (index / fan ^ (level - 1))) }
     ensures untouched { IsUntouched (B.shown blocks.old) (B.shown blocks.new) }
     ensures reads { B.reads blocks.old blocks.new }
     ensures counts { Counts (B.shown blocks.old) (B.shown blocks.new) result }
-    ensures cause { IfErr result (Fails (standing (under (B.shown blocks.old)) tree.now) (B.shown blocks.old) (B.shown blocks.new)) }
+    ensures cause { IfErr result (Fails B.told (standing (under (B.shown blocks.old)) tree.now) (B.shown blocks.old) (B.shown blocks.new)) }
 {
     let place = index / width(level);
     let slot = index / width(level - 1) % FAN;
@@ -74,11 +73,11 @@ fn child<B: Blocks>(
     pointer: &Pointer,
 ) -> Result<Pointer, TreeFault>
     requires slot { slot < fan }
-    ensures child { IfOk result (λ p. p ≡ get_or (pointers_at (standing (under (B.shown blocks.old)) tree.now) level place pointer.now) slot hole) }
+    ensures child { B.told → IfOk result (λ p. p ≡ get_or (pointers_at (standing (under (B.shown blocks.old)) tree.now) level place pointer.now) slot hole) }
     ensures untouched { IsUntouched (B.shown blocks.old) (B.shown blocks.new) }
     ensures reads { B.reads blocks.old blocks.new }
     ensures counts { Counts (B.shown blocks.old) (B.shown blocks.new) result }
-    ensures cause { IfErr result (LoadFails (B.shown blocks.old) (B.shown blocks.new) tree.now.owner level place pointer.now) }
+    ensures cause { IfErr result (LoadFails B.told (B.shown blocks.old) (B.shown blocks.new) pointer.now) }
 {
     if pointer.stamp == 0 {
         return Ok(HOLE);
@@ -86,32 +85,26 @@ fn child<B: Blocks>(
     match tree.nodes.get(&(level, place)) {
         Some(node) => Ok(node.children[slot as usize]),
         None => {
-            let node = load_node(blocks, tree.owner, level, place, pointer)?;
+            let node = load_node(blocks, pointer)?;
             Ok(node.children[slot as usize])
         }
     }
 }
 
-/// The node of a position from its block.
-pub fn load_node<B: Blocks>(
-    blocks: &mut B,
-    owner: u64,
-    level: u8,
-    place: u32,
-    pointer: &Pointer,
-) -> Result<Node, TreeFault>
+/// The node to which a pointer leads, whatever position its block names.
+pub fn load_node<B: Blocks>(blocks: &mut B, pointer: &Pointer) -> Result<Node, TreeFault>
     requires some { pointer.now.stamp ≢ 0 }
-    ensures node { IfOk result (λ n. pointers_in owner level place (under (B.shown blocks.old) pointer.now.vvbn) ≡ n.children) }
+    ensures node { B.told → IfOk result (λ n. pointers_in (under (B.shown blocks.old) pointer.now.vvbn) ≡ n.children) }
     ensures long { IfOk result (λ n. length n.children ≡ 128) }
     ensures range { IfOk result (λ n. IsNode n) }
     ensures untouched { IsUntouched (B.shown blocks.old) (B.shown blocks.new) }
     ensures reads { B.reads blocks.old blocks.new }
     ensures counts { Counts (B.shown blocks.old) (B.shown blocks.new) result }
-    ensures cause { IfErr result (LoadFails (B.shown blocks.old) (B.shown blocks.new) owner level place pointer.now) }
+    ensures cause { IfErr result (LoadFails B.told (B.shown blocks.old) (B.shown blocks.new) pointer.now) }
 {
     let mut block = [0; 4096];
     let at = blocks.load(pointer, &mut block)?;
-    match node_for(owner, level, place, &block) {
+    match Node::decode(&block) {
         Ok(node) => Ok(node),
         Err(shape) => Err(TreeFault::Damaged {
             at: u64::from(at),
@@ -130,12 +123,12 @@ pub fn read_cell<B: Blocks>(
     pointer: &Pointer,
     into: &mut [u8; 4096],
 ) -> Result<bool, TreeFault>
-    requires pointer { pointer.now ≡ pointer_at (standing (under (B.shown blocks.old)) tree.now) 0 index }
-    ensures cell { IfOk result (λ there. block_at (standing (under (B.shown blocks.old)) tree.now) index ≡ cond there (Some into.new) None) }
+    requires pointer { B.told → pointer.now ≡ pointer_at (standing (under (B.shown blocks.old)) tree.now) 0 index }
+    ensures cell { B.told → IfOk result (λ there. block_at (standing (under (B.shown blocks.old)) tree.now) index ≡ cond there (Some into.new) None) }
     ensures untouched { IsUntouched (B.shown blocks.old) (B.shown blocks.new) }
     ensures reads { B.reads blocks.old blocks.new }
     ensures counts { Counts (B.shown blocks.old) (B.shown blocks.new) result }
-    ensures cause { IfErr result (HasCause (B.shown blocks.old) (B.shown blocks.new)) }
+    ensures cause { IfErr result (PointerFails (B.shown blocks.old) (B.shown blocks.new) pointer.now) }
 {
     if pointer.stamp == 0 {
         return Ok(false);

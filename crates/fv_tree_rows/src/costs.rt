@@ -4,8 +4,10 @@
 ghost use Rattle.std.specs.Prelude.{◌≤◌};
 
 use crate::memory::MemBlocks;
-use crate::pair::{INDEXES, OWNER, block};
+use crate::pair::{INDEXES, OWNER, block, tree_at};
+use crate::silent::Silent;
 use crate::spelled::{MARK, large, node, small, wrong};
+use fv_codec::Pointer;
 use fv_tree::{Tree, TreeFault};
 use std::alloc::Global;
 use std::test::Fail;
@@ -161,6 +163,29 @@ fn loads_of_calls(rt: HostRuntime) -> Result<(), Fail> {
     Ok(())
 }
 
+/// The next cell from an index on in a stored tree with the cells 0, 1 and 128, and how many blocks the look loads.
+fn next(alloc: Global, from: u32) -> Result<(Option<u32>, u64), TreeFault> {
+    let (tree, mut blocks) = small(alloc)?;
+    let start = blocks.calls();
+    let next = tree.next(&mut blocks, from)?;
+    Ok((next, blocks.calls().saturating_sub(start)))
+}
+
+#[test]
+fn next_cells(rt: HostRuntime) -> Result<(), Fail> {
+    let rows = [
+        (0, Some(0), 2),
+        (1, Some(1), 2),
+        (2, Some(128), 4),
+        (129, None, 3),
+        (16_384, None, 0),
+    ];
+    for (from, want, loads) in rows {
+        assert_eq!(rt; next(rt.alloc(), from), Ok((want, loads)));
+    }
+    Ok(())
+}
+
 /// Whether another content for a cell of a stored tree with the cells 0, 1 and 128 was taken; whether it is read
 /// after a flush; how many blocks that placed; and the root's stamp.
 fn refilled(alloc: Global, index: u32) -> Result<(bool, bool, u64, u64), TreeFault> {
@@ -189,8 +214,7 @@ fn answer(alloc: Global, root: &[u8; 4096], call: Call) -> Result<(), TreeFault>
 }
 
 #[test]
-fn nodes_of_other_positions(rt: HostRuntime) -> Result<(), Fail> {
-    let damaged = |want, found| Err(TreeFault::Damaged { at: 2, want, found });
+fn nodes_are_judged_by_their_shape(rt: HostRuntime) -> Result<(), Fail> {
     for call in [
         Call::Get(0),
         Call::Put(1),
@@ -198,17 +222,58 @@ fn nodes_of_other_positions(rt: HostRuntime) -> Result<(), Fail> {
         Call::Remove(0),
         Call::Cut(0),
     ] {
-        assert_eq!(rt; answer(rt.alloc(), &node(1, 0, 1, 0, 1), call), Ok(()));
+        for (level, place) in [(1, 0), (2, 0), (1, 5)] {
+            assert_eq!(rt;
+                answer(rt.alloc(), &node(level, place, 1, 0, 1), call),
+                Ok(())
+            );
+        }
         assert_eq!(rt;
-            answer(rt.alloc(), &node(2, 0, 1, 0, 1), call),
-            damaged(1, 2)
+            answer(rt.alloc(), &block(0), call),
+            Err(TreeFault::Damaged {
+                at: 2,
+                want: MARK,
+                found: 0
+            })
         );
-        assert_eq!(rt;
-            answer(rt.alloc(), &node(1, 5, 1, 0, 1), call),
-            damaged(0, 5)
-        );
-        assert_eq!(rt; answer(rt.alloc(), &block(0), call), damaged(MARK, 0));
     }
+    Ok(())
+}
+
+/// What a look-up answers in a tree of so many levels, each block of which is this one.
+fn over_one_block(
+    alloc: Global,
+    levels: u8,
+    every: &[u8; 4096],
+    index: u32,
+) -> Result<bool, TreeFault> {
+    let root = Pointer {
+        vvbn: 1,
+        pvbn: 0,
+        stamp: 1,
+    };
+    let mut blocks = Silent::new(*every);
+    let mut into = [0; 4096];
+    tree_at(alloc, levels, root).get(&mut blocks, index, &mut into)
+}
+
+/// A source that tells nothing may give any block: the cell is read, or its fault is named.
+#[test]
+fn any_block_is_read_or_named(rt: HostRuntime) -> Result<(), Fail> {
+    let lowest = node(1, 0, 1, 0, 1);
+    assert_eq!(rt; over_one_block(rt.alloc(), 0, &block(7), 0), Ok(true));
+    assert_eq!(rt; over_one_block(rt.alloc(), 1, &lowest, 0), Ok(true));
+    assert_eq!(rt; over_one_block(rt.alloc(), 1, &lowest, 5), Ok(false));
+    assert_eq!(rt; over_one_block(rt.alloc(), 3, &lowest, 0), Ok(true));
+    assert_eq!(rt; over_one_block(rt.alloc(), 3, &lowest, 128), Ok(false));
+    assert_eq!(rt;
+        over_one_block(rt.alloc(), 2, &block(0), 0),
+        Err(TreeFault::Damaged {
+            at: 0,
+            want: MARK,
+            found: 0
+        })
+    );
     Ok(())
 }
 

@@ -9,9 +9,11 @@ mod memory;
 mod pair;
 #[cfg(test)]
 mod rows;
+mod silent;
 #[cfg(test)]
 mod spelled;
 #[cfg(test)]
 mod walk;
 
 pub use memory::MemBlocks;
+pub use silent::Silent;

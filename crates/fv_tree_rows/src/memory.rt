@@ -152,6 +152,8 @@ fn count_gone(dropped: &mut u64, strays: &mut u64, found: bool)
 impl Blocks for MemBlocks {
     ghost shown = { λ b. shown_in_memory b.blocks b.strays b.faults };
 
+    ghost told = { Unit {0} };
+
     ghost reads = { λ a b. b.unknown ≡ a.unknown };
 
     ghost goes = { λ a b. b.unknown ≡ a.unknown };

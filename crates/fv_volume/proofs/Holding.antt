@@ -1,6 +1,7 @@
 -- What VVBNs lead to after a block is placed.
 use Rattle.std.proofs.Common.{◌≡◌, ◌≢◌, ◌<◌, ◌≤◌, ◌-◌, ℕ, zero, suc, Bool, true, false, ◌||◌, ◌&&◌, cond, List, [], ◌∷◌, length, Option, Some, None, refl, sym, ap, ap₂, subst, ◌∙◌, inl, inr, arith, get_or-set_same, get_or-set_other}
 use Rattle.std.specs.Prelude.{IfSome, nat_le, slice_index_or, slice_set}
+use Rattle.std.specs.Option.{ForSome}
 use Rattle.std.specs.Ordering.{nat_cmp, eq_by_cmp}
 use Rattle.std.specs.Cmp.{nat_cmp_total}
 use Rattle.std.specs.FinMap as fin
@@ -28,12 +29,12 @@ along_step slots (suc n) slot v some = let e : suc n - 1 ≡ n = omega arith in 
 
 module _ (slots new : Slots) (slot v : ℕ) (e : Entry) (c : Mapped) (there : container_at slots slot ≡ Some c) (inside : slot < length slots.containers) (within : v < length c.entries)
     (put : new ≡ with_container slots slot (Some (with_entry c v (Some e)))) where
-  own_new : own_entry (container_at new slot) v ≡ Some e
+  pub own_new : own_entry (container_at new slot) v ≡ Some e
   own_new = ap (λ (s : Slots). own_entry (container_at s slot) v) put
       ∙ (ap (λ (m : Option Mapped). own_entry m v) (get_or-set_same slots.containers slot (Some (with_entry c v (Some e))) None inside)
       ∙ get_or-set_same c.entries v (Some e) None within)
 
-  own_other : (at w : ℕ) → w ≢ v → own_entry (container_at new at) w ≡ own_entry (container_at slots at) w
+  pub own_other : (at w : ℕ) → w ≢ v → own_entry (container_at new at) w ≡ own_entry (container_at slots at) w
   own_other at w other = ap (λ (s : Slots). own_entry (container_at s at) w) put ∙ elim (cases_eq at slot) [
     | inl same ↦ subst (λ (n : ℕ). own_entry (container_at (with_container slots slot (Some (with_entry c v (Some e)))) n) w ≡ own_entry (container_at slots n) w) (sym same)
         (ap (λ (m : Option Mapped). own_entry m w) (get_or-set_same slots.containers slot (Some (with_entry c v (Some e))) None inside)
@@ -67,7 +68,7 @@ taken_first span (None ∷ ss) v is within = cc
 taken_first span (Some a ∷ ss) v is within = ap (λ (t : Bool). t || taken_in ss v) (get_or-set_same a v true false within)
 
 module _ (map after : Volume) (v : ℕ) (is : IsVolume map) (number : Allocates map v after) where
-  others_taken : (w : ℕ) → w ≢ v → taken_in after.slots w ≡ taken_in map.slots w
+  pub others_taken : (w : ℕ) → w ≢ v → taken_in after.slots w ≡ taken_in map.slots w
   others_taken w other = ap (λ (m : Volume). taken_in m.slots w) number.volume ∙ taken_more map.span map.slots v w is.active other
 
   active_long : v < length (active_of map)
@@ -81,13 +82,13 @@ module _ (map after : Volume) (v : ℕ) (is : IsVolume map) (number : Allocates 
 
 -- ---- what VVBNs lead to
 
-held_none : (map : Volume) (slots : Slots) (slot v : ℕ) → taken_in map.slots v ≡ false → held_entry map slots slot v ≡ None
+pub held_none : (map : Volume) (slots : Slots) (slot v : ℕ) → taken_in map.slots v ≡ false → held_entry map slots slot v ≡ None
 unfolding held_entry
 held_none map slots slot v free =
     let no : (nat_le v 1048575 && taken_in map.slots v) ≡ false = grind (arith, nat_tests, free) in
     ap (λ t. cond t (chain_entry slots slot v) None) no
 
-held_some : (map : Volume) (slots : Slots) (slot v : ℕ) → v ≤ 1048575 → taken_in map.slots v ≡ true → held_entry map slots slot v ≡ chain_entry slots slot v
+pub held_some : (map : Volume) (slots : Slots) (slot v : ℕ) → v ≤ 1048575 → taken_in map.slots v ≡ true → held_entry map slots slot v ≡ chain_entry slots slot v
 unfolding held_entry
 held_some map slots slot v few taken =
     let both : (nat_le v 1048575 && taken_in map.slots v) ≡ true = grind (arith, nat_tests, few, taken) in
@@ -109,10 +110,18 @@ seen_other kept b p block i other =
     let no : eq_by_cmp nat_cmp p b ≡ false = grind (arith, nat_tests, other) in
     ap (λ o. kept_or o (i p)) (fin.get-insert nat_cmp_total kept b block p ∙ ap (λ t. cond t (Some block) (fin.get kept p)) no)
 
+-- a block that neither root holds, the next one doesn't hold
+pub not_next : (committed next : List Bool) (b : ℕ) → is_held committed next b ≡ false → is_member next b ≡ false
+not_next committed next b free = right (is_member committed b) (is_member next b) free
+  where
+    right : (s t : Bool) → (s || t) ≡ false → t ≡ false
+    right true t isnt = let wrong : true ≡ false = isnt in cc
+    right false t isnt = isnt
+
 block_other : (kept : Blocks) (b : ℕ) (block : List ℕ) (i : Image) (space : Space) (entry : Option Entry) → is_held space.committed space.next b ≡ false → IfSome entry (IsKeptBack space)
     → block_of (fin.insert kept b block) i entry ≡ block_of kept i entry
 block_other kept b block i space None free held = refl
-block_other kept b block i space (Some e) free held = ap Some (seen_other kept b e.pvbn block i (λ same. let no : true ≡ false = sym held ∙ (ap (is_held space.committed space.next) same ∙ free) in cc))
+block_other kept b block i space (Some e) free held = ap Some (seen_other kept b e.pvbn block i (λ same. let no : true ≡ false = sym held ∙ (ap (is_member space.next) same ∙ not_next space.committed space.next b free) in cc))
 
 -- ---- entries that lie apart
 
@@ -120,9 +129,23 @@ map_some : {A : Type 0} {P Q : A → Type 0} (o : Option A) → ((a : A) → P a
 map_some None f p = tt
 map_some (Some a) f p = f a p
 
+-- two ways to say of an option what holds of its value
+as_if : {A : Type 0} {P : A → Type 0} (o : Option A) → ForSome o P → IfSome o P
+as_if None all = tt
+as_if (Some a) all = all a refl
+
+as_for : {A : Type 0} (P : A → Type 0) (o : Option A) → IfSome o P → ForSome o P
+as_for {A = A} P o p a is = subst (λ (x : Option A). IfSome x P) is p
+
+as_ifs : {A : Type 0} {P : A → A → Type 0} (o q : Option A) → ForSome o (λ a. ForSome q (P a)) → IfSome o (λ a. IfSome q (P a))
+as_ifs o q all = map_some o (λ a inner. as_if q inner) (as_if o all)
+
+as_fors : {A : Type 0} (P : A → A → Type 0) (o q : Option A) → IfSome o (λ a. IfSome q (P a)) → ForSome o (λ a. ForSome q (P a))
+as_fors P o q both a is b there = as_for (P a) q (as_for (λ x. IfSome q (P x)) o both a is) b there
+
 module _ (old : Space) (b : ℕ) (free : is_held old.committed old.next b ≡ false) (within : b < length old.next) where
-  not_free : (p : ℕ) → is_held old.committed old.next p ≡ true → p ≢ b
-  not_free p held same = let no : true ≡ false = sym held ∙ (ap (is_held old.committed old.next) same ∙ free) in cc
+  not_free : (p : ℕ) → is_member old.next p ≡ true → p ≢ b
+  not_free p held same = let no : true ≡ false = sym held ∙ (ap (is_member old.next) same ∙ not_next old.committed old.next b free) in cc
 
   abbrev taken_of : Space
   taken_of = record old { next = slice_set old.next b true }
@@ -139,17 +162,13 @@ module _ (old : Space) (b : ℕ) (free : is_held old.committed old.next b ≡ fa
   unfolding is_member
   cleared_other xs d p other = get_or-set_other xs d p false false other
 
-  either_true : (t : Bool) → (t || true) ≡ true
-  either_true true = refl
-  either_true false = refl
+  back_other : (before : Option Entry) (p : ℕ) → p ≢ b → IfSome before (λ d. p ≢ d.pvbn) → is_member (given_back taken_of before).next p ≡ is_member old.next p
+  back_other None p other apart = taken_other p other
+  back_other (Some d) p other apart = cleared_other taken_of.next d.pvbn p apart ∙ taken_other p other
 
-  back_other : (before : Option Entry) (p : ℕ) → p ≢ b → IfSome before (λ d. p ≢ d.pvbn) → is_held (given_back taken_of before).committed (given_back taken_of before).next p ≡ is_held old.committed old.next p
-  back_other None p other apart = ap (λ t. is_member old.committed p || t) (taken_other p other)
-  back_other (Some d) p other apart = ap (λ t. is_member old.committed p || t) (cleared_other taken_of.next d.pvbn p apart ∙ taken_other p other)
-
-  back_own : (before : Option Entry) → IfSome before (λ d. b ≢ d.pvbn) → is_held (given_back taken_of before).committed (given_back taken_of before).next b ≡ true
-  back_own None apart = ap (λ t. is_member old.committed b || t) taken_own ∙ either_true (is_member old.committed b)
-  back_own (Some d) apart = ap (λ t. is_member old.committed b || t) (cleared_other taken_of.next d.pvbn b apart ∙ taken_own) ∙ either_true (is_member old.committed b)
+  back_own : (before : Option Entry) → IfSome before (λ d. b ≢ d.pvbn) → is_member (given_back taken_of before).next b ≡ true
+  back_own None apart = taken_own
+  back_own (Some d) apart = cleared_other taken_of.next d.pvbn b apart ∙ taken_own
 
 -- what two families of entries have to do with a volume's own
 pub record IsFamily (space : Space) (own family : ℕ → Option Entry) : Type 0 where
@@ -165,8 +184,8 @@ module _ (old new : Space) (b v kind : ℕ) (own own_after family after : ℕ �
   before_apart : IfSome (own v) (λ d. b ≢ d.pvbn)
   before_apart = map_some (own v) (λ d back same. not_free old b free within d.pvbn back (sym same)) (own_back v)
 
-  back_new : is_held new.committed new.next b ≡ true
-  back_new = ap (λ (s : Space). is_held s.committed s.next b) space ∙ back_own old b free within (own v) before_apart
+  back_new : is_member new.next b ≡ true
+  back_new = ap (λ (s : Space). is_member s.next b) space ∙ back_own old b free within (own v) before_apart
 
   turn : (o : Option Entry) (e : Entry) → IfSome o (λ d. OtherPlace d e) → IfSome o (λ d. e.pvbn ≢ d.pvbn)
   turn o e apart = map_some o (λ d other. other) apart
@@ -185,7 +204,7 @@ module _ (old new : Space) (b v kind : ℕ) (own own_after family after : ℕ �
   kept_back w = elim (cases_eq w v) [
     | inl same ↦ subst (λ (n : ℕ). IfSome (after n) (IsKeptBack new)) (sym same) (subst (λ (o : Option Entry). IfSome o (IsKeptBack new)) (sym is) back_new)
     | inr other ↦ subst (λ (o : Option Entry). IfSome o (IsKeptBack new)) (sym (others w other))
-        (map_some (family w) (λ e held. ap (λ (s : Space). is_held s.committed s.next e.pvbn) space ∙ (back_other old b free within (own v) e.pvbn (not_free old b free within e.pvbn held.0) held.1 ∙ held.0))
+        (map_some (family w) (λ e held. ap (λ (s : Space). is_member s.next e.pvbn) space ∙ (back_other old b free within (own v) e.pvbn (not_free old b free within e.pvbn held.0) held.1 ∙ held.0))
         (both (family w) (IsKeptBack old) (λ e. IfSome (own v) (λ d. e.pvbn ≢ d.pvbn)) (family_is.back w) (swap (own v) (family w) (family_is.apart v w other))))
   ]
 
@@ -245,18 +264,20 @@ module _ (old : Pool) (map : Volume) (slot kind : ℕ) (block : List ℕ) (new :
   held_after = held_entry after new.containers slot
 
   owns : AreApart old map slot → IsFamily old.map owned owned
-  owns apart = record { back = apart.own; apart = apart.own_apart }
+  owns apart = record { back = λ v. as_if (owned v) (apart.own v); apart = λ v w other. as_ifs (owned v) (owned w) (apart.own_apart v w other) }
 
   holds : AreApart old map slot → IsFamily old.map owned held
-  holds apart = record { back = apart.held; apart = apart.held_apart }
+  holds apart = record { back = λ v. as_if (held v) (apart.held v); apart = λ v w other. as_ifs (owned v) (held w) (apart.held_apart v w other) }
 
   stays_apart : AreApart old map slot → AreApart new after slot
-  stays_apart apart = record {
-    own = kept_back old.map new.map placed.pvbn placed.vvbn kind owned owned_after owned owned_after places.takes.free.free places.takes.within space_is apart.own own_is own_others own_is own_others (owns apart);
-    held = kept_back old.map new.map placed.pvbn placed.vvbn kind owned owned_after held held_after places.takes.free.free places.takes.within space_is apart.own own_is own_others entry_new entry_other (holds apart);
-    own_apart = still_apart old.map new.map placed.pvbn placed.vvbn kind owned owned_after owned owned_after places.takes.free.free places.takes.within space_is apart.own own_is own_others own_is own_others (owns apart);
-    held_apart = still_apart old.map new.map placed.pvbn placed.vvbn kind owned owned_after held held_after places.takes.free.free places.takes.within space_is apart.own own_is own_others entry_new entry_other (holds apart);
-  }
+  stays_apart apart =
+      let own_back : (v : ℕ) → IfSome (owned v) (IsKeptBack old.map) = λ v. as_if (owned v) (apart.own v) in
+      record {
+        own = λ v. as_for (IsKeptBack new.map) (owned_after v) (kept_back old.map new.map placed.pvbn placed.vvbn kind owned owned_after owned owned_after places.takes.free.free places.takes.within space_is own_back own_is own_others own_is own_others (owns apart) v);
+        held = λ v. as_for (IsKeptBack new.map) (held_after v) (kept_back old.map new.map placed.pvbn placed.vvbn kind owned owned_after held held_after places.takes.free.free places.takes.within space_is own_back own_is own_others entry_new entry_other (holds apart) v);
+        own_apart = λ v w other. as_fors OtherPlace (owned_after v) (owned_after w) (still_apart old.map new.map placed.pvbn placed.vvbn kind owned owned_after owned owned_after places.takes.free.free places.takes.within space_is own_back own_is own_others own_is own_others (owns apart) v w other);
+        held_apart = λ v w other. as_fors OtherPlace (owned_after v) (held_after w) (still_apart old.map new.map placed.pvbn placed.vvbn kind owned owned_after held held_after places.takes.free.free places.takes.within space_is own_back own_is own_others entry_new entry_other (holds apart) v w other);
+      }
 
   holds_more : HoldsMore old map slot kind block new after placed
   holds_more = record {
@@ -265,7 +286,7 @@ module _ (old : Pool) (map : Volume) (slot kind : ℕ) (block : List ℕ) (new :
     others = entry_other;
     content = λ i. ap (block_of new.kept i) entry_new ∙ ap Some (ap (λ k. seen k i placed.pvbn) places.kept ∙ seen_new old.kept placed.pvbn block i);
     contents = λ apart i w other. ap (block_of new.kept i) (entry_other w other) ∙ (ap (λ k. block_of k i (held_entry map old.containers slot w)) places.kept
-        ∙ block_other old.kept placed.pvbn block i old.map (held_entry map old.containers slot w) places.takes.free.free (apart.held w));
+        ∙ block_other old.kept placed.pvbn block i old.map (held_entry map old.containers slot w) places.takes.free.free (as_if (held w) (apart.held w)));
     apart = λ apart. stays_apart apart;
   }
 

@@ -13,3 +13,13 @@ pub mod Told
 pub mod Made
 mod Lent
 mod Holding
+pub mod Trees
+pub mod Charging
+mod Shows
+mod Going
+mod Failing
+pub mod Splits
+pub mod Counted
+pub mod Flushed
+pub mod Found
+pub mod Apart

@@ -10,7 +10,7 @@ use Rattle.fv_container.specs.Chains.{Slots, container_at, no_containers, parent
 use Rattle.fv_container.specs.Mapped.{Mapped}
 use Rattle.fv_root.specs.declared.find.Found.{Found}
 use Rattle.fv_volume.specs.declared.state.VolumeState.{VolumeState}
-use Rattle.fv_volume.specs.Loading.{Houses, IsLoaded, KeptTo, LoadedTo}
+use Rattle.fv_volume.specs.Loading.{Houses, IsFilled, IsLoaded, KeptTo, LeavesOthers, LoadedTo}
 use Rattle.fv_volume.specs.States.{IsState, States, head_in, parent_in, state_at}
 
 at_front : (xs : States) (x : Option VolumeState) (s : ℕ) → s < length xs → state_at (xs ++ x ∷ []) s ≡ state_at xs s
@@ -41,16 +41,15 @@ loaded_more i found count states old x new kept was others now = record {
       (cases_eq s count);
 }
 
-pub kept_more : (count : ℕ) (states : States) (old : Slots) (x : Option VolumeState) (new : Slots) → KeptTo count states old → length new.containers ≡ slot_count
-    → ((s : ℕ) → s ≢ count → container_at new s ≡ container_at old s) → ((s : ℕ) → s ≢ count → parent_at new s ≡ parent_at old s) → IfSome x (IsState count) → Houses x (container_at new count) → parent_at new count ≡ parent_in x
+pub kept_more : (count : ℕ) (states : States) (old : Slots) (x : Option VolumeState) (new : Slots) → KeptTo count states old → LeavesOthers count old new → IsFilled count new x
     → KeptTo (count + 1) (states ++ x ∷ []) new
-kept_more count states old x new kept few others parents is has parent = record {
+kept_more count states old x new kept leaves filled = record {
   long = length-append states (x ∷ []) ∙ omega (arith, kept.long);
-  few = few;
-  free = λ s le. others s (omega (arith, le)) ∙ kept.free s (omega (arith, le));
+  few = leaves.few;
+  free = λ s le. leaves.others s (omega (arith, le)) ∙ kept.free s (omega (arith, le));
   each = λ s. ⊎_elim
       (λ (here : s ≡ count). subst (λ k. IfSome (state_at (states ++ x ∷ []) k) (IsState k)) (sym here)
-      (subst (λ (y : Option VolumeState). IfSome y (IsState count)) (sym (ap (state_at (states ++ x ∷ [])) (sym kept.long) ∙ at_end states x)) is))
+      (subst (λ (y : Option VolumeState). IfSome y (IsState count)) (sym (ap (state_at (states ++ x ∷ [])) (sym kept.long) ∙ at_end states x)) filled.state))
       (λ (other : s ≢ count). ⊎_elim
       (λ (before : s < length states). subst (λ (y : Option VolumeState). IfSome y (IsState s)) (sym (at_front states x s before)) (kept.each s))
       (λ (after : length states ≤ s). let past : length states < s = omega (arith, after, other, kept.long) in subst (λ (y : Option VolumeState). IfSome y (IsState s)) (sym (past_end states x s past)) tt)
@@ -58,16 +57,16 @@ kept_more count states old x new kept few others parents is has parent = record 
       (cases_eq s count);
   housed = λ s. ⊎_elim
       (λ (here : s ≡ count). subst (λ k. Houses (state_at (states ++ x ∷ []) k) (container_at new k)) (sym here)
-      (subst (λ (y : Option VolumeState). Houses y (container_at new count)) (sym (ap (state_at (states ++ x ∷ [])) (sym kept.long) ∙ at_end states x)) has))
+      (subst (λ (y : Option VolumeState). Houses y (container_at new count)) (sym (ap (state_at (states ++ x ∷ [])) (sym kept.long) ∙ at_end states x)) filled.housed))
       (λ (other : s ≢ count). ⊎_elim
-      (λ (before : s < length states). subst (λ (c : Option Mapped). Houses (state_at (states ++ x ∷ []) s) c) (sym (others s other))
+      (λ (before : s < length states). subst (λ (c : Option Mapped). Houses (state_at (states ++ x ∷ []) s) c) (sym (leaves.others s other))
       (subst (λ (y : Option VolumeState). Houses y (container_at old s)) (sym (at_front states x s before)) (kept.housed s)))
       (λ (after : length states ≤ s). let past : length states < s = omega (arith, after, other, kept.long) in subst (λ (y : Option VolumeState). Houses y (container_at new s)) (sym (past_end states x s past)) tt)
       (cases_lt s (length states)))
       (cases_eq s count);
   parents = λ s. ⊎_elim
-      (λ (here : s ≡ count). ap (parent_at new) here ∙ parent ∙ ap parent_in (sym (ap (state_at (states ++ x ∷ [])) (here ∙ sym kept.long) ∙ at_end states x)))
-      (λ (other : s ≢ count). parents s other ∙ kept.parents s ∙ ap parent_in (⊎_elim
+      (λ (here : s ≡ count). ap (parent_at new) here ∙ filled.parent ∙ ap parent_in (sym (ap (state_at (states ++ x ∷ [])) (here ∙ sym kept.long) ∙ at_end states x)))
+      (λ (other : s ≢ count). leaves.parents s other ∙ kept.parents s ∙ ap parent_in (⊎_elim
       (λ (before : s < length states). sym (at_front states x s before))
       (λ (after : length states ≤ s). get_or_past states s None after ∙ sym (past_end states x s (omega (arith, after, other, kept.long))))
       (cases_lt s (length states))))

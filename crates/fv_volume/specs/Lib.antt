@@ -8,3 +8,10 @@ pub mod Creating
 pub mod Loading
 pub mod Opening
 pub mod BlocksOver
+pub mod Trees
+pub mod Files
+pub mod Charging
+pub mod Lending
+pub mod LendingLaws
+pub mod Flushed
+pub mod Flushing

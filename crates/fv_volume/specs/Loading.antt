@@ -76,7 +76,7 @@ pub record IsLabelFault (i : Image) (found : Found) (at want number : ℕ) : Typ
   pub some : at ≢ 0
   pub fault : IsBadLabel (i at) at (Damaged at want number)
 
--- a node of the container of a slot is damaged
+-- a node of the container of a slot hasn't its shape
 pub record IsTreeFault (i : Image) (found : Found) (at want number : ℕ) : Type 0 where
   pub slot : ℕ
   pub label : Label
@@ -154,6 +154,18 @@ abbrev pub Houses : Option VolumeState → Option Mapped → Type 0
 Houses None container = Unit {0}
 Houses (Some x) None = ⊥
 Houses (Some x) (Some map) = length map.entries ≡ entry_count x.span
+
+-- A slot has its volume, if there is one, with its container and the slot of its parent.
+pub record IsFilled (slot : ℕ) (containers : Slots) (x : Option VolumeState) : Type 0 where
+  pub state : IfSome x (IsState slot)
+  pub housed : Houses x (container_at containers slot)
+  pub parent : parent_at containers slot ≡ parent_in x
+
+-- There are as many slots as volumes can have, and each but one has the container and the parent that it had.
+pub record LeavesOthers (slot : ℕ) (old new : Slots) : Type 0 where
+  pub few : length new.containers ≡ slot_count
+  pub others : (s : ℕ) → s ≢ slot → container_at new s ≡ container_at old s
+  pub parents : (s : ℕ) → s ≢ slot → parent_at new s ≡ parent_at old s
 
 -- the first slots are filled, each with the slot of its volume's parent, and the others have no container and no parent yet
 pub record KeptTo (count : ℕ) (states : States) (containers : Slots) : Type 0 where

@@ -1,19 +1,20 @@
 //! The blocks of one volume, over what a session lends.
 
 ghost use Rattle.std.specs.Prelude.{◌≡◌, ◌<◌, ◌≤◌, ◌+◌, None, Some, cond, is_some, false, true, length, slice_set, IsTrue, IfOk, IfErr, IfSome, IfNone, OnOk, OnErr, option_copied};
-ghost use Rattle.fv_aggmap.specs.Space.{blocks_of};
+ghost use Rattle.fv_aggmap.specs.Space.{blocks_of, free_blocks};
 ghost use Rattle.fv_bits.specs.Members.{is_member};
 ghost use Rattle.fv_codec.specs.Blocks.{last_place};
 ghost use Rattle.fv_container.specs.Chains.{IsSlots, chain_entry, container_at, own_entry, slot_count, told_entry};
 ghost use Rattle.fv_container.specs.Mapped.{IsEntry, IsHeld};
 ghost use Rattle.fv_disk.specs.DiskCalls.{OnlyReads};
 ghost use Rattle.fv_disk.specs.Faults.{HasBlockCause};
+ghost use Rattle.fv_disk.specs.Shown.{Rose};
 ghost use Rattle.fv_disk.specs.declared.fault.BlockFault.TheVariants.{Damaged, DiskFault};
 ghost use Rattle.fv_image.specs.Layout.{root_place};
 ghost use Rattle.fv_store.specs.Held.{StandsOn};
 ghost use Rattle.fv_tree.specs.Sources.{IsKind};
 ghost use Rattle.fv_volmap.specs.Slots.{IsVolume, active_of, has, taken_in, with_slot};
-ghost use Rattle.fv_volume.specs.BlocksOver.{HoldsMore, IsLooseFault, LacksPlace, PlacesBlock, SetsEntry, Takes, block_of, entries_in, given_back, held_entry, place_of, steps_by};
+ghost use Rattle.fv_volume.specs.BlocksOver.{HoldsMore, IsLooseFault, LacksPlace, LeavesPool, LeavesRoom, PlacesBlock, SetsEntry, Takes, block_of, entries_in, given_back, held_entry, place_of, steps_by};
 
 use crate::pool::Pool;
 use fv_aggmap::AggMap;
@@ -65,11 +66,9 @@ pub fn read_pointed<D: Disk, L: Ledger>(
     ensures place { IfOk result (λ pvbn. place_of (held_entry map.now pool.old.containers home.now.slot pointer.now.vvbn) ≡ Some pvbn) }
     ensures range { IfOk result (λ pvbn. pvbn ≤ last_place) }
     ensures step { OnOk result (steps.new ≡ steps.old + steps_by (held_entry map.now pool.old.containers home.now.slot pointer.now.vvbn) pointer.now.pvbn) }
+    ensures later { steps.old ≤ steps.new }
     ensures loose { IfErr result (IsLooseFault (held_entry map.now pool.old.containers home.now.slot pointer.now.vvbn) home.now.label) }
-    ensures map { pool.new.map ≡ pool.old.map }
-    ensures containers { pool.new.containers ≡ pool.old.containers }
-    ensures kept { pool.new.kept ≡ pool.old.kept }
-    ensures found { pool.new.found ≡ pool.old.found }
+    ensures leaves { LeavesPool pool.old pool.new }
     ensures stands { StandsOn (D.shown disk.new) pool.new.store.pairs }
     ensures only_reads { OnlyReads (D.shown disk.old) (D.shown disk.new) }
     ensures cause { HasBlockCause (D.shown disk.old).faults (D.shown disk.new).faults result }
@@ -112,6 +111,8 @@ pub fn place_block(
     ensures failed { OnErr result (pool.new ≡ pool.old) }
     ensures failed_map { OnErr result (map.new ≡ map.old) }
     ensures fault { IfErr result (LacksPlace pool.old.map map.old (root_place pool.old.found.slot) home.now.label) }
+    ensures leaves { IfOk result (λ placed. LeavesRoom pool.old.map map.old pool.new.map map.new) }
+    ensures valid { IsVolume map.old }
 {
     let root = root_place(pool.found.slot);
     let placed = take_numbers(&mut pool.map, map, root, home.label)?;
@@ -140,6 +141,7 @@ fn take_numbers(
     ensures failed { OnErr result (space.new ≡ space.old) }
     ensures failed_map { OnErr result (map.new ≡ map.old) }
     ensures fault { IfErr result (LacksPlace space.old map.old root label) }
+    ensures leaves { IfOk result (λ placed. LeavesRoom space.old map.old space.new map.new) }
     ensures valid { IsVolume map.old }
 {
     // What the slots are known to be is needed where a number is given back.
@@ -193,14 +195,29 @@ fn set_entry(containers: &mut Containers, slot: u8, vvbn: u32, entry: Entry) -> 
 }
 
 /// Says that the next root won't hold the block of an entry.
+#[tactic(auto, using(fv_aggmap::proofs::Room::no_fewer))]
 fn give_back(space: &mut AggMap, entry: Option<Entry>)
-    ensures { space.new ≡ given_back space.old entry }
+    ensures given { space.new ≡ given_back space.old entry }
+    ensures no_fewer { free_blocks space.old ≤ free_blocks space.new }
 {
     if let Some(entry) = entry
         && entry.pvbn < space.blocks()
     {
         space.release_after_commit(entry.pvbn);
     }
+}
+
+/// Takes a number out of the active map. One that isn't there changes nothing there and counts as a stray.
+pub(crate) fn drop_number(map: &mut VolMap, strays: &mut u64, vvbn: u32)
+    ensures released { map.new ≡ with_slot map.old 0 (Some (slice_set (active_of map.old) vvbn false)) }
+    ensures named { is_member (active_of map.old) vvbn ≡ true → strays.new ≡ strays.old }
+    ensures stray { is_member (active_of map.old) vvbn ≡ false → Rose strays.old strays.new }
+    ensures valid { IsVolume map.old }
+{
+    if !has_member(map.active(), vvbn) {
+        *strays = strays.saturating_add(1);
+    }
+    map.release(vvbn);
 }
 
 /// The entry of the VVBN of a pointer; `None` exactly where it isn't held.
@@ -218,11 +235,9 @@ fn find_entry<D: Disk, L: Ledger>(
     ensures entry { IfOk result (λ entry. entry ≡ held_entry map.now pool.old.containers slot pointer.now.vvbn) }
     ensures held { IfOk result (λ entry. IfSome entry IsHeld) }
     ensures step { IfOk result (λ entry. IfSome entry (λ e. steps.new ≡ steps.old + steps_by (Some e) pointer.now.pvbn)) }
+    ensures later { steps.old ≤ steps.new }
     ensures fault { IfErr result (λ fault. fault ≡ DiskFault) }
-    ensures map { pool.new.map ≡ pool.old.map }
-    ensures containers { pool.new.containers ≡ pool.old.containers }
-    ensures kept { pool.new.kept ≡ pool.old.kept }
-    ensures found { pool.new.found ≡ pool.old.found }
+    ensures leaves { LeavesPool pool.old pool.new }
     ensures stands { StandsOn (D.shown disk.new) pool.new.store.pairs }
     ensures only_reads { OnlyReads (D.shown disk.old) (D.shown disk.new) }
     ensures cause { HasBlockCause (D.shown disk.old).faults (D.shown disk.new).faults result }

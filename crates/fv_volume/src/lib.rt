@@ -4,20 +4,26 @@
 
 mod admit;
 mod blocks;
+mod cells;
 mod fault;
 mod kept;
 mod label;
 mod load;
+mod noted;
 mod pool;
 mod search;
 mod sizes;
 mod state;
+mod volume_blocks;
 mod volumes;
 
 pub use admit::Admitted;
 pub use blocks::{Home, place_block, read_pointed};
+pub use cells::{flush_tree, read_cell};
 pub use fault::VolumeFault;
 pub use kept::Kept;
+pub use noted::Noted;
 pub use pool::Pool;
 pub use state::{Base, Rooted, Snap, Snapshots, VolumeState};
+pub use volume_blocks::{Guard, VolumeBlocks};
 pub use volumes::Volumes;

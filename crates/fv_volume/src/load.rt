@@ -1,6 +1,6 @@
 //! Reading the volumes of a root: labels, containers and active maps.
 
-ghost use Rattle.std.specs.Prelude.{◌≡◌, ◌≢◌, ◌<◌, ◌≤◌, ◌+◌, ◌*◌, ℕ, length, None, Some, IfOk, IfErr, IfSome, OnOk, OnErr, IsTrue, get_or, ◌++◌, ◌∷◌, []};
+ghost use Rattle.std.specs.Prelude.{◌≡◌, ◌<◌, ◌≤◌, ◌+◌, ◌*◌, length, None, Some, IfOk, IfErr, OnOk, OnErr, IsTrue, get_or, ◌++◌, ◌∷◌, []};
 ghost use Rattle.fv_codec.specs.Blocks.{IsLabel, label_at};
 ghost use Rattle.fv_container.specs.Chains.{container_at, no_containers, parent_at, slot_count, with_container, with_parent};
 ghost use Rattle.fv_container.specs.Mapped.{IsMapped};
@@ -11,8 +11,8 @@ ghost use Rattle.fv_image.specs.Views.{entry_count, head_of};
 ghost use Rattle.fv_model.specs.Numbers.{greatest_span};
 ghost use Rattle.fv_model.specs.Space.{map_blocks};
 ghost use Rattle.fv_store.specs.Held.{StandsOn};
-ghost use Rattle.fv_volume.specs.Loading.{HasRead, Houses, IsBadLabel, IsBadMap, IsLoadFault, IsLoaded, KeptTo, LoadedTo, form_in, has_delayed, is_delayed_entry};
-ghost use Rattle.fv_volume.specs.States.{IsState, head_in, parent_in, state_at};
+ghost use Rattle.fv_volume.specs.Loading.{HasRead, IsBadLabel, IsBadMap, IsFilled, IsLoadFault, IsLoaded, KeptTo, LeavesOthers, LoadedTo, form_in, has_delayed, is_delayed_entry};
+ghost use Rattle.fv_volume.specs.States.{head_in, state_at};
 
 use crate::label::read_label;
 use crate::sizes::entry_count;
@@ -180,14 +180,10 @@ fn load_volume<D: Disk>(
     requires slot { slot < slot_count }
     requires few { length containers.old.containers ≡ slot_count }
     requires parent { parent_at containers.old slot ≡ None }
-    ensures few { length containers.new.containers ≡ slot_count }
-    ensures others { (s : ℕ) → s ≢ slot → container_at containers.new s ≡ container_at containers.old s }
-    ensures parents { (s : ℕ) → s ≢ slot → parent_at containers.new s ≡ parent_at containers.old s }
-    ensures parent { IfOk result (λ state. parent_at containers.new slot ≡ parent_in state) }
+    ensures leaves { LeavesOthers slot containers.old containers.new }
     ensures loaded { IsTrue (D.shown disk.old).tells → container_at containers.old slot ≡ None
         → IfOk result (λ state. IsLoaded (D.shown disk.old).reads found.now slot state (container_at containers.new slot)) }
-    ensures state { IfOk result (λ state. IfSome state (IsState slot)) }
-    ensures housed { IfOk result (λ state. Houses state (container_at containers.new slot)) }
+    ensures filled { IfOk result (IsFilled slot containers.new) }
     ensures fault { IsTrue (D.shown disk.old).tells → IfErr result (IsLoadFault (D.shown disk.old).reads found.now) }
     ensures only_reads { OnlyReads (D.shown disk.old) (D.shown disk.new) }
     ensures stands { StandsOn (D.shown disk.new) store.new.pairs }

@@ -7,6 +7,7 @@ ghost use Rattle.fv_disk.specs.Shown.{HasCause};
 ghost use Rattle.fv_store.specs.Held.{StandsOn};
 ghost use Rattle.fv_root.specs.Finding.{IsInRange};
 ghost use Rattle.fv_disk.specs.Sparing.{Spares};
+ghost use Rattle.fv_volume.specs.BlocksOver.{LeavesPool};
 ghost use Rattle.fv_volume.specs.Causes.{WithBlockFault};
 ghost use Rattle.fv_volume.specs.Keeping.{IsUnkept, seen};
 ghost use Rattle.fv_volume.specs.Opening.{OpensPool};
@@ -78,10 +79,7 @@ impl Pool {
         requires stands { StandsOn (D.shown disk.old) self.old.store.pairs }
         ensures block { IsTrue (D.shown disk.old).tells → OnOk result (into.new ≡ seen self.old.kept (D.shown disk.old).reads pvbn) }
         ensures untouched { IfSome (fin.get self.old.kept pvbn) (λ block. into.new ≡ block) }
-        ensures map { self.new.map ≡ self.old.map }
-        ensures containers { self.new.containers ≡ self.old.containers }
-        ensures kept { self.new.kept ≡ self.old.kept }
-        ensures found { self.new.found ≡ self.old.found }
+        ensures leaves { LeavesPool self.old self.new }
         ensures stands { StandsOn (D.shown disk.new) self.new.store.pairs }
         ensures only_reads { OnlyReads (D.shown disk.old) (D.shown disk.new) }
         ensures cause { HasCause (D.shown disk.old).faults (D.shown disk.new).faults result }

@@ -63,8 +63,8 @@ impl Volumes {
     /// # Errors
     /// `Damaged` comes only where a block that this call read isn't as it has to be: a label without its
     /// shape, or with a base, an unknown place, a file or a snapshot, none of which can be loaded yet; a node
-    /// of a container that isn't the one of its position; or a block of an active map with a bit set past the
-    /// span. `DiskFault` comes only where a read failed in this call, and `Memory` where memory ran out. The
+    /// of a container without its shape, whatever position it names; or a block of an active map with a bit
+    /// set past the span. `DiskFault` comes only where a read failed in this call, and `Memory` where memory ran out. The
     /// pool's containers stay then.
     ///
     /// Each label, each node of the containers and each block of the active maps is read once, and each entry

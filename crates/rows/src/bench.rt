@@ -1,84 +1,107 @@
-//! The disk of a case.
+//! What a case works with.
 
-use crate::row::{Cause, Change, Damage, Place, Word};
-use fv_aggregate::{OpenFault, Session};
-use fv_disk::{Block, Disk};
+use crate::course::{Course, no_course};
 use fv_memdisk::MemHost;
 use std::alloc::Global;
 
-/// A block as a disk reads it; zeros where the read failed.
-fn block_at(host: &mut MemHost, at: u64) -> Block {
-    let mut block = [0; 4096];
-    match host.read(at, &mut block) {
-        Ok(()) => block,
-        Err(_) => [0; 4096],
-    }
+/// The disk of a case, the plain machine for which it stands, and its last run.
+#[derive(Drop)]
+pub struct Bench {
+    pub alloc: Global,
+    pub cases: u64,
+    pub runs: u64,
+    /// Whether all of the case so far came out as wanted.
+    pub goes_on: bool,
+    pub host: MemHost,
+    /// The disk before the last run.
+    pub before: MemHost,
+    /// The blocks of the plain machine; 0 where it isn't known.
+    pub blocks: u64,
+    /// The lines that lead to the plain machine.
+    pub lines: Vec<u8>,
+    /// Whether the last run still goes on.
+    pub runs_on: bool,
+    /// Whether it was played.
+    pub is_played: bool,
+    pub run: Run,
+    /// The states of the last run, where it has walks.
+    pub course: Course,
 }
 
-/// A word of a block, from its most significant byte on.
-fn word_in(block: &Block, word: usize) -> u64 {
-    let start = word.saturating_mul(8);
-    let mut value = 0;
-    for byte in block.iter().skip(start).take(8) {
-        value = (value << 8) | u64::from(*byte);
-    }
-    value
+#[derive(Clone, Copy)]
+pub enum Program {
+    Flexvol,
+    Reference,
+    /// `run_script`, with a limit of so many bytes.
+    Script(u64),
 }
 
-fn set_word(block: &mut Block, word: usize, value: u64) {
-    let start = word.saturating_mul(8);
-    let bytes = value.to_be_bytes();
-    for (into, byte) in block.iter_mut().skip(start).zip(bytes.iter()) {
-        *into = *byte;
-    }
+/// A run of a program, with what is wanted of it.
+#[derive(Drop)]
+pub struct Run {
+    pub program: Program,
+    pub words: Vec<String>,
+    pub script: Vec<u8>,
+    pub replies: Vec<u8>,
+    /// Whether the replies are those of the plain machine.
+    pub plain: bool,
+    pub status: u64,
+    /// For how many first lines the disk stands then, where not for all of a run that ends with 0.
+    pub stands: Option<u64>,
+    /// The script that is asked of a disk to see for what it stands.
+    pub looks: Vec<u8>,
 }
 
-/// The number of the block at a place.
-fn number_of(host: &mut MemHost, place: &Place) -> u64 {
-    let mut at = place.block;
-    for word in place.words.iter() {
-        at = word_in(&block_at(host, at), *word);
-    }
-    at
-}
-
-/// The word that a disk has.
-pub fn word_of(host: &mut MemHost, word: &Word) -> u64 {
-    let at = number_of(host, &word.place);
-    word_in(&block_at(host, at), word.word)
-}
-
-/// Writes a block over.
-pub fn change(host: &mut MemHost, change: &Change) {
-    match change {
-        Change::Zero(place) => {
-            let at = number_of(host, place);
-            let _ = host.write(at, &[0; 4096]);
-        }
-        Change::Set(word, value) => {
-            let at = number_of(host, &word.place);
-            let mut block = block_at(host, at);
-            set_word(&mut block, word.word, *value);
-            let _ = host.write(at, &block);
-        }
-        Change::Copy(from, to) => {
-            let from = number_of(host, from);
-            let to = number_of(host, to);
-            let block = block_at(host, from);
-            let _ = host.write(to, &block);
+impl Run {
+    /// The lines that are asked of a disk; `vol list` where none were told.
+    pub fn asks(&self) -> &[u8] {
+        if self.looks.is_empty() {
+            b"vol list\n"
+        } else {
+            self.looks.as_slice()
         }
     }
 }
 
-/// Whether opening the aggregate of a disk finds this damage.
-pub fn has_damage(alloc: Global, host: &mut MemHost, damage: &Damage) -> Result<(), Cause> {
-    let wanted = OpenFault::Damaged {
-        at: number_of(host, &damage.place),
-        want: damage.wanted,
-        found: damage.found,
-    };
-    match Session::open(alloc, host) {
-        Err(fault) if fault == wanted => Ok(()),
-        _ => Err(Cause::Damage),
+pub fn new_run(alloc: Global, program: Program) -> Run {
+    Run {
+        program,
+        words: Vec::new(alloc),
+        script: Vec::new(alloc),
+        replies: Vec::new(alloc),
+        plain: false,
+        status: 0,
+        stands: None,
+        looks: Vec::new(alloc),
     }
+}
+
+pub fn new_bench(alloc: Global) -> Bench {
+    Bench {
+        alloc,
+        cases: 0,
+        runs: 0,
+        goes_on: false,
+        host: new_host(alloc),
+        before: new_host(alloc),
+        blocks: 0,
+        lines: Vec::new(alloc),
+        runs_on: false,
+        is_played: false,
+        run: new_run(alloc, Program::Flexvol),
+        course: no_course(alloc),
+    }
+}
+
+fn new_host(alloc: Global) -> MemHost {
+    MemHost::new(alloc, Vec::new(alloc))
+}
+
+/// A case begins, on a disk of zeros.
+pub fn clear(bench: &mut Bench) {
+    bench.goes_on = true;
+    bench.host = new_host(bench.alloc);
+    bench.blocks = 0;
+    bench.lines.clear();
+    bench.runs_on = false;
 }

@@ -4,72 +4,70 @@
 //! row is written.
 #![tactic(auto)]
 
+mod answers;
 mod bench;
+mod blocks;
+mod cause;
 mod course;
+mod failing;
 mod lines;
 mod playing;
 mod reading;
-mod row;
-mod running;
 mod walking;
-mod words;
 
-use crate::playing::play;
-use crate::reading::read_rows;
-use crate::row::{Cause, Miss, Step, What};
+use crate::bench::{Bench, clear, new_bench};
+use crate::cause::Cause;
+use crate::playing::end_run;
+use crate::reading::read_text;
 use std::{fs, io};
 
-/// How many cases and runs there were.
-#[derive(Clone, Copy)]
-struct Tally {
-    cases: u64,
-    runs: u64,
-}
-
-impl Tally {
-    fn and(self, steps: &[Step]) -> Tally {
-        let mut tally = self;
-        for step in steps {
-            match step.what {
-                What::Case => tally.cases = tally.cases.saturating_add(1),
-                What::Run(_) => tally.runs = tally.runs.saturating_add(1),
-                _ => {}
-            }
-        }
-        tally
-    }
-}
-
 fn main(rt: HostRuntime) -> io::Result<()> {
-    let mut tally = Tally { cases: 0, runs: 0 };
+    let mut bench = new_bench(rt.alloc());
     for entry in fs::read_dir(&rt, ".")? {
         let entry = entry?;
         let path = entry.path();
         if path.as_str().ends_with(".row") {
             let text = fs::read_to_string(&rt, path.as_str())?;
-            tally = play_file(&rt, path.as_str(), text.as_str(), tally)?;
+            play_file(&rt, path.as_str(), text.as_str(), &mut bench)?;
         }
     }
-    let Tally { cases, runs } = tally;
-    println!(rt; "{cases} cases, {runs} runs")
+    println!(rt; "{} cases, {} runs", bench.cases, bench.runs)
 }
 
-/// Plays the cases of a file, and tells each that comes out otherwise.
-fn play_file(rt: &HostRuntime, path: &str, text: &str, tally: Tally) -> io::Result<Tally> {
-    let steps = match read_rows(rt.alloc(), text) {
-        Ok(steps) => steps,
-        Err(miss) => {
-            tell(rt, path, miss)?;
-            return Ok(tally);
+/// Plays the cases of a file. Where one comes out otherwise, that is told, and the rest of the case left out.
+fn play_file(rt: &HostRuntime, path: &str, text: &str, bench: &mut Bench) -> io::Result<()> {
+    clear(bench);
+    let mut line: u64 = 0;
+    for text in text.lines() {
+        line = line.saturating_add(1);
+        if text.starts_with("case ") {
+            let done = end_run(bench);
+            tell(rt, path, line, bench, done)?;
+            clear(bench);
+            bench.cases = bench.cases.saturating_add(1);
+        } else {
+            let done = read_text(bench, text);
+            tell(rt, path, line, bench, done)?;
         }
-    };
-    for miss in play(rt.alloc(), steps.as_slice())?.iter() {
-        tell(rt, path, *miss)?;
     }
-    Ok(tally.and(steps.as_slice()))
+    let done = end_run(bench);
+    tell(rt, path, line, bench, done)
 }
 
-fn tell(rt: &HostRuntime, path: &str, miss: Miss) -> io::Result<()> {
-    let Miss { line, cause } = miss;
-    println!(rt; "{path}, line {line}: {cause:?}")
+/// Tells how a case came out otherwise, if it did.
+fn tell(
+    rt: &HostRuntime,
+    path: &str,
+    line: u64,
+    bench: &mut Bench,
+    done: Result<(), Cause>,
+) -> io::Result<()> {
+    match done {
+        Ok(()) => Ok(()),
+        Err(cause) => {
+            bench.goes_on = false;
+            let Cause { what, at, found } = cause;
+            println!(rt; "{path}, line {line}: {what} ({at}, {found})")
+        }
+    }
 }

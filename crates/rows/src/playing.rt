@@ -1,210 +1,147 @@
-//! Plays the cases of a file.
+//! Plays a run, and judges what comes of it.
 
-use crate::bench::{change, has_damage, word_of};
-use crate::course::{Course, applies, course_of, looks_of, makes};
-use crate::lines::{first_difference, first_lines, lines_in};
-use crate::row::{Cause, Miss, Run, Step, What};
-use crate::running::{Look, Plain, look_at, settled, start};
-use crate::walking::{Trial, try_walk};
-use fv_memdisk::MemHost;
-use fv_run::flexvol;
-use std::alloc::{AllocError, Global};
+use crate::answers::{add_lines, look_at, plain_replies, settled, start};
+use crate::bench::{Bench, Program, new_run};
+use crate::cause::{Cause, because};
+use crate::course::{course_of, order_of};
+use crate::lines::{add_word, first_difference, lines_in, number, split_lines};
+use fv_run::Order;
+use std::alloc::AllocError;
 
-/// The status of words without a meaning.
-const NO_MEANING: u8 = 7;
-
-/// The disk of a case, and the plain machine for which it stands, where that is known.
-#[derive(Drop)]
-struct Bench {
-    host: MemHost,
-    plain: Option<Plain>,
-}
-
-fn new_bench(alloc: Global) -> Bench {
-    Bench {
-        host: MemHost::new(alloc, Vec::new(alloc)),
-        plain: None,
-    }
-}
-
-/// Plays the steps, and answers for each case the first step that came out otherwise.
-pub fn play(alloc: Global, steps: &[Step]) -> Result<Vec<Miss>, AllocError> {
-    let mut misses = Vec::new(alloc);
-    let mut disk = new_bench(alloc);
-    let mut goes_on = true;
-    for step in steps {
-        if let What::Case = step.what {
-            disk = new_bench(alloc);
-            goes_on = true;
-        } else if goes_on {
-            if let Err(cause) = take_step(alloc, &mut disk, &step.what) {
-                let line = step.line;
-                misses.push(Miss { line, cause })?;
-                goes_on = false;
-            }
-        }
-    }
-    Ok(misses)
-}
-
-fn take_step(alloc: Global, disk: &mut Bench, what: &What) -> Result<(), Cause> {
-    match what {
-        What::Case => Ok(()),
-        What::Aggregate(blocks) => new_aggregate(alloc, disk, *blocks),
-        What::Change(written) => {
-            change(&mut disk.host, written);
-            Ok(())
-        }
-        What::Run(run) => play_run(alloc, disk, run),
-        What::Word(word, wanted) => {
-            let value = word_of(&mut disk.host, word);
-            if value == *wanted {
-                Ok(())
-            } else {
-                Err(Cause::Holds(value))
-            }
-        }
-        What::Damage(damage) => {
-            let mut image = settled(&disk.host)?;
-            has_damage(alloc, &mut image, damage)
-        }
-    }
-}
-
-fn new_aggregate(alloc: Global, disk: &mut Bench, blocks: u32) -> Result<(), Cause> {
-    let mut words = Vec::new(alloc);
-    add(&mut words, String::from_str(alloc, "create")?)?;
-    add(&mut words, format!(in alloc; "{blocks}")?)?;
-    let status = flexvol(alloc, words.as_slice(), &mut disk.host);
-    disk.host = settled(&disk.host)?;
-    disk.plain = Some(Plain::new(alloc, u64::from(blocks)));
+/// The disk gets a new aggregate.
+pub fn aggregate(bench: &mut Bench, blocks: &str) -> Result<(), Cause> {
+    let mut run = new_run(bench.alloc, Program::Flexvol);
+    add_word(bench.alloc, &mut run.words, "create")?;
+    add_word(bench.alloc, &mut run.words, blocks)?;
+    let status = start(bench.alloc, &run, &mut bench.host)?;
+    bench.host = settled(&bench.host)?;
+    bench.blocks = number(blocks)?;
+    bench.lines.clear();
     if status == 0 {
         Ok(())
     } else {
-        Err(Cause::Status(status))
+        Err(because("the status", status, 0))
     }
 }
 
-fn add(words: &mut Vec<String>, word: String) -> Result<(), AllocError> {
-    words.push(word)?;
+/// A run begins. Its lines come.
+pub fn begin_run(bench: &mut Bench, program: Program, text: &str) -> Result<(), Cause> {
+    bench.runs = bench.runs.saturating_add(1);
+    bench.runs_on = true;
+    bench.is_played = false;
+    bench.run = new_run(bench.alloc, program);
+    if text.is_empty() {
+        return Ok(());
+    }
+    for word in text.split(' ') {
+        add_word(bench.alloc, &mut bench.run.words, word)?;
+    }
     Ok(())
 }
 
-fn play_run(alloc: Global, disk: &mut Bench, run: &Run) -> Result<(), Cause> {
-    let before = settled(&disk.host)?;
-    disk.host = settled(&before)?;
-    let status = start(alloc, run, &mut disk.host)?;
-    judge_output(alloc, disk, run, status)?;
-    try_walks(alloc, &before, disk, run)?;
-    disk.plain = stands_for(alloc, disk.plain.as_ref(), run, status)?;
-    judge_disk(alloc, disk, run)
+/// The walks of a run begin, once it was played.
+pub fn begin_walks(bench: &mut Bench) -> Result<(), Cause> {
+    if !bench.is_played {
+        play(bench)?;
+        bench.course = course_of(bench)?;
+    }
+    Ok(())
 }
 
-/// Whether the status and the replies are those that are wanted.
-fn judge_output(alloc: Global, disk: &Bench, run: &Run, status: u8) -> Result<(), Cause> {
-    if status != run.status {
-        return Err(Cause::Status(status));
+/// A run ends, if one goes on. The disk then stands for the lines for which it has to.
+pub fn end_run(bench: &mut Bench) -> Result<(), Cause> {
+    if !bench.runs_on || !bench.goes_on {
+        return Ok(());
     }
-    let given = disk.host.given();
-    if run.plain {
-        let wanted = plain_output(alloc, disk.plain.as_ref(), run)?;
+    if !bench.is_played {
+        play(bench)?;
+    }
+    bench.runs_on = false;
+    settle(bench)?;
+    judge_disk(bench)
+}
+
+fn play(bench: &mut Bench) -> Result<(), Cause> {
+    bench.is_played = true;
+    bench.before = settled(&bench.host)?;
+    bench.host = settled(&bench.before)?;
+    let status = start(bench.alloc, &bench.run, &mut bench.host)?;
+    if status == bench.run.status {
+        judge_output(bench)
+    } else {
+        Err(because("the status", status, 0))
+    }
+}
+
+/// Whether the replies are those that are wanted.
+fn judge_output(bench: &Bench) -> Result<(), Cause> {
+    let given = bench.host.given();
+    if bench.run.plain {
+        let wanted = plain_output(bench)?;
         if let Some(line) = first_difference(given, wanted.as_slice()) {
-            return Err(Cause::NotPlain(line));
+            return Err(because("a reply line isn't the plain machine's", line, 0));
         }
-        if run.replies.is_empty() {
+        if bench.run.replies.is_empty() {
             return Ok(());
         }
     }
-    match first_difference(given, run.replies.as_slice()) {
-        Some(line) => Err(Cause::Reply(line)),
+    match first_difference(given, bench.run.replies.as_slice()) {
+        Some(line) => Err(because("a reply line is another", line, 0)),
         None => Ok(()),
     }
 }
 
 /// What the plain machine gives out for a script: its replies, and their number.
-fn plain_output(alloc: Global, plain: Option<&Plain>, run: &Run) -> Result<Vec<u8>, Cause> {
-    let Some(plain) = plain else {
-        return Err(Cause::Unknown);
-    };
-    let mut output = plain.replies(alloc, run.script.as_slice())?;
+fn plain_output(bench: &Bench) -> Result<Vec<u8>, Cause> {
+    if bench.blocks == 0 {
+        return Err(because("the plain machine isn't known", 0, 0));
+    }
+    let script = bench.run.script.as_slice();
+    let lines = bench.lines.as_slice();
+    let mut output = plain_replies(bench.alloc, bench.blocks, lines, script)?;
     let count = lines_in(output.as_slice());
-    output.extend_from_slice(format!(in alloc; "done {count}\n")?.as_bytes())?;
+    output.extend_from_slice(format!(in bench.alloc; "done {count}\n")?.as_bytes())?;
     Ok(output)
 }
 
-fn try_walks(alloc: Global, before: &MemHost, disk: &Bench, run: &Run) -> Result<(), Cause> {
-    if run.walks.is_empty() {
-        return Ok(());
-    }
-    let course = course_of(alloc, run, disk.plain.as_ref())?;
-    walk_all(alloc, run, before, &course, disk.host.given())
-}
-
-fn walk_all<'a>(
-    alloc: Global,
-    run: &'a Run,
-    before: &'a MemHost,
-    course: &'a Option<Course>,
-    given: &'a [u8],
-) -> Result<(), Cause> {
-    let trial = Trial {
-        alloc,
-        run,
-        before,
-        course,
-        given,
-    };
-    for walk in run.walks.iter() {
-        try_walk(&trial, walk)?;
-    }
-    Ok(())
-}
-
-/// The plain machine for which the disk stands after a run, where that is known.
-fn stands_for(
-    alloc: Global,
-    before: Option<&Plain>,
-    run: &Run,
-    status: u8,
-) -> Result<Option<Plain>, AllocError> {
-    match (makes(run), before) {
-        (Some(blocks), _) if status == 0 => Ok(Some(Plain::new(alloc, blocks))),
-        (Some(_), _) if status != NO_MEANING => Ok(None),
-        (_, Some(plain)) => plain_after(alloc, plain, run, status),
-        _ => Ok(None),
-    }
-}
-
-fn plain_after(
-    alloc: Global,
-    plain: &Plain,
-    run: &Run,
-    status: u8,
-) -> Result<Option<Plain>, AllocError> {
-    if !applies(run) {
-        return Ok(Some(plain.after(alloc, b"")?));
-    }
-    match (run.stands, status) {
-        (Some(lines), _) => {
-            let lines = first_lines(run.script.as_slice(), lines);
-            Ok(Some(plain.after(alloc, lines)?))
+/// The disk stands for another plain machine after a run: a new one, the one after the lines that count, or one that isn't known.
+fn settle(bench: &mut Bench) -> Result<(), AllocError> {
+    match order_of(bench) {
+        Some(Order::Create { blocks }) => {
+            bench.lines.clear();
+            bench.blocks = if bench.run.status == 0 {
+                u64::from(blocks)
+            } else {
+                0
+            };
+            Ok(())
         }
-        (None, 0) => Ok(Some(plain.after(alloc, run.script.as_slice())?)),
-        _ => Ok(None),
+        Some(Order::Run) => {
+            let script = bench.run.script.as_slice();
+            match bench.run.stands {
+                Some(lines) => add_lines(&mut bench.lines, split_lines(script, lines).0),
+                None if bench.run.status == 0 => add_lines(&mut bench.lines, script),
+                None => {
+                    bench.blocks = 0;
+                    Ok(())
+                }
+            }
+        }
+        None => Ok(()),
     }
 }
 
 /// Whether the disk answers as the plain machine for which it has to stand.
-fn judge_disk(alloc: Global, disk: &Bench, run: &Run) -> Result<(), Cause> {
-    let Some(plain) = &disk.plain else {
+fn judge_disk(bench: &Bench) -> Result<(), Cause> {
+    if bench.blocks == 0 {
         return Ok(());
-    };
-    let looks = looks_of(run);
-    let wanted = Look::Replies(plain.replies(alloc, looks)?);
-    let mut image = settled(&disk.host)?;
-    if look_at(alloc, &mut image, looks)? == wanted {
+    }
+    let asks = bench.run.asks();
+    let wanted = plain_replies(bench.alloc, bench.blocks, bench.lines.as_slice(), asks)?;
+    let look = look_at(bench.alloc, &mut settled(&bench.host)?, asks)?;
+    if look.as_slice() == wanted.as_slice() {
         Ok(())
     } else {
-        Err(Cause::Disk)
+        Err(because("the disk stands for other lines", 0, 0))
     }
 }

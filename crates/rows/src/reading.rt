@@ -1,131 +1,81 @@
-//! Reads a file of rows.
+//! Reads the lines of a row, and does what they say.
 
-use crate::lines::{bytes_of, spread};
-use crate::row::{Cause, Miss, Run, Step, What};
-use crate::words::{detail, run, step};
-use std::alloc::{AllocError, Global};
+use crate::answers::settled;
+use crate::bench::{Bench, Program, Run};
+use crate::blocks::{copy, is_damaged, is_word, set, zero};
+use crate::cause::{Cause, unread};
+use crate::failing::try_failing;
+use crate::lines::{add_line, line_of, number, read_spread};
+use crate::playing::{aggregate, begin_run, begin_walks, end_run};
+use crate::walking::stopped;
 
-/// The steps so far, and the run whose lines still come.
-#[derive(Drop)]
-struct Reader {
-    steps: Vec<Step>,
-    run: Option<Run>,
-    /// The line with which that run began.
-    began: usize,
+/// Does what a line of a file says: nothing for a remark, and else what each line says for which it stands.
+pub fn read_text(bench: &mut Bench, text: &str) -> Result<(), Cause> {
+    if text.is_empty() || text.starts_with('#') || !bench.goes_on {
+        return Ok(());
+    }
+    let spread = read_spread(text)?;
+    for number in spread.first..=spread.last {
+        let line = line_of(bench.alloc, &spread, number)?;
+        read_line(bench, line.as_str())?;
+    }
+    Ok(())
 }
 
-/// The steps of a file; the first line that can't be read, else.
-pub fn read_rows(alloc: Global, text: &str) -> Result<Vec<Step>, Miss> {
-    let mut reader = Reader {
-        steps: Vec::new(alloc),
-        run: None,
-        began: 0,
-    };
-    let mut line: usize = 0;
-    for text in text.lines() {
-        line = line.saturating_add(1);
-        if let Err(cause) = reader.add_text(alloc, line, text) {
-            return Err(Miss { line, cause });
-        }
+fn read_line(bench: &mut Bench, line: &str) -> Result<(), Cause> {
+    let (word, rest) = line.split_once(' ').unwrap_or((line, ""));
+    if bench.runs_on && read_run(bench, word, rest)? {
+        return Ok(());
     }
-    match reader.end_run() {
-        Ok(()) => Ok(reader.steps),
-        Err(_) => Err(Miss {
-            line,
-            cause: Cause::Memory,
-        }),
-    }
+    end_run(bench)?;
+    read_step(bench, word, rest)
 }
 
-impl Reader {
-    /// Adds a line of the file: nothing, a remark, or what stands for some lines.
-    fn add_text(&mut self, alloc: Global, line: usize, text: &str) -> Result<(), Cause> {
-        if text.is_empty() || text.starts_with('#') {
-            return Ok(());
+/// Reads a line of a run, if it is one: what is wanted of it, and then its walks.
+fn read_run(bench: &mut Bench, word: &str, rest: &str) -> Result<bool, Cause> {
+    match word {
+        "stopped" => {
+            begin_walks(bench)?;
+            stopped(bench, number(rest)?)?;
         }
-        for text in spread(alloc, text)?.iter() {
-            self.add(alloc, line, text.as_str())?;
+        "failing" => {
+            begin_walks(bench)?;
+            try_failing(bench, rest)?;
         }
-        Ok(())
+        _ if bench.is_played => return Ok(false),
+        _ => return read_wanted(&mut bench.run, word, rest),
     }
-
-    fn add(&mut self, alloc: Global, line: usize, text: &str) -> Result<(), Cause> {
-        if let Some(run) = &mut self.run {
-            if add_line(alloc, run, text)? {
-                return Ok(());
-            }
-        }
-        let words: Vec<&str> = text.split(' ').collect(alloc)?;
-        self.add_words(alloc, line, words.as_slice())
-    }
-
-    fn add_words(&mut self, alloc: Global, line: usize, words: &[&str]) -> Result<(), Cause> {
-        if let Some(what) = step(alloc, words)? {
-            self.end_run()?;
-            return Ok(self.add_step(Step { line, what })?);
-        }
-        if let Some(run) = run(alloc, words)? {
-            self.end_run()?;
-            self.run = Some(run);
-            self.began = line;
-            return Ok(());
-        }
-        match &mut self.run {
-            Some(run) => detail(alloc, run, words),
-            None => Err(Cause::Unread),
-        }
-    }
-
-    fn end_run(&mut self) -> Result<(), AllocError> {
-        match self.run.take() {
-            Some(run) => self.add_step(Step {
-                line: self.began,
-                what: What::Run(run),
-            }),
-            None => Ok(()),
-        }
-    }
-
-    fn add_step(&mut self, step: Step) -> Result<(), AllocError> {
-        self.steps.push(step)?;
-        Ok(())
-    }
-}
-
-/// Adds a line of the script, of the replies or of the looks to a run, if it is one.
-fn add_line(alloc: Global, run: &mut Run, text: &str) -> Result<bool, Cause> {
-    let Some((mark, rest)) = marked(text) else {
-        return Ok(false);
-    };
-    let bytes = bytes_of(alloc, rest)?;
-    let into = match mark {
-        Mark::Script => &mut run.script,
-        Mark::Reply => &mut run.replies,
-        Mark::Look => &mut run.looks,
-    };
-    into.extend_from_slice(bytes.as_slice())?;
-    into.push(b'\n').map_err(AllocError::from)?;
     Ok(true)
 }
 
-/// To what a line belongs.
-#[derive(Clone, Copy)]
-enum Mark {
-    Script,
-    Reply,
-    Look,
+/// Reads what is wanted of a run, if the line says it.
+fn read_wanted(run: &mut Run, word: &str, rest: &str) -> Result<bool, Cause> {
+    match word {
+        ">" => add_line(&mut run.script, rest)?,
+        "<" => add_line(&mut run.replies, rest)?,
+        "?" => add_line(&mut run.looks, rest)?,
+        "as" if rest == "the plain machine" => run.plain = true,
+        "no" if rest == "line end" => {
+            let _ = run.script.pop();
+        }
+        "limit" => run.program = Program::Script(number(rest)?),
+        "status" => run.status = number(rest)?,
+        "stands" => run.stands = Some(number(rest)?),
+        _ => return Ok(false),
+    }
+    Ok(true)
 }
 
-/// The mark of a line, and what stands behind it and a space.
-fn marked(text: &str) -> Option<(Mark, &str)> {
-    let (mark, rest) = match text.split_once(' ') {
-        Some(parts) => parts,
-        None => (text, ""),
-    };
-    match mark {
-        ">" => Some((Mark::Script, rest)),
-        "<" => Some((Mark::Reply, rest)),
-        "?" => Some((Mark::Look, rest)),
-        _ => None,
+fn read_step(bench: &mut Bench, word: &str, rest: &str) -> Result<(), Cause> {
+    match word {
+        "flexvol" => begin_run(bench, Program::Flexvol, rest),
+        "reference" => begin_run(bench, Program::Reference, rest),
+        "aggregate" => aggregate(bench, rest),
+        "zero" => zero(&mut bench.host, rest),
+        "copy" => copy(&mut bench.host, rest),
+        "set" => set(&mut bench.host, rest),
+        "block" => is_word(&mut bench.host, rest),
+        "damage" => is_damaged(bench.alloc, &mut settled(&bench.host)?, rest),
+        _ => Err(unread()),
     }
 }

@@ -5,4 +5,4 @@ pub returns-then-at-eq0-clause-children : goal.returns-then-at-eq0-clause-childr
 returns-then-at-eq0-clause-children g c = λ tells n. no_children (g.D.Disk.shown c.args.disk.now).reads c.args.at n c.if-at-eq0.true
 
 pub returns-clause-children : goal.returns-clause-children
-returns-clause-children g c = λ tells. inner_children (g.D.Disk.shown c.args.disk.now).reads c.args.at c.args.level c.args.number c.in_ok-block.block c.in_ok-node.node c.if-at-eq0.false (c.in_ok-block.ensures.value tells) c.in_ok-node.ensures
+returns-clause-children g c = λ tells. inner_children (g.D.Disk.shown c.args.disk.now).reads c.args.at c.in_ok-block.block c.in_ok-node.node c.if-at-eq0.false (c.in_ok-block.ensures.value tells) c.in_ok-node.ensures

@@ -6,7 +6,7 @@ use Rattle.fv_store.specs.Held.{StandsOn}
 use Rattle.fv_disk.specs.DiskCalls.{OnlyReads}
 use Rattle.fv_container.specs.Mapped.{IsHeld}
 use Rattle.fv_container.specs.Spelled.{pair_of}
-use Rattle.fv_container.specs.Reading.{AreWhole}
+use Rattle.fv_container.specs.Reading.{AreShaped}
 use Rattle.fv_container.proofs.load.read_leaves.Given as goal
 
 abbrev pub invariant-loop-k : goal.invariant-loop-k
@@ -15,7 +15,7 @@ invariant-loop-k g l = record {
   stands : StandsOn (g.D.Disk.shown l.disk) l.store.pairs;
   entries : IsTrue (g.D.Disk.shown l.fn.disk).tells → (v : ℕ) → v < length l.initial.entries → v < 256 * l.k → pair_of (get_or l.entries v None) ≡ entry_in (lying leaf_at (g.D.Disk.shown l.fn.disk).reads (get_or l.places (v / 256) 0)) (v % 256);
   held : (v : ℕ) → IfSome (get_or l.entries v None) IsHeld;
-  whole : IsTrue (g.D.Disk.shown l.fn.disk).tells → AreWhole (g.D.Disk.shown l.fn.disk).reads 0 l.places 0 l.k;
+  shaped : IsTrue (g.D.Disk.shown l.fn.disk).tells → AreShaped (g.D.Disk.shown l.fn.disk).reads 0 l.places 0 l.k;
   only_reads : OnlyReads (g.D.Disk.shown l.fn.disk) (g.D.Disk.shown l.disk);
   faults : (g.D.Disk.shown l.disk).faults ≡ (g.D.Disk.shown l.fn.disk).faults;
 }

@@ -4,9 +4,9 @@ use Rattle.fv_container.proofs.load.read_root.Goals as goal
 
 pub returns-then-height-eq1-clause-inner : goal.returns-then-height-eq1-clause-inner
 returns-then-height-eq1-clause-inner g c = λ tells q within.
-    root_low (g.D.Disk.shown c.args.disk.now).reads c.args.places.now c.args.leaves c.args.root c.args.height q c.requires.zeros (omega (arith, c.requires.within)) c.if-height-eq1.true
+    root_low (g.D.Disk.shown c.args.disk.now).reads c.args.places.now c.args.leaves c.args.root c.args.height q c.requires.levels.zeros (omega (arith, c.requires.levels.within)) c.if-height-eq1.true
 
 pub returns-clause-inner : goal.returns-clause-inner
 returns-clause-inner g c = λ tells q within.
     let i = (g.D.Disk.shown c.args.disk.now).reads in
-    root_high i i c.fill_children.new.places c.in_ok-children.children c.args.leaves c.args.inner c.args.root c.args.height q refl c.fill_children.ensures.filled (c.in_ok-children.ensures.children tells) within c.requires.few (omega (arith, c.requires.least, c.requires.greatest, c.if-height-eq1.false))
+    root_high i i c.fill_children.new.places c.in_ok-children.children c.args.leaves c.args.inner c.args.root c.args.height q refl c.fill_children.ensures.filled (c.in_ok-children.ensures.children tells) within c.requires.levels.few (omega (arith, c.requires.least, c.requires.greatest, c.if-height-eq1.false))

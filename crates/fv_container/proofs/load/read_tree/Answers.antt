@@ -5,9 +5,9 @@ use Rattle.fv_image.specs.Containers.{entry_in, level_width, lying, node_below}
 use Rattle.fv_container.specs.Spelled.{IsFault, Spelled, pair_of}
 use Rattle.fv_container.specs.Kept.{map_of}
 use Rattle.fv_codec.specs.Blocks.{leaf_at}
-use Rattle.fv_container.specs.Reading.{AreWhole, IsLevelFault}
-use Rattle.fv_container.proofs.Trees.{TreeAt, spelled}
-use Rattle.fv_container.proofs.Walks.{fault_root, fault_level, both_ok, fault_of, tree_read, whole_at}
+use Rattle.fv_container.specs.Reading.{AreShaped, IsLevelFault}
+use Rattle.fv_container.proofs.Trees.{TreeAt, shaped_tree, spelled}
+use Rattle.fv_container.proofs.Walks.{fault_root, fault_level, both_ok, fault_of, tree_read, shaped_at}
 use Rattle.fv_container.proofs.load.read_tree.Given as given
 use Rattle.fv_container.proofs.load.read_tree.Goals as goal
 
@@ -41,7 +41,7 @@ tree g c tells =
     let root = c.in_ok-read_root.ensures in
     let level = c.in_ok-read_level.ensures in
     let told : IsTrue (g.D.Disk.shown c.read_root.new.disk).tells = rw root.only_reads.stays.tells tells in
-    tree_read i j c.args.root c.args.height n above places c.requires.few c.requires.least c.requires.greatest (level.len ∙ root.len ∙ c.requires.nodes) root.only_reads.stays.reads
+    tree_read i j c.args.root c.args.height n above places c.requires.blank.few c.requires.least c.requires.greatest (level.len ∙ root.len ∙ c.requires.blank.nodes) root.only_reads.stays.reads
     (rw (← c.inner_count-inner.ensures, ← c.leaf_count-leaves.ensures) (root.inner tells))
     (rw (← c.inner_count-inner.ensures, ← c.leaf_count-leaves.ensures) root.top)
     (rw (← c.leaf_count-leaves.ensures) (level.leaves told))
@@ -62,15 +62,15 @@ returns-clause-spelled g c = λ tells.
     let same : j ≡ i = level.only_reads.stays.reads ∙ up in
     let told_up : IsTrue (g.D.Disk.shown c.read_root.new.disk).tells = rw root.only_reads.stays.tells tells in
     let told : IsTrue (g.D.Disk.shown c.read_level.new.disk).tells = rw (level.only_reads.stays.tells, root.only_reads.stays.tells) tells in
-    let inner_above : AreWhole above 1 c.read_root.new.places (level_width n 0) (level_width n 1) = rw (← c.inner_count-inner.ensures, ← c.leaf_count-leaves.ensures) (level.whole told_up) in
+    let inner_above : AreShaped above 1 c.read_root.new.places (level_width n 0) (level_width n 1) = rw (← c.inner_count-inner.ensures, ← c.leaf_count-leaves.ensures) (level.shaped told_up) in
     let past : (m : ℕ) → level_width n 0 ≤ m → get_or places m 0 ≡ get_or c.read_root.new.places m 0 = rw (← c.leaf_count-leaves.ensures) level.past in
-    let inner : AreWhole i 1 places (level_width n 0) (level_width n 1) = whole_at i above 1 (level_width n 0) (level_width n 1) c.read_root.new.places places up past inner_above in
+    let inner : AreShaped i 1 places (level_width n 0) (level_width n 1) = shaped_at i above 1 (level_width n 0) (level_width n 1) c.read_root.new.places places up past inner_above in
     let at : TreeAt i c.args.root c.args.height (length es) places = rw long (tree g c tells) in
-    both_ok c.read_leaves.result (AreWhole j 0 places 0 (level_width n 0))
+    both_ok c.read_leaves.result (AreShaped j 0 places 0 (level_width n 0))
     ((v : ℕ) → v < n → pair_of (get_or es v None) ≡ entry_in (lying leaf_at j (get_or places (v / 256) 0)) (v % 256))
     (Spelled i c.args.root c.args.height (map_of es places))
-    (λ leaves read. spelled i c.args.root c.args.height es places at (rw long (rw (← same) leaves)) (rw long inner) (root.whole tells) (rw long (rw (← same) read)))
-    (c.read_leaves.ensures.whole told) (c.read_leaves.ensures.entries told)
+    (λ leaves read. spelled i c.args.root c.args.height es places at (shaped_tree i c.args.root c.args.height es places at (rw long (rw (← same) leaves)) (rw long inner) (root.shaped tells)) (rw long (rw (← same) read)))
+    (c.read_leaves.ensures.shaped told) (c.read_leaves.ensures.entries told)
 
 pub returns-clause-fault : goal.returns-clause-fault
 returns-clause-fault g c = λ tells.

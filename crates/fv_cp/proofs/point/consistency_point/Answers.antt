@@ -5,12 +5,13 @@ use Rattle.fv_disk.specs.Crash.{Leaves}
 use Rattle.fv_codec.specs.declared.root.Root.{Root}
 use Rattle.fv_container.specs.Chains.{Slots, parent_at}
 use Rattle.fv_root.specs.declared.find.Found.{Found}
+use Rattle.fv_root.specs.Finding.{IsInRange}
 use Rattle.fv_root.specs.Commits.{IsCommitted, IsFoundOn, OldOrNew, next_found}
 use Rattle.fv_volume.specs.declared.pool.Pool.{Pool}
 use Rattle.fv_cp.specs.Lent.{AreHoused}
 use Rattle.fv_cp.specs.Steps.{on_disk}
 use Rattle.fv_cp.proofs.Crashing.{found_still, rests, switching, writing}
-use Rattle.fv_cp.proofs.Ending.{housed_after, map_now, point}
+use Rattle.fv_cp.proofs.Ending.{housed_after, map_now, next_in_range, point}
 use Rattle.fv_cp.proofs.Ready.{ready}
 use Rattle.fv_cp.proofs.point.consistency_point.Goals as goal
 
@@ -39,7 +40,7 @@ returns-in_err-switch-clause-any_moment g c = λ tells before lent.
     let root : Root = record pool.found.root { labels = c.write_volumes.new.labels } in
     switching disk pool c.args.volumes.now before lent mid (Ok tt) come.spares pool.found root left.map.next (g.D.Disk.shown c.switch.new.disk)
     (found_still pool.found (on_disk pool.map) disk mid (Ok tt) come.spares tells (c.requires.found tells))
-    (ready disk pool c.args.volumes.now before lent c.requires.range c.requires.housed.long c.write_volumes.new.labels left mid.reads (come.written tells before lent))
+    (ready disk pool c.args.volumes.now before lent c.requires.fit.range c.requires.fit.housed.long c.write_volumes.new.labels left mid.reads (come.written tells before lent))
     (subst (λ (x : Found). Leaves mid (g.D.Disk.shown c.switch.new.disk) (OldOrNew mid x root left.map.next)) come.found (c.switch.ensures.any_moment told))
 
 pub returns-clause-any_moment : goal.returns-clause-any_moment
@@ -53,7 +54,7 @@ returns-clause-any_moment g c = λ tells before lent.
     let root : Root = record pool.found.root { labels = c.write_volumes.new.labels } in
     switching disk pool c.args.volumes.now before lent mid (Ok tt) come.spares pool.found root left.map.next (g.D.Disk.shown c.switch.new.disk)
     (found_still pool.found (on_disk pool.map) disk mid (Ok tt) come.spares tells (c.requires.found tells))
-    (ready disk pool c.args.volumes.now before lent c.requires.range c.requires.housed.long c.write_volumes.new.labels left mid.reads (come.written tells before lent))
+    (ready disk pool c.args.volumes.now before lent c.requires.fit.range c.requires.fit.housed.long c.write_volumes.new.labels left mid.reads (come.written tells before lent))
     (subst (λ (x : Found). Leaves mid (g.D.Disk.shown c.switch.new.disk) (OldOrNew mid x root left.map.next)) come.found (c.switch.ensures.any_moment told))
 
 pub returns-clause-point : goal.returns-clause-point
@@ -67,32 +68,33 @@ returns-clause-point g c = λ tells before lent.
     let did = c.in_ok-switch.ensures in
     let told : IsTrue mid.tells = subst IsTrue (sym come.spares.counted.tells) tells in
     let root : Root = record pool.found.root { labels = c.write_volumes.new.labels } in
-    point disk pool c.args.volumes.now before lent c.requires.range c.requires.housed.long c.write_volumes.new.labels left mid (come.written tells before lent) new
+    point disk pool c.args.volumes.now before lent c.requires.fit.range c.requires.fit.housed.long c.write_volumes.new.labels left mid (come.written tells before lent) new
     (subst (λ (x : Found). IsCommitted mid x root left.map.next new) come.found (did.committed told))
-    c.switch.new.pool c.settle.new.volumes (did.found ∙ ap (λ (x : Found). next_found x root) come.found) did.map (did.size ∙ ap (λ (x : Found). x.blocks) come.found) did.containers c.settle.ensures.settled c.settle.ensures.long
+    c.switch.new.pool c.settle.new.volumes (did.switched.found ∙ ap (λ (x : Found). next_found x root) come.found) did.switched.map (did.switched.size ∙ ap (λ (x : Found). x.blocks) come.found) did.containers c.settle.ensures.settled c.settle.ensures.long
 
-pub returns-clause-housed : goal.returns-clause-housed
-returns-clause-housed g c =
-    let come = c.in_ok-write_volumes.ensures.come in
-    housed_after c.args.volumes.now c.settle.new.volumes c.write_volumes.new.labels c.settle.ensures.settled c.switch.new.pool.containers c.settle.ensures.long
-    (subst (λ (x : Slots). AreHoused x c.args.volumes.now) (sym c.in_ok-switch.ensures.containers) come.housed)
-
-pub returns-clause-parents : goal.returns-clause-parents
-returns-clause-parents g c = λ s.
-    let come = c.in_ok-write_volumes.ensures.come in
-    ap (λ (x : Slots). parent_at x s) c.in_ok-switch.ensures.containers ∙ come.housed.parents s ∙ sym (c.requires.housed.parents s)
-
-pub returns-clause-blocks : goal.returns-clause-blocks
-returns-clause-blocks g c = ap (λ (x : Found). x.blocks) c.in_ok-switch.ensures.found ∙ ap (λ (x : Found). x.blocks) c.in_ok-write_volumes.ensures.come.found
-
-pub returns-clause-loaded : goal.returns-clause-loaded
-returns-clause-loaded g c = λ tells.
+pub returns-clause-goes_on : goal.returns-clause-goes_on
+returns-clause-goes_on g c =
+    let pool : Pool = c.args.pool.now in
     let mid : Shown = g.D.Disk.shown c.write_volumes.new.disk in
+    let new : Shown = g.D.Disk.shown c.switch.new.disk in
     let left : Pool = c.write_volumes.new.pool in
     let come = c.in_ok-write_volumes.ensures.come in
     let did = c.in_ok-switch.ensures in
-    let root : Root = record c.args.pool.now.found.root { labels = c.write_volumes.new.labels } in
-    map_now mid left.found root left.map.next (g.D.Disk.shown c.switch.new.disk) (did.committed (subst IsTrue (sym come.spares.counted.tells) tells)) c.switch.new.pool did.found did.map did.size
-
-pub returns-clause-volumes : goal.returns-clause-volumes
-returns-clause-volumes g c = λ s. (get_or c.write_volumes.new.labels s 0, c.settle.ensures.settled s)
+    let root : Root = record pool.found.root { labels = c.write_volumes.new.labels } in
+    let range : IsInRange pool.found = c.requires.fit.range in
+    record {
+      stands = did.stands;
+      found = λ tells. subst (λ (x : Found). IsFoundOn new x) (sym did.switched.found) (did.committed (subst IsTrue (sym come.spares.counted.tells) tells)).stands;
+      loaded = λ tells. map_now mid left.found root left.map.next new (did.committed (subst IsTrue (sym come.spares.counted.tells) tells)) c.switch.new.pool did.switched.found did.switched.map did.switched.size;
+      fit = record {
+        range = subst IsInRange (sym (did.switched.found ∙ ap (λ (x : Found). next_found x root) come.found))
+            (next_in_range pool.found root range (record { least = range.root.least; greatest = range.root.greatest; labels = come.places }));
+        size = did.switched.size ∙ sym (ap (λ (x : Found). x.blocks) did.switched.found);
+        housed = housed_after c.args.volumes.now c.settle.new.volumes c.write_volumes.new.labels c.settle.ensures.settled c.switch.new.pool.containers c.settle.ensures.long
+            (subst (λ (x : Slots). AreHoused x c.args.volumes.now) (sym did.containers) come.housed);
+        unkept = did.kept ∙ come.kept ∙ c.requires.fit.unkept;
+      };
+      settled = λ s. (get_or c.write_volumes.new.labels s 0, c.settle.ensures.settled s);
+      parents = λ s. ap (λ (x : Slots). parent_at x s) did.containers ∙ come.housed.parents s ∙ sym (c.requires.fit.housed.parents s);
+      blocks = ap (λ (x : Found). x.blocks) did.switched.found ∙ ap (λ (x : Found). x.blocks) come.found;
+    }

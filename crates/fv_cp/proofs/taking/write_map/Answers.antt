@@ -20,9 +20,9 @@ loop-k-init g c =
       stands = c.requires.stands;
       long = refl;
       tree = refl;
-      map = no_map c.args.state.now.span c.args.container.now c.requires.holes;
+      map = no_map c.args.state.now.span c.args.container.now c.requires.bare.holes;
       bits = λ tells. no_bits c.args.state.now c.args.container.now (g.D.Disk.shown c.args.disk.now).reads;
-      drawn = drawn_none c.args.map.now (leads c.args.container.now n) (λ b. holes_lead_nowhere c.args.container.now n b c.requires.holes);
+      drawn = drawn_none c.args.map.now (leads c.args.container.now n) (λ b. holes_lead_nowhere c.args.container.now n b c.requires.bare.holes);
       spares = spares_none (IsTaken c.args.map.now) _ (g.met.D.Disk.laws c.args.disk.now);
     }
 
@@ -38,7 +38,7 @@ loop-k-preserved g c =
     let took = c.take_block-place.ensures in
     let wrote = c.in_ok-write_bits.ensures in
     let tells_on = kept.spares.counted.tells in
-    let inside : x.span + k < n = omega (arith, c.loop-k-test.true, c.map_blocks-k-end.ensures, c.requires.entries) in
+    let inside : x.span + k < n = omega (arith, c.loop-k-test.true, c.map_blocks-k-end.ensures, c.requires.bare.entries) in
     let within : x.span + k < length old.entries = omega (arith, inside, kept.long) in
     let set_so = c.place.ensures in
     record {

@@ -26,8 +26,8 @@ returns-clause-written g c = λ tells taken.
     let tells_on = blocks.spares.counted.tells in
     record {
       root = c.in_ok-root.root;
-      root_least = blocks.root_least;
-      root_greatest = blocks.root_greatest;
+      root_least = blocks.root.0;
+      root_greatest = blocks.root.1;
       said = labelled.said (rw tells_on tells);
       blocks = blocks_still c.args.state.now c.args.container.now.tree c.args.map.now c.write_blocks.new.map c.in_ok-root.root c.args.label c.write_blocks.new.container (g.D.Disk.shown c.write_blocks.new.disk).reads (g.D.Disk.shown c.write_label.new.disk).reads
           (blocks.written tells taken) c.requires.taken (λ b other. labelled.spares.reads (rw tells_on tells) b other);

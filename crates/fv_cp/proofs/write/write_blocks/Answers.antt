@@ -10,12 +10,12 @@ use Rattle.fv_cp.proofs.Sparing.{failed_value, then_spares}
 use Rattle.fv_cp.proofs.write.write_blocks.Goals as goal
 
 pub write_map-requires-clause-room : goal.write_map-requires-clause-room
-write_map-requires-clause-room g c = room_for_map c.args.state.now.span _ c.requires.room
+write_map-requires-clause-room g c = room_for_map c.args.state.now.span _ c.requires.space.room
 
 pub flush-requires-clause-room : goal.flush-requires-clause-room
 flush-requires-clause-room g c =
     let x = c.args.state.now in
-    room_for_tree c.write_map.new.container.entries x.span c.write_map.ensures.entries c.args.map.now c.write_map.new.map c.requires.size (leads c.write_map.new.container (entry_count x.span)) c.in_ok-write_map.ensures.drawn c.requires.room
+    room_for_tree c.write_map.new.container.entries x.span c.write_map.ensures.entries c.args.map.now c.write_map.new.map c.requires.space.size (leads c.write_map.new.container (entry_count x.span)) c.in_ok-write_map.ensures.drawn c.requires.space.room
 
 pub returns-in_err-root-clause-spares : goal.returns-in_err-root-clause-spares
 returns-in_err-root-clause-spares g c =
@@ -38,8 +38,8 @@ returns-clause-spares g c =
 pub returns-clause-count : goal.returns-clause-count
 returns-clause-count g c =
     let x = c.args.state.now in
-    blocks_taken c.write_map.new.container.entries x.span c.write_map.ensures.entries c.args.map.now c.write_map.new.map c.requires.size (leads c.write_map.new.container (entry_count x.span)) c.in_ok-write_map.ensures.drawn
-    c.flush.new.map _ _ c.in_ok-root.ensures.map c.in_ok-root.ensures.count
+    blocks_taken c.write_map.new.container.entries x.span c.write_map.ensures.entries c.args.map.now c.write_map.new.map c.requires.space.size (leads c.write_map.new.container (entry_count x.span)) c.in_ok-write_map.ensures.drawn
+    c.flush.new.map _ _ c.in_ok-root.ensures.moved.map c.in_ok-root.ensures.moved.count
 
 pub returns-clause-written : goal.returns-clause-written
 returns-clause-written g c = λ tells taken.
@@ -49,6 +49,6 @@ returns-clause-written g c = λ tells taken.
     let tells_on = mapped.spares.counted.tells in
     blocks_written x c.args.container.now.tree c.args.map.now c.write_map.new.map c.flush.new.map c.in_ok-root.root c.write_map.new.container c.flush.new.self
     (g.D.Disk.shown c.write_map.new.disk).reads (g.D.Disk.shown c.flush.new.disk).reads
-    mapped.map (mapped.bits tells) mapped.drawn c.write_map.ensures.tree c.flush.ensures.entries flushed.map
-    (λ apart. flushed.spelled (rw tells_on tells) apart) (ap length c.flush.ensures.entries ∙ c.write_map.ensures.entries)
+    mapped.map (mapped.bits tells) mapped.drawn c.write_map.ensures.tree c.flush.ensures.entries flushed.moved.map
+    (λ apart. flushed.flushed (rw tells_on tells) apart) (ap length c.flush.ensures.entries ∙ c.write_map.ensures.entries)
     (λ b is. flushed.writes.reads (rw tells_on tells) b is) taken

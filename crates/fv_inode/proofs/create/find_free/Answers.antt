@@ -7,7 +7,7 @@ use Rattle.fv_tree.specs.Standing.{standing, under}
 use Rattle.fv_inode.specs.Files.{AreRecords, blank_record}
 use Rattle.fv_inode.proofs.Looked.{earlier, looks_then, looks_failed, looks_done}
 use Rattle.fv_inode.proofs.Slots.{cell_of, none_are, no_cell, blank_fits}
-use Rattle.fv_inode.proofs.Numbered.{used_below, least_in, least_past}
+use Rattle.fv_inode.proofs.Numbered.{used_below, least_in, least_searched}
 use Rattle.fv_inode.proofs.create.find_free.Goals as goal
 
 pub returns-in_err-files-clause-looks : goal.returns-in_err-files-clause-looks
@@ -16,26 +16,29 @@ returns-in_err-files-clause-looks g c =
     let mid = g.B.Blocks.shown c.loop-cell.blocks in
     let new = g.B.Blocks.shown c.read_files.new.blocks in
     let p = err_from_is_err_and c.from_residual.result c.from_residual.ensures.1 in
-    rw (p.1, p.2) (looks_failed (standing (under old) c.args.tree.now) old new c.in_err-files.field-0.0 (looks_then c.args.tree.now old mid new (tt {0}) (Err c.in_err-files.field-0.0) c.loop-cell.invariant.looks c.in_err-files.ensures.looks))
+    rw (p.1, p.2) (looks_failed g.B.Blocks.told (standing (under old) c.args.tree.now) old new c.in_err-files.field-0.0 (looks_then g.B.Blocks.told c.args.tree.now old mid new (tt {0}) (Err c.in_err-files.field-0.0) c.loop-cell.invariant.looks c.in_err-files.ensures.looks))
 
 pub overflow_add-result : goal.overflow_add-result
-overflow_add-result g c = omega (arith, c.loop-cell-test.true, c.cells-count.ensures.few, (c.in-Some.ensures.some c.in-Some.slot refl).0)
+overflow_add-result g c = omega (arith, c.loop-cell-test.true, c.numbered_cells-count.ensures.few, (c.in-Some.ensures.some c.in-Some.slot refl).0)
+
+pub returns-in-Some-clause-bound : goal.returns-in-Some-clause-bound
+returns-in-Some-clause-bound g c = omega (arith, c.loop-cell-test.true, c.numbered_cells-count.ensures.few, (c.in-Some.ensures.some c.in-Some.slot refl).0)
 
 pub returns-in-Some-clause-number : goal.returns-in-Some-clause-number
-returns-in-Some-clause-number g c =
+returns-in-Some-clause-number g c = λ told.
     let old = g.B.Blocks.shown c.args.blocks.now in
     let mid = g.B.Blocks.shown c.loop-cell.blocks in
     let was = c.loop-cell.invariant in
     let found = c.in-Some.ensures.some c.in-Some.slot refl in
-    least_in (standing (under old) c.args.tree.now) c.loop-cell.cell c.in_ok-files.files c.in-Some.slot (earlier (λ t. AreRecords t c.loop-cell.cell c.in_ok-files.files) c.args.tree.now old mid was.looks.untouched.held c.in_ok-files.ensures.files) found.0 was.least found.1 found.2
+    least_in (standing (under old) c.args.tree.now) c.loop-cell.cell c.in_ok-files.files c.in-Some.slot (earlier (λ t. AreRecords t c.loop-cell.cell c.in_ok-files.files) c.args.tree.now old mid was.looks.untouched.held (c.in_ok-files.ensures.files told)) found.0 (was.least told) found.1 found.2
 
 pub returns-in-Some-clause-files : goal.returns-in-Some-clause-files
-returns-in-Some-clause-files g c =
+returns-in-Some-clause-files g c = λ told.
     let old = g.B.Blocks.shown c.args.blocks.now in
     let mid = g.B.Blocks.shown c.loop-cell.blocks in
     let was = c.loop-cell.invariant in
     let found = c.in-Some.ensures.some c.in-Some.slot refl in
-    subst (λ cell. AreRecords (standing (under old) c.args.tree.now) cell c.in_ok-files.files) (sym (cell_of c.loop-cell.cell c.in-Some.slot found.0)) (earlier (λ t. AreRecords t c.loop-cell.cell c.in_ok-files.files) c.args.tree.now old mid was.looks.untouched.held c.in_ok-files.ensures.files)
+    subst (λ cell. AreRecords (standing (under old) c.args.tree.now) cell c.in_ok-files.files) (sym (cell_of c.loop-cell.cell c.in-Some.slot found.0)) (earlier (λ t. AreRecords t c.loop-cell.cell c.in_ok-files.files) c.args.tree.now old mid was.looks.untouched.held (c.in_ok-files.ensures.files told))
 
 pub loop-cell-preserved : goal.loop-cell-preserved
 loop-cell-preserved g c =
@@ -43,23 +46,27 @@ loop-cell-preserved g c =
     let mid = g.B.Blocks.shown c.loop-cell.blocks in
     let new = g.B.Blocks.shown c.read_files.new.blocks in
     let was = c.loop-cell.invariant in
-    let are : AreRecords (standing (under old) c.args.tree.now) c.loop-cell.cell c.in_ok-files.files =
-    earlier (λ t. AreRecords t c.loop-cell.cell c.in_ok-files.files) c.args.tree.now old mid was.looks.untouched.held c.in_ok-files.ensures.files in
+    let are : g.B.Blocks.told → AreRecords (standing (under old) c.args.tree.now) c.loop-cell.cell c.in_ok-files.files = λ told.
+    earlier (λ t. AreRecords t c.loop-cell.cell c.in_ok-files.files) c.args.tree.now old mid was.looks.untouched.held (c.in_ok-files.ensures.files told) in
     let none = c.in_default.ensures.none refl in
     record {
-      least = λ k lt. used_below (standing (under old) c.args.tree.now) c.loop-cell.cell c.in_ok-files.files 16 are (omega arith) was.least none k (omega (arith, lt));
-      looks = looks_then c.args.tree.now old mid new (tt {0}) _ was.looks (looks_done (standing (under mid) c.args.tree.now) mid new c.in_ok-files.files (tt {0}) c.in_ok-files.ensures.looks);
+      least = λ told k lt. used_below (standing (under old) c.args.tree.now) c.loop-cell.cell c.in_ok-files.files 16 (are told) (omega arith) (was.least told) none k (omega (arith, lt));
+      looks = looks_then g.B.Blocks.told c.args.tree.now old mid new (tt {0}) _ was.looks (looks_done g.B.Blocks.told (standing (under mid) c.args.tree.now) mid new c.in_ok-files.files (tt {0}) c.in_ok-files.ensures.looks);
       reads = g.met.B.Blocks.reads_on c.args.blocks.now c.loop-cell.blocks c.read_files.new.blocks was.reads c.in_ok-files.ensures.reads;
     }
 
 pub returns-clause-number : goal.returns-clause-number
-returns-clause-number g c =
-    least_past (standing (under (g.B.Blocks.shown c.args.blocks.now)) c.args.tree.now) c.cells-count.result c.cells-count.ensures.is (λ k lt. c.loop-cell.invariant.least k (omega (arith, lt, c.loop-cell-test.false)))
+returns-clause-number g c = λ told.
+    let count = c.numbered_cells-count.ensures in
+    (least_searched (standing (under (g.B.Blocks.shown c.args.blocks.now)) c.args.tree.now) c.numbered_cells-count.result count.few count.all
+    (λ k lt. c.loop-cell.invariant.least told k (omega (arith, lt, c.loop-cell-test.false))) (c.requires.free told)).1
 
 pub returns-clause-files : goal.returns-clause-files
-returns-clause-files g c =
+returns-clause-files g c = λ told.
     let t = standing (under (g.B.Blocks.shown c.args.blocks.now)) c.args.tree.now in
-    none_are t (16 * c.cells-count.result / 16) c.free_files.result (no_cell t (16 * c.cells-count.result / 16) (omega (arith, c.cells-count.ensures.is))) c.free_files.ensures
+    let count = c.numbered_cells-count.ensures in
+    let whole = (least_searched t c.numbered_cells-count.result count.few count.all (λ k lt. c.loop-cell.invariant.least told k (omega (arith, lt, c.loop-cell-test.false))) (c.requires.free told)).0 in
+    none_are t (16 * c.numbered_cells-count.result / 16) c.free_files.result (no_cell t (16 * c.numbered_cells-count.result / 16) (omega (arith, whole))) c.free_files.ensures
 
 pub returns-clause-range : goal.returns-clause-range
 returns-clause-range g c = subst (All IsInodeRecord) (sym c.free_files.ensures) (All-replicate IsInodeRecord 16 blank_record blank_fits)

@@ -7,7 +7,7 @@ use Rattle.fv_inode.proofs.create.find_free.Given as goal
 
 abbrev pub invariant-loop-cell : goal.invariant-loop-cell
 invariant-loop-cell g l = record {
-  least : (k : ℕ) → k < records_each * l.cell → is_some (file_at (standing (under (g.B.Blocks.shown l.fn.blocks)) l.fn.tree) k) ≡ true;
-  looks : Looks (standing (under (g.B.Blocks.shown l.fn.blocks)) l.fn.tree) (g.B.Blocks.shown l.fn.blocks) (g.B.Blocks.shown l.blocks) (Ok (tt {0}));
+  least : g.B.Blocks.told → (k : ℕ) → k < records_each * l.cell → is_some (file_at (standing (under (g.B.Blocks.shown l.fn.blocks)) l.fn.tree) k) ≡ true;
+  looks : Looks g.B.Blocks.told (standing (under (g.B.Blocks.shown l.fn.blocks)) l.fn.tree) (g.B.Blocks.shown l.fn.blocks) (g.B.Blocks.shown l.blocks) (Ok (tt {0}));
   reads : g.B.Blocks.reads l.fn.blocks l.blocks;
 }

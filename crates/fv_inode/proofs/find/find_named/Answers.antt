@@ -13,16 +13,16 @@ returns-in_err-found-clause-looks g c =
     let mid = g.B.Blocks.shown c.loop-cell.blocks in
     let new = g.B.Blocks.shown c.find_at.new.blocks in
     let p = err_from_is_err_and c.from_residual.result c.from_residual.ensures.1 in
-    rw (p.1, p.2) (looks_failed (standing (under old) c.args.tree.now) old new c.in_err-found.field-0.0 (looks_then c.args.tree.now old mid new (tt {0}) (Err c.in_err-found.field-0.0) c.loop-cell.invariant.looks c.in_err-found.ensures.looks))
+    rw (p.1, p.2) (looks_failed g.B.Blocks.told (standing (under old) c.args.tree.now) old new c.in_err-found.field-0.0 (looks_then g.B.Blocks.told c.args.tree.now old mid new (tt {0}) (Err c.in_err-found.field-0.0) c.loop-cell.invariant.looks c.in_err-found.ensures.looks))
 
 pub returns-then-is_some-clause-found : goal.returns-then-is_some-clause-found
-returns-then-is_some-clause-found g c =
+returns-then-is_some-clause-found g c = λ told.
     let old = g.B.Blocks.shown c.args.blocks.now in
     let mid = g.B.Blocks.shown c.loop-cell.blocks in
     let was = c.loop-cell.invariant in
     let bound = records_each * c.loop-cell.cell in
     found_some (standing (under old) c.args.tree.now) c.args.name.now (bound + records_each) c.in_ok-found.found (sym c.is_some.ensures ∙ c.if-is_some.true)
-    (earlier (λ t. HasNoneBelow t c.args.name.now bound → FindsBelow t c.args.name.now (bound + records_each) c.in_ok-found.found) c.args.tree.now old mid was.looks.untouched.held c.in_ok-found.ensures.found was.none)
+    (earlier (λ t. HasNoneBelow t c.args.name.now bound → FindsBelow t c.args.name.now (bound + records_each) c.in_ok-found.found) c.args.tree.now old mid was.looks.untouched.held (c.in_ok-found.ensures.found told) (was.none told))
 
 pub loop-cell-preserved : goal.loop-cell-preserved
 loop-cell-preserved g c =
@@ -31,16 +31,16 @@ loop-cell-preserved g c =
     let new = g.B.Blocks.shown c.find_at.new.blocks in
     let was = c.loop-cell.invariant in
     let bound = records_each * c.loop-cell.cell in
-    let none : HasNoneBelow (standing (under old) c.args.tree.now) c.args.name.now (bound + records_each) =
+    let none : g.B.Blocks.told → HasNoneBelow (standing (under old) c.args.tree.now) c.args.name.now (bound + records_each) = λ told.
     found_none (standing (under old) c.args.tree.now) c.args.name.now (bound + records_each) c.in_ok-found.found (sym c.is_some.ensures ∙ c.if-is_some.false)
-    (earlier (λ t. HasNoneBelow t c.args.name.now bound → FindsBelow t c.args.name.now (bound + records_each) c.in_ok-found.found) c.args.tree.now old mid was.looks.untouched.held c.in_ok-found.ensures.found was.none) in
+    (earlier (λ t. HasNoneBelow t c.args.name.now bound → FindsBelow t c.args.name.now (bound + records_each) c.in_ok-found.found) c.args.tree.now old mid was.looks.untouched.held (c.in_ok-found.ensures.found told) (was.none told)) in
     record {
-      none = λ n lt. none n (omega (arith, lt));
-      looks = looks_then c.args.tree.now old mid new (tt {0}) _ was.looks (looks_done (standing (under mid) c.args.tree.now) mid new c.in_ok-found.found (tt {0}) c.in_ok-found.ensures.looks);
+      none = λ told n lt. none told n (omega (arith, lt));
+      looks = looks_then g.B.Blocks.told c.args.tree.now old mid new (tt {0}) _ was.looks (looks_done g.B.Blocks.told (standing (under mid) c.args.tree.now) mid new c.in_ok-found.found (tt {0}) c.in_ok-found.ensures.looks);
       reads = g.met.B.Blocks.reads_on c.args.blocks.now c.loop-cell.blocks c.find_at.new.blocks was.reads c.in_ok-found.ensures.reads;
     }
 
 pub returns-clause-found : goal.returns-clause-found
-returns-clause-found g c =
+returns-clause-found g c = λ told.
     none_at_all (standing (under (g.B.Blocks.shown c.args.blocks.now)) c.args.tree.now) c.args.name.now
-    (λ n lt. c.loop-cell.invariant.none n (omega (arith, lt, c.cells-cell-end.ensures.is, c.loop-cell-test.false)))
+    (λ n lt. c.loop-cell.invariant.none told n (omega (arith, lt, c.cells-cell-end.ensures.is, c.loop-cell-test.false)))

@@ -10,8 +10,8 @@ abbrev pub invariant-loop-cell : goal.invariant-loop-cell
 invariant-loop-cell g l = record {
   high : l.cell ≤ fan ^ l.fn.tree.levels;
   small : l.cell ≤ 2097152;
-  numbers : numbers_in l.numbers ≡ names_from (standing (under (g.B.Blocks.shown l.fn.blocks)) l.fn.tree) (records_each * l.cell) (records_each * (fan ^ l.fn.tree.levels - l.cell));
-  looks : Looks (standing (under (g.B.Blocks.shown l.fn.blocks)) l.fn.tree) (g.B.Blocks.shown l.fn.blocks) (g.B.Blocks.shown l.blocks) (Ok (tt {0}));
+  numbers : g.B.Blocks.told → numbers_in l.numbers ≡ names_from (standing (under (g.B.Blocks.shown l.fn.blocks)) l.fn.tree) (records_each * l.cell) (records_each * (fan ^ l.fn.tree.levels - l.cell));
+  looks : Looks g.B.Blocks.told (standing (under (g.B.Blocks.shown l.fn.blocks)) l.fn.tree) (g.B.Blocks.shown l.fn.blocks) (g.B.Blocks.shown l.blocks) (Ok (tt {0}));
   reads : g.B.Blocks.reads l.fn.blocks l.blocks;
 }
 

@@ -4,5 +4,5 @@ use Rattle.fv_inode.proofs.Numbered.{has_room}
 use Rattle.fv_inode_rows.proofs.calls.create.Goals as goal
 
 pub create-requires-clause-free : goal.create-requires-clause-free
-create-requires-clause-free g c =
+create-requires-clause-free g c = λ told.
     has_room (standing (under (g.B.Blocks.shown c.args.blocks.now)) c.args.file.now.tree) (omega (arith, c.levels.ensures, c.if-levels-gt1.false))

@@ -11,6 +11,7 @@ loop-slot-preserved c =
           let before = was.rising rising below in
           let after = now.rising before.0 before.1 in
           (after.0, λ j lt. let is = after.1 j lt in omega (arith, is));
+      bound = λ bound most below. now.bound bound (omega (arith, most, c.loop-slot-test.true)) (was.bound bound most below);
     }
 
 pub returns-clause-rising : goal.returns-clause-rising

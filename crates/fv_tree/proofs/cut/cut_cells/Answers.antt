@@ -2,7 +2,9 @@ use Rattle.std.proofs.Common.{◌≡◌, ◌+◌, get_or, length, sym, subst, �
 use Rattle.fv_tree.specs.Standing.{standing, under}
 use Rattle.fv_tree.specs.Erasing.{StandsAt}
 use Rattle.fv_tree.specs.Releasing.{Removes}
+use Rattle.fv_tree.specs.Unlinking.{HasWay, CellGoes}
 use Rattle.fv_tree.specs.Collecting.{Collects}
+use Rattle.fv_tree.proofs.Causes.{calm_then}
 use Rattle.fv_tree.proofs.Collected.{listed, next_listed, none_listed, not_yet, listed_past, way_held}
 use Rattle.fv_tree.proofs.Removing.{removes_nothing, removes_then, removes_as, removes_stands, removes_holds}
 use Rattle.fv_tree.proofs.cut.cut_cells.Goals as goal
@@ -16,11 +18,12 @@ loop-index-init g c =
     let s = standing (under a) t in
     let cells = c.as_slice-index-items.result.now in
     let now = c.in_ok-cells.ensures in
-    let are : Collects s 0 c.args.most cells = subst (Collects s 0 c.args.most) (sym c.as_slice-index-items.ensures.value) now.cells in record {
-      removes = removes_nothing a b t u (listed cells 0) c.args.start c.args.stamp now.untouched now.counts.calm now.same now.blocks now.stands (λ i _. none_listed cells i);
-      owner = now.same.owner;
+    let are : g.B.Blocks.told → Collects s 0 c.args.most cells = λ told. subst (Collects s 0 c.args.most) (sym c.as_slice-index-items.ensures.value) (now.cells told) in record {
+      removes = λ told. removes_nothing a b t u (listed cells 0) c.args.start c.args.stamp now.untouched now.counts.calm (now.same told) (now.blocks told) (now.stands told) (λ i _. none_listed cells i);
+      calm = now.counts.calm;
+      owner = now.fields.owner;
       calls = g.met.B.Blocks.reads_go c.args.blocks.now c.keep_past.new.blocks now.reads;
-      ways = λ j _ lt. way_held (under b) u s c.args.most (get_or cells j 0) now.same.levels now.nodes (are.past j lt);
+      ways = λ told j _ lt. way_held (under b) u s c.args.most (get_or cells j 0) now.fields.levels (now.nodes told) ((are told).past j lt);
     }
 
 pub loop-index-preserved : goal.loop-index-preserved
@@ -36,26 +39,29 @@ loop-index-preserved g c =
     let at = c.loop-index.index-index in
     let index = get_or cells at 0 in
     let was = c.loop-index.invariant in
-    let are : Collects s 0 c.args.most cells = subst (Collects s 0 c.args.most) (sym c.as_slice-index-items.ensures.value) c.in_ok-cells.ensures.cells in
-    let stands : StandsAt (standing (under a) u) 0 index =
-    removes_stands a b t u (listed cells at) c.args.start c.args.stamp was.removes index (are.past at c.loop-index-test.true).stands (not_yet cells at at are.rising (omega arith) c.loop-index-test.true) in
-    let goes = c.erase_cell.ensures.goes (under a) stands in
-    let next : Removes a d t w (listed cells (at + 1)) c.args.start c.args.stamp =
-    removes_then a b d t u w (listed cells at) (listed cells (at + 1)) index c.args.start c.args.stamp was.removes goes (c.erase_cell.ensures.released (under a) stands) (c.erase_cell.ensures.strays (under a) stands) (next_listed cells at) (removes_holds a b t u (listed cells at) c.args.start c.args.stamp was.removes) in record {
+    let are : g.B.Blocks.told → Collects s 0 c.args.most cells = λ told. subst (Collects s 0 c.args.most) (sym c.as_slice-index-items.ensures.value) (c.in_ok-cells.ensures.cells told) in
+    let way : g.B.Blocks.told → HasWay u index = λ told. was.ways told at (omega arith) c.loop-index-test.true in
+    let stands : g.B.Blocks.told → StandsAt (standing (under a) u) 0 index = λ told.
+    removes_stands a b t u (listed cells at) c.args.start c.args.stamp (was.removes told) index ((are told).past at c.loop-index-test.true).stands (not_yet cells at at (are told).rising (omega arith) c.loop-index-test.true) in
+    let goes : g.B.Blocks.told → CellGoes (under a) u w index c.args.start c.args.stamp = λ told. c.erase_cell.ensures.goes (way told) (under a) (stands told) in
+    let next : g.B.Blocks.told → Removes a d t w (listed cells (at + 1)) c.args.start c.args.stamp = λ told.
+    removes_then a b d t u w (listed cells at) (listed cells (at + 1)) index c.args.start c.args.stamp (was.removes told) (goes told) (c.erase_cell.ensures.released (way told) (under a) (stands told)) (c.erase_cell.ensures.strays (way told) (under a) (stands told)) (next_listed cells at)
+    (removes_holds a b t u (listed cells at) c.args.start c.args.stamp (was.removes told)) in record {
       removes = next;
+      calm = calm_then a b d was.calm c.erase_cell.ensures.calm;
       owner = c.erase_cell.ensures.owner ∙ was.owner;
       calls = g.met.B.Blocks.goes_on c.args.blocks.now c.loop-index.blocks c.erase_cell.new.blocks was.calls c.erase_cell.ensures.calls;
-      ways = λ j le lt.
-          goes.ways (get_or cells j 0) (removes_stands a d t w (listed cells (at + 1)) c.args.start c.args.stamp next (get_or cells j 0) (are.past j lt).stands (not_yet cells (at + 1) j are.rising le lt)) (was.ways j (omega (arith, le)) lt);
+      ways = λ told j le lt.
+          (goes told).ways (get_or cells j 0) (removes_stands a d t w (listed cells (at + 1)) c.args.start c.args.stamp (next told) (get_or cells j 0) ((are told).past j lt).stands (not_yet cells (at + 1) j (are told).rising le lt)) (was.ways told j (omega (arith, le)) lt);
     }
 
 pub returns-clause-done : goal.returns-clause-done
-returns-clause-done g c =
+returns-clause-done g c = λ told.
     let a = g.B.Blocks.shown c.args.blocks.now in
     let t = c.args.tree.now in
     let s = standing (under a) t in
     let cells = c.as_slice-index-items.result.now in
-    let are : Collects s 0 c.args.most cells = subst (Collects s 0 c.args.most) (sym c.as_slice-index-items.ensures.value) c.in_ok-cells.ensures.cells in
+    let are : Collects s 0 c.args.most cells = subst (Collects s 0 c.args.most) (sym c.as_slice-index-items.ensures.value) (c.in_ok-cells.ensures.cells told) in
     let all : c.loop-index.index-index ≡ length cells = omega (arith, c.loop-index-test.false, c.loop-index.auto.index-index-end) in
-    removes_as a (g.B.Blocks.shown c.loop-index.blocks) t c.loop-index.tree (listed cells c.loop-index.index-index) (nat_le c.args.most) c.args.start c.args.stamp c.loop-index.invariant.removes
+    removes_as a (g.B.Blocks.shown c.loop-index.blocks) t c.loop-index.tree (listed cells c.loop-index.index-index) (nat_le c.args.most) c.args.start c.args.stamp (c.loop-index.invariant.removes told)
     (λ i stands. subst (λ n. nat_le c.args.most i ≡ listed cells n i) (sym all) (listed_past s c.args.most cells are i stands))

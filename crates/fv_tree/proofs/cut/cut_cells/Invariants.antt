@@ -1,4 +1,5 @@
 use Rattle.std.proofs.Common.{◌≡◌, ◌≤◌, ◌<◌, ℕ, get_or, length}
+use Rattle.fv_tree.specs.Sources.{IsCalm}
 use Rattle.fv_tree.specs.Releasing.{Removes}
 use Rattle.fv_tree.specs.Unlinking.{HasWay}
 use Rattle.fv_tree.proofs.Collected.{listed}
@@ -6,8 +7,9 @@ use Rattle.fv_tree.proofs.cut.cut_cells.Given as goal
 
 abbrev pub invariant-loop-index : goal.invariant-loop-index
 invariant-loop-index g l = record {
-  removes : Removes (g.B.Blocks.shown l.fn.blocks) (g.B.Blocks.shown l.blocks) l.fn.tree l.tree (listed l.index-items l.index-index) l.start l.stamp;
+  removes : g.B.Blocks.told → Removes (g.B.Blocks.shown l.fn.blocks) (g.B.Blocks.shown l.blocks) l.fn.tree l.tree (listed l.index-items l.index-index) l.start l.stamp;
+  calm : IsCalm (g.B.Blocks.shown l.fn.blocks) (g.B.Blocks.shown l.blocks);
   owner : l.tree.owner ≡ l.fn.tree.owner;
   calls : g.B.Blocks.goes l.fn.blocks l.blocks;
-  ways : (j : ℕ) → l.index-index ≤ j → j < length l.index-items → HasWay l.tree (get_or l.index-items j 0);
+  ways : g.B.Blocks.told → (j : ℕ) → l.index-index ≤ j → j < length l.index-items → HasWay l.tree (get_or l.index-items j 0);
 }

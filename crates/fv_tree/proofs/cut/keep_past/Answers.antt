@@ -1,4 +1,4 @@
-use Rattle.std.proofs.Common.{sym, subst, arith}
+use Rattle.std.proofs.Common.{refl, sym, subst, arith}
 use Rattle.fv_tree.specs.Standing.{standing, under}
 use Rattle.fv_tree.specs.Collecting.{Collects}
 use Rattle.std.proofs.lemmas.Result.{err_from_is_err_and}
@@ -12,22 +12,24 @@ pub loop-level-init : goal.loop-level-init
 loop-level-init g c =
     let old = under (g.B.Blocks.shown c.args.blocks.now) in record {
       high = omega arith;
-      places = c.in_ok-places.ensures.places old;
-      nodes = λ k q lt le past. absurd (omega (arith, lt, le));
-      same = same_self (standing old c.args.tree.now);
-      blocks = keeps_self old c.args.tree.now;
-      stands = λ stands. stands;
+      places = λ _. c.in_ok-places.ensures.places old;
+      bound = c.in_ok-places.ensures.bound;
+      fields = record { owner = refl; levels = refl; root = refl; cells = refl };
+      nodes = λ _ k q lt le past. absurd (omega (arith, lt, le));
+      same = λ _. same_self (standing old c.args.tree.now);
+      blocks = λ _. keeps_self old c.args.tree.now;
+      stands = λ _ stands. stands;
       untouched = untouched_itself _;
       calm = calm_itself _;
       reads = g.met.B.Blocks.reads_nothing c.args.blocks.now;
     }
 
 pub keep_level-requires-clause-places : goal.keep_level-requires-clause-places
-keep_level-requires-clause-places g c =
+keep_level-requires-clause-places g c = λ told.
     let was = c.loop-level.invariant in
     let s = standing (under (g.B.Blocks.shown c.args.blocks.now)) c.args.tree.now in
     let t = standing (under (g.B.Blocks.shown c.loop-level.blocks)) c.loop-level.tree in
-    subst (Collects t c.loop-level.level c.args.most) (sym c.as_slice.ensures.value) (collects_as s t c.loop-level.level c.args.most c.loop-level.places.items was.same was.places)
+    subst (Collects t c.loop-level.level c.args.most) (sym c.as_slice.ensures.value) (collects_as s t c.loop-level.level c.args.most c.loop-level.places.items (was.same told) (was.places told))
 
 pub returns-in_err-places-2-clause-cause : goal.returns-in_err-places-2-clause-cause
 returns-in_err-places-2-clause-cause g c =
@@ -38,4 +40,4 @@ returns-in_err-places-2-clause-cause g c =
     let e = c.in_err-places-2.field-0.0 in
     let s = standing (under old) c.args.tree.now in
     let p = err_from_is_err_and c.from_residual-in_err-places-2.result c.from_residual-in_err-places-2.ensures.1 in
-    rw (p.1, p.2) (fails_later s old mid new e was.calm was.untouched.held (fails_same s (standing (under mid) c.loop-level.tree) mid new e was.same c.in_err-places-2.ensures.cause))
+    rw (p.1, p.2) (fails_later g.B.Blocks.told s old mid new e was.calm was.untouched.held (fails_same g.B.Blocks.told s (standing (under mid) c.loop-level.tree) mid new e was.same c.in_err-places-2.ensures.cause))

@@ -1,20 +1,23 @@
-use Rattle.std.proofs.Common.{◌≤◌}
+use Rattle.std.proofs.Common.{◌≤◌, ◌-◌, ◌^◌}
+use Rattle.fv_model.specs.Trees.{fan}
 use Rattle.fv_tree.specs.Keeping.{IsSame}
 use Rattle.fv_tree.specs.Sources.{IsCalm, IsUntouched}
-use Rattle.fv_tree.specs.Standing.{standing, under}
+use Rattle.fv_tree.specs.Standing.{standing, under, IsSameBut}
 use Rattle.fv_tree.specs.Releasing.{KeepsBlocks}
 use Rattle.fv_tree.specs.Flushing.{Stands}
-use Rattle.fv_tree.specs.Collecting.{Collects, AreHeld}
+use Rattle.fv_tree.specs.Collecting.{AreBelow, Collects, AreHeld}
 use Rattle.fv_tree.proofs.cut.keep_past.Given as goal
 
 abbrev pub invariant-loop-level : goal.invariant-loop-level
 invariant-loop-level g l = record {
   high : l.level ≤ l.fn.tree.levels;
-  places : Collects (standing (under (g.B.Blocks.shown l.fn.blocks)) l.fn.tree) l.level l.most l.places.items;
-  nodes : AreHeld l.tree (standing (under (g.B.Blocks.shown l.fn.blocks)) l.fn.tree) l.level l.most;
-  same : IsSame (standing (under (g.B.Blocks.shown l.fn.blocks)) l.fn.tree) (standing (under (g.B.Blocks.shown l.blocks)) l.tree);
-  blocks : KeepsBlocks (under (g.B.Blocks.shown l.fn.blocks)) l.fn.tree l.tree;
-  stands : Stands (g.B.Blocks.shown l.fn.blocks) l.fn.tree → Stands (g.B.Blocks.shown l.blocks) l.tree;
+  places : g.B.Blocks.told → Collects (standing (under (g.B.Blocks.shown l.fn.blocks)) l.fn.tree) l.level l.most l.places.items;
+  bound : AreBelow l.places.items (fan ^ (3 - l.level));
+  fields : IsSameBut l.fn.tree l.tree;
+  nodes : g.B.Blocks.told → AreHeld l.tree (standing (under (g.B.Blocks.shown l.fn.blocks)) l.fn.tree) l.level l.most;
+  same : g.B.Blocks.told → IsSame (standing (under (g.B.Blocks.shown l.fn.blocks)) l.fn.tree) (standing (under (g.B.Blocks.shown l.blocks)) l.tree);
+  blocks : g.B.Blocks.told → KeepsBlocks (under (g.B.Blocks.shown l.fn.blocks)) l.fn.tree l.tree;
+  stands : g.B.Blocks.told → Stands (g.B.Blocks.shown l.fn.blocks) l.fn.tree → Stands (g.B.Blocks.shown l.blocks) l.tree;
   untouched : IsUntouched (g.B.Blocks.shown l.fn.blocks) (g.B.Blocks.shown l.blocks);
   calm : IsCalm (g.B.Blocks.shown l.fn.blocks) (g.B.Blocks.shown l.blocks);
   reads : g.B.Blocks.reads l.fn.blocks l.blocks;

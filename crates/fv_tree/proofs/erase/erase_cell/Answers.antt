@@ -4,20 +4,20 @@ use Rattle.fv_tree.proofs.Single.{one_goes, one_dropped, one_named, named_once}
 use Rattle.fv_tree.proofs.erase.erase_cell.Goals as goal
 
 pub returns-clause-goes : goal.returns-clause-goes
-returns-clause-goes g c = λ held stands.
-    one_goes held c.args.tree.now c.unlink.new.tree c.args.index c.bare_levels-lost.result c.args.start c.args.stamp c.requires.way c.bare_levels-lost.ensures stands c.unlink.ensures (omega (arith, c.requires.stamp))
+returns-clause-goes g c = λ way held stands.
+    one_goes held c.args.tree.now c.unlink.new.tree c.args.index c.bare_levels-lost.result c.args.start c.args.stamp way c.bare_levels-lost.ensures stands (c.unlink.ensures.unlinks way) (omega (arith, c.requires.stamp))
 
 pub returns-clause-released : goal.returns-clause-released
-returns-clause-released g c = λ held stands.
+returns-clause-released g c = λ way held stands.
     let t = c.args.tree.now in
     let u = c.unlink.new.tree in
     let i = c.args.index in
     let lost = c.bare_levels-lost.result in
     released_as (g.B.Blocks.shown c.args.blocks.now) (g.B.Blocks.shown c.name_way.new.blocks) _ _ c.name_way.ensures.released
-    (one_named held t u i lost c.args.start c.args.stamp c.requires.way c.bare_levels-lost.ensures stands c.unlink.ensures (omega (arith, c.requires.stamp)))
-    (one_dropped held t u i lost c.args.start c.args.stamp c.requires.way c.bare_levels-lost.ensures stands c.unlink.ensures (omega (arith, c.requires.stamp)))
+    (one_named held t u i lost c.args.start c.args.stamp way c.bare_levels-lost.ensures stands (c.unlink.ensures.unlinks way) (omega (arith, c.requires.stamp)))
+    (one_dropped held t u i lost c.args.start c.args.stamp way c.bare_levels-lost.ensures stands (c.unlink.ensures.unlinks way) (omega (arith, c.requires.stamp)))
 
 pub returns-clause-strays : goal.returns-clause-strays
-returns-clause-strays g c = λ held stands sound.
-    c.name_way.ensures.strays (named_once held c.args.tree.now c.unlink.new.tree c.args.index c.bare_levels-lost.result c.args.start c.args.stamp c.requires.way c.bare_levels-lost.ensures stands c.unlink.ensures (omega (arith, c.requires.stamp))
+returns-clause-strays g c = λ way held stands sound.
+    c.name_way.ensures.strays (named_once held c.args.tree.now c.unlink.new.tree c.args.index c.bare_levels-lost.result c.args.start c.args.stamp way c.bare_levels-lost.ensures stands (c.unlink.ensures.unlinks way) (omega (arith, c.requires.stamp))
     (g.B.Blocks.shown c.args.blocks.now).used sound)

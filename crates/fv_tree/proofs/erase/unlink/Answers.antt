@@ -42,8 +42,8 @@ there : (o : Option KeptNode) (xs : List Pointer) → option_map (λ (kept : Kep
 there None xs e = absurd cc
 there (Some kept) xs e = refl
 
-pub returns-then-lost-tree : goal.returns-then-lost-tree
-returns-then-lost-tree c =
+pub returns-then-lost-tree-clause-unlinks : goal.returns-then-lost-tree-clause-unlinks
+returns-then-lost-tree-clause-unlinks c = λ way.
     let t = c.args.tree.now in
     let now = c.clear.ensures in
     let test : nat_eq c.args.lost t.levels ≡ true = grind (arith, nat_tests, c.if-lost-tree.true) in record {
@@ -61,8 +61,8 @@ returns-then-lost-tree c =
       blocks = λ lt. absurd (omega (arith, lt, c.if-lost-tree.true));
     }
 
-pub returns-else-lost-tree : goal.returns-else-lost-tree
-returns-else-lost-tree c =
+pub returns-else-lost-tree-clause-unlinks : goal.returns-else-lost-tree-clause-unlinks
+returns-else-lost-tree-clause-unlinks c = λ way.
     let t = c.args.tree.now in
     let u = c.cut_way.new.tree in
     let now = c.cut_way.ensures in
@@ -73,7 +73,7 @@ returns-else-lost-tree c =
       lowest = λ _. now.lowest;
       above = now.above;
       others = λ _. now.others;
-      marked = λ level lt le. let node = c.requires.way level (omega (arith, lt)) le in now.changed level lt le (there (tree.get spot_cmp t.nodes (level, c.args.index / fan ^ level)) node.0 node.1);
+      marked = λ level lt le. let node = way level (omega (arith, lt)) le in now.changed level lt le (there (tree.get spot_cmp t.nodes (level, c.args.index / fan ^ level)) node.0 node.1);
       unmarked = λ _ level place differs. changed_as t u c.args.index level place differs now.cells now.same;
       forgotten = λ level low high. ap (option_map (λ (kept : KeptNode). kept.children)) (now.gone level low high);
       emptied = λ all. absurd (c.if-lost-tree.false all);

@@ -7,12 +7,12 @@ use Rattle.fv_tree.proofs.Gone.{is_memory}
 use Rattle.fv_tree.proofs.flush.flush_cells.Goals as goal
 
 pub returns-in_err-flush_first_cell-clause-flushes : goal.returns-in_err-flush_first_cell-clause-flushes
-returns-in_err-flush_first_cell-clause-flushes g c = λ stands.
+returns-in_err-flush_first_cell-clause-flushes g c = λ told stands.
     let old : Shown = g.B.Blocks.shown c.args.blocks.now in
     let mid : Shown = g.B.Blocks.shown c.loop.blocks in
     let new : Shown = g.B.Blocks.shown c.flush_first_cell.new.blocks in
-    let first = c.loop.invariant.flushes stands in
-    flushes_then (loaded old c.args.tree.now) (loaded mid c.loop.tree) (loaded new c.flush_first_cell.new.tree) old.used mid.used new.used (is_memory mid c.loop.tree) first (c.in_err-flush_first_cell.ensures.flushes first.sound)
+    let first = c.loop.invariant.flushes told stands in
+    flushes_then (loaded old c.args.tree.now) (loaded mid c.loop.tree) (loaded new c.flush_first_cell.new.tree) old.used mid.used new.used (is_memory mid c.loop.tree) first (c.in_err-flush_first_cell.ensures.flushes told first.sound)
 
 pub loop-preserved : goal.loop-preserved
 loop-preserved g c =
@@ -21,9 +21,9 @@ loop-preserved g c =
     let new : Shown = g.B.Blocks.shown c.flush_first_cell.new.blocks in
     let was = c.loop.invariant in
     let now = c.in_ok-flush_first_cell.ensures in record {
-      flushes = λ stands. let first = was.flushes stands in
-          flushes_then (loaded old c.args.tree.now) (loaded mid c.loop.tree) (loaded new c.flush_first_cell.new.tree) old.used mid.used new.used (is_memory mid c.loop.tree) first (now.flushes first.sound);
-      strays = λ stands. now.strays (was.flushes stands).sound ∙ was.strays stands;
+      flushes = λ told stands. let first = was.flushes told stands in
+          flushes_then (loaded old c.args.tree.now) (loaded mid c.loop.tree) (loaded new c.flush_first_cell.new.tree) old.used mid.used new.used (is_memory mid c.loop.tree) first (now.flushes told first.sound);
+      strays = λ told stands. now.strays told (was.flushes told stands).sound ∙ was.strays told stands;
       left = record { owner = now.left.owner ∙ was.left.owner; levels = now.left.levels ∙ was.left.levels };
       count = omega (arith, now.fewer, was.count);
       calm = calm_then old mid new was.calm now.counts.calm;
@@ -31,4 +31,4 @@ loop-preserved g c =
     }
 
 pub returns-in_err-flush_first_cell-clause-strays : goal.returns-in_err-flush_first_cell-clause-strays
-returns-in_err-flush_first_cell-clause-strays g c = λ stands. let was = c.loop.invariant in c.in_err-flush_first_cell.ensures.strays (was.flushes stands).sound ∙ was.strays stands
+returns-in_err-flush_first_cell-clause-strays g c = λ told stands. let was = c.loop.invariant in c.in_err-flush_first_cell.ensures.strays told (was.flushes told stands).sound ∙ was.strays told stands

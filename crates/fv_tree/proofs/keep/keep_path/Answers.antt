@@ -6,6 +6,7 @@ use Rattle.fv_codec.specs.declared.pointer.Pointer.{Pointer}
 use Rattle.fv_tree.specs.Spelled.{pointer_at}
 use Rattle.fv_tree.specs.Flushing.{node_placed}
 use Rattle.fv_tree.specs.Carried.{kept_at, IsBlank, Brings}
+use Rattle.fv_tree.specs.Refilling.{IsFilled}
 use Rattle.std.specs.FinMap as fin
 use Rattle.fv_tree.specs.Releasing.{KeepsBlocks}
 use Rattle.fv_tree.proofs.Released.{keeps_self, keeps_then}
@@ -21,13 +22,14 @@ pub loop-level-init : goal.loop-level-init
 loop-level-init g c =
     let t = standing (under (g.B.Blocks.shown c.args.blocks.now)) c.args.tree.now in record {
       high = omega arith;
-      pointer = at_root t c.args.index c.requires.index;
-      kept = λ k lt le. absurd (omega arith);
-      unplaced = λ k lt le. absurd (omega arith);
+      pointer = λ _. at_root t c.args.index c.requires.index;
+      kept = λ _ k lt le. absurd (omega arith);
+      unplaced = λ _ k lt le. absurd (omega arith);
+      filled = λ _ k lt le. absurd (omega arith);
       fields = record { owner = refl; levels = refl; root = refl; cells = refl };
-      stands = λ stands. stands;
-      same = same_self t;
-      blocks = keeps_self (under (g.B.Blocks.shown c.args.blocks.now)) c.args.tree.now;
+      stands = λ _ stands. stands;
+      same = λ _. same_self t;
+      blocks = λ _. keeps_self (under (g.B.Blocks.shown c.args.blocks.now)) c.args.tree.now;
       untouched = untouched_itself _;
       calm = calm_itself _;
       reads = g.met.B.Blocks.reads_nothing c.args.blocks.now;
@@ -42,34 +44,38 @@ loop-level-preserved g c =
     let now = c.in_ok-pointer.ensures in
     let was = c.loop-level.invariant in record {
       high = omega arith;
-      pointer = now.below ∙ sym (now.same.pointers (c.loop-level.level - 1) (c.args.index / fan ^ (c.loop-level.level - 1)));
-      kept = λ k lt le. kept_from t u c.loop-level.level c.args.index (omega arith) now.same now.others now.keeps (λ k lt le. was.kept k lt (omega (arith, le, was.same.levels))) k lt (omega (arith, le, was.same.levels));
-      unplaced = λ k lt le none. elim (cases_eq k c.loop-level.level) [
+      pointer = λ told. now.below told ∙ sym ((now.same told).pointers (c.loop-level.level - 1) (c.args.index / fan ^ (c.loop-level.level - 1)));
+      kept = λ told k lt le. kept_from t u c.loop-level.level c.args.index (omega arith) (now.same told) now.others (now.keeps told) (λ k lt le. was.kept told k lt (omega (arith, le, was.fields.levels))) k lt (omega (arith, le, was.fields.levels));
+      unplaced = λ told k lt le none. elim (cases_eq k c.loop-level.level) [
         | inl e ↦ blank_unplaced c.keep_step.new.tree k (c.args.index / fan ^ k) (subst (λ n. IsBlank (kept_at c.keep_step.new.tree n (c.args.index / fan ^ n))) (sym e) (now.blank
-            (ap (λ (p : Pointer). p.stamp) (was.pointer ∙ was.same.pointers c.loop-level.level (c.args.index / fan ^ c.loop-level.level) ∙ (λ i. pointer_at s (sym e i) (c.args.index / fan ^ (sym e i)))) ∙ none)))
-        | inr differs ↦ ap node_placed (now.brings.others k (c.args.index / fan ^ k) (inl differs)) ∙ was.unplaced k (omega arith) le none
+            (ap (λ (p : Pointer). p.stamp) (was.pointer told ∙ (was.same told).pointers c.loop-level.level (c.args.index / fan ^ c.loop-level.level) ∙ (λ i. pointer_at s (sym e i) (c.args.index / fan ^ (sym e i)))) ∙ none)))
+        | inr differs ↦ ap node_placed ((now.brings told).others k (c.args.index / fan ^ k) (inl differs)) ∙ was.unplaced told k (omega arith) le none
+      ];
+      filled = λ some k lt le. let on = now.filled some in elim (cases_eq k c.loop-level.level) [
+        | inl e ↦ subst (λ n. IsFilled c.keep_step.new.tree n (c.args.index / fan ^ n)) (sym e) on.1
+        | inr differs ↦ λ xs node. was.filled on.0 k (omega arith) le xs (sym (now.others k (c.args.index / fan ^ k) differs) ∙ node)
       ];
       fields = but_then c.args.tree.now c.loop-level.tree c.keep_step.new.tree was.fields now.fields;
-      stands = λ stands. brings_stands (g.B.Blocks.shown c.loop-level.blocks) (g.B.Blocks.shown c.keep_step.new.blocks) c.loop-level.tree c.keep_step.new.tree c.loop-level.level (c.args.index / fan ^ c.loop-level.level) (omega arith) now.untouched.held now.untouched.used now.fields now.same
-          (subst (Brings (under (g.B.Blocks.shown c.loop-level.blocks)) c.loop-level.tree c.keep_step.new.tree c.loop-level.level (c.args.index / fan ^ c.loop-level.level)) was.pointer now.brings) (was.stands stands);
-      same = same_then s t u was.same now.same;
-      blocks = keeps_then old c.args.tree.now c.loop-level.tree c.keep_step.new.tree was.blocks (subst (λ b. KeepsBlocks b c.loop-level.tree c.keep_step.new.tree) (ap (λ h v. fin.get h v) was.untouched.held) now.blocks);
+      stands = λ told stands. brings_stands (g.B.Blocks.shown c.loop-level.blocks) (g.B.Blocks.shown c.keep_step.new.blocks) c.loop-level.tree c.keep_step.new.tree c.loop-level.level (c.args.index / fan ^ c.loop-level.level) (omega arith) now.untouched.held now.untouched.used now.fields (now.same told)
+          (subst (Brings (under (g.B.Blocks.shown c.loop-level.blocks)) c.loop-level.tree c.keep_step.new.tree c.loop-level.level (c.args.index / fan ^ c.loop-level.level)) (was.pointer told) (now.brings told)) (was.stands told stands);
+      same = λ told. same_then s t u (was.same told) (now.same told);
+      blocks = λ told. keeps_then old c.args.tree.now c.loop-level.tree c.keep_step.new.tree (was.blocks told) (subst (λ b. KeepsBlocks b c.loop-level.tree c.keep_step.new.tree) (ap (λ h v. fin.get h v) was.untouched.held) (now.blocks told));
       untouched = untouched_then (g.B.Blocks.shown c.args.blocks.now) (g.B.Blocks.shown c.loop-level.blocks) (g.B.Blocks.shown c.keep_step.new.blocks) was.untouched now.untouched;
       calm = calm_then (g.B.Blocks.shown c.args.blocks.now) (g.B.Blocks.shown c.loop-level.blocks) (g.B.Blocks.shown c.keep_step.new.blocks) was.calm now.counts.calm;
       reads = g.met.B.Blocks.reads_on c.args.blocks.now c.loop-level.blocks c.keep_step.new.blocks was.reads now.reads;
     }
 
 pub returns-in_err-pointer-clause-blocks : goal.returns-in_err-pointer-clause-blocks
-returns-in_err-pointer-clause-blocks g c =
-    keeps_then (under (g.B.Blocks.shown c.args.blocks.now)) c.args.tree.now c.loop-level.tree c.keep_step.new.tree c.loop-level.invariant.blocks
-    (subst (λ b. KeepsBlocks b c.loop-level.tree c.keep_step.new.tree) (ap (λ h v. fin.get h v) c.loop-level.invariant.untouched.held) c.keep_step.ensures.blocks)
+returns-in_err-pointer-clause-blocks g c = λ told.
+    keeps_then (under (g.B.Blocks.shown c.args.blocks.now)) c.args.tree.now c.loop-level.tree c.keep_step.new.tree (c.loop-level.invariant.blocks told)
+    (subst (λ b. KeepsBlocks b c.loop-level.tree c.keep_step.new.tree) (ap (λ h v. fin.get h v) c.loop-level.invariant.untouched.held) (c.keep_step.ensures.blocks told))
 
 pub returns-in_err-pointer-clause-stands : goal.returns-in_err-pointer-clause-stands
-returns-in_err-pointer-clause-stands g c = λ stands.
+returns-in_err-pointer-clause-stands g c = λ told stands.
     let was = c.loop-level.invariant in
     let now = c.in_err-pointer.ensures in
-    brings_stands (g.B.Blocks.shown c.loop-level.blocks) (g.B.Blocks.shown c.keep_step.new.blocks) c.loop-level.tree c.keep_step.new.tree c.loop-level.level (c.args.index / fan ^ c.loop-level.level) (omega arith) now.untouched.held now.untouched.used now.fields now.same
-    (subst (Brings (under (g.B.Blocks.shown c.loop-level.blocks)) c.loop-level.tree c.keep_step.new.tree c.loop-level.level (c.args.index / fan ^ c.loop-level.level)) was.pointer now.brings) (was.stands stands)
+    brings_stands (g.B.Blocks.shown c.loop-level.blocks) (g.B.Blocks.shown c.keep_step.new.blocks) c.loop-level.tree c.keep_step.new.tree c.loop-level.level (c.args.index / fan ^ c.loop-level.level) (omega arith) now.untouched.held now.untouched.used now.fields (now.same told)
+    (subst (Brings (under (g.B.Blocks.shown c.loop-level.blocks)) c.loop-level.tree c.keep_step.new.tree c.loop-level.level (c.args.index / fan ^ c.loop-level.level)) (was.pointer told) (now.brings told)) (was.stands told stands)
 
 pub returns-in_err-pointer-clause-cause : goal.returns-in_err-pointer-clause-cause
 returns-in_err-pointer-clause-cause g c =
@@ -78,5 +84,5 @@ returns-in_err-pointer-clause-cause g c =
     let new : Shown = g.B.Blocks.shown c.keep_step.new.blocks in
     let was = c.loop-level.invariant in
     let p = err_from_is_err_and c.from_residual.result c.from_residual.ensures.1 in
-    rw (p.1, p.2) (fails_later (standing (under old) c.args.tree.now) old mid new c.in_err-pointer.field-0.0 was.calm was.untouched.held
-    (fails_same (standing (under old) c.args.tree.now) (standing (under mid) c.loop-level.tree) mid new c.in_err-pointer.field-0.0 was.same c.in_err-pointer.ensures.cause))
+    rw (p.1, p.2) (fails_later g.B.Blocks.told (standing (under old) c.args.tree.now) old mid new c.in_err-pointer.field-0.0 was.calm was.untouched.held
+    (fails_same g.B.Blocks.told (standing (under old) c.args.tree.now) (standing (under mid) c.loop-level.tree) mid new c.in_err-pointer.field-0.0 was.same c.in_err-pointer.ensures.cause))

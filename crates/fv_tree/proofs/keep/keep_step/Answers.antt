@@ -1,12 +1,16 @@
-use Rattle.std.proofs.Common.{◌≡◌, ◌/◌, ◌%◌, ◌-◌, ◌^◌, ℕ, List, Some, get_or, sym, ap, subst, ◌∙◌}
+use Rattle.std.proofs.Common.{◌≡◌, ◌/◌, ◌%◌, ◌-◌, ◌^◌, ℕ, inl, List, Some, get_or, sym, ap, subst, ◌∙◌}
 use Rattle.std.specs.FinMap as fin
+use Rattle.std.specs.Option.{option_map}
+use Rattle.fv_tree.specs.declared.kept.KeptNode.{KeptNode}
 use Rattle.fv_codec.specs.declared.pointer.Pointer.{Pointer}
 use Rattle.fv_model.specs.Trees.{fan}
 use Rattle.fv_tree.specs.Spelled.{Rooted, hole, pointers_at, pointer_at}
 use Rattle.fv_tree.specs.Carried.{kept_at, IsBlank}
 use Rattle.fv_tree.specs.Keeping.{Keeps, IsSame}
+use Rattle.fv_tree.specs.Refilling.{IsFilled}
 use Rattle.fv_tree.specs.Standing.{standing, under}
 use Rattle.fv_tree.proofs.Held.{next_pointer, now_kept}
+use Rattle.fv_tree.proofs.Brought.{leads_on}
 use Rattle.fv_tree.proofs.Released.{keeps_brought}
 use Rattle.fv_tree.proofs.Ways.{keeps_same}
 use Rattle.fv_tree.proofs.keep.keep_step.Goals as goal
@@ -23,45 +27,57 @@ spells : (t : Rooted) (level i width slot : ℕ) (p : Pointer) (xs : List Pointe
 spells t level i width slot p xs is way xs_are = xs_are slot ∙ (λ j. get_or (pointers_at t level (i / is j) (way j)) slot hole)
 
 pub returns-in_err-children-clause-same : goal.returns-in_err-children-clause-same
-returns-in_err-children-clause-same g c =
-    stays (standing (under (g.B.Blocks.shown c.args.blocks.now)) c.args.tree.now) _ c.args.level c.args.index c.width.result c.args.pointer.now c.width.ensures.is c.requires.pointer c.keep_node.ensures.keeps
+returns-in_err-children-clause-same g c = λ told.
+    stays (standing (under (g.B.Blocks.shown c.args.blocks.now)) c.args.tree.now) _ c.args.level c.args.index c.width.result c.args.pointer.now c.width.ensures.is (c.requires.pointer told) (c.keep_node.ensures.keeps told)
 
 pub returns-clause-below : goal.returns-clause-below
-returns-clause-below g c =
+returns-clause-below g c = λ told.
     let t = standing (under (g.B.Blocks.shown c.args.blocks.now)) c.args.tree.now in
     ap (λ w. get_or c.in_ok-children.children (c.args.index / w % 128) hole) c.width-2.ensures.is
-    ∙ spells t c.args.level c.args.index c.width.result (c.args.index / fan ^ (c.args.level - 1) % fan) c.args.pointer.now c.in_ok-children.children c.width.ensures.is c.requires.pointer c.in_ok-children.ensures.children
+    ∙ spells t c.args.level c.args.index c.width.result (c.args.index / fan ^ (c.args.level - 1) % fan) c.args.pointer.now c.in_ok-children.children c.width.ensures.is (c.requires.pointer told) (c.in_ok-children.ensures.children told)
     ∙ next_pointer t c.args.level c.args.index c.requires.low c.requires.high
 
 pub returns-clause-keeps : goal.returns-clause-keeps
-returns-clause-keeps g c =
+returns-clause-keeps g c = λ told.
     let t = standing (under (g.B.Blocks.shown c.args.blocks.now)) c.args.tree.now in
     let u = standing (under (g.B.Blocks.shown c.keep_node.new.blocks)) c.keep_node.new.tree in
     now_kept t u c.args.level (c.args.index / fan ^ c.args.level) c.in_ok-children.children
-    (stays t u c.args.level c.args.index c.width.result c.args.pointer.now c.width.ensures.is c.requires.pointer c.keep_node.ensures.keeps)
+    (stays t u c.args.level c.args.index c.width.result c.args.pointer.now c.width.ensures.is (c.requires.pointer told) (c.keep_node.ensures.keeps told))
     (subst (λ w. u.nodes c.args.level (c.args.index / w) ≡ Some c.in_ok-children.children) c.width.ensures.is c.in_ok-children.ensures.kept)
     c.in_ok-children.ensures.long
-    (λ slot. spells t c.args.level c.args.index c.width.result slot c.args.pointer.now c.in_ok-children.children c.width.ensures.is c.requires.pointer c.in_ok-children.ensures.children)
+    (λ slot. spells t c.args.level c.args.index c.width.result slot c.args.pointer.now c.in_ok-children.children c.width.ensures.is (c.requires.pointer told) (c.in_ok-children.ensures.children told))
 
 pub returns-clause-same : goal.returns-clause-same
-returns-clause-same g c =
-    stays (standing (under (g.B.Blocks.shown c.args.blocks.now)) c.args.tree.now) _ c.args.level c.args.index c.width.result c.args.pointer.now c.width.ensures.is c.requires.pointer c.keep_node.ensures.keeps
+returns-clause-same g c = λ told.
+    stays (standing (under (g.B.Blocks.shown c.args.blocks.now)) c.args.tree.now) _ c.args.level c.args.index c.width.result c.args.pointer.now c.width.ensures.is (c.requires.pointer told) (c.keep_node.ensures.keeps told)
 
 pub returns-in_err-children-clause-blocks : goal.returns-in_err-children-clause-blocks
-returns-in_err-children-clause-blocks g c =
+returns-in_err-children-clause-blocks g c = λ told.
     let old = under (g.B.Blocks.shown c.args.blocks.now) in
     keeps_brought old (under (g.B.Blocks.shown c.keep_node.new.blocks)) c.args.tree.now c.keep_node.new.tree c.args.level (c.args.index / c.width.result) c.args.pointer.now (ap (λ h v. fin.get h v) c.keep_node.ensures.untouched.held)
-    (stays (standing old c.args.tree.now) _ c.args.level c.args.index c.width.result c.args.pointer.now c.width.ensures.is c.requires.pointer c.keep_node.ensures.keeps)
-    (ap (λ w. pointer_at (standing old c.args.tree.now) c.args.level (c.args.index / w)) c.width.ensures.is ∙ sym c.requires.pointer)
-    c.keep_node.ensures.fields c.keep_node.ensures.brings
+    (stays (standing old c.args.tree.now) _ c.args.level c.args.index c.width.result c.args.pointer.now c.width.ensures.is (c.requires.pointer told) (c.keep_node.ensures.keeps told))
+    (ap (λ w. pointer_at (standing old c.args.tree.now) c.args.level (c.args.index / w)) c.width.ensures.is ∙ sym (c.requires.pointer told))
+    c.keep_node.ensures.fields (c.keep_node.ensures.brings told)
 
 pub returns-clause-blocks : goal.returns-clause-blocks
-returns-clause-blocks g c =
+returns-clause-blocks g c = λ told.
     let old = under (g.B.Blocks.shown c.args.blocks.now) in
     keeps_brought old (under (g.B.Blocks.shown c.keep_node.new.blocks)) c.args.tree.now c.keep_node.new.tree c.args.level (c.args.index / c.width.result) c.args.pointer.now (ap (λ h v. fin.get h v) c.keep_node.ensures.untouched.held)
-    (stays (standing old c.args.tree.now) _ c.args.level c.args.index c.width.result c.args.pointer.now c.width.ensures.is c.requires.pointer c.keep_node.ensures.keeps)
-    (ap (λ w. pointer_at (standing old c.args.tree.now) c.args.level (c.args.index / w)) c.width.ensures.is ∙ sym c.requires.pointer)
-    c.keep_node.ensures.fields c.keep_node.ensures.brings
+    (stays (standing old c.args.tree.now) _ c.args.level c.args.index c.width.result c.args.pointer.now c.width.ensures.is (c.requires.pointer told) (c.keep_node.ensures.keeps told))
+    (ap (λ w. pointer_at (standing old c.args.tree.now) c.args.level (c.args.index / w)) c.width.ensures.is ∙ sym (c.requires.pointer told))
+    c.keep_node.ensures.fields (c.keep_node.ensures.brings told)
 
 pub returns-clause-blank : goal.returns-clause-blank
 returns-clause-blank g c = λ none. subst (λ w. IsBlank (kept_at c.keep_node.new.tree c.args.level (c.args.index / w))) c.width.ensures.is (c.in_ok-children.ensures.blank none)
+
+pub returns-in_err-children-clause-others : goal.returns-in_err-children-clause-others
+returns-in_err-children-clause-others g c = λ k q differs. ap (option_map (λ (kept : KeptNode). kept.children)) (c.keep_node.ensures.others k q (inl differs))
+
+pub returns-clause-others : goal.returns-clause-others
+returns-clause-others g c = λ k q differs. ap (option_map (λ (kept : KeptNode). kept.children)) (c.keep_node.ensures.others k q (inl differs))
+
+pub returns-clause-filled : goal.returns-clause-filled
+returns-clause-filled g c = λ some.
+    let u = c.keep_node.new.tree in
+    let on = leads_on u c.args.level (c.args.index / c.width.result) (c.args.index / c.width-2.result % fan) c.args.pointer.now c.in_ok-children.children c.in_ok-children.ensures.kept c.in_ok-children.ensures.blank some in
+    (on.0, subst (λ w. IsFilled u c.args.level (c.args.index / w)) c.width.ensures.is on.1)

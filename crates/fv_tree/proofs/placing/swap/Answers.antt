@@ -4,14 +4,14 @@ use Rattle.fv_tree.proofs.Swapped.{IsPlacedAt, swapped}
 use Rattle.fv_tree.proofs.placing.swap.Goals as goal
 
 pub returns-clause-swaps : goal.returns-clause-swaps
-returns-clause-swaps g c =
+returns-clause-swaps g c = λ told.
     let old : Shown = g.B.Blocks.shown c.args.blocks.now in
     let mid : Shown = g.B.Blocks.shown c.place.new.self in
     let new : Shown = g.B.Blocks.shown c.name_gone.new.blocks in
     let at : IsPlacedAt old c.args.kind c.args.block.now c.in_ok-at.at.vvbn c.in_ok-at.at.pvbn mid = record {
       fresh = c.in_ok-at.ensures.places.fresh;
       unused = c.in_ok-at.ensures.places.unused;
-      held = c.in_ok-at.ensures.places.held;
+      held = c.in_ok-at.ensures.places.held told;
       used = c.in_ok-at.ensures.places.used;
       strays = c.in_ok-at.ensures.places.strays;
     } in

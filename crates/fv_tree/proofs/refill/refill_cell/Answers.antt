@@ -13,61 +13,57 @@ use Rattle.fv_tree.proofs.Causes.{at_err}
 use Rattle.fv_tree.proofs.Held.{same_self}
 use Rattle.fv_tree.proofs.Marked.{marked_sound}
 use Rattle.fv_tree.proofs.Ready.{cells_again, within_ready, cell_kept, cell_pointers, cell_there}
-use Rattle.fv_tree.proofs.Refilled.{refilled_none, refilled_is, filled_way, remarked_is}
+use Rattle.fv_tree.proofs.Refilled.{refilled_none, refilled_is, remarked_is}
 use Rattle.fv_tree.proofs.Removing.{none_past}
 use Rattle.fv_tree.proofs.Writes.{same_alike, same_standing}
 use Rattle.fv_tree.proofs.refill.refill_cell.Goals as goal
 
 pub returns-then-index-width-clause-done : goal.returns-then-index-width-clause-done
-returns-then-index-width-clause-done g c =
+returns-then-index-width-clause-done g c = λ told.
     let t = standing (under (g.B.Blocks.shown c.args.blocks.now)) c.args.tree.now in
     let past : fan ^ t.levels ≤ c.args.index = omega (arith, c.if-index-width.true, c.width.ensures.is) in
     refilled_none t t c.args.index c.args.block.now (same_self t) (none_past t c.args.index past)
 
 pub returns-in_err-pointer-clause-failed : goal.returns-in_err-pointer-clause-failed
-returns-in_err-pointer-clause-failed g c =
-    at_err c.from_residual.result (same_alike (standing (under (g.B.Blocks.shown c.args.blocks.now)) c.args.tree.now) (standing (under (g.B.Blocks.shown c.keep_path.new.blocks)) c.keep_path.new.tree) c.keep_path.ensures.same)
+returns-in_err-pointer-clause-failed g c = λ told.
+    at_err c.from_residual.result (same_alike (standing (under (g.B.Blocks.shown c.args.blocks.now)) c.args.tree.now) (standing (under (g.B.Blocks.shown c.keep_path.new.blocks)) c.keep_path.new.tree) (c.keep_path.ensures.same told))
 
 pub returns-then-pointer-eq0-clause-done : goal.returns-then-pointer-eq0-clause-done
-returns-then-pointer-eq0-clause-done g c =
+returns-then-pointer-eq0-clause-done g c = λ told.
     let path = c.in_ok-pointer.ensures in
-    refilled_none (standing (under (g.B.Blocks.shown c.args.blocks.now)) c.args.tree.now) (standing (under (g.B.Blocks.shown c.keep_path.new.blocks)) c.keep_path.new.tree) c.args.index c.args.block.now path.same
-    (ap (λ (p : Pointer). p.stamp) (sym path.pointer) ∙ c.if-pointer-eq0.true)
+    refilled_none (standing (under (g.B.Blocks.shown c.args.blocks.now)) c.args.tree.now) (standing (under (g.B.Blocks.shown c.keep_path.new.blocks)) c.keep_path.new.tree) c.args.index c.args.block.now (path.same told)
+    (ap (λ (p : Pointer). p.stamp) (sym (path.pointer told)) ∙ c.if-pointer-eq0.true)
 
 pub returns-in_err-keep_cell-clause-failed : goal.returns-in_err-keep_cell-clause-failed
-returns-in_err-keep_cell-clause-failed g c =
+returns-in_err-keep_cell-clause-failed g c = λ told.
     let t = standing (under (g.B.Blocks.shown c.args.blocks.now)) c.args.tree.now in
     let blocks = under (g.B.Blocks.shown c.keep_path.new.blocks) in
     let same = same_standing blocks c.keep_path.new.tree c.keep_cell.new.tree c.keep_cell.ensures.fields c.in_err-keep_cell.ensures.failed in
-    at_err c.from_residual-in_err-keep_cell.result (subst (IsAlike t) (sym same) (same_alike t (standing blocks c.keep_path.new.tree) c.keep_path.ensures.same))
+    at_err c.from_residual-in_err-keep_cell.result (subst (IsAlike t) (sym same) (same_alike t (standing blocks c.keep_path.new.tree) (c.keep_path.ensures.same told)))
 
 pub returns-in_err-keep_cell-clause-stands : goal.returns-in_err-keep_cell-clause-stands
-returns-in_err-keep_cell-clause-stands g c = λ stands.
+returns-in_err-keep_cell-clause-stands g c = λ told stands.
     let new : Shown = g.B.Blocks.shown c.keep_path.new.blocks in
-    cells_again (under new) new.used c.keep_path.new.tree c.keep_cell.new.tree c.keep_cell.ensures.fields c.in_err-keep_cell.ensures.same (c.keep_path.ensures.stands stands)
+    cells_again (under new) new.used c.keep_path.new.tree c.keep_cell.new.tree c.keep_cell.ensures.fields c.in_err-keep_cell.ensures.same (c.keep_path.ensures.stands told stands)
 
 pub mark_path-requires : goal.mark_path-requires
 mark_path-requires g c = λ level low high xs node.
-    let blocks = under (g.B.Blocks.shown c.keep_path.new.blocks) in
-    let v = c.keep_path.new.tree in
     let i = c.args.index in
-    let path = c.in_ok-pointer.ensures in
     let fields = c.in_ok-keep_cell.ensures.fields in
-    let stands : StandsAt (standing blocks v) 0 i = λ none. c.if-pointer-eq0.false (ap (λ (p : Pointer). p.stamp) (path.pointer ∙ sym (path.same.pointers 0 i)) ∙ none) in
-    filled_way blocks v i stands (λ level low high. path.kept level low (omega (arith, high, path.fields.levels))) level low (omega (arith, high, fields.levels)) xs
+    c.in_ok-pointer.ensures.filled c.if-pointer-eq0.false level low (omega (arith, high, fields.levels)) xs
     (ap (λ (nodes : tree.BTreeMap Spot KeptNode). children_in nodes level (i / fan ^ level)) (sym fields.nodes) ∙ node)
 
 pub returns-clause-done : goal.returns-clause-done
-returns-clause-done g c =
+returns-clause-done g c = λ told.
     let t = standing (under (g.B.Blocks.shown c.args.blocks.now)) c.args.tree.now in
     let path = c.in_ok-pointer.ensures in
     let cell = c.in_ok-keep_cell.ensures in
     let marked = c.mark_path.ensures in
     refilled_is (under (g.B.Blocks.shown c.keep_path.new.blocks)) c.keep_path.new.tree c.keep_cell.new.tree c.mark_path.new.tree c.args.index c.args.block.now cell.fields cell.cell marked.fields marked.nodes
-    t path.same (λ none. c.if-pointer-eq0.false (ap (λ (p : Pointer). p.stamp) path.pointer ∙ none))
+    t (path.same told) (λ none. c.if-pointer-eq0.false (ap (λ (p : Pointer). p.stamp) (path.pointer told) ∙ none))
 
 pub returns-clause-stands : goal.returns-clause-stands
-returns-clause-stands g c = λ stands.
+returns-clause-stands g c = λ told stands.
     let new : Shown = g.B.Blocks.shown c.keep_path.new.blocks in
     let i = c.args.index in
     let v = c.keep_path.new.tree in
@@ -76,11 +72,11 @@ returns-clause-stands g c = λ stands.
     let path = c.in_ok-pointer.ensures in
     let cell = c.in_ok-keep_cell.ensures in
     let marked = c.mark_path.ensures in
-    let there : StandsAt (standing (under new) v) 0 i = λ none. c.if-pointer-eq0.false (ap (λ (p : Pointer). p.stamp) (path.pointer ∙ sym (path.same.pointers 0 i)) ∙ none) in
+    let there : StandsAt (standing (under new) v) 0 i = λ none. c.if-pointer-eq0.false (ap (λ (p : Pointer). p.stamp) (path.pointer told ∙ sym ((path.same told).pointers 0 i)) ∙ none) in
     let unnamed : (pointer_at (standing (under new) v) 0 i).stamp ≡ 0 → true ≡ false = λ none. absurd (there none) in
     let unplaced : (level : ℕ) → 1 ≤ level → level ≤ v.levels → (pointer_at (standing (under new) v) level (i / fan ^ level)).stamp ≡ 0 → placed_in v.nodes level (i / fan ^ level) ≡ false =
-    λ level low high none. path.unplaced level low (omega (arith, high, path.fields.levels)) (ap (λ (p : Pointer). p.stamp) (sym (path.same.pointers level (i / fan ^ level))) ∙ none) in
-    let sound : Stands new v = path.stands stands in
+    λ level low high none. path.unplaced told level low (omega (arith, high, path.fields.levels)) (ap (λ (p : Pointer). p.stamp) (sym ((path.same told).pointers level (i / fan ^ level))) ∙ none) in
+    let sound : Stands new v = path.stands told stands in
     let levels : w.levels ≡ c.args.tree.now.levels = cell.fields.levels ∙ path.fields.levels in
     let within : i < fan ^ c.args.tree.now.levels = omega (arith, c.if-index-width.false, c.width.ensures.is) in
     let covers : i < fan ^ w.levels = subst (λ n. i < fan ^ n) (sym levels) within in
@@ -88,5 +84,5 @@ returns-clause-stands g c = λ stands.
     (within_ready (under new) new.used v w i true sound cell.fields cell.own cell.others unnamed unplaced)
     (remarked_is (under new) w u i marked.fields marked.nodes marked.marks
     (λ none. there (ap (λ (p : Pointer). p.stamp) (sym (cell_pointers (under new) new.used v w i true sound cell.fields cell.own cell.others unnamed unplaced 0 i)) ∙ none))
-    (λ level low high. cell_kept (under new) new.used v w i true sound cell.fields cell.own cell.others unnamed unplaced level (path.kept level low (omega (arith, high, levels))))
+    (λ level low high. cell_kept (under new) new.used v w i true sound cell.fields cell.own cell.others unnamed unplaced level (path.kept told level low (omega (arith, high, levels))))
     (cell_there v w i c.args.block.now cell.cell))

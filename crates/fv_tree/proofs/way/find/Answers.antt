@@ -13,9 +13,9 @@ returns-in_err-pointer-clause-cause g c =
     let mid : Shown = g.B.Blocks.shown c.loop-level.blocks in
     let new : Shown = g.B.Blocks.shown c.step.new.blocks in
     let p = err_from_is_err_and c.from_residual.result c.from_residual.ensures.1 in
-    rw (p.1, p.2) (fails_later (standing (under old) c.args.tree.now) old mid new c.in_err-pointer.field-0.0 c.loop-level.invariant.calm c.loop-level.invariant.untouched.held (subst (λ held. Fails (standing (λ v. fin.get held v) c.args.tree.now) mid new c.in_err-pointer.field-0.0) c.loop-level.invariant.untouched.held c.in_err-pointer.ensures.cause))
+    rw (p.1, p.2) (fails_later g.B.Blocks.told (standing (under old) c.args.tree.now) old mid new c.in_err-pointer.field-0.0 c.loop-level.invariant.calm c.loop-level.invariant.untouched.held (subst (λ held. Fails g.B.Blocks.told (standing (λ v. fin.get held v) c.args.tree.now) mid new c.in_err-pointer.field-0.0) c.loop-level.invariant.untouched.held c.in_err-pointer.ensures.cause))
 
 pub returns-clause-pointer : goal.returns-clause-pointer
-returns-clause-pointer g c =
+returns-clause-pointer g c = λ told.
     let t = standing (under (g.B.Blocks.shown c.args.blocks.now)) c.args.tree.now in
-    at_the_cell t c.loop-level.level c.args.index c.loop-level.pointer (omega arith) c.loop-level.invariant.pointer
+    at_the_cell t c.loop-level.level c.args.index c.loop-level.pointer (omega arith) (c.loop-level.invariant.pointer told)

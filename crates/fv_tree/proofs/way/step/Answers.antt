@@ -1,4 +1,4 @@
-use Rattle.std.proofs.Common.{get_or, sym, ◌∙◌, ◌/◌, ◌%◌}
+use Rattle.std.proofs.Common.{get_or, refl, sym, ◌∙◌, ◌/◌, ◌%◌}
 use Rattle.std.proofs.lemmas.Result.{IfOk-weaker, IfErr-weaker}
 use Rattle.fv_model.specs.Trees.{fan}
 use Rattle.fv_tree.specs.Spelled.{hole, pointers_at, pointer_at}
@@ -8,11 +8,11 @@ use Rattle.fv_tree.proofs.Causes.{node_fails}
 use Rattle.fv_tree.proofs.way.step.Goals as goal
 
 pub returns-clause-below : goal.returns-clause-below
-returns-clause-below g c =
+returns-clause-below g c = λ told.
     let t = standing (under (g.B.Blocks.shown c.args.blocks.now)) c.args.tree.now in
-    IfOk-weaker c.child.result _ _ (λ p h. h ∙ (λ j. get_or (pointers_at t c.args.level (c.args.index / c.width.ensures.is j) c.args.pointer.now) (c.args.index / c.width-2.ensures.is j % fan) hole) ∙ below t c.args.level c.args.index c.args.pointer.now c.requires.low c.requires.high c.requires.pointer) c.child.ensures.child
+    IfOk-weaker c.child.result _ _ (λ p h. h ∙ (λ j. get_or (pointers_at t c.args.level (c.args.index / c.width.ensures.is j) c.args.pointer.now) (c.args.index / c.width-2.ensures.is j % fan) hole) ∙ below t c.args.level c.args.index c.args.pointer.now c.requires.low c.requires.high (c.requires.pointer told)) (c.child.ensures.child told)
 
 pub returns-clause-cause : goal.returns-clause-cause
 returns-clause-cause g c =
     let t = standing (under (g.B.Blocks.shown c.args.blocks.now)) c.args.tree.now in
-    IfErr-weaker c.child.result _ _ (λ e h. node_fails t _ _ c.args.level (c.args.index / c.width.result) c.args.pointer.now e c.requires.low c.requires.high ((λ j. pointer_at t c.args.level (c.args.index / c.width.ensures.is j)) ∙ on_the_way t c.args.level c.args.index c.requires.high ∙ sym c.requires.pointer) h) c.child.ensures.cause
+    IfErr-weaker c.child.result _ _ (λ e h. node_fails g.B.Blocks.told t _ _ c.args.level (c.args.index / c.width.result) c.args.pointer.now e refl c.requires.low c.requires.high (λ told. (λ j. pointer_at t c.args.level (c.args.index / c.width.ensures.is j)) ∙ on_the_way t c.args.level c.args.index c.requires.high ∙ sym (c.requires.pointer told)) h) c.child.ensures.cause

@@ -14,36 +14,36 @@ use Rattle.fv_tree.proofs.Writes.{same_alike, same_standing, within_base, writte
 use Rattle.fv_tree.proofs.write.write_within.Goals as goal
 
 pub returns-in_err-pointer-clause-failed : goal.returns-in_err-pointer-clause-failed
-returns-in_err-pointer-clause-failed g c =
-    at_err c.from_residual.result (same_alike (standing (under (g.B.Blocks.shown c.args.blocks.now)) c.args.tree.now) (standing (under (g.B.Blocks.shown c.keep_path.new.blocks)) c.keep_path.new.tree) c.keep_path.ensures.same)
+returns-in_err-pointer-clause-failed g c = λ told.
+    at_err c.from_residual.result (same_alike (standing (under (g.B.Blocks.shown c.args.blocks.now)) c.args.tree.now) (standing (under (g.B.Blocks.shown c.keep_path.new.blocks)) c.keep_path.new.tree) (c.keep_path.ensures.same told))
 
 pub returns-in_err-keep_cell-clause-failed : goal.returns-in_err-keep_cell-clause-failed
-returns-in_err-keep_cell-clause-failed g c =
+returns-in_err-keep_cell-clause-failed g c = λ told.
     let t = standing (under (g.B.Blocks.shown c.args.blocks.now)) c.args.tree.now in
     let blocks = under (g.B.Blocks.shown c.keep_path.new.blocks) in
     let same = same_standing blocks c.keep_path.new.tree c.keep_cell.new.tree c.keep_cell.ensures.fields c.in_err-keep_cell.ensures.failed in
-    at_err c.from_residual-in_err-keep_cell.result (subst (IsAlike t) (sym same) (same_alike t (standing blocks c.keep_path.new.tree) c.keep_path.ensures.same))
+    at_err c.from_residual-in_err-keep_cell.result (subst (IsAlike t) (sym same) (same_alike t (standing blocks c.keep_path.new.tree) (c.keep_path.ensures.same told)))
 
 pub returns-clause-done : goal.returns-clause-done
-returns-clause-done g c =
+returns-clause-done g c = λ told.
     let t = standing (under (g.B.Blocks.shown c.args.blocks.now)) c.args.tree.now in
     let blocks = under (g.B.Blocks.shown c.keep_path.new.blocks) in
     let v = standing blocks c.keep_path.new.tree in
     let u = standing blocks c.stamp_path.new.tree in
-    let same = c.keep_path.ensures.same in
+    let same = c.keep_path.ensures.same told in
     written_is t v u c.args.index c.args.stamp c.args.block.now
-    (within_base t v c.args.index c.args.stamp same c.requires.index c.in_ok-pointer.ensures.kept)
+    (within_base t v c.args.index c.args.stamp same c.requires.index (c.in_ok-pointer.ensures.kept told))
     (stamps_way blocks c.keep_path.new.tree c.keep_cell.new.tree c.stamp_path.new.tree c.args.index c.args.stamp c.keep_cell.ensures.fields c.stamp_path.ensures.stamps)
     (omega (arith, c.requires.stamp))
     (λ j. stamped_cells c.keep_path.new.tree c.keep_cell.new.tree c.stamp_path.new.tree c.args.index c.args.stamp c.args.block.now c.in_ok-keep_cell.ensures.cell c.stamp_path.ensures.stamps.cells j ∙ (λ k. cond (nat_eq j c.args.index) (Some c.args.block.now) (same.cells k j)))
 
 pub returns-in_err-keep_cell-clause-stands : goal.returns-in_err-keep_cell-clause-stands
-returns-in_err-keep_cell-clause-stands g c = λ stands.
+returns-in_err-keep_cell-clause-stands g c = λ told stands.
     let new : Shown = g.B.Blocks.shown c.keep_path.new.blocks in
-    cells_again (under new) new.used c.keep_path.new.tree c.keep_cell.new.tree c.keep_cell.ensures.fields c.in_err-keep_cell.ensures.same (c.keep_path.ensures.stands stands)
+    cells_again (under new) new.used c.keep_path.new.tree c.keep_cell.new.tree c.keep_cell.ensures.fields c.in_err-keep_cell.ensures.same (c.keep_path.ensures.stands told stands)
 
 pub returns-clause-stands : goal.returns-clause-stands
-returns-clause-stands g c = λ stands.
+returns-clause-stands g c = λ told stands.
     let new : Shown = g.B.Blocks.shown c.keep_path.new.blocks in
     let i = c.args.index in
     let old = standing (under (g.B.Blocks.shown c.args.blocks.now)) c.args.tree.now in
@@ -56,12 +56,12 @@ returns-clause-stands g c = λ stands.
     let some : c.args.stamp ≢ 0 = omega (arith, c.requires.stamp) in
     let levels : v.levels ≡ c.args.tree.now.levels = cell.fields.levels ∙ path.fields.levels in
     let covers : i < fan ^ v.levels = subst (λ n. i < fan ^ n) (sym levels) c.requires.index in
-    let unnamed : (pointer_at (standing (under new) w) 0 i).stamp ≡ 0 → named ≡ false = λ e. unstamped c.in_ok-pointer.pointer (ap (λ (p : Pointer). p.stamp) (path.pointer ∙ sym (path.same.pointers 0 i)) ∙ e) in
+    let unnamed : (pointer_at (standing (under new) w) 0 i).stamp ≡ 0 → named ≡ false = λ e. unstamped c.in_ok-pointer.pointer (ap (λ (p : Pointer). p.stamp) (path.pointer told ∙ sym ((path.same told).pointers 0 i)) ∙ e) in
     let unplaced : (level : ℕ) → 1 ≤ level → level ≤ w.levels → (pointer_at (standing (under new) w) level (i / fan ^ level)).stamp ≡ 0 → placed_in w.nodes level (i / fan ^ level) ≡ false =
-    λ level low high none. path.unplaced level low (omega (arith, high, path.fields.levels)) (ap (λ (p : Pointer). p.stamp) (sym (path.same.pointers level (i / fan ^ level))) ∙ none) in
-    let sound : Stands new w = path.stands stands in
+    λ level low high none. path.unplaced told level low (omega (arith, high, path.fields.levels)) (ap (λ (p : Pointer). p.stamp) (sym ((path.same told).pointers level (i / fan ^ level))) ∙ none) in
+    let sound : Stands new w = path.stands told stands in
     marked_sound new.used (loaded new v) (loaded new u) i covers
     (within_ready (under new) new.used w v i named sound cell.fields cell.own cell.others unnamed unplaced)
     (marked_is (under new) v u i c.args.stamp c.stamp_path.ensures.stamps c.stamp_path.ensures.marks some covers
-    (λ level low high. cell_kept (under new) new.used w v i named sound cell.fields cell.own cell.others unnamed unplaced level (path.kept level low (omega (arith, high, levels))))
+    (λ level low high. cell_kept (under new) new.used w v i named sound cell.fields cell.own cell.others unnamed unplaced level (path.kept told level low (omega (arith, high, levels))))
     (cell_there w v i c.args.block.now cell.cell))

@@ -30,7 +30,7 @@ returns-clause-holds c =
     holds_placed c.args.pool.now c.args.map.now slot c.args.kind c.args.block.now _ c.take_numbers.new.map placed (record {
       taken = c.take_numbers.new.space;
       takes = c.in_ok-placed.ensures.taken;
-      space = c.give_back.ensures
+      space = c.give_back.ensures.given
           ∙ ap₂ given_back (ap (λ (p : Pool). p.map) unchanged) (c.set_entry-before.ensures.before ∙ ap (λ (s : Slots). own_entry (container_at s slot) placed.vvbn) containers);
       entry = subst (λ (s : Slots). SetsEntry s slot placed.vvbn (record { pvbn = placed.pvbn; kind = c.args.kind }) c.set_entry-before.new.containers) containers c.set_entry-before.ensures.set;
       kept = ap (λ (p : Pool). p.kept) unchanged;

@@ -12,7 +12,7 @@ pub returns-clause-kept : goal.returns-clause-kept
 returns-clause-kept g c =
     let did = c.in_ok-state.ensures in
     subst (λ (xs : States). KeptTo (c.args.slot + 1) xs c.load_volume.new.containers) (sym c.in_ok-add.ensures.added)
-    (kept_more c.args.slot c.args.states.now.items c.args.containers.now c.in_ok-state.state c.load_volume.new.containers c.requires.kept did.few did.others did.parents did.state did.housed did.parent)
+    (kept_more c.args.slot c.args.states.now.items c.args.containers.now c.in_ok-state.state c.load_volume.new.containers c.requires.kept did.leaves did.filled)
 
 pub returns-clause-loaded : goal.returns-clause-loaded
 returns-clause-loaded g c = λ tells was.
@@ -20,4 +20,4 @@ returns-clause-loaded g c = λ tells was.
     let i = (g.D.Disk.shown c.args.disk.now).reads in
     let empty : container_at c.args.containers.now c.args.slot ≡ None = c.requires.kept.free c.args.slot (omega arith) in
     subst (λ (xs : States). LoadedTo i c.args.found.now (c.args.slot + 1) xs c.load_volume.new.containers) (sym c.in_ok-add.ensures.added)
-    (loaded_more i c.args.found.now c.args.slot c.args.states.now.items c.args.containers.now c.in_ok-state.state c.load_volume.new.containers c.requires.kept was did.others (did.loaded tells empty))
+    (loaded_more i c.args.found.now c.args.slot c.args.states.now.items c.args.containers.now c.in_ok-state.state c.load_volume.new.containers c.requires.kept was did.leaves.others (did.loaded tells empty))

@@ -1,4 +1,4 @@
-use Rattle.std.proofs.Common.{◌≡◌, ℕ, ap, ◌∙◌, get_or, refl, sym, subst}
+use Rattle.std.proofs.Common.{rules, ◌≡◌, ℕ, ap, ◌∙◌, get_or, refl, sym, subst}
 use Rattle.std.specs.Prelude.{IsTrue}
 use Rattle.fv_disk.specs.Shown.{Image}
 use Rattle.fv_bits.specs.Members.{is_member}
@@ -13,7 +13,6 @@ use Rattle.fv_volume.proofs.Labelled.{bad_label, bad_map, bad_tree, handed, is_l
 use Rattle.fv_volume.proofs.Loaded.{state_from}
 use Rattle.fv_volume.proofs.Stepping.{has_container}
 use Rattle.fv_volume.proofs.Mapping.{read_bits}
-use Rattle.fv_volume.proofs.Stepping.{has_container}
 use Rattle.fv_volume.proofs.load.load_volume.Goals as goal
 
 pub returns-then-place-eq0-clause-loaded : goal.returns-then-place-eq0-clause-loaded
@@ -76,8 +75,9 @@ returns-clause-loaded g c = λ tells empty.
     ∙ ap (λ (n : ℕ). volume_bit (view_at (root_found found) i) c.args.slot n 0 v) (sym span))
     (c.of_label.ensures.changed ∙ c.has_delayed-delayed.ensures ∙ ap (λ (n : ℕ). has_delayed map n) (sym span))
 
-pub returns-clause-state : goal.returns-clause-state
-returns-clause-state g c = state_from c.in_ok-label.label c.in_ok-label.ensures.range c.in_ok-label.ensures.plain c.of_label.result c.args.slot c.of_label.ensures.slot c.of_label.ensures.head c.of_label.ensures.ledger c.of_label.ensures.named (ap (λ (x : Volume). x.span) c.of_label.ensures.map ∙ c.in_ok-map.ensures.map ∙ sym c.of_label.ensures.span)
-
-pub returns-clause-housed : goal.returns-clause-housed
-returns-clause-housed g c = has_container c.in_ok-label.label c.of_label.result c.in_ok-container.container _ c.of_label.ensures.head c.in_ok-container.ensures.size c.put.ensures.there
+pub returns-clause-filled : goal.returns-clause-filled
+returns-clause-filled g c = record {
+  state = state_from c.in_ok-label.label c.in_ok-label.ensures.range c.in_ok-label.ensures.plain c.of_label.result c.args.slot c.of_label.ensures.slot c.of_label.ensures.head c.of_label.ensures.ledger c.of_label.ensures.named (ap (λ (x : Volume). x.span) c.of_label.ensures.map ∙ c.in_ok-map.ensures.map ∙ sym c.of_label.ensures.span);
+  housed = has_container c.in_ok-label.label c.of_label.result c.in_ok-container.container _ c.of_label.ensures.head c.in_ok-container.ensures.size c.put.ensures.there;
+  parent = search rules;
+}

@@ -5,10 +5,9 @@ use Rattle.fv_container.specs.Chains.{container_at}
 use Rattle.fv_volume.specs.declared.pool.Pool.{Pool}
 use Rattle.fv_volume.specs.Creating.{IsNew}
 use Rattle.fv_volume.specs.States.{state_at}
-use Rattle.fv_cp.specs.Lent.{blocks_asked}
+use Rattle.fv_cp.specs.Lent.{FitTogether, blocks_asked}
 use Rattle.fv_cp.proofs.Housing.{housed_with}
 use Rattle.fv_aggregate.specs.declared.session.Session.{Session}
-use Rattle.fv_aggregate.specs.Parts.{IsWhole}
 use Rattle.fv_aggregate.proofs.Added.{added_as}
 use Rattle.fv_aggregate.proofs.Asking.{asked_made}
 use Rattle.fv_aggregate.proofs.session.Session.add.Goals as goal
@@ -19,7 +18,7 @@ invariant_of-self-2 c = λ fresh.
     let e = c.in_ok-create.ensures in
     let slot = c.in_ok-create.field-0 in
     let new = subst (λ (p : Pool). IsNew (state_at c.create.new.self slot) (container_at p.containers slot) c.args.name.now c.args.size c.args.kind) e.holes e.new in
-    subst (λ (p : Pool). IsWhole p c.create.new.self) (sym e.holes) (record {
+    subst (λ (p : Pool). FitTogether p c.create.new.self) (sym e.holes) (record {
       range = was.range;
       size = was.size;
       housed = housed_with c.self.inside.pool c.self.inside.volumes c.create.new.self slot c.args.name.now c.args.size c.args.kind e.made new e.each was.housed;

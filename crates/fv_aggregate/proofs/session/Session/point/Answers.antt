@@ -12,7 +12,7 @@ pub returns-in-Ok-clause-goes : goal.returns-in-Ok-clause-goes
 returns-in-Ok-clause-goes g c =
     let e = c.in-Ok.ensures in
     point_done (g.D.Disk.shown c.args.disk.now) c.args.self.now (g.D.Disk.shown c.consistency_point.new.disk) _ c.requires.fresh (subst (λ (s : Session). IsNone s.failed) (sym c.self.view_is) c.requires.fresh) refl
-    e.counts e.stands e.found e.loaded e.housed.long (subst (λ (s : Session). AreSettled s.volumes c.consistency_point.new.volumes) c.self.view_is e.volumes)
+    e.counts e.goes_on.stands e.goes_on.found e.goes_on.loaded e.goes_on.fit.housed.long (subst (λ (s : Session). AreSettled s.volumes c.consistency_point.new.volumes) c.self.view_is e.goes_on.settled)
 
 pub returns-in-Ok-clause-goes_for : goal.returns-in-Ok-clause-goes_for
 returns-in-Ok-clause-goes_for g c = λ tells last m stands.
@@ -77,5 +77,5 @@ returns-in-Ok-clause-admits g c =
     let e = c.in-Ok.ensures in
     let fresh = subst (λ (s : Session). IsNone s.failed) (sym c.self.view_is) c.requires.fresh in
     let was = ap (λ (s : Session). s.volumes) c.self.view_is in
-    admits_still c.args.self.now (record { volumes = c.consistency_point.new.volumes; pool = c.consistency_point.new.pool; pending = 0; failed = c.self.inside.failed }) (e.housed.long ∙ sym (c.self.invariant fresh).housed.long ∙ ap (λ (v : States). length v) was) (subst (λ (s : Session). AreSettled s.volumes c.consistency_point.new.volumes) c.self.view_is e.volumes)
-    (e.blocks ∙ ap (λ (s : Session). s.pool.found.blocks) c.self.view_is)
+    admits_still c.args.self.now (record { volumes = c.consistency_point.new.volumes; pool = c.consistency_point.new.pool; pending = 0; failed = c.self.inside.failed }) (e.goes_on.fit.housed.long ∙ sym (c.self.invariant fresh).housed.long ∙ ap (λ (v : States). length v) was) (subst (λ (s : Session). AreSettled s.volumes c.consistency_point.new.volumes) c.self.view_is e.goes_on.settled)
+    (e.goes_on.blocks ∙ ap (λ (s : Session). s.pool.found.blocks) c.self.view_is)

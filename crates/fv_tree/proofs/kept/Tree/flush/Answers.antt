@@ -11,23 +11,23 @@ use Rattle.fv_tree.proofs.Whole.{is_stored, reaches}
 use Rattle.fv_tree.proofs.kept.Tree.flush.Goals as goal
 
 pub returns-in_err-flush_nodes-clause-flushes : goal.returns-in_err-flush_nodes-clause-flushes
-returns-in_err-flush_nodes-clause-flushes g c = λ stands.
+returns-in_err-flush_nodes-clause-flushes g c = λ told stands.
     let old : Shown = g.B.Blocks.shown c.args.blocks.now in
     let mid : Shown = g.B.Blocks.shown c.flush_cells.new.blocks in
     let new : Shown = g.B.Blocks.shown c.flush_nodes.new.blocks in
-    let first = c.in_ok-flush_cells.ensures.flushes stands in
-    flushes_then (loaded old c.args.self.now) (loaded mid c.flush_cells.new.tree) (loaded new c.flush_nodes.new.tree) old.used mid.used new.used (is_memory mid c.flush_cells.new.tree) first (c.in_err-flush_nodes.ensures.flushes first.sound)
+    let first = c.in_ok-flush_cells.ensures.flushes told stands in
+    flushes_then (loaded old c.args.self.now) (loaded mid c.flush_cells.new.tree) (loaded new c.flush_nodes.new.tree) old.used mid.used new.used (is_memory mid c.flush_cells.new.tree) first (c.in_err-flush_nodes.ensures.flushes told first.sound)
 
 pub returns-clause-flushes : goal.returns-clause-flushes
-returns-clause-flushes g c = λ stands.
+returns-clause-flushes g c = λ told stands.
     let old : Shown = g.B.Blocks.shown c.args.blocks.now in
     let mid : Shown = g.B.Blocks.shown c.flush_cells.new.blocks in
     let new : Shown = g.B.Blocks.shown c.flush_nodes.new.blocks in
-    let first = c.in_ok-flush_cells.ensures.flushes stands in
-    flushes_then (loaded old c.args.self.now) (loaded mid c.flush_cells.new.tree) (loaded new c.flush_nodes.new.tree) old.used mid.used new.used (is_memory mid c.flush_cells.new.tree) first (c.in_ok-flush_nodes.ensures.flushes first.sound)
+    let first = c.in_ok-flush_cells.ensures.flushes told stands in
+    flushes_then (loaded old c.args.self.now) (loaded mid c.flush_cells.new.tree) (loaded new c.flush_nodes.new.tree) old.used mid.used new.used (is_memory mid c.flush_cells.new.tree) first (c.in_ok-flush_nodes.ensures.flushes told first.sound)
 
 pub returns-clause-reaches : goal.returns-clause-reaches
-returns-clause-reaches g c = λ stands.
+returns-clause-reaches g c = λ told stands.
     let new : Shown = g.B.Blocks.shown c.flush_nodes.new.blocks in
     let t = c.flush_nodes.new.tree in
     let cells = c.in_ok-flush_cells.ensures in
@@ -35,10 +35,10 @@ returns-clause-reaches g c = λ stands.
     let none : maps.btree_map_len t.cells ≡ 0 = ap (λ (m : maps.BTreeMap ℕ KeptCell). maps.btree_map_len m) nodes.cells ∙ cells.none in
     subst (λ owner. ReachesOnce new.used (stored (under new) owner c.args.self.now.levels t.root)) (nodes.left.owner ∙ cells.left.owner)
     (subst (λ levels. ReachesOnce new.used (stored (under new) t.owner levels t.root)) (nodes.left.levels ∙ cells.left.levels)
-    (subst (ReachesOnce new.used) (is_stored t nodes.none none (under new)) (reaches t nodes.none none (under new) new.used (nodes.flushes (cells.flushes stands).sound).sound)))
+    (subst (ReachesOnce new.used) (is_stored t nodes.none none (under new)) (reaches t nodes.none none (under new) new.used (nodes.flushes told (cells.flushes told stands).sound).sound)))
 
 pub returns-in_err-flush_nodes-clause-strays : goal.returns-in_err-flush_nodes-clause-strays
-returns-in_err-flush_nodes-clause-strays g c = λ stands. let cells = c.in_ok-flush_cells.ensures in c.in_err-flush_nodes.ensures.strays (cells.flushes stands).sound ∙ cells.strays stands
+returns-in_err-flush_nodes-clause-strays g c = λ told stands. let cells = c.in_ok-flush_cells.ensures in c.in_err-flush_nodes.ensures.strays told (cells.flushes told stands).sound ∙ cells.strays told stands
 
 pub returns-clause-strays : goal.returns-clause-strays
-returns-clause-strays g c = λ stands. let cells = c.in_ok-flush_cells.ensures in c.in_ok-flush_nodes.ensures.strays (cells.flushes stands).sound ∙ cells.strays stands
+returns-clause-strays g c = λ told stands. let cells = c.in_ok-flush_cells.ensures in c.in_ok-flush_nodes.ensures.strays told (cells.flushes told stands).sound ∙ cells.strays told stands

@@ -1,0 +1,18 @@
+use Rattle.std.proofs.Common.{◌≡◌, sym, subst, ◌∙◌}
+use Rattle.std.specs.Prelude.{cond, Some, None, IfOk, IfErr}
+use Rattle.fv_tables.specs.Spelled.{block_at}
+use Rattle.fv_tree.specs.Standing.{under, Fails}
+use Rattle.fv_files.proofs.Tables.{stored_known}
+use Rattle.fv_files.proofs.read.read_cell.Goals as goal
+
+pub returns-in-None-clause-cell : goal.returns-in-None-clause-cell
+returns-in-None-clause-cell g c = λ told.
+    let blocks = under (g.B.Blocks.shown c.args.blocks.now) in
+    subst (λ t. IfOk c.read_tree-in-None.result (λ there. block_at t c.args.index ≡ cond there (Some c.read_tree-in-None.new.into) None))
+    (c.stored_tree-tree.ensures.stored blocks ∙ sym (stored_known blocks c.args.files.now c.args.info.now (sym c.in-None.ensures.value))) (c.read_tree-in-None.ensures.cell told)
+
+pub returns-in-None-clause-cause : goal.returns-in-None-clause-cause
+returns-in-None-clause-cause g c =
+    let old = g.B.Blocks.shown c.args.blocks.now in
+    subst (λ t. IfErr c.read_tree-in-None.result (Fails g.B.Blocks.told t old (g.B.Blocks.shown c.read_tree-in-None.new.blocks)))
+    (c.stored_tree-tree.ensures.stored (under old) ∙ sym (stored_known (under old) c.args.files.now c.args.info.now (sym c.in-None.ensures.value))) c.read_tree-in-None.ensures.cause

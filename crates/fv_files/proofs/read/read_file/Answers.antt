@@ -1,0 +1,15 @@
+use Rattle.std.proofs.Common.{refl, ◌∙◌}
+use Rattle.std.specs.Prelude.{Some, None}
+use Rattle.fv_files.specs.Tables.{table_in}
+use Rattle.fv_files.proofs.Tables.{given, hole_read, cell_read}
+use Rattle.fv_files.proofs.read.read_file.Goals as goal
+
+pub returns-then-not-branch-clause-block : goal.returns-then-not-branch-clause-block
+returns-then-not-branch-clause-block g c = λ told.
+    given (table_in (g.B.Blocks.shown c.args.blocks.now) c.args.files.now) c.args.info.now c.args.index c.clear.new.into None (c.requires.there told)
+    (c.in_ok-read_cell.ensures.cell told ∙ hole_read c.in_ok-read_cell.field-0 c.read_cell.new.into c.if-not-branch.true) c.clear.ensures
+
+pub returns-else-not-branch-clause-block : goal.returns-else-not-branch-clause-block
+returns-else-not-branch-clause-block g c = λ told.
+    given (table_in (g.B.Blocks.shown c.args.blocks.now) c.args.files.now) c.args.info.now c.args.index c.read_cell.new.into (Some c.read_cell.new.into) (c.requires.there told)
+    (c.in_ok-read_cell.ensures.cell told ∙ cell_read c.in_ok-read_cell.field-0 c.read_cell.new.into c.if-not-branch.false) refl

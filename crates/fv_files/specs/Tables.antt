@@ -1,0 +1,63 @@
+-- A table whose changed trees are in memory, and how it stands to its blocks.
+use Rattle.std.specs.Prelude.{◌≡◌, ℕ, true, Option, Some, None, is_some}
+use Rattle.std.specs.Ordering.{nat_cmp}
+use Rattle.std.specs.BTreeMap as tree
+use Rattle.fv_codec.specs.declared.inode.InodeRecord.{InodeRecord}
+use Rattle.fv_codec.specs.declared.pointer.Pointer.{Pointer}
+use Rattle.fv_codec.specs.Blocks.{greatest_word}
+use Rattle.fv_tables.specs.Spelled.{Under, Rooted, stored}
+use Rattle.fv_tables.specs.Told.{Standing, file_at, tree_or, table_told}
+use Rattle.fv_tree.specs.declared.kept.Tree.{Tree}
+use Rattle.fv_tree.specs.Sources.{Shown, Use}
+use Rattle.fv_tree.specs.Standing.{standing, under}
+use Rattle.fv_tree.specs.Flushing.{loaded_over, IsSound, ReachesOnce}
+use Rattle.fv_inode.specs.declared.info.Info.{Info}
+use Rattle.fv_inode.specs.Files.{info_of}
+use Rattle.fv_files.specs.declared.files.Files.{Files}
+use Rattle.fv_files.specs.Trees.{Changed, standing_in}
+
+-- the trees that are in memory
+abbrev pub changed : Files → Changed
+changed f = record { inode = f.inode.tree; files = f.trees }
+
+-- the table over the blocks of a source
+abbrev pub table_in : Shown → Files → Standing
+table_in source f = standing_in (under source) (changed f)
+
+-- the tree of a file, where it is in memory
+abbrev pub tree_in : Files → ℕ → Option Tree
+tree_in f n = tree.get nat_cmp f.trees n
+
+-- the table is told as what it was told as
+abbrev pub IsTold : Shown → Files → Shown → Files → Type 0
+IsTold old f new g = table_told (table_in new g) ≡ table_told (table_in old f)
+
+-- the tree of a file stands on its blocks: that in memory, or else that to which the file's record leads
+abbrev pub FileStands : Under → (ℕ → Option Use) → ℕ → InodeRecord → Option Tree → Type 0
+FileStands blocks used n r None = ReachesOnce used (stored blocks n r.levels r.root)
+FileStands blocks used n r (Some t) = IsSound used (loaded_over blocks t)
+
+-- Each tree of the table stands on its blocks. A tree in memory is that of a file.
+pub record AreSound (blocks : Under) (used : ℕ → Option Use) (f : Files) : Type 0 where
+  pub owner : f.inode.tree.owner ≡ greatest_word
+  pub inode : IsSound used (loaded_over blocks f.inode.tree)
+  pub files : (n : ℕ) (r : InodeRecord) → file_at (standing blocks f.inode.tree) n ≡ Some r → FileStands blocks used n r (tree_in f n)
+  pub owners : (n : ℕ) (t : Tree) → tree_in f n ≡ Some t → (t.owner ≡ n) × (is_some (file_at (standing blocks f.inode.tree) n) ≡ true)
+
+abbrev pub AreStanding : Shown → Files → Type 0
+AreStanding source = AreSound (under source) source.used
+
+-- So they do where nothing is in memory.
+pub record AreReached (blocks : Under) (used : ℕ → Option Use) (levels : ℕ) (root : Pointer) : Type 0 where
+  pub inode : ReachesOnce used (stored blocks greatest_word levels root)
+  pub files : (n : ℕ) (r : InodeRecord) → file_at (stored blocks greatest_word levels root) n ≡ Some r → ReachesOnce used (stored blocks n r.levels r.root)
+
+-- what is known of a file is what its record says
+pub record IsInfoOf (t : Rooted) (info : Info) : Type 0 where
+  pub file : InodeRecord
+  pub there : file_at t info.number ≡ Some file
+  pub told : info ≡ info_of info.number file
+
+-- the tree of a file of which this is known: that in memory, or else that to which it leads
+abbrev pub tree_known : Standing → Info → Rooted
+tree_known x info = tree_or (x.trees info.number) (stored x.inode.under info.number info.levels info.root)

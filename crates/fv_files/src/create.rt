@@ -1,0 +1,44 @@
+//! Making a file.
+
+ghost use Rattle.std.specs.Prelude.{◌≡◌, ◌≤◌, ◌<◌, ℕ, None, OnOk, OnErr};
+ghost use Rattle.fv_codec.specs.Blocks.{most_cells};
+ghost use Rattle.fv_model.specs.Tables.{new};
+ghost use Rattle.fv_tables.specs.Told.{file_at, table_told};
+ghost use Rattle.fv_inode.specs.Files.{rooted};
+ghost use Rattle.fv_files.specs.Tables.{table_in, AreStanding, IsTold};
+ghost use Rattle.fv_files.specs.Failing.{Looks};
+
+use crate::files::{Files, FilesFault};
+use fv_model::Name;
+use fv_tree::Blocks;
+
+impl Files {
+    /// Makes a file of a name under the least free number, of length 0, with a reserve of at most 2,097,152 blocks and a stamp
+    /// of at least 1: the machine's new, for a table that stands on its blocks. A number below 262,144 is free. That no file
+    /// has the name is the caller's to see to. Its cost is that of `InodeFile::create`. After a fault the table is told as before.
+    ///
+    /// # Errors
+    ///
+    /// As `InodeFile::create`.
+    pub fn create<B: Blocks>(
+        &mut self,
+        blocks: &mut B,
+        name: &Name,
+        reserve: u32,
+        stamp: u64,
+    ) -> Result<(), FilesFault>
+        requires stamp { 1 ≤ stamp }
+        requires reserve { reserve ≤ most_cells }
+        requires free { B.told → (n : ℕ) × (n < 262144) × (file_at (rooted (B.shown blocks.old) self.old.inode) n ≡ None) }
+        ensures made { B.told → OnOk result (AreStanding (B.shown blocks.old) self.old → table_told (table_in (B.shown blocks.new) self.new) ≡ new (table_told (table_in (B.shown blocks.old) self.old)) name.now reserve stamp) }
+        ensures failed { B.told → OnErr result (IsTold (B.shown blocks.old) self.old (B.shown blocks.new) self.new) }
+        ensures stands { B.told → AreStanding (B.shown blocks.old) self.old → AreStanding (B.shown blocks.new) self.new }
+        ensures looks { Looks B.told (table_in (B.shown blocks.old) self.old) (B.shown blocks.old) (B.shown blocks.new) result }
+        ensures reads { B.reads blocks.old blocks.new }
+    {
+        match self.inode.create(blocks, name, reserve, stamp) {
+            Ok(_) => Ok(()),
+            Err(fault) => Err(fault),
+        }
+    }
+}

@@ -1,0 +1,73 @@
+use Rattle.std.proofs.Common.{◌≡◌, true, ◌/◌, ◌%◌, refl, subst, OnErr}
+use Rattle.std.specs.Prelude.{slice_set, is_some}
+use Rattle.std.proofs.lemmas.Result.{on_ok_weaker}
+use Rattle.fv_tables.specs.Spelled.{block_at}
+use Rattle.fv_tree.specs.Standing.{standing, under}
+use Rattle.fv_tree.specs.Writing.{Remains}
+use Rattle.fv_inode.specs.Files.{with_root}
+use Rattle.fv_inode.specs.Changing.{FillsFiles}
+use Rattle.fv_inode.proofs.Looked.{Held, over, earlier, later, stands_on, looks_then, looks_at, looks_done}
+use Rattle.fv_inode.proofs.Slots.{block_there, still_used, no_such}
+use Rattle.fv_inode.proofs.Rewritten.{sets_root}
+use Rattle.fv_inode.proofs.file.InodeFile.set_root.Goals as goal
+
+pub returns-in_err-files-clause-stands : goal.returns-in_err-files-clause-stands
+returns-in_err-files-clause-stands g c = λ told.
+    let looks = c.in_err-files.ensures.looks in
+    stands_on c.args.self.now.tree (g.B.Blocks.shown c.args.blocks.now) (g.B.Blocks.shown c.read_files.new.blocks) looks.untouched.held looks.untouched.used
+
+pub refill_files-requires-clause-there : goal.refill_files-requires-clause-there
+refill_files-requires-clause-there g c = λ told.
+    let old = g.B.Blocks.shown c.args.blocks.now in
+    later (λ v. is_some (block_at v (c.args.number / 16)) ≡ true) c.args.self.now.tree old (g.B.Blocks.shown c.read_files.new.blocks) c.in_ok-files.ensures.looks.untouched.held
+    (block_there (standing (under old) c.args.self.now.tree) c.args.number (c.requires.there told))
+
+pub refill_files-requires-clause-some : goal.refill_files-requires-clause-some
+refill_files-requires-clause-some g c =
+    still_used c.in_ok-files.files c.args.number (with_root c.args.levels c.args.root) (λ f. refl) c.with_root.result _ c.in_ok-files.ensures.long c.with_root.ensures c.if-files-slot-eq0.false
+
+pub returns-clause-set : goal.returns-clause-set
+returns-clause-set g c = λ told.
+    let old = g.B.Blocks.shown c.args.blocks.now in
+    let mid = g.B.Blocks.shown c.read_files.new.blocks in
+    let t = standing (under old) c.args.self.now.tree in
+    let u = standing (under (g.B.Blocks.shown c.refill_files.new.blocks)) c.refill_files.new.tree in
+    let n = c.args.number in
+    let files = c.in_ok-files.files in
+    let was = c.in_ok-files.ensures in
+    on_ok_weaker c.refill_files.result (λ fills. sets_root t u n c.args.levels c.args.root files c.with_root.result _ was.long (was.files told) c.with_root.ensures
+    (earlier (λ v. FillsFiles v u (n / 16) (slice_set files (n % 16) c.with_root.result)) c.args.self.now.tree old mid was.looks.untouched.held fills))
+    (c.refill_files.ensures.filled told)
+
+pub returns-clause-failed : goal.returns-clause-failed
+returns-clause-failed g c = λ told.
+    subst (λ (h : Held). OnErr c.refill_files.result (Remains (over h c.args.self.now.tree) (standing (under (g.B.Blocks.shown c.refill_files.new.blocks)) c.refill_files.new.tree))) c.in_ok-files.ensures.looks.untouched.held (c.refill_files.ensures.failed told)
+
+pub returns-clause-stands : goal.returns-clause-stands
+returns-clause-stands g c = λ told stands.
+    let looks = c.in_ok-files.ensures.looks in
+    c.refill_files.ensures.stands told (stands_on c.args.self.now.tree (g.B.Blocks.shown c.args.blocks.now) (g.B.Blocks.shown c.read_files.new.blocks) looks.untouched.held looks.untouched.used stands)
+
+pub returns-clause-looks : goal.returns-clause-looks
+returns-clause-looks g c =
+    let mid = g.B.Blocks.shown c.read_files.new.blocks in
+    let new = g.B.Blocks.shown c.refill_files.new.blocks in
+    let did = c.refill_files.ensures in
+    looks_then g.B.Blocks.told c.args.self.now.tree (g.B.Blocks.shown c.args.blocks.now) mid new c.in_ok-files.files c.refill_files.result c.in_ok-files.ensures.looks
+    (looks_at g.B.Blocks.told (standing (under mid) c.args.self.now.tree) mid new c.refill_files.result did.untouched did.counts did.cause)
+
+-- ---- no file has the number
+
+pub returns-then-files-slot-eq0-clause-set : goal.returns-then-files-slot-eq0-clause-set
+returns-then-files-slot-eq0-clause-set g c = λ told.
+    no_such (standing (under (g.B.Blocks.shown c.args.blocks.now)) c.args.self.now.tree) c.args.number c.in_ok-files.files _ c.in_ok-files.ensures.long (c.in_ok-files.ensures.files told) c.if-files-slot-eq0.true (c.requires.there told)
+
+pub returns-then-files-slot-eq0-clause-stands : goal.returns-then-files-slot-eq0-clause-stands
+returns-then-files-slot-eq0-clause-stands g c = λ told.
+    let looks = c.in_ok-files.ensures.looks in
+    stands_on c.args.self.now.tree (g.B.Blocks.shown c.args.blocks.now) (g.B.Blocks.shown c.read_files.new.blocks) looks.untouched.held looks.untouched.used
+
+pub returns-then-files-slot-eq0-clause-looks : goal.returns-then-files-slot-eq0-clause-looks
+returns-then-files-slot-eq0-clause-looks g c =
+    let old = g.B.Blocks.shown c.args.blocks.now in
+    looks_done g.B.Blocks.told (standing (under old) c.args.self.now.tree) old (g.B.Blocks.shown c.read_files.new.blocks) c.in_ok-files.files _ c.in_ok-files.ensures.looks

@@ -1,0 +1,97 @@
+//! The roots of files, as a flush lays them into the inode blocks.
+
+ghost use Rattle.std.specs.Prelude.{◌≡◌, ◌≤◌, ◌<◌, true, false, is_some, OnOk, OnErr, IfErr};
+ghost use Rattle.std.specs.List.{All};
+ghost use Rattle.fv_codec.specs.Blocks.{all_free, IsInodeRecord, IsPointer};
+ghost use Rattle.fv_tables.specs.Spelled.{block_at};
+ghost use Rattle.fv_tables.specs.Told.{file_at};
+ghost use Rattle.fv_tree.specs.Sources.{Counts, IsUntouched};
+ghost use Rattle.fv_tree.specs.Standing.{standing, under, Fails};
+ghost use Rattle.fv_tree.specs.Writing.{Remains};
+ghost use Rattle.fv_tree.specs.Flushing.{Stands};
+ghost use Rattle.fv_inode.specs.Files.{rooted, with_root};
+ghost use Rattle.fv_inode.specs.Failing.{Looks};
+ghost use Rattle.fv_inode.specs.Changing.{FillsFiles, SetsRoot};
+
+use crate::file::InodeFile;
+use crate::info::InodeFault;
+use crate::records::{EACH, read_files, spelled};
+use fv_codec::{InodeRecord, Pointer};
+use fv_tree::{Blocks, Tree};
+
+impl InodeFile {
+    /// Lets the record of a file lead to another root, of a tree of so many levels, at most 3: what a flush does once
+    /// it placed the file's tree. A file has the number; over content that isn't told, one that has no file changes
+    /// nothing. Its name, length and reserve stay, and so do all other records, the levels of the inode file and every
+    /// stamp. It places nothing. It loads what isn't in memory of the file's inode block and of the nodes over it:
+    /// nothing after a `create` or a `change` of the file since the last `flush`. They stay in memory, and the next
+    /// `flush` places them. After a fault the inode file is seen as before.
+    ///
+    /// # Errors
+    ///
+    /// As `change`.
+    pub fn set_root<B: Blocks>(
+        &mut self,
+        blocks: &mut B,
+        number: u32,
+        levels: u8,
+        root: Pointer,
+    ) -> Result<(), InodeFault>
+        requires there { B.told → is_some (file_at (rooted (B.shown blocks.old) self.old) number) ≡ true }
+        requires levels { levels ≤ 3 }
+        requires root { IsPointer root }
+        ensures set { B.told → OnOk result (SetsRoot (rooted (B.shown blocks.old) self.old) (rooted (B.shown blocks.new) self.new) number levels root) }
+        ensures failed { B.told → OnErr result (Remains (rooted (B.shown blocks.old) self.old) (rooted (B.shown blocks.new) self.new)) }
+        ensures owner { self.new.tree.owner ≡ self.old.tree.owner }
+        ensures stands { B.told → Stands (B.shown blocks.old) self.old.tree → Stands (B.shown blocks.new) self.new.tree }
+        ensures looks { Looks B.told (rooted (B.shown blocks.old) self.old) (B.shown blocks.old) (B.shown blocks.new) result }
+        ensures reads { B.reads blocks.old blocks.new }
+    {
+        let cell = number / EACH;
+        let slot = (number % EACH) as usize;
+        let mut files = read_files(&self.tree, blocks, cell)?;
+        if files[slot].name_length == 0 {
+            return Ok(());
+        }
+        files[slot] = with_root(&files[slot], levels, root);
+        refill_files(&mut self.tree, blocks, cell, &files)
+    }
+}
+
+/// A record with another root.
+fn with_root(file: &InodeRecord, levels: u8, root: Pointer) -> InodeRecord
+    ensures { result ≡ with_root levels root file.now }
+{
+    InodeRecord {
+        name_length: file.name_length,
+        name: file.name,
+        length: file.length,
+        reserve: file.reserve,
+        levels,
+        root,
+    }
+}
+
+/// Gives the inode block at a cell that stands these records, of which not all are free, under the stamp that it has.
+fn refill_files<B: Blocks>(
+    tree: &mut Tree,
+    blocks: &mut B,
+    cell: u32,
+    files: &[InodeRecord; 16],
+) -> Result<(), InodeFault>
+    requires there { B.told → is_some (block_at (standing (under (B.shown blocks.old)) tree.old) cell) ≡ true }
+    requires range { All IsInodeRecord files.now }
+    requires some { all_free files.now ≡ false }
+    ensures filled { B.told → OnOk result (FillsFiles (standing (under (B.shown blocks.old)) tree.old) (standing (under (B.shown blocks.new)) tree.new) cell files.now) }
+    ensures failed { B.told → OnErr result (Remains (standing (under (B.shown blocks.old)) tree.old) (standing (under (B.shown blocks.new)) tree.new)) }
+    ensures owner { tree.new.owner ≡ tree.old.owner }
+    ensures stands { B.told → Stands (B.shown blocks.old) tree.old → Stands (B.shown blocks.new) tree.new }
+    ensures untouched { IsUntouched (B.shown blocks.old) (B.shown blocks.new) }
+    ensures reads { B.reads blocks.old blocks.new }
+    ensures counts { Counts (B.shown blocks.old) (B.shown blocks.new) result }
+    ensures cause { IfErr result (Fails B.told (standing (under (B.shown blocks.old)) tree.old) (B.shown blocks.old) (B.shown blocks.new)) }
+{
+    let block = spelled(cell, files);
+    tree.refill(blocks, cell, &block)?;
+    Ok(())
+}

@@ -1,0 +1,20 @@
+use Rattle.std.proofs.Common.{◌≡◌, ap, sym, ◌∙◌, ℕ, List, nat_cmp}
+use Rattle.std.specs.FinMap as fin
+use Rattle.std.proofs.lemmas.Result.{IfOk-weaker, IfErr-weaker}
+use Rattle.fv_tree.specs.Spelled.{block_at}
+use Rattle.fv_tree.specs.Standing.{standing, under}
+use Rattle.fv_tree.proofs.Causes.{cell_fails, fails_later}
+use Rattle.fv_tree.proofs.kept.Tree.read.Goals as goal
+
+pub returns-clause-cell : goal.returns-clause-cell
+returns-clause-cell g c = λ told.
+    IfOk-weaker c.read_pointed.result _ _ (λ place is. ap (λ (held : fin.FinMap nat_cmp (List ℕ)). block_at (standing (λ v. fin.get held v) c.args.self.now) c.args.index) (sym c.find.ensures.untouched.held) ∙ is) (c.read_pointed.ensures.cell told)
+
+pub returns-clause-cause : goal.returns-clause-cause
+returns-clause-cause g c =
+    let old = g.B.Blocks.shown c.args.blocks.now in
+    let mid = g.B.Blocks.shown c.find.new.blocks in
+    let t = standing (under old) c.args.self.now in
+    let held : under old ≡ under mid = ap (λ h v. fin.get h v) (sym c.find.ensures.untouched.held) in
+    IfErr-weaker c.read_pointed.result _ _ (λ e h. fails_later g.B.Blocks.told t old mid (g.B.Blocks.shown c.read_pointed.new.blocks) e c.in_ok-pointer.ensures.counts.calm c.find.ensures.untouched.held
+    (cell_fails g.B.Blocks.told t mid (g.B.Blocks.shown c.read_pointed.new.blocks) c.args.index c.in_ok-pointer.pointer e held c.in_ok-pointer.ensures.pointer h)) c.read_pointed.ensures.cause

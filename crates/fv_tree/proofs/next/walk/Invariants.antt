@@ -1,0 +1,23 @@
+use Rattle.std.proofs.Common.{◌≡◌, ◌≢◌, ◌≤◌, ◌<◌, ◌/◌, ◌^◌}
+use Rattle.fv_model.specs.Trees.{fan}
+use Rattle.fv_tree.specs.Spelled.{pointer_at}
+use Rattle.fv_tree.specs.Sources.{IsCalm, IsUntouched}
+use Rattle.fv_tree.specs.Standing.{standing, under}
+use Rattle.fv_tree.specs.Seeking.{AreHoles}
+use Rattle.fv_tree.proofs.next.walk.Given as goal
+
+abbrev pub invariant-loop-level : goal.invariant-loop-level
+invariant-loop-level g l = record {
+  high : l.level ≤ l.fn.tree.levels;
+  low : l.from ≤ l.at;
+  within : l.at < 2097152;
+  some : l.pointer.stamp ≢ 0;
+  pointer : g.B.Blocks.told → l.pointer ≡ pointer_at (standing (under (g.B.Blocks.shown l.fn.blocks)) l.fn.tree) l.level (l.at / fan ^ l.level);
+  holes : g.B.Blocks.told → AreHoles (standing (under (g.B.Blocks.shown l.fn.blocks)) l.fn.tree) l.from l.at;
+  untouched : IsUntouched (g.B.Blocks.shown l.fn.blocks) (g.B.Blocks.shown l.blocks);
+  calm : IsCalm (g.B.Blocks.shown l.fn.blocks) (g.B.Blocks.shown l.blocks);
+  reads : g.B.Blocks.reads l.fn.blocks l.blocks;
+}
+
+abbrev pub decreases-loop-level : goal.decreases-loop-level
+decreases-loop-level g l = l.level

@@ -1,0 +1,76 @@
+-- Why calls on a tree fail over what a session lends.
+use Rattle.std.proofs.Common.{◌≡◌, ℕ, ap, subst, ◌∙◌, inl, inr, ⊎_elim, arith}
+use Rattle.std.specs.FinMap as fin
+use Rattle.fv_disk.specs.Shown.{Image, Rose}
+use Rattle.fv_disk.specs.declared.fault.BlockFault.{BlockFault}
+use Rattle.fv_disk.specs.declared.fault.BlockFault.TheVariants.{DiskFault, Damaged, Memory}
+use Rattle.fv_image.specs.Layout.{root_place}
+use Rattle.fv_codec.specs.declared.pointer.Pointer.{Pointer}
+use Rattle.fv_tree.specs.Sources.{Damage, HasCause}
+use Rattle.fv_tree.specs.Spelled.{Rooted, Under, pointer_at}
+use Rattle.fv_tree.specs.Standing.{Fails, IsNodeDamage}
+use Rattle.fv_volume.specs.declared.noted.Noted.{Noted}
+use Rattle.fv_container.specs.Chains.{Slots}
+use Rattle.fv_volmap.specs.Slots.{Volume}
+use Rattle.fv_volume.specs.Keeping.{Blocks}
+use Rattle.fv_volume.specs.BlocksOver.{block_of, held_entry}
+use Rattle.fv_volume.specs.Lending.{GoesFails, GoesOver, IsHole, IsOutOfRoom, LacksOne, Lent, ReadFails, ReadsOver, WasHole, WasLack, below, shown_over, use_of}
+
+-- a count that stays at 0 hasn't risen
+still_none : (before now : ℕ) → before ≡ 0 → now ≡ before → Rose before now → ⊥
+still_none before now none same (inl more) = absurd (omega (arith, none, same, more))
+still_none before now none same (inr top) = absurd (omega (arith, none, same, top))
+
+hole_is : (label : ℕ) (noted : Noted) (at want found : ℕ) → ◌≡◌ {A = Damage} (record { at = noted.at; want = noted.want; found = noted.found }) (record { at = at; want = want; found = found }) → WasHole label noted → IsHole label at want found
+hole_is label noted at want found is hole = subst (λ (d : Damage). IsHole label d.at d.want d.found) is hole
+
+lacks_is : (label root : ℕ) (noted : Noted) (at want found : ℕ) → ◌≡◌ {A = Damage} (record { at = noted.at; want = noted.want; found = noted.found }) (record { at = at; want = want; found = found }) → WasLack label root noted → LacksOne label root at want found
+lacks_is label root noted at want found is lacks = subst (λ (d : Damage). LacksOne label root d.at d.want d.found) is lacks
+
+-- after reads a pointer is read where it was before
+same_place : (old new : Lent) → ReadsOver old new → (p : Pointer) → (shown_over new).read_at p ≡ (shown_over old).read_at p
+same_place old new reads p = (λ j. (use_of (held_entry (reads.map j) (reads.containers j) (reads.home j).slot p.vvbn)).pvbn)
+
+pub read_fails : (told : Type 0) (t : Rooted) (old new : Lent) (e : BlockFault) → ReadsOver old new → old.noted.count ≡ 0 → Fails told t (shown_over old) (shown_over new) e → ReadFails told t old new.disk.faults e
+read_fails told t old new DiskFault reads none cause = cause.0
+read_fails told t old new (Damaged at want found) reads none (faults, inl (was, lacks)) = (
+  faults,
+  ⊎_elim
+      (λ same. absurd (still_none old.noted.count new.noted.count none (ap (λ (n : Noted). n.count) same) was.0))
+      (λ hole. inl (hole_is old.home.label new.noted at want found was.1 hole, lacks))
+      reads.noted,
+)
+read_fails told t old new (Damaged at want found) reads none (faults, inr (same, node)) = (faults, inr (λ is. moved (node is)))
+  where
+    moved : IsNodeDamage t (shown_over old) (shown_over new) at want found → IsNodeDamage t (shown_over old) (shown_over old) at want found
+    moved n = record {
+      level = n.level;
+      place = n.place;
+      low = n.low;
+      high = n.high;
+      damage = record { some = n.damage.some; block = n.damage.block; lies = n.damage.lies; fault = n.damage.fault; read = n.damage.read ∙ same_place old new reads (pointer_at t n.level n.place) };
+    }
+read_fails told t old new Memory reads none cause = cause.faults
+
+pub goes_fails : (old new : Lent) (e : BlockFault) → GoesOver old new → old.noted.count ≡ 0 → HasCause (shown_over old) (shown_over new) e → GoesFails old new.disk.faults new.room e
+goes_fails old new DiskFault goes none cause = cause.0
+goes_fails old new (Damaged at want found) goes none (faults, was) = (
+  faults,
+  ⊎_elim
+      (λ same. absurd (still_none old.noted.count new.noted.count none (ap (λ (n : Noted). n.count) same) was.0))
+      (λ why. ⊎_elim
+      (λ hole. inl (hole_is old.home.label new.noted at want found was.1 hole))
+      (λ (out : IsOutOfRoom old new). inr (out.none, lacks_is old.home.label (root_place old.pool.found.slot) new.noted at want found was.1 out.lacks))
+      why)
+      goes.noted,
+)
+goes_fails old new Memory goes none cause = cause.faults
+
+-- the blocks that kept blocks, entries, maps and reads show
+abbrev pub blocks_of : Blocks → Slots → Volume → ℕ → Image → Under
+blocks_of kept slots map slot i = λ v. fin.get (below 1048576 (λ w. block_of kept i (held_entry map slots slot w))) v
+
+-- what holds of the parts that a call had is said of the caller's
+pub of_lent : {K S M D H : Type 0} (says : K → S → M → D → H → Type 0) {p q : K} {s t : S} {m n : M} {d e : D} {h k : H} → p ≡ q → s ≡ t → m ≡ n → d ≡ e → h ≡ k → says p s m d h → says q t n e k
+of_lent says {p = p} {q = q} {s = s} {t = t} {m = m} {n = n} {d = d} {e = e} {h = h} kept slots map disk home is =
+    subst (λ x. says q t n e x) home (subst (λ x. says q t n x h) disk (subst (λ x. says q t x d h) map (subst (λ x. says q x m d h) slots (subst (λ x. says x s m d h) kept is))))

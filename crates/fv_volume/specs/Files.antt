@@ -1,0 +1,54 @@
+-- When volumes with files are volumes of the machine that they stand for.
+use Rattle.std.specs.Prelude.{◌≡◌, ◌≤◌, ℕ, Bool, true, ◌&&◌, None, IfSome}
+use Rattle.std.specs.Option.{is_none}
+use Rattle.fv_disk.specs.Shown.{Image}
+use Rattle.fv_codec.specs.Blocks.{IsLabel, last_place}
+use Rattle.fv_model.specs.Numbers.{greatest_span}
+use Rattle.fv_model.specs.Spelling.{is_name}
+use Rattle.fv_model.specs.Machines.{Machine}
+use Rattle.fv_laws.specs.WellFormed.{IsWellTable}
+use Rattle.fv_laws.specs.Positions.{HasNoReserve}
+use Rattle.fv_image.specs.Told.{has_none}
+use Rattle.fv_image.specs.Views.{Head, View}
+use Rattle.fv_charge.specs.Ledgers.{IsLedgerOf}
+use Rattle.fv_volume.specs.declared.state.VolumeState.{VolumeState}
+use Rattle.fv_volume.specs.declared.pool.Pool.{Pool}
+use Rattle.fv_volume.specs.Labels.{label_said}
+use Rattle.fv_volume.specs.States.{States, state_at, head_in, view_over}
+use Rattle.fv_volume.specs.Trees.{Trees, active_in, volume_now, machine_in}
+
+-- The forms of volumes with files that there are: no snapshot, no base and no unknown place.
+abbrev pub has_form : Head → Bool
+has_form h = has_none h.snapshots && (is_none h.base && h.known)
+
+-- what a volume's label rests on, whatever its table holds: its numbers and its name. It looks at no image.
+pub record IsLabelled (slot : ℕ) (x : VolumeState) : Type 0 where
+  pub slot_is : x.slot ≡ slot
+  pub form : has_form (head_in x) ≡ true
+  pub span : x.span ≤ greatest_span
+  pub map : x.map.span ≡ x.span
+  pub levels : x.active.levels ≤ 2
+  pub named : is_name x.name ≡ true
+  pub label : (container height : ℕ) → container ≤ last_place → 1 ≤ height → height ≤ 2 → IsLabel (label_said x container height)
+
+-- A volume in its slot: its label can be written, its active table is well-formed after the changes that it counts, and its ledger is that
+-- of the volume which the view tells with the trees in memory.
+pub record IsState (w : View) (trees : Trees) (slot : ℕ) (x : VolumeState) : Type 0 where
+  pub labelled : IsLabelled slot x
+  pub table : IsWellTable x.now (active_in w trees slot)
+  pub reserves : HasNoReserve (active_in w trees slot)
+  pub ledger : IsLedgerOf (volume_now w trees slot (head_in x)) x.ledger
+
+-- no two slots have one name
+abbrev pub AreNamed : States → Type 0
+AreNamed states = (s k : ℕ) → IfSome (state_at states s) (λ x. IfSome (state_at states k) (λ y. x.name ≡ y.name → s ≡ k))
+
+-- The volumes by slot. A slot without a volume has no trees.
+pub record AreStates (w : View) (trees : Trees) (states : States) : Type 0 where
+  pub each : (s : ℕ) → IfSome (state_at states s) (IsState w trees s)
+  pub names : AreNamed states
+  pub empty : (s : ℕ) → state_at states s ≡ None → trees s ≡ None
+
+-- A clause on the machine that a session stands for, over each image of which its volumes are volumes.
+abbrev pub Over : Pool → States → Trees → (Machine → Type 0) → Type 0
+Over pool states trees says = (i : Image) → AreStates (view_over pool states i) trees states → says (machine_in pool states trees i)
