@@ -1,6 +1,5 @@
-//! Images that another implementation wrote: what is read of them, and what one wrong word is answered by.
+//! Images that another implementation wrote, and what is read of them.
 
-use fv_aggregate::{OpenFault, Session};
 use fv_disk::{Block, Disk};
 use fv_memdisk::MemHost;
 use fv_run::run_script;
@@ -111,39 +110,4 @@ fn images_stand_for_their_volumes(rt: HostRuntime) -> Result<(), Fail> {
     let replies = b"a\nerr 9 aggregate full\nok\ndone 3\n";
     assert!(rt; tells(rt.alloc(), &WRAPPED, script, replies)?);
     Ok(())
-}
-
-/// Another byte in the image with three volumes: its block, its offset, and the wanted and the found number of opening it.
-type Wrong = (u64, usize, u8, u64, u64);
-
-/// A root, a bit past the last block, a label, one with a form that can't be loaded yet, a node and a leaf of a container, and a bit
-/// past the span.
-const WRONG: [Wrong; 10] = [
-    (3, 0, 0, 0x4656_524f_4f54_3030, 0x0056_524f_4f54_3030),
-    (5, 256, 1, 2047, 2048),
-    (10, 0, 0, 0x4656_4c41_4245_4c30, 0x0056_4c41_4245_4c30),
-    (10, 87, 3, 2, 3),
-    (10, 151, 0, 1, 0),
-    (10, 199, 5, 0, 5),
-    (9, 15, 3, 2, 3),
-    (8, 0, 0, 0x4656_434c_4541_4630, 0x0056_434c_4541_4630),
-    (8, 1035, 9, 8, 9),
-    (7, 512, 1, 4095, 4096),
-];
-
-/// What opening the image with three volumes answers where one byte is another one.
-fn fault_at(alloc: Global, at: u64, offset: usize, byte: u8) -> Option<OpenFault> {
-    let mut host = MemHost::new(alloc, Vec::new(alloc));
-    lay_out(&mut host, &THREE_VOLUMES);
-    patch(&mut host, at, offset, &[byte]);
-    Session::open(alloc, &mut host).err()
-}
-
-#[test]
-fn one_wrong_byte(rt: HostRuntime) {
-    for (at, offset, byte, want, found) in WRONG {
-        let fault = OpenFault::Damaged { at, want, found };
-        let answer = fault_at(rt.alloc(), at, offset, byte);
-        assert!(rt; answer == Some(fault));
-    }
 }

@@ -1,5 +1,5 @@
 //! Tests of maps, containers, sessions and runs over a host in memory: images that another implementation wrote, rows worked out
-//! by hand, calls that fail, counts of disk calls, and texts.
+//! by hand, calls that fail, and texts.
 #![tactic(auto)]
 
 #[cfg(test)]
@@ -10,8 +10,6 @@ mod failed;
 mod images;
 #[cfg(test)]
 mod maps;
-#[cfg(test)]
-mod points;
 #[cfg(test)]
 mod store;
 #[cfg(test)]

@@ -1,54 +1,11 @@
-//! The words of the command line, the numbers of a ledger, and the texts of faults.
+//! The numbers of a ledger, and the texts of faults.
 
 use fv_aggregate::{Fault, OpenFault};
 use fv_charge::{Ledger, overhead, span_of};
 use fv_model::Kind;
-use fv_run::{Order, WordsFault, read_words};
 use std::alloc::{AllocError, Global};
 use std::fmt::Display;
 use std::test::Fail;
-
-/// What words mean: the blocks of the aggregate that they make, and 0 for a run.
-fn meaning(alloc: Global, texts: &[&str]) -> Result<Option<u32>, AllocError> {
-    let mut words = Vec::new(alloc);
-    for text in texts {
-        words.push(String::from_str(alloc, text)?)?;
-    }
-    Ok(match read_words(words.as_slice()) {
-        Ok(Order::Create { blocks }) => Some(blocks),
-        Ok(Order::Run) => Some(0),
-        Err(WordsFault::Usage) => None,
-    })
-}
-
-const WORDS: [(&[&str], Option<u32>); 18] = [
-    (&["run"], Some(0)),
-    (&["create", "512"], Some(512)),
-    (&["create", "1048576"], Some(1_048_576)),
-    (&["create", "00000000000000001024"], Some(1024)),
-    (&[], None),
-    (&[""], None),
-    (&["create"], None),
-    (&["create", ""], None),
-    (&["create", "511"], None),
-    (&["create", "1048577"], None),
-    (&["create", "-5"], None),
-    (&["create", "+1024"], None),
-    (&["create", "000000000000000001024"], None),
-    (&["create", "99999999999999999999"], None),
-    (&["create", "1024", "5"], None),
-    (&["Create", "1024"], None),
-    (&["run", ""], None),
-    (&["-run"], None),
-];
-
-#[test]
-fn words_and_what_they_mean(rt: HostRuntime) -> Result<(), Fail> {
-    for (texts, want) in WORDS {
-        assert!(rt; meaning(rt.alloc(), texts)? == want);
-    }
-    Ok(())
-}
 
 const SPANS: [(u32, u32, u32, Option<u32>); 8] = [
     (1920, 0, 0, Some(4096)),

@@ -5,9 +5,13 @@
 #![tactic(auto)]
 
 mod create;
+mod cut;
 mod files;
+mod flush;
+mod hold;
 mod list;
 mod read;
+mod remove;
 mod write;
 
 pub use files::{Files, FilesFault};

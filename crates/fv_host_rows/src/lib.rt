@@ -1,4 +1,4 @@
-//! Tests of the hosts, in memory and over a real file, and of the fixed blocks of an aggregate over them.
+//! Tests of the hosts, in memory and over a real file.
 #![tactic(auto)]
 
 #[cfg(test)]
@@ -7,5 +7,3 @@ mod calls;
 mod file;
 #[cfg(test)]
 mod memory;
-#[cfg(test)]
-mod roots;

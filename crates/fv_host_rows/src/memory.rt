@@ -51,12 +51,22 @@ fn fill<D: Disk>(disk: &mut D) {
     put(disk, 1, 2);
 }
 
+/// What a crash at the end leaves.
+fn image_of(host: &MemHost, tear: Tear) -> Result<MemHost, AllocError> {
+    host.image(host.moments().saturating_sub(1), tear)
+}
+
+/// What blocks 1 and 2 hold.
+fn both<D: Disk>(disk: &mut D) -> [Option<u8>; 2] {
+    [get(disk, 1), get(disk, 2)]
+}
+
 /// What a crash leaves in blocks 1 and 2.
 fn torn(alloc: Global, tear: Tear) -> Result<[Option<u8>; 2], AllocError> {
     let mut host = begin(alloc, 0)?;
     fill(&mut host);
-    let mut image = host.image(host.moments() - 1, tear)?;
-    Ok([get(&mut image, 1), get(&mut image, 2)])
+    let mut image = image_of(&host, tear)?;
+    Ok(both(&mut image))
 }
 
 const TEARS: [(Tear, u8, u8); 6] = [
@@ -96,7 +106,7 @@ fn failing(alloc: Global) -> Result<MemHost, AllocError> {
 
 /// What a crash at the end leaves in block 5.
 fn left(host: &MemHost, tear: Tear) -> Result<Option<u8>, AllocError> {
-    let mut image = host.image(host.moments() - 1, tear)?;
+    let mut image = image_of(host, tear)?;
     Ok(get(&mut image, 5))
 }
 

@@ -2,7 +2,7 @@
 
 use crate::beside::Wrong;
 use crate::calls::{change, create, set_root};
-use crate::tables::{make, write};
+use crate::tables::{length, make, read, write};
 use fv_codec::Pointer;
 use fv_files::{Files, FilesFault};
 use fv_inode::InodeFile;
@@ -35,7 +35,7 @@ fn has(
     byte: u8,
 ) -> Result<bool, Wrong> {
     let mut into = full(255);
-    let there = table.read(blocks, name, index, &mut into)?;
+    let there = read(table, blocks, name, index, &mut into)?;
     Ok(there && into[0] == byte && into[4095] == byte)
 }
 
@@ -73,9 +73,9 @@ fn forty(alloc: Global) -> Result<bool, Wrong> {
             )?;
         same = same && has(&mut table, &mut blocks, &file, 300, 0)?;
     }
-    same = same && table.length(&mut blocks, &first)? == Some(201);
-    same = same && table.length(&mut blocks, &name(39)?)? == Some(40);
-    same = same && table.length(&mut blocks, &name(40)?)?.is_none();
+    same = same && length(&mut table, &mut blocks, &first)? == Some(201);
+    same = same && length(&mut table, &mut blocks, &name(39)?)? == Some(40);
+    same = same && length(&mut table, &mut blocks, &name(40)?)?.is_none();
     same = same && !has(&mut table, &mut blocks, &name(40)?, 0, 0)?;
     Ok(same && table.list(&mut blocks)?.as_slice().len() == 40 && blocks.calls() == 0)
 }
@@ -130,7 +130,7 @@ fn failed(alloc: Global, call: u64) -> Result<(Option<FilesFault>, bool), Wrong>
         same = same && write(&mut table, &mut blocks, &file, 200, &full(9), 5)?;
     }
     same = same && has(&mut table, &mut blocks, &file, 200, 9)?;
-    same = same && table.length(&mut blocks, &file)? == Some(201);
+    same = same && length(&mut table, &mut blocks, &file)? == Some(201);
     Ok((fault, same))
 }
 

@@ -30,7 +30,8 @@ pub fn make<B: Blocks>(
 ///
 /// # Errors
 ///
-/// As `Files::write`.
+/// As `Files::find` and `Files::write`.
+#[tactic(auto, using(fv_files::proofs::Tables::first_info))]
 pub fn write<B: Blocks>(
     table: &mut Files,
     blocks: &mut B,
@@ -42,5 +43,49 @@ pub fn write<B: Blocks>(
     if stamp == 0 || index >= MOST_CELLS {
         return Ok(false);
     }
-    table.write(blocks, name, index, block, stamp)
+    match table.find(blocks, name)? {
+        None => Ok(false),
+        Some(info) => {
+            table.write(blocks, &info, index, block, stamp)?;
+            Ok(true)
+        }
+    }
+}
+
+/// Reads a block of a file; false where there is no such file.
+///
+/// # Errors
+///
+/// As `Files::find` and `Files::read`.
+#[tactic(auto, using(fv_files::proofs::Tables::first_info))]
+pub fn read<B: Blocks>(
+    table: &mut Files,
+    blocks: &mut B,
+    name: &Name,
+    index: u32,
+    into: &mut [u8; 4096],
+) -> Result<bool, FilesFault> {
+    match table.find(blocks, name)? {
+        None => Ok(false),
+        Some(info) => {
+            table.read(blocks, &info, index, into)?;
+            Ok(true)
+        }
+    }
+}
+
+/// The length of a file; `None` where there is no such file.
+///
+/// # Errors
+///
+/// As `Files::find`.
+pub fn length<B: Blocks>(
+    table: &mut Files,
+    blocks: &mut B,
+    name: &Name,
+) -> Result<Option<u32>, FilesFault> {
+    match table.find(blocks, name)? {
+        None => Ok(None),
+        Some(info) => Ok(Some(info.length)),
+    }
 }

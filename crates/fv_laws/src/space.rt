@@ -88,7 +88,8 @@ pub fn a_change_charges_its_path()
         → charge (stamped x (rm x.active n)) + taken_by_rm x.active n f ≡ charge x + staying x (rm_places x.active n f) }
 {}
 
-/// Without snapshots, a base and reserves a `cut` and an `rm` use no more than before, so an admitted machine never refuses them for space.
+/// A volume with a well-formed table and without snapshots, a base and reserves uses no more after a `cut` or an `rm` of one of its files
+/// than before.
 #[tactic(auto, using(crate::proofs::PathCharges::cut_uses_less, crate::proofs::PathCharges::rm_uses_less))]
 pub fn removals_use_no_more()
     ensures cut { (x : Volume) → IsAlone x → IsWellTable x.now x.active → HasNoReserve x.active → (n : ℕ) (f : File) (most : ℕ) → fin.get x.active.files n ≡ Some f

@@ -102,6 +102,24 @@ fn each_place_fails(rt: HostRuntime) -> Result<(), Fail> {
     Ok(())
 }
 
+/// What is pending in a tree that got three cells, how many blocks its flush places, and what is pending then.
+fn pending(alloc: Global, other: u32) -> Result<(u64, u64, u64), TreeFault> {
+    let mut blocks = MemBlocks::new(alloc);
+    let mut tree = written(alloc, OWNER, &mut blocks, other)?;
+    let before = tree.pending();
+    let start = blocks.calls();
+    tree.flush(&mut blocks)?;
+    let placed = blocks.calls().saturating_sub(start);
+    Ok((before, placed, tree.pending()))
+}
+
+#[test]
+fn a_flush_places_what_is_pending(rt: HostRuntime) -> Result<(), Fail> {
+    assert_eq!(rt; pending(rt.alloc(), 16_384), Ok((9, 9, 0)));
+    assert_eq!(rt; pending(rt.alloc(), 127), Ok((6, 6, 0)));
+    Ok(())
+}
+
 /// A call on a stored tree.
 #[derive(Clone, Copy)]
 enum Call {
@@ -127,8 +145,14 @@ fn make(tree: &mut Tree, blocks: &mut MemBlocks, call: Call) -> Result<(), TreeF
             tree.refill(blocks, index, &block(9))?;
             Ok(())
         }
-        Call::Remove(index) => tree.remove(blocks, index, 0, 9),
-        Call::Cut(length) => tree.cut(blocks, length, 0, 9),
+        Call::Remove(index) => {
+            tree.remove(blocks, index, 0, 9)?;
+            Ok(())
+        }
+        Call::Cut(length) => {
+            tree.cut(blocks, length, 0, 9)?;
+            Ok(())
+        }
     }
 }
 

@@ -14,8 +14,8 @@ use std::collections::BTreeMap;
 /// How many VVBNs there are.
 const MOST: u32 = 1_000_000;
 
-/// A map of blocks in memory that counts its calls. The block under VVBN `v` reads at PVBN `v + 1`. With each
-/// block it keeps the PVBN that `place` answered, and its kind. No call of a tree changes which VVBN is hidden.
+/// A map of blocks in memory that counts its calls. The block under VVBN `v` reads at PVBN `v + 1`, and each load
+/// is one look-up. With each block it keeps the PVBN that `place` answered, and its kind. No call of a tree changes which VVBN is hidden.
 #[derive(Drop)]
 pub struct MemBlocks {
     blocks: BTreeMap<u32, ([u8; 4096], u32, u8)>,
@@ -23,6 +23,7 @@ pub struct MemBlocks {
     faults: u64,
     fails_in: u64,
     calls: u64,
+    loads: u64,
     placed: [u64; 8],
     dropped: u64,
     strays: u64,
@@ -38,6 +39,7 @@ impl MemBlocks {
             faults: 0,
             fails_in: u64::MAX,
             calls: 0,
+            loads: 0,
             placed: [0; 8],
             dropped: 0,
             strays: 0,
@@ -52,6 +54,8 @@ impl MemBlocks {
     /// `AllocError` for want of memory.
     pub fn copy(&self) -> Result<MemBlocks, AllocError>
         ensures blocks { IfOk result (λ b. b.blocks.entries ≡ self.now.blocks.entries) }
+        ensures next { IfOk result (λ b. b.next ≡ self.now.next) }
+        ensures loads { IfOk result (λ b. b.loads ≡ self.now.loads) }
         ensures strays { IfOk result (λ b. b.strays ≡ self.now.strays) }
         ensures faults { IfOk result (λ b. b.faults ≡ self.now.faults) }
     {
@@ -95,6 +99,7 @@ impl MemBlocks {
         ensures blocks { self.new.blocks ≡ self.old.blocks }
         ensures faults { self.new.faults ≡ self.old.faults }
         ensures next { self.new.next ≡ self.old.next }
+        ensures loads { self.new.loads ≡ self.old.loads }
         ensures strays { self.new.strays ≡ self.old.strays }
         ensures unknown { self.new.unknown ≡ self.old.unknown }
     {
@@ -121,6 +126,8 @@ impl MemBlocks {
         ensures rose { Rose self.old.faults self.new.faults }
         ensures later { self.old.faults ≤ self.new.faults }
         ensures fault { result ≡ DiskFault }
+        ensures next { self.new.next ≡ self.old.next }
+        ensures loads { self.new.loads ≡ self.old.loads }
         ensures strays { self.new.strays ≡ self.old.strays }
         ensures unknown { self.new.unknown ≡ self.old.unknown }
     {
@@ -150,7 +157,7 @@ fn count_gone(dropped: &mut u64, strays: &mut u64, found: bool)
 }
 
 impl Blocks for MemBlocks {
-    ghost shown = { λ b. shown_in_memory b.blocks b.strays b.faults };
+    ghost shown = { λ b. shown_in_memory b.blocks b.next b.loads b.strays b.faults };
 
     ghost told = { Unit {0} };
 
@@ -158,7 +165,7 @@ impl Blocks for MemBlocks {
 
     ghost goes = { λ a b. b.unknown ≡ a.unknown };
 
-    ghost laws = { λ b. in_memory_is_source b.blocks b.strays b.faults };
+    ghost laws = { λ b. in_memory_is_source b.blocks b.next b.loads b.strays b.faults };
 
     ghost reads_nothing = { λ b. refl };
 
@@ -174,11 +181,15 @@ impl Blocks for MemBlocks {
         if self.is_spent() || pointer.vvbn >= u64::from(MOST) {
             return Err(self.fault());
         }
+        if self.loads == u64::MAX {
+            return Err(TreeFault::Memory);
+        }
         let vvbn = pointer.vvbn as u32;
         match self.blocks.get(&vvbn) {
             Some(kept) => *into = kept.0,
             None => return Err(self.fault()),
         }
+        self.loads += 1;
         Ok(vvbn + 1)
     }
 

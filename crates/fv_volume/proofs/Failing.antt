@@ -1,20 +1,23 @@
 -- Why calls on a tree fail over what a session lends.
-use Rattle.std.proofs.Common.{◌≡◌, ℕ, ap, subst, ◌∙◌, inl, inr, ⊎_elim, arith}
+use Rattle.std.proofs.Common.{◌≡◌, ℕ, refl, ap, subst, ◌∙◌, inl, inr, ⊎_elim, arith}
 use Rattle.std.specs.FinMap as fin
-use Rattle.fv_disk.specs.Shown.{Image, Rose}
+use Rattle.fv_disk.specs.Shown.{Image, Rose, Shown as Disk}
+use Rattle.fv_disk.specs.DiskCalls.{OnlyReads}
 use Rattle.fv_disk.specs.declared.fault.BlockFault.{BlockFault}
 use Rattle.fv_disk.specs.declared.fault.BlockFault.TheVariants.{DiskFault, Damaged, Memory}
 use Rattle.fv_image.specs.Layout.{root_place}
 use Rattle.fv_codec.specs.declared.pointer.Pointer.{Pointer}
-use Rattle.fv_tree.specs.Sources.{Damage, HasCause}
+use Rattle.fv_tree.specs.Sources.{Damage, HasCause, IsUntouched}
 use Rattle.fv_tree.specs.Spelled.{Rooted, Under, pointer_at}
 use Rattle.fv_tree.specs.Standing.{Fails, IsNodeDamage}
+use Rattle.fv_volume.specs.declared.blocks.Home.{Home}
 use Rattle.fv_volume.specs.declared.noted.Noted.{Noted}
+use Rattle.fv_volume.specs.declared.pool.Pool.{Pool}
 use Rattle.fv_container.specs.Chains.{Slots}
 use Rattle.fv_volmap.specs.Slots.{Volume}
 use Rattle.fv_volume.specs.Keeping.{Blocks}
-use Rattle.fv_volume.specs.BlocksOver.{block_of, held_entry}
-use Rattle.fv_volume.specs.Lending.{GoesFails, GoesOver, IsHole, IsOutOfRoom, LacksOne, Lent, ReadFails, ReadsOver, WasHole, WasLack, below, shown_over, use_of}
+use Rattle.fv_volume.specs.BlocksOver.{LeavesPool, block_of, held_entry, steps_by}
+use Rattle.fv_volume.specs.Lending.{GoesFails, GoesOver, IsHole, IsOutOfRoom, LacksOne, Lent, ReadFails, ReadsOver, WasHole, WasLack, below, lent_by, shown_over, use_of, use_under}
 
 -- a count that stays at 0 hasn't risen
 still_none : (before now : ℕ) → before ≡ 0 → now ≡ before → Rose before now → ⊥
@@ -65,6 +68,17 @@ goes_fails old new (Damaged at want found) goes none (faults, was) = (
       goes.noted,
 )
 goes_fails old new Memory goes none cause = cause.faults
+
+-- what a tree sees after a block was read, whatever was counted
+pub still_shown : (map : Volume) (pool after : Pool) (disk later : Disk) (steps made : ℕ) (home : Home) (room strays : ℕ) (noted last : Noted) → LeavesPool pool after → OnlyReads disk later
+    → IsUntouched (shown_over (lent_by pool map disk steps home room strays noted)) (shown_over (lent_by after map later made home room strays last))
+still_shown map pool after disk later steps made home room strays noted last leaves reads = record {
+  held = λ j. below 1048576 (λ w. block_of (leaves.kept j) (reads.stays.reads j) (held_entry map (leaves.containers j) home.slot w));
+  used = λ j. use_under map (leaves.containers j) home.slot;
+  strays = refl;
+  room = refl;
+  cost = λ j p. steps_by (held_entry map (leaves.containers j) home.slot p.vvbn) p.pvbn;
+}
 
 -- the blocks that kept blocks, entries, maps and reads show
 abbrev pub blocks_of : Blocks → Slots → Volume → ℕ → Image → Under

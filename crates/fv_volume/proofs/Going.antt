@@ -10,12 +10,13 @@ use Rattle.fv_disk.specs.Shown.{Shown as Disk}
 use Rattle.fv_disk.specs.declared.fault.BlockFault.{BlockFault}
 use Rattle.fv_disk.specs.declared.fault.BlockFault.TheVariants.{DiskFault, Damaged, Memory}
 use Rattle.fv_bits.specs.Members.{is_member}
-use Rattle.fv_aggmap.specs.Space.{Space, free_blocks}
+use Rattle.fv_aggmap.specs.Space.{IsFull, Space, free_blocks}
 use Rattle.fv_aggmap.proofs.Room.{one_is_found}
 use Rattle.fv_container.specs.declared.entry.Entry.{Entry}
 use Rattle.fv_container.specs.Chains.{Slots, container_at, own_entry, with_container}
 use Rattle.fv_container.specs.Mapped.{Mapped, with_entry}
 use Rattle.fv_tree.specs.declared.blocks.Placed.{Placed}
+use Rattle.fv_tree.specs.Sources.{IsDamaged}
 use Rattle.fv_volmap.specs.Slots.{Volume, active_of, slot_at}
 use Rattle.fv_volume.specs.declared.blocks.Home.{Home}
 use Rattle.fv_volume.specs.declared.noted.Noted.{Noted}
@@ -29,6 +30,17 @@ use Rattle.fv_volume.proofs.Shows.{member_cleared, member_set, none_free}
 -- ---- faults
 
 -- a place notes want of room or nothing
+-- why no block was placed, in numbers
+none_left : (space : Space) → IsFull space → (n : ℕ) → free_blocks space ≡ n → free_blocks space ≡ 0
+none_left space full zero is = is
+none_left space full (suc n) is = absurd (one_is_found space (omega (arith, is)) full)
+
+pub place_lacks : (space : Space) (map : Volume) (root label : ℕ) (fault : BlockFault) → LacksPlace space map root label fault → IsDamaged fault → (free_numbers map ≡ 0) ⊎ (free_blocks space ≡ 0)
+place_lacks space map root label DiskFault lacks damaged = absurd lacks
+place_lacks space map root label Memory lacks damaged = absurd damaged
+place_lacks space map root label (Damaged at want found) (want_is, found_is, inl (at_is, taken)) damaged = inl (none_free map taken)
+place_lacks space map root label (Damaged at want found) (want_is, found_is, inr (at_is, full)) damaged = inr (none_left space full (free_blocks space) refl)
+
 pub place_notes : (space : Space) (map : Volume) (root label : ℕ) (fault : BlockFault) (old new : Noted) → LacksPlace space map root label fault → Notes old fault new
     → (new ≡ old) ⊎ (WasLack label root new × ((free_numbers map ≡ 0) ⊎ (free_blocks space ≡ 0)))
 place_notes space map root label DiskFault old new lacks notes = absurd lacks
@@ -38,15 +50,11 @@ place_notes space map root label (Damaged at want found) old new (want_is, found
     inr (record { want_is = notes.3 ∙ want_is; found_is = notes.4 ∙ found_is; at_is = ap (λ t. t || (new.at == root)) same }, inl (none_free map taken))
 place_notes space map root label (Damaged at want found) old new (want_is, found_is, inr (at_is, full)) notes =
     let same : (new.at == root) ≡ true = grind (arith, nat_tests, notes.2 ∙ at_is) in
-    inr (record { want_is = notes.3 ∙ want_is; found_is = notes.4 ∙ found_is; at_is = ap (λ t. (new.at == label) || t) same ∙ either (new.at == label) }, inr (none_left (free_blocks space) refl))
+    inr (record { want_is = notes.3 ∙ want_is; found_is = notes.4 ∙ found_is; at_is = ap (λ t. (new.at == label) || t) same ∙ either (new.at == label) }, inr (none_left space full (free_blocks space) refl))
   where
     either : (t : Bool) → (t || true) ≡ true
     either true = refl
     either false = refl
-
-    none_left : (n : ℕ) → free_blocks space ≡ n → free_blocks space ≡ 0
-    none_left zero is = is
-    none_left (suc n) is = absurd (one_is_found space (omega (arith, is)) full)
 
 -- ---- nothing but the damages changed
 

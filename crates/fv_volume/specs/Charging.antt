@@ -5,17 +5,7 @@ use Rattle.fv_model.specs.Trees.{fan, levels_with}
 use Rattle.fv_model.specs.Volumes.{Volume}
 use Rattle.fv_tables.specs.Spelled.{Rooted, pointer_at}
 use Rattle.fv_charge.specs.declared.delta.Delta.{Delta}
-
--- how many pointers over a cell lead somewhere: those to the cell and to the nodes over it. They are those of the upper levels, since
--- nothing stands under a hole.
-unfoldable pub found_at : Rooted → ℕ → ℕ
-found_at t i = count_by (λ k. not ((pointer_at t k (i / fan ^ k)).stamp == 0)) (range_with_len 0 (t.levels + 1))
-
--- how many positions a write of cell i adds to a tree
-unfoldable pub added_at : Rooted → ℕ → ℕ
-added_at t i =
-    (levels_with t.levels i + 1 - found_at t i)
-    + (if t.root.stamp == 0 then 0 else levels_with t.levels i - t.levels - 1)
+unfoldable pub use Rattle.fv_tree.specs.Counting.{found_at, added_at}
 
 -- a change of a ledger by so many blocks more, or fewer, and by nothing else
 pub record AddsBlocks (x : Volume) (count : ℕ) (d : Delta) : Type 0 where

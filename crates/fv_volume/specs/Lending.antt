@@ -21,7 +21,7 @@ use Rattle.fv_volmap.specs.Slots.{Volume, active_of, slot_at}
 use Rattle.fv_volume.specs.declared.blocks.Home.{Home}
 use Rattle.fv_volume.specs.declared.noted.Noted.{Noted}
 use Rattle.fv_volume.specs.declared.pool.Pool.{Pool}
-use Rattle.fv_volume.specs.BlocksOver.{AreApart, entries_in, held_block, held_entry}
+use Rattle.fv_volume.specs.BlocksOver.{AreApart, entries_in, held_block, held_entry, steps_by}
 
 -- What a session lends for one volume: the pool, the volume's maps, the disk, and the counter of steps; with the volume that is
 -- meant, the room that was made for its blocks, the strays, and the damages that were answered.
@@ -69,14 +69,17 @@ pub record LacksOne (label root at want found : ℕ) : Type 0 where
   pub found_is : found ≡ 0
   pub at_is : (at == label || at == root) ≡ true
 
--- What a tree sees: the blocks that are held, the active map with the entries of its members, the faults of the disk, and the
--- damages that were answered.
+-- What a tree sees: the blocks that are held, the active map with the entries of its members, the room that was made, the steps that
+-- pointers cost and those that were made, the faults of the disk, and the damages that were answered.
 abbrev pub shown_over : Lent → Shown
 shown_over l = record {
   held = blocks_held l.map l.pool l.home.slot l.disk.reads;
   used = use_under l.map l.pool.containers l.home.slot;
   strays = l.strays;
   read_at = λ p. (use_of (held_entry l.map l.pool.containers l.home.slot p.vvbn)).pvbn;
+  room = l.room;
+  cost = λ p. steps_by (held_entry l.map l.pool.containers l.home.slot p.vvbn) p.pvbn;
+  spent = l.steps;
   faults = l.disk.faults;
   damages = l.noted.count;
   last = record { at = l.noted.at; want = l.noted.want; found = l.noted.found };

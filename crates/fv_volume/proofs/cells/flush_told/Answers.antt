@@ -23,3 +23,9 @@ returns-clause-tree g c =
       spells = c.flush-result.ensures.stored;
       reaches = c.flush-result.ensures.reaches;
     })
+
+pub returns-clause-fits : goal.returns-clause-fits
+returns-clause-fits g c = λ told stands. let fits = c.flush-result.ensures.fits told stands in (fits.fewer, fits.room)
+
+pub returns-clause-enough : goal.returns-clause-enough
+returns-clause-enough g c = λ told stands. c.flush-result.ensures.enough told stands

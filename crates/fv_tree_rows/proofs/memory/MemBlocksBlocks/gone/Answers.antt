@@ -1,4 +1,4 @@
-use Rattle.std.proofs.Common.{◌≡◌, ℕ, List, is_some, inl, refl, sym, ap, ◌∙◌}
+use Rattle.std.proofs.Common.{◌≡◌, ℕ, List, is_some, inl, refl, sym, ap, ◌∙◌, arith}
 use Rattle.std.specs.Ordering.{nat_cmp}
 use Rattle.std.specs.BTreeMap as tree
 use Rattle.fv_tree_rows.specs.InMemory.{use_in_memory, used_in_memory}
@@ -12,5 +12,7 @@ returns-clause-drops c =
       used = no_longer_seen use_in_memory c.args.self.now.blocks c.remove.new.self c.args.vvbn c.remove.ensures.updates;
       named = λ some. c.count_gone.ensures.named (found ∙ some);
       stray = λ none. c.count_gone.ensures.stray (found ∙ ap is_some none);
-      calm = record { faults = refl; damages = refl };
+      room = omega arith;
+      spent = refl;
+      calm = record { faults = refl; damages = refl; spent = omega arith };
     }

@@ -22,7 +22,15 @@ returns-clause-places c =
       vvbn = omega arith;
       pvbn = omega (arith, c.pvbn_of-pvbn.ensures);
       strays = c.is_spent.ensures.strays;
+      room = omega (arith, c.is_spent.ensures.next);
+      enough = λ _. tt;
+      spent = c.is_spent.ensures.loads;
       failed = tt;
-      counts = record { faults = omega (arith, c.is_spent.ensures.faults); damages = omega arith; calm = record { faults = c.is_spent.ensures.faults; damages = refl } };
+      counts = record {
+        faults = omega (arith, c.is_spent.ensures.faults);
+        damages = omega arith;
+        spent = omega (arith, c.is_spent.ensures.loads);
+        calm = record { faults = c.is_spent.ensures.faults; damages = refl; spent = omega (arith, c.is_spent.ensures.loads) };
+      };
       cause = tt;
     }

@@ -34,5 +34,7 @@ returns-clause-drops g c =
       used = use_gone map c.drop_number.new.map v c.drop_number.ensures.valid c.drop_number.ensures.released slots slot;
       named = λ some. c.drop_number.ensures.named (used_member map slots slot v some);
       stray = λ none. c.drop_number.ensures.stray (unused_member map slots slot v none);
-      calm = record { faults = refl; damages = refl };
+      room = omega arith;
+      spent = refl;
+      calm = record { faults = refl; damages = refl; spent = omega arith };
     }

@@ -2,7 +2,8 @@ use Rattle.std.proofs.Common.{rules, ◌≤◌, ◌≡◌, ◌⊎◌, refl, sym,
 use Rattle.fv_image.specs.Layout.{root_place}
 use Rattle.fv_volume.specs.BlocksOver.{block_of}
 use Rattle.fv_volume.specs.Lending.{GoesOver, IsOutOfRoom, WasHole, lent_by}
-use Rattle.fv_volume.proofs.Going.{goes_failed, goes_placed, place_notes}
+use Rattle.fv_tree.specs.Sources.{IsDamaged}
+use Rattle.fv_volume.proofs.Going.{goes_failed, goes_placed, place_lacks, place_notes}
 use Rattle.fv_volume.proofs.Shows.{get_held, held_more, not_active, use_none, use_placed}
 use Rattle.fv_volume.proofs.volume_blocks.VolumeBlocksBlocks.place.Goals as goal
 
@@ -24,9 +25,33 @@ returns-in-Ok-clause-places g c =
       vvbn = c.in-Ok.ensures.vvbn;
       pvbn = c.in-Ok.ensures.placed.takes.greatest;
       strays = refl;
+      room = omega (arith, c.saturating_sub-self.ensures);
+      enough = λ _. tt;
+      spent = refl;
       failed = tt;
       counts = search rules;
       cause = tt;
+    }
+
+pub returns-in-Err-clause-places : goal.returns-in-Err-clause-places
+returns-in-Err-clause-places g c =
+    let self = c.args.self.now in
+    let pool = self.pool.now in
+    record {
+      fresh = tt;
+      unused = tt;
+      held = λ _. tt;
+      used = tt;
+      vvbn = tt;
+      pvbn = tt;
+      strays = refl;
+      room = tt;
+      enough = λ some damaged. some (⊎_elim (λ none. omega (arith, none, self.numbers)) (λ none. omega (arith, none, self.blocks))
+          (place_lacks pool.map self.map.now (root_place pool.found.slot) self.home.label c.in-Err.fault c.in-Err.ensures.fault (subst IsDamaged c.note.ensures.same damaged)));
+      spent = refl;
+      failed = search rules;
+      counts = search rules;
+      cause = search rules;
     }
 
 pub returns-in-Ok-clause-calls : goal.returns-in-Ok-clause-calls
