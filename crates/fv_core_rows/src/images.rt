@@ -118,13 +118,12 @@ type Wrong = (u64, usize, u8, u64, u64);
 
 /// A root, a bit past the last block, a label, one with a form that can't be loaded yet, a node and a leaf of a container, and a bit
 /// past the span.
-const WRONG: [Wrong; 10] = [
+const WRONG: [Wrong; 9] = [
     (3, 0, 0, 0x4656_524f_4f54_3030, 0x0056_524f_4f54_3030),
     (5, 256, 1, 2047, 2048),
     (10, 0, 0, 0x4656_4c41_4245_4c30, 0x0056_4c41_4245_4c30),
     (10, 87, 3, 2, 3),
     (10, 151, 0, 1, 0),
-    (10, 199, 5, 0, 5),
     (9, 15, 3, 2, 3),
     (8, 0, 0, 0x4656_434c_4541_4630, 0x0056_434c_4541_4630),
     (8, 1035, 9, 8, 9),

@@ -1,141 +1,49 @@
--- The course of a consistency point: its start, and a slot more.
-use Rattle.std.proofs.Common.{◌≡◌, ◌≢◌, ℕ, suc, ◌+◌, ◌<◌, ◌≤◌, Bool, true, false, cond, List, length, All, refl, sym, ap, subst, ◌∙◌, arith, ⊎_elim, inl, inr, Ok, Result, get_or, length-set}
+-- The course of a consistency point as the code goes it: the kept blocks are written, and then a slot more.
+use Rattle.std.proofs.Common.{◌≡◌, ◌≢◌, ℕ, suc, ◌+◌, ◌<◌, ◌≤◌, Bool, true, false, cond, List, length, All, refl, sym, ap, subst, ◌∙◌, arith, ⊎_elim, Ok, Result, length-set}
 use Rattle.std.specs.Prelude.{Option, Some, None, IsTrue, IfSome}
+use Rattle.std.specs.FinMap as fin
 use Rattle.std.proofs.lemmas.Bool.{cases_eq}
 use Rattle.std.proofs.lemmas.List.{get_or-set_same, get_or-set_other}
 use Rattle.std.proofs.lemmas.List.Elements.{All-set}
 use Rattle.fv_disk.specs.declared.Failed.{Failed}
-use Rattle.fv_disk.specs.Shown.{Image, Shown, IsDisk}
+use Rattle.fv_disk.specs.Shown.{Shown}
 use Rattle.fv_disk.specs.Sparing.{Spares}
-use Rattle.fv_disk.proofs.Sparing.{spares_none}
 use Rattle.fv_codec.specs.Blocks.{last_place}
-use Rattle.fv_bits.specs.Members.{is_member}
 use Rattle.fv_model.specs.Machines.{Machine}
-use Rattle.fv_image.specs.NewerRoot.{Taken}
-use Rattle.fv_image.specs.Maps.{map_bit}
-use Rattle.fv_image.specs.Held.{Layout, layout_at, label_place, with_bits}
-use Rattle.fv_image.specs.Whole.{IsWhole, is_held_by}
-use Rattle.fv_image.proofs.Named.{slot_in}
-use Rattle.fv_image.proofs.Rewritten.{held_has_bit, same_under}
-use Rattle.fv_image.proofs.WholeImages.{sound_is_whole}
 use Rattle.fv_container.specs.Mapped.{Mapped}
 use Rattle.fv_container.specs.Chains.{Slots, container_at, with_container}
-use Rattle.fv_root.specs.declared.find.Found.{Found}
-use Rattle.fv_root.specs.Finding.{IsInRange, root_found}
+use Rattle.fv_root.specs.Finding.{IsInRange}
 use Rattle.fv_store.specs.Held.{StandsOn}
 use Rattle.fv_aggmap.specs.Space.{Space, blocks_of, free_blocks}
 use Rattle.fv_volume.specs.declared.pool.Pool.{Pool}
 use Rattle.fv_volume.specs.declared.state.VolumeState.{VolumeState}
-use Rattle.fv_volume.specs.States.{IsState, States, state_at}
-use Rattle.fv_volume.specs.Loading.{Houses, IsLoaded}
-use Rattle.fv_cp.specs.Lent.{AreHoused, IsLent, IsUnnamed, asked_by, blocks_asked}
+use Rattle.fv_volume.specs.Keeping.{seen}
+use Rattle.fv_volume.specs.States.{States, state_at}
+use Rattle.fv_volume.specs.Loading.{Houses}
+use Rattle.fv_cp.specs.Lent.{AreHoused, IsLent, asked_by, blocks_asked}
 use Rattle.fv_cp.specs.Steps.{IsTaken, on_disk}
-use Rattle.fv_cp.specs.Course.{GoesPast, HasCome, IsPassed, IsSlotWritten, IsWrittenTo, asked_from, found_with, settled_at}
-use Rattle.fv_cp.proofs.OneSlot.{not_new, one_more, settled_same, waits}
+use Rattle.fv_cp.specs.Course.{GoesPast, HasCome, IsCourse, IsPassed, IsSlotWritten, asked_from}
 use Rattle.fv_cp.proofs.Settling.{asked_on}
 use Rattle.fv_cp.proofs.Sparing.{then_spares}
-use Rattle.fv_cp.proofs.StillLoaded.{still_loaded}
+use Rattle.fv_cp.proofs.Stepping.{course_begins, course_goes_on, course_passes, own_now}
 
 -- ---- the start
 
-module _ (disk : Shown) (pool : Pool) (states : States) (before : Machine) (lent : IsLent disk pool states before) where
-  abbrev t : Taken
-  t = root_found pool.found
-
-  abbrev u : Taken
-  u = root_found (found_with pool.found pool.found.root.labels)
-
-  member_bits : (b : ℕ) → map_bit t disk.reads b ≡ is_member pool.map.next b
-  member_bits b = sym (lent.map.bits b) ∙ ap (λ (xs : List Bool). is_member xs b) (sym lent.map.same)
-
-  pub whole_at_first : IsWhole (with_bits (is_member pool.map.next) (layout_at t disk.reads))
-  whole_at_first = sound_is_whole t disk.reads (is_member pool.map.next) member_bits lent.tells.sound
-
-  under_new : with_bits (is_member pool.map.next) (layout_at u disk.reads) ≡ with_bits (is_member pool.map.next) (layout_at t disk.reads)
-  under_new = same_under t u disk.reads (is_member pool.map.next) refl refl refl
-
-  same_place : (s : ℕ) → label_place u s ≡ label_place t s
-  unfolding label_place
-  same_place s = refl
-
-  whole_under_new : IsWhole (with_bits (is_member pool.map.next) (layout_at u disk.reads))
-  whole_under_new = subst (λ (y : Layout). IsWhole y) (sym under_new) whole_at_first
-
-  pub written_none : IsWrittenTo pool.found states 0 pool.found.root.labels pool disk.reads
-  written_none = record {
-    whole = whole_under_new;
-    done = λ s low inside. absurd (omega (arith, low));
-    waiting = λ s high inside. ⊎_elim
-        (λ (loaded : IsLoaded disk.reads pool.found s (state_at states s) (container_at pool.containers s)). inl (still_loaded pool.found (found_with pool.found pool.found.root.labels) disk.reads disk.reads s inside (same_place s) (λ b held. refl) (state_at states s) (container_at pool.containers s) loaded))
-        (λ (new : IsUnnamed pool.found s (state_at states s) (container_at pool.containers s)). inr (record {
-          free = same_place s ∙ new.free;
-          name = new.name;
-          size = new.size;
-          kind = new.kind;
-          made = new.made;
-        }))
-        (lent.slots s inside);
-    old = λ s b high inside held.
-        let has = held_has_bit u disk.reads disk.reads (is_member pool.map.next) whole_under_new b (slot_in (layout_at u disk.reads) s b inside held) in
-        ap (λ (xs : List Bool). is_member xs b) (sym lent.map.same) ∙ has.2;
-  }
-
-pub come_first : (disk : Shown) (pool : Pool) (states : States) (labels : List ℕ) → IsDisk disk → length labels ≡ 64 → labels ≡ pool.found.root.labels → IsInRange pool.found → StandsOn disk pool.store.pairs → AreHoused pool.containers states → blocks_asked states ≤ free_blocks pool.map
-    → HasCome disk pool states 0 labels pool disk
-come_first disk pool states labels laws long same range stands housed room = record {
+pub come_first : (disk mid : Shown) (pool left : Pool) (states : States) (labels : List ℕ) → length labels ≡ 64 → labels ≡ pool.found.root.labels → IsInRange pool.found → StandsOn mid left.store.pairs → AreHoused pool.containers states → blocks_asked states ≤ free_blocks pool.map
+    → left.map ≡ pool.map → left.containers ≡ pool.containers → left.found ≡ pool.found → left.kept ≡ fin.empty → Spares (IsTaken (on_disk pool.map)) disk mid (Ok tt)
+    → (IsTrue disk.tells → (b : ℕ) → mid.reads b ≡ seen pool.kept disk.reads b) → HasCome disk pool states 0 labels left mid
+come_first disk mid pool left states labels long same range stands housed room map containers found kept spares reads = record {
   long = long;
   places = subst (λ (xs : List ℕ). All (λ place. place ≤ last_place) xs) (sym same) range.root.labels;
   stands = stands;
-  housed = housed;
-  room = room;
-  committed = refl;
-  found = refl;
-  kept = refl;
-  spares = spares_none (IsTaken (on_disk pool.map)) disk laws;
-  written = λ tells before lent. subst (λ (xs : List ℕ). IsWrittenTo pool.found states 0 xs pool disk.reads) (sym same) (written_none disk pool states before lent);
+  housed = subst (λ (c : Slots). AreHoused c states) (sym containers) housed;
+  room = subst (λ (m : Space). blocks_asked states ≤ free_blocks m) (sym map) room;
+  committed = ap (λ (m : Space). m.committed) map;
+  found = found;
+  kept = kept;
+  spares = spares;
+  written = λ tells before lent. course_begins disk pool states before lent left labels (seen pool.kept disk.reads) mid.reads same map containers (reads tells);
 }
-
--- ---- a slot that is passed
-
-module _ (found : Found) (states : States) (s : ℕ) (labels : List ℕ) (left after : Pool) (i j : Image) (containers : after.containers ≡ left.containers) (map : after.map ≡ left.map) (reads : j ≡ i)
-    (unchanged : IfSome (state_at states s) (λ x. x.changed ≡ false)) where
-  passed_here : IsWrittenTo found states s labels left i → IsWrittenTo found states (suc s) labels left i
-  passed_here is = record {
-    whole = is.whole;
-    done = λ k low inside. ⊎_elim
-        (λ (e : k ≡ s). subst (λ (n : ℕ). IsLoaded i (found_with found labels) n (settled_at labels states n) (container_at left.containers n)) (sym e) (here (subst (λ (n : ℕ). n < 64) e inside)))
-        (λ (other : k ≢ s). is.done k (omega (arith, low, other)) inside)
-        (cases_eq k s);
-    waiting = λ k high inside. is.waiting k (omega (arith, high)) inside;
-    old = λ k b high inside held. is.old k b (omega (arith, high)) inside held;
-  }
-    where
-      here : s < 64 → IsLoaded i (found_with found labels) s (settled_at labels states s) (container_at left.containers s)
-      here inside = subst (λ (o : Option VolumeState). IsLoaded i (found_with found labels) s o (container_at left.containers s)) (sym (settled_same (state_at states s) (get_or labels s 0) unchanged)) (⊎_elim
-          (λ (loaded : IsLoaded i (found_with found labels) s (state_at states s) (container_at left.containers s)). loaded)
-          (λ (new : IsUnnamed (found_with found labels) s (state_at states s) (container_at left.containers s)). absurd (not_new (found_with found labels) s (state_at states s) (container_at left.containers s) unchanged new))
-          (is.waiting s (omega arith) inside))
-
-  pub passed_one : IsWrittenTo found states s labels left i → IsWrittenTo found states (suc s) labels after j
-  passed_one is =
-      let one = passed_here is in record {
-        whole = whole_kept one.whole;
-        done = λ k low inside. loaded_kept k (settled_at labels states k) (one.done k low inside);
-        waiting = λ k high inside. ⊎_elim
-            (λ (loaded : IsLoaded i (found_with found labels) k (state_at states k) (container_at left.containers k)). inl (loaded_kept k (state_at states k) loaded))
-            (λ (new : IsUnnamed (found_with found labels) k (state_at states k) (container_at left.containers k)). inr (subst (λ (c : Slots). IsUnnamed (found_with found labels) k (state_at states k) (container_at c k)) (sym containers) new))
-            (one.waiting k high inside);
-        old = λ k b high inside held.
-            ap (λ (m : Space). is_member m.committed b) map ∙ one.old k b high inside (subst (λ (d : Image). is_held_by (layout_at (root_found (found_with found labels)) d) k b ≡ true) reads held);
-      }
-    where
-      whole_kept : IsWhole (with_bits (is_member left.map.next) (layout_at (root_found (found_with found labels)) i)) → IsWhole (with_bits (is_member after.map.next) (layout_at (root_found (found_with found labels)) j))
-      whole_kept whole = subst (λ (d : Image). IsWhole (with_bits (is_member after.map.next) (layout_at (root_found (found_with found labels)) d))) (sym reads)
-          (subst (λ (m : Space). IsWhole (with_bits (is_member m.next) (layout_at (root_found (found_with found labels)) i))) (sym map) whole)
-
-      loaded_kept : (k : ℕ) (o : Option VolumeState) → IsLoaded i (found_with found labels) k o (container_at left.containers k) → IsLoaded j (found_with found labels) k o (container_at after.containers k)
-      loaded_kept k o loaded = subst (λ (d : Image). IsLoaded d (found_with found labels) k o (container_at after.containers k)) (sym reads)
-          (subst (λ (c : Slots). IsLoaded i (found_with found labels) k o (container_at c k)) (sym containers) loaded)
 
 -- ---- a slot more
 
@@ -167,19 +75,15 @@ module _ (disk : Shown) (pool : Pool) (states : States) (s : ℕ) (inside : s < 
     pub long : length now ≡ 64
     pub places : All (λ place. place ≤ last_place) now
     pub housed : AreHoused after.containers states
-    pub written : IsTrue disk.tells → (before : Machine) → IsLent disk pool states before → IsWrittenTo pool.found states (suc s) now after new.reads
+    pub written : IsTrue disk.tells → (before : Machine) → IsLent disk pool states before → IsCourse pool states (seen pool.kept disk.reads) (suc s) now after new.reads
 
   passes : IfSome (state_at states s) (λ x. x.changed ≡ false) → IsPassed labels left mid now after new → Leaves
   passes unchanged is = record {
     long = ap (λ (xs : List ℕ). length xs) is.named ∙ come.long;
     places = subst (λ (xs : List ℕ). All (λ place. place ≤ last_place) xs) (sym is.named) come.places;
     housed = subst (λ (c : Slots). AreHoused c states) (sym is.containers) come.housed;
-    written = λ tells before lent. subst (λ (xs : List ℕ). IsWrittenTo pool.found states (suc s) xs after new.reads) (sym is.named)
-        (passed_one pool.found states s labels left after mid.reads new.reads is.containers is.map is.reads unchanged (come.written tells before lent));
+    written = λ tells before lent. course_passes pool states (seen pool.kept disk.reads) s labels now left after mid.reads new.reads is.named is.containers is.map is.reads unchanged (come.written tells before lent);
   }
-
-  state_of : (x : VolumeState) → state_at states s ≡ Some x → IsState s x
-  state_of x there = subst (λ (o : Option VolumeState). IfSome o (IsState s)) there (come.housed.volumes s)
 
   size_now : pool.found.blocks ≡ blocks_of left.map
   size_now = sym size ∙ ap (λ (xs : List Bool). length xs) (sym come.committed)
@@ -199,10 +103,10 @@ module _ (disk : Shown) (pool : Pool) (states : States) (s : ℕ) (inside : s < 
     });
     written = λ tells before lent.
         let was = come.written tells before lent in
-        let wait = waits pool.found states s inside labels come.long left after mid.reads new.reads x there changed (state_of x there) is.old is.new is.label is.there is.containers is.few is.valid size_now was in
-        let w = is.written (subst IsTrue (sym come.spares.counted.tells) tells) (λ b of. was.old s b (omega arith) inside (wait.blocks b ∙ of)) in
-        subst (λ (xs : List ℕ). IsWrittenTo pool.found states (suc s) xs after new.reads) (sym is.named)
-        (one_more pool.found states s inside labels come.long left after mid.reads new.reads x there changed (state_of x there) is.old is.new is.label is.there is.containers is.few is.valid size_now was w);
+        let own = own_now disk pool states before lent (seen pool.kept disk.reads) s inside labels come.long left after mid.reads new.reads x there changed is.old is.new is.label is.there is.containers is.few is.valid come.committed (sym size_now) was in
+        let w = is.written (subst IsTrue (sym come.spares.counted.tells) tells) own in
+        subst (λ (xs : List ℕ). IsCourse pool states (seen pool.kept disk.reads) (suc s) xs after new.reads) (sym is.named)
+        (course_goes_on disk pool states before lent (seen pool.kept disk.reads) s inside labels come.long left after mid.reads new.reads x there changed is.old is.new is.label is.there is.containers is.few is.valid come.committed (sym size_now) was w);
   }
     where
       here : Houses (state_at states s) (container_at (with_container left.containers s (Some is.new)) s)

@@ -6,13 +6,14 @@ use Rattle.std.proofs.lemmas.Bool.{cases_Bool, cases_eq, true≢false}
 use Rattle.std.proofs.lemmas.Bool.Decides.{nat_tests}
 use Rattle.fv_bits.specs.Members.{is_member}
 use Rattle.fv_bits.proofs.Laws.{is_member-set, is_member_past}
-use Rattle.fv_container.specs.Mapped.{Mapped, entry_under}
+use Rattle.fv_container.specs.Mapped.{Mapped}
 use Rattle.fv_container.specs.Spelled.{is_at}
 use Rattle.fv_model.specs.Machines.{first_block}
 use Rattle.fv_aggmap.specs.Space.{Space, IsFree, IsFull, blocks_of, free_blocks}
 use Rattle.fv_aggmap.proofs.Room.{no_fewer, one_is_found, one_less}
-use Rattle.fv_cp.specs.Steps.{leads, place_in}
-use Rattle.fv_cp.specs.Writing.{HasDrawn, HasGiven, place_at}
+use Rattle.fv_volume.specs.declared.state.VolumeState.{VolumeState}
+use Rattle.fv_cp.specs.Steps.{HasGiven, leads, leads_away, place_at, stays}
+use Rattle.fv_cp.specs.Writing.{HasDrawn, has_maps_at}
 
 -- ---- tests
 
@@ -70,11 +71,70 @@ any_more p from (suc n) =
     ap (λ t. p from || t) (any_more p (from + 1) n) ∙ or_assoc (p from) (list_any p (range_with_len (from + 1) n)) (p ((from + 1) + n))
     ∙ ap (λ (k : ℕ). (p from || list_any p (range_with_len (from + 1) n)) || p k) e
 
-pub leads_none : (map : Mapped) (b : ℕ) → leads map 0 b ≡ false
+same_any : (p q : ℕ → Bool) (from n : ℕ) → ((k : ℕ) → from ≤ k → k < from + n → p k ≡ q k) → list_any p (range_with_len from n) ≡ list_any q (range_with_len from n)
+same_any p q from zero same = refl
+same_any p q from (suc n) same = λ i. same from (omega arith) (omega arith) i || same_any p q (from + 1) n (λ k low high. same k (omega (arith, low)) (omega (arith, high))) i
+
+-- of the entries that go, none leads anywhere yet
+pub away_none : (x : VolumeState) (map : Mapped) (b : ℕ) → leads_away x map 0 b ≡ false
+unfolding leads_away
+away_none x map b = refl
+
+pub away_more : (x : VolumeState) (map : Mapped) (n b : ℕ) → leads_away x map (n + 1) b ≡ (leads_away x map n b || (not (stays x n) && is_at b (place_at map n)))
+unfolding leads_away
+away_more x map n b =
+    let e : n + 1 ≡ suc n = omega arith in
+    let first : 0 + n ≡ n = omega arith in
+    rw e (any_more (λ v. not (stays x v) && is_at b (place_at map v)) 0 n ∙ ap (λ (k : ℕ). list_any (λ v. not (stays x v) && is_at b (place_at map v)) (range_with_len 0 n) || (not (stays x k) && is_at b (place_at map k))) first)
+
+-- of the active map's blocks, none stands anywhere yet
+pub maps_none : (map : Mapped) (span b : ℕ) → has_maps_at map span 0 b ≡ false
+unfolding has_maps_at
+maps_none map span b = refl
+
+pub maps_more : (old new : Mapped) (span n b : ℕ) → ((k : ℕ) → k < n → place_at new (span + k) ≡ place_at old (span + k)) → has_maps_at new span (n + 1) b ≡ (has_maps_at old span n b || is_at b (place_at new (span + n)))
+unfolding has_maps_at
+maps_more old new span n b same =
+    let e : n + 1 ≡ suc n = omega arith in
+    let first : 0 + n ≡ n = omega arith in
+    rw e (any_more (λ k. is_at b (place_at new (span + k))) 0 n
+    ∙ ap (λ (t : Bool). t || is_at b (place_at new (span + (0 + n)))) (same_any (λ k. is_at b (place_at new (span + k))) (λ k. is_at b (place_at old (span + k))) 0 n (λ k low high. ap (is_at b) (same k (omega (arith, high)))))
+    ∙ ap (λ (k : ℕ). list_any (λ k. is_at b (place_at old (span + k))) (range_with_len 0 n) || is_at b (place_at new (span + k))) first)
+
+pub maps_same : (old new : Mapped) (span n b : ℕ) → ((k : ℕ) → k < n → place_at new (span + k) ≡ place_at old (span + k)) → has_maps_at new span n b ≡ has_maps_at old span n b
+unfolding has_maps_at
+maps_same old new span n b same = same_any (λ k. is_at b (place_at new (span + k))) (λ k. is_at b (place_at old (span + k))) 0 n (λ k low high. ap (is_at b) (same k (omega (arith, high))))
+
+-- a block of the active map stands on the block
+pub record StandsAt (map : Mapped) (span n b : ℕ) : Type 0 where
+  pub index : ℕ
+  pub within : index < n
+  pub place : place_at map (span + index) ≡ b
+  pub some : b ≢ 0
+
+pub maps_where : (map : Mapped) (span n b : ℕ) → has_maps_at map span n b ≡ true → StandsAt map span n b
+maps_where map span zero b is = absurd (true≢false (sym is ∙ maps_none map span b))
+maps_where map span (suc n) b is =
+    let e : n + 1 ≡ suc n = omega arith in
+    ⊎_elim
+    (λ (before : has_maps_at map span n b ≡ true). let at = maps_where map span n b before in record { index = at.index; within = omega (arith, at.within); place = at.place; some = at.some })
+    (λ (here : is_at b (place_at map (span + n)) ≡ true). let means = at_means b (place_at map (span + n)) here in record { index = n; within = omega arith; place = means.0; some = means.1 })
+    (or_cases (has_maps_at map span n b) (is_at b (place_at map (span + n))) (sym (maps_more map map span n b (λ k lt. refl)) ∙ ap (λ (k : ℕ). has_maps_at map span k b) e ∙ is))
+
+pub maps_at : (map : Mapped) (span n k b : ℕ) → k < n → place_at map (span + k) ≡ b → b ≢ 0 → has_maps_at map span n b ≡ true
+maps_at map span zero k b within is some = absurd (omega (arith, within))
+maps_at map span (suc n) k b within is some =
+    let e : n + 1 ≡ suc n = omega arith in
+    ap (λ (k : ℕ). has_maps_at map span k b) (sym e) ∙ maps_more map map span n b (λ k lt. refl) ∙ ⊎_elim
+    (λ (here : k ≡ n). or_right (has_maps_at map span n b) (is_at b (place_at map (span + n))) (ap (is_at b) (ap (λ (m : ℕ). place_at map (span + m)) (sym here) ∙ is) ∙ at_itself b some))
+    (λ (before : k ≢ n). or_left (has_maps_at map span n b) (is_at b (place_at map (span + n))) (maps_at map span n k b (omega (arith, within, before)) is some))
+    (cases_eq k n)
+
+leads_none : (map : Mapped) (b : ℕ) → leads map 0 b ≡ false
 unfolding leads
 leads_none map b = refl
 
-pub leads_more : (map : Mapped) (n b : ℕ) → leads map (n + 1) b ≡ (leads map n b || is_at b (place_at map n))
+leads_more : (map : Mapped) (n b : ℕ) → leads map (n + 1) b ≡ (leads map n b || is_at b (place_at map n))
 unfolding leads
 leads_more map n b =
     let e : n + 1 ≡ suc n = omega arith in
@@ -106,10 +166,6 @@ leads_at map (suc n) v b within is some =
     (λ (before : v ≢ n). or_left (leads map n b) (is_at b (place_at map n)) (leads_at map n v b (omega (arith, within, before)) is some))
     (cases_eq v n)
 
-pub holes_lead_nowhere : (map : Mapped) (n b : ℕ) → ((v : ℕ) → entry_under map v ≡ None) → leads map n b ≡ false
-holes_lead_nowhere map n b holes = not_so (leads map n b) (λ is.
-    let at = leads_where map n b is in at.some (sym at.place ∙ ap place_in (holes at.vvbn)))
-
 -- ---- giving back
 
 pub given_none : (space : Space) (given : ℕ → Bool) → ((b : ℕ) → given b ≡ false) → HasGiven space given space
@@ -134,6 +190,18 @@ given_then old mid new f g both same first second = record {
     joined true true t = refl
     joined true false t = refl
     joined false s t = refl
+
+-- one entry more: it stays, or it is given back
+pub given_more : (x : VolumeState) (map : Mapped) (n : ℕ) (old mid new : Space) → HasGiven old (leads_away x map n) mid → (stays x n ≡ true → new ≡ mid) → (stays x n ≡ false → HasGiven mid (λ b. is_at b (place_at map n)) new)
+    → HasGiven old (leads_away x map (n + 1)) new
+given_more x map n old mid new before same gave = so (stays x n) refl
+  where
+    so : (t : Bool) → stays x n ≡ t → HasGiven old (leads_away x map (n + 1)) new
+    so true e = given_then old mid new (leads_away x map n) (λ b. false) (leads_away x map (n + 1)) (λ b. away_more x map n b ∙ ap (λ (t : Bool). leads_away x map n b || (not t && is_at b (place_at map n))) e) before (given_same (same e))
+      where
+        given_same : new ≡ mid → HasGiven mid (λ b. false) new
+        given_same is = rw is (given_none mid (λ b. false) (λ b. refl))
+    so false e = given_then old mid new (leads_away x map n) (λ b. is_at b (place_at map n)) (leads_away x map (n + 1)) (λ b. away_more x map n b ∙ ap (λ (t : Bool). leads_away x map n b || (not t && is_at b (place_at map n))) e) before (gave e)
 
 eq_test : (a b : ℕ) → (a == b) ≡ nat_eq a b
 eq_test a b = grind (arith, nat_tests)

@@ -14,7 +14,8 @@ use Rattle.fv_volume.specs.declared.state.Base.{Base}
 use Rattle.fv_volume.specs.declared.state.VolumeState.{VolumeState}
 use Rattle.fv_volume.specs.Creating.{IsMade, IsNew, with_holes}
 use Rattle.fv_volume.specs.Loading.{Houses}
-use Rattle.fv_volume.specs.States.{IsState, States, footing_in, parent_in, state_at}
+use Rattle.fv_volume.specs.Files.{IsLabelled}
+use Rattle.fv_volume.specs.States.{States, footing_in, parent_in, state_at}
 use Rattle.fv_cp.specs.Lent.{AreHoused}
 
 baseless : (b : Option Base) → option_map footing_in b ≡ None → option_map (λ (x : Base). x.parent) b ≡ None
@@ -48,7 +49,7 @@ module _ (pool : Pool) (states new : States) (slot : ℕ) (name : List ℕ) (siz
       (cases_lt slot (length pool.containers.parents))
 
   -- a new volume is in order beside those that were
-  pub housed_with : ((s : ℕ) → IfSome (state_at new s) (IsState s)) → AreHoused pool.containers states → AreHoused after new
+  pub housed_with : ((s : ℕ) → IfSome (state_at new s) (IsLabelled s)) → AreHoused pool.containers states → AreHoused after new
   housed_with each was = record {
     long = ap (λ (xs : States). length xs) made.states ∙ length-set states slot (Some made.state) ∙ was.long;
     volumes = each;

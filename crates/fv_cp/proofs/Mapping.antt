@@ -1,5 +1,5 @@
 -- A container that has the blocks of an active map, one more after another.
-use Rattle.std.proofs.Common.{◌≡◌, ◌≢◌, ℕ, ◌+◌, ◌<◌, ◌≤◌, length, true, ◌||◌, sym, ap, ◌∙◌, arith, ⊎_elim, inl, inr, Some, None}
+use Rattle.std.proofs.Common.{◌≡◌, ◌≢◌, ℕ, ◌+◌, ◌<◌, ◌≤◌, length, true, ◌||◌, refl, sym, ap, ◌∙◌, arith, ⊎_elim, inl, inr, Some, None}
 use Rattle.std.proofs.lemmas.Bool.{cases_eq, true≢false}
 use Rattle.std.proofs.lemmas.List.{get_or-set_same, get_or-set_other}
 use Rattle.fv_bits.specs.Members.{IsBlockOf}
@@ -10,19 +10,19 @@ use Rattle.fv_container.specs.Spelled.{is_at}
 use Rattle.fv_aggmap.specs.Space.{Space, IsFree}
 use Rattle.fv_volmap.specs.Slots.{active_of}
 use Rattle.fv_volume.specs.declared.state.VolumeState.{VolumeState}
-use Rattle.fv_cp.specs.Steps.{leads, place_in}
-use Rattle.fv_cp.specs.Writing.{HasDrawn, HasMap, StandBits, place_at}
-use Rattle.fv_cp.proofs.Drawing.{at_itself, at_means, drawn_then, free_before, leads_at, leads_where, or_cases, or_left, or_right, same_tests}
+use Rattle.fv_cp.specs.Steps.{place_at, place_in}
+use Rattle.fv_cp.specs.Writing.{HasDrawn, HasMap, StandBits, has_maps_at}
+use Rattle.fv_cp.proofs.Drawing.{drawn_then, free_before, maps_at, maps_more}
 
 -- the entry of a block of the active map
 abbrev pub active_entry : ℕ → Entry
 active_entry place = record { pvbn = place; kind = 8 }
 
-pub no_map : (span : ℕ) (map : Mapped) → ((v : ℕ) → entry_under map v ≡ None) → HasMap span 0 map
-no_map span map holes = record {
+pub no_map : (span : ℕ) (map : Mapped) → HasMap span 0 map map
+no_map span map = record {
   active = λ k lt. absurd (omega (arith, lt));
   some = λ k lt. absurd (omega (arith, lt));
-  holes = λ v out. holes v;
+  others = λ v out. refl;
   once = λ j k lt below. absurd (omega (arith, below));
 }
 
@@ -42,35 +42,17 @@ module _ (span k place : ℕ) (old new : Mapped) (within : span + k < length old
   pub place_elsewhere : (v : ℕ) → v ≢ span + k → place_at new v ≡ place_at old v
   place_elsewhere v other = ap place_in (elsewhere v other)
 
-  -- what the entries lead to
-  pub leads_with : (n b : ℕ) → span + k < n → entry_under old (span + k) ≡ None → leads new n b ≡ (leads old n b || is_at b place)
-  leads_with n b inside hole = same_tests (leads new n b) (leads old n b || is_at b place)
-      (λ is.
-      let at = leads_where new n b is in ⊎_elim
-      (λ (here : at.vvbn ≡ span + k).
-      let same : place ≡ b = sym place_there ∙ ap (place_at new) (sym here) ∙ at.place in
-      or_right (leads old n b) (is_at b place) (ap (is_at b) same ∙ at_itself b at.some))
-      (λ (other : at.vvbn ≢ span + k). or_left (leads old n b) (is_at b place) (leads_at old n at.vvbn b at.within (sym (place_elsewhere at.vvbn other) ∙ at.place) at.some))
-      (cases_eq at.vvbn (span + k)))
-      (λ is. ⊎_elim
-      (λ (before : leads old n b ≡ true).
-      let at = leads_where old n b before in
-      let other : at.vvbn ≢ span + k = λ here. at.some (sym at.place ∙ ap (place_at old) here ∙ ap place_in hole) in
-      leads_at new n at.vvbn b at.within (place_elsewhere at.vvbn other ∙ at.place) at.some)
-      (λ (now : is_at b place ≡ true). let means = at_means b place now in leads_at new n (span + k) b inside (place_there ∙ means.0) means.1)
-      (or_cases (leads old n b) (is_at b place) is))
-
-  module _ (n : ℕ) (inside : span + k < n) (space mid : Space) (has : HasMap span k old) (drawn : HasDrawn space (leads old n) k mid) (free : IsFree mid place) where
+  module _ (first : Mapped) (space mid : Space) (has : HasMap span k first old) (drawn : HasDrawn space (has_maps_at old span k) k mid) (free : IsFree mid place) where
     not_yet : (j : ℕ) → j < k → place_at old (span + j) ≢ place
     not_yet j lt same =
         let some : place ≢ 0 = λ none. omega (arith, free.after, none) in
-        let led : leads old n place ≡ true = leads_at old n (span + j) place (omega (arith, lt, inside)) same some in
-        true≢false (sym led ∙ (free_before space mid (leads old n) k place drawn free).1)
+        let led : has_maps_at old span k place ≡ true = maps_at old span k j place lt same some in
+        true≢false (sym led ∙ (free_before space mid (has_maps_at old span k) k place drawn free).1)
 
     earlier : (j : ℕ) → j < k → span + j ≢ span + k
     earlier j lt = omega (arith, lt)
 
-    pub map_more : HasMap span (k + 1) new
+    pub map_more : HasMap span (k + 1) first new
     map_more = record {
       active = λ j lt. ⊎_elim
           (λ (here : j ≡ k). rw here (there ∙ ap (λ (p : ℕ). Some (active_entry p)) (sym place_there)))
@@ -84,9 +66,9 @@ module _ (span k place : ℕ) (old new : Mapped) (within : span + k < length old
           let before : j < k = omega (arith, lt, other) in
           rw (place_elsewhere (span + j) (earlier j before)) (has.some j before))
           (cases_eq j k);
-      holes = λ v out. ⊎_elim
-          (λ (low : v < span). elsewhere v (omega (arith, low)) ∙ has.holes v (inl low))
-          (λ (high : span + (k + 1) ≤ v). elsewhere v (omega (arith, high)) ∙ has.holes v (inr (omega (arith, high))))
+      others = λ v out. ⊎_elim
+          (λ (low : v < span). elsewhere v (omega (arith, low)) ∙ has.others v (inl low))
+          (λ (high : span + (k + 1) ≤ v). elsewhere v (omega (arith, high)) ∙ has.others v (inr (omega (arith, high))))
           out;
       once = λ i j lt below. ⊎_elim
           (λ (here : j ≡ k).
@@ -94,13 +76,14 @@ module _ (span k place : ℕ) (old new : Mapped) (within : span + k < length old
           λ same. not_yet i before (sym (place_elsewhere (span + i) (earlier i before)) ∙ same ∙ ap (λ (m : ℕ). place_at new (span + m)) here ∙ place_there))
           (λ (other : j ≢ k).
           let before : j < k = omega (arith, below, other) in
-          let first : i < k = omega (arith, before, lt) in
-          λ same. has.once i j lt before (sym (place_elsewhere (span + i) (earlier i first)) ∙ same ∙ place_elsewhere (span + j) (earlier j before)))
+          let below_first : i < k = omega (arith, before, lt) in
+          λ same. has.once i j lt before (sym (place_elsewhere (span + i) (earlier i below_first)) ∙ same ∙ place_elsewhere (span + j) (earlier j before)))
           (cases_eq j k);
     }
 
-    pub drawn_more : (after : Space) → HasDrawn mid (λ b. is_at b place) 1 after → HasDrawn space (leads new n) (k + 1) after
-    drawn_more after one = drawn_then space mid after (leads old n) (λ b. is_at b place) (leads new n) k 1 (λ b. leads_with n b inside (has.holes (span + k) (inr (omega arith)))) drawn one
+    pub drawn_more : (after : Space) → HasDrawn mid (λ b. is_at b place) 1 after → HasDrawn space (has_maps_at new span (k + 1)) (k + 1) after
+    drawn_more after one = drawn_then space mid after (has_maps_at old span k) (λ b. is_at b place) (has_maps_at new span (k + 1)) k 1
+        (λ b. maps_more old new span k b (λ j lt. place_elsewhere (span + j) (earlier j lt)) ∙ ap (λ (p : ℕ). has_maps_at old span k b || is_at b p) place_there) drawn one
 
     pub bits_more : (x : VolumeState) (i j : Image) → x.span ≡ span → StandBits x k old i → ((b : ℕ) → b ≢ place → j b ≡ i b) → IsBlockOf (active_of x.map) k (j place) → StandBits x (k + 1) new j
     bits_more x i j same before others now = λ m lt. ⊎_elim
@@ -108,8 +91,8 @@ module _ (span k place : ℕ) (old new : Mapped) (within : span + k < length old
         let at : place_at new (x.span + m) ≡ place = ap (λ (v : ℕ). place_at new v) (ap (λ (s : ℕ). s + m) same ∙ ap (λ (a : ℕ). span + a) here) ∙ place_there in
         rw (at, here) now)
         (λ (other : m ≢ k).
-        let first : m < k = omega (arith, lt, other) in
-        let at : place_at new (x.span + m) ≡ place_at old (x.span + m) = place_elsewhere (x.span + m) (omega (arith, same, first)) in
-        let apart : place_at old (x.span + m) ≢ place = λ e. not_yet m first (ap (λ (s : ℕ). place_at old (s + m)) (sym same) ∙ e) in
-        rw (at, others (place_at old (x.span + m)) apart) (before m first))
+        let below : m < k = omega (arith, lt, other) in
+        let at : place_at new (x.span + m) ≡ place_at old (x.span + m) = place_elsewhere (x.span + m) (omega (arith, same, below)) in
+        let apart : place_at old (x.span + m) ≢ place = λ e. not_yet m below (ap (λ (s : ℕ). place_at old (s + m)) (sym same) ∙ e) in
+        rw (at, others (place_at old (x.span + m)) apart) (before m below))
         (cases_eq m k)

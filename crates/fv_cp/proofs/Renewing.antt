@@ -1,18 +1,22 @@
--- A volume that was written anew: what it had is given back, and what it has was free.
-use Rattle.std.proofs.Common.{◌≡◌, ◌≢◌, ℕ, ◌+◌, ◌<◌, ◌≤◌, List, length, Bool, true, false, not, ◌&&◌, ◌||◌, refl, sym, ap, subst, ◌∙◌, arith, ⊎_elim}
-use Rattle.std.proofs.lemmas.Bool.{true≢false}
+-- A volume that was written: what went is given back, and what is new was free.
+use Rattle.std.proofs.Common.{◌≡◌, ◌≢◌, ℕ, zero, suc, ◌+◌, ◌-◌, ◌<◌, ◌≤◌, List, length, Bool, true, false, not, ◌&&◌, ◌||◌, refl, sym, ap, ap₂, subst, ◌∙◌, arith, ⊎_elim, inl, inr, ◌⊎◌}
+use Rattle.std.specs.Prelude.{None, nat_lt}
+use Rattle.std.specs.List.{list_any, range_with_len}
+use Rattle.std.proofs.lemmas.Bool.{and_parts, and_from, cases_eq, cases_lt, not-true, true≢false}
+use Rattle.std.proofs.lemmas.Bool.Decides.{nat_tests}
 use Rattle.fv_bits.specs.Members.{is_member}
 use Rattle.fv_disk.specs.Shown.{Image}
 use Rattle.fv_model.specs.Machines.{first_block}
 use Rattle.fv_model.specs.Space.{map_blocks}
 use Rattle.fv_image.specs.Views.{entry_count}
-use Rattle.fv_container.specs.Mapped.{Mapped}
+use Rattle.fv_container.specs.Mapped.{Mapped, entry_under}
 use Rattle.fv_container.specs.Spelled.{is_at, names}
 use Rattle.fv_aggmap.specs.Space.{Space, IsFree, blocks_of}
 use Rattle.fv_volume.specs.declared.state.VolumeState.{VolumeState}
-use Rattle.fv_cp.specs.Steps.{IsTaken, IsWritten, is_of, leads, on_disk}
-use Rattle.fv_cp.specs.Writing.{AreTaken, HasDrawn, HasGiven, HasLabel, IsTakenOther, place_at}
-use Rattle.fv_cp.proofs.Drawing.{at_itself, free_before, leads_at, not_so, or_cases, or_left, or_neither, or_right}
+use Rattle.fv_cp.specs.Steps.{HasGiven, HasOwnBlocks, IsTaken, IsWritten, leads, leads_away, on_disk, place_at, place_in, stays}
+use Rattle.fv_cp.specs.Writing.{AreTaken, HasDrawn, HasLabel, IsTakenOther, has_maps_at}
+use Rattle.fv_cp.proofs.SlotBlocks.{any_in_range, range_has}
+use Rattle.fv_cp.proofs.Drawing.{LeadsAt, at_itself, at_means, free_before, leads_at, leads_where, maps_at, maps_where, not_so, or_cases, or_left, or_neither, or_right, same_tests}
 
 -- a block that is free in a space is free where the next root holds no other than the one on the disk
 free_moved : (old new : Space) (b : ℕ) → new.committed ≡ old.committed → IsFree old b → is_member new.next b ≡ false → IsFree new b
@@ -55,82 +59,191 @@ module _ (old given_back drawn : Space) (entries : ℕ → Bool) (label : ℕ) (
   pub spared : (b : ℕ) → IsTaken (on_disk old) b → IsTakenOther drawn label b
   spared b is = (λ free. is (free_on_disk drawn old b drawn_committed free), λ same. is (subst (λ (k : ℕ). IsFree (on_disk old) k) (sym same) (free_on_disk given_back old label gave.committed label_free)))
 
-  module _ (held : (b : ℕ) → entries b ≡ true → is_member old.committed b ≡ true) where
-    free_at_first : (b : ℕ) → IsFree given_back b → IsFree old b
-    free_at_first b free = free_moved given_back old b (sym gave.committed) free (not_so (is_member old.next b) (λ next. true≢false (sym (stays b free next) ∙ (or_neither (is_member given_back.committed b) (is_member given_back.next b) free.free).1)))
-      where
-        both : (m e : Bool) → m ≡ true → e ≡ false → (m && not e) ≡ true
-        both m e one two = rw (one, two) refl
+  -- what couldn't be written once the entries were given back can't be now
+  pub given_spared : (b : ℕ) → IsTaken given_back b → IsTakenOther drawn label b
+  given_spared b is = (λ free. is (free_before given_back drawn (λ b. is_at b label) 1 b took free).0, λ same. is (subst (λ (k : ℕ). IsFree given_back k) (sym same) label_free))
 
-        stays : (b : ℕ) → IsFree given_back b → is_member old.next b ≡ true → is_member given_back.next b ≡ true
-        stays b free next =
-            let apart : entries b ≡ false = not_so (entries b) (λ led. true≢false (sym (ap (λ (c : List Bool). is_member c b) gave.committed ∙ held b led) ∙ uncommitted given_back b free)) in
-            gave.held b ∙ both (is_member old.next b) (entries b) next apart
+  pub free_then : (b : ℕ) → IsFree drawn b → IsFree given_back b
+  free_then b free = (free_before given_back drawn (λ b. is_at b label) 1 b took free).0
 
-    free_then : (b : ℕ) → IsFree drawn b → IsFree old b
-    free_then b free = free_at_first b (free_before given_back drawn (λ b. is_at b label) 1 b took free).0
+pub none_any : (p : ℕ → Bool) (from count : ℕ) → ((k : ℕ) → from ≤ k → k < from + count → p k ≡ false) → list_any p (range_with_len from count) ≡ false
+none_any p from zero none = refl
+none_any p from (suc count) none = ap (λ (t : Bool). t || list_any p (range_with_len (from + 1) count)) (none from (omega arith) (omega arith))
+    ∙ none_any p (from + 1) count (λ k low high. none k (omega (arith, low)) (omega (arith, high)))
 
-    not_label : (b : ℕ) → b ≢ 0 → IsFree drawn b → b ≢ label
-    not_label b place free same = true≢false (sym (ap (is_at b) (sym same) ∙ at_itself b place) ∙ (free_before given_back drawn (λ b. is_at b label) 1 b took free).1)
+-- ---- which blocks the next root holds
 
-    pub spared_first : (b : ℕ) → IsTaken old b → IsTakenOther drawn label b
-    spared_first b is = (λ free. is (free_then b free), λ same. is (subst (λ (k : ℕ). IsFree old k) (sym same) (free_at_first label label_free)))
-
--- what a next root holds: first what there is now, and what isn't given back
-renewed : (at n l a o e m : Bool) → ((at || (n || l)) ≡ true → (a || (o || e)) ≡ false) → ((((n || l) || ((at || (m && not e)) && not o))) && not a) ≡ ((at || (n || l)) || (m && not (a || (o || e))))
-renewed true n l a o e m off = let out = three a o e (off refl) in rw (out.0, out.1.0, right (n || l)) refl
+-- By these tests: the new label, the new nodes, the new blocks of the active map, the blocks that stay; those that go, the old label, the old
+-- nodes; and what the next root held. What is new is none of the old; what stays is no other of the old, and was held.
+renewed : (l n m s a o t k : Bool) → (l ≡ true → (o ≡ false) × (t ≡ false)) → (n ≡ true → o ≡ false) → (m ≡ true → o ≡ false)
+    → (s ≡ true → (k ≡ true) × ((a ≡ false) × ((t ≡ false) × (o ≡ false))))
+    → (((n || m) || ((l || (k && not a)) && not t)) && not o) ≡ ((l || (n || (s || m))) || (k && not (o || (t || (s || a)))))
+renewed l true m s a o t k fl fn fm fs = rw (fn refl, any_true l (s || m)) refl
   where
-    three : (a o e : Bool) → (a || (o || e)) ≡ false → (a ≡ false) × ((o ≡ false) × (e ≡ false))
-    three false false false is = (refl, (refl, refl))
-    three true o e is = absurd (true≢false is)
-    three false true e is = absurd (true≢false is)
-    three false false true is = absurd (true≢false is)
+    any_true : (l r : Bool) → (l || (true || r)) ≡ true
+    any_true true r = refl
+    any_true false r = refl
+renewed l false true s a o t k fl fn fm fs = rw (fm refl, any_true l s) refl
+  where
+    any_true : (l s : Bool) → (l || (false || (s || true))) ≡ true
+    any_true true s = refl
+    any_true false true = refl
+    any_true false false = refl
+renewed true false false s a o t k fl fn fm fs = let f = fl refl in rw (f.0, f.1) refl
+renewed false false false true a o t k fl fn fm fs = let f = fs refl in rw (f.0, f.1.0, f.1.1.0, f.1.1.1) refl
+renewed false false false false a o t false fl fn fm fs = refl
+renewed false false false false true true true true fl fn fm fs = refl
+renewed false false false false true true false true fl fn fm fs = refl
+renewed false false false false true false true true fl fn fm fs = refl
+renewed false false false false true false false true fl fn fm fs = refl
+renewed false false false false false true true true fl fn fm fs = refl
+renewed false false false false false true false true fl fn fm fs = refl
+renewed false false false false false false true true fl fn fm fs = refl
+renewed false false false false false false false true fl fn fm fs = refl
 
-    right : (t : Bool) → (t || true) ≡ true
-    right true = refl
-    right false = refl
-renewed false true l a o e m off = let out : a ≡ false = (or_neither a (o || e) (off refl)).0 in rw out refl
-renewed false false true a o e m off = let out : a ≡ false = (or_neither a (o || e) (off refl)).0 in rw out refl
-renewed false false false true true true true off = refl
-renewed false false false true true false true off = refl
-renewed false false false true false true true off = refl
-renewed false false false true false false true off = refl
-renewed false false false false true true true off = refl
-renewed false false false false true false true off = refl
-renewed false false false false false true true off = refl
-renewed false false false false false false true off = refl
-renewed false false false true true true false off = refl
-renewed false false false true true false false off = refl
-renewed false false false true false true false off = refl
-renewed false false false true false false false off = refl
-renewed false false false false true true false off = refl
-renewed false false false false true false false off = refl
-renewed false false false false false true false off = refl
-renewed false false false false false false false off = refl
+-- ---- what the entries of a volume lead to, once its map blocks have new places
 
-module _ (x : VolumeState) (before after : Image) (space given_back drawn stored left : Space) (label : ℕ) (old new : Mapped)
-    (gave : HasGiven space (leads old (entry_count x.span)) given_back) (took : HasDrawn given_back (λ b. is_at b label) 1 drawn) (some : 1 ≤ label)
-    (has : HasLabel x old.tree drawn label new after stored) (released : HasGiven stored (λ b. is_at b x.label) left) (kept : stored.committed ≡ drawn.committed)
-    (long : length new.entries ≡ entry_count x.span) (held : (b : ℕ) → is_of x x.label old b ≡ true → is_member space.committed b ≡ true)
+-- whether an entry that stays leads to a block
+unfoldable pub leads_on : VolumeState → Mapped → ℕ → ℕ → Bool
+leads_on x map entries b = list_any (λ v. stays x v && is_at b (place_at map v)) (range_with_len 0 entries)
+
+any_parts : (test on : ℕ → Bool) (from n : ℕ) → list_any test (range_with_len from n) ≡ (list_any (λ v. on v && test v) (range_with_len from n) || list_any (λ v. not (on v) && test v) (range_with_len from n))
+any_parts test on from zero = refl
+any_parts test on from (suc n) = ap (λ (t : Bool). test from || t) (any_parts test on (from + 1) n) ∙ joined (test from) (on from) (list_any (λ v. on v && test v) (range_with_len (from + 1) n)) (list_any (λ v. not (on v) && test v) (range_with_len (from + 1) n))
+  where
+    joined : (t o a b : Bool) → (t || (a || b)) ≡ (((o && t) || a) || ((not o && t) || b))
+    joined true true a b = refl
+    joined true false true b = refl
+    joined true false false b = refl
+    joined false true a b = refl
+    joined false false a b = refl
+
+leads_parts : (x : VolumeState) (map : Mapped) (n b : ℕ) → leads map n b ≡ (leads_on x map n b || leads_away x map n b)
+unfolding leads leads_on leads_away
+leads_parts x map n b = any_parts (λ v. is_at b (place_at map v)) (stays x) 0 n
+
+-- an entry that stays leads to the block
+record StaysAt (x : VolumeState) (map : Mapped) (n b : ℕ) : Type 0 where
+  vvbn : ℕ
+  within : vvbn < n
+  on : stays x vvbn ≡ true
+  place : place_at map vvbn ≡ b
+  some : b ≢ 0
+
+on_where : (x : VolumeState) (map : Mapped) (n b : ℕ) → leads_on x map n b ≡ true → StaysAt x map n b
+unfolding leads_on
+on_where x map n b is =
+    let one = any_in_range (λ v. stays x v && is_at b (place_at map v)) 0 n is in
+    let parts = and_parts (stays x one.0) (is_at b (place_at map one.0)) one.3 in
+    let means = at_means b (place_at map one.0) parts.1 in
+    record { vvbn = one.0; within = omega (arith, one.2); on = parts.0; place = means.0; some = means.1 }
+
+on_at : (x : VolumeState) (map : Mapped) (n v b : ℕ) → v < n → stays x v ≡ true → place_at map v ≡ b → b ≢ 0 → leads_on x map n b ≡ true
+unfolding leads_on
+on_at x map n v b within on place some = range_has (λ v. stays x v && is_at b (place_at map v)) v 0 n (omega arith) (omega (arith, within)) (and_from _ _ on (ap (is_at b) place ∙ at_itself b some))
+
+pub away_where : (x : VolumeState) (map : Mapped) (n b : ℕ) → leads_away x map n b ≡ true → (v : ℕ) × (v < n) × (stays x v ≡ false) × (place_at map v ≡ b)
+unfolding leads_away
+away_where x map n b is =
+    let one = any_in_range (λ v. not (stays x v) && is_at b (place_at map v)) 0 n is in
+    let parts = and_parts (not (stays x one.0)) (is_at b (place_at map one.0)) one.3 in
+    let means = at_means b (place_at map one.0) parts.1 in
+    (one.0, omega (arith, one.2), not-true _ parts.0, means.0)
+
+-- and that block is one
+pub away_place : (x : VolumeState) (map : Mapped) (n b : ℕ) → leads_away x map n b ≡ true → b ≢ 0
+unfolding leads_away
+away_place x map n b is =
+    let one = any_in_range (λ v. not (stays x v) && is_at b (place_at map v)) 0 n is in
+    (at_means b (place_at map one.0) (and_parts (not (stays x one.0)) (is_at b (place_at map one.0)) one.3).1).1
+
+pub low_of : (x : VolumeState) (v : ℕ) → stays x v ≡ true → v < x.span
+low_of x v on = let low = (and_parts (nat_lt v x.span) _ on).0 in grind (arith, nat_tests, low)
+
+module _ (x : VolumeState) (old new : Mapped) (blocks : ℕ) (few : blocks ≤ map_blocks x.span)
+    (kept : (v : ℕ) → stays x v ≡ true → entry_under new v ≡ entry_under old v) (holes : (v : ℕ) → stays x v ≡ false → (v < x.span) ⊎ (x.span + blocks ≤ v) → entry_under new v ≡ None) where
+  -- The new entries are those that stay and those of the active map's blocks.
+  pub leads_new : (b : ℕ) → leads new (entry_count x.span) b ≡ (leads_on x old (entry_count x.span) b || has_maps_at new x.span blocks b)
+  leads_new b = same_tests (leads new (entry_count x.span) b) (leads_on x old (entry_count x.span) b || has_maps_at new x.span blocks b) (λ is. to (leads_where new (entry_count x.span) b is)) (λ is. ⊎_elim
+      (λ (on : leads_on x old (entry_count x.span) b ≡ true).
+      let at = on_where x old (entry_count x.span) b on in leads_at new (entry_count x.span) at.vvbn b at.within (ap place_in (kept at.vvbn at.on) ∙ at.place) at.some)
+      (λ (map : has_maps_at new x.span blocks b ≡ true).
+      let at = maps_where new x.span blocks b map in leads_at new (entry_count x.span) (x.span + at.index) b (omega (arith, at.within, few)) at.place at.some)
+      (or_cases (leads_on x old (entry_count x.span) b) (has_maps_at new x.span blocks b) is))
+    where
+      to : LeadsAt new (entry_count x.span) b → (leads_on x old (entry_count x.span) b || has_maps_at new x.span blocks b) ≡ true
+      to at = so (stays x at.vvbn) refl
+        where
+          hole : stays x at.vvbn ≡ false → (at.vvbn < x.span) ⊎ (x.span + blocks ≤ at.vvbn) → ⊥
+          hole off out = at.some (sym at.place ∙ ap place_in (holes at.vvbn off out))
+
+          so : (t : Bool) → stays x at.vvbn ≡ t → (leads_on x old (entry_count x.span) b || has_maps_at new x.span blocks b) ≡ true
+          so true on = or_left _ _ (on_at x old (entry_count x.span) at.vvbn b at.within on (ap place_in (sym (kept at.vvbn on)) ∙ at.place) at.some)
+          so false off = ⊎_elim
+              (λ (low : at.vvbn < x.span). absurd (hole off (inl low)))
+              (λ (past : x.span ≤ at.vvbn). ⊎_elim
+              (λ (inside : at.vvbn < x.span + blocks).
+              let back : x.span + (at.vvbn - x.span) ≡ at.vvbn = omega (arith, past) in
+              or_right (leads_on x old (entry_count x.span) b) _ (maps_at new x.span blocks (at.vvbn - x.span) b (omega (arith, past, inside)) (ap (place_at new) back ∙ at.place) at.some))
+              (λ (over : x.span + blocks ≤ at.vvbn). absurd (hole off (inr over)))
+              (cases_lt at.vvbn (x.span + blocks)))
+              (cases_lt at.vvbn x.span)
+
+-- ---- the volume
+
+module _ (x : VolumeState) (before after : Image) (space given_back drawn stored left : Space) (label : ℕ) (old mid new : Mapped) (own : HasOwnBlocks x old space)
+    (gave : HasGiven space (leads_away x old (entry_count x.span)) given_back) (took : HasDrawn given_back (λ b. is_at b label) 1 drawn) (some : 1 ≤ label)
+    (has : HasLabel x mid drawn label new after stored) (released : HasGiven stored (λ b. is_at b x.label) left) (same : stored.committed ≡ drawn.committed)
+    (long : length new.entries ≡ entry_count x.span) (tree : mid.tree ≡ old.tree)
+    (kept : (v : ℕ) → stays x v ≡ true → entry_under mid v ≡ entry_under old v) (holes : (v : ℕ) → stays x v ≡ false → entry_under mid v ≡ None)
     (others : (b : ℕ) → IsTakenOther drawn label b → after b ≡ before b)
   where
-    led_held : (b : ℕ) → leads old (entry_count x.span) b ≡ true → is_member space.committed b ≡ true
-    led_held b led = held b (or_right (is_at b x.label) (names old.tree b || leads old (entry_count x.span) b) (or_right (names old.tree b) (leads old (entry_count x.span) b) led))
+    kept_now : (v : ℕ) → stays x v ≡ true → entry_under new v ≡ entry_under old v
+    kept_now v on = has.blocks.map.others v (inl (low_of x v on)) ∙ kept v on
 
-    now_free : (b : ℕ) → IsFree drawn b → IsFree space b
-    now_free b free = free_then space given_back drawn (leads old (entry_count x.span)) label gave took some led_held b free
+    holes_now : (v : ℕ) → stays x v ≡ false → (v < x.span) ⊎ (x.span + map_blocks x.span ≤ v) → entry_under new v ≡ None
+    holes_now v off out = has.blocks.map.others v out ∙ holes v off
 
-    fresh : (b : ℕ) → is_of x label new b ≡ true → IsFree space b
-    fresh b is = ⊎_elim
-        (λ (at : is_at b label ≡ true). free_at_first space given_back drawn (leads old (entry_count x.span)) label gave took some led_held b (took.free b at))
-        (λ (more : (names new.tree b || leads new (entry_count x.span) b) ≡ true). ⊎_elim
-        (λ (named : names new.tree b ≡ true). now_free b (has.blocks.fresh_nodes b named))
-        (λ (led : leads new (entry_count x.span) b ≡ true). now_free b (has.blocks.fresh_blocks b led))
-        (or_cases (names new.tree b) (leads new (entry_count x.span) b) more))
-        (or_cases (is_at b label) (names new.tree b || leads new (entry_count x.span) b) is)
+    given_free : (b : ℕ) → IsFree drawn b → IsFree given_back b
+    given_free b free = free_then space given_back drawn (leads_away x old (entry_count x.span)) label gave took some b free
 
-    led : (k : ℕ) → k < map_blocks x.span → leads new (entry_count x.span) (place_at new (x.span + k)) ≡ true
-    led k lt = let least = has.blocks.map.some k lt in leads_at new (entry_count x.span) (x.span + k) (place_at new (x.span + k)) (omega (arith, lt)) refl (λ none. omega (arith, least, none))
+    -- what is free isn't the root's on the disk
+    not_old : (b : ℕ) → IsFree given_back b → (is_at b x.label ≡ false) × (names old.tree b ≡ false)
+    not_old b free =
+        let off = uncommitted given_back b free in (
+          not_so (is_at b x.label) (λ at. let means = at_means b x.label at in true≢false (sym (ap (λ (c : List Bool). is_member c b) gave.committed ∙ subst (λ (k : ℕ). is_member space.committed k ≡ true) means.0 (own.old_label (λ none. means.1 (sym means.0 ∙ none)))) ∙ off)),
+          not_so (names old.tree b) (λ named. true≢false (sym (ap (λ (c : List Bool). is_member c b) gave.committed ∙ own.old_nodes b named) ∙ off)),
+        )
+
+    map_led : (k : ℕ) → k < map_blocks x.span → has_maps_at new x.span (map_blocks x.span) (place_at new (x.span + k)) ≡ true
+    map_led k lt = let least = has.blocks.map.some k lt in maps_at new x.span (map_blocks x.span) k (place_at new (x.span + k)) lt refl (λ none. omega (arith, least, none))
+
+    -- a block that stays is none of the others
+    stays_apart : (b : ℕ) → leads_on x old (entry_count x.span) b ≡ true
+        → (is_member space.next b ≡ true) × ((leads_away x old (entry_count x.span) b ≡ false) × ((names old.tree b ≡ false) × (is_at b x.label ≡ false)))
+    stays_apart b on =
+        let at = on_where x old (entry_count x.span) b on in
+        let led : leads old (entry_count x.span) b ≡ true = leads_at old (entry_count x.span) at.vvbn b at.within at.place at.some in (
+          own.held b (or_right (is_at b x.label) _ (or_right (names old.tree b) _ led)),
+          (
+            not_so (leads_away x old (entry_count x.span) b) (λ away.
+                let w = away_where x old (entry_count x.span) b away in
+                two at w),
+            (
+              not_so (names old.tree b) (λ named. true≢false (sym led ∙ own.nodes b named)),
+              not_so (is_at b x.label) (λ here. let means = at_means b x.label here in true≢false (sym led ∙ ap (leads old (entry_count x.span)) (sym means.0) ∙ own.label)),
+            ),
+          ),
+        )
+      where
+        two : StaysAt x old (entry_count x.span) b → ((w : ℕ) × (w < entry_count x.span) × (stays x w ≡ false) × (place_at old w ≡ b)) → ⊥
+        two at w = ⊎_elim
+            (λ (same : at.vvbn ≡ w.0). true≢false (sym at.on ∙ ap (stays x) same ∙ w.2))
+            (λ (other : at.vvbn ≢ w.0). ⊎_elim
+            (λ (less : at.vvbn < w.0). own.entries at.vvbn w.0 less w.1 (λ none. at.some (sym at.place ∙ none)) (at.place ∙ sym w.3))
+            (λ (more : w.0 ≤ at.vvbn). own.entries w.0 at.vvbn (omega (arith, more, other)) at.within (λ none. at.some (sym w.3 ∙ none)) (w.3 ∙ sym at.place))
+            (cases_lt at.vvbn w.0))
+            (cases_eq at.vvbn w.0)
 
     pub renewed_volume : IsWritten x old before space label new after left
     renewed_volume = record {
@@ -140,31 +253,39 @@ module _ (x : VolumeState) (before after : Image) (space given_back drawn stored
       said = has.said;
       tree = has.blocks.tree;
       long = long;
-      place = λ k. place_at new (x.span + k);
-      placed = has.blocks.map.some;
+      kept = kept_now;
       active = has.blocks.map.active;
-      holes = has.blocks.map.holes;
+      placed = has.blocks.map.some;
+      holes = holes_now;
       bits = has.blocks.bits;
-      fresh = fresh;
+      given = given_back;
+      gave = gave;
       some = some;
-      alone = not_so (names new.tree label) (λ named. label_taken space given_back drawn (leads old (entry_count x.span)) label gave took some (has.blocks.fresh_nodes label named));
+      fresh_label = label_free space given_back drawn (leads_away x old (entry_count x.span)) label gave took some;
+      fresh_nodes = λ b named. given_free b (has.blocks.fresh_nodes b named);
+      fresh_maps = λ k lt. given_free (place_at new (x.span + k)) (has.blocks.fresh_maps (place_at new (x.span + k)) (map_led k lt));
+      alone = not_so (names new.tree label) (λ named. label_taken space given_back drawn (leads_away x old (entry_count x.span)) label gave took some (has.blocks.fresh_nodes label named));
       apart = λ k lt.
-          let free = has.blocks.fresh_blocks (place_at new (x.span + k)) (led k lt) in
-          (λ same. label_taken space given_back drawn (leads old (entry_count x.span)) label gave took some (subst (λ (b : ℕ). IsFree drawn b) same free), has.blocks.apart (place_at new (x.span + k)) (led k lt));
+          let free = has.blocks.fresh_maps (place_at new (x.span + k)) (map_led k lt) in
+          (λ same. label_taken space given_back drawn (leads_away x old (entry_count x.span)) label gave took some (subst (λ (b : ℕ). IsFree drawn b) same free), has.blocks.apart (place_at new (x.span + k)) (map_led k lt));
       once = has.blocks.map.once;
       held = λ b.
           released.held b ∙ ap (λ t. t && not (is_at b x.label)) (has.blocks.held b)
-          ∙ ap (λ t. ((names new.tree b || leads new (entry_count x.span) b) || (t && not (names old.tree b))) && not (is_at b x.label)) (took.held b ∙ ap (λ t. is_at b label || t) (gave.held b))
-          ∙ renewed (is_at b label) (names new.tree b) (leads new (entry_count x.span) b) (is_at b x.label) (names old.tree b) (leads old (entry_count x.span) b) (is_member space.next b)
-          (λ is. not_so (is_of x x.label old b) (λ was. committed_taken space b (held b was) (fresh b is)));
-      committed = released.committed ∙ kept ∙ took.committed ∙ gave.committed;
-      others = λ b is. others b (spared_first space given_back drawn (leads old (entry_count x.span)) label gave took some led_held b is);
+          ∙ ap (λ t. ((names new.tree b || has_maps_at new x.span (map_blocks x.span) b) || (t && not (names mid.tree b))) && not (is_at b x.label)) (took.held b ∙ ap (λ t. is_at b label || t) (gave.held b))
+          ∙ ap (λ (ts : List ℕ). ((names new.tree b || has_maps_at new x.span (map_blocks x.span) b) || ((is_at b label || (is_member space.next b && not (leads_away x old (entry_count x.span) b))) && not (names ts b))) && not (is_at b x.label)) tree
+          ∙ renewed (is_at b label) (names new.tree b) (has_maps_at new x.span (map_blocks x.span) b) (leads_on x old (entry_count x.span) b) (leads_away x old (entry_count x.span) b) (is_at b x.label) (names old.tree b) (is_member space.next b)
+          (λ at. not_old b (took.free b at))
+          (λ named. (not_old b (given_free b (has.blocks.fresh_nodes b named))).0)
+          (λ map. (not_old b (given_free b (has.blocks.fresh_maps b map))).0)
+          (stays_apart b)
+          ∙ ap₂ (λ (p q : Bool). (is_at b label || (names new.tree b || p)) || (is_member space.next b && not (is_at b x.label || (names old.tree b || q))))
+          (sym (leads_new x old new (map_blocks x.span) (omega arith) kept_now holes_now b)) (sym (leads_parts x old (entry_count x.span) b));
+      committed = released.committed ∙ same ∙ took.committed ∙ gave.committed;
+      others = λ b is. others b (given_spared space given_back drawn (leads_away x old (entry_count x.span)) label gave took some b is);
     }
 
 -- the old nodes can't be written before the next commit
-pub nodes_taken : (x : VolumeState) (space drawn : Space) (old kept : Mapped) → drawn.committed ≡ space.committed → kept.tree ≡ old.tree
-    → ((b : ℕ) → is_of x x.label old b ≡ true → is_member space.committed b ≡ true) → AreTaken drawn kept.tree
-nodes_taken x space drawn old kept same tree held b named =
+pub nodes_taken : (x : VolumeState) (space drawn : Space) (old kept : Mapped) → drawn.committed ≡ space.committed → kept.tree ≡ old.tree → HasOwnBlocks x old space → AreTaken drawn kept.tree
+nodes_taken x space drawn old kept same tree own b named =
     let was : names old.tree b ≡ true = ap (λ (t : List ℕ). names t b) (sym tree) ∙ named in
-    let of = or_right (is_at b x.label) (names old.tree b || leads old (entry_count x.span) b) (or_left (names old.tree b) (leads old (entry_count x.span) b) was) in
-    committed_taken drawn b (ap (λ (c : List Bool). is_member c b) same ∙ held b of)
+    committed_taken drawn b (ap (λ (c : List Bool). is_member c b) same ∙ own.old_nodes b was)

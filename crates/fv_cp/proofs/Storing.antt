@@ -1,5 +1,5 @@
 -- The blocks of a volume after they were written, and after its label was.
-use Rattle.std.proofs.Common.{◌≡◌, ◌≢◌, ℕ, ◌+◌, ◌<◌, ◌-◌, List, [], length, Bool, true, false, not, ◌&&◌, ◌||◌, refl, sym, ap, subst, ◌∙◌, arith, Option, Some, None}
+use Rattle.std.proofs.Common.{◌≡◌, ◌≢◌, ℕ, ◌+◌, ◌<◌, ◌-◌, List, length, Bool, true, false, not, ◌&&◌, ◌||◌, refl, sym, ap, subst, ◌∙◌, arith, Option, Some, None}
 use Rattle.std.specs.Prelude.{slice_index_or, min}
 use Rattle.std.specs.FinSet as set
 use Rattle.std.proofs.lemmas.Bool.{true≢false}
@@ -17,9 +17,9 @@ use Rattle.fv_container.specs.Flushed.{Exchanges, IsApart, IsFlushed, WasTaken}
 use Rattle.fv_aggmap.specs.Freeing.{free_has, in_range, is_clear, room_of}
 use Rattle.fv_aggmap.specs.Space.{Space, IsFree, blocks_of, is_held}
 use Rattle.fv_volume.specs.declared.state.VolumeState.{VolumeState}
-use Rattle.fv_cp.specs.Steps.{IsTaken, leads, place_in}
-use Rattle.fv_cp.specs.Writing.{AreTaken, HasBlocks, HasDrawn, HasMap, StandBits, place_at}
-use Rattle.fv_cp.proofs.Drawing.{free_before, leads_at, not_so}
+use Rattle.fv_cp.specs.Steps.{IsTaken, place_at, place_in}
+use Rattle.fv_cp.specs.Writing.{AreTaken, HasBlocks, HasDrawn, HasMap, StandBits, has_maps_at}
+use Rattle.fv_cp.proofs.Drawing.{free_before, maps_at, maps_same, not_so}
 use Rattle.fv_cp.proofs.Spelling.{flushed_still}
 
 -- a block of the set of the free ones is free
@@ -48,30 +48,28 @@ module _ (old new : Mapped) (same : new.entries ≡ old.entries) where
   place_same : (v : ℕ) → place_at new v ≡ place_at old v
   place_same v = ap place_in (under v)
 
-  leads_same : (n b : ℕ) → leads new n b ≡ leads old n b
-  unfolding leads
-  leads_same n b = ap (λ (es : List (Option Entry)). leads (record { entries = es; tree = [] }) n b) same
+  maps_still : (span n b : ℕ) → has_maps_at new span n b ≡ has_maps_at old span n b
+  maps_still span n b = maps_same old new span n b (λ k lt. place_same (span + k))
 
-  map_same : (span k : ℕ) → HasMap span k old → HasMap span k new
-  map_same span k has = record {
+  map_same : (span k : ℕ) (first : Mapped) → HasMap span k first old → HasMap span k first new
+  map_same span k first has = record {
     active = λ j lt. under (span + j) ∙ has.active j lt ∙ ap (λ (p : ℕ). Some (record { pvbn = p; kind = 8 })) (sym (place_same (span + j)));
     some = λ j lt. rw (place_same (span + j)) (has.some j lt);
-    holes = λ v out. under v ∙ has.holes v out;
+    others = λ v out. under v ∙ has.others v out;
     once = λ i j lt below e. has.once i j lt below (sym (place_same (span + i)) ∙ e ∙ place_same (span + j));
   }
 
-module _ (x : VolumeState) (nodes : List ℕ) (space mid left : Space) (root : ℕ) (old new : Mapped) (before after : Image)
-    (map : HasMap x.span (map_blocks x.span) old) (bits : StandBits x (map_blocks x.span) old before) (drawn : HasDrawn space (leads old (entry_count x.span)) (map_blocks x.span) mid)
-    (tree : old.tree ≡ nodes) (same : new.entries ≡ old.entries) (exchanges : Exchanges (room_of mid) new.tree old.tree (room_of left))
+module _ (x : VolumeState) (first : Mapped) (space mid left : Space) (root : ℕ) (old new : Mapped) (before after : Image)
+    (map : HasMap x.span (map_blocks x.span) first old) (bits : StandBits x (map_blocks x.span) old before) (drawn : HasDrawn space (has_maps_at old x.span (map_blocks x.span)) (map_blocks x.span) mid)
+    (tree : old.tree ≡ first.tree) (same : new.entries ≡ old.entries) (exchanges : Exchanges (room_of mid) new.tree old.tree (room_of left))
     (flushed : IsApart (room_of mid) old.tree → IsFlushed after root (height_of (length new.entries)) new) (long : length new.entries ≡ entry_count x.span)
-    (still : (b : ℕ) → WasTaken (room_of mid) b → after b ≡ before b) (taken : AreTaken space nodes)
+    (still : (b : ℕ) → WasTaken (room_of mid) b → after b ≡ before b) (taken : AreTaken space first.tree)
   where
-    n : ℕ
-    n = entry_count x.span
+    abbrev at_maps : Mapped → ℕ → Bool
+    at_maps m b = has_maps_at m x.span (map_blocks x.span) b
 
-    from_mid : (b : ℕ) → IsFree mid b → IsFree space b × (leads old n b ≡ false)
-    unfolding n
-    from_mid b free = free_before space mid (leads old (entry_count x.span)) (map_blocks x.span) b drawn free
+    from_mid : (b : ℕ) → IsFree mid b → IsFree space b × (at_maps old b ≡ false)
+    from_mid b free = free_before space mid (has_maps_at old x.span (map_blocks x.span)) (map_blocks x.span) b drawn free
 
     apart : IsApart (room_of mid) old.tree
     apart b free = not_so (names old.tree b) (λ named. taken b (ap (λ (t : List ℕ). names t b) (sym tree) ∙ named) (from_mid b (free_in mid b free)).0)
@@ -79,17 +77,14 @@ module _ (x : VolumeState) (nodes : List ℕ) (space mid left : Space) (root : �
     node_free : (b : ℕ) → names new.tree b ≡ true → IsFree mid b
     node_free b named = free_in mid b (exchanges.free b named)
 
-    lead_free : (b : ℕ) → leads new n b ≡ true → IsFree space b
-    unfolding n
-    lead_free b led = drawn.free b (sym (leads_same old new same (entry_count x.span) b) ∙ led)
+    map_free : (b : ℕ) → at_maps new b ≡ true → IsFree space b
+    map_free b led = drawn.free b (sym (maps_still old new same x.span (map_blocks x.span) b) ∙ led)
 
-    lead_apart : (b : ℕ) → leads new n b ≡ true → names new.tree b ≡ false
-    unfolding n
-    lead_apart b led = not_so (names new.tree b) (λ named. true≢false (sym (sym (leads_same old new same (entry_count x.span) b) ∙ led) ∙ (from_mid b (node_free b named)).1))
+    map_apart : (b : ℕ) → at_maps new b ≡ true → names new.tree b ≡ false
+    map_apart b led = not_so (names new.tree b) (λ named. true≢false (sym (sym (maps_still old new same x.span (map_blocks x.span) b) ∙ led) ∙ (from_mid b (node_free b named)).1))
 
-    placed : (k : ℕ) → k < map_blocks x.span → leads old n (place_at old (x.span + k)) ≡ true
-    unfolding n
-    placed k lt = leads_at old (entry_count x.span) (x.span + k) (place_at old (x.span + k)) (omega (arith, lt)) refl (let some = map.some k lt in λ none. omega (arith, some, none))
+    placed : (k : ℕ) → k < map_blocks x.span → at_maps old (place_at old (x.span + k)) ≡ true
+    placed k lt = maps_at old x.span (map_blocks x.span) k (place_at old (x.span + k)) lt refl (let some = map.some k lt in λ none. omega (arith, some, none))
 
     bits_still : StandBits x (map_blocks x.span) new after
     bits_still k lt =
@@ -105,35 +100,34 @@ module _ (x : VolumeState) (nodes : List ℕ) (space mid left : Space) (root : �
     held false false false true off = refl
     held false false false false off = refl
 
-    pub blocks_written : HasBlocks x nodes space root new after left
-    unfolding n
+    pub blocks_written : HasBlocks x first space root new after left
     blocks_written = record {
       tree = subst (λ (k : ℕ). IsFlushed after root (height_of k) new) long (flushed apart);
-      map = map_same old new same x.span (map_blocks x.span) map;
+      map = map_same old new same x.span (map_blocks x.span) first map;
       bits = bits_still;
       fresh_nodes = λ b named. (from_mid b (node_free b named)).0;
-      fresh_blocks = lead_free;
-      apart = lead_apart;
+      fresh_maps = map_free;
+      apart = map_apart;
       held = λ b.
           exchanges.held apart b ∙ ap (λ t. names new.tree b || (not t && is_member mid.next b)) (ap (λ (t : List ℕ). names t b) tree)
-          ∙ ap (λ t. names new.tree b || (not (names nodes b) && t)) (drawn.held b ∙ ap (λ t. t || is_member space.next b) (sym (leads_same old new same (entry_count x.span) b)))
-          ∙ held (names new.tree b) (leads new (entry_count x.span) b) (names nodes b) (is_member space.next b) (λ led. not_so (names nodes b) (λ named. taken b named (lead_free b led)));
+          ∙ ap (λ t. names new.tree b || (not (names first.tree b) && t)) (drawn.held b ∙ ap (λ t. t || is_member space.next b) (sym (maps_still old new same x.span (map_blocks x.span) b)))
+          ∙ held (names new.tree b) (at_maps new b) (names first.tree b) (is_member space.next b) (λ led. not_so (names first.tree b) (λ named. taken b named (map_free b led)));
     }
 
 -- the write of a taken block leaves them
-pub blocks_still : (x : VolumeState) (nodes : List ℕ) (space left : Space) (root label : ℕ) (new : Mapped) (before after : Image)
-    → HasBlocks x nodes space root new before left → IsTaken space label → ((b : ℕ) → b ≢ label → after b ≡ before b) → HasBlocks x nodes space root new after left
-blocks_still x nodes space left root label new before after has taken others =
+pub blocks_still : (x : VolumeState) (first : Mapped) (space left : Space) (root label : ℕ) (new : Mapped) (before after : Image)
+    → HasBlocks x first space root new before left → IsTaken space label → ((b : ℕ) → b ≢ label → after b ≡ before b) → HasBlocks x first space root new after left
+blocks_still x first space left root label new before after has taken others =
     let other : (b : ℕ) → IsFree space b → b ≢ label = λ b free e. taken (rw (← e) free) in
     record {
       tree = flushed_still before after root (height_of (entry_count x.span)) new has.tree (λ b named. others b (other b (has.fresh_nodes b named)));
       map = has.map;
       bits = λ k lt.
           let some = has.map.some k lt in
-          let led : leads new (entry_count x.span) (place_at new (x.span + k)) ≡ true = leads_at new (entry_count x.span) (x.span + k) (place_at new (x.span + k)) (omega (arith, lt)) refl (λ none. omega (arith, some, none)) in
-          rw (others (place_at new (x.span + k)) (other (place_at new (x.span + k)) (has.fresh_blocks (place_at new (x.span + k)) led))) (has.bits k lt);
+          let led : has_maps_at new x.span (map_blocks x.span) (place_at new (x.span + k)) ≡ true = maps_at new x.span (map_blocks x.span) k (place_at new (x.span + k)) lt refl (λ none. omega (arith, some, none)) in
+          rw (others (place_at new (x.span + k)) (other (place_at new (x.span + k)) (has.fresh_maps (place_at new (x.span + k)) led))) (has.bits k lt);
       fresh_nodes = has.fresh_nodes;
-      fresh_blocks = has.fresh_blocks;
+      fresh_maps = has.fresh_maps;
       apart = has.apart;
       held = has.held;
     }

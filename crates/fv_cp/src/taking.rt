@@ -11,8 +11,8 @@ ghost use Rattle.fv_store.specs.Held.{StandsOn};
 ghost use Rattle.fv_aggmap.specs.Space.{IsFree, blocks_of, free_blocks};
 ghost use Rattle.fv_container.specs.Spelled.{is_at};
 ghost use Rattle.fv_volmap.specs.Slots.{active_of};
-ghost use Rattle.fv_cp.specs.Steps.{IsTaken, leads};
-ghost use Rattle.fv_cp.specs.Writing.{HasDrawn, HasMap, IsBare, IsOther, StandBits};
+ghost use Rattle.fv_cp.specs.Steps.{IsTaken};
+ghost use Rattle.fv_cp.specs.Writing.{HasDrawn, HasEntries, HasMap, IsOther, StandBits, has_maps_at};
 
 use fv_aggmap::AggMap;
 use fv_bits::BitMap;
@@ -66,7 +66,7 @@ fn write_bits<D: Disk>(
     store.put(disk, place, &block)
 }
 
-/// Writes the blocks of the active map to free blocks, and places them in a container that has no other entries.
+/// Writes the blocks of the active map to free blocks, and places them in the container.
 pub(crate) fn write_map<D: Disk>(
     state: &VolumeState,
     container: &mut Container,
@@ -75,11 +75,11 @@ pub(crate) fn write_map<D: Disk>(
     disk: &mut D,
 ) -> Result<(), Failed>
     requires stands { StandsOn (D.shown disk.old) store.old.pairs }
-    requires bare { IsBare state.now container.old }
+    requires entries { HasEntries state.now container.old }
     requires room { map_blocks state.now.span ≤ free_blocks map.old }
-    ensures map { OnOk result (HasMap state.entry.now.span (map_blocks state.entry.now.span) container.new) }
+    ensures map { OnOk result (HasMap state.entry.now.span (map_blocks state.entry.now.span) container.old container.new) }
     ensures bits { IsTrue (D.shown disk.old).tells → OnOk result (StandBits state.entry.now (map_blocks state.entry.now.span) container.new (D.shown disk.new).reads) }
-    ensures drawn { OnOk result (HasDrawn map.old (leads container.new (entry_count state.entry.now.span)) (map_blocks state.entry.now.span) map.new) }
+    ensures drawn { OnOk result (HasDrawn map.old (has_maps_at container.new state.entry.now.span (map_blocks state.entry.now.span)) (map_blocks state.entry.now.span) map.new) }
     ensures committed { map.new.committed ≡ map.old.committed }
     ensures tree { container.new.tree ≡ container.old.tree }
     ensures entries { length container.new.entries ≡ entry_count state.entry.now.span }

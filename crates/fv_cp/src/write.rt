@@ -1,7 +1,6 @@
 //! Writing one volume.
 
-ghost use Rattle.std.specs.Prelude.{◌≡◌, ◌<◌, ◌≤◌, ◌+◌, ℕ, IsTrue, IfOk, OnOk, Ok, true, length};
-ghost use Rattle.fv_bits.specs.Members.{is_member};
+ghost use Rattle.std.specs.Prelude.{◌≡◌, ◌<◌, ◌≤◌, ◌+◌, IsTrue, IfOk, OnOk, Ok, length};
 ghost use Rattle.fv_codec.specs.Blocks.{label_at, last_place};
 ghost use Rattle.fv_disk.specs.Sparing.{Spares};
 ghost use Rattle.fv_model.specs.Numbers.{greatest_span};
@@ -13,9 +12,9 @@ ghost use Rattle.fv_aggmap.specs.Space.{blocks_of, free_blocks};
 ghost use Rattle.fv_container.specs.Flushed.{without_value};
 ghost use Rattle.fv_container.specs.Mapped.{IsMapped};
 ghost use Rattle.fv_volume.specs.Labels.{label_said};
-ghost use Rattle.fv_volume.specs.States.{IsState};
-ghost use Rattle.fv_cp.specs.Steps.{IsTaken, IsWritten, is_of, on_disk};
-ghost use Rattle.fv_cp.specs.Writing.{AreTaken, HasBlocks, HasLabel, HasRoomFor, IsBare, IsOther, IsTakenOther};
+ghost use Rattle.fv_volume.specs.Files.{IsLabelled};
+ghost use Rattle.fv_cp.specs.Steps.{HasOwnBlocks, IsTaken, IsWritten, on_disk};
+ghost use Rattle.fv_cp.specs.Writing.{AreTaken, HasBlocks, HasEntries, HasLabel, HasRoomFor, IsOther, IsTakenOther};
 
 use crate::giving::{give_back, give_back_block};
 use crate::taking::{map_blocks, take_block, write_map};
@@ -36,8 +35,7 @@ fn entry_count(span: u32) -> u32
     span + MAPS * map_blocks(span)
 }
 
-/// Writes the blocks of the active map and the container, which had holes alone, and answers the root of the container's tree. The
-/// old tree is given back.
+/// Writes the blocks of the active map and the container, and answers the root of the container's tree. The old tree is given back.
 fn write_blocks<D: Disk>(
     state: &VolumeState,
     container: &mut Container,
@@ -46,11 +44,11 @@ fn write_blocks<D: Disk>(
     disk: &mut D,
 ) -> Result<u32, Failed>
     requires stands { StandsOn (D.shown disk.old) store.old.pairs }
-    requires bare { IsBare state.now container.old }
+    requires entries { HasEntries state.now container.old }
     requires space { HasRoomFor state.now map.old }
     ensures written { IsTrue (D.shown disk.old).tells
         → AreTaken map.old container.old.tree
-        → IfOk result (λ root. HasBlocks state.entry.now container.old.tree map.old root container.new (D.shown disk.new).reads map.new) }
+        → IfOk result (λ root. HasBlocks state.entry.now container.old map.old root container.new (D.shown disk.new).reads map.new) }
     ensures root { IfOk result (λ root. (1 ≤ root) × (root ≤ last_place)) }
     ensures spares { Spares (IsTaken map.old) (D.shown disk.old) (D.shown disk.new) (without_value result) }
     ensures entries { length container.new.entries ≡ entry_count state.entry.now.span }
@@ -73,7 +71,7 @@ fn write_label<D: Disk>(
     disk: &mut D,
 ) -> Result<(), Failed>
     requires stands { StandsOn (D.shown disk.old) store.old.pairs }
-    requires state { IsState state.now.slot state.now }
+    requires state { IsLabelled state.now.slot state.now }
     requires root { root ≤ last_place }
     ensures said { IsTrue (D.shown disk.old).tells
         → OnOk result (label_at ((D.shown disk.new).reads label) ≡ Ok (label_said state.entry.now root (height_of (entry_count state.entry.now.span)))) }
@@ -87,7 +85,7 @@ fn write_label<D: Disk>(
     store.put(disk, label, &block)
 }
 
-/// Writes a volume whose container has holes alone, with its label at a place that was taken for it.
+/// Writes a volume whose container has no entry that goes, with its label at a place that was taken for it.
 fn write_anew<D: Disk>(
     state: &VolumeState,
     container: &mut Container,
@@ -97,13 +95,13 @@ fn write_anew<D: Disk>(
     label: u32,
 ) -> Result<(), Failed>
     requires stands { StandsOn (D.shown disk.old) store.old.pairs }
-    requires state { IsState state.now.slot state.now }
-    requires bare { IsBare state.now container.old }
+    requires state { IsLabelled state.now.slot state.now }
+    requires entries { HasEntries state.now container.old }
     requires space { HasRoomFor state.now map.old }
     requires taken { IsTaken map.old label }
     ensures written { IsTrue (D.shown disk.old).tells
         → AreTaken map.old container.old.tree
-        → OnOk result (HasLabel state.entry.now container.old.tree map.old label container.new (D.shown disk.new).reads map.new) }
+        → OnOk result (HasLabel state.entry.now container.old map.old label container.new (D.shown disk.new).reads map.new) }
     ensures spares { Spares (IsTakenOther map.old label) (D.shown disk.old) (D.shown disk.new) result }
     ensures entries { length container.new.entries ≡ entry_count state.entry.now.span }
     ensures valid { OnOk result (IsMapped container.new) }
@@ -116,8 +114,9 @@ fn write_anew<D: Disk>(
     Ok(())
 }
 
-/// Writes a volume anew: the blocks of its active map, its container, which has no other entries, and its label, whose PVBN it
-/// answers. What the volume had is given back. As many blocks are free as its overhead counts. It takes no memory and reads nothing.
+/// Writes a volume: the blocks of its active map to new places, its container and its label, whose PVBN it answers. Delayed entries
+/// become holes. Their blocks, and the old places of map, container and label, are given back; the blocks of all entries that the active
+/// map has stay. As many blocks are free as its overhead counts. It takes no memory and reads nothing.
 ///
 /// The one error is a failed write: the blocks that were taken are then lost to the map, and the container isn't as before. Costs a
 /// step for each entry and a write for each block.
@@ -129,11 +128,11 @@ pub fn write_volume<D: Disk>(
     disk: &mut D,
 ) -> Result<u32, Failed>
     requires stands { StandsOn (D.shown disk.old) store.old.pairs }
-    requires state { IsState state.now.slot state.now }
+    requires state { IsLabelled state.now.slot state.now }
     requires entries { length container.old.entries ≡ entry_count state.now.span }
     requires room { overhead state.now.span ≤ free_blocks map.old }
     ensures written { IsTrue (D.shown disk.old).tells
-        → ((b : ℕ) → is_of state.entry.now state.entry.now.label container.old b ≡ true → is_member map.old.committed b ≡ true)
+        → HasOwnBlocks state.entry.now container.old map.old
         → IfOk result (λ label. IsWritten state.entry.now container.old (D.shown disk.old).reads map.old label container.new (D.shown disk.new).reads map.new) }
     ensures spares { Spares (IsTaken (on_disk map.old)) (D.shown disk.old) (D.shown disk.new) (without_value result) }
     ensures entries { length container.new.entries ≡ entry_count state.entry.now.span }
@@ -143,7 +142,7 @@ pub fn write_volume<D: Disk>(
     ensures count { OnOk result (free_blocks map.old ≤ free_blocks map.new + overhead state.entry.now.span) }
     ensures stands { StandsOn (D.shown disk.new) store.new.pairs }
 {
-    give_back(container, map, entry_count(state.span));
+    give_back(state, container, map, entry_count(state.span));
     let label = take_block(map);
     write_anew(state, container, store, map, disk, label)?;
     give_back_block(map, state.label_place());

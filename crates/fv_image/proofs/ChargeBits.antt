@@ -101,23 +101,24 @@ module _ (u : Under) (levels : ℕ) (root : Pointer) where
       so (Some r) = stamps_told (tree_of x n r) level place
 
   -- the number of an owner in nodes
-  abbrev number : Owner → ℕ
+  abbrev pub number : Owner → ℕ
   number InodeFile = greatest_word
   number (OfFile n) = n
 
   -- an item at a place
-  record Stood (test : Item → Bool) (o : Owner) (level place : ℕ) : Type 0 where
-    item : Item
-    passes : test item ≡ true
-    pointer : item.pointer ≡ pointer_in o level place
-    owner : item.owner ≡ number o
-    level_is : item.level ≡ level
-    place_is : item.place ≡ place
+  pub record Stood (test : Item → Bool) (o : Owner) (level place : ℕ) : Type 0 where
+    pub item : Item
+    pub passes : test item ≡ true
+    pub pointer : item.pointer ≡ pointer_in o level place
+    pub owner : item.owner ≡ number o
+    pub level_is : item.level ≡ level
+    pub place_is : item.place ≡ place
 
   no_hole : hole.stamp ≢ 0 → ⊥
   no_hole some = some refl
 
-  at_place : (test : Item → Bool) → list_all test (items x) ≡ true → (o : Owner) (level place : ℕ) → (pointer_in o level place).stamp ≢ 0 → Stood test o level place
+  -- what all that is reached passes, the item at a place does
+  pub at_place : (test : Item → Bool) → list_all test (items x) ≡ true → (o : Owner) (level place : ℕ) → (pointer_in o level place).stamp ≢ 0 → Stood test o level place
   at_place test all InodeFile level place some = record {
     item = item_of hole x.inode level place;
     passes = at_inode test x all level place some;
@@ -139,7 +140,7 @@ module _ (u : Under) (levels : ℕ) (root : Pointer) where
         place_is = refl;
       }
 
-  listed_place : (o : Owner) (level place : ℕ) → (pointer_in o level place).stamp ≢ 0 → is_listed (items x) (pointer_in o level place).vvbn ≡ true
+  pub listed_place : (o : Owner) (level place : ℕ) → (pointer_in o level place).stamp ≢ 0 → is_listed (items x) (pointer_in o level place).vvbn ≡ true
   listed_place InodeFile level place some = listed_inode x level place some
   listed_place (OfFile n) level place some = so (file_at x.inode n) refl some
     where
@@ -187,7 +188,7 @@ module _ (u : Under) (levels : ℕ) (root : Pointer) where
     one_owner (OfFile n) (OfFile k) level place some other e = ap OfFile e
 
     -- each item is at its place
-    owner_is : (n level place : ℕ) → (pointer_in (OfFile n) level place).stamp ≢ 0 → owner_of n ≡ OfFile n
+    pub owner_is : (n level place : ℕ) → (pointer_in (OfFile n) level place).stamp ≢ 0 → owner_of n ≡ OfFile n
     owner_is n level place some = let low = small_number n level place some in ap (λ (b : Bool). if b then InodeFile else OfFile n) (let other : (n == greatest_word) ≡ false = grind (arith, nat_tests, low) in other)
 
     abbrev is_placed : Item → Bool
@@ -211,6 +212,28 @@ module _ (u : Under) (levels : ℕ) (root : Pointer) where
         (subst (λ (p : Pointer). set.contains (ids_of (table_told x)) (placed (owner_of n) (level, place), p.stamp) ≡ true) at
         (subst (λ (o : Owner). set.contains (ids_of (table_told x)) (placed o (level, place), (pointer_in (OfFile n) level place).stamp) ≡ true) (sym owner) (contained (OfFile n) level place stands))))
 
+    module _ (once : list_all (λ a. list_all (λ b. not (a.pointer.vvbn == b.pointer.vvbn) || is_same_position a b) (items x)) (items x) ≡ true) where
+      -- one VVBN is led to from one place
+      pub led_once : (o k : Owner) (level index l j : ℕ) → (pointer_in o level index).stamp ≢ 0 → (pointer_in k l j).stamp ≢ 0 → (pointer_in k l j).vvbn ≡ (pointer_in o level index).vvbn → (k ≡ o) × ((l ≡ level) × (j ≡ index))
+      led_once o k level index l j here there same =
+          let row = at_place (λ a. list_all (λ b. not (a.pointer.vvbn == b.pointer.vvbn) || is_same_position a b) (items x)) once o level index here in
+          let pair = at_place (λ b. not (row.item.pointer.vvbn == b.pointer.vvbn) || is_same_position row.item b) row.passes k l j there in
+          let vvbn : row.item.pointer.vvbn ≡ pair.item.pointer.vvbn = ap (λ (p : Pointer). p.vvbn) row.pointer ∙ sym same ∙ sym (ap (λ (p : Pointer). p.vvbn) pair.pointer) in
+          let position : is_same_position row.item pair.item ≡ true = by (row.item.pointer.vvbn == pair.item.pointer.vvbn) (is_same_position row.item pair.item) (let equal : (row.item.pointer.vvbn == pair.item.pointer.vvbn) ≡ true = grind (arith, nat_tests, vvbn) in equal) pair.passes in
+          let first = and_parts (row.item.owner == pair.item.owner) _ position in
+          let second = and_parts (row.item.level == pair.item.level) (row.item.place == pair.item.place) first.1 in
+          let owners : row.item.owner ≡ pair.item.owner = grind (arith, nat_tests, first.0) in
+          let levels_are : row.item.level ≡ pair.item.level = grind (arith, nat_tests, second.0) in
+          let places : row.item.place ≡ pair.item.place = grind (arith, nat_tests, second.1) in
+          let at_level : l ≡ level = sym pair.level_is ∙ sym levels_are ∙ row.level_is in
+          let at_index : j ≡ index = sym pair.place_is ∙ sym places ∙ row.place_is in
+          let stands : (pointer_in k level index).stamp ≢ 0 = subst (λ (q : ℕ). (pointer_in k level q).stamp ≢ 0) at_index (subst (λ (q : ℕ). (pointer_in k q j).stamp ≢ 0) at_level there) in
+          (one_owner k o level index stands here (sym pair.owner ∙ sym owners ∙ row.owner), (at_level, at_index))
+        where
+          by : (a b : Bool) → a ≡ true → (not a || b) ≡ true → b ≡ true
+          by true b e h = h
+          by false b e h = absurd cc
+
     module _ (bit : ℕ → Bool) (n : ℕ) (reach : (v : ℕ) → bit v ≡ is_listed (items x) v) (below : list_all (λ e. nat_lt e.pointer.vvbn n) (items x) ≡ true)
         (once : list_all (λ a. list_all (λ b. not (a.pointer.vvbn == b.pointer.vvbn) || is_same_position a b) (items x)) (items x) ≡ true) where
       abbrev led : Place × ℕ → ℕ
@@ -219,24 +242,8 @@ module _ (u : Under) (levels : ℕ) (root : Pointer) where
       -- one VVBN is at one place
       one_place : (e y : Place × ℕ) → In e (fin.entries m) → In y (fin.entries m) → led y ≡ led e → y.0 ≡ e.0
       one_place e y here there same =
-          let row = at_place (λ a. list_all (λ b. not (a.pointer.vvbn == b.pointer.vvbn) || is_same_position a b) (items x)) once e.0.owner e.0.level e.0.index (some_pointer e here) in
-          let pair = at_place (λ b. not (row.item.pointer.vvbn == b.pointer.vvbn) || is_same_position row.item b) row.passes y.0.owner y.0.level y.0.index (some_pointer y there) in
-          let vvbn : row.item.pointer.vvbn ≡ pair.item.pointer.vvbn = ap (λ (p : Pointer). p.vvbn) row.pointer ∙ sym same ∙ sym (ap (λ (p : Pointer). p.vvbn) pair.pointer) in
-          let position : is_same_position row.item pair.item ≡ true = by (row.item.pointer.vvbn == pair.item.pointer.vvbn) (is_same_position row.item pair.item) (let equal : (row.item.pointer.vvbn == pair.item.pointer.vvbn) ≡ true = grind (arith, nat_tests, vvbn) in equal) pair.passes in
-          let first = and_parts (row.item.owner == pair.item.owner) _ position in
-          let second = and_parts (row.item.level == pair.item.level) (row.item.place == pair.item.place) first.1 in
-          let owners : row.item.owner ≡ pair.item.owner = grind (arith, nat_tests, first.0) in
-          let levels_are : row.item.level ≡ pair.item.level = grind (arith, nat_tests, second.0) in
-          let places : row.item.place ≡ pair.item.place = grind (arith, nat_tests, second.1) in
-          let level : y.0.level ≡ e.0.level = sym pair.level_is ∙ sym levels_are ∙ row.level_is in
-          let index : y.0.index ≡ e.0.index = sym pair.place_is ∙ sym places ∙ row.place_is in
-          let stands : (pointer_in y.0.owner e.0.level e.0.index).stamp ≢ 0 = subst (λ (k : ℕ). (pointer_in y.0.owner e.0.level k).stamp ≢ 0) index (subst (λ (k : ℕ). (pointer_in y.0.owner k y.0.index).stamp ≢ 0) level (some_pointer y there)) in
-          let owner : y.0.owner ≡ e.0.owner = one_owner y.0.owner e.0.owner e.0.level e.0.index stands (some_pointer e here) (sym pair.owner ∙ sym owners ∙ row.owner) in
-          λ i. record { owner = owner i; level = level i; index = index i }
-        where
-          by : (a b : Bool) → a ≡ true → (not a || b) ≡ true → b ≡ true
-          by true b e h = h
-          by false b e h = absurd cc
+          let at = led_once once e.0.owner y.0.owner e.0.level e.0.index y.0.level y.0.index (some_pointer e here) (some_pointer y there) same in
+          λ i. record { owner = at.0 i; level = at.1.0 i; index = at.1.1 i }
 
       above : (k : Place) (y : Place × ℕ) (es : List (Place × ℕ)) → T (below_all place_cmp k es) → In y es → place_cmp k y.0 ≡ Less
       above k y [] h there = absurd there
@@ -309,24 +316,24 @@ module _ (w : View) (s : ℕ) (h : Head) (small : s < 64) (there : w.head s ≡ 
   es = items (standing_of w s h.active)
 
   -- what is asked of all that the volume reaches is asked of what its active table does
-  of_active : (test : VolumeSeen → Root → Reached → Bool) → list_all (λ r. list_all (test (volume_seen w s h) r) r.reached) (volume_seen w s h).roots ≡ true
+  pub of_active : (test : VolumeSeen → Root → Reached → Bool) → list_all (λ r. list_all (test (volume_seen w s h) r) r.reached) (volume_seen w s h).roots ≡ true
       → list_all (λ e. test (volume_seen w s h) (root_seen w s 0 h.active) (reached_at w s e)) es ≡ true
   unfolding volume_seen root_seen
   of_active test all =
       sym (list_all-map (test (volume_seen w s h) (root_seen w s 0 h.active)) (reached_at w s) es)
       ∙ (and_parts (list_all (test (volume_seen w s h) (root_seen w s 0 h.active)) (map (reached_at w s) es)) _ all).0
 
-  weaker : (p q : Item → Bool) (xs : List Item) → ((e : Item) → p e ≡ true → q e ≡ true) → list_all p xs ≡ true → list_all q xs ≡ true
+  pub weaker : (p q : Item → Bool) (xs : List Item) → ((e : Item) → p e ≡ true → q e ≡ true) → list_all p xs ≡ true → list_all q xs ≡ true
   weaker p q [] each is = refl
   weaker p q (e ∷ xs) each is = let parts = and_parts (p e) (list_all p xs) is in (λ i. each e parts.0 i && weaker p q xs each parts.1 i)
 
-  below : list_all (λ e. nat_lt e.pointer.vvbn h.span) es ≡ true
+  pub below : list_all (λ e. nat_lt e.pointer.vvbn h.span) es ≡ true
   unfolding has_pointers_in_range volume_seen seen
   below = weaker (λ e. nat_lt e.pointer.vvbn h.span && is_hint w.blocks e.pointer.pvbn) (λ e. nat_lt e.pointer.vvbn h.span) es (λ e is. (and_parts (nat_lt e.pointer.vvbn h.span) _ is).0)
       (of_active (λ x r e. nat_lt e.item.pointer.vvbn x.head.span && is_hint w.blocks e.item.pointer.pvbn)
       (of_volume w (λ s x. list_all (λ r. list_all (λ e. nat_lt e.item.pointer.vvbn x.head.span && is_hint w.blocks e.item.pointer.pvbn) r.reached) x.roots) s h tables.ranges small there))
 
-  once : list_all (λ a. list_all (λ b. not (a.pointer.vvbn == b.pointer.vvbn) || is_same_position a b) es) es ≡ true
+  pub once : list_all (λ a. list_all (λ b. not (a.pointer.vvbn == b.pointer.vvbn) || is_same_position a b) es) es ≡ true
   unfolding reaches_once root_seen
   once =
       let all = of_active (λ x r a. is_some a.at && list_all (λ b. not (a.item.pointer.vvbn == b.item.pointer.vvbn) || is_same_position a.item b.item) r.reached)
@@ -336,7 +343,7 @@ module _ (w : View) (s : ℕ) (h : Head) (small : s < 64) (there : w.head s ≡ 
       (λ a is. sym (list_all-map (λ (b : Reached). not (a.pointer.vvbn == b.item.pointer.vvbn) || is_same_position a b.item) (reached_at w s) es) ∙ (and_parts (is_some (reached_at w s a).at) _ is).1) all
 
   -- its active map is what its active table reaches
-  reach : (v : ℕ) → volume_bit w s h.span 0 v ≡ is_listed es v
+  pub reach : (v : ℕ) → volume_bit w s h.span 0 v ≡ is_listed es v
   unfolding has_maps_of_reach volume_bit
   reach v = so (nat_lt v (block_bits * map_blocks h.span)) refl
     where

@@ -64,3 +64,11 @@ mod DeepFiles
 mod SmallTables
 mod SpaceFaults
 pub mod ChargeBits
+pub mod LoneTables
+pub mod SoundSlots
+pub mod StoredSlots
+pub mod Undelayed
+pub mod Reaching
+pub mod Beside
+pub mod Committed
+pub mod Different

@@ -23,7 +23,7 @@ use Rattle.fv_image.specs.VolumeRules.{has_bases, has_use_in_size, commits_seen,
 use Rattle.fv_image.specs.HintRules.{rests_on_base}
 use Rattle.fv_image.specs.Staying.{items_of, own_items, StaysHeld}
 use Rattle.fv_image.specs.Soundness.{AreBlocks, AreTables, IsSound}
-use Rattle.fv_image.specs.WholeMachine.{is_built_head, is_built, machine_from}
+use Rattle.fv_image.specs.WholeMachine.{has_form, has_no_reserves, is_built, machine_from}
 use Rattle.fv_image.proofs.SameSeen.{left_listed, right_listed, same_reach, same_told, same_seen, seen_at, of_volume}
 use Rattle.fv_image.proofs.SoundTests.{machine_told}
 use Rattle.fv_image.proofs.Promises.{room_from}
@@ -42,7 +42,7 @@ module _ (w u : View) (stays : StaysHeld w u) (bases : has_bases (seen w) ≡ tr
       (same_reach w u stays bases rests s h r.1 inside is (λ v there. own v (left_listed (items (standing_of w s r.1)) (items_of w s rs) v there)))
       (reach_of s h inside is rs (λ v there. own v (right_listed (items (standing_of w s r.1)) (items_of w s rs) v there)))
 
-  maps_from : ((s : ℕ) (h : Head) → s < 64 → w.head s ≡ Some h → has_bits_of w u s h ≡ true) → has_maps_of_reach u ≡ true
+  pub maps_from : ((s : ℕ) (h : Head) → s < 64 → w.head s ≡ Some h → has_bits_of w u s h ≡ true) → has_maps_of_reach u ≡ true
   unfolding has_maps_of_reach slots
   maps_from bits = all_of_range (λ s. option_map_or (λ h. list_all (is_reach u s h) (roots_of h)) (u.head s) true) 0 64 (λ s low high. so s (omega (arith, high)) (w.head s) refl)
     where
@@ -64,6 +64,11 @@ pub record Ends (w : View) (y : Layout) : Type 0 where
   pub names : has_distinct_names y ≡ true
   pub room : leaves_room y.view 0 ≡ true
 
+-- a view that stays has the forms that it had
+pub built_stays : (w u : View) → StaysHeld w u → has_bases (seen w) ≡ true → rests_on_base (seen w) ≡ true → is_built u ≡ is_built w
+unfolding is_built
+built_stays w u stays bases rests = λ i. list_all (λ s. option_map_or has_form (stays.heads s i) true) slots && has_no_reserves (same_seen w u stays bases rests i)
+
 module _ (w : View) (y : Layout) (ends : Ends w y) (tables : AreTables (seen w)) where
   -- it is sound
   pub end_sound : IsSound y
@@ -83,13 +88,9 @@ module _ (w : View) (y : Layout) (ends : Ends w y) (tables : AreTables (seen w))
   pub end_told : told y.view ≡ told w
   end_told = same_told w y.view ends.stays tables.bases tables.rests
 
-  same_built : is_built y.view ≡ is_built w
-  unfolding is_built
-  same_built = ap (λ (heads : ℕ → Option Head). list_all (λ s. option_map_or is_built_head (heads s) true) slots) (λ i s. ends.stays.heads s i)
-
   -- So the image stands for the session's machine.
   pub end_machine : is_built w ≡ true → machine_from y ≡ Some (told w)
-  end_machine built = machine_told y (told w) (record { built = same_built ∙ built; sound = end_sound; machine = end_told })
+  end_machine built = machine_told y (told w) (record { built = built_stays w y.view ends.stays tables.bases tables.rests ∙ built; sound = end_sound; machine = end_told })
 
 -- names are those of the heads
 pub same_names : (y z : Layout) → ((s : ℕ) → z.view.head s ≡ y.view.head s) → has_distinct_names z ≡ has_distinct_names y
@@ -133,7 +134,7 @@ module _ (w : View) (tables : AreTables (seen w)) (uses : UsesOwn w) where
       so ByFile e fits used = let p : promised (volume_told w s h) h.kind ≡ use_of (volume_told w s h) = ap (promised (volume_told w s h)) e in omega (arith, used, p)
       so Thin e fits used = let p : promised (volume_told w s h) h.kind ≡ use_of (volume_told w s h) = ap (promised (volume_told w s h)) e in omega (arith, used, p)
 
-  commits_hold : 2 * overheads w + own w ≤ commits_seen (seen w)
+  pub commits_hold : 2 * overheads w + own w ≤ commits_seen (seen w)
   unfolding overheads own commits_seen slots
   commits_hold = within_third (λ s. option_map_or (λ h. overhead h.span) (w.head s) 0) (λ s. option_map_or (λ h. count_by (is_own w s h) (vvbns h.span)) (w.head s) 0)
       (λ s. option_map_or (λ x. commit x.volume) ((seen w).volume s) 0) 0 64 (λ s low high. so s (omega (arith, high)) (w.head s) refl)
@@ -161,3 +162,7 @@ module _ (w : View) (tables : AreTables (seen w)) (uses : UsesOwn w) where
   -- and they fit the capacity, which leaves 256 blocks.
   pub room_from_commits : delayed w ≡ 0 → 256 ≤ w.blocks - first_block w.blocks → leaves_room w 0 ≡ true
   room_from_commits none large = room_from w 0 (omega (arith, none, large, commits_hold, capacity_fits))
+
+  -- So it does with more room where the commits leave it in the capacity.
+  pub room_beside_commits : (room : ℕ) → delayed w ≡ 0 → 256 ≤ w.blocks - first_block w.blocks → commits_seen (seen w) + room ≤ capacity w.blocks → leaves_room w (256 + room) ≡ true
+  room_beside_commits room none large enough = room_from w (256 + room) (omega (arith, none, large, commits_hold, enough))

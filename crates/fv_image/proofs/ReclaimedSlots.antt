@@ -35,14 +35,14 @@ lower a b lt = grind (arith, nat_tests)
 
 -- ---- numbers that are in a list once
 
-abbrev times : ℕ → List ℕ → ℕ
+abbrev pub times : ℕ → List ℕ → ℕ
 times b xs = count_by (λ x. x == b) xs
 
-abbrev mark : ℕ → ℕ → ℕ
+abbrev pub mark : ℕ → ℕ → ℕ
 mark b x = cond (x == b) 1 0
 
 -- parts of which at most one has the number
-once_in_parts : (b : ℕ) (part : ℕ → List ℕ) (from count : ℕ) → ((k : ℕ) → from ≤ k → k < from + count → times b (part k) ≤ 1)
+pub once_in_parts : (b : ℕ) (part : ℕ → List ℕ) (from count : ℕ) → ((k : ℕ) → from ≤ k → k < from + count → times b (part k) ≤ 1)
     → ((j k : ℕ) → from ≤ j → j < k → k < from + count → is_in b (part j) ≡ true → is_in b (part k) ≡ true → ⊥) → times b (flat_map part (range_with_len from count)) ≤ 1
 once_in_parts b part from zero each apart = omega arith
 once_in_parts b part from (suc count) each apart =
@@ -58,7 +58,7 @@ once_in_parts b part from (suc count) each apart =
     (listed_tells (λ x. x == b) (part from))
 
 -- two lists of which at most one has the number
-once_in_two : (b : ℕ) (xs ys : List ℕ) → times b xs ≤ 1 → times b ys ≤ 1 → (is_in b xs ≡ true → is_in b ys ≡ true → ⊥) → times b (xs ++ ys) ≤ 1
+pub once_in_two : (b : ℕ) (xs ys : List ℕ) → times b xs ≤ 1 → times b ys ≤ 1 → (is_in b xs ≡ true → is_in b ys ≡ true → ⊥) → times b (xs ++ ys) ≤ 1
 once_in_two b xs ys first second apart =
     let whole = sum_by-append (mark b) xs ys in ⊎_elim
     (λ (left : (is_in b xs ≡ true) × (1 ≤ times b xs)). ⊎_elim
@@ -68,11 +68,11 @@ once_in_two b xs ys first second apart =
     (λ (none : (is_in b xs ≡ false) × (times b xs ≡ 0)). omega (arith, whole, second, none.1))
     (listed_tells (λ x. x == b) xs)
 
-once_in_lying : (b : ℕ) (o : Option Lying) → times b (place_lying o) ≤ 1
+pub once_in_lying : (b : ℕ) (o : Option Lying) → times b (place_lying o) ≤ 1
 once_in_lying b None = omega arith
 once_in_lying b (Some x) = omega (arith, sum_by-cons (mark b) x.place [], one_or_none (x.place == b))
 
-once_in_entry : (b : ℕ) (o : Option Placed) → times b (place_of o) ≤ 1
+pub once_in_entry : (b : ℕ) (o : Option Placed) → times b (place_of o) ≤ 1
 once_in_entry b None = omega arith
 once_in_entry b (Some x) = omega (arith, sum_by-cons (mark b) x.pvbn [], one_or_none (x.pvbn == b))
 

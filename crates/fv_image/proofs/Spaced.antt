@@ -113,7 +113,7 @@ part_in_sum part k from (suc count) low high =
     (λ ne. let rest = part_in_sum part k (from + 1) count (omega arith) (omega arith) in omega (arith, cons, rest))
     (cases_eq from k)
 
-two_in_sum : (part : ℕ → ℕ) (k j from count : ℕ) → from ≤ k → k < j → j < from + count → part k + part j ≤ sum_by part (range_with_len from count)
+pub two_in_sum : (part : ℕ → ℕ) (k j from count : ℕ) → from ≤ k → k < j → j < from + count → part k + part j ≤ sum_by part (range_with_len from count)
 two_in_sum part k j from zero low order high = absurd (omega arith)
 two_in_sum part k j from (suc count) low order high =
     let cons : sum_by part (range_with_len from (suc count)) ≡ part from + sum_by part (range_with_len (from + 1) count) = sum_by-cons part from (range_with_len (from + 1) count) in ⊎_elim

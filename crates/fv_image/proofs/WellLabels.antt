@@ -12,19 +12,23 @@ use Rattle.fv_codec.specs.Fields.{Verdict, reading, verdicts}
 use Rattle.fv_codec.specs.Blocks.{label_fields, label_at, snap_of, IsLabel}
 use Rattle.fv_codec.proofs.Decoded.{label_in_range}
 use Rattle.fv_model.specs.Machines.{Machine}
-use Rattle.fv_laws.specs.WellFormed.{IsWell}
+use Rattle.fv_laws.specs.WellFormed.{IsWell, IsWellVolume}
 use Rattle.fv_tables.proofs.Lists.{all_in_range}
 use Rattle.fv_image.specs.NewerRoot.{Taken, root_of}
 use Rattle.fv_image.specs.Containers.{shaped, container_entry}
 use Rattle.fv_image.specs.Views.{Placed, Head, snaps_from, head_of, slots, entry_count}
 use Rattle.fv_image.specs.Held.{layout_at, view_at, lying_at, label_place, label_in, entry_from, placed}
 use Rattle.fv_image.specs.Sound.{share_name, has_distinct_names}
+use Rattle.fv_image.specs.Volumes.{volume_told}
+use Rattle.fv_image.specs.Seen.{seen}
+use Rattle.fv_image.specs.Soundness.{AreTables}
 use Rattle.fv_image.specs.WholeMachine.{machine_at, machine_of, Tells}
 use Rattle.fv_image.specs.WellMachines.{MachinesAreWell}
 use Rattle.fv_image.proofs.LabelNumbers.{label_numbers}
 use Rattle.fv_image.proofs.SoundTests.{tells_from}
 use Rattle.fv_image.proofs.WellNodes.{length_items}
-use Rattle.fv_image.proofs.WellVolumes.{IsNumbered}
+use Rattle.fv_image.proofs.OwnUses.{HasLabelNumbers}
+use Rattle.fv_image.proofs.WellVolumes.{IsNumbered, well_volume}
 use Rattle.fv_image.proofs.WellImages.{well_machine}
 
 -- ---- a label
@@ -67,18 +71,23 @@ numbered_label block l long e =
 -- ---- an image
 
 module _ (t : Taken) (i : Image) (long : (b : ℕ) → length (i b) ≡ 4096) where
-  numbered_lying : (p : ℕ) (h : Head) → option_map head_of (label_in (lying_at i p)) ≡ Some h → IsNumbered h
+  -- what each label says has what follows from its shape
+  of_lying : (P : Head → Type 0) → ((block : List ℕ) (l : Label) → length block ≡ 4096 → label_at block ≡ Ok l → P (head_of l)) → (p : ℕ) (h : Head) → option_map head_of (label_in (lying_at i p)) ≡ Some h → P h
   unfolding label_in
-  numbered_lying zero h e = absurd cc
-  numbered_lying (suc p) h e = so (label_at (i (suc p))) refl e
+  of_lying P each zero h e = absurd cc
+  of_lying P each (suc p) h e = so (label_at (i (suc p))) refl e
     where
-      so : (r : Result Label Shape) → label_at (i (suc p)) ≡ r → option_map head_of (shaped r) ≡ Some h → IsNumbered h
-      so (Ok l) is e = let same : head_of l ≡ h = cc in subst IsNumbered same (numbered_label (i (suc p)) l (long (suc p)) is)
+      so : (r : Result Label Shape) → label_at (i (suc p)) ≡ r → option_map head_of (shaped r) ≡ Some h → P h
+      so (Ok l) is e = let same : head_of l ≡ h = cc in subst P same (each (i (suc p)) l (long (suc p)) is)
       so (Err fault) is e = absurd cc
 
-  numbered_at : (s : ℕ) (h : Head) → s < 64 → (view_at t i).head s ≡ Some h → IsNumbered h
+  pub numbered_at : (s : ℕ) (h : Head) → s < 64 → (view_at t i).head s ≡ Some h → IsNumbered h
   unfolding view_at
-  numbered_at s h small e = numbered_lying (label_place t s) h e
+  numbered_at s h small e = of_lying IsNumbered numbered_label (label_place t s) h e
+
+  pub numbers_at : (s : ℕ) (h : Head) → (view_at t i).head s ≡ Some h → HasLabelNumbers h
+  unfolding view_at
+  numbers_at s h e = of_lying HasLabelNumbers (λ block l long is. label_numbers l (label_in_range block (Ok l) long (sym is))) (label_place t s) h e
 
   entry_long : (o : Option Label) (v : ℕ) (p : Placed) → entry_from o i v ≡ Some p → length p.block ≡ 4096
   unfolding entry_from
@@ -92,16 +101,20 @@ module _ (t : Taken) (i : Image) (long : (b : ℕ) → length (i b) ≡ 4096) wh
           by true e = absurd cc
           by false e = let same : i x.0 ≡ p.block = cc in ap (λ (b : List ℕ). length b) (sym same) ∙ long x.0
 
-  entries_whole : (s v : ℕ) (p : Placed) → (view_at t i).entry s v ≡ Some p → length p.block ≡ 4096
+  pub entries_whole : (s v : ℕ) (p : Placed) → (view_at t i).entry s v ≡ Some p → length p.block ≡ 4096
   unfolding view_at
   entries_whole s v p e = entry_long (label_in (lying_at i (label_place t s))) v p e
 
-  names_apart : has_distinct_names (layout_at t i) ≡ true → (s k : ℕ) → s < 64 → k < s → share_name ((view_at t i).head k) ((view_at t i).head s) ≡ false
+  pub names_apart : has_distinct_names (layout_at t i) ≡ true → (s k : ℕ) → s < 64 → k < s → share_name ((view_at t i).head k) ((view_at t i).head s) ≡ false
   unfolding has_distinct_names layout_at slots
   names_apart all s k small before =
       let w = view_at t i in
       let here = all_in_range (λ s. list_all (λ earlier. not (share_name (w.head earlier) (w.head s))) (range_with_len 0 s)) s 0 64 all (omega arith) (omega (arith, small)) in
       not-true _ (all_in_range (λ earlier. not (share_name (w.head earlier) (w.head s))) k 0 s here (omega arith) (omega (arith, before)))
+
+-- Each volume of a sound image is one of the machine's.
+pub volumes_are_well : (t : Taken) (i : Image) → ((b : ℕ) → length (i b) ≡ 4096) → AreTables (seen (view_at t i)) → (s : ℕ) (h : Head) → s < 64 → (view_at t i).head s ≡ Some h → IsWellVolume (volume_told (view_at t i) s h)
+volumes_are_well t i long tables s h small there = well_volume (view_at t i) tables (entries_whole t i long) (numbered_at t i long) s h small there
 
 -- The machine of a sound image is well-formed.
 pub machines_are_well : MachinesAreWell

@@ -13,7 +13,7 @@ use Rattle.fv_model.specs.Trees.{fan}
 use Rattle.fv_laws.specs.WellFormed.{IsWellTable}
 use Rattle.fv_laws.proofs.Lists.{In}
 use Rattle.fv_tables.specs.Spelled.{hole, stored, pointer_at}
-use Rattle.fv_tables.specs.Told.{entry_or, listed, records_each, file_at, records}
+use Rattle.fv_tables.specs.Told.{Standing, entry_or, listed, records_each, file_at, records}
 use Rattle.fv_tables.specs.Reached.{Item, item_of, items}
 use Rattle.fv_tables.proofs.Lists.{all_in_part}
 use Rattle.fv_tables.proofs.Items.{at_inode, at_file, number_within}
@@ -44,6 +44,11 @@ unfolding listed
 one_listed p f count n r all low is =
     let here = all_in_part p (λ k. entry_or k (f k)) n 0 count all (omega arith) (omega (arith, low)) in
     (and_parts (p (n, r)) true (subst (λ (o : Option InodeRecord). list_all p (entry_or n o) ≡ true) is here)).0
+
+-- what all records of a table pass each does
+pub of_records : (x : Standing) (p : ℕ × InodeRecord → Bool) → list_all p (records x) ≡ true → (n : ℕ) (q : InodeRecord) → file_at x.inode n ≡ Some q → p (n, q) ≡ true
+unfolding records
+of_records x p all n q is = one_listed p (file_at x.inode) (records_each * fan ^ x.inode.levels) n q all (number_within (λ e. true) x n q is) is
 
 -- ---- blocks of a view
 
@@ -160,11 +165,6 @@ module _ (w : View) (tables : AreTables (seen w)) (whole : HasWholeBlocks w) (s 
   unfolding has_cells_within root_seen
   cells_of = of_root (λ x r. list_all (λ (f : ℕ × InodeRecord). list_all (λ e. not (is_cell_of f.0 e.item) || nat_lt e.item.place f.1.length) r.reached) r.files) tables.cells
 
-  -- a record of the table passes what all pass
-  of_record : (p : ℕ × InodeRecord → Bool) → list_all p (records (standing_of w s r.1)) ≡ true → (n : ℕ) (q : InodeRecord) → file_at (standing_of w s r.1).inode n ≡ Some q → p (n, q) ≡ true
-  unfolding records
-  of_record p all n q is = one_listed p (file_at (standing_of w s r.1).inode) (records_each * fan ^ r.1.levels) n q all (number_within (λ e. true) (standing_of w s r.1) n q is) is
-
   -- With stamps up to a number the root is a table.
   pub sound_root : (now : ℕ) → list_all (λ e. nat_le e.pointer.stamp now) (items (standing_of w s r.1)) ≡ true → r.1.levels ≤ 2 → IsSoundTable now (under w s) r.1.levels r.1.root
   sound_root now stamps few =
@@ -174,11 +174,11 @@ module _ (w : View) (tables : AreTables (seen w)) (whole : HasWholeBlocks w) (s 
       record {
         inode = sound_tree w whole s now r.1 are 0 hole greatest_word r.1.levels r.1.root levels.0 (λ test all. at_inode test x all);
         files = λ n q is. sound_tree w whole s now r.1 are q.reserve (pointer_at x.inode 0 (n / records_each)) n q.levels q.root
-            (of_record (λ f. are_levels f.1.reserve f.1.levels f.1.root.stamp) levels.1 n q is) (λ test all. at_file test x all n q is);
+            (of_records x (λ f. are_levels f.1.reserve f.1.levels f.1.root.stamp) levels.1 n q is) (λ test all. at_file test x all n q is);
         names = names_of;
         cells = λ n q is i some.
             let test : Item → Bool = λ e. not (is_cell_of n e) || nat_lt e.place q.length in
-            let all = of_record (λ f. list_all (λ e. not (is_cell_of f.0 e.item) || nat_lt e.item.place f.1.length) (map (reached_at w s) (items x))) cells_of n q is in
+            let all = of_records x (λ f. list_all (λ e. not (is_cell_of f.0 e.item) || nat_lt e.item.place f.1.length) (map (reached_at w s) (items x))) cells_of n q is in
             let each : list_all (λ e. not (is_cell_of n e) || nat_lt e.place q.length) (items x) ≡ true = sym (list_all-map (λ (e : Reached). not (is_cell_of n e.item) || nat_lt e.item.place q.length) (reached_at w s) (items x)) ∙ all in
             below n i q.length (at_file (λ e. not (is_cell_of n e) || nat_lt e.place q.length) x each n q is 0 i some);
         few = few;

@@ -33,7 +33,7 @@ all_between test from zero each = refl
 all_between test from (suc count) each = and_from (test from) _ (each from (omega arith) (omega arith)) (all_between test (from + 1) count (λ k low high. each k (omega arith) (omega arith)))
 
 -- a test that holds of each part
-all_parts : {X : Type 0} (test : X → Bool) (part : ℕ → List X) (from count : ℕ) → ((k : ℕ) → from ≤ k → k < from + count → list_all test (part k) ≡ true) → list_all test (flat_map part (range_with_len from count)) ≡ true
+pub all_parts : {X : Type 0} (test : X → Bool) (part : ℕ → List X) (from count : ℕ) → ((k : ℕ) → from ≤ k → k < from + count → list_all test (part k) ≡ true) → list_all test (flat_map part (range_with_len from count)) ≡ true
 all_parts test part from zero each = refl
 all_parts test part from (suc count) each =
     list_all-append test (part from) (flat_map part (range_with_len (from + 1) count))
@@ -44,7 +44,7 @@ pub all_listed : (test : ℕ → Bool) (xs : List ℕ) → ((b : ℕ) → list_a
 all_listed test [] each = refl
 all_listed test (x ∷ xs) each = and_from (test x) (list_all test xs) (each x (or_left (x == x) _ (grind (arith, nat_tests)))) (all_listed test xs (λ b there. each b (or_right (x == b) _ there)))
 
-all_positions : (l : Label) (test : ℕ → ℕ → Bool) → ((level number : ℕ) → level ≤ l.height → number < level_width (entry_count l.span) level → test level number ≡ true) → list_all (λ good. good) (at_positions l (λ k n. test k n ∷ [])) ≡ true
+pub all_positions : (l : Label) (test : ℕ → ℕ → Bool) → ((level number : ℕ) → level ≤ l.height → number < level_width (entry_count l.span) level → test level number ≡ true) → list_all (λ good. good) (at_positions l (λ k n. test k n ∷ [])) ≡ true
 unfolding at_positions
 all_positions l test each =
     all_parts (λ (good : Bool). good) (λ level. flat_map (λ n. test level n ∷ []) (range_with_len 0 (level_width (entry_count l.span) level))) 0 (suc l.height) (λ level low high.
@@ -53,17 +53,17 @@ all_positions l test each =
 
 -- ---- nodes
 
-fine_from : (verdict : Verdict) → verdict ≡ Ok tt → is_fine verdict ≡ true
+pub fine_from : (verdict : Verdict) → verdict ≡ Ok tt → is_fine verdict ≡ true
 fine_from (Ok fine) e = refl
 fine_from (Err fault) e = absurd cc
 
 -- what is judged well has its shape
-shape_of : {X : Type 0} (read : Result X Shape) (asks : X → Verdict) → verdict_of (judged read asks) ≡ Ok tt → is_some (shaped read) ≡ true
+pub shape_of : {X : Type 0} (read : Result X Shape) (asks : X → Verdict) → verdict_of (judged read asks) ≡ Ok tt → is_some (shaped read) ≡ true
 shape_of (Ok x) asks e = refl
 shape_of (Err fault) asks e = absurd cc
 
 -- a node of a position has the shape of its level
-node_shape : (level number : ℕ) (block : List ℕ) → node_verdict level number block ≡ Ok tt → has_node_shape level block ≡ true
+pub node_shape : (level number : ℕ) (block : List ℕ) → node_verdict level number block ≡ Ok tt → has_node_shape level block ≡ true
 unfolding leaf_for inner_for
 node_shape zero number block e = shape_of (leaf_at block) (λ l. in_range number number l.index) e
 node_shape (suc level) number block e = shape_of (inner_at block) (λ n. in_range (suc level) (suc level) n.level then in_range number number n.place) e
@@ -95,7 +95,7 @@ labelled y s is None lies = inl refl
 labelled y s is (Some x) lies = let v = is.volume x lies in inr (v.0, ap shaped v.1, v.2)
 
 -- a number against another under a condition
-implied : (p q : Bool) → (p ≡ true → q ≡ true) → (not p || q) ≡ true
+pub implied : (p q : Bool) → (p ≡ true → q ≡ true) → (not p || q) ≡ true
 implied true q holds = holds refl
 implied false q holds = refl
 
@@ -183,12 +183,12 @@ module _ (y : Layout) (heads : HasHeads y) (each : (s : ℕ) → s < 64 → IsWh
 
 -- ---- from the layout to its slots
 
-ok_of : (r : Result Label Shape) → is_some (shaped r) ≡ true → (l : Label) × (r ≡ Ok l)
+pub ok_of : (r : Result Label Shape) → is_some (shaped r) ≡ true → (l : Label) × (r ≡ Ok l)
 ok_of (Ok l) e = (l, refl)
 ok_of (Err fault) e = absurd cc
 
 -- a condition that holds
-met : (p q : Bool) → (not p || q) ≡ true → p ≡ true → q ≡ true
+pub met : (p q : Bool) → (not p || q) ≡ true → p ≡ true → q ≡ true
 met true q e is = e
 met false q e is = absurd cc
 

@@ -23,3 +23,4 @@ pub mod WholeMachine
 pub mod Places
 pub mod Staying
 pub mod WellMachines
+pub mod SoundSlots

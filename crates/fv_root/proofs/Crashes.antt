@@ -7,10 +7,10 @@ use Rattle.fv_bits.specs.Members.{is_member}
 use Rattle.fv_model.specs.Machines.{Machine}
 use Rattle.fv_image.specs.NewerRoot.{Taken}
 use Rattle.fv_image.specs.Held.{Layout, layout_at, view_at, with_bits}
-use Rattle.fv_image.specs.MachineOf.{machine_from, machine_of, Tells, AllStandFor}
-use Rattle.fv_image.proofs.Stands.{tells_from, machine_under, bits_have_heads}
-use Rattle.fv_image.proofs.Counted.{image_has_heads}
-use Rattle.fv_image.proofs.InRange.{held_in_range}
+use Rattle.fv_image.specs.WholeMachine.{machine_from, machine_of, Tells}
+use Rattle.fv_image.specs.MachineOf.{AllStandFor}
+use Rattle.fv_image.proofs.SoundTests.{tells_from, machine_under}
+use Rattle.fv_image.proofs.SoundSlots.{held_lies}
 use Rattle.fv_image.proofs.SameLayout.{same_layout, same_but_bits, held_with_bits}
 use Rattle.fv_root.specs.declared.find.Found.{Found}
 use Rattle.fv_root.specs.Finding.{root_found}
@@ -27,10 +27,10 @@ old_machine old found m c stands all side =
     let t : Taken = root_found found in
     let d : Image = side.from in
     let told : machine_from (layout_at t d) ≡ Some m = sym (machine_under d t (stands.images d side.left).root) ∙ all d side.left in
-    let tells : Tells (layout_at t d) m = tells_from (layout_at t d) m (image_has_heads t d) told in
+    let tells : Tells (layout_at t d) m = tells_from (layout_at t d) m told in
     let same : layout_at t c ≡ layout_at t d = same_layout t d c (record {
       area = side.area;
-      held = λ b held. side.volumes b (held_in_range (layout_at t d) b tells.sound held).0;
+      held = λ b held. side.volumes b (held_lies (layout_at t d) b tells.sound.blocks held).0;
     }) in
     machine_under c t side.counts ∙ ap machine_from same ∙ told
 
@@ -40,9 +40,9 @@ unfolding layout_at view_at
 new_machine old found root map m c ready side =
     let t : Taken = root_found (next_found found root) in
     let y : Layout = with_bits (is_member map) (layout_at t old.reads) in
-    let tells : Tells y m = tells_from y m (bits_have_heads t old.reads (is_member map)) ready in
+    let tells : Tells y m = tells_from y m ready in
     let same : layout_at t c ≡ y = same_but_bits t old.reads c
-    (λ b held. side.volumes b (held_in_range y b tells.sound (held_with_bits (is_member map) (layout_at t old.reads) b ∙ held)).0)
+    (λ b held. side.volumes b (held_lies y b tells.sound.blocks (held_with_bits (is_member map) (layout_at t old.reads) b ∙ held)).0)
     (is_member map) side.bits in
     machine_under c t side.counts ∙ ap machine_from same ∙ ready
 

@@ -23,3 +23,4 @@ pub mod Counted
 pub mod Flushed
 pub mod Found
 pub mod Apart
+pub mod LoadedTables

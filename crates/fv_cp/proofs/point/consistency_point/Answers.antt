@@ -1,5 +1,7 @@
 use Rattle.std.proofs.Common.{sym, ap, subst, ◌∙◌, Ok, get_or}
 use Rattle.std.specs.Prelude.{IsTrue}
+use Rattle.std.specs.FinMap as fin
+use Rattle.std.specs.Ordering.{nat_cmp}
 use Rattle.fv_disk.specs.Shown.{Shown}
 use Rattle.fv_disk.specs.Crash.{Leaves}
 use Rattle.fv_codec.specs.declared.root.Root.{Root}
@@ -8,9 +10,10 @@ use Rattle.fv_root.specs.declared.find.Found.{Found}
 use Rattle.fv_root.specs.Finding.{IsInRange}
 use Rattle.fv_root.specs.Commits.{IsCommitted, IsFoundOn, OldOrNew, next_found}
 use Rattle.fv_volume.specs.declared.pool.Pool.{Pool}
+use Rattle.fv_volume.specs.Keeping.{Blocks}
 use Rattle.fv_cp.specs.Lent.{AreHoused}
 use Rattle.fv_cp.specs.Steps.{on_disk}
-use Rattle.fv_cp.proofs.Crashing.{found_still, rests, switching, writing}
+use Rattle.fv_cp.proofs.Crashing.{found_still, old_stays, rests, switching, writing}
 use Rattle.fv_cp.proofs.Ending.{housed_after, map_now, next_in_range, point}
 use Rattle.fv_cp.proofs.Ready.{ready}
 use Rattle.fv_cp.proofs.point.consistency_point.Goals as goal
@@ -40,7 +43,7 @@ returns-in_err-switch-clause-any_moment g c = λ tells before lent.
     let root : Root = record pool.found.root { labels = c.write_volumes.new.labels } in
     switching disk pool c.args.volumes.now before lent mid (Ok tt) come.spares pool.found root left.map.next (g.D.Disk.shown c.switch.new.disk)
     (found_still pool.found (on_disk pool.map) disk mid (Ok tt) come.spares tells (c.requires.found tells))
-    (ready disk pool c.args.volumes.now before lent c.requires.fit.range c.requires.fit.housed.long c.write_volumes.new.labels left mid.reads (come.written tells before lent))
+    (ready disk pool c.args.volumes.now before lent c.requires.fit.range c.requires.fit.housed c.write_volumes.new.labels left mid.reads (old_stays disk pool c.args.volumes.now before lent mid (Ok tt) come.spares tells) (come.written tells before lent))
     (subst (λ (x : Found). Leaves mid (g.D.Disk.shown c.switch.new.disk) (OldOrNew mid x root left.map.next)) come.found (c.switch.ensures.any_moment told))
 
 pub returns-clause-any_moment : goal.returns-clause-any_moment
@@ -54,7 +57,7 @@ returns-clause-any_moment g c = λ tells before lent.
     let root : Root = record pool.found.root { labels = c.write_volumes.new.labels } in
     switching disk pool c.args.volumes.now before lent mid (Ok tt) come.spares pool.found root left.map.next (g.D.Disk.shown c.switch.new.disk)
     (found_still pool.found (on_disk pool.map) disk mid (Ok tt) come.spares tells (c.requires.found tells))
-    (ready disk pool c.args.volumes.now before lent c.requires.fit.range c.requires.fit.housed.long c.write_volumes.new.labels left mid.reads (come.written tells before lent))
+    (ready disk pool c.args.volumes.now before lent c.requires.fit.range c.requires.fit.housed c.write_volumes.new.labels left mid.reads (old_stays disk pool c.args.volumes.now before lent mid (Ok tt) come.spares tells) (come.written tells before lent))
     (subst (λ (x : Found). Leaves mid (g.D.Disk.shown c.switch.new.disk) (OldOrNew mid x root left.map.next)) come.found (c.switch.ensures.any_moment told))
 
 pub returns-clause-point : goal.returns-clause-point
@@ -68,9 +71,9 @@ returns-clause-point g c = λ tells before lent.
     let did = c.in_ok-switch.ensures in
     let told : IsTrue mid.tells = subst IsTrue (sym come.spares.counted.tells) tells in
     let root : Root = record pool.found.root { labels = c.write_volumes.new.labels } in
-    point disk pool c.args.volumes.now before lent c.requires.fit.range c.requires.fit.housed.long c.write_volumes.new.labels left mid (come.written tells before lent) new
+    point disk pool c.args.volumes.now before lent c.requires.fit.range c.requires.fit.housed c.write_volumes.new.labels left mid (old_stays disk pool c.args.volumes.now before lent mid (Ok tt) come.spares tells) (come.written tells before lent) new
     (subst (λ (x : Found). IsCommitted mid x root left.map.next new) come.found (did.committed told))
-    c.switch.new.pool c.settle.new.volumes (did.switched.found ∙ ap (λ (x : Found). next_found x root) come.found) did.switched.map (did.switched.size ∙ ap (λ (x : Found). x.blocks) come.found) did.containers c.settle.ensures.settled c.settle.ensures.long
+    c.switch.new.pool c.settle.new.volumes (did.switched.found ∙ ap (λ (x : Found). next_found x root) come.found) did.switched.map (did.switched.size ∙ ap (λ (x : Found). x.blocks) come.found) did.containers (did.kept ∙ come.kept) c.settle.ensures.settled
 
 pub returns-clause-goes_on : goal.returns-clause-goes_on
 returns-clause-goes_on g c =
@@ -92,8 +95,9 @@ returns-clause-goes_on g c =
         size = did.switched.size ∙ sym (ap (λ (x : Found). x.blocks) did.switched.found);
         housed = housed_after c.args.volumes.now c.settle.new.volumes c.write_volumes.new.labels c.settle.ensures.settled c.switch.new.pool.containers c.settle.ensures.long
             (subst (λ (x : Slots). AreHoused x c.args.volumes.now) (sym did.containers) come.housed);
-        unkept = did.kept ∙ come.kept ∙ c.requires.fit.unkept;
+        kept = λ b taken. ap (λ (k : Blocks). fin.get k b) (did.kept ∙ come.kept) ∙ fin.get-empty nat_cmp b;
       };
+      unkept = did.kept ∙ come.kept;
       settled = λ s. (get_or c.write_volumes.new.labels s 0, c.settle.ensures.settled s);
       parents = λ s. ap (λ (x : Slots). parent_at x s) did.containers ∙ come.housed.parents s ∙ sym (c.requires.fit.housed.parents s);
       blocks = ap (λ (x : Found). x.blocks) did.switched.found ∙ ap (λ (x : Found). x.blocks) come.found;

@@ -1,8 +1,8 @@
-use Rattle.std.proofs.Common.{ℕ, ◌∙◌, List, arith, subst}
+use Rattle.std.proofs.Common.{ℕ, ◌∙◌, arith, subst}
 use Rattle.std.specs.Prelude.{Ok, Err}
 use Rattle.fv_container.specs.Spelled.{is_at}
-use Rattle.fv_cp.specs.Steps.{IsTaken, leads, on_disk}
-use Rattle.fv_cp.specs.Writing.{HasGiven, HasLabel, IsTakenOther}
+use Rattle.fv_cp.specs.Steps.{HasGiven, IsTaken, leads_away, on_disk}
+use Rattle.fv_cp.specs.Writing.{IsTakenOther}
 use Rattle.fv_cp.proofs.Counting.{room_for_label}
 use Rattle.fv_cp.proofs.Renewing.{nodes_taken, renewed_volume, spared}
 use Rattle.fv_cp.proofs.Sparing.{failed_value, spares_fewer}
@@ -28,17 +28,17 @@ returns-clause-spares g c =
     (spared space c.give_back.new.map c.take_block-label.new.map _ c.take_block-label.result c.give_back.ensures.given took.drawn took.least) c.in_ok-write_anew.ensures.spares
 
 pub returns-clause-written : goal.returns-clause-written
-returns-clause-written g c = λ tells held.
+returns-clause-written g c = λ tells own.
     let x = c.args.state.now in
     let old = c.args.container.now in
     let space = c.args.map.now in
     let drawn = c.take_block-label.new.map in
     let took = c.take_block-label.ensures in
     let wrote = c.in_ok-write_anew.ensures in
-    let given = c.give_back.ensures.given in
-    let taken = nodes_taken x space drawn old c.give_back.new.container (took.drawn.committed ∙ given.committed) c.give_back.ensures.tree held in
-    renewed_volume x (g.D.Disk.shown c.args.disk.now).reads (g.D.Disk.shown c.write_anew.new.disk).reads space c.give_back.new.map drawn c.write_anew.new.map c.give_back_block.new.map c.take_block-label.result old c.write_anew.new.container
-    (subst (λ (n : ℕ). HasGiven space (leads old n) c.give_back.new.map) c.entry_count.ensures given) took.drawn took.least
-    (subst (λ (t : List ℕ). HasLabel x t drawn c.take_block-label.result c.write_anew.new.container (g.D.Disk.shown c.write_anew.new.disk).reads c.write_anew.new.map) c.give_back.ensures.tree (wrote.written tells taken))
+    let gave = c.give_back.ensures in
+    let taken = nodes_taken x space drawn old c.give_back.new.container (took.drawn.committed ∙ gave.given.committed) gave.tree own in
+    renewed_volume x (g.D.Disk.shown c.args.disk.now).reads (g.D.Disk.shown c.write_anew.new.disk).reads space c.give_back.new.map drawn c.write_anew.new.map c.give_back_block.new.map c.take_block-label.result old c.give_back.new.container c.write_anew.new.container own
+    (subst (λ (n : ℕ). HasGiven space (leads_away x old n) c.give_back.new.map) c.entry_count.ensures gave.given) took.drawn took.least
+    (wrote.written tells taken)
     (subst (λ (p : ℕ). HasGiven c.write_anew.new.map (λ b. is_at b p) c.give_back_block.new.map) c.label_place.ensures c.give_back_block.ensures)
-    wrote.committed wrote.entries held (λ b is. wrote.spares.reads tells b is)
+    wrote.committed wrote.entries gave.tree gave.kept gave.holes (λ b is. wrote.spares.reads tells b is)

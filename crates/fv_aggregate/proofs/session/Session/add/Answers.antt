@@ -22,7 +22,7 @@ invariant_of-self-2 c = λ fresh.
       range = was.range;
       size = was.size;
       housed = housed_with c.self.inside.pool c.self.inside.volumes c.create.new.self slot c.args.name.now c.args.size c.args.kind e.made new e.each was.housed;
-      unkept = was.unkept;
+      kept = was.kept;
     })
 
 pub returns-clause-added : goal.returns-clause-added
