@@ -3,11 +3,13 @@
 #![tactic(auto)]
 
 mod admit;
+mod asking;
 mod blocks;
 mod cells;
 mod fault;
 mod kept;
 mod label;
+mod lent_files;
 mod load;
 mod noted;
 mod pool;
@@ -15,6 +17,7 @@ mod search;
 mod sizes;
 mod state;
 mod volume_blocks;
+mod volume_drops;
 mod volumes;
 
 pub use admit::Admitted;
@@ -26,4 +29,5 @@ pub use noted::Noted;
 pub use pool::Pool;
 pub use state::{Base, Rooted, Snap, Snapshots, VolumeState};
 pub use volume_blocks::{Guard, VolumeBlocks};
+pub use volume_drops::VolumeDrops;
 pub use volumes::Volumes;
