@@ -23,3 +23,19 @@ pub mod Counted
 pub mod Flushed
 pub mod Found
 pub mod Apart
+pub mod Lookups
+pub mod Answered
+pub mod OneVolumes
+pub mod Asked
+mod CallCauses
+pub mod Changed
+mod FileCounts
+mod MadePut
+mod MadeNew
+mod ReadyAgain
+mod DropCauses
+pub mod JudgedCut
+pub mod Judged
+pub mod JudgedNew
+mod MadeCut
+mod MadeRemoval

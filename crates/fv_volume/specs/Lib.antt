@@ -13,5 +13,10 @@ pub mod Files
 pub mod Charging
 pub mod Lending
 pub mod LendingLaws
+pub mod Dropping
+pub mod DroppingLaws
 pub mod Flushed
 pub mod Flushing
+pub mod OneVolume
+pub mod Calls
+pub mod Changing

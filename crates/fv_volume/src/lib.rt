@@ -3,18 +3,26 @@
 #![tactic(auto)]
 
 mod admit;
+mod asking;
 mod blocks;
 mod cells;
+mod changing;
 mod fault;
 mod kept;
 mod label;
+mod lent_changes;
+mod lent_files;
+mod lent_removals;
 mod load;
+mod making;
 mod noted;
 mod pool;
+mod removing;
 mod search;
 mod sizes;
 mod state;
 mod volume_blocks;
+mod volume_drops;
 mod volumes;
 
 pub use admit::Admitted;
@@ -26,4 +34,5 @@ pub use noted::Noted;
 pub use pool::Pool;
 pub use state::{Base, Rooted, Snap, Snapshots, VolumeState};
 pub use volume_blocks::{Guard, VolumeBlocks};
+pub use volume_drops::VolumeDrops;
 pub use volumes::Volumes;

@@ -14,6 +14,7 @@ ghost use Rattle.fv_volume.specs.States.{empty_head, head_in, ledger_of_empty};
 use crate::label::{FREE, HOLE, kind_number, kind_of, name_field, name_of};
 use fv_charge::Ledger;
 use fv_codec::{Label, Pointer};
+use fv_files::Files;
 use fv_model::{Kind, Name};
 use fv_volmap::VolMap;
 use std::alloc::{AllocError, Global};
@@ -112,10 +113,13 @@ pub struct VolumeState {
     pub map: VolMap,
     /// What it is charged for, needs and commits.
     pub ledger: Ledger,
+    /// The trees of the active table that are in memory. Where there are none, `active` spells the table; else its root is that of
+    /// the last flush.
+    pub(crate) files: Option<Files>,
     /// Where the label lies that the root on the disk names; 0 where there is none yet.
-    label: u32,
+    pub(crate) label: u32,
     /// Whether the next consistency point has something to write.
-    changed: bool,
+    pub(crate) changed: bool,
 }
 
 impl VolumeState {
@@ -136,6 +140,7 @@ impl VolumeState {
         ensures label { IfOk result (λ state. state.label ≡ 0) }
         ensures changed { IfOk result (λ state. state.changed ≡ true) }
         ensures base { IfOk result (λ state. state.base ≡ None) }
+        ensures files { IfOk result (λ state. state.files ≡ None) }
         ensures named { is_name name.now ≡ true }
     {
         // What the bytes are known to be is what a label needs of them.
@@ -157,6 +162,7 @@ impl VolumeState {
             snapshots: Snapshots::new(alloc),
             map: VolMap::new(alloc, span)?,
             ledger: new_ledger(size, kind, span),
+            files: None,
             label: 0,
             changed: true,
         })
@@ -181,6 +187,7 @@ impl VolumeState {
         ensures map { result.map ≡ map }
         ensures changed { result.changed ≡ changed }
         ensures base { result.base ≡ None }
+        ensures files { result.files ≡ None }
         ensures named { is_name result.name ≡ true }
         ensures ledger { result.ledger ≡ ledger_of_empty label.entry.now.size (kind_named label.entry.now.kind) label.entry.now.span }
     {
@@ -202,6 +209,7 @@ impl VolumeState {
             snapshots: Snapshots::new(alloc),
             map,
             ledger: new_ledger(label.size, kind, label.span),
+            files: None,
             label: place,
             changed,
         }

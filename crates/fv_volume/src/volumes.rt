@@ -43,9 +43,13 @@ pub struct Volumes {
 impl Model for Volumes {
     ghost use Rattle.std.specs.Prelude.{◌≡◌, length};
     ghost use Rattle.fv_container.specs.Chains.{slot_count};
+    ghost use Rattle.std.specs.Coded.{coded_list, coded_option};
+    ghost use Rattle.fv_volume.specs.contracts.state.VolumeState as state;
     ghost use Rattle.fv_volume.specs.States.{States};
 
     ghost Value = { States };
+
+    ghost coded = { coded_list (coded_option state.the_row.coded) };
 
     ghost view = { λ volumes. volumes.states.items };
 

@@ -1,0 +1,35 @@
+-- What calls leave of all that was lent for one volume, where they load and give up, and place nothing.
+use Rattle.std.specs.Prelude.{◌≡◌, ◌≢◌, ◌≤◌, ◌⊎◌, ℕ}
+use Rattle.fv_disk.specs.Shown.{Shown as Disk}
+use Rattle.fv_disk.specs.DiskCalls.{OnlyReads}
+use Rattle.fv_store.specs.Held.{StandsOn}
+use Rattle.fv_volmap.specs.Slots.{Volume, slot_at}
+use Rattle.fv_volume.specs.declared.blocks.Home.{Home}
+use Rattle.fv_volume.specs.declared.noted.Noted.{Noted}
+use Rattle.fv_volume.specs.declared.pool.Pool.{Pool}
+use Rattle.fv_volume.specs.BlocksOver.{free_numbers}
+use Rattle.fv_volume.specs.Lending.{Lent, WasHole, lent_by, lent_for}
+
+-- Blocks were read and numbers given up. Of the pool nothing changed but the cache, and of the volume's maps only the active one, which has
+-- as many free numbers at least.
+pub record DropsOver (old new : Lent) : Type 0 where
+  pub home : new.home ≡ old.home
+  pub space : new.pool.map ≡ old.pool.map
+  pub containers : new.pool.containers ≡ old.pool.containers
+  pub kept : new.pool.kept ≡ old.pool.kept
+  pub found : new.pool.found ≡ old.pool.found
+  pub room : new.room ≡ old.room
+  pub steps : old.steps ≤ new.steps
+  pub only_reads : OnlyReads old.disk new.disk
+  pub noted : (new.noted ≡ old.noted) ⊎ WasHole old.home.label new.noted
+  pub span : new.map.span ≡ old.map.span
+  pub snapshots : (s : ℕ) → s ≢ 0 → slot_at new.map s ≡ slot_at old.map s
+  pub numbers : free_numbers old.map ≤ free_numbers new.map
+
+-- a call left it so, whatever it counted; the cache stands on the disk
+pub record DropsLent (old : Disk) (pool : Pool) (map : Volume) (new : Disk) (left : Pool) (map_after : Volume) (home : Home) : Type 0 where
+  pub steps : ℕ
+  pub strays : ℕ
+  pub noted : Noted
+  pub drops : DropsOver (lent_for pool map old 0 home 0) (lent_by left map_after new steps home 0 strays noted)
+  pub stands : StandsOn new left.store.pairs
