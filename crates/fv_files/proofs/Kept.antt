@@ -1,57 +1,117 @@
--- Tables that stand on their blocks, where one file and the inode file changed in memory.
-use Rattle.std.proofs.Common.{◌≡◌, ◌≢◌, ℕ, true, sym, ap, subst, ◌∙◌, ⊎_elim}
-use Rattle.std.specs.Prelude.{Option, Some, is_some}
+-- Tables that stand on their blocks, where the tree of one file or the inode file changed.
+use Rattle.std.proofs.Common.{◌≡◌, ◌≢◌, ℕ, true, inl, refl, sym, ap, subst, ◌∙◌, ⊎_elim}
+use Rattle.std.specs.Prelude.{Option, Some, None, is_some}
+use Rattle.std.specs.Option.{option_map}
 use Rattle.std.proofs.lemmas.Bool.{cases_eq}
 use Rattle.std.specs.FinMap as fin
 use Rattle.fv_codec.specs.declared.inode.InodeRecord.{InodeRecord}
-use Rattle.fv_tables.specs.Spelled.{Under}
-use Rattle.fv_tables.specs.Told.{file_at}
+use Rattle.fv_tables.specs.Spelled.{Under, stored}
+use Rattle.fv_tables.specs.Told.{AreTold, file_at, tree_or}
+use Rattle.fv_tables.specs.Kept.{over}
 use Rattle.fv_tree.specs.declared.kept.Tree.{Tree}
-use Rattle.fv_tree.specs.Sources.{Shown, Use}
+use Rattle.fv_tree.specs.Sources.{Shown}
 use Rattle.fv_tree.specs.Standing.{standing, under}
-use Rattle.fv_tree.specs.Flushing.{loaded_over, IsSound}
+use Rattle.fv_tree.specs.Writing.{IsAlike}
+use Rattle.fv_tree.specs.Flushing.{Loaded, loaded, Stands}
+use Rattle.fv_tree.specs.Beside.{loaded_on, LeadsTo, Spares}
+use Rattle.fv_inode.specs.declared.file.InodeFile.{InodeFile}
+use Rattle.fv_inode.specs.Files.{rooted}
+use Rattle.fv_inode.proofs.Slots.{alike_files}
+use Rattle.fv_inode.proofs.Placed.{KeepsOthers}
 use Rattle.fv_files.specs.declared.files.Files.{Files}
-use Rattle.fv_files.specs.Tables.{tree_in, FileStands, AreSound, AreStanding}
+use Rattle.fv_files.specs.Apart.{LeadsFrom, StandsIn}
+use Rattle.fv_files.specs.Tables.{table_in, tree_in, file_loaded, loaded_trees, AreSound, AreStanding}
 use Rattle.fv_files.proofs.Looked.{Held}
-use Rattle.fv_files.proofs.Tables.{some_same}
+use Rattle.fv_files.proofs.Beside.{IsOther, some_differ, trees_laid, other_tree, stand_still, lie_apart}
 
 pub sound_on : (f : Files) (old new : Shown) → new.held ≡ old.held → new.used ≡ old.used → AreStanding old f → AreStanding new f
 sound_on f old new held used stands =
     subst (λ (h : Held). AreSound (λ v. fin.get h v) new.used f) (sym held) (subst (λ u. AreSound (under old) u f) (sym used) stands)
 
--- the records of the other files and their trees in memory are the same
-module _ (blocks : Under) (used : ℕ → Option Use) (f g : Files) (n : ℕ) (owner : g.inode.tree.owner ≡ f.inode.tree.owner) (inode : IsSound used (loaded_over blocks g.inode.tree))
-    (files : (k : ℕ) → k ≢ n → file_at (standing blocks g.inode.tree) k ≡ file_at (standing blocks f.inode.tree) k) (trees : (k : ℕ) → k ≢ n → tree_in g k ≡ tree_in f k)
-    (sound : AreSound blocks used f) where
-  others : (k : ℕ) → k ≢ n → (r : InodeRecord) → file_at (standing blocks g.inode.tree) k ≡ Some r → FileStands blocks used k r (tree_in g k)
-  others k differs r at = subst (FileStands blocks used k r) (sym (trees k differs)) (sound.files k r (sym (files k differs) ∙ at))
+-- ---- trees of files
 
-  others_own : (k : ℕ) → k ≢ n → (t : Tree) → tree_in g k ≡ Some t → (t.owner ≡ k) × (is_some (file_at (standing blocks g.inode.tree) k) ≡ true)
-  others_own k differs t at =
-      let own = sound.owners k t (sym (trees k differs) ∙ at) in
-      (own.0, ap is_some (files k differs) ∙ own.1)
+abbrev pub tree_at : Under → ℕ → Option Tree → Option InodeRecord → Option Loaded
+tree_at blocks n o r = option_map (λ r. file_loaded blocks n r o) r
 
-  -- The tree of the file is in memory, and stands on its blocks.
-  module _ (u : Tree) (there : is_some (file_at (standing blocks g.inode.tree) n) ≡ true) (is : tree_in g n ≡ Some u) (own : u.owner ≡ n) (stands : IsSound used (loaded_over blocks u)) where
-    at_own : (k : ℕ) → k ≡ n → (t : Tree) → tree_in g k ≡ Some t → (t.owner ≡ k) × (is_some (file_at (standing blocks g.inode.tree) k) ≡ true)
-    at_own k same t at =
-        let here : t ≡ u = some_same t u (sym at ∙ ap (tree_in g) same ∙ is) in
-        (ap (λ (v : Tree). v.owner) here ∙ own ∙ sym same, ap (λ j. is_some (file_at (standing blocks g.inode.tree) j)) same ∙ there)
+-- the tree of a file of which the record is known
+pub own_tree_is : (blocks : Under) (f : Files) (n : ℕ) (r : InodeRecord) → file_at (standing blocks f.inode.tree) n ≡ Some r → loaded_trees blocks f (Some n) ≡ Some (file_loaded blocks n r (tree_in f n))
+own_tree_is blocks f n r is = ap (option_map (λ r. file_loaded blocks n r (tree_in f n))) is
 
-    pub put_sound : AreSound blocks used g
-    put_sound = record {
+-- over other blocks
+on_blocks : (old new : Under) (n : ℕ) (o : Option Tree) (r : Option InodeRecord) → tree_at new n o r ≡ option_map (loaded_on new) (tree_at old n o r)
+on_blocks old new n o None = refl
+on_blocks old new n None (Some r) = refl
+on_blocks old new n (Some t) (Some r) = refl
+
+pub same_trees : (old new : Under) (f g : Files) (n : ℕ) → tree_in g n ≡ tree_in f n → file_at (standing new g.inode.tree) n ≡ file_at (standing old f.inode.tree) n → IsOther new (loaded_trees old f (Some n)) (loaded_trees new g (Some n))
+same_trees old new f g n tree file = inl ((λ i. tree_at new n (tree i) (file i)) ∙ on_blocks old new n (tree_in f n) (file_at (standing old f.inode.tree) n))
+
+-- and as a table is told by them
+told_tree : (old new : Under) (n : ℕ) (r : InodeRecord) (o p : Option Tree) → p ≡ o → IsAlike (file_loaded old n r o).tree (over new (file_loaded old n r o).tree)
+    → AreTold (tree_or (option_map (standing old) o) (stored old n r.levels r.root)) (tree_or (option_map (standing new) p) (stored new n r.levels r.root))
+told_tree old new n r None p same alike = subst (λ p. AreTold (stored old n r.levels r.root) (tree_or (option_map (standing new) p) (stored new n r.levels r.root))) (sym same)
+    (record { levels = alike.levels; stamps = alike.stamps; blocks = alike.blocks })
+told_tree old new n r (Some t) p same alike = subst (λ p. AreTold (standing old t) (tree_or (option_map (standing new) p) (stored new n r.levels r.root))) (sym same)
+    (record { levels = alike.levels; stamps = alike.stamps; blocks = alike.blocks })
+
+-- ---- the tree of a file changed
+
+module _ (old new : Shown) (f g : Files) (n : ℕ) (inode : g.inode ≡ f.inode) (trees : (k : ℕ) → k ≢ n → tree_in g k ≡ tree_in f k) (sound : AreStanding old f)
+    (spares : Spares old new (LeadsFrom (loaded_trees (under old) f) (Some n)) (LeadsFrom (loaded_trees (under new) g) (Some n))) where
+  -- The inode file is seen as before,
+  pub inode_alike : IsAlike (rooted old f.inode) (rooted new g.inode)
+  inode_alike = subst (λ (i : InodeFile). IsAlike (rooted old f.inode) (rooted new i)) (sym inode)
+      (other_tree old new (loaded_trees (under old) f) (loaded_trees (under new) g) (Some n) (trees_laid (under old) f) sound.trees sound.apart spares None (λ e. cc) (loaded old f.inode.tree) refl)
+
+  pub files_same : (k : ℕ) → file_at (rooted new g.inode) k ≡ file_at (rooted old f.inode) k
+  files_same = alike_files (rooted old f.inode) (rooted new g.inode) inode_alike
+
+  -- the other files are told as before,
+  pub others_told : KeepsOthers (table_in old f) (table_in new g) n
+  others_told k differs r at = told_tree (under old) (under new) k r (tree_in f k) (tree_in g k) (trees k differs)
+      (other_tree old new (loaded_trees (under old) f) (loaded_trees (under new) g) (Some n) (trees_laid (under old) f) sound.trees sound.apart spares (Some k) (some_differ k n differs) (file_loaded (under old) k r (tree_in f k)) (own_tree_is (under old) f k r at))
+
+  others : (b : Option ℕ) → b ≢ Some n → IsOther (under new) (loaded_trees (under old) f b) (loaded_trees (under new) g b)
+  others None differs = inl (λ i. Some (loaded new (inode i).tree))
+  others (Some k) differs = same_trees (under old) (under new) f g k (trees k (λ e. differs (ap (λ m. Some m) e))) (files_same k)
+
+  -- and all trees stand on their blocks.
+  pub file_stands : StandsIn new.used (loaded_trees (under new) g (Some n)) → ((t : Tree) → tree_in g n ≡ Some t → (t.owner ≡ n) × (is_some (file_at (rooted old f.inode) n) ≡ true)) → AreStanding new g
+  file_stands own owner = record {
+    owner = ap (λ (i : InodeFile). i.tree.owner) inode ∙ sound.owner;
+    owners = λ k t at. ⊎_elim
+        (λ (same : k ≡ n). let is = owner t (ap (tree_in g) (sym same) ∙ at) in (is.0 ∙ sym same, ap is_some (files_same k ∙ ap (file_at (rooted old f.inode)) same) ∙ is.1))
+        (λ (differs : k ≢ n). let is = sound.owners k t (sym (trees k differs) ∙ at) in (is.0, ap is_some (files_same k) ∙ is.1))
+        (cases_eq k n);
+    trees = stand_still old new (loaded_trees (under old) f) (loaded_trees (under new) g) (Some n) (trees_laid (under old) f) sound.trees sound.apart spares others own;
+    apart = lie_apart old new (loaded_trees (under old) f) (loaded_trees (under new) g) (Some n) (trees_laid (under old) f) sound.trees sound.apart spares others;
+  }
+
+-- ---- the inode file changed, and the record of one file with it
+
+module _ (old new : Shown) (f g : Files) (n : ℕ) (trees : (k : ℕ) → k ≢ n → tree_in g k ≡ tree_in f k) (files : (k : ℕ) → k ≢ n → file_at (rooted new g.inode) k ≡ file_at (rooted old f.inode) k) (sound : AreStanding old f)
+    (spares : Spares old new (LeadsTo (loaded old f.inode.tree)) (LeadsTo (loaded new g.inode.tree))) where
+  -- The other files are told as before,
+  pub records_told : KeepsOthers (table_in old f) (table_in new g) n
+  records_told k differs r at = told_tree (under old) (under new) k r (tree_in f k) (tree_in g k) (trees k differs)
+      (other_tree old new (loaded_trees (under old) f) (loaded_trees (under new) g) None (trees_laid (under old) f) sound.trees sound.apart spares (Some k) (λ e. cc) (file_loaded (under old) k r (tree_in f k)) (own_tree_is (under old) f k r at))
+
+  -- and all trees stand on their blocks.
+  module _ (own : IsOther (under new) (loaded_trees (under old) f (Some n)) (loaded_trees (under new) g (Some n))) where
+    rest : (b : Option ℕ) → b ≢ None → IsOther (under new) (loaded_trees (under old) f b) (loaded_trees (under new) g b)
+    rest None differs = absurd (differs refl)
+    rest (Some k) differs = ⊎_elim
+        (λ (same : k ≡ n). subst (λ m. IsOther (under new) (loaded_trees (under old) f (Some m)) (loaded_trees (under new) g (Some m))) (sym same) own)
+        (λ (unlike : k ≢ n). same_trees (under old) (under new) f g k (trees k unlike) (files k unlike))
+        (cases_eq k n)
+
+    pub inode_stands : g.inode.tree.owner ≡ f.inode.tree.owner → Stands new g.inode.tree → ((t : Tree) → tree_in g n ≡ Some t → (t.owner ≡ n) × (is_some (file_at (rooted new g.inode) n) ≡ true)) → AreStanding new g
+    inode_stands owner stands of_own = record {
       owner = owner ∙ sound.owner;
-      inode = inode;
-      files = λ k r at. ⊎_elim (λ (same : k ≡ n). subst (FileStands blocks used k r) (sym (ap (tree_in g) same ∙ is)) stands) (λ (differs : k ≢ n). others k differs r at) (cases_eq k n);
-      owners = λ k t at. ⊎_elim (λ (same : k ≡ n). at_own k same t at) (λ (differs : k ≢ n). others_own k differs t at) (cases_eq k n);
+      owners = λ k t at. ⊎_elim
+          (λ (same : k ≡ n). let is = of_own t (ap (tree_in g) (sym same) ∙ at) in (is.0 ∙ sym same, ap (λ m. is_some (file_at (rooted new g.inode) m)) same ∙ is.1))
+          (λ (differs : k ≢ n). let is = sound.owners k t (sym (trees k differs) ∙ at) in (is.0, ap is_some (files k differs) ∙ is.1))
+          (cases_eq k n);
+      trees = stand_still old new (loaded_trees (under old) f) (loaded_trees (under new) g) None (trees_laid (under old) f) sound.trees sound.apart spares rest stands;
+      apart = lie_apart old new (loaded_trees (under old) f) (loaded_trees (under new) g) None (trees_laid (under old) f) sound.trees sound.apart spares rest;
     }
-
--- all records and all trees in memory are the same
-pub same_sound : (blocks : Under) (used : ℕ → Option Use) (f g : Files) → g.inode.tree.owner ≡ f.inode.tree.owner → IsSound used (loaded_over blocks g.inode.tree)
-    → ((k : ℕ) → file_at (standing blocks g.inode.tree) k ≡ file_at (standing blocks f.inode.tree) k) → ((k : ℕ) → tree_in g k ≡ tree_in f k) → AreSound blocks used f → AreSound blocks used g
-same_sound blocks used f g owner inode files trees sound = record {
-  owner = owner ∙ sound.owner;
-  inode = inode;
-  files = λ k r at. subst (FileStands blocks used k r) (sym (trees k)) (sound.files k r (sym (files k) ∙ at));
-  owners = λ k t at. let own = sound.owners k t (sym (trees k) ∙ at) in (own.0, ap is_some (files k) ∙ own.1);
-}

@@ -1,6 +1,16 @@
 pub mod Tables
 pub mod Looked
-pub mod Kept
 pub mod Whole
 pub mod Wrote
 pub mod Made
+pub mod Beside
+pub mod Kept
+pub mod Changed
+pub mod Steps
+pub mod Prepared
+pub mod Removed
+pub mod Laid
+pub mod Flushed
+pub mod Ended
+pub mod Adding
+pub mod Counted

@@ -1,16 +1,16 @@
 -- Why calls of a table fail, over several calls.
-use Rattle.std.proofs.Common.{◌≡◌, ℕ, inl, inr, subst, sym, List, Result, Ok, Err}
+use Rattle.std.proofs.Common.{◌≡◌, ℕ, inl, inr, subst, sym, arith, List, Result, Ok, Err}
 use Rattle.std.specs.Prelude.{IfErr}
 use Rattle.std.specs.Ordering.{nat_cmp}
 use Rattle.std.specs.FinMap as fin
 use Rattle.std.proofs.lemmas.Result.{IfErr-weaker}
 use Rattle.fv_disk.specs.declared.fault.BlockFault.{BlockFault}
+use Rattle.fv_disk.specs.declared.fault.BlockFault.TheVariants.{Memory}
 use Rattle.fv_tables.specs.Told.{Standing}
 use Rattle.fv_tree.specs.Sources.{Shown, Counts, IsCalm, IsUntouched}
 use Rattle.fv_tree.specs.Standing.{Fails}
-use Rattle.fv_tree.proofs.Causes.{calm_then, counts_then, fails_later, untouched_then}
+use Rattle.fv_tree.proofs.Causes.{calm_then, fails_later}
 use Rattle.fv_inode.specs.declared.info.Info.{Info}
-use Rattle.fv_inode.specs.declared.file.InodeFile.{InodeFile}
 use Rattle.fv_inode.specs.Failing as inodes
 use Rattle.fv_files.specs.declared.files.Files.{Files}
 use Rattle.fv_files.specs.Trees.{standing_in}
@@ -29,26 +29,11 @@ over held f = standing_in (λ v. fin.get held v) (changed f)
 pub earlier : (P : Standing → Type 0) (f : Files) (old mid : Shown) → mid.held ≡ old.held → P (table_in mid f) → P (table_in old f)
 earlier P f old mid held fact = subst (λ (h : Held). P (over h f)) held fact
 
--- a look-up leaves the inode file, so what is said of the table after it is said of the table, and the other way round
-pub refound : (P : Files → Type 0) (f : Files) (i : InodeFile) → i ≡ f.inode → P (record { inode = i; trees = f.trees; alloc = f.alloc }) → P f
-refound P f i same fact = subst (λ (v : InodeFile). P (record { inode = v; trees = f.trees; alloc = f.alloc })) same fact
-
-pub found_again : (P : Files → Type 0) (f : Files) (i : InodeFile) → i ≡ f.inode → P f → P (record { inode = i; trees = f.trees; alloc = f.alloc })
-found_again P f i same fact = subst (λ (v : InodeFile). P (record { inode = v; trees = f.trees; alloc = f.alloc })) (sym same) fact
-
-fails_after : (told : Type 0) (x : Standing) (old mid new : Shown) (e : BlockFault) → IsCalm old mid → mid.held ≡ old.held → FilesFail told x mid new e → FilesFail told x old new e
+-- after a call that left both counts and the map
+pub fails_after : (told : Type 0) (x : Standing) (old mid new : Shown) (e : BlockFault) → IsCalm old mid → mid.held ≡ old.held → FilesFail told x mid new e → FilesFail told x old new e
 fails_after told x old mid new e calm held (inl (inl h)) = inl (inl (fails_later told x.inode old mid new e calm held h))
 fails_after told x old mid new e calm held (inl (inr h)) = inl (inr (calm_then old mid new calm h.0, h.1))
 fails_after told x old mid new e calm held (inr h) = inr (record { tree = h.tree; of_file = h.of_file; fails = fails_later told h.tree old mid new e calm held h.fails })
-
--- a call that reads, after others that only read
-pub looks_then : {S T : Type 0} (told : Type 0) (f : Files) (old mid new : Shown) (x : S) (r : Result T BlockFault) → Looks told (table_in old f) old mid (Ok x) → Looks told (table_in mid f) mid new r
-    → Looks told (table_in old f) old new r
-looks_then told f old mid new x r first second = record {
-  untouched = untouched_then old mid new first.untouched second.untouched;
-  counts = counts_then old mid new r first.counts.calm second.counts;
-  cause = IfErr-weaker r _ _ (λ e h. fails_after told (table_in old f) old mid new e first.counts.calm first.untouched.held (earlier (λ x. FilesFail told x mid new e) f old mid first.untouched.held h)) second.cause;
-}
 
 -- a call of the inode file
 pub looks_inode : {T : Type 0} (told : Type 0) (x : Standing) (old new : Shown) (r : Result T BlockFault) → inodes.Looks told x.inode old new r → Looks told x old new r
@@ -63,9 +48,17 @@ looks_tree told x info old new r is untouched counts cause = record {
   cause = IfErr-weaker r _ _ (λ e h. inr (record { tree = tree_known x info; of_file = λ tells. file_tree x info (is tells); fails = h })) cause;
 }
 
--- of a call that failed, or was done, another answer
-pub looks_failed : {S T : Type 0} (told : Type 0) (x : Standing) (old new : Shown) (e : BlockFault) → Looks {T = S} told x old new (Err e) → Looks {T = T} told x old new (Err e)
-looks_failed told x old new e looks = record { untouched = looks.untouched; counts = record { faults = looks.counts.faults; damages = looks.counts.damages; calm = tt }; cause = looks.cause }
+-- of a call that failed, or was done, the counts under another answer
+pub counts_failed : {S T : Type 0} (old new : Shown) (r : Result S BlockFault) (e : BlockFault) → Counts old new r → Counts {T = T} old new (Err e)
+counts_failed old new r e is = record { faults = is.faults; damages = is.damages; spent = is.spent; calm = tt }
 
-pub looks_done : {S T : Type 0} (told : Type 0) (x : Standing) (old new : Shown) (a : S) (b : T) → Looks told x old new (Ok a) → Looks told x old new (Ok b)
-looks_done told x old new a b looks = record { untouched = looks.untouched; counts = record { faults = looks.counts.faults; damages = looks.counts.damages; calm = looks.counts.calm }; cause = tt }
+pub counts_done : {S T : Type 0} (old new : Shown) (x : S) (y : T) → Counts {E = BlockFault} old new (Ok x) → Counts {E = BlockFault} old new (Ok y)
+counts_done old new x y is = record { faults = is.faults; damages = is.damages; spent = is.spent; calm = is.calm }
+
+-- there is no memory
+pub looks_memory : {S T : Type 0} (told : Type 0) (x : Standing) (old new : Shown) (y : S) (e : BlockFault) → IsUntouched old new → Counts {E = BlockFault} old new (Ok y) → e ≡ Memory → Looks {T = T} told x old new (Err e)
+looks_memory {S} {T} told x old new y e same counts is = subst (λ e. Looks {T = T} told x old new (Err e)) (sym is) (record {
+  untouched = same;
+  counts = counts_failed old new (Ok y) Memory counts;
+  cause = inl (inl counts.calm);
+})

@@ -1,29 +1,32 @@
 -- Tables of which trees are in memory: what is known of a file, and tables that are told alike or of which a file was written.
-use Rattle.std.proofs.Common.{◌≡◌, ◌≢◌, ℕ, suc, ◌+◌, max, Bool, true, false, cond, List, refl, sym, ap, subst, ◌∙◌, arith}
+use Rattle.std.proofs.Common.{◌≡◌, ◌≢◌, ℕ, ◌+◌, max, Bool, true, false, cond, List, refl, sym, ap, subst, ◌∙◌, arith, ⊎_elim}
 use Rattle.std.specs.Prelude.{Option, Some, None}
 use Rattle.std.specs.Option.{option_map}
+use Rattle.std.specs.Ordering.{nat_cmp}
 use Rattle.std.specs.FinMap as fin
+use Rattle.std.proofs.lemmas.Bool.{cases_eq}
 use Rattle.fv_codec.specs.declared.inode.InodeRecord.{InodeRecord}
 use Rattle.fv_model.specs.Tables.{File, put}
 use Rattle.fv_tables.specs.Spelled.{Under, Rooted, stored, block_at}
-use Rattle.fv_tables.specs.Told.{tree_told, cells_told, file_at, Standing, tree_or, tree_of, file_told, file_in, table_told}
-use Rattle.fv_tables.specs.Kept.{IsPlacedFile}
+use Rattle.fv_tables.specs.Told.{AreTold, tree_told, cells_told, file_at, Standing, tree_or, tree_of, file_told, file_in, table_told}
+use Rattle.fv_tables.specs.Kept.{IsPlacedFile, IsPlacedTable}
 use Rattle.fv_tables.proofs.Tables.{stamps_told, blocks_told, placed_table}
 use Rattle.fv_tree.specs.declared.kept.Tree.{Tree}
-use Rattle.fv_tree.specs.Standing.{standing}
+use Rattle.fv_tree.specs.Sources.{Shown}
+use Rattle.fv_tree.specs.Standing.{standing, under}
 use Rattle.fv_tree.specs.Writing.{IsAlike, Remains, Writes}
 use Rattle.fv_inode.specs.declared.info.Info.{Info}
-use Rattle.fv_inode.specs.Files.{with_info, Finds, IsFirst}
+use Rattle.fv_inode.specs.Files.{rooted, with_info, Finds, IsFirst}
 use Rattle.fv_inode.specs.Changing.{Rewrites}
 use Rattle.fv_inode.proofs.Slots.{alike_files}
 use Rattle.fv_inode.proofs.Machines.{shown}
-use Rattle.fv_inode.proofs.Placed.{keeps_others}
+use Rattle.fv_inode.proofs.Placed.{KeepsOthers, keeps_others}
 use Rattle.fv_inode.proofs.Told.{put_told}
 use Rattle.fv_files.specs.declared.files.Files.{Files}
 use Rattle.fv_files.specs.Trees.{standing_in}
 use Rattle.fv_files.specs.Tables.{changed, tree_in, IsInfoOf, tree_known}
 use Rattle.fv_files.specs.Failing.{IsFileTree}
-use Rattle.fv_files.specs.Calls.{longer, or_zeros, GivesCell, HasLength, IsFileOf, IsPut, IsRead, WritesCell}
+use Rattle.fv_files.specs.Calls.{longer, or_zeros, GivesCell, WritesCell}
 
 or_else : {X : Type 0} → X → Option X → X
 or_else d None = d
@@ -39,7 +42,7 @@ pub file_there : (x : Standing) (n : ℕ) (r : InodeRecord) → file_at x.inode 
 unfolding file_in
 file_there x n r is = ap (option_map (λ r. file_told (tree_of x n r) r)) is
 
-file_is : (x : Standing) (n : ℕ) (r : InodeRecord) → file_at x.inode n ≡ Some r → (f : File) → file_in x n ≡ Some f → f ≡ file_told (tree_of x n r) r
+pub file_is : (x : Standing) (n : ℕ) (r : InodeRecord) → file_at x.inode n ≡ Some r → (f : File) → file_in x n ≡ Some f → f ≡ file_told (tree_of x n r) r
 file_is x n r there f is = some_same f (file_told (tree_of x n r) r) (sym is ∙ file_there x n r there)
 
 pub known_tree : (x : Standing) (info : Info) (is : IsInfoOf x.inode info) → tree_known x info ≡ tree_of x info.number is.file
@@ -55,35 +58,18 @@ kept_known u f info t is = ap (λ o. tree_or (option_map (standing u) o) (stored
 pub stored_known : (u : Under) (f : Files) (info : Info) → tree_in f info.number ≡ None → tree_known (standing_in u (changed f)) info ≡ stored u info.number info.levels info.root
 stored_known u f info none = ap (λ o. tree_or (option_map (standing u) o) (stored u info.number info.levels info.root)) none
 
--- what a look-up finds
-pub found_info : (t : Rooted) (name : List ℕ) (o : Option Info) (info : Info) → o ≡ Some info → Finds t name o → IsFirst t name info
-found_info t name o info is found = subst (Finds t name) is found
-
+-- of a file that a look-up found
 pub first_info : (t : Rooted) (name : List ℕ) (info : Info) → IsFirst t name info → IsInfoOf t info
 first_info t name info is = record { file = is.file; there = is.there; told = is.told }
 
-pub file_of : (x : Standing) (name : List ℕ) (info : Info) (is : IsFirst x.inode name info) → IsFileOf x name info.number (file_told (tree_of x info.number is.file) is.file)
-file_of x name info is = record { info = info; number = refl; first = is; file = file_there x info.number is.file is.there }
+known_of : (t : Rooted) (name : List ℕ) (o : Option Info) (info : Info) → o ≡ Some info → Finds t name o → IsInfoOf t info
+known_of t name o info is found = first_info t name info (subst (Finds t name) is found)
 
--- what is answered of the file of a name
-pub length_of : (x : Standing) (name : List ℕ) (info : Info) → IsFirst x.inode name info → HasLength x name info.length
-unfolding file_told
-length_of x name info is = record {
-  number = info.number;
-  file = file_told (tree_of x info.number is.file) is.file;
-  is = file_of x name info is;
-  long = ap (λ (v : Info). v.length) is.told;
-}
-
-pub read_of : (x : Standing) (name : List ℕ) (info : Info) (i : ℕ) (into : List ℕ) → IsFirst x.inode name info → GivesCell x info.number i into → IsRead x name i into
-read_of x name info i into is gives =
-    let file = file_told (tree_of x info.number is.file) is.file in
-    record { number = info.number; file = file; is = file_of x name info is; block = gives file (file_there x info.number is.file is.there) }
-
-pub put_of : (x y : Standing) (name : List ℕ) (info : Info) (i s : ℕ) (block : List ℕ) → IsFirst x.inode name info → WritesCell x y info.number i s block → IsPut x y name i s block
-put_of x y name info i s block is writes =
-    let file = file_told (tree_of x info.number is.file) is.file in
-    record { number = info.number; file = file; is = file_of x name info is; told = writes file (file_there x info.number is.file is.there) }
+-- after a look-up, which leaves the inode file and the blocks
+pub found_known : (old new : Shown) (f g : Files) (name : List ℕ) (o : Option Info) (info : Info) → o ≡ Some info → Finds (rooted old f.inode) name o → g ≡ f → new.held ≡ old.held → IsInfoOf (rooted new g.inode) info
+found_known old new f g name o info is found same held =
+    subst (λ (h : Files). IsInfoOf (rooted new h.inode) info) (sym same)
+    (subst (λ (m : fin.FinMap nat_cmp (List ℕ)). IsInfoOf (standing (λ v. fin.get m v) f.inode.tree) info) (sym held) (known_of (rooted old f.inode) name o info is found))
 
 cell_told : (t : Rooted) (r : InodeRecord) (i : ℕ) → fin.get (file_told t r).blocks i ≡ block_at t i
 unfolding file_told
@@ -112,17 +98,55 @@ alike t u remains = let shows = remains (tree_told t) (cells_told t) (shown t) i
   blocks = λ index. sym (shows.blocks index) ∙ blocks_told t index;
 }
 
-module _ (x y : Standing) (same : IsAlike x.inode y.inode) (under : y.inode.under ≡ x.inode.under) (trees : (k : ℕ) → y.trees k ≡ x.trees k) where
+-- The inode file is seen as before, and so is the tree of each file.
+module _ (x y : Standing) (n : ℕ) (same : IsAlike x.inode y.inode) (others : KeepsOthers x y n) (own : (r : InodeRecord) → file_at x.inode n ≡ Some r → AreTold (tree_of x n r) (tree_of y n r)) where
+  each : (k : ℕ) (r : InodeRecord) → file_at x.inode k ≡ Some r → AreTold (tree_of x k r) (tree_of y k r)
+  each k r at = ⊎_elim
+      (λ (here : k ≡ n). subst (λ m. AreTold (tree_of x m r) (tree_of y m r)) (sym here) (own r (ap (file_at x.inode) (sym here) ∙ at)))
+      (λ (differs : k ≢ n). others k differs r at)
+      (cases_eq k n)
+
   same_of : (k : ℕ) (o : Option InodeRecord) → file_at x.inode k ≡ o → IsPlacedFile x y k o o
   same_of k None e = tt
-  same_of k (Some r) e = (record { name_length = refl; name = refl; length = refl; reserve = refl }, keeps_others x y (suc k) under (λ j differs. trees j) k (λ e. omega (arith, e)) r e)
+  same_of k (Some r) e = (record { name_length = refl; name = refl; length = refl; reserve = refl }, each k r e)
 
-  same_files : (k : ℕ) → IsPlacedFile x y k (file_at x.inode k) (file_at y.inode k)
-  same_files k = subst (IsPlacedFile x y k (file_at x.inode k)) (sym (alike_files x.inode y.inode same k)) (same_of k (file_at x.inode k) refl)
+  pub placed_alike : IsPlacedTable x y
+  placed_alike = record {
+    levels = same.levels;
+    stamps = same.stamps;
+    files = λ k. subst (IsPlacedFile x y k (file_at x.inode k)) (sym (alike_files x.inode y.inode same k)) (same_of k (file_at x.inode k) refl);
+  }
 
-  -- The inode file is seen as before, and the trees in memory are the same.
-  pub same_table : table_told y ≡ table_told x
-  same_table = placed_table x y (record { levels = same.levels; stamps = same.stamps; files = same_files })
+-- ---- tables of which only places differ, one after another
+
+told_then : (t u v : Rooted) → AreTold t u → AreTold u v → AreTold t v
+told_then t u v one two = record { levels = two.levels ∙ one.levels; stamps = λ level place. two.stamps level place ∙ one.stamps level place; blocks = λ index. two.blocks index ∙ one.blocks index }
+
+files_then : (x y z : Standing) (n : ℕ) (o p q : Option InodeRecord) → IsPlacedFile x y n o p → IsPlacedFile y z n p q → IsPlacedFile x z n o q
+files_then x y z n None None None one two = tt
+files_then x y z n (Some r) (Some s) (Some u) one two = (
+  record { name_length = two.0.name_length ∙ one.0.name_length; name = two.0.name ∙ one.0.name; length = two.0.length ∙ one.0.length; reserve = two.0.reserve ∙ one.0.reserve },
+  told_then (tree_of x n r) (tree_of y n s) (tree_of z n u) one.1 two.1,
+)
+files_then x y z n None (Some s) q one two = absurd one
+files_then x y z n (Some r) None q one two = absurd one
+files_then x y z n None None (Some u) one two = absurd two
+files_then x y z n (Some r) (Some s) None one two = absurd two
+
+pub placed_then : (x y z : Standing) → IsPlacedTable x y → IsPlacedTable y z → IsPlacedTable x z
+placed_then x y z one two = record {
+  levels = two.levels ∙ one.levels;
+  stamps = λ level place. two.stamps level place ∙ one.stamps level place;
+  files = λ n. files_then x y z n (file_at x.inode n) (file_at y.inode n) (file_at z.inode n) (one.files n) (two.files n);
+}
+
+-- The inode file is seen as before, and the trees in memory are the same.
+pub same_placed : (x y : Standing) → IsAlike x.inode y.inode → y.inode.under ≡ x.inode.under → ((k : ℕ) → y.trees k ≡ x.trees k) → IsPlacedTable x y
+same_placed x y same under trees =
+    placed_alike x y 0 same (keeps_others x y 0 under (λ k differs. trees k)) (λ r at. keeps_others x y 1 under (λ k differs. trees k) 0 (λ e. omega (arith, e)) r at)
+
+pub same_table : (x y : Standing) → IsAlike x.inode y.inode → y.inode.under ≡ x.inode.under → ((k : ℕ) → y.trees k ≡ x.trees k) → table_told y ≡ table_told x
+same_table x y same under trees = placed_table x y (same_placed x y same under trees)
 
 -- ---- a file is written
 

@@ -6,15 +6,20 @@ use Rattle.std.specs.Ordering.{nat_cmp}
 use Rattle.std.specs.BTreeMap as maps
 use Rattle.std.specs.Map.{lookup}
 use Rattle.fv_codec.specs.declared.pointer.Pointer.{Pointer}
+use Rattle.fv_codec.specs.declared.inode.InodeRecord.{InodeRecord}
 use Rattle.fv_codec.specs.Blocks.{greatest_word}
 use Rattle.fv_tables.specs.Spelled.{Under, Rooted, stored}
 use Rattle.fv_tables.specs.Told.{file_at, standing_at}
 use Rattle.fv_tree.specs.Sources.{Use}
 use Rattle.fv_tree.specs.Standing.{standing}
 use Rattle.fv_tree.specs.Flushing.{loaded_over, IsSound, ReachesOnce}
+use Rattle.fv_tree.specs.Beside.{unread}
+use Rattle.fv_tree.proofs.Beside.{unread_sound}
 use Rattle.fv_files.specs.declared.files.Files.{Files}
 use Rattle.fv_files.specs.Trees.{standing_in}
-use Rattle.fv_files.specs.Tables.{changed, tree_in, FileStands, AreSound, AreReached}
+use Rattle.fv_files.specs.Apart.{LeadsIn, LeadsFrom, StandsIn, stored_trees}
+use Rattle.fv_files.specs.Tables.{changed, tree_in, file_loaded, loaded_trees, AreSound, AreReached}
+use Rattle.fv_files.proofs.Beside.{unread_leads}
 
 none_in : {K X : Type 0} (test : K → Bool) (es : List (K × X)) → length es ≡ 0 → lookup test es ≡ None
 none_in test [] e = refl
@@ -23,18 +28,35 @@ none_in test (x ∷ xs) e = absurd (omega (arith, e))
 pub not_some : {X : Type 0} (o : Option X) (x : X) → o ≡ None → o ≡ Some x → ⊥
 not_some o x none some = let wrong : false ≡ true = sym (ap is_some none) ∙ ap is_some some in cc
 
-module _ (f : Files) (levels : ℕ) (root : Pointer) (is : (blocks : Under) → standing blocks f.inode.tree ≡ stored blocks greatest_word levels root) where
-  no_tree : maps.btree_map_len f.trees ≡ 0 → (n : ℕ) → tree_in f n ≡ None
-  no_tree none n = none_in (maps.is_at (nat_cmp n)) f.trees.entries none
+-- no tree is in memory
+pub no_trees : (f : Files) → maps.btree_map_len f.trees ≡ 0 → (n : ℕ) → tree_in f n ≡ None
+no_trees f none n = none_in (maps.is_at (nat_cmp n)) f.trees.entries none
 
+module _ (f : Files) (levels : ℕ) (root : Pointer) (is : (blocks : Under) → standing blocks f.inode.tree ≡ stored blocks greatest_word levels root) where
   pub stored_in : maps.btree_map_len f.trees ≡ 0 → (blocks : Under) → standing_in blocks (changed f) ≡ standing_at blocks levels root
-  stored_in none blocks = λ i. record { inode = is blocks i; trees = λ n. option_map (standing blocks) (no_tree none n i) }
+  stored_in none blocks = λ i. record { inode = is blocks i; trees = λ n. option_map (standing blocks) (no_trees f none n i) }
+
+  -- a file's tree is the stored one
+  file_is : maps.btree_map_len f.trees ≡ 0 → (blocks : Under) (n : ℕ) → loaded_trees blocks f (Some n) ≡ stored_trees blocks levels root (Some n)
+  file_is none blocks n = λ i. option_map (λ r. file_loaded blocks n r (no_trees f none n i)) (file_at (is blocks i) n)
+
+  led_there : maps.btree_map_len f.trees ≡ 0 → (blocks : Under) (a : Option ℕ) (v : ℕ) → LeadsFrom (loaded_trees blocks f) a v → LeadsFrom (stored_trees blocks levels root) a v
+  led_there none blocks None v led = unread_leads blocks f.inode.tree (stored blocks greatest_word levels root) (is blocks) v led
+  led_there none blocks (Some n) v led = subst (λ o. LeadsIn o v) (file_is none blocks n) led
 
   module _ (stands : (blocks : Under) (used : ℕ → Option Use) → ReachesOnce used (stored blocks greatest_word levels root) → IsSound used (loaded_over blocks f.inode.tree)) where
+    all_stand : maps.btree_map_len f.trees ≡ 0 → (blocks : Under) (used : ℕ → Option Use) → AreReached blocks used levels root → (a : Option ℕ) → StandsIn used (loaded_trees blocks f a)
+    all_stand none blocks used reached None = stands blocks used reached.inode
+    all_stand none blocks used reached (Some n) = subst (StandsIn used) (sym (file_is none blocks n)) (at (file_at (stored blocks greatest_word levels root) n) refl)
+      where
+        at : (o : Option InodeRecord) → file_at (stored blocks greatest_word levels root) n ≡ o → StandsIn used (option_map (λ r. unread (stored blocks n r.levels r.root)) o)
+        at None e = tt
+        at (Some r) e = unread_sound used (stored blocks n r.levels r.root) (λ level place. refl) (reached.files n r e)
+
     pub stored_sound : maps.btree_map_len f.trees ≡ 0 → (blocks : Under) (used : ℕ → Option Use) → AreReached blocks used levels root → AreSound blocks used f
     stored_sound none blocks used reached = record {
       owner = ap (λ (t : Rooted). t.owner) (is blocks);
-      inode = stands blocks used reached.inode;
-      files = λ n r at. subst (FileStands blocks used n r) (sym (no_tree none n)) (reached.files n r (sym (ap (λ t. file_at t n) (is blocks)) ∙ at));
-      owners = λ n t at. absurd (not_some (tree_in f n) t (no_tree none n) at);
+      owners = λ n t at. absurd (not_some (tree_in f n) t (no_trees f none n) at);
+      trees = all_stand none blocks used reached;
+      apart = λ a b v differs one other. reached.apart a b v differs (led_there none blocks a v one) (led_there none blocks b v other);
     }

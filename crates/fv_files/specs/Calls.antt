@@ -1,25 +1,27 @@
 -- What the calls of a table answer and do, by the machine.
-use Rattle.std.specs.Prelude.{◌≡◌, ◌≢◌, ℕ, ◌+◌, max, Bool, true, false, List, replicate, Option, Some, None, Result, OnOk, OnErr, IfErr}
+use Rattle.std.specs.Prelude.{◌≡◌, ◌≢◌, ◌≤◌, ◌⊎◌, ℕ, ◌+◌, max, nat_le, Bool, true, List, replicate, Option, Some, None, is_some, Result, OnOk, OnErr, IfOk, IfErr}
 use Rattle.std.specs.Ordering.{nat_cmp}
 use Rattle.std.specs.BTreeMap as maps
 use Rattle.std.specs.FinMap as fin
 use Rattle.fv_disk.specs.declared.fault.BlockFault.{BlockFault}
-use Rattle.fv_model.specs.Tables.{File, put}
+use Rattle.fv_model.specs.Tables.{File, inode_cell, put, cut, rm}
+use Rattle.fv_laws.specs.WellFormed.{IsWellTable}
+use Rattle.fv_laws.specs.Positions.{added_by, taken_by_cut, taken_by_rm}
+use Rattle.fv_tables.specs.Spelled.{Under, stored}
 use Rattle.fv_tables.specs.Told.{Standing, file_in, table_told}
 use Rattle.fv_tree.specs.declared.kept.Tree.{Tree}
-use Rattle.fv_tree.specs.Sources.{Shown, Counts, IsUntouched}
+use Rattle.fv_tree.specs.Sources.{Shown, Counts, IsUntouched, Use}
 use Rattle.fv_tree.specs.Standing.{standing, under, Fails}
-use Rattle.fv_tree.specs.Writing.{Writes, Remains}
-use Rattle.fv_tree.specs.Flushing.{Stands}
+use Rattle.fv_tree.specs.Writing.{IsAlike, Writes, Remains}
+use Rattle.fv_tree.specs.Flushing.{IsSound, ReachesOnce, Stands, loaded, loaded_over}
+use Rattle.fv_tree.specs.Leading.{LeadsNoMore}
+use Rattle.fv_tree.specs.Removal.{Removal}
 use Rattle.fv_inode.specs.declared.info.Info.{Info}
-use Rattle.fv_inode.specs.Files.{HasNone, IsFirst}
-
--- the file of a name, which is the first one of that name by number
-pub record IsFileOf (x : Standing) (name : List ℕ) (n : ℕ) (f : File) : Type 0 where
-  pub info : Info
-  pub number : info.number ≡ n
-  pub first : IsFirst x.inode name info
-  pub file : file_in x n ≡ Some f
+use Rattle.fv_inode.specs.Files.{rooted}
+use Rattle.fv_inode.specs.Readying.{IsReadyFile}
+use Rattle.fv_files.specs.declared.files.Files.{Files}
+use Rattle.fv_files.specs.Tables.{table_in, tree_in, tree_known, AreStanding, IsInfoOf, IsTold}
+use Rattle.fv_files.specs.Failing.{Looks}
 
 -- ---- reads
 
@@ -31,29 +33,6 @@ or_zeros (Some block) = block
 -- block i of file n
 abbrev pub GivesCell : Standing → ℕ → ℕ → List ℕ → Type 0
 GivesCell x n i into = (f : File) → file_in x n ≡ Some f → into ≡ or_zeros (fin.get f.blocks i)
-
--- block i of the file of a name
-pub record IsRead (x : Standing) (name : List ℕ) (i : ℕ) (into : List ℕ) : Type 0 where
-  pub number : ℕ
-  pub file : File
-  pub is : IsFileOf x name number file
-  pub block : into ≡ or_zeros (fin.get file.blocks i)
-
--- A read gives the block, and answers false exactly where no file has the name.
-abbrev pub Reads : Standing → List ℕ → ℕ → List ℕ → Bool → Type 0
-Reads x name i into false = HasNone x.inode name
-Reads x name i into true = IsRead x name i into
-
--- The length of the file of a name is asked.
-pub record HasLength (x : Standing) (name : List ℕ) (length : ℕ) : Type 0 where
-  pub number : ℕ
-  pub file : File
-  pub is : IsFileOf x name number file
-  pub long : length ≡ file.length
-
-abbrev pub Measures : Standing → List ℕ → Option ℕ → Type 0
-Measures x name None = HasNone x.inode name
-Measures x name (Some length) = HasLength x name length
 
 -- ---- writes
 
@@ -71,29 +50,106 @@ longer info i = record {
 abbrev pub WritesCell : Standing → Standing → ℕ → ℕ → ℕ → List ℕ → Type 0
 WritesCell x y n i s block = (f : File) → file_in x n ≡ Some f → table_told y ≡ put (table_told x) n f i block s
 
--- cell i of the file of a name was written by a change with the stamp s: the machine's put
-pub record IsPut (x y : Standing) (name : List ℕ) (i s : ℕ) (block : List ℕ) : Type 0 where
-  pub number : ℕ
-  pub file : File
-  pub is : IsFileOf x name number file
-  pub told : table_told y ≡ put (table_told x) number file i block s
+-- how many positions a write of cell i adds to file n of a well-formed table
+abbrev pub AddsCell : Standing → ℕ → ℕ → ℕ → Type 0
+AddsCell x n i count = (now : ℕ) (f : File) → IsWellTable now (table_told x) → file_in x n ≡ Some f → count ≡ added_by f.tree i
+
+-- how many a new file under the number n adds to the inode file of a well-formed table
+abbrev pub AddsFile : Standing → ℕ → ℕ → Type 0
+AddsFile x n count = (now : ℕ) → IsWellTable now (table_told x) → count ≡ added_by (table_told x).inode (inode_cell n)
+
+-- what is known of a file once it was cut to a length, but for its tree
+abbrev pub shortened : Info → ℕ → Info
+shortened info length = record {
+  number = info.number;
+  length = length;
+  reserve = info.reserve;
+  levels = info.levels;
+  root = info.root;
+}
+
+-- file n was cut to a length by a change with the stamp s: the machine's cut, of a well-formed table
+abbrev pub CutsFile : Standing → Standing → ℕ → ℕ → ℕ → Type 0
+CutsFile x y n length s = (now : ℕ) (f : File) → IsWellTable now (table_told x) → file_in x n ≡ Some f → table_told y ≡ cut (table_told x) n f length s
+
+-- how many positions a cut of file n to a length takes, by a change with the stamp s
+abbrev pub TakesByCut : Standing → ℕ → ℕ → ℕ → ℕ → Type 0
+TakesByCut x n length s count = (now : ℕ) (f : File) → now ≤ s → IsWellTable now (table_told x) → file_in x n ≡ Some f → count ≡ taken_by_cut f length
+
+-- file n was taken away by a change with the stamp s: the machine's rm, of a well-formed table
+abbrev pub RemovesFile : Standing → Standing → ℕ → ℕ → Type 0
+RemovesFile x y n s = (now : ℕ) → IsWellTable now (table_told x) → table_told y ≡ rm (table_told x) n s
+
+-- how many positions the removal of file n takes, by a change with the stamp s
+abbrev pub TakesByRemoval : Standing → ℕ → ℕ → ℕ → Type 0
+TakesByRemoval x n s count = (now : ℕ) (f : File) → now ≤ s → IsWellTable now (table_told x) → file_in x n ≡ Some f → count ≡ taken_by_rm (table_told x) n f
+
+-- ---- what changes leave
+
+-- What a change of a table leaves, whether it was done or failed. After a fault the table is told as before, and no block was named as
+-- gone. `well` is what is asked of the table beside that it stands on its blocks, and `fails` says why the change failed.
+pub record Changes {T : Type 0} (told well : Type 0) (old new : Shown) (f g : Files) (fails : BlockFault → Type 0) (result : Result T BlockFault) : Type 0 where
+  pub failed : told → OnErr result (IsTold old f new g)
+  pub untouched : OnErr result (IsUntouched old new)
+  pub stands : told → well → AreStanding old f → AreStanding new g
+  pub strays : told → AreStanding old f → new.strays ≡ old.strays
+  pub counts : Counts old new result
+  pub cause : IfErr result fails
+
+-- the tree of file n, which is in memory, failed
+abbrev pub KeptFails : Type 0 → Shown → Shown → Files → ℕ → BlockFault → Type 0
+KeptFails told old new f n e = (t : Tree) → tree_in f n ≡ Some t → Fails told (standing (under old) t) old new e
+
+-- A file is held ready for a change, where there is one: its inode block with the nodes over it, and its tree, as it is. The table is told
+-- as before, also after a fault.
+pub record Prepares (told : Type 0) (old new : Shown) (f g : Files) (info : Info) (result : Result Bool BlockFault) : Type 0 where
+  pub same : told → IsTold old f new g
+  pub alike : told → IsAlike (rooted old f.inode) (rooted new g.inode)
+  pub stands : told → AreStanding old f → AreStanding new g
+  pub looks : Looks told (table_in old f) old new result
+  pub found : told → IfOk result (λ there. there ≡ true)
+  pub known : told → IsInfoOf (rooted new g.inode) info
+  pub ready : IfOk result (λ there. there ≡ true → IsReadyFile g.inode info.number)
+  pub kept : IfOk result (λ there. there ≡ true → is_some (tree_in g info.number) ≡ true)
+  pub tree : (t : Tree) → tree_in g info.number ≡ Some t → standing (under old) t ≡ tree_known (table_in old f) info
+
+-- ---- trees in memory
+
+-- the tree to which the record of a file leads, of which nothing is in memory
+pub record IsUnread (t : Tree) (info : Info) : Type 0 where
+  pub is : (blocks : Under) → standing blocks t ≡ stored blocks info.number info.levels info.root
+  pub stands : (blocks : Under) (used : ℕ → Option Use) → ReachesOnce used (stored blocks info.number info.levels info.root) → IsSound used (loaded_over blocks t)
+
+-- The tree of a file is in memory: the one that was there, or else that to which its record leads. The others stay.
+pub record Holds (m n : maps.BTreeMap ℕ Tree) (info : Info) : Type 0 where
+  pub tree : Tree
+  pub now : maps.get nat_cmp n info.number ≡ Some tree
+  pub others : (k : ℕ) → k ≢ info.number → maps.get nat_cmp n k ≡ maps.get nat_cmp m k
+  pub from : (maps.get nat_cmp m info.number ≡ Some tree) ⊎ ((maps.get nat_cmp m info.number ≡ None) × IsUnread tree info)
+
+-- the tree of a number in memory became another; the others stay
+pub record Becomes (m n : maps.BTreeMap ℕ Tree) (number : ℕ) (t u : Tree) : Type 0 where
+  pub was : maps.get nat_cmp m number ≡ Some t
+  pub now : maps.get nat_cmp n number ≡ Some u
+  pub others : (k : ℕ) → k ≢ number → maps.get nat_cmp n k ≡ maps.get nat_cmp m k
 
 -- A tree in memory got the cell, or it was left as it was.
 pub record PutsKept (told : Type 0) (old new : Shown) (m n : maps.BTreeMap ℕ Tree) (number i s : ℕ) (block : List ℕ) (result : Result Unit BlockFault) : Type 0 where
   pub tree : Tree
   pub next : Tree
-  pub was : maps.get nat_cmp m number ≡ Some tree
-  pub now : maps.get nat_cmp n number ≡ Some next
-  pub others : (k : ℕ) → k ≢ number → maps.get nat_cmp n k ≡ maps.get nat_cmp m k
+  pub becomes : Becomes m n number tree next
   pub owner : next.owner ≡ tree.owner
   pub written : told → OnOk result (Writes (standing (under old) tree) (standing (under new) next) i s block)
   pub stands : told → Stands old tree → Stands new next
+  pub leads : told → LeadsNoMore (loaded old tree) (loaded new next)
   pub failed : told → OnErr result (Remains (standing (under old) tree) (standing (under new) next))
   pub untouched : IsUntouched old new
   pub counts : Counts old new result
   pub cause : IfErr result (Fails told (standing (under old) tree) old new)
 
--- false exactly where no file has the name, and then nothing changed
-abbrev pub Puts : Standing → Standing → List ℕ → ℕ → ℕ → List ℕ → Bool → Type 0
-Puts x y name i s block false = HasNone x.inode name × (table_told y ≡ table_told x)
-Puts x y name i s block true = IsPut x y name i s block
+-- a tree in memory lost its cells from a length on, or it was left as it was
+pub record CutsKept (told calls : Type 0) (old new : Shown) (m n : maps.BTreeMap ℕ Tree) (number length start s : ℕ) (result : Result ℕ BlockFault) : Type 0 where
+  pub tree : Tree
+  pub next : Tree
+  pub becomes : Becomes m n number tree next
+  pub removal : Removal told calls old new tree next (nat_le length) start s result

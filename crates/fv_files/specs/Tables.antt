@@ -1,6 +1,7 @@
 -- A table whose changed trees are in memory, and how it stands to its blocks.
 use Rattle.std.specs.Prelude.{◌≡◌, ℕ, true, Option, Some, None, is_some}
 use Rattle.std.specs.Ordering.{nat_cmp}
+use Rattle.std.specs.Option.{option_map}
 use Rattle.std.specs.BTreeMap as tree
 use Rattle.fv_codec.specs.declared.inode.InodeRecord.{InodeRecord}
 use Rattle.fv_codec.specs.declared.pointer.Pointer.{Pointer}
@@ -10,11 +11,13 @@ use Rattle.fv_tables.specs.Told.{Standing, file_at, tree_or, table_told}
 use Rattle.fv_tree.specs.declared.kept.Tree.{Tree}
 use Rattle.fv_tree.specs.Sources.{Shown, Use}
 use Rattle.fv_tree.specs.Standing.{standing, under}
-use Rattle.fv_tree.specs.Flushing.{loaded_over, IsSound, ReachesOnce}
+use Rattle.fv_tree.specs.Flushing.{Loaded, loaded_over, ReachesOnce}
+use Rattle.fv_tree.specs.Beside.{unread}
 use Rattle.fv_inode.specs.declared.info.Info.{Info}
 use Rattle.fv_inode.specs.Files.{info_of}
 use Rattle.fv_files.specs.declared.files.Files.{Files}
 use Rattle.fv_files.specs.Trees.{Changed, standing_in}
+use Rattle.fv_files.specs.Apart.{Trees, StandsIn, AreApart, stored_trees}
 
 -- the trees that are in memory
 abbrev pub changed : Files → Changed
@@ -32,17 +35,21 @@ tree_in f n = tree.get nat_cmp f.trees n
 abbrev pub IsTold : Shown → Files → Shown → Files → Type 0
 IsTold old f new g = table_told (table_in new g) ≡ table_told (table_in old f)
 
--- the tree of a file stands on its blocks: that in memory, or else that to which the file's record leads
-abbrev pub FileStands : Under → (ℕ → Option Use) → ℕ → InodeRecord → Option Tree → Type 0
-FileStands blocks used n r None = ReachesOnce used (stored blocks n r.levels r.root)
-FileStands blocks used n r (Some t) = IsSound used (loaded_over blocks t)
+-- the tree of a file: that in memory, or else that to which its record leads
+abbrev pub file_loaded : Under → ℕ → InodeRecord → Option Tree → Loaded
+file_loaded blocks n r None = unread (stored blocks n r.levels r.root)
+file_loaded blocks n r (Some t) = loaded_over blocks t
 
--- Each tree of the table stands on its blocks. A tree in memory is that of a file.
+abbrev pub loaded_trees : Under → Files → Trees
+loaded_trees blocks f None = Some (loaded_over blocks f.inode.tree)
+loaded_trees blocks f (Some n) = option_map (λ r. file_loaded blocks n r (tree_in f n)) (file_at (standing blocks f.inode.tree) n)
+
+-- Each tree of the table stands on its blocks, and no two lead to one block. A tree in memory is that of a file.
 pub record AreSound (blocks : Under) (used : ℕ → Option Use) (f : Files) : Type 0 where
   pub owner : f.inode.tree.owner ≡ greatest_word
-  pub inode : IsSound used (loaded_over blocks f.inode.tree)
-  pub files : (n : ℕ) (r : InodeRecord) → file_at (standing blocks f.inode.tree) n ≡ Some r → FileStands blocks used n r (tree_in f n)
   pub owners : (n : ℕ) (t : Tree) → tree_in f n ≡ Some t → (t.owner ≡ n) × (is_some (file_at (standing blocks f.inode.tree) n) ≡ true)
+  pub trees : (a : Option ℕ) → StandsIn used (loaded_trees blocks f a)
+  pub apart : AreApart (loaded_trees blocks f)
 
 abbrev pub AreStanding : Shown → Files → Type 0
 AreStanding source = AreSound (under source) source.used
@@ -51,6 +58,7 @@ AreStanding source = AreSound (under source) source.used
 pub record AreReached (blocks : Under) (used : ℕ → Option Use) (levels : ℕ) (root : Pointer) : Type 0 where
   pub inode : ReachesOnce used (stored blocks greatest_word levels root)
   pub files : (n : ℕ) (r : InodeRecord) → file_at (stored blocks greatest_word levels root) n ≡ Some r → ReachesOnce used (stored blocks n r.levels r.root)
+  pub apart : AreApart (stored_trees blocks levels root)
 
 -- what is known of a file is what its record says
 pub record IsInfoOf (t : Rooted) (info : Info) : Type 0 where

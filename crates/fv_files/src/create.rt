@@ -1,12 +1,14 @@
 //! Making a file.
 
-ghost use Rattle.std.specs.Prelude.{◌≡◌, ◌≤◌, ◌<◌, ℕ, None, OnOk, OnErr};
+ghost use Rattle.std.specs.Prelude.{◌≡◌, ◌≤◌, ◌<◌, ℕ, None, OnOk};
 ghost use Rattle.fv_codec.specs.Blocks.{most_cells};
 ghost use Rattle.fv_model.specs.Tables.{new};
 ghost use Rattle.fv_tables.specs.Told.{file_at, table_told};
+ghost use Rattle.fv_tree.specs.Sources.{IsUntouched};
 ghost use Rattle.fv_inode.specs.Files.{rooted};
-ghost use Rattle.fv_files.specs.Tables.{table_in, AreStanding, IsTold};
-ghost use Rattle.fv_files.specs.Failing.{Looks};
+ghost use Rattle.fv_files.specs.Tables.{table_in, AreStanding};
+ghost use Rattle.fv_files.specs.Failing.{FilesFail};
+ghost use Rattle.fv_files.specs.Calls.{Changes};
 
 use crate::files::{Files, FilesFault};
 use fv_model::Name;
@@ -31,9 +33,8 @@ impl Files {
         requires reserve { reserve ≤ most_cells }
         requires free { B.told → (n : ℕ) × (n < 262144) × (file_at (rooted (B.shown blocks.old) self.old.inode) n ≡ None) }
         ensures made { B.told → OnOk result (AreStanding (B.shown blocks.old) self.old → table_told (table_in (B.shown blocks.new) self.new) ≡ new (table_told (table_in (B.shown blocks.old) self.old)) name.now reserve stamp) }
-        ensures failed { B.told → OnErr result (IsTold (B.shown blocks.old) self.old (B.shown blocks.new) self.new) }
-        ensures stands { B.told → AreStanding (B.shown blocks.old) self.old → AreStanding (B.shown blocks.new) self.new }
-        ensures looks { Looks B.told (table_in (B.shown blocks.old) self.old) (B.shown blocks.old) (B.shown blocks.new) result }
+        ensures changes { Changes B.told (Unit {0}) (B.shown blocks.old) (B.shown blocks.new) self.old self.new (FilesFail B.told (table_in (B.shown blocks.old) self.old) (B.shown blocks.old) (B.shown blocks.new)) result }
+        ensures untouched { IsUntouched (B.shown blocks.old) (B.shown blocks.new) }
         ensures reads { B.reads blocks.old blocks.new }
     {
         match self.inode.create(blocks, name, reserve, stamp) {

@@ -4,10 +4,15 @@
 //! machine's table, by the definitions of `fv_tables`.
 #![tactic(auto)]
 
+mod added;
 mod create;
+mod cut;
 mod files;
+mod flush;
+mod hold;
 mod list;
 mod read;
+mod remove;
 mod write;
 
 pub use files::{Files, FilesFault};

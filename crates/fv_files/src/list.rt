@@ -1,38 +1,65 @@
-//! What is asked of a table. None of it changes the table.
+//! What is asked of a table's files. None of it changes the table.
 
 ghost use Rattle.std.specs.Prelude.{◌≡◌, IfOk};
+ghost use Rattle.std.specs.Option.{option_map};
 ghost use Rattle.std.specs.FinMap as fin;
-ghost use Rattle.fv_inode.specs.Files.{rooted};
+ghost use Rattle.fv_tables.specs.Told.{file_at};
+ghost use Rattle.fv_inode.specs.Files.{rooted, info_of, Finds, IsFreeNumber, IsInfoIf, IsNumberIf};
 ghost use Rattle.fv_inode.specs.Listing.{names_told};
 ghost use Rattle.fv_inode.specs.Failing as inodes;
-ghost use Rattle.fv_files.specs.Tables.{table_in};
-ghost use Rattle.fv_files.specs.Calls.{Measures};
 
 use crate::files::{Files, FilesFault};
+use fv_inode::Info;
 use fv_model::{Name, Names};
 use fv_tree::Blocks;
 
 impl Files {
-    /// The length of the file of a name, in blocks; `None` exactly where no file has it. Its cost is that of
-    /// `InodeFile::find`.
+    /// What is known of the file of a name; `None` exactly where no file has it. Its cost is that of `InodeFile::find`.
     ///
     /// # Errors
     ///
     /// As `InodeFile::find`.
-    pub fn length<B: Blocks>(
+    pub fn find<B: Blocks>(
         &mut self,
         blocks: &mut B,
         name: &Name,
-    ) -> Result<Option<u32>, FilesFault>
-        ensures length { B.told → IfOk result (Measures (table_in (B.shown blocks.old) self.old) name.now) }
+    ) -> Result<Option<Info>, FilesFault>
+        ensures found { B.told → IfOk result (Finds (rooted (B.shown blocks.old) self.old.inode) name.now) }
+        ensures range { IfOk result IsInfoIf }
         ensures same { self.new ≡ self.old }
         ensures looks { inodes.Looks B.told (rooted (B.shown blocks.old) self.old.inode) (B.shown blocks.old) (B.shown blocks.new) result }
         ensures reads { B.reads blocks.old blocks.new }
     {
-        match self.inode.find(blocks, name)? {
-            None => Ok(None),
-            Some(info) => Ok(Some(info.length)),
-        }
+        self.inode.find(blocks, name)
+    }
+
+    /// What is known of the file of a number; `None` exactly where no file has it. Its cost is that of `InodeFile::look`.
+    ///
+    /// # Errors
+    ///
+    /// As `InodeFile::look`.
+    pub fn look<B: Blocks>(&self, blocks: &mut B, number: u32) -> Result<Option<Info>, FilesFault>
+        ensures found { B.told → IfOk result (λ found. found ≡ option_map (info_of number) (file_at (rooted (B.shown blocks.old) self.now.inode) number)) }
+        ensures range { IfOk result IsInfoIf }
+        ensures looks { inodes.Looks B.told (rooted (B.shown blocks.old) self.now.inode) (B.shown blocks.old) (B.shown blocks.new) result }
+        ensures reads { B.reads blocks.old blocks.new }
+    {
+        self.inode.look(blocks, number)
+    }
+
+    /// The least number below 262,144 that no file has, which a new file gets; `None` where all are taken. Its cost is that
+    /// of `InodeFile::free_number`.
+    ///
+    /// # Errors
+    ///
+    /// As `InodeFile::free_number`.
+    pub fn free_number<B: Blocks>(&self, blocks: &mut B) -> Result<Option<u32>, FilesFault>
+        ensures number { B.told → IfOk result (IsFreeNumber (rooted (B.shown blocks.old) self.now.inode)) }
+        ensures range { IfOk result IsNumberIf }
+        ensures looks { inodes.Looks B.told (rooted (B.shown blocks.old) self.now.inode) (B.shown blocks.old) (B.shown blocks.new) result }
+        ensures reads { B.reads blocks.old blocks.new }
+    {
+        self.inode.free_number(blocks)
     }
 
     /// The names of all files, in byte order; each name once. Its cost is that of `InodeFile::list`.

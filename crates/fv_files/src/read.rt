@@ -8,62 +8,38 @@ ghost use Rattle.fv_tree.specs.Flushing.{loaded_over, IsSound, ReachesOnce};
 ghost use Rattle.fv_inode.specs.Files.{rooted, IsInfo};
 ghost use Rattle.fv_files.specs.Tables.{table_in, tree_known, IsInfoOf};
 ghost use Rattle.fv_files.specs.Failing.{Looks};
-ghost use Rattle.fv_files.specs.Calls.{GivesCell, Reads};
+ghost use Rattle.fv_files.specs.Calls.{GivesCell};
 
 use crate::files::{Files, FilesFault};
+use crate::hold::stored_tree;
 use fv_inode::Info;
-use fv_model::Name;
 use fv_tree::{Blocks, Tree};
-use std::alloc::Global;
 
 impl Files {
-    /// Block `index` of the file of a name; zeros for a hole and for a block past the file's length. False exactly where
-    /// no file has the name. It keeps nothing in memory. It looks the file up as `InodeFile::find` does, and then loads
-    /// at most one block for each level of the file's tree and one for the cell.
+    /// Block `index` of the file of which this is known; zeros for a hole and for a block past the file's length. It keeps
+    /// nothing in memory, and loads at most one block for each level of the file's tree and one for the cell.
     ///
     /// # Errors
     ///
-    /// As `InodeFile::find` and `Tree::get`. Then the content of `into` is open.
+    /// As `Tree::get`. Then the content of `into` is open.
     pub fn read<B: Blocks>(
-        &mut self,
+        &self,
         blocks: &mut B,
-        name: &Name,
+        info: &Info,
         index: u32,
         into: &mut [u8; 4096],
-    ) -> Result<bool, FilesFault>
-        ensures block { B.told → IfOk result (Reads (table_in (B.shown blocks.old) self.old) name.now index into.new) }
-        ensures same { self.new ≡ self.old }
-        ensures looks { Looks B.told (table_in (B.shown blocks.old) self.old) (B.shown blocks.old) (B.shown blocks.new) result }
+    ) -> Result<(), FilesFault>
+        requires range { IsInfo info.now }
+        requires there { B.told → IsInfoOf (rooted (B.shown blocks.old) self.now.inode) info.now }
+        ensures block { B.told → OnOk result (GivesCell (table_in (B.shown blocks.old) self.now) info.now.number index into.new) }
+        ensures looks { Looks B.told (table_in (B.shown blocks.old) self.now) (B.shown blocks.old) (B.shown blocks.new) result }
         ensures reads { B.reads blocks.old blocks.new }
     {
-        match self.inode.find(blocks, name)? {
-            None => Ok(false),
-            Some(info) => {
-                read_file(self, blocks, &info, index, into)?;
-                Ok(true)
-            }
+        if !read_cell(self, blocks, info, index, into)? {
+            clear(into);
         }
+        Ok(())
     }
-}
-
-/// A block of the file of which this is known, or zeros.
-fn read_file<B: Blocks>(
-    files: &Files,
-    blocks: &mut B,
-    info: &Info,
-    index: u32,
-    into: &mut [u8; 4096],
-) -> Result<(), FilesFault>
-    requires range { IsInfo info.now }
-    requires there { B.told → IsInfoOf (rooted (B.shown blocks.old) files.now.inode) info.now }
-    ensures block { B.told → OnOk result (GivesCell (table_in (B.shown blocks.old) files.now) info.now.number index into.new) }
-    ensures looks { Looks B.told (table_in (B.shown blocks.old) files.now) (B.shown blocks.old) (B.shown blocks.new) result }
-    ensures reads { B.reads blocks.old blocks.new }
-{
-    if !read_cell(files, blocks, info, index, into)? {
-        clear(into);
-    }
-    Ok(())
 }
 
 /// Zeros.
@@ -95,15 +71,6 @@ fn read_cell<B: Blocks>(
             read_tree(&tree, blocks, index, into)
         }
     }
-}
-
-/// The tree to which the record of a file leads.
-pub fn stored_tree(alloc: Global, info: &Info) -> Tree
-    requires range { IsInfo info.now }
-    ensures stored { (blocks : Under) → standing blocks result ≡ stored blocks info.now.number info.now.levels info.now.root }
-    ensures stands { (blocks : Under) (used : ℕ → Option Use) → ReachesOnce used (stored blocks info.now.number info.now.levels info.now.root) → IsSound used (loaded_over blocks result) }
-{
-    Tree::at(alloc, u64::from(info.number), info.levels, info.root)
 }
 
 /// A cell of a tree; false for a hole.

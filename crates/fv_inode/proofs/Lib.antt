@@ -3,6 +3,7 @@ pub mod Slots
 pub mod Rewritten
 pub mod Named
 pub mod Numbered
+pub mod Counted
 pub mod Taken
 pub mod Views
 pub mod Machines
@@ -11,3 +12,5 @@ pub mod Told
 pub mod Grown
 pub mod Gone
 pub mod Cuts
+pub mod Readied
+pub mod Alike

@@ -1,6 +1,6 @@
 -- Why calls of an inode file fail, over several calls of its source.
-use Rattle.std.proofs.Common.{refl, ◌≡◌, ℕ, inl, inr, subst, sym, ap, ◌∙◌, List, Result, Ok, Err, OnOk, ⊎_elim, arith}
-use Rattle.std.specs.Prelude.{Some, IfErr}
+use Rattle.std.proofs.Common.{refl, ◌≡◌, ℕ, inl, inr, subst, sym, ap, ◌∙◌, List, Result, Ok, Err, OnOk, OnErr, ⊎_elim, arith}
+use Rattle.std.specs.Prelude.{Option, Some, IfErr}
 use Rattle.std.specs.Ordering.{nat_cmp}
 use Rattle.std.specs.FinMap as fin
 use Rattle.std.proofs.lemmas.Result.{IfErr-weaker}
@@ -8,15 +8,18 @@ use Rattle.fv_disk.specs.declared.fault.BlockFault.{BlockFault}
 use Rattle.fv_disk.specs.declared.fault.BlockFault.TheVariants.{Damaged}
 use Rattle.fv_codec.specs.declared.shape.Shape.{Shape}
 use Rattle.fv_codec.specs.Blocks.{inodes_at}
-use Rattle.fv_tables.specs.Spelled.{Rooted, block_at}
+use Rattle.fv_tables.specs.Spelled.{Under, Rooted, block_at}
 use Rattle.fv_tree.specs.declared.kept.Tree.{Tree}
-use Rattle.fv_tree.specs.Sources.{Shown, Counts, IsCalm, IsUntouched}
+use Rattle.fv_tree.specs.Sources.{Shown, Counts, IsCalm, IsUntouched, Use}
 use Rattle.fv_tree.specs.Standing.{standing, under, Fails}
 use Rattle.fv_tree.specs.Reading.{cell_read_at}
-use Rattle.fv_tree.specs.Flushing.{IsSound, loaded_over, Stands}
+use Rattle.fv_tree.specs.Writing.{Remains}
+use Rattle.fv_tree.specs.Flushing.{Loaded, IsSound, changed_of, placed_of, loaded, loaded_over, Stands}
+use Rattle.fv_tree.specs.Leading.{LeadsNoMore}
 use Rattle.fv_tree.specs.Releasing.{IsDropped, Releases}
-use Rattle.fv_tree.proofs.Causes.{calm_itself, calm_then, counts_then, fails_later}
-use Rattle.fv_inode.specs.Failing.{InodeFails, Looks}
+use Rattle.fv_tree.proofs.Causes.{at_err, calm_itself, calm_then, counts_then, fails_later, untouched_itself, untouched_then}
+use Rattle.fv_tree.proofs.Leading.{leads_then}
+use Rattle.fv_inode.specs.Failing.{Alters, InodeFails, Looks}
 
 abbrev pub Held : Type 0
 Held = fin.FinMap nat_cmp (List ℕ)
@@ -33,12 +36,9 @@ pub stands_on : (t : Tree) (old new : Shown) → new.held ≡ old.held → new.u
 stands_on t old new held used stands =
     subst (λ (h : Held). IsSound new.used (loaded_over (λ v. fin.get h v) t)) (sym held) (subst (λ u. IsSound u (loaded_over (under old) t)) (sym used) stands)
 
-inode_fails_later : (told : Type 0) (t : Rooted) (old mid new : Shown) (e : BlockFault) → IsCalm old mid → mid.held ≡ old.held → InodeFails told t mid new e → InodeFails told t old new e
+pub inode_fails_later : (told : Type 0) (t : Rooted) (old mid new : Shown) (e : BlockFault) → IsCalm old mid → mid.held ≡ old.held → InodeFails told t mid new e → InodeFails told t old new e
 inode_fails_later told t old mid new e calm held (inl h) = inl (fails_later told t old mid new e calm held h)
 inode_fails_later told t old mid new e calm held (inr h) = inr (calm_then old mid new calm h.0, h.1)
-
-untouched_then : (old mid new : Shown) → IsUntouched old mid → IsUntouched mid new → IsUntouched old new
-untouched_then old mid new first second = record { held = second.held ∙ first.held; used = second.used ∙ first.used; strays = second.strays ∙ first.strays }
 
 -- a call that reads, after others that only read
 pub looks_then : {S T : Type 0} (told : Type 0) (t : Tree) (old mid new : Shown) (x : S) (r : Result T BlockFault) → Looks told (standing (under old) t) old mid (Ok x)
@@ -55,10 +55,10 @@ looks_at told t old new r untouched counts cause = record { untouched = untouche
 
 -- of a call that failed, or was done, another answer
 pub looks_failed : {S T : Type 0} (told : Type 0) (t : Rooted) (old new : Shown) (e : BlockFault) → Looks {T = S} told t old new (Err e) → Looks {T = T} told t old new (Err e)
-looks_failed told t old new e looks = record { untouched = looks.untouched; counts = record { faults = looks.counts.faults; damages = looks.counts.damages; calm = tt }; cause = looks.cause }
+looks_failed told t old new e looks = record { untouched = looks.untouched; counts = record { faults = looks.counts.faults; damages = looks.counts.damages; spent = looks.counts.spent; calm = tt }; cause = looks.cause }
 
 pub looks_done : {S T : Type 0} (told : Type 0) (t : Rooted) (old new : Shown) (x : S) (y : T) → Looks told t old new (Ok x) → Looks told t old new (Ok y)
-looks_done told t old new x y looks = record { untouched = looks.untouched; counts = record { faults = looks.counts.faults; damages = looks.counts.damages; calm = looks.counts.calm }; cause = tt }
+looks_done told t old new x y looks = record { untouched = looks.untouched; counts = record { faults = looks.counts.faults; damages = looks.counts.damages; spent = looks.counts.spent; calm = looks.counts.calm }; cause = tt }
 
 -- and the other way round
 pub later : (P : Rooted → Type 0) (t : Tree) (old mid : Shown) → mid.held ≡ old.held → P (standing (under old) t) → P (standing (under mid) t)
@@ -94,7 +94,7 @@ both_ok (Err e) p q so = tt
 
 -- no call at all
 pub looks_self : (told : Type 0) (t : Rooted) (old : Shown) → Looks told t old old (Ok (tt {0}))
-looks_self told t old = record { untouched = record { held = refl; used = refl; strays = refl }; counts = record { faults = omega arith; damages = omega arith; calm = calm_itself old }; cause = tt }
+looks_self told t old = record { untouched = untouched_itself old; counts = record { faults = omega arith; damages = omega arith; spent = omega arith; calm = calm_itself old }; cause = tt }
 
 on_ok_of : {T P : Type 0} (r : Result T BlockFault) → P → OnOk r P
 on_ok_of (Ok x) p = p
@@ -106,6 +106,80 @@ pub looks_judged : {T : Type 0} (told : Type 0) (t : Rooted) (old new : Shown) (
     → IfErr r (λ e. (shape : Shape) × (inodes_at block ≡ Err shape) × (e ≡ Damaged at shape.want shape.found)) → Looks told t old new r
 looks_judged told t old new r cell at block untouched calm lies place damage = record {
   untouched = untouched;
-  counts = record { faults = omega (arith, calm.faults); damages = omega (arith, calm.damages); calm = on_ok_of r calm };
+  counts = record { faults = omega (arith, calm.faults); damages = omega (arith, calm.damages); spent = calm.spent; calm = on_ok_of r calm };
   cause = IfErr-weaker r _ _ (λ e h. inr (calm, record { at = at; block = block; shape = h.0; fault = h.1; is = h.2; cell = cell; lies = lies; place = place })) damage;
+}
+
+-- ---- changes of a tree that only load
+
+-- a call of the tree
+pub alters_at : {T : Type 0} (told : Type 0) (t u : Tree) (old new : Shown) (r : Result T BlockFault) → (told → OnErr r (Remains (standing (under old) t) (standing (under new) u))) → u.owner ≡ t.owner → (told → Stands old t → Stands new u)
+    → (told → LeadsNoMore (loaded old t) (loaded new u)) → (told → LeadsNoMore (loaded new u) (loaded old t)) → IsUntouched old new → Counts old new r → IfErr r (Fails told (standing (under old) t) old new) → Alters told old new t u r
+alters_at told t u old new r failed owner stands leads keeps untouched counts cause = record {
+  failed = failed;
+  owner = owner;
+  stands = stands;
+  leads = leads;
+  keeps = keeps;
+  looks = looks_at told (standing (under old) t) old new r untouched counts cause;
+}
+
+-- a tree that is said of over the blocks of a source, as what it leads to
+abbrev pub loaded_as : Tree → Rooted → Loaded
+loaded_as t v = record { tree = v; changed = changed_of t; placed = placed_of t }
+
+-- a call that only reads
+pub alters_none : {T : Type 0} (told : Type 0) (t : Tree) (old new : Shown) (r : Result T BlockFault) → Looks told (standing (under old) t) old new r → Alters told old new t t r
+alters_none told t old new r looks = record {
+  failed = λ is. at_err r (later (λ v. Remains (standing (under old) t) v) t old new looks.untouched.held (λ seen contents shows. shows));
+  owner = refl;
+  stands = λ is. stands_on t old new looks.untouched.held looks.untouched.used;
+  leads = λ is. later (λ v. LeadsNoMore (loaded old t) (loaded_as t v)) t old new looks.untouched.held (λ level place v leads. leads);
+  keeps = λ is. later (λ v. LeadsNoMore (loaded_as t v) (loaded old t)) t old new looks.untouched.held (λ level place v leads. leads);
+  looks = looks;
+}
+
+-- a call that reads, and then a change of the tree
+pub alters_then : {S T : Type 0} (told : Type 0) (t u : Tree) (old mid new : Shown) (x : S) (r : Result T BlockFault) → Looks told (standing (under old) t) old mid (Ok x) → Alters told mid new t u r → Alters told old new t u r
+alters_then told t u old mid new x r first second = record {
+  failed = λ is. earlier (λ v. OnErr r (Remains v (standing (under new) u))) t old mid first.untouched.held (second.failed is);
+  owner = second.owner;
+  stands = λ is sound. second.stands is (stands_on t old mid first.untouched.held first.untouched.used sound);
+  leads = λ is. earlier (λ v. LeadsNoMore (loaded_as t v) (loaded new u)) t old mid first.untouched.held (second.leads is);
+  keeps = λ is. earlier (λ v. LeadsNoMore (loaded new u) (loaded_as t v)) t old mid first.untouched.held (second.keeps is);
+  looks = looks_then told t old mid new x r first second.looks;
+}
+
+-- of a change that failed, or was done, another answer
+pub alters_failed : {S T : Type 0} (told : Type 0) (t u : Tree) (old new : Shown) (e : BlockFault) → Alters {T = S} told old new t u (Err e) → Alters {T = T} told old new t u (Err e)
+alters_failed told t u old new e alters = record {
+  failed = alters.failed;
+  owner = alters.owner;
+  stands = alters.stands;
+  leads = alters.leads;
+  keeps = alters.keeps;
+  looks = looks_failed told (standing (under old) t) old new e alters.looks;
+}
+
+pub alters_done : {S T : Type 0} (told : Type 0) (t u : Tree) (old new : Shown) (x : S) (y : T) → Alters told old new t u (Ok x) → Alters told old new t u (Ok y)
+alters_done told t u old new x y alters = record {
+  failed = λ is. tt;
+  owner = alters.owner;
+  stands = alters.stands;
+  leads = alters.leads;
+  keeps = alters.keeps;
+  looks = looks_done told (standing (under old) t) old new x y alters.looks;
+}
+
+-- and then a change in memory
+pub alters_more : {S T : Type 0} (told : Type 0) (t u w : Tree) (old new : Shown) (x : S) (y : T) → Alters told old new t u (Ok x) → w.owner ≡ u.owner
+    → ((blocks : Under) (used : ℕ → Option Use) → IsSound used (loaded_over blocks u) → IsSound used (loaded_over blocks w))
+    → ((blocks : Under) → LeadsNoMore (loaded_over blocks u) (loaded_over blocks w)) → ((blocks : Under) → LeadsNoMore (loaded_over blocks w) (loaded_over blocks u)) → Alters told old new t w (Ok y)
+alters_more told t u w old new x y first owner sound leads keeps = record {
+  failed = λ is. tt;
+  owner = owner ∙ first.owner;
+  stands = λ is before. sound (under new) new.used (first.stands is before);
+  leads = λ is. leads_then (loaded old t) (loaded new u) (loaded new w) (first.leads is) (leads (under new));
+  keeps = λ is. leads_then (loaded new w) (loaded new u) (loaded old t) (keeps (under new)) (first.keeps is);
+  looks = looks_done told (standing (under old) t) old new x y first.looks;
 }

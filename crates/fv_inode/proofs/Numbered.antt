@@ -10,12 +10,13 @@ use Rattle.std.proofs.Math.Seq.{take-append_seam, drop-append_seam}
 use Rattle.fv_codec.specs.declared.inode.InodeRecord.{InodeRecord}
 use Rattle.fv_codec.specs.Fields.{Verdict, is_name_byte, all_name, all_zero, name_filled, up_to, ◌then◌}
 use Rattle.fv_codec.specs.Blocks.{IsInodeRecord, is_used, most_cells}
+use Rattle.fv_model.specs.Numbers.{most_files}
 use Rattle.fv_model.specs.Spelling.{is_name}
 use Rattle.fv_model.specs.Trees.{fan, least_levels}
 use Rattle.fv_tables.specs.Spelled.{Rooted}
 use Rattle.fv_tables.specs.Told.{free_record, used_record, file_at}
 use Rattle.fv_tables.proofs.Tables.{no_file}
-use Rattle.fv_inode.specs.Files.{AreRecords, IsLeastFree, info_of, new_record}
+use Rattle.fv_inode.specs.Files.{AreRecords, IsFirstFree, IsFreeNumber, IsLeastFree, info_of, new_record}
 use Rattle.fv_inode.specs.Changing.{Rewrites, Makes}
 
 -- ---- numbers
@@ -31,14 +32,11 @@ used_below t cell files slot are small least here k lt = ⊎_elim
     (cases_lt k (16 * cell))
 
 pub least_in : (t : Rooted) (cell : ℕ) (files : List InodeRecord) (slot : ℕ) → AreRecords t cell files → slot < 16 → ((k : ℕ) → k < 16 * cell → is_some (file_at t k) ≡ true)
-    → used_record (get_or files slot free_record) ≡ None → ((k : ℕ) → k < slot → is_some (used_record (get_or files k free_record)) ≡ true) → IsLeastFree t (16 * cell + slot)
+    → used_record (get_or files slot free_record) ≡ None → ((k : ℕ) → k < slot → is_some (used_record (get_or files k free_record)) ≡ true) → IsFirstFree t (16 * cell + slot)
 least_in t cell files slot are lt least free here = record {
-  free = sym (are slot lt) ∙ free;
   least = used_below t cell files slot are (omega (arith, lt)) least here;
+  free = λ small. sym (are slot lt) ∙ free;
 }
-
-pub least_past : (t : Rooted) (count : ℕ) → count ≡ fan ^ t.levels → ((k : ℕ) → k < 16 * count → is_some (file_at t k) ≡ true) → IsLeastFree t (16 * count)
-least_past t count is least = record { free = no_file t (16 * count) (omega (arith, is)); least = least }
 
 none_some : {X : Type 0} (o : Option X) → o ≡ None → is_some o ≡ true → ⊥
 none_some None none some = absurd (grind (arith, some))
@@ -51,13 +49,32 @@ least_small t n k is free = ⊎_elim
     (λ le. le)
     (cases_lt k n)
 
--- past the cells that were searched, where a number is free
-pub least_searched : (t : Rooted) (count : ℕ) → count ≤ 16384 → (count < 16384 → count ≡ fan ^ t.levels) → ((k : ℕ) → k < 16 * count → is_some (file_at t k) ≡ true)
-    → (n : ℕ) × (n < 262144) × (file_at t n ≡ None) → (count ≡ fan ^ t.levels) × IsLeastFree t (16 * count)
-least_searched t count few all least free = ⊎_elim
-    (λ (lt : count < 16384). (all lt, least_past t count (all lt) least))
-    (λ high. absurd (none_some (file_at t free.0) free.2 (least free.0 (let low = free.1 in omega (arith, high, low)))))
-    (cases_lt count 16384)
+-- past the cells that were searched
+pub least_searched : (t : Rooted) (count : ℕ) → count ≤ 16384 → (count < 16384 → count ≡ fan ^ t.levels) → ((k : ℕ) → k < 16 * count → is_some (file_at t k) ≡ true) → IsFirstFree t (16 * count)
+least_searched t count few all least = record {
+  least = least;
+  free = λ small. let whole = all (omega (arith, small)) in no_file t (16 * count) (omega (arith, whole));
+}
+
+-- where a number is free, the first one is
+pub least_free : (t : Rooted) (n : ℕ) → IsFirstFree t n → (k : ℕ) × (k < most_files) × (file_at t k ≡ None) → (n < most_files) × IsLeastFree t n
+least_free t n is free =
+    let small : n < most_files = ⊎_elim
+    (λ (lt : n < most_files). lt)
+    (λ high. absurd (none_some (file_at t free.0) free.2 (is.least free.0 (let low = free.1 in omega (arith, high, low)))))
+    (cases_lt n most_files) in
+    (small, record { free = is.free small; least = is.least })
+
+-- the first number, where it is one of a file
+pub free_within : (t : Rooted) (n : ℕ) (o : Option ℕ) → IsFirstFree t n → (n < most_files → o ≡ Some n) → (most_files ≤ n → o ≡ None) → IsFreeNumber t o
+free_within t n o is some none = ⊎_elim
+    (λ (lt : n < most_files). subst (IsFreeNumber t) (sym (some lt)) (record { free = is.free lt; least = is.least }))
+    (λ high. subst (IsFreeNumber t) (sym (none high)) (λ k lt. is.least k (omega (arith, lt, high))))
+    (cases_lt n most_files)
+
+-- two least free numbers are one
+pub one_least : (t : Rooted) (m n : ℕ) → IsLeastFree t m → IsLeastFree t n → m ≡ n
+one_least t m n first second = let low = least_small t m n first second.free in let high = least_small t n m second first.free in omega (arith, low, high)
 
 -- ---- the new record
 

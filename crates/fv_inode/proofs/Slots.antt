@@ -3,6 +3,7 @@ use Rattle.std.proofs.Common.{◌≡◌, ◌≢◌, ℕ, ◌+◌, ◌-◌, ◌*�
 use Rattle.std.specs.Prelude.{Option, Some, None, Ok, is_some, ◌==◌, ◌&&◌, slice_set, if◌then◌else◌}
 use Rattle.std.specs.Option.{option_map}
 use Rattle.std.proofs.Math.Nat.{div-add-mod}
+use Rattle.std.proofs.lemmas.Nat.{le-div, pow-add}
 use Rattle.std.proofs.lemmas.Bool.{cases_lt, both_ways}
 use Rattle.std.proofs.lemmas.Bool.Decides.{nat_tests}
 use Rattle.std.proofs.lemmas.List.{get_or-set_same, get_or-replicate, get_or_default, length-set}
@@ -17,6 +18,8 @@ use Rattle.fv_tables.proofs.Pointers.{past, no_block}
 use Rattle.fv_codec.specs.declared.pointer.Pointer.{Pointer}
 use Rattle.fv_inode.specs.Files.{AreRecords, blank_record}
 use Rattle.fv_tree.specs.Writing.{IsAlike}
+use Rattle.fv_tree.specs.Costs.{is_kept, load_cost, place_cost, cost_below, way_cost}
+use Rattle.fv_tree.proofs.Levels.{fan_pos}
 use Rattle.fv_codec.specs.Fields.{name_filled, all_name, all_zero}
 
 -- ---- numbers
@@ -79,6 +82,26 @@ no_cell t cell far =
     let whole : fan ^ (t.levels - 0) ≡ fan ^ t.levels = ap (λ k. fan ^ k) (let e : t.levels - 0 ≡ t.levels = omega arith in e) in
     no_block t cell (ap (λ (p : Pointer). p.stamp) (past t 0 cell (omega (arith, far, whole))))
 
+-- nor does a way to one cost a look-up
+hole_cost : (cost : Pointer → ℕ) (kept : Bool) (p : Pointer) → p.stamp ≡ 0 → load_cost cost kept p ≡ 0
+hole_cost cost true p none = refl
+hole_cost cost false p none = let test : (p.stamp == 0) ≡ true = grind (arith, nat_tests, none) in rw test refl
+
+pub no_way : (cost : Pointer → ℕ) (t : Rooted) (cell : ℕ) → fan ^ t.levels ≤ cell → way_cost cost t cell ≡ 0
+unfolding cost_below
+no_way cost t cell far = below (suc t.levels) (omega arith)
+  where
+    none : (level : ℕ) → level ≤ t.levels → place_cost cost t level (cell / fan ^ level) ≡ 0
+    none level low =
+        let whole : (t.levels - level) + level ≡ t.levels = omega (arith, low) in
+        let parts : fan ^ (t.levels - level) * fan ^ level ≡ fan ^ t.levels = sym (pow-add fan (t.levels - level) level) ∙ ap (λ k. fan ^ k) whole in
+        let wide : fan ^ (t.levels - level) ≤ cell / fan ^ level = le-div (fan ^ (t.levels - level)) cell (fan ^ level) (fan_pos level) (omega (arith, parts, far)) in
+        hole_cost cost (is_kept t level (cell / fan ^ level)) (pointer_at t level (cell / fan ^ level)) (ap (λ (p : Pointer). p.stamp) (past t level (cell / fan ^ level) wide))
+
+    below : (k : ℕ) → k ≤ suc t.levels → cost_below cost t cell k ≡ 0
+    below zero le = refl
+    below (suc k) le = λ i. none k (omega (arith, le)) i + below k (omega (arith, le)) i
+
 -- a blank record is in range
 pub blank_fits : IsInodeRecord blank_record
 unfolding name_filled all_name all_zero
@@ -99,7 +122,7 @@ alike_files old new alike n = ap (λ b. used_record (get_or (records_in b) (n % 
 
 -- ---- blocks with a record in use
 
-used_name : (r : InodeRecord) → is_some (used_record r) ≡ true → r.name_length ≢ 0
+pub used_name : (r : InodeRecord) → is_some (used_record r) ≡ true → r.name_length ≢ 0
 used_name r some none = let test : (r.name_length == 0) ≡ true = grind (arith, nat_tests, none) in absurd (both_ways (is_some (used_record r)) (rw test refl) some)
 
 -- another record of the same name

@@ -1,6 +1,6 @@
 -- What taking a file away does: to the files beside it, and to the blocks of the tree.
 use Rattle.std.proofs.Common.{◌≡◌, ◌≢◌, ℕ, zero, suc, ◌+◌, ◌*◌, ◌/◌, ◌%◌, ◌^◌, ◌<◌, ◌≤◌, ◌⊎◌, Bool, true, false, cond, List, [], ◌∷◌, length, get_or, nat_eq, refl, sym, ap, ◌∙◌, arith, inl, inr, subst, ⊎_elim}
-use Rattle.std.specs.Prelude.{Option, Some, None, is_some, slice_set, ◌==◌, ◌&&◌}
+use Rattle.std.specs.Prelude.{Option, Some, None, Ok, is_some, slice_set, ◌==◌, ◌&&◌}
 use Rattle.std.proofs.lemmas.Bool.{cases_eq, cases_lt, both_ways, and_parts}
 use Rattle.std.proofs.lemmas.Bool.Decides.{nat_tests}
 use Rattle.std.proofs.lemmas.List.{get_or-set_same, get_or-set_other, length-set}
@@ -11,10 +11,22 @@ use Rattle.fv_model.specs.Trees.{fan}
 use Rattle.fv_tables.specs.Spelled.{Rooted, pointer_at, stamp_in, block_at}
 use Rattle.fv_tables.specs.Told.{records_in, free_record, used_record, file_at}
 use Rattle.fv_tables.proofs.Pointers.{above}
+use Rattle.fv_tree.specs.declared.kept.Tree.{Tree}
+use Rattle.fv_tree.specs.Sources.{Shown}
+use Rattle.fv_tree.specs.Standing.{standing, under}
 use Rattle.fv_tree.specs.Writing.{IsWritten}
 use Rattle.fv_tree.specs.Erasing.{Erases, IsErased}
+use Rattle.fv_tree.specs.Releasing.{IsDropped}
+use Rattle.fv_tree.specs.Flushing.{loaded, Stands}
+use Rattle.fv_tree.specs.Leading.{LeadsNoMore}
+use Rattle.fv_tree.specs.Readying.{IsReady}
+use Rattle.fv_tree.specs.Removal.{Removal}
+use Rattle.fv_tree.proofs.Causes.{calm_itself, untouched_itself}
+use Rattle.fv_tree.proofs.Readied.{ready_stands}
 use Rattle.fv_inode.specs.Files.{AreRecords, blank_record}
-use Rattle.fv_inode.specs.Changing.{WritesFiles, Rewrites, HasNeighbor, Takes}
+use Rattle.fv_inode.specs.Changing.{WritesFiles, Rewrites, HasNeighbor, Takes, TakesFile}
+use Rattle.fv_inode.proofs.Looked.{releases_none}
+use Rattle.fv_inode.proofs.Counted.{written_count}
 use Rattle.fv_inode.proofs.Slots.{cell_of, own_record}
 use Rattle.fv_inode.proofs.Rewritten.{rewrites}
 
@@ -143,3 +155,48 @@ module _ (t : Rooted) (n : ℕ) (fs : List InodeRecord) (r : InodeRecord) (long 
   taken_with some u s wrote =
       let now : Rewrites t u n s None = subst (Rewrites t u n s) (blank_none r free) (rewrites t u n s fs r long are wrote) in
       record { files = now.files; tree = inl (neighbor some, now) }
+
+-- ---- the whole change, over blocks
+
+pub takes_last : (told calls : Type 0) (old new : Shown) (t u : Tree) (n s count : ℕ) (fs : List InodeRecord) (r : InodeRecord) → length fs ≡ 16 → AreRecords (standing (under old) t) (n / 16) fs → r ≡ blank_record
+    → all_free (slice_set fs (n % 16) r) ≡ true → Removal told calls old new t u (nat_eq (n / 16)) 0 s (Ok count) → TakesFile told calls old new t u n s (Ok count)
+takes_last told calls old new t u n s count fs r long are free all removal = record {
+  removed = λ is sound holds. taken_last (standing (under old) t) n fs r long are free all (standing (under new) u) s (removal.erased is sound) (removal.place_by_place is sound holds);
+  count = removal.count;
+  strays = removal.strays;
+  room = removal.room;
+  released = removal.released;
+  leads = removal.leads;
+  lets_go = removal.lets_go;
+  failed = λ is. tt;
+  owner = removal.owner;
+  stands = removal.stands;
+  untouched = tt;
+  called = removal.called;
+  counts = removal.counts;
+  cause = tt;
+}
+
+pub takes_with : (told calls : Type 0) (source : Shown) (t u : Tree) (n s : ℕ) (fs : List InodeRecord) (r : InodeRecord) → length fs ≡ 16 → AreRecords (standing (under source) t) (n / 16) fs → r ≡ blank_record
+    → all_free (slice_set fs (n % 16) r) ≡ false → WritesFiles (standing (under source) t) (standing (under source) u) (n / 16) s (slice_set fs (n % 16) r) → IsReady t (n / 16) → u.levels ≡ t.levels → u.owner ≡ t.owner → (Stands source t → Stands source u)
+    → LeadsNoMore (loaded source t) (loaded source u) → LeadsNoMore (loaded source u) (loaded source t) → calls → TakesFile told calls source source t u n s (Ok 0)
+takes_with told calls source t u n s fs r long are free some wrote ready levels owner sound leads keeps called = record {
+  removed = λ is stands holds. taken_with (standing (under source) t) n fs r long are free some (standing (under source) u) s wrote;
+  count = λ is stands.
+      let same = written_count (standing (under source) t) (standing (under source) u) (n / 16) s wrote.block wrote.place_by_place levels (ready_stands (under source) t (n / 16) ready) in
+      omega (arith, same);
+  strays = λ is stands. refl;
+  room = omega arith;
+  released = λ is. releases_none source source (IsDropped (under source) t u)
+      (λ v drops. still_stands (standing (under source) t) (standing (under source) u) (n / 16) s wrote.block wrote.place_by_place drops.level drops.place drops.led.some drops.goes)
+      (untouched_itself source) (calm_itself source);
+  leads = λ is stands. leads;
+  lets_go = λ is stands level place v led. inl (keeps level place v led);
+  failed = λ is. tt;
+  owner = owner;
+  stands = λ is. sound;
+  untouched = tt;
+  called = called;
+  counts = record { faults = omega arith; damages = omega arith; spent = omega arith; calm = calm_itself source };
+  cause = tt;
+}

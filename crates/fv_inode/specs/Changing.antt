@@ -1,16 +1,25 @@
 -- What the changes of an inode file do: to the records of its files, and to its tree.
-use Rattle.std.specs.Prelude.{◌≡◌, ◌⊎◌, ◌/◌, ◌≢◌, ℕ, true, cond, nat_eq, List, Option, Some, None, Ok}
+use Rattle.std.specs.Prelude.{◌≡◌, ◌⊎◌, ◌+◌, ◌/◌, ◌≢◌, ◌≤◌, ℕ, true, cond, nat_eq, List, Option, Some, None, Result, Ok, IfOk, IfErr, OnOk, OnErr}
 use Rattle.std.specs.Option.{option_map}
+use Rattle.fv_disk.specs.declared.fault.BlockFault.{BlockFault}
 use Rattle.fv_codec.specs.declared.pointer.Pointer.{Pointer}
 use Rattle.fv_codec.specs.declared.inode.InodeRecord.{InodeRecord}
 use Rattle.fv_codec.specs.Blocks.{inodes_at}
 use Rattle.fv_tables.specs.Spelled.{Rooted}
 use Rattle.fv_tables.specs.Told.{records_each, file_at}
-use Rattle.fv_tree.specs.Writing.{IsWritten, Writes}
+use Rattle.fv_tree.specs.declared.kept.Tree.{Tree}
+use Rattle.fv_tree.specs.Sources.{Shown, Counts, IsUntouched}
+use Rattle.fv_tree.specs.Standing.{standing, under}
+use Rattle.fv_tree.specs.Writing.{IsWritten, Remains, Writes}
 use Rattle.fv_tree.specs.Refilling.{IsRefilled, Refills}
-use Rattle.fv_tree.specs.Erasing.{Erases}
+use Rattle.fv_tree.specs.Erasing.{Erases, HoldsCells}
+use Rattle.fv_tree.specs.Releasing.{IsDropped, Releases}
+use Rattle.fv_tree.specs.Flushing.{Leads, loaded, Stands}
+use Rattle.fv_tree.specs.Leading.{LeadsNoMore}
+use Rattle.fv_tree.specs.Counting.{positions_of}
 use Rattle.fv_inode.specs.declared.info.Info.{Info}
 use Rattle.fv_inode.specs.Files.{info_of, new_record, with_root, IsLeastFree}
+use Rattle.fv_inode.specs.Failing.{InodeFails}
 
 -- A change with the stamp s wrote a cell, with an inode block of these records.
 pub record WritesFiles (old new : Rooted) (cell s : ℕ) (files : List InodeRecord) : Type 0 where
@@ -48,6 +57,25 @@ pub record HasNeighbor (t : Rooted) (n : ℕ) : Type 0 where
 pub record Takes (old new : Rooted) (n s : ℕ) : Type 0 where
   pub files : (k : ℕ) → file_at new k ≡ cond (nat_eq k n) None (file_at old k)
   pub tree : (HasNeighbor old n × Rewrites old new n s None) ⊎ ((HasNeighbor old n → ⊥) × Erases old new (nat_eq (n / records_each)) 0 s)
+
+-- File n was taken away by a change with the stamp s, and so many positions of the inode file went, its cell and marks. After a fault the inode file is seen as before, and no block was named as gone. The room doesn't fall.
+-- `calls` says what the calls to the blocks were, and `told` whether content is told.
+pub record TakesFile (told calls : Type 0) (old new : Shown) (t u : Tree) (n s : ℕ) (result : Result ℕ BlockFault) : Type 0 where
+  pub removed : told → OnOk result (Stands old t → HoldsCells (standing (under old) t) → Takes (standing (under old) t) (standing (under new) u) n s)
+  pub count : told → IfOk result (λ count. Stands old t → positions_of (standing (under old) t) ≡ positions_of (standing (under new) u) + count)
+  pub strays : told → Stands old t → new.strays ≡ old.strays
+  pub room : old.room ≤ new.room
+  pub released : told → OnOk result (Releases old new (IsDropped (under old) t u))
+  pub leads : told → Stands old t → LeadsNoMore (loaded old t) (loaded new u)
+  -- what the tree doesn't lead to any more is out of use
+  pub lets_go : told → Stands old t → (level place v : ℕ) → Leads (loaded old t) level place v → Leads (loaded new u) level place v ⊎ (new.used v ≡ None)
+  pub failed : told → OnErr result (Remains (standing (under old) t) (standing (under new) u))
+  pub owner : u.owner ≡ t.owner
+  pub stands : told → Stands old t → Stands new u
+  pub untouched : OnErr result (IsUntouched old new)
+  pub called : calls
+  pub counts : Counts old new result
+  pub cause : IfErr result (InodeFails told (standing (under old) t) old new)
 
 -- A cell that stands got an inode block of these records, under the stamp that it has.
 pub record FillsFiles (old new : Rooted) (cell : ℕ) (files : List InodeRecord) : Type 0 where

@@ -1,13 +1,17 @@
 -- Why calls of an inode file fail, and what those that only read leave.
-use Rattle.std.specs.Prelude.{◌≡◌, ◌⊎◌, ℕ, List, Some, Result, Err, IfErr}
+use Rattle.std.specs.Prelude.{◌≡◌, ◌⊎◌, ℕ, List, Some, Result, Err, IfErr, OnErr}
 use Rattle.fv_disk.specs.declared.fault.BlockFault.{BlockFault}
 use Rattle.fv_disk.specs.declared.fault.BlockFault.TheVariants.{Damaged}
 use Rattle.fv_codec.specs.declared.shape.Shape.{Shape}
 use Rattle.fv_codec.specs.Blocks.{inodes_at}
 use Rattle.fv_tables.specs.Spelled.{Rooted, block_at}
+use Rattle.fv_tree.specs.declared.kept.Tree.{Tree}
 use Rattle.fv_tree.specs.Sources.{Shown, IsCalm, IsUntouched, Counts}
-use Rattle.fv_tree.specs.Standing.{Fails}
+use Rattle.fv_tree.specs.Standing.{standing, under, Fails}
 use Rattle.fv_tree.specs.Reading.{cell_read_at}
+use Rattle.fv_tree.specs.Writing.{Remains}
+use Rattle.fv_tree.specs.Flushing.{loaded, Stands}
+use Rattle.fv_tree.specs.Leading.{LeadsNoMore}
 
 -- A block hasn't the shape of an inode block: the place where it was read, and its first field that isn't as said. Where content is
 -- told it is that of a cell.
@@ -30,3 +34,13 @@ pub record Looks {T : Type 0} (told : Type 0) (t : Rooted) (old new : Shown) (re
   pub untouched : IsUntouched old new
   pub counts : Counts old new result
   pub cause : IfErr result (InodeFails told t old new)
+
+-- What a call leaves that changes a tree and only loads, whether it was done or failed. After a fault the tree is seen as before.
+pub record Alters {T : Type 0} (told : Type 0) (old new : Shown) (t u : Tree) (result : Result T BlockFault) : Type 0 where
+  pub failed : told → OnErr result (Remains (standing (under old) t) (standing (under new) u))
+  pub owner : u.owner ≡ t.owner
+  pub stands : told → Stands old t → Stands new u
+  -- it leads to the same blocks
+  pub leads : told → LeadsNoMore (loaded old t) (loaded new u)
+  pub keeps : told → LeadsNoMore (loaded new u) (loaded old t)
+  pub looks : Looks told (standing (under old) t) old new result

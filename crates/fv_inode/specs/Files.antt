@@ -3,6 +3,7 @@ use Rattle.std.specs.Prelude.{◌≡◌, ℕ, ◌+◌, ◌*◌, ◌<◌, ◌≤�
 use Rattle.fv_codec.specs.declared.pointer.Pointer.{Pointer}
 use Rattle.fv_codec.specs.declared.inode.InodeRecord.{InodeRecord}
 use Rattle.fv_codec.specs.Blocks.{IsPointer, most_cells}
+use Rattle.fv_model.specs.Numbers.{most_files}
 use Rattle.fv_model.specs.Spelling.{is_same_name}
 use Rattle.fv_model.specs.Trees.{least_levels}
 use Rattle.fv_tables.specs.Spelled.{Rooted, hole}
@@ -115,3 +116,18 @@ FindsBelow t name bound (Some info) = IsFirst t name info
 pub record IsLeastFree (t : Rooted) (n : ℕ) : Type 0 where
   pub free : file_at t n ≡ None
   pub least : (k : ℕ) → k < n → is_some (file_at t k) ≡ true
+
+-- the least number that no file has, or none where all below 262,144 are taken
+abbrev pub IsFreeNumber : Rooted → Option ℕ → Type 0
+IsFreeNumber t None = (n : ℕ) → n < most_files → is_some (file_at t n) ≡ true
+IsFreeNumber t (Some n) = IsLeastFree t n
+
+-- a file's number is in its range
+abbrev pub IsNumberIf : Option ℕ → Type 0
+IsNumberIf None = Unit {0}
+IsNumberIf (Some n) = n < most_files
+
+-- All numbers below this one are taken, and it is free, where it is below 262,144.
+pub record IsFirstFree (t : Rooted) (n : ℕ) : Type 0 where
+  pub least : (k : ℕ) → k < n → is_some (file_at t k) ≡ true
+  pub free : n < most_files → file_at t n ≡ None

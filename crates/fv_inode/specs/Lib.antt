@@ -2,3 +2,4 @@ pub mod Files
 pub mod Failing
 pub mod Changing
 pub mod Listing
+pub mod Readying

@@ -1,29 +1,34 @@
 //! Changing what is known of a file.
 
-ghost use Rattle.std.specs.Prelude.{◌≡◌, ◌≤◌, ◌<◌, true, is_some, OnOk, OnErr, IfErr};
+ghost use Rattle.std.specs.Prelude.{◌≡◌, ◌≤◌, ◌+◌, ℕ, Option, true, is_some, OnOk};
 ghost use Rattle.std.specs.Option.{option_map};
+ghost use Rattle.fv_tables.specs.Spelled.{Under};
 ghost use Rattle.fv_tables.specs.Told.{file_at};
-ghost use Rattle.fv_tree.specs.Writing.{Remains};
-ghost use Rattle.fv_tree.specs.Flushing.{Stands};
+ghost use Rattle.fv_tree.specs.Sources.{Use};
+ghost use Rattle.fv_tree.specs.Standing.{standing};
+ghost use Rattle.fv_tree.specs.Flushing.{loaded_over, IsSound};
+ghost use Rattle.fv_tree.specs.Leading.{LeadsNoMore};
+ghost use Rattle.fv_tree.specs.Costs.{pending};
 ghost use Rattle.fv_inode.specs.Files.{rooted, with_info, IsInfo};
-ghost use Rattle.fv_inode.specs.Failing.{Looks};
+ghost use Rattle.fv_inode.specs.Failing.{Alters};
+ghost use Rattle.fv_inode.specs.Readying.{IsReadyFile};
 ghost use Rattle.fv_inode.specs.Changing.{Rewrites};
 
 use crate::file::InodeFile;
 use crate::info::{Info, InodeFault};
-use crate::records::{EACH, read_files, write_files};
+use crate::records::{EACH, held_files, rewrite_files};
 use fv_codec::InodeRecord;
 use fv_tree::Blocks;
 
 impl InodeFile {
     /// Lets the record of a file say this of it; its name stays. The file's inode cell and the marks over it get the
     /// stamp, which is at least 1. A file has the number; over content that isn't told, one that has no file changes
-    /// nothing. It loads at most the file's inode block and the nodes over it, once for the read and once for the
-    /// write. Those nodes and the inode block stay in memory. After a fault the inode file is seen as before.
+    /// nothing. It loads as `ready` does. Those nodes and the inode block stay in memory. After a fault the inode file
+    /// is seen as before.
     ///
     /// # Errors
     ///
-    /// As `find`, and `Memory` where there is no memory for the nodes and the inode block.
+    /// As `ready`.
     pub fn change<B: Blocks>(
         &mut self,
         blocks: &mut B,
@@ -34,20 +39,38 @@ impl InodeFile {
         requires there { B.told → is_some (file_at (rooted (B.shown blocks.old) self.old) info.now.number) ≡ true }
         requires info { IsInfo info.now }
         ensures changed { B.told → OnOk result (Rewrites (rooted (B.shown blocks.old) self.old) (rooted (B.shown blocks.new) self.new) info.now.number stamp (option_map (with_info info.now) (file_at (rooted (B.shown blocks.old) self.old) info.now.number))) }
-        ensures failed { B.told → OnErr result (Remains (rooted (B.shown blocks.old) self.old) (rooted (B.shown blocks.new) self.new)) }
-        ensures owner { self.new.tree.owner ≡ self.old.tree.owner }
-        ensures stands { B.told → Stands (B.shown blocks.old) self.old.tree → Stands (B.shown blocks.new) self.new.tree }
-        ensures looks { Looks B.told (rooted (B.shown blocks.old) self.old) (B.shown blocks.old) (B.shown blocks.new) result }
+        ensures alters { Alters B.told (B.shown blocks.old) (B.shown blocks.new) self.old.tree self.new.tree result }
+        ensures pending { pending self.new.tree ≤ pending self.old.tree + 4 }
         ensures reads { B.reads blocks.old blocks.new }
+    {
+        let there = self.ready(blocks, info.number)?;
+        if !there {
+            return Ok(());
+        }
+        self.rewrite(info, stamp);
+        Ok(())
+    }
+
+    /// Lets the record of a file say this of it, where `ready` brought it into memory; its name stays. The file's inode
+    /// cell and the marks over it get the stamp, which is at least 1. It takes no memory, makes no call and can't fail.
+    pub fn rewrite(&mut self, info: &Info, stamp: u64)
+        requires stamp { 1 ≤ stamp }
+        requires ready { IsReadyFile self.old info.now.number }
+        requires info { IsInfo info.now }
+        ensures rewrites { (blocks : Under) → Rewrites (standing blocks self.old.tree) (standing blocks self.new.tree) info.now.number stamp (option_map (with_info info.now) (file_at (standing blocks self.old.tree) info.now.number)) }
+        ensures ready { IsReadyFile self.new info.now.number }
+        ensures owner { self.new.tree.owner ≡ self.old.tree.owner }
+        ensures levels { self.new.tree.levels ≡ self.old.tree.levels }
+        ensures sound { (blocks : Under) (used : ℕ → Option Use) → IsSound used (loaded_over blocks self.old.tree) → IsSound used (loaded_over blocks self.new.tree) }
+        ensures leads { (blocks : Under) → LeadsNoMore (loaded_over blocks self.old.tree) (loaded_over blocks self.new.tree) }
+        ensures keeps { (blocks : Under) → LeadsNoMore (loaded_over blocks self.new.tree) (loaded_over blocks self.old.tree) }
+        ensures pending { pending self.new.tree ≤ pending self.old.tree }
     {
         let cell = info.number / EACH;
         let slot = (info.number % EACH) as usize;
-        let mut files = read_files(&self.tree, blocks, cell)?;
-        if files[slot].name_length == 0 {
-            return Ok(());
-        }
+        let mut files = held_files(&self.tree, cell);
         files[slot] = with_info(&files[slot], info);
-        write_files(&mut self.tree, blocks, cell, &files, stamp)
+        rewrite_files(&mut self.tree, cell, &files, stamp);
     }
 }
 

@@ -1,17 +1,18 @@
 //! Making a file.
 
-ghost use Rattle.std.specs.Prelude.{◌≡◌, ◌≤◌, ◌<◌, ◌-◌, ◌/◌, ◌^◌, ◌++◌, ℕ, true, None, Some, is_some, get_or, IfOk, OnErr, length, replicate};
+ghost use Rattle.std.specs.Prelude.{◌≡◌, ◌≤◌, ◌<◌, ◌+◌, ◌-◌, ◌/◌, ◌^◌, ◌++◌, ℕ, true, None, Some, is_some, get_or, IfOk, length, replicate};
 ghost use Rattle.std.specs.List.{All};
 ghost use Rattle.fv_codec.specs.Blocks.{IsInodeRecord, most_cells};
+ghost use Rattle.fv_model.specs.Numbers.{most_files};
 ghost use Rattle.fv_model.specs.Spelling.{is_name};
 ghost use Rattle.fv_model.specs.Trees.{fan, least_levels};
 ghost use Rattle.fv_tables.specs.Spelled.{Rooted};
 ghost use Rattle.fv_tables.specs.Told.{records_each, free_record, used_record, file_at};
 ghost use Rattle.fv_tree.specs.Standing.{standing, under};
-ghost use Rattle.fv_tree.specs.Writing.{Remains};
-ghost use Rattle.fv_tree.specs.Flushing.{Stands};
-ghost use Rattle.fv_inode.specs.Files.{rooted, AreRecords, IsInfo, IsLeastFree, new_record};
-ghost use Rattle.fv_inode.specs.Failing.{Looks};
+ghost use Rattle.fv_tree.specs.Counting.{added_at};
+ghost use Rattle.fv_tree.specs.Costs.{pending};
+ghost use Rattle.fv_inode.specs.Files.{rooted, AreRecords, IsFirstFree, IsFreeNumber, IsInfo, IsNumberIf, new_record};
+ghost use Rattle.fv_inode.specs.Failing.{Alters, Looks};
 ghost use Rattle.fv_inode.specs.Changing.{Makes};
 
 use crate::file::InodeFile;
@@ -21,6 +22,9 @@ use crate::records::{EACH, HOLE, cells, free_files, read_files, write_files};
 use fv_codec::InodeRecord;
 use fv_model::Name;
 use fv_tree::{Blocks, Tree};
+
+/// How many numbers of files there are.
+const MOST_FILES: u32 = 262_144;
 
 /// How many cells the greatest inode file has.
 const MOST_CELLS: u32 = 16_384;
@@ -48,10 +52,8 @@ impl InodeFile {
         requires free { B.told → (n : ℕ) × (n < 262144) × (file_at (rooted (B.shown blocks.old) self.old) n ≡ None) }
         ensures made { B.told → IfOk result (Makes (rooted (B.shown blocks.old) self.old) (rooted (B.shown blocks.new) self.new) name.now reserve stamp) }
         ensures range { IfOk result IsInfo }
-        ensures failed { B.told → OnErr result (Remains (rooted (B.shown blocks.old) self.old) (rooted (B.shown blocks.new) self.new)) }
-        ensures owner { self.new.tree.owner ≡ self.old.tree.owner }
-        ensures stands { B.told → Stands (B.shown blocks.old) self.old.tree → Stands (B.shown blocks.new) self.new.tree }
-        ensures looks { Looks B.told (rooted (B.shown blocks.old) self.old) (B.shown blocks.old) (B.shown blocks.new) result }
+        ensures alters { Alters B.told (B.shown blocks.old) (B.shown blocks.new) self.old.tree self.new.tree result }
+        ensures pending { pending self.new.tree ≤ pending self.old.tree + 6 }
         ensures reads { B.reads blocks.old blocks.new }
     {
         let (number, mut files) = find_free(&self.tree, blocks)?;
@@ -60,16 +62,60 @@ impl InodeFile {
         write_files(&mut self.tree, blocks, number / EACH, &files, stamp)?;
         Ok(info_of(number, &file))
     }
+
+    /// The least free number, which a `create` takes, below 262,144; `None` exactly where none is free. It reads as
+    /// `create` does and keeps nothing in memory.
+    ///
+    /// # Errors
+    ///
+    /// As `find`.
+    pub fn free_number<B: Blocks>(&self, blocks: &mut B) -> Result<Option<u32>, InodeFault>
+        ensures number { B.told → IfOk result (IsFreeNumber (rooted (B.shown blocks.old) self.now)) }
+        ensures range { IfOk result IsNumberIf }
+        ensures looks { Looks B.told (rooted (B.shown blocks.old) self.now) (B.shown blocks.old) (B.shown blocks.new) result }
+        ensures reads { B.reads blocks.old blocks.new }
+    {
+        let (number, _) = find_free(&self.tree, blocks)?;
+        Ok(within(number))
+    }
+
+    /// How many positions of the inode file, cells and marks, a write of the record of a number below 262,144 would
+    /// add: at most 6. It loads at most the nodes over the file's inode block.
+    ///
+    /// # Errors
+    ///
+    /// As `find`.
+    pub fn added<B: Blocks>(&self, blocks: &mut B, number: u32) -> Result<u32, InodeFault>
+        requires number { number < most_files }
+        ensures added { B.told → IfOk result (λ count. count ≡ added_at (rooted (B.shown blocks.old) self.now) (number / records_each)) }
+        ensures few { IfOk result (λ count. count ≤ 6) }
+        ensures looks { Looks B.told (rooted (B.shown blocks.old) self.now) (B.shown blocks.old) (B.shown blocks.new) result }
+        ensures reads { B.reads blocks.old blocks.new }
+    {
+        self.tree.added(blocks, number / EACH)
+    }
 }
 
-/// The least free number, and the records of its inode block. A number below 262,144 is free.
+/// A number, where it is one of a file.
+fn within(number: u32) -> Option<u32>
+    ensures some { number < most_files → result ≡ Some number }
+    ensures none { most_files ≤ number → result ≡ None }
+    ensures range { IsNumberIf result }
+{
+    if number < MOST_FILES {
+        Some(number)
+    } else {
+        None
+    }
+}
+
+/// The first number that is free, or 262,144 where none below is, and the records of its inode block.
 fn find_free<B: Blocks>(tree: &Tree, blocks: &mut B) -> Result<(u32, [InodeRecord; 16]), InodeFault>
-    requires free { B.told → (n : ℕ) × (n < 262144) × (file_at (standing (under (B.shown blocks.old)) tree.now) n ≡ None) }
-    ensures number { B.told → IfOk result (λ found. IsLeastFree (standing (under (B.shown blocks.old)) tree.now) found.0) }
-    ensures files { B.told → IfOk result (λ found. AreRecords (standing (under (B.shown blocks.old)) tree.now) (found.0 / records_each) found.1) }
+    ensures number { B.told → IfOk result (λ found. IsFirstFree (standing (under (B.shown blocks.old)) tree.now) found.0) }
+    ensures files { B.told → IfOk result (λ found. found.0 < most_files → AreRecords (standing (under (B.shown blocks.old)) tree.now) (found.0 / records_each) found.1) }
     ensures range { IfOk result (λ found. All IsInodeRecord found.1) }
     ensures long { IfOk result (λ found. length found.1 ≡ 16) }
-    ensures bound { IfOk result (λ found. found.0 ≤ 262144) }
+    ensures bound { IfOk result (λ found. found.0 ≤ most_files) }
     ensures looks { Looks B.told (standing (under (B.shown blocks.old)) tree.now) (B.shown blocks.old) (B.shown blocks.new) result }
     ensures reads { B.reads blocks.old blocks.new }
 {
@@ -139,7 +185,7 @@ fn padded(bytes: &[u8]) -> [u8; 64]
 }
 
 /// The least number of levels that hold so many cells.
-fn least_levels(cells: u32) -> u8
+pub fn least_levels(cells: u32) -> u8
     requires { cells ≤ most_cells }
     ensures least { result ≡ least_levels cells }
     ensures few { result ≤ 3 }

@@ -1,6 +1,6 @@
 //! An inode file as a tree of inode blocks.
 
-ghost use Rattle.std.specs.Prelude.{◌≡◌, ◌≤◌, ℕ, Option, IfOk, IfErr, OnOk, OnErr};
+ghost use Rattle.std.specs.Prelude.{◌≡◌, ◌≤◌, ◌+◌, ℕ, Option, IfOk, IfErr, OnOk, OnErr};
 ghost use Rattle.std.specs.FinMap as fin;
 ghost use Rattle.fv_codec.specs.Blocks.{IsPointer, greatest_word};
 ghost use Rattle.fv_tables.specs.Spelled.{Under, hole, stored};
@@ -8,6 +8,7 @@ ghost use Rattle.fv_tables.specs.Told.{file_at};
 ghost use Rattle.fv_tree.specs.Sources.{Counts, HasCause, Use};
 ghost use Rattle.fv_tree.specs.Standing.{standing, under, Shows};
 ghost use Rattle.fv_tree.specs.Writing.{Remains};
+ghost use Rattle.fv_tree.specs.Costs.{pending, Fits, IsEnough};
 ghost use Rattle.fv_tree.specs.Flushing.{loaded, loaded_over, Flushes, IsSound, IsLeft, ReachesOnce, Stands};
 ghost use Rattle.fv_inode.specs.Files.{rooted};
 
@@ -33,6 +34,7 @@ impl InodeFile {
         ensures stored { (blocks : Under) → standing blocks result.tree ≡ stored blocks greatest_word 0 hole }
         ensures seen { (blocks : Under) → Shows (standing blocks result.tree) (record { levels = 0; stamps = fin.empty }) fin.empty }
         ensures stands { (blocks : Under) (used : ℕ → Option Use) → IsSound used (loaded_over blocks result.tree) }
+        ensures pending { pending result.tree ≡ 0 }
     {
         InodeFile {
             tree: Tree::new(alloc, INODE_FILE, 0),
@@ -46,6 +48,7 @@ impl InodeFile {
         requires root { IsPointer root }
         ensures stored { (blocks : Under) → standing blocks result.tree ≡ stored blocks greatest_word levels root }
         ensures stands { (blocks : Under) (used : ℕ → Option Use) → ReachesOnce used (stored blocks greatest_word levels root) → IsSound used (loaded_over blocks result.tree) }
+        ensures pending { pending result.tree ≡ 0 }
     {
         InodeFile {
             tree: Tree::at(alloc, INODE_FILE, levels, root),
@@ -58,6 +61,14 @@ impl InodeFile {
         ensures { result ≡ self.now.tree.levels }
     {
         self.tree.levels()
+    }
+
+    /// How many inode blocks and nodes in memory differ from their blocks: a `flush` places at most so many. It walks
+    /// the nodes in memory, takes no memory and makes no call.
+    pub fn pending(&self) -> u64
+        ensures { result ≡ pending self.now.tree }
+    {
+        self.tree.pending()
     }
 
     /// Places each inode block and each node that changed since the last `flush` once, a node after all that it
@@ -74,6 +85,10 @@ impl InodeFile {
         ensures remains { B.told → Stands (B.shown blocks.old) self.old.tree → Remains (rooted (B.shown blocks.old) self.old) (rooted (B.shown blocks.new) self.new) }
         ensures files { B.told → Stands (B.shown blocks.old) self.old.tree → (n : ℕ) → file_at (rooted (B.shown blocks.new) self.new) n ≡ file_at (rooted (B.shown blocks.old) self.old) n }
         ensures left { IsLeft self.old.tree self.new.tree }
+        ensures fits { B.told → Stands (B.shown blocks.old) self.old.tree → Fits (B.shown blocks.old) self.old.tree (B.shown blocks.new) self.new.tree }
+        ensures enough { B.told → Stands (B.shown blocks.old) self.old.tree → IsEnough (pending self.old.tree) (B.shown blocks.old).room result }
+        ensures spent { (B.shown blocks.new).spent ≡ (B.shown blocks.old).spent }
+        ensures pending { OnOk result (pending self.new.tree ≡ 0) }
         ensures root { IfOk result (λ root. root ≡ self.new.tree.root) }
         ensures pointer { IfOk result IsPointer }
         ensures stored { IfOk result (λ root. rooted (B.shown blocks.new) self.new ≡ stored (under (B.shown blocks.new)) self.old.tree.owner self.old.tree.levels root) }

@@ -1,11 +1,13 @@
 //! Looking a file up by its name.
 
-ghost use Rattle.std.specs.Prelude.{◌≡◌, ◌≤◌, ◌<◌, ◌*◌, ◌+◌, IfOk};
+ghost use Rattle.std.specs.Prelude.{◌≡◌, ◌≤◌, ◌<◌, ◌*◌, ◌+◌, ◌/◌, IfOk, OnOk};
 ghost use Rattle.std.specs.List.{All};
+ghost use Rattle.std.specs.Option.{option_map};
 ghost use Rattle.fv_codec.specs.Blocks.{IsInodeRecord};
 ghost use Rattle.fv_tables.specs.Spelled.{Rooted};
-ghost use Rattle.fv_tables.specs.Told.{records_each};
+ghost use Rattle.fv_tables.specs.Told.{records_each, used_record, file_at};
 ghost use Rattle.fv_tree.specs.Standing.{standing, under};
+ghost use Rattle.fv_tree.specs.Costs.{way_cost};
 ghost use Rattle.fv_inode.specs.Files.{rooted, info_of, AreRecords, IsInfoIf, Finds, FindsBelow, HasNoneBelow};
 ghost use Rattle.fv_inode.specs.Failing.{Looks};
 
@@ -38,6 +40,36 @@ impl InodeFile {
         ensures reads { B.reads blocks.old blocks.new }
     {
         find_named(&self.tree, blocks, name)
+    }
+
+    /// What is known of the file of a number; `None` exactly where no file has it. It loads at most the file's inode
+    /// block and the nodes over it, and keeps nothing in memory.
+    ///
+    /// # Errors
+    ///
+    /// As `find`.
+    pub fn look<B: Blocks>(&self, blocks: &mut B, number: u32) -> Result<Option<Info>, InodeFault>
+        ensures found { B.told → IfOk result (λ found. found ≡ option_map (info_of number) (file_at (rooted (B.shown blocks.old) self.now) number)) }
+        ensures range { IfOk result IsInfoIf }
+        ensures spent { B.told → OnOk result ((B.shown blocks.new).spent ≡ (B.shown blocks.old).spent + way_cost (B.shown blocks.old).cost (rooted (B.shown blocks.old) self.now) (number / records_each)) }
+        ensures looks { Looks B.told (rooted (B.shown blocks.old) self.now) (B.shown blocks.old) (B.shown blocks.new) result }
+        ensures reads { B.reads blocks.old blocks.new }
+    {
+        let files = read_files(&self.tree, blocks, number / EACH)?;
+        Ok(info_in(number, &files[(number % EACH) as usize]))
+    }
+}
+
+/// What a record that isn't free says of a file.
+fn info_in(number: u32, file: &InodeRecord) -> Option<Info>
+    requires range { IsInodeRecord file.now }
+    ensures told { result ≡ option_map (info_of number) (used_record file.now) }
+    ensures range { IsInfoIf result }
+{
+    if file.name_length == 0 {
+        None
+    } else {
+        Some(info_of(number, file))
     }
 }
 

@@ -7,9 +7,11 @@ mod file;
 mod find;
 mod info;
 mod list;
+mod ready;
 mod records;
 mod remove;
 mod root;
 
+pub use create::least_levels;
 pub use file::InodeFile;
 pub use info::{Info, InodeFault};

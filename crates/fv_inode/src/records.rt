@@ -1,6 +1,6 @@
 //! The records of one inode block.
 
-ghost use Rattle.std.specs.Prelude.{◌≡◌, ◌≤◌, ◌<◌, ◌^◌, ℕ, Some, false, IfOk, IfErr, OnOk, OnErr, Ok, Err, length, replicate};
+ghost use Rattle.std.specs.Prelude.{◌≡◌, ◌≤◌, ◌<◌, ◌^◌, ◌+◌, ℕ, Option, Some, false, IfOk, IfErr, OnOk, Ok, Err, length, replicate};
 ghost use Rattle.std.specs.List.{All};
 ghost use Rattle.fv_codec.specs.declared.shape.Shape.{Shape};
 ghost use Rattle.fv_disk.specs.declared.fault.BlockFault.TheVariants.{Damaged};
@@ -8,12 +8,15 @@ ghost use Rattle.fv_codec.specs.Blocks.{all_free, inodes_at, IsInodeRecord};
 ghost use Rattle.fv_model.specs.Spelling.{is_same_name};
 ghost use Rattle.fv_model.specs.Trees.{fan};
 ghost use Rattle.fv_tables.specs.Told.{used_record, records_in};
-ghost use Rattle.fv_tree.specs.Sources.{Counts, IsUntouched};
-ghost use Rattle.fv_tree.specs.Standing.{standing, under, Fails};
-ghost use Rattle.fv_tree.specs.Writing.{Remains};
-ghost use Rattle.fv_tree.specs.Flushing.{Stands};
+ghost use Rattle.fv_tables.specs.Spelled.{Under};
+ghost use Rattle.fv_tree.specs.Sources.{Use};
+ghost use Rattle.fv_tree.specs.Standing.{standing, under};
+ghost use Rattle.fv_tree.specs.Flushing.{loaded_over, IsSound};
+ghost use Rattle.fv_tree.specs.Leading.{LeadsNoMore};
+ghost use Rattle.fv_tree.specs.Readying.{IsReady};
+ghost use Rattle.fv_tree.specs.Costs.{pending, way_cost};
 ghost use Rattle.fv_inode.specs.Files.{AreRecords, blank_record, has_name};
-ghost use Rattle.fv_inode.specs.Failing.{Looks};
+ghost use Rattle.fv_inode.specs.Failing.{Alters, Looks};
 ghost use Rattle.fv_inode.specs.Changing.{WritesFiles};
 
 use crate::info::InodeFault;
@@ -83,6 +86,7 @@ pub fn read_files<B: Blocks>(
     ensures range { IfOk result (All IsInodeRecord) }
     ensures long { IfOk result (λ files. length files ≡ 16) }
     ensures within { IfOk result (λ files. all_free files ≡ false → cell < 2097152) }
+    ensures spent { B.told → OnOk result ((B.shown blocks.new).spent ≡ (B.shown blocks.old).spent + way_cost (B.shown blocks.old).cost (standing (under (B.shown blocks.old)) tree.now) cell) }
     ensures few { tree.now.levels ≤ 3 }
     ensures looks { Looks B.told (standing (under (B.shown blocks.old)) tree.now) (B.shown blocks.old) (B.shown blocks.new) result }
     ensures reads { B.reads blocks.old blocks.new }
@@ -132,6 +136,22 @@ fn decoded(at: u32, block: &[u8; 4096]) -> Result<InodeBlock, InodeFault>
     }
 }
 
+/// The records of the inode block at a cell, which is in memory; free ones where it hasn't the shape of one.
+pub fn held_files(tree: &Tree, cell: u32) -> [InodeRecord; 16]
+    requires ready { IsReady tree.now cell }
+    ensures files { (blocks : Under) → AreRecords (standing blocks tree.now) cell result }
+    ensures range { All IsInodeRecord result }
+    ensures long { length result ≡ 16 }
+    ensures within { cell < 2097152 }
+{
+    let mut block = [0; 4096];
+    tree.content(cell, &mut block);
+    match files_of(0, &block) {
+        Ok(files) => files,
+        Err(_) => free_files(),
+    }
+}
+
 /// Writes the inode block at a cell below 2,097,152, of which not all records are free, with a stamp of at least 1.
 pub fn write_files<B: Blocks>(
     tree: &mut Tree,
@@ -145,16 +165,31 @@ pub fn write_files<B: Blocks>(
     requires range { All IsInodeRecord files.now }
     requires some { all_free files.now ≡ false }
     ensures written { B.told → OnOk result (WritesFiles (standing (under (B.shown blocks.old)) tree.old) (standing (under (B.shown blocks.new)) tree.new) cell stamp files.now) }
-    ensures failed { B.told → OnErr result (Remains (standing (under (B.shown blocks.old)) tree.old) (standing (under (B.shown blocks.new)) tree.new)) }
-    ensures owner { tree.new.owner ≡ tree.old.owner }
-    ensures stands { B.told → Stands (B.shown blocks.old) tree.old → Stands (B.shown blocks.new) tree.new }
-    ensures untouched { IsUntouched (B.shown blocks.old) (B.shown blocks.new) }
+    ensures alters { Alters B.told (B.shown blocks.old) (B.shown blocks.new) tree.old tree.new result }
+    ensures pending { pending tree.new ≤ pending tree.old + 6 }
     ensures reads { B.reads blocks.old blocks.new }
-    ensures counts { Counts (B.shown blocks.old) (B.shown blocks.new) result }
-    ensures cause { IfErr result (Fails B.told (standing (under (B.shown blocks.old)) tree.old) (B.shown blocks.old) (B.shown blocks.new)) }
 {
     let block = spelled(cell, files);
     tree.put(blocks, cell, &block, stamp)
+}
+
+/// Writes the inode block at a cell that is in memory, of which not all records are free, with a stamp of at least 1.
+pub fn rewrite_files(tree: &mut Tree, cell: u32, files: &[InodeRecord; 16], stamp: u64)
+    requires ready { IsReady tree.old cell }
+    requires stamp { 1 ≤ stamp }
+    requires range { All IsInodeRecord files.now }
+    requires some { all_free files.now ≡ false }
+    ensures written { (blocks : Under) → WritesFiles (standing blocks tree.old) (standing blocks tree.new) cell stamp files.now }
+    ensures ready { IsReady tree.new cell }
+    ensures owner { tree.new.owner ≡ tree.old.owner }
+    ensures levels { tree.new.levels ≡ tree.old.levels }
+    ensures sound { (blocks : Under) (used : ℕ → Option Use) → IsSound used (loaded_over blocks tree.old) → IsSound used (loaded_over blocks tree.new) }
+    ensures leads { (blocks : Under) → LeadsNoMore (loaded_over blocks tree.old) (loaded_over blocks tree.new) }
+    ensures keeps { (blocks : Under) → LeadsNoMore (loaded_over blocks tree.new) (loaded_over blocks tree.old) }
+    ensures pending { pending tree.new ≤ pending tree.old }
+{
+    let block = spelled(cell, files);
+    tree.rewrite(cell, &block, stamp);
 }
 
 /// The inode block of an index with these records.

@@ -1,16 +1,14 @@
 //! The roots of files, as a flush lays them into the inode blocks.
 
-ghost use Rattle.std.specs.Prelude.{◌≡◌, ◌≤◌, ◌<◌, true, false, is_some, OnOk, OnErr, IfErr};
+ghost use Rattle.std.specs.Prelude.{◌≡◌, ◌≤◌, ◌+◌, true, false, is_some, OnOk};
 ghost use Rattle.std.specs.List.{All};
 ghost use Rattle.fv_codec.specs.Blocks.{all_free, IsInodeRecord, IsPointer};
 ghost use Rattle.fv_tables.specs.Spelled.{block_at};
 ghost use Rattle.fv_tables.specs.Told.{file_at};
-ghost use Rattle.fv_tree.specs.Sources.{Counts, IsUntouched};
-ghost use Rattle.fv_tree.specs.Standing.{standing, under, Fails};
-ghost use Rattle.fv_tree.specs.Writing.{Remains};
-ghost use Rattle.fv_tree.specs.Flushing.{Stands};
+ghost use Rattle.fv_tree.specs.Standing.{standing, under};
+ghost use Rattle.fv_tree.specs.Costs.{pending};
 ghost use Rattle.fv_inode.specs.Files.{rooted, with_root};
-ghost use Rattle.fv_inode.specs.Failing.{Looks};
+ghost use Rattle.fv_inode.specs.Failing.{Alters};
 ghost use Rattle.fv_inode.specs.Changing.{FillsFiles, SetsRoot};
 
 use crate::file::InodeFile;
@@ -41,10 +39,8 @@ impl InodeFile {
         requires levels { levels ≤ 3 }
         requires root { IsPointer root }
         ensures set { B.told → OnOk result (SetsRoot (rooted (B.shown blocks.old) self.old) (rooted (B.shown blocks.new) self.new) number levels root) }
-        ensures failed { B.told → OnErr result (Remains (rooted (B.shown blocks.old) self.old) (rooted (B.shown blocks.new) self.new)) }
-        ensures owner { self.new.tree.owner ≡ self.old.tree.owner }
-        ensures stands { B.told → Stands (B.shown blocks.old) self.old.tree → Stands (B.shown blocks.new) self.new.tree }
-        ensures looks { Looks B.told (rooted (B.shown blocks.old) self.old) (B.shown blocks.old) (B.shown blocks.new) result }
+        ensures alters { Alters B.told (B.shown blocks.old) (B.shown blocks.new) self.old.tree self.new.tree result }
+        ensures pending { pending self.new.tree ≤ pending self.old.tree + 4 }
         ensures reads { B.reads blocks.old blocks.new }
     {
         let cell = number / EACH;
@@ -83,13 +79,9 @@ fn refill_files<B: Blocks>(
     requires range { All IsInodeRecord files.now }
     requires some { all_free files.now ≡ false }
     ensures filled { B.told → OnOk result (FillsFiles (standing (under (B.shown blocks.old)) tree.old) (standing (under (B.shown blocks.new)) tree.new) cell files.now) }
-    ensures failed { B.told → OnErr result (Remains (standing (under (B.shown blocks.old)) tree.old) (standing (under (B.shown blocks.new)) tree.new)) }
-    ensures owner { tree.new.owner ≡ tree.old.owner }
-    ensures stands { B.told → Stands (B.shown blocks.old) tree.old → Stands (B.shown blocks.new) tree.new }
-    ensures untouched { IsUntouched (B.shown blocks.old) (B.shown blocks.new) }
+    ensures alters { Alters B.told (B.shown blocks.old) (B.shown blocks.new) tree.old tree.new result }
+    ensures pending { pending tree.new ≤ pending tree.old + 4 }
     ensures reads { B.reads blocks.old blocks.new }
-    ensures counts { Counts (B.shown blocks.old) (B.shown blocks.new) result }
-    ensures cause { IfErr result (Fails B.told (standing (under (B.shown blocks.old)) tree.old) (B.shown blocks.old) (B.shown blocks.new)) }
 {
     let block = spelled(cell, files);
     tree.refill(blocks, cell, &block)?;

@@ -221,8 +221,8 @@ fn failed(
 fn failing_changes(rt: HostRuntime) -> Result<(), Fail> {
     let rows = [
         (Call::Create, 5, 16, Some((16, 0))),
-        (Call::Change, 7, 31, Some((31, 5))),
-        (Call::Remove, 7, 31, None),
+        (Call::Change, 8, 31, Some((31, 5))),
+        (Call::Remove, 8, 31, None),
         (Call::SetRoot, 7, 31, Some((31, 0))),
     ];
     for (call, loads, number, wanted) in rows {

@@ -14,4 +14,4 @@ mod stored;
 mod tables;
 
 pub use calls::{change, create, remove, set_root};
-pub use tables::{make, write};
+pub use tables::{make, read, write};

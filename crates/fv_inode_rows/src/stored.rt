@@ -2,7 +2,7 @@
 
 use crate::beside::Wrong;
 use crate::calls::{change, create, set_root};
-use crate::tables::{make, write};
+use crate::tables::{make, read, write};
 use fv_codec::Pointer;
 use fv_files::{Files, FilesFault};
 use fv_inode::InodeFile;
@@ -35,8 +35,17 @@ fn has(
     byte: u8,
 ) -> Result<bool, Wrong> {
     let mut into = full(255);
-    let there = table.read(blocks, name, index, &mut into)?;
+    let there = read(table, blocks, name, index, &mut into)?;
     Ok(there && into[0] == byte && into[4095] == byte)
+}
+
+/// The length of a file.
+fn length(
+    table: &mut Files,
+    blocks: &mut MemBlocks,
+    name: &Name,
+) -> Result<Option<u32>, Wrong> {
+    Ok(table.find(blocks, name)?.map(|info| info.length))
 }
 
 /// Forty files, each with a block of its own. The first one grows to 2 levels.
@@ -130,7 +139,7 @@ fn failed(alloc: Global, call: u64) -> Result<(Option<FilesFault>, bool), Wrong>
         same = same && write(&mut table, &mut blocks, &file, 200, &full(9), 5)?;
     }
     same = same && has(&mut table, &mut blocks, &file, 200, 9)?;
-    same = same && table.length(&mut blocks, &file)? == Some(201);
+    same = same && length(&mut table, &mut blocks, &file)? == Some(201);
     Ok((fault, same))
 }
 

@@ -30,7 +30,7 @@ pub fn make<B: Blocks>(
 ///
 /// # Errors
 ///
-/// As `Files::write`.
+/// As `Files::find` and `Files::write`.
 pub fn write<B: Blocks>(
     table: &mut Files,
     blocks: &mut B,
@@ -42,5 +42,32 @@ pub fn write<B: Blocks>(
     if stamp == 0 || index >= MOST_CELLS {
         return Ok(false);
     }
-    table.write(blocks, name, index, block, stamp)
+    match table.find(blocks, name)? {
+        None => Ok(false),
+        Some(info) => {
+            table.write(blocks, &info, index, block, stamp)?;
+            Ok(true)
+        }
+    }
+}
+
+/// Reads a block of a file; false where there is no such file.
+///
+/// # Errors
+///
+/// As `Files::find` and `Files::read`.
+pub fn read<B: Blocks>(
+    table: &mut Files,
+    blocks: &mut B,
+    name: &Name,
+    index: u32,
+    into: &mut [u8; 4096],
+) -> Result<bool, FilesFault> {
+    match table.find(blocks, name)? {
+        None => Ok(false),
+        Some(info) => {
+            table.read(blocks, &info, index, into)?;
+            Ok(true)
+        }
+    }
 }

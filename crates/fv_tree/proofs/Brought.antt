@@ -1,12 +1,11 @@
 -- A node that comes into memory, and how the tree stands to its blocks then.
-use Rattle.std.proofs.Common.{◌≡◌, ◌≢◌, ◌≤◌, ◌<◌, ℕ, ◌+◌, ◌/◌, ◌⊎◌, inl, inr, true, false, cond, ◌&&◌, List, Option, Some, None, Result, Ok, Err, OnOk, OnErr, get_or, is_some, nat_eq, replicate, sym, ap, subst, ◌∙◌, arith}
+use Rattle.std.proofs.Common.{◌≡◌, ◌≢◌, ◌≤◌, ◌<◌, ℕ, ◌+◌, ◌/◌, ◌⊎◌, inl, inr, true, false, cond, ◌&&◌, List, Option, Some, None, Result, Ok, Err, OnOk, OnErr, get_or, is_some, nat_eq, replicate, sym, ap, ◌∙◌, arith}
 use Rattle.std.specs.Ordering.{nat_cmp}
 use Rattle.std.specs.Option.{option_map}
 use Rattle.std.specs.BTreeMap as tree
 use Rattle.std.specs.FinMap as fin
 use Rattle.std.proofs.lemmas.Bool.{cases_eq}
 use Rattle.fv_codec.specs.declared.pointer.Pointer.{Pointer}
-use Rattle.fv_codec.specs.Blocks.{all_holes}
 use Rattle.fv_model.specs.Trees.{fan}
 use Rattle.fv_disk.specs.declared.fault.BlockFault.{BlockFault}
 use Rattle.fv_tree.specs.declared.kept.Tree.{Tree}
@@ -18,11 +17,9 @@ use Rattle.fv_tree.specs.Standing.{standing, under, node_in, IsSameBut}
 use Rattle.fv_tree.specs.Keeping.{IsSame}
 use Rattle.fv_tree.specs.Flushing.{Leads, IsEmptyNode, Stands, loaded, changed_of, placed_of, placed_in, node_changed, node_placed, cell_placed, kind_for}
 use Rattle.fv_tree.specs.Carried.{kept_at, IsBlank, IsRead, Brings}
-use Rattle.fv_tree.specs.Refilling.{IsFilled}
 use Rattle.fv_tree.proofs.Flushed.{false_is_true, under_none}
 use Rattle.fv_tree.proofs.Gone.{cell_changed, spot_changed, cell_led, spot_led}
 use Rattle.fv_tree.proofs.Hints.{right_as}
-use Rattle.fv_tree.proofs.Pointers.{one_filled}
 use Rattle.fv_tree.proofs.Spots.{here, elsewhere}
 use Rattle.fv_tree.proofs.Ways.{spot_is, nothing_there}
 
@@ -75,13 +72,9 @@ blank_empty blocks t k q blank xs node slot =
     let is : xs ≡ replicate 128 hole = some_same xs (replicate 128 hole) (sym node ∙ ap (option_map (λ (kept : KeptNode). kept.children)) blank.is ∙ ap Some blank.children) in
     ap (λ (ys : List Pointer). get_or ys slot hole) is ∙ nothing_there slot
 
--- A pointer that isn't a hole is in a node to which one leads, and that leads somewhere.
-pub leads_on : (t : Tree) (level place slot : ℕ) (p : Pointer) (xs : List Pointer) → node_in t level place ≡ Some xs → (p.stamp ≡ 0 → IsBlank (kept_at t level place)) → (get_or xs slot hole).stamp ≢ 0
-    → (p.stamp ≢ 0) × IsFilled t level place
-leads_on t level place slot p xs node blank some = (
-  λ none. some (ap (λ (q : Pointer). q.stamp) (blank_empty (λ _. None) t level place (blank none) xs node slot)),
-  λ ys other. subst (λ zs. all_holes zs ≡ false) (some_same xs ys (sym node ∙ other)) (one_filled xs slot some),
-)
+-- a pointer that isn't a hole is in a node to which one leads
+pub leads_on : (t : Tree) (level place slot : ℕ) (p : Pointer) (xs : List Pointer) → node_in t level place ≡ Some xs → (p.stamp ≡ 0 → IsBlank (kept_at t level place)) → (get_or xs slot hole).stamp ≢ 0 → p.stamp ≢ 0
+leads_on t level place slot p xs node blank some none = some (ap (λ (q : Pointer). q.stamp) (blank_empty (λ _. None) t level place (blank none) xs node slot))
 
 -- the tree stands on its blocks as it did
 module _ (old new : Shown) (t u : Tree) (level place : ℕ) (low : 1 ≤ level) (held : new.held ≡ old.held) (used : new.used ≡ old.used) (fields : IsSameBut t u)

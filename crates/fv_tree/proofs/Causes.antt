@@ -60,26 +60,34 @@ node_fails told t old new level place p Memory held low high is h = h
 -- ---- over several calls
 
 pub untouched_itself : (source : Shown) → IsUntouched source source
-untouched_itself source = record { held = refl; used = refl; strays = refl }
+untouched_itself source = record { held = refl; used = refl; strays = refl; room = refl; cost = refl }
 
 pub untouched_then : (old mid new : Shown) → IsUntouched old mid → IsUntouched mid new → IsUntouched old new
-untouched_then old mid new first second = record { held = second.held ∙ first.held; used = second.used ∙ first.used; strays = second.strays ∙ first.strays }
+untouched_then old mid new first second = record {
+  held = second.held ∙ first.held;
+  used = second.used ∙ first.used;
+  strays = second.strays ∙ first.strays;
+  room = second.room ∙ first.room;
+  cost = second.cost ∙ first.cost;
+}
 
 pub calm_itself : (source : Shown) → IsCalm source source
-calm_itself source = record { faults = refl; damages = refl }
+calm_itself source = record { faults = refl; damages = refl; spent = omega arith }
 
 pub calm_then : (old mid new : Shown) → IsCalm old mid → IsCalm mid new → IsCalm old new
-calm_then old mid new first second = record { faults = second.faults ∙ first.faults; damages = second.damages ∙ first.damages }
+calm_then old mid new first second = record { faults = second.faults ∙ first.faults; damages = second.damages ∙ first.damages; spent = omega (arith, first.spent, second.spent) }
 
 pub counts_then : {T E : Type 0} (old mid new : Shown) (result : Result T E) → IsCalm old mid → Counts mid new result → Counts old new result
 counts_then old mid new (Ok x) first second = record {
   faults = omega (arith, first.faults, second.faults);
   damages = omega (arith, first.damages, second.damages);
+  spent = omega (arith, first.spent, second.spent);
   calm = calm_then old mid new first second.calm;
 }
 counts_then old mid new (Err e) first second = record {
   faults = omega (arith, first.faults, second.faults);
   damages = omega (arith, first.damages, second.damages);
+  spent = omega (arith, first.spent, second.spent);
   calm = tt;
 }
 

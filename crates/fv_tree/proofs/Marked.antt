@@ -7,6 +7,7 @@ use Rattle.fv_model.specs.Trees.{fan}
 use Rattle.fv_tree.specs.Sources.{Use}
 use Rattle.fv_tree.specs.Spelled.{hole, pointers_in, pointer_at}
 use Rattle.fv_tree.specs.Flushing.{Loaded, Leads, IsRight, IsSound, IsEmptyNode, kind_for}
+use Rattle.fv_tree.specs.Leading.{LeadsNoMore}
 use Rattle.fv_tree.proofs.Flushed.{false_is_true, reached_within}
 use Rattle.fv_tree.proofs.Hints.{right_as}
 use Rattle.fv_tree.proofs.Stamped.{above}
@@ -42,7 +43,7 @@ pub record IsMarked (v u : Loaded) (i : ℕ) : Type 0 where
   pub way : (level : ℕ) → level ≤ v.tree.levels → u.changed level (i / fan ^ level) ≡ true
   pub others : (level place : ℕ) → place ≢ i / fan ^ level → u.changed level place ≡ v.changed level place
 
-module _ (taken : ℕ → Option Use) (v u : Loaded) (i : ℕ) (covers : i < fan ^ v.tree.levels) (ready : IsReady taken v i) (marked : IsMarked v u i) where
+module _ (v u : Loaded) (i : ℕ) (marked : IsMarked v u i) where
   -- a range on the way, or another
   on_or_off : (level place : ℕ) → (place ≡ i / fan ^ level) ⊎ (place ≢ i / fan ^ level)
   on_or_off level place = cases_eq place (i / fan ^ level)
@@ -65,77 +66,98 @@ module _ (taken : ℕ → Option Use) (v u : Loaded) (i : ℕ) (covers : i < fan
   within : (level place : ℕ) → (pointer_at u.tree level place).stamp ≢ 0 → level ≤ v.tree.levels
   within level place reached = omega (arith, marked.levels, reached_within u.tree level place reached)
 
-  on_leads : (level place w : ℕ) → place ≡ i / fan ^ level → Leads u level place w → Leads v level place w
-  on_leads level place w at leads =
-      let le : level ≤ v.tree.levels = within level place leads.some in
-      let now : v.placed level place ≡ true = sym (marked.placed level place) ∙ leads.placed in record {
-        some = λ e. false_is_true (v.placed level place) ((λ j. v.placed level (at j)) ∙ ready.unplaced level le (sym (λ j. (pointer_at v.tree level (at j)).stamp) ∙ e)) now;
-        placed = now;
-        vvbn = sym (pointer_on level place le at).vvbn ∙ leads.vvbn;
-      }
+  module _ (unplaced : (level : ℕ) → level ≤ v.tree.levels → (pointer_at v.tree level (i / fan ^ level)).stamp ≡ 0 → v.placed level (i / fan ^ level) ≡ false) where
+    on_leads : (level place w : ℕ) → place ≡ i / fan ^ level → Leads u level place w → Leads v level place w
+    on_leads level place w at leads =
+        let le : level ≤ v.tree.levels = within level place leads.some in
+        let now : v.placed level place ≡ true = sym (marked.placed level place) ∙ leads.placed in record {
+          some = λ e. false_is_true (v.placed level place) ((λ j. v.placed level (at j)) ∙ unplaced level le (sym (λ j. (pointer_at v.tree level (at j)).stamp) ∙ e)) now;
+          placed = now;
+          vvbn = sym (pointer_on level place le at).vvbn ∙ leads.vvbn;
+        }
 
-  leads_old : (level place w : ℕ) → Leads u level place w → Leads v level place w
-  leads_old level place w leads = elim (on_or_off level place) [
-    | inl at ↦ on_leads level place w at leads
+    -- what is led to was
+    pub marked_leads : LeadsNoMore v u
+    marked_leads level place w leads = elim (on_or_off level place) [
+      | inl at ↦ on_leads level place w at leads
+      | inr differs ↦ record {
+        some = λ e. leads.some (ap (λ (p : Pointer). p.stamp) (pointer_off level place differs) ∙ e);
+        placed = sym (marked.placed level place) ∙ leads.placed;
+        vvbn = sym (ap (λ (p : Pointer). p.vvbn) (pointer_off level place differs)) ∙ leads.vvbn;
+      }
+    ]
+
+  -- and still is
+  pub marked_keeps : LeadsNoMore u v
+  marked_keeps level place w leads = let le : level ≤ v.tree.levels = reached_within v.tree level place leads.some in elim (on_or_off level place) [
+    | inl at ↦ record {
+      some = (pointer_on level place le at).some;
+      placed = marked.placed level place ∙ leads.placed;
+      vvbn = (pointer_on level place le at).vvbn ∙ leads.vvbn;
+    }
     | inr differs ↦ record {
-      some = λ e. leads.some (ap (λ (p : Pointer). p.stamp) (pointer_off level place differs) ∙ e);
-      placed = sym (marked.placed level place) ∙ leads.placed;
-      vvbn = sym (ap (λ (p : Pointer). p.vvbn) (pointer_off level place differs)) ∙ leads.vvbn;
+      some = λ e. leads.some (ap (λ (p : Pointer). p.stamp) (sym (pointer_off level place differs)) ∙ e);
+      placed = marked.placed level place ∙ leads.placed;
+      vvbn = ap (λ (p : Pointer). p.vvbn) (pointer_off level place differs) ∙ leads.vvbn;
     }
   ]
 
-  over_way : (level place : ℕ) → level < v.tree.levels → place / fan ≡ i / fan ^ (level + 1) → u.changed (level + 1) (place / fan) ≡ true
-  over_way level place lt at = (λ j. u.changed (level + 1) (at j)) ∙ marked.way (level + 1) (omega (arith, lt))
+  module _ (taken : ℕ → Option Use) (covers : i < fan ^ v.tree.levels) (ready : IsReady taken v i) where
+    leads_old : LeadsNoMore v u
+    leads_old = marked_leads ready.unplaced
 
-  over : (level place : ℕ) → u.changed level place ≡ true → (pointer_at u.tree level place).stamp ≢ 0 → level < u.tree.levels → u.changed (level + 1) (place / fan) ≡ true
-  over level place now reached less = let lt : level < v.tree.levels = omega (arith, less, marked.levels) in elim (on_or_off level place) [
-    | inl at ↦ over_way level place lt (ap (λ n. n / fan) at ∙ above i level)
-    | inr differs ↦ elim (on_or_off (level + 1) (place / fan)) [
-      | inl at ↦ over_way level place lt at
-      | inr apart ↦ marked.others (level + 1) (place / fan) apart
-          ∙ ready.over level place differs (sym (marked.others level place differs) ∙ now) (λ e. reached (ap (λ (p : Pointer). p.stamp) (pointer_off level place differs) ∙ e)) lt
+    over_way : (level place : ℕ) → level < v.tree.levels → place / fan ≡ i / fan ^ (level + 1) → u.changed (level + 1) (place / fan) ≡ true
+    over_way level place lt at = (λ j. u.changed (level + 1) (at j)) ∙ marked.way (level + 1) (omega (arith, lt))
+
+    over : (level place : ℕ) → u.changed level place ≡ true → (pointer_at u.tree level place).stamp ≢ 0 → level < u.tree.levels → u.changed (level + 1) (place / fan) ≡ true
+    over level place now reached less = let lt : level < v.tree.levels = omega (arith, less, marked.levels) in elim (on_or_off level place) [
+      | inl at ↦ over_way level place lt (ap (λ n. n / fan) at ∙ above i level)
+      | inr differs ↦ elim (on_or_off (level + 1) (place / fan)) [
+        | inl at ↦ over_way level place lt at
+        | inr apart ↦ marked.others (level + 1) (place / fan) apart
+            ∙ ready.over level place differs (sym (marked.others level place differs) ∙ now) (λ e. reached (ap (λ (p : Pointer). p.stamp) (pointer_off level place differs) ∙ e)) lt
+      ]
     ]
-  ]
 
-  same : (level place : ℕ) (xs : List Pointer) → 1 ≤ level → u.tree.nodes level place ≡ Some xs → u.changed level place ≡ false → (pointer_at u.tree level place).stamp ≢ 0
-      → (pointers_in (u.tree.under (pointer_at u.tree level place).vvbn) ≡ xs) × (u.placed level place ≡ true)
-  same level place xs low node now reached = elim (on_or_off level place) [
-    | inl at ↦ false_is_true (u.changed level place) now ((λ j. u.changed level (at j)) ∙ marked.way level (within level place reached))
-    | inr differs ↦
-        let was = ready.same level place xs differs low (sym (marked.nodes level place differs) ∙ node) (sym (marked.others level place differs) ∙ now) (λ e. reached (ap (λ (p : Pointer). p.stamp) (pointer_off level place differs) ∙ e)) in
-        ((λ j. pointers_in (marked.under j (pointer_off level place differs j).vvbn)) ∙ was.0, marked.placed level place ∙ was.1)
-  ]
+    same : (level place : ℕ) (xs : List Pointer) → 1 ≤ level → u.tree.nodes level place ≡ Some xs → u.changed level place ≡ false → (pointer_at u.tree level place).stamp ≢ 0
+        → (pointers_in (u.tree.under (pointer_at u.tree level place).vvbn) ≡ xs) × (u.placed level place ≡ true)
+    same level place xs low node now reached = elim (on_or_off level place) [
+      | inl at ↦ false_is_true (u.changed level place) now ((λ j. u.changed level (at j)) ∙ marked.way level (within level place reached))
+      | inr differs ↦
+          let was = ready.same level place xs differs low (sym (marked.nodes level place differs) ∙ node) (sym (marked.others level place differs) ∙ now) (λ e. reached (ap (λ (p : Pointer). p.stamp) (pointer_off level place differs) ∙ e)) in
+          ((λ j. pointers_in (marked.under j (pointer_off level place differs j).vvbn)) ∙ was.0, marked.placed level place ∙ was.1)
+    ]
 
-  -- a range on the way that nothing leads to lies above the levels
-  on_empty : {P : Type 0} (level place : ℕ) → place ≡ i / fan ^ level → (pointer_at u.tree level place).stamp ≡ 0 → (level ≤ u.tree.levels) ⊎ ((place ≢ 0) ⊎ (u.tree.root.stamp ≡ 0)) → P
-  on_empty level place at none which = elim (cases_lt v.tree.levels level) [
-    | inl lt ↦
-        let wide : fan ^ v.tree.levels ≤ fan ^ level = pow-le-pow_right {n = fan} (omega arith) {i = v.tree.levels} {j = level} (omega arith) in
-        let first : place ≡ 0 = at ∙ div-eq_of_lt (omega (arith, covers, wide)) in
-        elim which [
-          | inl le ↦ absurd (omega (arith, le, lt, marked.levels))
-          | inr (inl differs) ↦ absurd (differs first)
-          | inr (inr hole) ↦ absurd (marked.root hole)
-        ]
-    | inr le ↦ absurd ((pointer_on level place le at).some none)
-  ]
+    -- a range on the way that nothing leads to lies above the levels
+    on_empty : {P : Type 0} (level place : ℕ) → place ≡ i / fan ^ level → (pointer_at u.tree level place).stamp ≡ 0 → (level ≤ u.tree.levels) ⊎ ((place ≢ 0) ⊎ (u.tree.root.stamp ≡ 0)) → P
+    on_empty level place at none which = elim (cases_lt v.tree.levels level) [
+      | inl lt ↦
+          let wide : fan ^ v.tree.levels ≤ fan ^ level = pow-le-pow_right {n = fan} (omega arith) {i = v.tree.levels} {j = level} (omega arith) in
+          let first : place ≡ 0 = at ∙ div-eq_of_lt (omega (arith, covers, wide)) in
+          elim which [
+            | inl le ↦ absurd (omega (arith, le, lt, marked.levels))
+            | inr (inl differs) ↦ absurd (differs first)
+            | inr (inr hole) ↦ absurd (marked.root hole)
+          ]
+      | inr le ↦ absurd ((pointer_on level place le at).some none)
+    ]
 
-  empty : (level place : ℕ) → 1 ≤ level → (pointer_at u.tree level place).stamp ≡ 0 → (level ≤ u.tree.levels) ⊎ ((place ≢ 0) ⊎ (u.tree.root.stamp ≡ 0)) → IsEmptyNode u.tree level place
-  empty level place low none which = elim (on_or_off level place) [
-    | inl at ↦ on_empty level place at none which
-    | inr differs ↦ λ xs node. ready.empty level place differs low (sym (ap (λ (p : Pointer). p.stamp) (pointer_off level place differs)) ∙ none) (elim which [
-      | inl le ↦ inl (omega (arith, le, marked.levels))
-      | inr (inl other) ↦ inr other
-      | inr (inr hole) ↦ absurd (marked.root hole)
-    ]) xs (sym (marked.nodes level place differs) ∙ node)
-  ]
+    empty : (level place : ℕ) → 1 ≤ level → (pointer_at u.tree level place).stamp ≡ 0 → (level ≤ u.tree.levels) ⊎ ((place ≢ 0) ⊎ (u.tree.root.stamp ≡ 0)) → IsEmptyNode u.tree level place
+    empty level place low none which = elim (on_or_off level place) [
+      | inl at ↦ on_empty level place at none which
+      | inr differs ↦ λ xs node. ready.empty level place differs low (sym (ap (λ (p : Pointer). p.stamp) (pointer_off level place differs)) ∙ none) (elim which [
+        | inl le ↦ inl (omega (arith, le, marked.levels))
+        | inr (inl other) ↦ inr other
+        | inr (inr hole) ↦ absurd (marked.root hole)
+      ]) xs (sym (marked.nodes level place differs) ∙ node)
+    ]
 
-  pub marked_sound : IsSound taken u
-  marked_sound = record {
-    once = λ level place k q w first second. ready.once level place k q w (leads_old level place w first) (leads_old k q w second);
-    held = λ level place w leads. ap (λ under. is_some (under w)) marked.under ∙ ready.held level place w (leads_old level place w leads);
-    used = λ level place w leads. right_as (kind_for v.tree.owner level) (kind_for u.tree.owner level) (ap (λ (o : ℕ). kind_for o level) marked.owner) (pointer_at v.tree level place) (pointer_at u.tree level place) (taken w) (taken w) (same_hint level place (within level place leads.some)) refl (ready.used level place w (leads_old level place w leads));
-    over = over;
-    same = same;
-    empty = empty;
-  }
+    pub marked_sound : IsSound taken u
+    marked_sound = record {
+      once = λ level place k q w first second. ready.once level place k q w (leads_old level place w first) (leads_old k q w second);
+      held = λ level place w leads. ap (λ under. is_some (under w)) marked.under ∙ ready.held level place w (leads_old level place w leads);
+      used = λ level place w leads. right_as (kind_for v.tree.owner level) (kind_for u.tree.owner level) (ap (λ (o : ℕ). kind_for o level) marked.owner) (pointer_at v.tree level place) (pointer_at u.tree level place) (taken w) (taken w) (same_hint level place (within level place leads.some)) refl (ready.used level place w (leads_old level place w leads));
+      over = over;
+      same = same;
+      empty = empty;
+    }

@@ -27,7 +27,7 @@ use Rattle.fv_tree.proofs.Writes.{no_stamp}
 is_at : ℕ → ℕ → Spot → Bool
 is_at k p q = nat_eq q.0 k && nat_eq q.1 p
 
-spot_total : IsTotalOrder spot_cmp
+pub spot_total : IsTotalOrder spot_cmp
 spot_total = search (comparing, rules)
 
 stamped : (s : ℕ) (ps : List Spot) (m : fin.FinMap spot_cmp ℕ) (k p : ℕ) → fin.get (stamp_spots s ps m) (k, p) ≡ cond (list_any (is_at k p) ps) (Some s) (fin.get m (k, p))

@@ -16,8 +16,9 @@ use Rattle.fv_tree.specs.Sources.{Shown, Use}
 use Rattle.fv_tree.specs.Standing.{standing, under, node_in, cell_in, IsSameButCells}
 use Rattle.fv_tree.specs.Keeping.{IsKept}
 use Rattle.fv_tree.specs.Writing.{Stamps}
-use Rattle.fv_tree.specs.Flushing.{Leads, IsSound, Stands, loaded, loaded_over, changed_of, placed_of, changed_in, placed_in, cell_placed, kind_for}
+use Rattle.fv_tree.specs.Flushing.{IsSound, Stands, loaded, loaded_over, changed_of, placed_of, changed_in, placed_in, cell_placed, kind_for}
 use Rattle.fv_tree.specs.Carried.{kept_at, Marks}
+use Rattle.fv_tree.specs.Leading.{LeadsNoMore}
 use Rattle.fv_tree.proofs.Flushed.{false_is_true}
 use Rattle.fv_tree.proofs.Gone.{map_some, cell_changed, spot_changed, cell_led, spot_led}
 use Rattle.fv_tree.proofs.Hints.{right_as}
@@ -35,14 +36,15 @@ stands_again old new t u held used same stands =
     (subst (λ h. IsSound new.used (loaded_over (λ v. fin.get h v) t)) (sym held)
     (subst (λ w. IsSound w (loaded old t)) (sym used) stands))
 
+pub cells_loaded : (blocks : Under) (t u : Tree) → IsSameButCells t u → ((i : ℕ) → tree.get nat_cmp u.cells i ≡ tree.get nat_cmp t.cells i) → loaded_over blocks u ≡ loaded_over blocks t
+cells_loaded blocks t u same cells = λ j. record {
+  tree = same_standing blocks t u same (λ i. ap (option_map (λ (kept : KeptCell). kept.block)) (cells i)) j;
+  changed = λ level place. if level == 0 then is_some (cells place j) else changed_in (same.nodes j) level place;
+  placed = λ level place. if level == 0 then cell_placed (cells place j) else placed_in (same.nodes j) level place;
+}
+
 pub cells_again : (blocks : Under) (used : ℕ → Option Use) (t u : Tree) → IsSameButCells t u → ((i : ℕ) → tree.get nat_cmp u.cells i ≡ tree.get nat_cmp t.cells i) → IsSound used (loaded_over blocks t) → IsSound used (loaded_over blocks u)
-cells_again blocks used t u same cells =
-    let seen : loaded_over blocks u ≡ loaded_over blocks t = λ j. record {
-      tree = same_standing blocks t u same (λ i. ap (option_map (λ (kept : KeptCell). kept.block)) (cells i)) j;
-      changed = λ level place. if level == 0 then is_some (cells place j) else changed_in (same.nodes j) level place;
-      placed = λ level place. if level == 0 then cell_placed (cells place j) else placed_in (same.nodes j) level place;
-    } in
-    subst (IsSound used) (sym seen)
+cells_again blocks used t u same cells = subst (IsSound used) (sym (cells_loaded blocks t u same cells))
 
 -- pointers don't depend on cells
 pub nodes_alone : (t u : Rooted) → u.owner ≡ t.owner → u.under ≡ t.under → u.levels ≡ t.levels → u.root ≡ t.root → ((k q : ℕ) → u.nodes k q ≡ t.nodes k q) → (k q : ℕ) → pointer_at u k q ≡ pointer_at t k q
@@ -116,10 +118,8 @@ module _ (blocks : Under) (v u : Tree) (i s : ℕ) (stamps : Stamps v u i s) (ma
 
 -- ---- within the levels
 
-module _ (blocks : Under) (used : ℕ → Option Use) (w v : Tree) (i : ℕ) (named : Bool) (sound : IsSound used (loaded_over blocks w)) (same : IsSameButCells w v)
-    (own : cell_placed (tree.get nat_cmp v.cells i) ≡ (named && cell_placed (tree.get nat_cmp w.cells i))) (others : (j : ℕ) → j ≢ i → tree.get nat_cmp v.cells j ≡ tree.get nat_cmp w.cells j)
-    (unnamed : (pointer_at (standing blocks w) 0 i).stamp ≡ 0 → named ≡ false)
-    (unplaced : (level : ℕ) → 1 ≤ level → level ≤ w.levels → (pointer_at (standing blocks w) level (i / fan ^ level)).stamp ≡ 0 → placed_in w.nodes level (i / fan ^ level) ≡ false) where
+module _ (blocks : Under) (w v : Tree) (i : ℕ) (named : Bool) (same : IsSameButCells w v)
+    (own : cell_placed (tree.get nat_cmp v.cells i) ≡ (named && cell_placed (tree.get nat_cmp w.cells i))) (others : (j : ℕ) → j ≢ i → tree.get nat_cmp v.cells j ≡ tree.get nat_cmp w.cells j) where
   same_node : (k q : ℕ) → node_in v k q ≡ node_in w k q
   same_node k q = ap (λ (nodes : tree.BTreeMap Spot KeptNode). option_map (λ (kept : KeptNode). kept.children) (tree.get spot_cmp nodes (k, q))) same.nodes
 
@@ -159,39 +159,60 @@ module _ (blocks : Under) (used : ℕ → Option Use) (w v : Tree) (i : ℕ) (na
     | inr low ↦ sym (led_off k q (inl low)) ∙ now
   ]
 
-  leads_old : (k q x : ℕ) → Leads (loaded_over blocks v) k q x → Leads (loaded_over blocks w) k q x
-  leads_old k q x leads = record {
+  pub cell_leads : LeadsNoMore (loaded_over blocks w) (loaded_over blocks v)
+  cell_leads k q x leads = record {
     some = λ e. leads.some (ap (λ (p : Pointer). p.stamp) (cell_pointers k q) ∙ e);
     placed = was_led k q leads.placed;
     vvbn = sym (ap (λ (p : Pointer). p.vvbn) (cell_pointers k q)) ∙ leads.vvbn;
   }
 
-  way_unplaced : (level : ℕ) → level ≤ v.levels → (pointer_at (standing blocks v) level (i / fan ^ level)).stamp ≡ 0 → placed_of v level (i / fan ^ level) ≡ false
-  way_unplaced level le none = let old : (pointer_at (standing blocks w) level (i / fan ^ level)).stamp ≡ 0 = sym (ap (λ (p : Pointer). p.stamp) (cell_pointers level (i / fan ^ level))) ∙ none in elim (cases_eq level 0) [
-    | inl e ↦
-        let at : i / fan ^ level ≡ i = (λ j. i / fan ^ e j) ∙ first_range i in
-        cell_led v level (i / fan ^ level) e ∙ ap (λ n. cell_placed (tree.get nat_cmp v.cells n)) at ∙ own ∙ and_false named (cell_placed (tree.get nat_cmp w.cells i)) (unnamed (sym (λ j. (pointer_at (standing blocks w) (e j) (at j)).stamp) ∙ old))
-    | inr low ↦ led_off level (i / fan ^ level) (inl low) ∙ spot_led w level (i / fan ^ level) (omega arith) ∙ unplaced level (omega arith) (omega (arith, le, same.levels)) old
+  still_led : ((pointer_at (standing blocks w) 0 i).stamp ≢ 0 → named ≡ true) → (k q : ℕ) → (pointer_at (standing blocks w) k q).stamp ≢ 0 → placed_of w k q ≡ true → placed_of v k q ≡ true
+  still_led names k q some was = elim (cases_eq k 0) [
+    | inl e ↦ elim (cases_eq q i) [
+      | inl at ↦ cell_led v k q e ∙ ap (λ n. cell_placed (tree.get nat_cmp v.cells n)) at ∙ own
+          ∙ (λ j. names (λ none. some ((λ j. (pointer_at (standing blocks w) (e j) (at j)).stamp) ∙ none)) j && cell_placed (tree.get nat_cmp w.cells i))
+          ∙ ap (λ n. cell_placed (tree.get nat_cmp w.cells n)) (sym at) ∙ sym (cell_led w k q e) ∙ was
+      | inr differs ↦ led_off k q (inr differs) ∙ was
+    ]
+    | inr low ↦ led_off k q (inl low) ∙ was
   ]
 
-  pub within_ready : IsReady used (loaded_over blocks v) i
-  within_ready = record {
-    once = λ level place k q x first second. sound.once level place k q x (leads_old level place x first) (leads_old k q x second);
-    held = λ level place x leads. sound.held level place x (leads_old level place x leads);
-    used = λ level place x leads.
-        right_as (kind_for w.owner level) (kind_for v.owner level) (ap (λ (o : ℕ). kind_for o level) same.owner) (pointer_at (standing blocks w) level place) (pointer_at (standing blocks v) level place) (used x) (used x) (ap (λ (p : Pointer). p.pvbn) (cell_pointers level place)) refl (sound.used level place x (leads_old level place x leads));
-    unplaced = way_unplaced;
-    over = λ level place differs now reached lt.
-        let above = sound.over level place (sym (changed_off level place differs) ∙ now) (λ e. reached (ap (λ (p : Pointer). p.stamp) (cell_pointers level place) ∙ e)) (omega (arith, lt, same.levels)) in
-        spot_changed v (level + 1) (place / fan) (omega arith) ∙ ap (λ (nodes : tree.BTreeMap Spot KeptNode). changed_in nodes (level + 1) (place / fan)) same.nodes ∙ sym (spot_changed w (level + 1) (place / fan) (omega arith)) ∙ above;
-    same = λ level place xs differs low node now reached.
-        let was = sound.same level place xs low (sym (same_node level place) ∙ node) (sym (changed_off level place differs) ∙ now) (λ e. reached (ap (λ (p : Pointer). p.stamp) (cell_pointers level place) ∙ e)) in
-        ((λ j. pointers_in (blocks (cell_pointers level place j).vvbn)) ∙ was.0, led_off level place (inl (omega (arith, low))) ∙ was.1);
-    empty = λ level place differs low none which xs node. sound.empty level place low (sym (ap (λ (p : Pointer). p.stamp) (cell_pointers level place)) ∙ none) (elim which [
-      | inl le ↦ inl (omega (arith, le, same.levels))
-      | inr other ↦ inr (inl other)
-    ]) xs (sym (same_node level place) ∙ node);
+  pub cell_keeps : ((pointer_at (standing blocks w) 0 i).stamp ≢ 0 → named ≡ true) → LeadsNoMore (loaded_over blocks v) (loaded_over blocks w)
+  cell_keeps names k q x leads = record {
+    some = λ e. leads.some (ap (λ (p : Pointer). p.stamp) (sym (cell_pointers k q)) ∙ e);
+    placed = still_led names k q leads.some leads.placed;
+    vvbn = ap (λ (p : Pointer). p.vvbn) (cell_pointers k q) ∙ leads.vvbn;
   }
+
+  module _ (unnamed : (pointer_at (standing blocks w) 0 i).stamp ≡ 0 → named ≡ false)
+      (unplaced : (level : ℕ) → 1 ≤ level → level ≤ w.levels → (pointer_at (standing blocks w) level (i / fan ^ level)).stamp ≡ 0 → placed_in w.nodes level (i / fan ^ level) ≡ false) where
+    pub way_unplaced : (level : ℕ) → level ≤ v.levels → (pointer_at (standing blocks v) level (i / fan ^ level)).stamp ≡ 0 → placed_of v level (i / fan ^ level) ≡ false
+    way_unplaced level le none = let old : (pointer_at (standing blocks w) level (i / fan ^ level)).stamp ≡ 0 = sym (ap (λ (p : Pointer). p.stamp) (cell_pointers level (i / fan ^ level))) ∙ none in elim (cases_eq level 0) [
+      | inl e ↦
+          let at : i / fan ^ level ≡ i = (λ j. i / fan ^ e j) ∙ first_range i in
+          cell_led v level (i / fan ^ level) e ∙ ap (λ n. cell_placed (tree.get nat_cmp v.cells n)) at ∙ own ∙ and_false named (cell_placed (tree.get nat_cmp w.cells i)) (unnamed (sym (λ j. (pointer_at (standing blocks w) (e j) (at j)).stamp) ∙ old))
+      | inr low ↦ led_off level (i / fan ^ level) (inl low) ∙ spot_led w level (i / fan ^ level) (omega arith) ∙ unplaced level (omega arith) (omega (arith, le, same.levels)) old
+    ]
+
+    module _ (used : ℕ → Option Use) (sound : IsSound used (loaded_over blocks w)) where
+      pub within_ready : IsReady used (loaded_over blocks v) i
+      within_ready = record {
+        once = λ level place k q x first second. sound.once level place k q x (cell_leads level place x first) (cell_leads k q x second);
+        held = λ level place x leads. sound.held level place x (cell_leads level place x leads);
+        used = λ level place x leads.
+            right_as (kind_for w.owner level) (kind_for v.owner level) (ap (λ (o : ℕ). kind_for o level) same.owner) (pointer_at (standing blocks w) level place) (pointer_at (standing blocks v) level place) (used x) (used x) (ap (λ (p : Pointer). p.pvbn) (cell_pointers level place)) refl (sound.used level place x (cell_leads level place x leads));
+        unplaced = way_unplaced;
+        over = λ level place differs now reached lt.
+            let above = sound.over level place (sym (changed_off level place differs) ∙ now) (λ e. reached (ap (λ (p : Pointer). p.stamp) (cell_pointers level place) ∙ e)) (omega (arith, lt, same.levels)) in
+            spot_changed v (level + 1) (place / fan) (omega arith) ∙ ap (λ (nodes : tree.BTreeMap Spot KeptNode). changed_in nodes (level + 1) (place / fan)) same.nodes ∙ sym (spot_changed w (level + 1) (place / fan) (omega arith)) ∙ above;
+        same = λ level place xs differs low node now reached.
+            let was = sound.same level place xs low (sym (same_node level place) ∙ node) (sym (changed_off level place differs) ∙ now) (λ e. reached (ap (λ (p : Pointer). p.stamp) (cell_pointers level place) ∙ e)) in
+            ((λ j. pointers_in (blocks (cell_pointers level place j).vvbn)) ∙ was.0, led_off level place (inl (omega (arith, low))) ∙ was.1);
+        empty = λ level place differs low none which xs node. sound.empty level place low (sym (ap (λ (p : Pointer). p.stamp) (cell_pointers level place)) ∙ none) (elim which [
+          | inl le ↦ inl (omega (arith, le, same.levels))
+          | inr other ↦ inr (inl other)
+        ]) xs (sym (same_node level place) ∙ node);
+      }
 
 -- the cell that was written is in memory
 pub cell_there : (w v : Tree) (i : ℕ) (block : List ℕ) → ((j : ℕ) → cell_in v j ≡ cond (nat_eq j i) (Some block) (cell_in w j)) → is_some (tree.get nat_cmp v.cells i) ≡ true
@@ -201,3 +222,6 @@ cell_there w v i block cells =
 
 pub unstamped : (p : Pointer) → p.stamp ≡ 0 → not (p.stamp == 0) ≡ false
 unstamped p e = let test : (p.stamp == 0) ≡ true = grind (arith, nat_tests) in ap not test
+
+pub is_stamped : (p : Pointer) → p.stamp ≢ 0 → not (p.stamp == 0) ≡ true
+is_stamped p some = let test : (p.stamp == 0) ≡ false = grind (arith, nat_tests) in ap not test

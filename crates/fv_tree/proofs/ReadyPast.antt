@@ -13,6 +13,7 @@ use Rattle.fv_tree.specs.Spelled.{Under, hole, pointers_in, pointer_at}
 use Rattle.fv_tree.specs.Standing.{standing, node_in}
 use Rattle.fv_tree.specs.Flushing.{Leads, IsSound, IsEmptyNode, loaded_over, changed_of, placed_of, changed_in, placed_in, node_changed, node_placed, cell_placed, kind_for}
 use Rattle.fv_tree.specs.Carried.{kept_at, IsBlank, BringsNew, IsTop}
+use Rattle.fv_tree.specs.Leading.{LeadsNoMore}
 use Rattle.fv_tree.proofs.Brought.{blank_unplaced}
 use Rattle.fv_tree.proofs.Flushed.{false_is_true, under_none, reached_within, top_is_first}
 use Rattle.fv_tree.proofs.Gone.{cell_changed, spot_changed, cell_led, spot_led}
@@ -25,7 +26,7 @@ use Rattle.fv_tree.proofs.Ungrown.{not_past, kept_old, kept_off}
 use Rattle.fv_tree.proofs.Ways.{past, spot_is}
 use Rattle.fv_tree.proofs.Writes.{none_at}
 
-module _ (blocks : Under) (used : ℕ → Option Use) (t v : Tree) (i s : ℕ) (is : Raises t v i s) (some : s ≢ 0) (sound : IsSound used (loaded_over blocks t)) (brings : BringsNew t v i)
+module _ (blocks : Under) (t v : Tree) (i s : ℕ) (is : Raises t v i s) (some : s ≢ 0) (brings : BringsNew t v i)
     (blank : (level : ℕ) → 1 ≤ level → level ≤ v.levels → (level < v.levels) ⊎ (t.root.stamp ≡ 0) → IsBlank (kept_at v level (i / fan ^ level)))
     (tops : t.root.stamp ≢ 0 → (level : ℕ) → t.levels < level → level ≤ v.levels → IsTop v level)
     (own : cell_placed (tree.get nat_cmp v.cells i) ≡ false) (others : (j : ℕ) → j ≢ i → tree.get nat_cmp v.cells j ≡ tree.get nat_cmp t.cells j) where
@@ -57,8 +58,8 @@ module _ (blocks : Under) (used : ℕ → Option Use) (t v : Tree) (i s : ℕ) (
   changed_old k q reached = changed_same k q (not_past blocks t i k q is.far reached) (kept_old blocks t v i is.far brings k q reached)
 
   -- nothing on the way has a block
-  way_unplaced : (level : ℕ) → level ≤ v.levels → placed_of v level (i / fan ^ level) ≡ false
-  way_unplaced level le = elim (cases_eq level 0) [
+  pub past_unplaced : (level : ℕ) → level ≤ v.levels → placed_of v level (i / fan ^ level) ≡ false
+  past_unplaced level le = elim (cases_eq level 0) [
     | inl e ↦ cell_led v level (i / fan ^ level) e ∙ ap (λ n. cell_placed (tree.get nat_cmp v.cells n)) ((λ j. i / fan ^ e j) ∙ first_range i) ∙ own
     | inr low ↦ spot_led v level (i / fan ^ level) (omega arith) ∙ elim (cases_eq t.root.stamp 0) [
       | inl none ↦ blank_unplaced v level (i / fan ^ level) (blank level (omega arith) le (inr none))
@@ -103,83 +104,98 @@ module _ (blocks : Under) (used : ℕ → Option Use) (t v : Tree) (i s : ℕ) (
   was_pointer k q x leads = elim (old_or_new k q leads.some) [
     | inl old ↦ old
     | inr (inl high) ↦ false_is_true (placed_of v k q) (top_unplaced k q (reached_within (standing blocks v) k q leads.some) high.0 high.1 high.2) leads.placed
-    | inr (inr lone) ↦ false_is_true (placed_of v k q) ((λ j. placed_of v k (lone_on k q lone.1 lone.2 j)) ∙ way_unplaced k (omega (arith, lone.1))) leads.placed
+    | inr (inr lone) ↦ false_is_true (placed_of v k q) ((λ j. placed_of v k (lone_on k q lone.1 lone.2 j)) ∙ past_unplaced k (omega (arith, lone.1))) leads.placed
   ]
 
-  leads_old : (k q x : ℕ) → Leads (loaded_over blocks v) k q x → Leads (loaded_over blocks t) k q x
-  leads_old k q x leads = let old = was_pointer k q x leads in record {
+  pub past_leads : LeadsNoMore (loaded_over blocks t) (loaded_over blocks v)
+  past_leads k q x leads = let old = was_pointer k q x leads in record {
     some = old.0;
     placed = sym (led_old k q old.0) ∙ leads.placed;
     vvbn = sym (ap (λ (p : Pointer). p.vvbn) old.1) ∙ leads.vvbn;
   }
 
-  over_old : (k q : ℕ) → changed_of v k q ≡ true → (pointer_at (standing blocks t) k q).stamp ≢ 0 → k < v.levels → changed_of v (k + 1) (q / fan) ≡ true
-  over_old k q now reached lt = elim (cases_lt k t.levels) [
-    | inl less ↦ changed_old (k + 1) (q / fan) (λ e. reached (under_none (standing blocks t) k q less e)) ∙ sound.over k q (sym (changed_old k q reached) ∙ now) reached less
-    | inr le ↦
-        let at : k ≡ t.levels = omega (arith, le, reached_within (standing blocks t) k q reached) in
-        let first : q ≡ 0 = top_is_first (standing blocks t) q (subst (λ n. (pointer_at (standing blocks t) n q).stamp ≢ 0) at reached) in
-        let cell : t.root.stamp ≢ 0 = λ e. reached (none_at (standing blocks t) e k q) in
-        top_changed (k + 1) (q / fan) (omega (arith, lt)) cell (omega (arith, at)) (ap (λ n. n / fan) first)
-  ]
+  -- and still does
+  still_pointer : (k q : ℕ) → (pointer_at (standing blocks t) k q).stamp ≢ 0 → pointer_at (standing blocks v) k q ≡ pointer_at (standing blocks t) k q
+  still_pointer k q reached =
+      let cell : t.root.stamp ≢ 0 = λ e. reached (none_at (standing blocks t) e k q) in
+      let le : k ≤ t.levels = reached_within (standing blocks t) k q reached in
+      seen blocks t v i s is some cell k q (omega (arith, le, grows)) ∙ raised_old (standing blocks t) s k q le
 
-  over : (k q : ℕ) → q ≢ i / fan ^ k → changed_of v k q ≡ true → (pointer_at (standing blocks v) k q).stamp ≢ 0 → k < v.levels → changed_of v (k + 1) (q / fan) ≡ true
-  over k q differs now reached lt = elim (old_or_new k q reached) [
-    | inl old ↦ over_old k q now old.0 lt
-    | inr (inl high) ↦ top_changed (k + 1) (q / fan) (omega (arith, lt)) high.0 (omega (arith, high.1)) (ap (λ n. n / fan) high.2)
-    | inr (inr lone) ↦ absurd (omega (arith, lone.1, lt))
-  ]
+  pub past_keeps : LeadsNoMore (loaded_over blocks v) (loaded_over blocks t)
+  past_keeps k q x leads = record {
+    some = λ e. leads.some (ap (λ (p : Pointer). p.stamp) (sym (still_pointer k q leads.some)) ∙ e);
+    placed = led_old k q leads.some ∙ leads.placed;
+    vvbn = ap (λ (p : Pointer). p.vvbn) (still_pointer k q leads.some) ∙ leads.vvbn;
+  }
 
-  same : (k q : ℕ) (xs : List Pointer) → q ≢ i / fan ^ k → 1 ≤ k → node_in v k q ≡ Some xs → changed_of v k q ≡ false → (pointer_at (standing blocks v) k q).stamp ≢ 0
-      → (pointers_in (blocks (pointer_at (standing blocks v) k q).vvbn) ≡ xs) × (placed_of v k q ≡ true)
-  same k q xs differs low node now reached = elim (old_or_new k q reached) [
-    | inl old ↦
-        let was = sound.same k q xs low (sym (ap (option_map (λ (kept : KeptNode). kept.children)) (kept_old blocks t v i is.far brings k q old.0)) ∙ node) (sym (changed_old k q old.0) ∙ now) old.0 in
-        ((λ j. pointers_in (blocks (old.1 j).vvbn)) ∙ was.0, led_old k q old.0 ∙ was.1)
-    | inr (inl high) ↦ false_is_true (changed_of v k q) now (top_changed k q (reached_within (standing blocks v) k q reached) high.0 high.1 high.2)
-    | inr (inr lone) ↦ absurd (differs (lone_on k q lone.1 lone.2))
-  ]
-
-  -- where nothing leads now, nothing did
-  none_before : (k q : ℕ) → (pointer_at (standing blocks v) k q).stamp ≡ 0 → (pointer_at (standing blocks t) k q).stamp ≡ 0
-  none_before k q none = elim (cases_eq t.root.stamp 0) [
-    | inl hole ↦ none_at (standing blocks t) hole k q
-    | inr cell ↦ elim (cases_lt t.levels k) [
-      | inl lt ↦ ap (λ (p : Pointer). p.stamp) (past (standing blocks t) k q lt)
-      | inr le ↦ sym (ap (λ (p : Pointer). p.stamp) (seen blocks t v i s is some cell k q (omega (arith, le, grows)) ∙ raised_old (standing blocks t) s k q le)) ∙ none
+  module _ (used : ℕ → Option Use) (sound : IsSound used (loaded_over blocks t)) where
+    over_old : (k q : ℕ) → changed_of v k q ≡ true → (pointer_at (standing blocks t) k q).stamp ≢ 0 → k < v.levels → changed_of v (k + 1) (q / fan) ≡ true
+    over_old k q now reached lt = elim (cases_lt k t.levels) [
+      | inl less ↦ changed_old (k + 1) (q / fan) (λ e. reached (under_none (standing blocks t) k q less e)) ∙ sound.over k q (sym (changed_old k q reached) ∙ now) reached less
+      | inr le ↦
+          let at : k ≡ t.levels = omega (arith, le, reached_within (standing blocks t) k q reached) in
+          let first : q ≡ 0 = top_is_first (standing blocks t) q (subst (λ n. (pointer_at (standing blocks t) n q).stamp ≢ 0) at reached) in
+          let cell : t.root.stamp ≢ 0 = λ e. reached (none_at (standing blocks t) e k q) in
+          top_changed (k + 1) (q / fan) (omega (arith, lt)) cell (omega (arith, at)) (ap (λ n. n / fan) first)
     ]
-  ]
 
-  -- the first ranges above the old levels, where there was a root, lead somewhere
-  not_high : {P : Type 0} (k q : ℕ) → (pointer_at (standing blocks v) k q).stamp ≡ 0 → (k ≤ v.levels) ⊎ (q ≢ 0) → t.root.stamp ≢ 0 → t.levels < k → q ≡ 0 → P
-  not_high k q none (inr differs) cell lt e = absurd (differs e)
-  not_high k q none (inl le) cell lt e = absurd (some (sym (ap (λ (p : Pointer). p.stamp) (seen blocks t v i s is some cell k q le ∙ raised_first (standing blocks t) s k q lt e)) ∙ none))
+    over : (k q : ℕ) → q ≢ i / fan ^ k → changed_of v k q ≡ true → (pointer_at (standing blocks v) k q).stamp ≢ 0 → k < v.levels → changed_of v (k + 1) (q / fan) ≡ true
+    over k q differs now reached lt = elim (old_or_new k q reached) [
+      | inl old ↦ over_old k q now old.0 lt
+      | inr (inl high) ↦ top_changed (k + 1) (q / fan) (omega (arith, lt)) high.0 (omega (arith, high.1)) (ap (λ n. n / fan) high.2)
+      | inr (inr lone) ↦ absurd (omega (arith, lone.1, lt))
+    ]
 
-  empty_where : (k q : ℕ) → (pointer_at (standing blocks v) k q).stamp ≡ 0 → (k ≤ v.levels) ⊎ (q ≢ 0) → (k ≤ t.levels) ⊎ ((q ≢ 0) ⊎ (t.root.stamp ≡ 0))
-  empty_where k q none which = elim (cases_lt t.levels k) [
-    | inr le ↦ inl le
-    | inl lt ↦ elim (cases_eq q 0) [
-      | inr differs ↦ inr (inl differs)
-      | inl e ↦ elim (cases_eq t.root.stamp 0) [
-        | inl hole ↦ inr (inr hole)
-        | inr cell ↦ not_high k q none which cell lt e
+    same : (k q : ℕ) (xs : List Pointer) → q ≢ i / fan ^ k → 1 ≤ k → node_in v k q ≡ Some xs → changed_of v k q ≡ false → (pointer_at (standing blocks v) k q).stamp ≢ 0
+        → (pointers_in (blocks (pointer_at (standing blocks v) k q).vvbn) ≡ xs) × (placed_of v k q ≡ true)
+    same k q xs differs low node now reached = elim (old_or_new k q reached) [
+      | inl old ↦
+          let was = sound.same k q xs low (sym (ap (option_map (λ (kept : KeptNode). kept.children)) (kept_old blocks t v i is.far brings k q old.0)) ∙ node) (sym (changed_old k q old.0) ∙ now) old.0 in
+          ((λ j. pointers_in (blocks (old.1 j).vvbn)) ∙ was.0, led_old k q old.0 ∙ was.1)
+      | inr (inl high) ↦ false_is_true (changed_of v k q) now (top_changed k q (reached_within (standing blocks v) k q reached) high.0 high.1 high.2)
+      | inr (inr lone) ↦ absurd (differs (lone_on k q lone.1 lone.2))
+    ]
+
+    -- where nothing leads now, nothing did
+    none_before : (k q : ℕ) → (pointer_at (standing blocks v) k q).stamp ≡ 0 → (pointer_at (standing blocks t) k q).stamp ≡ 0
+    none_before k q none = elim (cases_eq t.root.stamp 0) [
+      | inl hole ↦ none_at (standing blocks t) hole k q
+      | inr cell ↦ elim (cases_lt t.levels k) [
+        | inl lt ↦ ap (λ (p : Pointer). p.stamp) (past (standing blocks t) k q lt)
+        | inr le ↦ sym (ap (λ (p : Pointer). p.stamp) (seen blocks t v i s is some cell k q (omega (arith, le, grows)) ∙ raised_old (standing blocks t) s k q le)) ∙ none
       ]
     ]
-  ]
 
-  empty : (k q : ℕ) → q ≢ i / fan ^ k → 1 ≤ k → (pointer_at (standing blocks v) k q).stamp ≡ 0 → (k ≤ v.levels) ⊎ (q ≢ 0) → IsEmptyNode (standing blocks v) k q
-  empty k q differs low none which xs node =
-      let where_ = empty_where k q none which in
-      sound.empty k q low (none_before k q none) where_ xs (sym (ap (option_map (λ (kept : KeptNode). kept.children)) (kept_off blocks t v i is.far brings k q differs where_)) ∙ node)
+    -- the first ranges above the old levels, where there was a root, lead somewhere
+    not_high : {P : Type 0} (k q : ℕ) → (pointer_at (standing blocks v) k q).stamp ≡ 0 → (k ≤ v.levels) ⊎ (q ≢ 0) → t.root.stamp ≢ 0 → t.levels < k → q ≡ 0 → P
+    not_high k q none (inr differs) cell lt e = absurd (differs e)
+    not_high k q none (inl le) cell lt e = absurd (some (sym (ap (λ (p : Pointer). p.stamp) (seen blocks t v i s is some cell k q le ∙ raised_first (standing blocks t) s k q lt e)) ∙ none))
 
-  pub past_ready : IsReady used (loaded_over blocks v) i
-  past_ready = record {
-    once = λ j c k q x first second. sound.once j c k q x (leads_old j c x first) (leads_old k q x second);
-    held = λ k q x leads. sound.held k q x (leads_old k q x leads);
-    used = λ k q x leads.
-        right_as (kind_for t.owner k) (kind_for v.owner k) (ap (λ (o : ℕ). kind_for o k) is.owner) (pointer_at (standing blocks t) k q) (pointer_at (standing blocks v) k q) (used x) (used x) (ap (λ (p : Pointer). p.pvbn) (was_pointer k q x leads).1) refl (sound.used k q x (leads_old k q x leads));
-    unplaced = λ level le _. way_unplaced level le;
-    over = over;
-    same = same;
-    empty = empty;
-  }
+    empty_where : (k q : ℕ) → (pointer_at (standing blocks v) k q).stamp ≡ 0 → (k ≤ v.levels) ⊎ (q ≢ 0) → (k ≤ t.levels) ⊎ ((q ≢ 0) ⊎ (t.root.stamp ≡ 0))
+    empty_where k q none which = elim (cases_lt t.levels k) [
+      | inr le ↦ inl le
+      | inl lt ↦ elim (cases_eq q 0) [
+        | inr differs ↦ inr (inl differs)
+        | inl e ↦ elim (cases_eq t.root.stamp 0) [
+          | inl hole ↦ inr (inr hole)
+          | inr cell ↦ not_high k q none which cell lt e
+        ]
+      ]
+    ]
+
+    empty : (k q : ℕ) → q ≢ i / fan ^ k → 1 ≤ k → (pointer_at (standing blocks v) k q).stamp ≡ 0 → (k ≤ v.levels) ⊎ (q ≢ 0) → IsEmptyNode (standing blocks v) k q
+    empty k q differs low none which xs node =
+        let where_ = empty_where k q none which in
+        sound.empty k q low (none_before k q none) where_ xs (sym (ap (option_map (λ (kept : KeptNode). kept.children)) (kept_off blocks t v i is.far brings k q differs where_)) ∙ node)
+
+    pub past_ready : IsReady used (loaded_over blocks v) i
+    past_ready = record {
+      once = λ j c k q x first second. sound.once j c k q x (past_leads j c x first) (past_leads k q x second);
+      held = λ k q x leads. sound.held k q x (past_leads k q x leads);
+      used = λ k q x leads.
+          right_as (kind_for t.owner k) (kind_for v.owner k) (ap (λ (o : ℕ). kind_for o k) is.owner) (pointer_at (standing blocks t) k q) (pointer_at (standing blocks v) k q) (used x) (used x) (ap (λ (p : Pointer). p.pvbn) (was_pointer k q x leads).1) refl (sound.used k q x (past_leads k q x leads));
+      unplaced = λ level le _. past_unplaced level le;
+      over = over;
+      same = same;
+      empty = empty;
+    }

@@ -86,6 +86,12 @@ module _ (blocks : Under) (w u : Tree) (i : ℕ) (but : IsSameBut w u) (nodes : 
 
 -- ---- what it is seen as
 
+pub unstamped_none : (p : Pointer) → is_some (stamp_in p) ≡ false → p.stamp ≡ 0
+unstamped_none p none = elim (cases_eq p.stamp 0) [
+  | inl e ↦ e
+  | inr some ↦ absurd (let both : true ≡ false = sym (ap is_some (stamp_there p some)) ∙ none in grind (arith, both))
+]
+
 inserted : (contents : fin.FinMap nat_cmp (List ℕ)) (i : ℕ) (block : List ℕ) (j : ℕ) (o : Option (List ℕ)) → (j ≡ i → o ≡ Some block) → (j ≢ i → o ≡ fin.get contents j) → fin.get (fin.insert contents i block) j ≡ o
 inserted contents i block j o here other = fin.get-insert nat_cmp_total contents i block j ∙ elim (cases_eq j i) [
   | inl e ↦ let test : eq_by_cmp nat_cmp j i ≡ true = grind (arith, nat_tests) in ap (λ b. cond b (Some block) (fin.get contents j)) test ∙ sym (here e)
@@ -106,9 +112,3 @@ refills old new i block false is seen contents shows = record {
     | inr differs ↦ shows.blocks j ∙ sym (is.blocks j differs)
   ];
 }
-  where
-    unstamped_none : (p : Pointer) → is_some (stamp_in p) ≡ false → p.stamp ≡ 0
-    unstamped_none p none = elim (cases_eq p.stamp 0) [
-      | inl e ↦ e
-      | inr some ↦ absurd (let both : true ≡ false = sym (ap is_some (stamp_there p some)) ∙ none in grind (arith, both))
-    ]

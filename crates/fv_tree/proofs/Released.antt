@@ -101,7 +101,7 @@ released_as a b P R is to from = record {
   calm = is.calm;
 }
 
-block_read : (t : Rooted) (i : ℕ) → StandsAt t 0 i → t.cells i ≡ None → block_at t i ≡ t.under (pointer_at t 0 i).vvbn
+pub block_read : (t : Rooted) (i : ℕ) → StandsAt t 0 i → t.cells i ≡ None → block_at t i ≡ t.under (pointer_at t 0 i).vvbn
 unfolding block_at
 block_read t i stands cell = let test : ((pointer_at t 0 i).stamp == 0) ≡ false = grind (arith, nat_tests) in rw (test, cell) refl
 
@@ -191,6 +191,13 @@ module _ (old new : Under) (u : Tree) (stay : (level place : ℕ) → Led old u 
     some = λ none. led.some (ap (λ (p : Pointer). p.stamp) (moved_pointers level place) ∙ none);
     placed = led.placed;
     vvbn = ap (λ (p : Pointer). p.vvbn) (sym (moved_pointers level place)) ∙ led.vvbn;
+  }
+
+  pub moved_keeps : (level place v : ℕ) → Leads (loaded_over old u) level place v → Leads (loaded_over new u) level place v
+  moved_keeps level place v led = record {
+    some = λ none. led.some (ap (λ (p : Pointer). p.stamp) (sym (moved_pointers level place)) ∙ none);
+    placed = led.placed;
+    vvbn = ap (λ (p : Pointer). p.vvbn) (moved_pointers level place) ∙ led.vvbn;
   }
 
 -- ---- a tree that stands on its blocks

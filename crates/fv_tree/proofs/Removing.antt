@@ -1,5 +1,5 @@
 -- Whole removals, over the blocks that there were before and over those that there are afterwards.
-use Rattle.std.proofs.Common.{◌≡◌, ◌≤◌, ℕ, ◌/◌, ◌^◌, ◌⊎◌, inl, inr, Bool, false, ◌||◌, Result, Ok, Err, OnOk, OnErr, IfErr, None, cond, nat_eq, sym, ap, subst, ◌∙◌, arith}
+use Rattle.std.proofs.Common.{◌≡◌, ◌≤◌, ℕ, ◌+◌, ◌/◌, ◌^◌, ◌⊎◌, inl, inr, Bool, false, ◌||◌, Result, Ok, Err, IfOk, OnOk, OnErr, IfErr, None, cond, nat_eq, sym, ap, subst, ◌∙◌, arith}
 use Rattle.std.specs.FinMap as fin
 use Rattle.std.proofs.lemmas.Bool.{cases_eq}
 use Rattle.std.proofs.lemmas.Bool.Decides.{nat_tests}
@@ -15,14 +15,18 @@ use Rattle.fv_tree.specs.Standing.{standing, under, Fails}
 use Rattle.fv_tree.specs.Keeping.{IsSame, IsKept}
 use Rattle.fv_tree.specs.Erasing.{StandsAt, HoldsCells, IsErased, Erases}
 use Rattle.fv_tree.specs.Releasing.{IsDropped, KeepsBlocks, Releases, Removes}
-use Rattle.fv_tree.specs.Flushing.{IsSound, Stands, loaded_over}
+use Rattle.fv_tree.specs.Flushing.{Leads, IsSound, Stands, loaded, loaded_over}
+use Rattle.fv_tree.specs.Leading.{LeadsNoMore, Carries}
+use Rattle.fv_tree.specs.Counting.{positions_of}
 use Rattle.fv_tree.specs.Removal.{Removal}
+use Rattle.fv_tree.specs.Costs.{pending}
 use Rattle.fv_tree.specs.Unlinking.{HasWay, CellGoes}
+use Rattle.fv_tree.proofs.Counts.{alike_count}
 use Rattle.fv_tree.proofs.Erased.{nothing_erased, erased_then, erased_as, holds_cells, stands_as, no_choice, choice}
 use Rattle.fv_tree.proofs.Marks.{erases}
 use Rattle.fv_tree.proofs.Raised.{past_at}
 use Rattle.fv_tree.proofs.Writes.{no_stamp, same_alike}
-use Rattle.fv_tree.proofs.Released.{nothing_released, released_then, released_as, keeps_then, led_before, released_alike, released_sound, sound_used, erased_alike}
+use Rattle.fv_tree.proofs.Released.{nothing_released, released_then, released_as, keeps_then, led_before, moved_leads, moved_keeps, blocks_stay, released_alike, released_sound, sound_used, erased_alike}
 
 -- a tree that is the same over the same blocks
 pub same_over : (old new : Under) (t u : Tree) → new ≡ old → IsSame (standing old t) (standing new u) → IsSame (standing old t) (standing old u)
@@ -159,12 +163,41 @@ module _ (old new : Shown) (t u : Tree) (gone : ℕ → Bool) (start s : ℕ) (i
   pub removed_stands : Stands new u
   removed_stands = released_sound old new t u stands is.keeps is.released (is.sound stands)
 
+  -- what it leads to
+  before : (level place v : ℕ) → StandsAt (standing (under old) u) level place → Leads (loaded old t) level place v → Leads (loaded_over (under old) u) level place v
+  before level place v there led = record { some = there; placed = is.keeps.block level place there ∙ led.placed; vvbn = is.keeps.number level place there ∙ led.vvbn }
+
+  pub removed_leads : LeadsNoMore (loaded old t) (loaded new u)
+  removed_leads level place v led = led_before (under old) t u level place v is.keeps (moved_leads (under old) (under new) u (blocks_stay old new t u stands is.keeps is.released) level place v led)
+
+  pub removed_lets_go : (level place v : ℕ) → Leads (loaded old t) level place v → Leads (loaded new u) level place v ⊎ (new.used v ≡ None)
+  removed_lets_go level place v led = elim (cases_eq (pointer_at (standing (under old) u) level place).stamp 0) [
+    | inl hole ↦ inr (is.released.gone v (record { level = level; place = place; led = led; goes = hole }))
+    | inr there ↦ inl (moved_keeps (under old) (under new) u (blocks_stay old new t u stands is.keeps is.released) level place v (before level place v there led))
+  ]
+
 -- ---- what a call answered
 
-pub stands_after : {X : Type 0} (r : Result X BlockFault) (old new : Shown) (t u : Tree) (gone : ℕ → Bool) (start s : ℕ) → OnOk r (Removes old new t u gone start s) → OnErr r (Stands old t → Stands new u)
+pub stands_after : {X : Type 0} (r : Result X BlockFault) (old new : Shown) (t u : Tree) (gone : ℕ → Bool) (start s : ℕ) → OnOk r (Removes old new t u gone start s) → OnErr r (Carries old new t u)
     → Stands old t → Stands new u
 stands_after (Ok x) old new t u gone start s done stays stands = removed_stands old new t u gone start s done stands
-stands_after (Err e) old new t u gone start s done stays stands = stays stands
+stands_after (Err e) old new t u gone start s done stays stands = stays.stands stands
+
+pub leads_after : {X : Type 0} (r : Result X BlockFault) (old new : Shown) (t u : Tree) (gone : ℕ → Bool) (start s : ℕ) → OnOk r (Removes old new t u gone start s) → OnErr r (Carries old new t u)
+    → Stands old t → LeadsNoMore (loaded old t) (loaded new u)
+leads_after (Ok x) old new t u gone start s done stays stands = removed_leads old new t u gone start s done stands
+leads_after (Err e) old new t u gone start s done stays stands = stays.leads
+
+pub lets_go_after : {X : Type 0} (r : Result X BlockFault) (old new : Shown) (t u : Tree) (gone : ℕ → Bool) (start s : ℕ) → OnOk r (Removes old new t u gone start s) → OnErr r (Carries old new t u)
+    → Stands old t → (level place v : ℕ) → Leads (loaded old t) level place v → Leads (loaded new u) level place v ⊎ (new.used v ≡ None)
+lets_go_after (Ok x) old new t u gone start s done stays stands = removed_lets_go old new t u gone start s done stands
+lets_go_after (Err e) old new t u gone start s done stays stands = λ level place v led. inl (stays.keeps level place v led)
+
+pub count_after : (r : Result ℕ BlockFault) (old new : Shown) (t u : Tree) (gone : ℕ → Bool) (start s : ℕ) → OnOk r (Removes old new t u gone start s)
+    → IfOk r (λ count. positions_of (standing (under old) t) ≡ positions_of (standing (under old) u) + count)
+    → IfOk r (λ count. Stands old t → positions_of (standing (under old) t) ≡ positions_of (standing (under new) u) + count)
+count_after (Ok x) old new t u gone start s done count = λ stands. count ∙ ap (λ n. n + x) (sym (alike_count (standing (under old) u) (standing (under new) u) (released_alike old new t u stands done.keeps done.released)))
+count_after (Err e) old new t u gone start s done count = tt
 
 pub strays_after : {X : Type 0} (r : Result X BlockFault) (old new : Shown) (t u : Tree) (gone : ℕ → Bool) (start s : ℕ) → OnOk r (Removes old new t u gone start s) → OnErr r (IsUntouched old new)
     → Stands old t → new.strays ≡ old.strays
@@ -181,18 +214,24 @@ remains_after (Err e) t u same = λ seen contents shows.
     }
 
 -- a whole removal, from what it did over the blocks of before
-pub removal_after : (told calls : Type 0) (r : Result Unit BlockFault) (old new : Shown) (t u : Tree) (gone : ℕ → Bool) (start s : ℕ) → (told → OnOk r (Removes old new t u gone start s))
-    → (told → OnErr r (IsSame (standing (under old) t) (standing (under new) u))) → u.owner ≡ t.owner → (told → OnErr r (Stands old t → Stands new u)) → OnErr r (IsUntouched old new) → calls → Counts old new r
+pub removal_after : (told calls : Type 0) (r : Result ℕ BlockFault) (old new : Shown) (t u : Tree) (gone : ℕ → Bool) (start s : ℕ) → (told → OnOk r (Removes old new t u gone start s))
+    → (told → OnErr r (IsSame (standing (under old) t) (standing (under new) u))) → u.owner ≡ t.owner → (told → OnErr r (Carries old new t u)) → OnErr r (IsUntouched old new) → old.room ≤ new.room → OnErr r (pending u ≤ pending t) → calls → Counts old new r
+    → (told → IfOk r (λ count. positions_of (standing (under old) t) ≡ positions_of (standing (under old) u) + count))
     → IfErr r (Fails told (standing (under old) t) old new) → Removal told calls old new t u gone start s r
-removal_after told calls r old new t u gone start s done same owner stays untouched called counts cause = record {
+removal_after told calls r old new t u gone start s done same owner stays untouched room still called counts count cause = record {
   erased = λ tells. on_ok_weaker r (removed_seen old new t u gone start s) (done tells);
   place_by_place = λ tells. on_ok_weaker r (removed old new t u gone start s) (done tells);
   strays = λ tells. strays_after r old new t u gone start s (done tells) untouched;
   released = λ tells. on_ok_weaker r (λ removes. removes.released) (done tells);
   owner = owner;
   stands = λ tells. stands_after r old new t u gone start s (done tells) (stays tells);
+  leads = λ tells. leads_after r old new t u gone start s (done tells) (stays tells);
+  lets_go = λ tells. lets_go_after r old new t u gone start s (done tells) (stays tells);
+  count = λ tells. count_after r old new t u gone start s (done tells) (count tells);
   failed = λ tells. remains_after r (standing (under old) t) (standing (under new) u) (same tells);
   untouched = untouched;
+  room = room;
+  pending = still;
   called = called;
   counts = counts;
   cause = cause;

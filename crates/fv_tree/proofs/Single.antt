@@ -18,7 +18,7 @@ use Rattle.fv_tree.specs.Releasing.{IsDropped, KeepsBlocks}
 use Rattle.fv_tree.specs.Flushing.{Leads, IsSound, IsEmptyNode, loaded_over, placed_of, changed_in, changed_of, pointer_in, kind_for}
 use Rattle.fv_tree.specs.Unlinking.{HasWay, AreBare, Unlinks, CellGoes, cleared_in, IsOnWay, IsNamed, NamesOnce}
 use Rattle.fv_tree.proofs.Hints.{right_as, right_some}
-use Rattle.fv_tree.proofs.Erased.{hole_of, not_both}
+use Rattle.fv_tree.proofs.Erased.{hole_of, not_both, stamp_there}
 use Rattle.fv_tree.proofs.Collected.{pointer_in_is}
 use Rattle.fv_tree.proofs.Stamped.{above}
 use Rattle.fv_tree.proofs.Unlinked.{hole_below, new_root, marks_above, cell_within, mark_within, alone, lone, another, emptied, low, high, off_same, same_levels, unlinked}
@@ -96,6 +96,27 @@ module _ (blocks : Under) (t u : Tree) (i lost start stamp : ℕ) (way : HasWay 
 
   above_lost : (level place : ℕ) → lost < level → level ≤ t.levels → place ≡ i / fan ^ level → pointer_at v level place ≡ stamped (pointer_at s level place) stamp
   above_lost level place lt le at = unlinked blocks t i lost way are stands u start stamp is some (omega (arith, lt, le)) level place le ∙ high blocks t i lost way are stands u start stamp is some level place at lt
+
+  -- the positions that go, and those that stay
+  pub on_way_goes : (level : ℕ) → level ≤ lost → (pointer_at v level (i / fan ^ level)).stamp ≡ 0
+  on_way_goes level le = gone_below level (i / fan ^ level) refl le
+
+  pub other_stays : (level place : ℕ) → (lost < level) ⊎ (place ≢ i / fan ^ level) → is_some (stamp_in (pointer_at v level place)) ≡ is_some (stamp_in (pointer_at s level place))
+  other_stays level place other = elim (cases_eq place (i / fan ^ level)) [
+    | inr differs ↦ ap is_some (beside_stamp level place differs)
+    | inl at ↦ elim other [
+      | inr differs ↦ absurd (differs at)
+      | inl lt ↦ elim (cases_lt t.levels level) [
+        | inr le ↦
+            ap is_some (ap stamp_in (above_lost level place lt le at) ∙ some_stamp (pointer_at s level place) stamp some)
+            ∙ sym (ap is_some (stamp_there (pointer_at s level place) (λ none. marks_above s level i le stands (ap (λ q. (pointer_at s level q).stamp) (sym at) ∙ none))))
+        | inl over ↦ ap is_some (no_stamp (pointer_at v level place) (elim all_or_not [
+          | inl all ↦ emptied blocks t i lost way are stands u start stamp is some all level place
+          | inr less ↦ ap (λ (p : Pointer). p.stamp) (past v level place (omega (arith, over, new_levels less)))
+        ]) ∙ sym (no_stamp (pointer_at s level place) (ap (λ (p : Pointer). p.stamp) (past s level place over))))
+      ]
+    ]
+  ]
 
   first_range : i ≡ i / fan ^ 0
   first_range = omega arith

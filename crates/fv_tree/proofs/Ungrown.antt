@@ -13,8 +13,9 @@ use Rattle.fv_tree.specs.declared.kept.KeptCell.{KeptCell}
 use Rattle.fv_tree.specs.Spelled.{Under, hole, pointers_in, pointer_at}
 use Rattle.fv_tree.specs.Standing.{standing, node_in, IsSameBut}
 use Rattle.fv_tree.specs.Keeping.{IsSame}
-use Rattle.fv_tree.specs.Flushing.{Leads, IsSound, IsEmptyNode, loaded_over, changed_of, placed_of, node_changed, node_placed, cell_placed, kind_for}
+use Rattle.fv_tree.specs.Flushing.{IsSound, IsEmptyNode, loaded_over, changed_of, placed_of, node_changed, node_placed, cell_placed, kind_for}
 use Rattle.fv_tree.specs.Carried.{kept_at, BringsNew}
+use Rattle.fv_tree.specs.Leading.{LeadsNoMore}
 use Rattle.fv_tree.proofs.Brought.{blank_empty}
 use Rattle.fv_tree.proofs.Flushed.{under_none, reached_within}
 use Rattle.fv_tree.proofs.Gone.{cell_changed, spot_changed, cell_led, spot_led}
@@ -49,7 +50,7 @@ module _ (blocks : Under) (t v : Tree) (i : ℕ) (far : fan ^ t.levels ≤ i) (b
 
 -- ---- the growth found no memory
 
-module _ (blocks : Under) (used : ℕ → Option Use) (t v : Tree) (i : ℕ) (far : fan ^ t.levels ≤ i) (fields : IsSameBut t v) (same : IsSame (standing blocks t) (standing blocks v)) (brings : BringsNew t v i) (sound : IsSound used (loaded_over blocks t)) where
+module _ (blocks : Under) (t v : Tree) (i : ℕ) (far : fan ^ t.levels ≤ i) (fields : IsSameBut t v) (same : IsSame (standing blocks t) (standing blocks v)) (brings : BringsNew t v i) where
   stamps : (k q : ℕ) → (pointer_at (standing blocks v) k q).stamp ≡ (pointer_at (standing blocks t) k q).stamp
   stamps k q = ap (λ (p : Pointer). p.stamp) (same.pointers k q)
 
@@ -65,51 +66,59 @@ module _ (blocks : Under) (used : ℕ → Option Use) (t v : Tree) (i : ℕ) (fa
     | inr low ↦ spot_changed v k q (omega arith) ∙ ap node_changed (kept_old blocks t v i far brings k q some) ∙ sym (spot_changed t k q (omega arith))
   ]
 
-  leads_old : (k q x : ℕ) → Leads (loaded_over blocks v) k q x → Leads (loaded_over blocks t) k q x
-  leads_old k q x leads = let some : (pointer_at (standing blocks t) k q).stamp ≢ 0 = λ e. leads.some (stamps k q ∙ e) in record {
+  pub still_leads : LeadsNoMore (loaded_over blocks t) (loaded_over blocks v)
+  still_leads k q x leads = let some : (pointer_at (standing blocks t) k q).stamp ≢ 0 = λ e. leads.some (stamps k q ∙ e) in record {
     some = some;
     placed = sym (led_old k q some) ∙ leads.placed;
     vvbn = sym (ap (λ (p : Pointer). p.vvbn) (same.pointers k q)) ∙ leads.vvbn;
   }
 
-  over : (k q : ℕ) → changed_of v k q ≡ true → (pointer_at (standing blocks v) k q).stamp ≢ 0 → k < v.levels → changed_of v (k + 1) (q / fan) ≡ true
-  over k q now reached lt =
-      let less : k < t.levels = omega (arith, lt, fields.levels) in
-      let some : (pointer_at (standing blocks t) k q).stamp ≢ 0 = λ e. reached (stamps k q ∙ e) in
-      changed_old (k + 1) (q / fan) (λ e. some (under_none (standing blocks t) k q less e)) ∙ sound.over k q (sym (changed_old k q some) ∙ now) some less
-
-  same_nodes : (k q : ℕ) (xs : List Pointer) → 1 ≤ k → node_in v k q ≡ Some xs → changed_of v k q ≡ false → (pointer_at (standing blocks v) k q).stamp ≢ 0
-      → (pointers_in (blocks (pointer_at (standing blocks v) k q).vvbn) ≡ xs) × (placed_of v k q ≡ true)
-  same_nodes k q xs low node now reached =
-      let some : (pointer_at (standing blocks t) k q).stamp ≢ 0 = λ e. reached (stamps k q ∙ e) in
-      let was = sound.same k q xs low (sym (ap (option_map (λ (kept : KeptNode). kept.children)) (kept_old blocks t v i far brings k q some)) ∙ node) (sym (changed_old k q some) ∙ now) some in
-      ((λ j. pointers_in (blocks (same.pointers k q j).vvbn)) ∙ was.0, led_old k q some ∙ was.1)
-
-  empty : (k q : ℕ) → 1 ≤ k → (pointer_at (standing blocks v) k q).stamp ≡ 0 → (k ≤ v.levels) ⊎ ((q ≢ 0) ⊎ (v.root.stamp ≡ 0)) → IsEmptyNode (standing blocks v) k q
-  empty k q low none which =
-      let where_ : (k ≤ t.levels) ⊎ ((q ≢ 0) ⊎ (t.root.stamp ≡ 0)) = elim which [
-        | inl le ↦ inl (omega (arith, le, fields.levels))
-        | inr (inl differs) ↦ inr (inl differs)
-        | inr (inr hole) ↦ inr (inr (sym (ap (λ (p : Pointer). p.stamp) fields.root) ∙ hole))
-      ] in
-      let was : IsEmptyNode (standing blocks t) k q = sound.empty k q low (sym (stamps k q) ∙ none) where_ in
-      elim (brings k q) [
-        | inl kept ↦ λ xs node. was xs (sym (ap (option_map (λ (kept : KeptNode). kept.children)) kept) ∙ node)
-        | inr (inl blank) ↦ blank_empty blocks v k q blank.1
-        | inr (inr high) ↦ elim where_ [
-          | inl le ↦ absurd (omega (arith, high.1, le))
-          | inr (inl differs) ↦ absurd (differs high.2)
-          | inr (inr hole) ↦ absurd (high.0 hole)
-        ]
-      ]
-
-  pub still_sound : IsSound used (loaded_over blocks v)
-  still_sound = record {
-    once = λ j c k q x first second. sound.once j c k q x (leads_old j c x first) (leads_old k q x second);
-    held = λ k q x leads. sound.held k q x (leads_old k q x leads);
-    used = λ k q x leads.
-        right_as (kind_for t.owner k) (kind_for v.owner k) (ap (λ (o : ℕ). kind_for o k) fields.owner) (pointer_at (standing blocks t) k q) (pointer_at (standing blocks v) k q) (used x) (used x) (ap (λ (p : Pointer). p.pvbn) (same.pointers k q)) refl (sound.used k q x (leads_old k q x leads));
-    over = over;
-    same = same_nodes;
-    empty = empty;
+  pub still_keeps : LeadsNoMore (loaded_over blocks v) (loaded_over blocks t)
+  still_keeps k q x leads = record {
+    some = λ e. leads.some (sym (stamps k q) ∙ e);
+    placed = led_old k q leads.some ∙ leads.placed;
+    vvbn = ap (λ (p : Pointer). p.vvbn) (same.pointers k q) ∙ leads.vvbn;
   }
+
+  module _ (used : ℕ → Option Use) (sound : IsSound used (loaded_over blocks t)) where
+    over : (k q : ℕ) → changed_of v k q ≡ true → (pointer_at (standing blocks v) k q).stamp ≢ 0 → k < v.levels → changed_of v (k + 1) (q / fan) ≡ true
+    over k q now reached lt =
+        let less : k < t.levels = omega (arith, lt, fields.levels) in
+        let some : (pointer_at (standing blocks t) k q).stamp ≢ 0 = λ e. reached (stamps k q ∙ e) in
+        changed_old (k + 1) (q / fan) (λ e. some (under_none (standing blocks t) k q less e)) ∙ sound.over k q (sym (changed_old k q some) ∙ now) some less
+
+    same_nodes : (k q : ℕ) (xs : List Pointer) → 1 ≤ k → node_in v k q ≡ Some xs → changed_of v k q ≡ false → (pointer_at (standing blocks v) k q).stamp ≢ 0
+        → (pointers_in (blocks (pointer_at (standing blocks v) k q).vvbn) ≡ xs) × (placed_of v k q ≡ true)
+    same_nodes k q xs low node now reached =
+        let some : (pointer_at (standing blocks t) k q).stamp ≢ 0 = λ e. reached (stamps k q ∙ e) in
+        let was = sound.same k q xs low (sym (ap (option_map (λ (kept : KeptNode). kept.children)) (kept_old blocks t v i far brings k q some)) ∙ node) (sym (changed_old k q some) ∙ now) some in
+        ((λ j. pointers_in (blocks (same.pointers k q j).vvbn)) ∙ was.0, led_old k q some ∙ was.1)
+
+    empty : (k q : ℕ) → 1 ≤ k → (pointer_at (standing blocks v) k q).stamp ≡ 0 → (k ≤ v.levels) ⊎ ((q ≢ 0) ⊎ (v.root.stamp ≡ 0)) → IsEmptyNode (standing blocks v) k q
+    empty k q low none which =
+        let where_ : (k ≤ t.levels) ⊎ ((q ≢ 0) ⊎ (t.root.stamp ≡ 0)) = elim which [
+          | inl le ↦ inl (omega (arith, le, fields.levels))
+          | inr (inl differs) ↦ inr (inl differs)
+          | inr (inr hole) ↦ inr (inr (sym (ap (λ (p : Pointer). p.stamp) fields.root) ∙ hole))
+        ] in
+        let was : IsEmptyNode (standing blocks t) k q = sound.empty k q low (sym (stamps k q) ∙ none) where_ in
+        elim (brings k q) [
+          | inl kept ↦ λ xs node. was xs (sym (ap (option_map (λ (kept : KeptNode). kept.children)) kept) ∙ node)
+          | inr (inl blank) ↦ blank_empty blocks v k q blank.1
+          | inr (inr high) ↦ elim where_ [
+            | inl le ↦ absurd (omega (arith, high.1, le))
+            | inr (inl differs) ↦ absurd (differs high.2)
+            | inr (inr hole) ↦ absurd (high.0 hole)
+          ]
+        ]
+
+    pub still_sound : IsSound used (loaded_over blocks v)
+    still_sound = record {
+      once = λ j c k q x first second. sound.once j c k q x (still_leads j c x first) (still_leads k q x second);
+      held = λ k q x leads. sound.held k q x (still_leads k q x leads);
+      used = λ k q x leads.
+          right_as (kind_for t.owner k) (kind_for v.owner k) (ap (λ (o : ℕ). kind_for o k) fields.owner) (pointer_at (standing blocks t) k q) (pointer_at (standing blocks v) k q) (used x) (used x) (ap (λ (p : Pointer). p.pvbn) (same.pointers k q)) refl (sound.used k q x (still_leads k q x leads));
+      over = over;
+      same = same_nodes;
+      empty = empty;
+    }

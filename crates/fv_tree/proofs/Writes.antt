@@ -146,7 +146,7 @@ module _ (t v u : Rooted) (i s : ℕ) (block : List ℕ) (base : IsBase t v i s)
 
 -- ---- within the levels
 
-levels_stay : (levels i : ℕ) → i < fan ^ levels → levels ≡ levels_with levels i
+pub levels_stay : (levels i : ℕ) → i < fan ^ levels → levels ≡ levels_with levels i
 unfolding levels_with
 levels_stay levels i lt = let test : nat_lt i (fan ^ levels) ≡ true = grind (arith, nat_tests) in rw test refl
 

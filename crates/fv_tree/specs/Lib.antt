@@ -8,8 +8,13 @@ pub mod Releasing
 pub mod Unlinking
 pub mod Collecting
 pub mod Flushing
+pub mod Counting
+pub mod Readying
+pub mod Leading
 pub mod Removal
 pub mod Carried
 pub mod Refilling
 pub mod Reading
 pub mod Seeking
+pub mod Beside
+pub mod Costs

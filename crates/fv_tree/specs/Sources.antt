@@ -1,5 +1,5 @@
 -- What a source of blocks shows, and what its calls do.
-use Rattle.std.specs.Prelude.{◌≡◌, ◌≢◌, ◌≤◌, ◌⊎◌, ℕ, true, cond, nat_eq, is_some, List, Option, Some, None, Result, IfOk, IfErr, OnOk, OnErr}
+use Rattle.std.specs.Prelude.{◌≡◌, ◌≢◌, ◌≤◌, ◌⊎◌, ◌+◌, ℕ, true, cond, nat_eq, is_some, List, Option, Some, None, Result, IfOk, IfErr, OnOk, OnErr}
 use Rattle.std.specs.Ordering.{nat_cmp}
 use Rattle.std.specs.FinMap as fin
 use Rattle.fv_disk.specs.Shown.{Rose}
@@ -29,6 +29,12 @@ pub record Shown : Type 1 where
   pub strays : ℕ
   -- the PVBN that a load answers: where the block was read, or 0 for one that isn't placed yet
   pub read_at : Pointer → ℕ
+  -- so many blocks can be placed for sure, as far as memory goes
+  pub room : ℕ
+  -- how many look-ups a load of a pointer makes
+  pub cost : Pointer → ℕ
+  -- how many look-ups loads have made
+  pub spent : ℕ
   -- failed calls of the disk; the count stays at 2^64 - 1
   pub faults : ℕ
   -- how often damage was answered; the count stays at 2^64 - 1
@@ -41,10 +47,11 @@ pub record Shown : Type 1 where
 pub record IsSource (source : Shown) : Type 0 where
   pub damage : source.damages ≢ 0 → source.is_damage source.last
 
--- both counts are as before
+-- the counts of faults and damages are as before, and that of look-ups didn't fall
 pub record IsCalm (old new : Shown) : Type 0 where
   pub faults : new.faults ≡ old.faults
   pub damages : new.damages ≡ old.damages
+  pub spent : old.spent ≤ new.spent
 
 -- damage was answered, and this one last
 abbrev pub WasDamaged : Shown → Shown → ℕ → ℕ → ℕ → Type 0
@@ -61,13 +68,16 @@ HasCause old new Memory = IsCalm old new
 pub record Counts {T E : Type 0} (old new : Shown) (result : Result T E) : Type 0 where
   pub faults : old.faults ≤ new.faults
   pub damages : old.damages ≤ new.damages
+  pub spent : old.spent ≤ new.spent
   pub calm : OnOk result (IsCalm old new)
 
--- the blocks that are held, what is in use, and the count of strays are as before
+-- the blocks that are held, what is in use, the count of strays, the room, and what loads cost are as before
 pub record IsUntouched (old new : Shown) : Type 0 where
   pub held : new.held ≡ old.held
   pub used : new.used ≡ old.used
   pub strays : new.strays ≡ old.strays
+  pub room : new.room ≡ old.room
+  pub cost : new.cost ≡ old.cost
 
 abbrev pub IsDamaged : BlockFault → Type 0
 IsDamaged DiskFault = ⊥
@@ -78,18 +88,21 @@ IsDamaged Memory = ⊥
 abbrev pub IsLoose : Shown → Pointer → BlockFault → Type 0
 IsLoose source p e = IsDamaged e → fin.get source.held p.vvbn ≡ None
 
--- A load changes nothing. From a source whose content is told it gives the block under the pointer's VVBN.
+-- A load changes nothing but the count of look-ups, which rises by what it costs. From a source whose content is told it gives the block
+-- under the pointer's VVBN.
 pub record Loads (told : Type 0) (old : Shown) (pointer : Pointer) (new : Shown) (block : List ℕ) (result : Result ℕ BlockFault) : Type 0 where
   pub untouched : IsUntouched old new
   pub gives : told → OnOk result (fin.get old.held pointer.vvbn ≡ Some block)
   pub answers : IfOk result (λ pvbn. pvbn ≡ new.read_at pointer)
   pub range : IfOk result (λ pvbn. pvbn ≤ last_place)
+  pub spent : OnOk result (new.spent ≡ old.spent + old.cost pointer)
   pub counts : Counts old new result
   pub cause : IfErr result (HasCause old new)
   pub loose : IfErr result (IsLoose old pointer)
 
 -- A block of a kind is placed under a VVBN that was neither held nor in use, and comes into use with that kind and the PVBN that is
--- answered. A PVBN of 0 asks for an unknown pointer. Where a source's content is told, that block alone is new in the map.
+-- answered. A PVBN of 0 asks for an unknown pointer. Where a source's content is told, that block alone is new in the map. One fewer can
+-- be placed afterwards at most, and while there is room no damage is answered. It makes no look-up.
 pub record Places (told : Type 0) (old : Shown) (kind : ℕ) (block : List ℕ) (new : Shown) (result : Result Placed BlockFault) : Type 0 where
   pub fresh : IfOk result (λ placed. fin.get old.held placed.vvbn ≡ None)
   pub unused : IfOk result (λ placed. old.used placed.vvbn ≡ None)
@@ -98,17 +111,22 @@ pub record Places (told : Type 0) (old : Shown) (kind : ℕ) (block : List ℕ) 
   pub vvbn : IfOk result (λ placed. placed.vvbn ≤ last_place)
   pub pvbn : IfOk result (λ placed. placed.pvbn ≤ last_place)
   pub strays : new.strays ≡ old.strays
+  pub room : OnOk result (old.room ≤ new.room + 1)
+  pub enough : old.room ≢ 0 → IfErr result (λ e. IsDamaged e → ⊥)
+  pub spent : new.spent ≡ old.spent
   pub failed : OnErr result (IsUntouched old new)
   pub counts : Counts old new result
   pub cause : IfErr result (HasCause old new)
 
 -- A block that is named as gone is no longer in use. It may stay, as a snapshot may still hold it. All others stay, in the map and
--- in use. Naming one that isn't in use changes nothing of that, and is counted.
+-- in use. Naming one that isn't in use changes nothing of that, and is counted. The room doesn't fall, and no look-up is made.
 pub record Drops (old : Shown) (vvbn : ℕ) (new : Shown) : Type 0 where
   pub held : (new.held ≡ fin.remove old.held vvbn) ⊎ (new.held ≡ old.held)
   pub used : (v : ℕ) → new.used v ≡ cond (nat_eq v vvbn) None (old.used v)
   pub named : is_some (old.used vvbn) ≡ true → new.strays ≡ old.strays
   pub stray : old.used vvbn ≡ None → Rose old.strays new.strays
+  pub room : old.room ≤ new.room
+  pub spent : new.spent ≡ old.spent
   pub calm : IsCalm old new
 
 -- the kinds of blocks that a tree has: data, nodes of the levels 1 to 3, inode blocks, and nodes of the inode file of the

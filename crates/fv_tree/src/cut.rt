@@ -9,7 +9,10 @@ ghost use Rattle.fv_tree.specs.Keeping.{IsSame};
 ghost use Rattle.fv_tree.specs.Erasing.{StandsAt};
 ghost use Rattle.fv_tree.specs.Releasing.{KeepsBlocks, Removes};
 ghost use Rattle.fv_tree.specs.Flushing.{Stands};
+ghost use Rattle.fv_tree.specs.Counting.{positions_of};
+ghost use Rattle.fv_tree.specs.Leading.{Carries};
 ghost use Rattle.fv_tree.specs.Removal.{Removal};
+ghost use Rattle.fv_tree.specs.Costs.{changes_in, pending};
 ghost use Rattle.fv_tree.specs.Collecting.{AreBelow, IsRising, IsPast, Collects, IsHeld, StillHeld, AreHeld, Extends, IsAdded, IsChildPast, IsUnder};
 ghost use Rattle.fv_disk.specs.declared.fault.BlockFault.TheVariants.{Memory};
 
@@ -26,7 +29,8 @@ impl Tree {
     /// gets the stamp, which is at least 1. With no cell left the levels become `start`, at most 3. Where no cell
     /// goes nothing changes. It loads only nodes over the cells that go and on the way to the border, and holds them
     /// in memory, with four bytes for each of those cells. It names each placed block that it drops once to `gone`,
-    /// after its last load. After a fault the tree is seen as before, and none was named.
+    /// after its last load. Answers how many positions went: those cells and those marks. After a fault the tree is
+    /// seen as before, and none was named.
     ///
     /// # Errors
     ///
@@ -37,7 +41,7 @@ impl Tree {
         length: u32,
         start: u8,
         stamp: u64,
-    ) -> Result<(), TreeFault>
+    ) -> Result<u32, TreeFault>
         requires start { start ≤ 3 }
         requires stamp { 1 ≤ stamp }
         ensures { Removal B.told (B.goes blocks.old blocks.new) (B.shown blocks.old) (B.shown blocks.new) self.old self.new (nat_le length) start stamp result }
@@ -53,33 +57,40 @@ fn cut_cells<B: Blocks>(
     most: u32,
     start: u8,
     stamp: u64,
-) -> Result<(), TreeFault>
+) -> Result<u32, TreeFault>
     requires start { start ≤ 3 }
     requires stamp { 1 ≤ stamp }
     ensures done { B.told → OnOk result (Removes (B.shown blocks.old) (B.shown blocks.new) tree.old tree.new (nat_le most) start stamp) }
+    ensures count { B.told → IfOk result (λ count. positions_of (standing (under (B.shown blocks.old)) tree.old) ≡ positions_of (standing (under (B.shown blocks.old)) tree.new) + count) }
     ensures failed { B.told → OnErr result (IsSame (standing (under (B.shown blocks.old)) tree.old) (standing (under (B.shown blocks.new)) tree.new)) }
     ensures owner { tree.new.owner ≡ tree.old.owner }
-    ensures stays { B.told → OnErr result (Stands (B.shown blocks.old) tree.old → Stands (B.shown blocks.new) tree.new) }
+    ensures stays { B.told → OnErr result (Carries (B.shown blocks.old) (B.shown blocks.new) tree.old tree.new) }
     ensures untouched { OnErr result (IsUntouched (B.shown blocks.old) (B.shown blocks.new)) }
+    ensures room { (B.shown blocks.old).room ≤ (B.shown blocks.new).room }
+    ensures still { OnErr result (pending tree.new ≤ pending tree.old) }
     ensures calls { B.goes blocks.old blocks.new }
     ensures counts { Counts (B.shown blocks.old) (B.shown blocks.new) result }
     ensures cause { IfErr result (Fails B.told (standing (under (B.shown blocks.old)) tree.old) (B.shown blocks.old) (B.shown blocks.new)) }
 {
     let cells = keep_past(tree, blocks, most)?;
+    let mut count: u32 = 0;
     for index in cells.as_slice() {
-        erase_cell(tree, blocks, *index, start, stamp);
+        let gone = erase_cell(tree, blocks, *index, start, stamp);
+        count = count.saturating_add(gone);
     }
-    Ok(())
+    Ok(count)
 }
 
 /// Holds all nodes over the cells from a length on in memory, and answers those cells.
 fn keep_past<B: Blocks>(tree: &mut Tree, blocks: &mut B, most: u32) -> Result<Vec<u32>, TreeFault>
     ensures cells { B.told → IfOk result (λ cells. Collects (standing (under (B.shown blocks.old)) tree.old) 0 most cells.items) }
     ensures nodes { B.told → OnOk result (AreHeld tree.new (standing (under (B.shown blocks.old)) tree.old) 0 most) }
+    ensures bound { IfOk result (λ cells. AreBelow cells.items (fan ^ 3)) }
     ensures fields { IsSameBut tree.old tree.new }
     ensures same { B.told → IsSame (standing (under (B.shown blocks.old)) tree.old) (standing (under (B.shown blocks.new)) tree.new) }
     ensures blocks { B.told → KeepsBlocks (under (B.shown blocks.old)) tree.old tree.new }
     ensures stands { B.told → Stands (B.shown blocks.old) tree.old → Stands (B.shown blocks.new) tree.new }
+    ensures changes { changes_in tree.new.nodes ≤ changes_in tree.old.nodes }
     ensures untouched { IsUntouched (B.shown blocks.old) (B.shown blocks.new) }
     ensures reads { B.reads blocks.old blocks.new }
     ensures counts { Counts (B.shown blocks.old) (B.shown blocks.new) result }
@@ -143,6 +154,7 @@ fn keep_level<B: Blocks>(
     ensures same { B.told → IsSame (standing (under (B.shown blocks.old)) tree.old) (standing (under (B.shown blocks.new)) tree.new) }
     ensures blocks { B.told → KeepsBlocks (under (B.shown blocks.old)) tree.old tree.new }
     ensures stands { B.told → Stands (B.shown blocks.old) tree.old → Stands (B.shown blocks.new) tree.new }
+    ensures changes { changes_in tree.new.nodes ≤ changes_in tree.old.nodes }
     ensures untouched { IsUntouched (B.shown blocks.old) (B.shown blocks.new) }
     ensures reads { B.reads blocks.old blocks.new }
     ensures counts { Counts (B.shown blocks.old) (B.shown blocks.new) result }
@@ -179,6 +191,7 @@ fn keep_range<B: Blocks>(
     ensures same { B.told → IsSame (standing (under (B.shown blocks.old)) tree.old) (standing (under (B.shown blocks.new)) tree.new) }
     ensures blocks { B.told → KeepsBlocks (under (B.shown blocks.old)) tree.old tree.new }
     ensures stands { B.told → Stands (B.shown blocks.old) tree.old → Stands (B.shown blocks.new) tree.new }
+    ensures changes { changes_in tree.new.nodes ≤ changes_in tree.old.nodes }
     ensures untouched { IsUntouched (B.shown blocks.old) (B.shown blocks.new) }
     ensures reads { B.reads blocks.old blocks.new }
     ensures counts { Counts (B.shown blocks.old) (B.shown blocks.new) result }

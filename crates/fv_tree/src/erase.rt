@@ -1,6 +1,6 @@
 //! Removing a cell whose way is in memory: the marks that have no cell left go with it.
 
-ghost use Rattle.std.specs.Prelude.{◌≡◌, ◌≢◌, ◌≤◌, ◌<◌, ◌⊎◌, ◌+◌, ◌/◌, ◌%◌, ◌^◌, ◌&&◌, ℕ, List, true, false, cond, nat_eq, is_some, Some, None};
+ghost use Rattle.std.specs.Prelude.{◌≡◌, ◌≢◌, ◌≤◌, ◌<◌, ◌⊎◌, ◌+◌, ◌-◌, ◌/◌, ◌%◌, ◌^◌, ◌&&◌, ℕ, List, true, false, cond, nat_eq, is_some, Some, None};
 ghost use Rattle.std.specs.Option.{option_map};
 ghost use Rattle.std.specs.Ordering.{nat_cmp};
 ghost use Rattle.std.specs.BTreeMap as tree_map;
@@ -13,6 +13,8 @@ ghost use Rattle.fv_tree.specs.Writing.{stamped, stamped_in, slot_of};
 ghost use Rattle.fv_tree.specs.Erasing.{StandsAt};
 ghost use Rattle.fv_tree.specs.Releasing.{Releases, IsDropped};
 ghost use Rattle.fv_tree.specs.Flushing.{placed_in, placed_of, changed_in, changed_of, IsSound, loaded_over};
+ghost use Rattle.fv_tree.specs.Counting.{positions_of};
+ghost use Rattle.fv_tree.specs.Costs.{changes_in, pending};
 ghost use Rattle.fv_tree.specs.Unlinking.{HasWay, HasNoOther, HasOther, AreBare, Unlinks, CellGoes, cleared_in, IsNamed, IsOnWay, NamesOnce};
 
 use crate::blocks::Blocks;
@@ -23,21 +25,33 @@ use crate::write::{is_placed, stamp_slot, stamped};
 use fv_codec::Pointer;
 use std::collections::BTreeMap;
 
-/// Removes a cell that stands and over which all nodes are in memory, and names the blocks that go. Over an image
+/// Removes a cell that stands and over which all nodes are in memory, names the blocks that go, and answers how
+/// many positions went. Over an image
 /// of which nothing is known a node may be missing; then nothing is said of what goes.
-pub fn erase_cell<B: Blocks>(tree: &mut Tree, blocks: &mut B, index: u32, start: u8, stamp: u64)
+pub fn erase_cell<B: Blocks>(
+    tree: &mut Tree,
+    blocks: &mut B,
+    index: u32,
+    start: u8,
+    stamp: u64,
+) -> u32
     requires start { start ≤ 3 }
     requires stamp { 1 ≤ stamp }
     ensures owner { tree.new.owner ≡ tree.old.owner }
     ensures goes { HasWay tree.old index → (held : Under) → StandsAt (standing held tree.old) 0 index → CellGoes held tree.old tree.new index start stamp }
     ensures released { HasWay tree.old index → (held : Under) → StandsAt (standing held tree.old) 0 index → Releases (B.shown blocks.old) (B.shown blocks.new) (IsDropped held tree.old tree.new) }
     ensures strays { HasWay tree.old index → (held : Under) → StandsAt (standing held tree.old) 0 index → IsSound (B.shown blocks.old).used (loaded_over held tree.old) → (B.shown blocks.new).strays ≡ (B.shown blocks.old).strays }
+    ensures count { HasWay tree.old index → (held : Under) → StandsAt (standing held tree.old) 0 index → positions_of (standing held tree.old) ≡ positions_of (standing held tree.new) + result }
+    ensures few { result ≤ 4 }
+    ensures pending { pending tree.new ≤ pending tree.old + 3 }
+    ensures room { (B.shown blocks.old).room ≤ (B.shown blocks.new).room }
     ensures calm { IsCalm (B.shown blocks.old) (B.shown blocks.new) }
     ensures calls { B.goes blocks.old blocks.new }
 {
     let lost = bare_levels(tree, index);
     name_way(tree, blocks, index, lost);
     unlink(tree, index, lost, start, stamp);
+    u32::from(lost) + 1
 }
 
 /// How many nodes over a cell, from the lowest up, lead to nothing but that cell.
@@ -83,6 +97,7 @@ fn name_way<B: Blocks>(tree: &Tree, blocks: &mut B, index: u32, lost: u8)
     requires { lost ≤ tree.now.levels }
     ensures released { Releases (B.shown blocks.old) (B.shown blocks.new) (IsOnWay tree.now index (lost + 1)) }
     ensures strays { NamesOnce (B.shown blocks.old).used tree.now index (lost + 1) → (B.shown blocks.new).strays ≡ (B.shown blocks.old).strays }
+    ensures room { (B.shown blocks.old).room ≤ (B.shown blocks.new).room }
     ensures calls { B.goes blocks.old blocks.new }
 {
     for level in 0..lost + 1 {
@@ -95,6 +110,7 @@ fn name_place<B: Blocks>(tree: &Tree, blocks: &mut B, level: u8, index: u32)
     requires { level ≤ tree.now.levels }
     ensures released { Releases (B.shown blocks.old) (B.shown blocks.new) (IsNamed tree.now level index) }
     ensures strays { ((v : ℕ) → IsNamed tree.now level index v → is_some ((B.shown blocks.old).used v) ≡ true) → (B.shown blocks.new).strays ≡ (B.shown blocks.old).strays }
+    ensures room { (B.shown blocks.old).room ≤ (B.shown blocks.new).room }
     ensures calls { B.goes blocks.old blocks.new }
 {
     let place = index / width(level);
@@ -124,6 +140,7 @@ fn unlink(tree: &mut Tree, index: u32, lost: u8, start: u8, stamp: u64)
     requires stamp { 1 ≤ stamp }
     ensures owner { tree.new.owner ≡ tree.old.owner }
     ensures unlinks { HasWay tree.old index → Unlinks tree.old tree.new index lost start stamp }
+    ensures pending { pending tree.new ≤ pending tree.old + 3 }
 {
     if lost == tree.levels {
         clear(tree, start);
@@ -140,6 +157,7 @@ fn clear(tree: &mut Tree, start: u8)
     ensures root { tree.new.root ≡ hole }
     ensures nodes { (level place : ℕ) → tree_map.get spot_cmp tree.new.nodes (level, place) ≡ None }
     ensures cells { (i : ℕ) → tree_map.get nat_cmp tree.new.cells i ≡ None }
+    ensures pending { pending tree.new ≡ 0 }
 {
     tree.levels = start;
     tree.root = HOLE;
@@ -163,6 +181,7 @@ fn cut_way(tree: &mut Tree, index: u32, lost: u8, stamp: u64)
     ensures changed { (level : ℕ) → lost < level → level ≤ tree.old.levels → is_some (tree_map.get spot_cmp tree.old.nodes (level, index / fan ^ level)) ≡ true → changed_in tree.new.nodes level (index / fan ^ level) ≡ true }
     ensures same { (level place : ℕ) → place ≢ index / fan ^ level → tree_map.get spot_cmp tree.new.nodes (level, place) ≡ tree_map.get spot_cmp tree.old.nodes (level, place) }
     ensures gone { (level : ℕ) → 1 ≤ level → level ≤ lost → tree_map.get spot_cmp tree.new.nodes (level, index / fan ^ level) ≡ None }
+    ensures pending { pending tree.new ≤ pending tree.old + (tree.old.levels - lost) }
 {
     forget_way(tree, index, lost);
     let place = index / width(lost + 1);
@@ -180,6 +199,7 @@ fn forget_way(tree: &mut Tree, index: u32, lost: u8)
     ensures cells { (i : ℕ) → i ≢ index → tree_map.get nat_cmp tree.new.cells i ≡ tree_map.get nat_cmp tree.old.cells i }
     ensures nodes { (level place : ℕ) → (lost < level) ⊎ (place ≢ index / fan ^ level) → tree_map.get spot_cmp tree.new.nodes (level, place) ≡ tree_map.get spot_cmp tree.old.nodes (level, place) }
     ensures gone { (level : ℕ) → 1 ≤ level → level ≤ lost → tree_map.get spot_cmp tree.new.nodes (level, index / fan ^ level) ≡ None }
+    ensures pending { pending tree.new ≤ pending tree.old }
 {
     let _ = tree.cells.remove(&index);
     for below in 0..lost {
@@ -195,6 +215,7 @@ fn clear_slot(nodes: &mut BTreeMap<(u8, u32), KeptNode>, level: u8, place: u32, 
     ensures placed { (k q : ℕ) → placed_in nodes.new k q ≡ placed_in nodes.old k q }
     ensures changed { is_some (tree_map.get spot_cmp nodes.old (level, place)) ≡ true → changed_in nodes.new level place ≡ true }
     ensures others { (k q : ℕ) → (k ≢ level) ⊎ (q ≢ place) → tree_map.get spot_cmp nodes.new (k, q) ≡ tree_map.get spot_cmp nodes.old (k, q) }
+    ensures count { changes_in nodes.new ≤ changes_in nodes.old + 1 }
 {
     if let Some(node) = nodes.get_mut(&(level, place)) {
         clear_child(node, slot);
@@ -225,6 +246,7 @@ fn stamp_above(tree: &mut Tree, index: u32, lowest: u8, stamp: u64)
     ensures placed { (level place : ℕ) → placed_in tree.new.nodes level place ≡ placed_in tree.old.nodes level place }
     ensures changed { (level : ℕ) → lowest < level → level ≤ tree.old.levels → is_some (tree_map.get spot_cmp tree.old.nodes (level, index / fan ^ level)) ≡ true → changed_in tree.new.nodes level (index / fan ^ level) ≡ true }
     ensures same { (level place : ℕ) → (level ≤ lowest) ⊎ (place ≢ index / fan ^ level) → tree_map.get spot_cmp tree.new.nodes (level, place) ≡ tree_map.get spot_cmp tree.old.nodes (level, place) }
+    ensures changes { lowest ≤ tree.old.levels → changes_in tree.new.nodes ≤ changes_in tree.old.nodes + (tree.old.levels - lowest) }
 {
     let levels = tree.levels;
     tree.root = stamped(&tree.root, stamp);

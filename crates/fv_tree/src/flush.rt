@@ -1,14 +1,15 @@
 //! Placing what changed, from the cells up.
 
-ghost use Rattle.std.specs.Prelude.{◌≡◌, ◌≤◌, ◌-◌, ◌⊎◌, ℕ, true, false, Some, IfOk, IfErr, OnOk, OnErr};
+ghost use Rattle.std.specs.Prelude.{◌≡◌, ◌≢◌, ◌≤◌, ◌<◌, ◌+◌, ◌-◌, ◌/◌, ◌⊎◌, ℕ, true, false, Some, IfOk, IfErr, OnOk, OnErr};
 ghost use Rattle.std.specs.BTreeMap as maps;
 ghost use Rattle.fv_codec.specs.Blocks.{IsPointer};
-ghost use Rattle.fv_model.specs.Trees.{spot_cmp};
+ghost use Rattle.fv_model.specs.Trees.{fan, spot_cmp};
 ghost use Rattle.fv_tree.specs.Spelled.{stored};
-ghost use Rattle.fv_tree.specs.Sources.{Counts, HasCause, IsUntouched};
+ghost use Rattle.fv_tree.specs.Sources.{Counts, HasCause, IsDamaged, IsUntouched};
 ghost use Rattle.fv_tree.specs.Standing.{standing, under};
 ghost use Rattle.fv_tree.specs.Writing.{Remains};
-ghost use Rattle.fv_tree.specs.Flushing.{loaded, Flushes, HoldsAsMuch, IsLeft, IsNodeStep, ReachesOnce, Stands};
+ghost use Rattle.fv_tree.specs.Flushing.{changed_in, loaded, pointer_in, Flushes, HoldsAsMuch, IsLeft, IsNodeStep, ReachesOnce, Stands};
+ghost use Rattle.fv_tree.specs.Costs.{changes_in, pending, Fits, IsEnough};
 
 use crate::blocks::{Blocks, TreeFault};
 use crate::kept::{KeptNode, Tree};
@@ -22,6 +23,9 @@ fn flush_cells<B: Blocks>(tree: &mut Tree, blocks: &mut B) -> Result<(), TreeFau
     ensures flushes { B.told → Stands (B.shown blocks.old) tree.old → Flushes (loaded (B.shown blocks.old) tree.old) (B.shown blocks.old).used (loaded (B.shown blocks.new) tree.new) (B.shown blocks.new).used }
     ensures strays { B.told → Stands (B.shown blocks.old) tree.old → (B.shown blocks.new).strays ≡ (B.shown blocks.old).strays }
     ensures left { IsLeft tree.old tree.new }
+    ensures fits { B.told → Stands (B.shown blocks.old) tree.old → Fits (B.shown blocks.old) tree.old (B.shown blocks.new) tree.new }
+    ensures enough { B.told → Stands (B.shown blocks.old) tree.old → IsEnough (pending tree.old) (B.shown blocks.old).room result }
+    ensures spent { (B.shown blocks.new).spent ≡ (B.shown blocks.old).spent }
     ensures none { OnOk result (maps.btree_map_len tree.new.cells ≡ 0) }
     ensures calls { B.goes blocks.old blocks.new }
     ensures counts { Counts (B.shown blocks.old) (B.shown blocks.new) result }
@@ -39,6 +43,9 @@ fn flush_nodes<B: Blocks>(tree: &mut Tree, blocks: &mut B) -> Result<(), TreeFau
     ensures flushes { B.told → Stands (B.shown blocks.old) tree.old → Flushes (loaded (B.shown blocks.old) tree.old) (B.shown blocks.old).used (loaded (B.shown blocks.new) tree.new) (B.shown blocks.new).used }
     ensures strays { B.told → Stands (B.shown blocks.old) tree.old → (B.shown blocks.new).strays ≡ (B.shown blocks.old).strays }
     ensures left { IsLeft tree.old tree.new }
+    ensures fits { B.told → Stands (B.shown blocks.old) tree.old → Fits (B.shown blocks.old) tree.old (B.shown blocks.new) tree.new }
+    ensures enough { B.told → Stands (B.shown blocks.old) tree.old → IsEnough (pending tree.old) (B.shown blocks.old).room result }
+    ensures spent { (B.shown blocks.new).spent ≡ (B.shown blocks.old).spent }
     ensures cells { tree.new.cells ≡ tree.old.cells }
     ensures none { OnOk result (maps.btree_map_len tree.new.nodes ≡ 0) }
     ensures calls { B.goes blocks.old blocks.new }
@@ -56,6 +63,9 @@ fn flush_first_cell<B: Blocks>(tree: &mut Tree, blocks: &mut B) -> Result<(), Tr
     ensures flushes { B.told → Stands (B.shown blocks.old) tree.old → Flushes (loaded (B.shown blocks.old) tree.old) (B.shown blocks.old).used (loaded (B.shown blocks.new) tree.new) (B.shown blocks.new).used }
     ensures strays { B.told → Stands (B.shown blocks.old) tree.old → (B.shown blocks.new).strays ≡ (B.shown blocks.old).strays }
     ensures left { IsLeft tree.old tree.new }
+    ensures fits { B.told → Stands (B.shown blocks.old) tree.old → Fits (B.shown blocks.old) tree.old (B.shown blocks.new) tree.new }
+    ensures enough { B.told → Stands (B.shown blocks.old) tree.old → IsEnough (pending tree.old) (B.shown blocks.old).room result }
+    ensures spent { (B.shown blocks.new).spent ≡ (B.shown blocks.old).spent }
     ensures fewer { OnOk result (maps.btree_map_len tree.new.cells ≡ maps.btree_map_len tree.old.cells - 1) }
     ensures calls { B.goes blocks.old blocks.new }
     ensures counts { Counts (B.shown blocks.old) (B.shown blocks.new) result }
@@ -77,6 +87,9 @@ fn flush_first_node<B: Blocks>(tree: &mut Tree, blocks: &mut B) -> Result<(), Tr
     ensures flushes { B.told → Stands (B.shown blocks.old) tree.old → Flushes (loaded (B.shown blocks.old) tree.old) (B.shown blocks.old).used (loaded (B.shown blocks.new) tree.new) (B.shown blocks.new).used }
     ensures strays { B.told → Stands (B.shown blocks.old) tree.old → (B.shown blocks.new).strays ≡ (B.shown blocks.old).strays }
     ensures left { IsLeft tree.old tree.new }
+    ensures fits { B.told → Stands (B.shown blocks.old) tree.old → Fits (B.shown blocks.old) tree.old (B.shown blocks.new) tree.new }
+    ensures enough { B.told → Stands (B.shown blocks.old) tree.old → IsEnough (pending tree.old) (B.shown blocks.old).room result }
+    ensures spent { (B.shown blocks.new).spent ≡ (B.shown blocks.old).spent }
     ensures cells { tree.new.cells ≡ tree.old.cells }
     ensures fewer { OnOk result (maps.btree_map_len tree.new.nodes ≡ maps.btree_map_len tree.old.nodes - 1) }
     ensures calls { B.goes blocks.old blocks.new }
@@ -104,6 +117,13 @@ fn flush_node<B: Blocks>(
     ensures node { B.told → OnOk result (IsNodeStep (B.shown blocks.old) tree.old level place node.now (B.shown blocks.new) tree.new) }
     ensures still { HoldsAsMuch tree.old tree.new }
     ensures failed { OnErr result (tree.new ≡ tree.old) }
+    ensures changed { OnErr result (node.now.changed ≡ true) }
+    ensures changes { (1 ≤ level → node.now.changed ≡ true → (pointer_in tree.old level place).stamp ≢ 0 → level < tree.old.levels → changed_in tree.old.nodes (level + 1) (place / fan) ≡ true) → changes_in tree.new.nodes ≤ changes_in tree.old.nodes }
+    ensures own { changed_in tree.new.nodes level place ≡ changed_in tree.old.nodes level place }
+    ensures room { OnOk result ((B.shown blocks.old).room ≤ (B.shown blocks.new).room + 1) }
+    ensures still_room { node.now.changed ≡ false → (B.shown blocks.old).room ≤ (B.shown blocks.new).room }
+    ensures enough { (B.shown blocks.old).room ≢ 0 → IfErr result (λ e. IsDamaged e → ⊥) }
+    ensures spent { (B.shown blocks.new).spent ≡ (B.shown blocks.old).spent }
     ensures untouched { OnErr result (IsUntouched (B.shown blocks.old) (B.shown blocks.new)) }
     ensures calls { B.goes blocks.old blocks.new }
     ensures counts { Counts (B.shown blocks.old) (B.shown blocks.new) result }
@@ -135,6 +155,10 @@ impl Tree {
         ensures strays { B.told → Stands (B.shown blocks.old) self.old → (B.shown blocks.new).strays ≡ (B.shown blocks.old).strays }
         ensures remains { B.told → Stands (B.shown blocks.old) self.old → Remains (standing (under (B.shown blocks.old)) self.old) (standing (under (B.shown blocks.new)) self.new) }
         ensures left { IsLeft self.old self.new }
+        ensures fits { B.told → Stands (B.shown blocks.old) self.old → Fits (B.shown blocks.old) self.old (B.shown blocks.new) self.new }
+        ensures enough { B.told → Stands (B.shown blocks.old) self.old → IsEnough (pending self.old) (B.shown blocks.old).room result }
+        ensures spent { (B.shown blocks.new).spent ≡ (B.shown blocks.old).spent }
+        ensures pending { OnOk result (pending self.new ≡ 0) }
         ensures done { OnOk result ((level place : ℕ) → (loaded (B.shown blocks.new) self.new).changed level place ≡ false) }
         ensures root { IfOk result (λ root. root ≡ self.new.root) }
         ensures pointer { IfOk result IsPointer }

@@ -7,6 +7,7 @@ ghost use Rattle.fv_tree.specs.Spelled.{hole};
 ghost use Rattle.fv_tree.specs.Standing.{node_in, IsSameBut};
 ghost use Rattle.fv_tree.specs.Carried.{kept_at, BringsNew, IsBlank, IsTop};
 ghost use Rattle.fv_tree.specs.Writing.{HasNewLevels, HasOldNodes, IsGrownNode, new_child};
+ghost use Rattle.fv_tree.specs.Costs.{changes_in};
 ghost use Rattle.fv_disk.specs.declared.fault.BlockFault.TheVariants.{Memory};
 
 use crate::blocks::TreeFault;
@@ -42,6 +43,7 @@ pub fn keep_new_path(tree: &mut Tree, levels: u8, index: u32) -> Result<(), Tree
     ensures others { (level place : ℕ) → (place ≢ index / fan ^ level) → node_in tree.new level place ≡ node_in tree.old level place }
     ensures brings { BringsNew tree.old tree.new index }
     ensures blank { OnOk result ((level : ℕ) → 1 ≤ level → level ≤ levels → IsBlank (kept_at tree.new level (index / fan ^ level))) }
+    ensures changes { changes_in tree.new.nodes ≤ changes_in tree.old.nodes }
     ensures memory { IfErr result (λ e. e ≡ Memory) }
 {
     for below in 0..levels {
@@ -60,6 +62,7 @@ pub fn keep_grown(tree: &mut Tree, levels: u8, stamp: u64) -> Result<(), TreeFau
     ensures others { (level place : ℕ) → (level ≤ tree.old.levels) ⊎ (place ≢ 0) → node_in tree.new level place ≡ node_in tree.old level place }
     ensures same { (level place : ℕ) → (level ≤ tree.old.levels) ⊎ (place ≢ 0) → kept_at tree.new level place ≡ kept_at tree.old level place }
     ensures tops { OnOk result ((level : ℕ) → tree.old.levels < level → level ≤ levels → IsTop tree.new level) }
+    ensures changes { changes_in tree.new.nodes ≤ changes_in tree.old.nodes + 3 }
     ensures memory { IfErr result (λ e. e ≡ Memory) }
 {
     let mut child = tree.root;
@@ -110,6 +113,8 @@ pub fn keep_new_levels(tree: &mut Tree, levels: u8, index: u32, stamp: u64) -> R
     ensures failed { OnErr result (HasOldNodes tree.old tree.new index) }
     ensures brings { BringsNew tree.old tree.new index }
     ensures blank { OnOk result ((level : ℕ) → 1 ≤ level → level ≤ levels → (level < levels) ⊎ (tree.old.root.stamp ≡ 0) → IsBlank (kept_at tree.new level (index / fan ^ level))) }
+    ensures changes { changes_in tree.new.nodes ≤ changes_in tree.old.nodes + 3 }
+    ensures unchanged { tree.old.root.stamp ≡ 0 → changes_in tree.new.nodes ≤ changes_in tree.old.nodes }
     ensures tops { OnOk result (tree.old.root.stamp ≢ 0 → (level : ℕ) → tree.old.levels < level → level ≤ levels → IsTop tree.new level) }
     ensures memory { IfErr result (λ e. e ≡ Memory) }
 {

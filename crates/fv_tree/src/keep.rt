@@ -1,6 +1,6 @@
 //! Holding the nodes over a cell in memory.
 
-ghost use Rattle.std.specs.Prelude.{◌≡◌, ◌≢◌, ◌≤◌, ◌<◌, ◌/◌, ◌-◌, ◌^◌, ◌&&◌, ◌⊎◌, ℕ, true, false, cond, nat_eq, Some, IfOk, IfErr, OnOk, OnErr, get_or, length, replicate};
+ghost use Rattle.std.specs.Prelude.{◌≡◌, ◌≢◌, ◌≤◌, ◌<◌, ◌/◌, ◌+◌, ◌-◌, ◌^◌, ◌&&◌, ◌⊎◌, ℕ, true, false, cond, nat_eq, Some, IfOk, IfErr, OnOk, OnErr, get_or, length, replicate};
 ghost use Rattle.std.specs.List.{All};
 ghost use Rattle.fv_codec.specs.Blocks.{IsPointer};
 ghost use Rattle.fv_model.specs.Trees.{fan};
@@ -9,9 +9,11 @@ ghost use Rattle.fv_tree.specs.Sources.{Counts, IsUntouched};
 ghost use Rattle.fv_tree.specs.Standing.{standing, under, node_in, IsSameBut, Fails, LoadFails};
 ghost use Rattle.fv_tree.specs.Releasing.{KeepsBlocks};
 ghost use Rattle.fv_tree.specs.Keeping.{IsKept, Keeps, IsSame, KeepsBelow};
-ghost use Rattle.fv_tree.specs.Flushing.{placed_in, Stands};
+ghost use Rattle.fv_tree.specs.Flushing.{placed_in, pointer_in};
 ghost use Rattle.fv_tree.specs.Carried.{kept_at, Brings, IsBlank};
-ghost use Rattle.fv_tree.specs.Refilling.{IsFilled, IsFilledWay};
+ghost use Rattle.fv_tree.specs.Readying.{HoldsWay};
+ghost use Rattle.fv_tree.specs.Leading.{Carries};
+ghost use Rattle.fv_tree.specs.Costs.{changes_in};
 ghost use Rattle.fv_disk.specs.declared.fault.BlockFault.TheVariants.{Memory};
 
 use crate::blocks::{Blocks, TreeFault};
@@ -30,9 +32,10 @@ pub fn keep_path<B: Blocks>(
     ensures pointer { B.told → IfOk result (λ p. p ≡ pointer_at (standing (under (B.shown blocks.old)) tree.old) 0 index) }
     ensures kept { B.told → OnOk result ((level : ℕ) → 1 ≤ level → level ≤ tree.old.levels → IsKept (standing (under (B.shown blocks.new)) tree.new) level (index / fan ^ level)) }
     ensures unplaced { B.told → OnOk result ((level : ℕ) → 1 ≤ level → level ≤ tree.old.levels → (pointer_at (standing (under (B.shown blocks.old)) tree.old) level (index / fan ^ level)).stamp ≡ 0 → placed_in tree.new.nodes level (index / fan ^ level) ≡ false) }
-    ensures filled { IfOk result (λ p. p.stamp ≢ 0 → IsFilledWay tree.new index) }
+    ensures way { IfOk result (λ p. p.stamp ≢ 0 → HoldsWay tree.new index) }
+    ensures changes { changes_in tree.new.nodes ≤ changes_in tree.old.nodes }
     ensures fields { IsSameBut tree.old tree.new }
-    ensures stands { B.told → Stands (B.shown blocks.old) tree.old → Stands (B.shown blocks.new) tree.new }
+    ensures carries { B.told → Carries (B.shown blocks.old) (B.shown blocks.new) tree.old tree.new }
     ensures same { B.told → IsSame (standing (under (B.shown blocks.old)) tree.old) (standing (under (B.shown blocks.new)) tree.new) }
     ensures blocks { B.told → KeepsBlocks (under (B.shown blocks.old)) tree.old tree.new }
     ensures untouched { IsUntouched (B.shown blocks.old) (B.shown blocks.new) }
@@ -64,7 +67,9 @@ fn keep_step<B: Blocks>(
     ensures keeps { B.told → OnOk result (IsKept (standing (under (B.shown blocks.new)) tree.new) level (index / fan ^ level)) }
     ensures brings { B.told → Brings (under (B.shown blocks.old)) tree.old tree.new level (index / fan ^ level) pointer.now }
     ensures blank { OnOk result (pointer.now.stamp ≡ 0 → IsBlank (kept_at tree.new level (index / fan ^ level))) }
-    ensures filled { IfOk result (λ p. p.stamp ≢ 0 → (pointer.now.stamp ≢ 0) × IsFilled tree.new level (index / fan ^ level)) }
+    ensures leads { IfOk result (λ p. p.stamp ≢ 0 → pointer.now.stamp ≢ 0) }
+    ensures child { IfOk result (λ p. pointer_in tree.new (level - 1) (index / fan ^ (level - 1)) ≡ p) }
+    ensures changes { changes_in tree.new.nodes ≤ changes_in tree.old.nodes }
     ensures fields { IsSameBut tree.old tree.new }
     ensures others { KeepsBelow (standing (under (B.shown blocks.old)) tree.old) (standing (under (B.shown blocks.new)) tree.new) level }
     ensures same { B.told → IsSame (standing (under (B.shown blocks.old)) tree.old) (standing (under (B.shown blocks.new)) tree.new) }
@@ -95,6 +100,7 @@ pub fn keep_node<B: Blocks>(
     ensures others { (k q : ℕ) → (k ≢ level) ⊎ (q ≢ place) → kept_at tree.new k q ≡ kept_at tree.old k q }
     ensures fields { IsSameBut tree.old tree.new }
     ensures long { IfOk result (λ xs. length xs ≡ 128) }
+    ensures changes { changes_in tree.new.nodes ≤ changes_in tree.old.nodes }
     ensures kept { IfOk result (λ xs. (standing (under (B.shown blocks.new)) tree.new).nodes level place ≡ Some xs) }
     ensures untouched { IsUntouched (B.shown blocks.old) (B.shown blocks.new) }
     ensures reads { B.reads blocks.old blocks.new }
@@ -126,6 +132,8 @@ pub fn keep(
     ensures failed { OnErr result ((k q : ℕ) → node_in tree.new k q ≡ node_in tree.old k q) }
     ensures kept { OnOk result ((k q : ℕ) → kept_at tree.new k q ≡ cond (nat_eq k level && nat_eq q place) (Some node) (kept_at tree.old k q)) }
     ensures same { OnErr result ((k q : ℕ) → kept_at tree.new k q ≡ kept_at tree.old k q) }
+    ensures changes { changes_in tree.new.nodes ≤ changes_in tree.old.nodes + 1 }
+    ensures unchanged { node.changed ≡ false → changes_in tree.new.nodes ≤ changes_in tree.old.nodes }
     ensures memory { IfErr result (λ e. e ≡ Memory) }
 {
     let children = node.children;

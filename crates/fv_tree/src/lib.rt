@@ -4,6 +4,7 @@
 //! as the levels, the cells and the marks of one file, by the definitions that the machine has of them.
 #![tactic(auto)]
 
+mod added;
 mod blocks;
 mod cut;
 mod erase;
@@ -12,10 +13,12 @@ mod grow;
 mod keep;
 mod kept;
 mod next;
+mod pending;
 mod placing;
 mod read;
 mod refill;
 mod remove;
+mod rewrite;
 mod sizes;
 mod tree;
 mod way;

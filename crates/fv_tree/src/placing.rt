@@ -1,13 +1,14 @@
 //! The steps of a flush: placing one block, and what its pointer and the memory are like afterwards.
 
-ghost use Rattle.std.specs.Prelude.{◌≡◌, ◌≢◌, ◌≤◌, ◌<◌, ◌⊎◌, ◌+◌, ℕ, Bool, true, false, Ok, Some, None, is_some, slice_set, IfOk, IfErr, IfSome, IfNone, OnOk, OnErr};
+ghost use Rattle.std.specs.Prelude.{◌≡◌, ◌≢◌, ◌≤◌, ◌<◌, ◌⊎◌, ◌+◌, ◌/◌, ℕ, Bool, true, false, Ok, Some, None, is_some, slice_set, IfOk, IfErr, IfSome, IfNone, OnOk, OnErr};
 ghost use Rattle.std.specs.BTreeMap as maps;
 ghost use Rattle.std.specs.Ordering.{nat_cmp};
 ghost use Rattle.std.specs.Option.{option_map};
 ghost use Rattle.fv_codec.specs.Blocks.{IsPointer, last_place, node_at};
 ghost use Rattle.fv_model.specs.Trees.{fan, spot_cmp};
-ghost use Rattle.fv_tree.specs.Sources.{Counts, Drops, HasCause, IsCalm, IsKind, IsUntouched};
+ghost use Rattle.fv_tree.specs.Sources.{Counts, Drops, HasCause, IsCalm, IsDamaged, IsKind, IsUntouched};
 ghost use Rattle.fv_tree.specs.Standing.{children_in};
+ghost use Rattle.fv_tree.specs.Costs.{changes_in};
 ghost use Rattle.fv_tree.specs.Flushing.{all_known, changed_in, is_unknown, kind_for, placed_in, pointer_in, ForgetsCell, ForgetsNode, HoldsAsMuch, IsHidden, IsMoved, Points, Swaps};
 
 use crate::blocks::{Blocks, Placed, TreeFault};
@@ -51,6 +52,8 @@ pub fn forget_cell(tree: &mut Tree, index: u32)
 pub fn forget_node(tree: &mut Tree, level: u8, place: u32)
     ensures forgets { ForgetsNode tree.old tree.new level place }
     ensures len { is_some (maps.get spot_cmp tree.old.nodes (level, place)) ≡ true → maps.btree_map_len tree.new.nodes + 1 ≡ maps.btree_map_len tree.old.nodes }
+    ensures changes { changes_in tree.new.nodes ≤ changes_in tree.old.nodes }
+    ensures fewer { changed_in tree.old.nodes level place ≡ true → changes_in tree.new.nodes + 1 ≡ changes_in tree.old.nodes }
 {
     let _ = tree.nodes.remove(&(level, place));
 }
@@ -123,6 +126,11 @@ pub fn replace<B: Blocks>(
     ensures moves { B.told → OnOk result ((IsHidden (B.shown blocks.old) tree.old spot.0 spot.1 (B.shown blocks.new) tree.new) ⊎ (IsMoved (B.shown blocks.old) tree.old spot.0 spot.1 block.now placed known (B.shown blocks.new) tree.new)) }
     ensures still { HoldsAsMuch tree.old tree.new }
     ensures failed { OnErr result (tree.new ≡ tree.old) }
+    ensures changes { ((pointer_in tree.old spot.0 spot.1).stamp ≢ 0 → spot.0 < tree.old.levels → changed_in tree.old.nodes (spot.0 + 1) (spot.1 / fan) ≡ true) → changes_in tree.new.nodes ≤ changes_in tree.old.nodes }
+    ensures own { changed_in tree.new.nodes spot.0 spot.1 ≡ changed_in tree.old.nodes spot.0 spot.1 }
+    ensures room { OnOk result ((B.shown blocks.old).room ≤ (B.shown blocks.new).room + 1) }
+    ensures enough { (B.shown blocks.old).room ≢ 0 → IfErr result (λ e. IsDamaged e → ⊥) }
+    ensures spent { (B.shown blocks.new).spent ≡ (B.shown blocks.old).spent }
     ensures untouched { OnErr result (IsUntouched (B.shown blocks.old) (B.shown blocks.new)) }
     ensures calls { B.goes blocks.old blocks.new }
     ensures counts { Counts (B.shown blocks.old) (B.shown blocks.new) result }
@@ -155,6 +163,9 @@ fn swap<B: Blocks>(
     ensures swaps { B.told → IfOk result (λ p. Swaps (B.shown blocks.old) kind block.now placed known old.now.vvbn p (B.shown blocks.new)) }
     ensures stamp { IfOk result (λ p. p.stamp ≡ old.now.stamp) }
     ensures pointer { IfOk result IsPointer }
+    ensures room { OnOk result ((B.shown blocks.old).room ≤ (B.shown blocks.new).room + 1) }
+    ensures enough { (B.shown blocks.old).room ≢ 0 → IfErr result (λ e. IsDamaged e → ⊥) }
+    ensures spent { (B.shown blocks.new).spent ≡ (B.shown blocks.old).spent }
     ensures untouched { OnErr result (IsUntouched (B.shown blocks.old) (B.shown blocks.new)) }
     ensures calls { B.goes blocks.old blocks.new }
     ensures counts { Counts (B.shown blocks.old) (B.shown blocks.new) result }
@@ -169,6 +180,8 @@ fn swap<B: Blocks>(
 fn name_gone<B: Blocks>(blocks: &mut B, asked: bool, vvbn: u32)
     ensures gone { asked ≡ true → Drops (B.shown blocks.old) vvbn (B.shown blocks.new) }
     ensures untouched { asked ≡ false → IsUntouched (B.shown blocks.old) (B.shown blocks.new) }
+    ensures room { (B.shown blocks.old).room ≤ (B.shown blocks.new).room }
+    ensures spent { (B.shown blocks.new).spent ≡ (B.shown blocks.old).spent }
     ensures calls { B.goes blocks.old blocks.new }
     ensures counts { IsCalm (B.shown blocks.old) (B.shown blocks.new) }
 {
@@ -217,7 +230,9 @@ pub fn pointer_in(tree: &Tree, level: u8, place: u32) -> Pointer
 fn point(tree: &mut Tree, level: u8, place: u32, pointer: &Pointer)
     requires pointer { IsPointer pointer.now }
     requires some { pointer.now.stamp ≢ 0 }
-    ensures { Points tree.old tree.new level place pointer.now }
+    ensures points { Points tree.old tree.new level place pointer.now }
+    ensures changes { (level < tree.old.levels → changed_in tree.old.nodes (level + 1) (place / fan) ≡ true) → changes_in tree.new.nodes ≤ changes_in tree.old.nodes }
+    ensures own { changed_in tree.new.nodes level place ≡ changed_in tree.old.nodes level place }
 {
     if level < tree.levels {
         point_slot(
@@ -246,6 +261,7 @@ fn point_slot(
     ensures node { children_in nodes.new level place ≡ option_map (λ xs. slice_set xs slot pointer.now) (children_in nodes.old level place) }
     ensures others { (k q : ℕ) → (k ≢ level) ⊎ (q ≢ place) → children_in nodes.new k q ≡ children_in nodes.old k q }
     ensures len { maps.btree_map_len nodes.new ≡ maps.btree_map_len nodes.old }
+    ensures again { changed_in nodes.old level place ≡ true → changes_in nodes.new ≤ changes_in nodes.old }
     ensures placed { (k q : ℕ) → placed_in nodes.new k q ≡ placed_in nodes.old k q }
     ensures changed { (k q : ℕ) → ((k ≢ level) ⊎ (q ≢ place)) ⊎ (changed_in nodes.old k q ≡ true) → changed_in nodes.new k q ≡ changed_in nodes.old k q }
 {

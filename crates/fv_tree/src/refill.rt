@@ -1,6 +1,6 @@
 //! Another content for a cell, under the stamps that it has.
 
-ghost use Rattle.std.specs.Prelude.{◌≡◌, ◌≢◌, ◌≤◌, ◌⊎◌, ℕ, List, true, false, is_some, Some, IfOk, IfErr, OnErr};
+ghost use Rattle.std.specs.Prelude.{◌≡◌, ◌≢◌, ◌≤◌, ◌+◌, ◌⊎◌, ℕ, List, true, false, is_some, Some, IfOk, IfErr, OnErr};
 ghost use Rattle.std.specs.BTreeMap as maps;
 ghost use Rattle.fv_codec.specs.declared.pointer.Pointer.{Pointer};
 ghost use Rattle.fv_codec.specs.Blocks.{all_holes};
@@ -8,9 +8,12 @@ ghost use Rattle.fv_model.specs.Trees.{spot_cmp};
 ghost use Rattle.fv_tree.specs.Sources.{Counts, IsUntouched};
 ghost use Rattle.fv_tree.specs.Standing.{standing, under, node_in, children_in, Fails, IsSameBut};
 ghost use Rattle.fv_tree.specs.Writing.{IsAlike, Remains};
+ghost use Rattle.fv_tree.specs.Readying.{IsReady};
 ghost use Rattle.fv_tree.specs.Refilling.{IsFilledWay, IsRefilled, Refills};
-ghost use Rattle.fv_tree.specs.Flushing.{changed_in, placed_in, Stands};
+ghost use Rattle.fv_tree.specs.Flushing.{changed_in, loaded, placed_in, Stands};
+ghost use Rattle.fv_tree.specs.Leading.{Carries, LeadsNoMore};
 ghost use Rattle.fv_tree.specs.Carried.{Marks};
+ghost use Rattle.fv_tree.specs.Costs.{changes_in, pending};
 
 use crate::blocks::{Blocks, TreeFault};
 use crate::keep::keep_path;
@@ -38,8 +41,13 @@ impl Tree {
         ensures refilled { B.told → IfOk result (Refills (standing (under (B.shown blocks.old)) self.old) (standing (under (B.shown blocks.new)) self.new) index block.now) }
         ensures place_by_place { B.told → IfOk result (IsRefilled (standing (under (B.shown blocks.old)) self.old) (standing (under (B.shown blocks.new)) self.new) index block.now) }
         ensures failed { B.told → OnErr result (Remains (standing (under (B.shown blocks.old)) self.old) (standing (under (B.shown blocks.new)) self.new)) }
+        ensures ready { IfOk result (λ there. there ≡ true → IsReady self.new index) }
         ensures owner { self.new.owner ≡ self.old.owner }
+        ensures levels { self.new.levels ≡ self.old.levels }
         ensures stands { B.told → Stands (B.shown blocks.old) self.old → Stands (B.shown blocks.new) self.new }
+        ensures leads { B.told → LeadsNoMore (loaded (B.shown blocks.old) self.old) (loaded (B.shown blocks.new) self.new) }
+        ensures keeps { B.told → LeadsNoMore (loaded (B.shown blocks.new) self.new) (loaded (B.shown blocks.old) self.old) }
+        ensures pending { pending self.new ≤ pending self.old + 4 }
         ensures untouched { IsUntouched (B.shown blocks.old) (B.shown blocks.new) }
         ensures reads { B.reads blocks.old blocks.new }
         ensures counts { Counts (B.shown blocks.old) (B.shown blocks.new) result }
@@ -50,7 +58,7 @@ impl Tree {
 }
 
 /// Gives a cell another content, where it stands.
-fn refill_cell<B: Blocks>(
+pub fn refill_cell<B: Blocks>(
     tree: &mut Tree,
     blocks: &mut B,
     index: u32,
@@ -58,8 +66,11 @@ fn refill_cell<B: Blocks>(
 ) -> Result<bool, TreeFault>
     ensures done { B.told → IfOk result (IsRefilled (standing (under (B.shown blocks.old)) tree.old) (standing (under (B.shown blocks.new)) tree.new) index block.now) }
     ensures failed { B.told → OnErr result (IsAlike (standing (under (B.shown blocks.old)) tree.old) (standing (under (B.shown blocks.new)) tree.new)) }
+    ensures ready { IfOk result (λ there. there ≡ true → IsReady tree.new index) }
     ensures owner { tree.new.owner ≡ tree.old.owner }
-    ensures stands { B.told → Stands (B.shown blocks.old) tree.old → Stands (B.shown blocks.new) tree.new }
+    ensures levels { tree.new.levels ≡ tree.old.levels }
+    ensures carries { B.told → Carries (B.shown blocks.old) (B.shown blocks.new) tree.old tree.new }
+    ensures pending { pending tree.new ≤ pending tree.old + 4 }
     ensures untouched { IsUntouched (B.shown blocks.old) (B.shown blocks.new) }
     ensures reads { B.reads blocks.old blocks.new }
     ensures counts { Counts (B.shown blocks.old) (B.shown blocks.new) result }
@@ -83,6 +94,7 @@ fn mark_path(tree: &mut Tree, index: u32)
     ensures fields { IsSameBut tree.old tree.new }
     ensures nodes { (level place : ℕ) → node_in tree.new level place ≡ node_in tree.old level place }
     ensures marks { Marks tree.old tree.new index }
+    ensures changes { changes_in tree.new.nodes ≤ changes_in tree.old.nodes + tree.old.levels }
 {
     let levels = tree.levels;
     for below in 0..levels {
@@ -97,6 +109,7 @@ fn mark_spot(nodes: &mut BTreeMap<(u8, u32), KeptNode>, level: u8, place: u32)
     ensures placed { (k q : ℕ) → placed_in nodes.new k q ≡ placed_in nodes.old k q }
     ensures changed { is_some (maps.get spot_cmp nodes.old (level, place)) ≡ true → changed_in nodes.new level place ≡ true }
     ensures others { (k q : ℕ) → (k ≢ level) ⊎ (q ≢ place) → maps.get spot_cmp nodes.new (k, q) ≡ maps.get spot_cmp nodes.old (k, q) }
+    ensures count { changes_in nodes.new ≤ changes_in nodes.old + 1 }
 {
     if let Some(node) = nodes.get_mut(&(level, place)) {
         mark(node);

@@ -1,6 +1,6 @@
 //! The calls of a tree.
 
-ghost use Rattle.std.specs.Prelude.{◌≡◌, ◌≤◌, ◌<◌, ℕ, List, Option, cond, Some, None, IfOk, IfErr, OnOk, OnErr};
+ghost use Rattle.std.specs.Prelude.{◌≡◌, ◌≤◌, ◌<◌, ◌+◌, ℕ, List, Option, cond, Some, None, IfOk, IfErr, OnOk, OnErr};
 ghost use Rattle.std.specs.BTreeMap as maps;
 ghost use Rattle.std.specs.FinMap as fin;
 ghost use Rattle.std.specs.Ordering.{nat_cmp};
@@ -10,7 +10,9 @@ ghost use Rattle.fv_tree.specs.Spelled.{Under, hole, stored, block_at};
 ghost use Rattle.fv_tree.specs.Sources.{Counts, Use, IsUntouched};
 ghost use Rattle.fv_tree.specs.Standing.{standing, under, Shows, Fails};
 ghost use Rattle.fv_tree.specs.Writing.{IsWritten, Writes, Remains};
-ghost use Rattle.fv_tree.specs.Flushing.{loaded_over, IsSound, ReachesOnce, Stands};
+ghost use Rattle.fv_tree.specs.Flushing.{loaded, loaded_over, IsSound, ReachesOnce, Stands};
+ghost use Rattle.fv_tree.specs.Leading.{LeadsNoMore};
+ghost use Rattle.fv_tree.specs.Costs.{pending, way_cost};
 
 use crate::blocks::{Blocks, TreeFault};
 use crate::kept::{HOLE, Tree};
@@ -28,6 +30,7 @@ impl Tree {
         ensures stored { (blocks : Under) → standing blocks result ≡ stored blocks owner levels hole }
         ensures seen { (blocks : Under) → Shows (standing blocks result) (record { levels = levels; stamps = fin.empty }) fin.empty }
         ensures stands { (blocks : Under) (used : ℕ → Option Use) → IsSound used (loaded_over blocks result) }
+        ensures pending { pending result ≡ 0 }
     {
         Tree::at(alloc, owner, levels, HOLE)
     }
@@ -38,6 +41,7 @@ impl Tree {
         requires root { IsPointer root }
         ensures stored { (blocks : Under) → standing blocks result ≡ stored blocks owner levels root }
         ensures stands { (blocks : Under) (used : ℕ → Option Use) → ReachesOnce used (stored blocks owner levels root) → IsSound used (loaded_over blocks result) }
+        ensures pending { pending result ≡ 0 }
     {
         unread(alloc, owner, levels, root)
     }
@@ -66,6 +70,7 @@ impl Tree {
     ) -> Result<bool, TreeFault>
         ensures cell { B.told → IfOk result (λ there. block_at (standing (under (B.shown blocks.old)) self.old) index ≡ cond there (Some into.new) None) }
         ensures seen { B.told → (seen : trees.Tree) (contents : fin.FinMap nat_cmp (List ℕ)) → Shows (standing (under (B.shown blocks.old)) self.old) seen contents → IfOk result (λ there. fin.get contents index ≡ cond there (Some into.new) None) }
+        ensures spent { B.told → OnOk result ((B.shown blocks.new).spent ≡ (B.shown blocks.old).spent + way_cost (B.shown blocks.old).cost (standing (under (B.shown blocks.old)) self.old) index) }
         ensures tree { self.new ≡ self.old }
         ensures stands { Stands (B.shown blocks.old) self.old → Stands (B.shown blocks.new) self.new }
         ensures untouched { IsUntouched (B.shown blocks.old) (B.shown blocks.new) }
@@ -99,6 +104,9 @@ impl Tree {
         ensures failed { B.told → OnErr result (Remains (standing (under (B.shown blocks.old)) self.old) (standing (under (B.shown blocks.new)) self.new)) }
         ensures owner { self.new.owner ≡ self.old.owner }
         ensures stands { B.told → Stands (B.shown blocks.old) self.old → Stands (B.shown blocks.new) self.new }
+        ensures leads { B.told → LeadsNoMore (loaded (B.shown blocks.old) self.old) (loaded (B.shown blocks.new) self.new) }
+        ensures keeps { B.told → LeadsNoMore (loaded (B.shown blocks.new) self.new) (loaded (B.shown blocks.old) self.old) }
+        ensures pending { pending self.new ≤ pending self.old + 6 }
         ensures untouched { IsUntouched (B.shown blocks.old) (B.shown blocks.new) }
         ensures reads { B.reads blocks.old blocks.new }
         ensures counts { Counts (B.shown blocks.old) (B.shown blocks.new) result }

@@ -1,11 +1,12 @@
 //! The way from the root to a cell.
 
-ghost use Rattle.std.specs.Prelude.{◌≡◌, ◌≢◌, ◌≤◌, ◌<◌, ◌/◌, ◌%◌, ◌-◌, ◌^◌, cond, Some, None, IfOk, IfErr, get_or, length};
+ghost use Rattle.std.specs.Prelude.{◌≡◌, ◌≢◌, ◌≤◌, ◌<◌, ◌/◌, ◌%◌, ◌-◌, ◌^◌, cond, not, ◌==◌, Some, None, IfOk, IfErr, get_or, length, ◌+◌, is_some, OnOk};
 ghost use Rattle.fv_codec.specs.Blocks.{IsNode};
 ghost use Rattle.fv_model.specs.Trees.{fan};
 ghost use Rattle.fv_tree.specs.Spelled.{Under, hole, pointers_at, pointers_in, pointer_below, pointer_at, block_at};
 ghost use Rattle.fv_tree.specs.Sources.{Counts, IsUntouched};
-ghost use Rattle.fv_tree.specs.Standing.{standing, under, Fails, LoadFails, PointerFails};
+ghost use Rattle.fv_tree.specs.Standing.{standing, under, cell_in, node_in, Fails, LoadFails, PointerFails};
+ghost use Rattle.fv_tree.specs.Costs.{load_cost, place_cost, way_cost};
 
 use crate::blocks::{Blocks, TreeFault};
 use crate::kept::{HOLE, Tree};
@@ -15,6 +16,8 @@ use fv_codec::{Node, Pointer};
 /// The pointer to a cell.
 pub fn find<B: Blocks>(tree: &Tree, blocks: &mut B, index: u32) -> Result<Pointer, TreeFault>
     ensures pointer { B.told → IfOk result (λ p. p ≡ pointer_at (standing (under (B.shown blocks.old)) tree.now) 0 index) }
+    ensures spent { B.told → OnOk result ((B.shown blocks.new).spent + place_cost (B.shown blocks.old).cost (standing (under (B.shown blocks.old)) tree.now) 0 index
+        ≡ (B.shown blocks.old).spent + way_cost (B.shown blocks.old).cost (standing (under (B.shown blocks.old)) tree.now) index) }
     ensures untouched { IsUntouched (B.shown blocks.old) (B.shown blocks.new) }
     ensures reads { B.reads blocks.old blocks.new }
     ensures counts { Counts (B.shown blocks.old) (B.shown blocks.new) result }
@@ -31,7 +34,7 @@ pub fn find<B: Blocks>(tree: &Tree, blocks: &mut B, index: u32) -> Result<Pointe
 
 /// The pointer to the range of the tree's levels in which an index lies: the root, or a hole past it.
 #[tactic(auto, unfolding(crate::specs::Spelled::pointer_below))]
-fn top(tree: &Tree, index: u32) -> Pointer
+pub fn top(tree: &Tree, index: u32) -> Pointer
     ensures { (blocks : Under) → result ≡ pointer_below (standing blocks tree.now) 0 (index / fan ^ tree.now.levels) }
 {
     if index / width(tree.levels) == 0 {
@@ -42,7 +45,7 @@ fn top(tree: &Tree, index: u32) -> Pointer
 }
 
 /// From the pointer to the range of a level in which an index lies to that of the level below.
-fn step<B: Blocks>(
+pub fn step<B: Blocks>(
     tree: &Tree,
     blocks: &mut B,
     level: u8,
@@ -53,6 +56,7 @@ fn step<B: Blocks>(
     requires high { level ≤ tree.now.levels }
     requires pointer { B.told → pointer.now ≡ pointer_below (standing (under (B.shown blocks.old)) tree.now) (tree.now.levels - level) (index / fan ^ level) }
     ensures below { B.told → IfOk result (λ p. p ≡ pointer_below (standing (under (B.shown blocks.old)) tree.now) (tree.now.levels - (level - 1)) (index / fan ^ (level - 1))) }
+    ensures spent { B.told → OnOk result ((B.shown blocks.new).spent ≡ (B.shown blocks.old).spent + place_cost (B.shown blocks.old).cost (standing (under (B.shown blocks.old)) tree.now) level (index / fan ^ level)) }
     ensures untouched { IsUntouched (B.shown blocks.old) (B.shown blocks.new) }
     ensures reads { B.reads blocks.old blocks.new }
     ensures counts { Counts (B.shown blocks.old) (B.shown blocks.new) result }
@@ -74,6 +78,7 @@ fn child<B: Blocks>(
 ) -> Result<Pointer, TreeFault>
     requires slot { slot < fan }
     ensures child { B.told → IfOk result (λ p. p ≡ get_or (pointers_at (standing (under (B.shown blocks.old)) tree.now) level place pointer.now) slot hole) }
+    ensures spent { OnOk result ((B.shown blocks.new).spent ≡ (B.shown blocks.old).spent + load_cost (B.shown blocks.old).cost (is_some (node_in tree.now level place)) pointer.now) }
     ensures untouched { IsUntouched (B.shown blocks.old) (B.shown blocks.new) }
     ensures reads { B.reads blocks.old blocks.new }
     ensures counts { Counts (B.shown blocks.old) (B.shown blocks.new) result }
@@ -97,6 +102,7 @@ pub fn load_node<B: Blocks>(blocks: &mut B, pointer: &Pointer) -> Result<Node, T
     ensures node { B.told → IfOk result (λ n. pointers_in (under (B.shown blocks.old) pointer.now.vvbn) ≡ n.children) }
     ensures long { IfOk result (λ n. length n.children ≡ 128) }
     ensures range { IfOk result (λ n. IsNode n) }
+    ensures spent { OnOk result ((B.shown blocks.new).spent ≡ (B.shown blocks.old).spent + (B.shown blocks.old).cost pointer.now) }
     ensures untouched { IsUntouched (B.shown blocks.old) (B.shown blocks.new) }
     ensures reads { B.reads blocks.old blocks.new }
     ensures counts { Counts (B.shown blocks.old) (B.shown blocks.new) result }
@@ -124,7 +130,9 @@ pub fn read_cell<B: Blocks>(
     into: &mut [u8; 4096],
 ) -> Result<bool, TreeFault>
     requires pointer { B.told → pointer.now ≡ pointer_at (standing (under (B.shown blocks.old)) tree.now) 0 index }
+    ensures there { IfOk result (λ there. there ≡ not (pointer.now.stamp == 0)) }
     ensures cell { B.told → IfOk result (λ there. block_at (standing (under (B.shown blocks.old)) tree.now) index ≡ cond there (Some into.new) None) }
+    ensures spent { OnOk result ((B.shown blocks.new).spent ≡ (B.shown blocks.old).spent + load_cost (B.shown blocks.old).cost (is_some (cell_in tree.now index)) pointer.now) }
     ensures untouched { IsUntouched (B.shown blocks.old) (B.shown blocks.new) }
     ensures reads { B.reads blocks.old blocks.new }
     ensures counts { Counts (B.shown blocks.old) (B.shown blocks.new) result }

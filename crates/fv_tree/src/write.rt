@@ -1,6 +1,6 @@
 //! Writing a cell: its content, and the stamps on the way to it.
 
-ghost use Rattle.std.specs.Prelude.{◌≡◌, ◌≢◌, ◌≤◌, ◌<◌, ◌^◌, ◌⊎◌, ◌&&◌, ℕ, Option, true, is_some, cond, nat_eq, Some, IfErr, OnOk, OnErr};
+ghost use Rattle.std.specs.Prelude.{◌≡◌, ◌≢◌, ◌≤◌, ◌<◌, ◌+◌, ◌-◌, ◌/◌, ◌^◌, ◌⊎◌, ◌&&◌, ℕ, Option, true, is_some, cond, nat_eq, Some, IfErr, OnOk, OnErr};
 ghost use Rattle.std.specs.BTreeMap as maps;
 ghost use Rattle.std.specs.Ordering.{nat_cmp};
 ghost use Rattle.std.specs.Option.{option_map};
@@ -8,9 +8,11 @@ ghost use Rattle.fv_model.specs.Trees.{fan, spot_cmp};
 ghost use Rattle.fv_tree.specs.Standing.{standing, under, children_in, cell_in, IsSameButCells, Fails};
 ghost use Rattle.fv_tree.specs.Spelled.{Under};
 ghost use Rattle.fv_tree.specs.Sources.{Counts, Use, IsUntouched};
-ghost use Rattle.fv_tree.specs.Flushing.{cell_placed, changed_in, loaded_over, placed_in, IsSound, Stands};
+ghost use Rattle.fv_tree.specs.Flushing.{cell_placed, changed_in, loaded_over, placed_in, IsSound};
+ghost use Rattle.fv_tree.specs.Leading.{Carries, LeadsNoMore};
 ghost use Rattle.fv_tree.specs.Carried.{Marks};
 ghost use Rattle.fv_tree.specs.Writing.{stamped, stamped_in, new_child, Stamps, IsAlike, IsWritten};
+ghost use Rattle.fv_tree.specs.Costs.{changes_in, pending};
 ghost use Rattle.fv_disk.specs.declared.fault.BlockFault.TheVariants.{Memory};
 
 use crate::blocks::{Blocks, TreeFault};
@@ -34,6 +36,7 @@ pub fn keep_cell(
     ensures own { OnOk result (cell_placed (maps.get nat_cmp tree.new.cells index) ≡ (placed && cell_placed (maps.get nat_cmp tree.old.cells index))) }
     ensures others { (i : ℕ) → i ≢ index → maps.get nat_cmp tree.new.cells i ≡ maps.get nat_cmp tree.old.cells i }
     ensures same { OnErr result ((i : ℕ) → maps.get nat_cmp tree.new.cells i ≡ maps.get nat_cmp tree.old.cells i) }
+    ensures count { maps.btree_map_len tree.new.cells ≤ maps.btree_map_len tree.old.cells + 1 }
     ensures memory { IfErr result (λ e. e ≡ Memory) }
 {
     let cell = KeptCell {
@@ -61,6 +64,9 @@ pub fn stamp_path(tree: &mut Tree, index: u32, stamp: u64)
     requires { 1 ≤ stamp }
     ensures stamps { Stamps tree.old tree.new index stamp }
     ensures marks { Marks tree.old tree.new index }
+    ensures changes { changes_in tree.new.nodes ≤ changes_in tree.old.nodes + tree.old.levels }
+    ensures again { ((level : ℕ) → 1 ≤ level → level ≤ tree.old.levels → changed_in tree.old.nodes level (index / fan ^ level) ≡ true) → changes_in tree.new.nodes ≤ changes_in tree.old.nodes }
+    ensures top { changed_in tree.old.nodes tree.old.levels (index / fan ^ tree.old.levels) ≡ true → changes_in tree.new.nodes ≤ changes_in tree.old.nodes + (tree.old.levels - 1) }
 {
     let levels = tree.levels;
     tree.root = stamped(&tree.root, stamp);
@@ -85,6 +91,8 @@ pub fn stamp_slot(
     ensures placed { (k q : ℕ) → placed_in nodes.new k q ≡ placed_in nodes.old k q }
     ensures changed { is_some (maps.get spot_cmp nodes.old (level, place)) ≡ true → changed_in nodes.new level place ≡ true }
     ensures others { (k q : ℕ) → (k ≢ level) ⊎ (q ≢ place) → maps.get spot_cmp nodes.new (k, q) ≡ maps.get spot_cmp nodes.old (k, q) }
+    ensures count { changes_in nodes.new ≤ changes_in nodes.old + 1 }
+    ensures again { changed_in nodes.old level place ≡ true → changes_in nodes.new ≤ changes_in nodes.old }
 {
     if let Some(node) = nodes.get_mut(&(level, place)) {
         stamp_child(node, slot, stamp);
@@ -129,7 +137,8 @@ pub fn write_within<B: Blocks>(
     ensures done { B.told → OnOk result (IsWritten (standing (under (B.shown blocks.old)) tree.old) (standing (under (B.shown blocks.new)) tree.new) index stamp block.now) }
     ensures failed { B.told → OnErr result (IsAlike (standing (under (B.shown blocks.old)) tree.old) (standing (under (B.shown blocks.new)) tree.new)) }
     ensures owner { tree.new.owner ≡ tree.old.owner }
-    ensures stands { B.told → Stands (B.shown blocks.old) tree.old → Stands (B.shown blocks.new) tree.new }
+    ensures carries { B.told → Carries (B.shown blocks.old) (B.shown blocks.new) tree.old tree.new }
+    ensures pending { pending tree.new ≤ pending tree.old + 6 }
     ensures untouched { IsUntouched (B.shown blocks.old) (B.shown blocks.new) }
     ensures reads { B.reads blocks.old blocks.new }
     ensures counts { Counts (B.shown blocks.old) (B.shown blocks.new) result }
@@ -155,6 +164,9 @@ pub fn write_past(
     ensures failed { (blocks : Under) → OnErr result (IsAlike (standing blocks tree.old) (standing blocks tree.new)) }
     ensures owner { tree.new.owner ≡ tree.old.owner }
     ensures stands { (blocks : Under) (used : ℕ → Option Use) → IsSound used (loaded_over blocks tree.old) → IsSound used (loaded_over blocks tree.new) }
+    ensures leads { (blocks : Under) → LeadsNoMore (loaded_over blocks tree.old) (loaded_over blocks tree.new) }
+    ensures keeps { (blocks : Under) → LeadsNoMore (loaded_over blocks tree.new) (loaded_over blocks tree.old) }
+    ensures pending { pending tree.new ≤ pending tree.old + 6 }
     ensures memory { IfErr result (λ e. e ≡ Memory) }
 {
     let levels = levels_over(index);
@@ -191,7 +203,8 @@ pub fn write_cell<B: Blocks>(
     ensures done { B.told → OnOk result (IsWritten (standing (under (B.shown blocks.old)) tree.old) (standing (under (B.shown blocks.new)) tree.new) index stamp block.now) }
     ensures failed { B.told → OnErr result (IsAlike (standing (under (B.shown blocks.old)) tree.old) (standing (under (B.shown blocks.new)) tree.new)) }
     ensures owner { tree.new.owner ≡ tree.old.owner }
-    ensures stands { B.told → Stands (B.shown blocks.old) tree.old → Stands (B.shown blocks.new) tree.new }
+    ensures carries { B.told → Carries (B.shown blocks.old) (B.shown blocks.new) tree.old tree.new }
+    ensures pending { pending tree.new ≤ pending tree.old + 6 }
     ensures untouched { IsUntouched (B.shown blocks.old) (B.shown blocks.new) }
     ensures reads { B.reads blocks.old blocks.new }
     ensures counts { Counts (B.shown blocks.old) (B.shown blocks.new) result }

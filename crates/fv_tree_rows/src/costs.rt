@@ -127,8 +127,14 @@ fn make(tree: &mut Tree, blocks: &mut MemBlocks, call: Call) -> Result<(), TreeF
             tree.refill(blocks, index, &block(9))?;
             Ok(())
         }
-        Call::Remove(index) => tree.remove(blocks, index, 0, 9),
-        Call::Cut(length) => tree.cut(blocks, length, 0, 9),
+        Call::Remove(index) => {
+            tree.remove(blocks, index, 0, 9)?;
+            Ok(())
+        }
+        Call::Cut(length) => {
+            tree.cut(blocks, length, 0, 9)?;
+            Ok(())
+        }
     }
 }
 

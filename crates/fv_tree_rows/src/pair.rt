@@ -132,8 +132,12 @@ fn change_stored(stored: &mut Stored, change: Change) -> Result<(), Wrong> {
         Kind::Put => stored
             .tree
             .put(&mut stored.blocks, index, &block(stamp), stamp)?,
-        Kind::Remove => stored.tree.remove(&mut stored.blocks, index, start, stamp)?,
-        Kind::Cut => stored.tree.cut(&mut stored.blocks, index, start, stamp)?,
+        Kind::Remove => {
+            stored.tree.remove(&mut stored.blocks, index, start, stamp)?;
+        }
+        Kind::Cut => {
+            stored.tree.cut(&mut stored.blocks, index, start, stamp)?;
+        }
     }
     Ok(())
 }

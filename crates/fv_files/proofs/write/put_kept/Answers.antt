@@ -9,12 +9,15 @@ returns-in-Some-clause-puts g c =
     record {
       tree = c.in-Some.tree.now;
       next = c.put.new.self;
-      was = sym c.in-Some.ensures.value;
-      now = written.1;
-      others = λ k differs. written.2 k (let test : is_eq (nat_cmp c.args.number k) ≡ false = grind (arith, nat_tests, differs) in test);
+      becomes = record {
+        was = sym c.in-Some.ensures.value;
+        now = written.1;
+        others = λ k differs. written.2 k (let test : is_eq (nat_cmp c.args.number k) ≡ false = grind (arith, nat_tests, differs) in test);
+      };
       owner = c.put.ensures.owner;
       written = c.put.ensures.written;
       stands = c.put.ensures.stands;
+      leads = c.put.ensures.leads;
       failed = c.put.ensures.failed;
       untouched = c.put.ensures.untouched;
       counts = c.put.ensures.counts;

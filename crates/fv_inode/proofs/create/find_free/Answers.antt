@@ -33,7 +33,7 @@ returns-in-Some-clause-number g c = λ told.
     least_in (standing (under old) c.args.tree.now) c.loop-cell.cell c.in_ok-files.files c.in-Some.slot (earlier (λ t. AreRecords t c.loop-cell.cell c.in_ok-files.files) c.args.tree.now old mid was.looks.untouched.held (c.in_ok-files.ensures.files told)) found.0 (was.least told) found.1 found.2
 
 pub returns-in-Some-clause-files : goal.returns-in-Some-clause-files
-returns-in-Some-clause-files g c = λ told.
+returns-in-Some-clause-files g c = λ told small.
     let old = g.B.Blocks.shown c.args.blocks.now in
     let mid = g.B.Blocks.shown c.loop-cell.blocks in
     let was = c.loop-cell.invariant in
@@ -58,14 +58,12 @@ loop-cell-preserved g c =
 pub returns-clause-number : goal.returns-clause-number
 returns-clause-number g c = λ told.
     let count = c.numbered_cells-count.ensures in
-    (least_searched (standing (under (g.B.Blocks.shown c.args.blocks.now)) c.args.tree.now) c.numbered_cells-count.result count.few count.all
-    (λ k lt. c.loop-cell.invariant.least told k (omega (arith, lt, c.loop-cell-test.false))) (c.requires.free told)).1
+    least_searched (standing (under (g.B.Blocks.shown c.args.blocks.now)) c.args.tree.now) c.numbered_cells-count.result count.few count.all (λ k lt. c.loop-cell.invariant.least told k (omega (arith, lt, c.loop-cell-test.false)))
 
 pub returns-clause-files : goal.returns-clause-files
-returns-clause-files g c = λ told.
+returns-clause-files g c = λ told small.
     let t = standing (under (g.B.Blocks.shown c.args.blocks.now)) c.args.tree.now in
-    let count = c.numbered_cells-count.ensures in
-    let whole = (least_searched t c.numbered_cells-count.result count.few count.all (λ k lt. c.loop-cell.invariant.least told k (omega (arith, lt, c.loop-cell-test.false))) (c.requires.free told)).0 in
+    let whole = c.numbered_cells-count.ensures.all (omega (arith, small)) in
     none_are t (16 * c.numbered_cells-count.result / 16) c.free_files.result (no_cell t (16 * c.numbered_cells-count.result / 16) (omega (arith, whole))) c.free_files.ensures
 
 pub returns-clause-range : goal.returns-clause-range

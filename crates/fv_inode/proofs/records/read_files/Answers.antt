@@ -7,7 +7,7 @@ use Rattle.fv_codec.specs.Blocks.{IsInodeRecord}
 use Rattle.fv_tree.specs.Standing.{standing, under}
 use Rattle.fv_inode.specs.Files.{blank_record}
 use Rattle.fv_inode.proofs.Looked.{looks_self, looks_done, looks_judged}
-use Rattle.fv_inode.proofs.Slots.{no_cell, none_are, none_used, records_are, blank_fits}
+use Rattle.fv_inode.proofs.Slots.{no_cell, no_way, none_are, none_used, records_are, blank_fits}
 use Rattle.fv_inode.proofs.records.read_files.Goals as goal
 
 pub returns-then-cell-cells-clause-files : goal.returns-then-cell-cells-clause-files
@@ -26,6 +26,12 @@ returns-then-cell-cells-clause-looks g c =
     let old = g.B.Blocks.shown c.args.blocks.now in
     let t = standing (under old) c.args.tree.now in
     looks_done g.B.Blocks.told t old old (tt {0}) c.free_files.result (looks_self g.B.Blocks.told t old)
+
+pub returns-then-cell-cells-clause-spent : goal.returns-then-cell-cells-clause-spent
+returns-then-cell-cells-clause-spent g c = λ told.
+    let old = g.B.Blocks.shown c.args.blocks.now in
+    let none = no_way old.cost (standing (under old) c.args.tree.now) c.args.cell (omega (arith, c.if-cell-cells.true, c.cells.ensures.is)) in
+    omega (arith, none)
 
 pub returns-in-None-clause-files : goal.returns-in-None-clause-files
 returns-in-None-clause-files g c = λ told.

@@ -1,13 +1,24 @@
-use Rattle.std.proofs.Common.{◌≡◌, ◌+◌, get_or, length, sym, subst, ◌∙◌, arith, nat_le}
+use Rattle.std.proofs.Common.{◌≡◌, ◌≤◌, ◌+◌, ◌^◌, ap, get_or, length, sym, subst, ◌∙◌, arith, nat_le}
 use Rattle.fv_tree.specs.Standing.{standing, under}
 use Rattle.fv_tree.specs.Erasing.{StandsAt}
 use Rattle.fv_tree.specs.Releasing.{Removes}
 use Rattle.fv_tree.specs.Unlinking.{HasWay, CellGoes}
-use Rattle.fv_tree.specs.Collecting.{Collects}
-use Rattle.fv_tree.proofs.Causes.{calm_then}
+use Rattle.fv_model.specs.Trees.{fan}
+use Rattle.std.specs.FinMap as fin
+use Rattle.fv_tree.specs.Counting.{positions_of}
+use Rattle.fv_tree.specs.Collecting.{AreBelow, Collects}
+use Rattle.fv_tree.proofs.Causes.{at_err, calm_then}
 use Rattle.fv_tree.proofs.Collected.{listed, next_listed, none_listed, not_yet, listed_past, way_held}
-use Rattle.fv_tree.proofs.Removing.{removes_nothing, removes_then, removes_as, removes_stands, removes_holds}
+use Rattle.fv_tree.proofs.Counts.{alike_count, count_then, few_below}
+use Rattle.fv_tree.proofs.Leading.{carries_same}
+use Rattle.fv_tree.proofs.Removing.{removes_nothing, removes_then, removes_as, removes_stands, removes_holds, same_over}
+use Rattle.fv_tree.proofs.Writes.{same_alike}
 use Rattle.fv_tree.proofs.cut.cut_cells.Goals as goal
+
+pub returns-in_err-cells-clause-stays : goal.returns-in_err-cells-clause-stays
+returns-in_err-cells-clause-stays g c = λ told.
+    let now = c.keep_past.ensures in
+    at_err c.from_residual.result (carries_same (g.B.Blocks.shown c.args.blocks.now) (g.B.Blocks.shown c.keep_past.new.blocks) c.args.tree.now c.keep_past.new.tree now.untouched (now.same told) (now.blocks told) (now.stands told))
 
 pub loop-index-init : goal.loop-index-init
 loop-index-init g c =
@@ -20,8 +31,11 @@ loop-index-init g c =
     let now = c.in_ok-cells.ensures in
     let are : g.B.Blocks.told → Collects s 0 c.args.most cells = λ told. subst (Collects s 0 c.args.most) (sym c.as_slice-index-items.ensures.value) (now.cells told) in record {
       removes = λ told. removes_nothing a b t u (listed cells 0) c.args.start c.args.stamp now.untouched now.counts.calm (now.same told) (now.blocks told) (now.stands told) (λ i _. none_listed cells i);
+      count = λ told. let same = alike_count (standing (under a) t) (standing (under a) u) (same_alike (standing (under a) t) (standing (under a) u) (same_over (under a) (under b) t u (ap (λ h v. fin.get h v) now.untouched.held) (now.same told))) in omega (arith, same);
+      few = omega arith;
       calm = now.counts.calm;
       owner = now.fields.owner;
+      room = omega (arith, now.untouched.room);
       calls = g.met.B.Blocks.reads_go c.args.blocks.now c.keep_past.new.blocks now.reads;
       ways = λ told j _ lt. way_held (under b) u s c.args.most (get_or cells j 0) now.fields.levels (now.nodes told) ((are told).past j lt);
     }
@@ -30,10 +44,10 @@ pub loop-index-preserved : goal.loop-index-preserved
 loop-index-preserved g c =
     let a = g.B.Blocks.shown c.args.blocks.now in
     let b = g.B.Blocks.shown c.loop-index.blocks in
-    let d = g.B.Blocks.shown c.erase_cell.new.blocks in
+    let d = g.B.Blocks.shown c.erase_cell-gone.new.blocks in
     let t = c.args.tree.now in
     let u = c.loop-index.tree in
-    let w = c.erase_cell.new.tree in
+    let w = c.erase_cell-gone.new.tree in
     let s = standing (under a) t in
     let cells = c.as_slice-index-items.result.now in
     let at = c.loop-index.index-index in
@@ -43,14 +57,23 @@ loop-index-preserved g c =
     let way : g.B.Blocks.told → HasWay u index = λ told. was.ways told at (omega arith) c.loop-index-test.true in
     let stands : g.B.Blocks.told → StandsAt (standing (under a) u) 0 index = λ told.
     removes_stands a b t u (listed cells at) c.args.start c.args.stamp (was.removes told) index ((are told).past at c.loop-index-test.true).stands (not_yet cells at at (are told).rising (omega arith) c.loop-index-test.true) in
-    let goes : g.B.Blocks.told → CellGoes (under a) u w index c.args.start c.args.stamp = λ told. c.erase_cell.ensures.goes (way told) (under a) (stands told) in
+    let goes : g.B.Blocks.told → CellGoes (under a) u w index c.args.start c.args.stamp = λ told. c.erase_cell-gone.ensures.goes (way told) (under a) (stands told) in
     let next : g.B.Blocks.told → Removes a d t w (listed cells (at + 1)) c.args.start c.args.stamp = λ told.
-    removes_then a b d t u w (listed cells at) (listed cells (at + 1)) index c.args.start c.args.stamp (was.removes told) (goes told) (c.erase_cell.ensures.released (way told) (under a) (stands told)) (c.erase_cell.ensures.strays (way told) (under a) (stands told)) (next_listed cells at)
+    removes_then a b d t u w (listed cells at) (listed cells (at + 1)) index c.args.start c.args.stamp (was.removes told) (goes told) (c.erase_cell-gone.ensures.released (way told) (under a) (stands told)) (c.erase_cell-gone.ensures.strays (way told) (under a) (stands told)) (next_listed cells at)
     (removes_holds a b t u (listed cells at) c.args.start c.args.stamp (was.removes told)) in record {
       removes = next;
-      calm = calm_then a b d was.calm c.erase_cell.ensures.calm;
-      owner = c.erase_cell.ensures.owner ∙ was.owner;
-      calls = g.met.B.Blocks.goes_on c.args.blocks.now c.loop-index.blocks c.erase_cell.new.blocks was.calls c.erase_cell.ensures.calls;
+      count = λ told.
+          let small : length cells ≤ fan ^ 3 = few_below cells (fan ^ 3) (are told).rising (subst (λ xs. AreBelow xs (fan ^ 3)) (sym c.as_slice-index-items.ensures.value) c.in_ok-cells.ensures.bound) in
+          let less = c.loop-index-test.true in
+          let most = c.erase_cell-gone.ensures.few in
+          let all = was.few in
+          count_then (positions_of s) (positions_of (standing (under a) u)) (positions_of (standing (under a) w)) c.loop-index.count c.erase_cell-gone.result c.saturating_add-count.result (was.count told) (c.erase_cell-gone.ensures.count (way told) (under a) (stands told))
+          (omega (arith, c.saturating_add-count.ensures, small, less, most, all));
+      few = (let most = c.erase_cell-gone.ensures.few in let all = was.few in omega (arith, c.saturating_add-count.ensures, most, all));
+      calm = calm_then a b d was.calm c.erase_cell-gone.ensures.calm;
+      owner = c.erase_cell-gone.ensures.owner ∙ was.owner;
+      room = omega (arith, was.room, c.erase_cell-gone.ensures.room);
+      calls = g.met.B.Blocks.goes_on c.args.blocks.now c.loop-index.blocks c.erase_cell-gone.new.blocks was.calls c.erase_cell-gone.ensures.calls;
       ways = λ told j le lt.
           (goes told).ways (get_or cells j 0) (removes_stands a d t w (listed cells (at + 1)) c.args.start c.args.stamp (next told) (get_or cells j 0) ((are told).past j lt).stands (not_yet cells (at + 1) j (are told).rising le lt)) (was.ways told j (omega (arith, le)) lt);
     }

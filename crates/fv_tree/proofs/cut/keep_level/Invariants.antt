@@ -5,6 +5,7 @@ use Rattle.fv_tree.specs.Sources.{IsCalm, IsUntouched}
 use Rattle.fv_tree.specs.Standing.{standing, under, IsSameBut}
 use Rattle.fv_tree.specs.Releasing.{KeepsBlocks}
 use Rattle.fv_tree.specs.Flushing.{Stands}
+use Rattle.fv_tree.specs.Costs.{changes_in}
 use Rattle.fv_tree.specs.Collecting.{IsRising, AreBelow, Extends, IsHeld, StillHeld}
 use Rattle.fv_tree.proofs.Collected.{IsUnderOne}
 use Rattle.fv_tree.proofs.cut.keep_level.Given as goal
@@ -21,6 +22,7 @@ invariant-loop-place g l = record {
   same : g.B.Blocks.told → IsSame (standing (under (g.B.Blocks.shown l.fn.blocks)) l.fn.tree) (standing (under (g.B.Blocks.shown l.blocks)) l.tree);
   blocks : g.B.Blocks.told → KeepsBlocks (under (g.B.Blocks.shown l.fn.blocks)) l.fn.tree l.tree;
   stands : g.B.Blocks.told → Stands (g.B.Blocks.shown l.fn.blocks) l.fn.tree → Stands (g.B.Blocks.shown l.blocks) l.tree;
+  changes : changes_in l.tree.nodes ≤ changes_in l.fn.tree.nodes;
   untouched : IsUntouched (g.B.Blocks.shown l.fn.blocks) (g.B.Blocks.shown l.blocks);
   calm : IsCalm (g.B.Blocks.shown l.fn.blocks) (g.B.Blocks.shown l.blocks);
   reads : g.B.Blocks.reads l.fn.blocks l.blocks;

@@ -1,6 +1,7 @@
-use Rattle.std.proofs.Common.{refl, sym, subst, arith}
+use Rattle.std.proofs.Common.{◌≡◌, ◌-◌, ◌^◌, refl, sym, subst, arith}
+use Rattle.fv_model.specs.Trees.{fan}
 use Rattle.fv_tree.specs.Standing.{standing, under}
-use Rattle.fv_tree.specs.Collecting.{Collects}
+use Rattle.fv_tree.specs.Collecting.{AreBelow, Collects}
 use Rattle.std.proofs.lemmas.Result.{err_from_is_err_and}
 use Rattle.fv_tree.proofs.Causes.{calm_itself, fails_same, fails_later, untouched_itself}
 use Rattle.fv_tree.proofs.Collected.{collects_as}
@@ -19,6 +20,7 @@ loop-level-init g c =
       same = λ _. same_self (standing old c.args.tree.now);
       blocks = λ _. keeps_self old c.args.tree.now;
       stands = λ _ stands. stands;
+      changes = omega arith;
       untouched = untouched_itself _;
       calm = calm_itself _;
       reads = g.met.B.Blocks.reads_nothing c.args.blocks.now;
@@ -41,3 +43,8 @@ returns-in_err-places-2-clause-cause g c =
     let s = standing (under old) c.args.tree.now in
     let p = err_from_is_err_and c.from_residual-in_err-places-2.result c.from_residual-in_err-places-2.ensures.1 in
     rw (p.1, p.2) (fails_later g.B.Blocks.told s old mid new e was.calm was.untouched.held (fails_same g.B.Blocks.told s (standing (under mid) c.loop-level.tree) mid new e was.same c.in_err-places-2.ensures.cause))
+
+pub returns-clause-bound : goal.returns-clause-bound
+returns-clause-bound g c =
+    let n : 3 - c.loop-level.level ≡ 3 = omega (arith, c.loop-level-test.false) in
+    subst (λ most. AreBelow c.loop-level.places.items (fan ^ most)) n c.loop-level.invariant.bound

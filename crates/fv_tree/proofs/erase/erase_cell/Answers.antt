@@ -1,4 +1,7 @@
-use Rattle.std.proofs.Common.{arith}
+use Rattle.std.proofs.Common.{◌≡◌, ◌+◌, sym, ap, ◌∙◌, arith}
+use Rattle.fv_tree.specs.Standing.{standing}
+use Rattle.fv_tree.specs.Counting.{positions_of}
+use Rattle.fv_tree.proofs.Counts.{count_goes}
 use Rattle.fv_tree.proofs.Released.{released_as}
 use Rattle.fv_tree.proofs.Single.{one_goes, one_dropped, one_named, named_once}
 use Rattle.fv_tree.proofs.erase.erase_cell.Goals as goal
@@ -21,3 +24,12 @@ pub returns-clause-strays : goal.returns-clause-strays
 returns-clause-strays g c = λ way held stands sound.
     c.name_way.ensures.strays (named_once held c.args.tree.now c.unlink.new.tree c.args.index c.bare_levels-lost.result c.args.start c.args.stamp way c.bare_levels-lost.ensures stands (c.unlink.ensures.unlinks way) (omega (arith, c.requires.stamp))
     (g.B.Blocks.shown c.args.blocks.now).used sound)
+
+pub returns-clause-count : goal.returns-clause-count
+returns-clause-count g c = λ way held stands.
+    let same : c.from.result ≡ c.bare_levels-lost.result = omega (arith, c.from.ensures) in
+    count_goes held c.args.tree.now c.unlink.new.tree c.args.index c.bare_levels-lost.result c.args.start c.args.stamp way c.bare_levels-lost.ensures stands (c.unlink.ensures.unlinks way) (omega (arith, c.requires.stamp))
+    ∙ ap (λ n. positions_of (standing held c.unlink.new.tree) + (n + 1)) (sym same)
+
+pub returns-clause-few : goal.returns-clause-few
+returns-clause-few g c = let few = c.bare_levels-lost.ensures.few in let most = c.args.tree.now.few in omega (arith, few, most)

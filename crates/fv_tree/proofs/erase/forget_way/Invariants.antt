@@ -1,5 +1,6 @@
 use Rattle.std.proofs.Common.{◌≡◌, ◌≢◌, ◌<◌, ◌≤◌, ◌⊎◌, ◌/◌, ◌^◌, ℕ, None}
 use Rattle.std.specs.Ordering.{nat_cmp}
+use Rattle.fv_tree.specs.Costs.{pending}
 use Rattle.std.specs.BTreeMap as tree_map
 use Rattle.fv_model.specs.Trees.{fan, spot_cmp}
 use Rattle.fv_tree.proofs.erase.forget_way.Given as goal
@@ -11,5 +12,6 @@ invariant-loop-below l = record {
   root : l.tree.root ≡ l.fn.tree.root;
   cells : (i : ℕ) → i ≢ l.index → tree_map.get nat_cmp l.tree.cells i ≡ tree_map.get nat_cmp l.fn.tree.cells i;
   nodes : (level place : ℕ) → (l.below < level) ⊎ (place ≢ l.index / fan ^ level) → tree_map.get spot_cmp l.tree.nodes (level, place) ≡ tree_map.get spot_cmp l.fn.tree.nodes (level, place);
+  pending : pending l.tree ≤ pending l.fn.tree;
   gone : (level : ℕ) → 1 ≤ level → level ≤ l.below → tree_map.get spot_cmp l.tree.nodes (level, l.index / fan ^ level) ≡ None;
 }

@@ -20,7 +20,7 @@ returns-then-has_block-clause-released g c =
 pub returns-else-has_block-clause-released : goal.returns-else-has_block-clause-released
 returns-else-has_block-clause-released g c =
     let shown = g.B.Blocks.shown c.args.blocks.now in
-    released_as shown shown _ _ (nothing_released shown shown refl refl (record { faults = omega arith; damages = omega arith }))
+    released_as shown shown _ _ (nothing_released shown shown refl refl (record { faults = omega arith; damages = omega arith; spent = omega arith }))
     (λ v none. absurd none)
     (λ v named. not_both (placed_of c.args.tree.now c.args.level (c.args.index / c.width.result)) (ap (λ w. placed_of c.args.tree.now c.args.level (c.args.index / w)) c.width.ensures.is ∙ named.block) (sym c.has_block.ensures ∙ c.if-has_block.false))
 

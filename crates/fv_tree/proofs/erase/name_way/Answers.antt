@@ -22,5 +22,6 @@ loop-level-preserved g c =
           let apart : IsOnWay t i level v → ⊥ = λ on. let low = on.low in let same : on.level ≡ level = once.once on.level level v (omega (arith, low)) (omega arith) on.named named in omega (arith, low, same) in
           ap is_some (c.loop-level.invariant.released.used v apart) ∙ once.in_use level v (omega arith) named)
           ∙ c.loop-level.invariant.strays once;
+      room = omega (arith, c.loop-level.invariant.room, c.name_place.ensures.room);
       calls = g.met.B.Blocks.goes_on c.args.blocks.now c.loop-level.blocks c.name_place.new.blocks c.loop-level.invariant.calls c.name_place.ensures.calls;
     }

@@ -1,9 +1,11 @@
 use Rattle.std.proofs.Common.{◌∙◌, arith}
+use Rattle.std.proofs.lemmas.Result.{err_from_is_err_and}
 use Rattle.fv_tree.specs.Sources.{Shown}
 use Rattle.fv_tree.specs.Flushing.{loaded}
 use Rattle.fv_tree.proofs.Causes.{calm_then}
 use Rattle.fv_tree.proofs.Flushes.{flushes_then}
 use Rattle.fv_tree.proofs.Gone.{is_memory}
+use Rattle.fv_tree.proofs.Differing.{fits_then}
 use Rattle.fv_tree.proofs.flush.flush_cells.Goals as goal
 
 pub returns-in_err-flush_first_cell-clause-flushes : goal.returns-in_err-flush_first_cell-clause-flushes
@@ -24,6 +26,8 @@ loop-preserved g c =
       flushes = λ told stands. let first = was.flushes told stands in
           flushes_then (loaded old c.args.tree.now) (loaded mid c.loop.tree) (loaded new c.flush_first_cell.new.tree) old.used mid.used new.used (is_memory mid c.loop.tree) first (now.flushes told first.sound);
       strays = λ told stands. now.strays told (was.flushes told stands).sound ∙ was.strays told stands;
+      fits = λ told stands. fits_then old mid new c.args.tree.now c.loop.tree c.flush_first_cell.new.tree (was.fits told stands) (now.fits told (was.flushes told stands).sound);
+      spent = now.spent ∙ was.spent;
       left = record { owner = now.left.owner ∙ was.left.owner; levels = now.left.levels ∙ was.left.levels };
       count = omega (arith, now.fewer, was.count);
       calm = calm_then old mid new was.calm now.counts.calm;
@@ -32,3 +36,15 @@ loop-preserved g c =
 
 pub returns-in_err-flush_first_cell-clause-strays : goal.returns-in_err-flush_first_cell-clause-strays
 returns-in_err-flush_first_cell-clause-strays g c = λ told stands. let was = c.loop.invariant in c.in_err-flush_first_cell.ensures.strays told (was.flushes told stands).sound ∙ was.strays told stands
+
+pub returns-in_err-flush_first_cell-clause-fits : goal.returns-in_err-flush_first_cell-clause-fits
+returns-in_err-flush_first_cell-clause-fits g c = λ told stands.
+    let was = c.loop.invariant in
+    fits_then (g.B.Blocks.shown c.args.blocks.now) (g.B.Blocks.shown c.loop.blocks) (g.B.Blocks.shown c.flush_first_cell.new.blocks) c.args.tree.now c.loop.tree c.flush_first_cell.new.tree (was.fits told stands) (c.in_err-flush_first_cell.ensures.fits told (was.flushes told stands).sound)
+
+pub returns-in_err-flush_first_cell-clause-enough : goal.returns-in_err-flush_first_cell-clause-enough
+returns-in_err-flush_first_cell-clause-enough g c = λ told stands le.
+    let was = c.loop.invariant in
+    let fits = was.fits told stands in
+    let p = err_from_is_err_and c.from_residual.result c.from_residual.ensures.1 in
+    rw (p.1, p.2) (c.in_err-flush_first_cell.ensures.enough told (was.flushes told stands).sound (omega (arith, le, fits.room)))

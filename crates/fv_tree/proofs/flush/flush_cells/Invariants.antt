@@ -2,12 +2,15 @@ use Rattle.std.proofs.Common.{◌≡◌, ◌-◌}
 use Rattle.std.specs.BTreeMap as maps
 use Rattle.fv_tree.specs.Sources.{IsCalm}
 use Rattle.fv_tree.specs.Flushing.{loaded, Flushes, IsLeft, Stands}
+use Rattle.fv_tree.specs.Costs.{Fits}
 use Rattle.fv_tree.proofs.flush.flush_cells.Given as goal
 
 abbrev pub invariant-loop : goal.invariant-loop
 invariant-loop g l = record {
   flushes : g.B.Blocks.told → Stands (g.B.Blocks.shown l.fn.blocks) l.fn.tree → Flushes (loaded (g.B.Blocks.shown l.fn.blocks) l.fn.tree) (g.B.Blocks.shown l.fn.blocks).used (loaded (g.B.Blocks.shown l.blocks) l.tree) (g.B.Blocks.shown l.blocks).used;
   strays : g.B.Blocks.told → Stands (g.B.Blocks.shown l.fn.blocks) l.fn.tree → (g.B.Blocks.shown l.blocks).strays ≡ (g.B.Blocks.shown l.fn.blocks).strays;
+  fits : g.B.Blocks.told → Stands (g.B.Blocks.shown l.fn.blocks) l.fn.tree → Fits (g.B.Blocks.shown l.fn.blocks) l.fn.tree (g.B.Blocks.shown l.blocks) l.tree;
+  spent : (g.B.Blocks.shown l.blocks).spent ≡ (g.B.Blocks.shown l.fn.blocks).spent;
   left : IsLeft l.fn.tree l.tree;
   count : maps.btree_map_len l.tree.cells ≡ maps.btree_map_len l.fn.tree.cells - l.counter;
   calm : IsCalm (g.B.Blocks.shown l.fn.blocks) (g.B.Blocks.shown l.blocks);

@@ -1,5 +1,8 @@
 use Rattle.std.proofs.Common.{is_some, ap, ◌∙◌, arith}
-use Rattle.fv_tree.proofs.Gone.{flushes_still}
+use Rattle.std.proofs.lemmas.Result.{err_from_is_err_and}
+use Rattle.fv_tree.specs.Flushing.{node_changed}
+use Rattle.fv_tree.proofs.Gone.{flushes_still, spot_changed}
+use Rattle.fv_tree.proofs.Differing.{fits_itself, fits_node, fits_still, marked_over, some_count}
 use Rattle.fv_tree.proofs.Stepped.{node_step, node_strays}
 use Rattle.fv_tree.proofs.flush.flush_first_node.Goals as goal
 
@@ -21,3 +24,29 @@ returns-in_ok-flush_node-in-Some-clause-fewer g c =
 pub returns-in_ok-flush_node-in-Some-clause-strays : goal.returns-in_ok-flush_node-in-Some-clause-strays
 returns-in_ok-flush_node-in-Some-clause-strays g c = λ told stands.
     node_strays (g.B.Blocks.shown c.args.blocks.now) (g.B.Blocks.shown c.flush_node.new.blocks) c.args.tree.now c.flush_node.new.tree c.in-Some.level c.in-Some.place c.in-Some.node stands c.in-Some.ensures.there (c.in_ok-flush_node-in-Some.ensures.node told)
+
+pub returns-in-None-clause-fits : goal.returns-in-None-clause-fits
+returns-in-None-clause-fits g c = λ told stands. fits_itself (g.B.Blocks.shown c.args.blocks.now) c.args.tree.now
+
+pub returns-in_err-flush_node-in-Some-clause-fits : goal.returns-in_err-flush_node-in-Some-clause-fits
+returns-in_err-flush_node-in-Some-clause-fits g c = λ told stands.
+    let failed = c.in_err-flush_node-in-Some.ensures in
+    fits_still (g.B.Blocks.shown c.args.blocks.now) (g.B.Blocks.shown c.flush_node.new.blocks) c.args.tree.now c.flush_node.new.tree failed.failed failed.untouched.room
+
+pub returns-in_err-flush_node-in-Some-clause-enough : goal.returns-in_err-flush_node-in-Some-clause-enough
+returns-in_err-flush_node-in-Some-clause-enough g c = λ told stands le.
+    let some = some_count c.args.tree.now.nodes (c.in-Some.level, c.in-Some.place) (ap node_changed c.in-Some.ensures.there ∙ c.in_err-flush_node-in-Some.ensures.changed) in
+    let p = err_from_is_err_and c.from_residual.result c.from_residual.ensures.1 in
+    rw (p.1, p.2) (c.in_err-flush_node-in-Some.ensures.enough (λ none. absurd (omega (arith, le, some, none))))
+
+pub returns-in_ok-flush_node-in-Some-clause-fits : goal.returns-in_ok-flush_node-in-Some-clause-fits
+returns-in_ok-flush_node-in-Some-clause-fits g c = λ told stands.
+    let old = g.B.Blocks.shown c.args.blocks.now in
+    let t = c.args.tree.now in
+    let level = c.in-Some.level in
+    let place = c.in-Some.place in
+    let there = c.in-Some.ensures.there in
+    let did = c.in_ok-flush_node-in-Some.ensures in
+    fits_node old (g.B.Blocks.shown c.flush_node.new.blocks) t c.flush_node.new.tree c.forget_node.new.tree c.in-Some.node.changed
+    (did.changes (λ low changed some lt. marked_over old t level place stands (spot_changed t level place low ∙ ap node_changed there ∙ changed) some lt))
+    did.still.cells c.forget_node.ensures.forgets.cells c.forget_node.ensures.changes (λ changed. c.forget_node.ensures.fewer (did.own ∙ ap node_changed there ∙ changed)) did.still_room did.room

@@ -14,6 +14,7 @@ loop-below-preserved c =
     let below = c.loop-below.below in
     let at : c.args.index / c.width.result ≡ c.args.index / fan ^ (below + 1) = ap (λ w. c.args.index / w) c.width.ensures.is in record {
       fields = but_then c.args.tree.now c.loop-below.tree c.keep.new.tree was.fields c.keep.ensures.fields;
+      changes = let more = c.keep.ensures.unchanged made.changed in omega (arith, was.changes, more);
       way = λ level low le. elim (cases_eq level (below + 1)) [
         | inl e ↦ (λ i. node_in c.keep.new.tree (e i) (c.args.index / fan ^ (e i))) ∙ ap (node_in c.keep.new.tree (below + 1)) (sym at) ∙ put_there c.loop-below.tree c.keep.new.tree (below + 1) (c.args.index / c.width.result) c.empty_node.result.children now.node ∙ ap Some made.children
         | inr differs ↦ put_elsewhere c.loop-below.tree c.keep.new.tree (below + 1) (c.args.index / c.width.result) c.empty_node.result.children now.node level (c.args.index / fan ^ level) (inl differs) ∙ was.way level low (omega arith)

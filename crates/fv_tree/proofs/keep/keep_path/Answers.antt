@@ -1,17 +1,19 @@
-use Rattle.std.proofs.Common.{inl, inr, ap, subst, refl, sym, ◌∙◌, arith, ◌/◌, ◌-◌, ◌^◌}
+use Rattle.std.proofs.Common.{◌≡◌, ◌≢◌, inl, inr, ap, subst, refl, sym, ◌∙◌, arith, ◌+◌, ◌/◌, ◌-◌, ◌^◌}
 use Rattle.fv_model.specs.Trees.{fan}
 use Rattle.fv_tree.specs.Standing.{standing, under}
+use Rattle.std.proofs.Math.Nat.{div-eq_of_lt}
 use Rattle.std.proofs.lemmas.Bool.{cases_eq}
 use Rattle.fv_codec.specs.declared.pointer.Pointer.{Pointer}
 use Rattle.fv_tree.specs.Spelled.{pointer_at}
-use Rattle.fv_tree.specs.Flushing.{node_placed}
+use Rattle.fv_tree.specs.Flushing.{node_placed, pointer_in}
 use Rattle.fv_tree.specs.Carried.{kept_at, IsBlank, Brings}
-use Rattle.fv_tree.specs.Refilling.{IsFilled}
 use Rattle.std.specs.FinMap as fin
 use Rattle.fv_tree.specs.Releasing.{KeepsBlocks}
 use Rattle.fv_tree.proofs.Released.{keeps_self, keeps_then}
 use Rattle.fv_tree.proofs.Brought.{blank_unplaced, brings_stands}
 use Rattle.fv_tree.proofs.Held.{but_then, at_root, same_self, kept_from}
+use Rattle.fv_tree.proofs.Leading.{carries_same, carries_then}
+use Rattle.fv_tree.proofs.Readied.{pointer_as, pointer_top}
 use Rattle.fv_tree.proofs.Ways.{same_then}
 use Rattle.fv_tree.specs.Sources.{Shown}
 use Rattle.std.proofs.lemmas.Result.{err_from_is_err_and}
@@ -25,7 +27,11 @@ loop-level-init g c =
       pointer = λ _. at_root t c.args.index c.requires.index;
       kept = λ _ k lt le. absurd (omega arith);
       unplaced = λ _ k lt le. absurd (omega arith);
-      filled = λ _ k lt le. absurd (omega arith);
+      way = λ some k low high.
+          let at : k ≡ c.args.tree.now.levels = omega (arith, low, high) in
+          let first : c.args.index / fan ^ k ≡ 0 = (λ j. c.args.index / fan ^ at j) ∙ div-eq_of_lt c.requires.index in
+          λ none. some (ap (λ (p : Pointer). p.stamp) (sym (pointer_top c.args.tree.now k (c.args.index / fan ^ k) at first)) ∙ none);
+      changes = omega arith;
       fields = record { owner = refl; levels = refl; root = refl; cells = refl };
       stands = λ _ stands. stands;
       same = λ _. same_self t;
@@ -51,10 +57,12 @@ loop-level-preserved g c =
             (ap (λ (p : Pointer). p.stamp) (was.pointer told ∙ (was.same told).pointers c.loop-level.level (c.args.index / fan ^ c.loop-level.level) ∙ (λ i. pointer_at s (sym e i) (c.args.index / fan ^ (sym e i)))) ∙ none)))
         | inr differs ↦ ap node_placed ((now.brings told).others k (c.args.index / fan ^ k) (inl differs)) ∙ was.unplaced told k (omega arith) le none
       ];
-      filled = λ some k lt le. let on = now.filled some in elim (cases_eq k c.loop-level.level) [
-        | inl e ↦ subst (λ n. IsFilled c.keep_step.new.tree n (c.args.index / fan ^ n)) (sym e) on.1
-        | inr differs ↦ λ xs node. was.filled on.0 k (omega arith) le xs (sym (now.others k (c.args.index / fan ^ k) differs) ∙ node)
+      way = λ some k low high. elim (cases_eq k (c.loop-level.level - 1)) [
+        | inl e ↦ λ none. some (ap (λ (p : Pointer). p.stamp) (sym now.child ∙ (λ j. pointer_in c.keep_step.new.tree (sym e j) (c.args.index / fan ^ (sym e j)))) ∙ none)
+        | inr differs ↦ λ none. was.way (now.leads some) k (omega (arith, low, differs)) high
+            (ap (λ (p : Pointer). p.stamp) (sym (pointer_as c.loop-level.tree c.keep_step.new.tree k (c.args.index / fan ^ k) now.fields.levels now.fields.root (λ _. now.others (k + 1) (c.args.index / fan ^ k / fan) (let apart : k + 1 ≢ c.loop-level.level = λ e. absurd (omega (arith, e, low, differs)) in apart)))) ∙ none)
       ];
+      changes = omega (arith, was.changes, now.changes);
       fields = but_then c.args.tree.now c.loop-level.tree c.keep_step.new.tree was.fields now.fields;
       stands = λ told stands. brings_stands (g.B.Blocks.shown c.loop-level.blocks) (g.B.Blocks.shown c.keep_step.new.blocks) c.loop-level.tree c.keep_step.new.tree c.loop-level.level (c.args.index / fan ^ c.loop-level.level) (omega arith) now.untouched.held now.untouched.used now.fields (now.same told)
           (subst (Brings (under (g.B.Blocks.shown c.loop-level.blocks)) c.loop-level.tree c.keep_step.new.tree c.loop-level.level (c.args.index / fan ^ c.loop-level.level)) (was.pointer told) (now.brings told)) (was.stands told stands);
@@ -70,12 +78,23 @@ returns-in_err-pointer-clause-blocks g c = λ told.
     keeps_then (under (g.B.Blocks.shown c.args.blocks.now)) c.args.tree.now c.loop-level.tree c.keep_step.new.tree (c.loop-level.invariant.blocks told)
     (subst (λ b. KeepsBlocks b c.loop-level.tree c.keep_step.new.tree) (ap (λ h v. fin.get h v) c.loop-level.invariant.untouched.held) (c.keep_step.ensures.blocks told))
 
-pub returns-in_err-pointer-clause-stands : goal.returns-in_err-pointer-clause-stands
-returns-in_err-pointer-clause-stands g c = λ told stands.
+pub returns-in_err-pointer-clause-carries : goal.returns-in_err-pointer-clause-carries
+returns-in_err-pointer-clause-carries g c = λ told.
+    let a = g.B.Blocks.shown c.args.blocks.now in
+    let b = g.B.Blocks.shown c.loop-level.blocks in
+    let d = g.B.Blocks.shown c.keep_step.new.blocks in
     let was = c.loop-level.invariant in
     let now = c.in_err-pointer.ensures in
-    brings_stands (g.B.Blocks.shown c.loop-level.blocks) (g.B.Blocks.shown c.keep_step.new.blocks) c.loop-level.tree c.keep_step.new.tree c.loop-level.level (c.args.index / fan ^ c.loop-level.level) (omega arith) now.untouched.held now.untouched.used now.fields (now.same told)
-    (subst (Brings (under (g.B.Blocks.shown c.loop-level.blocks)) c.loop-level.tree c.keep_step.new.tree c.loop-level.level (c.args.index / fan ^ c.loop-level.level)) (was.pointer told) (now.brings told)) (was.stands told stands)
+    carries_then a b d c.args.tree.now c.loop-level.tree c.keep_step.new.tree
+    (carries_same a b c.args.tree.now c.loop-level.tree was.untouched (was.same told) (was.blocks told) (was.stands told))
+    (carries_same b d c.loop-level.tree c.keep_step.new.tree now.untouched (now.same told) (now.blocks told)
+    (brings_stands b d c.loop-level.tree c.keep_step.new.tree c.loop-level.level (c.args.index / fan ^ c.loop-level.level) (omega arith) now.untouched.held now.untouched.used now.fields (now.same told)
+    (subst (Brings (under b) c.loop-level.tree c.keep_step.new.tree c.loop-level.level (c.args.index / fan ^ c.loop-level.level)) (was.pointer told) (now.brings told))))
+
+pub returns-clause-carries : goal.returns-clause-carries
+returns-clause-carries g c = λ told.
+    let was = c.loop-level.invariant in
+    carries_same (g.B.Blocks.shown c.args.blocks.now) (g.B.Blocks.shown c.loop-level.blocks) c.args.tree.now c.loop-level.tree was.untouched (was.same told) (was.blocks told) (was.stands told)
 
 pub returns-in_err-pointer-clause-cause : goal.returns-in_err-pointer-clause-cause
 returns-in_err-pointer-clause-cause g c =

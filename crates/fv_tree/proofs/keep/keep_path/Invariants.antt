@@ -5,8 +5,8 @@ use Rattle.fv_tree.specs.Releasing.{KeepsBlocks}
 use Rattle.fv_tree.specs.Keeping.{IsKept, IsSame}
 use Rattle.fv_tree.specs.Sources.{IsCalm, IsUntouched}
 use Rattle.fv_tree.specs.Standing.{standing, under, IsSameBut}
-use Rattle.fv_tree.specs.Flushing.{placed_in, Stands}
-use Rattle.fv_tree.specs.Refilling.{IsFilled}
+use Rattle.fv_tree.specs.Flushing.{placed_in, pointer_in, Stands}
+use Rattle.fv_tree.specs.Costs.{changes_in}
 use Rattle.fv_tree.proofs.keep.keep_path.Given as goal
 
 abbrev pub invariant-loop-level : goal.invariant-loop-level
@@ -15,8 +15,9 @@ invariant-loop-level g l = record {
   pointer : g.B.Blocks.told → l.pointer ≡ pointer_at (standing (under (g.B.Blocks.shown l.blocks)) l.tree) l.level (l.index / fan ^ l.level);
   kept : g.B.Blocks.told → (k : ℕ) → l.level < k → k ≤ l.fn.tree.levels → IsKept (standing (under (g.B.Blocks.shown l.blocks)) l.tree) k (l.index / fan ^ k);
   unplaced : g.B.Blocks.told → (k : ℕ) → l.level < k → k ≤ l.fn.tree.levels → (pointer_at (standing (under (g.B.Blocks.shown l.fn.blocks)) l.fn.tree) k (l.index / fan ^ k)).stamp ≡ 0 → placed_in l.tree.nodes k (l.index / fan ^ k) ≡ false;
+  changes : changes_in l.tree.nodes ≤ changes_in l.fn.tree.nodes;
   fields : IsSameBut l.fn.tree l.tree;
-  filled : l.pointer.stamp ≢ 0 → (k : ℕ) → l.level < k → k ≤ l.fn.tree.levels → IsFilled l.tree k (l.index / fan ^ k);
+  way : l.pointer.stamp ≢ 0 → (k : ℕ) → l.level ≤ k → k ≤ l.fn.tree.levels → (pointer_in l.tree k (l.index / fan ^ k)).stamp ≢ 0;
   stands : g.B.Blocks.told → Stands (g.B.Blocks.shown l.fn.blocks) l.fn.tree → Stands (g.B.Blocks.shown l.blocks) l.tree;
   same : g.B.Blocks.told → IsSame (standing (under (g.B.Blocks.shown l.fn.blocks)) l.fn.tree) (standing (under (g.B.Blocks.shown l.blocks)) l.tree);
   blocks : g.B.Blocks.told → KeepsBlocks (under (g.B.Blocks.shown l.fn.blocks)) l.fn.tree l.tree;

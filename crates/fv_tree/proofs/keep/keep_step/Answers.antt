@@ -1,4 +1,4 @@
-use Rattle.std.proofs.Common.{◌≡◌, ◌/◌, ◌%◌, ◌-◌, ◌^◌, ℕ, inl, List, Some, get_or, sym, ap, subst, ◌∙◌}
+use Rattle.std.proofs.Common.{◌≡◌, ◌+◌, ◌/◌, ◌%◌, ◌-◌, ◌^◌, ℕ, inl, List, Option, Some, get_or, sym, ap, subst, ◌∙◌, arith}
 use Rattle.std.specs.FinMap as fin
 use Rattle.std.specs.Option.{option_map}
 use Rattle.fv_tree.specs.declared.kept.KeptNode.{KeptNode}
@@ -7,9 +7,11 @@ use Rattle.fv_model.specs.Trees.{fan}
 use Rattle.fv_tree.specs.Spelled.{Rooted, hole, pointers_at, pointer_at}
 use Rattle.fv_tree.specs.Carried.{kept_at, IsBlank}
 use Rattle.fv_tree.specs.Keeping.{Keeps, IsSame}
-use Rattle.fv_tree.specs.Refilling.{IsFilled}
-use Rattle.fv_tree.specs.Standing.{standing, under}
+use Rattle.fv_tree.specs.Flushing.{child_of}
+use Rattle.fv_tree.specs.Standing.{standing, under, node_in}
+use Rattle.fv_tree.proofs.Below.{range_above}
 use Rattle.fv_tree.proofs.Held.{next_pointer, now_kept}
+use Rattle.fv_tree.proofs.Readied.{pointer_low}
 use Rattle.fv_tree.proofs.Brought.{leads_on}
 use Rattle.fv_tree.proofs.Released.{keeps_brought}
 use Rattle.fv_tree.proofs.Ways.{keeps_same}
@@ -76,8 +78,18 @@ returns-in_err-children-clause-others g c = λ k q differs. ap (option_map (λ (
 pub returns-clause-others : goal.returns-clause-others
 returns-clause-others g c = λ k q differs. ap (option_map (λ (kept : KeptNode). kept.children)) (c.keep_node.ensures.others k q (inl differs))
 
-pub returns-clause-filled : goal.returns-clause-filled
-returns-clause-filled g c = λ some.
+pub returns-clause-leads : goal.returns-clause-leads
+returns-clause-leads g c = λ some.
+    leads_on c.keep_node.new.tree c.args.level (c.args.index / c.width.result) (c.args.index / c.width-2.result % fan) c.args.pointer.now c.in_ok-children.children c.in_ok-children.ensures.kept c.in_ok-children.ensures.blank some
+
+pub returns-clause-child : goal.returns-clause-child
+returns-clause-child g c =
     let u = c.keep_node.new.tree in
-    let on = leads_on u c.args.level (c.args.index / c.width.result) (c.args.index / c.width-2.result % fan) c.args.pointer.now c.in_ok-children.children c.in_ok-children.ensures.kept c.in_ok-children.ensures.blank some in
-    (on.0, subst (λ w. IsFilled u c.args.level (c.args.index / w)) c.width.ensures.is on.1)
+    let i = c.args.index in
+    let k = c.args.level - 1 in
+    let n : k + 1 ≡ c.args.level = omega (arith, c.requires.low) in
+    let node : node_in u (k + 1) (i / fan ^ k / fan) ≡ Some c.in_ok-children.children =
+    ap (node_in u (k + 1)) (range_above i c.args.level c.requires.low) ∙ ap (λ m. node_in u m (i / fan ^ c.args.level)) n ∙ ap (λ w. node_in u c.args.level (i / w)) (sym c.width.ensures.is) ∙ c.in_ok-children.ensures.kept in
+    pointer_low u k (i / fan ^ k) (let same = c.keep_node.ensures.fields.levels in let high = c.requires.high in omega (arith, n, same, high))
+    ∙ ap (λ (o : Option (List Pointer)). child_of o (i / fan ^ k % fan)) node
+    ∙ ap (λ w. get_or c.in_ok-children.children (i / w % fan) hole) (sym c.width-2.ensures.is)

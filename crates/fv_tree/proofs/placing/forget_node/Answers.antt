@@ -1,6 +1,7 @@
 use Rattle.std.proofs.Common.{refl, cond, None, ap, ◌∙◌}
 use Rattle.std.specs.BTreeMap as maps
 use Rattle.fv_model.specs.Trees.{spot_cmp}
+use Rattle.fv_tree.proofs.Differing.{no_more, one_fewer}
 use Rattle.fv_tree.proofs.Spots.{spot_differs}
 use Rattle.fv_tree.proofs.placing.forget_node.Goals as goal
 
@@ -13,3 +14,9 @@ returns-clause-forgets c = record {
   own = c.remove.ensures.updates.1;
   others = λ k q other. c.remove.ensures.updates.0 (k, q) ∙ ap (λ b. cond b None (maps.get spot_cmp c.args.tree.now.nodes (k, q))) (spot_differs c.args.level c.args.place k q other);
 }
+
+pub returns-clause-changes : goal.returns-clause-changes
+returns-clause-changes c = no_more c.args.tree.now.nodes c.remove.new.self (c.args.level, c.args.place) c.remove.ensures.entries
+
+pub returns-clause-fewer : goal.returns-clause-fewer
+returns-clause-fewer c = one_fewer c.args.tree.now.nodes c.remove.new.self (c.args.level, c.args.place) c.remove.ensures.entries

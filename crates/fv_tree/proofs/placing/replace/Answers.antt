@@ -2,4 +2,4 @@ use Rattle.fv_tree.proofs.Stepped.{holds_as_much}
 use Rattle.fv_tree.proofs.placing.replace.Goals as goal
 
 pub returns-clause-still : goal.returns-clause-still
-returns-clause-still g c = holds_as_much c.args.tree.now c.point.new.tree c.args.spot.0 c.args.spot.1 _ c.point.ensures
+returns-clause-still g c = holds_as_much c.args.tree.now c.point.new.tree c.args.spot.0 c.args.spot.1 _ c.point.ensures.points

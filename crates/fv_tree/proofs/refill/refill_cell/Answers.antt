@@ -1,22 +1,33 @@
-use Rattle.std.proofs.Common.{◌≡◌, ◌≤◌, ◌<◌, ◌/◌, ◌^◌, ℕ, true, false, sym, ap, subst, ◌∙◌, arith}
+use Rattle.std.proofs.Common.{◌≡◌, ◌≤◌, ◌<◌, ◌/◌, ◌^◌, ℕ, true, false, Option, Some, None, is_some, refl, sym, ap, subst, ◌∙◌, arith}
 use Rattle.std.specs.BTreeMap as tree
+use Rattle.std.specs.Ordering.{nat_cmp}
+use Rattle.std.specs.Option.{option_map}
 use Rattle.fv_codec.specs.declared.pointer.Pointer.{Pointer}
-use Rattle.fv_model.specs.Trees.{fan, Spot}
+use Rattle.fv_model.specs.Trees.{fan, Spot, spot_cmp}
 use Rattle.fv_tree.specs.declared.kept.KeptNode.{KeptNode}
+use Rattle.fv_tree.specs.declared.kept.KeptCell.{KeptCell}
 use Rattle.fv_tree.specs.Spelled.{pointer_at}
 use Rattle.fv_tree.specs.Sources.{Shown}
 use Rattle.fv_tree.specs.Standing.{standing, under, children_in}
 use Rattle.fv_tree.specs.Erasing.{StandsAt}
 use Rattle.fv_tree.specs.Writing.{IsAlike}
-use Rattle.fv_tree.specs.Flushing.{loaded, placed_in, Stands}
+use Rattle.fv_tree.specs.Flushing.{placed_in}
+use Rattle.fv_tree.specs.Carried.{kept_at}
 use Rattle.fv_tree.proofs.Causes.{at_err}
+use Rattle.fv_tree.proofs.Gone.{map_some}
 use Rattle.fv_tree.proofs.Held.{same_self}
-use Rattle.fv_tree.proofs.Marked.{marked_sound}
-use Rattle.fv_tree.proofs.Ready.{cells_again, within_ready, cell_kept, cell_pointers, cell_there}
+use Rattle.fv_tree.proofs.Leading.{carries_itself, carries_cells, carries_then}
+use Rattle.fv_tree.proofs.Ready.{cell_kept, cell_pointers, cell_there}
 use Rattle.fv_tree.proofs.Refilled.{refilled_none, refilled_is, remarked_is}
+use Rattle.fv_tree.proofs.Readied.{filled_way, has_way, way_as}
 use Rattle.fv_tree.proofs.Removing.{none_past}
+use Rattle.fv_tree.proofs.Within.{carries_within}
 use Rattle.fv_tree.proofs.Writes.{same_alike, same_standing}
 use Rattle.fv_tree.proofs.refill.refill_cell.Goals as goal
+
+filled_cell : (o : Option KeptCell) → is_some o ≡ true → is_some (option_map (λ (kept : KeptCell). kept.block) o) ≡ true
+filled_cell None is = is
+filled_cell (Some kept) is = refl
 
 pub returns-then-index-width-clause-done : goal.returns-then-index-width-clause-done
 returns-then-index-width-clause-done g c = λ told.
@@ -41,17 +52,42 @@ returns-in_err-keep_cell-clause-failed g c = λ told.
     let same = same_standing blocks c.keep_path.new.tree c.keep_cell.new.tree c.keep_cell.ensures.fields c.in_err-keep_cell.ensures.failed in
     at_err c.from_residual-in_err-keep_cell.result (subst (IsAlike t) (sym same) (same_alike t (standing blocks c.keep_path.new.tree) (c.keep_path.ensures.same told)))
 
-pub returns-in_err-keep_cell-clause-stands : goal.returns-in_err-keep_cell-clause-stands
-returns-in_err-keep_cell-clause-stands g c = λ told stands.
+pub returns-then-index-width-clause-carries : goal.returns-then-index-width-clause-carries
+returns-then-index-width-clause-carries g c = λ _. carries_itself (g.B.Blocks.shown c.args.blocks.now) c.args.tree.now
+
+pub returns-in_err-keep_cell-clause-carries : goal.returns-in_err-keep_cell-clause-carries
+returns-in_err-keep_cell-clause-carries g c = λ told.
     let new : Shown = g.B.Blocks.shown c.keep_path.new.blocks in
-    cells_again (under new) new.used c.keep_path.new.tree c.keep_cell.new.tree c.keep_cell.ensures.fields c.in_err-keep_cell.ensures.same (c.keep_path.ensures.stands told stands)
+    carries_then (g.B.Blocks.shown c.args.blocks.now) new new c.args.tree.now c.keep_path.new.tree c.keep_cell.new.tree (c.keep_path.ensures.carries told)
+    (carries_cells new c.keep_path.new.tree c.keep_cell.new.tree c.keep_cell.ensures.fields c.in_err-keep_cell.ensures.same)
 
 pub mark_path-requires : goal.mark_path-requires
 mark_path-requires g c = λ level low high xs node.
     let i = c.args.index in
     let fields = c.in_ok-keep_cell.ensures.fields in
-    c.in_ok-pointer.ensures.filled c.if-pointer-eq0.false level low (omega (arith, high, fields.levels)) xs
+    filled_way c.keep_path.new.tree i (c.in_ok-pointer.ensures.way c.if-pointer-eq0.false) level low (omega (arith, high, fields.levels)) xs
     (ap (λ (nodes : tree.BTreeMap Spot KeptNode). children_in nodes level (i / fan ^ level)) (sym fields.nodes) ∙ node)
+
+pub returns-clause-ready : goal.returns-clause-ready
+returns-clause-ready g c = λ _.
+    let v = c.keep_path.new.tree in
+    let w = c.keep_cell.new.tree in
+    let u = c.mark_path.new.tree in
+    let i = c.args.index in
+    let path = c.in_ok-pointer.ensures in
+    let cell = c.in_ok-keep_cell.ensures in
+    let marked = c.mark_path.ensures in
+    let levels : u.levels ≡ c.args.tree.now.levels = marked.fields.levels ∙ cell.fields.levels ∙ path.fields.levels in
+    let within : i < fan ^ c.args.tree.now.levels = omega (arith, c.if-index-width.false, c.width.ensures.is) in record {
+      covers = subst (λ n. i < fan ^ n) (sym levels) within;
+      cell = filled_cell (tree.get nat_cmp u.cells i) (ap (λ (m : tree.BTreeMap ℕ KeptCell). is_some (tree.get nat_cmp m i)) marked.fields.cells ∙ cell_there v w i c.args.block.now cell.cell);
+      way = way_as v u i (marked.fields.levels ∙ cell.fields.levels) (marked.fields.root ∙ cell.fields.root)
+          (λ level place. marked.nodes level place ∙ ap (λ (nodes : tree.BTreeMap Spot KeptNode). children_in nodes level place) cell.fields.nodes) (path.way c.if-pointer-eq0.false);
+      marked = λ level low high.
+          let node = has_way v i (path.way c.if-pointer-eq0.false) level low (let same = levels in let old = path.fields.levels in omega (arith, high, same, old)) in
+          marked.marks.way level low (let same = marked.fields.levels in omega (arith, high, same))
+          (ap is_some (ap (λ (nodes : tree.BTreeMap Spot KeptNode). tree.get spot_cmp nodes (level, i / fan ^ level)) cell.fields.nodes ∙ (map_some (λ (kept : KeptNode). kept.children) (kept_at v level (i / fan ^ level)) node.0 node.1).1));
+    }
 
 pub returns-clause-done : goal.returns-clause-done
 returns-clause-done g c = λ told.
@@ -62,8 +98,8 @@ returns-clause-done g c = λ told.
     refilled_is (under (g.B.Blocks.shown c.keep_path.new.blocks)) c.keep_path.new.tree c.keep_cell.new.tree c.mark_path.new.tree c.args.index c.args.block.now cell.fields cell.cell marked.fields marked.nodes
     t (path.same told) (λ none. c.if-pointer-eq0.false (ap (λ (p : Pointer). p.stamp) (path.pointer told) ∙ none))
 
-pub returns-clause-stands : goal.returns-clause-stands
-returns-clause-stands g c = λ told stands.
+pub returns-clause-carries : goal.returns-clause-carries
+returns-clause-carries g c = λ told.
     let new : Shown = g.B.Blocks.shown c.keep_path.new.blocks in
     let i = c.args.index in
     let v = c.keep_path.new.tree in
@@ -73,16 +109,14 @@ returns-clause-stands g c = λ told stands.
     let cell = c.in_ok-keep_cell.ensures in
     let marked = c.mark_path.ensures in
     let there : StandsAt (standing (under new) v) 0 i = λ none. c.if-pointer-eq0.false (ap (λ (p : Pointer). p.stamp) (path.pointer told ∙ sym ((path.same told).pointers 0 i)) ∙ none) in
-    let unnamed : (pointer_at (standing (under new) v) 0 i).stamp ≡ 0 → true ≡ false = λ none. absurd (there none) in
     let unplaced : (level : ℕ) → 1 ≤ level → level ≤ v.levels → (pointer_at (standing (under new) v) level (i / fan ^ level)).stamp ≡ 0 → placed_in v.nodes level (i / fan ^ level) ≡ false =
     λ level low high none. path.unplaced told level low (omega (arith, high, path.fields.levels)) (ap (λ (p : Pointer). p.stamp) (sym ((path.same told).pointers level (i / fan ^ level))) ∙ none) in
-    let sound : Stands new v = path.stands told stands in
     let levels : w.levels ≡ c.args.tree.now.levels = cell.fields.levels ∙ path.fields.levels in
     let within : i < fan ^ c.args.tree.now.levels = omega (arith, c.if-index-width.false, c.width.ensures.is) in
     let covers : i < fan ^ w.levels = subst (λ n. i < fan ^ n) (sym levels) within in
-    marked_sound new.used (loaded new w) (loaded new u) i covers
-    (within_ready (under new) new.used v w i true sound cell.fields cell.own cell.others unnamed unplaced)
+    carries_then (g.B.Blocks.shown c.args.blocks.now) new new c.args.tree.now v u (path.carries told)
+    (carries_within new v w u i true cell.fields cell.own cell.others (λ none. absurd (there none)) (λ _. refl) unplaced covers
     (remarked_is (under new) w u i marked.fields marked.nodes marked.marks
-    (λ none. there (ap (λ (p : Pointer). p.stamp) (sym (cell_pointers (under new) new.used v w i true sound cell.fields cell.own cell.others unnamed unplaced 0 i)) ∙ none))
-    (λ level low high. cell_kept (under new) new.used v w i true sound cell.fields cell.own cell.others unnamed unplaced level (path.kept told level low (omega (arith, high, levels))))
-    (cell_there v w i c.args.block.now cell.cell))
+    (λ none. there (ap (λ (p : Pointer). p.stamp) (sym (cell_pointers (under new) v w i true cell.fields cell.own cell.others 0 i)) ∙ none))
+    (λ level low high. cell_kept (under new) v w i true cell.fields cell.own cell.others level (path.kept told level low (omega (arith, high, levels))))
+    (cell_there v w i c.args.block.now cell.cell)))

@@ -1,10 +1,13 @@
-use Rattle.std.proofs.Common.{subst, arith}
+use Rattle.std.proofs.Common.{rules, ◌≡◌, ◌/◌, ◌^◌, refl, subst, arith}
+use Rattle.fv_model.specs.Trees.{fan}
+use Rattle.fv_tree.specs.Costs.{place_cost}
 use Rattle.fv_tree.specs.Standing.{standing, under, Fails}
 use Rattle.fv_tree.specs.Sources.{Shown}
 use Rattle.std.specs.FinMap as fin
 use Rattle.std.proofs.lemmas.Result.{err_from_is_err_and}
 use Rattle.fv_tree.proofs.Below.{at_the_cell}
-use Rattle.fv_tree.proofs.Causes.{fails_later}
+use Rattle.fv_tree.proofs.Causes.{calm_itself, calm_then, fails_later, untouched_itself, untouched_then}
+use Rattle.fv_tree.proofs.Costly.{cost_last, cost_step}
 use Rattle.fv_tree.proofs.way.find.Goals as goal
 
 pub returns-in_err-pointer-clause-cause : goal.returns-in_err-pointer-clause-cause
@@ -19,3 +22,43 @@ pub returns-clause-pointer : goal.returns-clause-pointer
 returns-clause-pointer g c = λ told.
     let t = standing (under (g.B.Blocks.shown c.args.blocks.now)) c.args.tree.now in
     at_the_cell t c.loop-level.level c.args.index c.loop-level.pointer (omega arith) (c.loop-level.invariant.pointer told)
+
+pub loop-level-init : goal.loop-level-init
+loop-level-init g c = record {
+  high = omega arith;
+  pointer = search rules;
+  spent = λ _. refl;
+  untouched = untouched_itself _;
+  calm = calm_itself _;
+  reads = g.met.B.Blocks.reads_nothing c.args.blocks.now;
+}
+
+pub loop-level-preserved : goal.loop-level-preserved
+loop-level-preserved g c =
+    let old : Shown = g.B.Blocks.shown c.args.blocks.now in
+    let mid : Shown = g.B.Blocks.shown c.loop-level.blocks in
+    let new : Shown = g.B.Blocks.shown c.step.new.blocks in
+    let t = c.args.tree.now in
+    let level = c.loop-level.level in
+    let was = c.loop-level.invariant in
+    let now = c.in_ok-pointer.ensures in
+    let same : place_cost mid.cost (standing (under mid) t) level (c.args.index / fan ^ level) ≡ place_cost old.cost (standing (under old) t) level (c.args.index / fan ^ level) =
+    λ j. place_cost (was.untouched.cost j) (standing (λ v. fin.get (was.untouched.held j) v) t) level (c.args.index / fan ^ level) in record {
+      high = omega arith;
+      pointer = search rules;
+      spent = λ told.
+          let first = was.spent told in
+          let more = now.spent told in
+          let step = cost_step old.cost (standing (under old) t) c.args.index level (omega arith) in
+          omega (arith, first, more, same, step);
+      untouched = untouched_then old mid new was.untouched now.untouched;
+      calm = calm_then old mid new was.calm now.counts.calm;
+      reads = g.met.B.Blocks.reads_on c.args.blocks.now c.loop-level.blocks c.step.new.blocks was.reads now.reads;
+    }
+
+pub returns-clause-spent : goal.returns-clause-spent
+returns-clause-spent g c = λ told.
+    let old : Shown = g.B.Blocks.shown c.args.blocks.now in
+    let last = cost_last old.cost (standing (under old) c.args.tree.now) c.args.index c.loop-level.level (omega arith) in
+    let was = c.loop-level.invariant.spent told in
+    omega (arith, last, was)

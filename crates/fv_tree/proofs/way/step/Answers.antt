@@ -1,10 +1,11 @@
-use Rattle.std.proofs.Common.{get_or, refl, sym, ◌∙◌, ◌/◌, ◌%◌}
-use Rattle.std.proofs.lemmas.Result.{IfOk-weaker, IfErr-weaker}
+use Rattle.std.proofs.Common.{get_or, refl, sym, ap, ◌∙◌, ◌/◌, ◌%◌, ◌+◌}
+use Rattle.std.proofs.lemmas.Result.{IfOk-weaker, IfErr-weaker, on_ok_weaker}
 use Rattle.fv_model.specs.Trees.{fan}
 use Rattle.fv_tree.specs.Spelled.{hole, pointers_at, pointer_at}
 use Rattle.fv_tree.specs.Standing.{standing, under}
 use Rattle.fv_tree.proofs.Below.{below, on_the_way}
 use Rattle.fv_tree.proofs.Causes.{node_fails}
+use Rattle.fv_tree.proofs.Costly.{node_costs}
 use Rattle.fv_tree.proofs.way.step.Goals as goal
 
 pub returns-clause-below : goal.returns-clause-below
@@ -16,3 +17,9 @@ pub returns-clause-cause : goal.returns-clause-cause
 returns-clause-cause g c =
     let t = standing (under (g.B.Blocks.shown c.args.blocks.now)) c.args.tree.now in
     IfErr-weaker c.child.result _ _ (λ e h. node_fails g.B.Blocks.told t _ _ c.args.level (c.args.index / c.width.result) c.args.pointer.now e refl c.requires.low c.requires.high (λ told. (λ j. pointer_at t c.args.level (c.args.index / c.width.ensures.is j)) ∙ on_the_way t c.args.level c.args.index c.requires.high ∙ sym (c.requires.pointer told)) h) c.child.ensures.cause
+
+pub returns-clause-spent : goal.returns-clause-spent
+returns-clause-spent g c = λ told.
+    let old = g.B.Blocks.shown c.args.blocks.now in
+    on_ok_weaker c.child.result (λ is. is ∙ ap (λ n. old.spent + n) (node_costs old.cost (standing (under old) c.args.tree.now) c.args.level c.args.index (c.args.index / c.width.result) c.args.pointer.now c.requires.low c.requires.high
+    (ap (λ w. c.args.index / w) c.width.ensures.is) (c.requires.pointer told))) c.child.ensures.spent

@@ -1,18 +1,19 @@
-use Rattle.std.proofs.Common.{◌≡◌, ◌≢◌, ◌/◌, ◌⊎◌, ℕ, inl, inr, is_some, ◌^◌, ◌<◌, cond, Some, nat_eq, sym, ap, refl, ◌∙◌, arith, subst}
-use Rattle.fv_model.specs.Trees.{fan, Spot, spot_cmp}
+use Rattle.std.proofs.Common.{◌≡◌, ◌≤◌, ◌/◌, ℕ, true, inl, inr, ◌^◌, ◌<◌, cond, Some, nat_eq, sym, ap, refl, ◌∙◌, arith, subst}
+use Rattle.std.specs.BTreeMap as tree
+use Rattle.std.proofs.Math.Nat.{div-eq_of_lt, pow-le-pow_right}
+use Rattle.std.proofs.lemmas.Bool.{cases_eq, cases_lt}
+use Rattle.fv_model.specs.Trees.{fan, Spot}
+use Rattle.fv_tree.specs.declared.kept.KeptNode.{KeptNode}
+use Rattle.fv_tree.specs.declared.kept.KeptCell.{KeptCell}
+use Rattle.fv_tree.specs.Costs.{changes_in}
 use Rattle.fv_tree.specs.Standing.{standing, cell_in, IsSameButCells}
 use Rattle.fv_tree.specs.Writing.{IsAlike, HasNewLevels}
 use Rattle.fv_tree.proofs.Causes.{at_err}
-use Rattle.std.specs.Ordering.{nat_cmp}
-use Rattle.std.specs.BTreeMap as tree
-use Rattle.fv_tree.specs.declared.kept.KeptNode.{KeptNode}
-use Rattle.fv_tree.specs.declared.kept.KeptCell.{KeptCell}
-use Rattle.fv_tree.specs.Flushing.{loaded_over, node_changed, node_placed, cell_placed}
-use Rattle.fv_tree.specs.Carried.{kept_at, IsBlank}
-use Rattle.fv_tree.proofs.Marked.{IsReady, marked_sound}
-use Rattle.fv_tree.proofs.Ready.{cells_again, marked_is, cell_there}
-use Rattle.fv_tree.proofs.ReadyPast.{past_ready}
-use Rattle.fv_tree.proofs.Ungrown.{still_sound}
+use Rattle.fv_tree.specs.Flushing.{loaded_over, changed_in}
+use Rattle.fv_tree.specs.Leading.{LeadsNoMore}
+use Rattle.fv_tree.proofs.Grows.{grows_sound, grows_leads, grows_keeps}
+use Rattle.fv_tree.proofs.Ready.{cells_again, cells_loaded}
+use Rattle.fv_tree.proofs.Ungrown.{still_sound, still_leads, still_keeps}
 use Rattle.fv_tree.proofs.Past.{Raises, past_base}
 use Rattle.fv_tree.proofs.Steps.{stamps_way, stamped_cells, moved}
 use Rattle.fv_tree.proofs.Writes.{same_alike, same_standing, hidden_same, levels_grow, written_is}
@@ -58,7 +59,7 @@ returns-in_err-keep_new_levels-clause-stands c = λ blocks used sound.
     let fields = c.keep_new_levels.ensures.fields in
     let t = c.args.tree.now in
     let v = c.keep_new_levels.new.tree in
-    still_sound blocks used t v c.args.index c.requires.past fields (hidden_same blocks t v c.args.index c.requires.past fields c.in_err-keep_new_levels.ensures.failed) c.keep_new_levels.ensures.brings sound
+    still_sound blocks t v c.args.index c.requires.past fields (hidden_same blocks t v c.args.index c.requires.past fields c.in_err-keep_new_levels.ensures.failed) c.keep_new_levels.ensures.brings used sound
 
 pub returns-in_err-keep_cell-clause-stands : goal.returns-in_err-keep_cell-clause-stands
 returns-in_err-keep_cell-clause-stands c = λ blocks used sound.
@@ -66,44 +67,98 @@ returns-in_err-keep_cell-clause-stands c = λ blocks used sound.
     let t = c.args.tree.now in
     let v = c.keep_new_levels.new.tree in
     cells_again blocks used v c.keep_cell.new.tree c.keep_cell.ensures.fields c.in_err-keep_cell.ensures.same
-    (still_sound blocks used t v c.args.index c.requires.past fields (hidden_same blocks t v c.args.index c.requires.past fields c.in_ok-keep_new_levels.ensures.grows.old_nodes) c.keep_new_levels.ensures.brings sound)
+    (still_sound blocks t v c.args.index c.requires.past fields (hidden_same blocks t v c.args.index c.requires.past fields c.in_ok-keep_new_levels.ensures.grows.old_nodes) c.keep_new_levels.ensures.brings used sound)
 
 pub returns-clause-stands : goal.returns-clause-stands
-returns-clause-stands c = λ blocks used sound.
+returns-clause-stands c =
+    let grown = c.in_ok-keep_new_levels.ensures in
+    let cell = c.in_ok-keep_cell.ensures in
+    grows_sound c.args.tree.now c.keep_new_levels.new.tree c.keep_cell.new.tree c.raise.new.tree c.stamp_path.new.tree c.args.index c.args.stamp c.levels_over-levels.result c.args.block.now
+    c.requires.past c.levels_over-levels.ensures.least c.levels_over-levels.ensures.covers grown.fields grown.grows grown.brings grown.blank grown.tops cell.fields cell.cell cell.own cell.others
+    c.raise.ensures.owner c.raise.ensures.nodes c.raise.ensures.cells c.raise.ensures.levels c.raise.ensures.root c.stamp_path.ensures.stamps c.stamp_path.ensures.marks c.requires.stamp
+
+pub returns-clause-leads : goal.returns-clause-leads
+returns-clause-leads c =
+    let grown = c.in_ok-keep_new_levels.ensures in
+    let cell = c.in_ok-keep_cell.ensures in
+    grows_leads c.args.tree.now c.keep_new_levels.new.tree c.keep_cell.new.tree c.raise.new.tree c.stamp_path.new.tree c.args.index c.args.stamp c.levels_over-levels.result c.args.block.now
+    c.requires.past c.levels_over-levels.ensures.least c.levels_over-levels.ensures.covers grown.fields grown.grows grown.brings grown.blank grown.tops cell.fields cell.cell cell.own cell.others
+    c.raise.ensures.owner c.raise.ensures.nodes c.raise.ensures.cells c.raise.ensures.levels c.raise.ensures.root c.stamp_path.ensures.stamps c.stamp_path.ensures.marks c.requires.stamp
+
+pub returns-clause-keeps : goal.returns-clause-keeps
+returns-clause-keeps c =
+    let grown = c.in_ok-keep_new_levels.ensures in
+    let cell = c.in_ok-keep_cell.ensures in
+    grows_keeps c.args.tree.now c.keep_new_levels.new.tree c.keep_cell.new.tree c.raise.new.tree c.stamp_path.new.tree c.args.index c.args.stamp c.levels_over-levels.result c.args.block.now
+    c.requires.past c.levels_over-levels.ensures.least c.levels_over-levels.ensures.covers grown.fields grown.grows grown.brings grown.blank grown.tops cell.fields cell.cell cell.own cell.others
+    c.raise.ensures.owner c.raise.ensures.nodes c.raise.ensures.cells c.raise.ensures.levels c.raise.ensures.root c.stamp_path.ensures.stamps c.stamp_path.ensures.marks c.requires.stamp
+
+pub returns-in_err-keep_new_levels-clause-leads : goal.returns-in_err-keep_new_levels-clause-leads
+returns-in_err-keep_new_levels-clause-leads c = λ blocks.
+    let fields = c.keep_new_levels.ensures.fields in
+    let t = c.args.tree.now in
+    let v = c.keep_new_levels.new.tree in
+    still_leads blocks t v c.args.index c.requires.past fields (hidden_same blocks t v c.args.index c.requires.past fields c.in_err-keep_new_levels.ensures.failed) c.keep_new_levels.ensures.brings
+
+pub returns-in_err-keep_new_levels-clause-keeps : goal.returns-in_err-keep_new_levels-clause-keeps
+returns-in_err-keep_new_levels-clause-keeps c = λ blocks.
+    let fields = c.keep_new_levels.ensures.fields in
+    let t = c.args.tree.now in
+    let v = c.keep_new_levels.new.tree in
+    still_keeps blocks t v c.args.index c.requires.past fields (hidden_same blocks t v c.args.index c.requires.past fields c.in_err-keep_new_levels.ensures.failed) c.keep_new_levels.ensures.brings
+
+pub returns-in_err-keep_cell-clause-leads : goal.returns-in_err-keep_cell-clause-leads
+returns-in_err-keep_cell-clause-leads c = λ blocks.
+    let fields = c.keep_new_levels.ensures.fields in
+    let t = c.args.tree.now in
+    let v = c.keep_new_levels.new.tree in
+    subst (LeadsNoMore (loaded_over blocks t)) (sym (cells_loaded blocks v c.keep_cell.new.tree c.keep_cell.ensures.fields c.in_err-keep_cell.ensures.same))
+    (still_leads blocks t v c.args.index c.requires.past fields (hidden_same blocks t v c.args.index c.requires.past fields c.in_ok-keep_new_levels.ensures.grows.old_nodes) c.keep_new_levels.ensures.brings)
+
+pub returns-in_err-keep_cell-clause-keeps : goal.returns-in_err-keep_cell-clause-keeps
+returns-in_err-keep_cell-clause-keeps c = λ blocks.
+    let fields = c.keep_new_levels.ensures.fields in
+    let t = c.args.tree.now in
+    let v = c.keep_new_levels.new.tree in
+    subst (λ s. LeadsNoMore s (loaded_over blocks t)) (sym (cells_loaded blocks v c.keep_cell.new.tree c.keep_cell.ensures.fields c.in_err-keep_cell.ensures.same))
+    (still_keeps blocks t v c.args.index c.requires.past fields (hidden_same blocks t v c.args.index c.requires.past fields c.in_ok-keep_new_levels.ensures.grows.old_nodes) c.keep_new_levels.ensures.brings)
+
+pub returns-clause-pending : goal.returns-clause-pending
+returns-clause-pending c =
     let s = c.args.tree.now in
     let t = c.keep_new_levels.new.tree in
-    let held = c.keep_cell.new.tree in
+    let h = c.keep_cell.new.tree in
     let v = c.raise.new.tree in
     let u = c.stamp_path.new.tree in
     let i = c.args.index in
-    let fields = c.keep_new_levels.ensures.fields in
-    let cell = c.in_ok-keep_cell.ensures in
+    let levels = c.levels_over-levels.result in
     let grown = c.in_ok-keep_new_levels.ensures in
+    let cell = c.in_ok-keep_cell.ensures in
+    let few = c.levels_over-levels.ensures.few in
+    let rises : v.levels ≡ levels = c.raise.ensures.levels in
+    let cells : tree.btree_map_len u.cells ≡ tree.btree_map_len h.cells = ap (λ (m : tree.BTreeMap ℕ KeptCell). tree.btree_map_len m) (c.stamp_path.ensures.stamps.cells ∙ c.raise.ensures.cells) in
+    let before : tree.btree_map_len t.cells ≡ tree.btree_map_len s.cells = ap (λ (m : tree.BTreeMap ℕ KeptCell). tree.btree_map_len m) grown.fields.cells in
     let nodes : v.nodes ≡ t.nodes = c.raise.ensures.nodes ∙ cell.fields.nodes in
-    let levels : v.levels ≡ c.levels_over-levels.result = c.raise.ensures.levels in
-    let raised : Raises s v i c.args.stamp = record {
-      owner = c.raise.ensures.owner ∙ cell.fields.owner ∙ fields.owner;
-      root = c.raise.ensures.root;
-      levels = levels ∙ levels_grow s.levels i c.levels_over-levels.result c.requires.past c.levels_over-levels.ensures.least;
-      far = c.requires.past;
-      covers = subst (λ n. i < fan ^ n) (sym levels) c.levels_over-levels.ensures.covers;
-      nodes = subst (λ n. HasNewLevels s v n i c.args.stamp) (sym levels) (moved s t v c.levels_over-levels.result i c.args.stamp nodes grown.grows);
-    } in
-    let some : c.args.stamp ≢ 0 = omega (arith, c.requires.stamp) in
-    let kept : (k q : ℕ) → kept_at v k q ≡ kept_at t k q = λ k q. ap (λ (nodes : tree.BTreeMap Spot KeptNode). tree.get spot_cmp nodes (k, q)) nodes in
-    let ready : IsReady used (loaded_over blocks v) i = past_ready blocks used s v i c.args.stamp raised some sound
-    (λ k q. subst (λ o. (o ≡ kept_at s k q) ⊎ (((q ≡ i / fan ^ k) × IsBlank o) ⊎ ((s.root.stamp ≢ 0) × (s.levels < k) × (q ≡ 0)))) (sym (kept k q)) (grown.brings k q))
-    (λ level low high first. subst IsBlank (sym (kept level (i / fan ^ level))) (grown.blank level low (omega (arith, high, levels)) (elim first [
-      | inl lt ↦ inl (omega (arith, lt, levels))
-      | inr none ↦ inr none
-    ])))
-    (λ cell level lt high. let top = grown.tops cell level lt (omega (arith, high, levels)) in record {
-      changed = ap node_changed (kept level 0) ∙ top.changed;
-      placed = ap node_placed (kept level 0) ∙ top.placed;
-    })
-    (ap (λ (cells : tree.BTreeMap ℕ KeptCell). cell_placed (tree.get nat_cmp cells i)) c.raise.ensures.cells ∙ cell.own)
-    (λ j differs. ap (λ (cells : tree.BTreeMap ℕ KeptCell). tree.get nat_cmp cells j) c.raise.ensures.cells ∙ cell.others j differs ∙ ap (λ (cells : tree.BTreeMap ℕ KeptCell). tree.get nat_cmp cells j) fields.cells) in
-    marked_sound used (loaded_over blocks v) (loaded_over blocks u) i raised.covers ready
-    (marked_is blocks v u i c.args.stamp c.stamp_path.ensures.stamps c.stamp_path.ensures.marks some raised.covers
-    (past_base blocks s v i c.args.stamp raised some).kept
-    (ap (λ (cells : tree.BTreeMap ℕ KeptCell). is_some (tree.get nat_cmp cells i)) c.raise.ensures.cells ∙ cell_there t held i c.args.block.now cell.cell))
+    let same : changes_in v.nodes ≡ changes_in t.nodes = ap changes_in nodes in
+    let one = cell.count in
+    elim (cases_eq s.root.stamp 0) [
+      | inl none ↦
+          let still = grown.unchanged none in
+          let more = c.stamp_path.ensures.changes in
+          omega (arith, few, rises, cells, before, same, one, more, still)
+      | inr there ↦
+          let lt : s.levels < levels = elim (cases_lt s.levels levels) [
+            | inl lt ↦ lt
+            | inr le ↦
+                let up : fan ^ levels ≤ fan ^ s.levels = pow-le-pow_right {n = fan} (omega arith) {i = levels} {j = s.levels} le in
+                let far = c.requires.past in
+                let covers = c.levels_over-levels.ensures.covers in
+                absurd (omega (arith, up, far, covers))
+          ] in
+          let changed : changed_in v.nodes v.levels (i / fan ^ v.levels) ≡ true =
+          ap (λ (m : tree.BTreeMap Spot KeptNode). changed_in m v.levels (i / fan ^ v.levels)) nodes ∙ (λ j. changed_in t.nodes (rises j) (i / fan ^ rises j))
+          ∙ ap (changed_in t.nodes levels) (div-eq_of_lt c.levels_over-levels.ensures.covers) ∙ (grown.tops there levels lt (omega arith)).changed in
+          let least = c.stamp_path.ensures.top changed in
+          let most = grown.changes in
+          omega (arith, few, rises, cells, before, same, one, least, most, lt)
+    ]

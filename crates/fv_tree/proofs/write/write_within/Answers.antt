@@ -3,13 +3,14 @@ use Rattle.fv_codec.specs.declared.pointer.Pointer.{Pointer}
 use Rattle.fv_model.specs.Trees.{fan}
 use Rattle.fv_tree.specs.Spelled.{pointer_at}
 use Rattle.fv_tree.specs.Sources.{Shown}
-use Rattle.fv_tree.specs.Flushing.{loaded, placed_in, Stands}
-use Rattle.fv_tree.proofs.Marked.{marked_sound}
-use Rattle.fv_tree.proofs.Ready.{cells_again, within_ready, marked_is, cell_kept, cell_there, unstamped}
+use Rattle.fv_tree.specs.Flushing.{placed_in}
+use Rattle.fv_tree.proofs.Leading.{carries_cells, carries_then}
+use Rattle.fv_tree.proofs.Ready.{marked_is, cell_kept, cell_there, unstamped, is_stamped}
 use Rattle.fv_tree.specs.Standing.{standing, under}
 use Rattle.fv_tree.specs.Writing.{IsAlike}
 use Rattle.fv_tree.proofs.Causes.{at_err}
 use Rattle.fv_tree.proofs.Steps.{stamps_way, stamped_cells}
+use Rattle.fv_tree.proofs.Within.{carries_within}
 use Rattle.fv_tree.proofs.Writes.{same_alike, same_standing, within_base, written_is}
 use Rattle.fv_tree.proofs.write.write_within.Goals as goal
 
@@ -37,16 +38,16 @@ returns-clause-done g c = λ told.
     (omega (arith, c.requires.stamp))
     (λ j. stamped_cells c.keep_path.new.tree c.keep_cell.new.tree c.stamp_path.new.tree c.args.index c.args.stamp c.args.block.now c.in_ok-keep_cell.ensures.cell c.stamp_path.ensures.stamps.cells j ∙ (λ k. cond (nat_eq j c.args.index) (Some c.args.block.now) (same.cells k j)))
 
-pub returns-in_err-keep_cell-clause-stands : goal.returns-in_err-keep_cell-clause-stands
-returns-in_err-keep_cell-clause-stands g c = λ told stands.
+pub returns-in_err-keep_cell-clause-carries : goal.returns-in_err-keep_cell-clause-carries
+returns-in_err-keep_cell-clause-carries g c = λ told.
     let new : Shown = g.B.Blocks.shown c.keep_path.new.blocks in
-    cells_again (under new) new.used c.keep_path.new.tree c.keep_cell.new.tree c.keep_cell.ensures.fields c.in_err-keep_cell.ensures.same (c.keep_path.ensures.stands told stands)
+    carries_then (g.B.Blocks.shown c.args.blocks.now) new new c.args.tree.now c.keep_path.new.tree c.keep_cell.new.tree (c.keep_path.ensures.carries told)
+    (carries_cells new c.keep_path.new.tree c.keep_cell.new.tree c.keep_cell.ensures.fields c.in_err-keep_cell.ensures.same)
 
-pub returns-clause-stands : goal.returns-clause-stands
-returns-clause-stands g c = λ told stands.
+pub returns-clause-carries : goal.returns-clause-carries
+returns-clause-carries g c = λ told.
     let new : Shown = g.B.Blocks.shown c.keep_path.new.blocks in
     let i = c.args.index in
-    let old = standing (under (g.B.Blocks.shown c.args.blocks.now)) c.args.tree.now in
     let w = c.keep_path.new.tree in
     let v = c.keep_cell.new.tree in
     let u = c.stamp_path.new.tree in
@@ -56,12 +57,11 @@ returns-clause-stands g c = λ told stands.
     let some : c.args.stamp ≢ 0 = omega (arith, c.requires.stamp) in
     let levels : v.levels ≡ c.args.tree.now.levels = cell.fields.levels ∙ path.fields.levels in
     let covers : i < fan ^ v.levels = subst (λ n. i < fan ^ n) (sym levels) c.requires.index in
-    let unnamed : (pointer_at (standing (under new) w) 0 i).stamp ≡ 0 → named ≡ false = λ e. unstamped c.in_ok-pointer.pointer (ap (λ (p : Pointer). p.stamp) (path.pointer told ∙ sym ((path.same told).pointers 0 i)) ∙ e) in
+    let same : c.in_ok-pointer.pointer.stamp ≡ (pointer_at (standing (under new) w) 0 i).stamp = ap (λ (p : Pointer). p.stamp) (path.pointer told ∙ sym ((path.same told).pointers 0 i)) in
     let unplaced : (level : ℕ) → 1 ≤ level → level ≤ w.levels → (pointer_at (standing (under new) w) level (i / fan ^ level)).stamp ≡ 0 → placed_in w.nodes level (i / fan ^ level) ≡ false =
     λ level low high none. path.unplaced told level low (omega (arith, high, path.fields.levels)) (ap (λ (p : Pointer). p.stamp) (sym ((path.same told).pointers level (i / fan ^ level))) ∙ none) in
-    let sound : Stands new w = path.stands told stands in
-    marked_sound new.used (loaded new v) (loaded new u) i covers
-    (within_ready (under new) new.used w v i named sound cell.fields cell.own cell.others unnamed unplaced)
+    carries_then (g.B.Blocks.shown c.args.blocks.now) new new c.args.tree.now w u (path.carries told)
+    (carries_within new w v u i named cell.fields cell.own cell.others (λ e. unstamped c.in_ok-pointer.pointer (same ∙ e)) (λ there. is_stamped c.in_ok-pointer.pointer (λ e. there (sym same ∙ e))) unplaced covers
     (marked_is (under new) v u i c.args.stamp c.stamp_path.ensures.stamps c.stamp_path.ensures.marks some covers
-    (λ level low high. cell_kept (under new) new.used w v i named sound cell.fields cell.own cell.others unnamed unplaced level (path.kept told level low (omega (arith, high, levels))))
-    (cell_there w v i c.args.block.now cell.cell))
+    (λ level low high. cell_kept (under new) w v i named cell.fields cell.own cell.others level (path.kept told level low (omega (arith, high, levels))))
+    (cell_there w v i c.args.block.now cell.cell)))

@@ -1,20 +1,21 @@
-use Rattle.std.proofs.Common.{◌≡◌, true, ◌/◌, ◌%◌, refl, subst, OnErr}
+use Rattle.std.proofs.Common.{◌≡◌, true, ◌/◌, ◌%◌, refl}
 use Rattle.std.specs.Prelude.{slice_set, is_some}
-use Rattle.std.proofs.lemmas.Result.{on_ok_weaker}
+use Rattle.std.proofs.lemmas.Result.{on_ok_weaker, err_from_is_err_and}
 use Rattle.fv_tables.specs.Spelled.{block_at}
 use Rattle.fv_tree.specs.Standing.{standing, under}
-use Rattle.fv_tree.specs.Writing.{Remains}
 use Rattle.fv_inode.specs.Files.{with_root}
 use Rattle.fv_inode.specs.Changing.{FillsFiles}
-use Rattle.fv_inode.proofs.Looked.{Held, over, earlier, later, stands_on, looks_then, looks_at, looks_done}
+use Rattle.fv_inode.proofs.Looked.{earlier, later, looks_failed, looks_done, alters_none, alters_then}
 use Rattle.fv_inode.proofs.Slots.{block_there, still_used, no_such}
 use Rattle.fv_inode.proofs.Rewritten.{sets_root}
 use Rattle.fv_inode.proofs.file.InodeFile.set_root.Goals as goal
 
-pub returns-in_err-files-clause-stands : goal.returns-in_err-files-clause-stands
-returns-in_err-files-clause-stands g c = λ told.
-    let looks = c.in_err-files.ensures.looks in
-    stands_on c.args.self.now.tree (g.B.Blocks.shown c.args.blocks.now) (g.B.Blocks.shown c.read_files.new.blocks) looks.untouched.held looks.untouched.used
+pub returns-in_err-files-clause-alters : goal.returns-in_err-files-clause-alters
+returns-in_err-files-clause-alters g c =
+    let old = g.B.Blocks.shown c.args.blocks.now in
+    let new = g.B.Blocks.shown c.read_files.new.blocks in
+    let p = err_from_is_err_and c.from_residual.result c.from_residual.ensures.1 in
+    rw (p.1, p.2) (alters_none g.B.Blocks.told c.args.self.now.tree old new _ (looks_failed g.B.Blocks.told (standing (under old) c.args.self.now.tree) old new c.in_err-files.field-0.0 c.in_err-files.ensures.looks))
 
 pub refill_files-requires-clause-there : goal.refill_files-requires-clause-there
 refill_files-requires-clause-there g c = λ told.
@@ -39,22 +40,10 @@ returns-clause-set g c = λ told.
     (earlier (λ v. FillsFiles v u (n / 16) (slice_set files (n % 16) c.with_root.result)) c.args.self.now.tree old mid was.looks.untouched.held fills))
     (c.refill_files.ensures.filled told)
 
-pub returns-clause-failed : goal.returns-clause-failed
-returns-clause-failed g c = λ told.
-    subst (λ (h : Held). OnErr c.refill_files.result (Remains (over h c.args.self.now.tree) (standing (under (g.B.Blocks.shown c.refill_files.new.blocks)) c.refill_files.new.tree))) c.in_ok-files.ensures.looks.untouched.held (c.refill_files.ensures.failed told)
-
-pub returns-clause-stands : goal.returns-clause-stands
-returns-clause-stands g c = λ told stands.
-    let looks = c.in_ok-files.ensures.looks in
-    c.refill_files.ensures.stands told (stands_on c.args.self.now.tree (g.B.Blocks.shown c.args.blocks.now) (g.B.Blocks.shown c.read_files.new.blocks) looks.untouched.held looks.untouched.used stands)
-
-pub returns-clause-looks : goal.returns-clause-looks
-returns-clause-looks g c =
-    let mid = g.B.Blocks.shown c.read_files.new.blocks in
-    let new = g.B.Blocks.shown c.refill_files.new.blocks in
-    let did = c.refill_files.ensures in
-    looks_then g.B.Blocks.told c.args.self.now.tree (g.B.Blocks.shown c.args.blocks.now) mid new c.in_ok-files.files c.refill_files.result c.in_ok-files.ensures.looks
-    (looks_at g.B.Blocks.told (standing (under mid) c.args.self.now.tree) mid new c.refill_files.result did.untouched did.counts did.cause)
+pub returns-clause-alters : goal.returns-clause-alters
+returns-clause-alters g c =
+    alters_then g.B.Blocks.told c.args.self.now.tree c.refill_files.new.tree (g.B.Blocks.shown c.args.blocks.now) (g.B.Blocks.shown c.read_files.new.blocks) (g.B.Blocks.shown c.refill_files.new.blocks)
+    c.in_ok-files.files c.refill_files.result c.in_ok-files.ensures.looks c.refill_files.ensures.alters
 
 -- ---- no file has the number
 
@@ -62,12 +51,8 @@ pub returns-then-files-slot-eq0-clause-set : goal.returns-then-files-slot-eq0-cl
 returns-then-files-slot-eq0-clause-set g c = λ told.
     no_such (standing (under (g.B.Blocks.shown c.args.blocks.now)) c.args.self.now.tree) c.args.number c.in_ok-files.files _ c.in_ok-files.ensures.long (c.in_ok-files.ensures.files told) c.if-files-slot-eq0.true (c.requires.there told)
 
-pub returns-then-files-slot-eq0-clause-stands : goal.returns-then-files-slot-eq0-clause-stands
-returns-then-files-slot-eq0-clause-stands g c = λ told.
-    let looks = c.in_ok-files.ensures.looks in
-    stands_on c.args.self.now.tree (g.B.Blocks.shown c.args.blocks.now) (g.B.Blocks.shown c.read_files.new.blocks) looks.untouched.held looks.untouched.used
-
-pub returns-then-files-slot-eq0-clause-looks : goal.returns-then-files-slot-eq0-clause-looks
-returns-then-files-slot-eq0-clause-looks g c =
+pub returns-then-files-slot-eq0-clause-alters : goal.returns-then-files-slot-eq0-clause-alters
+returns-then-files-slot-eq0-clause-alters g c =
     let old = g.B.Blocks.shown c.args.blocks.now in
-    looks_done g.B.Blocks.told (standing (under old) c.args.self.now.tree) old (g.B.Blocks.shown c.read_files.new.blocks) c.in_ok-files.files _ c.in_ok-files.ensures.looks
+    let new = g.B.Blocks.shown c.read_files.new.blocks in
+    alters_none g.B.Blocks.told c.args.self.now.tree old new _ (looks_done g.B.Blocks.told (standing (under old) c.args.self.now.tree) old new c.in_ok-files.files _ c.in_ok-files.ensures.looks)

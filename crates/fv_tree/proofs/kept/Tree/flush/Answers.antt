@@ -1,4 +1,5 @@
-use Rattle.std.proofs.Common.{◌≡◌, ℕ, ap, subst, ◌∙◌}
+use Rattle.std.proofs.Common.{◌≡◌, ℕ, ap, subst, ◌∙◌, arith}
+use Rattle.std.proofs.lemmas.Result.{err_from_is_err_and}
 use Rattle.std.specs.BTreeMap as maps
 use Rattle.fv_tree.specs.Spelled.{stored}
 use Rattle.fv_tree.specs.Sources.{Shown}
@@ -7,6 +8,7 @@ use Rattle.fv_tree.specs.Flushing.{loaded, ReachesOnce}
 use Rattle.fv_tree.specs.declared.kept.KeptCell.{KeptCell}
 use Rattle.fv_tree.proofs.Flushes.{flushes_then}
 use Rattle.fv_tree.proofs.Gone.{is_memory}
+use Rattle.fv_tree.proofs.Differing.{fits_then, none_pending}
 use Rattle.fv_tree.proofs.Whole.{is_stored, reaches}
 use Rattle.fv_tree.proofs.kept.Tree.flush.Goals as goal
 
@@ -42,3 +44,25 @@ returns-in_err-flush_nodes-clause-strays g c = λ told stands. let cells = c.in_
 
 pub returns-clause-strays : goal.returns-clause-strays
 returns-clause-strays g c = λ told stands. let cells = c.in_ok-flush_cells.ensures in c.in_ok-flush_nodes.ensures.strays told (cells.flushes told stands).sound ∙ cells.strays told stands
+
+pub returns-in_err-flush_nodes-clause-fits : goal.returns-in_err-flush_nodes-clause-fits
+returns-in_err-flush_nodes-clause-fits g c = λ told stands.
+    let cells = c.in_ok-flush_cells.ensures in
+    fits_then (g.B.Blocks.shown c.args.blocks.now) (g.B.Blocks.shown c.flush_cells.new.blocks) (g.B.Blocks.shown c.flush_nodes.new.blocks) c.args.self.now c.flush_cells.new.tree c.flush_nodes.new.tree (cells.fits told stands) (c.in_err-flush_nodes.ensures.fits told (cells.flushes told stands).sound)
+
+pub returns-in_err-flush_nodes-clause-enough : goal.returns-in_err-flush_nodes-clause-enough
+returns-in_err-flush_nodes-clause-enough g c = λ told stands le.
+    let cells = c.in_ok-flush_cells.ensures in
+    let fits = cells.fits told stands in
+    let p = err_from_is_err_and c.from_residual-in_err-flush_nodes.result c.from_residual-in_err-flush_nodes.ensures.1 in
+    rw (p.1, p.2) (c.in_err-flush_nodes.ensures.enough told (cells.flushes told stands).sound (omega (arith, le, fits.room)))
+
+pub returns-clause-fits : goal.returns-clause-fits
+returns-clause-fits g c = λ told stands.
+    let cells = c.in_ok-flush_cells.ensures in
+    fits_then (g.B.Blocks.shown c.args.blocks.now) (g.B.Blocks.shown c.flush_cells.new.blocks) (g.B.Blocks.shown c.flush_nodes.new.blocks) c.args.self.now c.flush_cells.new.tree c.flush_nodes.new.tree (cells.fits told stands) (c.in_ok-flush_nodes.ensures.fits told (cells.flushes told stands).sound)
+
+pub returns-clause-pending : goal.returns-clause-pending
+returns-clause-pending g c =
+    let nodes = c.in_ok-flush_nodes.ensures in
+    none_pending c.flush_nodes.new.tree nodes.none (ap (λ (m : maps.BTreeMap ℕ KeptCell). maps.btree_map_len m) nodes.cells ∙ c.in_ok-flush_cells.ensures.none)

@@ -10,3 +10,9 @@ returns-clause-written g c = λ told.
 pub returns-clause-failed : goal.returns-clause-failed
 returns-clause-failed g c = λ told.
     remains_at_err c.write_cell.result (standing (under (g.B.Blocks.shown c.args.blocks.now)) c.args.self.now) (standing (under (g.B.Blocks.shown c.write_cell.new.blocks)) c.write_cell.new.tree) (c.write_cell.ensures.failed told)
+
+pub returns-clause-leads : goal.returns-clause-leads
+returns-clause-leads g c = λ told. (c.write_cell.ensures.carries told).leads
+
+pub returns-clause-keeps : goal.returns-clause-keeps
+returns-clause-keeps g c = λ told. (c.write_cell.ensures.carries told).keeps

@@ -1,0 +1,153 @@
+-- Tables that stand on their blocks, where one tree changed: each other tree stands as before, and all lie apart.
+use Rattle.std.proofs.Common.{◌≡◌, ◌≢◌, ◌⊎◌, inl, inr, ℕ, refl, sym, ap, subst, ◌∙◌, ⊎_elim}
+use Rattle.std.specs.Prelude.{Option, Some, None}
+use Rattle.std.specs.Option.{option_map}
+use Rattle.std.proofs.lemmas.Bool.{cases_eq}
+use Rattle.fv_codec.specs.declared.inode.InodeRecord.{InodeRecord}
+use Rattle.fv_tables.specs.Spelled.{Under, Rooted, pointer_at}
+use Rattle.fv_tables.specs.Told.{file_at}
+use Rattle.fv_tables.specs.Kept.{over}
+use Rattle.fv_tree.specs.declared.kept.Tree.{Tree}
+use Rattle.fv_tree.specs.Sources.{Shown, Use}
+use Rattle.fv_tree.specs.Standing.{standing, under}
+use Rattle.fv_tree.specs.Writing.{IsAlike}
+use Rattle.fv_tree.specs.Flushing.{Loaded, IsSound, loaded_over}
+use Rattle.fv_tree.specs.Beside.{IsLaid, loaded_on, unread, LeadsTo, Spares}
+use Rattle.fv_tree.proofs.Beside.{tree_laid, unread_laid, unread_sound, other_alike, other_leads, other_sound, still_apart}
+use Rattle.fv_tree.proofs.Whole.{hole_reaches}
+use Rattle.fv_tree.proofs.Writes.{none_at}
+use Rattle.fv_files.specs.declared.files.Files.{Files}
+use Rattle.fv_files.specs.Apart.{Trees, LeadsIn, LeadsFrom, StandsIn, AreApart}
+use Rattle.fv_files.specs.Tables.{tree_in, file_loaded, loaded_trees}
+
+-- ---- numbers of trees
+
+some_or : ℕ → Option ℕ → ℕ
+some_or d None = d
+some_or d (Some n) = n
+
+pub some_differ : (n k : ℕ) → n ≢ k → Some n ≢ Some k
+unfolding some_or
+some_differ n k differs e = differs (ap (some_or 0) e)
+
+pub same_or : (a b : Option ℕ) → (a ≡ b) ⊎ (a ≢ b)
+unfolding some_or
+same_or None None = inl refl
+same_or None (Some n) = inr (λ e. cc)
+same_or (Some n) None = inr (λ e. cc)
+same_or (Some n) (Some k) = ⊎_elim (λ (same : n ≡ k). inl (ap (λ m. Some m) same)) (λ (differs : n ≢ k). inr (some_differ n k differs)) (cases_eq n k)
+
+-- ---- trees over blocks
+
+-- what isn't in memory of a tree stands in its blocks
+abbrev pub IsLaidIn : Under → Option Loaded → Type 0
+IsLaidIn blocks None = Unit {0}
+IsLaidIn blocks (Some s) = (s.tree.under ≡ blocks) × IsLaid s
+
+-- a tree without a cell, of which nothing is in memory
+abbrev pub IsBare : Option Loaded → Type 0
+IsBare None = Unit {0}
+IsBare (Some s) = (t : Rooted) × (s ≡ unread t) × (t.root.stamp ≡ 0) × ((level place : ℕ) → t.nodes level place ≡ None)
+
+bare_leads : (o : Option Loaded) → IsBare o → (v : ℕ) → LeadsIn o v → ⊥
+bare_leads None bare v led = led
+bare_leads (Some s) bare v led = none (subst (λ (q : Loaded). LeadsTo q v) bare.1 led)
+  where
+    none : LeadsTo (unread bare.0) v → ⊥
+    none led = led.leads.some (none_at bare.0 bare.2 led.level led.place)
+
+bare_stands : (used : ℕ → Option Use) (o : Option Loaded) → IsBare o → StandsIn used o
+bare_stands used None bare = tt
+bare_stands used (Some s) bare = subst (λ (q : Loaded). IsSound used q) (sym bare.1) (unread_sound used bare.0 bare.3 (hole_reaches used bare.0 bare.2))
+
+-- the same tree over other blocks, or a bare one
+abbrev pub IsOther : Under → Option Loaded → Option Loaded → Type 0
+IsOther blocks o p = (p ≡ option_map (loaded_on blocks) o) ⊎ IsBare p
+
+-- a tree of which nothing is in memory leads where its blocks do
+pub unread_leads : (blocks : Under) (t : Tree) (s : Rooted) → standing blocks t ≡ s → (v : ℕ) → LeadsTo (loaded_over blocks t) v → LeadsTo (unread s) v
+unread_leads blocks t s is v led = record {
+  level = led.level;
+  place = led.place;
+  leads = record {
+    some = subst (λ (s : Rooted). (pointer_at s led.level led.place).stamp ≢ 0) is led.leads.some;
+    placed = refl;
+    vvbn = subst (λ (s : Rooted). (pointer_at s led.level led.place).vvbn ≡ v) is led.leads.vvbn;
+  };
+}
+
+pub trees_laid : (blocks : Under) (f : Files) (a : Option ℕ) → IsLaidIn blocks (loaded_trees blocks f a)
+trees_laid blocks f None = (refl, tree_laid blocks f.inode.tree)
+trees_laid blocks f (Some n) = at (file_at (standing blocks f.inode.tree) n) (tree_in f n)
+  where
+    at : (r : Option InodeRecord) (o : Option Tree) → IsLaidIn blocks (option_map (λ r. file_loaded blocks n r o) r)
+    at None o = tt
+    at (Some r) None = (refl, unread_laid _)
+    at (Some r) (Some t) = (refl, tree_laid blocks t)
+
+-- ---- one tree changed
+
+-- of more VVBNs before, and of fewer afterwards
+pub spares_as : (old new : Shown) (before after more fewer : ℕ → Type 0) → Spares old new before after → ((v : ℕ) → before v → more v) → ((v : ℕ) → fewer v → after v) → Spares old new more fewer
+spares_as old new before after more fewer spares wider narrower = record {
+  stays = λ v there not_. spares.stays v there (λ was. not_ (wider v was));
+  leads = λ v led not_. spares.leads v (narrower v led) (λ was. not_ (wider v was));
+}
+
+module _ (old new : Shown) (x y : Trees) (a : Option ℕ) (laid : (b : Option ℕ) → IsLaidIn (under old) (x b)) (stands : (b : Option ℕ) → StandsIn old.used (x b)) (apart : AreApart x)
+    (spares : Spares old new (LeadsFrom x a) (LeadsFrom y a)) where
+  -- what is said of another tree over the blocks of before, where there is one
+  other_in : (b : Option ℕ) → b ≢ a → (o : Option Loaded) → x b ≡ o → IsLaidIn (under old) o × StandsIn old.used o × ((v : ℕ) → LeadsFrom x a v → LeadsIn o v → ⊥)
+  other_in b differs o is = (
+    subst (IsLaidIn (under old)) is (laid b),
+    subst (StandsIn old.used) is (stands b),
+    (λ v one other. apart a b v (λ e. differs (sym e)) one (subst (λ o. LeadsIn o v) (sym is) other)),
+  )
+
+  moved_stands : (b : Option ℕ) → b ≢ a → (o : Option Loaded) → x b ≡ o → StandsIn new.used (option_map (loaded_on (under new)) o)
+  moved_stands b differs None is = tt
+  moved_stands b differs (Some r) is = let h = other_in b differs (Some r) is in other_sound old new (LeadsFrom x a) (LeadsFrom y a) r spares h.0.0 h.0.1 h.1 h.2
+
+  moved_leads : (b : Option ℕ) → b ≢ a → (o : Option Loaded) → x b ≡ o → (v : ℕ) → LeadsIn (option_map (loaded_on (under new)) o) v → LeadsIn o v
+  moved_leads b differs None is v led = led
+  moved_leads b differs (Some r) is v led = let h = other_in b differs (Some r) is in other_leads old new (LeadsFrom x a) (LeadsFrom y a) r spares h.0.0 h.0.1 h.1 h.2 v led
+
+  moved_apart : (b : Option ℕ) → b ≢ a → (o : Option Loaded) → x b ≡ o → (v : ℕ) → LeadsFrom y a v → LeadsIn (option_map (loaded_on (under new)) o) v → ⊥
+  moved_apart b differs None is v one led = led
+  moved_apart b differs (Some r) is v one led = let h = other_in b differs (Some r) is in still_apart old new (LeadsFrom x a) (LeadsFrom y a) r spares h.0.0 h.0.1 h.1 h.2 v one led
+
+  -- Another tree is seen as before.
+  pub other_tree : (b : Option ℕ) → b ≢ a → (r : Loaded) → x b ≡ Some r → IsAlike r.tree (over (under new) r.tree)
+  other_tree b differs r is = let h = other_in b differs (Some r) is in other_alike old new (LeadsFrom x a) (LeadsFrom y a) r spares h.0.0 h.0.1 h.1 h.2
+
+  module _ (others : (b : Option ℕ) → b ≢ a → IsOther (under new) (x b) (y b)) where
+    pub stand_still : StandsIn new.used (y a) → (b : Option ℕ) → StandsIn new.used (y b)
+    stand_still own b = ⊎_elim
+        (λ (same : b ≡ a). subst (λ c. StandsIn new.used (y c)) (sym same) own)
+        (λ (differs : b ≢ a). ⊎_elim
+        (λ is. subst (StandsIn new.used) (sym is) (moved_stands b differs (x b) refl))
+        (λ bare. bare_stands new.used (y b) bare)
+        (others b differs))
+        (same_or b a)
+
+    -- another tree led there before
+    led_before : (b : Option ℕ) → b ≢ a → (v : ℕ) → LeadsFrom y b v → LeadsFrom x b v
+    led_before b differs v led = ⊎_elim
+        (λ is. moved_leads b differs (x b) refl v (subst (λ o. LeadsIn o v) is led))
+        (λ bare. absurd (bare_leads (y b) bare v led))
+        (others b differs)
+
+    not_both : (b : Option ℕ) → b ≢ a → (v : ℕ) → LeadsFrom y a v → LeadsFrom y b v → ⊥
+    not_both b differs v one led = ⊎_elim
+        (λ is. moved_apart b differs (x b) refl v one (subst (λ o. LeadsIn o v) is led))
+        (λ bare. bare_leads (y b) bare v led)
+        (others b differs)
+
+    pub lie_apart : AreApart y
+    lie_apart b c v differs one other = ⊎_elim
+        (λ (same : b ≡ a). not_both c (λ e. differs (same ∙ sym e)) v (subst (λ d. LeadsFrom y d v) same one) other)
+        (λ (unlike : b ≢ a). ⊎_elim
+        (λ (same : c ≡ a). not_both b unlike v (subst (λ d. LeadsFrom y d v) same other) one)
+        (λ (too : c ≢ a). apart b c v differs (led_before b unlike v one) (led_before c too v other))
+        (same_or c a))
+        (same_or b a)

@@ -1,0 +1,164 @@
+-- A table of which the tree of one file in memory changed, and then its record.
+use Rattle.std.proofs.Common.{◌≡◌, ◌≢◌, ℕ, true, false, cond, nat_eq, inl, refl, sym, ap, subst, ◌∙◌, arith}
+use Rattle.std.specs.Prelude.{Option, Some, None, is_some}
+use Rattle.std.specs.Option.{option_map}
+use Rattle.std.specs.BTreeMap as maps
+use Rattle.std.specs.FinMap as fin
+use Rattle.std.proofs.lemmas.Bool.Decides.{nat_tests}
+use Rattle.fv_codec.specs.declared.inode.InodeRecord.{InodeRecord}
+use Rattle.fv_tables.specs.Spelled.{Under, stored}
+use Rattle.fv_tables.specs.Told.{AreTold, file_at, tree_or, tree_of}
+use Rattle.fv_tables.proofs.Tables.{placed_table}
+use Rattle.fv_tree.specs.declared.kept.Tree.{Tree}
+use Rattle.fv_tree.specs.Sources.{Shown, Use}
+use Rattle.fv_tree.specs.Standing.{standing, under}
+use Rattle.fv_tree.specs.Writing.{IsAlike, Remains}
+use Rattle.fv_tree.specs.Flushing.{IsSound, loaded, loaded_over, Stands}
+use Rattle.fv_tree.specs.Leading.{LeadsNoMore}
+use Rattle.fv_tree.specs.Beside.{loaded_on, LeadsTo, Spares}
+use Rattle.fv_tree.proofs.Beside.{loading_spares}
+use Rattle.fv_inode.specs.declared.file.InodeFile.{InodeFile}
+use Rattle.fv_inode.specs.Files.{rooted}
+use Rattle.fv_inode.specs.Changing.{Rewrites}
+use Rattle.fv_inode.proofs.Alike.{alike_itself}
+use Rattle.fv_inode.proofs.Placed.{KeepsOthers, keeps_others}
+use Rattle.fv_files.specs.declared.files.Files.{Files}
+use Rattle.fv_files.specs.Apart.{LeadsIn, LeadsFrom, StandsIn}
+use Rattle.fv_files.specs.Tables.{table_in, tree_in, file_loaded, loaded_trees, AreStanding, IsTold}
+use Rattle.fv_files.specs.Calls.{Becomes}
+use Rattle.fv_files.proofs.Looked.{Held}
+use Rattle.fv_files.proofs.Tables.{alike, some_same, placed_alike}
+use Rattle.fv_files.proofs.Beside.{IsOther, spares_as}
+use Rattle.fv_files.proofs.Kept.{own_tree_is, inode_alike, files_same, others_told, file_stands, inode_stands}
+
+-- a table with other trees, or with another inode file
+abbrev pub with_trees : Files → maps.BTreeMap ℕ Tree → Files
+with_trees f m = record { inode = f.inode; trees = m; alloc = f.alloc }
+
+abbrev pub with_inode : Files → InodeFile → Files
+with_inode f i = record { inode = i; trees = f.trees; alloc = f.alloc }
+
+pub record HasRecord (o : Option InodeRecord) : Type 0 where
+  pub file : InodeRecord
+  pub is : o ≡ Some file
+
+pub has_record : (o : Option InodeRecord) → is_some o ≡ true → HasRecord o
+has_record None e = absurd (grind (arith, e))
+has_record (Some r) e = record { file = r; is = refl }
+
+-- ---- the tree of a file that is in memory
+
+-- it is that of the table, where there is a record
+kept_tree_is : (blocks : Under) (f : Files) (n : ℕ) (t : Tree) (r : InodeRecord) → tree_in f n ≡ Some t → file_at (standing blocks f.inode.tree) n ≡ Some r → loaded_trees blocks f (Some n) ≡ Some (loaded_over blocks t)
+kept_tree_is blocks f n t r is at = own_tree_is blocks f n r at ∙ ap (λ o. Some (file_loaded blocks n r o)) is
+
+-- the table leads with it nowhere else
+kept_leads : (blocks : Under) (f : Files) (n : ℕ) (t : Tree) → tree_in f n ≡ Some t → (v : ℕ) → LeadsFrom (loaded_trees blocks f) (Some n) v → LeadsTo (loaded_over blocks t) v
+kept_leads blocks f n t is v led = at (file_at (standing blocks f.inode.tree) n) (subst (λ o. LeadsIn (option_map (λ r. file_loaded blocks n r o) (file_at (standing blocks f.inode.tree) n)) v) is led)
+  where
+    at : (o : Option InodeRecord) → LeadsIn (option_map (λ r. file_loaded blocks n r (Some t)) o) v → LeadsTo (loaded_over blocks t) v
+    at None led = absurd led
+    at (Some r) led = led
+
+-- and stands on its blocks
+pub owned_stands : (source : Shown) (f : Files) (n : ℕ) (t : Tree) → tree_in f n ≡ Some t → AreStanding source f → Stands source t
+owned_stands source f n t is sound =
+    let there = has_record (file_at (rooted source f.inode) n) (sound.owners n t is).1 in
+    subst (StandsIn source.used) (kept_tree_is (under source) f n t there.file is there.is) (sound.trees (Some n))
+
+module _ (old new : Shown) (f : Files) (m : maps.BTreeMap ℕ Tree) (n : ℕ) (t u : Tree) (becomes : Becomes f.trees m n t u) where
+  abbrev g : Files
+  g = with_trees f m
+
+  told_by : (blocks : Under) (h : Files) (w : Tree) (r : InodeRecord) → tree_in h n ≡ Some w → tree_or (option_map (standing blocks) (tree_in h n)) (stored blocks n r.levels r.root) ≡ standing blocks w
+  told_by blocks h w r is = ap (λ o. tree_or (option_map (standing blocks) o) (stored blocks n r.levels r.root)) is
+
+  -- it is seen as before
+  pub own_told : IsAlike (standing (under old) t) (standing (under new) u) → (r : InodeRecord) → AreTold (tree_of (table_in old f) n r) (tree_of (table_in new g) n r)
+  own_told same r = subst (λ a. AreTold a (tree_of (table_in new g) n r)) (sym (told_by (under old) f t r becomes.was))
+      (subst (AreTold (standing (under old) t)) (sym (told_by (under new) g u r becomes.now)) (record { levels = same.levels; stamps = same.stamps; blocks = same.blocks }))
+
+  -- A call of it that failed left the map, and the table is told as before.
+  pub failed_told : new.held ≡ old.held → Remains (standing (under old) t) (standing (under new) u) → IsTold old f new g
+  failed_told held remains =
+      placed_table (table_in old f) (table_in new g) (placed_alike (table_in old f) (table_in new g) n
+      same_inode
+      (keeps_others (table_in old f) (table_in new g) n (λ j v. fin.get (held j) v) (λ k differs. trees_same k differs))
+      (λ r at. own_told (alike (standing (under old) t) (standing (under new) u) remains) r))
+    where
+      same_inode : IsAlike (rooted old f.inode) (rooted new f.inode)
+      same_inode = subst (λ (h : Held). IsAlike (rooted old f.inode) (standing (λ v. fin.get h v) f.inode.tree)) (sym held) (alike_itself (rooted old f.inode))
+
+      trees_same : (k : ℕ) → k ≢ n → option_map (standing (under new)) (tree_in g k) ≡ option_map (standing (under old)) (tree_in f k)
+      trees_same k differs = λ j. option_map (standing (λ v. fin.get (held j) v)) (becomes.others k differs j)
+
+  module _ (sound : AreStanding old f) (spares : Spares old new (LeadsTo (loaded old t)) (LeadsTo (loaded new u))) where
+    owned : (t.owner ≡ n) × (is_some (file_at (rooted old f.inode) n) ≡ true)
+    owned = sound.owners n t becomes.was
+
+    was_there : HasRecord (file_at (rooted old f.inode) n)
+    was_there = has_record (file_at (rooted old f.inode) n) owned.1
+
+    was_tree : loaded_trees (under old) f (Some n) ≡ Some (loaded old t)
+    was_tree = kept_tree_is (under old) f n t was_there.file becomes.was was_there.is
+
+    own_spares : Spares old new (LeadsFrom (loaded_trees (under old) f) (Some n)) (LeadsFrom (loaded_trees (under new) g) (Some n))
+    own_spares = spares_as old new (LeadsTo (loaded old t)) (LeadsTo (loaded new u)) (LeadsFrom (loaded_trees (under old) f) (Some n)) (LeadsFrom (loaded_trees (under new) g) (Some n)) spares
+        (λ v led. subst (λ o. LeadsIn o v) (sym was_tree) led) (kept_leads (under new) g n u becomes.now)
+
+    -- The inode file is seen as before, and the other files are told as before.
+    pub kept_inode : IsAlike (rooted old f.inode) (rooted new f.inode)
+    kept_inode = inode_alike old new f g n refl becomes.others sound own_spares
+
+    pub kept_others : KeepsOthers (table_in old f) (table_in new g) n
+    kept_others = others_told old new f g n refl becomes.others sound own_spares
+
+    pub kept_stands : u.owner ≡ t.owner → Stands new u → AreStanding new g
+    kept_stands owner stands =
+        let same = files_same old new f g n refl becomes.others sound own_spares in
+        file_stands old new f g n refl becomes.others sound own_spares
+        (subst (StandsIn new.used) (sym (kept_tree_is (under new) g n u was_there.file becomes.now (same n ∙ was_there.is))) stands)
+        (λ w at. (ap (λ (x : Tree). x.owner) (some_same w u (sym at ∙ becomes.now)) ∙ owner ∙ owned.0, owned.1))
+
+-- ---- the record of a file of which the tree is in memory
+
+module _ (source : Shown) (f : Files) (i : InodeFile) (n s : ℕ) (u : Tree) (kept : tree_in f n ≡ Some u) (change : InodeRecord → InodeRecord)
+    (files : (k : ℕ) → file_at (rooted source i) k ≡ cond (nat_eq k n) (option_map change (file_at (rooted source f.inode) n)) (file_at (rooted source f.inode) k)) where
+  abbrev h : Files
+  h = with_inode f i
+
+  pub other_records : (k : ℕ) → k ≢ n → file_at (rooted source i) k ≡ file_at (rooted source f.inode) k
+  other_records k differs = files k ∙ (let test : nat_eq k n ≡ false = grind (arith, nat_tests, differs) in ap (λ b. cond b (option_map change (file_at (rooted source f.inode) n)) (file_at (rooted source f.inode) k)) test)
+
+  pub own_record : file_at (rooted source i) n ≡ option_map change (file_at (rooted source f.inode) n)
+  own_record = files n ∙ (let test : nat_eq n n ≡ true = grind (arith, nat_tests) in ap (λ b. cond b (option_map change (file_at (rooted source f.inode) n)) (file_at (rooted source f.inode) n)) test)
+
+  still : (o : Option InodeRecord) → option_map (λ r. file_loaded (under source) n r (Some u)) (option_map change o) ≡ option_map (loaded_on (under source)) (option_map (λ r. file_loaded (under source) n r (Some u)) o)
+  still None = refl
+  still (Some r) = refl
+
+  own_same : IsOther (under source) (loaded_trees (under source) f (Some n)) (loaded_trees (under source) h (Some n))
+  own_same = subst (λ o. IsOther (under source) (option_map (λ r. file_loaded (under source) n r o) (file_at (rooted source f.inode) n)) (option_map (λ r. file_loaded (under source) n r o) (file_at (rooted source i) n))) (sym kept)
+      (inl (ap (option_map (λ r. file_loaded (under source) n r (Some u))) own_record ∙ still (file_at (rooted source f.inode) n)))
+
+  is_there : (o : Option InodeRecord) → is_some o ≡ true → is_some (option_map change o) ≡ true
+  is_there None e = e
+  is_there (Some r) e = refl
+
+  -- All trees stand on their blocks.
+  pub record_stands : i.tree.owner ≡ f.inode.tree.owner → Stands source i.tree → LeadsNoMore (loaded source f.inode.tree) (loaded source i.tree) → AreStanding source f → AreStanding source h
+  record_stands owner stands no_more sound =
+      inode_stands source source f h n (λ k differs. refl) other_records sound
+      (loading_spares source source (LeadsTo (loaded source f.inode.tree)) (LeadsTo (loaded source i.tree)) refl refl (λ v led. record { level = led.level; place = led.place; leads = no_more led.level led.place v led.leads }))
+      own_same owner stands
+      (λ t at. let own = sound.owners n t at in (own.0, ap is_some own_record ∙ is_there (file_at (rooted source f.inode) n) own.1))
+
+-- ---- both, one after the other
+
+module _ (old new : Shown) (f : Files) (m : maps.BTreeMap ℕ Tree) (n : ℕ) (t u : Tree) (becomes : Becomes f.trees m n t u) (i : InodeFile) (s : ℕ) (change : InodeRecord → InodeRecord)
+    (rewrites : (blocks : Under) → Rewrites (standing blocks f.inode.tree) (standing blocks i.tree) n s (option_map change (file_at (standing blocks f.inode.tree) n))) (owner : i.tree.owner ≡ f.inode.tree.owner)
+    (sound_i : (blocks : Under) (used : ℕ → Option Use) → IsSound used (loaded_over blocks f.inode.tree) → IsSound used (loaded_over blocks i.tree)) (leads : (blocks : Under) → LeadsNoMore (loaded_over blocks f.inode.tree) (loaded_over blocks i.tree)) where
+  pub both_stand : AreStanding old f → Spares old new (LeadsTo (loaded old t)) (LeadsTo (loaded new u)) → u.owner ≡ t.owner → Stands new u → AreStanding new (record { inode = i; trees = m; alloc = f.alloc })
+  both_stand sound spares same stands =
+      let kept = kept_stands old new f m n t u becomes sound spares same stands in
+      record_stands new (with_trees f m) i n s u becomes.now change (rewrites (under new)).files owner (sound_i (under new) new.used (kept.trees None)) (leads (under new)) kept

@@ -1,0 +1,135 @@
+-- The end of a table's flush: the inode file is placed, and nothing is in memory.
+use Rattle.std.proofs.Common.{◌≡◌, ◌≢◌, ℕ, inl, Ok, Err, Result, refl, sym, ap, subst, ◌∙◌}
+use Rattle.std.specs.Prelude.{Option, Some, None, is_some, IfOk, IfErr, OnOk}
+use Rattle.std.specs.Option.{option_map}
+use Rattle.std.specs.BTreeMap as maps
+use Rattle.std.proofs.lemmas.Result.{IfErr-weaker}
+use Rattle.fv_disk.specs.declared.fault.BlockFault.{BlockFault}
+use Rattle.fv_codec.specs.declared.pointer.Pointer.{Pointer}
+use Rattle.fv_codec.specs.declared.inode.InodeRecord.{InodeRecord}
+use Rattle.fv_codec.specs.Blocks.{IsPointer, greatest_word}
+use Rattle.fv_tables.specs.Spelled.{Under, Rooted, stored}
+use Rattle.fv_tables.specs.Told.{file_at, standing_at}
+use Rattle.fv_tables.specs.Kept.{IsPlacedTable}
+use Rattle.fv_tree.specs.declared.kept.Tree.{Tree}
+use Rattle.fv_tree.specs.Sources.{Shown, Counts, HasCause}
+use Rattle.fv_tree.specs.Standing.{standing, under}
+use Rattle.fv_tree.specs.Flushing.{Flushes, IsLeft, ReachesOnce, Stands, loaded, loaded_over}
+use Rattle.fv_tree.specs.Beside.{unread, LeadsTo}
+use Rattle.fv_tree.proofs.Beside.{unread_reaches}
+use Rattle.fv_inode.specs.declared.file.InodeFile.{InodeFile}
+use Rattle.fv_inode.specs.Files.{rooted}
+use Rattle.fv_inode.proofs.Slots.{alike_files}
+use Rattle.fv_files.specs.declared.files.Files.{Files}
+use Rattle.fv_files.specs.Apart.{LeadsIn, LeadsFrom, StandsIn, stored_trees}
+use Rattle.fv_files.specs.Tables.{table_in, tree_in, file_loaded, loaded_trees, AreReached, AreStanding}
+use Rattle.fv_files.specs.Flushing.{FlushesTable, LaysTrees}
+use Rattle.fv_files.proofs.Tables.{placed_alike}
+use Rattle.fv_files.proofs.Kept.{same_trees, records_told, inode_stands}
+use Rattle.fv_files.proofs.Changed.{with_inode}
+use Rattle.fv_files.proofs.Laid.{flushed_spares, lays_then, reread_leads}
+use Rattle.fv_files.proofs.Whole.{no_trees}
+
+-- what the flush of an inode file answers and does
+pub record Places (told : Type 0) (old new : Shown) (i j : InodeFile) (r : Result Pointer BlockFault) : Type 0 where
+  pub flushes : told → Stands old i.tree → Flushes (loaded old i.tree) old.used (loaded new j.tree) new.used
+  pub strays : told → Stands old i.tree → new.strays ≡ old.strays
+  pub left : IsLeft i.tree j.tree
+  pub root : IfOk r (λ root. root ≡ j.tree.root)
+  pub pointer : IfOk r IsPointer
+  pub spelled : IfOk r (λ root. rooted new j ≡ stored (under new) i.tree.owner i.tree.levels root)
+  pub reaches : told → IfOk r (λ root. Stands old i.tree → ReachesOnce new.used (stored (under new) i.tree.owner i.tree.levels root))
+  pub counts : Counts old new r
+  pub cause : IfErr r (HasCause old new)
+
+module _ (told : Type 0) (old new : Shown) (f : Files) (i : InodeFile) (r : Result Pointer BlockFault) (is : Places told old new f.inode i r) where
+  abbrev h : Files
+  h = with_inode f i
+
+  module _ (tells : told) (sound : AreStanding old f) where
+    files : (k : ℕ) → file_at (rooted new i) k ≡ file_at (rooted old f.inode) k
+    files = alike_files (rooted old f.inode) (rooted new i) (is.flushes tells (sound.trees None)).alike
+
+    last_placed : IsPlacedTable (table_in old f) (table_in new h)
+    last_placed = placed_alike (table_in old f) (table_in new h) 0 (is.flushes tells (sound.trees None)).alike
+        (records_told old new f h 0 (λ k differs. refl) (λ k differs. files k) sound (flushed_spares old new f.inode.tree i.tree (sound.trees None) (is.flushes tells (sound.trees None))))
+        (records_told old new f h 1 (λ k differs. refl) (λ k differs. files k) sound (flushed_spares old new f.inode.tree i.tree (sound.trees None) (is.flushes tells (sound.trees None))) 0 (λ e. cc))
+
+    pub last_stands : AreStanding new h
+    last_stands = inode_stands old new f h 0 (λ k differs. refl) (λ k differs. files k) sound (flushed_spares old new f.inode.tree i.tree (sound.trees None) (is.flushes tells (sound.trees None)))
+        (same_trees (under old) (under new) f h 0 refl (files 0)) is.left.owner (is.flushes tells (sound.trees None)).sound
+        (λ t at. let own = sound.owners 0 t at in (own.0, ap is_some (files 0) ∙ own.1))
+
+  pub last_lays : LaysTrees told old new f h r
+  last_lays = record {
+    placed = last_placed;
+    stands = last_stands;
+    strays = λ tells sound. is.strays tells (sound.trees None);
+    counts = is.counts;
+    cause = IfErr-weaker r _ _ (λ e cause. inl cause) is.cause;
+  }
+
+-- ---- at Ok
+
+module _ (told : Type 0) (old new : Shown) (f : Files) (i : InodeFile) (root : Pointer) (is : Places told old new f.inode i (Ok root)) (empty : maps.btree_map_len f.trees ≡ 0) (tells : told) (sound : AreStanding old f) where
+  abbrev g : Files
+  g = with_inode f i
+
+  none : (n : ℕ) → tree_in g n ≡ None
+  none = no_trees g empty
+
+  spelled : rooted new i ≡ stored (under new) greatest_word i.tree.levels root
+  spelled = is.spelled ∙ (λ j. stored (under new) (sound.owner j) (sym is.left.levels j) root)
+
+  pub ends_stored : table_in new g ≡ standing_at (under new) i.tree.levels root
+  ends_stored = λ j. record { inode = spelled j; trees = λ n. option_map (standing (under new)) (none n j) }
+
+  now : AreStanding new g
+  now = last_stands told old new f i (Ok root) is tells sound
+
+  file_is : (n : ℕ) → loaded_trees (under new) g (Some n) ≡ stored_trees (under new) i.tree.levels root (Some n)
+  file_is n = λ j. option_map (λ r. file_loaded (under new) n r (none n j)) (file_at (spelled j) n)
+
+  led : (a : Option ℕ) (v : ℕ) → LeadsFrom (stored_trees (under new) i.tree.levels root) a v → LeadsFrom (loaded_trees (under new) g) a v
+  led None v leads = reread_leads (under new) i.tree greatest_word i.tree.levels root spelled v leads
+  led (Some n) v leads = subst (λ o. LeadsIn o v) (sym (file_is n)) leads
+
+  pub ends_reached : AreReached (under new) new.used i.tree.levels root
+  ends_reached = record {
+    inode = subst (ReachesOnce new.used) (λ j. stored (under new) (sound.owner j) (sym is.left.levels j) root) (is.reaches tells (sound.trees None));
+    files = λ n r at. unread_reaches new.used (stored (under new) n r.levels r.root) (subst (StandsIn new.used) (file_is n ∙ ap (option_map (λ r. unread (stored (under new) n r.levels r.root))) at) (now.trees (Some n)));
+    apart = λ a b v differs one other. now.apart a b v differs (led a v one) (led b v other);
+  }
+
+-- ---- the whole flush
+
+at_ok : {P : Pointer → Type 0} (r : Result Pointer BlockFault) → ((root : Pointer) → r ≡ Ok root → P root) → IfOk r P
+at_ok (Ok root) so = so root refl
+at_ok (Err e) so = tt
+
+on_ok : {P : Type 0} (r : Result Pointer BlockFault) → P → OnOk r P
+on_ok (Ok root) p = p
+on_ok (Err e) p = tt
+
+pub flush_done : (told : Type 0) (old mid new : Shown) (f g : Files) (i : InodeFile) (r : Result Pointer BlockFault) → LaysTrees {T = Unit {0}} told old mid f g (Ok tt) → maps.btree_map_len g.trees ≡ 0 → Places told mid new g.inode i r → FlushesTable told old new f (with_inode g i) r
+flush_done told old mid new f g i r first empty is = record {
+  lays = lays_then told old mid new f g (with_inode g i) tt r first (last_lays told mid new g i r is);
+  root = is.root;
+  pointer = is.pointer;
+  none = on_ok r (no_trees (with_inode g i) empty);
+  levels = λ tells sound. is.left.levels ∙ (first.placed tells sound).levels;
+  stored = λ tells. at_ok r (λ root done sound. ends_stored told mid new g i root (subst (Places told mid new g.inode i) done is) empty tells (first.stands tells sound));
+  reached = λ tells. at_ok r (λ root done sound. ends_reached told mid new g i root (subst (Places told mid new g.inode i) done is) empty tells (first.stands tells sound));
+}
+
+-- no tree was placed any more
+pub flush_failed : (told : Type 0) (old new : Shown) (f g : Files) (e : BlockFault) → LaysTrees {T = Pointer} told old new f g (Err e) → FlushesTable told old new f g (Err e)
+flush_failed told old new f g e lays = record {
+  lays = lays;
+  root = tt;
+  pointer = tt;
+  none = tt;
+  levels = λ tells sound. (lays.placed tells sound).levels;
+  stored = λ tells. tt;
+  reached = λ tells. tt;
+}

@@ -1,0 +1,164 @@
+-- The flush of a table, step by step: a file's tree, the root of it, and last the inode file.
+use Rattle.std.proofs.Common.{◌≡◌, ◌≢◌, ℕ, Bool, true, false, cond, nat_eq, inl, Ok, Err, Result, refl, sym, ap, subst, ◌∙◌, arith}
+use Rattle.std.specs.Prelude.{Option, Some, None, List, length, [], ◌∷◌, is_some, IfErr}
+use Rattle.std.specs.Option.{option_map}
+use Rattle.std.specs.Ordering.{nat_cmp}
+use Rattle.std.specs.Map.{lookup}
+use Rattle.std.specs.BTreeMap as maps
+use Rattle.std.specs.FinMap as fin
+use Rattle.std.proofs.lemmas.Bool.Decides.{nat_tests}
+use Rattle.std.proofs.lemmas.Result.{IfErr-weaker}
+use Rattle.fv_disk.specs.declared.fault.BlockFault.{BlockFault}
+use Rattle.fv_codec.specs.declared.pointer.Pointer.{Pointer}
+use Rattle.fv_codec.specs.declared.inode.InodeRecord.{InodeRecord}
+use Rattle.fv_tables.specs.Spelled.{Under, Rooted, stored}
+use Rattle.fv_tables.specs.Told.{file_at}
+use Rattle.fv_tables.specs.Kept.{IsPlacedTable}
+use Rattle.fv_tree.specs.declared.kept.Tree.{Tree}
+use Rattle.fv_tree.specs.Sources.{Shown, Counts, HasCause, IsCalm, IsUntouched}
+use Rattle.fv_tree.specs.Standing.{standing, under}
+use Rattle.fv_tree.specs.Writing.{IsAlike}
+use Rattle.fv_tree.specs.Flushing.{ReachesOnce, Stands, loaded}
+use Rattle.fv_tree.proofs.Causes.{calm_itself, calm_then, counts_then}
+use Rattle.fv_inode.specs.declared.file.InodeFile.{InodeFile}
+use Rattle.fv_inode.specs.Files.{rooted, with_root}
+use Rattle.fv_inode.specs.Failing.{Alters}
+use Rattle.fv_inode.specs.Changing.{SetsRoot}
+use Rattle.fv_inode.specs.Readying.{IsReadyFile}
+use Rattle.fv_inode.proofs.Readied.{ready_there}
+use Rattle.fv_files.specs.declared.files.Files.{Files}
+use Rattle.fv_files.specs.Tables.{table_in, tree_in, AreStanding}
+use Rattle.fv_files.specs.Flushing.{FlushesKept, LaysTrees}
+use Rattle.fv_files.proofs.Looked.{Held, counts_done, counts_failed}
+use Rattle.fv_files.proofs.Tables.{placed_then}
+use Rattle.fv_files.proofs.Changed.{with_trees, with_inode, owned_stands, has_record}
+use Rattle.fv_files.proofs.Prepared.{readied_placed, readied_stands}
+use Rattle.fv_files.proofs.Laid.{HasRoot, kept_placed, kept_stood, root_placed, root_stands, gone_placed, gone_stands, lay_failed, cause_later}
+
+-- ---- the inode file holds more in memory, or a call of it failed
+
+module _ {T : Type 0} (told : Type 0) (old new : Shown) (f : Files) (i : InodeFile) (r : Result T BlockFault) (alters : Alters told old new f.inode.tree i.tree r) (alike : told → IsAlike (rooted old f.inode) (rooted new i)) where
+  abbrev h : Files
+  h = with_inode f i
+
+  pub ready_lays : LaysTrees told old new f h r
+  ready_lays = record {
+    placed = λ tells sound. readied_placed old new f h alters.looks.untouched (alike tells) (λ k. refl);
+    stands = λ tells sound. readied_stands old new f h alters.looks.untouched (alike tells) (λ k. refl) alters.owner (alters.stands tells) (alters.leads tells) sound;
+    strays = λ tells sound. alters.looks.untouched.strays;
+    counts = alters.looks.counts;
+    cause = IfErr-weaker r _ _ (λ e fails. lay_failed told old old new f f e (calm_itself old) (λ tells sound. placed_self) (inl fails)) alters.looks.cause;
+  }
+    where
+      placed_self : IsPlacedTable (table_in old f) (table_in old f)
+      placed_self = readied_placed old old f f (record { held = refl; used = refl; strays = refl; room = refl; cost = refl }) (record { levels = refl; stamps = λ level place. refl; blocks = λ index. refl }) (λ k. refl)
+
+-- nothing is done
+pub lays_self : (told : Type 0) (old : Shown) (f : Files) → LaysTrees {T = Unit {0}} told old old f f (Ok tt)
+lays_self told old f = record {
+  placed = λ tells sound. readied_placed old old f f (record { held = refl; used = refl; strays = refl; room = refl; cost = refl }) (record { levels = refl; stamps = λ level place. refl; blocks = λ index. refl }) (λ k. refl);
+  stands = λ tells sound. sound;
+  strays = λ tells sound. refl;
+  counts = record { faults = omega arith; damages = omega arith; spent = omega arith; calm = calm_itself old };
+  cause = tt;
+}
+
+-- under another answer
+pub lays_done : {S T : Type 0} (told : Type 0) (old new : Shown) (f g : Files) (x : S) (y : T) → LaysTrees told old new f g (Ok x) → LaysTrees told old new f g (Ok y)
+lays_done told old new f g x y is = record { placed = is.placed; stands = is.stands; strays = is.strays; counts = counts_done old new x y is.counts; cause = tt }
+
+pub lays_failed : {S T : Type 0} (told : Type 0) (old new : Shown) (f g : Files) (e : BlockFault) → LaysTrees {T = S} told old new f g (Err e) → LaysTrees {T = T} told old new f g (Err e)
+lays_failed {S} told old new f g e is = record { placed = is.placed; stands = is.stands; strays = is.strays; counts = counts_failed {S = S} old new (Err e) e is.counts; cause = is.cause }
+
+-- a table that stands on its blocks has a file for each tree in memory
+pub strayed : (old : Shown) (f : Files) (n : ℕ) → is_some (tree_in f n) ≡ true → AreStanding old f → is_some (file_at (rooted old f.inode) n) ≡ true
+strayed old f n there sound = at (tree_in f n) refl there
+  where
+    at : (o : Option Tree) → tree_in f n ≡ o → is_some o ≡ true → is_some (file_at (rooted old f.inode) n) ≡ true
+    at None is none = absurd (grind (arith, none))
+    at (Some t) is some = (sound.owners n t is).1
+
+-- so without one nothing is said of content
+pub lays_astray : (told : Type 0) (old new : Shown) (f g : Files) (x : Bool) → Counts {E = BlockFault} old new (Ok x) → (told → AreStanding old f → ⊥) → LaysTrees {T = Unit {0}} told old new f g (Ok tt)
+lays_astray told old new f g x counts never = record {
+  placed = λ tells sound. absurd (never tells sound);
+  stands = λ tells sound. absurd (never tells sound);
+  strays = λ tells sound. absurd (never tells sound);
+  counts = counts_done old new x tt counts;
+  cause = tt;
+}
+
+-- ---- a file's tree is placed
+
+module _ (told : Type 0) (old mid : Shown) (f : Files) (m : maps.BTreeMap ℕ Tree) (n : ℕ) (r : Result Pointer BlockFault) (kept : FlushesKept told old mid f.trees m n r) where
+  abbrev g : Files
+  g = with_trees f m
+
+  pub kept_lays : LaysTrees told old mid f g r
+  kept_lays = record {
+    placed = λ tells sound. let stood = owned_stands old f n kept.tree kept.becomes.was sound in kept_placed old mid f m n kept.tree kept.next kept.becomes sound stood (kept.flushes tells stood);
+    stands = λ tells sound. let stood = owned_stands old f n kept.tree kept.becomes.was sound in kept_stood old mid f m n kept.tree kept.next kept.becomes sound stood (kept.flushes tells stood) kept.left.owner;
+    strays = λ tells sound. kept.strays tells (owned_stands old f n kept.tree kept.becomes.was sound);
+    counts = kept.counts;
+    cause = IfErr-weaker r _ _ (λ e fails. inl fails) kept.cause;
+  }
+
+-- its root was laid, and it goes from memory
+module _ (told : Type 0) (old mid new : Shown) (f : Files) (m last : maps.BTreeMap ℕ Tree) (i : InodeFile) (n levels : ℕ) (root : Pointer) (kept : FlushesKept told old mid f.trees m n (Ok root)) (levels_is : (t : Tree) → maps.get nat_cmp f.trees n ≡ Some t → levels ≡ t.levels)
+    (ready : IsReadyFile f.inode n) (alters : Alters {T = Unit {0}} told mid new f.inode.tree i.tree (Ok tt)) (sets : told → SetsRoot (rooted mid f.inode) (rooted new i) n levels root) (gone : (k : ℕ) → maps.get nat_cmp last k ≡ cond (nat_eq k n) None (maps.get nat_cmp m k)) where
+  abbrev two : Files
+  two = with_trees f m
+
+  abbrev three : Files
+  three = with_inode two i
+
+  abbrev four : Files
+  four = with_trees three last
+
+  first : LaysTrees told old mid f two (Ok root)
+  first = kept_lays told old mid f m n (Ok root) kept
+
+  own : told → HasRoot (file_at (rooted new i) n) levels root
+  own tells =
+      let was = has_record (file_at (rooted mid f.inode) n) (ready_there (under mid) f.inode n ready) in
+      let test : nat_eq n n ≡ true = grind (arith, nat_tests) in record {
+        file = with_root levels root was.file;
+        is = (sets tells).files n ∙ ap (λ b. cond b (option_map (with_root levels root) (file_at (rooted mid f.inode) n)) (file_at (rooted mid f.inode) n)) test ∙ ap (option_map (with_root levels root)) was.is;
+        levels_is = refl;
+        root_is = refl;
+      }
+
+  module _ (tells : told) (sound : AreStanding old f) where
+    stood : Stands old kept.tree
+    stood = owned_stands old f n kept.tree kept.becomes.was sound
+
+    same_spelling : (blocks : Under) → stored blocks kept.tree.owner kept.tree.levels root ≡ stored blocks n levels root
+    same_spelling blocks = λ j. stored blocks ((sound.owners n kept.tree kept.becomes.was).0 j) (sym (levels_is kept.tree kept.becomes.was) j) root
+
+    spelled : standing (under new) kept.next ≡ stored (under new) n levels root
+    spelled = subst (λ (h : Held). standing (λ v. fin.get h v) kept.next ≡ stored (λ v. fin.get h v) n levels root) (sym alters.looks.untouched.held) (kept.spelled ∙ same_spelling (under mid))
+
+    reached : ReachesOnce new.used (stored (under new) n levels root)
+    reached =
+        subst (λ (h : Held). ReachesOnce new.used (stored (λ v. fin.get h v) n levels root)) (sym alters.looks.untouched.held)
+        (subst (λ used. ReachesOnce used (stored (under mid) n levels root)) (sym alters.looks.untouched.used) (subst (ReachesOnce mid.used) (same_spelling (under mid)) (kept.reaches tells stood)))
+
+    placed_two : AreStanding mid two
+    placed_two = first.stands tells sound
+
+    placed_three : AreStanding new three
+    placed_three = root_stands mid new two i n levels root kept.next kept.becomes.now alters.looks.untouched (sets tells) alters.owner (alters.stands tells) (alters.leads tells) placed_two
+
+    all_placed : IsPlacedTable (table_in old f) (table_in new four)
+    all_placed = placed_then (table_in old f) (table_in new three) (table_in new four)
+        (placed_then (table_in old f) (table_in mid two) (table_in new three) (first.placed tells sound) (root_placed mid new two i n levels root kept.next kept.becomes.now alters.looks.untouched (sets tells)))
+        (gone_placed new three last n levels root kept.next kept.becomes.now gone placed_three (own tells) spelled reached)
+
+  pub lay_done : LaysTrees {T = Unit {0}} told old new f four (Ok tt)
+  lay_done = record {
+    placed = all_placed;
+    stands = λ tells sound. gone_stands new three last n levels root kept.next kept.becomes.now gone (placed_three tells sound) (own tells) (spelled tells sound) (reached tells sound);
+    strays = λ tells sound. alters.looks.untouched.strays ∙ first.strays tells sound;
+    counts = counts_then old mid new (Ok tt) first.counts.calm alters.looks.counts;
+    cause = tt;
+  }

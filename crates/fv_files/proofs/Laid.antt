@@ -1,0 +1,183 @@
+-- A file's tree is placed, its root laid into an inode block, and the tree goes from memory.
+use Rattle.std.proofs.Common.{◌≡◌, ◌≢◌, ◌≤◌, ℕ, true, false, cond, nat_eq, inl, inr, Ok, Err, Result, refl, sym, ap, subst, ◌∙◌, ⊎_elim, arith}
+use Rattle.std.specs.Prelude.{Option, Some, None, List, is_some, IfErr}
+use Rattle.std.specs.Option.{option_map}
+use Rattle.std.specs.Ordering.{nat_cmp}
+use Rattle.std.specs.BTreeMap as maps
+use Rattle.std.specs.FinMap as fin
+use Rattle.std.proofs.lemmas.Bool.{cases_eq}
+use Rattle.std.proofs.lemmas.Bool.Decides.{nat_tests}
+use Rattle.std.proofs.lemmas.Result.{IfErr-weaker}
+use Rattle.fv_disk.specs.declared.fault.BlockFault.{BlockFault}
+use Rattle.fv_disk.specs.declared.fault.BlockFault.TheVariants.{DiskFault, Damaged, Memory}
+use Rattle.fv_codec.specs.declared.pointer.Pointer.{Pointer}
+use Rattle.fv_codec.specs.declared.inode.InodeRecord.{InodeRecord}
+use Rattle.fv_tables.specs.Spelled.{Under, Rooted, stored, pointer_at}
+use Rattle.fv_tables.specs.Told.{AreTold, file_at, Standing, tree_or, tree_of}
+use Rattle.fv_tables.specs.Kept.{IsPlacedTable}
+use Rattle.fv_tree.specs.declared.kept.Tree.{Tree}
+use Rattle.fv_tree.specs.Sources.{Shown, HasCause, IsCalm, IsUntouched}
+use Rattle.fv_tree.specs.Standing.{standing, under}
+use Rattle.fv_tree.specs.Writing.{IsAlike}
+use Rattle.fv_tree.specs.Flushing.{IsSound, ReachesOnce, Flushes, IsPlaced, Leads, Stands, loaded, loaded_over}
+use Rattle.fv_tree.specs.Leading.{LeadsNoMore}
+use Rattle.fv_tree.specs.Beside.{unread, LeadsTo, Spares}
+use Rattle.fv_tree.proofs.Beside.{flush_spares, loading_spares, tree_laid, unread_sound}
+use Rattle.fv_tree.proofs.Causes.{calm_then, counts_then}
+use Rattle.fv_tree.proofs.Leading.{flush_leads}
+use Rattle.fv_inode.specs.declared.file.InodeFile.{InodeFile}
+use Rattle.fv_inode.specs.Files.{rooted, with_root}
+use Rattle.fv_inode.specs.Changing.{SetsRoot}
+use Rattle.fv_inode.proofs.Alike.{alike_itself}
+use Rattle.fv_inode.proofs.Placed.{keeps_others, rooted_table}
+use Rattle.fv_files.specs.declared.files.Files.{Files}
+use Rattle.fv_files.specs.Apart.{LeadsIn, LeadsFrom, StandsIn}
+use Rattle.fv_files.specs.Tables.{table_in, tree_in, file_loaded, loaded_trees, AreStanding}
+use Rattle.fv_files.specs.Calls.{Becomes}
+use Rattle.fv_files.specs.Failing.{FilesFail}
+use Rattle.fv_files.specs.Flushing.{FlushFails, LaysTrees, holding}
+use Rattle.fv_files.proofs.Looked.{Held, fails_after}
+use Rattle.fv_files.proofs.Tables.{placed_alike, placed_then, some_same}
+use Rattle.fv_files.proofs.Kept.{own_tree_is, file_stands, sound_on}
+use Rattle.fv_files.proofs.Changed.{with_trees, with_inode, kept_inode, kept_others, kept_stands, own_told, record_stands}
+
+-- a tree of which nothing is in memory leads from its blocks where it led
+pub reread_leads : (blocks : Under) (t : Tree) (owner levels : ℕ) (root : Pointer) → standing blocks t ≡ stored blocks owner levels root → (v : ℕ) → LeadsTo (unread (stored blocks owner levels root)) v → LeadsTo (loaded_over blocks t) v
+reread_leads blocks t owner levels root is v led = record {
+  level = led.level;
+  place = led.place;
+  leads = record {
+    some = subst (λ (s : Rooted). (pointer_at s led.level led.place).stamp ≢ 0) (sym is) led.leads.some;
+    placed = ⊎_elim
+        (λ (low : led.level ≡ 0). ap (λ k. (loaded_over blocks t).placed k led.place) low ∙ (tree_laid blocks t).cells led.place (ap (λ (s : Rooted). s.cells led.place) is))
+        (λ (high : led.level ≢ 0). (tree_laid blocks t).nodes led.level led.place (omega (arith, high)) (ap (λ (s : Rooted). s.nodes led.level led.place) is))
+        (cases_eq led.level 0);
+    vvbn = subst (λ (s : Rooted). (pointer_at s led.level led.place).vvbn ≡ v) (sym is) led.leads.vvbn;
+  };
+}
+
+-- ---- a tree is flushed
+
+pub flushed_spares : (old new : Shown) (t u : Tree) → Stands old t → Flushes (loaded old t) old.used (loaded new u) new.used → Spares old new (LeadsTo (loaded old t)) (LeadsTo (loaded new u))
+flushed_spares old new t u stands flushes = flush_spares old new (loaded old t) (loaded new u) refl refl flushes
+    (λ level place v led. ⊎_elim (λ placed. inl placed) (λ was. inr was.0) (flush_leads old new t u stands flushes level place v led))
+
+module _ (old new : Shown) (f : Files) (m : maps.BTreeMap ℕ Tree) (n : ℕ) (t u : Tree) (becomes : Becomes f.trees m n t u) (sound : AreStanding old f) (stood : Stands old t) (flushes : Flushes (loaded old t) old.used (loaded new u) new.used) where
+  pub kept_placed : IsPlacedTable (table_in old f) (table_in new (with_trees f m))
+  kept_placed = placed_alike (table_in old f) (table_in new (with_trees f m)) n (kept_inode old new f m n t u becomes sound (flushed_spares old new t u stood flushes))
+      (kept_others old new f m n t u becomes sound (flushed_spares old new t u stood flushes)) (λ r at. own_told old new f m n t u becomes flushes.alike r)
+
+  pub kept_stood : u.owner ≡ t.owner → AreStanding new (with_trees f m)
+  kept_stood owner = kept_stands old new f m n t u becomes sound (flushed_spares old new t u stood flushes) owner flushes.sound
+
+-- ---- its root is laid into the inode block
+
+module _ (old new : Shown) (f : Files) (i : InodeFile) (n levels : ℕ) (root : Pointer) (u : Tree) (kept : tree_in f n ≡ Some u) (untouched : IsUntouched old new) (sets : SetsRoot (rooted old f.inode) (rooted new i) n levels root) where
+  abbrev h : Files
+  h = with_inode f i
+
+  own_still : (r : InodeRecord) → AreTold (tree_of (table_in old f) n r) (tree_of (table_in new h) n (with_root levels root r))
+  own_still r =
+      let here : tree_of (table_in new h) n (with_root levels root r) ≡ standing (under new) u = ap (λ o. tree_or (option_map (standing (under new)) o) (stored (under new) n levels root)) kept in
+      let was : tree_of (table_in old f) n r ≡ standing (under old) u = ap (λ o. tree_or (option_map (standing (under old)) o) (stored (under old) n r.levels r.root)) kept in
+      let same : standing (under new) u ≡ standing (under old) u = (λ j. standing (λ v. fin.get (untouched.held j) v) u) in
+      subst (AreTold (tree_of (table_in old f) n r)) (sym (here ∙ same ∙ sym was)) (record { levels = refl; stamps = λ level place. refl; blocks = λ index. refl })
+
+  pub root_placed : IsPlacedTable (table_in old f) (table_in new h)
+  root_placed = rooted_table (table_in old f) (table_in new h) n levels root sets
+      (keeps_others (table_in old f) (table_in new h) n (λ j v. fin.get (untouched.held j) v) (λ k differs j. option_map (standing (λ v. fin.get (untouched.held j) v)) (tree_in f k)))
+      (λ r at. own_still r)
+
+  pub root_stands : i.tree.owner ≡ f.inode.tree.owner → (Stands old f.inode.tree → Stands new i.tree) → LeadsNoMore (loaded old f.inode.tree) (loaded new i.tree) → AreStanding old f → AreStanding new h
+  root_stands owner stands no_more sound =
+      record_stands new f i n 0 u kept (with_root levels root)
+      (λ k. subst (λ (m : Held). file_at (rooted new i) k ≡ cond (nat_eq k n) (option_map (with_root levels root) (file_at (standing (λ v. fin.get m v) f.inode.tree) n)) (file_at (standing (λ v. fin.get m v) f.inode.tree) k)) (sym untouched.held) (sets.files k))
+      owner (stands (sound.trees None)) (subst (λ (m : Held). LeadsNoMore (loaded_over (λ v. fin.get m v) f.inode.tree) (loaded new i.tree)) (sym untouched.held) no_more)
+      (sound_on f old new untouched.held untouched.used sound)
+
+-- ---- it goes from memory
+
+pub record HasRoot (o : Option InodeRecord) (levels : ℕ) (root : Pointer) : Type 0 where
+  pub file : InodeRecord
+  pub is : o ≡ Some file
+  pub levels_is : file.levels ≡ levels
+  pub root_is : file.root ≡ root
+
+module _ (source : Shown) (f : Files) (m : maps.BTreeMap ℕ Tree) (n levels : ℕ) (root : Pointer) (u : Tree) (kept : tree_in f n ≡ Some u) (gone : (k : ℕ) → maps.get nat_cmp m k ≡ cond (nat_eq k n) None (maps.get nat_cmp f.trees k))
+    (sound : AreStanding source f) (own : HasRoot (file_at (rooted source f.inode) n) levels root) (is : standing (under source) u ≡ stored (under source) n levels root) (reaches : ReachesOnce source.used (stored (under source) n levels root)) where
+  abbrev g : Files
+  g = with_trees f m
+
+  others : (k : ℕ) → k ≢ n → tree_in g k ≡ tree_in f k
+  others k differs = gone k ∙ (let test : nat_eq k n ≡ false = grind (arith, nat_tests, differs) in ap (λ b. cond b None (maps.get nat_cmp f.trees k)) test)
+
+  none : tree_in g n ≡ None
+  none = gone n ∙ (let test : nat_eq n n ≡ true = grind (arith, nat_tests) in ap (λ b. cond b None (maps.get nat_cmp f.trees n)) test)
+
+  spelled : stored (under source) n own.file.levels own.file.root ≡ stored (under source) n levels root
+  spelled = λ i. stored (under source) n (own.levels_is i) (own.root_is i)
+
+  was_tree : loaded_trees (under source) f (Some n) ≡ Some (loaded_over (under source) u)
+  was_tree = own_tree_is (under source) f n own.file own.is ∙ ap (λ o. Some (file_loaded (under source) n own.file o)) kept
+
+  now_tree : loaded_trees (under source) g (Some n) ≡ Some (unread (stored (under source) n levels root))
+  now_tree = own_tree_is (under source) g n own.file own.is ∙ ap (λ o. Some (file_loaded (under source) n own.file o)) none ∙ ap (λ t. Some (unread t)) spelled
+
+  own_as : (r : InodeRecord) → file_at (rooted source f.inode) n ≡ Some r → AreTold (tree_of (table_in source f) n r) (tree_of (table_in source g) n r)
+  own_as r at =
+      let same : r ≡ own.file = some_same r own.file (sym at ∙ own.is) in
+      let here : tree_of (table_in source g) n r ≡ stored (under source) n r.levels r.root = ap (λ o. tree_or (option_map (standing (under source)) o) (stored (under source) n r.levels r.root)) none in
+      let was : tree_of (table_in source f) n r ≡ standing (under source) u = ap (λ o. tree_or (option_map (standing (under source)) o) (stored (under source) n r.levels r.root)) kept in
+      let path : tree_of (table_in source g) n r ≡ tree_of (table_in source f) n r = here ∙ ap (λ (q : InodeRecord). stored (under source) n q.levels q.root) same ∙ spelled ∙ sym is ∙ sym was in
+      subst (AreTold (tree_of (table_in source f) n r)) (sym path) (record { levels = refl; stamps = λ level place. refl; blocks = λ index. refl })
+
+  pub gone_placed : IsPlacedTable (table_in source f) (table_in source g)
+  gone_placed = placed_alike (table_in source f) (table_in source g) n (alike_itself (rooted source f.inode))
+      (keeps_others (table_in source f) (table_in source g) n refl (λ k differs. ap (option_map (standing (under source))) (others k differs))) own_as
+
+  pub gone_stands : AreStanding source g
+  gone_stands = file_stands source source f g n refl others sound
+      (loading_spares source source (LeadsFrom (loaded_trees (under source) f) (Some n)) (LeadsFrom (loaded_trees (under source) g) (Some n)) refl refl
+      (λ v led. subst (λ o. LeadsIn o v) (sym was_tree) (reread_leads (under source) u n levels root is v (subst (λ o. LeadsIn o v) now_tree led))))
+      (subst (StandsIn source.used) (sym now_tree) (unread_sound source.used (stored (under source) n levels root) (λ level place. refl) reaches))
+      (λ w at. absurd (not_some (tree_in g n) w none at))
+    where
+      not_some : (o : Option Tree) (w : Tree) → o ≡ None → o ≡ Some w → ⊥
+      not_some o w none some = let wrong : false ≡ true = sym (ap is_some none) ∙ ap is_some some in cc
+
+-- ---- one step after another
+
+pub cause_later : (old mid new : Shown) (e : BlockFault) → IsCalm old mid → HasCause mid new e → HasCause old new e
+cause_later old mid new DiskFault calm h = (rw (← calm.faults) h.0, h.1 ∙ calm.damages)
+cause_later old mid new (Damaged at want found) calm h = (h.0 ∙ calm.faults, (rw (← calm.damages) h.1.0, h.1.1))
+cause_later old mid new Memory calm h = calm_then old mid new calm h
+
+module _ (told : Type 0) (old mid new : Shown) (f g h : Files) where
+  flush_fails : {S : Type 0} (x : S) (e : BlockFault) → LaysTrees told old mid f g (Ok x) → FlushFails told mid new g e → FlushFails told old new f e
+  flush_fails x e first fails = ⊎_elim
+      (λ cause. inl (cause_later old mid new e first.counts.calm cause))
+      (λ lay. inr (record {
+        held = lay.held;
+        table = lay.table;
+        placed = λ tells sound. placed_then (table_in old f) (table_in mid g) (table_in (holding old lay.held) lay.table) (first.placed tells sound) (lay.placed tells (first.stands tells sound));
+        fails = fails_after told (table_in (holding old lay.held) lay.table) (holding old lay.held) (holding mid lay.held) new e (record { faults = first.counts.calm.faults; damages = first.counts.calm.damages; spent = first.counts.calm.spent }) refl lay.fails;
+      }))
+      fails
+
+  pub lays_then : {S T : Type 0} (x : S) (r : Result T BlockFault) → LaysTrees told old mid f g (Ok x) → LaysTrees told mid new g h r → LaysTrees told old new f h r
+  lays_then x r first second = record {
+    placed = λ tells sound. placed_then (table_in old f) (table_in mid g) (table_in new h) (first.placed tells sound) (second.placed tells (first.stands tells sound));
+    stands = λ tells sound. second.stands tells (first.stands tells sound);
+    strays = λ tells sound. second.strays tells (first.stands tells sound) ∙ first.strays tells sound;
+    counts = counts_then old mid new r first.counts.calm second.counts;
+    cause = IfErr-weaker r _ _ (λ e fails. flush_fails x e first fails) second.cause;
+  }
+
+-- a call of the inode file that failed in the middle
+pub lay_failed : (told : Type 0) (old mid new : Shown) (f h : Files) (e : BlockFault) → IsCalm old mid → (told → AreStanding old f → IsPlacedTable (table_in old f) (table_in mid h)) → FilesFail told (table_in mid h) mid new e → FlushFails told old new f e
+lay_failed told old mid new f h e calm placed fails = inr (record {
+  held = mid.held;
+  table = h;
+  placed = placed;
+  fails = fails_after told (table_in mid h) (holding old mid.held) mid new e (record { faults = calm.faults; damages = calm.damages; spent = calm.spent }) refl fails;
+})

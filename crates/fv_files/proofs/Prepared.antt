@@ -1,0 +1,274 @@
+-- A file that is held ready for a change, and the change after it.
+use Rattle.std.proofs.Common.{◌≡◌, ◌≢◌, ℕ, Bool, true, false, cond, nat_eq, arith, inl, inr, List, Result, Ok, Err, refl, sym, ap, subst, ◌∙◌, ⊎_elim}
+use Rattle.std.specs.Prelude.{Option, Some, None, is_some, IfOk}
+use Rattle.std.specs.Option.{option_map}
+use Rattle.std.specs.Ordering.{nat_cmp}
+use Rattle.std.specs.BTreeMap as maps
+use Rattle.std.specs.FinMap as fin
+use Rattle.std.proofs.lemmas.Bool.{cases_eq}
+use Rattle.std.proofs.lemmas.Bool.Decides.{nat_tests}
+use Rattle.std.proofs.lemmas.Result.{on_err_weaker, IfErr-weaker}
+use Rattle.fv_disk.specs.declared.fault.BlockFault.{BlockFault}
+use Rattle.fv_codec.specs.declared.inode.InodeRecord.{InodeRecord}
+use Rattle.fv_model.specs.Tables.{Table, put, cut, rm}
+use Rattle.fv_laws.specs.WellFormed.{IsWellTable}
+use Rattle.fv_tables.specs.Spelled.{Under, Rooted, stored}
+use Rattle.fv_tables.specs.Told.{AreTold, file_at, Standing, tree_or, tree_of, file_in, table_told}
+use Rattle.fv_tables.specs.Kept.{IsPlacedTable}
+use Rattle.fv_tables.proofs.Tables.{files_told, placed_table}
+use Rattle.fv_tree.specs.declared.kept.Tree.{Tree}
+use Rattle.fv_tree.specs.Sources.{Shown, IsUntouched}
+use Rattle.fv_tree.specs.Standing.{standing, under, Fails}
+use Rattle.fv_tree.specs.Writing.{IsAlike}
+use Rattle.fv_tree.specs.Flushing.{IsSound, ReachesOnce, loaded, loaded_over, Stands}
+use Rattle.fv_tree.specs.Leading.{LeadsNoMore}
+use Rattle.fv_tree.specs.Beside.{unread, LeadsTo}
+use Rattle.fv_tree.proofs.Beside.{loading_spares, unread_reaches}
+use Rattle.fv_tree.proofs.Causes.{counts_then, fails_later, untouched_then}
+use Rattle.fv_inode.specs.declared.info.Info.{Info}
+use Rattle.fv_inode.specs.declared.file.InodeFile.{InodeFile}
+use Rattle.fv_inode.specs.Files.{rooted}
+use Rattle.fv_inode.specs.Failing.{Alters}
+use Rattle.fv_inode.specs.Readying.{IsReadyFile}
+use Rattle.fv_inode.proofs.Alike.{alike_itself}
+use Rattle.fv_inode.proofs.Placed.{keeps_others}
+use Rattle.fv_inode.proofs.Slots.{alike_files}
+use Rattle.fv_files.specs.declared.files.Files.{Files}
+use Rattle.fv_files.specs.Apart.{LeadsIn, LeadsFrom, StandsIn}
+use Rattle.fv_files.specs.Tables.{table_in, tree_in, tree_known, file_loaded, loaded_trees, AreStanding, IsInfoOf, IsTold}
+use Rattle.fv_files.specs.Failing.{FilesFail, Looks}
+use Rattle.fv_laws.specs.Positions.{taken_by_rm}
+use Rattle.fv_files.specs.Calls.{WritesCell, CutsFile, RemovesFile, TakesByCut, TakesByRemoval, Changes, Holds, IsUnread, KeptFails, Prepares}
+use Rattle.fv_files.proofs.Beside.{unread_leads}
+use Rattle.fv_files.proofs.Looked.{Held, counts_failed, counts_done, looks_inode}
+use Rattle.fv_files.proofs.Tables.{file_tree, kept_known, placed_alike, same_placed, some_same, stored_known}
+use Rattle.fv_files.proofs.Kept.{own_tree_is, same_trees, file_stands, inode_stands}
+use Rattle.fv_files.proofs.Changed.{with_trees, with_inode}
+
+-- ---- what is said of a table that is told as another is said of that one
+
+module _ (x w y : Standing) (same : table_told w ≡ table_told x) where
+  same_in : (n : ℕ) → file_in w n ≡ file_in x n
+  same_in n = sym (files_told w n) ∙ ap (λ (t : Table). fin.get t.files n) same ∙ files_told x n
+
+  pub writes_from : (n i s : ℕ) (block : List ℕ) → WritesCell w y n i s block → WritesCell x y n i s block
+  writes_from n i s block is f there = is f (same_in n ∙ there) ∙ ap (λ (t : Table). put t n f i block s) same
+
+  pub cuts_from : (n length s : ℕ) → CutsFile w y n length s → CutsFile x y n length s
+  cuts_from n length s is now f well there = is now f (subst (IsWellTable now) (sym same) well) (same_in n ∙ there) ∙ ap (λ (t : Table). cut t n f length s) same
+
+  pub removes_from : (n s : ℕ) → RemovesFile w y n s → RemovesFile x y n s
+  removes_from n s is now well = is now (subst (IsWellTable now) (sym same) well) ∙ ap (λ (t : Table). rm t n s) same
+
+  pub cut_counts_from : (n length s count : ℕ) → TakesByCut w n length s count → TakesByCut x n length s count
+  cut_counts_from n length s count is now f le well there = is now f le (subst (IsWellTable now) (sym same) well) (same_in n ∙ there)
+
+  pub removal_counts_from : (n s count : ℕ) → TakesByRemoval w n s count → TakesByRemoval x n s count
+  removal_counts_from n s count is now f le well there = is now f le (subst (IsWellTable now) (sym same) well) (same_in n ∙ there) ∙ ap (λ (t : Table). taken_by_rm t n f) same
+
+-- ---- a change after that
+
+module _ (told well : Type 0) (old mid : Shown) (f g : Files) (info : Info) where
+  -- it failed
+  pub prepared_failed : {T : Type 0} (e : BlockFault) → Prepares told old mid f g info (Err e) → Changes {T = T} told well old mid f g (FilesFail told (table_in old f) old mid) (Err e)
+  prepared_failed e first = record {
+    failed = first.same;
+    untouched = first.looks.untouched;
+    stands = λ tells asked. first.stands tells;
+    strays = λ tells sound. first.looks.untouched.strays;
+    counts = counts_failed {S = Bool} old mid (Err e) e first.looks.counts;
+    cause = first.looks.cause;
+  }
+
+  -- it is all that was done
+  pub prepared_alone : {T : Type 0} (there : Bool) (x : T) → Prepares told old mid f g info (Ok there) → Changes told well old mid f g (FilesFail told (table_in old f) old mid) (Ok x)
+  prepared_alone there x first = record {
+    failed = λ tells. tt;
+    untouched = tt;
+    stands = λ tells asked. first.stands tells;
+    strays = λ tells sound. first.looks.untouched.strays;
+    counts = counts_done old mid there x first.looks.counts;
+    cause = tt;
+  }
+
+  record HasTree (o : Option Tree) : Type 0 where
+    tree : Tree
+    is : o ≡ Some tree
+
+  has_tree : (o : Option Tree) → is_some o ≡ true → HasTree o
+  has_tree None e = absurd cc
+  has_tree (Some t) e = record { tree = t; is = refl }
+
+  module _ (new : Shown) (h : Files) (there : Bool) (first : Prepares told old mid f g info (Ok there)) (yes_ : there ≡ true) (is : told → IsInfoOf (rooted old f.inode) info) where
+    tree_failed : (e : BlockFault) → KeptFails told mid new g info.number e → FilesFail told (table_in old f) old new e
+    tree_failed e fails =
+        let kept = has_tree (tree_in g info.number) (first.kept yes_) in
+        let known = first.tree kept.tree kept.is in
+        let here : Fails told (standing (under old) kept.tree) mid new e = subst (λ (m : Held). Fails told (standing (λ v. fin.get m v) kept.tree) mid new e) first.looks.untouched.held (fails kept.tree kept.is) in
+        inr (record {
+          tree = tree_known (table_in old f) info;
+          of_file = λ tells. file_tree (table_in old f) info (is tells);
+          fails = subst (λ t. Fails told t old new e) known (fails_later told (standing (under old) kept.tree) old mid new e first.looks.counts.calm first.looks.untouched.held here);
+        })
+
+    pub prepared_then : {T : Type 0} (after : Type 0) → (told → well → after) → (r : Result T BlockFault) → Changes told after mid new g h (KeptFails told mid new g info.number) r → Changes told well old new f h (FilesFail told (table_in old f) old new) r
+    prepared_then after so r second = record {
+      failed = λ tells. on_err_weaker r (λ same. same ∙ first.same tells) (second.failed tells);
+      untouched = on_err_weaker r (λ same. untouched_then old mid new first.looks.untouched same) second.untouched;
+      stands = λ tells asked sound. second.stands tells (so tells asked) (first.stands tells sound);
+      strays = λ tells sound. second.strays tells (first.stands tells sound) ∙ first.looks.untouched.strays;
+      counts = counts_then old mid new r first.looks.counts.calm second.counts;
+      cause = IfErr-weaker r _ _ (λ e fails. tree_failed e fails) second.cause;
+    }
+
+-- ---- the inode file holds more in memory
+
+module _ (old new : Shown) (f g : Files) (untouched : IsUntouched old new) (alike : IsAlike (rooted old f.inode) (rooted new g.inode)) (trees : (k : ℕ) → tree_in g k ≡ tree_in f k) where
+  pub readied_placed : IsPlacedTable (table_in old f) (table_in new g)
+  readied_placed = same_placed (table_in old f) (table_in new g) alike (λ j v. fin.get (untouched.held j) v) (λ k j. option_map (standing (λ v. fin.get (untouched.held j) v)) (trees k j))
+
+  pub readied_told : IsTold old f new g
+  readied_told = placed_table (table_in old f) (table_in new g) readied_placed
+
+  pub readied_stands : g.inode.tree.owner ≡ f.inode.tree.owner → (Stands old f.inode.tree → Stands new g.inode.tree) → LeadsNoMore (loaded old f.inode.tree) (loaded new g.inode.tree) → AreStanding old f → AreStanding new g
+  readied_stands owner stands no_more sound =
+      let files = alike_files (rooted old f.inode) (rooted new g.inode) alike in
+      inode_stands old new f g 0 (λ k differs. trees k) (λ k differs. files k) sound
+      (loading_spares old new (LeadsTo (loaded old f.inode.tree)) (LeadsTo (loaded new g.inode.tree)) untouched.held untouched.used (λ v led. record { level = led.level; place = led.place; leads = no_more led.level led.place v led.leads }))
+      (same_trees (under old) (under new) f g 0 (trees 0) (files 0)) owner (stands (sound.trees None))
+      (λ t at. let own = sound.owners 0 t (sym (trees 0) ∙ at) in (own.0, ap is_some (files 0) ∙ own.1))
+
+-- ---- the tree of a file comes into memory
+
+module _ (source : Shown) (f : Files) (m : maps.BTreeMap ℕ Tree) (info : Info) (t : Tree) (is : IsInfoOf (rooted source f.inode) info) (none : tree_in f info.number ≡ None) (stored_is : IsUnread t info) (now : maps.get nat_cmp m info.number ≡ Some t)
+    (others : (k : ℕ) → k ≢ info.number → maps.get nat_cmp m k ≡ maps.get nat_cmp f.trees k) where
+  abbrev g : Files
+  g = with_trees f m
+
+  abbrev n : ℕ
+  n = info.number
+
+  own_stored : (blocks : Under) → standing blocks t ≡ stored blocks n is.file.levels is.file.root
+  own_stored blocks = stored_is.is blocks ∙ ap (λ (v : Info). stored blocks n v.levels v.root) is.told
+
+  was_tree : loaded_trees (under source) f (Some n) ≡ Some (unread (stored (under source) n is.file.levels is.file.root))
+  was_tree = own_tree_is (under source) f n is.file is.there ∙ ap (λ o. Some (file_loaded (under source) n is.file o)) none
+
+  now_tree : loaded_trees (under source) g (Some n) ≡ Some (loaded_over (under source) t)
+  now_tree = own_tree_is (under source) g n is.file is.there ∙ ap (λ o. Some (file_loaded (under source) n is.file o)) now
+
+  own_told : (r : InodeRecord) → file_at (rooted source f.inode) n ≡ Some r → AreTold (tree_of (table_in source f) n r) (tree_of (table_in source g) n r)
+  own_told r at =
+      let same : r ≡ is.file = some_same r is.file (sym at ∙ is.there) in
+      let here : tree_of (table_in source g) n r ≡ standing (under source) t = ap (λ o. tree_or (option_map (standing (under source)) o) (stored (under source) n r.levels r.root)) now in
+      let was : tree_of (table_in source f) n r ≡ stored (under source) n r.levels r.root = ap (λ o. tree_or (option_map (standing (under source)) o) (stored (under source) n r.levels r.root)) none in
+      let path : tree_of (table_in source g) n r ≡ tree_of (table_in source f) n r = here ∙ own_stored (under source) ∙ ap (λ (q : InodeRecord). stored (under source) n q.levels q.root) (sym same) ∙ sym was in
+      subst (AreTold (tree_of (table_in source f) n r)) (sym path) (record { levels = refl; stamps = λ level place. refl; blocks = λ index. refl })
+
+  pub held_told : IsTold source f source g
+  held_told = placed_table (table_in source f) (table_in source g) (placed_alike (table_in source f) (table_in source g) n (alike_itself (rooted source f.inode))
+      (keeps_others (table_in source f) (table_in source g) n refl (λ k differs. ap (option_map (standing (under source))) (others k differs))) own_told)
+
+  pub held_stands : AreStanding source f → AreStanding source g
+  held_stands sound =
+      let was : IsSound source.used (unread (stored (under source) n is.file.levels is.file.root)) = subst (StandsIn source.used) was_tree (sound.trees (Some n)) in
+      let reached = unread_reaches source.used (stored (under source) n is.file.levels is.file.root) was in
+      let stands : IsSound source.used (loaded_over (under source) t) = stored_is.stands (under source) source.used (subst (λ (v : Info). ReachesOnce source.used (stored (under source) n v.levels v.root)) (sym is.told) reached) in
+      file_stands source source f g n refl others sound
+      (loading_spares source source (LeadsFrom (loaded_trees (under source) f) (Some n)) (LeadsFrom (loaded_trees (under source) g) (Some n)) refl refl
+      (λ v led. subst (λ o. LeadsIn o v) (sym was_tree) (unread_leads (under source) t (stored (under source) n is.file.levels is.file.root) (own_stored (under source)) v (subst (λ o. LeadsIn o v) now_tree led))))
+      (subst (StandsIn source.used) (sym now_tree) stands)
+      (λ u at. (ap (λ (x : Tree). x.owner) (some_same u t (sym at ∙ now)) ∙ ap (λ (s : Rooted). s.owner) (stored_is.is (under source)), ap is_some is.there))
+
+-- ---- holding a tree
+
+holds_found : (m : maps.BTreeMap ℕ Tree) (info : Info) (o : Option Tree) → maps.get nat_cmp m info.number ≡ o → is_some o ≡ true → Holds m m info
+holds_found m info None at there = absurd (grind (arith, there))
+holds_found m info (Some t) at there = record { tree = t; now = at; others = λ k differs. refl; from = inl at }
+
+pub holds_already : (m : maps.BTreeMap ℕ Tree) (info : Info) → is_some (maps.get nat_cmp m info.number) ≡ true → Holds m m info
+holds_already m info there = holds_found m info (maps.get nat_cmp m info.number) refl there
+
+none_is : (o : Option Tree) → is_some o ≡ false → o ≡ None
+none_is None e = refl
+none_is (Some t) e = absurd (grind (arith, e))
+
+pub holds_new : (m n : maps.BTreeMap ℕ Tree) (info : Info) (t : Tree) → is_some (maps.get nat_cmp m info.number) ≡ false → IsUnread t info
+    → ((k : ℕ) → maps.get nat_cmp n k ≡ cond (nat_eq k info.number) (Some t) (maps.get nat_cmp m k)) → Holds m n info
+holds_new m n info t none unread inserted = record {
+  tree = t;
+  now = inserted info.number ∙ (let test : nat_eq info.number info.number ≡ true = grind (arith, nat_tests) in ap (λ b. cond b (Some t) (maps.get nat_cmp m info.number)) test);
+  others = λ k differs. inserted k ∙ (let test : nat_eq k info.number ≡ false = grind (arith, nat_tests, differs) in ap (λ b. cond b (Some t) (maps.get nat_cmp m k)) test);
+  from = inr (none_is (maps.get nat_cmp m info.number) none, unread);
+}
+
+-- ---- a file is held ready
+
+-- The inode file holds it ready, or a call of it failed.
+module _ {T : Type 0} (told : Type 0) (old new : Shown) (f : Files) (i : InodeFile) (m : maps.BTreeMap ℕ Tree) (info : Info) (r : Result T BlockFault) (alters : Alters told old new f.inode.tree i.tree r)
+    (alike : told → IsAlike (rooted old f.inode) (rooted new i)) (trees : (k : ℕ) → maps.get nat_cmp m k ≡ maps.get nat_cmp f.trees k) (is : told → IsInfoOf (rooted old f.inode) info) where
+  abbrev half : Files
+  half = record { inode = i; trees = m; alloc = f.alloc }
+
+  pub half_same : told → IsTold old f new half
+  half_same tells = readied_told old new f half alters.looks.untouched (alike tells) trees
+
+  pub half_stands : told → AreStanding old f → AreStanding new half
+  half_stands tells = readied_stands old new f half alters.looks.untouched (alike tells) trees alters.owner (alters.stands tells) (alters.leads tells)
+
+  pub half_known : told → IsInfoOf (rooted new i) info
+  half_known tells = let known = is tells in record { file = known.file; there = alike_files (rooted old f.inode) (rooted new i) (alike tells) info.number ∙ known.there; told = known.told }
+
+  pub half_tree : (t : Tree) → tree_in half info.number ≡ Some t → standing (under old) t ≡ tree_known (table_in old f) info
+  half_tree t at = sym (kept_known (under old) f info t (sym (trees info.number) ∙ at))
+
+  -- as it was where no more is done
+  pub half_prepares : (q : Result Bool BlockFault) → Looks told (table_in old f) old new q → (told → IfOk q (λ there. there ≡ true)) → IfOk q (λ there. there ≡ true → IsReadyFile i info.number) → IfOk q (λ there. there ≡ true → is_some (maps.get nat_cmp m info.number) ≡ true)
+      → Prepares told old new f half info q
+  half_prepares q looks found ready kept = record {
+    same = half_same;
+    alike = alike;
+    stands = half_stands;
+    looks = looks;
+    found = found;
+    known = half_known;
+    ready = ready;
+    kept = kept;
+    tree = half_tree;
+  }
+
+-- and the tree is held
+module _ (told : Type 0) (old new : Shown) (f : Files) (i : InodeFile) (m : maps.BTreeMap ℕ Tree) (info : Info) (alters : Alters told old new f.inode.tree i.tree (Ok true)) (alike : told → IsAlike (rooted old f.inode) (rooted new i))
+    (is : told → IsInfoOf (rooted old f.inode) info) (ready : IsReadyFile i info.number) (holds : Holds f.trees m info) where
+  abbrev whole : Files
+  whole = record { inode = i; trees = m; alloc = f.alloc }
+
+  done : Looks {T = Bool} told (table_in old f) old new (Ok true)
+  done = looks_inode told (table_in old f) old new (Ok true) alters.looks
+
+  kept_so : is_some (maps.get nat_cmp m info.number) ≡ true
+  kept_so = ap is_some holds.now
+
+  pub held_prepares : Prepares told old new f whole info (Ok true)
+  held_prepares = ⊎_elim already first holds.from
+    where
+      already : maps.get nat_cmp f.trees info.number ≡ Some holds.tree → Prepares told old new f whole info (Ok true)
+      already was = half_prepares told old new f i m info (Ok true) alters alike same is (Ok true) done (λ tells. refl) (λ yes_. ready) (λ yes_. kept_so)
+        where
+          same : (k : ℕ) → maps.get nat_cmp m k ≡ maps.get nat_cmp f.trees k
+          same k = ⊎_elim (λ (here : k ≡ info.number). ap (maps.get nat_cmp m) here ∙ holds.now ∙ sym was ∙ ap (maps.get nat_cmp f.trees) (sym here)) (λ (differs : k ≢ info.number). holds.others k differs) (cases_eq k info.number)
+
+      first : (maps.get nat_cmp f.trees info.number ≡ None) × IsUnread holds.tree info → Prepares told old new f whole info (Ok true)
+      first new_one =
+          let half_way = with_inode f i in
+          let known = half_known told old new f i f.trees info (Ok true) alters alike (λ k. refl) is in record {
+            same = λ tells. held_told new half_way m info holds.tree (known tells) new_one.0 new_one.1 holds.now holds.others ∙ half_same told old new f i f.trees info (Ok true) alters alike (λ k. refl) is tells;
+            alike = alike;
+            stands = λ tells sound. held_stands new half_way m info holds.tree (known tells) new_one.0 new_one.1 holds.now holds.others (half_stands told old new f i f.trees info (Ok true) alters alike (λ k. refl) is tells sound);
+            looks = done;
+            found = λ tells. refl;
+            known = known;
+            ready = λ yes_. ready;
+            kept = λ yes_. kept_so;
+            tree = λ t at. ap (standing (under old)) (some_same t holds.tree (sym at ∙ holds.now)) ∙ new_one.1.is (under old) ∙ sym (stored_known (under old) f info new_one.0);
+          }

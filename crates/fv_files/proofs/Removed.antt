@@ -1,0 +1,152 @@
+-- A table from which a file was taken away.
+use Rattle.std.proofs.Common.{◌≡◌, ◌≢◌, ◌+◌, ℕ, true, false, cond, nat_eq, inr, Ok, sym, ap, subst, ◌∙◌, arith}
+use Rattle.std.specs.Prelude.{Option, Some, None, is_some, map, ◌==◌, if◌then◌else◌}
+use Rattle.std.specs.Option.{option_map}
+use Rattle.std.specs.Ordering.{nat_cmp}
+use Rattle.std.specs.BTreeMap as maps
+use Rattle.std.specs.FinMap as fin
+use Rattle.std.proofs.lemmas.Bool.Decides.{nat_tests}
+use Rattle.fv_model.specs.Tables.{inode_cell}
+use Rattle.fv_laws.specs.WellFormed.{IsWellTable}
+use Rattle.fv_tables.specs.Spelled.{Rooted, stored, pointer_at, stamp_in}
+use Rattle.fv_tables.specs.Told.{tree_told, file_at, table_told, tree_of, tree_or}
+use Rattle.fv_tables.proofs.Pointers.{no_stamp}
+use Rattle.fv_tables.proofs.Tables.{stamps_told}
+use Rattle.fv_tree.specs.declared.kept.Tree.{Tree}
+use Rattle.fv_tree.specs.Sources.{Shown}
+use Rattle.fv_tree.specs.Counting.{positions_of}
+use Rattle.fv_tree.specs.Standing.{under, standing}
+use Rattle.fv_tree.specs.Writing.{IsAlike}
+use Rattle.fv_tree.specs.Erasing.{StandsAt, HoldsCells, IsGrownFrom}
+use Rattle.fv_tree.specs.Flushing.{loaded, Stands}
+use Rattle.fv_tree.specs.Beside.{LeadsTo, Spares}
+use Rattle.fv_tree.proofs.Beside.{removal_spares}
+use Rattle.fv_tree.proofs.Causes.{counts_then}
+use Rattle.fv_inode.specs.declared.file.InodeFile.{InodeFile}
+use Rattle.fv_inode.specs.Files.{rooted}
+use Rattle.fv_inode.specs.Changing.{Takes, TakesFile}
+use Rattle.fv_inode.proofs.Alike.{holds_after, takes_after}
+use Rattle.fv_inode.proofs.Gone.{removed_well}
+use Rattle.fv_inode.proofs.Grown.{grown_tree}
+use Rattle.fv_inode.proofs.Placed.{KeepsOthers}
+use Rattle.fv_inode.proofs.Slots.{alike_files}
+use Rattle.fv_inode.proofs.Told.{inode_told}
+use Rattle.fv_files.specs.declared.files.Files.{Files}
+use Rattle.fv_files.specs.Tables.{table_in, tree_in, file_loaded, loaded_trees, AreStanding}
+use Rattle.fv_files.specs.Calls.{Becomes, Changes, CutsKept, KeptFails, RemovesFile, TakesByRemoval}
+use Rattle.fv_files.proofs.Beside.{IsBare}
+use Rattle.fv_files.proofs.Kept.{records_told, inode_stands}
+use Rattle.fv_files.proofs.Looked.{counts_done}
+use Rattle.fv_files.proofs.Adding.{grown_holds}
+use Rattle.fv_files.proofs.Counted.{nothing_left, removal_counted, same_positions}
+use Rattle.fv_files.proofs.Changed.{has_record, with_trees, kept_inode, kept_others, kept_stands}
+use Rattle.fv_files.proofs.Steps.{cut_spares, cut_stood}
+
+-- the inode file of a well-formed table has no mark over holes alone
+
+pub well_holds : (old : Shown) (f : Files) (now : ℕ) → IsWellTable now (table_told (table_in old f)) → HoldsCells (rooted old f.inode)
+well_holds old f now well = grown_holds (rooted old f.inode) 0
+    (subst (IsGrownFrom 0) (sym (inode_told (table_in old f))) (grown_tree now 0 (map inode_cell (fin.keys (table_told (table_in old f)).files)) (table_told (table_in old f)).inode well.inode))
+
+-- ---- a file goes
+
+module _ (old mid new : Shown) (f : Files) (m last : maps.BTreeMap ℕ Tree) (i : InodeFile) (n s : ℕ) (t u : Tree) (becomes : Becomes f.trees m n t u) (sound : AreStanding old f)
+    (first : Spares old mid (LeadsTo (loaded old t)) (LeadsTo (loaded mid u))) (same : u.owner ≡ t.owner) (stands : Stands mid u)
+    (gone : (k : ℕ) → maps.get nat_cmp last k ≡ cond (nat_eq k n) None (maps.get nat_cmp m k)) (second : Spares mid new (LeadsTo (loaded mid f.inode.tree)) (LeadsTo (loaded new i.tree)))
+    (takes : Stands mid f.inode.tree → HoldsCells (rooted mid f.inode) → Takes (rooted mid f.inode) (rooted new i) n s) where
+  abbrev g : Files
+  g = with_trees f m
+
+  abbrev h : Files
+  h = record { inode = i; trees = last; alloc = f.alloc }
+
+  alike : IsAlike (rooted old f.inode) (rooted mid f.inode)
+  alike = kept_inode old mid f m n t u becomes sound first
+
+  pub middle : AreStanding mid g
+  middle = kept_stands old mid f m n t u becomes sound first same stands
+
+  other_trees : (k : ℕ) → k ≢ n → tree_in h k ≡ tree_in g k
+  other_trees k differs = gone k ∙ (let test : nat_eq k n ≡ false = grind (arith, nat_tests, differs) in ap (λ b. cond b None (maps.get nat_cmp m k)) test)
+
+  no_tree : tree_in h n ≡ None
+  no_tree = gone n ∙ (let test : nat_eq n n ≡ true = grind (arith, nat_tests) in ap (λ b. cond b None (maps.get nat_cmp m n)) test)
+
+  module _ (holds : HoldsCells (rooted old f.inode)) where
+    taken : Takes (rooted mid f.inode) (rooted new i) n s
+    taken = takes (middle.trees None) (holds_after (rooted old f.inode) (rooted mid f.inode) alike holds)
+
+    other_files : (k : ℕ) → k ≢ n → file_at (rooted new i) k ≡ file_at (rooted mid f.inode) k
+    other_files k differs = taken.files k ∙ (let test : nat_eq k n ≡ false = grind (arith, nat_tests, differs) in ap (λ b. cond b None (file_at (rooted mid f.inode) k)) test)
+
+    no_file : file_at (rooted new i) n ≡ None
+    no_file = taken.files n ∙ (let test : nat_eq n n ≡ true = grind (arith, nat_tests) in ap (λ b. cond b None (file_at (rooted mid f.inode) n)) test)
+
+    nothing : loaded_trees (under new) h (Some n) ≡ None
+    nothing = ap (option_map (λ r. file_loaded (under new) n r (tree_in h n))) no_file
+
+    -- All trees that are left stand on their blocks,
+    pub removed_stands : i.tree.owner ≡ f.inode.tree.owner → (Stands mid f.inode.tree → Stands new i.tree) → AreStanding new h
+    removed_stands owner inode =
+        inode_stands mid new g h n other_trees other_files middle second
+        (inr (subst IsBare (sym nothing) tt)) owner (inode (middle.trees None)) (λ w at. absurd (not_some (tree_in h n) w no_tree at))
+      where
+        not_some : (o : Option Tree) (w : Tree) → o ≡ None → o ≡ Some w → ⊥
+        not_some o w none some = let wrong : false ≡ true = sym (ap is_some none) ∙ ap is_some some in cc
+
+    others_stay : KeepsOthers (table_in old f) (table_in new h) n
+    others_stay k differs r at =
+        let one = kept_others old mid f m n t u becomes sound first k differs r at in
+        let two = records_told mid new g h n other_trees other_files middle second k differs r (alike_files (rooted old f.inode) (rooted mid f.inode) alike k ∙ at) in
+        record { levels = two.levels ∙ one.levels; stamps = λ level place. two.stamps level place ∙ one.stamps level place; blocks = λ index. two.blocks index ∙ one.blocks index }
+
+  -- and the table is the machine's without the file.
+  pub removed_table : is_some (file_at (rooted old f.inode) n) ≡ true → RemovesFile (table_in old f) (table_in new h) n s
+  removed_table there now well =
+      let holds = well_holds old f now well in
+      removed_well (table_in old f) now well.inode (table_in new h) n s there
+      (takes_after (rooted old f.inode) (rooted mid f.inode) alike (rooted new i) n s (taken holds)) (others_stay holds)
+
+-- ---- by the calls
+
+module _ (told cut_calls take_calls : Type 0) (old mid new : Shown) (f : Files) (m last : maps.BTreeMap ℕ Tree) (i : InodeFile) (n start s own count : ℕ) (cuts : CutsKept told cut_calls old mid f.trees m n 0 start s (Ok own))
+    (takes : TakesFile told take_calls mid new f.inode.tree i.tree n s (Ok count)) (gone : (k : ℕ) → maps.get nat_cmp last k ≡ cond (nat_eq k n) None (maps.get nat_cmp m k)) where
+  module _ (tells : told) (sound : AreStanding old f) where
+    stood : Stands old cuts.tree
+    stood = cut_stood told cut_calls (Unit {0}) old mid f m n 0 start s own cuts tells sound
+
+    first : Spares old mid (LeadsTo (loaded old cuts.tree)) (LeadsTo (loaded mid cuts.next))
+    first = cut_spares told cut_calls (Unit {0}) old mid f m n 0 start s own cuts tells sound
+
+    half_way : AreStanding mid (with_trees f m)
+    half_way = kept_stands old mid f m n cuts.tree cuts.next cuts.becomes sound first cuts.removal.owner (cuts.removal.stands tells stood)
+
+    second : Spares mid new (LeadsTo (loaded mid f.inode.tree)) (LeadsTo (loaded new i.tree))
+    second = removal_spares mid new f.inode.tree i.tree (takes.released tells) (takes.leads tells (half_way.trees None))
+
+    pub remove_table : is_some (file_at (rooted old f.inode) n) ≡ true → RemovesFile (table_in old f) (table_in new (record { inode = i; trees = last; alloc = f.alloc })) n s
+    remove_table = removed_table old mid new f m last i n s cuts.tree cuts.next cuts.becomes sound first cuts.removal.owner (cuts.removal.stands tells stood) gone second (takes.removed tells)
+
+    remove_stands : HoldsCells (rooted old f.inode) → AreStanding new (record { inode = i; trees = last; alloc = f.alloc })
+    remove_stands holds = removed_stands old mid new f m last i n s cuts.tree cuts.next cuts.becomes sound first cuts.removal.owner (cuts.removal.stands tells stood) gone second (takes.removed tells) holds takes.owner (takes.stands tells)
+
+    -- so many positions went
+    pub remove_counts : is_some (file_at (rooted old f.inode) n) ≡ true → TakesByRemoval (table_in old f) n s (own + count)
+    remove_counts there =
+        let file = has_record (file_at (rooted old f.inode) n) there in
+        let tree : tree_of (table_in old f) n file.file ≡ standing (under old) cuts.tree = ap (λ o. tree_or (option_map (standing (under old)) o) (stored (under old) n file.file.levels file.file.root)) cuts.becomes.was in
+        let alike = kept_inode old mid f m n cuts.tree cuts.next cuts.becomes sound first in
+        removal_counted (table_in old f) (table_in new (record { inode = i; trees = last; alloc = f.alloc })) n s own count file.file file.is (remove_table there)
+        (subst (λ t. HoldsCells t → positions_of t ≡ own) (sym tree) (nothing_left (standing (under old) cuts.tree) (standing (under mid) cuts.next) start s own (cuts.removal.place_by_place tells stood) (cuts.removal.count tells stood)))
+        (sym (same_positions (rooted old f.inode) (rooted mid f.inode) alike) ∙ takes.count tells (half_way.trees None))
+
+  pub remove_done : {T : Type 0} (x : T) → Changes told (HoldsCells (rooted old f.inode)) old new f (record { inode = i; trees = last; alloc = f.alloc }) (KeptFails told old new f n) (Ok x)
+  remove_done x =
+      let both = counts_then old mid new (Ok count) cuts.removal.counts.calm takes.counts in record {
+        failed = λ tells. tt;
+        untouched = tt;
+        stands = λ tells holds sound. remove_stands tells sound holds;
+        strays = λ tells sound. takes.strays tells ((half_way tells sound).trees None) ∙ cuts.removal.strays tells (stood tells sound);
+        counts = counts_done old new count x both;
+        cause = tt;
+      }

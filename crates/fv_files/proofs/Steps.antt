@@ -1,0 +1,99 @@
+-- What calls of a tree in memory, with a change of its file's record, leave of a table.
+use Rattle.std.proofs.Common.{◌≡◌, ℕ, List, Ok, Err, sym, subst, ◌∙◌}
+use Rattle.std.specs.Prelude.{Option, Some}
+use Rattle.std.specs.Option.{option_map}
+use Rattle.std.specs.BTreeMap as maps
+use Rattle.fv_disk.specs.declared.fault.BlockFault.{BlockFault}
+use Rattle.fv_codec.specs.declared.inode.InodeRecord.{InodeRecord}
+use Rattle.fv_tables.specs.Spelled.{Under}
+use Rattle.fv_tables.specs.Told.{file_at}
+use Rattle.fv_tree.specs.declared.kept.Tree.{Tree}
+use Rattle.fv_tree.specs.Sources.{Shown, IsUntouched, Use}
+use Rattle.fv_tree.specs.Standing.{standing, under, Fails}
+use Rattle.fv_tree.specs.Flushing.{IsSound, Stands, loaded, loaded_over}
+use Rattle.fv_tree.specs.Leading.{LeadsNoMore}
+use Rattle.fv_tree.specs.Beside.{LeadsTo, Spares}
+use Rattle.fv_tree.proofs.Beside.{loading_spares, removal_spares}
+use Rattle.fv_inode.specs.declared.file.InodeFile.{InodeFile}
+use Rattle.fv_inode.specs.Changing.{Rewrites}
+use Rattle.fv_files.specs.declared.files.Files.{Files}
+use Rattle.fv_files.specs.Tables.{tree_in, AreStanding}
+use Rattle.fv_files.specs.Calls.{Changes, KeptFails, PutsKept, CutsKept}
+use Rattle.fv_files.proofs.Looked.{counts_failed}
+use Rattle.fv_files.proofs.Tables.{some_same}
+use Rattle.fv_files.proofs.Changed.{with_trees, failed_told, kept_stands, both_stand, owned_stands}
+
+-- a call of a tree that only loads
+pub loaded_spares : (old new : Shown) (t u : Tree) → IsUntouched old new → LeadsNoMore (loaded old t) (loaded new u) → Spares old new (LeadsTo (loaded old t)) (LeadsTo (loaded new u))
+loaded_spares old new t u same no_more = loading_spares old new (LeadsTo (loaded old t)) (LeadsTo (loaded new u)) same.held same.used
+    (λ v led. record { level = led.level; place = led.place; leads = no_more led.level led.place v led.leads })
+
+-- the tree in memory under a number is one
+at_tree : (f : Files) (n : ℕ) (t : Tree) (P : Tree → Type 0) → tree_in f n ≡ Some t → P t → (w : Tree) → tree_in f n ≡ Some w → P w
+at_tree f n t P is fact w at = subst P (some_same t w (sym is ∙ at)) fact
+
+-- a change of the record of a file, over any blocks
+pub record Restates (f : Files) (i : InodeFile) (n s : ℕ) (change : InodeRecord → InodeRecord) : Type 0 where
+  pub rewrites : (blocks : Under) → Rewrites (standing blocks f.inode.tree) (standing blocks i.tree) n s (option_map change (file_at (standing blocks f.inode.tree) n))
+  pub owner : i.tree.owner ≡ f.inode.tree.owner
+  pub sound : (blocks : Under) (used : ℕ → Option Use) → IsSound used (loaded_over blocks f.inode.tree) → IsSound used (loaded_over blocks i.tree)
+  pub leads : (blocks : Under) → LeadsNoMore (loaded_over blocks f.inode.tree) (loaded_over blocks i.tree)
+
+-- ---- a cell is written
+
+module _ (told well : Type 0) (old new : Shown) (f : Files) (m : maps.BTreeMap ℕ Tree) (n index s : ℕ) (block : List ℕ) where
+  pub put_failed : (e : BlockFault) → PutsKept told old new f.trees m n index s block (Err e) → Changes {T = Unit {0}} told well old new f (with_trees f m) (KeptFails told old new f n) (Err e)
+  put_failed e puts = record {
+    failed = λ tells. failed_told old new f m n puts.tree puts.next puts.becomes puts.untouched.held (puts.failed tells);
+    untouched = puts.untouched;
+    stands = λ tells asked sound. kept_stands old new f m n puts.tree puts.next puts.becomes sound (loaded_spares old new puts.tree puts.next puts.untouched (puts.leads tells)) puts.owner
+        (puts.stands tells (owned_stands old f n puts.tree puts.becomes.was sound));
+    strays = λ tells sound. puts.untouched.strays;
+    counts = puts.counts;
+    cause = at_tree f n puts.tree (λ t. Fails told (standing (under old) t) old new e) puts.becomes.was puts.cause;
+  }
+
+  pub put_done : (i : InodeFile) (change : InodeRecord → InodeRecord) (x : Unit {0}) → PutsKept told old new f.trees m n index s block (Ok x) → Restates f i n s change
+      → Changes {T = Unit {0}} told well old new f (record { inode = i; trees = m; alloc = f.alloc }) (KeptFails told old new f n) (Ok x)
+  put_done i change x puts is = record {
+    failed = λ tells. tt;
+    untouched = tt;
+    stands = λ tells asked sound. both_stand old new f m n puts.tree puts.next puts.becomes i s change is.rewrites is.owner is.sound is.leads sound (loaded_spares old new puts.tree puts.next puts.untouched (puts.leads tells)) puts.owner
+        (puts.stands tells (owned_stands old f n puts.tree puts.becomes.was sound));
+    strays = λ tells sound. puts.untouched.strays;
+    counts = puts.counts;
+    cause = tt;
+  }
+
+-- ---- cells are removed
+
+module _ (told calls well : Type 0) (old new : Shown) (f : Files) (m : maps.BTreeMap ℕ Tree) (n length start s : ℕ) where
+  pub cut_failed : {T : Type 0} (e : BlockFault) → CutsKept told calls old new f.trees m n length start s (Err e) → Changes {T = T} told well old new f (with_trees f m) (KeptFails told old new f n) (Err e)
+  cut_failed e cuts = let is = cuts.removal in record {
+    failed = λ tells. failed_told old new f m n cuts.tree cuts.next cuts.becomes is.untouched.held (is.failed tells);
+    untouched = is.untouched;
+    stands = λ tells asked sound.
+        let stood = owned_stands old f n cuts.tree cuts.becomes.was sound in
+        kept_stands old new f m n cuts.tree cuts.next cuts.becomes sound (loaded_spares old new cuts.tree cuts.next is.untouched (is.leads tells stood)) is.owner (is.stands tells stood);
+    strays = λ tells sound. is.untouched.strays;
+    counts = counts_failed {S = ℕ} old new (Err e) e is.counts;
+    cause = at_tree f n cuts.tree (λ t. Fails told (standing (under old) t) old new e) cuts.becomes.was is.cause;
+  }
+
+  module _ (count : ℕ) (cuts : CutsKept told calls old new f.trees m n length start s (Ok count)) (tells : told) (sound : AreStanding old f) where
+    pub cut_stood : Stands old cuts.tree
+    cut_stood = owned_stands old f n cuts.tree cuts.becomes.was sound
+
+    pub cut_spares : Spares old new (LeadsTo (loaded old cuts.tree)) (LeadsTo (loaded new cuts.next))
+    cut_spares = removal_spares old new cuts.tree cuts.next (cuts.removal.released tells) (cuts.removal.leads tells cut_stood)
+
+  pub cut_done : (i : InodeFile) (change : InodeRecord → InodeRecord) (count : ℕ) → CutsKept told calls old new f.trees m n length start s (Ok count) → Restates f i n s change
+      → Changes {T = ℕ} told well old new f (record { inode = i; trees = m; alloc = f.alloc }) (KeptFails told old new f n) (Ok count)
+  cut_done i change count cuts is = record {
+    failed = λ tells. tt;
+    untouched = tt;
+    stands = λ tells asked sound. both_stand old new f m n cuts.tree cuts.next cuts.becomes i s change is.rewrites is.owner is.sound is.leads sound (cut_spares count cuts tells sound) cuts.removal.owner (cuts.removal.stands tells (cut_stood count cuts tells sound));
+    strays = λ tells sound. cuts.removal.strays tells (cut_stood count cuts tells sound);
+    counts = cuts.removal.counts;
+    cause = tt;
+  }

@@ -1,0 +1,44 @@
+use Rattle.std.proofs.lemmas.Bool.{both_ways}
+use Rattle.std.proofs.lemmas.Result.{err_from_is_err_and, on_ok_weaker, IfOk-weaker}
+use Rattle.fv_files.specs.Tables.{table_in}
+use Rattle.fv_files.proofs.Prepared.{cuts_from, cut_counts_from, prepared_failed, prepared_alone, prepared_then}
+use Rattle.fv_files.proofs.files.Files.cut.Goals as goal
+
+pub returns-in_err-prepare-clause-changes : goal.returns-in_err-prepare-clause-changes
+returns-in_err-prepare-clause-changes g c =
+    let p = err_from_is_err_and c.from_residual.result c.from_residual.ensures.1 in
+    rw (p.1, p.2) (prepared_failed g.B.Blocks.told (Unit {0}) (g.B.Blocks.shown c.args.blocks.now) (g.B.Blocks.shown c.prepare.new.blocks) c.args.self.now c.prepare.new.files c.args.info.now c.in_err-prepare.field-0.0 c.in_err-prepare.ensures.prepares)
+
+pub returns-then-not-branch-clause-cut : goal.returns-then-not-branch-clause-cut
+returns-then-not-branch-clause-cut g c = λ told.
+    absurd (both_ways c.in_ok-prepare.field-0 c.if-not-branch.true (c.in_ok-prepare.ensures.prepares.found told))
+
+pub returns-then-not-branch-clause-changes : goal.returns-then-not-branch-clause-changes
+returns-then-not-branch-clause-changes g c =
+    prepared_alone g.B.Blocks.told (Unit {0}) (g.B.Blocks.shown c.args.blocks.now) (g.B.Blocks.shown c.prepare.new.blocks) c.args.self.now c.prepare.new.files c.args.info.now c.in_ok-prepare.field-0 0 c.in_ok-prepare.ensures.prepares
+
+pub returns-clause-cut : goal.returns-clause-cut
+returns-clause-cut g c = λ told.
+    let old = g.B.Blocks.shown c.args.blocks.now in
+    let mid = g.B.Blocks.shown c.prepare.new.blocks in
+    let first = c.in_ok-prepare.ensures.prepares in
+    on_ok_weaker c.cut_ready.result (λ is sound. cuts_from (table_in old c.args.self.now) (table_in mid c.prepare.new.files) (table_in (g.B.Blocks.shown c.cut_ready.new.blocks) c.cut_ready.new.files) (first.same told) c.args.info.now.number c.args.length c.args.stamp (is (first.stands told sound)))
+    (c.cut_ready.ensures.cut told)
+
+pub returns-clause-changes : goal.returns-clause-changes
+returns-clause-changes g c =
+    prepared_then g.B.Blocks.told (Unit {0}) (g.B.Blocks.shown c.args.blocks.now) (g.B.Blocks.shown c.prepare.new.blocks) c.args.self.now c.prepare.new.files c.args.info.now
+    (g.B.Blocks.shown c.cut_ready.new.blocks) c.cut_ready.new.files c.in_ok-prepare.field-0 c.in_ok-prepare.ensures.prepares c.if-not-branch.false c.requires.there (Unit {0}) (λ told asked. asked)
+    c.cut_ready.result c.cut_ready.ensures.changes
+
+pub returns-then-not-branch-clause-counted : goal.returns-then-not-branch-clause-counted
+returns-then-not-branch-clause-counted g c = λ told.
+    absurd (both_ways c.in_ok-prepare.field-0 c.if-not-branch.true (c.in_ok-prepare.ensures.prepares.found told))
+
+pub returns-clause-counted : goal.returns-clause-counted
+returns-clause-counted g c = λ told.
+    let old = g.B.Blocks.shown c.args.blocks.now in
+    let mid = g.B.Blocks.shown c.prepare.new.blocks in
+    let first = c.in_ok-prepare.ensures.prepares in
+    IfOk-weaker c.cut_ready.result _ _ (λ count is sound. cut_counts_from (table_in old c.args.self.now) (table_in mid c.prepare.new.files) (table_in (g.B.Blocks.shown c.cut_ready.new.blocks) c.cut_ready.new.files) (first.same told) c.args.info.now.number c.args.length c.args.stamp count (is (first.stands told sound)))
+    (c.cut_ready.ensures.counted told)

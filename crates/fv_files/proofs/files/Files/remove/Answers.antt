@@ -1,0 +1,36 @@
+use Rattle.std.proofs.lemmas.Bool.{both_ways}
+use Rattle.std.proofs.lemmas.Result.{err_from_is_err_and, on_ok_weaker}
+use Rattle.fv_files.specs.Tables.{table_in}
+use Rattle.fv_tree.specs.Erasing.{HoldsCells}
+use Rattle.fv_inode.specs.Files.{rooted}
+use Rattle.fv_inode.proofs.Alike.{holds_after}
+use Rattle.fv_files.proofs.Prepared.{removes_from, prepared_failed, prepared_alone, prepared_then}
+use Rattle.fv_files.proofs.files.Files.remove.Goals as goal
+
+pub returns-in_err-prepare-clause-changes : goal.returns-in_err-prepare-clause-changes
+returns-in_err-prepare-clause-changes g c =
+    let p = err_from_is_err_and c.from_residual.result c.from_residual.ensures.1 in
+    rw (p.1, p.2) (prepared_failed g.B.Blocks.told (HoldsCells (rooted (g.B.Blocks.shown c.args.blocks.now) c.args.self.now.inode)) (g.B.Blocks.shown c.args.blocks.now) (g.B.Blocks.shown c.prepare.new.blocks) c.args.self.now c.prepare.new.files c.args.info.now c.in_err-prepare.field-0.0 c.in_err-prepare.ensures.prepares)
+
+pub returns-then-not-branch-clause-removed : goal.returns-then-not-branch-clause-removed
+returns-then-not-branch-clause-removed g c = λ told.
+    absurd (both_ways c.in_ok-prepare.field-0 c.if-not-branch.true (c.in_ok-prepare.ensures.prepares.found told))
+
+pub returns-then-not-branch-clause-changes : goal.returns-then-not-branch-clause-changes
+returns-then-not-branch-clause-changes g c =
+    prepared_alone g.B.Blocks.told (HoldsCells (rooted (g.B.Blocks.shown c.args.blocks.now) c.args.self.now.inode)) (g.B.Blocks.shown c.args.blocks.now) (g.B.Blocks.shown c.prepare.new.blocks) c.args.self.now c.prepare.new.files c.args.info.now c.in_ok-prepare.field-0 0 c.in_ok-prepare.ensures.prepares
+
+pub returns-clause-removed : goal.returns-clause-removed
+returns-clause-removed g c = λ told.
+    let old = g.B.Blocks.shown c.args.blocks.now in
+    let mid = g.B.Blocks.shown c.prepare.new.blocks in
+    let first = c.in_ok-prepare.ensures.prepares in
+    on_ok_weaker c.remove_ready.result (λ is sound. removes_from (table_in old c.args.self.now) (table_in mid c.prepare.new.files) (table_in (g.B.Blocks.shown c.remove_ready.new.blocks) c.remove_ready.new.files) (first.same told) c.args.info.now.number c.args.stamp (is (first.stands told sound)))
+    (c.remove_ready.ensures.removed told)
+
+pub returns-clause-changes : goal.returns-clause-changes
+returns-clause-changes g c =
+    prepared_then g.B.Blocks.told (HoldsCells (rooted (g.B.Blocks.shown c.args.blocks.now) c.args.self.now.inode)) (g.B.Blocks.shown c.args.blocks.now) (g.B.Blocks.shown c.prepare.new.blocks) c.args.self.now c.prepare.new.files c.args.info.now
+    (g.B.Blocks.shown c.remove_ready.new.blocks) c.remove_ready.new.files c.in_ok-prepare.field-0 c.in_ok-prepare.ensures.prepares c.if-not-branch.false c.requires.there (HoldsCells (rooted (g.B.Blocks.shown c.prepare.new.blocks) c.prepare.new.files.inode))
+    (λ told holds. holds_after (rooted (g.B.Blocks.shown c.args.blocks.now) c.args.self.now.inode) (rooted (g.B.Blocks.shown c.prepare.new.blocks) c.prepare.new.files.inode) (c.in_ok-prepare.ensures.prepares.alike told) holds)
+    c.remove_ready.result c.remove_ready.ensures.changes

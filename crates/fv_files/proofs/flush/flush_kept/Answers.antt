@@ -1,0 +1,25 @@
+use Rattle.std.proofs.Common.{◌≡◌, false, IsSome, sym, subst, refl, arith}
+use Rattle.std.specs.Ordering.{nat_cmp, is_eq}
+use Rattle.std.proofs.lemmas.Bool.Decides.{nat_tests}
+use Rattle.fv_files.proofs.flush.flush_kept.Goals as goal
+
+pub returns-in-Some-clause-flushes : goal.returns-in-Some-clause-flushes
+returns-in-Some-clause-flushes g c =
+    let written = (c.get_mut.follows.holds c.flush.new.self).3 (subst IsSome c.in-Some.ensures.value refl) in
+    record {
+      tree = c.in-Some.tree.now;
+      next = c.flush.new.self;
+      becomes = record {
+        was = sym c.in-Some.ensures.value;
+        now = written.1;
+        others = λ k differs. written.2 k (let test : is_eq (nat_cmp c.args.number k) ≡ false = grind (arith, nat_tests, differs) in test);
+      };
+      flushes = c.flush.ensures.flushes;
+      strays = c.flush.ensures.strays;
+      left = c.flush.ensures.left;
+      pointer = c.flush.ensures.pointer;
+      spelled = c.flush.ensures.stored;
+      reaches = c.flush.ensures.reaches;
+      counts = c.flush.ensures.counts;
+      cause = c.flush.ensures.cause;
+    }

@@ -1,0 +1,20 @@
+use Rattle.std.proofs.Common.{arith, Err, Ok}
+use Rattle.std.proofs.lemmas.Result.{err_from_is_err_and}
+use Rattle.fv_files.proofs.Laid.{lays_then}
+use Rattle.fv_files.proofs.flush.flush_trees.Goals as goal
+
+pub loop-preserved : goal.loop-preserved
+loop-preserved g c =
+    let was = c.loop.invariant in
+    let now = c.in_ok-flush_first.ensures in record {
+      lays = lays_then g.B.Blocks.told (g.B.Blocks.shown c.args.blocks.now) (g.B.Blocks.shown c.loop.blocks) (g.B.Blocks.shown c.flush_first.new.blocks) c.args.files.now c.loop.files c.flush_first.new.files tt (Ok tt) was.lays now.lays;
+      count = omega (arith, now.fewer, was.count);
+      calls = g.met.B.Blocks.goes_on c.args.blocks.now c.loop.blocks c.flush_first.new.blocks was.calls now.calls;
+    }
+
+pub returns-in_err-flush_first-clause-lays : goal.returns-in_err-flush_first-clause-lays
+returns-in_err-flush_first-clause-lays g c =
+    let e = c.in_err-flush_first.field-0.0 in
+    let p = err_from_is_err_and c.from_residual.result c.from_residual.ensures.1 in
+    rw (p.1, p.2) (lays_then g.B.Blocks.told (g.B.Blocks.shown c.args.blocks.now) (g.B.Blocks.shown c.loop.blocks) (g.B.Blocks.shown c.flush_first.new.blocks) c.args.files.now c.loop.files c.flush_first.new.files tt (Err e) c.loop.invariant.lays
+    c.in_err-flush_first.ensures.lays)

@@ -1,0 +1,32 @@
+use Rattle.std.proofs.lemmas.Result.{err_from_is_err_and}
+use Rattle.fv_inode.specs.Files.{with_info}
+use Rattle.fv_files.specs.Calls.{longer}
+use Rattle.fv_files.proofs.Steps.{put_failed, put_done}
+use Rattle.fv_files.proofs.Wrote.{rewrites_as, written_table}
+use Rattle.fv_files.proofs.write.write_ready.Goals as goal
+
+pub returns-in_err-put_kept-clause-changes : goal.returns-in_err-put_kept-clause-changes
+returns-in_err-put_kept-clause-changes g c =
+    let p = err_from_is_err_and c.from_residual.result c.from_residual.ensures.1 in
+    rw (p.1, p.2) (put_failed g.B.Blocks.told (Unit {0}) (g.B.Blocks.shown c.args.blocks.now) (g.B.Blocks.shown c.put_kept.new.blocks) c.args.files.now c.put_kept.new.trees c.args.info.now.number c.args.index c.args.stamp c.args.block.now
+    c.in_err-put_kept.field-0.0 c.in_err-put_kept.ensures.puts)
+
+pub returns-clause-written : goal.returns-clause-written
+returns-clause-written g c = λ told.
+    let puts = c.in_ok-put_kept.ensures.puts in
+    let f = c.args.files.now in
+    let info = c.args.info.now in
+    written_table (g.B.Blocks.shown c.args.blocks.now) (g.B.Blocks.shown c.put_kept.new.blocks) f c.put_kept.new.trees c.rewrite.new.self info c.args.stamp puts.tree puts.next puts.becomes (c.requires.there told) c.args.index c.args.block.now puts.untouched.held
+    (rewrites_as f.inode c.rewrite.new.self c.args.stamp c.longer.result (longer info c.args.index) c.longer.ensures.is c.rewrite.ensures.rewrites) (puts.written told)
+
+pub returns-clause-changes : goal.returns-clause-changes
+returns-clause-changes g c =
+    let f = c.args.files.now in
+    let info = c.args.info.now in
+    put_done g.B.Blocks.told (Unit {0}) (g.B.Blocks.shown c.args.blocks.now) (g.B.Blocks.shown c.put_kept.new.blocks) f c.put_kept.new.trees info.number c.args.index c.args.stamp c.args.block.now
+    c.rewrite.new.self (with_info (longer info c.args.index)) tt c.in_ok-put_kept.ensures.puts (record {
+      rewrites = rewrites_as f.inode c.rewrite.new.self c.args.stamp c.longer.result (longer info c.args.index) c.longer.ensures.is c.rewrite.ensures.rewrites;
+      owner = c.rewrite.ensures.owner;
+      sound = c.rewrite.ensures.sound;
+      leads = c.rewrite.ensures.leads;
+    })

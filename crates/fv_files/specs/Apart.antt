@@ -1,0 +1,39 @@
+-- From which tree of a table a block is led to.
+--
+-- A table's trees are numbered by `None`, its inode file, and `Some n`, the tree of file n. An example: where two records lead to one
+-- root, its VVBN is led to from two trees, so the trees of that table don't lie apart.
+use Rattle.std.specs.Prelude.{◌≢◌, ℕ, Option, Some, None}
+use Rattle.std.specs.Option.{option_map}
+use Rattle.fv_codec.specs.declared.pointer.Pointer.{Pointer}
+use Rattle.fv_codec.specs.Blocks.{greatest_word}
+use Rattle.fv_tables.specs.Spelled.{Under, stored}
+use Rattle.fv_tables.specs.Told.{file_at}
+use Rattle.fv_tree.specs.Sources.{Use}
+use Rattle.fv_tree.specs.Flushing.{Loaded, IsSound}
+use Rattle.fv_tree.specs.Beside.{unread, LeadsTo}
+
+-- the trees of a table as they stand to their blocks
+abbrev pub Trees : Type 0
+Trees = Option ℕ → Option Loaded
+
+-- a tree, where there is one, leads to this VVBN
+abbrev pub LeadsIn : Option Loaded → ℕ → Type 0
+LeadsIn None v = ⊥
+LeadsIn (Some s) v = LeadsTo s v
+
+abbrev pub LeadsFrom : Trees → Option ℕ → ℕ → Type 0
+LeadsFrom x a v = LeadsIn (x a) v
+
+-- a tree, where there is one, stands on its blocks
+abbrev pub StandsIn : (ℕ → Option Use) → Option Loaded → Type 0
+StandsIn used None = Unit {0}
+StandsIn used (Some s) = IsSound used s
+
+-- no VVBN is led to from two trees of a table
+abbrev pub AreApart : Trees → Type 0
+AreApart x = (a b : Option ℕ) (v : ℕ) → a ≢ b → LeadsFrom x a v → LeadsFrom x b v → ⊥
+
+-- the trees of a table of which nothing is in memory
+abbrev pub stored_trees : Under → ℕ → Pointer → Trees
+stored_trees blocks levels root None = Some (unread (stored blocks greatest_word levels root))
+stored_trees blocks levels root (Some n) = option_map (λ r. unread (stored blocks n r.levels r.root)) (file_at (stored blocks greatest_word levels root) n)

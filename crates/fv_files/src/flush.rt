@@ -1,0 +1,134 @@
+//! Placing what changed of a table: its files by number, and the inode file last.
+
+ghost use Rattle.std.specs.Prelude.{◌≡◌, ◌≤◌, ◌+◌, ◌-◌, ℕ, true, Some, is_some, IfNone, IfSome, OnOk};
+ghost use Rattle.std.specs.Ordering.{nat_cmp};
+ghost use Rattle.std.specs.BTreeMap as maps;
+ghost use Rattle.fv_tree.specs.declared.kept.Tree as kept;
+ghost use Rattle.fv_inode.specs.Readying.{IsReadyFile};
+ghost use Rattle.fv_files.specs.Tables.{tree_in};
+ghost use Rattle.fv_files.specs.Flushing.{FlushesKept, FlushesTable, LaysTrees};
+
+use crate::files::{Files, FilesFault};
+use crate::remove::forget;
+use fv_codec::Pointer;
+use fv_tree::{Blocks, Tree};
+use std::collections::BTreeMap;
+
+impl Files {
+    /// Places each block that changed since the last flush once: the trees of the files by number, each with its root laid into
+    /// the file's inode block, and the inode file last. Each block that one of them replaces is named once to `gone`. Answers the
+    /// root of the inode file, and then nothing is in memory, and the table stands under that root. It is told as before in every
+    /// outcome, and a later flush goes on where one failed. All this is so for a table that stands on its blocks. It loads what
+    /// isn't in memory of the inode blocks of the files that it places.
+    ///
+    /// # Errors
+    ///
+    /// As `place` of the `Blocks` answers them, and as `InodeFile::set_root`.
+    pub fn flush<B: Blocks>(&mut self, blocks: &mut B) -> Result<Pointer, FilesFault>
+        ensures flushes { FlushesTable B.told (B.shown blocks.old) (B.shown blocks.new) self.old self.new result }
+        ensures calls { B.goes blocks.old blocks.new }
+    {
+        flush_trees(self, blocks)?;
+        self.inode.flush(blocks)
+    }
+}
+
+/// Places the trees of all files that are in memory.
+fn flush_trees<B: Blocks>(files: &mut Files, blocks: &mut B) -> Result<(), FilesFault>
+    ensures lays { LaysTrees B.told (B.shown blocks.old) (B.shown blocks.new) files.old files.new result }
+    ensures none { OnOk result (maps.btree_map_len files.new.trees ≡ 0) }
+    ensures calls { B.goes blocks.old blocks.new }
+{
+    for _ in 0..files.trees.len() {
+        flush_first(files, blocks)?;
+    }
+    Ok(())
+}
+
+/// Places the tree in memory with the least number.
+fn flush_first<B: Blocks>(files: &mut Files, blocks: &mut B) -> Result<(), FilesFault>
+    ensures lays { LaysTrees B.told (B.shown blocks.old) (B.shown blocks.new) files.old files.new result }
+    ensures fewer { OnOk result (maps.btree_map_len files.new.trees ≡ maps.btree_map_len files.old.trees - 1) }
+    ensures calls { B.goes blocks.old blocks.new }
+{
+    match first_number(&files.trees) {
+        None => Ok(()),
+        Some(number) => flush_file(files, blocks, number),
+    }
+}
+
+/// The least number under which a tree is in memory.
+fn first_number(trees: &BTreeMap<u32, Tree>) -> Option<u32>
+    ensures there { IfSome result (λ number. is_some (maps.get nat_cmp trees.now number) ≡ true) }
+    ensures none { IfNone result (maps.btree_map_len trees.now ≡ 0) }
+{
+    match trees.first_key_value() {
+        None => None,
+        Some((number, _)) => Some(*number),
+    }
+}
+
+/// Places the tree of a file that is in memory, and lays its root into the file's inode block. One without a file goes, which a
+/// table that stands on its blocks doesn't have.
+fn flush_file<B: Blocks>(files: &mut Files, blocks: &mut B, number: u32) -> Result<(), FilesFault>
+    requires kept { is_some (tree_in files.old number) ≡ true }
+    ensures lays { LaysTrees B.told (B.shown blocks.old) (B.shown blocks.new) files.old files.new result }
+    ensures fewer { OnOk result (maps.btree_map_len files.new.trees + 1 ≡ maps.btree_map_len files.old.trees) }
+    ensures calls { B.goes blocks.old blocks.new }
+{
+    if !files.inode.ready(blocks, number)? {
+        forget(&mut files.trees, number);
+        return Ok(());
+    }
+    lay_file(files, blocks, number)
+}
+
+/// Places the tree of a file of which the inode block is held, and lays its root there.
+fn lay_file<B: Blocks>(files: &mut Files, blocks: &mut B, number: u32) -> Result<(), FilesFault>
+    requires kept { is_some (tree_in files.old number) ≡ true }
+    requires ready { IsReadyFile files.old.inode number }
+    ensures lays { LaysTrees B.told (B.shown blocks.old) (B.shown blocks.new) files.old files.new result }
+    ensures fewer { OnOk result (maps.btree_map_len files.new.trees + 1 ≡ maps.btree_map_len files.old.trees) }
+    ensures calls { B.goes blocks.old blocks.new }
+{
+    let levels = kept_levels(&files.trees, number);
+    let root = flush_kept(&mut files.trees, blocks, number)?;
+    files.inode.set_root(blocks, number, levels, root)?;
+    forget(&mut files.trees, number);
+    Ok(())
+}
+
+/// How many levels a tree in memory has.
+fn kept_levels(trees: &BTreeMap<u32, Tree>, number: u32) -> u8
+    ensures levels { (t : kept.Tree) → maps.get nat_cmp trees.now number ≡ Some t → result ≡ t.levels }
+    ensures few { result ≤ 3 }
+{
+    match trees.get(&number) {
+        Some(tree) => tree.levels(),
+        None => 0,
+    }
+}
+
+/// Places a tree in memory.
+fn flush_kept<B: Blocks>(
+    trees: &mut BTreeMap<u32, Tree>,
+    blocks: &mut B,
+    number: u32,
+) -> Result<Pointer, FilesFault>
+    requires kept { is_some (maps.get nat_cmp trees.old number) ≡ true }
+    ensures flushes { FlushesKept B.told (B.shown blocks.old) (B.shown blocks.new) trees.old trees.new number result }
+    ensures len { maps.btree_map_len trees.new ≡ maps.btree_map_len trees.old }
+    ensures calls { B.goes blocks.old blocks.new }
+{
+    match trees.get_mut(&number) {
+        Some(tree) => tree.flush(blocks),
+        None => Ok(HOLE),
+    }
+}
+
+/// A pointer that leads nowhere.
+const HOLE: Pointer = Pointer {
+    vvbn: 0,
+    pvbn: 0,
+    stamp: 0,
+};

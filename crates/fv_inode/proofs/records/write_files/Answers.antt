@@ -1,0 +1,11 @@
+use Rattle.fv_inode.proofs.Looked.{both_ok, alters_at}
+use Rattle.fv_inode.proofs.records.write_files.Goals as goal
+
+pub returns-clause-alters : goal.returns-clause-alters
+returns-clause-alters g c =
+    let did = c.put.ensures in
+    alters_at g.B.Blocks.told c.args.tree.now c.put.new.self (g.B.Blocks.shown c.args.blocks.now) (g.B.Blocks.shown c.put.new.blocks) c.put.result did.failed did.owner did.stands did.leads did.keeps did.untouched did.counts did.cause
+
+pub returns-clause-written : goal.returns-clause-written
+returns-clause-written g c = λ told.
+    both_ok c.put.result (c.put.ensures.written told) (c.put.ensures.place_by_place told) (λ written place_by_place. record { block = c.spelled-block.result; spelled = c.spelled-block.ensures; written = written; place_by_place = place_by_place })

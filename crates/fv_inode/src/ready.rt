@@ -1,0 +1,83 @@
+//! A file whose record can be changed without a fault.
+
+ghost use Rattle.std.specs.Prelude.{◌≡◌, ◌≤◌, ◌+◌, ◌/◌, ℕ, true, is_some, IfOk};
+ghost use Rattle.fv_tables.specs.Spelled.{Under};
+ghost use Rattle.fv_tables.specs.Told.{records_each, file_at};
+ghost use Rattle.fv_tree.specs.Standing.{standing, under};
+ghost use Rattle.fv_tree.specs.Writing.{IsAlike, Remains};
+ghost use Rattle.fv_tree.specs.Readying.{IsReady};
+ghost use Rattle.fv_tree.specs.Costs.{pending};
+ghost use Rattle.fv_inode.specs.Files.{rooted};
+ghost use Rattle.fv_inode.specs.Failing.{Alters};
+ghost use Rattle.fv_inode.specs.Readying.{HoldsFile, IsReadyFile};
+
+use crate::file::InodeFile;
+use crate::info::InodeFault;
+use crate::records::{EACH, held_files, read_files};
+use fv_tree::{Blocks, Tree};
+
+impl InodeFile {
+    /// Brings the inode block of a file and the nodes over it into memory, so that a `rewrite` or an `erase` of the file
+    /// can't fail; false exactly where no file has the number. The inode file stays as it is, after a fault, too. It loads
+    /// what `Tree::ready` loads, and once more to read the record. They stay in memory, and the next `flush` places them.
+    ///
+    /// # Errors
+    ///
+    /// As `find`, and `Memory` where there is no memory for the nodes and the inode block.
+    pub fn ready<B: Blocks>(&mut self, blocks: &mut B, number: u32) -> Result<bool, InodeFault>
+        ensures ready { IfOk result (λ there. there ≡ true → IsReadyFile self.new number) }
+        ensures there { B.told → IfOk result (λ there. is_some (file_at (rooted (B.shown blocks.old) self.old) number) ≡ there) }
+        ensures alike { B.told → IsAlike (rooted (B.shown blocks.old) self.old) (rooted (B.shown blocks.new) self.new) }
+        ensures remains { B.told → Remains (rooted (B.shown blocks.old) self.old) (rooted (B.shown blocks.new) self.new) }
+        ensures files { B.told → (n : ℕ) → file_at (rooted (B.shown blocks.new) self.new) n ≡ file_at (rooted (B.shown blocks.old) self.old) n }
+        ensures levels { self.new.tree.levels ≡ self.old.tree.levels }
+        ensures alters { Alters B.told (B.shown blocks.old) (B.shown blocks.new) self.old.tree self.new.tree result }
+        ensures pending { pending self.new.tree ≤ pending self.old.tree + 4 }
+        ensures reads { B.reads blocks.old blocks.new }
+    {
+        ready_file(&mut self.tree, blocks, number)
+    }
+}
+
+/// Brings the inode block of a file and the nodes over it into memory, once it has the shape of one.
+fn ready_file<B: Blocks>(tree: &mut Tree, blocks: &mut B, number: u32) -> Result<bool, InodeFault>
+    ensures ready { IfOk result (λ there. there ≡ true → HoldsFile tree.new number) }
+    ensures there { B.told → IfOk result (λ there. is_some (file_at (standing (under (B.shown blocks.old)) tree.old) number) ≡ there) }
+    ensures alike { B.told → IsAlike (standing (under (B.shown blocks.old)) tree.old) (standing (under (B.shown blocks.new)) tree.new) }
+    ensures levels { tree.new.levels ≡ tree.old.levels }
+    ensures alters { Alters B.told (B.shown blocks.old) (B.shown blocks.new) tree.old tree.new result }
+    ensures pending { pending tree.new ≤ pending tree.old + 4 }
+    ensures reads { B.reads blocks.old blocks.new }
+{
+    let files = read_files(tree, blocks, number / EACH)?;
+    if files[(number % EACH) as usize].name_length == 0 {
+        return Ok(false);
+    }
+    hold(tree, blocks, number)
+}
+
+/// Brings the inode block of a file and the nodes over it into memory.
+fn hold<B: Blocks>(tree: &mut Tree, blocks: &mut B, number: u32) -> Result<bool, InodeFault>
+    ensures ready { IfOk result (λ there. there ≡ true → HoldsFile tree.new number) }
+    ensures there { B.told → IfOk result (λ there. is_some (file_at (standing (under (B.shown blocks.old)) tree.old) number) ≡ there) }
+    ensures alike { B.told → IsAlike (standing (under (B.shown blocks.old)) tree.old) (standing (under (B.shown blocks.new)) tree.new) }
+    ensures levels { tree.new.levels ≡ tree.old.levels }
+    ensures alters { Alters B.told (B.shown blocks.old) (B.shown blocks.new) tree.old tree.new result }
+    ensures pending { pending tree.new ≤ pending tree.old + 4 }
+    ensures reads { B.reads blocks.old blocks.new }
+{
+    let there = tree.ready(blocks, number / EACH)?;
+    if !there {
+        return Ok(false);
+    }
+    Ok(has_record(tree, number))
+}
+
+/// Whether a file has a number, whose inode block is in memory.
+fn has_record(tree: &Tree, number: u32) -> bool
+    requires ready { IsReady tree.now (number / records_each) }
+    ensures { (blocks : Under) → is_some (file_at (standing blocks tree.now) number) ≡ result }
+{
+    let files = held_files(tree, number / EACH);
+    files[(number % EACH) as usize].name_length != 0
+}

@@ -1,0 +1,63 @@
+use Rattle.std.proofs.Common.{◌≡◌, ◌≤◌, ◌-◌, ◌/◌, ◌^◌, ℕ, List, sym, ap, ◌∙◌, subst, arith}
+use Rattle.std.specs.Ordering.{nat_cmp}
+use Rattle.fv_model.specs.Trees.{fan}
+use Rattle.fv_tree.specs.Spelled.{pointer_below}
+use Rattle.fv_tree.specs.Standing.{standing, under, Fails}
+use Rattle.fv_tree.specs.Sources.{Shown}
+use Rattle.std.specs.FinMap as fin
+use Rattle.std.proofs.lemmas.Result.{err_from_is_err_and}
+use Rattle.fv_tree.proofs.Causes.{calm_itself, calm_then, fails_later, untouched_itself, untouched_then}
+use Rattle.fv_tree.proofs.Found.{found_all, found_next, found_top}
+use Rattle.fv_tree.proofs.added.found_over.Goals as goal
+
+pub loop-level-init : goal.loop-level-init
+loop-level-init g c =
+    let t = standing (under (g.B.Blocks.shown c.args.blocks.now)) c.args.tree.now in
+    let i = c.args.index in
+    let none : t.levels - t.levels ≡ 0 = omega arith in
+    let top = c.top-pointer.ensures (under (g.B.Blocks.shown c.args.blocks.now)) ∙ ap (λ n. pointer_below t n (i / fan ^ t.levels)) (sym none) in record {
+      high = omega arith;
+      pointer = λ _. top;
+      found = λ _. found_top t i c.stands-found.result c.top-pointer.result top c.stands-found.ensures.exact;
+      few = (let few = c.stands-found.ensures.few in omega (arith, few));
+      untouched = untouched_itself _;
+      calm = calm_itself _;
+      reads = g.met.B.Blocks.reads_nothing c.args.blocks.now;
+    }
+
+pub loop-level-preserved : goal.loop-level-preserved
+loop-level-preserved g c =
+    let a = g.B.Blocks.shown c.args.blocks.now in
+    let b = g.B.Blocks.shown c.loop-level.blocks in
+    let d = g.B.Blocks.shown c.step.new.blocks in
+    let tree = c.args.tree.now in
+    let t = standing (under a) tree in
+    let i = c.args.index in
+    let level = c.loop-level.level in
+    let was = c.loop-level.invariant in
+    let now = c.in_ok-pointer.ensures in
+    let one = c.stands-found-in-loop-level.ensures in
+    let high : level ≤ t.levels = was.high in
+    let low : 1 ≤ level = omega (arith, c.loop-level-test.true) in
+    let below : g.B.Blocks.told → c.in_ok-pointer.pointer ≡ pointer_below t (t.levels - (level - 1)) (i / fan ^ (level - 1)) =
+    λ told. now.below told ∙ ap (λ (h : fin.FinMap nat_cmp (List ℕ)). pointer_below (standing (λ v. fin.get h v) tree) (t.levels - (level - 1)) (i / fan ^ (level - 1))) was.untouched.held in record {
+      high = omega (arith, high);
+      pointer = below;
+      found = λ told. found_next t i level c.stands-found-in-loop-level.result c.loop-level.found c.in_ok-pointer.pointer low high (below told) one.exact (was.found told);
+      few = (let before = was.few in let few = one.few in omega (arith, before, few, low));
+      untouched = untouched_then a b d was.untouched now.untouched;
+      calm = calm_then a b d was.calm now.counts.calm;
+      reads = g.met.B.Blocks.reads_on c.args.blocks.now c.loop-level.blocks c.step.new.blocks was.reads now.reads;
+    }
+
+pub returns-in_err-pointer-clause-cause : goal.returns-in_err-pointer-clause-cause
+returns-in_err-pointer-clause-cause g c =
+    let old : Shown = g.B.Blocks.shown c.args.blocks.now in
+    let mid : Shown = g.B.Blocks.shown c.loop-level.blocks in
+    let new : Shown = g.B.Blocks.shown c.step.new.blocks in
+    let p = err_from_is_err_and c.from_residual.result c.from_residual.ensures.1 in
+    rw (p.1, p.2) (fails_later g.B.Blocks.told (standing (under old) c.args.tree.now) old mid new c.in_err-pointer.field-0.0 c.loop-level.invariant.calm c.loop-level.invariant.untouched.held (subst (λ held. Fails g.B.Blocks.told (standing (λ v. fin.get held v) c.args.tree.now) mid new c.in_err-pointer.field-0.0) c.loop-level.invariant.untouched.held c.in_err-pointer.ensures.cause))
+
+pub returns-clause-found : goal.returns-clause-found
+returns-clause-found g c = λ told.
+    found_all (standing (under (g.B.Blocks.shown c.args.blocks.now)) c.args.tree.now) c.args.index c.loop-level.level c.loop-level.found (omega (arith, c.loop-level-test.false)) (c.loop-level.invariant.found told)

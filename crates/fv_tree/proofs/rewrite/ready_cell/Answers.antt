@@ -1,0 +1,121 @@
+use Rattle.std.proofs.Common.{◌≡◌, ◌≢◌, ℕ, List, Option, Some, None, cond, is_some, refl, sym, ap, subst, ◌∙◌, arith}
+use Rattle.std.proofs.lemmas.Result.{IfOk-weaker, IfErr-weaker, err_from_is_err_and}
+use Rattle.std.specs.Ordering.{nat_cmp}
+use Rattle.std.specs.FinMap as fin
+use Rattle.fv_codec.specs.declared.pointer.Pointer.{Pointer}
+use Rattle.fv_tree.specs.Spelled.{pointer_at, stamp_in, block_at}
+use Rattle.fv_tree.specs.Standing.{standing, under}
+use Rattle.fv_tree.specs.Keeping.{IsSame}
+use Rattle.fv_tree.specs.Writing.{IsAlike}
+use Rattle.fv_tree.proofs.Causes.{calm_then, cell_fails, fails_later, fails_same}
+use Rattle.fv_tree.proofs.Flushes.{alike_then}
+use Rattle.fv_tree.proofs.Held.{same_self}
+use Rattle.fv_tree.proofs.Leading.{carries_itself, carries_then, carries_untouched}
+use Rattle.fv_tree.proofs.Ready.{is_stamped}
+use Rattle.fv_tree.proofs.Removing.{none_past}
+use Rattle.fv_tree.proofs.Rewritten.{refilled_any}
+use Rattle.fv_tree.proofs.Writes.{no_stamp, same_alike}
+use Rattle.fv_tree.proofs.rewrite.ready_cell.Goals as goal
+
+pub returns-then-index-width-clause-there : goal.returns-then-index-width-clause-there
+returns-then-index-width-clause-there g c = λ told.
+    let t = standing (under (g.B.Blocks.shown c.args.blocks.now)) c.args.tree.now in
+    ap is_some (no_stamp (pointer_at t 0 c.args.index) (none_past t c.args.index (omega (arith, c.if-index-width.true, c.width.ensures.is))))
+
+pub returns-then-index-width-clause-alike : goal.returns-then-index-width-clause-alike
+returns-then-index-width-clause-alike g c = λ _. let t = standing (under (g.B.Blocks.shown c.args.blocks.now)) c.args.tree.now in same_alike t t (same_self t)
+
+pub returns-then-index-width-clause-carries : goal.returns-then-index-width-clause-carries
+returns-then-index-width-clause-carries g c = λ _. carries_itself (g.B.Blocks.shown c.args.blocks.now) c.args.tree.now
+
+pub returns-in_err-pointer-clause-alike : goal.returns-in_err-pointer-clause-alike
+returns-in_err-pointer-clause-alike g c = λ told.
+    same_alike (standing (under (g.B.Blocks.shown c.args.blocks.now)) c.args.tree.now) (standing (under (g.B.Blocks.shown c.keep_path.new.blocks)) c.keep_path.new.tree) (c.keep_path.ensures.same told)
+
+pub returns-then-pointer-eq0-clause-there : goal.returns-then-pointer-eq0-clause-there
+returns-then-pointer-eq0-clause-there g c = λ told.
+    let t = standing (under (g.B.Blocks.shown c.args.blocks.now)) c.args.tree.now in
+    ap is_some (no_stamp (pointer_at t 0 c.args.index) (ap (λ (p : Pointer). p.stamp) (sym (c.in_ok-pointer.ensures.pointer told)) ∙ c.if-pointer-eq0.true))
+
+pub returns-then-pointer-eq0-clause-alike : goal.returns-then-pointer-eq0-clause-alike
+returns-then-pointer-eq0-clause-alike g c = λ told.
+    same_alike (standing (under (g.B.Blocks.shown c.args.blocks.now)) c.args.tree.now) (standing (under (g.B.Blocks.shown c.keep_path.new.blocks)) c.keep_path.new.tree) (c.keep_path.ensures.same told)
+
+pub returns-in_err-read_cell-clause-alike : goal.returns-in_err-read_cell-clause-alike
+returns-in_err-read_cell-clause-alike g c = λ told.
+    let t = standing (under (g.B.Blocks.shown c.args.blocks.now)) c.args.tree.now in
+    let v = c.keep_path.new.tree in
+    subst (λ (h : fin.FinMap nat_cmp (List ℕ)). IsAlike t (standing (λ w. fin.get h w) v)) (sym c.read_cell.ensures.untouched.held) (same_alike t (standing (under (g.B.Blocks.shown c.keep_path.new.blocks)) v) (c.keep_path.ensures.same told))
+
+pub returns-in_err-read_cell-clause-carries : goal.returns-in_err-read_cell-clause-carries
+returns-in_err-read_cell-clause-carries g c = λ told.
+    let b = g.B.Blocks.shown c.keep_path.new.blocks in
+    let d = g.B.Blocks.shown c.read_cell.new.blocks in
+    let v = c.keep_path.new.tree in
+    carries_then (g.B.Blocks.shown c.args.blocks.now) b d c.args.tree.now v v (c.keep_path.ensures.carries told) (carries_untouched b d v c.read_cell.ensures.untouched)
+
+pub returns-in_err-read_cell-clause-cause : goal.returns-in_err-read_cell-clause-cause
+returns-in_err-read_cell-clause-cause g c =
+    let a = g.B.Blocks.shown c.args.blocks.now in
+    let b = g.B.Blocks.shown c.keep_path.new.blocks in
+    let d = g.B.Blocks.shown c.read_cell.new.blocks in
+    let t = standing (under a) c.args.tree.now in
+    let v = standing (under b) c.keep_path.new.tree in
+    let path = c.in_ok-pointer.ensures in
+    let e = c.in_err-read_cell.field-0.0 in
+    let p = err_from_is_err_and c.from_residual-in_err-read_cell.result c.from_residual-in_err-read_cell.ensures.1 in
+    rw (p.1, p.2) (fails_later g.B.Blocks.told t a b d e path.counts.calm path.untouched.held
+    (fails_same g.B.Blocks.told t v b d e path.same
+    (cell_fails g.B.Blocks.told v b d c.args.index c.in_ok-pointer.pointer e refl (λ told. path.pointer told ∙ sym ((path.same told).pointers 0 c.args.index)) c.in_err-read_cell.ensures.cause)))
+
+pub returns-clause-there : goal.returns-clause-there
+returns-clause-there g c = λ told.
+    let v = c.keep_path.new.tree in
+    IfOk-weaker c.refill_cell.result _ _ (λ there is.
+    ap (λ (p : Pointer). is_some (stamp_in p)) (sym (ap (λ (h : fin.FinMap nat_cmp (List ℕ)). pointer_at (standing (λ w. fin.get h w) v) 0 c.args.index) c.read_cell.ensures.untouched.held ∙ (c.keep_path.ensures.same told).pointers 0 c.args.index))
+    ∙ is.stands) (c.refill_cell.ensures.done told)
+
+pub returns-clause-alike : goal.returns-clause-alike
+returns-clause-alike g c = λ told.
+    let a = g.B.Blocks.shown c.args.blocks.now in
+    let b = g.B.Blocks.shown c.keep_path.new.blocks in
+    let d = g.B.Blocks.shown c.read_cell.new.blocks in
+    let t = standing (under a) c.args.tree.now in
+    let v = c.keep_path.new.tree in
+    let u = standing (under (g.B.Blocks.shown c.refill_cell.new.blocks)) c.refill_cell.new.tree in
+    let i = c.args.index in
+    let path = c.in_ok-pointer.ensures in
+    let held = c.read_cell.ensures.untouched.held in
+    let read = c.in_ok-read_cell.ensures in
+    let content = c.read_cell.new.into in
+    let first : IsAlike t (standing (under d) v) = subst (λ (h : fin.FinMap nat_cmp (List ℕ)). IsAlike t (standing (λ w. fin.get h w) v)) (sym held) (same_alike t (standing (under b) v) (path.same told)) in
+    let some : (pointer_at (standing (under d) v) 0 i).stamp ≢ 0 = λ none. c.if-pointer-eq0.false
+    (ap (λ (p : Pointer). p.stamp) (path.pointer told ∙ sym (ap (λ (h : fin.FinMap nat_cmp (List ℕ)). pointer_at (standing (λ w. fin.get h w) v) 0 i) held ∙ (path.same told).pointers 0 i)) ∙ none) in
+    let block : block_at (standing (under d) v) i ≡ Some content =
+    ap (λ (h : fin.FinMap nat_cmp (List ℕ)). block_at (standing (λ w. fin.get h w) v) i) held ∙ read.cell told ∙ ap (λ there. cond {A = Option (List ℕ)} there (Some content) None) (read.there ∙ is_stamped c.in_ok-pointer.pointer c.if-pointer-eq0.false) in
+    alike_then t (standing (under d) v) u first (refilled_any c.refill_cell.result (standing (under d) v) u i content (c.refill_cell.ensures.done told) (c.refill_cell.ensures.failed told) some block)
+
+pub returns-clause-carries : goal.returns-clause-carries
+returns-clause-carries g c = λ told.
+    let a = g.B.Blocks.shown c.args.blocks.now in
+    let b = g.B.Blocks.shown c.keep_path.new.blocks in
+    let d = g.B.Blocks.shown c.read_cell.new.blocks in
+    let e = g.B.Blocks.shown c.refill_cell.new.blocks in
+    let v = c.keep_path.new.tree in
+    let u = c.refill_cell.new.tree in
+    carries_then a b e c.args.tree.now v u (c.keep_path.ensures.carries told) (carries_then b d e v v u (carries_untouched b d v c.read_cell.ensures.untouched) (c.refill_cell.ensures.carries told))
+
+pub returns-clause-cause : goal.returns-clause-cause
+returns-clause-cause g c =
+    let a = g.B.Blocks.shown c.args.blocks.now in
+    let b = g.B.Blocks.shown c.keep_path.new.blocks in
+    let d = g.B.Blocks.shown c.read_cell.new.blocks in
+    let new = g.B.Blocks.shown c.refill_cell.new.blocks in
+    let t = standing (under a) c.args.tree.now in
+    let v = c.keep_path.new.tree in
+    let path = c.in_ok-pointer.ensures in
+    let read = c.in_ok-read_cell.ensures in
+    let held = read.untouched.held in
+    let same : g.B.Blocks.told → IsSame t (standing (under d) v) = λ told. subst (λ (h : fin.FinMap nat_cmp (List ℕ)). IsSame t (standing (λ w. fin.get h w) v)) (sym held) (path.same told) in
+    IfErr-weaker c.refill_cell.result _ _ (λ e h. fails_later g.B.Blocks.told t a d new e (calm_then a b d path.counts.calm read.counts.calm) (held ∙ path.untouched.held)
+    (fails_same g.B.Blocks.told t (standing (under d) v) d new e same h)) c.refill_cell.ensures.cause

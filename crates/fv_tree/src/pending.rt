@@ -1,0 +1,36 @@
+//! How much a flush has to place.
+
+ghost use Rattle.std.specs.Prelude.{◌≡◌, ◌<◌, ◌^◌, cond};
+ghost use Rattle.fv_tree.specs.Costs.{changes_in, pending};
+
+use crate::kept::{KeptNode, Tree};
+use std::collections::BTreeMap;
+
+impl Tree {
+    /// How many cells and nodes in memory differ from their blocks: a `flush` of a tree that stands on its blocks
+    /// places at most so many blocks. It walks the nodes in memory, takes no memory and makes no call.
+    pub fn pending(&self) -> u64
+        ensures { result ≡ pending self.now }
+    {
+        count_changed(&self.nodes) + self.cells.len() as u64
+    }
+}
+
+/// How many nodes in memory differ from their blocks.
+fn count_changed(nodes: &BTreeMap<(u8, u32), KeptNode>) -> u64
+    ensures count { result ≡ changes_in nodes.now }
+    ensures few { result < 2 ^ 63 }
+{
+    let mut count = 0;
+    for (spot, node) in nodes.iter() {
+        count += one_for(node);
+    }
+    count
+}
+
+/// One for a node that differs from its block, and else 0.
+fn one_for(node: &KeptNode) -> u64
+    ensures { result ≡ cond node.now.changed 1 0 }
+{
+    if node.changed { 1 } else { 0 }
+}

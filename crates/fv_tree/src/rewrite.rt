@@ -1,0 +1,143 @@
+//! Writing a cell that is in memory with the nodes over it, which can't fail.
+
+ghost use Rattle.std.specs.Prelude.{◌≡◌, ◌≢◌, ◌≤◌, ◌+◌, ℕ, Option, true, is_some, cond, nat_eq, Some, IfOk, IfErr};
+ghost use Rattle.std.specs.BTreeMap as maps;
+ghost use Rattle.std.specs.Ordering.{nat_cmp};
+ghost use Rattle.std.specs.Option.{option_map};
+ghost use Rattle.fv_tree.specs.declared.kept.KeptCell.{KeptCell};
+ghost use Rattle.fv_tree.specs.Spelled.{Under, pointer_at, stamp_in, block_at};
+ghost use Rattle.fv_tree.specs.Sources.{Counts, Use, IsUntouched};
+ghost use Rattle.fv_tree.specs.Standing.{standing, under, cell_in, Fails, IsSameButCells};
+ghost use Rattle.fv_tree.specs.Writing.{IsAlike, IsWritten, Remains, Writes};
+ghost use Rattle.fv_tree.specs.Flushing.{cell_placed, loaded, loaded_over, IsSound, Stands};
+ghost use Rattle.fv_tree.specs.Leading.{Carries, LeadsNoMore};
+ghost use Rattle.fv_tree.specs.Readying.{IsReady};
+ghost use Rattle.fv_tree.specs.Costs.{pending};
+
+use crate::blocks::{Blocks, TreeFault};
+use crate::keep::keep_path;
+use crate::kept::{KeptCell, Tree};
+use crate::refill::refill_cell;
+use crate::sizes::width;
+use crate::way::read_cell;
+use crate::write::stamp_path;
+use fv_codec::Pointer;
+use std::collections::BTreeMap;
+
+impl Tree {
+    /// Holds the cell at `index` and the nodes over it in memory, so that `rewrite` or `erase` can follow, which can't
+    /// fail; false exactly for a hole. The tree is seen as before, after a fault, too. It loads at most the nodes
+    /// over the cell that aren't in memory, and its content. A later `flush` places what is held, as if it had changed.
+    ///
+    /// # Errors
+    ///
+    /// As `get`, and `Memory` where there is no memory for the nodes and the content.
+    pub fn ready<B: Blocks>(&mut self, blocks: &mut B, index: u32) -> Result<bool, TreeFault>
+        ensures ready { IfOk result (λ there. there ≡ true → IsReady self.new index) }
+        ensures there { B.told → IfOk result (λ there. is_some (stamp_in (pointer_at (standing (under (B.shown blocks.old)) self.old) 0 index)) ≡ there) }
+        ensures alike { B.told → IsAlike (standing (under (B.shown blocks.old)) self.old) (standing (under (B.shown blocks.new)) self.new) }
+        ensures remains { B.told → Remains (standing (under (B.shown blocks.old)) self.old) (standing (under (B.shown blocks.new)) self.new) }
+        ensures owner { self.new.owner ≡ self.old.owner }
+        ensures levels { self.new.levels ≡ self.old.levels }
+        ensures stands { B.told → Stands (B.shown blocks.old) self.old → Stands (B.shown blocks.new) self.new }
+        ensures leads { B.told → LeadsNoMore (loaded (B.shown blocks.old) self.old) (loaded (B.shown blocks.new) self.new) }
+        ensures keeps { B.told → LeadsNoMore (loaded (B.shown blocks.new) self.new) (loaded (B.shown blocks.old) self.old) }
+        ensures pending { pending self.new ≤ pending self.old + 4 }
+        ensures untouched { IsUntouched (B.shown blocks.old) (B.shown blocks.new) }
+        ensures reads { B.reads blocks.old blocks.new }
+        ensures counts { Counts (B.shown blocks.old) (B.shown blocks.new) result }
+        ensures cause { IfErr result (Fails B.told (standing (under (B.shown blocks.old)) self.old) (B.shown blocks.old) (B.shown blocks.new)) }
+    {
+        ready_cell(self, blocks, index)
+    }
+
+    /// The content of a cell that is in memory with the nodes over it.
+    pub fn content(&self, index: u32, into: &mut [u8; 4096])
+        requires ready { IsReady self.now index }
+        ensures memory { cell_in self.now index ≡ Some into.new }
+        ensures cell { (held : Under) → block_at (standing held self.now) index ≡ Some into.new }
+    {
+        copy_cell(self, index, into);
+    }
+
+    /// Writes a cell that is in memory with the nodes over it, as `put` does, with a stamp of at least 1. It loads
+    /// nothing and takes no memory, so it can't fail. What is in memory stays there.
+    pub fn rewrite(&mut self, index: u32, block: &[u8; 4096], stamp: u64)
+        requires ready { IsReady self.old index }
+        requires stamp { 1 ≤ stamp }
+        ensures written { (held : Under) → Writes (standing held self.old) (standing held self.new) index stamp block.now }
+        ensures place_by_place { (held : Under) → IsWritten (standing held self.old) (standing held self.new) index stamp block.now }
+        ensures owner { self.new.owner ≡ self.old.owner }
+        ensures levels { self.new.levels ≡ self.old.levels }
+        ensures sound { (held : Under) (used : ℕ → Option Use) → IsSound used (loaded_over held self.old) → IsSound used (loaded_over held self.new) }
+        ensures leads { (held : Under) → LeadsNoMore (loaded_over held self.old) (loaded_over held self.new) }
+        ensures keeps { (held : Under) → LeadsNoMore (loaded_over held self.new) (loaded_over held self.old) }
+        ensures ready { (i : ℕ) → IsReady self.old i → IsReady self.new i }
+        ensures memory { cell_in self.new index ≡ Some block.now }
+        ensures pending { pending self.new ≤ pending self.old }
+    {
+        put_content(self, index, block);
+        stamp_path(self, index, stamp);
+    }
+}
+
+/// Holds a cell and the nodes over it in memory, where it stands.
+fn ready_cell<B: Blocks>(tree: &mut Tree, blocks: &mut B, index: u32) -> Result<bool, TreeFault>
+    ensures ready { IfOk result (λ there. there ≡ true → IsReady tree.new index) }
+    ensures there { B.told → IfOk result (λ there. is_some (stamp_in (pointer_at (standing (under (B.shown blocks.old)) tree.old) 0 index)) ≡ there) }
+    ensures alike { B.told → IsAlike (standing (under (B.shown blocks.old)) tree.old) (standing (under (B.shown blocks.new)) tree.new) }
+    ensures owner { tree.new.owner ≡ tree.old.owner }
+    ensures levels { tree.new.levels ≡ tree.old.levels }
+    ensures carries { B.told → Carries (B.shown blocks.old) (B.shown blocks.new) tree.old tree.new }
+    ensures pending { pending tree.new ≤ pending tree.old + 4 }
+    ensures untouched { IsUntouched (B.shown blocks.old) (B.shown blocks.new) }
+    ensures reads { B.reads blocks.old blocks.new }
+    ensures counts { Counts (B.shown blocks.old) (B.shown blocks.new) result }
+    ensures cause { IfErr result (Fails B.told (standing (under (B.shown blocks.old)) tree.old) (B.shown blocks.old) (B.shown blocks.new)) }
+{
+    if index >= width(tree.levels) {
+        return Ok(false);
+    }
+    let pointer = keep_path(tree, blocks, index)?;
+    if pointer.stamp == 0 {
+        return Ok(false);
+    }
+    let mut content = [0; 4096];
+    read_cell(tree, blocks, index, &pointer, &mut content)?;
+    refill_cell(tree, blocks, index, &content)
+}
+
+/// Copies the content of a cell that is in memory.
+fn copy_cell(tree: &Tree, index: u32, into: &mut [u8; 4096])
+    requires there { is_some (cell_in tree.now index) ≡ true }
+    ensures cell { cell_in tree.now index ≡ Some into.new }
+{
+    if let Some(cell) = tree.cells.get(&index) {
+        *into = cell.block;
+    }
+}
+
+/// Puts another content over that of a cell in memory.
+fn put_content(tree: &mut Tree, index: u32, block: &[u8; 4096])
+    requires there { is_some (cell_in tree.old index) ≡ true }
+    ensures fields { IsSameButCells tree.old tree.new }
+    ensures len { maps.btree_map_len tree.new.cells ≡ maps.btree_map_len tree.old.cells }
+    ensures cell { (i : ℕ) → cell_in tree.new i ≡ cond (nat_eq i index) (Some block.now) (cell_in tree.old i) }
+    ensures own { cell_placed (maps.get nat_cmp tree.new.cells index) ≡ cell_placed (maps.get nat_cmp tree.old.cells index) }
+    ensures others { (i : ℕ) → i ≢ index → maps.get nat_cmp tree.new.cells i ≡ maps.get nat_cmp tree.old.cells i }
+{
+    set_content(&mut tree.cells, index, block);
+}
+
+/// Puts another content over that of a cell in memory.
+fn set_content(cells: &mut BTreeMap<u32, KeptCell>, index: u32, block: &[u8; 4096])
+    requires there { is_some (maps.get nat_cmp cells.old index) ≡ true }
+    ensures len { maps.btree_map_len cells.new ≡ maps.btree_map_len cells.old }
+    ensures content { (i : ℕ) → option_map (λ (kept : KeptCell). kept.block) (maps.get nat_cmp cells.new i) ≡ cond (nat_eq i index) (Some block.now) (option_map (λ (kept : KeptCell). kept.block) (maps.get nat_cmp cells.old i)) }
+    ensures own { cell_placed (maps.get nat_cmp cells.new index) ≡ cell_placed (maps.get nat_cmp cells.old index) }
+    ensures others { (i : ℕ) → i ≢ index → maps.get nat_cmp cells.new i ≡ maps.get nat_cmp cells.old i }
+{
+    if let Some(cell) = cells.get_mut(&index) {
+        cell.block = *block;
+    }
+}
