@@ -142,12 +142,12 @@ fn files_in_memory(rt: HostRuntime) -> Result<(), Fail> {
 
 #[test]
 fn failing_writes(rt: HostRuntime) -> Result<(), Fail> {
-    for call in 0..4 {
+    for call in 0..5 {
         assert_eq!(rt;
             failed(rt.alloc(), call),
             Ok((Some(FilesFault::DiskFault), true))
         );
     }
-    assert_eq!(rt; failed(rt.alloc(), 4), Ok((None, true)));
+    assert_eq!(rt; failed(rt.alloc(), 5), Ok((None, true)));
     Ok(())
 }
