@@ -6,7 +6,8 @@ use Rattle.fv_bits.specs.Members.{is_member}
 use Rattle.fv_bits.proofs.Counts.{passing, passing_same}
 use Rattle.fv_model.specs.Machines.{first_block}
 use Rattle.fv_image.specs.Held.{Layout, layout_at, view_at}
-use Rattle.fv_image.specs.Sound.{IsSound, overheads, leaves_room}
+use Rattle.fv_image.specs.Sound.{overheads, leaves_room}
+use Rattle.fv_image.specs.Soundness.{IsSound}
 use Rattle.fv_image.proofs.Counted.{HasHeads, image_has_heads}
 use Rattle.fv_image.proofs.Room.{clear_count, clear_room, sound_room}
 use Rattle.fv_root.specs.declared.find.Found.{Found}
@@ -39,7 +40,7 @@ free_is_clear y space is =
 
 -- Where the space rule holds with so much room, as many blocks are free beside all overheads.
 pub room_in_space : (y : Layout) (space : Space) (room : ℕ) → HasMap y space → HasHeads y → IsSound y → leaves_room y.view room ≡ true → overheads y.view + max 256 room ≤ free_blocks space
-room_in_space y space room map heads is rule = omega (arith, free_is_clear y space map, clear_room y room heads is rule)
+room_in_space y space room map heads is rule = omega (arith, free_is_clear y space map, clear_room y room heads is.blocks rule)
 
 -- The same of a map that was read.
 pub room_when_loaded : (i : Image) (found : Found) (space : Space) (room : ℕ) → IsLoaded i found space → IsSound (layout_at (root_found found) i)

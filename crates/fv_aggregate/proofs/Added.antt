@@ -1,11 +1,11 @@
 -- A session with a new volume.
 use Rattle.std.proofs.Common.{◌≡◌, ◌≢◌, ◌<◌, ◌≤◌, ◌+◌, ◌*◌, ℕ, Bool, true, false, cond, List, length, Option, Some, None, refl, sym, ap, subst, ◌∙◌, ⊎_elim, inl, inr, true≢false, arith, length-set, Result, Ok, Err}
-use Rattle.std.specs.Prelude.{◌⊎◌, IfOk, IsNone, IsTrue, max, nat_lt}
+use Rattle.std.specs.Prelude.{IfOk, IsNone, IsTrue, max, nat_lt}
 use Rattle.std.specs.Option.{is_some, option_map}
 use Rattle.std.proofs.lemmas.Bool.{cases_eq, cases_lt}
 use Rattle.std.proofs.lemmas.Bool.Decides.{nat_tests}
 use Rattle.std.proofs.lemmas.List.{get_or-set_other}
-use Rattle.fv_disk.specs.Shown.{Image, IsDisk, Shown}
+use Rattle.fv_disk.specs.Shown.{IsDisk, Shown}
 use Rattle.fv_disk.specs.DiskCalls.{OnlyReads}
 use Rattle.fv_model.specs.declared.answers.Refusal.{Refusal}
 use Rattle.fv_model.specs.declared.answers.Refusal.TheVariants.{VolumeExists, AggregateFull, Range, TooMany}
@@ -20,21 +20,20 @@ use Rattle.fv_model.specs.Effects.{change_of, effect}
 use Rattle.fv_model.specs.Refusals.{conditions, is_aggregate_full, next, refusal}
 use Rattle.fv_model.specs.Replies.{Allows, AllowsBy, answer}
 use Rattle.fv_image.specs.Views.{Head, Placed, View, entry_count}
-use Rattle.fv_image.specs.Held.{label_place, view_at}
-use Rattle.fv_image.specs.Sound.{committed, overheads}
+use Rattle.fv_image.specs.Held.{view_at}
+use Rattle.fv_image.specs.Sound.{overheads}
 use Rattle.fv_image.specs.Adding.{IsEmptySlot, with_volume}
 use Rattle.fv_image.proofs.Added.{head_elsewhere, head_there, overheads_with}
 use Rattle.fv_root.specs.Finding.{root_found}
 use Rattle.fv_aggmap.specs.Space.{free_blocks}
-use Rattle.fv_container.specs.Mapped.{Mapped, empty_map}
+use Rattle.fv_container.specs.Mapped.{empty_map}
 use Rattle.fv_container.specs.Chains.{container_at}
 use Rattle.fv_volume.specs.declared.pool.Pool.{Pool}
-use Rattle.fv_volume.specs.declared.state.VolumeState.{VolumeState}
 use Rattle.fv_volume.specs.Creating.{IsNew, with_holes}
-use Rattle.fv_volume.specs.Loading.{IsLoaded}
-use Rattle.fv_volume.specs.States.{AreStates, States, head_in, machine_in, place_in, state_at, view_over}
+use Rattle.fv_volume.specs.Files.{AreStates, Over}
+use Rattle.fv_volume.specs.States.{States, head_in, state_at, view_over}
+use Rattle.fv_volume.specs.Trees.{Trees, machine_in, no_trees}
 use Rattle.fv_volume.proofs.Made.{blocks_are}
-use Rattle.fv_cp.specs.Lent.{IsUnnamed}
 use Rattle.fv_aggregate.specs.declared.fault.Fault.{Fault}
 use Rattle.fv_aggregate.specs.declared.session.Session.{Session}
 use Rattle.fv_aggregate.specs.Adding.{HasRoom, IsAdded}
@@ -45,7 +44,8 @@ use Rattle.fv_aggregate.specs.Commands.{is_refusal}
 use Rattle.fv_aggregate.specs.Standing.{Stands, StandsFor}
 use Rattle.fv_aggregate.proofs.Applied.{rests_for}
 use Rattle.fv_aggregate.proofs.Standing.{earlier_moments}
-use Rattle.fv_aggregate.proofs.Sums.{committed_is, same_overheads}
+use Rattle.fv_aggregate.proofs.Beside.{lent_beside}
+use Rattle.fv_aggregate.proofs.Sums.{same_overheads}
 
 none_some : {X : Type 0} (x : X) → None ≡ Some x → ⊥
 none_some x e = cc
@@ -113,41 +113,25 @@ module _ (session : Session) (name : List ℕ) (size : ℕ) (kind : Kind) (room 
     long : length session.volumes ≡ 64
     long = added.long
 
-    slot_is : (s : ℕ) → s < 64
-        → IsLoaded disk.reads pool.found s (state_at new.volumes s) (container_at pool.containers s) ⊎ IsUnnamed pool.found s (state_at new.volumes s) (container_at pool.containers s)
-    slot_is s inside = ⊎_elim
-        (λ (here : s ≡ added.slot). inr (subst (λ (k : ℕ). IsUnnamed pool.found k (state_at new.volumes k) (container_at pool.containers k)) (sym here)
-        (record { free = free_there (stands.lent.slots added.slot added.free.within); name = name; size = size; kind = kind; made = new_slot })))
-        (λ (other : s ≢ added.slot). ⊎_elim
-        (λ loaded. inl (subst (λ (x : Option VolumeState). IsLoaded disk.reads pool.found s x (container_at pool.containers s)) (sym (state_elsewhere s other))
-        (subst (λ (c : Option Mapped). IsLoaded disk.reads pool.found s (state_at session.volumes s) c) (sym (container_elsewhere s other)) loaded)))
-        (λ unnamed. inr (subst (λ (x : Option VolumeState). IsUnnamed pool.found s x (container_at pool.containers s)) (sym (state_elsewhere s other))
-        (subst (λ (c : Option Mapped). IsUnnamed pool.found s (state_at session.volumes s) c) (sym (container_elsewhere s other)) unnamed)))
-        (stands.lent.slots s inside))
-        (cases_eq s added.slot)
-      where
-        free_there : IsLoaded disk.reads session.pool.found added.slot (state_at session.volumes added.slot) (container_at session.pool.containers added.slot) ⊎ IsUnnamed session.pool.found added.slot (state_at session.volumes added.slot) (container_at session.pool.containers added.slot)
-            → label_place (root_found session.pool.found) added.slot ≡ 0
-        free_there (inl loaded) = sym loaded.label ∙ ap place_in added.free.free
-        free_there (inr unnamed) = absurd (none_some unnamed.made.volume (sym added.free.free ∙ unnamed.made.state_is))
-
-    are : AreStates session.volumes
+    are : AreStates (view_over session.pool session.volumes disk.reads) no_trees session.volumes
     are = stands.lent.states
 
     accepted : refusal m (VolCreate name size kind) ≡ None
-    accepted = ap (λ (x : Machine). refusal x (VolCreate name size kind)) (sym stands.machine) ∙ added.accepted are disk.reads
+    accepted = ap (λ (x : Machine). refusal x (VolCreate name size kind)) (sym stands.machine) ∙ added.accepted no_trees disk.reads are
 
-    machine_with : machine_in pool new.volumes disk.reads ≡ next m (VolCreate name size kind)
-    machine_with = ap (λ (p : Pool). machine_in p new.volumes disk.reads) (sym added.holes) ∙ added.machine are disk.reads ∙ ap (λ (x : Machine). next x (VolCreate name size kind)) stands.machine
+    machine_with : machine_in pool new.volumes no_trees disk.reads ≡ next m (VolCreate name size kind)
+    machine_with = ap (λ (p : Pool). machine_in p new.volumes no_trees disk.reads) (sym added.holes) ∙ added.machine no_trees disk.reads are ∙ ap (λ (x : Machine). next x (VolCreate name size kind)) stands.machine
 
     blocks_kept : m.blocks ≡ session.pool.found.blocks
-    blocks_kept = ap (λ (x : Machine). x.blocks) (sym stands.machine) ∙ blocks_are session.pool session.volumes disk.reads long
+    blocks_kept = ap (λ (x : Machine). x.blocks) (sym stands.machine) ∙ blocks_are session.pool session.volumes no_trees disk.reads long
 
-    commits_with : committed (view_over pool new.volumes disk.reads) ≤ capacity session.pool.found.blocks
+    states_with : AreStates (view_over pool new.volumes disk.reads) no_trees new.volumes
+    states_with = subst (λ (p : Pool). AreStates (view_over p new.volumes disk.reads) no_trees new.volumes) added.holes (added.states no_trees disk.reads are)
+
+    commits_with : commits (machine_in pool new.volumes no_trees disk.reads) ≤ capacity session.pool.found.blocks
     commits_with =
-        let told = committed_is pool new.volumes disk.reads (new_long long) (added.states are) in
-        let after : commits (machine_in pool new.volumes disk.reads) ≡ commits (effect m (VolCreate name size kind)) = ap commits (machine_with ∙ next_is m name size kind accepted) in
-        omega (arith, told, after, fits_after m name size kind accepted, ap capacity blocks_kept)
+        let after : commits (machine_in pool new.volumes no_trees disk.reads) ≡ commits (effect m (VolCreate name size kind)) = ap commits (machine_with ∙ next_is m name size kind accepted) in
+        omega (arith, after, fits_after m name size kind accepted, ap capacity blocks_kept)
 
     overheads_now : overheads (view_over pool new.volumes disk.reads) ≡ overheads (view_over session.pool session.volumes disk.reads) + overhead (span_of size 0 0)
     unfolding view_over
@@ -168,15 +152,7 @@ module _ (session : Session) (name : List ℕ) (size : ℕ) (kind : Kind) (room 
         let over = overheads_now in
         let held = stands.pending in
         subst (λ (p : Pool). StandsFor disk (record new { pool = p }) last (next m (VolCreate name size kind))) (sym added.holes) (record {
-          lent = record {
-            found = stands.lent.found;
-            tells = stands.lent.tells;
-            keeps = stands.lent.keeps;
-            map = stands.lent.map;
-            slots = slot_is;
-            states = added.states are;
-            commits = commits_with;
-          };
+          lent = lent_beside disk session.pool session.volumes last stands.lent added.slot name size kind new.volumes added.free added.made new_slot states_with commits_with;
           machine = machine_with;
           settled = stands.settled;
           pending = omega (arith, over, held, room_is, pending);
@@ -198,14 +174,14 @@ refusal_leaves m name size kind r is = ap (λ (x : Option Refusal). cond (is_som
 
 -- what is known of a session's volumes, said of the machine that it stands for
 pub room_for : (disk : Shown) (session : Session) (last m : Machine) (room : ℕ) → length session.volumes ≡ 64 → StandsFor disk session last m
-    → (AreStates session.volumes → (i : Image) → commits (machine_in session.pool session.volumes i) + 2 * room ≤ capacity session.pool.found.blocks) → commits m + 2 * room ≤ capacity m.blocks
+    → ((trees : Trees) → Over session.pool session.volumes trees (λ n. commits n + 2 * room ≤ capacity session.pool.found.blocks)) → commits m + 2 * room ≤ capacity m.blocks
 room_for disk session last m room long stands enough =
-    let blocks : m.blocks ≡ session.pool.found.blocks = ap (λ (x : Machine). x.blocks) (sym stands.machine) ∙ blocks_are session.pool session.volumes disk.reads long in
-    omega (arith, enough stands.lent.states disk.reads, ap commits stands.machine, ap capacity blocks)
+    let blocks : m.blocks ≡ session.pool.found.blocks = ap (λ (x : Machine). x.blocks) (sym stands.machine) ∙ blocks_are session.pool session.volumes no_trees disk.reads long in
+    omega (arith, enough no_trees disk.reads stands.lent.states, ap commits stands.machine, ap capacity blocks)
 
 pub answer_for : (disk : Shown) (session : Session) (last m : Machine) (command : Command) (answer : Option Refusal) → StandsFor disk session last m
-    → (AreStates session.volumes → (i : Image) → refusal (machine_in session.pool session.volumes i) command ≡ answer) → refusal m command ≡ answer
-answer_for disk session last m command answer stands is = ap (λ (x : Machine). refusal x command) (sym stands.machine) ∙ is stands.lent.states disk.reads
+    → ((trees : Trees) → Over session.pool session.volumes trees (λ n. refusal n command ≡ answer)) → refusal m command ≡ answer
+answer_for disk session last m command answer stands is = ap (λ (x : Machine). refusal x command) (sym stands.machine) ∙ is no_trees disk.reads stands.lent.states
 
 -- a volume that is admitted is made, and nothing else is answered
 pub done_allowed : (m : Machine) (name : List ℕ) (size : ℕ) (kind : Kind) → refusal m (VolCreate name size kind) ≡ None → (result : Result Reply Fault) → IfOk result (λ reply. reply ≡ Done) → IfOk result (Allows m (VolCreate name size kind))

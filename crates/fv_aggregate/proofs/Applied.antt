@@ -15,7 +15,7 @@ use Rattle.fv_model.specs.Refusals.{conditions, next}
 use Rattle.fv_model.specs.Replies.{Allows, answer}
 use Rattle.fv_model.specs.Space.{overhead, span_of}
 use Rattle.fv_volume.specs.declared.pool.Pool.{Pool}
-use Rattle.fv_volume.specs.States.{machine_in}
+use Rattle.fv_volume.specs.Trees.{Trees, machine_in, no_trees}
 use Rattle.fv_aggregate.specs.declared.fault.Fault.{Fault}
 use Rattle.fv_aggregate.specs.declared.session.Session.{Session}
 use Rattle.fv_aggregate.specs.Calls.{Goes, GoesFor, IsNoDamage}
@@ -72,10 +72,10 @@ unfolding is_built machine_after conditions change_of
 list_after command m is = ap (machine_after m) is
 
 pub list_replies : (command : Command) → command ≡ VolList → (disk : Shown) (session : Session) (last m : Machine) → StandsFor disk session last m → (names : List (List ℕ))
-    → ((pool : Pool) (i : Image) → names ≡ fin.keys (machine_in pool session.volumes i).volumes) → Replies m command (Names names)
+    → ((pool : Pool) (trees : Trees) (i : Image) → names ≡ fin.keys (machine_in pool session.volumes trees i).volumes) → Replies m command (Names names)
 unfolding is_built conditions answer
 list_replies command is disk session last m stands names listed =
-    let told : names ≡ fin.keys m.volumes = listed session.pool disk.reads ∙ ap (λ (x : Machine). fin.keys x.volumes) stands.machine in
+    let told : names ≡ fin.keys m.volumes = listed session.pool no_trees disk.reads ∙ ap (λ (x : Machine). fin.keys x.volumes) stands.machine in
     subst (λ (c : Command). Replies m c (Names names)) (sym is) (ap Names told)
 
 -- ---- cp

@@ -25,9 +25,8 @@ use Rattle.fv_volume.specs.declared.state.VolumeState.{VolumeState}
 use Rattle.fv_volume.specs.Creating.{IsMade}
 use Rattle.fv_volume.specs.Slots.{IsFirstFree}
 use Rattle.fv_volume.specs.States.{States, state_at, view_over}
-use Rattle.fv_cp.specs.Course.{settled_as}
+use Rattle.fv_volume.specs.Housed.{AreSettled, settled_as}
 use Rattle.fv_cp.specs.Lent.{asked_by, blocks_asked}
-use Rattle.fv_cp.specs.Points.{AreSettled}
 use Rattle.fv_aggregate.specs.declared.session.Session.{Session}
 use Rattle.fv_aggregate.specs.Asking.{AsksWithin, IsShort, free_under}
 use Rattle.fv_aggregate.specs.Standing.{Stands}

@@ -2,9 +2,12 @@ mod Sums
 mod Asking
 mod Calls
 mod Standing
+mod Lent
 mod PointEnds
+mod Beside
 mod Added
 mod Telling
+mod Charges
 mod Opened
 mod Whole
 mod Applied

@@ -1,28 +1,36 @@
 -- A session that was just opened.
-use Rattle.std.proofs.Common.{◌≡◌, ◌≤◌, Option, Some, refl, sym, ap, subst, ◌∙◌, inl, inr, arith, Result, Ok, Err, true}
-use Rattle.std.specs.Prelude.{IfOk, IsTrue, nat_le}
-use Rattle.std.proofs.lemmas.Bool.Decides.{nat_tests}
+use Rattle.std.proofs.Common.{◌≡◌, ◌≤◌, ℕ, length, Option, Some, refl, sym, ap, subst, ◌∙◌, inl, inr, arith, Result, Ok, Err, true}
+use Rattle.std.specs.Prelude.{IfOk, IsTrue}
+use Rattle.std.specs.Ordering.{nat_cmp}
+use Rattle.std.specs.FinMap as fin
 use Rattle.fv_disk.specs.Shown.{Image, Shown, IsSettled}
 use Rattle.fv_disk.specs.DiskCalls.{OnlyReads}
 use Rattle.fv_disk.proofs.Resting.{settled_image}
-use Rattle.fv_model.specs.Machines.{Machine, capacity}
+use Rattle.fv_model.specs.Machines.{Machine}
 use Rattle.fv_image.specs.NewerRoot.{Taken}
 use Rattle.fv_image.specs.Views.{View}
 use Rattle.fv_image.specs.Held.{Keeps, layout_at, view_at}
-use Rattle.fv_image.specs.Sound.{IsSound, committed, is_in_capacity, overheads}
-use Rattle.fv_image.specs.MachineOf.{Tells, machine_of}
+use Rattle.fv_image.specs.Sound.{overheads}
+use Rattle.fv_image.specs.Seen.{seen}
+use Rattle.fv_image.specs.Soundness.{AreTables}
+use Rattle.fv_image.specs.WholeMachine.{Tells, is_built, machine_of}
 use Rattle.fv_image.proofs.Stands.{stands_for}
 use Rattle.fv_root.specs.declared.find.Found.{Found}
-use Rattle.fv_root.specs.Finding.{IsFound, root_found}
+use Rattle.fv_root.specs.Finding.{IsFound, IsInRange, root_found}
 use Rattle.fv_root.specs.Commits.{IsFoundOn}
 use Rattle.fv_store.specs.Held.{StandsOn}
 use Rattle.fv_aggmap.specs.Loading.{IsFault as IsMapFault, IsLoaded as IsMapLoaded}
-use Rattle.fv_cp.specs.Lent.{blocks_asked}
+use Rattle.fv_container.specs.Chains.{slot_count}
+use Rattle.fv_cp.specs.Lent.{FitTogether, blocks_asked}
+use Rattle.fv_volume.specs.Housed.{HaveReach}
+use Rattle.fv_aggmap.specs.Space.{blocks_of}
 use Rattle.fv_aggmap.proofs.Room.{room_when_sound}
 use Rattle.fv_disk.specs.declared.fault.BlockFault.{BlockFault}
 use Rattle.fv_disk.specs.declared.fault.BlockFault.TheVariants.{DiskFault, Damaged, Memory}
-use Rattle.fv_volume.specs.Loading.{IsLoadFault}
-use Rattle.fv_volume.specs.States.{view_over}
+use Rattle.fv_volume.specs.Keeping.{Blocks}
+use Rattle.fv_volume.specs.Loading.{IsLoadFault, KeptTo}
+use Rattle.fv_volume.specs.States.{States, view_over}
+use Rattle.fv_volume.specs.declared.pool.Pool.{Pool}
 use Rattle.fv_aggregate.specs.declared.fault.OpenFault.{OpenFault}
 use Rattle.fv_aggregate.specs.declared.session.Session.{Session}
 use Rattle.fv_aggregate.specs.Causes.{IsOpenFault, of_block}
@@ -30,6 +38,7 @@ use Rattle.fv_aggregate.specs.Opening.{IsFresh, IsOpened}
 use Rattle.fv_aggregate.specs.Standing.{Stands, StandsFor}
 use Rattle.fv_aggregate.specs.Asking.{AsksWithin}
 use Rattle.fv_aggregate.proofs.Asking.{asks_after_reads}
+use Rattle.fv_aggregate.proofs.Lent.{reach_opened, slots_opened, spaced_opened}
 
 -- ---- faults
 
@@ -44,14 +53,26 @@ load_fault i found is DiskFault fault = tt
 load_fault i found is (Damaged at want number) fault = inr (record { root = found; found = is; fault = inr fault })
 load_fault i found is Memory fault = tt
 
+-- ---- what fits together
+
+-- what was just read fits together: each slot has its volume, and nothing waits to be written
+pub fits_opened : (root : Found) (pool left : Pool) (states : States) → IsInRange root → blocks_of pool.map ≡ root.blocks → pool.found ≡ root → pool.kept ≡ fin.empty → KeptTo slot_count states left.containers
+    → left.map ≡ pool.map → left.kept ≡ pool.kept → left.found ≡ pool.found → FitTogether left states
+fits_opened root pool left states range size of none kept map still same = record {
+  range = subst IsInRange (sym (same ∙ of)) range;
+  size = ap blocks_of map ∙ size ∙ ap (λ (f : Found). f.blocks) (sym (same ∙ of));
+  housed = record { long = kept.long; volumes = kept.each; each = kept.housed; parents = kept.parents };
+  kept = λ b taken. ap (λ (k : Blocks). fin.get k b) (still ∙ none) ∙ fin.get-empty nat_cmp b;
+}
+
 -- ---- what a settled image stands for
 
 -- the root that was found tells the machine of the image
 pub found_tells : (i : Image) (found : Found) (m : Machine) → IsFound i found → machine_of i ≡ Some m → Tells (layout_at (root_found found) i) m
 found_tells i found m is machine =
     let stands = stands_for i m machine in
-    let same : stands.taken ≡ root_found found = so stands.taken (root_found found) (sym stands.counts ∙ is.root) in
-    subst (λ (t : Taken). Tells (layout_at t i) m) same stands.tells
+    let same : stands.0 ≡ root_found found = so stands.0 (root_found found) (sym stands.1.0 ∙ is.root) in
+    subst (λ (t : Taken). Tells (layout_at t i) m) same stands.1.1
   where
     so : (s t : Taken) → ◌≡◌ {A = Option Taken} (Some s) (Some t) → s ≡ t
     so s t e = cc
@@ -62,33 +83,30 @@ found_on disk found settled is = record {
   images = λ c now. subst (λ (i : Image). IsFound i found) (sym (settled_image disk c settled now)) is;
 }
 
-fits : (y : View) → nat_le (committed y) (capacity y.blocks) ≡ true → committed y ≤ capacity y.blocks
-fits y e = grind (arith, nat_tests)
-
-view_fits : (t : Taken) (i : Image) → IsSound (layout_at t i) → committed (view_at t i) ≤ capacity t.blocks
-unfolding layout_at is_in_capacity view_at
-view_fits t i is = fits (view_at t i) is.commits
-
-pub opened_for : (disk : Shown) (session : Session) (m : Machine) → IsSettled disk → IsOpened disk.reads session → IsFresh session → machine_of disk.reads ≡ Some m → StandsFor disk session m m
-opened_for disk session m settled opened fresh machine =
+pub opened_for : (disk : Shown) (session : Session) (m : Machine) → IsSettled disk → ((b : ℕ) → length (disk.reads b) ≡ 4096) → IsOpened disk.reads session → IsFresh session → machine_of disk.reads ≡ Some m → StandsFor disk session m m
+unfolding layout_at
+opened_for disk session m settled whole opened fresh machine =
     let found = session.pool.found in
     let t = root_found found in
     let tells = found_tells disk.reads found m opened.found machine in
-    let seen : view_over session.pool session.volumes disk.reads ≡ view_at t disk.reads = opened.view in
+    let alike : view_over session.pool session.volumes disk.reads ≡ view_at t disk.reads = opened.view in
     let none : session.pending ≡ 0 = fresh.pending in
     record {
       lent = record {
         found = found_on disk found settled opened.found;
         tells = tells;
         keeps = λ c now. subst (λ (i : Image). Keeps t disk.reads i) (sym (settled_image disk c settled now)) (record { root = opened.found.root; layout = refl });
-        map = opened.map;
-        slots = λ s inside. inl (opened.slots.each s inside);
+        map = record { len = opened.map.len; bits = opened.map.bits };
+        slots = slots_opened disk.reads found m tells session.volumes session.pool.containers opened.slots;
+        spaced = spaced_opened disk.reads found m tells session.volumes session.pool.containers opened.slots session.pool.map opened.map;
         states = opened.states m tells;
-        commits = subst (λ (w : View). committed w ≤ capacity found.blocks) (sym seen) (view_fits t disk.reads tells.sound);
+        built = subst (λ (w : View). is_built w ≡ true) (sym alike) tells.built;
+        tables = subst (λ (w : View). AreTables (seen w)) (sym alike) tells.sound.tables;
+        reach = subst (λ (w : View). HaveReach w session.volumes) (sym alike) (reach_opened disk.reads found m tells session.volumes session.pool.containers opened.slots whole);
       };
       machine = opened.machine m tells;
       settled = settled;
-      pending = ap overheads seen ∙ omega (arith, none);
+      pending = ap overheads alike ∙ omega (arith, none);
       room = omega (arith, none, room_when_sound disk.reads found session.pool.map opened.map tells.sound);
     }
 
@@ -124,10 +142,11 @@ module _ (mid new : Shown) (settled : IsTrue mid.tells → IsSettled mid) (reads
   asks_result (Err fault) fresh asked = tt
 
 -- the answer of a call that only read, over a disk that a barrier had settled
-pub opened_result : (mid new : Shown) (m : Machine) (result : Result Session OpenFault) → IsSettled mid → OnlyReads mid new → IfOk result (IsOpened mid.reads) → IfOk result IsFresh → machine_of mid.reads ≡ Some m
+pub opened_result : (mid new : Shown) (m : Machine) (result : Result Session OpenFault) → IsSettled mid → ((b : ℕ) → length (mid.reads b) ≡ 4096) → OnlyReads mid new → IfOk result (IsOpened mid.reads) → IfOk result IsFresh → machine_of mid.reads ≡ Some m
     → IfOk result (λ session. StandsFor new session m m)
-opened_result mid new m (Ok session) settled reads opened fresh machine =
+opened_result mid new m (Ok session) settled whole reads opened fresh machine =
     let same : new.reads ≡ mid.reads = reads.stays.reads in
     opened_for new session m (λ c now a. settled c (reads.stays.no_more c now) a ∙ ap (λ (i : Image). i a) (sym same))
+    (λ b. ap (λ (i : Image). length (i b)) same ∙ whole b)
     (subst (λ (i : Image). IsOpened i session) (sym same) opened) fresh (ap machine_of same ∙ machine)
-opened_result mid new m (Err fault) settled reads opened fresh machine = tt
+opened_result mid new m (Err fault) settled whole reads opened fresh machine = tt

@@ -1,19 +1,23 @@
 -- What a session stands for after a consistency point.
-use Rattle.std.proofs.Common.{◌≡◌, ◌<◌, ◌≤◌, ◌+◌, ◌*◌, ℕ, true, false, Option, Some, Ok, Err, true≢false, refl, sym, ap, subst, ◌∙◌, ⊎_elim, inl, inr, arith, length}
+use Rattle.std.proofs.Common.{◌≡◌, ◌<◌, ◌≤◌, ◌+◌, ◌-◌, ◌*◌, ℕ, true, false, Option, Some, None, Ok, Err, refl, sym, ap, subst, ◌∙◌, ⊎_elim, inl, inr, arith, length}
 use Rattle.std.specs.Prelude.{IfSome, IsNone, IsTrue, max}
+use Rattle.std.proofs.lemmas.Bool.Decides.{nat_tests}
 use Rattle.fv_disk.specs.Shown.{Shown}
 use Rattle.fv_disk.specs.Crash.{Leaves}
 use Rattle.fv_disk.specs.DiskCalls.{OnlyReads}
 use Rattle.fv_disk.proofs.Moments.{weaken}
-use Rattle.fv_model.specs.Machines.{Machine, capacity}
+use Rattle.fv_model.specs.Machines.{Machine, capacity, first_block}
 use Rattle.fv_model.specs.Space.{commits}
-use Rattle.fv_image.specs.Views.{delayed}
-use Rattle.fv_image.specs.Held.{Layout, layout_at, view_at}
-use Rattle.fv_image.specs.Told.{told}
-use Rattle.fv_image.specs.Sound.{committed, leaves_room, overheads}
-use Rattle.fv_image.proofs.Admitted.{commits_are}
-use Rattle.fv_image.proofs.EmptyVolumes.{own_is_none}
-use Rattle.fv_image.proofs.Promises.{room_by_commits, sound_is_large}
+use Rattle.fv_image.specs.Views.{View, delayed, own}
+use Rattle.fv_image.specs.Held.{layout_at, view_at}
+use Rattle.fv_image.specs.Volumes.{told_with}
+use Rattle.fv_image.specs.Sound.{leaves_room, overheads}
+use Rattle.fv_image.specs.Seen.{seen}
+use Rattle.fv_image.specs.VolumeRules.{commits_seen}
+use Rattle.fv_image.proofs.Committed.{commits_told}
+use Rattle.fv_image.proofs.OwnBases.{uses_own}
+use Rattle.fv_image.proofs.Points.{UsesOwn, room_beside_commits}
+use Rattle.fv_image.proofs.WellLabels.{numbers_at}
 use Rattle.fv_root.specs.Finding.{root_found}
 use Rattle.fv_root.specs.Commits.{IsFoundOn}
 use Rattle.fv_store.specs.Held.{StandsOn}
@@ -21,20 +25,25 @@ use Rattle.fv_aggmap.specs.Loading.{IsLoaded as IsMapLoaded}
 use Rattle.fv_aggmap.specs.Space.{free_blocks}
 use Rattle.fv_aggmap.proofs.Room.{room_when_loaded, room_when_sound}
 use Rattle.fv_container.specs.Chains.{container_at}
-use Rattle.fv_cp.specs.Lent.{IsLent, IsUnnamed, blocks_asked}
+use Rattle.fv_container.specs.Mapped.{Mapped}
+use Rattle.fv_cp.specs.Lent.{IsLent, IsLentAt, blocks_asked}
+use Rattle.fv_volume.proofs.StillLoaded.{none_loaded}
 use Rattle.fv_disk.specs.declared.fault.BlockFault.TheVariants as cp
-use Rattle.fv_cp.specs.Points.{AreSettled, Counts, IsPoint, LacksRoom, OldOrLent, machine_lent}
-use Rattle.fv_cp.proofs.Admitted.{still_admitted}
+use Rattle.fv_volume.specs.Housed.{AreSettled}
+use Rattle.fv_cp.specs.Points.{Counts, IsPoint, LacksRoom, OldOrLent, machine_lent}
+use Rattle.fv_volume.proofs.StillAdmitted.{still_admitted}
 use Rattle.fv_volume.specs.declared.pool.Pool.{Pool}
 use Rattle.fv_volume.specs.declared.state.VolumeState.{VolumeState}
 use Rattle.fv_volume.specs.Creating.{Admits}
 use Rattle.fv_volume.specs.Loading.{IsLoaded}
-use Rattle.fv_volume.specs.States.{States, machine_in, state_at, view_over}
+use Rattle.fv_volume.specs.States.{States, state_at, view_over}
+use Rattle.fv_volume.specs.Trees.{machine_in, no_trees}
+use Rattle.fv_volume.proofs.Trees.{unchanged_machine}
 use Rattle.fv_aggregate.specs.declared.session.Session.{Session}
 use Rattle.fv_aggregate.specs.declared.fault.Fault.TheVariants.{DiskFault, Damaged}
 use Rattle.fv_aggregate.specs.Adding.{HasRoom, StillAdmits}
 use Rattle.fv_aggregate.specs.Asking.{AsksWithin}
-use Rattle.fv_aggregate.specs.Calls.{FailsByWrite, Goes}
+use Rattle.fv_aggregate.specs.Calls.{FailsByWrite, Goes, GoesFor}
 use Rattle.fv_aggregate.specs.Standing.{OneOf, Stands, StandsFor}
 use Rattle.fv_aggregate.proofs.Asking.{asked_settled, asks_after_reads, asks_more, short_is}
 use Rattle.fv_aggregate.proofs.Standing.{stands_after_reads}
@@ -55,11 +64,16 @@ no_lack disk session last m long stands want found asked free lacks = omega (ari
 pub lent_as : (disk : Shown) (session : Session) (last m : Machine) → StandsFor disk session last m → (pool : Pool) (states : States) → session.pool ≡ pool → session.volumes ≡ states → IsLent disk pool states last
 lent_as disk session last m stands pool states same_pool same_states = subst (λ (p : Pool). IsLent disk p states last) same_pool (subst (λ (v : States). IsLent disk session.pool v last) same_states stands.lent)
 
+-- and their machine
+lent_machine : (disk : Shown) (session : Session) (last m : Machine) → StandsFor disk session last m → (pool : Pool) (states : States) → session.pool ≡ pool → session.volumes ≡ states → machine_lent disk pool states ≡ m
+lent_machine disk session last m stands pool states same_pool same_states =
+    sym (unchanged_machine pool states no_trees disk.reads (λ s. refl)) ∙ (λ j. machine_in (sym same_pool j) (sym same_states j) no_trees disk.reads) ∙ stands.machine
+
 -- what a crash leaves at each moment of a point
 pub point_moments : (old new : Shown) (session : Session) (last m : Machine) → StandsFor old session last m → (pool : Pool) (states : States) → session.pool ≡ pool → session.volumes ≡ states
     → Leaves old new (OldOrLent old pool states last) → Leaves old new (λ c g. OneOf last m m c × (g ≡ old.given))
 point_moments old new session last m stands pool states same_pool same_states left =
-    let machine : machine_lent old pool states ≡ m = (λ j. machine_in (sym same_pool j) (sym same_states j) old.reads) ∙ stands.machine in
+    let machine : machine_lent old pool states ≡ m = lent_machine old session last m stands pool states same_pool same_states in
     weaken old new (OldOrLent old pool states last) (λ c g. OneOf last m m c × (g ≡ old.given)) (λ c g one. (⊎_elim (λ l. inl l) (λ lent. inr (inl (lent ∙ ap Some machine))) one.0, one.1)) left
 
 -- ---- a point as a call
@@ -88,6 +102,10 @@ point_failed before old after new was counts fails =
       done = tt;
       fault = record { reason = was; counts = record { faults = counts.cause; write_faults = λ calm. absurd (calm counts.write_cause) }; session = fails; disk = tt };
     }
+
+-- after a failed write the session has failed, so it needn't stand for anything
+pub point_failed_for : (before : Shown) (last m : Machine) (after : Shown) (new : Session) → Leaves before after (λ c g. OneOf last m m c × (g ≡ before.given)) → new.failed ≡ Some after.faults → GoesFor {T = Unit {0}} before last m m after new (Err DiskFault)
+point_failed_for before last m after new moments failed = record { any_moment = moments; done = tt; still = λ fresh. absurd (both new.failed after.faults fresh failed); whole = tt }
 
 pub point_lacks : (before : Shown) (old : Session) (after : Shown) (new : Session) (at want found : ℕ) → IsNone old.failed → Stands before old → Counts before after (Err (cp.Damaged at want found))
     → LacksRoom old.pool old.volumes (cp.Damaged at want found) → OnlyReads before after → new ≡ old → Goes {T = Unit {0}} 0 before old after new (Err (Damaged at want found))
@@ -118,16 +136,22 @@ admits_still old new long settled blocks name size kind slot span is =
 
 -- ---- after a point
 
-module _ (old : Shown) (pool : Pool) (states : States) (new : Shown) (left : Pool) (stay : States) (is : IsPoint old pool states new left stay) where
+-- a view with room has 256 blocks that can be allocated
+large : (w : View) → leaves_room w 0 ≡ true → 256 ≤ w.blocks - first_block w.blocks
+large w rule =
+    let enough : 2 * overheads w + max 256 0 ≤ w.blocks - first_block w.blocks - own w - delayed w = grind (arith, nat_tests, rule) in
+    omega (arith, enough)
+
+module _ (old : Shown) (pool : Pool) (states : States) (new : Shown) (left : Pool) (stay : States) (is : IsPoint old pool states new left stay) (loaded : IsMapLoaded new.reads left.found left.map) where
   -- each slot is as the new root has it
   all_loaded : (s : ℕ) → s < 64 → IsLoaded new.reads left.found s (state_at stay s) (container_at left.containers s)
-  all_loaded s inside = ⊎_elim (λ loaded. loaded) (λ unnamed. absurd (not_new unnamed (state_at stay s) refl (is.unchanged s))) (is.lent.slots s inside)
+  all_loaded s inside = by (state_at stay s) (container_at left.containers s) (is.lent.slots s inside) (is.unchanged s)
     where
-      not_new : IsUnnamed left.found s (state_at stay s) (container_at left.containers s) → (x : Option VolumeState) → state_at stay s ≡ x → IfSome x (λ x. x.changed ≡ false) → ⊥
-      not_new unnamed x same unchanged =
-          let some : x ≡ Some unnamed.made.volume = sym same ∙ unnamed.made.state_is in
-          let now : unnamed.made.volume.changed ≡ false = subst (λ (y : Option VolumeState). IfSome y (λ x. x.changed ≡ false)) some unchanged in
-          true≢false (sym unnamed.made.changed ∙ now)
+      by : (o : Option VolumeState) (c : Option Mapped) → IsLentAt new.reads left.found s o c → IfSome o (λ x. x.changed ≡ false) → IsLoaded new.reads left.found s o c
+      by None None nowhere unchanged = none_loaded left.found new.reads s nowhere
+      by None (Some map) never unchanged = absurd never
+      by (Some x) None never unchanged = absurd never
+      by (Some x) (Some map) slot unchanged = slot.unchanged unchanged
 
   pub overheads_stay : overheads (view_over left stay new.reads) ≡ overheads (view_at (root_found left.found) new.reads)
   unfolding view_over view_at
@@ -135,7 +159,7 @@ module _ (old : Shown) (pool : Pool) (states : States) (new : Shown) (left : Poo
 
   module _ (session : Session) (last m : Machine) (stands : StandsFor old session last m) (same_pool : session.pool ≡ pool) (same_states : session.volumes ≡ states) where
     pub machine_is : machine_lent old pool states ≡ m
-    machine_is = (λ j. machine_in (sym same_pool j) (sym same_states j) old.reads) ∙ stands.machine
+    machine_is = lent_machine old session last m stands pool states same_pool same_states
 
     lent_is : IsLent new left stay m
     lent_is = subst (IsLent new left stay) machine_is is.lent
@@ -143,24 +167,25 @@ module _ (old : Shown) (pool : Pool) (states : States) (new : Shown) (left : Poo
     pub pointed : (after : Session) → after.pool ≡ left → after.volumes ≡ stay → after.pending ≡ 0 → StandsFor new after m m
     pointed after new_pool new_states none = record {
       lent = subst (λ (p : Pool). IsLent new p after.volumes m) (sym new_pool) (subst (λ (v : States). IsLent new left v m) (sym new_states) lent_is);
-      machine = (λ j. machine_in (new_pool j) (new_states j) new.reads) ∙ is.machine ∙ machine_is;
+      machine = (λ j. machine_in (new_pool j) (new_states j) no_trees new.reads) ∙ unchanged_machine left stay no_trees new.reads (λ s. refl) ∙ is.machine ∙ machine_is;
       settled = is.settled;
       pending = (λ j. overheads (view_over (new_pool j) (new_states j) new.reads)) ∙ overheads_stay ∙ omega (arith, none, ap (λ (p : Pool). overheads (view_at (root_found p.found) new.reads)) new_pool);
       room = subst (λ (p : Pool). overheads (view_at (root_found p.found) new.reads) + max 256 after.pending ≤ free_blocks p.map) (sym new_pool)
-          (omega (arith, none, room_when_sound new.reads left.found left.map lent_is.map lent_is.tells.sound));
+          (omega (arith, none, room_when_sound new.reads left.found left.map loaded lent_is.tells.sound));
     }
 
     -- where the commits leave room for an event twice, there is room for it after the point
-    pub point_room : (after : Session) → after.pool ≡ left → after.pending ≡ 0 → (room : ℕ) → commits m + 2 * room ≤ capacity m.blocks → HasRoom new after room
-    unfolding layout_at told view_at
-    point_room after new_pool none room fits =
+    pub point_room : ((b : ℕ) → length (new.reads b) ≡ 4096) → (after : Session) → after.pool ≡ left → after.pending ≡ 0 → (room : ℕ) → commits m + 2 * room ≤ capacity m.blocks → HasRoom new after room
+    unfolding layout_at told_with view_at
+    point_room whole after new_pool none room fits =
         let t = root_found left.found in
-        let y : Layout = layout_at t new.reads in
-        let told_is : told y.view ≡ m = lent_is.tells.machine in
-        let blocks : left.found.blocks ≡ m.blocks = ap (λ (x : Machine). x.blocks) told_is in
-        let promised : committed y.view ≡ commits m = sym (commits_are y lent_is.tells.sound.names) ∙ ap commits told_is in
-        let none_delayed : delayed (view_at t new.reads) ≡ 0 = is.reclaimed in
-        let enough : committed y.view + (2 * room + delayed y.view) ≤ capacity left.found.blocks = omega (arith, fits, promised, none_delayed, ap capacity blocks) in
-        let rule : leaves_room y.view (256 + 2 * room) ≡ true = room_by_commits y.view (2 * room) (own_is_none y lent_is.tells.plain lent_is.tells.sound.maps) (sound_is_large y lent_is.tells.sound) enough in
-        let free = room_when_loaded new.reads left.found left.map (256 + 2 * room) lent_is.map lent_is.tells.sound rule in
+        let w : View = view_at t new.reads in
+        let sound = lent_is.tells.sound in
+        let blocks : left.found.blocks ≡ m.blocks = ap (λ (x : Machine). x.blocks) lent_is.tells.machine in
+        let promised : commits_seen (seen w) ≡ commits m = sym (commits_told (layout_at t new.reads) sound.names) ∙ ap commits lent_is.tells.machine in
+        let none_delayed : delayed w ≡ 0 = is.reclaimed in
+        let uses : UsesOwn w = uses_own w sound.tables sound.maps (λ s h inside there. numbers_at t new.reads whole s h there) in
+        let enough : commits_seen (seen w) + 2 * room ≤ capacity w.blocks = omega (arith, fits, promised, ap capacity blocks) in
+        let rule : leaves_room w (256 + 2 * room) ≡ true = room_beside_commits w sound.tables uses (2 * room) none_delayed (large w sound.room) enough in
+        let free = room_when_loaded new.reads left.found left.map (256 + 2 * room) loaded sound rule in
         subst (λ (p : Pool). overheads (view_at (root_found p.found) new.reads) + max 256 (after.pending + room) ≤ free_blocks p.map) (sym new_pool) (omega (arith, none, free))

@@ -1,5 +1,5 @@
 -- Sessions over disks that change nothing, and images that keep what a session stands for.
-use Rattle.std.proofs.Common.{◌≡◌, ℕ, List, Some, refl, sym, ap, subst, ◌∙◌, inl, inr, ⊎_elim}
+use Rattle.std.proofs.Common.{◌≡◌, ℕ, List, length, Some, refl, sym, ap, subst, ◌∙◌, inl, inr, ⊎_elim, arith}
 use Rattle.std.specs.Prelude.{IsTrue}
 use Rattle.fv_disk.specs.Shown.{Image, Shown, IsDisk}
 use Rattle.fv_disk.specs.DiskCalls.{OnlyReads}
@@ -7,9 +7,9 @@ use Rattle.fv_disk.specs.Crash.{Leaves}
 use Rattle.fv_disk.proofs.Moments.{started, weaken}
 use Rattle.fv_model.specs.Machines.{Machine}
 use Rattle.fv_store.specs.Held.{StandsOn}
-use Rattle.fv_image.specs.Held.{Layout}
-use Rattle.fv_image.specs.MachineOf.{Tells, machine_of}
-use Rattle.fv_image.proofs.Stands.{machine_stands}
+use Rattle.fv_image.specs.Held.{Layout, layout_at}
+use Rattle.fv_image.specs.WholeMachine.{Tells, machine_of}
+use Rattle.fv_image.proofs.SoundTests.{machine_told, machine_under}
 use Rattle.fv_root.specs.Finding.{IsFound, root_found}
 use Rattle.fv_aggmap.specs.Loading.{IsLoaded as IsMapLoaded}
 use Rattle.fv_cp.specs.Lent.{IsLent}
@@ -37,17 +37,17 @@ stands_after_reads old new session reads stands = record {
   cache = held_after old new session reads stands.cache;
 }
 
+-- each block that a disk reads is one of 4096 bytes
+pub reads_whole : (disk : Shown) → IsDisk disk → IsTrue disk.tells → (b : ℕ) → length (disk.reads b) ≡ 4096
+reads_whole disk laws tells b = (laws.blocks disk.moment disk.reads disk.given (laws.counts_now disk.moment disk.reads (omega arith) (laws.read_is_image tells)) b).long
+
 -- ---- what a crash leaves
 
 -- each image of a crash stands for the machine of the last point
 pub stands_for_last : (disk : Shown) (pool : Pool) (states : States) (last : Machine) → IsLent disk pool states last → (c : Image) → disk.images c → machine_of c ≡ Some last
 stands_for_last disk pool states last lent c now =
     let keeps = lent.keeps c now in
-    machine_stands c last (record {
-      taken = root_found pool.found;
-      counts = keeps.root;
-      tells = subst (λ (y : Layout). Tells y last) (sym keeps.layout) lent.tells;
-    })
+    machine_under c (root_found pool.found) keeps.root ∙ machine_told (layout_at (root_found pool.found) c) last (subst (λ (y : Layout). Tells y last) (sym keeps.layout) lent.tells)
 
 -- so does each moment of a call that doesn't reach the disk
 pub rests_for_last : (disk : Shown) (session : Session) (last m after : Machine) → IsDisk disk → StandsFor disk session last m → Leaves disk disk (λ c g. OneOf last m after c × (g ≡ disk.given))

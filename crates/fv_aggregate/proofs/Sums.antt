@@ -1,22 +1,17 @@
 -- What the volumes of a session sum up to, by slot and by view.
-use Rattle.std.proofs.Common.{◌≡◌, ◌<◌, ◌≤◌, ◌+◌, ℕ, suc, Bool, true, false, cond, [], ◌∷◌, length, Option, Some, None, sum_by, refl, sym, ap, ◌∙◌, arith}
-use Rattle.std.specs.Prelude.{IfSome}
+use Rattle.std.proofs.Common.{◌≡◌, ◌<◌, ◌≤◌, ◌+◌, ℕ, suc, Bool, true, false, cond, [], ◌∷◌, length, Option, Some, None, sum_by, refl, ap, ◌∙◌, arith}
 use Rattle.std.specs.List.{range_with_len}
 use Rattle.std.specs.Option.{option_map, option_map_or}
 use Rattle.std.proofs.lemmas.List.Sums.{sum_by-cons}
 use Rattle.fv_disk.specs.Shown.{Image}
-use Rattle.fv_model.specs.Space.{commit, commits, overhead}
+use Rattle.fv_model.specs.Space.{overhead}
 use Rattle.fv_image.specs.Views.{Head, View, slots}
-use Rattle.fv_image.specs.Told.{volume_of}
-use Rattle.fv_image.specs.Sound.{committed, overheads}
+use Rattle.fv_image.specs.Sound.{overheads}
 use Rattle.fv_image.proofs.Counts.{same_sum, sums_within}
 use Rattle.fv_cp.specs.Lent.{asked_by, blocks_asked}
 use Rattle.fv_volume.specs.declared.pool.Pool.{Pool}
 use Rattle.fv_volume.specs.declared.state.VolumeState.{VolumeState}
-use Rattle.fv_volume.specs.Slots.{committed_by}
-use Rattle.fv_volume.specs.States.{AreStates, IsState, States, head_in, machine_in, state_at, view_over}
-use Rattle.fv_volume.proofs.Made.{commits_are}
-use Rattle.fv_volume.proofs.Told.{ledger_commit}
+use Rattle.fv_volume.specs.States.{States, head_in, state_at, view_over}
 
 by_slot : (f : Option VolumeState → ℕ) (g : ℕ → Option VolumeState) (xs : States) (from : ℕ) → ((k : ℕ) → k < length xs → g (from + k) ≡ state_at xs k) → sum_by f xs ≡ sum_by (λ s. f (g s)) (range_with_len from (length xs))
 by_slot f g [] from same = refl
@@ -45,17 +40,6 @@ asked_within pool states i long =
     so : (x : Option VolumeState) → asked_by x ≤ option_map_or (λ h. overhead h.span) (option_map head_in x) 0
     so None = omega arith
     so (Some x) = chosen x.changed (overhead x.span)
-
--- what the volumes commit is what their machine's volumes do
-pub committed_is : (pool : Pool) (states : States) (i : Image) → length states ≡ 64 → AreStates states → committed (view_over pool states i) ≡ commits (machine_in pool states i)
-unfolding committed slots view_over
-committed_is pool states i long are =
-    sym (over_slots committed_by states long ∙ same_sum (λ s. committed_by (state_at states s)) (λ s. option_map_or (λ h. commit (volume_of h)) (option_map head_in (state_at states s)) 0) 0 64 (λ k low high. so k (state_at states k) (are.each k)))
-    ∙ sym (commits_are pool states i long are)
-  where
-    so : (s : ℕ) (x : Option VolumeState) → IfSome x (IsState s) → committed_by x ≡ option_map_or (λ h. commit (volume_of h)) (option_map head_in x) 0
-    so s None is = refl
-    so s (Some x) is = ledger_commit (volume_of (head_in x)) x.ledger is.ledger
 
 -- the overheads depend on the heads alone
 pub same_overheads : (v w : View) → ((s : ℕ) → s < 64 → v.head s ≡ w.head s) → overheads v ≡ overheads w

@@ -1,8 +1,9 @@
 -- An image that stands for a machine is damaged nowhere.
 use Rattle.std.proofs.Common.{◌≡◌, ◌≢◌, ◌<◌, ◌+◌, ◌-◌, ◌*◌, ◌/◌, ◌%◌, ℕ, zero, suc, Bool, true, false, not, List, [], ◌∷◌, length, Option, Some, None, Result, Ok, Err, true≢false, refl, sym, ap, subst, ◌∙◌, ⊎_elim, inl, inr, arith}
 use Rattle.std.specs.Prelude.{◌⊎◌, ◌&&◌, ◌==◌, IfErr, IsErr, find, nat_lt, take, if◌then◌else◌}
-use Rattle.std.specs.Option.{is_none, option_map, option_map_or}
-use Rattle.std.proofs.lemmas.Bool.{and_parts, both_ways}
+use Rattle.std.specs.List.{list_all, range_with_len}
+use Rattle.std.specs.Option.{is_none, option_map}
+use Rattle.std.proofs.lemmas.Bool.{and_parts}
 use Rattle.std.proofs.lemmas.Bool.Decides.{nat_tests}
 use Rattle.fv_disk.specs.Shown.{Image}
 use Rattle.fv_bits.specs.Bits.{bit_of_area, bit_of_bytes}
@@ -19,17 +20,26 @@ use Rattle.fv_image.specs.Layout.{block_bits, gate_place, root_place, superblock
 use Rattle.fv_image.specs.NewerRoot.{Taken, behind, newer, root_of, taken_of}
 use Rattle.fv_image.specs.Maps.{area_bits, map_bit}
 use Rattle.fv_image.specs.Containers.{container_entry, node_of, node_shape, shaped}
-use Rattle.fv_image.specs.Views.{Footing, block_in, entry_count, head_of, map_vvbn, slots, snaps_from, volume_bit}
-use Rattle.fv_image.specs.Told.{has_none, is_all_plain, is_plain}
-use Rattle.fv_image.specs.Held.{entry_from, is_held, label_in, label_place, layout_at, lying_at, placed, view_at}
-use Rattle.fv_image.specs.Sound.{IsSound, kind_at}
-use Rattle.fv_image.specs.MachineOf.{Tells, machine_of}
-use Rattle.fv_image.proofs.InRange.{held_in_range}
+use Rattle.fv_image.specs.Views.{Footing, View, block_in, entry_count, head_of, map_vvbn, snaps_from, volume_bit}
+use Rattle.fv_image.specs.Told.{has_none}
+use Rattle.fv_image.specs.Held.{entry_from, is_held, label_in, label_place, layout_at, lying_at, node_from, placed, view_at}
+use Rattle.fv_image.specs.Sound.{kind_at}
+use Rattle.fv_image.specs.SoundSlots.{IsSoundSlot, IsSoundVolume}
+use Rattle.fv_image.specs.Soundness.{IsSound}
+use Rattle.fv_image.specs.WholeMachine.{Tells, has_form, machine_of}
+use Rattle.fv_image.proofs.ChargeBits.{reach}
+use Rattle.fv_image.proofs.Counted.{image_has_heads}
+use Rattle.fv_image.proofs.HeldPlaces.{label_some, node_lies}
 use Rattle.fv_image.proofs.Kept.{at_number}
+use Rattle.fv_image.proofs.LoneTables.{built_forms, form_base, form_snapshots}
+use Rattle.fv_image.proofs.Named.{label_inside}
+use Rattle.fv_image.proofs.Reaching.{reached_below}
 use Rattle.fv_image.proofs.Room.{bit_is_held}
 use Rattle.fv_image.proofs.SameLayout.{slot_inside}
-use Rattle.fv_image.proofs.SoundFacts.{label_is_there, map_is_clear, map_is_there, tree_is_whole}
-use Rattle.fv_image.proofs.NodesOnce.{shaped_when_whole}
+use Rattle.fv_image.proofs.SoundFacts.{lying_label}
+use Rattle.fv_image.proofs.SoundSlots.{held_lies, slot_from_blocks}
+use Rattle.fv_image.proofs.NodesOnce.{has_shape}
+use Rattle.fv_image.proofs.WellLabels.{numbers_at}
 use Rattle.fv_image.proofs.Stands.{stands_for}
 use Rattle.fv_root.specs.declared.find.Found.{Found}
 use Rattle.fv_root.specs.Finding.{IsDamaged, IsNoAggregate, root_found}
@@ -95,9 +105,35 @@ no_root_damaged i t at want number is damaged = so damaged.slot damaged.within d
 
 -- ---- under the root
 
+-- what lies at a place that is one
+lies_at : (i : Image) (p : ℕ) → p ≢ 0 → lying_at i p ≡ Some (record { place = p; block = i p })
+lies_at i zero some = absurd (some refl)
+lies_at i (suc p) some = refl
+
 module _ (i : Image) (found : Found) (m : Machine) (tells : Tells (layout_at (root_found found) i) m) where
   sound : IsSound (layout_at (root_found found) i)
   sound = tells.sound
+
+  slot : (s : ℕ) → s < 64 → IsSoundSlot (layout_at (root_found found) i) s
+  slot s inside = slot_from_blocks (layout_at (root_found found) i) sound.blocks sound.maps.kinds (image_has_heads (root_found found) i) s inside
+
+  -- a slot in use has its label
+  label_there : (s : ℕ) → label_place (root_found found) s ≢ 0 → (l : Label) × (label_of found i s ≡ Some l)
+  unfolding layout_at
+  label_there s some =
+      let v = (slot s (label_inside (root_found found) s some)).volume (record { place = label_place (root_found found) s; block = i (label_place (root_found found) s) }) (lies_at i (label_place (root_found found) s) some) in
+      (v.0, lying_label i (label_place (root_found found) s) some ∙ ap shaped v.1)
+
+  -- which names a sound volume
+  volume_there : (s : ℕ) (l : Label) → label_of found i s ≡ Some l → IsSoundVolume (layout_at (root_found found) i) s l
+  unfolding layout_at
+  volume_there s l there =
+      let some = label_some (root_found found) i s l there in
+      let v = (slot s (slot_inside (root_found found) i s l there)).volume (record { place = label_place (root_found found) s; block = i (label_place (root_found found) s) }) (lies_at i (label_place (root_found found) s) some) in
+      subst (IsSoundVolume (layout_at (root_found found) i) s) (one v.0 l (sym (lying_label i (label_place (root_found found) s) some ∙ ap shaped v.1) ∙ there)) v.2
+    where
+      one : (a b : Label) → ◌≡◌ {A = Option Label} (Some a) (Some b) → a ≡ b
+      one a b e = cc
 
   -- a bit of the aggregate map is a held block, so it isn't past the last one
   pub no_map_fault : (at want number : ℕ) → IsPastMap i found at want number → ⊥
@@ -105,25 +141,18 @@ module _ (i : Image) (found : Found) (m : Machine) (tells : Tells (layout_at (ro
   no_map_fault at want number past =
       let y = layout_at (root_found found) i in
       let inside : nat_lt number (area_bits found.blocks) ≡ true = (and_parts (nat_lt number (area_bits found.blocks)) _ past.bit).0 in
-      let held : is_held y number ≡ true = sym (bit_is_held y number sound.map (fits number (area_bits found.blocks) inside)) ∙ past.bit in
-      omega (arith, (held_in_range y number sound held).1, past.past)
+      let held : is_held y number ≡ true = sym (bit_is_held y number sound.blocks.map (fits number (area_bits found.blocks) inside)) ∙ past.bit in
+      omega (arith, (held_lies y number sound.blocks held).1, past.past)
     where
       fits : (a b : ℕ) → nat_lt a b ≡ true → a < b
       fits a b e = grind (arith, nat_tests)
 
   -- ---- labels
 
-  lying_label : (p : ℕ) → p ≢ 0 → label_in (lying_at i p) ≡ shaped (label_at (i p))
-  unfolding label_in
-  lying_label zero some = absurd (some refl)
-  lying_label (suc p) some = refl
-
-  -- the label of a slot is told whole
-  plain_label : (s : ℕ) (l : Label) → label_of found i s ≡ Some l → is_plain (head_of l) ≡ true
-  unfolding layout_at view_at is_all_plain slots
-  plain_label s l there =
-      let one = at_number (λ k. option_map_or is_plain (option_map head_of (label_of found i k)) true) 0 64 s tells.plain (omega arith) (omega (arith, slot_inside (root_found found) i s l there)) in
-      subst (λ (o : Option Label). option_map_or is_plain (option_map head_of o) true ≡ true) there one
+  -- the label of a slot has a form that there is
+  built_label : (s : ℕ) (l : Label) → label_of found i s ≡ Some l → has_form (head_of l) ≡ true
+  unfolding layout_at view_at
+  built_label s l there = built_forms (view_at (root_found found) i) tells.built s (head_of l) (slot_inside (root_found found) i s l there) (ap (option_map head_of) there)
 
   no_first : (records : List SnapRecord) (j : ℕ) → has_none (snaps_from j records) ≡ true → first_used records ≡ None
   unfolding snaps_from
@@ -136,15 +165,14 @@ module _ (i : Image) (found : Found) (m : Machine) (tells : Tells (layout_at (ro
       so true rest e = rest e
       so false rest e = absurd cc
 
-  no_form : (l : Label) → is_plain (head_of l) ≡ true → form_in l ≡ None
-  unfolding form_in is_plain head_of
-  no_form l plain =
-      let a = and_parts (l.root.stamp == 0) _ plain in
-      let b = and_parts (has_none (snaps_from 1 l.snapshots)) _ a.1 in
+  no_form : (l : Label) → has_form (head_of l) ≡ true → form_in l ≡ None
+  unfolding form_in head_of
+  no_form l form =
+      let b = and_parts (has_none (snaps_from 1 l.snapshots)) _ form in
       let c = and_parts _ (l.known == 1) b.1 in
       let parent : (l.parent == 0) ≡ true = base (l.parent == 0) c.0 in
       let known : (l.known == 0) ≡ false = let one : (l.known == 1) ≡ true = c.1 in grind (arith, nat_tests, one) in
-      rw (parent, known, a.0) (no_first l.snapshots 1 b.0)
+      rw (parent, known) (no_first l.snapshots 1 b.0)
     where
       base : (none : Bool) → is_none {T = Footing} (if none then None else Some (record { parent = l.parent - 1; slot = l.base_slot; splitting = l.splitting == 1 })) ≡ true → none ≡ true
       base true e = refl
@@ -154,13 +182,13 @@ module _ (i : Image) (found : Found) (m : Machine) (tells : Tells (layout_at (ro
   no_label_fault at want number bad =
       let s = bad.slot in
       let place : at ≡ label_place (root_found found) s = bad.place in
-      let there : (l : Label) × (label_of found i s ≡ Some l) = label_is_there (root_found found) i sound s (λ e. bad.some (place ∙ e)) in
-      let spelled : shaped (label_at (i at)) ≡ Some there.0 = sym (lying_label at bad.some) ∙ ap (λ (p : ℕ). label_in (lying_at i p)) place ∙ there.1 in
+      let there : (l : Label) × (label_of found i s ≡ Some l) = label_there s (λ e. bad.some (place ∙ e)) in
+      let spelled : shaped (label_at (i at)) ≡ Some there.0 = sym (lying_label i at bad.some) ∙ ap (λ (p : ℕ). label_in (lying_at i p)) place ∙ there.1 in
       ⊎_elim
       (λ (fault : label_at (i at) ≡ Err (record { want = want; found = number })). none_some there.0 (sym (ap shaped fault) ∙ spelled))
       (λ form.
       let same : form.0 ≡ there.0 = one form.0 there.0 (sym (ap shaped form.1.0) ∙ spelled) in
-      none_some (want, number) (sym (no_form form.0 (subst (λ (l : Label). is_plain (head_of l) ≡ true) (sym same) (plain_label s there.0 there.1))) ∙ form.1.1))
+      none_some (want, number) (sym (no_form form.0 (subst (λ (l : Label). has_form (head_of l) ≡ true) (sym same) (built_label s there.0 there.1))) ∙ form.1.1))
       bad.fault.1
     where
       one : (a b : Label) → ◌≡◌ {A = Option Label} (Some a) (Some b) → a ≡ b
@@ -169,18 +197,32 @@ module _ (i : Image) (found : Found) (m : Machine) (tells : Tells (layout_at (ro
   -- ---- containers
 
   pub no_tree_fault : (at want number : ℕ) → IsTreeFault i found at want number → ⊥
+  unfolding layout_at
   no_tree_fault at want number bad =
       let l = bad.label in
       let node = bad.fault.node in
       let some : node_of i l.container l.height node.level node.number ≢ 0 = λ e. node.some (node.place ∙ e) in
-      let shaped = shaped_when_whole i l.container l.height (entry_count l.span) (tree_is_whole (root_found found) i sound bad.slot l bad.lies) in
-      let fine : node_shape node.level (i at) ≡ Ok tt = ap (λ (b : ℕ). node_shape node.level (i b)) node.place ∙ shaped.nodes node.level node.number node.below node.within some in
+      let p = node_of i l.container l.height node.level node.number in
+      let lies : node_from (label_of found i bad.slot) i node.level node.number ≡ Some (record { place = p; block = i p }) =
+      ap (λ (o : Option Label). node_from o i node.level node.number) bad.lies ∙ node_lies i l node.level node.number node.below node.within ∙ lies_at i p some in
+      let verdict = (volume_there bad.slot l bad.lies).nodes node.level node.number (record { place = p; block = i p }) node.below node.within lies in
+      let fine : node_shape node.level (i at) ≡ Ok tt = ap (λ (b : ℕ). node_shape node.level (i b)) node.place ∙ has_shape node.level node.number (i p) verdict in
       apart (node_shape node.level (i at)) fine bad.fault.fault
     where
       apart : (v : Verdict) → v ≡ Ok tt → v ≡ Err (record { want = want; found = number }) → ⊥
       apart v a b = cc
 
   -- ---- active maps
+
+  -- the blocks of the active map are map blocks
+  map_there : (s : ℕ) (l : Label) → label_of found i s ≡ Some l → (k : ℕ) → k < map_blocks l.span → kind_at ((view_at (root_found found) i).entry s (map_vvbn l.span 0 k)) ≡ 8
+  unfolding layout_at view_at head_of
+  map_there s l lies k within =
+      let all = (and_parts (list_all (λ k. kind_at ((view_at (root_found found) i).entry s (map_vvbn l.span 0 k)) == 8) (range_with_len 0 (map_blocks l.span))) _ (volume_there s l lies).maps).0 in
+      same _ 8 (at_number (λ k. kind_at ((view_at (root_found found) i).entry s (map_vvbn l.span 0 k)) == 8) 0 (map_blocks l.span) k all (omega arith) (omega (arith, within)))
+    where
+      same : (a b : ℕ) → (a == b) ≡ true → a ≡ b
+      same a b e = grind (arith, nat_tests)
 
   -- a block of the active map is there under its VVBN
   active_block : (s : ℕ) (l : Label) → label_of found i s ≡ Some l → (map : Mapped) → Spelled i l.container l.height map → length map.entries ≡ entry_count l.span → (k : ℕ) → k < map_blocks l.span → (e : Entry) → entry_under map (l.span + k) ≡ Some e
@@ -194,7 +236,7 @@ module _ (i : Image) (found : Found) (m : Machine) (tells : Tells (layout_at (ro
       ∙ ap (λ (v : ℕ). placed i (container_entry i l.container l.height (entry_count l.span) v)) vvbn
       ∙ ap (λ (n : ℕ). placed i (container_entry i l.container l.height n (l.span + k))) (sym long)
       ∙ ap (placed i) (spelled.entries (l.span + k) ∙ ap pair_of there) in
-      ap block_in entry ∙ so (e.kind == 0) (ap kind_at (sym entry) ∙ map_is_there t i sound s l lies k within)
+      ap block_in entry ∙ so (e.kind == 0) (ap kind_at (sym entry) ∙ map_there s l lies k within)
     where
       so : (hole : Bool) → kind_at (if hole then None else Some (record { pvbn = e.pvbn; kind = e.kind; block = i e.pvbn })) ≡ 8 → block_in (if hole then None else Some (record { pvbn = e.pvbn; kind = e.kind; block = i e.pvbn })) ≡ i e.pvbn
       so true kind = absurd cc
@@ -203,9 +245,21 @@ module _ (i : Image) (found : Found) (m : Machine) (tells : Tells (layout_at (ro
   below : (number k blocks : ℕ) → number / 32768 ≡ k → k < blocks → number < 32768 * blocks
   below number k blocks place within = omega (arith, place, within)
 
-  pub no_active_fault : (at want number : ℕ) → IsActiveFault i found at want number → ⊥
+  -- a number whose bit is set is one of the span
+  bit_below : (whole : (b : ℕ) → length (i b) ≡ 4096) (s : ℕ) (l : Label) → label_of found i s ≡ Some l → (v : ℕ) → volume_bit (view_at (root_found found) i) s l.span 0 v ≡ true → v < l.span
+  unfolding layout_at view_at head_of
+  bit_below whole s l lies v set =
+      let w : View = view_at (root_found found) i in
+      let h = head_of l in
+      let inside = slot_inside (root_found found) i s l lies in
+      let there : w.head s ≡ Some h = ap (option_map head_of) lies in
+      let form = built_label s l lies in
+      let listed = sym (reach w s h inside there sound.tables sound.maps (numbers_at (root_found found) i whole s h there) (form_snapshots h form) (form_base h form) v) ∙ set in
+      reached_below w s h v sound.tables.ranges inside there listed
+
+  pub no_active_fault : (whole : (b : ℕ) → length (i b) ≡ 4096) (at want number : ℕ) → IsActiveFault i found at want number → ⊥
   unfolding volume_bit bit_of_area
-  no_active_fault at want number bad =
+  no_active_fault whole at want number bad =
       let t = root_found found in
       let s = bad.slot in
       let l = bad.label in
@@ -216,7 +270,7 @@ module _ (i : Image) (found : Found) (m : Machine) (tells : Tells (layout_at (ro
       let test : nat_lt number (block_bits * map_blocks l.span) ≡ true = passes number (block_bits * map_blocks l.span) inside in
       let here : block_in ((view_at t i).entry s (map_vvbn l.span 0 (number / block_bits))) ≡ i fault.entry.pvbn = ap (λ (n : ℕ). block_in ((view_at t i).entry s (map_vvbn l.span 0 n))) fault.past.place ∙ block in
       let set : volume_bit (view_at t i) s l.span 0 number ≡ true = (λ j. test j && bit_of_bytes (here j) (number % block_bits)) ∙ fault.past.bit in
-      both_ways (volume_bit (view_at t i) s l.span 0 number) (map_is_clear t i sound s l bad.lies number inside) set
+      omega (arith, bit_below whole s l bad.lies number set, fault.past.past)
     where
       passes : (a b : ℕ) → a < b → nat_lt a b ≡ true
       passes a b low = grind (arith, nat_tests)
@@ -224,12 +278,12 @@ module _ (i : Image) (found : Found) (m : Machine) (tells : Tells (layout_at (ro
 -- ---- opening
 
 -- an image that stands for a machine is opened, unless the disk fails or memory runs out
-pub whole : (i : Image) (m : Machine) → machine_of i ≡ Some m → (e : OpenFault) → IsOpenFault i e → (e ≡ DiskFault) ⊎ (e ≡ Memory)
-whole i m is DiskFault fault = inl refl
-whole i m is Memory fault = inr refl
-whole i m is NotAggregate fault = let stands = stands_for i m is in absurd (no_aggregate i stands.taken stands.counts fault)
-whole i m is (Damaged at want number) (inl damaged) = let stands = stands_for i m is in absurd (no_root_damaged i stands.taken at want number stands.counts damaged)
-whole i m is (Damaged at want number) (inr under) =
+pub whole : (i : Image) (m : Machine) → ((b : ℕ) → length (i b) ≡ 4096) → machine_of i ≡ Some m → (e : OpenFault) → IsOpenFault i e → (e ≡ DiskFault) ⊎ (e ≡ Memory)
+whole i m long is DiskFault fault = inl refl
+whole i m long is Memory fault = inr refl
+whole i m long is NotAggregate fault = let stands = stands_for i m is in absurd (no_aggregate i stands.0 stands.1.0 fault)
+whole i m long is (Damaged at want number) (inl damaged) = let stands = stands_for i m is in absurd (no_root_damaged i stands.0 at want number stands.1.0 damaged)
+whole i m long is (Damaged at want number) (inr under) =
     let tells = found_tells i under.root m under.found is in
     absurd (⊎_elim
     (λ past. no_map_fault i under.root m tells at want number past)
@@ -237,11 +291,11 @@ whole i m is (Damaged at want number) (inr under) =
     (λ label. no_label_fault i under.root m tells at want number label)
     (λ rest. ⊎_elim
     (λ tree. no_tree_fault i under.root m tells at want number tree)
-    (λ active. no_active_fault i under.root m tells at want number active)
+    (λ active. no_active_fault i under.root m tells long at want number active)
     rest)
     load)
     under.fault)
 
-pub whole_result : (i : Image) (m : Machine) (result : Result Session OpenFault) → machine_of i ≡ Some m → IfErr result (IsOpenFault i) → IfErr result (λ fault. (fault ≡ DiskFault) ⊎ (fault ≡ Memory))
-whole_result i m (Ok session) is fault = tt
-whole_result i m (Err e) is fault = whole i m is e fault
+pub whole_result : (i : Image) (m : Machine) (result : Result Session OpenFault) → ((b : ℕ) → length (i b) ≡ 4096) → machine_of i ≡ Some m → IfErr result (IsOpenFault i) → IfErr result (λ fault. (fault ≡ DiskFault) ⊎ (fault ≡ Memory))
+whole_result i m (Ok session) long is fault = tt
+whole_result i m (Err e) long is fault = whole i m long is e fault

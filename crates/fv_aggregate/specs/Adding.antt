@@ -11,7 +11,9 @@ use Rattle.fv_container.specs.Chains.{container_at, slot_count}
 use Rattle.fv_aggmap.specs.Space.{free_blocks}
 use Rattle.fv_volume.specs.Creating.{Admits, IsMade, IsNew, with_holes}
 use Rattle.fv_volume.specs.Slots.{IsFirstFree}
-use Rattle.fv_volume.specs.States.{AreStates, IsState, machine_in, state_at}
+use Rattle.fv_volume.specs.States.{state_at, view_over}
+use Rattle.fv_volume.specs.Trees.{Trees, machine_in}
+use Rattle.fv_volume.specs.Files.{AreStates, IsLabelled, Over}
 use Rattle.fv_cp.specs.Lent.{blocks_asked}
 use Rattle.fv_aggregate.specs.declared.session.Session.{Session}
 
@@ -30,10 +32,10 @@ pub record IsAdded (old : Session) (name : List ℕ) (size : ℕ) (kind : Kind) 
   pub made : IsMade old.volumes slot name size kind new.volumes
   pub new_there : IsNew (state_at new.volumes slot) (container_at new.pool.containers slot) name size kind
   pub holes : new.pool ≡ with_holes old.pool slot size
-  pub each : (s : ℕ) → IfSome (state_at new.volumes s) (IsState s)
-  pub states : AreStates old.volumes → AreStates new.volumes
-  pub accepted : AreStates old.volumes → (i : Image) → refusal (machine_in old.pool old.volumes i) (VolCreate name size kind) ≡ None
-  pub machine : AreStates old.volumes → (i : Image) → machine_in new.pool new.volumes i ≡ next (machine_in old.pool old.volumes i) (VolCreate name size kind)
+  pub each : (s : ℕ) → IfSome (state_at new.volumes s) (IsLabelled s)
+  pub states : (trees : Trees) (i : Image) → AreStates (view_over old.pool old.volumes i) trees old.volumes → AreStates (view_over new.pool new.volumes i) trees new.volumes
+  pub accepted : (trees : Trees) → Over old.pool old.volumes trees (λ m. refusal m (VolCreate name size kind) ≡ None)
+  pub machine : (trees : Trees) (i : Image) → AreStates (view_over old.pool old.volumes i) trees old.volumes → machine_in new.pool new.volumes trees i ≡ next (machine_in old.pool old.volumes trees i) (VolCreate name size kind)
   pub long : length old.volumes ≡ slot_count
   pub asked : blocks_asked new.volumes ≤ blocks_asked old.volumes + room
   pub failed : new.failed ≡ old.failed

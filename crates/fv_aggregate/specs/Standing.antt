@@ -8,12 +8,13 @@ use Rattle.fv_store.specs.Held.{StandsOn}
 use Rattle.fv_model.specs.Machines.{Machine}
 use Rattle.fv_image.specs.Held.{view_at}
 use Rattle.fv_image.specs.Sound.{overheads}
-use Rattle.fv_image.specs.MachineOf.{machine_of}
+use Rattle.fv_image.specs.WholeMachine.{machine_of}
 use Rattle.fv_root.specs.Finding.{root_found}
 use Rattle.fv_root.specs.Commits.{IsFoundOn}
 use Rattle.fv_aggmap.specs.Loading.{IsLoaded as IsMapLoaded}
 use Rattle.fv_aggmap.specs.Space.{free_blocks}
-use Rattle.fv_volume.specs.States.{view_over, machine_in}
+use Rattle.fv_volume.specs.States.{view_over}
+use Rattle.fv_volume.specs.Trees.{machine_in, no_trees}
 use Rattle.fv_cp.specs.Lent.{IsLent}
 use Rattle.fv_aggregate.specs.declared.session.Session.{Session}
 
@@ -27,7 +28,7 @@ pub record Stands (disk : Shown) (session : Session) : Type 0 where
 -- A session stands for a machine, and the image of its last consistency point for that point's machine.
 pub record StandsFor (disk : Shown) (session : Session) (last now : Machine) : Type 0 where
   pub lent : IsLent disk session.pool session.volumes last
-  pub machine : machine_in session.pool session.volumes disk.reads ≡ now
+  pub machine : machine_in session.pool session.volumes no_trees disk.reads ≡ now
   pub settled : IsSettled disk
   -- the pending blocks: those by which the overheads have passed those of the last point
   pub pending : overheads (view_over session.pool session.volumes disk.reads) ≡ overheads (view_at (root_found session.pool.found) disk.reads) + session.pending

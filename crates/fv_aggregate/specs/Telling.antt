@@ -10,6 +10,11 @@ abbrev pub charged_by : Option VolumeState → ℕ
 charged_by None = 0
 charged_by (Some x) = x.ledger.charge
 
+-- what the volumes of so many slots from one on are charged for
+unfoldable pub charged_from : States → ℕ → ℕ → ℕ
+charged_from states from zero = 0
+charged_from states from (suc count) = charged_by (state_at states from) + charged_from states (from + 1) count
+
 -- names in byte order with a volume's one more
 abbrev pub with_name : Option VolumeState → List (List ℕ) → List (List ℕ)
 with_name None names = names

@@ -1,11 +1,12 @@
 //! A session.
 
 ghost use Rattle.std.specs.Prelude.{◌≡◌, ◌≢◌, ◌≤◌, ◌+◌, ◌⊎◌, ℕ, IsTrue, IsNone, IsSome, IfOk, IfErr, OnErr, OnOk, Some};
-ghost use Rattle.fv_disk.specs.Shown.{Image, IsSettled, Rose};
+ghost use Rattle.fv_disk.specs.Shown.{IsSettled, Rose};
 ghost use Rattle.fv_model.specs.Machines.{Machine};
 ghost use Rattle.fv_model.specs.declared.commands.Command.TheVariants.{Cp};
-ghost use Rattle.fv_image.specs.MachineOf.{machine_of};
-ghost use Rattle.fv_volume.specs.States.{AreStates, machine_in};
+ghost use Rattle.fv_image.specs.WholeMachine.{machine_of};
+ghost use Rattle.fv_volume.specs.Trees.{Trees};
+ghost use Rattle.fv_volume.specs.Files.{Over};
 ghost use Rattle.fv_aggregate.specs.Asking.{AsksWithin};
 ghost use Rattle.fv_aggregate.specs.Calls.{Goes, GoesFor, SameCounts};
 ghost use Rattle.fv_aggregate.specs.Causes.{HasOpenCause, IsOpenFault, IsUnwritten};
@@ -155,10 +156,9 @@ impl Session {
         }
     }
 
-    /// The sum of the charges of all volumes, in blocks: so far 0, since an empty volume is charged for none. Costs a step for each
-    /// slot.
+    /// The sum of the charges of all volumes, in blocks. Costs a step for each slot.
     pub fn charged(&self) -> u64
-        ensures { AreStates self.now.volumes → (i : Image) → result ≡ charged_in (machine_in self.now.pool self.now.volumes i) }
+        ensures { (trees : Trees) → Over self.now.pool self.now.volumes trees (λ m. result ≡ charged_in m) }
     {
         sum_charges(&self.volumes)
     }

@@ -4,7 +4,9 @@ ghost use Rattle.std.specs.Prelude.{◌≡◌, ◌<◌, ◌≤◌, ◌++◌, ℕ
 ghost use Rattle.std.specs.FinMap as fin;
 ghost use Rattle.fv_container.specs.Chains.{slot_count};
 ghost use Rattle.fv_disk.specs.Shown.{Image};
-ghost use Rattle.fv_volume.specs.States.{AreStates, machine_in, state_at};
+ghost use Rattle.fv_volume.specs.States.{state_at};
+ghost use Rattle.fv_volume.specs.Trees.{Trees, machine_in};
+ghost use Rattle.fv_volume.specs.Files.{Over};
 ghost use Rattle.fv_volume.specs.declared.pool.Pool.{Pool};
 ghost use Rattle.fv_aggregate.specs.Standing.{charged_in};
 ghost use Rattle.fv_aggregate.specs.Telling.{charged_by, names_from, with_name};
@@ -20,7 +22,7 @@ const SLOTS: u8 = 64;
 /// The names of all volumes in byte order.
 #[tactic(auto, using(crate::proofs::Telling::names_are))]
 pub(crate) fn names_of(alloc: Global, volumes: &Volumes) -> Result<Names, AllocError>
-    ensures { IfOk result (λ names. (pool : Pool) (i : Image) → names ≡ fin.keys (machine_in pool volumes.now i).volumes) }
+    ensures { IfOk result (λ names. (pool : Pool) (trees : Trees) (i : Image) → names ≡ fin.keys (machine_in pool volumes.now trees i).volumes) }
 {
     let mut sorted = BTreeSet::new(alloc);
     sort_names(volumes, &mut sorted)?;
@@ -62,7 +64,8 @@ fn listed(alloc: Global, sorted: &BTreeSet<Name>) -> Result<Names, AllocError>
 /// What the volume of a slot is charged for, in blocks; nothing for a free slot.
 fn charge_of(volumes: &Volumes, slot: u8) -> u64
     requires { slot < slot_count }
-    ensures { result ≡ charged_by (state_at volumes.now slot) }
+    ensures charge { result ≡ charged_by (state_at volumes.now slot) }
+    ensures most { result < 4294967296 }
 {
     match volumes.get(slot) {
         Some(state) => u64::from(state.ledger.charge()),
@@ -71,13 +74,13 @@ fn charge_of(volumes: &Volumes, slot: u8) -> u64
 }
 
 /// The sum of the charges of all volumes, in blocks.
-#[tactic(auto, using(crate::proofs::Telling::none_charged, crate::proofs::Telling::nothing_by))]
+#[tactic(auto, using(crate::proofs::Charges::charges_are, crate::proofs::Charges::charges_none, crate::proofs::Charges::charges_more))]
 pub(crate) fn sum_charges(volumes: &Volumes) -> u64
-    ensures { AreStates volumes.now → (pool : Pool) (i : Image) → result ≡ charged_in (machine_in pool volumes.now i) }
+    ensures { (pool : Pool) (trees : Trees) → Over pool volumes.now trees (λ m. result ≡ charged_in m) }
 {
     let mut sum: u64 = 0;
-    for slot in 0..SLOTS {
-        sum = sum.saturating_add(charge_of(volumes, slot));
+    for step in 0..SLOTS {
+        sum += charge_of(volumes, SLOTS - 1 - step);
     }
     sum
 }

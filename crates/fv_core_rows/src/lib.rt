@@ -1,13 +1,10 @@
-//! Tests of maps, containers, sessions and runs over a host in memory: images that another implementation wrote, rows worked out
-//! by hand, calls that fail, and texts.
+//! Tests of maps, containers, trees and sessions over a host in memory: rows worked out by hand, calls that fail, and texts.
 #![tactic(auto)]
 
 #[cfg(test)]
 mod containers;
 #[cfg(test)]
 mod failed;
-#[cfg(test)]
-mod images;
 #[cfg(test)]
 mod maps;
 #[cfg(test)]

@@ -1,138 +1,101 @@
 -- What a consistency point that was done ends with.
-use Rattle.std.proofs.Common.{◌≡◌, ℕ, ◌<◌, ◌≤◌, Bool, true, false, cond, List, length, refl, sym, ap, subst, ◌∙◌, arith, inl, ⊎_elim, get_or}
-use Rattle.std.specs.Prelude.{Option, Some, None, IfSome}
+use Rattle.std.proofs.Common.{◌≡◌, ℕ, ◌<◌, ◌≤◌, false, List, length, get_or, refl, sym, ap, subst, ◌∙◌, arith, ⊎_elim, Ok}
+use Rattle.std.specs.Prelude.{Option, Some, None, IfSome, IsTrue}
 use Rattle.std.specs.Option.{option_map}
+use Rattle.std.specs.FinMap as fin
+use Rattle.std.specs.Ordering.{nat_cmp}
 use Rattle.std.proofs.lemmas.Bool.{cases_lt}
 use Rattle.std.proofs.lemmas.List.{get_or_past}
 use Rattle.fv_disk.specs.Shown.{Image, Shown}
+use Rattle.fv_disk.specs.Crash.{Leaves}
 use Rattle.fv_disk.proofs.Resting.{settled_image}
 use Rattle.fv_bits.specs.Members.{is_member}
-use Rattle.fv_model.specs.Machines.{Machine, capacity}
-use Rattle.fv_image.specs.NewerRoot.{Taken}
-use Rattle.fv_image.specs.Views.{delayed}
-use Rattle.fv_image.specs.Held.{AgreeOnHeld, Keeps, label_place, layout_at, view_at}
-use Rattle.fv_image.specs.Sound.{committed, share_name}
-use Rattle.fv_image.specs.MachineOf.{machine_of, map_bit, Tells}
-use Rattle.fv_image.proofs.Stands.{machine_under, tells_from}
-use Rattle.fv_image.proofs.Counted.{image_has_heads}
-use Rattle.fv_image.proofs.SoundAgain.{none_delayed}
-use Rattle.fv_image.proofs.Rewritten.{held_has_bit}
-use Rattle.fv_container.specs.Mapped.{Mapped}
-use Rattle.fv_container.specs.Chains.{Slots, container_at}
 use Rattle.fv_codec.specs.declared.root.Root.{Root}
-use Rattle.fv_codec.specs.Blocks.{IsRoot}
+use Rattle.fv_model.specs.Machines.{Machine}
+use Rattle.fv_image.specs.NewerRoot.{Taken}
+use Rattle.fv_image.specs.Views.{View, delayed}
+use Rattle.fv_image.specs.Held.{AgreeOnHeld, Keeps, label_place, layout_at, view_at, with_bits}
+use Rattle.fv_image.specs.Soundness.{AreTables}
+use Rattle.fv_image.specs.Staying.{StaysHeld}
+use Rattle.fv_image.specs.WholeMachine.{Tells, machine_of}
+use Rattle.fv_image.proofs.Points.{built_stays}
+use Rattle.fv_image.proofs.SameLayout.{held_with_bits, same_view}
+use Rattle.fv_image.proofs.SameSeen.{same_seen, same_told}
+use Rattle.fv_image.proofs.SoundSlots.{held_lies}
+use Rattle.fv_image.proofs.SoundTests.{machine_under, tells_from}
+use Rattle.fv_container.specs.Mapped.{Mapped}
+use Rattle.fv_container.specs.Chains.{Slots, container_at, own_entry, parent_at}
 use Rattle.fv_root.specs.declared.find.Found.{Found}
 use Rattle.fv_root.specs.Finding.{IsInRange, root_found}
-use Rattle.fv_root.specs.Commits.{IsCommitted, IsFoundOn, next_found}
-use Rattle.fv_root.proofs.Crashes.{new_machine}
-use Rattle.fv_aggmap.specs.Space.{Space, blocks_of}
-use Rattle.fv_aggmap.specs.Loading.{IsLoaded as IsMapLoaded}
+use Rattle.fv_root.specs.Commits.{IsCommitted, IsFoundOn, OldOrNew, next_found}
+use Rattle.fv_root.proofs.Crashes.{IsReadyFor, new_machine}
+use Rattle.fv_store.specs.Held.{StandsOn}
+use Rattle.fv_aggmap.specs.Space.{Space}
 use Rattle.fv_volume.specs.declared.pool.Pool.{Pool}
 use Rattle.fv_volume.specs.declared.state.VolumeState.{VolumeState}
-use Rattle.fv_volume.specs.Labels.{label_said}
-use Rattle.fv_volume.specs.States.{AreStates, IsState, States, head_in, parent_in, place_in, state_at, view_over}
-use Rattle.fv_volume.specs.Loading.{Houses, IsLoaded}
-use Rattle.fv_volume.proofs.Viewed.{apart_from, distinct_from}
-use Rattle.fv_cp.specs.Lent.{AreHoused, IsLent, IsUnnamed}
-use Rattle.fv_cp.specs.Points.{IsPoint, machine_lent}
-use Rattle.fv_cp.specs.Course.{IsWrittenTo, found_with, settled_as, settled_at}
-use Rattle.fv_cp.proofs.OneSlot.{as_written, not_new, settled_same}
-use Rattle.fv_cp.proofs.StillLoaded.{still_loaded}
-use Rattle.fv_cp.proofs.Ready.{alone_at, is_settled, ready, same_committed, same_head, same_told}
+use Rattle.fv_volume.specs.Housed.{AreHoused, as_written, settled_at}
+use Rattle.fv_volume.specs.Keeping.{Blocks, seen as block_seen}
+use Rattle.fv_volume.specs.Loading.{IsLoaded, label_of}
+use Rattle.fv_volume.specs.States.{States, head_in, place_in, placed_in, state_at, view_over}
+use Rattle.fv_volume.specs.Stored.{AreApartIn, AreSpacedIn}
+use Rattle.fv_volume.specs.Writing.{on_disk}
+use Rattle.fv_volume.proofs.LentSlots.{lent_from_loaded, loaded_from_lent}
+use Rattle.fv_volume.proofs.Settled.{heads_stay, housed_after, same_stay, settled_same, unchanged_stay}
+use Rattle.fv_volume.proofs.Spacing.{spaced_same}
+use Rattle.fv_volume.proofs.StaysStates.{reach_stays, states_stay}
+use Rattle.fv_volume.proofs.StillLoaded.{still_loaded}
+use Rattle.fv_volume.proofs.StoredTold.{entry_stays, stays_in, undelayed}
+use Rattle.fv_volume.proofs.Viewed.{entry_of}
+use Rattle.fv_cp.specs.Course.{HasCome, IsOnCourse, as_lent, found_with, renewed}
+use Rattle.fv_cp.specs.Lent.{FitTogether, IsLent, IsLentAt}
+use Rattle.fv_cp.specs.Points.{GoesOn, IsPoint, IsSwitched, OldOrLent, machine_lent}
+use Rattle.fv_cp.proofs.Arrived.{all_stand, is, ready, settled_is}
+use Rattle.fv_volume.proofs.RootFound.{found_still, map_now, next_in_range}
+use Rattle.fv_cp.proofs.Crashing.{switching}
 
--- ---- the volumes
+-- the root of a point: the one that was found, with these labels
+abbrev pub root_with : Pool → List ℕ → Root
+root_with pool labels = record pool.found.root { labels = labels }
 
-still_state : (s : ℕ) (x : VolumeState) (label : ℕ) → IsState s x → IsState s (as_written x label)
-unfolding label_said
-still_state s x label is = record {
-  slot_is = is.slot_is;
-  plain = is.plain;
-  span = is.span;
-  map = is.map;
-  ledger = is.ledger;
-  named = is.named;
-  label = is.label;
-}
+-- ---- whatever the disk tells
 
-settled_state : (s : ℕ) (o : Option VolumeState) (label : ℕ) → IfSome o (IsState s) → IfSome (option_map (settled_as label) o) (IsState s)
-settled_state s None label is = tt
-settled_state s (Some x) label is = so x.changed
-  where
-    so : (t : Bool) → IsState s (cond t (as_written x label) x)
-    so true = still_state s x label is
-    so false = is
+module _ (disk : Shown) (pool : Pool) (states : States) (fit : FitTogether pool states) (labels : List ℕ) (left : Pool) (mid : Shown) (come : HasCome disk pool states 64 labels left mid) where
+  -- what was found counts until the switch
+  pub found_left : (IsTrue disk.tells → IsFoundOn disk pool.found) → IsTrue mid.tells → IsFoundOn mid left.found
+  found_left found told =
+      let tells : IsTrue disk.tells = subst IsTrue come.spares.counted.tells told in
+      subst (λ (x : Found). IsFoundOn mid x) (sym come.found) (found_still pool.found (on_disk pool.map) disk mid (Ok tt) come.spares tells (found tells))
 
-settled_houses : (o : Option VolumeState) (label : ℕ) (c : Option Mapped) → Houses o c → Houses (option_map (settled_as label) o) c
-settled_houses None label c is = tt
-settled_houses (Some x) label None is = absurd is
-settled_houses (Some x) label (Some map) is = so x.changed
-  where
-    so : (t : Bool) → Houses (Some (cond t (as_written x label) x)) (Some map)
-    so true = is
-    so false = is
+  module _ (new : Shown) (last : Pool) (stay : States) (switched : IsSwitched left (root_with pool labels) last) (containers : last.containers ≡ left.containers) (kept : last.kept ≡ left.kept) (settled : (s : ℕ) → state_at stay s ≡ settled_at labels states s) where
+    pub found_last : last.found ≡ found_with pool.found labels
+    found_last = switched.found ∙ ap (λ (x : Found). next_found x (root_with pool labels)) come.found
 
-settled_parent : (o : Option VolumeState) (label : ℕ) → parent_in (option_map (settled_as label) o) ≡ parent_in o
-settled_parent None label = refl
-settled_parent (Some x) label = so x.changed
-  where
-    so : (t : Bool) → parent_in (Some (cond t (as_written x label) x)) ≡ parent_in (Some x)
-    so true = refl
-    so false = refl
+    pub goes_on : (IsTrue mid.tells → IsCommitted mid left.found (root_with pool labels) left.map.next new) → StandsOn new last.store.pairs → length stay ≡ 64 → GoesOn disk pool states new last stay
+    goes_on committed stands long = record {
+      stands = stands;
+      found = λ tells. subst (λ (x : Found). IsFoundOn new x) (sym switched.found) (done tells).stands;
+      loaded = λ tells. map_now mid left.found (root_with pool labels) left.map.next new (done tells) last.found last.map switched.found switched.map switched.size;
+      fit = record {
+        range = subst IsInRange (sym found_last) (next_in_range pool.found (root_with pool labels) fit.range (record { least = fit.range.root.least; greatest = fit.range.root.greatest; labels = come.places }));
+        size = switched.size ∙ sym (ap (λ (x : Found). x.blocks) switched.found);
+        housed = housed_after states stay labels settled last.containers long (subst (λ (x : Slots). AreHoused x states) (sym containers) come.housed);
+        kept = λ b taken. ap (λ (k : Blocks). fin.get k b) (kept ∙ come.kept) ∙ fin.get-empty nat_cmp b;
+      };
+      unkept = kept ∙ come.kept;
+      settled = λ s. (get_or labels s 0, settled s);
+      parents = λ s. ap (λ (x : Slots). parent_at x s) containers ∙ come.housed.parents s ∙ sym (fit.housed.parents s);
+      blocks = ap (λ (x : Found). x.blocks) found_last;
+    }
+      where
+        done : IsTrue disk.tells → IsCommitted mid left.found (root_with pool labels) left.map.next new
+        done tells = committed (subst IsTrue (sym come.spares.counted.tells) tells)
 
-settled_as_it_was : (o : Option VolumeState) (label : ℕ) → IfSome o (λ x. x.changed ≡ false → option_map (settled_as label) o ≡ Some x)
-settled_as_it_was None label = tt
-settled_as_it_was (Some x) label = λ unchanged. settled_same (Some x) label unchanged
+-- ---- over a disk
 
-module _ (states stay : States) (labels : List ℕ) (settled : (s : ℕ) → state_at stay s ≡ settled_at labels states s) where
-  pub housed_after : (containers : Slots) → length stay ≡ 64 → AreHoused containers states → AreHoused containers stay
-  housed_after containers long is = record {
-    long = long;
-    volumes = λ s. subst (λ (o : Option VolumeState). IfSome o (IsState s)) (sym (settled s)) (settled_state s (state_at states s) (get_or labels s 0) (is.volumes s));
-    each = λ s. subst (λ (o : Option VolumeState). Houses o (container_at containers s)) (sym (settled s)) (settled_houses (state_at states s) (get_or labels s 0) (container_at containers s) (is.each s));
-    parents = λ s. is.parents s ∙ sym (ap parent_in (settled s) ∙ settled_parent (state_at states s) (get_or labels s 0));
-  }
+module _ (disk : Shown) (pool : Pool) (states : States) (before : Machine) (lent : IsLent disk pool states before) (fit : FitTogether pool states) (labels : List ℕ) (left : Pool) (mid : Shown) (come : HasCome disk pool states 64 labels left mid) (tells : IsTrue disk.tells) where
+  abbrev root : Root
+  root = root_with pool labels
 
-  pub heads_stay : (s : ℕ) → option_map head_in (state_at stay s) ≡ option_map head_in (state_at states s)
-  heads_stay s = ap (option_map head_in) (settled s) ∙ same_head (state_at states s) (get_or labels s 0)
-
-  states_stay : length stay ≡ length states → AreStates states → AreStates stay
-  states_stay long are = record {
-    each = λ s. subst (λ (o : Option VolumeState). IfSome o (IsState s)) (sym (settled s)) (settled_state s (state_at states s) (get_or labels s 0) (are.each s));
-    names = distinct_from stay (λ e s lt inside. (λ k. share_name (heads_stay e k) (heads_stay s k)) ∙ apart_from states are.names e s lt (omega (arith, inside, long)));
-  }
-
-  same_stay : (s : ℕ) → IfSome (state_at states s) (λ x. x.changed ≡ false → state_at stay s ≡ Some x)
-  same_stay s = subst (λ (new : Option VolumeState). IfSome (state_at states s) (λ x. x.changed ≡ false → new ≡ Some x)) (sym (settled s)) (settled_as_it_was (state_at states s) (get_or labels s 0))
-
-  unchanged_stay : (s : ℕ) → IfSome (state_at stay s) (λ x. x.changed ≡ false)
-  unchanged_stay s = subst (λ (o : Option VolumeState). IfSome o (λ x. x.changed ≡ false)) (sym (settled s)) (is_settled (state_at states s) (get_or labels s 0))
-
--- ---- the root
-
--- what is found once another root counts is in range
-pub next_in_range : (found : Found) (root : Root) → IsInRange found → IsRoot root → IsInRange (next_found found root)
-next_in_range found root range is = record {
-  size = range.size;
-  slot = omega arith;
-  root = record { least = is.least; greatest = is.greatest; labels = is.labels };
-}
-
--- ---- the map
-
--- after a commit the map in memory is the one that the map area of the new root spells
-pub map_now : (mid : Shown) (found : Found) (root : Root) (next : List Bool) (new : Shown) → IsCommitted mid found root next new → (left : Pool) → left.found ≡ next_found found root → left.map ≡ record { committed = next; next = next } → blocks_of left.map ≡ found.blocks
-    → IsMapLoaded new.reads left.found left.map
-map_now mid found root next new done left now map size = record {
-  len = size ∙ ap (λ (x : Found). x.blocks) (sym now);
-  bits = λ b. ap (λ (x : Space). is_member x.committed b) map ∙ sym (subst (λ (x : Found). map_bit (root_found x) new.reads b ≡ is_member next b) (sym now) (done.side.bits b));
-  same = ap (λ (x : Space). x.next) map ∙ sym (ap (λ (x : Space). x.committed) map);
-}
-
--- ---- the point
-
-module _ (disk : Shown) (pool : Pool) (states : States) (before : Machine) (lent : IsLent disk pool states before) (range : IsInRange pool.found) (long : length states ≡ 64) (labels : List ℕ) (written : Pool) (mid : Shown) (is : IsWrittenTo pool.found states 64 labels written mid.reads)
-    (new : Shown) (done : IsCommitted mid pool.found (record pool.found.root { labels = labels }) written.map.next new) (left : Pool) (stay : States) (found : left.found ≡ found_with pool.found labels) (map : left.map ≡ record { committed = written.map.next; next = written.map.next })
-    (size : blocks_of left.map ≡ pool.found.blocks) (containers : left.containers ≡ written.containers) (settled : (s : ℕ) → state_at stay s ≡ settled_at labels states s) (stay_long : length stay ≡ 64) where
   abbrev f : Found
   f = found_with pool.found labels
 
@@ -142,75 +105,124 @@ module _ (disk : Shown) (pool : Pool) (states : States) (before : Machine) (lent
   abbrev m : Machine
   m = machine_lent disk pool states
 
-  stands_now : machine_of new.reads ≡ Some m
-  stands_now = new_machine mid pool.found (record pool.found.root { labels = labels }) written.map.next m new.reads (ready disk pool states before lent range long labels written mid.reads is) done.side
+  abbrev w : View
+  w = view_over pool states disk.reads
 
-  tells_now : Tells (layout_at u new.reads) m
-  tells_now = tells_from (layout_at u new.reads) m (image_has_heads u new.reads) (sym (machine_under new.reads u done.side.counts) ∙ stands_now)
+  told : IsTrue mid.tells
+  told = subst IsTrue (sym come.spares.counted.tells) tells
 
-  agrees : AgreeOnHeld u mid.reads new.reads
-  agrees b held = done.side.volumes b (held_has_bit u mid.reads new.reads (is_member written.map.next) is.whole b held).0
+  -- The new root was written, too.
+  pub moments : (new : Shown) → (IsTrue mid.tells → Leaves mid new (OldOrNew mid left.found root left.map.next)) → Leaves disk new (OldOrLent disk pool states before)
+  moments new switched = switching disk pool states before lent mid (Ok tt) come.spares left.found root left.map.next new (found_left disk pool states fit labels left mid come (λ t. lent.found) told)
+      (subst (λ (x : Found). IsReadyFor mid x root left.map.next m) (sym come.found) (ready disk pool states before lent fit labels left mid come tells)) (switched told)
 
-  loaded_now : (s : ℕ) → s < 64 → IsLoaded new.reads f s (state_at stay s) (container_at left.containers s)
-  loaded_now s inside = subst (λ (o : Option VolumeState). IsLoaded new.reads f s o (container_at left.containers s)) (sym (settled s))
-      (subst (λ (c : Slots). IsLoaded new.reads f s (settled_at labels states s) (container_at c s)) (sym containers)
-      (still_loaded f f mid.reads new.reads s inside refl agrees (settled_at labels states s) (container_at written.containers s) (is.done s inside inside)))
+  module _ (new : Shown) (committed : IsTrue mid.tells → IsCommitted mid left.found root left.map.next new) (last : Pool) (stay : States) (switched : IsSwitched left root last) (containers : last.containers ≡ left.containers) (kept : last.kept ≡ left.kept) (settled : (s : ℕ) → state_at stay s ≡ settled_at labels states s) where
+    done : IsCommitted mid pool.found root left.map.next new
+    done = subst (λ (x : Found). IsCommitted mid x root left.map.next new) come.found (committed told)
 
-  heads_now : (s : ℕ) → (view_over left stay new.reads).head s ≡ (view_over pool states disk.reads).head s
-  unfolding view_over
-  heads_now s = heads_stay states stay labels settled s
+    found : last.found ≡ f
+    found = found_last disk pool states fit labels left mid come new last stay switched containers kept settled
 
-  machine_now : machine_lent new left stay ≡ m
-  unfolding view_over
-  machine_now = same_told (view_over left stay new.reads) (view_over pool states disk.reads) (ap (λ (x : Found). x.blocks) found) (ap (λ (x : Found). x.root.version) found) heads_now
+    now_ready : IsReadyFor mid pool.found root left.map.next m
+    now_ready = ready disk pool states before lent fit labels left mid come tells
 
-  lent_now : IsLent new left stay m
-  lent_now = record {
-    found = subst (λ (x : Found). IsFoundOn new x) (sym found) done.stands;
-    tells = subst (λ (x : Found). Tells (layout_at (root_found x) new.reads) m) (sym found) tells_now;
-    keeps = λ c now. subst (λ (d : Image). Keeps (root_found left.found) new.reads d) (sym (settled_image new c done.settled now)) (record {
-      root = done.side.counts ∙ ap (λ (x : Found). Some (root_found x)) (sym found);
-      layout = refl;
-    });
-    map = map_now mid pool.found (record pool.found.root { labels = labels }) written.map.next new done left found map size;
-    slots = λ s inside. inl (subst (λ (x : Found). IsLoaded new.reads x s (state_at stay s) (container_at left.containers s)) (sym found) (loaded_now s inside));
-    states = states_stay states stay labels settled (stay_long ∙ sym long) lent.states;
-    commits = subst (λ (n : ℕ). n ≤ capacity left.found.blocks) (sym (same_committed (view_over left stay new.reads) (view_over pool states disk.reads) heads_now))
-        (subst (λ (x : Found). committed (view_over pool states disk.reads) ≤ capacity x.blocks) (sym found) lent.commits);
-  }
+    stands_now : machine_of new.reads ≡ Some m
+    stands_now = new_machine mid pool.found root left.map.next m new.reads now_ready done.side
 
-  -- the volume of a slot without changes was named before, and its label's place stays
-  place_stays : (s : ℕ) → s < 64 → (o : Option VolumeState) → state_at states s ≡ o → IfSome o (λ x. x.changed ≡ false → label_place u s ≡ label_place (root_found pool.found) s)
-  place_stays s inside None there = tt
-  place_stays s inside (Some x) there = λ unchanged.
-      let stays : state_at stay s ≡ Some x = settled s ∙ ap (λ (o : Option VolumeState). option_map (settled_as (get_or labels s 0)) o) there ∙ settled_same (Some x) (get_or labels s 0) unchanged in
-      let now : x.label ≡ label_place u s = ap place_in (sym stays) ∙ (loaded_now s inside).label in
-      let was : x.label ≡ label_place (root_found pool.found) s = ap place_in (sym there) ∙ named_before s inside x there unchanged in
-      sym now ∙ was
-    where
-      named_before : (s : ℕ) → s < 64 → (x : VolumeState) → state_at states s ≡ Some x → x.changed ≡ false → place_in (state_at states s) ≡ label_place (root_found pool.found) s
-      named_before s inside x there unchanged = ⊎_elim
-          (λ (loaded : IsLoaded disk.reads pool.found s (state_at states s) (container_at pool.containers s)). loaded.label)
-          (λ (new : IsUnnamed pool.found s (state_at states s) (container_at pool.containers s)). absurd (not_new pool.found s (state_at states s) (container_at pool.containers s) (subst (λ (o : Option VolumeState). IfSome o (λ y. y.changed ≡ false)) (sym there) unchanged) new))
-          (lent.slots s inside)
+    tells_now : Tells (layout_at u new.reads) m
+    tells_now = tells_from (layout_at u new.reads) m (sym (machine_under new.reads u done.side.counts) ∙ stands_now)
 
-  places_stay : (s : ℕ) → IfSome (state_at states s) (λ x. x.changed ≡ false → label_place u s ≡ label_place (root_found pool.found) s)
-  places_stay s = ⊎_elim
-      (λ (inside : s < 64). place_stays s inside (state_at states s) refl)
-      (λ (past : 64 ≤ s). subst (λ (o : Option VolumeState). IfSome o (λ x. x.changed ≡ false → label_place u s ≡ label_place (root_found pool.found) s)) (sym (get_or_past states s None (omega (arith, past, long)))) tt)
-      (cases_lt s 64)
+    -- what the new root holds is as it was written
+    new_agrees : AgreeOnHeld u mid.reads new.reads
+    unfolding layout_at view_at
+    new_agrees b held = done.side.volumes b (held_lies (with_bits (is_member left.map.next) (layout_at u mid.reads)) b (tells_from (with_bits (is_member left.map.next) (layout_at u mid.reads)) m now_ready).sound.blocks
+        (held_with_bits (is_member left.map.next) (layout_at u mid.reads) b ∙ held)).0
 
-  pub point : IsPoint disk pool states new left stay
-  point = record {
-    settled = done.settled;
-    stands = stands_now;
-    lent = lent_now;
-    heads = heads_stay states stay labels settled;
-    machine = machine_now;
-    unchanged = unchanged_stay states stay labels settled;
-    reclaimed = subst (λ (x : Found). delayed (view_at (root_found x) new.reads) ≡ 0) (sym found)
-        (none_delayed (view_at u new.reads) (λ s inside. alone_at f new.reads s (state_at stay s) (container_at left.containers s) (loaded_now s inside) (unchanged_stay states stay labels settled s)));
-    blocks = ap (λ (x : Found). x.blocks) found;
-    same = same_stay states stay labels settled;
-    label_same = λ s. subst (λ (t : Found). IfSome (state_at states s) (λ x. x.changed ≡ false → label_place (root_found t) s ≡ label_place (root_found pool.found) s)) (sym found) (places_stay s);
-  }
+    same_now : view_at u new.reads ≡ view_at u mid.reads
+    same_now = same_view u mid.reads new.reads new_agrees
+
+    loaded_then : (s : ℕ) → s < 64 → IsLoaded new.reads f s (settled_at labels states s) (container_at left.containers s)
+    loaded_then s inside = still_loaded f f mid.reads new.reads s inside refl new_agrees (settled_at labels states s) (container_at left.containers s) ((all_stand disk pool states before lent fit labels left mid come tells).each s inside).loaded
+
+    -- ---- the view
+
+    entry_now : (s v : ℕ) → s < 64 → (view_over last stay new.reads).entry s v ≡ (view_at u new.reads).entry s v
+    unfolding view_over view_at
+    entry_now s v inside = (λ k. placed_in ((kept ∙ come.kept) k) new.reads (own_entry (container_at (containers k) s) v))
+        ∙ entry_of fin.empty new.reads (λ b. fin.get-empty nat_cmp b) (label_of f new.reads s) (container_at left.containers s) v (loaded_then s inside).tree
+
+    view_stays : ((view_over last stay new.reads).blocks ≡ w.blocks) × (((view_over last stay new.reads).version ≡ w.version) × ((s : ℕ) → (view_over last stay new.reads).head s ≡ w.head s))
+    unfolding view_over
+    view_stays = (ap (λ (x : Found). x.blocks) found, (ap (λ (x : Found). x.root.version) found, heads_stay states stay labels settled))
+
+    stays_now : StaysHeld w (view_over last stay new.reads)
+    stays_now = stays_in pool states disk.reads fit.housed lent.tables lent.reach (view_over last stay new.reads) view_stays.0 view_stays.1.0 view_stays.1.1 (λ s v x inside there on.
+        entry_now s v inside ∙ ap (λ (z : View). z.entry s v) same_now
+        ∙ entry_stays pool states disk.reads fit.housed lent.tables lent.reach f labels left.map.next (container_at left.containers) mid.reads refl refl (all_stand disk pool states before lent fit labels left mid come tells) s v x inside there on)
+
+    heads_told : (s : ℕ) → w.head s ≡ option_map head_in (state_at states s)
+    unfolding view_over
+    heads_told s = refl
+
+    -- ---- the slots
+
+    apart_now : (s : ℕ) → s < 64 → IfSome (settled_at labels states s) (λ x. IfSome (container_at left.containers s) (AreApartIn x))
+    apart_now s inside = subst (λ (o : Option VolumeState). IfSome o (λ x. IfSome (container_at left.containers s) (AreApartIn x))) (sym (settled_is disk pool states before lent fit labels left mid come tells s inside)) (by ((is disk pool states before lent fit labels left mid come tells).each s inside))
+      where
+        as_it_was : (o : Option VolumeState) (c : Option Mapped) → IsLentAt disk.reads pool.found s o c → IfSome o (λ x. IfSome c (AreApartIn x))
+        as_it_was None c at = tt
+        as_it_was (Some x) None at = tt
+        as_it_was (Some x) (Some map) at = at.apart
+
+        by : IsOnCourse pool states (block_seen pool.kept disk.reads) 64 s ((is disk pool states before lent fit labels left mid come tells).now s) (get_or labels s 0) (container_at left.containers s) mid.reads → IfSome ((is disk pool states before lent fit labels left mid come tells).now s) (λ x. IfSome (container_at left.containers s) (AreApartIn x))
+        by (renewed x low there changed now r) = subst (λ (o : Option VolumeState). IfSome o (λ x. IfSome (container_at left.containers s) (AreApartIn x))) (sym now) (subst (λ (c : Option Mapped). IfSome c (AreApartIn (as_written x (get_or labels s 0)))) (sym r.now) r.stored.apart)
+        by (as_lent waits at) = subst (λ (o : Option VolumeState). IfSome o (λ x. IfSome (container_at left.containers s) (AreApartIn x))) (sym at.state) (subst (λ (c : Option Mapped). IfSome (state_at states s) (λ x. IfSome c (AreApartIn x))) (sym at.lies) (as_it_was (state_at states s) (container_at pool.containers s) (lent.slots s inside)))
+
+    lent_at_now : (s : ℕ) → s < 64 → IsLentAt new.reads f s (state_at stay s) (container_at last.containers s)
+    lent_at_now s inside = subst (λ (o : Option VolumeState). IsLentAt new.reads f s o (container_at last.containers s)) (sym (settled s)) (subst (λ (c : Slots). IsLentAt new.reads f s (settled_at labels states s) (container_at c s)) (sym containers)
+        (lent_from_loaded new.reads f s (settled_at labels states s) (container_at left.containers s) (loaded_then s inside) (apart_now s inside)))
+
+    -- ---- the point
+
+    lent_now : IsLent new last stay m
+    lent_now = record {
+      found = subst (λ (x : Found). IsFoundOn new x) (sym found) done.stands;
+      tells = subst (λ (x : Found). Tells (layout_at (root_found x) new.reads) m) (sym found) tells_now;
+      keeps = λ c now. subst (λ (d : Image). Keeps (root_found last.found) new.reads d) (sym (settled_image new c done.settled now)) (record { root = done.side.counts ∙ ap (λ (x : Found). Some (root_found x)) (sym found); layout = refl });
+      map = let is_map = map_now mid left.found root left.map.next new (committed told) last.found last.map switched.found switched.map switched.size in record { len = is_map.len; bits = is_map.bits };
+      slots = λ s inside. subst (λ (x : Found). IsLentAt new.reads x s (state_at stay s) (container_at last.containers s)) (sym found) (lent_at_now s inside);
+      spaced = subst (λ (n : ℕ). AreSpacedIn n last.map.next (state_at stay) (container_at last.containers)) (ap (λ (x : Found). x.blocks) (sym found)) (subst (λ (x : Space). AreSpacedIn pool.found.blocks x.next (state_at stay) (container_at last.containers)) (sym switched.map)
+          (spaced_same pool.found.blocks left.map.next (settled_at labels states) (state_at stay) (container_at left.containers) (container_at last.containers) (λ s inside. settled s) (λ s inside. ap (λ (c : Slots). container_at c s) containers) (all_stand disk pool states before lent fit labels left mid come tells).spaced));
+      states = states_stay w (view_over last stay new.reads) states fit.housed.long heads_told stays_now lent.tables stay labels settled lent.states;
+      built = built_stays w (view_over last stay new.reads) stays_now lent.tables.bases lent.tables.rests ∙ lent.built;
+      tables = subst AreTables (sym (same_seen w (view_over last stay new.reads) stays_now lent.tables.bases lent.tables.rests)) lent.tables;
+      reach = reach_stays w (view_over last stay new.reads) states fit.housed.long heads_told stays_now lent.tables stay labels settled lent.reach;
+    }
+
+    -- the label of a volume without a change stays where it was
+    place_stays : (s : ℕ) → s < 64 → (o : Option VolumeState) → state_at states s ≡ o → IfSome o (λ x. x.changed ≡ false → label_place u s ≡ label_place (root_found pool.found) s)
+    place_stays s inside None there = tt
+    place_stays s inside (Some x) there = λ unchanged.
+        let same : IfSome (state_at states s) (λ y. y.changed ≡ false) = subst (λ (o : Option VolumeState). IfSome o (λ y. y.changed ≡ false)) (sym there) unchanged in
+        sym (loaded_then s inside).label ∙ ap place_in (settled_same (state_at states s) (get_or labels s 0) same) ∙ (loaded_from_lent disk.reads pool.found s (state_at states s) (container_at pool.containers s) (lent.slots s inside) same).label
+
+    places_stay : (s : ℕ) → IfSome (state_at states s) (λ x. x.changed ≡ false → label_place u s ≡ label_place (root_found pool.found) s)
+    places_stay s = ⊎_elim
+        (λ (inside : s < 64). place_stays s inside (state_at states s) refl)
+        (λ (past : 64 ≤ s). subst (λ (o : Option VolumeState). IfSome o (λ x. x.changed ≡ false → label_place u s ≡ label_place (root_found pool.found) s)) (sym (get_or_past states s None (omega (arith, past, fit.housed.long)))) tt)
+        (cases_lt s 64)
+
+    pub point : IsPoint disk pool states new last stay
+    point = record {
+      settled = done.settled;
+      stands = stands_now;
+      lent = lent_now;
+      heads = heads_stay states stay labels settled;
+      machine = same_told w (view_over last stay new.reads) stays_now lent.tables.bases lent.tables.rests;
+      unchanged = unchanged_stay states stay labels settled;
+      reclaimed = subst (λ (x : Found). delayed (view_at (root_found x) new.reads) ≡ 0) (sym found) (ap delayed same_now
+          ∙ undelayed pool states disk.reads fit.housed lent.tables lent.reach f labels left.map.next (container_at left.containers) mid.reads refl refl (all_stand disk pool states before lent fit labels left mid come tells));
+      blocks = ap (λ (x : Found). x.blocks) found;
+      same = same_stay states stay labels settled;
+      label_same = λ s. subst (λ (t : Found). IfSome (state_at states s) (λ x. x.changed ≡ false → label_place (root_found t) s ≡ label_place (root_found pool.found) s)) (sym found) (places_stay s);
+    }

@@ -1,28 +1,27 @@
--- The course of a consistency point: slot by slot a volume is written where it changed, and named by the labels of the new root.
-use Rattle.std.specs.Prelude.{◌≡◌, ◌≤◌, ◌<◌, ◌⊎◌, ℕ, true, false, List, Option, Some, None, Ok, All, IsTrue, length, get_or, drop, cond, slice_set}
+-- The course of a consistency point: what waits is written, then slot by slot a volume is written where it changed, and named by the
+-- labels of the new root.
+use Rattle.std.specs.Prelude.{◌≡◌, ◌≢◌, ◌≤◌, ◌<◌, ℕ, true, Bool, List, Option, Some, None, Ok, All, IfSome, IsTrue, length, get_or, drop, cond, slice_set}
 use Rattle.std.specs.List.{sum_by}
-use Rattle.std.specs.Option.{option_map}
+use Rattle.std.specs.FinMap as fin
 use Rattle.fv_disk.specs.Shown.{Image, Shown}
 use Rattle.fv_disk.specs.Sparing.{Spares}
 use Rattle.fv_codec.specs.Blocks.{last_place}
-use Rattle.fv_bits.specs.Members.{is_member}
 use Rattle.fv_model.specs.Machines.{Machine}
 use Rattle.fv_image.specs.Views.{entry_count}
-use Rattle.fv_image.specs.Held.{layout_at, with_bits}
-use Rattle.fv_image.specs.Whole.{IsWhole, is_held_by}
 use Rattle.fv_root.specs.declared.find.Found.{Found}
-use Rattle.fv_root.specs.Finding.{root_found}
 use Rattle.fv_root.specs.Commits.{next_found}
 use Rattle.fv_store.specs.Held.{StandsOn}
 use Rattle.fv_container.specs.Mapped.{IsMapped, Mapped}
-use Rattle.fv_container.specs.Chains.{container_at, slot_count, with_container}
+use Rattle.fv_container.specs.Chains.{Slots, container_at, slot_count, with_container}
 use Rattle.fv_aggmap.specs.Space.{blocks_of, free_blocks}
 use Rattle.fv_volume.specs.declared.pool.Pool.{Pool}
 use Rattle.fv_volume.specs.declared.state.VolumeState.{VolumeState}
+use Rattle.fv_volume.specs.Keeping.{seen}
 use Rattle.fv_volume.specs.States.{States, state_at}
-use Rattle.fv_volume.specs.Loading.{IsLoaded}
-use Rattle.fv_cp.specs.Lent.{AreHoused, IsLent, IsUnnamed, asked_by}
-use Rattle.fv_cp.specs.Steps.{IsTaken, IsWritten, is_of, on_disk}
+use Rattle.fv_volume.specs.Stored.{AreSpacedIn, IsStored, place_at, stays}
+use Rattle.fv_volume.specs.Housed.{AreHoused, as_written}
+use Rattle.fv_cp.specs.Lent.{IsLent, asked_by}
+use Rattle.fv_volume.specs.Writing.{HasOwnBlocks, IsTaken, IsWritten, on_disk}
 
 -- ---- one slot
 
@@ -38,8 +37,7 @@ pub record IsSlotWritten (x : VolumeState) (s : ℕ) (labels : List ℕ) (pool :
   pub within : label < blocks_of pool.map
   pub named : now ≡ slice_set labels s label
   pub containers : left.containers ≡ with_container pool.containers s (Some new)
-  pub written : IsTrue disk.tells → ((b : ℕ) → is_of x x.label old b ≡ true → is_member pool.map.committed b ≡ true)
-      → IsWritten x old disk.reads pool.map label new after.reads left.map
+  pub written : IsTrue disk.tells → HasOwnBlocks x old pool.map → IsWritten x old disk.reads pool.map label new after.reads left.map
 
 -- nothing was written
 pub record IsPassed (labels : List ℕ) (pool : Pool) (disk : Shown) (now : List ℕ) (left : Pool) (after : Shown) : Type 0 where
@@ -54,25 +52,42 @@ GoesPast (Some x) s labels pool disk now left after = cond x.changed (IsSlotWrit
 
 -- ---- the first slots
 
--- a volume after the point that writes it, if it changed
-abbrev pub settled_as : ℕ → VolumeState → VolumeState
-settled_as label x = cond x.changed (record x { label = label; changed = false }) x
-
-abbrev pub settled_at : List ℕ → States → ℕ → Option VolumeState
-settled_at labels states s = option_map (settled_as (get_or labels s 0)) (state_at states s)
-
 -- what is found once a root with these labels counts
 abbrev pub found_with : Found → List ℕ → Found
 found_with found labels = next_found found (record found.root { labels = labels })
 
--- What stands on the disk under the labels so far is whole, with the map of the next root. The first slots are as the point leaves them,
--- and the others as they were lent, with blocks that the root on the disk holds.
-pub record IsWrittenTo (found : Found) (states : States) (count : ℕ) (labels : List ℕ) (left : Pool) (i : Image) : Type 0 where
-  pub whole : IsWhole (with_bits (is_member left.map.next) (layout_at (root_found (found_with found labels)) i))
-  pub done : (s : ℕ) → s < count → s < 64 → IsLoaded i (found_with found labels) s (settled_at labels states s) (container_at left.containers s)
-  pub waiting : (s : ℕ) → count ≤ s → s < 64
-      → IsLoaded i (found_with found labels) s (state_at states s) (container_at left.containers s) ⊎ IsUnnamed (found_with found labels) s (state_at states s) (container_at left.containers s)
-  pub old : (s b : ℕ) → count ≤ s → s < 64 → is_held_by (layout_at (root_found (found_with found labels)) i) s b ≡ true → is_member left.map.committed b ≡ true
+-- the blocks of the entries that stay are in one image as in another
+abbrev pub StaysFrom : VolumeState → Mapped → Image → Image → Type 0
+StaysFrom x map first i = (v : ℕ) → stays x v ≡ true → place_at map v ≢ 0 → i (place_at map v) ≡ first (place_at map v)
+
+-- the volume of a slot was written, and stands in an image, where the entries that stay have the blocks that they had in the first
+pub record IsRenewed (pool : Pool) (first : Image) (s : ℕ) (x : VolumeState) (label : ℕ) (container : Option Mapped) (i : Image) : Type 0 where
+  pub old : Mapped
+  pub was : container_at pool.containers s ≡ Some old
+  pub new : Mapped
+  pub now : container ≡ Some new
+  pub valid : IsMapped new
+  pub stored : IsStored x old label new i
+  pub stay : StaysFrom x old first i
+
+-- the slot is as it was lent, and the entries that stay have the blocks that they had in the first image
+pub record IsAsLent (pool : Pool) (states : States) (first : Image) (s : ℕ) (now : Option VolumeState) (label : ℕ) (container : Option Mapped) (i : Image) : Type 0 where
+  pub state : now ≡ state_at states s
+  pub lies : container ≡ container_at pool.containers s
+  pub named : label ≡ get_or pool.found.root.labels s 0
+  pub stay : (x : VolumeState) (map : Mapped) → state_at states s ≡ Some x → container_at pool.containers s ≡ Some map → StaysFrom x map first i
+
+-- What a slot is in the course, by its volume, the place of its label and its container: its volume was written, if it is one of the first
+-- and it changed, and else the slot is as it was lent.
+pub data IsOnCourse (pool : Pool) (states : States) (first : Image) (count s : ℕ) (now : Option VolumeState) (label : ℕ) (container : Option Mapped) (i : Image) : Type 0 where
+  renewed : (x : VolumeState) → s < count → state_at states s ≡ Some x → x.changed ≡ true → now ≡ Some (as_written x label) → IsRenewed pool first s x label container i → IsOnCourse pool states first count s now label container i
+  as_lent : IfSome (state_at states s) (λ x. x.changed ≡ true → count ≤ s) → IsAsLent pool states first s now label container i → IsOnCourse pool states first count s now label container i
+
+-- The first slots are written: the volumes are spaced, and each slot is on its course since the blocks that waited were written.
+pub record IsCourse (pool : Pool) (states : States) (first : Image) (count : ℕ) (labels : List ℕ) (next : List Bool) (containers : Slots) (i : Image) : Type 0 where
+  pub now : ℕ → Option VolumeState
+  pub spaced : AreSpacedIn pool.found.blocks next now (container_at containers)
+  pub each : (s : ℕ) → s < 64 → IsOnCourse pool states first count s (now s) (get_or labels s 0) (container_at containers s) i
 
 -- the blocks that the volumes of the slots from one on ask for
 abbrev pub asked_from : ℕ → States → ℕ
@@ -87,6 +102,6 @@ pub record HasCome (disk : Shown) (pool : Pool) (states : States) (count : ℕ) 
   pub room : asked_from count states ≤ free_blocks left.map
   pub committed : left.map.committed ≡ pool.map.committed
   pub found : left.found ≡ pool.found
-  pub kept : left.kept ≡ pool.kept
+  pub kept : left.kept ≡ fin.empty
   pub spares : Spares (IsTaken (on_disk pool.map)) disk now (Ok tt)
-  pub written : IsTrue disk.tells → (before : Machine) → IsLent disk pool states before → IsWrittenTo pool.found states count labels left now.reads
+  pub written : IsTrue disk.tells → (before : Machine) → IsLent disk pool states before → IsCourse pool states (seen pool.kept disk.reads) count labels left.map.next left.containers now.reads

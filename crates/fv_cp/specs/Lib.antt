@@ -1,5 +1,3 @@
 pub mod Course
 pub mod Lent
 pub mod Points
-pub mod Steps
-pub mod Writing

@@ -1,6 +1,7 @@
 -- What a consistency point does, and why it isn't done.
 use Rattle.std.specs.Prelude.{◌≡◌, ◌<◌, ◌⊎◌, ℕ, List, Some, Result, IfSome, IsTrue, false}
 use Rattle.std.specs.Option.{option_map}
+use Rattle.std.specs.FinMap as fin
 use Rattle.fv_disk.specs.Shown.{Image, Shown, IsSettled}
 use Rattle.fv_disk.specs.DiskCalls.{OnlyReads}
 use Rattle.fv_disk.specs.Faults.{HasBlockCause}
@@ -8,24 +9,25 @@ use Rattle.fv_codec.specs.declared.root.Root.{Root}
 use Rattle.fv_model.specs.Machines.{Machine}
 use Rattle.fv_image.specs.Layout.{root_place}
 use Rattle.fv_image.specs.Views.{delayed}
+use Rattle.fv_image.specs.Volumes.{told}
 use Rattle.fv_image.specs.Held.{label_place, view_at}
-use Rattle.fv_image.specs.MachineOf.{machine_of}
+use Rattle.fv_image.specs.WholeMachine.{machine_of}
 use Rattle.fv_root.specs.Finding.{root_found}
 use Rattle.fv_root.specs.Commits.{IsFoundOn, next_found}
 use Rattle.fv_store.specs.Held.{StandsOn}
 use Rattle.fv_container.specs.Chains.{parent_at}
-use Rattle.fv_aggmap.specs.Loading.{IsLoaded}
+use Rattle.fv_aggmap.specs.Loading.{IsLoaded as IsMapLoaded}
 use Rattle.fv_aggmap.specs.Space.{blocks_of, free_blocks}
 use Rattle.fv_volume.specs.declared.pool.Pool.{Pool}
-use Rattle.fv_volume.specs.States.{States, state_at, head_in, machine_in}
+use Rattle.fv_volume.specs.States.{States, state_at, head_in, view_over}
 use Rattle.fv_disk.specs.declared.fault.BlockFault.{BlockFault}
 use Rattle.fv_disk.specs.declared.fault.BlockFault.TheVariants.{DiskFault, Damaged, Memory}
 use Rattle.fv_cp.specs.Lent.{FitTogether, IsLent, blocks_asked}
-use Rattle.fv_cp.specs.Course.{settled_as}
+pub use Rattle.fv_volume.specs.Housed.{AreSettled}
 
 -- the machine of the volumes lent
 abbrev pub machine_lent : Shown → Pool → States → Machine
-machine_lent disk pool states = machine_in pool states disk.reads
+machine_lent disk pool states = told (view_over pool states disk.reads)
 
 -- an image stands for the machine of the last point, or for that of the volumes lent
 abbrev pub OldOrLent : Shown → Pool → States → Machine → Image → List ℕ → Type 0
@@ -46,10 +48,6 @@ pub record IsPoint (old : Shown) (pool : Pool) (states : States) (new : Shown) (
   pub same : (s : ℕ) → IfSome (state_at states s) (λ x. x.changed ≡ false → state_at stay s ≡ Some x)
   pub label_same : (s : ℕ) → IfSome (state_at states s) (λ x. x.changed ≡ false → label_place (root_found left.found) s ≡ label_place (root_found pool.found) s)
 
--- The volumes stay as they were, but that each that changed is now as the root on the disk names it.
-abbrev pub AreSettled : States → States → Type 0
-AreSettled states stay = (s : ℕ) → (label : ℕ) × (state_at stay s ≡ option_map (settled_as label) (state_at states s))
-
 -- The pool once another root counts: that root is the one found, and the map of the next root is the one that it has.
 pub record IsSwitched (pool : Pool) (root : Root) (left : Pool) : Type 0 where
   pub found : left.found ≡ next_found pool.found root
@@ -61,8 +59,9 @@ pub record IsSwitched (pool : Pool) (root : Root) (left : Pool) : Type 0 where
 pub record GoesOn (old : Shown) (pool : Pool) (states : States) (new : Shown) (left : Pool) (stay : States) : Type 0 where
   pub stands : StandsOn new left.store.pairs
   pub found : IsTrue old.tells → IsFoundOn new left.found
-  pub loaded : IsTrue old.tells → IsLoaded new.reads left.found left.map
+  pub loaded : IsTrue old.tells → IsMapLoaded new.reads left.found left.map
   pub fit : FitTogether left stay
+  pub unkept : left.kept ≡ fin.empty
   pub settled : AreSettled states stay
   pub parents : (s : ℕ) → parent_at left.containers s ≡ parent_at pool.containers s
   pub blocks : left.found.blocks ≡ pool.found.blocks

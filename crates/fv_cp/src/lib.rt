@@ -3,10 +3,7 @@
 #![tactic(auto)]
 
 mod fault;
-mod giving;
 mod point;
-mod taking;
-mod write;
 
 pub use fault::CpFault;
 pub use point::consistency_point;

@@ -13,27 +13,29 @@ ghost use Rattle.fv_root.specs.Commits.{IsCommitted, IsFoundOn, OldOrNew};
 ghost use Rattle.fv_store.specs.Held.{StandsOn};
 ghost use Rattle.fv_container.specs.Chains.{slot_count};
 ghost use Rattle.fv_aggmap.specs.Space.{blocks_of, free_blocks};
-ghost use Rattle.fv_volume.specs.States.{IsState, state_at, with_state};
-ghost use Rattle.fv_cp.specs.Lent.{AreHoused, FitTogether, IsLent, asked_by, blocks_asked};
+ghost use Rattle.fv_volume.specs.Files.{IsLabelled};
+ghost use Rattle.fv_volume.specs.States.{state_at, with_state};
+ghost use Rattle.fv_volume.specs.Housed.{AreHoused, settled_as, settled_at};
+ghost use Rattle.fv_cp.specs.Lent.{AreKept, FitTogether, IsLent, asked_by, blocks_asked};
 ghost use Rattle.fv_cp.specs.Points.{Counts, GoesOn, IsPoint, IsSwitched, LacksRoom, LeavesAll, OldOrLent};
-ghost use Rattle.fv_cp.specs.Steps.{IsTaken, on_disk};
-ghost use Rattle.fv_cp.specs.Course.{GoesPast, HasCome, settled_as, settled_at};
+ghost use Rattle.fv_volume.specs.Writing.{IsTaken, on_disk};
+ghost use Rattle.fv_cp.specs.Course.{GoesPast, HasCome};
 
 use crate::fault::CpFault;
-use crate::write::write_volume;
 use fv_charge::overhead;
 use fv_codec::Root;
 use fv_disk::{Disk, Failed};
 use fv_root::{commit, first_block, next_found, root_place};
-use fv_volume::{Pool, VolumeState, Volumes};
+use fv_volume::{Pool, VolumeState, Volumes, write_volume};
 
 /// How many volumes there can be.
 const SLOTS: u8 = 64;
 
-/// Writes what changed in the volumes and makes a root count that names it, past the point's last barrier: each volume that changed is
-/// written anew to blocks that were free, in the order of slots, and then the root is committed. A volume without changes isn't
-/// written. `want` is the room in blocks that the event needs which asked for the point; so far a point gives all delayed blocks back
-/// whatever is wanted, so nothing depends on it.
+/// Writes what changed in the volumes and makes a root count that names it, past the point's last barrier: the kept blocks are written
+/// to their places, then each volume that changed in the order of slots, to blocks that were free, and then the root is committed. The
+/// blocks of files stay where they are. A volume without changes isn't written. No file of a volume may be in memory: what changed there
+/// is placed before the call, and then waits among the kept blocks. `want` is the room in blocks that the event needs which asked for
+/// the point; so far a point gives all delayed blocks back whatever is wanted, so nothing depends on it.
 ///
 /// A crash at any moment leaves an image that stands for the machine of before or for that of the volumes lent, and after `Ok` the
 /// latter, on a settled disk. Each slot keeps its parent in the chain of containers. It takes no memory and reads nothing.
@@ -43,8 +45,8 @@ const SLOTS: u8 = 64;
 /// counts, with both numbers. Nothing changes then. `DiskFault` comes only where a write or a barrier failed in this call; of what is
 /// in memory nothing is said then, of images as above. `Memory` doesn't come.
 ///
-/// Costs, for each volume that changed, a step for each entry and a write for each of at most `overhead` blocks; beside that a commit, a
-/// step for each fixed block, and one for each 64 blocks.
+/// Costs a write for each kept block; for each volume that changed, a step for each entry and a write for each of at most `overhead`
+/// blocks; beside that a commit, a step for each fixed block, and one for each 64 blocks.
 pub fn consistency_point<D: Disk>(
     volumes: &mut Volumes,
     pool: &mut Pool,
@@ -82,7 +84,7 @@ pub fn consistency_point<D: Disk>(
 /// The blocks that the volumes ask for: the overhead of each that changed.
 fn blocks_asked(volumes: &Volumes) -> u64
     requires long { length volumes.now ≡ slot_count }
-    requires volumes { (s : ℕ) → IfSome (state_at volumes.now s) (IsState s) }
+    requires volumes { (s : ℕ) → IfSome (state_at volumes.now s) (IsLabelled s) }
     ensures { result ≡ blocks_asked volumes.now }
 {
     let mut asked = 0;
@@ -104,7 +106,7 @@ fn asked_by(state: Option<&VolumeState>) -> u64
     }
 }
 
-/// Writes each volume that changed, and names it by the labels of the new root.
+/// Writes the kept blocks and each volume that changed, and names it by the labels of the new root.
 fn write_volumes<D: Disk>(
     volumes: &Volumes,
     pool: &mut Pool,
@@ -116,10 +118,12 @@ fn write_volumes<D: Disk>(
     requires stands { StandsOn (D.shown disk.old) pool.old.store.pairs }
     requires housed { AreHoused pool.old.containers volumes.now }
     requires map { blocks_of pool.old.map ≡ pool.old.found.blocks }
+    requires kept { AreKept pool.old }
     requires room { blocks_asked volumes.now ≤ free_blocks pool.old.map }
     ensures come { OnOk result (HasCome (D.shown disk.old) pool.old volumes.entry.now slot_count labels.new pool.new (D.shown disk.new)) }
     ensures spares { Spares (IsTaken (on_disk pool.old.map)) (D.shown disk.old) (D.shown disk.new) result }
 {
+    pool.write_kept(disk)?;
     for slot in 0..SLOTS {
         write_slot(volumes, pool, disk, slot, labels)?;
     }

@@ -1,10 +1,11 @@
 -- Tables that stand on their blocks, where one tree changed: each other tree stands as before, and all lie apart.
-use Rattle.std.proofs.Common.{◌≡◌, ◌≢◌, ◌⊎◌, inl, inr, ℕ, refl, sym, ap, subst, ◌∙◌, ⊎_elim}
-use Rattle.std.specs.Prelude.{Option, Some, None}
+use Rattle.std.proofs.Common.{◌≡◌, ◌≢◌, ◌⊎◌, inl, inr, ℕ, true, arith, refl, sym, ap, subst, ◌∙◌, ⊎_elim}
+use Rattle.std.specs.Prelude.{Option, Some, None, is_some}
 use Rattle.std.specs.Option.{option_map}
 use Rattle.std.proofs.lemmas.Bool.{cases_eq}
 use Rattle.fv_codec.specs.declared.inode.InodeRecord.{InodeRecord}
-use Rattle.fv_tables.specs.Spelled.{Under, Rooted, pointer_at}
+use Rattle.fv_codec.specs.declared.pointer.Pointer.{Pointer}
+use Rattle.fv_tables.specs.Spelled.{Under, Rooted, stored, pointer_at}
 use Rattle.fv_tables.specs.Told.{file_at}
 use Rattle.fv_tables.specs.Kept.{over}
 use Rattle.fv_tree.specs.declared.kept.Tree.{Tree}
@@ -13,11 +14,11 @@ use Rattle.fv_tree.specs.Standing.{standing, under}
 use Rattle.fv_tree.specs.Writing.{IsAlike}
 use Rattle.fv_tree.specs.Flushing.{Loaded, IsSound, loaded_over}
 use Rattle.fv_tree.specs.Beside.{IsLaid, loaded_on, unread, LeadsTo, Spares}
-use Rattle.fv_tree.proofs.Beside.{tree_laid, unread_laid, unread_sound, other_alike, other_leads, other_sound, still_apart}
+use Rattle.fv_tree.proofs.Beside.{tree_laid, unread_laid, unread_sound, other_alike, other_keeps, other_leads, other_sound, still_apart}
 use Rattle.fv_tree.proofs.Whole.{hole_reaches}
 use Rattle.fv_tree.proofs.Writes.{none_at}
 use Rattle.fv_files.specs.declared.files.Files.{Files}
-use Rattle.fv_files.specs.Apart.{Trees, LeadsIn, LeadsFrom, StandsIn, AreApart}
+use Rattle.fv_files.specs.Apart.{Trees, LeadsIn, LeadsFrom, StandsIn, AreApart, AreLed}
 use Rattle.fv_files.specs.Tables.{tree_in, file_loaded, loaded_trees}
 
 -- ---- numbers of trees
@@ -76,6 +77,21 @@ unread_leads blocks t s is v led = record {
   };
 }
 
+-- and from its blocks where it led
+pub reread_leads : (blocks : Under) (t : Tree) (owner levels : ℕ) (root : Pointer) → standing blocks t ≡ stored blocks owner levels root → (v : ℕ) → LeadsTo (unread (stored blocks owner levels root)) v → LeadsTo (loaded_over blocks t) v
+reread_leads blocks t owner levels root is v led = record {
+  level = led.level;
+  place = led.place;
+  leads = record {
+    some = subst (λ (s : Rooted). (pointer_at s led.level led.place).stamp ≢ 0) (sym is) led.leads.some;
+    placed = ⊎_elim
+        (λ (low : led.level ≡ 0). ap (λ k. (loaded_over blocks t).placed k led.place) low ∙ (tree_laid blocks t).cells led.place (ap (λ (s : Rooted). s.cells led.place) is))
+        (λ (high : led.level ≢ 0). (tree_laid blocks t).nodes led.level led.place (omega (arith, high)) (ap (λ (s : Rooted). s.nodes led.level led.place) is))
+        (cases_eq led.level 0);
+    vvbn = subst (λ (s : Rooted). (pointer_at s led.level led.place).vvbn ≡ v) (sym is) led.leads.vvbn;
+  };
+}
+
 pub trees_laid : (blocks : Under) (f : Files) (a : Option ℕ) → IsLaidIn blocks (loaded_trees blocks f a)
 trees_laid blocks f None = (refl, tree_laid blocks f.inode.tree)
 trees_laid blocks f (Some n) = at (file_at (standing blocks f.inode.tree) n) (tree_in f n)
@@ -84,6 +100,25 @@ trees_laid blocks f (Some n) = at (file_at (standing blocks f.inode.tree) n) (tr
     at None o = tt
     at (Some r) None = (refl, unread_laid _)
     at (Some r) (Some t) = (refl, tree_laid blocks t)
+
+-- a tree leads where it led, over other blocks, or it led nowhere
+abbrev pub KeepsIn : Under → Option Loaded → Option Loaded → Type 0
+KeepsIn blocks o p = (p ≡ option_map (loaded_on blocks) o) ⊎ ((v : ℕ) → LeadsIn o v → ⊥)
+
+-- what a tree led to and doesn't lead to any more is out of use
+abbrev pub LetsGo : Shown → (ℕ → Type 0) → (ℕ → Type 0) → Type 0
+LetsGo new before after = (v : ℕ) → (after v → ⊥) → is_some (new.used v) ≡ true → before v → ⊥
+
+-- what it leads to neither before nor afterwards doesn't come into use
+abbrev pub UsesNoMore : Shown → Shown → (ℕ → Type 0) → (ℕ → Type 0) → Type 0
+UsesNoMore old new before after = (v : ℕ) → (before v → ⊥) → (after v → ⊥) → old.used v ≡ None → new.used v ≡ None
+
+-- a call that only loads
+pub loading_lets_go : (new : Shown) (before after : ℕ → Type 0) → ((v : ℕ) → before v → after v) → LetsGo new before after
+loading_lets_go new before after keeps v none some led = none (keeps v led)
+
+pub loading_uses : (old new : Shown) (before after : ℕ → Type 0) → new.used ≡ old.used → UsesNoMore old new before after
+loading_uses old new before after used v was now none = ap (λ f. f v) used ∙ none
 
 -- ---- one tree changed
 
@@ -111,6 +146,31 @@ module _ (old new : Shown) (x y : Trees) (a : Option ℕ) (laid : (b : Option �
   moved_leads : (b : Option ℕ) → b ≢ a → (o : Option Loaded) → x b ≡ o → (v : ℕ) → LeadsIn (option_map (loaded_on (under new)) o) v → LeadsIn o v
   moved_leads b differs None is v led = led
   moved_leads b differs (Some r) is v led = let h = other_in b differs (Some r) is in other_leads old new (LeadsFrom x a) (LeadsFrom y a) r spares h.0.0 h.0.1 h.1 h.2 v led
+
+  moved_keeps : (b : Option ℕ) → b ≢ a → (o : Option Loaded) → x b ≡ o → (v : ℕ) → LeadsIn o v → LeadsIn (option_map (loaded_on (under new)) o) v
+  moved_keeps b differs None is v led = led
+  moved_keeps b differs (Some r) is v led = let h = other_in b differs (Some r) is in other_keeps old new (LeadsFrom x a) (LeadsFrom y a) r spares h.0.0 h.0.1 h.1 h.2 v led
+
+  -- What no tree leads to is out of use where the one that changed lets go of what it led to, and nothing else comes into use.
+  module _ (keeps : (b : Option ℕ) → b ≢ a → KeepsIn (under new) (x b) (y b)) where
+    led_still : (b : Option ℕ) → b ≢ a → (v : ℕ) → LeadsFrom x b v → LeadsFrom y b v
+    led_still b differs v led = ⊎_elim
+        (λ is. subst (λ o. LeadsIn o v) (sym is) (moved_keeps b differs (x b) refl v led))
+        (λ none. absurd (none v led))
+        (keeps b differs)
+
+    pub led_on : LetsGo new (LeadsFrom x a) (LeadsFrom y a) → UsesNoMore old new (LeadsFrom x a) (LeadsFrom y a) → AreLed old.used x → AreLed new.used y
+    led_on lets_go no_more led v none = at (new.used v) refl
+      where
+        none_before : is_some (new.used v) ≡ true → (b : Option ℕ) → LeadsFrom x b v → ⊥
+        none_before some b leads = ⊎_elim
+            (λ (same : b ≡ a). lets_go v (none a) some (subst (λ c. LeadsFrom x c v) same leads))
+            (λ (differs : b ≢ a). none b (led_still b differs v leads))
+            (same_or b a)
+
+        at : (o : Option Use) → new.used v ≡ o → new.used v ≡ None
+        at None is = is
+        at (Some u) is = let before = none_before (ap is_some is) in no_more v (before a) (none a) (led v before)
 
   moved_apart : (b : Option ℕ) → b ≢ a → (o : Option Loaded) → x b ≡ o → (v : ℕ) → LeadsFrom y a v → LeadsIn (option_map (loaded_on (under new)) o) v → ⊥
   moved_apart b differs None is v one led = led

@@ -24,12 +24,12 @@ use Rattle.fv_inode.proofs.Alike.{alike_itself}
 use Rattle.fv_inode.proofs.Placed.{KeepsOthers, keeps_others}
 use Rattle.fv_files.specs.declared.files.Files.{Files}
 use Rattle.fv_files.specs.Apart.{LeadsIn, LeadsFrom, StandsIn}
-use Rattle.fv_files.specs.Tables.{table_in, tree_in, file_loaded, loaded_trees, AreStanding, IsTold}
+use Rattle.fv_files.specs.Tables.{table_in, tree_in, file_loaded, loaded_trees, AreStanding, IsLed, IsTold}
 use Rattle.fv_files.specs.Calls.{Becomes}
 use Rattle.fv_files.proofs.Looked.{Held}
 use Rattle.fv_files.proofs.Tables.{alike, some_same, placed_alike}
-use Rattle.fv_files.proofs.Beside.{IsOther, spares_as}
-use Rattle.fv_files.proofs.Kept.{own_tree_is, inode_alike, files_same, others_told, file_stands, inode_stands}
+use Rattle.fv_files.proofs.Beside.{IsOther, LetsGo, UsesNoMore, loading_lets_go, loading_uses, spares_as}
+use Rattle.fv_files.proofs.Kept.{own_tree_is, inode_alike, files_same, others_told, file_led, file_stands, inode_led, inode_stands}
 
 -- a table with other trees, or with another inode file
 abbrev pub with_trees : Files → maps.BTreeMap ℕ Tree → Files
@@ -53,7 +53,7 @@ kept_tree_is : (blocks : Under) (f : Files) (n : ℕ) (t : Tree) (r : InodeRecor
 kept_tree_is blocks f n t r is at = own_tree_is blocks f n r at ∙ ap (λ o. Some (file_loaded blocks n r o)) is
 
 -- the table leads with it nowhere else
-kept_leads : (blocks : Under) (f : Files) (n : ℕ) (t : Tree) → tree_in f n ≡ Some t → (v : ℕ) → LeadsFrom (loaded_trees blocks f) (Some n) v → LeadsTo (loaded_over blocks t) v
+pub kept_leads : (blocks : Under) (f : Files) (n : ℕ) (t : Tree) → tree_in f n ≡ Some t → (v : ℕ) → LeadsFrom (loaded_trees blocks f) (Some n) v → LeadsTo (loaded_over blocks t) v
 kept_leads blocks f n t is v led = at (file_at (standing blocks f.inode.tree) n) (subst (λ o. LeadsIn (option_map (λ r. file_loaded blocks n r o) (file_at (standing blocks f.inode.tree) n)) v) is led)
   where
     at : (o : Option InodeRecord) → LeadsIn (option_map (λ r. file_loaded blocks n r (Some t)) o) v → LeadsTo (loaded_over blocks t) v
@@ -120,6 +120,14 @@ module _ (old new : Shown) (f : Files) (m : maps.BTreeMap ℕ Tree) (n : ℕ) (t
         (subst (StandsIn new.used) (sym (kept_tree_is (under new) g n u was_there.file becomes.now (same n ∙ was_there.is))) stands)
         (λ w at. (ap (λ (x : Tree). x.owner) (some_same w u (sym at ∙ becomes.now)) ∙ owner ∙ owned.0, owned.1))
 
+    now_tree : loaded_trees (under new) g (Some n) ≡ Some (loaded new u)
+    now_tree = kept_tree_is (under new) g n u was_there.file becomes.now (files_same old new f g n refl becomes.others sound own_spares n ∙ was_there.is)
+
+    pub kept_led : LetsGo new (LeadsTo (loaded old t)) (LeadsTo (loaded new u)) → UsesNoMore old new (LeadsTo (loaded old t)) (LeadsTo (loaded new u)) → IsLed old f → IsLed new g
+    kept_led lets_go no_more = file_led old new f g n refl becomes.others sound own_spares
+        (λ v none some led. lets_go v (λ now. none (subst (λ o. LeadsIn o v) (sym now_tree) now)) some (subst (λ o. LeadsIn o v) was_tree led))
+        (λ v was now. no_more v (λ led. was (subst (λ o. LeadsIn o v) (sym was_tree) led)) (λ led. now (subst (λ o. LeadsIn o v) (sym now_tree) led)))
+
 -- ---- the record of a file of which the tree is in memory
 
 module _ (source : Shown) (f : Files) (i : InodeFile) (n s : ℕ) (u : Tree) (kept : tree_in f n ≡ Some u) (change : InodeRecord → InodeRecord)
@@ -137,15 +145,26 @@ module _ (source : Shown) (f : Files) (i : InodeFile) (n s : ℕ) (u : Tree) (ke
   still None = refl
   still (Some r) = refl
 
+  own_moved : loaded_trees (under source) h (Some n) ≡ option_map (loaded_on (under source)) (loaded_trees (under source) f (Some n))
+  own_moved = subst (λ o. option_map (λ r. file_loaded (under source) n r o) (file_at (rooted source i) n) ≡ option_map (loaded_on (under source)) (option_map (λ r. file_loaded (under source) n r o) (file_at (rooted source f.inode) n))) (sym kept)
+      (ap (option_map (λ r. file_loaded (under source) n r (Some u))) own_record ∙ still (file_at (rooted source f.inode) n))
+
   own_same : IsOther (under source) (loaded_trees (under source) f (Some n)) (loaded_trees (under source) h (Some n))
-  own_same = subst (λ o. IsOther (under source) (option_map (λ r. file_loaded (under source) n r o) (file_at (rooted source f.inode) n)) (option_map (λ r. file_loaded (under source) n r o) (file_at (rooted source i) n))) (sym kept)
-      (inl (ap (option_map (λ r. file_loaded (under source) n r (Some u))) own_record ∙ still (file_at (rooted source f.inode) n)))
+  own_same = inl own_moved
 
   is_there : (o : Option InodeRecord) → is_some o ≡ true → is_some (option_map change o) ≡ true
   is_there None e = e
   is_there (Some r) e = refl
 
-  -- All trees stand on their blocks.
+  -- What is in use is led to,
+  pub record_led : LeadsNoMore (loaded source f.inode.tree) (loaded source i.tree) → LeadsNoMore (loaded source i.tree) (loaded source f.inode.tree) → AreStanding source f → IsLed source f → IsLed source h
+  record_led no_more keeps sound = inode_led source source f h n (λ k differs. refl) other_records sound
+      (loading_spares source source (LeadsTo (loaded source f.inode.tree)) (LeadsTo (loaded source i.tree)) refl refl (λ v led. record { level = led.level; place = led.place; leads = no_more led.level led.place v led.leads }))
+      (inl own_moved)
+      (loading_lets_go source (LeadsTo (loaded source f.inode.tree)) (LeadsTo (loaded source i.tree)) (λ v led. record { level = led.level; place = led.place; leads = keeps led.level led.place v led.leads }))
+      (loading_uses source source (LeadsTo (loaded source f.inode.tree)) (LeadsTo (loaded source i.tree)) refl)
+
+  -- and all trees stand on their blocks.
   pub record_stands : i.tree.owner ≡ f.inode.tree.owner → Stands source i.tree → LeadsNoMore (loaded source f.inode.tree) (loaded source i.tree) → AreStanding source f → AreStanding source h
   record_stands owner stands no_more sound =
       inode_stands source source f h n (λ k differs. refl) other_records sound
@@ -162,3 +181,9 @@ module _ (old new : Shown) (f : Files) (m : maps.BTreeMap ℕ Tree) (n : ℕ) (t
   both_stand sound spares same stands =
       let kept = kept_stands old new f m n t u becomes sound spares same stands in
       record_stands new (with_trees f m) i n s u becomes.now change (rewrites (under new)).files owner (sound_i (under new) new.used (kept.trees None)) (leads (under new)) kept
+
+  pub both_led : AreStanding old f → Spares old new (LeadsTo (loaded old t)) (LeadsTo (loaded new u)) → u.owner ≡ t.owner → Stands new u → ((blocks : Under) → LeadsNoMore (loaded_over blocks i.tree) (loaded_over blocks f.inode.tree))
+      → LetsGo new (LeadsTo (loaded old t)) (LeadsTo (loaded new u)) → UsesNoMore old new (LeadsTo (loaded old t)) (LeadsTo (loaded new u)) → IsLed old f → IsLed new (record { inode = i; trees = m; alloc = f.alloc })
+  both_led sound spares same stands keeps lets_go no_more led =
+      record_led new (with_trees f m) i n s u becomes.now change (rewrites (under new)).files (leads (under new)) (keeps (under new)) (kept_stands old new f m n t u becomes sound spares same stands)
+      (kept_led old new f m n t u becomes sound spares lets_go no_more led)

@@ -1,33 +1,35 @@
 -- The end of a table's flush: the inode file is placed, and nothing is in memory.
-use Rattle.std.proofs.Common.{◌≡◌, ◌≢◌, ℕ, inl, Ok, Err, Result, refl, sym, ap, subst, ◌∙◌}
+use Rattle.std.proofs.Common.{◌≡◌, ℕ, inl, Ok, Err, Result, refl, sym, ap, subst, ◌∙◌, arith}
 use Rattle.std.specs.Prelude.{Option, Some, None, is_some, IfOk, IfErr, OnOk}
 use Rattle.std.specs.Option.{option_map}
 use Rattle.std.specs.BTreeMap as maps
-use Rattle.std.proofs.lemmas.Result.{IfErr-weaker}
+use Rattle.std.proofs.lemmas.Result.{IfErr-weaker, on_ok_weaker}
 use Rattle.fv_disk.specs.declared.fault.BlockFault.{BlockFault}
 use Rattle.fv_codec.specs.declared.pointer.Pointer.{Pointer}
-use Rattle.fv_codec.specs.declared.inode.InodeRecord.{InodeRecord}
 use Rattle.fv_codec.specs.Blocks.{IsPointer, greatest_word}
-use Rattle.fv_tables.specs.Spelled.{Under, Rooted, stored}
+use Rattle.fv_tables.specs.Spelled.{stored}
 use Rattle.fv_tables.specs.Told.{file_at, standing_at}
 use Rattle.fv_tables.specs.Kept.{IsPlacedTable}
-use Rattle.fv_tree.specs.declared.kept.Tree.{Tree}
 use Rattle.fv_tree.specs.Sources.{Shown, Counts, HasCause}
 use Rattle.fv_tree.specs.Standing.{standing, under}
-use Rattle.fv_tree.specs.Flushing.{Flushes, IsLeft, ReachesOnce, Stands, loaded, loaded_over}
-use Rattle.fv_tree.specs.Beside.{unread, LeadsTo}
+use Rattle.fv_tree.specs.Costs.{pending, Fits, IsEnough}
+use Rattle.fv_tree.specs.Flushing.{Flushes, IsLeft, ReachesOnce, Stands, loaded}
+use Rattle.fv_tree.specs.Beside.{unread}
 use Rattle.fv_tree.proofs.Beside.{unread_reaches}
 use Rattle.fv_inode.specs.declared.file.InodeFile.{InodeFile}
 use Rattle.fv_inode.specs.Files.{rooted}
 use Rattle.fv_inode.proofs.Slots.{alike_files}
 use Rattle.fv_files.specs.declared.files.Files.{Files}
-use Rattle.fv_files.specs.Apart.{LeadsIn, LeadsFrom, StandsIn, stored_trees}
-use Rattle.fv_files.specs.Tables.{table_in, tree_in, file_loaded, loaded_trees, AreReached, AreStanding}
+use Rattle.fv_files.specs.Apart.{LeadsIn, LeadsFrom, StandsIn, AreLed, stored_trees}
+use Rattle.fv_files.specs.Tables.{table_in, tree_in, file_loaded, loaded_trees, AreReached, AreStanding, IsLed}
 use Rattle.fv_files.specs.Flushing.{FlushesTable, LaysTrees}
+use Rattle.fv_files.specs.Pending.{FitsTable}
 use Rattle.fv_files.proofs.Tables.{placed_alike}
-use Rattle.fv_files.proofs.Kept.{same_trees, records_told, inode_stands}
+use Rattle.fv_files.proofs.Kept.{moved_tree, same_trees, records_told, inode_led, inode_stands}
 use Rattle.fv_files.proofs.Changed.{with_inode}
-use Rattle.fv_files.proofs.Laid.{flushed_spares, lays_then, reread_leads}
+use Rattle.fv_files.proofs.Beside.{reread_leads, unread_leads}
+use Rattle.fv_files.proofs.Laid.{flush_goes, flush_uses, flushed_spares, lays_then}
+use Rattle.fv_files.proofs.Sums.{no_cost}
 use Rattle.fv_files.proofs.Whole.{no_trees}
 
 -- what the flush of an inode file answers and does
@@ -35,6 +37,9 @@ pub record Places (told : Type 0) (old new : Shown) (i j : InodeFile) (r : Resul
   pub flushes : told → Stands old i.tree → Flushes (loaded old i.tree) old.used (loaded new j.tree) new.used
   pub strays : told → Stands old i.tree → new.strays ≡ old.strays
   pub left : IsLeft i.tree j.tree
+  pub fits : told → Stands old i.tree → Fits old i.tree new j.tree
+  pub enough : told → Stands old i.tree → IsEnough (pending i.tree) old.room r
+  pub nothing : OnOk r (pending j.tree ≡ 0)
   pub root : IfOk r (λ root. root ≡ j.tree.root)
   pub pointer : IfOk r IsPointer
   pub spelled : IfOk r (λ root. rooted new j ≡ stored (under new) i.tree.owner i.tree.levels root)
@@ -55,6 +60,18 @@ module _ (told : Type 0) (old new : Shown) (f : Files) (i : InodeFile) (r : Resu
         (records_told old new f h 0 (λ k differs. refl) (λ k differs. files k) sound (flushed_spares old new f.inode.tree i.tree (sound.trees None) (is.flushes tells (sound.trees None))))
         (records_told old new f h 1 (λ k differs. refl) (λ k differs. files k) sound (flushed_spares old new f.inode.tree i.tree (sound.trees None) (is.flushes tells (sound.trees None))) 0 (λ e. cc))
 
+    pub last_led : IsLed old f → IsLed new h
+    last_led = inode_led old new f h 0 (λ k differs. refl) (λ k differs. files k) sound (flushed_spares old new f.inode.tree i.tree (sound.trees None) (is.flushes tells (sound.trees None)))
+        (inl (moved_tree (under old) (under new) f h 0 refl (files 0)))
+        (flush_goes old new f.inode.tree i.tree (sound.trees None) (is.flushes tells (sound.trees None)))
+        (flush_uses old new f.inode.tree i.tree (is.flushes tells (sound.trees None)))
+
+    last_fits : FitsTable old f new h
+    last_fits =
+        let fits = is.fits tells (sound.trees None) in
+        let fewer = fits.fewer in
+        let room = fits.room in record { fewer = omega (arith, fewer); room = omega (arith, room) }
+
     pub last_stands : AreStanding new h
     last_stands = inode_stands old new f h 0 (λ k differs. refl) (λ k differs. files k) sound (flushed_spares old new f.inode.tree i.tree (sound.trees None) (is.flushes tells (sound.trees None)))
         (same_trees (under old) (under new) f h 0 refl (files 0)) is.left.owner (is.flushes tells (sound.trees None)).sound
@@ -64,7 +81,10 @@ module _ (told : Type 0) (old new : Shown) (f : Files) (i : InodeFile) (r : Resu
   last_lays = record {
     placed = last_placed;
     stands = last_stands;
+    led = last_led;
     strays = λ tells sound. is.strays tells (sound.trees None);
+    fits = last_fits;
+    enough = λ tells sound room. IfErr-weaker r _ _ (λ e not_ damaged. absurd (not_ damaged)) (is.enough tells (sound.trees None) (omega (arith, room)));
     counts = is.counts;
     cause = IfErr-weaker r _ _ (λ e cause. inl cause) is.cause;
   }
@@ -101,6 +121,13 @@ module _ (told : Type 0) (old new : Shown) (f : Files) (i : InodeFile) (root : P
     apart = λ a b v differs one other. now.apart a b v differs (led a v one) (led b v other);
   }
 
+  pub ends_led : IsLed old f → AreLed new.used (stored_trees (under new) i.tree.levels root)
+  ends_led before v none = last_led told old new f i (Ok root) is tells sound before v (λ a leads. none a (there a v leads))
+    where
+      there : (a : Option ℕ) (v : ℕ) → LeadsFrom (loaded_trees (under new) g) a v → LeadsFrom (stored_trees (under new) i.tree.levels root) a v
+      there None v leads = unread_leads (under new) i.tree (stored (under new) greatest_word i.tree.levels root) spelled v leads
+      there (Some n) v leads = subst (λ o. LeadsIn o v) (file_is n) leads
+
 -- ---- the whole flush
 
 at_ok : {P : Pointer → Type 0} (r : Result Pointer BlockFault) → ((root : Pointer) → r ≡ Ok root → P root) → IfOk r P
@@ -117,9 +144,11 @@ flush_done told old mid new f g i r first empty is = record {
   root = is.root;
   pointer = is.pointer;
   none = on_ok r (no_trees (with_inode g i) empty);
+  nothing = on_ok_weaker r (λ done. let all = no_cost g.trees empty in omega (arith, done, all)) is.nothing;
   levels = λ tells sound. is.left.levels ∙ (first.placed tells sound).levels;
   stored = λ tells. at_ok r (λ root done sound. ends_stored told mid new g i root (subst (Places told mid new g.inode i) done is) empty tells (first.stands tells sound));
   reached = λ tells. at_ok r (λ root done sound. ends_reached told mid new g i root (subst (Places told mid new g.inode i) done is) empty tells (first.stands tells sound));
+  stored_led = λ tells. at_ok r (λ root done sound led. ends_led told mid new g i root (subst (Places told mid new g.inode i) done is) empty tells (first.stands tells sound) (first.led tells sound led));
 }
 
 -- no tree was placed any more
@@ -129,7 +158,9 @@ flush_failed told old new f g e lays = record {
   root = tt;
   pointer = tt;
   none = tt;
+  nothing = tt;
   levels = λ tells sound. (lays.placed tells sound).levels;
   stored = λ tells. tt;
   reached = λ tells. tt;
+  stored_led = λ tells. tt;
 }

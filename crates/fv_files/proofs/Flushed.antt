@@ -1,9 +1,8 @@
 -- The flush of a table, step by step: a file's tree, the root of it, and last the inode file.
-use Rattle.std.proofs.Common.{◌≡◌, ◌≢◌, ℕ, Bool, true, false, cond, nat_eq, inl, Ok, Err, Result, refl, sym, ap, subst, ◌∙◌, arith}
-use Rattle.std.specs.Prelude.{Option, Some, None, List, length, [], ◌∷◌, is_some, IfErr}
+use Rattle.std.proofs.Common.{◌≡◌, ◌≤◌, ◌+◌, ℕ, true, false, cond, nat_eq, inl, Ok, Err, Result, refl, sym, ap, subst, ◌∙◌, arith}
+use Rattle.std.specs.Prelude.{Option, Some, None, is_some}
 use Rattle.std.specs.Option.{option_map}
 use Rattle.std.specs.Ordering.{nat_cmp}
-use Rattle.std.specs.Map.{lookup}
 use Rattle.std.specs.BTreeMap as maps
 use Rattle.std.specs.FinMap as fin
 use Rattle.std.proofs.lemmas.Bool.Decides.{nat_tests}
@@ -11,33 +10,39 @@ use Rattle.std.proofs.lemmas.Result.{IfErr-weaker}
 use Rattle.fv_disk.specs.declared.fault.BlockFault.{BlockFault}
 use Rattle.fv_codec.specs.declared.pointer.Pointer.{Pointer}
 use Rattle.fv_codec.specs.declared.inode.InodeRecord.{InodeRecord}
-use Rattle.fv_tables.specs.Spelled.{Under, Rooted, stored}
+use Rattle.fv_tables.specs.Spelled.{Under, stored}
 use Rattle.fv_tables.specs.Told.{file_at}
 use Rattle.fv_tables.specs.Kept.{IsPlacedTable}
 use Rattle.fv_tree.specs.declared.kept.Tree.{Tree}
-use Rattle.fv_tree.specs.Sources.{Shown, Counts, HasCause, IsCalm, IsUntouched}
+use Rattle.fv_tree.specs.Sources.{Shown, Counts}
 use Rattle.fv_tree.specs.Standing.{standing, under}
 use Rattle.fv_tree.specs.Writing.{IsAlike}
-use Rattle.fv_tree.specs.Flushing.{ReachesOnce, Stands, loaded}
-use Rattle.fv_tree.proofs.Causes.{calm_itself, calm_then, counts_then}
+use Rattle.fv_tree.specs.Costs.{pending}
+use Rattle.fv_tree.specs.Flushing.{ReachesOnce, Stands}
+use Rattle.fv_tree.proofs.Causes.{calm_itself, counts_then}
 use Rattle.fv_inode.specs.declared.file.InodeFile.{InodeFile}
-use Rattle.fv_inode.specs.Files.{rooted, with_root}
+use Rattle.fv_inode.specs.Files.{rooted, info_of, with_root}
+use Rattle.fv_inode.specs.declared.info.Info.{Info}
 use Rattle.fv_inode.specs.Failing.{Alters}
+use Rattle.fv_inode.specs.Failing as inodes
+use Rattle.fv_inode.proofs.Alike.{alike_itself}
+use Rattle.fv_inode.proofs.Looked.{alters_none}
 use Rattle.fv_inode.specs.Changing.{SetsRoot}
-use Rattle.fv_inode.specs.Readying.{IsReadyFile}
-use Rattle.fv_inode.proofs.Readied.{ready_there}
 use Rattle.fv_files.specs.declared.files.Files.{Files}
-use Rattle.fv_files.specs.Tables.{table_in, tree_in, AreStanding}
+use Rattle.fv_files.specs.Tables.{table_in, tree_in, AreStanding, IsLed}
 use Rattle.fv_files.specs.Flushing.{FlushesKept, LaysTrees}
+use Rattle.fv_files.specs.Pending.{pending_trees, tree_cost, FitsTable}
 use Rattle.fv_files.proofs.Looked.{Held, counts_done, counts_failed}
 use Rattle.fv_files.proofs.Tables.{placed_then}
 use Rattle.fv_files.proofs.Changed.{with_trees, with_inode, owned_stands, has_record}
-use Rattle.fv_files.proofs.Prepared.{readied_placed, readied_stands}
-use Rattle.fv_files.proofs.Laid.{HasRoot, kept_placed, kept_stood, root_placed, root_stands, gone_placed, gone_stands, lay_failed, cause_later}
+use Rattle.fv_files.proofs.Prepared.{readied_led, readied_placed, readied_stands}
+use Rattle.fv_files.proofs.Sums.{most_cost}
+use Rattle.fv_files.proofs.Laid.{HasRoot, kept_flush_led, kept_placed, kept_stood, root_led, root_placed, root_stands, gone_led, gone_placed, gone_stands, laid_failed, lay_failed}
 
 -- ---- the inode file holds more in memory, or a call of it failed
 
-module _ {T : Type 0} (told : Type 0) (old new : Shown) (f : Files) (i : InodeFile) (r : Result T BlockFault) (alters : Alters told old new f.inode.tree i.tree r) (alike : told → IsAlike (rooted old f.inode) (rooted new i)) where
+module _ {T : Type 0} (told : Type 0) (old new : Shown) (f : Files) (i : InodeFile) (r : Result T BlockFault) (alters : Alters told old new f.inode.tree i.tree r) (alike : told → IsAlike (rooted old f.inode) (rooted new i))
+    (fewer : pending i.tree ≤ pending f.inode.tree) where
   abbrev h : Files
   h = with_inode f i
 
@@ -45,7 +50,10 @@ module _ {T : Type 0} (told : Type 0) (old new : Shown) (f : Files) (i : InodeFi
   ready_lays = record {
     placed = λ tells sound. readied_placed old new f h alters.looks.untouched (alike tells) (λ k. refl);
     stands = λ tells sound. readied_stands old new f h alters.looks.untouched (alike tells) (λ k. refl) alters.owner (alters.stands tells) (alters.leads tells) sound;
+    led = λ tells sound led. readied_led old new f h alters.looks.untouched (alike tells) (λ k. refl) (alters.leads tells) (alters.keeps tells) sound led;
     strays = λ tells sound. alters.looks.untouched.strays;
+    fits = λ tells sound. let same = alters.looks.untouched.room in record { fewer = omega (arith, fewer); room = omega (arith, fewer, same) };
+    enough = λ tells sound room. IfErr-weaker r _ _ (λ e fails damaged. laid_failed told old old new f f e (calm_itself old) (λ tells sound. placed_self) (inl fails)) alters.looks.cause;
     counts = alters.looks.counts;
     cause = IfErr-weaker r _ _ (λ e fails. lay_failed told old old new f f e (calm_itself old) (λ tells sound. placed_self) (inl fails)) alters.looks.cause;
   }
@@ -53,22 +61,38 @@ module _ {T : Type 0} (told : Type 0) (old new : Shown) (f : Files) (i : InodeFi
       placed_self : IsPlacedTable (table_in old f) (table_in old f)
       placed_self = readied_placed old old f f (record { held = refl; used = refl; strays = refl; room = refl; cost = refl }) (record { levels = refl; stamps = λ level place. refl; blocks = λ index. refl }) (λ k. refl)
 
+-- the inode file was only read
+pub look_lays : {T : Type 0} (told : Type 0) (old new : Shown) (f : Files) (r : Result T BlockFault) → inodes.Looks told (rooted old f.inode) old new r → LaysTrees told old new f f r
+look_lays told old new f r looks = ready_lays told old new f f.inode r (alters_none told f.inode.tree old new r looks)
+    (λ tells. subst (λ (h : Held). IsAlike (rooted old f.inode) (standing (λ v. fin.get h v) f.inode.tree)) (sym looks.untouched.held) (alike_itself (rooted old f.inode))) (omega arith)
+
+-- and it has no file of a number
+pub look_none : (old : Shown) (f : Files) (n : ℕ) (o : Option Info) → is_some o ≡ false → o ≡ option_map (info_of n) (file_at (rooted old f.inode) n) → is_some (file_at (rooted old f.inode) n) ≡ true → ⊥
+look_none old f n o none is some = at (file_at (rooted old f.inode) n) some (sym (ap is_some is) ∙ none)
+  where
+    at : (r : Option InodeRecord) → is_some r ≡ true → is_some (option_map (info_of n) r) ≡ false → ⊥
+    at None some none = cc
+    at (Some r) some none = cc
+
 -- nothing is done
 pub lays_self : (told : Type 0) (old : Shown) (f : Files) → LaysTrees {T = Unit {0}} told old old f f (Ok tt)
 lays_self told old f = record {
   placed = λ tells sound. readied_placed old old f f (record { held = refl; used = refl; strays = refl; room = refl; cost = refl }) (record { levels = refl; stamps = λ level place. refl; blocks = λ index. refl }) (λ k. refl);
   stands = λ tells sound. sound;
+  led = λ tells sound led. led;
   strays = λ tells sound. refl;
+  fits = λ tells sound. record { fewer = omega arith; room = omega arith };
+  enough = λ tells sound room. tt;
   counts = record { faults = omega arith; damages = omega arith; spent = omega arith; calm = calm_itself old };
   cause = tt;
 }
 
 -- under another answer
 pub lays_done : {S T : Type 0} (told : Type 0) (old new : Shown) (f g : Files) (x : S) (y : T) → LaysTrees told old new f g (Ok x) → LaysTrees told old new f g (Ok y)
-lays_done told old new f g x y is = record { placed = is.placed; stands = is.stands; strays = is.strays; counts = counts_done old new x y is.counts; cause = tt }
+lays_done told old new f g x y is = record { placed = is.placed; stands = is.stands; led = is.led; strays = is.strays; fits = is.fits; enough = λ tells sound room. tt; counts = counts_done old new x y is.counts; cause = tt }
 
 pub lays_failed : {S T : Type 0} (told : Type 0) (old new : Shown) (f g : Files) (e : BlockFault) → LaysTrees {T = S} told old new f g (Err e) → LaysTrees {T = T} told old new f g (Err e)
-lays_failed {S} told old new f g e is = record { placed = is.placed; stands = is.stands; strays = is.strays; counts = counts_failed {S = S} old new (Err e) e is.counts; cause = is.cause }
+lays_failed {S} told old new f g e is = record { placed = is.placed; stands = is.stands; led = is.led; strays = is.strays; fits = is.fits; enough = is.enough; counts = counts_failed {S = S} old new (Err e) e is.counts; cause = is.cause }
 
 -- a table that stands on its blocks has a file for each tree in memory
 pub strayed : (old : Shown) (f : Files) (n : ℕ) → is_some (tree_in f n) ≡ true → AreStanding old f → is_some (file_at (rooted old f.inode) n) ≡ true
@@ -79,11 +103,14 @@ strayed old f n there sound = at (tree_in f n) refl there
     at (Some t) is some = (sound.owners n t is).1
 
 -- so without one nothing is said of content
-pub lays_astray : (told : Type 0) (old new : Shown) (f g : Files) (x : Bool) → Counts {E = BlockFault} old new (Ok x) → (told → AreStanding old f → ⊥) → LaysTrees {T = Unit {0}} told old new f g (Ok tt)
+pub lays_astray : {T : Type 0} (told : Type 0) (old new : Shown) (f g : Files) (x : T) → Counts {E = BlockFault} old new (Ok x) → (told → AreStanding old f → ⊥) → LaysTrees {T = Unit {0}} told old new f g (Ok tt)
 lays_astray told old new f g x counts never = record {
   placed = λ tells sound. absurd (never tells sound);
   stands = λ tells sound. absurd (never tells sound);
+  led = λ tells sound led. absurd (never tells sound);
   strays = λ tells sound. absurd (never tells sound);
+  fits = λ tells sound. absurd (never tells sound);
+  enough = λ tells sound room. tt;
   counts = counts_done old new x tt counts;
   cause = tt;
 }
@@ -94,18 +121,31 @@ module _ (told : Type 0) (old mid : Shown) (f : Files) (m : maps.BTreeMap ℕ Tr
   abbrev g : Files
   g = with_trees f m
 
+  kept_fits : told → AreStanding old f → FitsTable old f mid g
+  kept_fits tells sound =
+      let fits = kept.fits tells (owned_stands old f n kept.tree kept.becomes.was sound) in
+      let fewer = fits.fewer in
+      let room = fits.room in
+      let sum = kept.becomes.sum in record { fewer = omega (arith, fewer, sum); room = omega (arith, room, sum) }
+
   pub kept_lays : LaysTrees told old mid f g r
   kept_lays = record {
     placed = λ tells sound. let stood = owned_stands old f n kept.tree kept.becomes.was sound in kept_placed old mid f m n kept.tree kept.next kept.becomes sound stood (kept.flushes tells stood);
     stands = λ tells sound. let stood = owned_stands old f n kept.tree kept.becomes.was sound in kept_stood old mid f m n kept.tree kept.next kept.becomes sound stood (kept.flushes tells stood) kept.left.owner;
+    led = λ tells sound. let stood = owned_stands old f n kept.tree kept.becomes.was sound in kept_flush_led old mid f m n kept.tree kept.next kept.becomes sound stood (kept.flushes tells stood);
     strays = λ tells sound. kept.strays tells (owned_stands old f n kept.tree kept.becomes.was sound);
+    fits = kept_fits;
+    enough = λ tells sound room.
+        let most = most_cost f.trees n kept.tree kept.becomes.was in
+        IfErr-weaker r _ _ (λ e not_ damaged. absurd (not_ damaged)) (kept.enough tells (owned_stands old f n kept.tree kept.becomes.was sound) (omega (arith, most, room)));
     counts = kept.counts;
     cause = IfErr-weaker r _ _ (λ e fails. inl fails) kept.cause;
   }
 
 -- its root was laid, and it goes from memory
 module _ (told : Type 0) (old mid new : Shown) (f : Files) (m last : maps.BTreeMap ℕ Tree) (i : InodeFile) (n levels : ℕ) (root : Pointer) (kept : FlushesKept told old mid f.trees m n (Ok root)) (levels_is : (t : Tree) → maps.get nat_cmp f.trees n ≡ Some t → levels ≡ t.levels)
-    (ready : IsReadyFile f.inode n) (alters : Alters {T = Unit {0}} told mid new f.inode.tree i.tree (Ok tt)) (sets : told → SetsRoot (rooted mid f.inode) (rooted new i) n levels root) (gone : (k : ℕ) → maps.get nat_cmp last k ≡ cond (nat_eq k n) None (maps.get nat_cmp m k)) where
+    (alters : Alters {T = Unit {0}} told mid new f.inode.tree i.tree (Ok tt)) (set : told → is_some (file_at (rooted mid f.inode) n) ≡ true → SetsRoot (rooted mid f.inode) (rooted new i) n levels root) (more : pending i.tree ≤ pending f.inode.tree + 4)
+    (gone : (k : ℕ) → maps.get nat_cmp last k ≡ cond (nat_eq k n) None (maps.get nat_cmp m k)) (cost : (t : Tree) → maps.get nat_cmp m n ≡ Some t → pending_trees last + tree_cost t ≡ pending_trees m) where
   abbrev two : Files
   two = with_trees f m
 
@@ -118,17 +158,23 @@ module _ (told : Type 0) (old mid new : Shown) (f : Files) (m last : maps.BTreeM
   first : LaysTrees told old mid f two (Ok root)
   first = kept_lays told old mid f m n (Ok root) kept
 
-  own : told → HasRoot (file_at (rooted new i) n) levels root
-  own tells =
-      let was = has_record (file_at (rooted mid f.inode) n) (ready_there (under mid) f.inode n ready) in
-      let test : nat_eq n n ≡ true = grind (arith, nat_tests) in record {
-        file = with_root levels root was.file;
-        is = (sets tells).files n ∙ ap (λ b. cond b (option_map (with_root levels root) (file_at (rooted mid f.inode) n)) (file_at (rooted mid f.inode) n)) test ∙ ap (option_map (with_root levels root)) was.is;
-        levels_is = refl;
-        root_is = refl;
-      }
-
   module _ (tells : told) (sound : AreStanding old f) where
+    there : is_some (file_at (rooted mid f.inode) n) ≡ true
+    there = strayed mid two n (ap is_some kept.becomes.now) (first.stands tells sound)
+
+    sets : SetsRoot (rooted mid f.inode) (rooted new i) n levels root
+    sets = set tells there
+
+    own : HasRoot (file_at (rooted new i) n) levels root
+    own =
+        let was = has_record (file_at (rooted mid f.inode) n) there in
+        let test : nat_eq n n ≡ true = grind (arith, nat_tests) in record {
+          file = with_root levels root was.file;
+          is = sets.files n ∙ ap (λ b. cond b (option_map (with_root levels root) (file_at (rooted mid f.inode) n)) (file_at (rooted mid f.inode) n)) test ∙ ap (option_map (with_root levels root)) was.is;
+          levels_is = refl;
+          root_is = refl;
+        }
+
     stood : Stands old kept.tree
     stood = owned_stands old f n kept.tree kept.becomes.was sound
 
@@ -147,18 +193,34 @@ module _ (told : Type 0) (old mid new : Shown) (f : Files) (m last : maps.BTreeM
     placed_two = first.stands tells sound
 
     placed_three : AreStanding new three
-    placed_three = root_stands mid new two i n levels root kept.next kept.becomes.now alters.looks.untouched (sets tells) alters.owner (alters.stands tells) (alters.leads tells) placed_two
+    placed_three = root_stands mid new two i n levels root kept.next kept.becomes.now alters.looks.untouched sets alters.owner (alters.stands tells) (alters.leads tells) placed_two
 
     all_placed : IsPlacedTable (table_in old f) (table_in new four)
     all_placed = placed_then (table_in old f) (table_in new three) (table_in new four)
-        (placed_then (table_in old f) (table_in mid two) (table_in new three) (first.placed tells sound) (root_placed mid new two i n levels root kept.next kept.becomes.now alters.looks.untouched (sets tells)))
-        (gone_placed new three last n levels root kept.next kept.becomes.now gone placed_three (own tells) spelled reached)
+        (placed_then (table_in old f) (table_in mid two) (table_in new three) (first.placed tells sound) (root_placed mid new two i n levels root kept.next kept.becomes.now alters.looks.untouched sets))
+        (gone_placed new three last n levels root kept.next kept.becomes.now gone placed_three own spelled reached)
+
+    all_led : IsLed old f → IsLed new four
+    all_led led = gone_led new three last n levels root kept.next kept.becomes.now gone placed_three own spelled reached
+        (root_led mid new two i n levels root kept.next kept.becomes.now alters.looks.untouched sets (alters.leads tells) (alters.keeps tells) placed_two (first.led tells sound led))
+
+    all_fits : FitsTable old f new four
+    all_fits =
+        let fits = kept.fits tells stood in
+        let fewer = fits.fewer in
+        let room = fits.room in
+        let same = alters.looks.untouched.room in
+        let sum = kept.becomes.sum in
+        let out = cost kept.next kept.becomes.now in record { fewer = omega (arith, sum, out, more); room = omega (arith, room, same, sum, out, more) }
 
   pub lay_done : LaysTrees {T = Unit {0}} told old new f four (Ok tt)
   lay_done = record {
     placed = all_placed;
-    stands = λ tells sound. gone_stands new three last n levels root kept.next kept.becomes.now gone (placed_three tells sound) (own tells) (spelled tells sound) (reached tells sound);
+    stands = λ tells sound. gone_stands new three last n levels root kept.next kept.becomes.now gone (placed_three tells sound) (own tells sound) (spelled tells sound) (reached tells sound);
+    led = all_led;
     strays = λ tells sound. alters.looks.untouched.strays ∙ first.strays tells sound;
+    fits = all_fits;
+    enough = λ tells sound room. tt;
     counts = counts_then old mid new (Ok tt) first.counts.calm alters.looks.counts;
     cause = tt;
   }

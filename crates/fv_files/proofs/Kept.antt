@@ -19,14 +19,18 @@ use Rattle.fv_inode.specs.Files.{rooted}
 use Rattle.fv_inode.proofs.Slots.{alike_files}
 use Rattle.fv_inode.proofs.Placed.{KeepsOthers}
 use Rattle.fv_files.specs.declared.files.Files.{Files}
-use Rattle.fv_files.specs.Apart.{LeadsFrom, StandsIn}
-use Rattle.fv_files.specs.Tables.{table_in, tree_in, file_loaded, loaded_trees, AreSound, AreStanding}
+use Rattle.fv_files.specs.Apart.{LeadsFrom, StandsIn, AreLed}
+use Rattle.fv_files.specs.Tables.{table_in, tree_in, file_loaded, loaded_trees, AreSound, AreStanding, IsLed}
 use Rattle.fv_files.proofs.Looked.{Held}
-use Rattle.fv_files.proofs.Beside.{IsOther, some_differ, trees_laid, other_tree, stand_still, lie_apart}
+use Rattle.fv_files.proofs.Beside.{IsOther, KeepsIn, LetsGo, UsesNoMore, led_on, some_differ, trees_laid, other_tree, stand_still, lie_apart}
 
 pub sound_on : (f : Files) (old new : Shown) → new.held ≡ old.held → new.used ≡ old.used → AreStanding old f → AreStanding new f
 sound_on f old new held used stands =
     subst (λ (h : Held). AreSound (λ v. fin.get h v) new.used f) (sym held) (subst (λ u. AreSound (under old) u f) (sym used) stands)
+
+pub led_on_blocks : (f : Files) (old new : Shown) → new.held ≡ old.held → new.used ≡ old.used → IsLed old f → IsLed new f
+led_on_blocks f old new held used led =
+    subst (λ (h : Held). AreLed new.used (loaded_trees (λ v. fin.get h v) f)) (sym held) (subst (λ u. AreLed u (loaded_trees (under old) f)) (sym used) led)
 
 -- ---- trees of files
 
@@ -43,8 +47,11 @@ on_blocks old new n o None = refl
 on_blocks old new n None (Some r) = refl
 on_blocks old new n (Some t) (Some r) = refl
 
+pub moved_tree : (old new : Under) (f g : Files) (n : ℕ) → tree_in g n ≡ tree_in f n → file_at (standing new g.inode.tree) n ≡ file_at (standing old f.inode.tree) n → loaded_trees new g (Some n) ≡ option_map (loaded_on new) (loaded_trees old f (Some n))
+moved_tree old new f g n tree file = (λ i. tree_at new n (tree i) (file i)) ∙ on_blocks old new n (tree_in f n) (file_at (standing old f.inode.tree) n)
+
 pub same_trees : (old new : Under) (f g : Files) (n : ℕ) → tree_in g n ≡ tree_in f n → file_at (standing new g.inode.tree) n ≡ file_at (standing old f.inode.tree) n → IsOther new (loaded_trees old f (Some n)) (loaded_trees new g (Some n))
-same_trees old new f g n tree file = inl ((λ i. tree_at new n (tree i) (file i)) ∙ on_blocks old new n (tree_in f n) (file_at (standing old f.inode.tree) n))
+same_trees old new f g n tree file = inl (moved_tree old new f g n tree file)
 
 -- and as a table is told by them
 told_tree : (old new : Under) (n : ℕ) (r : InodeRecord) (o p : Option Tree) → p ≡ o → IsAlike (file_loaded old n r o).tree (over new (file_loaded old n r o).tree)
@@ -75,6 +82,14 @@ module _ (old new : Shown) (f g : Files) (n : ℕ) (inode : g.inode ≡ f.inode)
   others None differs = inl (λ i. Some (loaded new (inode i).tree))
   others (Some k) differs = same_trees (under old) (under new) f g k (trees k (λ e. differs (ap (λ m. Some m) e))) (files_same k)
 
+  keeps : (b : Option ℕ) → b ≢ Some n → KeepsIn (under new) (loaded_trees (under old) f b) (loaded_trees (under new) g b)
+  keeps None differs = inl (λ i. Some (loaded new (inode i).tree))
+  keeps (Some k) differs = inl (moved_tree (under old) (under new) f g k (trees k (λ e. differs (ap (λ m. Some m) e))) (files_same k))
+
+  -- what is in use is led to,
+  pub file_led : LetsGo new (LeadsFrom (loaded_trees (under old) f) (Some n)) (LeadsFrom (loaded_trees (under new) g) (Some n)) → UsesNoMore old new (LeadsFrom (loaded_trees (under old) f) (Some n)) (LeadsFrom (loaded_trees (under new) g) (Some n)) → IsLed old f → IsLed new g
+  file_led = led_on old new (loaded_trees (under old) f) (loaded_trees (under new) g) (Some n) (trees_laid (under old) f) sound.trees sound.apart spares keeps
+
   -- and all trees stand on their blocks.
   pub file_stands : StandsIn new.used (loaded_trees (under new) g (Some n)) → ((t : Tree) → tree_in g n ≡ Some t → (t.owner ≡ n) × (is_some (file_at (rooted old f.inode) n) ≡ true)) → AreStanding new g
   file_stands own owner = record {
@@ -95,6 +110,18 @@ module _ (old new : Shown) (f g : Files) (n : ℕ) (trees : (k : ℕ) → k ≢ 
   pub records_told : KeepsOthers (table_in old f) (table_in new g) n
   records_told k differs r at = told_tree (under old) (under new) k r (tree_in f k) (tree_in g k) (trees k differs)
       (other_tree old new (loaded_trees (under old) f) (loaded_trees (under new) g) None (trees_laid (under old) f) sound.trees sound.apart spares (Some k) (λ e. cc) (file_loaded (under old) k r (tree_in f k)) (own_tree_is (under old) f k r at))
+
+  -- what is in use is led to,
+  module _ (own : KeepsIn (under new) (loaded_trees (under old) f (Some n)) (loaded_trees (under new) g (Some n))) where
+    rest_keeps : (b : Option ℕ) → b ≢ None → KeepsIn (under new) (loaded_trees (under old) f b) (loaded_trees (under new) g b)
+    rest_keeps None differs = absurd (differs refl)
+    rest_keeps (Some k) differs = ⊎_elim
+        (λ (same : k ≡ n). subst (λ m. KeepsIn (under new) (loaded_trees (under old) f (Some m)) (loaded_trees (under new) g (Some m))) (sym same) own)
+        (λ (unlike : k ≢ n). inl (moved_tree (under old) (under new) f g k (trees k unlike) (files k unlike)))
+        (cases_eq k n)
+
+    pub inode_led : LetsGo new (LeadsTo (loaded old f.inode.tree)) (LeadsTo (loaded new g.inode.tree)) → UsesNoMore old new (LeadsTo (loaded old f.inode.tree)) (LeadsTo (loaded new g.inode.tree)) → IsLed old f → IsLed new g
+    inode_led = led_on old new (loaded_trees (under old) f) (loaded_trees (under new) g) None (trees_laid (under old) f) sound.trees sound.apart spares rest_keeps
 
   -- and all trees stand on their blocks.
   module _ (own : IsOther (under new) (loaded_trees (under old) f (Some n)) (loaded_trees (under new) g (Some n))) where

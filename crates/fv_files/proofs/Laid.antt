@@ -1,30 +1,30 @@
 -- A file's tree is placed, its root laid into an inode block, and the tree goes from memory.
-use Rattle.std.proofs.Common.{◌≡◌, ◌≢◌, ◌≤◌, ℕ, true, false, cond, nat_eq, inl, inr, Ok, Err, Result, refl, sym, ap, subst, ◌∙◌, ⊎_elim, arith}
-use Rattle.std.specs.Prelude.{Option, Some, None, List, is_some, IfErr}
+use Rattle.std.proofs.Common.{◌≡◌, ◌≢◌, ℕ, true, false, cond, nat_eq, inl, inr, Ok, Result, refl, sym, ap, subst, ◌∙◌, ⊎_elim, arith}
+use Rattle.std.specs.Prelude.{Option, Some, None, is_some}
 use Rattle.std.specs.Option.{option_map}
 use Rattle.std.specs.Ordering.{nat_cmp}
 use Rattle.std.specs.BTreeMap as maps
 use Rattle.std.specs.FinMap as fin
-use Rattle.std.proofs.lemmas.Bool.{cases_eq}
 use Rattle.std.proofs.lemmas.Bool.Decides.{nat_tests}
 use Rattle.std.proofs.lemmas.Result.{IfErr-weaker}
 use Rattle.fv_disk.specs.declared.fault.BlockFault.{BlockFault}
 use Rattle.fv_disk.specs.declared.fault.BlockFault.TheVariants.{DiskFault, Damaged, Memory}
 use Rattle.fv_codec.specs.declared.pointer.Pointer.{Pointer}
 use Rattle.fv_codec.specs.declared.inode.InodeRecord.{InodeRecord}
-use Rattle.fv_tables.specs.Spelled.{Under, Rooted, stored, pointer_at}
-use Rattle.fv_tables.specs.Told.{AreTold, file_at, Standing, tree_or, tree_of}
+use Rattle.fv_tables.specs.Spelled.{stored, pointer_at}
+use Rattle.fv_tables.specs.Told.{AreTold, file_at, tree_or, tree_of}
 use Rattle.fv_tables.specs.Kept.{IsPlacedTable}
 use Rattle.fv_tree.specs.declared.kept.Tree.{Tree}
 use Rattle.fv_tree.specs.Sources.{Shown, HasCause, IsCalm, IsUntouched}
 use Rattle.fv_tree.specs.Standing.{standing, under}
-use Rattle.fv_tree.specs.Writing.{IsAlike}
-use Rattle.fv_tree.specs.Flushing.{IsSound, ReachesOnce, Flushes, IsPlaced, Leads, Stands, loaded, loaded_over}
+use Rattle.fv_tree.specs.Flushing.{ReachesOnce, Flushes, IsPlaced, Stands, loaded, loaded_over}
 use Rattle.fv_tree.specs.Leading.{LeadsNoMore}
 use Rattle.fv_tree.specs.Beside.{unread, LeadsTo, Spares}
-use Rattle.fv_tree.proofs.Beside.{flush_spares, loading_spares, tree_laid, unread_sound}
+use Rattle.fv_tree.proofs.Beside.{flush_spares, loading_spares, unread_sound}
 use Rattle.fv_tree.proofs.Causes.{calm_then, counts_then}
-use Rattle.fv_tree.proofs.Leading.{flush_leads}
+use Rattle.fv_tree.proofs.Flushed.{unchanged_placed}
+use Rattle.fv_tree.proofs.Gone.{is_memory}
+use Rattle.fv_tree.proofs.Leading.{flush_keeps, flush_leads}
 use Rattle.fv_inode.specs.declared.file.InodeFile.{InodeFile}
 use Rattle.fv_inode.specs.Files.{rooted, with_root}
 use Rattle.fv_inode.specs.Changing.{SetsRoot}
@@ -32,29 +32,17 @@ use Rattle.fv_inode.proofs.Alike.{alike_itself}
 use Rattle.fv_inode.proofs.Placed.{keeps_others, rooted_table}
 use Rattle.fv_files.specs.declared.files.Files.{Files}
 use Rattle.fv_files.specs.Apart.{LeadsIn, LeadsFrom, StandsIn}
-use Rattle.fv_files.specs.Tables.{table_in, tree_in, file_loaded, loaded_trees, AreStanding}
+use Rattle.fv_files.specs.Tables.{table_in, tree_in, file_loaded, loaded_trees, AreStanding, IsLed}
 use Rattle.fv_files.specs.Calls.{Becomes}
 use Rattle.fv_files.specs.Failing.{FilesFail}
-use Rattle.fv_files.specs.Flushing.{FlushFails, LaysTrees, holding}
+use Rattle.fv_files.specs.Flushing.{FlushFails, LayFails, LaysTrees, holding}
+use Rattle.fv_files.specs.Pending.{FitsTable}
 use Rattle.fv_files.proofs.Looked.{Held, fails_after}
 use Rattle.fv_files.proofs.Tables.{placed_alike, placed_then, some_same}
-use Rattle.fv_files.proofs.Kept.{own_tree_is, file_stands, sound_on}
-use Rattle.fv_files.proofs.Changed.{with_trees, with_inode, kept_inode, kept_others, kept_stands, own_told, record_stands}
-
--- a tree of which nothing is in memory leads from its blocks where it led
-pub reread_leads : (blocks : Under) (t : Tree) (owner levels : ℕ) (root : Pointer) → standing blocks t ≡ stored blocks owner levels root → (v : ℕ) → LeadsTo (unread (stored blocks owner levels root)) v → LeadsTo (loaded_over blocks t) v
-reread_leads blocks t owner levels root is v led = record {
-  level = led.level;
-  place = led.place;
-  leads = record {
-    some = subst (λ (s : Rooted). (pointer_at s led.level led.place).stamp ≢ 0) (sym is) led.leads.some;
-    placed = ⊎_elim
-        (λ (low : led.level ≡ 0). ap (λ k. (loaded_over blocks t).placed k led.place) low ∙ (tree_laid blocks t).cells led.place (ap (λ (s : Rooted). s.cells led.place) is))
-        (λ (high : led.level ≢ 0). (tree_laid blocks t).nodes led.level led.place (omega (arith, high)) (ap (λ (s : Rooted). s.nodes led.level led.place) is))
-        (cases_eq led.level 0);
-    vvbn = subst (λ (s : Rooted). (pointer_at s led.level led.place).vvbn ≡ v) (sym is) led.leads.vvbn;
-  };
-}
+use Rattle.fv_files.proofs.Beside.{LetsGo, UsesNoMore, loading_lets_go, loading_uses, reread_leads, unread_leads}
+use Rattle.fv_files.proofs.Kept.{own_tree_is, file_led, file_stands, led_on_blocks, sound_on}
+use Rattle.fv_files.proofs.Changed.{with_trees, with_inode, kept_inode, kept_led, kept_others, kept_stands, own_told, record_led, record_stands}
+use Rattle.fv_files.proofs.Steps.{none_some}
 
 -- ---- a tree is flushed
 
@@ -62,10 +50,37 @@ pub flushed_spares : (old new : Shown) (t u : Tree) → Stands old t → Flushes
 flushed_spares old new t u stands flushes = flush_spares old new (loaded old t) (loaded new u) refl refl flushes
     (λ level place v led. ⊎_elim (λ placed. inl placed) (λ was. inr was.0) (flush_leads old new t u stands flushes level place v led))
 
+-- a block that was placed is led to
+placed_led : (old new : Shown) (t u : Tree) → Flushes (loaded old t) old.used (loaded new u) new.used → (v : ℕ) → IsPlaced (loaded old t) (loaded new u) v → LeadsTo (loaded new u) v
+placed_led old new t u flushes v placed =
+    let some : (pointer_at (loaded new u).tree placed.level placed.place).stamp ≢ 0 = (λ none. placed.flushed.some (sym (flushes.stamps placed.level placed.place) ∙ none)) in record {
+      level = placed.level;
+      place = placed.place;
+      leads = record {
+        some = some;
+        placed = unchanged_placed (loaded new u) new.used flushes.sound (is_memory new u) placed.level placed.place placed.flushed.done some;
+        vvbn = placed.vvbn;
+      };
+    }
+
+-- and one that was replaced, and isn't led to, is out of use
+pub flush_goes : (old new : Shown) (t u : Tree) → Stands old t → Flushes (loaded old t) old.used (loaded new u) new.used → LetsGo new (LeadsTo (loaded old t)) (LeadsTo (loaded new u))
+flush_goes old new t u stood flushes v none some led = ⊎_elim
+    (λ now. none (record { level = led.level; place = led.place; leads = now }))
+    (λ replaced. none_some (new.used v) (flushes.gone v replaced (λ placed. none (placed_led old new t u flushes v placed))) some)
+    (flush_keeps old new t u stood flushes led.level led.place v led.leads)
+
+pub flush_uses : (old new : Shown) (t u : Tree) → Flushes (loaded old t) old.used (loaded new u) new.used → UsesNoMore old new (LeadsTo (loaded old t)) (LeadsTo (loaded new u))
+flush_uses old new t u flushes v was now none =
+    (flushes.others v (λ replaced. was (record { level = replaced.level; place = replaced.place; leads = replaced.leads })) (λ placed. now (placed_led old new t u flushes v placed))).1 ∙ none
+
 module _ (old new : Shown) (f : Files) (m : maps.BTreeMap ℕ Tree) (n : ℕ) (t u : Tree) (becomes : Becomes f.trees m n t u) (sound : AreStanding old f) (stood : Stands old t) (flushes : Flushes (loaded old t) old.used (loaded new u) new.used) where
   pub kept_placed : IsPlacedTable (table_in old f) (table_in new (with_trees f m))
   kept_placed = placed_alike (table_in old f) (table_in new (with_trees f m)) n (kept_inode old new f m n t u becomes sound (flushed_spares old new t u stood flushes))
       (kept_others old new f m n t u becomes sound (flushed_spares old new t u stood flushes)) (λ r at. own_told old new f m n t u becomes flushes.alike r)
+
+  pub kept_flush_led : IsLed old f → IsLed new (with_trees f m)
+  kept_flush_led = kept_led old new f m n t u becomes sound (flushed_spares old new t u stood flushes) (flush_goes old new t u stood flushes) (flush_uses old new t u flushes)
 
   pub kept_stood : u.owner ≡ t.owner → AreStanding new (with_trees f m)
   kept_stood owner = kept_stands old new f m n t u becomes sound (flushed_spares old new t u stood flushes) owner flushes.sound
@@ -94,6 +109,15 @@ module _ (old new : Shown) (f : Files) (i : InodeFile) (n levels : ℕ) (root : 
       (λ k. subst (λ (m : Held). file_at (rooted new i) k ≡ cond (nat_eq k n) (option_map (with_root levels root) (file_at (standing (λ v. fin.get m v) f.inode.tree) n)) (file_at (standing (λ v. fin.get m v) f.inode.tree) k)) (sym untouched.held) (sets.files k))
       owner (stands (sound.trees None)) (subst (λ (m : Held). LeadsNoMore (loaded_over (λ v. fin.get m v) f.inode.tree) (loaded new i.tree)) (sym untouched.held) no_more)
       (sound_on f old new untouched.held untouched.used sound)
+
+  pub root_led : LeadsNoMore (loaded old f.inode.tree) (loaded new i.tree) → LeadsNoMore (loaded new i.tree) (loaded old f.inode.tree) → AreStanding old f → IsLed old f → IsLed new h
+  root_led no_more keeps sound led =
+      record_led new f i n 0 u kept (with_root levels root)
+      (λ k. subst (λ (m : Held). file_at (rooted new i) k ≡ cond (nat_eq k n) (option_map (with_root levels root) (file_at (standing (λ v. fin.get m v) f.inode.tree) n)) (file_at (standing (λ v. fin.get m v) f.inode.tree) k)) (sym untouched.held) (sets.files k))
+      (subst (λ (m : Held). LeadsNoMore (loaded_over (λ v. fin.get m v) f.inode.tree) (loaded new i.tree)) (sym untouched.held) no_more)
+      (subst (λ (m : Held). LeadsNoMore (loaded new i.tree) (loaded_over (λ v. fin.get m v) f.inode.tree)) (sym untouched.held) keeps)
+      (sound_on f old new untouched.held untouched.used sound)
+      (led_on_blocks f old new untouched.held untouched.used led)
 
 -- ---- it goes from memory
 
@@ -135,6 +159,14 @@ module _ (source : Shown) (f : Files) (m : maps.BTreeMap ℕ Tree) (n levels : �
   gone_placed = placed_alike (table_in source f) (table_in source g) n (alike_itself (rooted source f.inode))
       (keeps_others (table_in source f) (table_in source g) n refl (λ k differs. ap (option_map (standing (under source))) (others k differs))) own_as
 
+  pub gone_led : IsLed source f → IsLed source g
+  gone_led = file_led source source f g n refl others sound
+      (loading_spares source source (LeadsFrom (loaded_trees (under source) f) (Some n)) (LeadsFrom (loaded_trees (under source) g) (Some n)) refl refl
+      (λ v led. subst (λ o. LeadsIn o v) (sym was_tree) (reread_leads (under source) u n levels root is v (subst (λ o. LeadsIn o v) now_tree led))))
+      (loading_lets_go source (LeadsFrom (loaded_trees (under source) f) (Some n)) (LeadsFrom (loaded_trees (under source) g) (Some n))
+      (λ v led. subst (λ o. LeadsIn o v) (sym now_tree) (unread_leads (under source) u (stored (under source) n levels root) is v (subst (λ o. LeadsIn o v) was_tree led))))
+      (loading_uses source source (LeadsFrom (loaded_trees (under source) f) (Some n)) (LeadsFrom (loaded_trees (under source) g) (Some n)) refl)
+
   pub gone_stands : AreStanding source g
   gone_stands = file_stands source source f g n refl others sound
       (loading_spares source source (LeadsFrom (loaded_trees (under source) f) (Some n)) (LeadsFrom (loaded_trees (under source) g) (Some n)) refl refl
@@ -153,31 +185,47 @@ cause_later old mid new (Damaged at want found) calm h = (h.0 ∙ calm.faults, (
 cause_later old mid new Memory calm h = calm_then old mid new calm h
 
 module _ (told : Type 0) (old mid new : Shown) (f g h : Files) where
+  lay_fails : {S : Type 0} (x : S) (e : BlockFault) → LaysTrees told old mid f g (Ok x) → LayFails told mid new g e → LayFails told old new f e
+  lay_fails x e first lay = record {
+    held = lay.held;
+    table = lay.table;
+    placed = λ tells sound. placed_then (table_in old f) (table_in mid g) (table_in (holding old lay.held) lay.table) (first.placed tells sound) (lay.placed tells (first.stands tells sound));
+    fails = fails_after told (table_in (holding old lay.held) lay.table) (holding old lay.held) (holding mid lay.held) new e (record { faults = first.counts.calm.faults; damages = first.counts.calm.damages; spent = first.counts.calm.spent }) refl lay.fails;
+  }
+
   flush_fails : {S : Type 0} (x : S) (e : BlockFault) → LaysTrees told old mid f g (Ok x) → FlushFails told mid new g e → FlushFails told old new f e
   flush_fails x e first fails = ⊎_elim
       (λ cause. inl (cause_later old mid new e first.counts.calm cause))
-      (λ lay. inr (record {
-        held = lay.held;
-        table = lay.table;
-        placed = λ tells sound. placed_then (table_in old f) (table_in mid g) (table_in (holding old lay.held) lay.table) (first.placed tells sound) (lay.placed tells (first.stands tells sound));
-        fails = fails_after told (table_in (holding old lay.held) lay.table) (holding old lay.held) (holding mid lay.held) new e (record { faults = first.counts.calm.faults; damages = first.counts.calm.damages; spent = first.counts.calm.spent }) refl lay.fails;
-      }))
+      (λ lay. inr (lay_fails x e first lay))
       fails
+
+  fits_then : FitsTable old f mid g → FitsTable mid g new h → FitsTable old f new h
+  fits_then one two =
+      let fewer_one = one.fewer in
+      let fewer_two = two.fewer in
+      let room_one = one.room in
+      let room_two = two.room in record { fewer = omega (arith, fewer_one, fewer_two); room = omega (arith, room_one, room_two) }
 
   pub lays_then : {S T : Type 0} (x : S) (r : Result T BlockFault) → LaysTrees told old mid f g (Ok x) → LaysTrees told mid new g h r → LaysTrees told old new f h r
   lays_then x r first second = record {
     placed = λ tells sound. placed_then (table_in old f) (table_in mid g) (table_in new h) (first.placed tells sound) (second.placed tells (first.stands tells sound));
     stands = λ tells sound. second.stands tells (first.stands tells sound);
+    led = λ tells sound led. second.led tells (first.stands tells sound) (first.led tells sound led);
     strays = λ tells sound. second.strays tells (first.stands tells sound) ∙ first.strays tells sound;
+    fits = λ tells sound. fits_then (first.fits tells sound) (second.fits tells (first.stands tells sound));
+    enough = λ tells sound room. let one = (first.fits tells sound).room in IfErr-weaker r _ _ (λ e fails damaged. lay_fails x e first (fails damaged)) (second.enough tells (first.stands tells sound) (omega (arith, one, room)));
     counts = counts_then old mid new r first.counts.calm second.counts;
     cause = IfErr-weaker r _ _ (λ e fails. flush_fails x e first fails) second.cause;
   }
 
 -- a call of the inode file that failed in the middle
-pub lay_failed : (told : Type 0) (old mid new : Shown) (f h : Files) (e : BlockFault) → IsCalm old mid → (told → AreStanding old f → IsPlacedTable (table_in old f) (table_in mid h)) → FilesFail told (table_in mid h) mid new e → FlushFails told old new f e
-lay_failed told old mid new f h e calm placed fails = inr (record {
+pub laid_failed : (told : Type 0) (old mid new : Shown) (f h : Files) (e : BlockFault) → IsCalm old mid → (told → AreStanding old f → IsPlacedTable (table_in old f) (table_in mid h)) → FilesFail told (table_in mid h) mid new e → LayFails told old new f e
+laid_failed told old mid new f h e calm placed fails = record {
   held = mid.held;
   table = h;
   placed = placed;
   fails = fails_after told (table_in mid h) (holding old mid.held) mid new e (record { faults = calm.faults; damages = calm.damages; spent = calm.spent }) refl fails;
-})
+}
+
+pub lay_failed : (told : Type 0) (old mid new : Shown) (f h : Files) (e : BlockFault) → IsCalm old mid → (told → AreStanding old f → IsPlacedTable (table_in old f) (table_in mid h)) → FilesFail told (table_in mid h) mid new e → FlushFails told old new f e
+lay_failed told old mid new f h e calm placed fails = inr (laid_failed told old mid new f h e calm placed fails)

@@ -1,3 +1,4 @@
+pub mod Sums
 pub mod Tables
 pub mod Looked
 pub mod Whole
@@ -12,3 +13,5 @@ pub mod Removed
 pub mod Laid
 pub mod Flushed
 pub mod Ended
+pub mod Adding
+pub mod Counted

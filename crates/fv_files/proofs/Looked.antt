@@ -1,5 +1,5 @@
 -- Why calls of a table fail, over several calls.
-use Rattle.std.proofs.Common.{◌≡◌, ℕ, inl, inr, subst, sym, arith, List, Result, Ok, Err}
+use Rattle.std.proofs.Common.{◌≡◌, ℕ, inl, inr, subst, sym, List, Result, Ok, Err}
 use Rattle.std.specs.Prelude.{IfErr}
 use Rattle.std.specs.Ordering.{nat_cmp}
 use Rattle.std.specs.FinMap as fin

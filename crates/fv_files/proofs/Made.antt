@@ -24,9 +24,10 @@ use Rattle.fv_inode.specs.Changing.{Makes}
 use Rattle.fv_inode.proofs.Placed.{keeps_others}
 use Rattle.fv_inode.proofs.Told.{created_told}
 use Rattle.fv_files.specs.declared.files.Files.{Files}
-use Rattle.fv_files.specs.Tables.{table_in, tree_in, file_loaded, loaded_trees, AreStanding}
-use Rattle.fv_files.proofs.Beside.{IsBare}
-use Rattle.fv_files.proofs.Kept.{inode_stands}
+use Rattle.fv_files.specs.Apart.{LeadsIn}
+use Rattle.fv_files.specs.Tables.{table_in, tree_in, file_loaded, loaded_trees, AreStanding, IsLed}
+use Rattle.fv_files.proofs.Beside.{IsBare, loading_lets_go, loading_uses}
+use Rattle.fv_files.proofs.Kept.{inode_led, inode_stands}
 use Rattle.fv_files.proofs.Whole.{not_some}
 
 -- no tree is in memory where no file is
@@ -76,3 +77,14 @@ module _ (old now : Shown) (f : Files) (i : InodeFile) (name : List ℕ) (reserv
   made_sound used owner inode no_more = inode_stands old now f g n (λ k differs. refl) others sound
       (loading_spares old now (LeadsTo (loaded old f.inode.tree)) (LeadsTo (loaded now i.tree)) held used (λ v led. record { level = led.level; place = led.place; leads = no_more led.level led.place v led.leads }))
       (inr bare) owner inode (λ t at. absurd (not_some (tree_in f n) t none at))
+
+  -- what is in use is led to
+  pub made_led : now.used ≡ old.used → LeadsNoMore (loaded old f.inode.tree) (loaded now i.tree) → LeadsNoMore (loaded now i.tree) (loaded old f.inode.tree) → IsLed old f → IsLed now g
+  made_led used no_more keeps = inode_led old now f g n (λ k differs. refl) others sound
+      (loading_spares old now (LeadsTo (loaded old f.inode.tree)) (LeadsTo (loaded now i.tree)) held used (λ v led. record { level = led.level; place = led.place; leads = no_more led.level led.place v led.leads }))
+      (inr (λ v led. subst (λ o. LeadsIn o v) no_file led))
+      (loading_lets_go now (LeadsTo (loaded old f.inode.tree)) (LeadsTo (loaded now i.tree)) (λ v led. record { level = led.level; place = led.place; leads = keeps led.level led.place v led.leads }))
+      (loading_uses old now (LeadsTo (loaded old f.inode.tree)) (LeadsTo (loaded now i.tree)) used)
+    where
+      no_file : loaded_trees (under old) f (Some n) ≡ None
+      no_file = ap (option_map (λ r. file_loaded (under old) n r (tree_in f n))) makes.number.free

@@ -35,14 +35,16 @@ use Rattle.fv_inode.proofs.Placed.{keeps_others}
 use Rattle.fv_inode.proofs.Slots.{alike_files}
 use Rattle.fv_files.specs.declared.files.Files.{Files}
 use Rattle.fv_files.specs.Apart.{LeadsIn, LeadsFrom, StandsIn}
-use Rattle.fv_files.specs.Tables.{table_in, tree_in, tree_known, file_loaded, loaded_trees, AreStanding, IsInfoOf, IsTold}
+use Rattle.fv_files.specs.Tables.{table_in, tree_in, tree_known, file_loaded, loaded_trees, AreStanding, IsInfoOf, IsLed, IsTold}
 use Rattle.fv_files.specs.Failing.{FilesFail, Looks}
-use Rattle.fv_files.specs.Calls.{WritesCell, CutsFile, RemovesFile, Changes, Holds, IsUnread, KeptFails, Prepares}
-use Rattle.fv_files.proofs.Beside.{unread_leads}
+use Rattle.fv_laws.specs.Positions.{taken_by_rm}
+use Rattle.fv_files.specs.Calls.{WritesCell, CutsFile, RemovesFile, TakesByCut, TakesByRemoval, Changes, Holds, IsUnread, KeepsLed, KeptFails, Prepares}
+use Rattle.fv_files.proofs.Beside.{loading_lets_go, loading_uses, reread_leads, unread_leads}
 use Rattle.fv_files.proofs.Looked.{Held, counts_failed, counts_done, looks_inode}
 use Rattle.fv_files.proofs.Tables.{file_tree, kept_known, placed_alike, same_placed, some_same, stored_known}
-use Rattle.fv_files.proofs.Kept.{own_tree_is, same_trees, file_stands, inode_stands}
+use Rattle.fv_files.proofs.Kept.{own_tree_is, moved_tree, same_trees, file_led, file_stands, inode_led, inode_stands}
 use Rattle.fv_files.proofs.Changed.{with_trees, with_inode}
+use Rattle.fv_files.proofs.Steps.{same_room}
 
 -- ---- what is said of a table that is told as another is said of that one
 
@@ -59,6 +61,12 @@ module _ (x w y : Standing) (same : table_told w ≡ table_told x) where
   pub removes_from : (n s : ℕ) → RemovesFile w y n s → RemovesFile x y n s
   removes_from n s is now well = is now (subst (IsWellTable now) (sym same) well) ∙ ap (λ (t : Table). rm t n s) same
 
+  pub cut_counts_from : (n length s count : ℕ) → TakesByCut w n length s count → TakesByCut x n length s count
+  cut_counts_from n length s count is now f le well there = is now f le (subst (IsWellTable now) (sym same) well) (same_in n ∙ there)
+
+  pub removal_counts_from : (n s count : ℕ) → TakesByRemoval w n s count → TakesByRemoval x n s count
+  removal_counts_from n s count is now f le well there = is now f le (subst (IsWellTable now) (sym same) well) (same_in n ∙ there) ∙ ap (λ (t : Table). taken_by_rm t n f) same
+
 -- ---- a change after that
 
 module _ (told well : Type 0) (old mid : Shown) (f g : Files) (info : Info) where
@@ -69,6 +77,7 @@ module _ (told well : Type 0) (old mid : Shown) (f g : Files) (info : Info) wher
     untouched = first.looks.untouched;
     stands = λ tells asked. first.stands tells;
     strays = λ tells sound. first.looks.untouched.strays;
+    room = same_room old mid first.looks.untouched;
     counts = counts_failed {S = Bool} old mid (Err e) e first.looks.counts;
     cause = first.looks.cause;
   }
@@ -80,6 +89,7 @@ module _ (told well : Type 0) (old mid : Shown) (f g : Files) (info : Info) wher
     untouched = tt;
     stands = λ tells asked. first.stands tells;
     strays = λ tells sound. first.looks.untouched.strays;
+    room = same_room old mid first.looks.untouched;
     counts = counts_done old mid there x first.looks.counts;
     cause = tt;
   }
@@ -110,6 +120,7 @@ module _ (told well : Type 0) (old mid : Shown) (f g : Files) (info : Info) wher
       untouched = on_err_weaker r (λ same. untouched_then old mid new first.looks.untouched same) second.untouched;
       stands = λ tells asked sound. second.stands tells (so tells asked) (first.stands tells sound);
       strays = λ tells sound. second.strays tells (first.stands tells sound) ∙ first.looks.untouched.strays;
+      room = (let one = first.looks.untouched.room in let two = second.room in omega (arith, one, two));
       counts = counts_then old mid new r first.looks.counts.calm second.counts;
       cause = IfErr-weaker r _ _ (λ e fails. tree_failed e fails) second.cause;
     }
@@ -130,6 +141,15 @@ module _ (old new : Shown) (f g : Files) (untouched : IsUntouched old new) (alik
       (loading_spares old new (LeadsTo (loaded old f.inode.tree)) (LeadsTo (loaded new g.inode.tree)) untouched.held untouched.used (λ v led. record { level = led.level; place = led.place; leads = no_more led.level led.place v led.leads }))
       (same_trees (under old) (under new) f g 0 (trees 0) (files 0)) owner (stands (sound.trees None))
       (λ t at. let own = sound.owners 0 t (sym (trees 0) ∙ at) in (own.0, ap is_some (files 0) ∙ own.1))
+
+  pub readied_led : LeadsNoMore (loaded old f.inode.tree) (loaded new g.inode.tree) → LeadsNoMore (loaded new g.inode.tree) (loaded old f.inode.tree) → AreStanding old f → IsLed old f → IsLed new g
+  readied_led no_more keeps sound =
+      let files = alike_files (rooted old f.inode) (rooted new g.inode) alike in
+      inode_led old new f g 0 (λ k differs. trees k) (λ k differs. files k) sound
+      (loading_spares old new (LeadsTo (loaded old f.inode.tree)) (LeadsTo (loaded new g.inode.tree)) untouched.held untouched.used (λ v led. record { level = led.level; place = led.place; leads = no_more led.level led.place v led.leads }))
+      (inl (moved_tree (under old) (under new) f g 0 (trees 0) (files 0)))
+      (loading_lets_go new (LeadsTo (loaded old f.inode.tree)) (LeadsTo (loaded new g.inode.tree)) (λ v led. record { level = led.level; place = led.place; leads = keeps led.level led.place v led.leads }))
+      (loading_uses old new (LeadsTo (loaded old f.inode.tree)) (LeadsTo (loaded new g.inode.tree)) untouched.used)
 
 -- ---- the tree of a file comes into memory
 
@@ -173,6 +193,15 @@ module _ (source : Shown) (f : Files) (m : maps.BTreeMap ℕ Tree) (info : Info)
       (subst (StandsIn source.used) (sym now_tree) stands)
       (λ u at. (ap (λ (x : Tree). x.owner) (some_same u t (sym at ∙ now)) ∙ ap (λ (s : Rooted). s.owner) (stored_is.is (under source)), ap is_some is.there))
 
+  pub held_led : AreStanding source f → IsLed source f → IsLed source g
+  held_led sound =
+      file_led source source f g n refl others sound
+      (loading_spares source source (LeadsFrom (loaded_trees (under source) f) (Some n)) (LeadsFrom (loaded_trees (under source) g) (Some n)) refl refl
+      (λ v led. subst (λ o. LeadsIn o v) (sym was_tree) (unread_leads (under source) t (stored (under source) n is.file.levels is.file.root) (own_stored (under source)) v (subst (λ o. LeadsIn o v) now_tree led))))
+      (loading_lets_go source (LeadsFrom (loaded_trees (under source) f) (Some n)) (LeadsFrom (loaded_trees (under source) g) (Some n))
+      (λ v led. subst (λ o. LeadsIn o v) (sym now_tree) (reread_leads (under source) t n is.file.levels is.file.root (own_stored (under source)) v (subst (λ o. LeadsIn o v) was_tree led))))
+      (loading_uses source source (LeadsFrom (loaded_trees (under source) f) (Some n)) (LeadsFrom (loaded_trees (under source) g) (Some n)) refl)
+
 -- ---- holding a tree
 
 holds_found : (m : maps.BTreeMap ℕ Tree) (info : Info) (o : Option Tree) → maps.get nat_cmp m info.number ≡ o → is_some o ≡ true → Holds m m info
@@ -209,6 +238,9 @@ module _ {T : Type 0} (told : Type 0) (old new : Shown) (f : Files) (i : InodeFi
   pub half_stands : told → AreStanding old f → AreStanding new half
   half_stands tells = readied_stands old new f half alters.looks.untouched (alike tells) trees alters.owner (alters.stands tells) (alters.leads tells)
 
+  pub half_led : told → KeepsLed old new f half
+  half_led tells sound led = readied_led old new f half alters.looks.untouched (alike tells) trees (alters.leads tells) (alters.keeps tells) sound led
+
   pub half_known : told → IsInfoOf (rooted new i) info
   half_known tells = let known = is tells in record { file = known.file; there = alike_files (rooted old f.inode) (rooted new i) (alike tells) info.number ∙ known.there; told = known.told }
 
@@ -222,6 +254,7 @@ module _ {T : Type 0} (told : Type 0) (old new : Shown) (f : Files) (i : InodeFi
     same = half_same;
     alike = alike;
     stands = half_stands;
+    led = half_led;
     looks = looks;
     found = found;
     known = half_known;
@@ -258,6 +291,8 @@ module _ (told : Type 0) (old new : Shown) (f : Files) (i : InodeFile) (m : maps
             same = λ tells. held_told new half_way m info holds.tree (known tells) new_one.0 new_one.1 holds.now holds.others ∙ half_same told old new f i f.trees info (Ok true) alters alike (λ k. refl) is tells;
             alike = alike;
             stands = λ tells sound. held_stands new half_way m info holds.tree (known tells) new_one.0 new_one.1 holds.now holds.others (half_stands told old new f i f.trees info (Ok true) alters alike (λ k. refl) is tells sound);
+            led = λ tells sound led. held_led new half_way m info holds.tree (known tells) new_one.0 new_one.1 holds.now holds.others (half_stands told old new f i f.trees info (Ok true) alters alike (λ k. refl) is tells sound)
+                (half_led told old new f i f.trees info (Ok true) alters alike (λ k. refl) is tells sound led);
             looks = done;
             found = λ tells. refl;
             known = known;

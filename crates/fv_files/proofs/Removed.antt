@@ -1,26 +1,29 @@
 -- A table from which a file was taken away.
-use Rattle.std.proofs.Common.{◌≡◌, ◌≢◌, ℕ, true, false, cond, nat_eq, inr, Ok, sym, ap, subst, ◌∙◌, arith}
-use Rattle.std.specs.Prelude.{Option, Some, None, is_some, map, ◌==◌, if◌then◌else◌}
+use Rattle.std.proofs.Common.{◌≡◌, ◌≢◌, ◌≤◌, ◌+◌, ◌*◌, ◌^◌, ℕ, true, false, cond, nat_eq, nat_le, inr, Ok, sym, ap, subst, ◌∙◌, ⊎_elim, arith}
+use Rattle.std.specs.Prelude.{Option, Some, None, is_some, map}
 use Rattle.std.specs.Option.{option_map}
 use Rattle.std.specs.Ordering.{nat_cmp}
 use Rattle.std.specs.BTreeMap as maps
 use Rattle.std.specs.FinMap as fin
 use Rattle.std.proofs.lemmas.Bool.Decides.{nat_tests}
+use Rattle.fv_model.specs.Trees.{fan}
 use Rattle.fv_model.specs.Tables.{inode_cell}
 use Rattle.fv_laws.specs.WellFormed.{IsWellTable}
-use Rattle.fv_tables.specs.Spelled.{Rooted, pointer_at, stamp_in}
-use Rattle.fv_tables.specs.Told.{tree_told, file_at, table_told}
-use Rattle.fv_tables.proofs.Pointers.{no_stamp}
-use Rattle.fv_tables.proofs.Tables.{stamps_told}
+use Rattle.fv_tables.specs.Spelled.{stored, pointer_at}
+use Rattle.fv_tables.specs.Told.{file_at, table_told, tree_of, tree_or}
 use Rattle.fv_tree.specs.declared.kept.Tree.{Tree}
 use Rattle.fv_tree.specs.Sources.{Shown}
-use Rattle.fv_tree.specs.Standing.{under}
+use Rattle.fv_tree.specs.Counting.{positions_of}
+use Rattle.fv_tree.specs.Standing.{under, standing}
 use Rattle.fv_tree.specs.Writing.{IsAlike}
-use Rattle.fv_tree.specs.Erasing.{StandsAt, HoldsCells, IsGrownFrom}
+use Rattle.fv_tree.specs.Erasing.{HoldsCells, IsGrownFrom}
+use Rattle.fv_tree.specs.Costs.{pending}
 use Rattle.fv_tree.specs.Flushing.{loaded, Stands}
 use Rattle.fv_tree.specs.Beside.{LeadsTo, Spares}
 use Rattle.fv_tree.proofs.Beside.{removal_spares}
 use Rattle.fv_tree.proofs.Causes.{counts_then}
+use Rattle.fv_tree.proofs.Counts.{alike_count}
+use Rattle.fv_tree.proofs.Erased.{hole_of}
 use Rattle.fv_inode.specs.declared.file.InodeFile.{InodeFile}
 use Rattle.fv_inode.specs.Files.{rooted}
 use Rattle.fv_inode.specs.Changing.{Takes, TakesFile}
@@ -31,26 +34,19 @@ use Rattle.fv_inode.proofs.Placed.{KeepsOthers}
 use Rattle.fv_inode.proofs.Slots.{alike_files}
 use Rattle.fv_inode.proofs.Told.{inode_told}
 use Rattle.fv_files.specs.declared.files.Files.{Files}
-use Rattle.fv_files.specs.Tables.{table_in, tree_in, file_loaded, loaded_trees, AreStanding}
-use Rattle.fv_files.specs.Calls.{Becomes, Changes, CutsKept, KeptFails, RemovesFile}
-use Rattle.fv_files.proofs.Beside.{IsBare}
-use Rattle.fv_files.proofs.Kept.{records_told, inode_stands}
+use Rattle.fv_files.specs.Tables.{table_in, tree_in, file_loaded, loaded_trees, AreStanding, IsLed}
+use Rattle.fv_files.specs.Apart.{LeadsFrom}
+use Rattle.fv_files.specs.Pending.{pending_in, pending_trees, tree_cost}
+use Rattle.fv_files.specs.Calls.{Becomes, Changes, CutsKept, KeptFails, RemovesFile, TakesByRemoval}
+use Rattle.fv_files.proofs.Beside.{IsBare, LetsGo, UsesNoMore}
+use Rattle.fv_files.proofs.Kept.{records_told, inode_led, inode_stands}
 use Rattle.fv_files.proofs.Looked.{counts_done}
-use Rattle.fv_files.proofs.Changed.{with_trees, kept_inode, kept_others, kept_stands}
-use Rattle.fv_files.proofs.Steps.{cut_spares, cut_stood}
+use Rattle.fv_files.proofs.Adding.{grown_holds}
+use Rattle.fv_files.proofs.Counted.{few_positions, nothing_left, removal_counted, tree_holds}
+use Rattle.fv_files.proofs.Changed.{has_record, with_trees, kept_inode, kept_leads, kept_led, kept_others, kept_stands}
+use Rattle.fv_files.proofs.Steps.{cut_spares, cut_stood, none_some, removal_goes, removal_uses}
 
--- ---- the inode file of a well-formed table has no mark over holes alone
-
-there_is : (t : Rooted) (level place : ℕ) → StandsAt t level place → stamp_in (pointer_at t level place) ≢ None
-there_is t level place stands none = so (pointer_at t level place).stamp stands none
-  where
-    so : (s : ℕ) → s ≢ 0 → (if s == 0 then None else Some s) ≡ None → ⊥
-    so s some e = let test : (s == 0) ≡ false = grind (arith, nat_tests) in let wrong : Some s ≡ None = sym (ap (λ b. if b then None else Some s) test) ∙ e in cc
-
-pub grown_holds : (t : Rooted) (start : ℕ) → IsGrownFrom start (tree_told t) → HoldsCells t
-grown_holds t start grown level place stands holes =
-    let cell = grown.marks level place (λ none. there_is t level place stands (sym (stamps_told t level place) ∙ none)) in
-    cell.2 (stamps_told t 0 cell.0 ∙ no_stamp (pointer_at t 0 cell.0) (holes cell.0 cell.1))
+-- the inode file of a well-formed table has no mark over holes alone
 
 pub well_holds : (old : Shown) (f : Files) (now : ℕ) → IsWellTable now (table_told (table_in old f)) → HoldsCells (rooted old f.inode)
 well_holds old f now well = grown_holds (rooted old f.inode) 0
@@ -102,6 +98,10 @@ module _ (old mid new : Shown) (f : Files) (m last : maps.BTreeMap ℕ Tree) (i 
         not_some : (o : Option Tree) (w : Tree) → o ≡ None → o ≡ Some w → ⊥
         not_some o w none some = let wrong : false ≡ true = sym (ap is_some none) ∙ ap is_some some in cc
 
+    -- what is in use is led to,
+    pub removed_led : ((v : ℕ) → LeadsFrom (loaded_trees (under mid) g) (Some n) v → ⊥) → LetsGo new (LeadsTo (loaded mid f.inode.tree)) (LeadsTo (loaded new i.tree)) → UsesNoMore mid new (LeadsTo (loaded mid f.inode.tree)) (LeadsTo (loaded new i.tree)) → IsLed mid g → IsLed new h
+    removed_led none = inode_led mid new g h n other_trees other_files middle second (inr none)
+
     others_stay : KeepsOthers (table_in old f) (table_in new h) n
     others_stay k differs r at =
         let one = kept_others old mid f m n t u becomes sound first k differs r at in
@@ -138,13 +138,56 @@ module _ (told cut_calls take_calls : Type 0) (old mid new : Shown) (f : Files) 
     remove_stands : HoldsCells (rooted old f.inode) → AreStanding new (record { inode = i; trees = last; alloc = f.alloc })
     remove_stands holds = removed_stands old mid new f m last i n s cuts.tree cuts.next cuts.becomes sound first cuts.removal.owner (cuts.removal.stands tells stood) gone second (takes.removed tells) holds takes.owner (takes.stands tells)
 
+    -- what is in use is led to
+    pub remove_led : is_some (file_at (rooted old f.inode) n) ≡ true → (now : ℕ) → IsWellTable now (table_told (table_in old f)) → IsLed old f → IsLed new (record { inode = i; trees = last; alloc = f.alloc })
+    remove_led there now well led =
+        let file = has_record (file_at (rooted old f.inode) n) there in
+        let tree : tree_of (table_in old f) n file.file ≡ standing (under old) cuts.tree = ap (λ o. tree_or (option_map (standing (under old)) o) (stored (under old) n file.file.levels file.file.root)) cuts.becomes.was in
+        let holds : HoldsCells (standing (under old) cuts.tree) = subst HoldsCells tree (tree_holds (table_in old f) n file.file file.is now well) in
+        let erased = cuts.removal.place_by_place tells stood holds in
+        removed_led old mid new f m last i n s cuts.tree cuts.next cuts.becomes sound first cuts.removal.owner (cuts.removal.stands tells stood) gone second (takes.removed tells) (well_holds old f now well)
+        (λ v leads.
+        let to = kept_leads (under mid) (with_trees f m) n cuts.next cuts.becomes.now v leads in
+        to.leads.some (hole_of (pointer_at (standing (under mid) cuts.next) to.level to.place) (erased.bare to.level to.place (λ k over stands. let all : nat_le 0 k ≡ true = grind (arith, nat_tests) in all))))
+        (λ v none some leads. ⊎_elim
+        (λ now_led. none (record { level = leads.level; place = leads.place; leads = now_led }))
+        (λ out. none_some (new.used v) out some)
+        (takes.lets_go tells (half_way.trees None) leads.level leads.place v leads.leads))
+        (λ v was now_not none. (takes.released tells).unused v none)
+        (kept_led old mid f m n cuts.tree cuts.next cuts.becomes sound first
+        (removal_goes told cut_calls old mid cuts.tree cuts.next (nat_le 0) start s own cuts.removal tells stood)
+        (removal_uses told cut_calls old mid cuts.tree cuts.next (nat_le 0) start s own cuts.removal tells) led)
+
+    -- so many positions went
+    pub remove_counts : is_some (file_at (rooted old f.inode) n) ≡ true → TakesByRemoval (table_in old f) n s (own + count)
+    remove_counts there =
+        let file = has_record (file_at (rooted old f.inode) n) there in
+        let tree : tree_of (table_in old f) n file.file ≡ standing (under old) cuts.tree = ap (λ o. tree_or (option_map (standing (under old)) o) (stored (under old) n file.file.levels file.file.root)) cuts.becomes.was in
+        let alike = kept_inode old mid f m n cuts.tree cuts.next cuts.becomes sound first in
+        removal_counted (table_in old f) (table_in new (record { inode = i; trees = last; alloc = f.alloc })) n s own count file.file file.is (remove_table there)
+        (subst (λ t. HoldsCells t → positions_of t ≡ own) (sym tree) (nothing_left (standing (under old) cuts.tree) (standing (under mid) cuts.next) start s own (cuts.removal.place_by_place tells stood) (cuts.removal.count tells stood)))
+        (sym (alike_count (rooted old f.inode) (rooted mid f.inode) alike) ∙ takes.count tells (half_way.trees None))
+
+    -- and these are few
+    pub remove_few : own + count ≤ 8 * fan ^ 3
+    remove_few =
+        let one = few_positions (standing (under old) cuts.tree) cuts.tree.few in
+        let two = few_positions (rooted mid f.inode) f.inode.tree.few in
+        let gone_there = cuts.removal.count tells stood in
+        let gone_here = takes.count tells (half_way.trees None) in
+        omega (arith, one, two, gone_there, gone_here)
+
   pub remove_done : {T : Type 0} (x : T) → Changes told (HoldsCells (rooted old f.inode)) old new f (record { inode = i; trees = last; alloc = f.alloc }) (KeptFails told old new f n) (Ok x)
   remove_done x =
       let both = counts_then old mid new (Ok count) cuts.removal.counts.calm takes.counts in record {
         failed = λ tells. tt;
         untouched = tt;
         stands = λ tells holds sound. remove_stands tells sound holds;
+        room = (let one = cuts.removal.room in let two = takes.room in omega (arith, one, two));
         strays = λ tells sound. takes.strays tells ((half_way tells sound).trees None) ∙ cuts.removal.strays tells (stood tells sound);
         counts = counts_done old new count x both;
         cause = tt;
       }
+
+  pub remove_pending : pending i.tree ≤ pending f.inode.tree + 3 → ((t : Tree) → maps.get nat_cmp m n ≡ Some t → pending_trees last + tree_cost t ≡ pending_trees m) → pending_in (record { inode = i; trees = last; alloc = f.alloc }) ≤ pending_in f + 3
+  remove_pending inode cost = let out = cost cuts.next cuts.becomes.now in let sum = cuts.becomes.sum in omega (arith, inode, out, sum)

@@ -1,6 +1,6 @@
 -- What calls of a tree in memory, with a change of its file's record, leave of a table.
-use Rattle.std.proofs.Common.{◌≡◌, ℕ, List, Ok, Err, sym, subst, ◌∙◌}
-use Rattle.std.specs.Prelude.{Option, Some}
+use Rattle.std.proofs.Common.{◌≡◌, ◌≤◌, ℕ, ◌+◌, Bool, true, nat_le, List, Result, Ok, Err, sym, ap, subst, ◌∙◌, ⊎_elim, arith}
+use Rattle.std.specs.Prelude.{Option, Some, None, is_some}
 use Rattle.std.specs.Option.{option_map}
 use Rattle.std.specs.BTreeMap as maps
 use Rattle.fv_disk.specs.declared.fault.BlockFault.{BlockFault}
@@ -12,16 +12,20 @@ use Rattle.fv_tree.specs.Sources.{Shown, IsUntouched, Use}
 use Rattle.fv_tree.specs.Standing.{standing, under, Fails}
 use Rattle.fv_tree.specs.Flushing.{IsSound, Stands, loaded, loaded_over}
 use Rattle.fv_tree.specs.Leading.{LeadsNoMore}
+use Rattle.fv_tree.specs.Removal.{Removal}
+use Rattle.fv_tree.specs.Erasing.{HoldsCells}
 use Rattle.fv_tree.specs.Beside.{LeadsTo, Spares}
 use Rattle.fv_tree.proofs.Beside.{loading_spares, removal_spares}
 use Rattle.fv_inode.specs.declared.file.InodeFile.{InodeFile}
 use Rattle.fv_inode.specs.Changing.{Rewrites}
 use Rattle.fv_files.specs.declared.files.Files.{Files}
 use Rattle.fv_files.specs.Tables.{tree_in, AreStanding}
-use Rattle.fv_files.specs.Calls.{Changes, KeptFails, PutsKept, CutsKept}
+use Rattle.fv_files.specs.Calls.{Changes, KeepsLed, KeptFails, PutsKept, CutsKept}
+use Rattle.fv_files.specs.Pending.{pending_trees}
+use Rattle.fv_files.proofs.Beside.{LetsGo, UsesNoMore, loading_lets_go, loading_uses}
 use Rattle.fv_files.proofs.Looked.{counts_failed}
 use Rattle.fv_files.proofs.Tables.{some_same}
-use Rattle.fv_files.proofs.Changed.{with_trees, failed_told, kept_stands, both_stand, owned_stands}
+use Rattle.fv_files.proofs.Changed.{with_trees, failed_told, kept_led, kept_stands, both_led, both_stand, owned_stands}
 
 -- a call of a tree that only loads
 pub loaded_spares : (old new : Shown) (t u : Tree) → IsUntouched old new → LeadsNoMore (loaded old t) (loaded new u) → Spares old new (LeadsTo (loaded old t)) (LeadsTo (loaded new u))
@@ -38,6 +42,27 @@ pub record Restates (f : Files) (i : InodeFile) (n s : ℕ) (change : InodeRecor
   pub owner : i.tree.owner ≡ f.inode.tree.owner
   pub sound : (blocks : Under) (used : ℕ → Option Use) → IsSound used (loaded_over blocks f.inode.tree) → IsSound used (loaded_over blocks i.tree)
   pub leads : (blocks : Under) → LeadsNoMore (loaded_over blocks f.inode.tree) (loaded_over blocks i.tree)
+  pub keeps : (blocks : Under) → LeadsNoMore (loaded_over blocks i.tree) (loaded_over blocks f.inode.tree)
+
+pub none_some : {X : Type 0} (o : Option X) → o ≡ None → is_some o ≡ true → ⊥
+none_some o none some = let wrong : is_some o ≡ true = some in absurd (so (sym wrong ∙ ap is_some none))
+  where
+    so : true ≡ is_some {T = ℕ} None → ⊥
+    so e = cc
+
+pub same_room : (old new : Shown) → IsUntouched old new → old.room ≤ new.room
+same_room old new untouched = let same = untouched.room in omega (arith, same)
+
+-- what a removal of cells drops goes out of use
+module _ (told calls : Type 0) (old new : Shown) (t u : Tree) (gone : ℕ → Bool) (start s count : ℕ) (is : Removal told calls old new t u gone start s (Ok count)) (tells : told) where
+  pub removal_goes : Stands old t → LetsGo new (LeadsTo (loaded old t)) (LeadsTo (loaded new u))
+  removal_goes stood v none some led = ⊎_elim
+      (λ now. none (record { level = led.level; place = led.place; leads = now }))
+      (λ out. none_some (new.used v) out some)
+      (is.lets_go tells stood led.level led.place v led.leads)
+
+  pub removal_uses : UsesNoMore old new (LeadsTo (loaded old t)) (LeadsTo (loaded new u))
+  removal_uses v was now none = (is.released tells).unused v none
 
 -- ---- a cell is written
 
@@ -49,6 +74,7 @@ module _ (told well : Type 0) (old new : Shown) (f : Files) (m : maps.BTreeMap �
     stands = λ tells asked sound. kept_stands old new f m n puts.tree puts.next puts.becomes sound (loaded_spares old new puts.tree puts.next puts.untouched (puts.leads tells)) puts.owner
         (puts.stands tells (owned_stands old f n puts.tree puts.becomes.was sound));
     strays = λ tells sound. puts.untouched.strays;
+    room = same_room old new puts.untouched;
     counts = puts.counts;
     cause = at_tree f n puts.tree (λ t. Fails told (standing (under old) t) old new e) puts.becomes.was puts.cause;
   }
@@ -61,9 +87,28 @@ module _ (told well : Type 0) (old new : Shown) (f : Files) (m : maps.BTreeMap �
     stands = λ tells asked sound. both_stand old new f m n puts.tree puts.next puts.becomes i s change is.rewrites is.owner is.sound is.leads sound (loaded_spares old new puts.tree puts.next puts.untouched (puts.leads tells)) puts.owner
         (puts.stands tells (owned_stands old f n puts.tree puts.becomes.was sound));
     strays = λ tells sound. puts.untouched.strays;
+    room = same_room old new puts.untouched;
     counts = puts.counts;
     cause = tt;
   }
+
+  -- what is in use is led to, and what differs is little more
+  module _ (r : Result Unit BlockFault) (puts : PutsKept told old new f.trees m n index s block r) where
+    put_goes : told → LetsGo new (LeadsTo (loaded old puts.tree)) (LeadsTo (loaded new puts.next))
+    put_goes tells = loading_lets_go new (LeadsTo (loaded old puts.tree)) (LeadsTo (loaded new puts.next)) (λ v led. record { level = led.level; place = led.place; leads = puts.keeps tells led.level led.place v led.leads })
+
+    put_uses : UsesNoMore old new (LeadsTo (loaded old puts.tree)) (LeadsTo (loaded new puts.next))
+    put_uses = loading_uses old new (LeadsTo (loaded old puts.tree)) (LeadsTo (loaded new puts.next)) puts.untouched.used
+
+    pub put_led_alone : told → KeepsLed old new f (with_trees f m)
+    put_led_alone tells sound led = kept_led old new f m n puts.tree puts.next puts.becomes sound (loaded_spares old new puts.tree puts.next puts.untouched (puts.leads tells)) (put_goes tells) put_uses led
+
+    pub put_led : (i : InodeFile) (change : InodeRecord → InodeRecord) → Restates f i n s change → told → KeepsLed old new f (record { inode = i; trees = m; alloc = f.alloc })
+    put_led i change is tells sound led = both_led old new f m n puts.tree puts.next puts.becomes i s change is.rewrites is.owner is.sound is.leads sound (loaded_spares old new puts.tree puts.next puts.untouched (puts.leads tells)) puts.owner
+        (puts.stands tells (owned_stands old f n puts.tree puts.becomes.was sound)) is.keeps (put_goes tells) put_uses led
+
+    pub put_pending : pending_trees m ≤ pending_trees f.trees + 6
+    put_pending = let sum = puts.becomes.sum in let most = puts.pending in omega (arith, sum, most)
 
 -- ---- cells are removed
 
@@ -76,6 +121,7 @@ module _ (told calls well : Type 0) (old new : Shown) (f : Files) (m : maps.BTre
         let stood = owned_stands old f n cuts.tree cuts.becomes.was sound in
         kept_stands old new f m n cuts.tree cuts.next cuts.becomes sound (loaded_spares old new cuts.tree cuts.next is.untouched (is.leads tells stood)) is.owner (is.stands tells stood);
     strays = λ tells sound. is.untouched.strays;
+    room = is.room;
     counts = counts_failed {S = ℕ} old new (Err e) e is.counts;
     cause = at_tree f n cuts.tree (λ t. Fails told (standing (under old) t) old new e) cuts.becomes.was is.cause;
   }
@@ -94,6 +140,31 @@ module _ (told calls well : Type 0) (old new : Shown) (f : Files) (m : maps.BTre
     untouched = tt;
     stands = λ tells asked sound. both_stand old new f m n cuts.tree cuts.next cuts.becomes i s change is.rewrites is.owner is.sound is.leads sound (cut_spares count cuts tells sound) cuts.removal.owner (cuts.removal.stands tells (cut_stood count cuts tells sound));
     strays = λ tells sound. cuts.removal.strays tells (cut_stood count cuts tells sound);
+    room = cuts.removal.room;
     counts = cuts.removal.counts;
     cause = tt;
   }
+
+  -- what is in use is led to, and what differs is little more
+  pub cut_led_failed : (e : BlockFault) → CutsKept told calls old new f.trees m n length start s (Err e) → told → KeepsLed old new f (with_trees f m)
+  cut_led_failed e cuts tells sound led =
+      let is = cuts.removal in
+      let stood = owned_stands old f n cuts.tree cuts.becomes.was sound in
+      kept_led old new f m n cuts.tree cuts.next cuts.becomes sound (loaded_spares old new cuts.tree cuts.next is.untouched (is.leads tells stood))
+      (λ v none some leads. ⊎_elim
+      (λ now. none (record { level = leads.level; place = leads.place; leads = now }))
+      (λ out. none_some (new.used v) out some)
+      (is.lets_go tells stood leads.level leads.place v leads.leads))
+      (loading_uses old new (LeadsTo (loaded old cuts.tree)) (LeadsTo (loaded new cuts.next)) is.untouched.used) led
+
+  pub cut_led : (i : InodeFile) (change : InodeRecord → InodeRecord) (count : ℕ) → CutsKept told calls old new f.trees m n length start s (Ok count) → Restates f i n s change → told → KeepsLed old new f (record { inode = i; trees = m; alloc = f.alloc })
+  cut_led i change count cuts is tells sound led =
+      both_led old new f m n cuts.tree cuts.next cuts.becomes i s change is.rewrites is.owner is.sound is.leads sound (cut_spares count cuts tells sound) cuts.removal.owner (cuts.removal.stands tells (cut_stood count cuts tells sound)) is.keeps
+      (removal_goes told calls old new cuts.tree cuts.next (nat_le length) start s count cuts.removal tells (cut_stood count cuts tells sound))
+      (removal_uses told calls old new cuts.tree cuts.next (nat_le length) start s count cuts.removal tells) led
+
+  pub cut_pending : (e : BlockFault) → CutsKept told calls old new f.trees m n length start s (Err e) → pending_trees m ≤ pending_trees f.trees
+  cut_pending e cuts = let sum = cuts.becomes.sum in let most = cuts.removal.pending in omega (arith, sum, most)
+
+  pub cut_pending_done : (count : ℕ) (cuts : CutsKept told calls old new f.trees m n length start s (Ok count)) → told → AreStanding old f → HoldsCells (standing (under old) cuts.tree) → pending_trees m ≤ pending_trees f.trees + 3
+  cut_pending_done count cuts tells sound holds = let sum = cuts.becomes.sum in let most = cuts.pending tells (cut_stood count cuts tells sound) holds in omega (arith, sum, most)

@@ -17,9 +17,9 @@ use Rattle.fv_tree.specs.Beside.{unread}
 use Rattle.fv_tree.proofs.Beside.{unread_sound}
 use Rattle.fv_files.specs.declared.files.Files.{Files}
 use Rattle.fv_files.specs.Trees.{standing_in}
-use Rattle.fv_files.specs.Apart.{LeadsIn, LeadsFrom, StandsIn, stored_trees}
+use Rattle.fv_files.specs.Apart.{LeadsIn, LeadsFrom, StandsIn, AreLed, stored_trees}
 use Rattle.fv_files.specs.Tables.{changed, tree_in, file_loaded, loaded_trees, AreSound, AreReached}
-use Rattle.fv_files.proofs.Beside.{unread_leads}
+use Rattle.fv_files.proofs.Beside.{reread_leads, unread_leads}
 
 none_in : {K X : Type 0} (test : K → Bool) (es : List (K × X)) → length es ≡ 0 → lookup test es ≡ None
 none_in test [] e = refl
@@ -60,3 +60,10 @@ module _ (f : Files) (levels : ℕ) (root : Pointer) (is : (blocks : Under) → 
       trees = all_stand none blocks used reached;
       apart = λ a b v differs one other. reached.apart a b v differs (led_there none blocks a v one) (led_there none blocks b v other);
     }
+
+  stored_there : maps.btree_map_len f.trees ≡ 0 → (blocks : Under) (a : Option ℕ) (v : ℕ) → LeadsFrom (stored_trees blocks levels root) a v → LeadsFrom (loaded_trees blocks f) a v
+  stored_there none blocks None v led = reread_leads blocks f.inode.tree greatest_word levels root (is blocks) v led
+  stored_there none blocks (Some n) v led = subst (λ o. LeadsIn o v) (sym (file_is none blocks n)) led
+
+  pub stored_led : maps.btree_map_len f.trees ≡ 0 → (blocks : Under) (used : ℕ → Option Use) → AreLed used (stored_trees blocks levels root) → AreLed used (loaded_trees blocks f)
+  stored_led none blocks used led v nowhere = led v (λ a leads. nowhere a (stored_there none blocks a v leads))

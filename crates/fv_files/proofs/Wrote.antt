@@ -1,9 +1,10 @@
 -- A table of which a file was written or cut, and its record changed.
-use Rattle.std.proofs.Common.{◌≡◌, ℕ, nat_le, List, refl, sym, ap, subst, ◌∙◌}
+use Rattle.std.proofs.Common.{◌≡◌, ℕ, nat_le, List, refl, sym, ap, subst, ◌∙◌, ◌+◌, true, cond, nat_eq, arith}
 use Rattle.std.specs.Prelude.{Some}
 use Rattle.std.specs.Option.{option_map}
 use Rattle.std.specs.BTreeMap as maps
 use Rattle.std.specs.FinMap as fin
+use Rattle.std.proofs.lemmas.Bool.Decides.{nat_tests}
 use Rattle.fv_codec.specs.declared.inode.InodeRecord.{InodeRecord}
 use Rattle.fv_model.specs.Trees.{least_levels}
 use Rattle.fv_model.specs.Tables.{File, cut}
@@ -15,6 +16,7 @@ use Rattle.fv_tree.specs.declared.kept.Tree.{Tree}
 use Rattle.fv_tree.specs.Sources.{Shown}
 use Rattle.fv_tree.specs.Standing.{standing, under}
 use Rattle.fv_tree.specs.Writing.{IsAlike, Writes}
+use Rattle.fv_tree.specs.Counting.{positions_of}
 use Rattle.fv_tree.specs.Erasing.{Erases}
 use Rattle.fv_tree.specs.Flushing.{loaded}
 use Rattle.fv_tree.specs.Beside.{LeadsTo, Spares}
@@ -27,7 +29,8 @@ use Rattle.fv_inode.proofs.Cuts.{cut_told}
 use Rattle.fv_inode.proofs.Slots.{alike_files}
 use Rattle.fv_files.specs.declared.files.Files.{Files}
 use Rattle.fv_files.specs.Tables.{table_in, AreStanding, IsInfoOf}
-use Rattle.fv_files.specs.Calls.{longer, shortened, Becomes, WritesCell, CutsFile}
+use Rattle.fv_files.specs.Calls.{longer, shortened, Becomes, WritesCell, CutsFile, TakesByCut}
+use Rattle.fv_files.proofs.Counted.{cut_counted}
 use Rattle.fv_files.proofs.Looked.{Held}
 use Rattle.fv_files.proofs.Tables.{file_is, kept_known, wrote}
 use Rattle.fv_files.proofs.Changed.{kept_inode, kept_others}
@@ -88,3 +91,13 @@ module _ (old new : Shown) (f : Files) (m : maps.BTreeMap ℕ Tree) (i : InodeFi
         cut_told (table_in old f) (table_in new h) info.number now length s r (shortened info length) rewritten refl (ap (λ (v : Info). v.reserve) is.told)
         (kept_others old new f m info.number t u becomes sound spares) (tree_well now file well there) erased
         ∙ ap (λ g. cut (table_told (table_in old f)) info.number g length s) (sym (file_is (table_in old f) info.number r is.there file there))
+
+    now_record : file_at (rooted new i) info.number ≡ Some (with_info (shortened info length) r)
+    now_record = rewritten.files info.number ∙ (let test : nat_eq info.number info.number ≡ true = grind (arith, nat_tests) in ap (λ b. cond b (Some (with_info (shortened info length) r)) (file_at (rooted old f.inode) info.number)) test)
+
+    -- so many positions went
+    pub cut_takes : (count : ℕ) → positions_of (standing (under old) t) ≡ positions_of (standing (under new) u) + count → TakesByCut (table_in old f) info.number length s count
+    cut_takes count sum =
+        cut_counted (table_in old f) (table_in new h) info.number length s count r (with_info (shortened info length) r) is.there now_record cut_table
+        (ap positions_of (ap (λ o. tree_or (option_map (standing (under old)) o) (stored (under old) info.number r.levels r.root)) becomes.was) ∙ sum
+        ∙ ap (λ t. positions_of t + count) (sym (ap (λ o. tree_or (option_map (standing (under new)) o) (stored (under new) info.number info.levels info.root)) becomes.now)))

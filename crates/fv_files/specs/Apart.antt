@@ -2,7 +2,7 @@
 --
 -- A table's trees are numbered by `None`, its inode file, and `Some n`, the tree of file n. An example: where two records lead to one
 -- root, its VVBN is led to from two trees, so the trees of that table don't lie apart.
-use Rattle.std.specs.Prelude.{◌≢◌, ℕ, Option, Some, None}
+use Rattle.std.specs.Prelude.{◌≡◌, ◌≢◌, ℕ, Option, Some, None}
 use Rattle.std.specs.Option.{option_map}
 use Rattle.fv_codec.specs.declared.pointer.Pointer.{Pointer}
 use Rattle.fv_codec.specs.Blocks.{greatest_word}
@@ -32,6 +32,10 @@ StandsIn used (Some s) = IsSound used s
 -- no VVBN is led to from two trees of a table
 abbrev pub AreApart : Trees → Type 0
 AreApart x = (a b : Option ℕ) (v : ℕ) → a ≢ b → LeadsFrom x a v → LeadsFrom x b v → ⊥
+
+-- what no tree of a table leads to isn't in use
+abbrev pub AreLed : (ℕ → Option Use) → Trees → Type 0
+AreLed used x = (v : ℕ) → ((a : Option ℕ) → LeadsFrom x a v → ⊥) → used v ≡ None
 
 -- the trees of a table of which nothing is in memory
 abbrev pub stored_trees : Under → ℕ → Pointer → Trees

@@ -1,11 +1,12 @@
 -- What the calls of a table answer and do, by the machine.
-use Rattle.std.specs.Prelude.{◌≡◌, ◌≢◌, ◌⊎◌, ℕ, ◌+◌, max, nat_le, Bool, true, List, replicate, Option, Some, None, is_some, Result, OnOk, OnErr, IfOk, IfErr}
+use Rattle.std.specs.Prelude.{◌≡◌, ◌≢◌, ◌≤◌, ◌⊎◌, ℕ, ◌+◌, max, nat_le, Bool, true, List, replicate, Option, Some, None, is_some, Result, OnOk, OnErr, IfOk, IfErr}
 use Rattle.std.specs.Ordering.{nat_cmp}
 use Rattle.std.specs.BTreeMap as maps
 use Rattle.std.specs.FinMap as fin
 use Rattle.fv_disk.specs.declared.fault.BlockFault.{BlockFault}
-use Rattle.fv_model.specs.Tables.{File, put, cut, rm}
+use Rattle.fv_model.specs.Tables.{File, inode_cell, put, cut, rm}
 use Rattle.fv_laws.specs.WellFormed.{IsWellTable}
+use Rattle.fv_laws.specs.Positions.{added_by, taken_by_cut, taken_by_rm}
 use Rattle.fv_tables.specs.Spelled.{Under, stored}
 use Rattle.fv_tables.specs.Told.{Standing, file_in, table_told}
 use Rattle.fv_tree.specs.declared.kept.Tree.{Tree}
@@ -15,12 +16,15 @@ use Rattle.fv_tree.specs.Writing.{IsAlike, Writes, Remains}
 use Rattle.fv_tree.specs.Flushing.{IsSound, ReachesOnce, Stands, loaded, loaded_over}
 use Rattle.fv_tree.specs.Leading.{LeadsNoMore}
 use Rattle.fv_tree.specs.Removal.{Removal}
+use Rattle.fv_tree.specs.Erasing.{HoldsCells}
+use Rattle.fv_tree.specs.Costs.{pending}
 use Rattle.fv_inode.specs.declared.info.Info.{Info}
 use Rattle.fv_inode.specs.Files.{rooted}
 use Rattle.fv_inode.specs.Readying.{IsReadyFile}
 use Rattle.fv_files.specs.declared.files.Files.{Files}
-use Rattle.fv_files.specs.Tables.{table_in, tree_in, tree_known, AreStanding, IsInfoOf, IsTold}
+use Rattle.fv_files.specs.Tables.{table_in, tree_in, tree_known, AreStanding, IsInfoOf, IsLed, IsTold}
 use Rattle.fv_files.specs.Failing.{Looks}
+use Rattle.fv_files.specs.Pending.{pending_trees}
 
 -- ---- reads
 
@@ -49,6 +53,14 @@ longer info i = record {
 abbrev pub WritesCell : Standing → Standing → ℕ → ℕ → ℕ → List ℕ → Type 0
 WritesCell x y n i s block = (f : File) → file_in x n ≡ Some f → table_told y ≡ put (table_told x) n f i block s
 
+-- how many positions a write of cell i adds to file n of a well-formed table
+abbrev pub AddsCell : Standing → ℕ → ℕ → ℕ → Type 0
+AddsCell x n i count = (now : ℕ) (f : File) → IsWellTable now (table_told x) → file_in x n ≡ Some f → count ≡ added_by f.tree i
+
+-- how many a new file under the number n adds to the inode file of a well-formed table
+abbrev pub AddsFile : Standing → ℕ → ℕ → Type 0
+AddsFile x n count = (now : ℕ) → IsWellTable now (table_told x) → count ≡ added_by (table_told x).inode (inode_cell n)
+
 -- what is known of a file once it was cut to a length, but for its tree
 abbrev pub shortened : Info → ℕ → Info
 shortened info length = record {
@@ -63,9 +75,17 @@ shortened info length = record {
 abbrev pub CutsFile : Standing → Standing → ℕ → ℕ → ℕ → Type 0
 CutsFile x y n length s = (now : ℕ) (f : File) → IsWellTable now (table_told x) → file_in x n ≡ Some f → table_told y ≡ cut (table_told x) n f length s
 
+-- how many positions a cut of file n to a length takes, by a change with the stamp s
+abbrev pub TakesByCut : Standing → ℕ → ℕ → ℕ → ℕ → Type 0
+TakesByCut x n length s count = (now : ℕ) (f : File) → now ≤ s → IsWellTable now (table_told x) → file_in x n ≡ Some f → count ≡ taken_by_cut f length
+
 -- file n was taken away by a change with the stamp s: the machine's rm, of a well-formed table
 abbrev pub RemovesFile : Standing → Standing → ℕ → ℕ → Type 0
 RemovesFile x y n s = (now : ℕ) → IsWellTable now (table_told x) → table_told y ≡ rm (table_told x) n s
+
+-- how many positions the removal of file n takes, by a change with the stamp s
+abbrev pub TakesByRemoval : Standing → ℕ → ℕ → ℕ → Type 0
+TakesByRemoval x n s count = (now : ℕ) (f : File) → now ≤ s → IsWellTable now (table_told x) → file_in x n ≡ Some f → count ≡ taken_by_rm (table_told x) n f
 
 -- ---- what changes leave
 
@@ -76,8 +96,13 @@ pub record Changes {T : Type 0} (told well : Type 0) (old new : Shown) (f g : Fi
   pub untouched : OnErr result (IsUntouched old new)
   pub stands : told → well → AreStanding old f → AreStanding new g
   pub strays : told → AreStanding old f → new.strays ≡ old.strays
+  pub room : old.room ≤ new.room
   pub counts : Counts old new result
   pub cause : IfErr result fails
+
+-- what is in use is led to by one of the table's trees, if it was before
+abbrev pub KeepsLed : Shown → Shown → Files → Files → Type 0
+KeepsLed old new f g = AreStanding old f → IsLed old f → IsLed new g
 
 -- the tree of file n, which is in memory, failed
 abbrev pub KeptFails : Type 0 → Shown → Shown → Files → ℕ → BlockFault → Type 0
@@ -89,6 +114,7 @@ pub record Prepares (told : Type 0) (old new : Shown) (f g : Files) (info : Info
   pub same : told → IsTold old f new g
   pub alike : told → IsAlike (rooted old f.inode) (rooted new g.inode)
   pub stands : told → AreStanding old f → AreStanding new g
+  pub led : told → KeepsLed old new f g
   pub looks : Looks told (table_in old f) old new result
   pub found : told → IfOk result (λ there. there ≡ true)
   pub known : told → IsInfoOf (rooted new g.inode) info
@@ -115,6 +141,8 @@ pub record Becomes (m n : maps.BTreeMap ℕ Tree) (number : ℕ) (t u : Tree) : 
   pub was : maps.get nat_cmp m number ≡ Some t
   pub now : maps.get nat_cmp n number ≡ Some u
   pub others : (k : ℕ) → k ≢ number → maps.get nat_cmp n k ≡ maps.get nat_cmp m k
+  -- what all trees cost differs by what the one does
+  pub sum : pending_trees n + pending t ≡ pending_trees m + pending u
 
 -- A tree in memory got the cell, or it was left as it was.
 pub record PutsKept (told : Type 0) (old new : Shown) (m n : maps.BTreeMap ℕ Tree) (number i s : ℕ) (block : List ℕ) (result : Result Unit BlockFault) : Type 0 where
@@ -125,6 +153,8 @@ pub record PutsKept (told : Type 0) (old new : Shown) (m n : maps.BTreeMap ℕ T
   pub written : told → OnOk result (Writes (standing (under old) tree) (standing (under new) next) i s block)
   pub stands : told → Stands old tree → Stands new next
   pub leads : told → LeadsNoMore (loaded old tree) (loaded new next)
+  pub keeps : told → LeadsNoMore (loaded new next) (loaded old tree)
+  pub pending : pending next ≤ pending tree + 6
   pub failed : told → OnErr result (Remains (standing (under old) tree) (standing (under new) next))
   pub untouched : IsUntouched old new
   pub counts : Counts old new result
@@ -135,4 +165,5 @@ pub record CutsKept (told calls : Type 0) (old new : Shown) (m n : maps.BTreeMap
   pub tree : Tree
   pub next : Tree
   pub becomes : Becomes m n number tree next
+  pub pending : told → OnOk result (Stands old tree → HoldsCells (standing (under old) tree) → pending next ≤ pending tree + 3)
   pub removal : Removal told calls old new tree next (nat_le length) start s result

@@ -1,5 +1,5 @@
 -- What a flush of a table leaves.
-use Rattle.std.specs.Prelude.{◌≡◌, ◌⊎◌, ℕ, List, Option, Some, None, Result, IfOk, IfErr, OnOk}
+use Rattle.std.specs.Prelude.{◌≡◌, ◌≤◌, ◌⊎◌, ℕ, List, None, Result, IfOk, IfErr, OnOk}
 use Rattle.std.specs.Ordering.{nat_cmp}
 use Rattle.std.specs.BTreeMap as maps
 use Rattle.std.specs.FinMap as fin
@@ -10,13 +10,16 @@ use Rattle.fv_tables.specs.Spelled.{stored}
 use Rattle.fv_tables.specs.Told.{standing_at}
 use Rattle.fv_tables.specs.Kept.{IsPlacedTable}
 use Rattle.fv_tree.specs.declared.kept.Tree.{Tree}
-use Rattle.fv_tree.specs.Sources.{Shown, Counts, HasCause}
+use Rattle.fv_tree.specs.Sources.{Shown, Counts, HasCause, IsDamaged}
 use Rattle.fv_tree.specs.Standing.{standing, under}
+use Rattle.fv_tree.specs.Costs.{pending, Fits, IsEnough}
 use Rattle.fv_tree.specs.Flushing.{Flushes, IsLeft, ReachesOnce, Stands, loaded}
 use Rattle.fv_files.specs.declared.files.Files.{Files}
-use Rattle.fv_files.specs.Tables.{table_in, tree_in, AreReached, AreStanding}
+use Rattle.fv_files.specs.Apart.{AreLed, stored_trees}
+use Rattle.fv_files.specs.Tables.{table_in, tree_in, AreReached, AreStanding, IsLed}
 use Rattle.fv_files.specs.Failing.{FilesFail}
-use Rattle.fv_files.specs.Calls.{Becomes}
+use Rattle.fv_files.specs.Calls.{Becomes, KeepsLed}
+use Rattle.fv_files.specs.Pending.{pending_in, FitsTable}
 
 -- a source that holds other blocks
 abbrev pub holding : Shown → fin.FinMap nat_cmp (List ℕ) → Shown
@@ -39,7 +42,11 @@ FlushFails told old new f e = HasCause old new e ⊎ LayFails told old new f e
 pub record LaysTrees {T : Type 0} (told : Type 0) (old new : Shown) (f g : Files) (result : Result T BlockFault) : Type 0 where
   pub placed : told → AreStanding old f → IsPlacedTable (table_in old f) (table_in new g)
   pub stands : told → AreStanding old f → AreStanding new g
+  pub led : told → KeepsLed old new f g
   pub strays : told → AreStanding old f → new.strays ≡ old.strays
+  pub fits : told → AreStanding old f → FitsTable old f new g
+  -- with room for all that is pending, damage is answered only where a root is laid
+  pub enough : told → AreStanding old f → pending_in f ≤ old.room → IfErr result (λ e. IsDamaged e → LayFails told old new f e)
   pub counts : Counts old new result
   pub cause : IfErr result (FlushFails told old new f)
 
@@ -49,9 +56,11 @@ pub record FlushesTable (told : Type 0) (old new : Shown) (f g : Files) (result 
   pub root : IfOk result (λ root. root ≡ g.inode.tree.root)
   pub pointer : IfOk result IsPointer
   pub none : OnOk result ((n : ℕ) → tree_in g n ≡ None)
+  pub nothing : OnOk result (pending_in g ≡ 0)
   pub levels : told → AreStanding old f → g.inode.tree.levels ≡ f.inode.tree.levels
   pub stored : told → IfOk result (λ root. AreStanding old f → table_in new g ≡ standing_at (under new) g.inode.tree.levels root)
   pub reached : told → IfOk result (λ root. AreStanding old f → AreReached (under new) new.used g.inode.tree.levels root)
+  pub stored_led : told → IfOk result (λ root. AreStanding old f → IsLed old f → AreLed new.used (stored_trees (under new) g.inode.tree.levels root))
 
 -- a tree in memory was placed, or a part of it
 pub record FlushesKept (told : Type 0) (old new : Shown) (m n : maps.BTreeMap ℕ Tree) (number : ℕ) (result : Result Pointer BlockFault) : Type 0 where
@@ -60,6 +69,9 @@ pub record FlushesKept (told : Type 0) (old new : Shown) (m n : maps.BTreeMap �
   pub becomes : Becomes m n number tree next
   pub flushes : told → Stands old tree → Flushes (loaded old tree) old.used (loaded new next) new.used
   pub strays : told → Stands old tree → new.strays ≡ old.strays
+  pub fits : told → Stands old tree → Fits old tree new next
+  pub enough : told → Stands old tree → IsEnough (pending tree) old.room result
+  pub nothing : OnOk result (pending next ≡ 0)
   pub left : IsLeft tree next
   pub pointer : IfOk result IsPointer
   pub spelled : IfOk result (λ root. standing (under new) next ≡ stored (under new) tree.owner tree.levels root)

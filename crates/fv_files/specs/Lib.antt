@@ -2,5 +2,6 @@ pub mod Trees
 pub mod Apart
 pub mod Tables
 pub mod Failing
+pub mod Pending
 pub mod Calls
 pub mod Flushing

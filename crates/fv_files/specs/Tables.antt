@@ -17,7 +17,7 @@ use Rattle.fv_inode.specs.declared.info.Info.{Info}
 use Rattle.fv_inode.specs.Files.{info_of}
 use Rattle.fv_files.specs.declared.files.Files.{Files}
 use Rattle.fv_files.specs.Trees.{Changed, standing_in}
-use Rattle.fv_files.specs.Apart.{Trees, StandsIn, AreApart, stored_trees}
+use Rattle.fv_files.specs.Apart.{Trees, StandsIn, AreApart, AreLed, stored_trees}
 
 -- the trees that are in memory
 abbrev pub changed : Files → Changed
@@ -53,6 +53,10 @@ pub record AreSound (blocks : Under) (used : ℕ → Option Use) (f : Files) : T
 
 abbrev pub AreStanding : Shown → Files → Type 0
 AreStanding source = AreSound (under source) source.used
+
+-- What is in use is led to by one of the table's trees.
+abbrev pub IsLed : Shown → Files → Type 0
+IsLed source f = AreLed source.used (loaded_trees (under source) f)
 
 -- So they do where nothing is in memory.
 pub record AreReached (blocks : Under) (used : ℕ → Option Use) (levels : ℕ) (root : Pointer) : Type 0 where

@@ -1,6 +1,6 @@
 //! Making a file.
 
-ghost use Rattle.std.specs.Prelude.{◌≡◌, ◌≤◌, ◌<◌, ℕ, None, OnOk};
+ghost use Rattle.std.specs.Prelude.{◌≡◌, ◌≤◌, ◌<◌, ◌+◌, ℕ, None, OnOk};
 ghost use Rattle.fv_codec.specs.Blocks.{most_cells};
 ghost use Rattle.fv_model.specs.Tables.{new};
 ghost use Rattle.fv_tables.specs.Told.{file_at, table_told};
@@ -8,7 +8,8 @@ ghost use Rattle.fv_tree.specs.Sources.{IsUntouched};
 ghost use Rattle.fv_inode.specs.Files.{rooted};
 ghost use Rattle.fv_files.specs.Tables.{table_in, AreStanding};
 ghost use Rattle.fv_files.specs.Failing.{FilesFail};
-ghost use Rattle.fv_files.specs.Calls.{Changes};
+ghost use Rattle.fv_files.specs.Calls.{Changes, KeepsLed};
+ghost use Rattle.fv_files.specs.Pending.{pending_in};
 
 use crate::files::{Files, FilesFault};
 use fv_model::Name;
@@ -17,7 +18,8 @@ use fv_tree::Blocks;
 impl Files {
     /// Makes a file of a name under the least free number, of length 0, with a reserve of at most 2,097,152 blocks and a stamp
     /// of at least 1: the machine's new, for a table that stands on its blocks. A number below 262,144 is free. That no file
-    /// has the name is the caller's to see to. Its cost is that of `InodeFile::create`. After a fault the table is told as before.
+    /// has the name is the caller's to see to. Its cost is that of `InodeFile::create`. A flush has at most 16 blocks more to
+    /// place afterwards. After a fault the table is told as before.
     ///
     /// # Errors
     ///
@@ -34,6 +36,8 @@ impl Files {
         requires free { B.told → (n : ℕ) × (n < 262144) × (file_at (rooted (B.shown blocks.old) self.old.inode) n ≡ None) }
         ensures made { B.told → OnOk result (AreStanding (B.shown blocks.old) self.old → table_told (table_in (B.shown blocks.new) self.new) ≡ new (table_told (table_in (B.shown blocks.old) self.old)) name.now reserve stamp) }
         ensures changes { Changes B.told (Unit {0}) (B.shown blocks.old) (B.shown blocks.new) self.old self.new (FilesFail B.told (table_in (B.shown blocks.old) self.old) (B.shown blocks.old) (B.shown blocks.new)) result }
+        ensures led { B.told → KeepsLed (B.shown blocks.old) (B.shown blocks.new) self.old self.new }
+        ensures pending { pending_in self.new ≤ pending_in self.old + 16 }
         ensures untouched { IsUntouched (B.shown blocks.old) (B.shown blocks.new) }
         ensures reads { B.reads blocks.old blocks.new }
     {

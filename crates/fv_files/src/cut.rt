@@ -1,14 +1,17 @@
 //! Cutting a file to a length.
 
-ghost use Rattle.std.specs.Prelude.{◌≡◌, ◌≤◌, true, is_some, OnOk};
+ghost use Rattle.std.specs.Prelude.{◌≡◌, ◌≤◌, ◌+◌, ℕ, true, is_some, IfOk, OnOk, OnErr};
 ghost use Rattle.std.specs.Ordering.{nat_cmp};
 ghost use Rattle.std.specs.BTreeMap as maps;
 ghost use Rattle.fv_codec.specs.Blocks.{most_cells};
+ghost use Rattle.fv_laws.specs.WellFormed.{IsWellTable};
+ghost use Rattle.fv_tables.specs.Told.{table_told};
 ghost use Rattle.fv_inode.specs.Files.{rooted, IsInfo};
 ghost use Rattle.fv_inode.specs.Readying.{IsReadyFile};
 ghost use Rattle.fv_files.specs.Tables.{table_in, tree_in, AreStanding, IsInfoOf};
 ghost use Rattle.fv_files.specs.Failing.{FilesFail};
-ghost use Rattle.fv_files.specs.Calls.{shortened, Changes, CutsFile, CutsKept, KeptFails};
+ghost use Rattle.fv_files.specs.Calls.{shortened, Changes, CutsFile, CutsKept, KeepsLed, KeptFails, TakesByCut};
+ghost use Rattle.fv_files.specs.Pending.{pending_in};
 
 use crate::files::{Files, FilesFault};
 use crate::hold::prepare;
@@ -21,7 +24,7 @@ impl Files {
     /// cut, of a table that stands on its blocks. Answers how many cells and marks of the file went. Its record has the
     /// length, also a greater one, and its inode cell gets the stamp even where no cell goes. It loads at most what
     /// `InodeFile::ready` and `Tree::cut` load. Each placed block that goes is named once to `gone`, after the last load.
-    /// After a fault the table is told as before, and none was named.
+    /// A flush has at most 16 blocks more to place afterwards. After a fault the table is told as before, and none was named.
     ///
     /// # Errors
     ///
@@ -38,6 +41,10 @@ impl Files {
         requires range { IsInfo info.now }
         requires there { B.told → IsInfoOf (rooted (B.shown blocks.old) self.old.inode) info.now }
         ensures cut { B.told → OnOk result (AreStanding (B.shown blocks.old) self.old → CutsFile (table_in (B.shown blocks.old) self.old) (table_in (B.shown blocks.new) self.new) info.now.number length stamp) }
+        ensures counted { B.told → IfOk result (λ count. AreStanding (B.shown blocks.old) self.old → TakesByCut (table_in (B.shown blocks.old) self.old) info.now.number length stamp count) }
+        ensures led { B.told → KeepsLed (B.shown blocks.old) (B.shown blocks.new) self.old self.new }
+        ensures pending { OnErr result (pending_in self.new ≤ pending_in self.old + 16) }
+        ensures pending_done { B.told → OnOk result (AreStanding (B.shown blocks.old) self.old → (now : ℕ) → IsWellTable now (table_told (table_in (B.shown blocks.old) self.old)) → pending_in self.new ≤ pending_in self.old + 16) }
         ensures changes { Changes B.told (Unit {0}) (B.shown blocks.old) (B.shown blocks.new) self.old self.new (FilesFail B.told (table_in (B.shown blocks.old) self.old) (B.shown blocks.old) (B.shown blocks.new)) result }
         ensures calls { B.goes blocks.old blocks.new }
     {
@@ -63,6 +70,10 @@ fn cut_ready<B: Blocks>(
     requires ready { IsReadyFile files.old.inode info.now.number }
     requires kept { is_some (tree_in files.old info.now.number) ≡ true }
     ensures cut { B.told → OnOk result (AreStanding (B.shown blocks.old) files.old → CutsFile (table_in (B.shown blocks.old) files.old) (table_in (B.shown blocks.new) files.new) info.now.number length stamp) }
+    ensures counted { B.told → IfOk result (λ count. AreStanding (B.shown blocks.old) files.old → TakesByCut (table_in (B.shown blocks.old) files.old) info.now.number length stamp count) }
+    ensures led { B.told → KeepsLed (B.shown blocks.old) (B.shown blocks.new) files.old files.new }
+    ensures pending { OnErr result (pending_in files.new ≤ pending_in files.old) }
+    ensures pending_done { B.told → OnOk result (AreStanding (B.shown blocks.old) files.old → (now : ℕ) → IsWellTable now (table_told (table_in (B.shown blocks.old) files.old)) → pending_in files.new ≤ pending_in files.old + 3) }
     ensures changes { Changes B.told (Unit {0}) (B.shown blocks.old) (B.shown blocks.new) files.old files.new (KeptFails B.told (B.shown blocks.old) (B.shown blocks.new) files.old info.now.number) result }
     ensures calls { B.goes blocks.old blocks.new }
 {

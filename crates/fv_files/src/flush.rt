@@ -4,7 +4,6 @@ ghost use Rattle.std.specs.Prelude.{◌≡◌, ◌≤◌, ◌+◌, ◌-◌, ℕ,
 ghost use Rattle.std.specs.Ordering.{nat_cmp};
 ghost use Rattle.std.specs.BTreeMap as maps;
 ghost use Rattle.fv_tree.specs.declared.kept.Tree as kept;
-ghost use Rattle.fv_inode.specs.Readying.{IsReadyFile};
 ghost use Rattle.fv_files.specs.Tables.{tree_in};
 ghost use Rattle.fv_files.specs.Flushing.{FlushesKept, FlushesTable, LaysTrees};
 
@@ -18,8 +17,9 @@ impl Files {
     /// Places each block that changed since the last flush once: the trees of the files by number, each with its root laid into
     /// the file's inode block, and the inode file last. Each block that one of them replaces is named once to `gone`. Answers the
     /// root of the inode file, and then nothing is in memory, and the table stands under that root. It is told as before in every
-    /// outcome, and a later flush goes on where one failed. All this is so for a table that stands on its blocks. It loads what
-    /// isn't in memory of the inode blocks of the files that it places.
+    /// outcome, and a later flush goes on where one failed. It places no more blocks than are pending; with room for so many,
+    /// damage is answered only of an inode block or of a node over one. All this is so for a table that stands on its blocks. It
+    /// loads what isn't in memory of the inode blocks of the files that it places.
     ///
     /// # Errors
     ///
@@ -76,17 +76,16 @@ fn flush_file<B: Blocks>(files: &mut Files, blocks: &mut B, number: u32) -> Resu
     ensures fewer { OnOk result (maps.btree_map_len files.new.trees + 1 ≡ maps.btree_map_len files.old.trees) }
     ensures calls { B.goes blocks.old blocks.new }
 {
-    if !files.inode.ready(blocks, number)? {
+    if files.inode.look(blocks, number)?.is_none() {
         forget(&mut files.trees, number);
         return Ok(());
     }
     lay_file(files, blocks, number)
 }
 
-/// Places the tree of a file of which the inode block is held, and lays its root there.
+/// Places the tree of a file, and lays its root into the file's inode block.
 fn lay_file<B: Blocks>(files: &mut Files, blocks: &mut B, number: u32) -> Result<(), FilesFault>
     requires kept { is_some (tree_in files.old number) ≡ true }
-    requires ready { IsReadyFile files.old.inode number }
     ensures lays { LaysTrees B.told (B.shown blocks.old) (B.shown blocks.new) files.old files.new result }
     ensures fewer { OnOk result (maps.btree_map_len files.new.trees + 1 ≡ maps.btree_map_len files.old.trees) }
     ensures calls { B.goes blocks.old blocks.new }

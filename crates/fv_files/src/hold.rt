@@ -1,16 +1,18 @@
 //! Holding a file ready for a change.
 
-ghost use Rattle.std.specs.Prelude.{◌≡◌, ◌≢◌, ℕ, Option, Some, cond, nat_eq, IfErr, OnOk, OnErr};
+ghost use Rattle.std.specs.Prelude.{◌≡◌, ◌≢◌, ◌≤◌, ◌+◌, ℕ, Option, Some, cond, nat_eq, IfErr, OnOk, OnErr};
 ghost use Rattle.std.specs.Ordering.{nat_cmp};
 ghost use Rattle.std.specs.BTreeMap as maps;
 ghost use Rattle.fv_disk.specs.declared.fault.BlockFault.TheVariants.{Memory};
 ghost use Rattle.fv_tables.specs.Spelled.{Under, stored};
 ghost use Rattle.fv_tree.specs.Sources.{Use};
 ghost use Rattle.fv_tree.specs.Standing.{standing};
+ghost use Rattle.fv_tree.specs.Costs.{pending};
 ghost use Rattle.fv_tree.specs.Flushing.{loaded_over, IsSound, ReachesOnce};
 ghost use Rattle.fv_inode.specs.Files.{rooted, IsInfo};
 ghost use Rattle.fv_files.specs.Tables.{IsInfoOf};
 ghost use Rattle.fv_files.specs.Calls.{Holds, Prepares};
+ghost use Rattle.fv_files.specs.Pending.{pending_in, pending_trees, root_cost, tree_cost};
 
 use crate::files::{Files, FilesFault};
 use fv_inode::Info;
@@ -28,6 +30,7 @@ pub fn prepare<B: Blocks>(
     requires range { IsInfo info.now }
     requires there { B.told → IsInfoOf (rooted (B.shown blocks.old) files.old.inode) info.now }
     ensures prepares { Prepares B.told (B.shown blocks.old) (B.shown blocks.new) files.old files.new info.now result }
+    ensures pending { pending_in files.new ≤ pending_in files.old + 8 }
     ensures reads { B.reads blocks.old blocks.new }
 {
     if !files.inode.ready(blocks, info.number)? {
@@ -42,6 +45,7 @@ fn hold(trees: &mut BTreeMap<u32, Tree>, alloc: Global, info: &Info) -> Result<(
     requires range { IsInfo info.now }
     ensures holds { OnOk result (Holds trees.old trees.new info.now) }
     ensures failed { OnErr result ((k : ℕ) → maps.get nat_cmp trees.new k ≡ maps.get nat_cmp trees.old k) }
+    ensures cost { pending_trees trees.new ≤ pending_trees trees.old + root_cost }
     ensures memory { IfErr result (λ e. e ≡ Memory) }
 {
     if trees.contains_key(&info.number) {
@@ -55,6 +59,7 @@ pub fn stored_tree(alloc: Global, info: &Info) -> Tree
     requires range { IsInfo info.now }
     ensures stored { (blocks : Under) → standing blocks result ≡ stored blocks info.now.number info.now.levels info.now.root }
     ensures stands { (blocks : Under) (used : ℕ → Option Use) → ReachesOnce used (stored blocks info.now.number info.now.levels info.now.root) → IsSound used (loaded_over blocks result) }
+    ensures pending { pending result ≡ 0 }
 {
     Tree::at(alloc, u64::from(info.number), info.levels, info.root)
 }
@@ -63,6 +68,7 @@ pub fn stored_tree(alloc: Global, info: &Info) -> Tree
 fn insert(trees: &mut BTreeMap<u32, Tree>, number: u32, tree: Tree) -> Result<(), FilesFault>
     ensures inserted { OnOk result ((k : ℕ) → maps.get nat_cmp trees.new k ≡ cond (nat_eq k number) (Some tree) (maps.get nat_cmp trees.old k)) }
     ensures failed { OnErr result ((k : ℕ) → maps.get nat_cmp trees.new k ≡ maps.get nat_cmp trees.old k) }
+    ensures cost { pending_trees trees.new ≤ pending_trees trees.old + tree_cost tree }
     ensures memory { IfErr result (λ e. e ≡ Memory) }
 {
     match trees.insert(number, tree) {

@@ -4,12 +4,14 @@
 //! machine's table, by the definitions of `fv_tables`.
 #![tactic(auto)]
 
+mod added;
 mod create;
 mod cut;
 mod files;
 mod flush;
 mod hold;
 mod list;
+mod pending;
 mod read;
 mod remove;
 mod write;

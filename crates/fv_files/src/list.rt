@@ -1,9 +1,10 @@
 //! What is asked of a table's files. None of it changes the table.
 
-ghost use Rattle.std.specs.Prelude.{◌≡◌, IfOk};
+ghost use Rattle.std.specs.Prelude.{◌≡◌, ◌+◌, ◌/◌, IfOk, OnOk};
 ghost use Rattle.std.specs.Option.{option_map};
 ghost use Rattle.std.specs.FinMap as fin;
-ghost use Rattle.fv_tables.specs.Told.{file_at};
+ghost use Rattle.fv_tables.specs.Told.{file_at, records_each};
+ghost use Rattle.fv_tree.specs.Costs.{way_cost};
 ghost use Rattle.fv_inode.specs.Files.{rooted, info_of, Finds, IsFreeNumber, IsInfoIf, IsNumberIf};
 ghost use Rattle.fv_inode.specs.Listing.{names_told};
 ghost use Rattle.fv_inode.specs.Failing as inodes;
@@ -40,6 +41,7 @@ impl Files {
     /// As `InodeFile::look`.
     pub fn look<B: Blocks>(&self, blocks: &mut B, number: u32) -> Result<Option<Info>, FilesFault>
         ensures found { B.told → IfOk result (λ found. found ≡ option_map (info_of number) (file_at (rooted (B.shown blocks.old) self.now.inode) number)) }
+        ensures spent { B.told → OnOk result ((B.shown blocks.new).spent ≡ (B.shown blocks.old).spent + way_cost (B.shown blocks.old).cost (rooted (B.shown blocks.old) self.now.inode) (number / records_each)) }
         ensures range { IfOk result IsInfoIf }
         ensures looks { inodes.Looks B.told (rooted (B.shown blocks.old) self.now.inode) (B.shown blocks.old) (B.shown blocks.new) result }
         ensures reads { B.reads blocks.old blocks.new }

@@ -1,10 +1,11 @@
 //! Reading a block of a file.
 
-ghost use Rattle.std.specs.Prelude.{◌≡◌, ℕ, cond, replicate, Option, Some, None, IfOk, IfErr, OnOk};
+ghost use Rattle.std.specs.Prelude.{◌≡◌, ◌+◌, ℕ, cond, replicate, Option, Some, None, IfOk, IfErr, OnOk};
 ghost use Rattle.fv_tables.specs.Spelled.{Under, stored, block_at};
 ghost use Rattle.fv_tree.specs.Sources.{Counts, IsUntouched, Use};
 ghost use Rattle.fv_tree.specs.Standing.{standing, under, Fails};
 ghost use Rattle.fv_tree.specs.Flushing.{loaded_over, IsSound, ReachesOnce};
+ghost use Rattle.fv_tree.specs.Costs.{way_cost};
 ghost use Rattle.fv_inode.specs.Files.{rooted, IsInfo};
 ghost use Rattle.fv_files.specs.Tables.{table_in, tree_known, IsInfoOf};
 ghost use Rattle.fv_files.specs.Failing.{Looks};
@@ -17,7 +18,8 @@ use fv_tree::{Blocks, Tree};
 
 impl Files {
     /// Block `index` of the file of which this is known; zeros for a hole and for a block past the file's length. It keeps
-    /// nothing in memory, and loads at most one block for each level of the file's tree and one for the cell.
+    /// nothing in memory, and loads at most one block for each level of the file's tree and one for the cell. It makes the
+    /// look-ups of the pointers on the way that lead to something not in memory.
     ///
     /// # Errors
     ///
@@ -32,6 +34,7 @@ impl Files {
         requires range { IsInfo info.now }
         requires there { B.told → IsInfoOf (rooted (B.shown blocks.old) self.now.inode) info.now }
         ensures block { B.told → OnOk result (GivesCell (table_in (B.shown blocks.old) self.now) info.now.number index into.new) }
+        ensures spent { B.told → OnOk result ((B.shown blocks.new).spent ≡ (B.shown blocks.old).spent + way_cost (B.shown blocks.old).cost (tree_known (table_in (B.shown blocks.old) self.now) info.now) index) }
         ensures looks { Looks B.told (table_in (B.shown blocks.old) self.now) (B.shown blocks.old) (B.shown blocks.new) result }
         ensures reads { B.reads blocks.old blocks.new }
     {
@@ -59,6 +62,7 @@ fn read_cell<B: Blocks>(
 ) -> Result<bool, FilesFault>
     requires range { IsInfo info.now }
     ensures cell { B.told → IfOk result (λ there. block_at (tree_known (table_in (B.shown blocks.old) files.now) info.now) index ≡ cond there (Some into.new) None) }
+    ensures spent { B.told → OnOk result ((B.shown blocks.new).spent ≡ (B.shown blocks.old).spent + way_cost (B.shown blocks.old).cost (tree_known (table_in (B.shown blocks.old) files.now) info.now) index) }
     ensures untouched { IsUntouched (B.shown blocks.old) (B.shown blocks.new) }
     ensures counts { Counts (B.shown blocks.old) (B.shown blocks.new) result }
     ensures cause { IfErr result (Fails B.told (tree_known (table_in (B.shown blocks.old) files.now) info.now) (B.shown blocks.old) (B.shown blocks.new)) }
@@ -81,6 +85,7 @@ fn read_tree<B: Blocks>(
     into: &mut [u8; 4096],
 ) -> Result<bool, FilesFault>
     ensures cell { B.told → IfOk result (λ there. block_at (standing (under (B.shown blocks.old)) tree.now) index ≡ cond there (Some into.new) None) }
+    ensures spent { B.told → OnOk result ((B.shown blocks.new).spent ≡ (B.shown blocks.old).spent + way_cost (B.shown blocks.old).cost (standing (under (B.shown blocks.old)) tree.now) index) }
     ensures untouched { IsUntouched (B.shown blocks.old) (B.shown blocks.new) }
     ensures counts { Counts (B.shown blocks.old) (B.shown blocks.new) result }
     ensures cause { IfErr result (Fails B.told (standing (under (B.shown blocks.old)) tree.now) (B.shown blocks.old) (B.shown blocks.new)) }

@@ -1,14 +1,18 @@
 //! Taking a file away.
 
-ghost use Rattle.std.specs.Prelude.{◌≡◌, ◌≤◌, ◌+◌, ℕ, true, cond, nat_eq, None, is_some, OnOk};
+ghost use Rattle.std.specs.Prelude.{◌≡◌, ◌≤◌, ◌+◌, ℕ, true, cond, nat_eq, None, Some, is_some, IfOk, OnOk};
 ghost use Rattle.std.specs.Ordering.{nat_cmp};
 ghost use Rattle.std.specs.BTreeMap as maps;
+ghost use Rattle.fv_laws.specs.WellFormed.{IsWellTable};
+ghost use Rattle.fv_tables.specs.Told.{table_told};
+ghost use Rattle.fv_tree.specs.declared.kept.Tree as kept;
 ghost use Rattle.fv_tree.specs.Erasing.{HoldsCells};
 ghost use Rattle.fv_inode.specs.Files.{rooted, IsInfo};
 ghost use Rattle.fv_inode.specs.Readying.{IsReadyFile};
 ghost use Rattle.fv_files.specs.Tables.{table_in, tree_in, AreStanding, IsInfoOf};
 ghost use Rattle.fv_files.specs.Failing.{FilesFail};
-ghost use Rattle.fv_files.specs.Calls.{Changes, KeptFails, RemovesFile};
+ghost use Rattle.fv_files.specs.Calls.{Changes, KeepsLed, KeptFails, RemovesFile, TakesByRemoval};
+ghost use Rattle.fv_files.specs.Pending.{pending_in, pending_trees, tree_cost};
 
 use crate::cut::cut_kept;
 use crate::files::{Files, FilesFault};
@@ -21,7 +25,8 @@ impl Files {
     /// Takes the file of which this is known away, with a stamp of at least 1: the machine's rm, of a table that stands on
     /// its blocks. Answers how many cells and marks went, of the file and of the inode file. It loads at most what
     /// `InodeFile::ready` and `Tree::cut` of the whole file load. Each placed block that goes is named once to `gone`, after
-    /// the last load. After a fault the table is told as before, and none was named.
+    /// the last load. A flush has at most 16 blocks more to place afterwards. After a fault the table is told as before, and none
+    /// was named.
     ///
     /// # Errors
     ///
@@ -31,11 +36,14 @@ impl Files {
         blocks: &mut B,
         info: &Info,
         stamp: u64,
-    ) -> Result<u64, FilesFault>
+    ) -> Result<u32, FilesFault>
         requires stamp { 1 ≤ stamp }
         requires range { IsInfo info.now }
         requires there { B.told → IsInfoOf (rooted (B.shown blocks.old) self.old.inode) info.now }
         ensures removed { B.told → OnOk result (AreStanding (B.shown blocks.old) self.old → RemovesFile (table_in (B.shown blocks.old) self.old) (table_in (B.shown blocks.new) self.new) info.now.number stamp) }
+        ensures counted { B.told → IfOk result (λ count. AreStanding (B.shown blocks.old) self.old → TakesByRemoval (table_in (B.shown blocks.old) self.old) info.now.number stamp count) }
+        ensures led { B.told → (now : ℕ) → IsWellTable now (table_told (table_in (B.shown blocks.old) self.old)) → KeepsLed (B.shown blocks.old) (B.shown blocks.new) self.old self.new }
+        ensures pending { pending_in self.new ≤ pending_in self.old + 16 }
         ensures changes { Changes B.told (HoldsCells (rooted (B.shown blocks.old) self.old.inode)) (B.shown blocks.old) (B.shown blocks.new) self.old self.new (FilesFail B.told (table_in (B.shown blocks.old) self.old) (B.shown blocks.old) (B.shown blocks.new)) result }
         ensures calls { B.goes blocks.old blocks.new }
     {
@@ -52,13 +60,16 @@ fn remove_ready<B: Blocks>(
     blocks: &mut B,
     info: &Info,
     stamp: u64,
-) -> Result<u64, FilesFault>
+) -> Result<u32, FilesFault>
     requires stamp { 1 ≤ stamp }
     requires range { IsInfo info.now }
     requires there { B.told → IsInfoOf (rooted (B.shown blocks.old) files.old.inode) info.now }
     requires ready { IsReadyFile files.old.inode info.now.number }
     requires kept { is_some (tree_in files.old info.now.number) ≡ true }
     ensures removed { B.told → OnOk result (AreStanding (B.shown blocks.old) files.old → RemovesFile (table_in (B.shown blocks.old) files.old) (table_in (B.shown blocks.new) files.new) info.now.number stamp) }
+    ensures counted { B.told → IfOk result (λ count. AreStanding (B.shown blocks.old) files.old → TakesByRemoval (table_in (B.shown blocks.old) files.old) info.now.number stamp count) }
+    ensures led { B.told → (now : ℕ) → IsWellTable now (table_told (table_in (B.shown blocks.old) files.old)) → KeepsLed (B.shown blocks.old) (B.shown blocks.new) files.old files.new }
+    ensures pending { pending_in files.new ≤ pending_in files.old + 3 }
     ensures changes { Changes B.told (HoldsCells (rooted (B.shown blocks.old) files.old.inode)) (B.shown blocks.old) (B.shown blocks.new) files.old files.new (KeptFails B.told (B.shown blocks.old) (B.shown blocks.new) files.old info.now.number) result }
     ensures calls { B.goes blocks.old blocks.new }
 {
@@ -66,13 +77,16 @@ fn remove_ready<B: Blocks>(
     let own = cut_kept(&mut files.trees, blocks, info.number, 0, start, stamp)?;
     let inode = files.inode.erase(blocks, info.number, stamp);
     forget(&mut files.trees, info.number);
-    Ok(u64::from(own) + u64::from(inode))
+    let count = own.saturating_add(inode);
+    Ok(count)
 }
 
 /// Takes a tree out of memory.
 pub fn forget(trees: &mut BTreeMap<u32, Tree>, number: u32)
     ensures gone { (k : ℕ) → maps.get nat_cmp trees.new k ≡ cond (nat_eq k number) None (maps.get nat_cmp trees.old k) }
     ensures len { is_some (maps.get nat_cmp trees.old number) ≡ true → maps.btree_map_len trees.new + 1 ≡ maps.btree_map_len trees.old }
+    ensures cost { (t : kept.Tree) → maps.get nat_cmp trees.old number ≡ Some t → pending_trees trees.new + tree_cost t ≡ pending_trees trees.old }
+    ensures fewer { pending_trees trees.new ≤ pending_trees trees.old }
 {
     let _ = trees.remove(&number);
 }

@@ -1,6 +1,6 @@
 //! Writing a block of a file.
 
-ghost use Rattle.std.specs.Prelude.{◌≡◌, ◌≤◌, ◌<◌, true, is_some, OnOk};
+ghost use Rattle.std.specs.Prelude.{◌≡◌, ◌≤◌, ◌<◌, ◌+◌, true, is_some, OnOk};
 ghost use Rattle.std.specs.Ordering.{nat_cmp};
 ghost use Rattle.std.specs.BTreeMap as maps;
 ghost use Rattle.fv_tree.specs.Sources.{IsUntouched};
@@ -8,7 +8,8 @@ ghost use Rattle.fv_inode.specs.Files.{rooted, IsInfo};
 ghost use Rattle.fv_inode.specs.Readying.{IsReadyFile};
 ghost use Rattle.fv_files.specs.Tables.{table_in, tree_in, IsInfoOf};
 ghost use Rattle.fv_files.specs.Failing.{FilesFail};
-ghost use Rattle.fv_files.specs.Calls.{longer, Changes, KeptFails, PutsKept, WritesCell};
+ghost use Rattle.fv_files.specs.Calls.{longer, Changes, KeepsLed, KeptFails, PutsKept, WritesCell};
+ghost use Rattle.fv_files.specs.Pending.{pending_in};
 
 use crate::files::{Files, FilesFault};
 use crate::hold::prepare;
@@ -19,7 +20,8 @@ use std::collections::BTreeMap;
 impl Files {
     /// Writes block `index` of the file of which this is known, below 2,097,152, with a stamp of at least 1: the machine's
     /// put. The file's tree is in memory afterwards, and its record has the length. It loads at most what
-    /// `InodeFile::ready` and `Tree::put` load. After a fault the table is told as before.
+    /// `InodeFile::ready` and `Tree::put` load. A flush has at most 16 blocks more to place afterwards. After a fault the table
+    /// is told as before.
     ///
     /// # Errors
     ///
@@ -38,6 +40,8 @@ impl Files {
         requires there { B.told → IsInfoOf (rooted (B.shown blocks.old) self.old.inode) info.now }
         ensures written { B.told → OnOk result (WritesCell (table_in (B.shown blocks.old) self.old) (table_in (B.shown blocks.new) self.new) info.now.number index stamp block.now) }
         ensures changes { Changes B.told (Unit {0}) (B.shown blocks.old) (B.shown blocks.new) self.old self.new (FilesFail B.told (table_in (B.shown blocks.old) self.old) (B.shown blocks.old) (B.shown blocks.new)) result }
+        ensures led { B.told → KeepsLed (B.shown blocks.old) (B.shown blocks.new) self.old self.new }
+        ensures pending { pending_in self.new ≤ pending_in self.old + 16 }
         ensures untouched { IsUntouched (B.shown blocks.old) (B.shown blocks.new) }
         ensures reads { B.reads blocks.old blocks.new }
     {
@@ -65,6 +69,8 @@ fn write_ready<B: Blocks>(
     requires kept { is_some (tree_in files.old info.now.number) ≡ true }
     ensures written { B.told → OnOk result (WritesCell (table_in (B.shown blocks.old) files.old) (table_in (B.shown blocks.new) files.new) info.now.number index stamp block.now) }
     ensures changes { Changes B.told (Unit {0}) (B.shown blocks.old) (B.shown blocks.new) files.old files.new (KeptFails B.told (B.shown blocks.old) (B.shown blocks.new) files.old info.now.number) result }
+    ensures led { B.told → KeepsLed (B.shown blocks.old) (B.shown blocks.new) files.old files.new }
+    ensures pending { pending_in files.new ≤ pending_in files.old + 6 }
     ensures untouched { IsUntouched (B.shown blocks.old) (B.shown blocks.new) }
     ensures reads { B.reads blocks.old blocks.new }
 {

@@ -30,11 +30,11 @@ name_total = search (comparing, rules)
 -- ---- sums over the entries of a map
 
 module _ {K X : Type 0} (R : K → K → Ordering) (o : IsTotalOrder R) (number : X → ℕ) where
-  abbrev value : K × X → ℕ
+  abbrev pub value : K × X → ℕ
   value e = number e.1
 
   -- no key comes twice
-  abbrev AllNew : List (K × X) → Type 0
+  abbrev pub AllNew : List (K × X) → Type 0
   AllNew [] = Unit {0}
   AllNew (e ∷ es) = (find R e.0 es ≡ None) × AllNew es
 
@@ -56,7 +56,7 @@ module _ {K X : Type 0} (R : K → K → Ordering) (o : IsTotalOrder R) (number 
           let c : sum_by value (e ∷ es) ≡ value e + sum_by value es = sum_by-cons value e es in
           omega (arith, a, rest, c)
 
-  sum_of_entries : (es : List (K × X)) → AllNew es → sum_by value (fin.entries (fin.from_entries {R = R} es)) ≡ sum_by value es
+  pub sum_of_entries : (es : List (K × X)) → AllNew es → sum_by value (fin.entries (fin.from_entries {R = R} es)) ≡ sum_by value es
   sum_of_entries [] new = ap (sum_by value) (no_entries R)
   sum_of_entries (e ∷ es) new =
       let rest : fin.FinMap R X = fin.from_entries es in
@@ -100,7 +100,7 @@ module _ (w : View) where
       so (Some h) = omega arith
 
 -- no two slots share a name
-apart_in : (y : Layout) → has_distinct_names y ≡ true → (s t : ℕ) → s < t → t < 64 → share_name (y.view.head s) (y.view.head t) ≡ false
+pub apart_in : (y : Layout) → has_distinct_names y ≡ true → (s t : ℕ) → s < t → t < 64 → share_name (y.view.head s) (y.view.head t) ≡ false
 unfolding has_distinct_names slots
 apart_in y distinct s t order small =
     let at : list_all (λ earlier. not (share_name (y.view.head earlier) (y.view.head t))) (range_with_len 0 t) ≡ true =

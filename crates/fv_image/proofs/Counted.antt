@@ -16,9 +16,11 @@ use Rattle.fv_image.specs.NewerRoot.{Taken}
 use Rattle.fv_image.specs.Containers.{shaped, level_width, height_of}
 use Rattle.fv_image.specs.Views.{Placed, Head, View, head_of, slots, entry_count, vvbns, is_held_in, is_active_map, is_delayed, is_own, own, delayed}
 use Rattle.fv_image.specs.Held.{Lying, Layout, layout_at, view_at, label_in, place_lying, place_of, at_positions, held_by_container, held_by, held}
-use Rattle.fv_image.specs.Sound.{IsSound, has_shapes, is_in_range, overheads, is_place, all_labels, all_lying}
+use Rattle.fv_image.specs.Sound.{has_shapes, overheads, is_place, all_labels, all_lying}
+use Rattle.fv_image.specs.BlockRules.{are_in_range}
+use Rattle.fv_image.specs.Soundness.{AreBlocks}
 use Rattle.fv_image.proofs.Kept.{at_number}
-use Rattle.fv_image.proofs.Counts.{parts_of_one, parts_are_one, none_between}
+use Rattle.fv_image.proofs.Counts.{parts_of_one, none_between}
 use Rattle.fv_image.proofs.Overheads.{node_count, overhead_holds}
 
 -- the heads of the view are those that the labels spell
@@ -56,35 +58,6 @@ unfolding at_positions node_count
 container_within y s l height =
     subst (λ (h : ℕ). length (at_positions l (λ level number. place_lying (y.node s level number))) ≤ sum_by (level_width (entry_count l.span)) (range_with_len 0 (suc h))) height
     (levels_within (λ level number. place_lying (y.node s level number)) (level_width (entry_count l.span)) (λ level number. place_once (y.node s level number)) (range_with_len 0 (suc l.height)))
-
--- a part for each position, of one element each
-levels_are : {X : Type 0} (each : ℕ → ℕ → List X) (width : ℕ → ℕ) (from count : ℕ) → ((level number : ℕ) → level < from + count → number < width level → length (each level number) ≡ 1)
-    → length (flat_map (λ level. flat_map (each level) (range_with_len 0 (width level))) (range_with_len from count)) ≡ sum_by width (range_with_len from count)
-levels_are each width from zero one = refl
-levels_are each width from (suc count) one =
-    let rest = range_with_len (from + 1) count in
-    let part = parts_are_one (each from) 0 (width from) (λ number low high. one from number (omega arith) (omega (arith, high))) in
-    omega (
-      arith,
-      length-append (flat_map (each from) (range_with_len 0 (width from))) (flat_map (λ level. flat_map (each level) (range_with_len 0 (width level))) rest),
-      sum_by-cons width from rest,
-      part,
-      levels_are each width (from + 1) count (λ level number high within. one level number (omega (arith, high)) within),
-    )
-
-place_there : (o : Option Lying) → is_some o ≡ true → length (place_lying o) ≡ 1
-place_there None some = absurd cc
-place_there (Some x) some = refl
-
--- and they are as many where none is absent
-pub container_is : (y : Layout) (s : ℕ) (l : Label) → l.height ≡ height_of (entry_count l.span)
-    → ((level number : ℕ) → level ≤ l.height → number < level_width (entry_count l.span) level → is_some (y.node s level number) ≡ true)
-    → length (at_positions l (λ level number. place_lying (y.node s level number))) ≡ node_count (entry_count l.span)
-unfolding at_positions node_count
-container_is y s l height there =
-    subst (λ (h : ℕ). length (at_positions l (λ level number. place_lying (y.node s level number))) ≡ sum_by (level_width (entry_count l.span)) (range_with_len 0 (suc h))) height
-    (levels_are (λ level number. place_lying (y.node s level number)) (level_width (entry_count l.span)) 0 (suc l.height)
-    (λ level number high within. place_there (y.node s level number) (there level number (omega arith) within)))
 
 -- ---- the entries
 
@@ -145,12 +118,12 @@ of_label y test s l inside all is =
     subst (λ (o : Option Label). option_map_or (test s) o true ≡ true) is here
 
 -- a container has the height that its entries ask for
-pub height_is : (y : Layout) (s : ℕ) (l : Label) → IsSound y → s < 64 → label_in (y.label s) ≡ Some l → l.height ≡ height_of (entry_count l.span)
-unfolding is_in_range
+pub height_is : (y : Layout) (s : ℕ) (l : Label) → AreBlocks y → s < 64 → label_in (y.label s) ≡ Some l → l.height ≡ height_of (entry_count l.span)
+unfolding are_in_range
 height_is y s l is inside label =
     let ranges = (and_parts (list_all (is_place y) (held y)) _ is.ranges).1 in
-    let here = of_label y (λ s l. not (l.container == 0) && ((l.height == height_of (entry_count l.span)) && nat_le (l.most + 256) l.span)) s l inside ranges label in
-    let height = (and_parts (l.height == height_of (entry_count l.span)) _ (and_parts (not (l.container == 0)) _ here).1).0 in
+    let here = of_label y (λ s l. not (l.container == 0) && (l.height == height_of (entry_count l.span))) s l inside ranges label in
+    let height = (and_parts (not (l.container == 0)) _ here).1 in
     grind (arith, nat_tests, height)
 
 -- the blocks of a label whose head is known
@@ -173,7 +146,7 @@ label_holds y s o l lies says head height =
     ))
 
 -- a label has its shape
-shape_is : (y : Layout) (s : ℕ) (x : Lying) → IsSound y → s < 64 → y.label s ≡ Some x → is_some (shaped (label_at x.block)) ≡ true
+shape_is : (y : Layout) (s : ℕ) (x : Lying) → AreBlocks y → s < 64 → y.label s ≡ Some x → is_some (shaped (label_at x.block)) ≡ true
 unfolding has_shapes slots
 shape_is y s x is inside lies =
     let all = (and_parts (all_lying y (λ x. is_some (shaped (label_at x.block)))) _ is.shapes).0 in
@@ -181,7 +154,7 @@ shape_is y s x is inside lies =
     subst (λ (o : Option Lying). option_map_or (λ x. is_some (shaped (label_at x.block))) o true ≡ true) lies here
 
 -- The blocks that the volume of a slot holds are at most its own, its delayed ones and its overhead.
-pub slot_within : (y : Layout) (s : ℕ) → HasHeads y → IsSound y → s < 64 → length (held_by y s) ≤ own_in y.view s + delayed_in y.view s + overhead_in y.view s
+pub slot_within : (y : Layout) (s : ℕ) → HasHeads y → AreBlocks y → s < 64 → length (held_by y s) ≤ own_in y.view s + delayed_in y.view s + overhead_in y.view s
 unfolding held_by held_by_container label_in
 slot_within y s heads is inside = so (y.label s) refl
   where
@@ -212,6 +185,6 @@ within_three part a b c from (suc count) each =
     )
 
 -- The held blocks are at most the volumes' own, the delayed ones and all overheads.
-pub held_within : (y : Layout) → HasHeads y → IsSound y → length (held y) ≤ own y.view + delayed y.view + overheads y.view
+pub held_within : (y : Layout) → HasHeads y → AreBlocks y → length (held y) ≤ own y.view + delayed y.view + overheads y.view
 unfolding held own delayed overheads slots
 held_within y heads is = within_three (held_by y) (own_in y.view) (delayed_in y.view) (overhead_in y.view) 0 64 (λ s low high. slot_within y s heads is (omega arith))

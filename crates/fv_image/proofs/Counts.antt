@@ -1,5 +1,5 @@
 -- How many numbers are in a list or pass a test, over ranges.
-use Rattle.std.proofs.Common.{◌≡◌, ℕ, zero, suc, ◌+◌, ◌*◌, ◌<◌, ◌≤◌, Bool, true, false, cond, List, [], ◌∷◌, length, length-append, refl, ap, arith, ⊎_elim}
+use Rattle.std.proofs.Common.{◌≡◌, ℕ, zero, suc, ◌+◌, ◌<◌, ◌≤◌, Bool, true, false, cond, List, [], ◌∷◌, length, length-append, refl, ap, arith, ⊎_elim}
 use Rattle.std.specs.Prelude.{◌==◌, ◌||◌, not, flat_map, sum_by}
 use Rattle.std.specs.List.{list_any, range_with_len}
 use Rattle.std.proofs.lemmas.List.Sums.{sum_by-cons}
@@ -64,11 +64,6 @@ pub parts_of_one : {X : Type 0} (part : ℕ → List X) → ((k : ℕ) → lengt
 parts_of_one part one [] = omega arith
 parts_of_one part one (x ∷ xs) = omega (arith, length-append (part x) (flat_map part xs), one x, parts_of_one part one xs)
 
--- parts of one element
-pub parts_are_one : {X : Type 0} (part : ℕ → List X) → (a n : ℕ) → ((k : ℕ) → a ≤ k → k < a + n → length (part k) ≡ 1) → length (flat_map part (range_with_len a n)) ≡ n
-parts_are_one part a zero one = refl
-parts_are_one part a (suc n) one = omega (arith, length-append (part a) (flat_map part (range_with_len (a + 1) n)), one a (omega arith) (omega arith), parts_are_one part (a + 1) n (λ k low high. one k (omega arith) (omega arith)))
-
 -- a sum with larger parts
 pub sums_within : (a b : ℕ → ℕ) (from count : ℕ) → ((k : ℕ) → from ≤ k → k < from + count → a k ≤ b k) → sum_by a (range_with_len from count) ≤ sum_by b (range_with_len from count)
 sums_within a b from zero each = omega arith
@@ -85,8 +80,3 @@ same_sum a b from (suc count) same =
 pub none_sum : (a : ℕ → ℕ) (from count : ℕ) → ((k : ℕ) → from ≤ k → k < from + count → a k ≡ 0) → sum_by a (range_with_len from count) ≡ 0
 none_sum a from zero none = refl
 none_sum a from (suc count) none = omega (arith, sum_by-cons a from (range_with_len (from + 1) count), none from (omega arith) (omega arith), none_sum a (from + 1) count (λ k low high. none k (omega arith) (omega arith)))
-
--- a sum whose parts are twice as large
-pub twice_within : (a b : ℕ → ℕ) (xs : List ℕ) → ((k : ℕ) → 2 * a k ≤ b k) → 2 * sum_by a xs ≤ sum_by b xs
-twice_within a b [] each = omega arith
-twice_within a b (x ∷ xs) each = omega (arith, sum_by-cons a x xs, sum_by-cons b x xs, each x, twice_within a b xs each)

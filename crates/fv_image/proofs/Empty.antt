@@ -1,5 +1,5 @@
 -- An aggregate without labels, whose map is clear, stands for the machine without volumes.
-use Rattle.std.proofs.Common.{◌≡◌, ℕ, zero, suc, ◌+◌, ◌-◌, ◌≤◌, Bool, true, false, refl, sym, ap, subst, arith, []}
+use Rattle.std.proofs.Common.{◌≡◌, ℕ, zero, suc, ◌+◌, ◌-◌, ◌≤◌, Bool, true, false, refl, sym, ap, subst, arith}
 use Rattle.std.specs.Prelude.{Some, None, nat_le}
 use Rattle.std.specs.List.{list_all, range_with_len}
 use Rattle.std.proofs.lemmas.Bool.Decides.{nat_tests}
@@ -56,10 +56,6 @@ all_of_range test always from zero = refl
 all_of_range test always from (suc count) = rw (always from, all_of_range test always (from + 1) count) refl
 
 module _ (blocks version : ℕ) (size : 512 ≤ blocks) where
-  none_held : held (empty_layout blocks version) ≡ []
-  unfolding held held_by held_by_container label_in slots
-  none_held = refl
-
   empty_is_sound : IsSound (empty_layout blocks version)
   unfolding has_shapes is_in_range has_entries_within has_distinct_names is_in_position has_true_maps is_held_once has_true_map has_true_kinds has_true_levels has_true_labels is_in_size is_in_capacity has_room committed overheads own delayed slots held held_by held_by_container label_in
   empty_is_sound = record {

@@ -76,7 +76,7 @@ in_node i l b level number low within held = in_place i (node_of i l.container l
 -- ---- the blocks of a volume
 
 module _ (t : Taken) (i : Image) (s : ℕ) (l : Label) (there : label_in (label_lying t i s) ≡ Some l) where
-  label_some : label_place t s ≢ 0
+  pub label_some : label_place t s ≢ 0
   unfolding label_in
   label_some none = no_label (sym (ap (λ (p : ℕ). label_in (lying_at i p)) none) ∙ there)
     where
@@ -122,7 +122,7 @@ module _ (t : Taken) (i : Image) (s : ℕ) (l : Label) (there : label_in (label_
       let entry = in_entry i (entry_at i l one.0) b one.3 in
       record { vvbn = one.0; within = omega (arith, one.2); kind = entry.0; place = entry.1 }
 
-  entries_in : (b : ℕ) → IsEntryPlace i l b → is_in b (flat_map (entry_blocks i l) (vvbns l.span)) ≡ true
+  pub entries_in : (b : ℕ) → IsEntryPlace i l b → is_in b (flat_map (entry_blocks i l) (vvbns l.span)) ≡ true
   unfolding vvbns entry_from
   entries_in b entry = in_part (entry_blocks i l) b entry.vvbn 0 (entry_count l.span) (omega arith) (omega (arith, entry.within))
       (subst (λ (n : ℕ). is_in n (place_of (placed i (entry_at i l entry.vvbn))) ≡ true) (sym entry.place) (entry_in i (entry_at i l entry.vvbn) (other _ entry.kind)))

@@ -2,7 +2,7 @@
 use Rattle.std.proofs.Common.{◌≡◌, ◌≢◌, ℕ, zero, suc, ◌+◌, ◌<◌, ◌≤◌, Bool, true, false, Result, Ok, Err, refl, sym, ap, subst, ◌∙◌, arith, ⊎_elim}
 use Rattle.std.specs.Prelude.{Option, Some, None, if◌then◌else◌}
 use Rattle.std.specs.List.{list_all, range_with_len}
-use Rattle.std.proofs.lemmas.Bool.{and_parts, both_ways, cases_eq, not-true}
+use Rattle.std.proofs.lemmas.Bool.{and_parts, both_ways, cases_eq}
 use Rattle.fv_disk.specs.Shown.{Image, SameBut}
 use Rattle.fv_codec.specs.declared.shape.Shape.{Shape}
 use Rattle.fv_codec.specs.declared.superblock.Super.{Super}
@@ -11,9 +11,7 @@ use Rattle.fv_codec.specs.Blocks.{super_at}
 use Rattle.fv_model.specs.Machines.{first_block}
 use Rattle.fv_image.specs.Layout.{superblock, area_blocks, area_place}
 use Rattle.fv_image.specs.NewerRoot.{Taken, behind, follows, newer, taken_of, root_of}
-use Rattle.fv_image.specs.Maps.{area_bits}
 use Rattle.fv_image.specs.Held.{Layout, layout_at, is_held, Keeps}
-use Rattle.fv_image.specs.Sound.{agree, has_true_map}
 use Rattle.fv_image.proofs.SameLayout.{kept}
 
 -- ---- the slot of a root that counts
@@ -70,9 +68,3 @@ at_number test from (suc count) b all low high =
     (λ (e : b ≡ from). subst (λ (n : ℕ). test n ≡ true) (sym e) parts.0)
     (λ ne. at_number test (from + 1) count b parts.1 (omega arith) (omega arith))
     (cases_eq b from)
-
-pub free_is_unheld : (y : Layout) (b : ℕ) → has_true_map y ≡ true → b < area_bits y.view.blocks → y.bit b ≡ false → is_held y b ≡ false
-unfolding has_true_map
-free_is_unheld y b true-map within clear =
-    let same : agree (y.bit b) (is_held y b) ≡ true = at_number (λ n. agree (y.bit n) (is_held y n)) 0 (area_bits y.view.blocks) b true-map (omega arith) (omega (arith, within)) in
-    not-true (is_held y b) (subst (λ (bit : Bool). agree bit (is_held y b) ≡ true) clear same)

@@ -10,7 +10,6 @@ pub mod Overheads
 pub mod Counted
 pub mod Room
 pub mod Added
-pub mod Removed
 pub mod EmptyVolumes
 pub mod Promises
 pub mod Empty
@@ -24,15 +23,12 @@ mod Faults
 pub mod Admitted
 pub mod Crashes
 pub mod SoundFacts
-pub mod Created
 pub mod WholeSlots
 pub mod Replaced
 pub mod HeldPlaces
 pub mod NodesOnce
 pub mod ReclaimedSlots
 pub mod Rewritten
-pub mod SoundAgain
-pub mod WholeImages
 pub mod SoundTests
 pub mod SameSeen
 pub mod PlainVolumes
@@ -69,3 +65,6 @@ pub mod SoundSlots
 pub mod StoredSlots
 pub mod Undelayed
 pub mod Reaching
+pub mod Beside
+pub mod Committed
+pub mod Different

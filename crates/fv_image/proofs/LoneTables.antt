@@ -3,7 +3,7 @@
 use Rattle.std.proofs.Common.{◌≡◌, ◌≢◌, ℕ, suc, ◌<◌, Bool, true, false, not, List, [], ◌∷◌, inl, inr, refl, sym, ap, subst, ◌∙◌, arith}
 use Rattle.std.specs.Prelude.{◌⊎◌, ◌+◌, min, Option, Some, None, ◌&&◌, ◌||◌, ◌==◌, nat_lt, map, if◌then◌else◌}
 use Rattle.std.specs.List.{list_all}
-use Rattle.std.specs.Option.{is_some, option_map, option_map_or, option_and_then, option_or}
+use Rattle.std.specs.Option.{is_some, is_none, option_map, option_map_or, option_and_then, option_or}
 use Rattle.std.proofs.lemmas.Bool.{and_parts}
 use Rattle.std.proofs.lemmas.Bool.Decides.{nat_tests}
 use Rattle.fv_codec.specs.declared.pointer.Pointer.{Pointer}
@@ -18,16 +18,19 @@ use Rattle.fv_tables.specs.Reached.{Item, items, is_listed}
 use Rattle.fv_tables.proofs.Tables.{files_told}
 use Rattle.fv_tables.proofs.Items.{from_trees}
 use Rattle.fv_image.specs.Chains.{along, parent_in, span_at, place, under}
-use Rattle.fv_image.specs.Views.{Placed, Footing, Head, View, volume_bit}
+use Rattle.fv_image.specs.Views.{Placed, Footing, Head, View, slots, volume_bit}
+use Rattle.fv_image.specs.Told.{has_none}
 use Rattle.fv_image.specs.Sound.{kind_at}
 use Rattle.fv_image.specs.Volumes.{standing_of, table_at}
 use Rattle.fv_image.specs.Seen.{Reached, reached_at, root_seen, volume_seen, seen}
 use Rattle.fv_image.specs.ReachRules.{kind_of, is_same_position, reaches_once, has_reached_kinds}
 use Rattle.fv_image.specs.HintRules.{is_true_hint, has_true_hints}
 use Rattle.fv_image.specs.Soundness.{AreTables, AreMaps}
-use Rattle.fv_image.specs.WholeMachine.{has_no_reserves}
+use Rattle.fv_image.specs.WholeMachine.{has_form, has_no_reserves, is_built}
+use Rattle.fv_image.proofs.SoundFacts.{of_slot}
 use Rattle.fv_image.proofs.WellRoots.{of_records}
 use Rattle.fv_image.proofs.SameSeen.{of_volume}
+use Rattle.fv_image.proofs.EmptyVolumes.{no_snaps}
 use Rattle.fv_image.proofs.OwnIds.{owner_of, picked, picked_all, picked_is}
 use Rattle.fv_image.proofs.OwnUses.{HasLabelNumbers}
 use Rattle.fv_image.proofs.ChargeBits.{pointer_in, number, at_place, listed_place, owner_is, led_once, of_active, weaker, below, once, reach}
@@ -53,6 +56,19 @@ place_own w s v none = so (nat_lt v (span_at w s))
 
 pub no_parent : (w : View) (s : ℕ) (h : Head) → w.head s ≡ Some h → h.base ≡ None → parent_in (w.head s) ≡ None
 no_parent w s h there base = ap parent_in there ∙ ap (option_map (λ (b : Footing). b.parent)) base
+
+-- ---- forms
+
+no_base_of : (b : Option Footing) → is_none b ≡ true → b ≡ None
+no_base_of None e = refl
+no_base_of (Some b) e = absurd cc
+
+-- a head of a form that there is has no snapshots and no base
+pub form_snapshots : (h : Head) → has_form h ≡ true → h.snapshots ≡ []
+form_snapshots h form = no_snaps h.snapshots (and_parts (has_none h.snapshots) _ form).0
+
+pub form_base : (h : Head) → has_form h ≡ true → h.base ≡ None
+form_base h form = no_base_of h.base (and_parts (is_none h.base) h.known (and_parts (has_none h.snapshots) _ form).1).0
 
 -- ---- the entries that a table leads to
 
@@ -197,6 +213,19 @@ module _ (w : View) (s : ℕ) (h : Head) (small : s < 64) (there : w.head s ≡ 
               so false some_is = inr (grind (arith, nat_tests, some_is, test))
 
 -- ---- what a volume is of the machine
+
+module _ (w : View) (built : is_built w ≡ true) where
+  parts : (list_all (λ s. option_map_or has_form (w.head s) true) slots ≡ true) × (has_no_reserves (seen w) ≡ true)
+  unfolding is_built
+  parts = and_parts (list_all (λ s. option_map_or has_form (w.head s) true) slots) (has_no_reserves (seen w)) built
+
+  -- Of a view of built forms, each volume has one,
+  pub built_forms : (s : ℕ) (h : Head) → s < 64 → w.head s ≡ Some h → has_form h ≡ true
+  built_forms s h small there = subst (λ (o : Option Head). option_map_or has_form o true ≡ true) there (of_slot (λ s. option_map_or has_form (w.head s) true) s parts.0 small)
+
+  -- and no file has a reserve.
+  pub built_reserves : has_no_reserves (seen w) ≡ true
+  built_reserves = parts.1
 
 module _ (w : View) (s : ℕ) (h : Head) (small : s < 64) (there : w.head s ≡ Some h) where
   abbrev y : Standing

@@ -5,7 +5,7 @@ use Rattle.std.specs.List.{range_with_len}
 use Rattle.std.proofs.lemmas.List.Sums.{sum_by-cons}
 use Rattle.std.proofs.lemmas.Bool.{cases_lt}
 use Rattle.std.proofs.lemmas.Bool.Decides.{nat_tests}
-use Rattle.fv_model.specs.Numbers.{ceil_div, greatest_span}
+use Rattle.fv_model.specs.Numbers.{ceil_div}
 use Rattle.fv_model.specs.Space.{map_blocks, leaves, nodes_above, overhead}
 use Rattle.fv_image.specs.Containers.{level_width, height_of}
 use Rattle.fv_image.specs.Views.{entry_count}
@@ -23,12 +23,6 @@ above_small fuel n small = let test : nat_le n 256 ≡ true = grind (arith, nat_
 above_large : (fuel n : ℕ) → 256 < n → nodes_above (suc fuel) n ≡ ceil_div n 256 + nodes_above fuel (ceil_div n 256)
 unfolding nodes_above
 above_large fuel n large = let test : nat_le n 256 ≡ false = grind (arith, nat_tests) in rw test refl
-
-above_some : (fuel n : ℕ) → 1 ≤ n → 1 ≤ nodes_above (suc fuel) n
-above_some fuel n some = ⊎_elim
-    (λ (large : 256 < n). omega (arith, above_large fuel n large, large))
-    (λ (small : n ≤ 256). omega (arith, above_small fuel n small))
-    (cases_lt 256 n)
 
 -- ---- by the height
 
@@ -67,11 +61,6 @@ two_levels n large = ⊎_elim
     omega (arith, one, two, few, large))
     (cases_lt 256 (ceil_div n 256))
 
-two_are_all : (n : ℕ) → 256 < n → n ≤ 65536 → ceil_div n 256 + max 1 (ceil_div (max 1 (ceil_div n 256)) 256) ≡ nodes_above 8 n
-two_are_all n large fits =
-    let few : ceil_div n 256 ≤ 256 = omega (arith, fits) in
-    omega (arith, above_large 7 n large, above_small 6 (ceil_div n 256) few, large)
-
 -- the nodes of a container are at most those of the overhead
 pub nodes_within : (span : ℕ) → node_count (entry_count span) ≤ leaves span + nodes_above 8 (leaves span)
 nodes_within span = ⊎_elim
@@ -81,21 +70,7 @@ nodes_within span = ⊎_elim
     omega (arith, low_count (entry_count span) small, above_small 7 (leaves span) small, small))
     (cases_lt 256 (leaves span))
 
--- and they are those, up to the greatest span
-pub nodes_are : (span : ℕ) → span ≤ greatest_span → node_count (entry_count span) ≡ leaves span + nodes_above 8 (leaves span)
-nodes_are span fits = ⊎_elim
-    (λ (large : 256 < leaves span).
-    let inside : leaves span ≤ 65536 = omega (arith, fits) in
-    omega (arith, high_count (entry_count span) large, two_are_all (leaves span) large inside, large))
-    (λ (small : leaves span ≤ 256).
-    omega (arith, low_count (entry_count span) small, above_small 7 (leaves span) small, small))
-    (cases_lt 256 (leaves span))
-
 -- a label, the nodes of its container and the blocks of its active map
 pub overhead_holds : (span : ℕ) → 1 + node_count (entry_count span) + map_blocks span ≤ overhead span
 unfolding overhead
 overhead_holds span = omega (arith, nodes_within span)
-
-pub overhead_is : (span : ℕ) → span ≤ greatest_span → 1 + node_count (entry_count span) + map_blocks span ≡ overhead span
-unfolding overhead
-overhead_is span fits = omega (arith, nodes_are span fits)

@@ -1,16 +1,15 @@
--- An image of empty volumes is sound, and stands for a machine, as the definitions of empty volumes say: a bridge for what speaks of
--- those alone.
+-- An image of empty volumes that is sound and stands for a machine as the definitions of empty volumes say is sound and stands for it: a
+-- bridge from what speaks of those alone.
 use Rattle.std.proofs.Common.{◌≡◌, ℕ, ◌+◌, ◌*◌, ◌<◌, ◌≤◌, Bool, true, false, not, List, [], ◌∷◌, refl, sym, ap, subst, ◌∙◌, arith}
 use Rattle.std.specs.Prelude.{Option, Some, None, ◌&&◌, ◌||◌, ◌==◌, nat_le, map}
 use Rattle.std.specs.List.{list_all, range_with_len}
 use Rattle.std.specs.Option.{is_some, is_none, option_map, option_map_or}
-use Rattle.std.specs.FinSet as set
 use Rattle.std.proofs.lemmas.Bool.{and_parts, and_from}
 use Rattle.std.proofs.lemmas.Bool.Decides.{nat_tests}
+use Rattle.fv_codec.specs.declared.inode.InodeRecord.{InodeRecord}
 use Rattle.fv_codec.specs.declared.label.Label.{Label}
-use Rattle.fv_model.specs.Trees.{least_levels}
-use Rattle.fv_model.specs.Machines.{Machine, capacity}
-use Rattle.fv_model.specs.Space.{map_blocks, use_of, base_ids}
+use Rattle.fv_model.specs.Machines.{Machine}
+use Rattle.fv_model.specs.Space.{map_blocks, use_of}
 use Rattle.fv_tables.specs.Reached.{Item, items, is_listed}
 use Rattle.fv_tables.proofs.Lists.{all_in_range, all_of_range}
 use Rattle.fv_tables.proofs.Bare.{bare_reach}
@@ -23,18 +22,15 @@ use Rattle.fv_image.specs.Sound as plain_rules
 use Rattle.fv_image.specs.Sound.{agree, kind_at, is_place, is_unknown, pointers_of, all_labels}
 use Rattle.fv_image.specs.MachineOf as plain_machine
 use Rattle.fv_image.specs.Volumes.{standing_of, told}
-use Rattle.fv_image.specs.Seen.{Root, VolumeSeen, roots_of, root_seen, volume_seen, seen}
+use Rattle.fv_image.specs.Seen.{Root, roots_of, seen}
 use Rattle.fv_image.specs.BlockRules.{are_in_range}
-use Rattle.fv_image.specs.ReachRules.{all_volumes, is_reach, has_maps_of_reach, has_map_blocks, has_map_kinds}
-use Rattle.fv_image.specs.TableRules.{are_levels, has_levels}
-use Rattle.fv_image.specs.VolumeRules.{has_wide_spans, has_use_in_size, has_commits_in_capacity}
+use Rattle.fv_image.specs.ReachRules.{is_reach, has_maps_of_reach, has_map_blocks, has_map_kinds}
 use Rattle.fv_image.specs.Soundness.{AreBlocks, AreMaps, IsSound}
-use Rattle.fv_image.specs.WholeMachine.{is_built, is_built_head, Tells}
+use Rattle.fv_image.specs.WholeMachine.{has_form, has_no_reserves, is_built, Tells}
 use Rattle.fv_image.proofs.Counted.{HasHeads}
 use Rattle.fv_image.proofs.EmptyVolumes.{no_snaps}
 use Rattle.fv_image.proofs.SoundFacts.{of_slot}
-use Rattle.fv_image.proofs.SameSeen.{of_volume}
-use Rattle.fv_image.proofs.PlainVolumes.{IsPlainHead, bare_seen, seen_plain, FitsPlain, told_plain, tables_plain, no_base_ids, same_commits}
+use Rattle.fv_image.proofs.PlainVolumes.{IsPlainHead, FitsPlain, told_plain, tables_plain, all_plain}
 
 -- ---- tests of slots
 
@@ -52,26 +48,22 @@ from_each {X} in_slot test each = all_of_range (λ s. option_map_or (test s) (in
 
 -- ---- the form of the volumes
 
-built_is_plain : (w : View) → is_built w ≡ plain.is_all_plain w
-unfolding is_built is_built_head plain.is_all_plain plain.is_plain
-built_is_plain w = refl
-
 no_base : (base : Option Footing) → is_none base ≡ true → base ≡ None
 no_base None e = refl
 no_base (Some b) e = absurd cc
 
-module _ (w : View) (built : is_built w ≡ true) (levels : (s : ℕ) (h : Head) → s < 64 → w.head s ≡ Some h → h.active.root.stamp ≡ 0 → h.active.levels ≡ 0) where
+module _ (w : View) (empty : plain.is_all_plain w ≡ true) (levels : (s : ℕ) (h : Head) → s < 64 → w.head s ≡ Some h → h.active.root.stamp ≡ 0 → h.active.levels ≡ 0) where
   bare_root : (s : ℕ) (h : Head) → s < 64 → w.head s ≡ Some h → h.active.root.stamp ≡ 0
-  unfolding is_built is_built_head
+  unfolding plain.is_all_plain plain.is_plain
   bare_root s h inside is =
-      let form : is_built_head h ≡ true = of_each w.head (λ s h. is_built_head h) s h built inside is in
+      let form : plain.is_plain h ≡ true = of_each w.head (λ s h. plain.is_plain h) s h empty inside is in
       let stamp = (and_parts (h.active.root.stamp == 0) _ form).0 in
       grind (arith, nat_tests, stamp)
 
   plain_heads : (s : ℕ) (h : Head) → s < 64 → w.head s ≡ Some h → IsPlainHead h
-  unfolding is_built is_built_head
+  unfolding plain.is_all_plain plain.is_plain
   plain_heads s h inside is =
-      let form : is_built_head h ≡ true = of_each w.head (λ s h. is_built_head h) s h built inside is in
+      let form : plain.is_plain h ≡ true = of_each w.head (λ s h. plain.is_plain h) s h empty inside is in
       let rest = (and_parts (h.active.root.stamp == 0) _ form).1 in
       let snaps = and_parts (plain.has_none h.snapshots) _ rest in
       let bases = and_parts (is_none h.base) h.known snaps.1 in
@@ -88,7 +80,7 @@ agree_none : (b : Bool) → agree b false ≡ not b
 agree_none true = refl
 agree_none false = refl
 
-module _ (y : Layout) (heads : HasHeads y) (built : is_built y.view ≡ true) where
+module _ (y : Layout) (heads : HasHeads y) (empty : plain.is_all_plain y.view ≡ true) where
   -- the label behind a head
   label_behind : (s : ℕ) (h : Head) → y.view.head s ≡ Some h → (l : Label) × ((label_in (y.label s) ≡ Some l) × (head_of l ≡ h))
   label_behind s h is = so (label_in (y.label s)) refl (sym (heads.heads s) ∙ is)
@@ -96,9 +88,6 @@ module _ (y : Layout) (heads : HasHeads y) (built : is_built y.view ≡ true) wh
       so : (o : Option Label) → label_in (y.label s) ≡ o → option_map head_of o ≡ Some h → (l : Label) × ((label_in (y.label s) ≡ Some l) × (head_of l ≡ h))
       so None e f = absurd cc
       so (Some l) e f = (l, (e, cc))
-
-  head_before : (s : ℕ) (l : Label) → label_in (y.label s) ≡ Some l → y.view.head s ≡ Some (head_of l)
-  head_before s l is = heads.heads s ∙ ap (option_map head_of) is
 
   module _ (is : plain_rules.IsSound y) where
     levels_by : (s : ℕ) (h : Head) → s < 64 → y.view.head s ≡ Some h → h.active.root.stamp ≡ 0 → h.active.levels ≡ 0
@@ -108,7 +97,7 @@ module _ (y : Layout) (heads : HasHeads y) (built : is_built y.view ≡ true) wh
         grind (arith, nat_tests, at, none)
 
     heads_by : (s : ℕ) (h : Head) → s < 64 → y.view.head s ≡ Some h → IsPlainHead h
-    heads_by = plain_heads y.view built levels_by
+    heads_by = plain_heads y.view empty levels_by
 
     fits : FitsPlain y.view heads_by
     unfolding plain_rules.is_in_range plain_rules.is_in_size plain_rules.is_in_capacity head_of
@@ -196,127 +185,19 @@ module _ (y : Layout) (heads : HasHeads y) (built : is_built y.view ≡ true) wh
     pub told_by_plain : told y.view ≡ plain.told y.view
     told_by_plain = told_plain y.view heads_by
 
-  -- ---- and the other way round
-
-  module _ (is : IsSound y) where
-    levels_of : (s : ℕ) (h : Head) → s < 64 → y.view.head s ≡ Some h → h.active.root.stamp ≡ 0 → h.active.levels ≡ 0
-    unfolding has_levels volume_seen root_seen least_levels
-    levels_of s h inside e none =
-        let all = of_volume y.view (λ s x. list_all (λ (r : Root). are_levels 0 r.rooted.levels r.rooted.root.stamp && list_all (λ f. are_levels f.1.reserve f.1.levels f.1.root.stamp) r.files) x.roots) s h is.tables.levels inside e in
-        let first = (and_parts _ _ all).0 in
-        let own : are_levels 0 h.active.levels h.active.root.stamp ≡ true = (and_parts (are_levels 0 h.active.levels h.active.root.stamp) _ first).0 in
-        start h.active.levels h.active.root.stamp none own
-      where
-        start : (n stamp : ℕ) → stamp ≡ 0 → are_levels 0 n stamp ≡ true → n ≡ 0
-        start n stamp none own = let at : are_levels 0 n 0 ≡ true = subst (λ (k : ℕ). are_levels 0 n k ≡ true) none own in grind (arith, nat_tests, at)
-
-    heads_of : (s : ℕ) (h : Head) → s < 64 → y.view.head s ≡ Some h → IsPlainHead h
-    heads_of = plain_heads y.view built levels_of
-
-    -- what is asked of each volume, of an empty one
-    of_plain : (test : ℕ → VolumeSeen → Bool) (s : ℕ) (h : Head) → all_volumes (seen y.view) test ≡ true → s < 64 → y.view.head s ≡ Some h → test s (bare_seen h) ≡ true
-    of_plain test s h all inside e = subst (λ (x : VolumeSeen). test s x ≡ true) (seen_plain y.view s h (heads_of s h inside e)) (of_volume y.view test s h all inside e)
-
-    wide : (s : ℕ) (h : Head) → s < 64 → y.view.head s ≡ Some h → nat_le (h.most + 256) h.span ≡ true
-    unfolding has_wide_spans
-    wide s h inside e =
-        let at = of_plain (λ s x. nat_le (x.head.most + (set.len (base_ids x.volume.base) + 256)) x.head.span) s h is.tables.spans inside e in
-        let none : set.len (base_ids (plain.volume_of h).base) ≡ 0 = no_base_ids y.view heads_of h in
-        subst (λ (n : ℕ). nat_le (h.most + (n + 256)) h.span ≡ true) none at
-
-    ranges_back : plain_rules.is_in_range y ≡ true
-    unfolding plain_rules.is_in_range are_in_range head_of
-    ranges_back =
-        let both = and_parts (list_all (is_place y) (held y)) _ is.blocks.ranges in
-        and_from (list_all (is_place y) (held y)) _ both.0
-        (from_each (λ s. label_in (y.label s)) (λ s l. not (l.container == 0) && ((l.height == height_of (entry_count l.span)) && nat_le (l.most + 256) l.span)) (λ s l inside e.
-        let at = of_each (λ s. label_in (y.label s)) (λ s l. not (l.container == 0) && (l.height == height_of (entry_count l.span))) s l both.1 inside e in
-        let parts = and_parts (not (l.container == 0)) (l.height == height_of (entry_count l.span)) at in
-        and_from (not (l.container == 0)) _ parts.0 (and_from (l.height == height_of (entry_count l.span)) _ parts.1 (wide s (head_of l) inside (head_before s l e)))))
-
-    -- the first root of what is asked of each
-    first_root : (s : ℕ) (h : Head) (test : ℕ × Rooted → Bool) → list_all test (roots_of h) ≡ true → test (0, h.active) ≡ true
-    first_root s h test all = (and_parts (test (0, h.active)) _ all).0
-
-    clear_back : plain_rules.has_true_maps y ≡ true
-    unfolding plain_rules.has_true_maps has_maps_of_reach
-    clear_back = from_each y.view.head (λ s h. list_all (λ v. not (volume_bit y.view s h.span 0 v)) (range_with_len 0 (block_bits * map_blocks h.span))) (λ s h inside e.
-        let all = first_root s h (is_reach y.view s h) (of_each y.view.head (λ s h. list_all (is_reach y.view s h) (roots_of h)) s h is.maps.reach inside e) in
-        let none : items (standing_of y.view s h.active) ≡ [] = bare_reach (standing_of y.view s h.active) (heads_of s h inside e).root in
-        sym (ap (λ (es : List Item). list_all (λ v. agree (volume_bit y.view s h.span 0 v) (is_listed es v)) (range_with_len 0 (block_bits * map_blocks h.span))) none
-        ∙ (λ i. list_all (λ v. agree_none (volume_bit y.view s h.span 0 v) i) (range_with_len 0 (block_bits * map_blocks h.span))))
-        ∙ all)
-
-    kinds_back : plain_rules.has_true_kinds y ≡ true
-    unfolding plain_rules.has_true_kinds has_map_kinds
-    kinds_back = from_each y.view.head (λ s h. list_all (λ k. kind_at (y.view.entry s (map_vvbn h.span 0 k)) == 8) (range_with_len 0 (map_blocks h.span))) (λ s h inside e.
-        first_root s h (λ r. list_all (λ k. kind_at (y.view.entry s (map_vvbn h.span r.0 k)) == 8) (range_with_len 0 (map_blocks h.span)))
-        (of_each y.view.head (λ s h. list_all (λ (r : ℕ × Rooted). list_all (λ k. kind_at (y.view.entry s (map_vvbn h.span r.0 k)) == 8) (range_with_len 0 (map_blocks h.span))) (roots_of h)) s h is.maps.kinds inside e))
-
-    levels_back : plain_rules.has_true_levels y ≡ true
-    unfolding plain_rules.has_true_levels
-    levels_back = from_each y.view.head (λ s h. not (h.active.root.stamp == 0) || (h.active.levels == 0)) (λ s h inside e. so h (heads_of s h inside e))
-      where
-        so : (h : Head) → IsPlainHead h → (not (h.active.root.stamp == 0) || (h.active.levels == 0)) ≡ true
-        so h form = rw (form.root, form.levels) refl
-
-    labels_back : plain_rules.has_true_labels y ≡ true
-    unfolding plain_rules.has_true_labels
-    labels_back = from_each y.view.head (λ s h. not h.known || list_all (λ p. not (is_unknown p)) (pointers_of h)) (λ s h inside e. so h (heads_of s h inside e))
-      where
-        over : (b : Bool) → (not b || true) ≡ true
-        over true = refl
-        over false = refl
-
-        so : (h : Head) → IsPlainHead h → (not h.known || list_all (λ p. not (is_unknown p)) (pointers_of h)) ≡ true
-        so h form = rw (form.snapshots, form.root) (over h.known)
-
-    sizes_back : plain_rules.is_in_size y ≡ true
-    unfolding plain_rules.is_in_size has_use_in_size
-    sizes_back = from_each y.view.head (λ s h. nat_le (use_of (plain.volume_of h)) h.size) (λ s h inside e. of_plain (λ s x. nat_le (use_of x.volume) x.head.size) s h is.tables.sizes inside e)
-
-    commits_back : plain_rules.is_in_capacity y ≡ true
-    unfolding plain_rules.is_in_capacity has_commits_in_capacity seen
-    commits_back = ap (λ (n : ℕ). nat_le n (capacity y.view.blocks)) (sym (same_commits y.view heads_of)) ∙ is.tables.commits
-
-    -- A sound image of empty volumes is sound by the rules for those.
-    pub plain_sound : plain_rules.IsSound y
-    unfolding plain_rules.has_room
-    plain_sound = record {
-      shapes = is.blocks.shapes;
-      ranges = ranges_back;
-      entries = is.blocks.entries;
-      names = is.names;
-      positions = is.blocks.positions;
-      maps = clear_back;
-      once = is.blocks.once;
-      map = is.blocks.map;
-      kinds = kinds_back;
-      levels = levels_back;
-      labels = labels_back;
-      sizes = sizes_back;
-      commits = commits_back;
-      room = is.room;
-    }
-
-    -- and tells the same machine
-    pub plain_told : told y.view ≡ plain.told y.view
-    plain_told = told_plain y.view heads_of
+    -- a form that there is
+    pub built_plain : is_built y.view ≡ true
+    unfolding is_built has_no_reserves plain.is_all_plain plain.is_plain
+    built_plain = and_from (list_all (λ s. option_map_or has_form (y.view.head s) true) slots) (has_no_reserves (seen y.view))
+        (from_each y.view.head (λ s h. has_form h) (λ s h inside e. (and_parts (h.active.root.stamp == 0) _ (of_each y.view.head (λ s h. plain.is_plain h) s h empty inside e)).1))
+        (all_plain y.view heads_by (λ s x. list_all (λ (r : Root). list_all (λ (f : ℕ × InodeRecord). f.1.reserve == 0) r.files) x.roots) (λ s h inside e. refl))
 
 -- ---- the machine
 
--- What makes an image of empty volumes stand for a machine is the same by both.
+-- What makes an image of empty volumes stand for a machine by the definitions of those makes it stand.
 pub tells_whole : (y : Layout) (m : Machine) → HasHeads y → plain_machine.Tells y m → Tells y m
-tells_whole y m heads is =
-    let built : is_built y.view ≡ true = built_is_plain y.view ∙ is.plain in record {
-      built = built;
-      sound = sound_plain y heads built is.sound;
-      machine = told_by_plain y heads built is.sound ∙ is.machine;
-    }
-
-pub tells_plain : (y : Layout) (m : Machine) → HasHeads y → Tells y m → plain_machine.Tells y m
-tells_plain y m heads is = record {
-  plain = sym (built_is_plain y.view) ∙ is.built;
-  sound = plain_sound y heads is.built is.sound;
-  machine = sym (plain_told y heads is.built is.sound) ∙ is.machine;
+tells_whole y m heads is = record {
+  built = built_plain y heads is.plain is.sound;
+  sound = sound_plain y heads is.plain is.sound;
+  machine = told_by_plain y heads is.plain is.sound ∙ is.machine;
 }

@@ -107,7 +107,7 @@ module _ (w : View) (plain_heads : (s : ℕ) (h : Head) → s < 64 → w.head s 
   -- ---- the rules
 
   -- what holds of each such volume holds of all
-  all_plain : (test : ℕ → VolumeSeen → Bool) → ((s : ℕ) (h : Head) → s < 64 → w.head s ≡ Some h → test s (bare_seen h) ≡ true) → all_volumes (seen w) test ≡ true
+  pub all_plain : (test : ℕ → VolumeSeen → Bool) → ((s : ℕ) (h : Head) → s < 64 → w.head s ≡ Some h → test s (bare_seen h) ≡ true) → all_volumes (seen w) test ≡ true
   unfolding slots seen
   all_plain test each = all_of_range (λ s. option_map_or (test s) ((seen w).volume s) true) 0 64 (λ s low high. so s (omega (arith, high)) (w.head s) refl)
     where

@@ -1,7 +1,7 @@
 -- What a consistency point leaves: an image that keeps what its volumes' roots reach, in which each map is what its root reaches and the
 -- aggregate map is what is held, is sound and tells the same machine. And the space rule, from what the volumes commit.
 use Rattle.std.proofs.Common.{◌≡◌, ℕ, zero, suc, ◌+◌, ◌-◌, ◌*◌, ◌<◌, ◌≤◌, Bool, true, List, [], ◌∷◌, refl, sym, ap, ap₂, subst, ◌∙◌, arith}
-use Rattle.std.specs.Prelude.{Option, Some, None, not, ◌&&◌, nat_le, sum_by, count_by}
+use Rattle.std.specs.Prelude.{Option, Some, None, ◌&&◌, nat_le, sum_by, count_by}
 use Rattle.std.specs.List.{list_all, range_with_len}
 use Rattle.std.specs.Option.{option_map_or}
 use Rattle.std.proofs.lemmas.Bool.Decides.{nat_tests}
@@ -15,7 +15,7 @@ use Rattle.fv_tables.proofs.Lists.{all_of_range}
 use Rattle.fv_image.specs.Layout.{block_bits}
 use Rattle.fv_image.specs.Views.{Rooted, Head, View, slots, vvbns, volume_bit, is_own, own, delayed}
 use Rattle.fv_image.specs.Held.{Layout}
-use Rattle.fv_image.specs.Sound.{agree, overheads, share_name, has_distinct_names, leaves_room}
+use Rattle.fv_image.specs.Sound.{agree, overheads, has_distinct_names, leaves_room}
 use Rattle.fv_image.specs.Volumes.{standing_of, volume_with, volume_told, told}
 use Rattle.fv_image.specs.Seen.{VolumeSeen, roots_of, volume_seen, seen}
 use Rattle.fv_image.specs.ReachRules.{is_reach, has_maps_of_reach, has_map_blocks, has_map_kinds}
@@ -23,7 +23,7 @@ use Rattle.fv_image.specs.VolumeRules.{has_bases, has_use_in_size, commits_seen,
 use Rattle.fv_image.specs.HintRules.{rests_on_base}
 use Rattle.fv_image.specs.Staying.{items_of, own_items, StaysHeld}
 use Rattle.fv_image.specs.Soundness.{AreBlocks, AreTables, IsSound}
-use Rattle.fv_image.specs.WholeMachine.{is_built_head, is_built, machine_from}
+use Rattle.fv_image.specs.WholeMachine.{has_form, has_no_reserves, is_built, machine_from}
 use Rattle.fv_image.proofs.SameSeen.{left_listed, right_listed, same_reach, same_told, same_seen, seen_at, of_volume}
 use Rattle.fv_image.proofs.SoundTests.{machine_told}
 use Rattle.fv_image.proofs.Promises.{room_from}
@@ -67,7 +67,7 @@ pub record Ends (w : View) (y : Layout) : Type 0 where
 -- a view that stays has the forms that it had
 pub built_stays : (w u : View) → StaysHeld w u → has_bases (seen w) ≡ true → rests_on_base (seen w) ≡ true → is_built u ≡ is_built w
 unfolding is_built
-built_stays w u stays bases rests = ap (λ (heads : ℕ → Option Head). list_all (λ s. option_map_or is_built_head (heads s) true) slots) (λ i s. stays.heads s i)
+built_stays w u stays bases rests = λ i. list_all (λ s. option_map_or has_form (stays.heads s i) true) slots && has_no_reserves (same_seen w u stays bases rests i)
 
 module _ (w : View) (y : Layout) (ends : Ends w y) (tables : AreTables (seen w)) where
   -- it is sound
@@ -91,11 +91,6 @@ module _ (w : View) (y : Layout) (ends : Ends w y) (tables : AreTables (seen w))
   -- So the image stands for the session's machine.
   pub end_machine : is_built w ≡ true → machine_from y ≡ Some (told w)
   end_machine built = machine_told y (told w) (record { built = built_stays w y.view ends.stays tables.bases tables.rests ∙ built; sound = end_sound; machine = end_told })
-
--- names are those of the heads
-pub same_names : (y z : Layout) → ((s : ℕ) → z.view.head s ≡ y.view.head s) → has_distinct_names z ≡ has_distinct_names y
-unfolding has_distinct_names
-same_names y z heads = λ i. list_all (λ s. list_all (λ earlier. not (share_name (heads earlier i) (heads s i))) (range_with_len 0 s)) slots
 
 -- ---- the space rule
 
@@ -134,7 +129,7 @@ module _ (w : View) (tables : AreTables (seen w)) (uses : UsesOwn w) where
       so ByFile e fits used = let p : promised (volume_told w s h) h.kind ≡ use_of (volume_told w s h) = ap (promised (volume_told w s h)) e in omega (arith, used, p)
       so Thin e fits used = let p : promised (volume_told w s h) h.kind ≡ use_of (volume_told w s h) = ap (promised (volume_told w s h)) e in omega (arith, used, p)
 
-  commits_hold : 2 * overheads w + own w ≤ commits_seen (seen w)
+  pub commits_hold : 2 * overheads w + own w ≤ commits_seen (seen w)
   unfolding overheads own commits_seen slots
   commits_hold = within_third (λ s. option_map_or (λ h. overhead h.span) (w.head s) 0) (λ s. option_map_or (λ h. count_by (is_own w s h) (vvbns h.span)) (w.head s) 0)
       (λ s. option_map_or (λ x. commit x.volume) ((seen w).volume s) 0) 0 64 (λ s low high. so s (omega (arith, high)) (w.head s) refl)
@@ -162,3 +157,7 @@ module _ (w : View) (tables : AreTables (seen w)) (uses : UsesOwn w) where
   -- and they fit the capacity, which leaves 256 blocks.
   pub room_from_commits : delayed w ≡ 0 → 256 ≤ w.blocks - first_block w.blocks → leaves_room w 0 ≡ true
   room_from_commits none large = room_from w 0 (omega (arith, none, large, commits_hold, capacity_fits))
+
+  -- So it does with more room where the commits leave it in the capacity.
+  pub room_beside_commits : (room : ℕ) → delayed w ≡ 0 → 256 ≤ w.blocks - first_block w.blocks → commits_seen (seen w) + room ≤ capacity w.blocks → leaves_room w (256 + room) ≡ true
+  room_beside_commits room none large enough = room_from w (256 + room) (omega (arith, none, large, commits_hold, enough))

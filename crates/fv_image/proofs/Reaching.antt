@@ -1,11 +1,11 @@
 -- What the active root of a volume reaches lies below the volume's span.
 use Rattle.std.proofs.Common.{◌≡◌, ℕ, ◌<◌, Bool, true, List, [], ◌∷◌, ◌++◌, refl, arith, ⊎_elim, subst}
-use Rattle.std.specs.Prelude.{Some, nat_lt, ◌&&◌, ◌||◌, ◌==◌}
-use Rattle.std.specs.List.{list_all, list_any}
+use Rattle.std.specs.Prelude.{Some, nat_lt, ◌&&◌, ◌==◌}
+use Rattle.std.specs.List.{list_all}
 use Rattle.std.proofs.lemmas.Bool.{and_from, and_parts, or_cases, or_left, or_right}
 use Rattle.std.proofs.lemmas.Bool.Decides.{nat_tests}
 use Rattle.fv_tables.specs.Reached.{Item, items, is_listed}
-use Rattle.fv_image.specs.Views.{Rooted, Head, View}
+use Rattle.fv_image.specs.Views.{Head, View}
 use Rattle.fv_image.specs.Volumes.{standing_of}
 use Rattle.fv_image.specs.Seen.{Reached, root_seen, volume_seen, seen}
 use Rattle.fv_image.specs.ReachRules.{is_hint, has_pointers_in_range}

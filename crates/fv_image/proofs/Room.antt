@@ -9,7 +9,8 @@ use Rattle.fv_model.specs.Machines.{first_block}
 use Rattle.fv_image.specs.Maps.{area_bits}
 use Rattle.fv_image.specs.Views.{own, delayed}
 use Rattle.fv_image.specs.Held.{Layout, held, is_held}
-use Rattle.fv_image.specs.Sound.{IsSound, agree, has_true_map, overheads, leaves_room, has_room}
+use Rattle.fv_image.specs.Sound.{agree, has_true_map, overheads, leaves_room}
+use Rattle.fv_image.specs.Soundness.{AreBlocks, IsSound}
 use Rattle.fv_image.proofs.Kept.{at_number}
 use Rattle.fv_image.proofs.Counts.{others, listed_within}
 use Rattle.fv_image.proofs.Counted.{HasHeads, held_within}
@@ -37,12 +38,11 @@ clear_or_held y true-map =
     omega (arith, others y.bit first n, same, listed_within (held y) first n)
 
 -- Where the space rule holds with so much room, as many blocks are clear beside all overheads.
-pub clear_room : (y : Layout) (room : ℕ) → HasHeads y → IsSound y → leaves_room y.view room ≡ true → overheads y.view + max 256 room ≤ clear_count y
+pub clear_room : (y : Layout) (room : ℕ) → HasHeads y → AreBlocks y → leaves_room y.view room ≡ true → overheads y.view + max 256 room ≤ clear_count y
 clear_room y room heads is rule =
     let enough : 2 * overheads y.view + max 256 room ≤ y.view.blocks - first_block y.view.blocks - own y.view - delayed y.view = grind (arith, nat_tests, rule) in
     omega (arith, enough, held_within y heads is, clear_or_held y is.map)
 
 -- A sound layout has room for all overheads and 256 blocks.
 pub sound_room : (y : Layout) → HasHeads y → IsSound y → overheads y.view + 256 ≤ clear_count y
-unfolding has_room
-sound_room y heads is = clear_room y 0 heads is is.room
+sound_room y heads is = clear_room y 0 heads is.blocks is.room

@@ -1,16 +1,15 @@
 -- Held once and the aggregate map, slot by slot: no slot holds a block twice, no two slots hold one block, and a bit is set exactly where
--- some slot holds its block. This stays where one slot is written anew over blocks that it had or that were free.
-use Rattle.std.proofs.Common.{◌≡◌, ◌≢◌, ℕ, zero, suc, ◌+◌, ◌<◌, ◌≤◌, Bool, true, false, not, List, ◌++◌, refl, sym, ap, subst, ◌∙◌, arith, ⊎_elim, ◌⊎◌}
-use Rattle.std.specs.Prelude.{Option, Some, None, nat_le, ◌&&◌, ◌||◌, ◌==◌, flat_map, sum_by, count_by}
+-- some slot holds its block.
+use Rattle.std.proofs.Common.{◌≡◌, ◌≢◌, ℕ, zero, suc, ◌+◌, ◌<◌, ◌≤◌, Bool, true, false, not, refl, sym, ap, ◌∙◌, arith, ⊎_elim}
+use Rattle.std.specs.Prelude.{nat_le, ◌==◌, flat_map, sum_by, count_by}
 use Rattle.std.specs.List.{list_any, range_with_len}
-use Rattle.std.proofs.lemmas.Bool.{and_parts, both_ways, cases_eq, cases_lt, or_left, or_right, or_cases}
+use Rattle.std.proofs.lemmas.Bool.{both_ways, cases_eq, cases_lt, or_cases}
 use Rattle.std.proofs.lemmas.Bool.Decides.{nat_tests}
 use Rattle.std.proofs.lemmas.List.Sums.{sum_by-cons}
 use Rattle.std.proofs.lemmas.List.Folds.{list_any-append}
-use Rattle.fv_codec.specs.declared.label.Label.{Label}
 use Rattle.fv_image.specs.Maps.{area_bits}
-use Rattle.fv_image.specs.Views.{slots, vvbns}
-use Rattle.fv_image.specs.Held.{Lying, Layout, label_in, at_positions, place_lying, place_of, held_by_container, held_by, held, is_held}
+use Rattle.fv_image.specs.Views.{slots}
+use Rattle.fv_image.specs.Held.{Layout, held_by, held, is_held}
 use Rattle.fv_image.specs.Sound.{agree, is_held_once, has_true_map}
 use Rattle.fv_image.specs.Whole.{is_held_by, times_held}
 use Rattle.fv_image.proofs.Named.{slot_in}
@@ -113,7 +112,7 @@ part_in_sum part k from (suc count) low high =
     (λ ne. let rest = part_in_sum part k (from + 1) count (omega arith) (omega arith) in omega (arith, cons, rest))
     (cases_eq from k)
 
-two_in_sum : (part : ℕ → ℕ) (k j from count : ℕ) → from ≤ k → k < j → j < from + count → part k + part j ≤ sum_by part (range_with_len from count)
+pub two_in_sum : (part : ℕ → ℕ) (k j from count : ℕ) → from ≤ k → k < j → j < from + count → part k + part j ≤ sum_by part (range_with_len from count)
 two_in_sum part k j from zero low order high = absurd (omega arith)
 two_in_sum part k j from (suc count) low order high =
     let cons : sum_by part (range_with_len from (suc count)) ≡ part from + sum_by part (range_with_len (from + 1) count) = sum_by-cons part from (range_with_len (from + 1) count) in ⊎_elim
@@ -143,74 +142,3 @@ spaced_from y once true-map within = record {
         let few = held_at_most_once y b once in
         let two = two_in_sum (λ n. times_held y n b) s k 0 64 (omega arith) order (omega (arith, large)) in
         absurd (omega (arith, whole, few, two, times_one s b first, times_one k b second))
-
--- ---- one slot written anew
-
--- The layouts differ in one slot and in the aggregate map. Each block that the slot holds now it held before, or the block was free; those
--- that it held and doesn't hold now are free.
-pub record RewritesSlot (y z : Layout) (s : ℕ) : Type 0 where
-  pub blocks : z.view.blocks ≡ y.view.blocks
-  pub label : (k : ℕ) → k ≢ s → z.label k ≡ y.label k
-  pub node : (k : ℕ) → k ≢ s → (level number : ℕ) → z.node k level number ≡ y.node k level number
-  pub entry : (k : ℕ) → k ≢ s → (v : ℕ) → z.view.entry k v ≡ y.view.entry k v
-  pub bits : (b : ℕ) → z.bit b ≡ (is_held_by z s b || (y.bit b && not (is_held_by y s b)))
-  pub once : (b : ℕ) → times_held z s b ≤ 1
-  pub free : (b : ℕ) → is_held_by z s b ≡ true → (is_held_by y s b ≡ true) ⊎ (y.bit b ≡ false)
-
-module _ (y z : Layout) (s : ℕ) (inside : s < 64) (is : AreSpaced y) (r : RewritesSlot y z s) where
-  other_slot : (k : ℕ) → k ≢ s → held_by z k ≡ held_by y k
-  unfolding held_by held_by_container
-  other_slot k other = ap (λ (o : Option Lying). place_lying o ++ held_by_container z k (label_in o)) (r.label k other) ∙ ap (λ (xs : List ℕ). place_lying (y.label k) ++ xs) (by_label (label_in (y.label k)))
-    where
-      by_label : (o : Option Label) → held_by_container z k o ≡ held_by_container y k o
-      by_label None = refl
-      by_label (Some l) = λ i. at_positions l (λ level number. place_lying (r.node k other level number i)) ++ flat_map (λ v. place_of (r.entry k other v i)) (vvbns l.span)
-
-  still_holds : (k b : ℕ) → k ≢ s → is_held_by z k b ≡ is_held_by y k b
-  still_holds k b other = ap (λ (xs : List ℕ). list_any (λ x. x == b) xs) (other_slot k other)
-
-  -- another slot doesn't hold what this one holds now
-  not_shared : (k b : ℕ) → k < 64 → k ≢ s → is_held_by z s b ≡ true → is_held_by z k b ≡ true → ⊥
-  not_shared k b small other here there =
-      let before : is_held_by y k b ≡ true = sym (still_holds k b other) ∙ there in ⊎_elim
-      (λ (own : is_held_by y s b ≡ true). is.apart k s b small inside other before own)
-      (λ (clear : y.bit b ≡ false). both_ways (y.bit b) clear (is.held k b small before))
-      (r.free b here)
-
-  -- It stays spaced where one slot is written anew.
-  pub spaced_when_rewritten : AreSpaced z
-  spaced_when_rewritten = record {
-    each = λ k b small. ⊎_elim
-        (λ (e : k ≡ s). subst (λ (n : ℕ). times_held z n b ≤ 1) (sym e) (r.once b))
-        (λ (other : k ≢ s). subst (λ (xs : List ℕ). count_by (λ x. x == b) xs ≤ 1) (sym (other_slot k other)) (is.each k b small))
-        (cases_eq k s);
-    apart = λ k j b small large differ first second. ⊎_elim
-        (λ (e : k ≡ s). not_shared j b large (λ same. differ (e ∙ sym same)) (subst (λ (n : ℕ). is_held_by z n b ≡ true) e first) second)
-        (λ (other : k ≢ s). ⊎_elim
-        (λ (f : j ≡ s). not_shared k b small other (subst (λ (n : ℕ). is_held_by z n b ≡ true) f second) first)
-        (λ (too : j ≢ s). is.apart k j b small large differ (sym (still_holds k b other) ∙ first) (sym (still_holds j b too) ∙ second))
-        (cases_eq j s))
-        (cases_eq k s);
-    set = λ b within bit. ⊎_elim
-        (λ (here : is_held_by z s b ≡ true). (s, inside, here))
-        (λ (rest : (y.bit b && not (is_held_by y s b)) ≡ true).
-        let parts = and_parts (y.bit b) (not (is_held_by y s b)) rest in
-        let k = is.set b (subst (λ (n : ℕ). b < area_bits n) r.blocks within) parts.0 in
-        let other : k.0 ≢ s = λ e. differs (is_held_by y s b) parts.1 (subst (λ (n : ℕ). is_held_by y n b ≡ true) e k.2) in
-        (k.0, k.1, still_holds k.0 b other ∙ k.2))
-        (or_cases (is_held_by z s b) (y.bit b && not (is_held_by y s b)) (sym (r.bits b) ∙ bit));
-    held = λ k b small there. r.bits b ∙ ⊎_elim
-        (λ (e : k ≡ s). or_left (is_held_by z s b) _ (subst (λ (n : ℕ). is_held_by z n b ≡ true) e there))
-        (λ (other : k ≢ s).
-        let before : is_held_by y k b ≡ true = sym (still_holds k b other) ∙ there in
-        or_right (is_held_by z s b) _ (kept_bit b (is.held k b small before) (is_held_by y s b) (λ own. is.apart k s b small inside other before own)))
-        (cases_eq k s);
-  }
-    where
-      differs : (h : Bool) → not h ≡ true → h ≡ true → ⊥
-      differs true n e = absurd cc
-      differs false n e = absurd cc
-
-      kept_bit : (b : ℕ) → y.bit b ≡ true → (h : Bool) → (h ≡ true → ⊥) → (y.bit b && not h) ≡ true
-      kept_bit b bit true none = absurd (none refl)
-      kept_bit b bit false none = rw bit refl

@@ -105,7 +105,7 @@ module _ (t : Taken) (i : Image) (long : (b : ℕ) → length (i b) ≡ 4096) wh
   unfolding view_at
   entries_whole s v p e = entry_long (label_in (lying_at i (label_place t s))) v p e
 
-  names_apart : has_distinct_names (layout_at t i) ≡ true → (s k : ℕ) → s < 64 → k < s → share_name ((view_at t i).head k) ((view_at t i).head s) ≡ false
+  pub names_apart : has_distinct_names (layout_at t i) ≡ true → (s k : ℕ) → s < 64 → k < s → share_name ((view_at t i).head k) ((view_at t i).head s) ≡ false
   unfolding has_distinct_names layout_at slots
   names_apart all s k small before =
       let w = view_at t i in

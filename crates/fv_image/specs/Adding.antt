@@ -13,10 +13,3 @@ with_volume w slot h entry = record w {
 pub record IsEmptySlot (w : View) (slot : ℕ) : Type 0 where
   pub inside : slot < 64
   pub empty : w.head slot ≡ None
-
--- the view without the volume of a slot
-abbrev pub without_volume : View → ℕ → View
-without_volume w slot = record w {
-  head = λ s. if s == slot then None else w.head s;
-  entry = λ s. if s == slot then (λ v. None) else w.entry s;
-}

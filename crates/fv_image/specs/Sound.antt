@@ -165,9 +165,3 @@ pub record IsSound (y : Layout) : Type 0 where
   pub sizes : is_in_size y ≡ true
   pub commits : is_in_capacity y ≡ true
   pub room : has_room y ≡ true
-
--- the same, as a test
-unfoldable pub is_sound : Layout → Bool
-is_sound y =
-    has_shapes y && (is_in_range y && (has_entries_within y && (has_distinct_names y && (is_in_position y && (has_true_maps y && (is_held_once y
-    && (has_true_map y && (has_true_kinds y && (has_true_levels y && (has_true_labels y && (is_in_size y && (is_in_capacity y && has_room y))))))))))))

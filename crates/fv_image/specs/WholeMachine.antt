@@ -10,7 +10,7 @@ use Rattle.fv_image.specs.Views.{Head, View, slots}
 use Rattle.fv_image.specs.Told.{has_none}
 use Rattle.fv_image.specs.Held.{Layout, layout_at}
 use Rattle.fv_image.specs.Volumes.{told}
-use Rattle.fv_image.specs.Seen.{Seen}
+use Rattle.fv_image.specs.Seen.{Seen, seen}
 use Rattle.fv_image.specs.ReachRules.{all_roots}
 use Rattle.fv_image.specs.Soundness.{IsSound, is_sound}
 
@@ -22,14 +22,10 @@ has_form h = has_none h.snapshots && (is_none h.base && h.known)
 unfoldable pub has_no_reserves : Seen → Bool
 has_no_reserves w = all_roots w (λ x r. list_all (λ (f : ℕ × InodeRecord). f.1.reserve == 0) r.files)
 
--- The forms of volumes that the program has: no file, no snapshot, no base and no unknown place. Each form that is built takes its
--- part out of this predicate, and no definition below it moves.
-unfoldable pub is_built_head : Head → Bool
-is_built_head h = (h.active.root.stamp == 0) && (has_none h.snapshots && (is_none h.base && h.known))
-
--- no volume has a form that isn't built yet
+-- The forms of volumes that the program has: those by the label, with files without reserves. Each form that is built takes its part out of
+-- these predicates, and no definition below them moves.
 unfoldable pub is_built : View → Bool
-is_built w = list_all (λ s. option_map_or is_built_head (w.head s) true) slots
+is_built w = list_all (λ s. option_map_or has_form (w.head s) true) slots && has_no_reserves (seen w)
 
 -- The machine of a layout: what its view tells of, where it is sound. An image with a form that isn't built stands for none.
 unfoldable pub machine_from : Layout → Option Machine

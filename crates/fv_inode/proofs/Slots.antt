@@ -179,6 +179,12 @@ no_such t n fs d long are none some =
     let free : used_record (get_or fs (n % 16) d) ≡ None = rw none refl in
     absurd (is_there (file_at t n) some (sym (ap used_record (get_or_default fs (n % 16) d free_record (omega (arith, long))) ∙ own_record t n fs are) ∙ free))
 
+-- and one in use is that of one
+pub such : (t : Rooted) (n : ℕ) (fs : List InodeRecord) (d : InodeRecord) → length fs ≡ 16 → AreRecords t (n / 16) fs → (get_or fs (n % 16) d).name_length ≢ 0 → is_some (file_at t n) ≡ true
+such t n fs d long are some =
+    ap is_some (sym (ap used_record (get_or_default fs (n % 16) d free_record (omega (arith, long))) ∙ own_record t n fs are))
+    ∙ (let test : ((get_or fs (n % 16) d).name_length == 0) ≡ false = grind (arith, nat_tests) in ap (λ b. is_some (if b then None else Some (get_or fs (n % 16) d))) test)
+
 -- records of a block that isn't there
 pub none_used : {P : Type 0} (fs : List InodeRecord) → fs ≡ replicate 16 blank_record → all_free fs ≡ false → P
 none_used fs is some = absurd (both_ways (all_free fs) some (ap all_free is))

@@ -1,6 +1,6 @@
 //! The roots of files, as a flush lays them into the inode blocks.
 
-ghost use Rattle.std.specs.Prelude.{◌≡◌, ◌≤◌, ◌+◌, true, false, is_some, OnOk};
+ghost use Rattle.std.specs.Prelude.{◌≡◌, ◌≤◌, ◌+◌, true, false, is_some, OnOk, OnErr};
 ghost use Rattle.std.specs.List.{All};
 ghost use Rattle.fv_codec.specs.Blocks.{all_free, IsInodeRecord, IsPointer};
 ghost use Rattle.fv_tables.specs.Spelled.{block_at};
@@ -19,9 +19,8 @@ use fv_tree::{Blocks, Tree};
 
 impl InodeFile {
     /// Lets the record of a file lead to another root, of a tree of so many levels, at most 3: what a flush does once
-    /// it placed the file's tree. A file has the number; over content that isn't told, one that has no file changes
-    /// nothing. Its name, length and reserve stay, and so do all other records, the levels of the inode file and every
-    /// stamp. It places nothing. It loads what isn't in memory of the file's inode block and of the nodes over it:
+    /// it placed the file's tree. A number that has no file changes nothing. The file's name, length and reserve stay, and
+    /// so do all other records, the levels of the inode file and every stamp. It places nothing. It loads what isn't in memory of the file's inode block and of the nodes over it:
     /// nothing after a `create` or a `change` of the file since the last `flush`. They stay in memory, and the next
     /// `flush` places them. After a fault the inode file is seen as before.
     ///
@@ -35,12 +34,12 @@ impl InodeFile {
         levels: u8,
         root: Pointer,
     ) -> Result<(), InodeFault>
-        requires there { B.told → is_some (file_at (rooted (B.shown blocks.old) self.old) number) ≡ true }
         requires levels { levels ≤ 3 }
         requires root { IsPointer root }
-        ensures set { B.told → OnOk result (SetsRoot (rooted (B.shown blocks.old) self.old) (rooted (B.shown blocks.new) self.new) number levels root) }
+        ensures set { B.told → is_some (file_at (rooted (B.shown blocks.old) self.old) number) ≡ true → OnOk result (SetsRoot (rooted (B.shown blocks.old) self.old) (rooted (B.shown blocks.new) self.new) number levels root) }
         ensures alters { Alters B.told (B.shown blocks.old) (B.shown blocks.new) self.old.tree self.new.tree result }
         ensures pending { pending self.new.tree ≤ pending self.old.tree + 4 }
+        ensures still { OnErr result (pending self.new.tree ≤ pending self.old.tree) }
         ensures reads { B.reads blocks.old blocks.new }
     {
         let cell = number / EACH;
@@ -81,6 +80,7 @@ fn refill_files<B: Blocks>(
     ensures filled { B.told → OnOk result (FillsFiles (standing (under (B.shown blocks.old)) tree.old) (standing (under (B.shown blocks.new)) tree.new) cell files.now) }
     ensures alters { Alters B.told (B.shown blocks.old) (B.shown blocks.new) tree.old tree.new result }
     ensures pending { pending tree.new ≤ pending tree.old + 4 }
+    ensures still { OnErr result (pending tree.new ≤ pending tree.old) }
     ensures reads { B.reads blocks.old blocks.new }
 {
     let block = spelled(cell, files);

@@ -10,13 +10,19 @@ use Rattle.fv_codec.specs.Blocks.{super_at, gate_open}
 use Rattle.fv_model.specs.Machines.{Machine}
 use Rattle.fv_image.specs.Layout.{superblock, gate_place}
 use Rattle.fv_image.specs.NewerRoot.{behind, newer, taken_of, root_of}
-use Rattle.fv_image.specs.Held.{Layout}
-use Rattle.fv_image.specs.MachineOf.{Tells, machine_of}
-use Rattle.fv_image.proofs.Stands.{machine_stands}
+use Rattle.fv_image.specs.Held.{Layout, layout_at}
+use Rattle.fv_image.specs.WholeMachine.{Tells, is_built, machine_of}
+use Rattle.fv_image.proofs.SoundTests.{machine_told, machine_under}
 use Rattle.fv_root.specs.Commits.{IsFoundOn}
 use Rattle.fv_volume.specs.declared.pool.Pool.{Pool}
-use Rattle.fv_volume.specs.States.{States}
-use Rattle.fv_cp.specs.Lent.{IsLent}
+use Rattle.fv_image.specs.Seen.{seen}
+use Rattle.fv_image.specs.Soundness.{AreTables}
+use Rattle.fv_container.specs.Chains.{container_at}
+use Rattle.fv_volume.specs.States.{States, state_at, view_over}
+use Rattle.fv_volume.specs.Trees.{no_trees}
+use Rattle.fv_volume.specs.Files.{AreStates}
+use Rattle.fv_volume.specs.Housed.{HaveReach}
+use Rattle.fv_cp.specs.Lent.{IsLent, IsLentAt}
 use Rattle.fv_root.specs.declared.find.Found.{Found}
 use Rattle.fv_root.specs.Finding.{IsDamaged, IsFound, IsNoAggregate, root_found}
 use Rattle.fv_aggregate.specs.declared.fault.OpenFault.TheVariants.{Damaged}
@@ -32,14 +38,10 @@ nothing_behind = None
 pub images_stand : (disk : Shown) (session : Session) (last m : Machine) → StandsFor disk session last m → (c : Image) → disk.images c → machine_of c ≡ Some last
 images_stand disk session last m stands c now =
     let keeps = stands.lent.keeps c now in
-    machine_stands c last (record {
-      taken = root_found session.pool.found;
-      counts = keeps.root;
-      tells = subst (λ (y : Layout). Tells y last) (sym keeps.layout) stands.lent.tells;
-    })
+    machine_under c (root_found session.pool.found) keeps.root ∙ machine_told (layout_at (root_found session.pool.found) c) last (subst (λ (y : Layout). Tells y last) (sym keeps.layout) stands.lent.tells)
 
 pub reads_stand : (disk : Shown) (session : Session) (last m : Machine) → StandsFor disk session last m → machine_of disk.reads ≡ Some last
-reads_stand disk session last m stands = machine_stands disk.reads last (record { taken = root_found session.pool.found; counts = stands.lent.found.reads.root; tells = stands.lent.tells })
+reads_stand disk session last m stands = machine_under disk.reads (root_found session.pool.found) stands.lent.found.reads.root ∙ machine_told (layout_at (root_found session.pool.found) disk.reads) last stands.lent.tells
 
 -- where reads give what they gave, the last point is the one that it was
 pub point_stays : (old new : Shown) (session next : Session) (last m before now : Machine) → new.reads ≡ old.reads → StandsFor old session last m → (stands : StandsAfter new next last before now) → stands.point ≡ last
@@ -69,9 +71,12 @@ still_lent old new pool states last rests lent = record {
   tells = rw rests.stays.reads lent.tells;
   keeps = λ c now. rw rests.stays.reads (lent.keeps c (rests.stays.no_more c now));
   map = rw rests.stays.reads lent.map;
-  slots = λ s below. rw rests.stays.reads (lent.slots s below);
-  states = lent.states;
-  commits = rw rests.stays.reads lent.commits;
+  slots = λ s below. subst (λ (i : Image). IsLentAt i pool.found s (state_at states s) (container_at pool.containers s)) (sym rests.stays.reads) (lent.slots s below);
+  spaced = lent.spaced;
+  states = subst (λ (i : Image). AreStates (view_over pool states i) no_trees states) (sym rests.stays.reads) lent.states;
+  built = subst (λ (i : Image). is_built (view_over pool states i) ≡ true) (sym rests.stays.reads) lent.built;
+  tables = subst (λ (i : Image). AreTables (seen (view_over pool states i))) (sym rests.stays.reads) lent.tables;
+  reach = subst (λ (i : Image). HaveReach (view_over pool states i) states) (sym rests.stays.reads) lent.reach;
 }
 
 pub rests_standing_for : (old new : Shown) (session : Session) (last m : Machine) → Rests old new → StandsFor old session last m → StandsFor new session last m

@@ -119,6 +119,13 @@ module _ (s : Loaded) (n : Under) (laid : IsLaid s) (stay : (level place v : ℕ
     vvbn = ap (λ (p : Pointer). p.vvbn) (sym (beside_pointers level place)) ∙ leads.vvbn;
   }
 
+  pub beside_keeps : (level place v : ℕ) → Leads s level place v → Leads (loaded_on n s) level place v
+  beside_keeps level place v leads = record {
+    some = λ none. leads.some (ap (λ (p : Pointer). p.stamp) (sym (beside_pointers level place)) ∙ none);
+    placed = leads.placed;
+    vvbn = ap (λ (p : Pointer). p.vvbn) (beside_pointers level place) ∙ leads.vvbn;
+  }
+
   -- and stands on them, where they are in use as before.
   module _ (used uses : ℕ → Option Use) (same : (level place v : ℕ) → Leads s level place v → uses v ≡ used v) (sound : IsSound used s) where
     stood : (level place : ℕ) → StandsAt w level place → StandsAt t level place
@@ -222,6 +229,9 @@ module _ (old new : Shown) (before after : ℕ → Type 0) (r : Loaded) (spares 
   -- leads to the same blocks,
   pub other_leads : (v : ℕ) → LeadsTo (loaded_on (under new) r) v → LeadsTo r v
   other_leads v led = record { level = led.level; place = led.place; leads = beside_leads r (under new) laid stay led.level led.place v led.leads }
+
+  pub other_keeps : (v : ℕ) → LeadsTo r v → LeadsTo (loaded_on (under new) r) v
+  other_keeps v led = record { level = led.level; place = led.place; leads = beside_keeps r (under new) laid stay led.level led.place v led.leads }
 
   -- stands on them,
   pub other_sound : IsSound new.used (loaded_on (under new) r)

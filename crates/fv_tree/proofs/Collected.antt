@@ -212,7 +212,7 @@ one_more_child xs level most place slot far a b c is lt first second =
 
 -- ---- a tree that is the same
 
-past_same : (t u : Rooted) (level most q : ℕ) → IsSame t u → IsPast t level most q → IsPast u level most q
+pub past_same : (t u : Rooted) (level most q : ℕ) → IsSame t u → IsPast t level most q → IsPast u level most q
 past_same t u level most q same is = record { stands = λ none. is.stands (ap (λ (p : Pointer). p.stamp) (sym (same.pointers level q)) ∙ none); far = is.far }
 
 past_back : (t u : Rooted) (level most q : ℕ) → IsSame t u → IsPast u level most q → IsPast t level most q
@@ -223,6 +223,13 @@ collects_as t u level most xs same is = record {
   rising = is.rising;
   past = λ j lt. past_same t u level most (get_or xs j 0) same (is.past j lt);
   whole = λ q past. is.whole q (past_back t u level most q same past);
+}
+
+pub collects_back : (t u : Rooted) (level most : ℕ) (xs : List ℕ) → IsSame t u → Collects u level most xs → Collects t level most xs
+collects_back t u level most xs same is = record {
+  rising = is.rising;
+  past = λ j lt. past_back t u level most (get_or xs j 0) same (is.past j lt);
+  whole = λ q past. is.whole q (past_same t u level most q same past);
 }
 
 -- ---- one range of a level after another

@@ -48,3 +48,5 @@ pub mod Seeking
 pub mod Beside
 pub mod Costly
 pub mod Differing
+pub mod Tally
+pub mod Bordered

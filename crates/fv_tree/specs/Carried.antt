@@ -40,6 +40,10 @@ BringsNew old new i = (level place : ℕ) → (kept_at new level place ≡ kept_
     ⊎ (((place ≡ i / fan ^ level) × IsBlank (kept_at new level place))
     ⊎ ((old.root.stamp ≢ 0) × (old.levels < level) × (place ≡ 0)))
 
+-- no other node in memory differs from its block
+abbrev pub MarksNoMore : Tree → Tree → Type 0
+MarksNoMore old new = (level place : ℕ) → changed_in new.nodes level place ≡ true → changed_in old.nodes level place ≡ true
+
 -- a node over the root of a tree that grows
 pub record IsTop (t : Tree) (level : ℕ) : Type 0 where
   pub changed : changed_in t.nodes level 0 ≡ true

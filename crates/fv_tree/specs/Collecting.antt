@@ -6,6 +6,7 @@ use Rattle.fv_tree.specs.declared.kept.Tree.{Tree}
 use Rattle.fv_tree.specs.Spelled.{Rooted, hole}
 use Rattle.fv_tree.specs.Standing.{node_in}
 use Rattle.fv_tree.specs.Erasing.{StandsAt}
+use Rattle.fv_tree.specs.Unlinking.{IsOver}
 
 abbrev pub IsIn : List ℕ → ℕ → Type 0
 IsIn xs q = (j : ℕ) × (j < length xs) × (get_or xs j 0 ≡ q)
@@ -61,3 +62,9 @@ pub record IsAdded (p : Pointer) (far place q : ℕ) : Type 0 where
 pub record IsUnder (t : Rooted) (level most place q : ℕ) : Type 0 where
   pub under : q / fan ≡ place
   pub past : IsPast t (level - 1) most q
+
+-- a place lies over a cell from `most` on
+pub record IsOverPast (most level place : ℕ) : Type 0 where
+  pub cell : ℕ
+  pub far : most ≤ cell
+  pub over : IsOver cell level place

@@ -1,8 +1,9 @@
 -- What the removal of a cell does to the nodes in memory.
 use Rattle.std.specs.Prelude.{◌≡◌, ◌≢◌, ◌≤◌, ◌<◌, ◌⊎◌, ℕ, ◌+◌, ◌/◌, ◌^◌, true, cond, nat_eq, List, Option, Some, None, is_some, get_or, slice_set}
 use Rattle.std.specs.Option.{option_map}
+use Rattle.std.specs.BTreeMap as maps
 use Rattle.fv_codec.specs.declared.pointer.Pointer.{Pointer}
-use Rattle.fv_model.specs.Trees.{fan}
+use Rattle.fv_model.specs.Trees.{fan, spot_cmp}
 use Rattle.fv_tree.specs.declared.kept.Tree.{Tree}
 use Rattle.fv_tree.specs.Spelled.{Under, hole, pointer_at, stamp_in}
 use Rattle.fv_tree.specs.Sources.{Use}
@@ -66,6 +67,18 @@ pub record IsOnWay (t : Tree) (i lost vvbn : ℕ) : Type 0 where
 pub record NamesOnce (used : ℕ → Option Use) (t : Tree) (i lost : ℕ) : Type 0 where
   pub in_use : (level v : ℕ) → level < lost → IsNamed t level i v → is_some (used v) ≡ true
   pub once : (k l v : ℕ) → k < lost → l < lost → IsNamed t k i v → IsNamed t l i v → k ≡ l
+
+-- a place lies over a cell
+pub record IsOver (i level place : ℕ) : Type 0 where
+  pub low : 1 ≤ level
+  pub high : level ≤ 3
+  pub over : place ≡ i / fan ^ level
+
+-- Of what is in memory no more differs from its blocks, but for the nodes over a cell. The nodes stand in their order.
+pub record MarksOnly (old new : Tree) (i : ℕ) : Type 0 where
+  pub marks : (level place : ℕ) → changed_in new.nodes level place ≡ true → (changed_in old.nodes level place ≡ true) ⊎ IsOver i level place
+  pub cells : maps.btree_map_len new.cells ≤ maps.btree_map_len old.cells
+  pub ordered : maps.IsOrdered spot_cmp new.nodes
 
 -- a cell that stood, and over which all nodes are in memory, was removed by a change with the stamp s
 pub record CellGoes (blocks : Under) (old new : Tree) (i start s : ℕ) : Type 0 where

@@ -6,7 +6,8 @@ ghost use Rattle.fv_tree.specs.Spelled.{Under};
 ghost use Rattle.fv_tree.specs.Sources.{Counts, IsUntouched};
 ghost use Rattle.fv_tree.specs.Standing.{standing, under, Fails, IsSameBut};
 ghost use Rattle.fv_tree.specs.Keeping.{IsSame};
-ghost use Rattle.fv_tree.specs.Erasing.{StandsAt};
+ghost use Rattle.fv_tree.specs.Carried.{MarksNoMore};
+ghost use Rattle.fv_tree.specs.Erasing.{HoldsCells, StandsAt};
 ghost use Rattle.fv_tree.specs.Releasing.{KeepsBlocks, Removes};
 ghost use Rattle.fv_tree.specs.Flushing.{Stands};
 ghost use Rattle.fv_tree.specs.Counting.{positions_of};
@@ -29,8 +30,9 @@ impl Tree {
     /// gets the stamp, which is at least 1. With no cell left the levels become `start`, at most 3. Where no cell
     /// goes nothing changes. It loads only nodes over the cells that go and on the way to the border, and holds them
     /// in memory, with four bytes for each of those cells. It names each placed block that it drops once to `gone`,
-    /// after its last load. Answers how many positions went: those cells and those marks. After a fault the tree is
-    /// seen as before, and none was named.
+    /// after its last load. Answers how many positions went: those cells and those marks. Where each mark has a cell,
+    /// only the nodes over the border differ from their blocks that didn't before, at most 3. After a fault the tree
+    /// is seen as before, and none was named.
     ///
     /// # Errors
     ///
@@ -44,7 +46,8 @@ impl Tree {
     ) -> Result<u32, TreeFault>
         requires start { start ≤ 3 }
         requires stamp { 1 ≤ stamp }
-        ensures { Removal B.told (B.goes blocks.old blocks.new) (B.shown blocks.old) (B.shown blocks.new) self.old self.new (nat_le length) start stamp result }
+        ensures pending { B.told → OnOk result (Stands (B.shown blocks.old) self.old → HoldsCells (standing (under (B.shown blocks.old)) self.old) → pending self.new ≤ pending self.old + 3) }
+        ensures removal { Removal B.told (B.goes blocks.old blocks.new) (B.shown blocks.old) (B.shown blocks.new) self.old self.new (nat_le length) start stamp result }
     {
         cut_cells(self, blocks, length, start, stamp)
     }
@@ -68,6 +71,7 @@ fn cut_cells<B: Blocks>(
     ensures untouched { OnErr result (IsUntouched (B.shown blocks.old) (B.shown blocks.new)) }
     ensures room { (B.shown blocks.old).room ≤ (B.shown blocks.new).room }
     ensures still { OnErr result (pending tree.new ≤ pending tree.old) }
+    ensures pending { B.told → OnOk result (Stands (B.shown blocks.old) tree.old → HoldsCells (standing (under (B.shown blocks.old)) tree.old) → pending tree.new ≤ pending tree.old + 3) }
     ensures calls { B.goes blocks.old blocks.new }
     ensures counts { Counts (B.shown blocks.old) (B.shown blocks.new) result }
     ensures cause { IfErr result (Fails B.told (standing (under (B.shown blocks.old)) tree.old) (B.shown blocks.old) (B.shown blocks.new)) }
@@ -91,6 +95,7 @@ fn keep_past<B: Blocks>(tree: &mut Tree, blocks: &mut B, most: u32) -> Result<Ve
     ensures blocks { B.told → KeepsBlocks (under (B.shown blocks.old)) tree.old tree.new }
     ensures stands { B.told → Stands (B.shown blocks.old) tree.old → Stands (B.shown blocks.new) tree.new }
     ensures changes { changes_in tree.new.nodes ≤ changes_in tree.old.nodes }
+    ensures marks { B.told → MarksNoMore tree.old tree.new }
     ensures untouched { IsUntouched (B.shown blocks.old) (B.shown blocks.new) }
     ensures reads { B.reads blocks.old blocks.new }
     ensures counts { Counts (B.shown blocks.old) (B.shown blocks.new) result }
@@ -155,6 +160,7 @@ fn keep_level<B: Blocks>(
     ensures blocks { B.told → KeepsBlocks (under (B.shown blocks.old)) tree.old tree.new }
     ensures stands { B.told → Stands (B.shown blocks.old) tree.old → Stands (B.shown blocks.new) tree.new }
     ensures changes { changes_in tree.new.nodes ≤ changes_in tree.old.nodes }
+    ensures marks { B.told → MarksNoMore tree.old tree.new }
     ensures untouched { IsUntouched (B.shown blocks.old) (B.shown blocks.new) }
     ensures reads { B.reads blocks.old blocks.new }
     ensures counts { Counts (B.shown blocks.old) (B.shown blocks.new) result }
@@ -192,6 +198,7 @@ fn keep_range<B: Blocks>(
     ensures blocks { B.told → KeepsBlocks (under (B.shown blocks.old)) tree.old tree.new }
     ensures stands { B.told → Stands (B.shown blocks.old) tree.old → Stands (B.shown blocks.new) tree.new }
     ensures changes { changes_in tree.new.nodes ≤ changes_in tree.old.nodes }
+    ensures marks { B.told → MarksNoMore tree.old tree.new }
     ensures untouched { IsUntouched (B.shown blocks.old) (B.shown blocks.new) }
     ensures reads { B.reads blocks.old blocks.new }
     ensures counts { Counts (B.shown blocks.old) (B.shown blocks.new) result }

@@ -15,7 +15,8 @@ ghost use Rattle.fv_tree.specs.Releasing.{Releases, IsDropped};
 ghost use Rattle.fv_tree.specs.Flushing.{placed_in, placed_of, changed_in, changed_of, IsSound, loaded_over};
 ghost use Rattle.fv_tree.specs.Counting.{positions_of};
 ghost use Rattle.fv_tree.specs.Costs.{changes_in, pending};
-ghost use Rattle.fv_tree.specs.Unlinking.{HasWay, HasNoOther, HasOther, AreBare, Unlinks, CellGoes, cleared_in, IsNamed, IsOnWay, NamesOnce};
+ghost use Rattle.fv_tree.specs.Unlinking.{HasWay, HasNoOther, HasOther, AreBare, Unlinks, CellGoes, cleared_in, IsNamed, IsOnWay, IsOver, MarksOnly, NamesOnce};
+ghost use Rattle.fv_tree.specs.Carried.{MarksNoMore};
 
 use crate::blocks::Blocks;
 use crate::kept::{HOLE, KeptNode, Tree};
@@ -44,6 +45,7 @@ pub fn erase_cell<B: Blocks>(
     ensures count { HasWay tree.old index → (held : Under) → StandsAt (standing held tree.old) 0 index → positions_of (standing held tree.old) ≡ positions_of (standing held tree.new) + result }
     ensures few { result ≤ 4 }
     ensures pending { pending tree.new ≤ pending tree.old + 3 }
+    ensures differs { MarksOnly tree.old tree.new index }
     ensures room { (B.shown blocks.old).room ≤ (B.shown blocks.new).room }
     ensures calm { IsCalm (B.shown blocks.old) (B.shown blocks.new) }
     ensures calls { B.goes blocks.old blocks.new }
@@ -141,6 +143,7 @@ fn unlink(tree: &mut Tree, index: u32, lost: u8, start: u8, stamp: u64)
     ensures owner { tree.new.owner ≡ tree.old.owner }
     ensures unlinks { HasWay tree.old index → Unlinks tree.old tree.new index lost start stamp }
     ensures pending { pending tree.new ≤ pending tree.old + 3 }
+    ensures differs { MarksOnly tree.old tree.new index }
 {
     if lost == tree.levels {
         clear(tree, start);
@@ -158,6 +161,7 @@ fn clear(tree: &mut Tree, start: u8)
     ensures nodes { (level place : ℕ) → tree_map.get spot_cmp tree.new.nodes (level, place) ≡ None }
     ensures cells { (i : ℕ) → tree_map.get nat_cmp tree.new.cells i ≡ None }
     ensures pending { pending tree.new ≡ 0 }
+    ensures ordered { tree_map.IsOrdered spot_cmp tree.new.nodes }
 {
     tree.levels = start;
     tree.root = HOLE;
@@ -182,6 +186,7 @@ fn cut_way(tree: &mut Tree, index: u32, lost: u8, stamp: u64)
     ensures same { (level place : ℕ) → place ≢ index / fan ^ level → tree_map.get spot_cmp tree.new.nodes (level, place) ≡ tree_map.get spot_cmp tree.old.nodes (level, place) }
     ensures gone { (level : ℕ) → 1 ≤ level → level ≤ lost → tree_map.get spot_cmp tree.new.nodes (level, index / fan ^ level) ≡ None }
     ensures pending { pending tree.new ≤ pending tree.old + (tree.old.levels - lost) }
+    ensures differs { MarksOnly tree.old tree.new index }
 {
     forget_way(tree, index, lost);
     let place = index / width(lost + 1);
@@ -200,6 +205,8 @@ fn forget_way(tree: &mut Tree, index: u32, lost: u8)
     ensures nodes { (level place : ℕ) → (lost < level) ⊎ (place ≢ index / fan ^ level) → tree_map.get spot_cmp tree.new.nodes (level, place) ≡ tree_map.get spot_cmp tree.old.nodes (level, place) }
     ensures gone { (level : ℕ) → 1 ≤ level → level ≤ lost → tree_map.get spot_cmp tree.new.nodes (level, index / fan ^ level) ≡ None }
     ensures pending { pending tree.new ≤ pending tree.old }
+    ensures marks { MarksNoMore tree.old tree.new }
+    ensures fewer { tree_map.btree_map_len tree.new.cells ≤ tree_map.btree_map_len tree.old.cells }
 {
     let _ = tree.cells.remove(&index);
     for below in 0..lost {
@@ -216,6 +223,7 @@ fn clear_slot(nodes: &mut BTreeMap<(u8, u32), KeptNode>, level: u8, place: u32, 
     ensures changed { is_some (tree_map.get spot_cmp nodes.old (level, place)) ≡ true → changed_in nodes.new level place ≡ true }
     ensures others { (k q : ℕ) → (k ≢ level) ⊎ (q ≢ place) → tree_map.get spot_cmp nodes.new (k, q) ≡ tree_map.get spot_cmp nodes.old (k, q) }
     ensures count { changes_in nodes.new ≤ changes_in nodes.old + 1 }
+    ensures ordered { tree_map.IsOrdered spot_cmp nodes.new }
 {
     if let Some(node) = nodes.get_mut(&(level, place)) {
         clear_child(node, slot);
@@ -247,6 +255,8 @@ fn stamp_above(tree: &mut Tree, index: u32, lowest: u8, stamp: u64)
     ensures changed { (level : ℕ) → lowest < level → level ≤ tree.old.levels → is_some (tree_map.get spot_cmp tree.old.nodes (level, index / fan ^ level)) ≡ true → changed_in tree.new.nodes level (index / fan ^ level) ≡ true }
     ensures same { (level place : ℕ) → (level ≤ lowest) ⊎ (place ≢ index / fan ^ level) → tree_map.get spot_cmp tree.new.nodes (level, place) ≡ tree_map.get spot_cmp tree.old.nodes (level, place) }
     ensures changes { lowest ≤ tree.old.levels → changes_in tree.new.nodes ≤ changes_in tree.old.nodes + (tree.old.levels - lowest) }
+    ensures marks { lowest ≤ tree.old.levels → (level place : ℕ) → changed_in tree.new.nodes level place ≡ true → (changed_in tree.old.nodes level place ≡ true) ⊎ IsOver index level place }
+    ensures ordered { tree_map.IsOrdered spot_cmp tree.old.nodes → tree_map.IsOrdered spot_cmp tree.new.nodes }
 {
     let levels = tree.levels;
     tree.root = stamped(&tree.root, stamp);

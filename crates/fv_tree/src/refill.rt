@@ -48,6 +48,7 @@ impl Tree {
         ensures leads { B.told → LeadsNoMore (loaded (B.shown blocks.old) self.old) (loaded (B.shown blocks.new) self.new) }
         ensures keeps { B.told → LeadsNoMore (loaded (B.shown blocks.new) self.new) (loaded (B.shown blocks.old) self.old) }
         ensures pending { pending self.new ≤ pending self.old + 4 }
+        ensures still { OnErr result (pending self.new ≤ pending self.old) }
         ensures untouched { IsUntouched (B.shown blocks.old) (B.shown blocks.new) }
         ensures reads { B.reads blocks.old blocks.new }
         ensures counts { Counts (B.shown blocks.old) (B.shown blocks.new) result }
@@ -71,6 +72,7 @@ pub fn refill_cell<B: Blocks>(
     ensures levels { tree.new.levels ≡ tree.old.levels }
     ensures carries { B.told → Carries (B.shown blocks.old) (B.shown blocks.new) tree.old tree.new }
     ensures pending { pending tree.new ≤ pending tree.old + 4 }
+    ensures still { OnErr result (pending tree.new ≤ pending tree.old) }
     ensures untouched { IsUntouched (B.shown blocks.old) (B.shown blocks.new) }
     ensures reads { B.reads blocks.old blocks.new }
     ensures counts { Counts (B.shown blocks.old) (B.shown blocks.new) result }

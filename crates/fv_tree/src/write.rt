@@ -37,6 +37,7 @@ pub fn keep_cell(
     ensures others { (i : ℕ) → i ≢ index → maps.get nat_cmp tree.new.cells i ≡ maps.get nat_cmp tree.old.cells i }
     ensures same { OnErr result ((i : ℕ) → maps.get nat_cmp tree.new.cells i ≡ maps.get nat_cmp tree.old.cells i) }
     ensures count { maps.btree_map_len tree.new.cells ≤ maps.btree_map_len tree.old.cells + 1 }
+    ensures still { OnErr result (maps.btree_map_len tree.new.cells ≤ maps.btree_map_len tree.old.cells) }
     ensures memory { IfErr result (λ e. e ≡ Memory) }
 {
     let cell = KeptCell {
@@ -93,6 +94,7 @@ pub fn stamp_slot(
     ensures others { (k q : ℕ) → (k ≢ level) ⊎ (q ≢ place) → maps.get spot_cmp nodes.new (k, q) ≡ maps.get spot_cmp nodes.old (k, q) }
     ensures count { changes_in nodes.new ≤ changes_in nodes.old + 1 }
     ensures again { changed_in nodes.old level place ≡ true → changes_in nodes.new ≤ changes_in nodes.old }
+    ensures ordered { maps.IsOrdered spot_cmp nodes.new }
 {
     if let Some(node) = nodes.get_mut(&(level, place)) {
         stamp_child(node, slot, stamp);

@@ -1,6 +1,7 @@
 -- The ledger of a volume with files, counted from its active map.
-use Rattle.std.proofs.Common.{◌≡◌, ℕ, ◌+◌, ◌*◌, ◌<◌, Bool, List, [], length, Some, None, refl, sym, ◌∙◌, arith}
+use Rattle.std.proofs.Common.{◌≡◌, ℕ, ◌+◌, ◌*◌, ◌<◌, ◌≤◌, Bool, List, [], length, Some, None, refl, sym, ap, ◌∙◌, arith}
 use Rattle.fv_bits.specs.Members.{is_member, count_of}
+use Rattle.fv_bits.proofs.Laws.{count_of-le}
 use Rattle.fv_model.specs.Space.{map_blocks}
 use Rattle.fv_laws.specs.Positions.{HasNoReserve}
 use Rattle.fv_laws.proofs.PathCharges.{no_need}
@@ -10,8 +11,12 @@ use Rattle.fv_image.specs.Seen.{seen}
 use Rattle.fv_image.specs.Soundness.{AreTables, AreMaps}
 use Rattle.fv_image.proofs.OwnUses.{HasLabelNumbers}
 use Rattle.fv_image.proofs.ChargeBits.{charge_bits}
+use Rattle.fv_charge.specs.declared.ledger.Ledger.{Ledger}
 use Rattle.fv_charge.specs.Ledgers.{IsLedgerOf}
 use Rattle.fv_charge.specs.Counted.{charge_counted}
+use Rattle.fv_volmap.specs.Slots.{active_of}
+use Rattle.fv_volume.specs.declared.state.VolumeState.{VolumeState}
+use Rattle.fv_volume.specs.Loading.{IsCounted}
 use Rattle.fv_volume.proofs.Charging.{members_are}
 
 -- A volume that stands in its blocks, without snapshots, base and reserves, has the ledger that its active map is counted to.
@@ -29,3 +34,12 @@ counted_ledger w s h small there tables maps numbers snapshots base none map lon
   where
     plain : (n m : ℕ) → n + m * 0 ≡ n
     plain n m = grind (arith)
+
+-- A ledger that is counted has no more blocks than the span has numbers.
+pub counted_within : (x : VolumeState) → IsCounted x → x.ledger.charge ≤ x.map.span
+counted_within x is =
+    let charge : x.ledger.charge ≡ count_of (active_of x.map) + map_blocks x.span * 0 = ap (λ (l : Ledger). l.charge) is.ledger in
+    omega (arith, charge, none (map_blocks x.span), count_of-le (active_of x.map), is.long)
+  where
+    none : (n : ℕ) → n * 0 ≡ 0
+    none n = grind (arith)

@@ -20,11 +20,11 @@ use Rattle.fv_volume.specs.BlocksOver.{LeavesPool, block_of, held_entry, steps_b
 use Rattle.fv_volume.specs.Lending.{GoesFails, GoesOver, IsHole, IsOutOfRoom, LacksOne, Lent, ReadFails, ReadsOver, WasHole, WasLack, below, lent_by, shown_over, use_of, use_under}
 
 -- a count that stays at 0 hasn't risen
-still_none : (before now : ℕ) → before ≡ 0 → now ≡ before → Rose before now → ⊥
+pub still_none : (before now : ℕ) → before ≡ 0 → now ≡ before → Rose before now → ⊥
 still_none before now none same (inl more) = absurd (omega (arith, none, same, more))
 still_none before now none same (inr top) = absurd (omega (arith, none, same, top))
 
-hole_is : (label : ℕ) (noted : Noted) (at want found : ℕ) → ◌≡◌ {A = Damage} (record { at = noted.at; want = noted.want; found = noted.found }) (record { at = at; want = want; found = found }) → WasHole label noted → IsHole label at want found
+pub hole_is : (label : ℕ) (noted : Noted) (at want found : ℕ) → ◌≡◌ {A = Damage} (record { at = noted.at; want = noted.want; found = noted.found }) (record { at = at; want = want; found = found }) → WasHole label noted → IsHole label at want found
 hole_is label noted at want found is hole = subst (λ (d : Damage). IsHole label d.at d.want d.found) is hole
 
 lacks_is : (label root : ℕ) (noted : Noted) (at want found : ℕ) → ◌≡◌ {A = Damage} (record { at = noted.at; want = noted.want; found = noted.found }) (record { at = at; want = want; found = found }) → WasLack label root noted → LacksOne label root at want found

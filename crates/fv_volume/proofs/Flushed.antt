@@ -1,48 +1,19 @@
 -- A flush keeps the machine.
-use Rattle.std.proofs.Common.{◌≡◌, ◌≢◌, ℕ, true, List, [], ◌∷◌, map, flat_map, Option, Some, None, refl, sym, ap, ◌∙◌, ⊎_elim}
-use Rattle.std.specs.Option.{is_none, option_map_or}
+use Rattle.std.proofs.Common.{◌≡◌, ◌≢◌, ℕ, List, [], ◌∷◌, flat_map, Option, Some, None, refl, sym, ap, ◌∙◌, ⊎_elim}
+use Rattle.std.specs.Option.{option_map_or}
 use Rattle.std.specs.FinMap as fin
-use Rattle.std.proofs.lemmas.Bool.{cases_eq, and_parts}
+use Rattle.std.proofs.lemmas.Bool.{cases_eq}
 use Rattle.fv_model.specs.Spelling.{name_cmp}
-use Rattle.fv_model.specs.Tables.{Table, empty_table}
+use Rattle.fv_model.specs.Tables.{empty_table}
 use Rattle.fv_model.specs.Volumes.{Volume}
-use Rattle.fv_tables.specs.Spelled.{Under}
-use Rattle.fv_tables.specs.Told.{standing_at, table_told}
+use Rattle.fv_tables.specs.Told.{table_told}
 use Rattle.fv_tables.proofs.Tables.{placed_table}
 use Rattle.fv_image.specs.Chains.{under}
-use Rattle.fv_image.specs.Told.{has_none}
-use Rattle.fv_image.specs.Views.{Rooted, Footing, Snap, Head, View, slots}
-use Rattle.fv_image.specs.Volumes.{standing_of, table_at, snap_told, base_from, volume_with, named_with, volumes_with, told_with}
-use Rattle.fv_volume.specs.Trees.{Changed, Trees, standing_in, standing_now, active_by, active_in}
-use Rattle.fv_volume.specs.Files.{has_form}
+use Rattle.fv_image.specs.Views.{Head, View, slots}
+use Rattle.fv_image.specs.Volumes.{standing_of, table_at, named_with, volumes_with, told_with}
+use Rattle.fv_volume.specs.Trees.{Changed, Trees, standing_now, active_by, active_in}
 use Rattle.fv_volume.specs.Flushed.{IsFlushed}
-
-no_snaps : (ps : List Snap) → has_none ps ≡ true → ps ≡ []
-no_snaps [] e = refl
-no_snaps (p ∷ ps) e = absurd cc
-
-no_base : (b : Option Footing) → is_none b ≡ true → b ≡ None
-no_base None e = refl
-no_base (Some b) e = absurd cc
-
--- a volume without snapshots and base is told by its head and its active table alone
-told_alike : (w u : View) (s : ℕ) (h : Head) (root : Rooted) (a b : Table) → has_form h ≡ true → b ≡ a → volume_with u s (record h { active = root }) b ≡ volume_with w s h a
-unfolding volume_with
-told_alike w u s h root a b form same =
-    let first = and_parts (has_none h.snapshots) _ form in
-    let snaps = no_snaps h.snapshots first.0 in
-    let base = no_base h.base (and_parts (is_none h.base) h.known first.1).0 in
-    λ i. record {
-      kind = h.kind;
-      size = h.size;
-      most = h.most;
-      span = h.span;
-      now = h.now;
-      active = same i;
-      snapshots = (ap (λ (ps : List Snap). fin.from_entries {R = name_cmp} (map (snap_told u s) ps)) snaps ∙ sym (ap (λ (ps : List Snap). fin.from_entries {R = name_cmp} (map (snap_told w s) ps)) snaps)) i;
-      base = (ap (base_from u) base ∙ sym (ap (base_from w) base)) i;
-      known = h.known;
-    }
+use Rattle.fv_volume.proofs.Trees.{told_alike, same_active}
 
 module _ (w u : View) (old new : Trees) (s : ℕ) (is : IsFlushed w u old new s) where
   -- the flushed volume
@@ -68,17 +39,13 @@ module _ (w u : View) (old new : Trees) (s : ℕ) (is : IsFlushed w u old new s)
     same_under : under u k ≡ under w k
     same_under = λ i v. is.unders k v other i
 
-    same_active : (o : Option Changed) → active_by u k o ≡ active_by w k o
-    same_active None = λ i. option_map_or (λ (h : Head). table_told (standing_at (same_under i) h.active.levels h.active.root)) (is.heads k other i) empty_table
-    same_active (Some c) = ap (λ (blocks : Under). table_told (standing_in blocks c)) same_under
-
     there : named_with u (active_in u new) k (u.head k) ≡ named_with w (active_in w old) k (w.head k)
     there = ap (named_with u (active_in u new) k) (is.heads k other) ∙ so (w.head k) refl
       where
         so : (o : Option Head) → w.head k ≡ o → named_with u (active_in u new) k o ≡ named_with w (active_in w old) k o
         so None e = refl
         so (Some h) e = ap {B = List (List ℕ × Volume)} (λ (x : Volume). (h.name, x) ∷ [])
-            (told_alike w u k h h.active (active_in w old k) (active_in u new k) (is.forms k h e) (ap (active_by u k) (is.trees k other) ∙ same_active (old k)))
+            (told_alike w u k h h.active (active_in w old k) (active_in u new k) (is.forms k h e) (ap (active_by u k) (is.trees k other) ∙ same_active w u k same_under (is.heads k other) (old k)))
 
   slot : (k : ℕ) → named_with u (active_in u new) k (u.head k) ≡ named_with w (active_in w old) k (w.head k)
   slot k = ⊎_elim (λ (same : k ≡ s). ap (λ (j : ℕ). named_with u (active_in u new) j (u.head j)) same ∙ here ∙ sym (ap (λ (j : ℕ). named_with w (active_in w old) j (w.head j)) same)) (λ other. there k other) (cases_eq k s)

@@ -55,13 +55,13 @@ module _ (found : Found) (i : Image) (s : ℕ) (lt : s < 64) where
 
   pub loaded_some : (l : Label) (y : VolumeState) (map : Mapped) (c : Option Mapped) → label_of found i s ≡ Some l → head_in y ≡ head_of l → y.label ≡ get_or found.root.labels s 0 → c ≡ Some map
       → Spelled i l.container l.height map → length map.entries ≡ entry_count l.span → IsMapped map
-      → ((v : ℕ) → is_member (active_of y.map) v ≡ volume_bit (view_at (root_found found) i) s y.span 0 v) → y.changed ≡ has_delayed map y.span → IsLoaded i found s (Some y) c
+      → ((v : ℕ) → is_member (active_of y.map) v ≡ volume_bit (view_at (root_found found) i) s y.span 0 v) → y.changed ≡ has_delayed (active_of y.map) map y.span → IsLoaded i found s (Some y) c
   loaded_some l y map c lies head place there spelled size valid bits changed = record {
     head = ap Some head ∙ ap (option_map head_of) (sym lies);
     tree = subst (λ (o : Option Label). IsContainerOf i o c) (sym lies) (subst (IsContainerOf i (Some l)) (sym there) (spelled, (size, valid)));
     label = place ∙ sym place_there;
     bits = bits;
-    changed = subst (λ (o : Option Mapped). IfSome o (λ m. y.changed ≡ has_delayed m y.span)) (sym there) changed;
+    changed = subst (λ (o : Option Mapped). IfSome o (λ m. y.changed ≡ has_delayed (active_of y.map) m y.span)) (sym there) changed;
   }
 
   pub bad_label : (p : ℕ) (e : BlockFault) → p ≡ get_or found.root.labels s 0 → p ≢ 0 → IsBadLabel (i p) p e → IsLoadFault i found e

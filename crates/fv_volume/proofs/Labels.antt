@@ -1,6 +1,6 @@
--- The label of a plain volume: its fields are in range, and it says what the volume is.
+-- The label of a volume without snapshots and base: its fields are in range, and it says what the volume is.
 use Rattle.std.proofs.Common.{◌≡◌, ℕ, zero, suc, ◌-◌, ◌≤◌, Bool, true, false, List, [], ◌∷◌, ◌++◌, length, take, drop, replicate, Option, Some, None, refl, sym, ap, subst, ◌∙◌, arith}
-use Rattle.std.specs.Prelude.{◌&&◌, ◌%◌, ◌==◌, if◌then◌else◌, min, Ok}
+use Rattle.std.specs.Prelude.{◌&&◌, ◌%◌, if◌then◌else◌, min, Ok}
 use Rattle.std.specs.List.{list_all}
 use Rattle.std.specs.Option.{is_none}
 use Rattle.std.proofs.Math.Seq.{drop-append_seam, take-append_seam}
@@ -13,13 +13,14 @@ use Rattle.fv_model.specs.declared.commands.Kind.{Kind}
 use Rattle.fv_model.specs.declared.commands.Kind.TheVariants.{Volume as Whole, File as ByFile, Thin}
 use Rattle.fv_model.specs.Spelling.{is_name, is_name_byte as is_letter}
 use Rattle.fv_image.specs.Views.{Footing, Head, Snap, head_of, kind_named, snaps_from}
-use Rattle.fv_image.specs.Told.{has_none, is_plain, volume_of}
+use Rattle.fv_image.specs.Told.{has_none}
 use Rattle.fv_model.specs.Numbers.{greatest_span}
-use Rattle.fv_charge.specs.Ledgers.{IsLedgerOf}
+use Rattle.fv_charge.specs.declared.ledger.Ledger.{Ledger}
 use Rattle.fv_volmap.specs.Slots.{Volume as MapSlots}
 use Rattle.fv_volume.specs.declared.state.VolumeState.{VolumeState}
 use Rattle.fv_volume.specs.Labels.{free_record, kind_number, label_said}
-use Rattle.fv_volume.specs.States.{IsState, head_in}
+use Rattle.fv_volume.specs.Files.{IsLabelled, has_form}
+use Rattle.fv_volume.specs.States.{head_in}
 use Rattle.fv_volume.proofs.Naming.{same_byte}
 
 -- ---- the name, filled up with zero bytes
@@ -129,13 +130,12 @@ no_snaps : (ss : List Snap) → has_none ss ≡ true → ss ≡ []
 no_snaps [] is = refl
 no_snaps (s ∷ ss) is = absurd (true≢false (sym is))
 
--- a label says its volume's head, where that has no file, snapshot or base
-pub label_head : (x : VolumeState) → is_plain (head_in x) ≡ true → is_name x.name ≡ true → (container height : ℕ) → head_of (label_said x container height) ≡ head_in x
-unfolding head_of label_said is_plain
-label_head x plain named container height =
+-- a label says its volume's head, where that has no snapshot or base
+pub label_head : (x : VolumeState) → has_form (head_in x) ≡ true → is_name x.name ≡ true → (container height : ℕ) → head_of (label_said x container height) ≡ head_in x
+unfolding head_of label_said
+label_head x form named container height =
     let name : take (length x.name) (x.name ++ replicate (64 - length x.name) 0) ≡ x.name = take-append_seam x.name (replicate (64 - length x.name) 0) in
-    let all = both (x.active.root.stamp == 0) (has_none (head_in x).snapshots && (is_none (head_in x).base && x.known)) plain in
-    let more = both (has_none (head_in x).snapshots) (is_none (head_in x).base && x.known) all.1 in
+    let more = both (has_none (head_in x).snapshots) (is_none (head_in x).base && x.known) form in
     let last = both (is_none (head_in x).base) x.known more.1 in
     (λ i. record {
       name = name i;
@@ -174,14 +174,17 @@ same_label x y head container height = (λ i. record {
   snapshots = replicate 24 free_record;
 })
 
--- what holds of a volume holds of one with its head, its map and its ledger
-pub same_state : (slot : ℕ) (x y : VolumeState) → head_in y ≡ head_in x → y.slot ≡ x.slot → y.map ≡ x.map → y.ledger ≡ x.ledger → IsState slot x → IsState slot y
-same_state slot x y head at map ledger is = record {
-  slot_is = at ∙ is.slot_is;
-  plain = ap is_plain head ∙ is.plain;
-  span = subst (λ (n : ℕ). n ≤ greatest_span) (sym (ap (λ (h : Head). h.span) head)) is.span;
-  map = ap (λ (m : MapSlots). m.span) map ∙ is.map ∙ sym (ap (λ (h : Head). h.span) head);
-  ledger = subst (λ (h : Head). IsLedgerOf (volume_of h) y.ledger) (sym head) (subst (IsLedgerOf (volume_of (head_in x))) (sym ledger) is.ledger);
-  named = ap (λ (h : Head). is_name h.name) head ∙ is.named;
-  label = λ container height placed least greatest. subst IsLabel (sym (same_label x y head container height)) (is.label container height placed least greatest);
-}
+-- what holds of a volume's numbers and name holds of one with its head, its map and its ledger
+pub same_labelled : (slot : ℕ) (x y : VolumeState) → head_in y ≡ head_in x → y.slot ≡ x.slot → y.map ≡ x.map → y.ledger ≡ x.ledger → IsLabelled slot x → IsLabelled slot y
+same_labelled slot x y head at map ledger is =
+    let span : y.span ≡ x.span = ap (λ (h : Head). h.span) head in
+    record {
+      slot_is = at ∙ is.slot_is;
+      form = ap has_form head ∙ is.form;
+      span = subst (λ (n : ℕ). n ≤ greatest_span) (sym span) is.span;
+      map = ap (λ (m : MapSlots). m.span) map ∙ is.map ∙ sym span;
+      counts = ap (λ (l : Ledger). l.span) ledger ∙ is.counts ∙ sym span;
+      levels = subst (λ (h : Head). h.active.levels ≤ 2) (sym head) is.levels;
+      named = ap (λ (h : Head). is_name h.name) head ∙ is.named;
+      label = λ container height placed least greatest. subst IsLabel (sym (same_label x y head container height)) (is.label container height placed least greatest);
+    }

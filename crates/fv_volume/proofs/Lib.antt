@@ -23,3 +23,54 @@ pub mod Counted
 pub mod Flushed
 pub mod Found
 pub mod Apart
+pub mod LoadedTables
+mod Counting
+pub mod Drawing
+mod Gone
+mod MapBlocks
+pub mod SlotBlocks
+pub mod Renewing
+pub mod Sparing
+mod Spelling
+mod Storing
+pub mod Stored
+pub mod StoredSlot
+pub mod StillLoaded
+pub mod Delaying
+pub mod LoadedBlocks
+pub mod Spacing
+pub mod Settled
+pub mod StaysStates
+pub mod Distinct
+pub mod Housing
+pub mod StillAdmitted
+pub mod LentSlots
+pub mod RootFound
+pub mod Settling
+pub mod StoredTold
+pub mod Lookups
+pub mod Answered
+pub mod OneVolumes
+pub mod Asked
+mod CallCauses
+mod Followed
+pub mod Changed
+mod FileCounts
+mod MadePut
+mod MadeNew
+mod ReadyAgain
+mod DropCauses
+pub mod JudgedCut
+mod LeftTables
+mod Calling
+pub mod Judged
+pub mod JudgedNew
+mod MadeCut
+mod MadeRemoval
+pub mod Placed
+mod PlaceCauses
+pub mod Standings
+pub mod Others
+pub mod Openings
+pub mod NewStanding
+pub mod Reached

@@ -3,21 +3,18 @@ use Rattle.std.proofs.Common.{◌≡◌, ℕ, Bool, nat_eq, map, subst, true, fa
 use Rattle.std.specs.Prelude.{not, ◌==◌, ◌+◌, ◌-◌, ◌&&◌, find, take, if◌then◌else◌}
 use Rattle.std.specs.Option.{is_none, option_map}
 use Rattle.fv_model.specs.declared.commands.Kind.{Kind}
-use Rattle.fv_model.specs.Space.{use_of}
 use Rattle.fv_model.specs.Spelling.{is_name}
-use Rattle.fv_image.specs.Told.{has_none, volume_of}
-use Rattle.fv_image.proofs.Uses.{uses_nothing}
-use Rattle.fv_charge.specs.Ledgers.{IsLedgerOf}
+use Rattle.fv_image.specs.Told.{has_none}
 use Rattle.fv_codec.proofs.Numbers.{up_to-le}
 use Rattle.fv_volume.specs.declared.state.Snap.{Snap as StateSnap}
 use Rattle.fv_volume.specs.declared.state.VolumeState.{VolumeState}
-use Rattle.fv_volume.specs.States.{IsState, head_in, ledger_of_empty, snap_in}
+use Rattle.fv_volume.specs.Files.{IsLabelled, has_form}
+use Rattle.fv_volume.specs.States.{head_in, snap_in}
 use Rattle.std.proofs.lemmas.Bool.Decides.{nat_tests}
 use Rattle.fv_codec.specs.declared.label.Label.{Label}
 use Rattle.fv_codec.specs.declared.label.SnapRecord.{SnapRecord}
 use Rattle.fv_codec.specs.Blocks.{IsLabel, IsPointer}
 use Rattle.fv_image.specs.Views.{Head, footing_of, head_of, kind_named, snaps_from}
-use Rattle.fv_image.specs.Told.{is_plain}
 use Rattle.fv_volume.proofs.Labels.{IsSayable, label_range}
 use Rattle.fv_volume.specs.Loading.{first_used, form_in, is_used}
 
@@ -25,22 +22,17 @@ use Rattle.fv_volume.specs.Loading.{first_used, form_in, is_used}
 pub record IsBare (l : Label) : Type 0 where
   pub parent : (l.parent == 0) ≡ true
   pub known : (l.known == 0) ≡ false
-  pub stamp : (l.root.stamp == 0) ≡ true
   pub snapshots : first_used l.snapshots ≡ None
 
 pub bare : (l : Label) → form_in l ≡ None → IsBare l
 unfolding form_in
 bare l none = either (l.parent == 0) refl none
   where
-    last : (b : Bool) → (l.root.stamp == 0) ≡ b → (l.parent == 0) ≡ true → (l.known == 0) ≡ false → (if not b then Some (0, l.root.stamp) else first_used l.snapshots) ≡ None → IsBare l
-    last true is p k e = record { parent = p; known = k; stamp = is; snapshots = e }
-    last false is p k e = cc
-
-    mid : (b : Bool) → (l.known == 0) ≡ b → (l.parent == 0) ≡ true → (if b then Some (1, 0) else if not (l.root.stamp == 0) then Some (0, l.root.stamp) else first_used l.snapshots) ≡ None → IsBare l
+    mid : (b : Bool) → (l.known == 0) ≡ b → (l.parent == 0) ≡ true → (if b then Some (1, 0) else first_used l.snapshots) ≡ None → IsBare l
     mid true is p e = cc
-    mid false is p e = last (l.root.stamp == 0) refl p is e
+    mid false is p e = record { parent = p; known = is; snapshots = e }
 
-    either : (b : Bool) → (l.parent == 0) ≡ b → (if not b then Some (0, l.parent) else if l.known == 0 then Some (1, 0) else if not (l.root.stamp == 0) then Some (0, l.root.stamp) else first_used l.snapshots) ≡ None → IsBare l
+    either : (b : Bool) → (l.parent == 0) ≡ b → (if not b then Some (0, l.parent) else if l.known == 0 then Some (1, 0) else first_used l.snapshots) ≡ None → IsBare l
     either true is e = mid (l.known == 0) refl is e
     either false is e = cc
 
@@ -66,11 +58,10 @@ is_known l range is =
     let few = up_to-le (l.splitting == 0) 1 in
     grind (arith, nat_tests, is.known, range.known, few)
 
--- such a label's head is told whole
-pub head_bare : (l : Label) → IsLabel l → IsBare l → is_plain (head_of l) ≡ true
-unfolding is_plain head_of
-head_bare l range is =
-    (λ i. is.stamp i && (has_none (no_snapshots l is i) && (is_none (no_footing l is i) && is_known l range is i)))
+-- such a label's head has a form that there is
+pub head_bare : (l : Label) → IsLabel l → IsBare l → has_form (head_of l) ≡ true
+unfolding head_of
+head_bare l range is = (λ i. has_none (no_snapshots l is i) && (is_none (no_footing l is i) && is_known l range is i))
 
 -- the head of a volume that is made of such a label
 abbrev pub head_with : Label → List ℕ → Kind → List StateSnap → Head
@@ -103,19 +94,6 @@ head_from l is name kind snaps called sort empty = λ i. record {
   snapshots = (ap (map snap_in) empty ∙ sym (no_snapshots l is)) i;
 }
 
--- a plain volume's ledger
-pub ledger_from : (h : Head) → IsLedgerOf (volume_of h) (ledger_of_empty h.size h.kind h.span)
-unfolding volume_of
-ledger_from h =
-    let none : use_of (volume_of h) ≡ 0 = uses_nothing h in
-    record {
-      charged = omega (arith, none);
-      needed = omega (arith, none);
-      size = refl;
-      kind = refl;
-      span = refl;
-    }
-
 -- it can be said by a label again
 sayable : (l : Label) → IsLabel l → (y : VolumeState) → head_in y ≡ head_of l → is_name y.name ≡ true → IsSayable y
 unfolding head_of
@@ -140,15 +118,19 @@ sayable l range y head named =
       root = subst IsPointer (sym root) range.root;
     }
 
--- a volume with the head of such a label is told whole
-pub state_from : (l : Label) → IsLabel l → form_in l ≡ None → (y : VolumeState) (slot : ℕ) → y.slot ≡ slot → head_in y ≡ head_of l → y.ledger ≡ ledger_of_empty l.size (kind_named l.kind) l.span → is_name y.name ≡ true → y.map.span ≡ y.span → IsState slot y
+-- a volume with the head of such a label has its numbers and its name
+pub labelled_from : (l : Label) → IsLabel l → form_in l ≡ None → (y : VolumeState) (slot : ℕ) → y.slot ≡ slot → head_in y ≡ head_of l → y.ledger.span ≡ l.span → is_name y.name ≡ true → y.map.span ≡ y.span → IsLabelled slot y
 unfolding head_of
-state_from l range none y slot at head ledger named map = record {
-  slot_is = at;
-  plain = ap is_plain head ∙ head_bare l range (bare l none);
-  span = let same : y.span ≡ l.span = ap (λ h. h.span) head in omega (arith, same, range.span_greatest);
-  map = map;
-  ledger = subst (λ h. IsLedgerOf (volume_of h) y.ledger) (sym head) (subst (IsLedgerOf (volume_of (head_of l))) (sym ledger) (ledger_from (head_of l)));
-  named = named;
-  label = label_range y (sayable l range y head named);
-}
+labelled_from l range none y slot at head ledger named map =
+    let same : y.span ≡ l.span = ap (λ h. h.span) head in
+    let levels : y.active.levels ≡ l.levels = ap (λ h. h.active.levels) head in
+    record {
+      slot_is = at;
+      form = ap has_form head ∙ head_bare l range (bare l none);
+      span = omega (arith, same, range.span_greatest);
+      map = map;
+      counts = ledger ∙ sym same;
+      levels = omega (arith, levels, range.levels);
+      named = named;
+      label = label_range y (sayable l range y head named);
+    }

@@ -168,7 +168,7 @@ use_same : (map after : Volume) (slots new : Slots) (slot v : ℕ) → is_member
     → use_under after new slot v ≡ use_under map slots slot v
 use_same map after slots new slot v member entry = ap₂ (λ t e. cond t (Some (use_of e)) None) member entry
 
-active_long : (map : Volume) → IsVolume map → length (active_of map) ≡ map.span
+pub active_long : (map : Volume) → IsVolume map → length (active_of map) ≡ map.span
 active_long map is =
     let all = All-get_or (λ (slot : Slot). IfSome slot (λ m. length m ≡ map.span)) map.slots 0 None (omega (arith, is.count)) is.long in
     subst (λ (s : Slot). IfSome s (λ m. length m ≡ map.span)) is.active all

@@ -10,8 +10,9 @@ use Rattle.fv_container.specs.Chains.{Slots, container_at, no_containers, parent
 use Rattle.fv_container.specs.Mapped.{Mapped}
 use Rattle.fv_root.specs.declared.find.Found.{Found}
 use Rattle.fv_volume.specs.declared.state.VolumeState.{VolumeState}
-use Rattle.fv_volume.specs.Loading.{Houses, IsFilled, IsLoaded, KeptTo, LeavesOthers, LoadedTo}
-use Rattle.fv_volume.specs.States.{IsState, States, head_in, parent_in, state_at}
+use Rattle.fv_volume.specs.Files.{IsLabelled}
+use Rattle.fv_volume.specs.Loading.{Houses, IsCounted, IsFilled, IsLoaded, KeptTo, LeavesOthers, LoadedTo}
+use Rattle.fv_volume.specs.States.{States, head_in, parent_in, state_at}
 
 at_front : (xs : States) (x : Option VolumeState) (s : ℕ) → s < length xs → state_at (xs ++ x ∷ []) s ≡ state_at xs s
 at_front [] x s lt = absurd (omega (arith, lt))
@@ -41,20 +42,26 @@ loaded_more i found count states old x new kept was others now = record {
       (cases_eq s count);
 }
 
+-- what holds of each volume of the slots holds with one slot more
+each_more : (P : ℕ → VolumeState → Type 0) (count : ℕ) (states : States) (x : Option VolumeState) → length states ≡ count → ((s : ℕ) → IfSome (state_at states s) (P s)) → IfSome x (P count)
+    → (s : ℕ) → IfSome (state_at (states ++ x ∷ []) s) (P s)
+each_more P count states x long each one s = ⊎_elim
+    (λ (here : s ≡ count). subst (λ k. IfSome (state_at (states ++ x ∷ []) k) (P k)) (sym here)
+    (subst (λ (y : Option VolumeState). IfSome y (P count)) (sym (ap (state_at (states ++ x ∷ [])) (sym long) ∙ at_end states x)) one))
+    (λ (other : s ≢ count). ⊎_elim
+    (λ (before : s < length states). subst (λ (y : Option VolumeState). IfSome y (P s)) (sym (at_front states x s before)) (each s))
+    (λ (after : length states ≤ s). let past : length states < s = omega (arith, after, other, long) in subst (λ (y : Option VolumeState). IfSome y (P s)) (sym (past_end states x s past)) tt)
+    (cases_lt s (length states)))
+    (cases_eq s count)
+
 pub kept_more : (count : ℕ) (states : States) (old : Slots) (x : Option VolumeState) (new : Slots) → KeptTo count states old → LeavesOthers count old new → IsFilled count new x
     → KeptTo (count + 1) (states ++ x ∷ []) new
 kept_more count states old x new kept leaves filled = record {
   long = length-append states (x ∷ []) ∙ omega (arith, kept.long);
   few = leaves.few;
   free = λ s le. leaves.others s (omega (arith, le)) ∙ kept.free s (omega (arith, le));
-  each = λ s. ⊎_elim
-      (λ (here : s ≡ count). subst (λ k. IfSome (state_at (states ++ x ∷ []) k) (IsState k)) (sym here)
-      (subst (λ (y : Option VolumeState). IfSome y (IsState count)) (sym (ap (state_at (states ++ x ∷ [])) (sym kept.long) ∙ at_end states x)) filled.state))
-      (λ (other : s ≢ count). ⊎_elim
-      (λ (before : s < length states). subst (λ (y : Option VolumeState). IfSome y (IsState s)) (sym (at_front states x s before)) (kept.each s))
-      (λ (after : length states ≤ s). let past : length states < s = omega (arith, after, other, kept.long) in subst (λ (y : Option VolumeState). IfSome y (IsState s)) (sym (past_end states x s past)) tt)
-      (cases_lt s (length states)))
-      (cases_eq s count);
+  each = each_more IsLabelled count states x kept.long kept.each filled.state;
+  counted = each_more (λ s. IsCounted) count states x kept.long kept.counted filled.counted;
   housed = λ s. ⊎_elim
       (λ (here : s ≡ count). subst (λ k. Houses (state_at (states ++ x ∷ []) k) (container_at new k)) (sym here)
       (subst (λ (y : Option VolumeState). Houses y (container_at new count)) (sym (ap (state_at (states ++ x ∷ [])) (sym kept.long) ∙ at_end states x)) filled.housed))
@@ -77,7 +84,7 @@ kept_more count states old x new kept leaves filled = record {
 pub no_parent_yet : (count : ℕ) (states : States) (slots : Slots) → KeptTo count states slots → parent_at slots count ≡ None
 no_parent_yet count states slots kept = kept.parents count ∙ ap parent_in (get_or_past states count None (omega (arith, kept.long)))
 
-none_in : {X : Type 0} (n s : ℕ) → ◌≡◌ {A = Option X} (slice_index_or (replicate n None) s None) None
+pub none_in : {X : Type 0} (n s : ℕ) → ◌≡◌ {A = Option X} (slice_index_or (replicate n None) s None) None
 none_in zero s = refl
 none_in (suc n) zero = refl
 none_in (suc n) (suc s) = none_in n s
@@ -95,7 +102,8 @@ kept_none states containers empty none = record {
   long = ap length empty;
   few = ap (λ (c : Slots). length c.containers) none ∙ length-replicate {A = Option Mapped} slot_count None;
   free = λ s le. ap (λ (c : Slots). container_at c s) none ∙ none_in slot_count s;
-  each = λ s. subst (λ (xs : States). IfSome (state_at xs s) (IsState s)) (sym empty) (nothing s);
+  each = λ s. subst (λ (xs : States). IfSome (state_at xs s) (IsLabelled s)) (sym empty) (nothing IsLabelled s);
+  counted = λ s. subst (λ (xs : States). IfSome (state_at xs s) IsCounted) (sym empty) (nothing (λ s. IsCounted) s);
   housed = λ s. subst (λ (xs : States). Houses (state_at xs s) (container_at containers s)) (sym empty) (homeless s (container_at containers s));
   parents = λ s. ap (λ (c : Slots). parent_at c s) none ∙ none_in slot_count s ∙ sym (ap (λ (xs : States). parent_in (state_at xs s)) empty ∙ parentless s);
 }
@@ -108,6 +116,6 @@ kept_none states containers empty none = record {
     parentless zero = refl
     parentless (suc s) = refl
 
-    nothing : (s : ℕ) → IfSome (state_at [] s) (IsState s)
-    nothing zero = tt
-    nothing (suc s) = tt
+    nothing : (P : ℕ → VolumeState → Type 0) (s : ℕ) → IfSome (state_at [] s) (P s)
+    nothing P zero = tt
+    nothing P (suc s) = tt

@@ -1,12 +1,45 @@
 -- What a session with trees in memory tells.
-use Rattle.std.proofs.Common.{◌≡◌, ℕ, None}
+use Rattle.std.proofs.Common.{◌≡◌, ℕ, true, List, map, Option, Some, None, sym, ap, ◌∙◌}
+use Rattle.std.specs.Option.{option_map_or}
+use Rattle.std.specs.FinMap as fin
 use Rattle.fv_disk.specs.Shown.{Image}
-use Rattle.fv_image.specs.Volumes.{told_with, told}
+use Rattle.fv_model.specs.Spelling.{name_cmp}
+use Rattle.fv_model.specs.Tables.{Table, empty_table}
+use Rattle.fv_tables.specs.Spelled.{Under}
+use Rattle.fv_tables.specs.Told.{standing_at, table_told}
+use Rattle.fv_image.specs.Chains.{under}
+use Rattle.fv_image.specs.Views.{Rooted, Snap, Head, View}
+use Rattle.fv_image.specs.Volumes.{snap_told, base_from, volume_with, told_with, told}
+use Rattle.fv_image.proofs.LoneTables.{form_snapshots, form_base}
 use Rattle.fv_volume.specs.declared.pool.Pool.{Pool}
+use Rattle.fv_volume.specs.Files.{has_form}
 use Rattle.fv_volume.specs.States.{States, view_over}
-use Rattle.fv_volume.specs.Trees.{Trees, active_by, machine_in}
+use Rattle.fv_volume.specs.Trees.{Changed, Trees, active_by, machine_in, standing_in}
 
 -- With no tree in memory a session stands for what its view tells.
 pub unchanged_machine : (pool : Pool) (states : States) (trees : Trees) (i : Image) → ((s : ℕ) → trees s ≡ None) → machine_in pool states trees i ≡ told (view_over pool states i)
 unfolding machine_in
 unchanged_machine pool states trees i none = λ j. told_with (view_over pool states i) (λ s. active_by (view_over pool states i) s (none s j))
+
+-- A volume without snapshots and base is told by its head and its active table alone.
+pub told_alike : (w u : View) (s : ℕ) (h : Head) (root : Rooted) (a b : Table) → has_form h ≡ true → b ≡ a → volume_with u s (record h { active = root }) b ≡ volume_with w s h a
+unfolding volume_with
+told_alike w u s h root a b form same =
+    let snaps = form_snapshots h form in
+    let base = form_base h form in
+    λ i. record {
+      kind = h.kind;
+      size = h.size;
+      most = h.most;
+      span = h.span;
+      now = h.now;
+      active = same i;
+      snapshots = (ap (λ (ps : List Snap). fin.from_entries {R = name_cmp} (map (snap_told u s) ps)) snaps ∙ sym (ap (λ (ps : List Snap). fin.from_entries {R = name_cmp} (map (snap_told w s) ps)) snaps)) i;
+      base = (ap (base_from u) base ∙ sym (ap (base_from w) base)) i;
+      known = h.known;
+    }
+
+-- A slot with the same head, over the same blocks, has the same active table.
+pub same_active : (w u : View) (k : ℕ) → under u k ≡ under w k → u.head k ≡ w.head k → (o : Option Changed) → active_by u k o ≡ active_by w k o
+same_active w u k same head None = λ i. option_map_or (λ (h : Head). table_told (standing_at (same i) h.active.levels h.active.root)) (head i) empty_table
+same_active w u k same head (Some c) = ap (λ (blocks : Under). table_told (standing_in blocks c)) same

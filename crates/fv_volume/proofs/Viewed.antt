@@ -1,40 +1,51 @@
 -- What is loaded tells what its image tells.
-use Rattle.std.proofs.Common.{◌≡◌, ◌<◌, ◌≤◌, ℕ, zero, suc, Bool, true, false, cond, not, nat_lt, List, [], ◌∷◌, length, Option, Some, None, get_or, refl, sym, ap, ◌∙◌, ⊎_elim, arith}
-use Rattle.std.specs.Prelude.{IfSome, ◌==◌}
-use Rattle.std.specs.List.{list_all, range_with_len}
-use Rattle.std.specs.Cmp.{eq_by_cmp_equiv}
-use Rattle.std.specs.Option.{is_some, option_map}
-use Rattle.fv_model.specs.Spelling.{is_same_name, name_cmp}
-use Rattle.fv_laws.proofs.Orders.{name_total}
-use Rattle.fv_image.specs.Sound.{has_distinct_names, share_name}
-use Rattle.fv_image.proofs.Kept.{at_number}
-use Rattle.fv_volume.specs.Slots.{is_named}
-use Rattle.fv_volume.proofs.Told.{none_named, some_named}
+use Rattle.std.proofs.Common.{◌≡◌, ◌≢◌, ◌<◌, ◌≤◌, ◌⊎◌, ℕ, true, false, cond, nat_lt, List, length, Option, Some, None, get_or, true≢false, inl, inr, refl, sym, ap, subst, ◌∙◌, ⊎_elim, arith}
+use Rattle.std.specs.Prelude.{IfSome, ◌==◌, Bool}
+use Rattle.std.specs.Option.{option_map, option_map_or}
 use Rattle.std.specs.FinMap as fin
 use Rattle.std.specs.Ordering.{nat_cmp}
-use Rattle.std.proofs.lemmas.Bool.{both_ways, cases_lt}
+use Rattle.std.proofs.lemmas.Bool.{cases_eq, cases_lt}
 use Rattle.std.proofs.lemmas.Bool.Decides.{nat_tests}
 use Rattle.std.proofs.lemmas.List.{get_or_past}
 use Rattle.std.proofs.lemmas.List.Elements.{All-get_or}
 use Rattle.fv_disk.specs.Shown.{Image}
+use Rattle.fv_bits.specs.Members.{is_member}
 use Rattle.fv_codec.specs.declared.label.Label.{Label}
 use Rattle.fv_model.specs.Machines.{Machine}
+use Rattle.fv_model.specs.Spelling.{is_same_name}
+use Rattle.fv_model.specs.Tables.{Table, empty_table}
+use Rattle.fv_laws.specs.WellFormed.{IsWellTable}
+use Rattle.fv_laws.specs.Positions.{HasNoReserve}
+use Rattle.fv_laws.proofs.Changes.{itself}
 use Rattle.fv_image.specs.Containers.{container_entry}
-use Rattle.fv_image.specs.Views.{Placed, head_of, slots}
+use Rattle.fv_image.specs.Views.{Head, Placed, View, head_of, volume_bit}
 use Rattle.fv_image.specs.Held.{entry_from, label_in, label_place, layout_at, lying_at, placed, view_at}
-use Rattle.fv_image.specs.Told.{told}
-use Rattle.fv_image.specs.MachineOf.{Tells}
+use Rattle.fv_image.specs.Sound.{share_name}
+use Rattle.fv_image.specs.Volumes.{table_at, volume_with, volume_told, told}
+use Rattle.fv_image.specs.Seen.{seen}
+use Rattle.fv_image.specs.Soundness.{AreTables, AreMaps}
+use Rattle.fv_image.specs.WholeMachine.{Tells}
+use Rattle.fv_image.proofs.LoneTables.{built_reserves, form_snapshots, form_base, lone_reserves}
+use Rattle.fv_image.proofs.WellLabels.{names_apart, numbers_at, volumes_are_well}
+use Rattle.fv_charge.specs.Ledgers.{IsLedgerOf}
 use Rattle.fv_container.specs.declared.entry.Entry.{Entry}
 use Rattle.fv_container.specs.Chains.{Slots, container_at, own_entry, slot_count}
 use Rattle.fv_container.specs.Mapped.{IsHeld, IsMapped, Mapped, entry_under}
 use Rattle.fv_container.specs.Spelled.{pair_of}
 use Rattle.fv_root.specs.declared.find.Found.{Found}
 use Rattle.fv_root.specs.Finding.{root_found}
+use Rattle.fv_volmap.specs.Slots.{active_of}
 use Rattle.fv_volume.specs.declared.pool.Pool.{Pool}
 use Rattle.fv_volume.specs.declared.state.VolumeState.{VolumeState}
+use Rattle.fv_volume.specs.Files.{AreNamed, AreStates, IsLabelled, IsState}
 use Rattle.fv_volume.specs.Keeping.{Blocks, kept_or}
-use Rattle.fv_volume.specs.Loading.{IsContainerOf, KeptTo, LoadedTo, label_of}
-use Rattle.fv_volume.specs.States.{AreDistinct, AreStates, States, named_states, head_in, machine_in, placed_in, state_at, view_over}
+use Rattle.fv_volume.specs.Loading.{IsContainerOf, IsCounted, KeptTo, LoadedTo, label_of}
+use Rattle.fv_volume.specs.States.{States, head_in, placed_in, state_at, view_over}
+use Rattle.fv_volume.specs.Trees.{active_in, machine_in, no_trees}
+use Rattle.fv_volume.proofs.Counted.{counted_ledger}
+use Rattle.fv_volume.proofs.Made.{from_pairs}
+use Rattle.fv_volume.proofs.Told.{is_inside}
+use Rattle.fv_volume.proofs.Trees.{unchanged_machine}
 
 module _ (kept : Blocks) (i : Image) (empty : (b : ℕ) → fin.get kept b ≡ None) where
   placed_pair : (e : Option Entry) → IfSome e IsHeld → placed_in kept i e ≡ placed i (pair_of e)
@@ -67,7 +78,7 @@ module _ (kept : Blocks) (i : Image) (empty : (b : ℕ) → fin.get kept b ≡ N
       ∙ ap (placed i) (sym (is.0.entries v))
       ∙ ap (λ n. placed i (container_entry i l.container l.height n v)) is.1.0
 
-module _ (found : Found) (i : Image) (states : States) (containers : Slots) (kept : KeptTo slot_count states containers) (loaded : LoadedTo i found slot_count states containers) where
+module _ (found : Found) (i : Image) (states : States) (containers : Slots) (long : length states ≡ 64) (few : length containers.containers ≡ 64) (loaded : LoadedTo i found slot_count states containers) where
   no_label : (s : ℕ) → 64 ≤ s → label_of found i s ≡ None
   unfolding label_place label_in
   no_label s past = let test : nat_lt s 64 ≡ false = grind (arith, nat_tests, past) in ap (λ t. label_in (lying_at i (cond t (get_or found.root.labels s 0) 0))) test
@@ -75,89 +86,124 @@ module _ (found : Found) (i : Image) (states : States) (containers : Slots) (kep
   head_is : (s : ℕ) → option_map head_in (state_at states s) ≡ option_map head_of (label_of found i s)
   head_is s = ⊎_elim
       (λ (inside : s < 64). (loaded.each s inside).head)
-      (λ (past : 64 ≤ s). ap (option_map head_in) (get_or_past states s None (omega (arith, past, kept.long))) ∙ sym (ap (option_map head_of) (no_label s past)))
+      (λ (past : 64 ≤ s). ap (option_map head_in) (get_or_past states s None (omega (arith, past, long))) ∙ sym (ap (option_map head_of) (no_label s past)))
       (cases_lt s 64)
 
   entry_is : (blocks : Blocks) → ((b : ℕ) → fin.get blocks b ≡ None) → (s v : ℕ) → placed_in blocks i (own_entry (container_at containers s) v) ≡ entry_from (label_of found i s) i v
   unfolding entry_from
   entry_is blocks empty s v = ⊎_elim
       (λ (inside : s < 64). entry_of blocks i empty (label_of found i s) (container_at containers s) v (loaded.each s inside).tree)
-      (λ (past : 64 ≤ s). ap (λ c. placed_in blocks i (own_entry c v)) (get_or_past containers.containers s None (omega (arith, past, kept.few))) ∙ sym (ap (λ (l : Option Label). entry_from l i v) (no_label s past)))
+      (λ (past : 64 ≤ s). ap (λ c. placed_in blocks i (own_entry c v)) (get_or_past containers.containers s None (omega (arith, past, few))) ∙ sym (ap (λ (l : Option Label). entry_from l i v) (no_label s past)))
       (cases_lt s 64)
 
--- a session that was just loaded has the view of its image
-pub viewed : (pool : Pool) (i : Image) (states : States) → KeptTo slot_count states pool.containers → LoadedTo i pool.found slot_count states pool.containers → pool.kept ≡ fin.empty
+-- a session of what stands on its disk has the view of its image
+pub viewed : (pool : Pool) (i : Image) (states : States) → length states ≡ 64 → length pool.containers.containers ≡ 64 → LoadedTo i pool.found slot_count states pool.containers → pool.kept ≡ fin.empty
     → view_over pool states i ≡ view_at (root_found pool.found) i
 unfolding view_over view_at
-viewed pool i states kept loaded none =
+viewed pool i states long few loaded none =
     let empty : (b : ℕ) → fin.get pool.kept b ≡ None = λ b. ap (λ (m : Blocks). fin.get m b) none ∙ fin.get-empty nat_cmp b in
     λ j. record {
       blocks = pool.found.blocks;
       version = pool.found.root.version;
-      head = λ s. head_is pool.found i states pool.containers kept loaded s j;
-      entry = λ s v. entry_is pool.found i states pool.containers kept loaded pool.kept empty s v j;
+      head = λ s. head_is pool.found i states pool.containers long few loaded s j;
+      entry = λ s v. entry_is pool.found i states pool.containers long few loaded pool.kept empty s v j;
     }
 
-pub loaded_machine : (pool : Pool) (i : Image) (states : States) → KeptTo slot_count states pool.containers → LoadedTo i pool.found slot_count states pool.containers → pool.kept ≡ fin.empty
-    → (m : Machine) → Tells (layout_at (root_found pool.found) i) m → machine_in pool states i ≡ m
-unfolding layout_at
-loaded_machine pool i states kept loaded none m is = ap told (viewed pool i states kept loaded none) ∙ is.machine
+module _ (pool : Pool) (i : Image) (states : States) (kept : KeptTo slot_count states pool.containers) (loaded : LoadedTo i pool.found slot_count states pool.containers) (none : pool.kept ≡ fin.empty)
+    (m : Machine) (is : Tells (layout_at (root_found pool.found) i) m) where
+  abbrev w : View
+  w = view_at (root_found pool.found) i
 
--- ---- names
+  seen_alike : view_over pool states i ≡ w
+  seen_alike = viewed pool i states kept.long kept.few loaded none
 
-turned : (a b : List ℕ) → is_same_name a b ≡ is_same_name b a
-turned a b = (eq_by_cmp_equiv name_total).symm a b
+  pub loaded_machine : machine_in pool states no_trees i ≡ m
+  unfolding layout_at
+  loaded_machine = unchanged_machine pool states no_trees i (λ s. refl) ∙ ap told seen_alike ∙ is.machine
 
-abbrev share : States → ℕ → ℕ → Bool
-share xs e s = share_name (option_map head_in (state_at xs e)) (option_map head_in (state_at xs s))
+  -- ---- names
 
-unnamed : (x : VolumeState) (y : Option VolumeState) → share_name (Some (head_in x)) (option_map head_in y) ≡ false → is_named y x.name ≡ false
-unnamed x None is = refl
-unnamed x (Some y) is = turned y.name x.name ∙ is
+  alike : (s k : ℕ) (a b : VolumeState) → state_at states s ≡ Some a → state_at states k ≡ Some b → a.name ≡ b.name → share_name (w.head s) (w.head k) ≡ true
+  unfolding view_at
+  alike s k a b here there same =
+      (λ j. share_name (sym (head_is pool.found i states pool.containers kept.long kept.few loaded s) j) (sym (head_is pool.found i states pool.containers kept.long kept.few loaded k) j))
+      ∙ (λ j. share_name (option_map head_in (here j)) (option_map head_in (there j)))
+      ∙ ap (λ (n : List ℕ). is_same_name n b.name) same ∙ itself b.name
 
-pub distinct_from : (xs : States) → ((e s : ℕ) → e < s → s < length xs → share xs e s ≡ false) → AreDistinct (named_states xs)
-distinct_from [] apart = tt
-distinct_from (None ∷ xs) apart = distinct_from xs (λ e s lt inside. apart (suc e) (suc s) (omega (arith, lt)) (omega (arith, inside)))
-distinct_from (Some x ∷ xs) apart = (
-  none_named xs x.name (λ s inside. unnamed x (state_at xs s) (apart 0 (suc s) (omega arith) (omega (arith, inside)))),
-  distinct_from xs (λ e s lt inside. apart (suc e) (suc s) (omega (arith, lt)) (omega (arith, inside))),
-)
+  -- ---- each volume
 
-opposite : (b : Bool) → not b ≡ true → b ≡ false
-opposite true is = sym is
-opposite false is = refl
+  module _ (whole : (b : ℕ) → length (i b) ≡ 4096) (s : ℕ) (x : VolumeState) (there : state_at states s ≡ Some x) where
+    small : s < 64
+    small = is_inside states s x kept.long there
 
--- over an image that stands for a machine, the volumes are those of a machine
-pub loaded_states : (found : Found) (i : Image) (states : States) (containers : Slots) → KeptTo slot_count states containers → LoadedTo i found slot_count states containers
-    → (m : Machine) → Tells (layout_at (root_found found) i) m → AreStates states
-unfolding layout_at view_at has_distinct_names slots
-loaded_states found i states containers kept loaded m is = record {
-  each = kept.each;
-  names = distinct_from states (λ e s lt inside.
-      let within : s < 64 = omega (arith, inside, kept.long) in
-      let outer = at_number (λ k. list_all (λ earlier. not (share_name (option_map head_of (label_of found i earlier)) (option_map head_of (label_of found i k)))) (range_with_len 0 k)) 0 64 s is.sound.names (omega arith) (omega (arith, within)) in
-      let inner = at_number (λ earlier. not (share_name (option_map head_of (label_of found i earlier)) (option_map head_of (label_of found i s)))) 0 s e outer (omega arith) (omega (arith, lt)) in
-      (λ j. share_name (head_is found i states containers kept loaded e j) (head_is found i states containers kept loaded s j)) ∙ opposite (share_name (option_map head_of (label_of found i e)) (option_map head_of (label_of found i s))) inner);
-}
+    there_is : w.head s ≡ Some (head_in x)
+    unfolding view_at
+    there_is = sym (head_is pool.found i states pool.containers kept.long kept.few loaded s) ∙ ap (option_map head_in) there
 
--- names of a machine's volumes are apart
-shared : (x : VolumeState) (y : Option VolumeState) → is_named y x.name ≡ false → share_name (Some (head_in x)) (option_map head_in y) ≡ false
-shared x None is = refl
-shared x (Some y) is = turned x.name y.name ∙ is
+    labelled : IsLabelled s x
+    labelled = subst (λ (o : Option VolumeState). IfSome o (IsLabelled s)) there (kept.each s)
 
-not_named : (xs : States) (name : List ℕ) (s : ℕ) → fin.find name_cmp name (named_states xs) ≡ None → is_named (state_at xs s) name ≡ false
-not_named xs name s none = so (is_named (state_at xs s) name) refl
-  where
-    so : (t : Bool) → is_named (state_at xs s) name ≡ t → t ≡ false
-    so true e = absurd (both_ways _ (ap is_some none) (some_named xs s name e))
-    so false e = refl
+    is_counted : IsCounted x
+    is_counted = subst (λ (o : Option VolumeState). IfSome o IsCounted) there (kept.counted s)
 
-pub apart_from : (xs : States) → AreDistinct (named_states xs) → (e s : ℕ) → e < s → s < length xs → share xs e s ≡ false
-apart_from [] distinct e s lt inside = absurd (omega (arith, inside))
-apart_from (None ∷ xs) distinct zero s lt inside = refl
-apart_from (None ∷ xs) distinct (suc e) zero lt inside = absurd (omega (arith, lt))
-apart_from (None ∷ xs) distinct (suc e) (suc s) lt inside = apart_from xs distinct e s (omega (arith, lt)) (omega (arith, inside))
-apart_from (Some x ∷ xs) distinct zero zero lt inside = absurd (omega (arith, lt))
-apart_from (Some x ∷ xs) distinct zero (suc s) lt inside = shared x (state_at xs s) (not_named xs x.name s distinct.0)
-apart_from (Some x ∷ xs) distinct (suc e) zero lt inside = absurd (omega (arith, lt))
-apart_from (Some x ∷ xs) distinct (suc e) (suc s) lt inside = apart_from xs distinct.1 e s (omega (arith, lt)) (omega (arith, inside))
+    bits : (v : ℕ) → is_member (active_of x.map) v ≡ volume_bit w s x.span 0 v
+    bits = subst (λ (o : Option VolumeState). IfSome o (λ x. (v : ℕ) → is_member (active_of x.map) v ≡ volume_bit w s x.span 0 v)) there (loaded.each s small).bits
+
+    tables : AreTables (seen w)
+    unfolding layout_at
+    tables = is.sound.tables
+
+    maps : AreMaps w
+    unfolding layout_at
+    maps = is.sound.maps
+
+    reserves : HasNoReserve (table_at w s (head_in x).active)
+    unfolding layout_at
+    reserves = lone_reserves w s (head_in x) small there_is (built_reserves w is.built)
+
+    table : IsWellTable x.now (table_at w s (head_in x).active)
+    unfolding volume_with
+    table = (volumes_are_well (root_found pool.found) i whole tables s (head_in x) small there_is).active
+
+    ledger : IsLedgerOf (volume_told w s (head_in x)) x.ledger
+    ledger = subst (IsLedgerOf (volume_told w s (head_in x))) (sym is_counted.ledger)
+        (counted_ledger w s (head_in x) small there_is tables maps (numbers_at (root_found pool.found) i whole s (head_in x) there_is) (form_snapshots (head_in x) labelled.form) (form_base (head_in x) labelled.form) reserves
+        (active_of x.map) (is_counted.long ∙ labelled.map) bits)
+
+    active_is : active_in w no_trees s ≡ table_at w s (head_in x).active
+    active_is = ap (λ (o : Option Head). option_map_or (λ h. table_at w s h.active) o empty_table) there_is
+
+    pub loaded_state : IsState w no_trees s x
+    loaded_state = record {
+      labelled = labelled;
+      table = subst (λ (t : Table). IsWellTable x.now t) (sym active_is) table;
+      reserves = subst HasNoReserve (sym active_is) reserves;
+      ledger = subst (λ (t : Table). IsLedgerOf (volume_with w s (head_in x) t) x.ledger) (sym active_is) ledger;
+    }
+
+  module _ (whole : (b : ℕ) → length (i b) ≡ 4096) where
+    apart : (s k : ℕ) (a b : VolumeState) → state_at states s ≡ Some a → state_at states k ≡ Some b → a.name ≡ b.name → s < k → ⊥
+    unfolding layout_at
+    apart s k a b here there same lt = true≢false (sym (alike s k a b here there same) ∙ names_apart (root_found pool.found) i whole is.sound.names k s (is_inside states k b kept.long there) lt)
+
+    names : AreNamed states
+    names = from_pairs states (λ s k a b here there same. by s k a b here there same (cases_eq s k))
+      where
+        by : (s k : ℕ) (a b : VolumeState) → state_at states s ≡ Some a → state_at states k ≡ Some b → a.name ≡ b.name → (s ≡ k) ⊎ (s ≢ k) → s ≡ k
+        by s k a b here there same (inl e) = e
+        by s k a b here there same (inr differ) = ⊎_elim
+            (λ (before : s < k). absurd (apart s k a b here there same before))
+            (λ (after : k ≤ s). absurd (apart k s b a there here (sym same) (omega (arith, after, differ))))
+            (cases_lt s k)
+
+    -- Over an image that stands for a machine, the volumes are those of a machine.
+    pub loaded_states : AreStates (view_over pool states i) no_trees states
+    loaded_states = subst (λ (v : View). AreStates v no_trees states) (sym seen_alike) (record {
+      each = λ s. so s (state_at states s) refl;
+      names = names;
+      empty = λ s none. refl;
+    })
+      where
+        so : (s : ℕ) (o : Option VolumeState) → state_at states s ≡ o → IfSome o (IsState w no_trees s)
+        so s None there = tt
+        so s (Some x) there = loaded_state whole s x there

@@ -59,6 +59,7 @@ pub record IsNew (state : Option VolumeState) (container : Option Mapped) (name 
   pub state_is : state ≡ Some volume
   pub head : head_in volume ≡ empty_head name size kind (span_of size 0 0)
   pub map : volume.map ≡ empty_volume volume.span
+  pub ledger : volume.ledger ≡ ledger_of_empty size kind (span_of size 0 0)
   pub label : volume.label ≡ 0
   pub changed : volume.changed ≡ true
   pub holes : container ≡ Some (empty_map (entry_count volume.span))

@@ -1,6 +1,5 @@
--- When volumes with files are volumes of the machine that they stand for.
-use Rattle.std.specs.Prelude.{◌≡◌, ◌≤◌, ℕ, Bool, true, ◌&&◌, None, IfSome}
-use Rattle.std.specs.Option.{is_none}
+-- When volumes are volumes of the machine that they stand for.
+use Rattle.std.specs.Prelude.{◌≡◌, ◌≤◌, ℕ, true, None, IfSome}
 use Rattle.fv_disk.specs.Shown.{Image}
 use Rattle.fv_codec.specs.Blocks.{IsLabel, last_place}
 use Rattle.fv_model.specs.Numbers.{greatest_span}
@@ -8,25 +7,23 @@ use Rattle.fv_model.specs.Spelling.{is_name}
 use Rattle.fv_model.specs.Machines.{Machine}
 use Rattle.fv_laws.specs.WellFormed.{IsWellTable}
 use Rattle.fv_laws.specs.Positions.{HasNoReserve}
-use Rattle.fv_image.specs.Told.{has_none}
-use Rattle.fv_image.specs.Views.{Head, View}
+use Rattle.fv_image.specs.Views.{View}
 use Rattle.fv_charge.specs.Ledgers.{IsLedgerOf}
 use Rattle.fv_volume.specs.declared.state.VolumeState.{VolumeState}
 use Rattle.fv_volume.specs.declared.pool.Pool.{Pool}
 use Rattle.fv_volume.specs.Labels.{label_said}
 use Rattle.fv_volume.specs.States.{States, state_at, head_in, view_over}
 use Rattle.fv_volume.specs.Trees.{Trees, active_in, volume_now, machine_in}
+-- The forms of volumes that there are: no snapshot, no base and no unknown place.
+pub use Rattle.fv_image.specs.WholeMachine.{has_form}
 
--- The forms of volumes with files that there are: no snapshot, no base and no unknown place.
-abbrev pub has_form : Head → Bool
-has_form h = has_none h.snapshots && (is_none h.base && h.known)
-
--- what a volume's label rests on, whatever its table holds: its numbers and its name. It looks at no image.
+-- What a volume's label and its commit rest on, whatever its table holds: its numbers and its name. It looks at no image.
 pub record IsLabelled (slot : ℕ) (x : VolumeState) : Type 0 where
   pub slot_is : x.slot ≡ slot
   pub form : has_form (head_in x) ≡ true
   pub span : x.span ≤ greatest_span
   pub map : x.map.span ≡ x.span
+  pub counts : x.ledger.span ≡ x.span
   pub levels : x.active.levels ≤ 2
   pub named : is_name x.name ≡ true
   pub label : (container height : ℕ) → container ≤ last_place → 1 ≤ height → height ≤ 2 → IsLabel (label_said x container height)

@@ -1,4 +1,4 @@
--- The label of a volume without files, snapshots and base.
+-- The label of a volume without snapshots and base.
 use Rattle.std.specs.Prelude.{ℕ, ◌-◌, ◌++◌, length, replicate}
 use Rattle.fv_codec.specs.declared.pointer.Pointer.{Pointer}
 use Rattle.fv_codec.specs.declared.label.SnapRecord.{SnapRecord}
@@ -21,7 +21,7 @@ kind_number Whole = 0
 kind_number ByFile = 1
 kind_number Thin = 2
 
--- what a plain volume's label says, with the place and the height of its container's tree
+-- what such a volume's label says, with the place and the height of its container's tree
 unfoldable pub label_said : VolumeState → ℕ → ℕ → Label
 label_said x container height = record {
   name_length = length x.name;

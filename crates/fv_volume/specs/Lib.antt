@@ -13,5 +13,16 @@ pub mod Files
 pub mod Charging
 pub mod Lending
 pub mod LendingLaws
+pub mod Dropping
+pub mod DroppingLaws
 pub mod Flushed
 pub mod Flushing
+pub mod Stored
+pub mod Writing
+pub mod Housed
+pub mod UnderRoot
+pub mod OneVolume
+pub mod Paths
+pub mod Calls
+pub mod Changing
+pub mod Placing

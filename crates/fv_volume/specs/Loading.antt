@@ -1,5 +1,5 @@
 -- Volumes as they are read from their labels.
-use Rattle.std.specs.Prelude.{◌≡◌, ◌≢◌, ◌<◌, ◌≤◌, ◌+◌, ◌-◌, ◌⊎◌, ◌*◌, ℕ, Bool, false, not, ◌&&◌, ◌==◌, nat_lt, nat_le, if◌then◌else◌, List, [], length, find, Option, Some, None, IfSome, Ok, Err}
+use Rattle.std.specs.Prelude.{◌≡◌, ◌≢◌, ◌<◌, ◌≤◌, ◌+◌, ◌-◌, ◌⊎◌, ◌*◌, ℕ, Bool, false, not, ◌&&◌, ◌==◌, nat_lt, if◌then◌else◌, List, [], length, find, Option, Some, None, IfSome, Ok, Err}
 use Rattle.std.specs.List.{list_any, range_with_len}
 use Rattle.std.specs.Option.{is_some, option_map}
 use Rattle.fv_disk.specs.Shown.{Image}
@@ -20,9 +20,12 @@ use Rattle.fv_root.specs.declared.find.Found.{Found}
 use Rattle.fv_root.specs.Finding.{root_found}
 use Rattle.fv_disk.specs.declared.fault.BlockFault.{BlockFault}
 use Rattle.fv_disk.specs.declared.fault.BlockFault.TheVariants.{DiskFault, Damaged, Memory}
+use Rattle.fv_charge.specs.declared.ledger.Ledger.{Ledger}
+use Rattle.fv_charge.specs.Counted.{charge_counted}
 use Rattle.fv_volume.specs.declared.state.VolumeState.{VolumeState}
 use Rattle.fv_container.specs.Chains.{Slots, container_at, parent_at, slot_count}
-use Rattle.fv_volume.specs.States.{IsState, States, head_in, parent_in, place_in, state_at}
+use Rattle.fv_volume.specs.States.{States, head_in, parent_in, place_in, state_at}
+use Rattle.fv_volume.specs.Files.{IsLabelled}
 
 -- ---- forms that can't be loaded yet
 
@@ -33,13 +36,12 @@ is_used r = not (r.name_length == 0)
 abbrev pub first_used : List SnapRecord → Option (ℕ × ℕ)
 first_used records = option_map (λ r. (0, r.name_length)) (find is_used records)
 
--- The first field of a label that is set by a form which can't be loaded yet: a base, an unknown place, a file, a snapshot. It comes
+-- The first field of a label that is set by a form which can't be loaded yet: a base, an unknown place, a snapshot. It comes
 -- with the value that it has without the form, and the one that it has.
 unfoldable pub form_in : Label → Option (ℕ × ℕ)
 form_in l =
     if not (l.parent == 0) then Some (0, l.parent)
     else if l.known == 0 then Some (1, 0)
-    else if not (l.root.stamp == 0) then Some (0, l.root.stamp)
     else first_used l.snapshots
 
 -- ---- faults
@@ -123,18 +125,29 @@ pub record HasRead (i : Image) (map : Mapped) (span count : ℕ) (volume : Volum
 unfoldable pub active_bit : Image → Mapped → ℕ → ℕ → Bool
 active_bit i map span v = nat_lt v (block_bits * map_blocks span) && bit_of_area (λ k. entry_block i (entry_under map (span + k))) v
 
--- the VVBNs of the active map's blocks
-abbrev pub is_map_vvbn : ℕ → ℕ → Bool
-is_map_vvbn span v = nat_le span v && nat_lt v (span + map_blocks span)
+-- Whether the active map of a volume without snapshots holds a VVBN: one of the span is held where it is a member, and beyond the span the
+-- blocks of the active map are.
+abbrev pub is_kept_vvbn : List Bool → ℕ → ℕ → Bool
+is_kept_vvbn active span v = if nat_lt v span then is_member active v else nat_lt v (span + map_blocks span)
 
--- an entry that isn't a hole, under a VVBN that isn't one of the active map's blocks
-abbrev pub is_delayed_entry : Mapped → ℕ → ℕ → Bool
-is_delayed_entry map span v = is_some (entry_under map v) && not (is_map_vvbn span v)
+-- an entry that isn't a hole, under a VVBN that the active map doesn't hold
+abbrev pub is_delayed_entry : List Bool → Mapped → ℕ → ℕ → Bool
+is_delayed_entry active map span v = is_some (entry_under map v) && not (is_kept_vvbn active span v)
 
--- Whether there is such an entry. A plain volume holds no VVBN outside its active map, so its block was freed in the volume and not yet
--- in the aggregate: the next consistency point gives it back.
-unfoldable pub has_delayed : Mapped → ℕ → Bool
-has_delayed map span = list_any (is_delayed_entry map span) (range_with_len 0 (length map.entries))
+-- Whether there is such an entry: its block was freed in the volume and not yet in the aggregate, so the next consistency point gives it
+-- back.
+unfoldable pub has_delayed : List Bool → Mapped → ℕ → Bool
+has_delayed active map span = list_any (is_delayed_entry active map span) (range_with_len 0 (length map.entries))
+
+-- the ledger of a volume without snapshots, base and reserves, counted from its active map
+abbrev pub ledger_by : VolumeState → Ledger
+ledger_by x = record { charge = charge_counted (active_of x.map) None 0 x.span; need = 0; size = x.size; kind = x.kind; span = x.span }
+
+-- A volume's ledger is counted from its active map, which has each number of its span, and none of its files is in memory.
+pub record IsCounted (x : VolumeState) : Type 0 where
+  pub ledger : x.ledger ≡ ledger_by x
+  pub long : length (active_of x.map) ≡ x.map.span
+  pub none : x.files ≡ None
 
 -- A slot's volume has the head that its label says, with the place of that label, and its container is the one that the label names.
 -- Its active map has the bits of its blocks. It is as the root on the disk has it, and has changed where an entry is delayed.
@@ -143,7 +156,7 @@ pub record IsLoaded (i : Image) (found : Found) (s : ℕ) (state : Option Volume
   pub tree : IsContainerOf i (label_of found i s) container
   pub label : place_in state ≡ label_place (root_found found) s
   pub bits : IfSome state (λ x. (v : ℕ) → is_member (active_of x.map) v ≡ volume_bit (view_at (root_found found) i) s x.span 0 v)
-  pub changed : IfSome state (λ x. IfSome container (λ map. x.changed ≡ has_delayed map x.span))
+  pub changed : IfSome state (λ x. IfSome container (λ map. x.changed ≡ has_delayed (active_of x.map) map x.span))
 
 -- the volumes of the first slots are loaded
 pub record LoadedTo (i : Image) (found : Found) (count : ℕ) (states : States) (containers : Slots) : Type 0 where
@@ -155,9 +168,10 @@ Houses None container = Unit {0}
 Houses (Some x) None = ⊥
 Houses (Some x) (Some map) = length map.entries ≡ entry_count x.span
 
--- A slot has its volume, if there is one, with its container and the slot of its parent.
+-- A slot has its volume, if there is one, with its ledger, its container and the slot of its parent.
 pub record IsFilled (slot : ℕ) (containers : Slots) (x : Option VolumeState) : Type 0 where
-  pub state : IfSome x (IsState slot)
+  pub state : IfSome x (IsLabelled slot)
+  pub counted : IfSome x IsCounted
   pub housed : Houses x (container_at containers slot)
   pub parent : parent_at containers slot ≡ parent_in x
 
@@ -167,11 +181,12 @@ pub record LeavesOthers (slot : ℕ) (old new : Slots) : Type 0 where
   pub others : (s : ℕ) → s ≢ slot → container_at new s ≡ container_at old s
   pub parents : (s : ℕ) → s ≢ slot → parent_at new s ≡ parent_at old s
 
--- the first slots are filled, each with the slot of its volume's parent, and the others have no container and no parent yet
+-- the first slots are filled, each with its ledger and the slot of its volume's parent, and the others have no container and no parent yet
 pub record KeptTo (count : ℕ) (states : States) (containers : Slots) : Type 0 where
   pub long : length states ≡ count
   pub few : length containers.containers ≡ slot_count
   pub free : (s : ℕ) → count ≤ s → container_at containers s ≡ None
-  pub each : (s : ℕ) → IfSome (state_at states s) (IsState s)
+  pub each : (s : ℕ) → IfSome (state_at states s) (IsLabelled s)
+  pub counted : (s : ℕ) → IfSome (state_at states s) IsCounted
   pub housed : (s : ℕ) → Houses (state_at states s) (container_at containers s)
   pub parents : (s : ℕ) → parent_at containers s ≡ parent_in (state_at states s)

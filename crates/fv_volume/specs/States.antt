@@ -1,18 +1,10 @@
--- Volumes as they are kept in memory, as heads; what a pool and volumes tell of together; and when they are volumes of a machine.
-use Rattle.std.specs.Prelude.{◌≡◌, ◌≤◌, ◌*◌, ℕ, true, List, [], ◌∷◌, flat_map, map, slice_set, slice_index_or, Option, Some, None, IfSome}
+-- Volumes as they are kept in memory, as heads; and what a pool and volumes tell of together.
+use Rattle.std.specs.Prelude.{◌*◌, ℕ, true, List, [], map, slice_set, slice_index_or, Option, Some, None}
 use Rattle.std.specs.Option.{option_map}
-use Rattle.std.specs.FinMap as fin
 use Rattle.fv_disk.specs.Shown.{Image}
-use Rattle.fv_codec.specs.Blocks.{IsLabel, last_place}
 use Rattle.fv_model.specs.declared.commands.Kind.{Kind}
-use Rattle.fv_model.specs.Numbers.{greatest_span}
-use Rattle.fv_model.specs.Spelling.{is_name, name_cmp}
-use Rattle.fv_model.specs.Volumes.{Volume}
-use Rattle.fv_model.specs.Machines.{Machine}
 use Rattle.fv_image.specs.Views.{Footing, Head, Placed, View, Rooted as Table, Snap as HeadSnap}
-use Rattle.fv_image.specs.Told.{is_plain, named_volume, told, volume_of}
 use Rattle.fv_charge.specs.declared.ledger.Ledger.{Ledger}
-use Rattle.fv_charge.specs.Ledgers.{IsLedgerOf}
 use Rattle.fv_container.specs.declared.entry.Entry.{Entry}
 use Rattle.fv_container.specs.Chains.{container_at, own_entry}
 use Rattle.fv_volume.specs.declared.state.Base.{Base}
@@ -21,7 +13,7 @@ use Rattle.fv_volume.specs.declared.state.Snap.{Snap}
 use Rattle.fv_volume.specs.declared.state.VolumeState.{VolumeState}
 use Rattle.fv_volume.specs.declared.pool.Pool.{Pool}
 use Rattle.fv_volume.specs.Keeping.{Blocks, seen}
-use Rattle.fv_volume.specs.Labels.{hole, label_said}
+use Rattle.fv_volume.specs.Labels.{hole}
 
 -- ---- heads
 
@@ -103,36 +95,3 @@ view_over pool states i = record {
   head = λ s. option_map head_in (state_at states s);
   entry = λ s v. placed_in pool.kept i (own_entry (container_at pool.containers s) v);
 }
-
--- the machine that they stand for; it depends on no block
-abbrev pub machine_in : Pool → States → Image → Machine
-machine_in pool states i = told (view_over pool states i)
-
--- ---- when they are volumes of a machine
-
--- a volume with its name, or nothing
-abbrev pub named_state : Option VolumeState → List (List ℕ × Volume)
-named_state x = named_volume (option_map head_in x)
-
--- the volumes with their names in the order of their slots
-abbrev pub named_states : States → List (List ℕ × Volume)
-named_states states = flat_map named_state states
-
--- no name stands twice
-abbrev pub AreDistinct : List (List ℕ × Volume) → Type 0
-AreDistinct [] = Unit {0}
-AreDistinct (e ∷ es) = (fin.find name_cmp e.0 es ≡ None) × AreDistinct es
-
--- a volume that is told whole, in its slot, with its ledger, and with a label that can be written
-pub record IsState (slot : ℕ) (x : VolumeState) : Type 0 where
-  pub slot_is : x.slot ≡ slot
-  pub plain : is_plain (head_in x) ≡ true
-  pub span : x.span ≤ greatest_span
-  pub map : x.map.span ≡ x.span
-  pub ledger : IsLedgerOf (volume_of (head_in x)) x.ledger
-  pub named : is_name x.name ≡ true
-  pub label : (container height : ℕ) → container ≤ last_place → 1 ≤ height → height ≤ 2 → IsLabel (label_said x container height)
-
-pub record AreStates (states : States) : Type 0 where
-  pub each : (s : ℕ) → IfSome (state_at states s) (IsState s)
-  pub names : AreDistinct (named_states states)

@@ -55,9 +55,6 @@ fn form_in(label: &Label) -> Option<(u64, u64)>
     if label.known == 0 {
         return Some((1, 0));
     }
-    if label.root.stamp != 0 {
-        return Some((0, label.root.stamp));
-    }
     let length = first_used(&label.snapshots)?;
     Some((0, length))
 }
@@ -66,7 +63,7 @@ fn form_in(label: &Label) -> Option<(u64, u64)>
 fn label_in(block: &Block, place: u32) -> Result<Label, BlockFault>
     ensures label { IfOk result (λ l. label_at block.now ≡ Ok l) }
     ensures range { IfOk result IsLabel }
-    ensures plain { IfOk result (λ l. form_in l ≡ None) }
+    ensures form { IfOk result (λ l. form_in l ≡ None) }
     ensures fault { IfErr result (IsBadLabel block.now place) }
     ensures cause { (n : ℕ) → HasBlockCause n n result }
 {
@@ -155,7 +152,7 @@ pub(crate) fn read_label<D: Disk>(
     requires { StandsOn (D.shown disk.old) store.old.pairs }
     ensures label { IsTrue (D.shown disk.old).tells → IfOk result (λ l. label_at ((D.shown disk.old).reads place) ≡ Ok l) }
     ensures range { IfOk result IsLabel }
-    ensures plain { IfOk result (λ l. form_in l ≡ None) }
+    ensures form { IfOk result (λ l. form_in l ≡ None) }
     ensures fault { IsTrue (D.shown disk.old).tells → IfErr result (IsBadLabel ((D.shown disk.old).reads place) place) }
     ensures only_reads { OnlyReads (D.shown disk.old) (D.shown disk.new) }
     ensures stands { StandsOn (D.shown disk.new) store.new.pairs }

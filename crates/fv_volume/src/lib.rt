@@ -3,19 +3,31 @@
 #![tactic(auto)]
 
 mod admit;
+mod asking;
 mod blocks;
 mod cells;
+mod changing;
 mod fault;
+mod giving;
 mod kept;
 mod label;
+mod lent_changes;
+mod lent_files;
+mod lent_removals;
 mod load;
+mod making;
 mod noted;
+mod placing;
 mod pool;
+mod removing;
 mod search;
 mod sizes;
 mod state;
+mod taking;
 mod volume_blocks;
+mod volume_drops;
 mod volumes;
+mod write;
 
 pub use admit::Admitted;
 pub use blocks::{Home, place_block, read_pointed};
@@ -26,4 +38,6 @@ pub use noted::Noted;
 pub use pool::Pool;
 pub use state::{Base, Rooted, Snap, Snapshots, VolumeState};
 pub use volume_blocks::{Guard, VolumeBlocks};
+pub use volume_drops::VolumeDrops;
 pub use volumes::Volumes;
+pub use write::write_volume;

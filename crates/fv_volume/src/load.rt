@@ -11,12 +11,13 @@ ghost use Rattle.fv_image.specs.Views.{entry_count, head_of};
 ghost use Rattle.fv_model.specs.Numbers.{greatest_span};
 ghost use Rattle.fv_model.specs.Space.{map_blocks};
 ghost use Rattle.fv_store.specs.Held.{StandsOn};
-ghost use Rattle.fv_volume.specs.Loading.{HasRead, IsBadLabel, IsBadMap, IsFilled, IsLoadFault, IsLoaded, KeptTo, LeavesOthers, LoadedTo, form_in, has_delayed, is_delayed_entry};
+ghost use Rattle.fv_volume.specs.Loading.{HasRead, IsBadLabel, IsBadMap, IsFilled, IsLoadFault, IsLoaded, KeptTo, LeavesOthers, LoadedTo, form_in, has_delayed, is_delayed_entry, is_kept_vvbn};
 ghost use Rattle.fv_volume.specs.States.{head_in, state_at};
 
 use crate::label::read_label;
 use crate::sizes::entry_count;
 use crate::state::VolumeState;
+use fv_bits::BitMap;
 use fv_codec::Label;
 use fv_container::{Container, Containers};
 use fv_disk::{Block, BlockFault, Disk, ZERO};
@@ -114,24 +115,38 @@ fn read_map_blocks<D: Disk>(
     Ok(())
 }
 
-/// Whether the entry of a VVBN isn't a hole though the VVBN isn't one of the active map's blocks.
-fn is_delayed(container: &Container, span: u32, vvbn: u32) -> bool
+/// Whether the active map holds a VVBN: one of the span where it is a member, and beyond the span a block of the map.
+fn is_kept(active: &BitMap, span: u32, vvbn: u32) -> bool
     requires span { span ≤ greatest_span }
-    requires within { vvbn < length container.now.entries }
-    ensures { result ≡ is_delayed_entry container.now span vvbn }
+    requires long { length active.now ≡ span }
+    ensures { result ≡ is_kept_vvbn active.now span vvbn }
 {
-    let is_map_block = span <= vvbn && vvbn < span + span.div_ceil(32_768);
-    container.entry_at(vvbn).is_some() && !is_map_block
+    if vvbn < span {
+        active.get(vvbn)
+    } else {
+        vvbn < span + span.div_ceil(32_768)
+    }
+}
+
+/// Whether the entry of a VVBN isn't a hole though the active map doesn't hold the VVBN.
+fn is_delayed(active: &BitMap, container: &Container, span: u32, vvbn: u32) -> bool
+    requires span { span ≤ greatest_span }
+    requires long { length active.now ≡ span }
+    requires within { vvbn < length container.now.entries }
+    ensures { result ≡ is_delayed_entry active.now container.now span vvbn }
+{
+    container.entry_at(vvbn).is_some() && !is_kept(active, span, vvbn)
 }
 
 /// Whether an entry is delayed: there is something to give back.
-fn has_delayed(container: &Container, span: u32) -> bool
+fn has_delayed(active: &BitMap, container: &Container, span: u32) -> bool
     requires span { span ≤ greatest_span }
+    requires long { length active.now ≡ span }
     requires entries { length container.now.entries ≡ entry_count span }
-    ensures { result ≡ has_delayed container.now span }
+    ensures { result ≡ has_delayed active.now container.now span }
 {
     for vvbn in 0..entry_count(span) {
-        if is_delayed(container, span, vvbn) {
+        if is_delayed(active, container, span, vvbn) {
             return true;
         }
     }
@@ -196,7 +211,7 @@ fn load_volume<D: Disk>(
     let label = read_label(store, disk, place)?;
     let container = read_container(alloc, store, disk, &label)?;
     let map = read_map(alloc, store, disk, &container, label.span)?;
-    let delayed = has_delayed(&container, label.span);
+    let delayed = has_delayed(map.active(), &container, label.span);
     containers.put(slot, container, None);
     Ok(Some(VolumeState::of_label(alloc, slot, place, &label, map, delayed)))
 }

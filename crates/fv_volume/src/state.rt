@@ -3,17 +3,18 @@
 ghost use Rattle.std.specs.Prelude.{◌≡◌, ◌≤◌, ◌*◌, ◌∷◌, [], Bool, false, true, None, IfOk};
 ghost use Rattle.fv_model.specs.Numbers.{greatest_span};
 ghost use Rattle.fv_codec.specs.Blocks.{IsLabel};
-ghost use Rattle.fv_image.specs.Views.{head_of, kind_named};
-ghost use Rattle.fv_image.specs.Told.{is_plain};
+ghost use Rattle.fv_image.specs.Views.{head_of};
 ghost use Rattle.fv_model.specs.Spelling.{is_name};
 ghost use Rattle.fv_volmap.specs.Slots.{empty_volume};
 ghost use Rattle.fv_volume.specs.Labels.{label_said};
-ghost use Rattle.fv_volume.specs.Loading.{form_in};
+ghost use Rattle.fv_volume.specs.Files.{has_form};
+ghost use Rattle.fv_volume.specs.Loading.{IsCounted, form_in};
 ghost use Rattle.fv_volume.specs.States.{empty_head, head_in, ledger_of_empty};
 
 use crate::label::{FREE, HOLE, kind_number, kind_of, name_field, name_of};
 use fv_charge::Ledger;
 use fv_codec::{Label, Pointer};
+use fv_files::Files;
 use fv_model::{Kind, Name};
 use fv_volmap::VolMap;
 use std::alloc::{AllocError, Global};
@@ -112,10 +113,13 @@ pub struct VolumeState {
     pub map: VolMap,
     /// What it is charged for, needs and commits.
     pub ledger: Ledger,
+    /// The trees of the active table that are in memory. Where there are none, `active` spells the table; else its root is that of
+    /// the last flush.
+    pub(crate) files: Option<Files>,
     /// Where the label lies that the root on the disk names; 0 where there is none yet.
-    label: u32,
+    pub(crate) label: u32,
     /// Whether the next consistency point has something to write.
-    changed: bool,
+    pub(crate) changed: bool,
 }
 
 impl VolumeState {
@@ -136,6 +140,7 @@ impl VolumeState {
         ensures label { IfOk result (λ state. state.label ≡ 0) }
         ensures changed { IfOk result (λ state. state.changed ≡ true) }
         ensures base { IfOk result (λ state. state.base ≡ None) }
+        ensures files { IfOk result (λ state. state.files ≡ None) }
         ensures named { is_name name.now ≡ true }
     {
         // What the bytes are known to be is what a label needs of them.
@@ -157,13 +162,14 @@ impl VolumeState {
             snapshots: Snapshots::new(alloc),
             map: VolMap::new(alloc, span)?,
             ledger: new_ledger(size, kind, span),
+            files: None,
             label: 0,
             changed: true,
         })
     }
 
-    /// The volume that a label at this PVBN says, for a slot, with the map of its active table, and whether
-    /// the next consistency point has something to do for it. The label has no form that can't be loaded.
+    /// The volume that a label at this PVBN says, for a slot, with the map of its active table, from which its ledger is
+    /// counted, and whether the next consistency point has something to do for it. The label has no form that can't be loaded.
     pub(crate) fn of_label(
         alloc: Global,
         slot: u8,
@@ -173,7 +179,8 @@ impl VolumeState {
         changed: bool,
     ) -> VolumeState
         requires range { IsLabel label.now }
-        requires plain { form_in label.now ≡ None }
+        requires form { form_in label.now ≡ None }
+        requires map { map.span ≡ label.now.span }
         ensures slot { result.slot ≡ slot }
         ensures head { head_in result ≡ head_of label.entry.now }
         ensures label { result.label ≡ place }
@@ -181,10 +188,13 @@ impl VolumeState {
         ensures map { result.map ≡ map }
         ensures changed { result.changed ≡ changed }
         ensures base { result.base ≡ None }
+        ensures files { result.files ≡ None }
         ensures named { is_name result.name ≡ true }
-        ensures ledger { result.ledger ≡ ledger_of_empty label.entry.now.size (kind_named label.entry.now.kind) label.entry.now.span }
+        ensures counted { IsCounted result }
+        ensures ledger { result.ledger.span ≡ label.entry.now.span }
     {
         let kind = kind_of(label);
+        let ledger = Ledger::counted(map.active(), None, 0, 0, label.span, label.size, kind);
         VolumeState {
             slot,
             name: name_of(label),
@@ -201,7 +211,8 @@ impl VolumeState {
             },
             snapshots: Snapshots::new(alloc),
             map,
-            ledger: new_ledger(label.size, kind, label.span),
+            ledger,
+            files: None,
             label: place,
             changed,
         }
@@ -223,11 +234,11 @@ impl VolumeState {
     }
 
     /// The label that says this volume, with the place of its container's root, 0 where that is all holes, and
-    /// with the container's height. The volume has no file, no snapshot and no base, and knows all places.
+    /// with the container's height. The volume has no snapshot and no base, and knows all places.
     /// It takes no memory.
     #[tactic(auto, unfolding(crate::specs::Labels::label_said))]
     pub fn label(&self, container: u32, height: u8) -> Label
-        requires { is_plain (head_in self.now) ≡ true }
+        requires { has_form (head_in self.now) ≡ true }
         ensures { result ≡ label_said self.entry.now container height }
     {
         let (name_length, name) = name_field(&self.name);

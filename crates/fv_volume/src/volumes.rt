@@ -17,8 +17,10 @@ ghost use Rattle.fv_store.specs.Held.{StandsOn};
 ghost use Rattle.fv_volume.specs.Causes.{WithBlockFault};
 ghost use Rattle.fv_volume.specs.Creating.{Admits, IsMade, IsNew, with_holes};
 ghost use Rattle.fv_volume.specs.Opening.{OpensVolumes};
-ghost use Rattle.fv_volume.specs.States.{AreStates, IsState, view_over, machine_in, state_at, with_state};
-ghost use Rattle.fv_volume.specs.Slots.{IsFirstFree, IsFull, HasName, NoneHasName};
+ghost use Rattle.fv_volume.specs.States.{view_over, state_at, with_state};
+ghost use Rattle.fv_volume.specs.Trees.{Trees, machine_in};
+ghost use Rattle.fv_volume.specs.Files.{AreStates, IsLabelled, Over};
+ghost use Rattle.fv_volume.specs.Slots.{IsFirstFree, IsFull, HasName, NoneHasName, sum_of};
 
 use crate::admit::{Admitted, admit};
 use crate::fault::VolumeFault;
@@ -43,9 +45,13 @@ pub struct Volumes {
 impl Model for Volumes {
     ghost use Rattle.std.specs.Prelude.{◌≡◌, length};
     ghost use Rattle.fv_container.specs.Chains.{slot_count};
+    ghost use Rattle.std.specs.Coded.{coded_list, coded_option};
+    ghost use Rattle.fv_volume.specs.contracts.state.VolumeState as state;
     ghost use Rattle.fv_volume.specs.States.{States};
 
     ghost Value = { States };
+
+    ghost coded = { coded_list (coded_option state.the_row.coded) };
 
     ghost view = { λ volumes. volumes.states.items };
 
@@ -62,7 +68,7 @@ impl Volumes {
     ///
     /// # Errors
     /// `Damaged` comes only where a block that this call read isn't as it has to be: a label without its
-    /// shape, or with a base, an unknown place, a file or a snapshot, none of which can be loaded yet; a node
+    /// shape, or with a base, an unknown place or a snapshot, none of which can be loaded yet; a node
     /// of a container without its shape, whatever position it names; or a block of an active map with a bit
     /// set past the span. `DiskFault` comes only where a read failed in this call, and `Memory` where memory ran out. The
     /// pool's containers stay then.
@@ -125,8 +131,9 @@ impl Volumes {
 
     /// What all volumes commit together, in blocks. Costs a step for each slot.
     pub fn commits(&self) -> u64
-        requires { AreStates self.now }
-        ensures { (pool : Pool) → (i : Image) → result ≡ commits (machine_in pool self.now i) }
+        requires { (s : ℕ) → IfSome (state_at self.now s) (IsLabelled s) }
+        ensures exact { result ≡ sum_of self.now }
+        ensures machine { (pool : Pool) (trees : Trees) → Over pool self.now trees (λ m. result ≡ commits m) }
     {
         sum_commits(&self.states)
     }
@@ -148,17 +155,18 @@ impl Volumes {
         kind: Kind,
         admitted: Admitted,
     ) -> Result<u8, AllocError>
-        requires each { (s : ℕ) → IfSome (state_at self.old s) (IsState s) }
+        requires each { (s : ℕ) → IfSome (state_at self.old s) (IsLabelled s) }
         requires admitted { Admits self.old pool.old.found.blocks name.now size kind admitted.slot admitted.span }
         ensures slot { IfOk result (IsFirstFree self.old) }
         ensures made { IfOk result (λ slot. IsMade self.old slot name.now size kind self.new) }
         ensures new { IfOk result (λ slot. IsNew (state_at self.new slot) (container_at pool.new.containers slot) name.now size kind) }
         ensures holes { IfOk result (λ slot. pool.new ≡ with_holes pool.old slot size) }
         ensures long { length self.new ≡ slot_count }
-        ensures each { OnOk result ((s : ℕ) → IfSome (state_at self.new s) (IsState s)) }
-        ensures states { AreStates self.old → OnOk result (AreStates self.new) }
-        ensures accepted { AreStates self.old → OnOk result ((i : Image) → refusal (machine_in pool.old self.old i) (VolCreate name.now size kind) ≡ None) }
-        ensures machine { AreStates self.old → OnOk result ((i : Image) → machine_in pool.new self.new i ≡ next (machine_in pool.old self.old i) (VolCreate name.now size kind)) }
+        ensures each { OnOk result ((s : ℕ) → IfSome (state_at self.new s) (IsLabelled s)) }
+        ensures states { OnOk result ((trees : Trees) (i : Image) → AreStates (view_over pool.old self.old i) trees self.old → AreStates (view_over pool.new self.new i) trees self.new) }
+        ensures accepted { OnOk result ((trees : Trees) → Over pool.old self.old trees (λ m. refusal m (VolCreate name.now size kind) ≡ None)) }
+        ensures machine { OnOk result ((trees : Trees) (i : Image) → AreStates (view_over pool.old self.old i) trees self.old
+            → machine_in pool.new self.new trees i ≡ next (machine_in pool.old self.old trees i) (VolCreate name.now size kind)) }
         ensures same { OnErr result (self.new ≡ self.old) }
         ensures same_pool { OnErr result (pool.new ≡ pool.old) }
     {
@@ -185,15 +193,15 @@ impl Volumes {
         size: u32,
         kind: Kind,
     ) -> Result<Admitted, Refusal>
-        requires each { (s : ℕ) → IfSome (state_at self.now s) (IsState s) }
+        requires each { (s : ℕ) → IfSome (state_at self.now s) (IsLabelled s) }
         requires blocks { IsSize blocks }
         ensures admitted { IfOk result (λ a. Admits self.now blocks name.now size kind a.slot a.span) }
-        ensures accepted { AreStates self.now → IfOk result (λ a. (pool : Pool) (i : Image) → pool.found.blocks ≡ blocks
-            → refusal (machine_in pool self.now i) (VolCreate name.now size kind) ≡ None) }
-        ensures room { AreStates self.now → IfOk result (λ a. (pool : Pool) (i : Image) → pool.found.blocks ≡ blocks
-            → commits (machine_in pool self.now i) + 2 * overhead a.span ≤ capacity blocks) }
-        ensures refused { AreStates self.now → IfErr result (λ r. (pool : Pool) (i : Image) → pool.found.blocks ≡ blocks
-            → refusal (machine_in pool self.now i) (VolCreate name.now size kind) ≡ Some r) }
+        ensures accepted { IfOk result (λ a. (pool : Pool) (trees : Trees) → pool.found.blocks ≡ blocks
+            → Over pool self.now trees (λ m. refusal m (VolCreate name.now size kind) ≡ None)) }
+        ensures room { IfOk result (λ a. (pool : Pool) (trees : Trees) → pool.found.blocks ≡ blocks
+            → Over pool self.now trees (λ m. commits m + 2 * overhead a.span ≤ capacity blocks)) }
+        ensures refused { IfErr result (λ r. (pool : Pool) (trees : Trees) → pool.found.blocks ≡ blocks
+            → Over pool self.now trees (λ m. refusal m (VolCreate name.now size kind) ≡ Some r)) }
     {
         admit(&self.states, blocks, name, size, kind)
     }

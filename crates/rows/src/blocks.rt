@@ -1,7 +1,7 @@
 //! Blocks of a disk, by their places and words.
 
 use crate::cause::{Cause, because};
-use crate::lines::{gaps, hexadecimal, number};
+use crate::lines::{add_pairs, gaps, hexadecimal, number};
 use fv_aggregate::{OpenFault, Session};
 use fv_disk::{Block, Disk};
 use fv_memdisk::MemHost;
@@ -52,17 +52,31 @@ pub fn copy(host: &mut MemHost, text: &str) -> Result<(), Cause> {
     Ok(())
 }
 
+/// Writes bytes into a block, from an offset on.
+fn patch(host: &mut MemHost, at: u64, offset: u64, bytes: &[u8]) {
+    let mut block = block_at(host, at);
+    for (into, byte) in block.iter_mut().skip(offset as usize).zip(bytes) {
+        *into = *byte;
+    }
+    let _ = host.write(at, &block);
+}
+
 /// A word of a block becomes another.
 pub fn set(host: &mut MemHost, text: &str) -> Result<(), Cause> {
     let (place, word, value) = gaps(text, "block 1 word 2 to 3")?;
     let at = block_of(host, place)?;
-    let start = number(word)?.saturating_mul(8);
     let bytes = hexadecimal(value)?.to_be_bytes();
-    let mut block = block_at(host, at);
-    for (into, byte) in block.iter_mut().skip(start as usize).zip(bytes.iter()) {
-        *into = *byte;
-    }
-    let _ = host.write(at, &block);
+    patch(host, at, number(word)?.saturating_mul(8), &bytes);
+    Ok(())
+}
+
+/// Bytes of a block become those that hexadecimal digits say.
+pub fn lay(alloc: Global, host: &mut MemHost, text: &str) -> Result<(), Cause> {
+    let (place, offset, digits) = gaps(text, "1 2 3")?;
+    let at = block_of(host, place)?;
+    let mut bytes = Vec::new(alloc);
+    add_pairs(&mut bytes, digits)?;
+    patch(host, at, number(offset)?, bytes.as_slice());
     Ok(())
 }
 

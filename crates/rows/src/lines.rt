@@ -148,6 +148,22 @@ pub fn add_bytes(into: &mut Vec<u8>, text: &str) -> Result<(), Cause> {
     Ok(())
 }
 
+/// Adds the bytes that pairs of hexadecimal digits say.
+pub fn add_pairs(into: &mut Vec<u8>, digits: &str) -> Result<(), Cause> {
+    let mut rest = digits;
+    for _ in 0..digits.len() / 2 {
+        let (pair, others) = rest.split_at_checked(2).ok_or(unread())?;
+        let byte = u8::from_str_radix(pair, 16).ok().ok_or(unread())?;
+        into.extend_from_slice(&[byte])?;
+        rest = others;
+    }
+    if rest.is_empty() {
+        Ok(())
+    } else {
+        Err(unread())
+    }
+}
+
 /// Adds a line of a run.
 pub fn add_line(into: &mut Vec<u8>, text: &str) -> Result<(), Cause> {
     add_bytes(into, text)?;

@@ -1,7 +1,7 @@
 //! Plays a run, and judges what comes of it.
 
 use crate::answers::{add_lines, look_at, plain_replies, settled, start};
-use crate::bench::{Bench, Program, new_run};
+use crate::bench::{Bench, Program, clear, new_run};
 use crate::cause::{Cause, because};
 use crate::course::{course_of, order_of};
 use crate::lines::{add_word, first_difference, lines_in, number, split_lines};
@@ -22,6 +22,13 @@ pub fn aggregate(bench: &mut Bench, blocks: &str) -> Result<(), Cause> {
     } else {
         Err(because("the status", status, 0))
     }
+}
+
+/// The disk gets the image of an aggregate: its bytes come, and the lines after which it stands for the plain machine.
+pub fn image(bench: &mut Bench, blocks: &str) -> Result<(), Cause> {
+    clear(bench);
+    bench.blocks = number(blocks)?;
+    Ok(())
 }
 
 /// A run begins. Its lines come.

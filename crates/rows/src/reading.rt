@@ -2,11 +2,11 @@
 
 use crate::answers::settled;
 use crate::bench::{Bench, Program, Run};
-use crate::blocks::{copy, is_damaged, is_word, set, zero};
+use crate::blocks::{copy, is_damaged, is_word, lay, set, zero};
 use crate::cause::{Cause, unread};
 use crate::failing::try_failing;
 use crate::lines::{add_line, line_of, number, read_spread};
-use crate::playing::{aggregate, begin_run, begin_walks, end_run};
+use crate::playing::{aggregate, begin_run, begin_walks, end_run, image};
 use crate::walking::stopped;
 
 /// Does what a line of a file says: nothing for a remark, and else what each line says for which it stands.
@@ -71,6 +71,9 @@ fn read_step(bench: &mut Bench, word: &str, rest: &str) -> Result<(), Cause> {
         "flexvol" => begin_run(bench, Program::Flexvol, rest),
         "reference" => begin_run(bench, Program::Reference, rest),
         "aggregate" => aggregate(bench, rest),
+        "image" => image(bench, rest),
+        "after" => add_line(&mut bench.lines, rest),
+        "lay" => lay(bench.alloc, &mut bench.host, rest),
         "zero" => zero(&mut bench.host, rest),
         "copy" => copy(&mut bench.host, rest),
         "set" => set(&mut bench.host, rest),

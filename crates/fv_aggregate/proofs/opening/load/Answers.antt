@@ -4,19 +4,27 @@ use Rattle.fv_disk.specs.declared.fault.BlockFault.{BlockFault}
 use Rattle.fv_aggregate.specs.declared.fault.OpenFault.{OpenFault}
 use Rattle.fv_aggregate.specs.declared.session.Session.{Session}
 use Rattle.fv_aggregate.specs.Causes.{IsOpenFault, of_block}
-use Rattle.fv_aggregate.proofs.Opened.{load_fault}
+use Rattle.fv_aggregate.proofs.Opened.{fits_opened, load_fault}
 use Rattle.fv_disk.specs.Shown.{Image}
 use Rattle.fv_root.specs.declared.find.Found.{Found}
 use Rattle.fv_container.specs.Chains.{slot_count}
 use Rattle.fv_image.specs.Held.{layout_at, view_at}
-use Rattle.fv_image.specs.MachineOf.{Tells}
+use Rattle.fv_image.specs.WholeMachine.{Tells}
 use Rattle.fv_root.specs.Finding.{IsFound, root_found}
 use Rattle.fv_aggmap.specs.Space.{Space}
 use Rattle.fv_aggmap.specs.Loading.{IsLoaded}
 use Rattle.fv_volume.specs.Loading.{IsLoadFault, LoadedTo}
-use Rattle.fv_volume.specs.States.{machine_in, view_over}
+use Rattle.fv_volume.specs.States.{view_over}
+use Rattle.fv_volume.specs.Trees.{machine_in, no_trees}
+use Rattle.fv_volume.specs.Files.{AreStates}
 use Rattle.fv_aggregate.proofs.Asking.{asked_opened}
 use Rattle.fv_aggregate.proofs.opening.load.Goals as goal
+
+pub invariant_of-result : goal.invariant_of-result
+invariant_of-result g c = λ fresh.
+    let was = c.in_ok-pool.ensures in
+    let e = c.in_ok-volumes.ensures in
+    fits_opened c.in_ok-found.found c.in_ok-pool.pool c.open-2.new.pool c.in_ok-volumes.volumes c.in_ok-found.ensures.range was.size was.found was.empty e.states e.map e.kept e.found
 
 pub returns-clause-loaded : goal.returns-clause-loaded
 returns-clause-loaded g c = λ tells.
@@ -38,8 +46,8 @@ returns-clause-loaded g c = λ tells.
       map = subst (λ (m : Space). IsLoaded i pool.found m) (sym e.map) (subst (λ (f : Found). IsLoaded i f c.in_ok-pool.pool.map) (sym (now ∙ was)) map);
       slots = subst (λ (f : Found). LoadedTo i f slot_count volumes pool.containers) (sym now) (subst (λ (k : Image). LoadedTo k c.in_ok-pool.pool.found slot_count volumes pool.containers) same (e.loaded still));
       view = ap (λ (k : Image). view_over pool volumes k) (sym same) ∙ e.view still c.in_ok-pool.ensures.empty ∙ (λ t. view_at (root_found (sym now t)) (same t));
-      machine = λ m is. ap (λ (k : Image). machine_in pool volumes k) (sym same) ∙ e.machine still c.in_ok-pool.ensures.empty m (subst (λ (k : Image). Tells (layout_at (root_found c.in_ok-pool.pool.found) k) m) (sym same) (subst (λ (f : Found). Tells (layout_at (root_found f) i) m) now is));
-      states = λ m is. e.whole still m (subst (λ (k : Image). Tells (layout_at (root_found c.in_ok-pool.pool.found) k) m) (sym same) (subst (λ (f : Found). Tells (layout_at (root_found f) i) m) now is));
+      machine = λ m is. ap (λ (k : Image). machine_in pool volumes no_trees k) (sym same) ∙ e.machine still c.in_ok-pool.ensures.empty m (subst (λ (k : Image). Tells (layout_at (root_found c.in_ok-pool.pool.found) k) m) (sym same) (subst (λ (f : Found). Tells (layout_at (root_found f) i) m) now is));
+      states = λ m is. subst (λ (k : Image). AreStates (view_over pool volumes k) no_trees volumes) same (e.whole still c.in_ok-pool.ensures.empty m (subst (λ (k : Image). Tells (layout_at (root_found c.in_ok-pool.pool.found) k) m) (sym same) (subst (λ (f : Found). Tells (layout_at (root_found f) i) m) now is)));
     }
 
 pub returns-clause-asked : goal.returns-clause-asked

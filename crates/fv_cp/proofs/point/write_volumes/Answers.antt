@@ -1,14 +1,26 @@
 use Rattle.std.proofs.Common.{◌≡◌, ℕ, ◌+◌, suc, subst, arith}
-use Rattle.std.specs.Prelude.{Err}
+use Rattle.std.specs.Prelude.{Ok, Err}
+use Rattle.fv_volume.specs.Keeping.{IsUnkept}
 use Rattle.fv_cp.specs.Course.{HasCome}
-use Rattle.fv_cp.specs.Steps.{IsTaken, on_disk}
+use Rattle.fv_volume.specs.Writing.{IsTaken, on_disk}
 use Rattle.fv_cp.proofs.Coming.{come_first, come_more, spares_on}
-use Rattle.fv_cp.proofs.Settling.{asked_on}
-use Rattle.fv_cp.proofs.Sparing.{failed_as}
+use Rattle.fv_cp.proofs.Asked.{asked_on}
+use Rattle.fv_volume.proofs.Sparing.{failed_as, spares_fewer}
 use Rattle.fv_cp.proofs.point.write_volumes.Goals as goal
 
 pub loop-slot-init : goal.loop-slot-init
-loop-slot-init g c = come_first (g.D.Disk.shown c.args.disk.now) c.args.pool.now c.args.volumes.now c.args.labels.now (g.met.D.Disk.laws c.args.disk.now) c.told-labels c.requires.labels c.requires.range c.requires.stands c.requires.housed c.requires.room
+loop-slot-init g c =
+    let disk = g.D.Disk.shown c.args.disk.now in
+    let pool = c.args.pool.now in
+    let mid = g.D.Disk.shown c.write_kept.new.disk in
+    let kept = c.in_ok-write_kept.ensures in
+    come_first disk mid pool c.write_kept.new.self c.args.volumes.now c.args.labels.now c.told-labels c.requires.labels c.requires.range kept.stands c.requires.housed c.requires.room
+    kept.map kept.containers kept.found kept.empty (spares_fewer (IsUnkept pool.kept) (IsTaken (on_disk pool.map)) disk mid (Ok tt) c.requires.kept kept.writes) kept.written
+
+pub returns-in_err-write_kept-clause-spares : goal.returns-in_err-write_kept-clause-spares
+returns-in_err-write_kept-clause-spares g c = failed_as (IsTaken (on_disk c.args.pool.now.map)) (g.D.Disk.shown c.args.disk.now) (g.D.Disk.shown c.write_kept.new.disk) c.in_err-write_kept.field-0.0 _
+    (spares_fewer (IsUnkept c.args.pool.now.kept) (IsTaken (on_disk c.args.pool.now.map)) (g.D.Disk.shown c.args.disk.now) (g.D.Disk.shown c.write_kept.new.disk) (Err c.in_err-write_kept.field-0.0) c.requires.kept c.in_err-write_kept.ensures.writes)
+    c.from_residual.ensures.0
 
 pub loop-slot-preserved : goal.loop-slot-preserved
 loop-slot-preserved g c =
@@ -29,4 +41,4 @@ pub returns-in_err-write_slot-clause-spares : goal.returns-in_err-write_slot-cla
 returns-in_err-write_slot-clause-spares g c = failed_as (IsTaken (on_disk c.args.pool.now.map)) (g.D.Disk.shown c.args.disk.now) (g.D.Disk.shown c.write_slot.new.disk) c.in_err-write_slot.field-0.0 _
     (spares_on (g.D.Disk.shown c.args.disk.now) c.args.pool.now c.args.volumes.now c.loop-slot.slot (omega (arith, c.loop-slot-test.true)) c.requires.map c.requires.range c.loop-slot.labels c.loop-slot.pool (g.D.Disk.shown c.loop-slot.disk) c.loop-slot.invariant
     c.write_slot.new.labels c.write_slot.new.pool (g.D.Disk.shown c.write_slot.new.disk) (Err c.in_err-write_slot.field-0.0) c.in_err-write_slot.ensures.spares)
-    c.from_residual.ensures.0
+    c.from_residual-in_err-write_slot.ensures.0

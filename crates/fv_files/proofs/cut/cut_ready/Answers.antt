@@ -1,8 +1,17 @@
+use Rattle.std.proofs.Common.{ap, subst, arith}
+use Rattle.std.specs.Option.{option_map}
 use Rattle.std.proofs.lemmas.Result.{err_from_is_err_and}
+use Rattle.fv_tables.specs.Spelled.{stored}
+use Rattle.fv_tables.specs.Told.{tree_or}
+use Rattle.fv_tree.specs.Erasing.{HoldsCells}
+use Rattle.fv_tree.specs.Standing.{standing, under}
+use Rattle.fv_tree.proofs.Causes.{at_err}
 use Rattle.fv_inode.specs.Files.{with_info}
+use Rattle.fv_files.specs.Tables.{table_in}
+use Rattle.fv_files.proofs.Counted.{tree_holds}
 use Rattle.fv_files.specs.Calls.{shortened}
-use Rattle.fv_files.proofs.Steps.{cut_failed, cut_done, cut_spares, cut_stood}
-use Rattle.fv_files.proofs.Wrote.{rewrites_as, cut_table}
+use Rattle.fv_files.proofs.Steps.{cut_failed, cut_done, cut_led, cut_led_failed, cut_pending, cut_pending_done, cut_spares, cut_stood}
+use Rattle.fv_files.proofs.Wrote.{rewrites_as, cut_table, cut_takes}
 use Rattle.fv_files.proofs.cut.cut_ready.Goals as goal
 
 pub returns-in_err-count-clause-changes : goal.returns-in_err-count-clause-changes
@@ -24,6 +33,20 @@ returns-clause-cut g c = λ told sound.
     (rewrites_as f.inode c.rewrite.new.self c.args.stamp c.shortened.result (shortened info c.args.length) c.shortened.ensures.is c.rewrite.ensures.rewrites)
     (cuts.removal.erased told (cut_stood g.B.Blocks.told (g.B.Blocks.goes c.args.blocks.now c.cut_kept.new.blocks) (Unit {0}) old new f c.cut_kept.new.trees info.number c.args.length start c.args.stamp c.in_ok-count.count cuts told sound))
 
+pub returns-clause-counted : goal.returns-clause-counted
+returns-clause-counted g c = λ told sound.
+    let cuts = c.in_ok-count.ensures in
+    let old = g.B.Blocks.shown c.args.blocks.now in
+    let new = g.B.Blocks.shown c.cut_kept.new.blocks in
+    let f = c.args.files.now in
+    let info = c.args.info.now in
+    let start = c.least_levels-start.result in
+    cut_takes old new f c.cut_kept.new.trees c.rewrite.new.self info c.args.stamp cuts.tree cuts.next cuts.becomes (c.requires.there told) sound
+    (cut_spares g.B.Blocks.told (g.B.Blocks.goes c.args.blocks.now c.cut_kept.new.blocks) (Unit {0}) old new f c.cut_kept.new.trees info.number c.args.length start c.args.stamp c.in_ok-count.count cuts told sound) c.args.length start c.least_levels-start.ensures.least
+    (rewrites_as f.inode c.rewrite.new.self c.args.stamp c.shortened.result (shortened info c.args.length) c.shortened.ensures.is c.rewrite.ensures.rewrites)
+    (cuts.removal.erased told (cut_stood g.B.Blocks.told (g.B.Blocks.goes c.args.blocks.now c.cut_kept.new.blocks) (Unit {0}) old new f c.cut_kept.new.trees info.number c.args.length start c.args.stamp c.in_ok-count.count cuts told sound))
+    c.in_ok-count.count (cuts.removal.count told (cut_stood g.B.Blocks.told (g.B.Blocks.goes c.args.blocks.now c.cut_kept.new.blocks) (Unit {0}) old new f c.cut_kept.new.trees info.number c.args.length start c.args.stamp c.in_ok-count.count cuts told sound))
+
 pub returns-clause-changes : goal.returns-clause-changes
 returns-clause-changes g c =
     let f = c.args.files.now in
@@ -34,4 +57,37 @@ returns-clause-changes g c =
       owner = c.rewrite.ensures.owner;
       sound = c.rewrite.ensures.sound;
       leads = c.rewrite.ensures.leads;
+      keeps = c.rewrite.ensures.keeps;
     })
+
+pub returns-in_err-count-clause-led : goal.returns-in_err-count-clause-led
+returns-in_err-count-clause-led g c =
+    cut_led_failed g.B.Blocks.told (g.B.Blocks.goes c.args.blocks.now c.cut_kept.new.blocks) (Unit {0}) (g.B.Blocks.shown c.args.blocks.now) (g.B.Blocks.shown c.cut_kept.new.blocks) c.args.files.now c.cut_kept.new.trees c.args.info.now.number c.args.length c.least_levels-start.result c.args.stamp c.in_err-count.field-0.0 c.in_err-count.ensures
+
+pub returns-clause-led : goal.returns-clause-led
+returns-clause-led g c =
+    let f = c.args.files.now in
+    let info = c.args.info.now in
+    cut_led g.B.Blocks.told (g.B.Blocks.goes c.args.blocks.now c.cut_kept.new.blocks) (Unit {0}) (g.B.Blocks.shown c.args.blocks.now) (g.B.Blocks.shown c.cut_kept.new.blocks) c.args.files.now c.cut_kept.new.trees c.args.info.now.number c.args.length c.least_levels-start.result c.args.stamp c.rewrite.new.self (with_info (shortened info c.args.length)) c.in_ok-count.count c.in_ok-count.ensures (record {
+      rewrites = rewrites_as f.inode c.rewrite.new.self c.args.stamp c.shortened.result (shortened info c.args.length) c.shortened.ensures.is c.rewrite.ensures.rewrites;
+      owner = c.rewrite.ensures.owner;
+      sound = c.rewrite.ensures.sound;
+      leads = c.rewrite.ensures.leads;
+      keeps = c.rewrite.ensures.keeps;
+    })
+
+pub returns-in_err-count-clause-pending : goal.returns-in_err-count-clause-pending
+returns-in_err-count-clause-pending g c =
+    let less = cut_pending g.B.Blocks.told (g.B.Blocks.goes c.args.blocks.now c.cut_kept.new.blocks) (Unit {0}) (g.B.Blocks.shown c.args.blocks.now) (g.B.Blocks.shown c.cut_kept.new.blocks) c.args.files.now c.cut_kept.new.trees c.args.info.now.number c.args.length c.least_levels-start.result c.args.stamp c.in_err-count.field-0.0 c.in_err-count.ensures in
+    at_err c.from_residual.result (omega (arith, less))
+
+pub returns-clause-pending_done : goal.returns-clause-pending_done
+returns-clause-pending_done g c = λ told sound now well.
+    let f = c.args.files.now in
+    let info = c.args.info.now in
+    let old = g.B.Blocks.shown c.args.blocks.now in
+    let is = c.requires.there told in
+    let cuts = c.in_ok-count.ensures in
+    let holds = subst HoldsCells (ap (λ o. tree_or (option_map (standing (under old)) o) (stored (under old) info.number is.file.levels is.file.root)) cuts.becomes.was) (tree_holds (table_in old f) info.number is.file is.there now well) in
+    let most = cut_pending_done g.B.Blocks.told (g.B.Blocks.goes c.args.blocks.now c.cut_kept.new.blocks) (Unit {0}) (g.B.Blocks.shown c.args.blocks.now) (g.B.Blocks.shown c.cut_kept.new.blocks) c.args.files.now c.cut_kept.new.trees c.args.info.now.number c.args.length c.least_levels-start.result c.args.stamp c.in_ok-count.count cuts told sound holds in
+    omega (arith, most, c.rewrite.ensures.pending)

@@ -1,6 +1,7 @@
 use Rattle.std.proofs.Common.{◌≡◌, false, IsSome, sym, subst, refl, arith}
 use Rattle.std.specs.Ordering.{nat_cmp, is_eq}
 use Rattle.std.proofs.lemmas.Bool.Decides.{nat_tests}
+use Rattle.fv_files.proofs.Sums.{set_cost}
 use Rattle.fv_files.proofs.flush.flush_kept.Goals as goal
 
 pub returns-in-Some-clause-flushes : goal.returns-in-Some-clause-flushes
@@ -13,9 +14,13 @@ returns-in-Some-clause-flushes g c =
         was = sym c.in-Some.ensures.value;
         now = written.1;
         others = λ k differs. written.2 k (let test : is_eq (nat_cmp c.args.number k) ≡ false = grind (arith, nat_tests, differs) in test);
+        sum = set_cost c.args.trees.now (c.get_mut.follows.lender c.flush.new.self) c.args.number c.in-Some.tree.now c.flush.new.self c.in-Some.ensures.value (c.get_mut.follows.holds c.flush.new.self).0;
       };
       flushes = c.flush.ensures.flushes;
       strays = c.flush.ensures.strays;
+      fits = c.flush.ensures.fits;
+      enough = c.flush.ensures.enough;
+      nothing = c.flush.ensures.pending;
       left = c.flush.ensures.left;
       pointer = c.flush.ensures.pointer;
       spelled = c.flush.ensures.stored;

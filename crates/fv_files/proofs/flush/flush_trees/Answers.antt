@@ -1,7 +1,6 @@
-use Rattle.std.proofs.Common.{◌≡◌, arith, Err, Ok}
+use Rattle.std.proofs.Common.{arith, Err, Ok}
 use Rattle.std.proofs.lemmas.Result.{err_from_is_err_and}
 use Rattle.fv_files.proofs.Laid.{lays_then}
-use Rattle.fv_files.proofs.Flushed.{lays_self}
 use Rattle.fv_files.proofs.flush.flush_trees.Goals as goal
 
 pub loop-preserved : goal.loop-preserved

@@ -1,16 +1,11 @@
-use Rattle.std.proofs.Common.{◌≡◌, Err, Ok}
+use Rattle.std.proofs.Common.{Err, Ok}
 use Rattle.std.proofs.lemmas.Result.{err_from_is_err_and}
-use Rattle.fv_tree.specs.Standing.{under}
 use Rattle.fv_inode.specs.Files.{rooted}
-use Rattle.fv_inode.proofs.Readied.{ready_there}
 use Rattle.fv_files.proofs.Tables.{alike}
 use Rattle.fv_files.proofs.Changed.{with_trees, with_inode}
 use Rattle.fv_files.proofs.Laid.{lays_then}
 use Rattle.fv_files.proofs.Flushed.{kept_lays, lay_done, lays_failed, ready_lays}
 use Rattle.fv_files.proofs.flush.lay_file.Goals as goal
-
-pub set_root-requires-clause-there : goal.set_root-requires-clause-there
-set_root-requires-clause-there g c = λ told. ready_there (under (g.B.Blocks.shown c.flush_kept.new.blocks)) c.args.files.now.inode c.args.number c.requires.ready
 
 pub returns-in_err-root-clause-lays : goal.returns-in_err-root-clause-lays
 returns-in_err-root-clause-lays g c =
@@ -32,9 +27,9 @@ returns-in_err-set_root-clause-lays g c =
     let alters = c.in_err-set_root.ensures.alters in
     let p = err_from_is_err_and c.from_residual-in_err-set_root.result c.from_residual-in_err-set_root.ensures.1 in
     rw (p.1, p.2) (lays_then g.B.Blocks.told old mid new f two (with_inode two c.set_root.new.self) c.in_ok-root.root (Err e) (kept_lays g.B.Blocks.told old mid f c.flush_kept.new.trees c.args.number (Ok c.in_ok-root.root) c.in_ok-root.ensures.flushes)
-    (ready_lays g.B.Blocks.told mid new two c.set_root.new.self (Err e) alters (λ told. alike (rooted mid f.inode) (rooted new c.set_root.new.self) (alters.failed told))))
+    (ready_lays g.B.Blocks.told mid new two c.set_root.new.self (Err e) alters (λ told. alike (rooted mid f.inode) (rooted new c.set_root.new.self) (alters.failed told)) c.in_err-set_root.ensures.still))
 
 pub returns-clause-lays : goal.returns-clause-lays
 returns-clause-lays g c =
     lay_done g.B.Blocks.told (g.B.Blocks.shown c.args.blocks.now) (g.B.Blocks.shown c.flush_kept.new.blocks) (g.B.Blocks.shown c.set_root.new.blocks) c.args.files.now c.flush_kept.new.trees c.forget.new.trees c.set_root.new.self c.args.number c.kept_levels-levels.result c.in_ok-root.root
-    c.in_ok-root.ensures.flushes c.kept_levels-levels.ensures.levels c.requires.ready c.in_ok-set_root.ensures.alters c.in_ok-set_root.ensures.set c.forget.ensures.gone
+    c.in_ok-root.ensures.flushes c.kept_levels-levels.ensures.levels c.in_ok-set_root.ensures.alters c.in_ok-set_root.ensures.set c.in_ok-set_root.ensures.pending c.forget.ensures.gone c.forget.ensures.cost

@@ -1,6 +1,7 @@
-use Rattle.std.proofs.Common.{◌≡◌, sym, subst, ◌∙◌}
-use Rattle.std.specs.Prelude.{cond, Some, None, IfOk, IfErr}
+use Rattle.std.proofs.Common.{◌≡◌, ◌+◌, sym, subst, ◌∙◌}
+use Rattle.std.specs.Prelude.{cond, Some, None, IfOk, IfErr, OnOk}
 use Rattle.fv_tables.specs.Spelled.{block_at}
+use Rattle.fv_tree.specs.Costs.{way_cost}
 use Rattle.fv_tree.specs.Standing.{under, Fails}
 use Rattle.fv_files.proofs.Tables.{stored_known}
 use Rattle.fv_files.proofs.read.read_cell.Goals as goal
@@ -16,3 +17,9 @@ returns-in-None-clause-cause g c =
     let old = g.B.Blocks.shown c.args.blocks.now in
     subst (λ t. IfErr c.read_tree-in-None.result (Fails g.B.Blocks.told t old (g.B.Blocks.shown c.read_tree-in-None.new.blocks)))
     (c.stored_tree-tree.ensures.stored (under old) ∙ sym (stored_known (under old) c.args.files.now c.args.info.now (sym c.in-None.ensures.value))) c.read_tree-in-None.ensures.cause
+
+pub returns-in-None-clause-spent : goal.returns-in-None-clause-spent
+returns-in-None-clause-spent g c = λ told.
+    let old = g.B.Blocks.shown c.args.blocks.now in
+    subst (λ t. OnOk c.read_tree-in-None.result ((g.B.Blocks.shown c.read_tree-in-None.new.blocks).spent ≡ old.spent + way_cost old.cost t c.args.index))
+    (c.stored_tree-tree.ensures.stored (under old) ∙ sym (stored_known (under old) c.args.files.now c.args.info.now (sym c.in-None.ensures.value))) (c.read_tree-in-None.ensures.spent told)

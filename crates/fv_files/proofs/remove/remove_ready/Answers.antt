@@ -1,10 +1,12 @@
-use Rattle.std.proofs.Common.{ap}
+use Rattle.std.proofs.Common.{◌+◌, ap, arith}
 use Rattle.std.specs.Prelude.{is_some}
 use Rattle.std.proofs.lemmas.Result.{err_from_is_err_and}
 use Rattle.fv_tree.specs.Erasing.{HoldsCells}
 use Rattle.fv_inode.specs.Files.{rooted}
-use Rattle.fv_files.proofs.Steps.{cut_failed}
-use Rattle.fv_files.proofs.Removed.{remove_table, remove_done}
+use Rattle.fv_files.proofs.Steps.{cut_failed, cut_led_failed, cut_pending}
+use Rattle.fv_files.specs.Tables.{table_in}
+use Rattle.fv_files.proofs.Counted.{as_many}
+use Rattle.fv_files.proofs.Removed.{remove_table, remove_counts, remove_few, remove_led, remove_pending, remove_done}
 use Rattle.fv_files.proofs.remove.remove_ready.Goals as goal
 
 pub returns-in_err-own-clause-changes : goal.returns-in_err-own-clause-changes
@@ -19,7 +21,37 @@ returns-clause-removed g c = λ told sound.
     remove_table g.B.Blocks.told (g.B.Blocks.goes c.args.blocks.now c.cut_kept.new.blocks) (g.B.Blocks.goes c.cut_kept.new.blocks c.erase-inode.new.blocks) (g.B.Blocks.shown c.args.blocks.now) (g.B.Blocks.shown c.cut_kept.new.blocks) (g.B.Blocks.shown c.erase-inode.new.blocks)
     c.args.files.now c.cut_kept.new.trees c.forget.new.trees c.erase-inode.new.self c.args.info.now.number c.least_levels-start.result c.args.stamp c.in_ok-own.own c.erase-inode.result c.in_ok-own.ensures c.erase-inode.ensures.takes c.forget.ensures.gone told sound (ap is_some is.there)
 
+pub returns-clause-counted : goal.returns-clause-counted
+returns-clause-counted g c = λ told sound.
+    let there = ap is_some (c.requires.there told).there in
+    let few = remove_few g.B.Blocks.told (g.B.Blocks.goes c.args.blocks.now c.cut_kept.new.blocks) (g.B.Blocks.goes c.cut_kept.new.blocks c.erase-inode.new.blocks) (g.B.Blocks.shown c.args.blocks.now) (g.B.Blocks.shown c.cut_kept.new.blocks) (g.B.Blocks.shown c.erase-inode.new.blocks)
+    c.args.files.now c.cut_kept.new.trees c.forget.new.trees c.erase-inode.new.self c.args.info.now.number c.least_levels-start.result c.args.stamp c.in_ok-own.own c.erase-inode.result c.in_ok-own.ensures c.erase-inode.ensures.takes c.forget.ensures.gone told sound in
+    as_many (table_in (g.B.Blocks.shown c.args.blocks.now) c.args.files.now) c.args.info.now.number c.args.stamp (c.in_ok-own.own + c.erase-inode.result) c.saturating_add-count.result (omega (arith, c.saturating_add-count.ensures, few))
+    (remove_counts g.B.Blocks.told (g.B.Blocks.goes c.args.blocks.now c.cut_kept.new.blocks) (g.B.Blocks.goes c.cut_kept.new.blocks c.erase-inode.new.blocks) (g.B.Blocks.shown c.args.blocks.now) (g.B.Blocks.shown c.cut_kept.new.blocks) (g.B.Blocks.shown c.erase-inode.new.blocks)
+    c.args.files.now c.cut_kept.new.trees c.forget.new.trees c.erase-inode.new.self c.args.info.now.number c.least_levels-start.result c.args.stamp c.in_ok-own.own c.erase-inode.result c.in_ok-own.ensures c.erase-inode.ensures.takes c.forget.ensures.gone told sound there)
+
 pub returns-clause-changes : goal.returns-clause-changes
 returns-clause-changes g c =
     remove_done g.B.Blocks.told (g.B.Blocks.goes c.args.blocks.now c.cut_kept.new.blocks) (g.B.Blocks.goes c.cut_kept.new.blocks c.erase-inode.new.blocks) (g.B.Blocks.shown c.args.blocks.now) (g.B.Blocks.shown c.cut_kept.new.blocks) (g.B.Blocks.shown c.erase-inode.new.blocks)
     c.args.files.now c.cut_kept.new.trees c.forget.new.trees c.erase-inode.new.self c.args.info.now.number c.least_levels-start.result c.args.stamp c.in_ok-own.own c.erase-inode.result c.in_ok-own.ensures c.erase-inode.ensures.takes c.forget.ensures.gone _
+
+pub returns-in_err-own-clause-led : goal.returns-in_err-own-clause-led
+returns-in_err-own-clause-led g c = λ told now well.
+    cut_led_failed g.B.Blocks.told (g.B.Blocks.goes c.args.blocks.now c.cut_kept.new.blocks) (Unit {0}) (g.B.Blocks.shown c.args.blocks.now) (g.B.Blocks.shown c.cut_kept.new.blocks)
+    c.args.files.now c.cut_kept.new.trees c.args.info.now.number 0 c.least_levels-start.result c.args.stamp c.in_err-own.field-0.0 c.in_err-own.ensures told
+
+pub returns-clause-led : goal.returns-clause-led
+returns-clause-led g c = λ told now well sound led.
+    remove_led g.B.Blocks.told (g.B.Blocks.goes c.args.blocks.now c.cut_kept.new.blocks) (g.B.Blocks.goes c.cut_kept.new.blocks c.erase-inode.new.blocks) (g.B.Blocks.shown c.args.blocks.now) (g.B.Blocks.shown c.cut_kept.new.blocks) (g.B.Blocks.shown c.erase-inode.new.blocks)
+    c.args.files.now c.cut_kept.new.trees c.forget.new.trees c.erase-inode.new.self c.args.info.now.number c.least_levels-start.result c.args.stamp c.in_ok-own.own c.erase-inode.result c.in_ok-own.ensures c.erase-inode.ensures.takes c.forget.ensures.gone told sound (ap is_some (c.requires.there told).there) now well led
+
+pub returns-in_err-own-clause-pending : goal.returns-in_err-own-clause-pending
+returns-in_err-own-clause-pending g c =
+    let less = cut_pending g.B.Blocks.told (g.B.Blocks.goes c.args.blocks.now c.cut_kept.new.blocks) (Unit {0}) (g.B.Blocks.shown c.args.blocks.now) (g.B.Blocks.shown c.cut_kept.new.blocks)
+    c.args.files.now c.cut_kept.new.trees c.args.info.now.number 0 c.least_levels-start.result c.args.stamp c.in_err-own.field-0.0 c.in_err-own.ensures in
+    omega (arith, less)
+
+pub returns-clause-pending : goal.returns-clause-pending
+returns-clause-pending g c =
+    remove_pending g.B.Blocks.told (g.B.Blocks.goes c.args.blocks.now c.cut_kept.new.blocks) (g.B.Blocks.goes c.cut_kept.new.blocks c.erase-inode.new.blocks) (g.B.Blocks.shown c.args.blocks.now) (g.B.Blocks.shown c.cut_kept.new.blocks) (g.B.Blocks.shown c.erase-inode.new.blocks)
+    c.args.files.now c.cut_kept.new.trees c.forget.new.trees c.erase-inode.new.self c.args.info.now.number c.least_levels-start.result c.args.stamp c.in_ok-own.own c.erase-inode.result c.in_ok-own.ensures c.erase-inode.ensures.takes c.forget.ensures.gone c.erase-inode.ensures.pending c.forget.ensures.cost

@@ -1,7 +1,8 @@
+use Rattle.std.proofs.Common.{arith}
 use Rattle.std.proofs.lemmas.Result.{err_from_is_err_and}
 use Rattle.fv_inode.specs.Files.{with_info}
 use Rattle.fv_files.specs.Calls.{longer}
-use Rattle.fv_files.proofs.Steps.{put_failed, put_done}
+use Rattle.fv_files.proofs.Steps.{put_failed, put_done, put_led, put_led_alone, put_pending}
 use Rattle.fv_files.proofs.Wrote.{rewrites_as, written_table}
 use Rattle.fv_files.proofs.write.write_ready.Goals as goal
 
@@ -29,4 +30,32 @@ returns-clause-changes g c =
       owner = c.rewrite.ensures.owner;
       sound = c.rewrite.ensures.sound;
       leads = c.rewrite.ensures.leads;
+      keeps = c.rewrite.ensures.keeps;
     })
+
+pub returns-in_err-put_kept-clause-led : goal.returns-in_err-put_kept-clause-led
+returns-in_err-put_kept-clause-led g c =
+    put_led_alone g.B.Blocks.told (Unit {0}) (g.B.Blocks.shown c.args.blocks.now) (g.B.Blocks.shown c.put_kept.new.blocks) c.args.files.now c.put_kept.new.trees c.args.info.now.number c.args.index c.args.stamp c.args.block.now _ c.in_err-put_kept.ensures.puts
+
+pub returns-clause-led : goal.returns-clause-led
+returns-clause-led g c =
+    let f = c.args.files.now in
+    let info = c.args.info.now in
+    put_led g.B.Blocks.told (Unit {0}) (g.B.Blocks.shown c.args.blocks.now) (g.B.Blocks.shown c.put_kept.new.blocks) f c.put_kept.new.trees info.number c.args.index c.args.stamp c.args.block.now _ c.in_ok-put_kept.ensures.puts
+    c.rewrite.new.self (with_info (longer info c.args.index)) (record {
+      rewrites = rewrites_as f.inode c.rewrite.new.self c.args.stamp c.longer.result (longer info c.args.index) c.longer.ensures.is c.rewrite.ensures.rewrites;
+      owner = c.rewrite.ensures.owner;
+      sound = c.rewrite.ensures.sound;
+      leads = c.rewrite.ensures.leads;
+      keeps = c.rewrite.ensures.keeps;
+    })
+
+pub returns-in_err-put_kept-clause-pending : goal.returns-in_err-put_kept-clause-pending
+returns-in_err-put_kept-clause-pending g c =
+    let most = put_pending g.B.Blocks.told (Unit {0}) (g.B.Blocks.shown c.args.blocks.now) (g.B.Blocks.shown c.put_kept.new.blocks) c.args.files.now c.put_kept.new.trees c.args.info.now.number c.args.index c.args.stamp c.args.block.now _ c.in_err-put_kept.ensures.puts in
+    omega (arith, most)
+
+pub returns-clause-pending : goal.returns-clause-pending
+returns-clause-pending g c =
+    let most = put_pending g.B.Blocks.told (Unit {0}) (g.B.Blocks.shown c.args.blocks.now) (g.B.Blocks.shown c.put_kept.new.blocks) c.args.files.now c.put_kept.new.trees c.args.info.now.number c.args.index c.args.stamp c.args.block.now _ c.in_ok-put_kept.ensures.puts in
+    omega (arith, most, c.rewrite.ensures.pending)

@@ -1,4 +1,5 @@
-use Rattle.std.proofs.Common.{◌≡◌, ◌≤◌, ◌+◌, ◌^◌, ap, get_or, length, sym, subst, ◌∙◌, arith, nat_le}
+use Rattle.std.proofs.Common.{◌≡◌, ◌≤◌, ◌+◌, ◌/◌, ◌^◌, ap, get_or, length, refl, sym, subst, ◌∙◌, arith, nat_le, inl, inr}
+use Rattle.std.specs.BTreeMap as maps
 use Rattle.fv_tree.specs.Standing.{standing, under}
 use Rattle.fv_tree.specs.Erasing.{StandsAt}
 use Rattle.fv_tree.specs.Releasing.{Removes}
@@ -7,6 +8,7 @@ use Rattle.fv_model.specs.Trees.{fan}
 use Rattle.std.specs.FinMap as fin
 use Rattle.fv_tree.specs.Counting.{positions_of}
 use Rattle.fv_tree.specs.Collecting.{AreBelow, Collects}
+use Rattle.fv_tree.proofs.Bordered.{few_differ}
 use Rattle.fv_tree.proofs.Causes.{at_err, calm_then}
 use Rattle.fv_tree.proofs.Collected.{listed, next_listed, none_listed, not_yet, listed_past, way_held}
 use Rattle.fv_tree.proofs.Counts.{alike_count, count_then, few_below}
@@ -33,6 +35,10 @@ loop-index-init g c =
       removes = λ told. removes_nothing a b t u (listed cells 0) c.args.start c.args.stamp now.untouched now.counts.calm (now.same told) (now.blocks told) (now.stands told) (λ i _. none_listed cells i);
       count = λ told. let same = alike_count (standing (under a) t) (standing (under a) u) (same_alike (standing (under a) t) (standing (under a) u) (same_over (under a) (under b) t u (ap (λ h v. fin.get h v) now.untouched.held) (now.same told))) in omega (arith, same);
       few = omega arith;
+      marks = λ told level place changed. inl (now.marks told level place changed);
+      cells = (let same = ap (λ m. maps.btree_map_len m) now.fields.cells in omega (arith, same));
+      none = λ _. now.changes;
+      ordered = inl refl;
       calm = now.counts.calm;
       owner = now.fields.owner;
       room = omega (arith, now.untouched.room);
@@ -53,6 +59,7 @@ loop-index-preserved g c =
     let at = c.loop-index.index-index in
     let index = get_or cells at 0 in
     let was = c.loop-index.invariant in
+    let now = c.erase_cell-gone.ensures in
     let are : g.B.Blocks.told → Collects s 0 c.args.most cells = λ told. subst (Collects s 0 c.args.most) (sym c.as_slice-index-items.ensures.value) (c.in_ok-cells.ensures.cells told) in
     let way : g.B.Blocks.told → HasWay u index = λ told. was.ways told at (omega arith) c.loop-index-test.true in
     let stands : g.B.Blocks.told → StandsAt (standing (under a) u) 0 index = λ told.
@@ -70,6 +77,13 @@ loop-index-preserved g c =
           count_then (positions_of s) (positions_of (standing (under a) u)) (positions_of (standing (under a) w)) c.loop-index.count c.erase_cell-gone.result c.saturating_add-count.result (was.count told) (c.erase_cell-gone.ensures.count (way told) (under a) (stands told))
           (omega (arith, c.saturating_add-count.ensures, small, less, most, all));
       few = (let most = c.erase_cell-gone.ensures.few in let all = was.few in omega (arith, c.saturating_add-count.ensures, most, all));
+      marks = λ told level place changed. elim (now.differs.marks level place changed) [
+        | inl still ↦ was.marks told level place still
+        | inr over ↦ inr (record { cell = index; far = (let far = ((are told).past at c.loop-index-test.true).far in let first : c.args.most / fan ^ 0 ≡ c.args.most = omega arith in let same : index / fan ^ 0 ≡ index = omega arith in omega (arith, far, first, same)); over = over })
+      ];
+      cells = (let less = now.differs.cells in let before = was.cells in omega (arith, less, before));
+      none = λ e. absurd (omega (arith, e));
+      ordered = inr now.differs.ordered;
       calm = calm_then a b d was.calm c.erase_cell-gone.ensures.calm;
       owner = c.erase_cell-gone.ensures.owner ∙ was.owner;
       room = omega (arith, was.room, c.erase_cell-gone.ensures.room);
@@ -88,3 +102,15 @@ returns-clause-done g c = λ told.
     let all : c.loop-index.index-index ≡ length cells = omega (arith, c.loop-index-test.false, c.loop-index.auto.index-index-end) in
     removes_as a (g.B.Blocks.shown c.loop-index.blocks) t c.loop-index.tree (listed cells c.loop-index.index-index) (nat_le c.args.most) c.args.start c.args.stamp (c.loop-index.invariant.removes told)
     (λ i stands. subst (λ n. nat_le c.args.most i ≡ listed cells n i) (sym all) (listed_past s c.args.most cells are i stands))
+
+pub returns-clause-pending : goal.returns-clause-pending
+returns-clause-pending g c = λ told stands holds.
+    let a = g.B.Blocks.shown c.args.blocks.now in
+    let t = c.args.tree.now in
+    let u = c.loop-index.tree in
+    let was = c.loop-index.invariant in
+    let removes = returns-clause-done g c told in
+    elim was.ordered [
+      | inl none ↦ (let less = was.none none in let cells = was.cells in omega (arith, less, cells))
+      | inr ordered ↦ few_differ (under a) a.used t u c.args.most c.args.start c.args.stamp (removes.erased holds) (removes.sound stands) (was.marks told) ordered was.cells
+    ]

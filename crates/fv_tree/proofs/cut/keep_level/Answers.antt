@@ -62,6 +62,7 @@ loop-place-preserved g c =
       blocks = λ told. keeps_then (under old) c.args.tree.now c.loop-place.tree c.keep_range.new.tree (was.blocks told) (subst (λ b. KeepsBlocks b c.loop-place.tree c.keep_range.new.tree) (ap (λ h v. fin.get h v) was.untouched.held) (now.blocks told));
       stands = λ told stands. now.stands told (was.stands told stands);
       changes = omega (arith, was.changes, now.changes);
+      marks = λ told k q changed. was.marks told k q (now.marks told k q changed);
       untouched = untouched_then old mid new was.untouched now.untouched;
       calm = calm_then old mid new was.calm now.counts.calm;
       reads = g.met.B.Blocks.reads_on c.args.blocks.now c.loop-place.blocks c.keep_range.new.blocks was.reads now.reads;

@@ -5,6 +5,7 @@ use Rattle.fv_tree.specs.Sources.{IsCalm, IsUntouched}
 use Rattle.fv_tree.specs.Standing.{standing, under, IsSameBut}
 use Rattle.fv_tree.specs.Releasing.{KeepsBlocks}
 use Rattle.fv_tree.specs.Flushing.{Stands}
+use Rattle.fv_tree.specs.Carried.{MarksNoMore}
 use Rattle.fv_tree.specs.Costs.{changes_in}
 use Rattle.fv_tree.specs.Collecting.{AreBelow, Collects, AreHeld}
 use Rattle.fv_tree.proofs.cut.keep_past.Given as goal
@@ -20,6 +21,7 @@ invariant-loop-level g l = record {
   blocks : g.B.Blocks.told → KeepsBlocks (under (g.B.Blocks.shown l.fn.blocks)) l.fn.tree l.tree;
   stands : g.B.Blocks.told → Stands (g.B.Blocks.shown l.fn.blocks) l.fn.tree → Stands (g.B.Blocks.shown l.blocks) l.tree;
   changes : changes_in l.tree.nodes ≤ changes_in l.fn.tree.nodes;
+  marks : g.B.Blocks.told → MarksNoMore l.fn.tree l.tree;
   untouched : IsUntouched (g.B.Blocks.shown l.fn.blocks) (g.B.Blocks.shown l.blocks);
   calm : IsCalm (g.B.Blocks.shown l.fn.blocks) (g.B.Blocks.shown l.blocks);
   reads : g.B.Blocks.reads l.fn.blocks l.blocks;

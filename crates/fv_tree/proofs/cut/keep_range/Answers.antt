@@ -6,6 +6,7 @@ use Rattle.fv_tree.specs.Standing.{standing, under}
 use Rattle.fv_tree.specs.Keeping.{Keeps}
 use Rattle.fv_tree.specs.Carried.{Brings}
 use Rattle.fv_tree.specs.Collecting.{IsChildPast, IsUnder}
+use Rattle.fv_tree.proofs.Bordered.{brings_marks}
 use Rattle.fv_tree.proofs.Brought.{brings_stands}
 use Rattle.fv_tree.proofs.Causes.{node_fails}
 use Rattle.fv_tree.proofs.Collected.{pointer_in_is, range_within, under_as, under_from, extends_as}
@@ -89,3 +90,11 @@ returns-clause-stands g c = λ told stands.
     brings_stands old new c.args.tree.now c.keep_node.new.tree c.args.level c.args.place c.requires.low c.keep_node.ensures.untouched.held c.keep_node.ensures.untouched.used c.keep_node.ensures.fields
     (keeps_same s u c.args.level c.args.place (subst (λ p. Keeps s u c.args.level c.args.place p) is (c.keep_node.ensures.keeps told)))
     (subst (Brings (under old) c.args.tree.now c.keep_node.new.tree c.args.level c.args.place) is (c.keep_node.ensures.brings told)) stands
+
+pub returns-in_err-children-clause-marks : goal.returns-in_err-children-clause-marks
+returns-in_err-children-clause-marks g c = λ told.
+    brings_marks (under (g.B.Blocks.shown c.args.blocks.now)) c.args.tree.now c.keep_node.new.tree c.args.level c.args.place c.pointer_in-pointer.result (c.keep_node.ensures.brings told)
+
+pub returns-clause-marks : goal.returns-clause-marks
+returns-clause-marks g c = λ told.
+    brings_marks (under (g.B.Blocks.shown c.args.blocks.now)) c.args.tree.now c.keep_node.new.tree c.args.level c.args.place c.pointer_in-pointer.result (c.keep_node.ensures.brings told)

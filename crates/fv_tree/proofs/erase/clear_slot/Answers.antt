@@ -3,6 +3,7 @@ use Rattle.fv_tree.specs.Unlinking.{cleared_in}
 use Rattle.fv_tree.specs.Flushing.{node_changed, node_placed}
 use Rattle.fv_tree.proofs.Observed.{elsewhere_same, here_now, observed}
 use Rattle.fv_tree.proofs.Written.{changed}
+use Rattle.fv_tree.proofs.Bordered.{still_ordered}
 use Rattle.fv_tree.proofs.Differing.{set_one}
 use Rattle.fv_tree.proofs.erase.clear_slot.Goals as goal
 
@@ -24,3 +25,7 @@ returns-in-Some-clause-others c =
 
 pub returns-in-Some-clause-count : goal.returns-in-Some-clause-count
 returns-in-Some-clause-count c = set_one c.args.nodes.now (c.get_mut.follows.lender c.clear_child.new.node) (c.args.level, c.args.place) c.in-Some.node.now c.clear_child.new.node c.in-Some.ensures.value (c.get_mut.follows.holds c.clear_child.new.node).0
+
+pub returns-in-Some-clause-ordered : goal.returns-in-Some-clause-ordered
+returns-in-Some-clause-ordered c =
+    still_ordered c.args.nodes.now (c.get_mut.follows.lender c.clear_child.new.node) (c.args.level, c.args.place) c.clear_child.new.node c.get_mut.ensures.ordered (c.get_mut.follows.holds c.clear_child.new.node).0

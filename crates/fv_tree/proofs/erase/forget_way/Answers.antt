@@ -2,6 +2,7 @@ use Rattle.std.proofs.Common.{◌≡◌, ◌≢◌, ◌<◌, ◌+◌, ◌/◌, �
 use Rattle.std.specs.BTreeMap as tree
 use Rattle.std.proofs.lemmas.Bool.{cases_eq}
 use Rattle.fv_model.specs.Trees.{fan, spot_cmp}
+use Rattle.fv_tree.proofs.Bordered.{forgotten_marks}
 use Rattle.fv_tree.proofs.Differing.{no_more}
 use Rattle.fv_tree.proofs.Written.{forgotten, now_forgotten}
 use Rattle.fv_tree.proofs.erase.forget_way.Goals as goal
@@ -29,6 +30,8 @@ loop-below-preserved c =
           forgotten c.loop-below.tree.nodes c.remove-in-loop-below.new.self (c.loop-below.below + 1) (c.args.index / c.width.result) c.remove-in-loop-below.ensures.updates level place (apart c.args.index c.loop-below.below c.width.result level place c.width.ensures.is other)
           ∙ was.nodes level place (before c.args.index c.loop-below.below level place other);
       pending = let less = no_more c.loop-below.tree.nodes c.remove-in-loop-below.new.self (c.loop-below.below + 1, c.args.index / c.width.result) c.remove-in-loop-below.ensures.entries in omega (arith, was.pending, less);
+      marks = λ level place changed. was.marks level place (forgotten_marks c.loop-below.tree.nodes c.remove-in-loop-below.new.self (c.loop-below.below + 1) (c.args.index / c.width.result) c.remove-in-loop-below.ensures.updates level place changed);
+      fewer = was.fewer;
       gone = λ level low high. elim (cases_eq level (c.loop-below.below + 1)) [
         | inl same ↦
             (λ j. tree.get spot_cmp c.remove-in-loop-below.new.self (same j, c.args.index / fan ^ same j))

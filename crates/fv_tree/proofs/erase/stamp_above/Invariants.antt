@@ -21,5 +21,6 @@ invariant-loop-below l = record {
   placed : (level place : ℕ) → placed_in l.tree.nodes level place ≡ placed_in l.fn.tree.nodes level place;
   changed : (level : ℕ) → l.lowest < level → level ≤ l.below → is_some (tree_map.get spot_cmp l.fn.tree.nodes (level, l.index / fan ^ level)) ≡ true → changed_in l.tree.nodes level (l.index / fan ^ level) ≡ true;
   after : (level place : ℕ) → l.below < level → tree_map.get spot_cmp l.tree.nodes (level, place) ≡ tree_map.get spot_cmp l.fn.tree.nodes (level, place);
+  ordered : tree_map.IsOrdered spot_cmp l.fn.tree.nodes → tree_map.IsOrdered spot_cmp l.tree.nodes;
   same : (level place : ℕ) → (level ≤ l.lowest) ⊎ (place ≢ l.index / fan ^ level) → tree_map.get spot_cmp l.tree.nodes (level, place) ≡ tree_map.get spot_cmp l.fn.tree.nodes (level, place);
 }

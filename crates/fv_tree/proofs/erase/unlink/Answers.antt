@@ -12,6 +12,7 @@ use Rattle.fv_tree.specs.declared.kept.KeptNode.{KeptNode}
 use Rattle.fv_tree.specs.Spelled.{hole}
 use Rattle.fv_tree.specs.Writing.{stamped}
 use Rattle.fv_tree.specs.Flushing.{node_changed, cell_placed, placed_in, placed_of, changed_of}
+use Rattle.fv_tree.proofs.Bordered.{cleared_marks}
 use Rattle.fv_tree.proofs.erase.unlink.Goals as goal
 
 cell_apart : (i lost level place : ℕ) → (lost < level) ⊎ (place ≢ i / fan ^ level) → level ≡ 0 → place ≡ i → ⊥
@@ -80,3 +81,6 @@ returns-else-lost-tree-clause-unlinks c = λ way.
       cells = λ _ k differs. ap (option_map (λ (kept : KeptCell). kept.block)) (now.cells k differs);
       blocks = λ _ level place other. blocks_as t u c.args.index c.args.lost level place other now.cells now.placed;
     }
+
+pub returns-then-lost-tree-clause-differs : goal.returns-then-lost-tree-clause-differs
+returns-then-lost-tree-clause-differs c = cleared_marks c.args.tree.now c.clear.new.tree c.args.index c.clear.ensures.nodes c.clear.ensures.pending c.clear.ensures.ordered

@@ -8,3 +8,6 @@ returns-in-Ok-clause-count c = one_longer (maps.btree_map_len c.insert.new.self)
 
 pub returns-in-Err-clause-count : goal.returns-in-Err-clause-count
 returns-in-Err-clause-count c = let same = ap length c.in-Err.ensures.err in omega (arith, same)
+
+pub returns-in-Err-clause-still : goal.returns-in-Err-clause-still
+returns-in-Err-clause-still c = let same = ap length c.in-Err.ensures.err in omega (arith, same)

@@ -10,7 +10,7 @@ use Rattle.fv_volmap.specs.Slots.{Volume, active_of}
 use Rattle.fv_container.specs.Spelled.{IsFault, Spelled}
 use Rattle.fv_volume.specs.Loading.{HasRead, has_delayed, IsBadMap, IsLoadFault}
 use Rattle.fv_volume.proofs.Labelled.{bad_label, bad_map, bad_tree, handed, is_label, loaded_none, loaded_some}
-use Rattle.fv_volume.proofs.Loaded.{state_from}
+use Rattle.fv_volume.proofs.Loaded.{labelled_from}
 use Rattle.fv_volume.proofs.Stepping.{has_container}
 use Rattle.fv_volume.proofs.Mapping.{read_bits}
 use Rattle.fv_volume.proofs.load.load_volume.Goals as goal
@@ -73,11 +73,12 @@ returns-clause-loaded g c = λ tells empty.
     (λ v. ap (λ (x : Volume). is_member (active_of x) v) c.of_label.ensures.map
     ∙ read_bits found i c.args.slot l map lies spelled c.in_ok-container.ensures.size c.in_ok-container.ensures.valid m l.span read v
     ∙ ap (λ (n : ℕ). volume_bit (view_at (root_found found) i) c.args.slot n 0 v) (sym span))
-    (c.of_label.ensures.changed ∙ c.has_delayed-delayed.ensures ∙ ap (λ (n : ℕ). has_delayed map n) (sym span))
+    (c.of_label.ensures.changed ∙ c.has_delayed-delayed.ensures ∙ (λ j. has_delayed ((c.active.ensures.active ∙ ap (λ (x : Volume). active_of x) (sym c.of_label.ensures.map)) j) map (sym span j)))
 
 pub returns-clause-filled : goal.returns-clause-filled
 returns-clause-filled g c = record {
-  state = state_from c.in_ok-label.label c.in_ok-label.ensures.range c.in_ok-label.ensures.plain c.of_label.result c.args.slot c.of_label.ensures.slot c.of_label.ensures.head c.of_label.ensures.ledger c.of_label.ensures.named (ap (λ (x : Volume). x.span) c.of_label.ensures.map ∙ c.in_ok-map.ensures.map ∙ sym c.of_label.ensures.span);
+  state = labelled_from c.in_ok-label.label c.in_ok-label.ensures.range c.in_ok-label.ensures.form c.of_label.result c.args.slot c.of_label.ensures.slot c.of_label.ensures.head c.of_label.ensures.ledger c.of_label.ensures.named (ap (λ (x : Volume). x.span) c.of_label.ensures.map ∙ c.in_ok-map.ensures.map ∙ sym c.of_label.ensures.span);
+  counted = c.of_label.ensures.counted;
   housed = has_container c.in_ok-label.label c.of_label.result c.in_ok-container.container _ c.of_label.ensures.head c.in_ok-container.ensures.size c.put.ensures.there;
   parent = search rules;
 }

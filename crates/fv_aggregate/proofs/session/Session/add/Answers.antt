@@ -6,7 +6,7 @@ use Rattle.fv_volume.specs.declared.pool.Pool.{Pool}
 use Rattle.fv_volume.specs.Creating.{IsNew}
 use Rattle.fv_volume.specs.States.{state_at}
 use Rattle.fv_cp.specs.Lent.{FitTogether, blocks_asked}
-use Rattle.fv_cp.proofs.Housing.{housed_with}
+use Rattle.fv_volume.proofs.Housing.{housed_with}
 use Rattle.fv_aggregate.specs.declared.session.Session.{Session}
 use Rattle.fv_aggregate.proofs.Added.{added_as}
 use Rattle.fv_aggregate.proofs.Asking.{asked_made}
@@ -22,7 +22,7 @@ invariant_of-self-2 c = λ fresh.
       range = was.range;
       size = was.size;
       housed = housed_with c.self.inside.pool c.self.inside.volumes c.create.new.self slot c.args.name.now c.args.size c.args.kind e.made new e.each was.housed;
-      unkept = was.unkept;
+      kept = was.kept;
     })
 
 pub returns-clause-added : goal.returns-clause-added

@@ -1,11 +1,14 @@
-use Rattle.std.proofs.Common.{◌∙◌, length, inr, refl, sym, ap, subst}
-use Rattle.std.specs.Prelude.{IsNone}
+use Rattle.std.proofs.Common.{◌≡◌, ◌∙◌, ℕ, length, Err, Some, inr, refl, sym, ap, subst}
+use Rattle.std.specs.Prelude.{IsNone, IsTrue}
 use Rattle.fv_disk.specs.declared.fault.BlockFault.{BlockFault}
-use Rattle.fv_disk.specs.declared.fault.BlockFault.TheVariants.{Damaged}
+use Rattle.fv_disk.specs.declared.fault.BlockFault.TheVariants.{Damaged, DiskFault}
+use Rattle.fv_disk.specs.Shown.{Rose}
 use Rattle.fv_volume.specs.States.{States}
-use Rattle.fv_cp.specs.Points.{AreSettled, LacksRoom, LeavesAll}
+use Rattle.fv_volume.specs.Housed.{AreSettled}
+use Rattle.fv_cp.specs.Points.{Counts, LacksRoom, LeavesAll}
 use Rattle.fv_aggregate.specs.declared.session.Session.{Session}
-use Rattle.fv_aggregate.proofs.PointEnds.{admits_still, lent_as, no_lack, point_done, point_lacks, point_moments, point_room, pointed}
+use Rattle.fv_aggregate.proofs.PointEnds.{admits_still, lent_as, no_lack, point_done, point_failed_for, point_lacks, point_moments, point_room, pointed}
+use Rattle.fv_aggregate.proofs.Standing.{reads_whole}
 use Rattle.fv_aggregate.proofs.session.Session.point.Goals as goal
 
 pub returns-in-Ok-clause-goes : goal.returns-in-Ok-clause-goes
@@ -26,7 +29,7 @@ returns-in-Ok-clause-goes_for g c = λ tells last m stands.
         point = m;
         one = inr refl;
         stands = pointed (g.D.Disk.shown c.args.disk.now) c.self.inside.pool c.self.inside.volumes (g.D.Disk.shown c.consistency_point.new.disk) c.consistency_point.new.pool c.consistency_point.new.volumes
-            (c.in-Ok.ensures.point tells last lent) session last m stands pool volumes _ refl refl refl;
+            (c.in-Ok.ensures.point tells last lent) (c.in-Ok.ensures.goes_on.loaded tells) session last m stands pool volumes _ refl refl refl;
       };
       still = λ none. tt;
       whole = tt;
@@ -39,7 +42,7 @@ returns-in-Ok-clause-done g c = λ tells last m stands.
     let volumes = ap (λ (s : Session). s.volumes) (sym c.self.view_is) in
     let lent = lent_as (g.D.Disk.shown c.args.disk.now) session last m stands c.self.inside.pool c.self.inside.volumes pool volumes in
     pointed (g.D.Disk.shown c.args.disk.now) c.self.inside.pool c.self.inside.volumes (g.D.Disk.shown c.consistency_point.new.disk) c.consistency_point.new.pool c.consistency_point.new.volumes
-    (c.in-Ok.ensures.point tells last lent) session last m stands pool volumes _ refl refl refl
+    (c.in-Ok.ensures.point tells last lent) (c.in-Ok.ensures.goes_on.loaded tells) session last m stands pool volumes _ refl refl refl
 
 pub returns-in-Ok-clause-room : goal.returns-in-Ok-clause-room
 returns-in-Ok-clause-room g c = λ tells last m stands room fits.
@@ -47,8 +50,23 @@ returns-in-Ok-clause-room g c = λ tells last m stands room fits.
     let pool = ap (λ (s : Session). s.pool) (sym c.self.view_is) in
     let volumes = ap (λ (s : Session). s.volumes) (sym c.self.view_is) in
     let lent = lent_as (g.D.Disk.shown c.args.disk.now) session last m stands c.self.inside.pool c.self.inside.volumes pool volumes in
+    let told = subst IsTrue (sym c.in-Ok.ensures.counts.tells) tells in
+    let whole = reads_whole (g.D.Disk.shown c.consistency_point.new.disk) (g.met.D.Disk.laws c.consistency_point.new.disk) told in
     point_room (g.D.Disk.shown c.args.disk.now) c.self.inside.pool c.self.inside.volumes (g.D.Disk.shown c.consistency_point.new.disk) c.consistency_point.new.pool c.consistency_point.new.volumes
-    (c.in-Ok.ensures.point tells last lent) session last m stands pool volumes (record { volumes = c.consistency_point.new.volumes; pool = c.consistency_point.new.pool; pending = 0; failed = c.self.inside.failed }) refl refl room fits
+    (c.in-Ok.ensures.point tells last lent) (c.in-Ok.ensures.goes_on.loaded tells) session last m stands pool volumes whole (record { volumes = c.consistency_point.new.volumes; pool = c.consistency_point.new.pool; pending = 0; failed = c.self.inside.failed }) refl refl room fits
+
+pub returns-in-Err-DiskFault-clause-goes_for : goal.returns-in-Err-DiskFault-clause-goes_for
+returns-in-Err-DiskFault-clause-goes_for g c = λ tells last m stands.
+    let e = c.in-Err-DiskFault in
+    let session = c.args.self.now in
+    let old = g.D.Disk.shown c.args.disk.now in
+    let new = g.D.Disk.shown c.consistency_point.new.disk in
+    let pool = ap (λ (s : Session). s.pool) (sym c.self.view_is) in
+    let volumes = ap (λ (s : Session). s.volumes) (sym c.self.view_is) in
+    let lent = lent_as old session last m stands c.self.inside.pool c.self.inside.volumes pool volumes in
+    let counts : Counts old new (Err DiskFault) = rw e.field-0-is at e.ensures.counts in
+    let failed : c.failure-self-inside.result ≡ Some new.faults = c.failure-self-inside.ensures.failed (subst (λ (n : ℕ). Rose n new.write_faults) (sym c.write_faults-before.ensures) counts.write_cause) in
+    point_failed_for old last m new _ (point_moments old new session last m stands c.self.inside.pool c.self.inside.volumes pool volumes (e.ensures.any_moment tells last lent)) failed
 
 pub returns-in-Err-Damaged-clause-goes : goal.returns-in-Err-Damaged-clause-goes
 returns-in-Err-Damaged-clause-goes g c =

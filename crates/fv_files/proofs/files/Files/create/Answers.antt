@@ -1,11 +1,12 @@
-use Rattle.std.proofs.Common.{refl, inl}
+use Rattle.std.proofs.Common.{refl, inl, arith}
 use Rattle.fv_files.proofs.Tables.{alike}
 use Rattle.fv_inode.specs.Files.{rooted}
 use Rattle.std.specs.Prelude.{None}
 use Rattle.fv_files.proofs.Changed.{with_inode}
 use Rattle.fv_files.proofs.Looked.{counts_done, counts_failed}
-use Rattle.fv_files.proofs.Made.{made_table, made_sound}
-use Rattle.fv_files.proofs.Prepared.{readied_told, readied_stands}
+use Rattle.fv_files.proofs.Made.{made_led, made_table, made_sound}
+use Rattle.fv_files.proofs.Prepared.{readied_led, readied_told, readied_stands}
+use Rattle.fv_files.proofs.Steps.{same_room}
 use Rattle.fv_files.proofs.files.Files.create.Goals as goal
 
 pub returns-in-Ok-clause-made : goal.returns-in-Ok-clause-made
@@ -24,6 +25,7 @@ returns-in-Ok-clause-changes g c =
       stands = λ told asked sound. made_sound (g.B.Blocks.shown c.args.blocks.now) (g.B.Blocks.shown c.create.new.blocks) c.args.self.now c.create.new.self c.args.name.now c.args.reserve c.args.stamp c.in-Ok.field-0
           looks.untouched.held (c.in-Ok.ensures.made told) sound looks.untouched.used alters.owner (alters.stands told (sound.trees None)) (alters.leads told);
       strays = λ told sound. looks.untouched.strays;
+      room = same_room (g.B.Blocks.shown c.args.blocks.now) (g.B.Blocks.shown c.create.new.blocks) looks.untouched;
       counts = counts_done (g.B.Blocks.shown c.args.blocks.now) (g.B.Blocks.shown c.create.new.blocks) c.in-Ok.field-0 tt looks.counts;
       cause = tt;
     }
@@ -41,6 +43,29 @@ returns-in-Err-clause-changes g c =
       untouched = looks.untouched;
       stands = λ told asked sound. readied_stands old new f h looks.untouched (alike (rooted old f.inode) (rooted new h.inode) (alters.failed told)) (λ k. refl) alters.owner (alters.stands told) (alters.leads told) sound;
       strays = λ told sound. looks.untouched.strays;
+      room = same_room old new looks.untouched;
       counts = counts_failed old new _ _ looks.counts;
       cause = inl looks.cause;
     }
+
+pub returns-in-Ok-clause-led : goal.returns-in-Ok-clause-led
+returns-in-Ok-clause-led g c = λ told sound led.
+    let made = c.in-Ok.ensures in
+    let looks = made.alters.looks in
+    made_led (g.B.Blocks.shown c.args.blocks.now) (g.B.Blocks.shown c.create.new.blocks) c.args.self.now c.create.new.self c.args.name.now c.args.reserve c.args.stamp c.in-Ok.field-0
+    looks.untouched.held (made.made told) sound looks.untouched.used (made.alters.leads told) (made.alters.keeps told) led
+
+pub returns-in-Err-clause-led : goal.returns-in-Err-clause-led
+returns-in-Err-clause-led g c = λ told sound led.
+    let f = c.args.self.now in
+    let old = g.B.Blocks.shown c.args.blocks.now in
+    let new = g.B.Blocks.shown c.create.new.blocks in
+    let h = with_inode f c.create.new.self in
+    let alters = c.in-Err.ensures.alters in
+    readied_led old new f h alters.looks.untouched (alike (rooted old f.inode) (rooted new h.inode) (alters.failed told)) (λ k. refl) (alters.leads told) (alters.keeps told) sound led
+
+pub returns-in-Ok-clause-pending : goal.returns-in-Ok-clause-pending
+returns-in-Ok-clause-pending g c = omega (arith, c.in-Ok.ensures.pending)
+
+pub returns-in-Err-clause-pending : goal.returns-in-Err-clause-pending
+returns-in-Err-clause-pending g c = omega (arith, c.in-Err.ensures.pending)

@@ -1,4 +1,3 @@
-use Rattle.std.proofs.Common.{◌≡◌, Err, Ok}
 use Rattle.std.proofs.lemmas.Result.{err_from_is_err_and}
 use Rattle.fv_files.proofs.Flushed.{lays_failed}
 use Rattle.fv_files.proofs.Ended.{flush_done, flush_failed}
@@ -20,6 +19,9 @@ returns-clause-flushes g c =
       flushes = is.flushes;
       strays = is.strays;
       left = is.left;
+      fits = is.fits;
+      enough = is.enough;
+      nothing = is.pending;
       root = is.root;
       pointer = is.pointer;
       spelled = is.stored;

@@ -1,3 +1,4 @@
+use Rattle.std.proofs.Common.{arith}
 use Rattle.std.proofs.lemmas.Bool.{both_ways}
 use Rattle.std.proofs.lemmas.Result.{err_from_is_err_and, on_ok_weaker}
 use Rattle.fv_files.specs.Tables.{table_in}
@@ -30,3 +31,23 @@ returns-clause-changes g c =
     prepared_then g.B.Blocks.told (Unit {0}) (g.B.Blocks.shown c.args.blocks.now) (g.B.Blocks.shown c.prepare.new.blocks) c.args.self.now c.prepare.new.files c.args.info.now
     (g.B.Blocks.shown c.write_ready.new.blocks) c.write_ready.new.files c.in_ok-prepare.field-0 c.in_ok-prepare.ensures.prepares c.if-not-branch.false c.requires.there (Unit {0}) (λ told asked. asked)
     c.write_ready.result c.write_ready.ensures.changes
+
+pub returns-in_err-prepare-clause-led : goal.returns-in_err-prepare-clause-led
+returns-in_err-prepare-clause-led g c = c.in_err-prepare.ensures.prepares.led
+
+pub returns-then-not-branch-clause-led : goal.returns-then-not-branch-clause-led
+returns-then-not-branch-clause-led g c = c.in_ok-prepare.ensures.prepares.led
+
+pub returns-clause-led : goal.returns-clause-led
+returns-clause-led g c = λ told sound led.
+    let first = c.in_ok-prepare.ensures.prepares in
+    c.write_ready.ensures.led told (first.stands told sound) (first.led told sound led)
+
+pub returns-in_err-prepare-clause-pending : goal.returns-in_err-prepare-clause-pending
+returns-in_err-prepare-clause-pending g c = omega (arith, c.in_err-prepare.ensures.pending)
+
+pub returns-then-not-branch-clause-pending : goal.returns-then-not-branch-clause-pending
+returns-then-not-branch-clause-pending g c = omega (arith, c.in_ok-prepare.ensures.pending)
+
+pub returns-clause-pending : goal.returns-clause-pending
+returns-clause-pending g c = omega (arith, c.in_ok-prepare.ensures.pending, c.write_ready.ensures.pending)

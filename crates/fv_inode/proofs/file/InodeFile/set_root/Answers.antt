@@ -6,7 +6,7 @@ use Rattle.fv_tree.specs.Standing.{standing, under}
 use Rattle.fv_inode.specs.Files.{with_root}
 use Rattle.fv_inode.specs.Changing.{FillsFiles}
 use Rattle.fv_inode.proofs.Looked.{earlier, later, looks_failed, looks_done, alters_none, alters_then}
-use Rattle.fv_inode.proofs.Slots.{block_there, still_used, no_such}
+use Rattle.fv_inode.proofs.Slots.{block_there, still_used, no_such, such}
 use Rattle.fv_inode.proofs.Rewritten.{sets_root}
 use Rattle.fv_inode.proofs.file.InodeFile.set_root.Goals as goal
 
@@ -21,14 +21,14 @@ pub refill_files-requires-clause-there : goal.refill_files-requires-clause-there
 refill_files-requires-clause-there g c = λ told.
     let old = g.B.Blocks.shown c.args.blocks.now in
     later (λ v. is_some (block_at v (c.args.number / 16)) ≡ true) c.args.self.now.tree old (g.B.Blocks.shown c.read_files.new.blocks) c.in_ok-files.ensures.looks.untouched.held
-    (block_there (standing (under old) c.args.self.now.tree) c.args.number (c.requires.there told))
+    (block_there (standing (under old) c.args.self.now.tree) c.args.number (such (standing (under old) c.args.self.now.tree) c.args.number c.in_ok-files.files _ c.in_ok-files.ensures.long (c.in_ok-files.ensures.files told) c.if-files-slot-eq0.false))
 
 pub refill_files-requires-clause-some : goal.refill_files-requires-clause-some
 refill_files-requires-clause-some g c =
     still_used c.in_ok-files.files c.args.number (with_root c.args.levels c.args.root) (λ f. refl) c.with_root.result _ c.in_ok-files.ensures.long c.with_root.ensures c.if-files-slot-eq0.false
 
 pub returns-clause-set : goal.returns-clause-set
-returns-clause-set g c = λ told.
+returns-clause-set g c = λ told there.
     let old = g.B.Blocks.shown c.args.blocks.now in
     let mid = g.B.Blocks.shown c.read_files.new.blocks in
     let t = standing (under old) c.args.self.now.tree in
@@ -48,8 +48,8 @@ returns-clause-alters g c =
 -- ---- no file has the number
 
 pub returns-then-files-slot-eq0-clause-set : goal.returns-then-files-slot-eq0-clause-set
-returns-then-files-slot-eq0-clause-set g c = λ told.
-    no_such (standing (under (g.B.Blocks.shown c.args.blocks.now)) c.args.self.now.tree) c.args.number c.in_ok-files.files _ c.in_ok-files.ensures.long (c.in_ok-files.ensures.files told) c.if-files-slot-eq0.true (c.requires.there told)
+returns-then-files-slot-eq0-clause-set g c = λ told there.
+    no_such (standing (under (g.B.Blocks.shown c.args.blocks.now)) c.args.self.now.tree) c.args.number c.in_ok-files.files _ c.in_ok-files.ensures.long (c.in_ok-files.ensures.files told) c.if-files-slot-eq0.true there
 
 pub returns-then-files-slot-eq0-clause-alters : goal.returns-then-files-slot-eq0-clause-alters
 returns-then-files-slot-eq0-clause-alters g c =

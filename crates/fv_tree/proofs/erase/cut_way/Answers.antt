@@ -1,0 +1,17 @@
+use Rattle.std.proofs.Common.{◌+◌, ap, arith}
+use Rattle.std.specs.BTreeMap.{btree_map_len}
+use Rattle.fv_tree.proofs.Bordered.{way_marks}
+use Rattle.fv_tree.proofs.erase.cut_way.Goals as goal
+
+pub returns-clause-differs : goal.returns-clause-differs
+returns-clause-differs c =
+    let t = c.args.tree.now in
+    let v = c.forget_way.new.tree in
+    let few = t.few in
+    let some = c.requires.some in
+    let same = c.forget_way.ensures.levels in
+    let kept = ap (λ m. btree_map_len m) c.stamp_above.ensures.cells in record {
+      marks = way_marks t v c.stamp_above.new.tree c.clear_slot.new.nodes c.args.index (c.args.lost + 1) c.width.result c.forget_way.ensures.marks (omega arith) (omega (arith, some, few)) c.width.ensures.is c.clear_slot.ensures.others (c.stamp_above.ensures.marks (omega (arith, some, same)));
+      cells = omega (arith, kept, c.forget_way.ensures.fewer);
+      ordered = c.stamp_above.ensures.ordered c.clear_slot.ensures.ordered;
+    }

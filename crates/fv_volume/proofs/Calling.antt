@@ -1,0 +1,247 @@
+-- What a change of a volume's files leaves that was refused, or failed while it was made.
+use Rattle.std.proofs.Common.{◌≡◌, Option, ℕ, ◌+◌, ◌<◌, ◌≤◌, true, refl, sym, ap, subst, ◌∙◌, arith}
+use Rattle.std.specs.Prelude.{Result, Ok, Err, OnOk, IfOk}
+use Rattle.fv_disk.specs.Shown.{Shown as Disk}
+use Rattle.fv_disk.specs.declared.fault.BlockFault.{BlockFault}
+use Rattle.fv_disk.specs.declared.fault.BlockFault.TheVariants as block
+use Rattle.fv_model.specs.declared.commands.Command.{Command}
+use Rattle.fv_model.specs.Machines.{Machine}
+use Rattle.fv_model.specs.Numbers.{most_changes}
+use Rattle.fv_tree.specs.Standing.{under}
+use Rattle.fv_charge.specs.declared.delta.Delta.{Delta}
+use Rattle.fv_charge.specs.Changes.{IsChanged, IsDeltaOf}
+use Rattle.fv_charge.specs.Ledgers.{IsLedgerOf}
+use Rattle.fv_model.specs.Volumes.{Volume}
+use Rattle.fv_volmap.specs.Slots.{Volume as Maps}
+use Rattle.fv_tables.specs.Told.{Standing}
+use Rattle.fv_volume.specs.Lending.{IsTold}
+use Rattle.fv_volume.specs.declared.fault.VolumeFault.{VolumeFault}
+use Rattle.fv_volume.specs.declared.fault.VolumeFault.TheVariants.{Refused, DiskFault, Damaged, Memory}
+use Rattle.fv_volume.specs.declared.pool.Pool.{Pool}
+use Rattle.fv_volume.specs.declared.state.VolumeState.{VolumeState}
+use Rattle.fv_volume.specs.Calls.{Agrees, Changes, GivesUp, KeepsHead, Reads}
+use Rattle.fv_volume.specs.Causes.{of_block}
+use Rattle.fv_volume.specs.Changing.{AltersTable, FitsLedger, KeepsButTable, RefusedIn}
+use Rattle.fv_tables.specs.Spelled.{Under}
+use Rattle.fv_tree.specs.Sources.{Use}
+use Rattle.fv_volume.specs.Placing.{pending_of, AreLedBy, IsLedTo}
+use Rattle.fv_volume.specs.Labels.{label_said}
+use Rattle.fv_volume.specs.OneVolume.{shows, standing_for, table_for, volume_for, AreSoundBy, IsReady, IsStanding}
+use Rattle.fv_volume.proofs.CallCauses.{not_refused}
+use Rattle.fv_volume.proofs.Changed.{failed_standing, failed_volume}
+use Rattle.fv_volume.proofs.OneVolumes.{still_ready, still_standing, still_under, still_used, still_volume}
+use Rattle.fv_volume.proofs.ReadyAgain.{ready_again}
+
+-- a fault of blocks is no refusal
+pub no_refusal : (T : Type 0) (m : Machine) (c : Command) (b : BlockFault) → Agrees {T = T} m c (Err (of_block b))
+no_refusal T m c block.DiskFault = tt
+no_refusal T m c (block.Damaged at want found) = tt
+no_refusal T m c block.Memory = tt
+
+-- what is said of an answer where something holds
+pub onok_with : {T E A : Type 0} (P : Type 0) (r : Result T E) → A → OnOk r (A → P) → OnOk r P
+onok_with P (Ok x) a says = says a
+onok_with P (Err e) a says = tt
+
+pub ifok_with : {T E A : Type 0} (P : T → Type 0) (r : Result T E) → A → IfOk r (λ x. A → P x) → IfOk r P
+ifok_with P (Ok x) a says = says a
+ifok_with P (Err e) a says = tt
+
+-- a map that stays
+pub same_maps : (m n : Maps) → n ≡ m → GivesUp m n
+same_maps m n same = subst (GivesUp m) (sym same) (record { span = refl; snapshots = λ s other. refl; numbers = omega arith })
+
+-- ---- where nothing was changed
+
+module _ (d e : Disk) (p q : Pool) (reads : Reads d p e q) (x y : VolumeState) (same : y ≡ x) where
+  pub refused_changes : (has : Machine → Type 0) (c : Command) (r : Result Unit VolumeFault) (fault : VolumeFault) → r ≡ Err fault → RefusedIn has c fault → Changes has c x.name (volume_for d p x) (volume_for e q y) r
+  refused_changes has c r fault is refused = subst (λ (z : VolumeState). Changes has c x.name (volume_for d p x) (volume_for e q z) r) (sym same)
+      (subst (Changes has c x.name (volume_for d p x) (volume_for e q x)) (sym is) (record { agrees = refused; becomes = tt; stays = still_volume d e p q reads x }))
+
+  pub refused_standing : IsStanding d p x → IsStanding e q y
+  refused_standing is = subst (λ (z : VolumeState). IsStanding e q z) (sym same) (still_standing d e p q reads x is)
+
+  pub refused_ready : IsReady d p x → IsReady e q y
+  refused_ready is = subst (λ (z : VolumeState). IsReady e q z) (sym same) (still_ready d e p q reads x is)
+
+  -- what is in use is led to, and as much is pending
+  pub refused_led : IsLedTo d p x → IsLedTo e q y
+  refused_led is = subst (λ (z : VolumeState). IsLedTo e q z) (sym same)
+      (subst (λ (u : ℕ → Option Use). AreLedBy (under (shows e q x)) u x.active x.files) (sym (still_used d e p q reads x))
+      (subst (λ (u : Under). AreLedBy u (shows d p x).used x.active x.files) (sym (still_under d e p q reads x)) is))
+
+  pub refused_room : pending_of y.files ≤ pending_of x.files + 16
+  refused_room = subst (λ (z : VolumeState). pending_of z.files ≤ pending_of x.files + 16) (sym same) (omega arith)
+
+  pub refused_head : (r : Result Unit VolumeFault) (fault : VolumeFault) → r ≡ Err fault → KeepsHead x y r
+  refused_head r fault is = subst (λ (z : VolumeState). KeepsHead x z r) (sym same) (subst (KeepsHead x x) (sym is) (record {
+    same = refl;
+    maps = same_maps x.map x.map refl;
+    later = omega arith;
+    failed = refl;
+    refused = λ why none. refl;
+  }))
+
+-- ---- where the change failed
+
+-- its label says no more changes than there can be
+pub few_changes : (d : Disk) (p : Pool) (x : VolumeState) → IsReady d p x → x.now ≤ most_changes
+unfolding label_said
+few_changes d p x ready = (ready.labelled.label 0 1 (omega arith) (omega arith) (omega arith)).now
+
+-- nothing is counted before a change was made
+pub left_ledger : (x v w : VolumeState) → v ≡ x → KeepsButTable v w → w.ledger ≡ x.ledger
+left_ledger x v w same kept = ap (λ (z : VolumeState). z.ledger) (kept ∙ ap (λ (z : VolumeState). record z { map = w.map; files = w.files; changed = true }) same)
+
+pub left_more : (x v w : VolumeState) → v ≡ x → KeepsButTable v w → x.now < most_changes → w.now < most_changes
+left_more x v w same kept more =
+    let now : w.now ≡ x.now = ap (λ (z : VolumeState). z.now) (kept ∙ ap (λ (z : VolumeState). record z { map = w.map; files = w.files; changed = true }) same) in
+    omega (arith, now, more)
+
+-- The second part of a change was made or failed; its first part left the volume as it was.
+module _ (d e f : Disk) (p q r : Pool) (first : Reads d p e q) (x v w : VolumeState) (same : v ≡ x) {T : Type 0} (result : Result T BlockFault) (alters_it : AltersTable e q f r v w result) where
+  abbrev left : VolumeState
+  left = record x { map = w.map; files = w.files; changed = true }
+
+  alters : AltersTable e q f r x w result
+  alters = subst (λ (z : VolumeState). AltersTable e q f r z w result) same alters_it
+
+  pub left_ready : IsReady d p x → IsReady f r w
+  left_ready ready = subst (λ (z : VolumeState). IsReady f r z) (sym alters.same)
+      (still_ready e f q r alters.reads left
+      (ready_again e q x x.now w.map w.files x.ledger (still_ready d e p q first x ready) (few_changes d p x ready) alters.maps.span
+      (let booked = ready.booked in record { size = booked.size; kind = booked.kind; span = booked.span; need = booked.need; charge = booked.charge })))
+
+  pub left_led : IsStanding d p x → IsLedTo d p x → IsLedTo f r w
+  left_led is led = refused_led e f q r alters.reads w w refl (alters.led (still_standing d e p q first x is) (refused_led d e p q first x x refl led))
+
+  pub left_room : IsStanding d p x → pending_of w.files ≤ pending_of x.files + 16
+  left_room is = alters.room (still_standing d e p q first x is)
+
+  pub left_fits : (by : Delta) → FitsLedger x by → FitsLedger w by
+  left_fits by fits = subst (λ (z : VolumeState). FitsLedger z by) (sym alters.same) (record {
+    more = fits.more;
+    can = fits.can;
+    booked = λ l moved. let b = fits.booked l moved in record { size = b.size; kind = b.kind; span = b.span; need = b.need; charge = b.charge };
+  })
+
+-- The second part of a change failed; its first part left the volume as it was.
+module _ (d e f : Disk) (p q r : Pool) (first : Reads d p e q) (x v y : VolumeState) (same : v ≡ x) {T : Type 0} (b : BlockFault) (alters_it : AltersTable {T = T} e q f r v y (Err b)) where
+  its_alters : AltersTable {T = T} e q f r x y (Err b)
+  its_alters = subst (λ (z : VolumeState). AltersTable {T = T} e q f r z y (Err b)) same alters_it
+
+  abbrev its_left : VolumeState
+  its_left = record x { map = y.map; files = y.files; changed = true }
+
+  pub failed_head : (res : Result Unit VolumeFault) → res ≡ Err (of_block b) → KeepsHead x y res
+  failed_head res is = subst (λ (z : VolumeState). KeepsHead x z res) (sym its_alters.same) (subst (KeepsHead x its_left) (sym is) (record {
+    same = refl;
+    maps = its_alters.maps;
+    later = omega arith;
+    failed = refl;
+    refused = λ why none. absurd (not_refused b why none);
+  }))
+
+  module _ (is : IsStanding d p x) where
+    now_standing : IsStanding e q x
+    now_standing = still_standing d e p q first x is
+
+    its_trees : AreSoundBy (under (shows e q its_left)) (shows e q its_left).used x.active y.files
+    its_trees = subst (λ (z : VolumeState). AreSoundBy (under (shows e q z)) (shows e q z).used z.active z.files) its_alters.same (its_alters.trees now_standing)
+
+    its_told : IsTold f r y.map x.slot
+    its_told = subst (λ (z : VolumeState). IsTold f r y.map z.slot) its_alters.same (its_alters.told now_standing)
+
+    its_table : table_for e q its_left ≡ table_for e q x
+    its_table = subst (λ (z : VolumeState). table_for e q z ≡ table_for e q x) its_alters.same (its_alters.failed now_standing)
+
+    pub failed_stands : IsStanding f r y
+    failed_stands = subst (λ (z : VolumeState). IsStanding f r z) (sym its_alters.same) (failed_standing d e f p q r first its_alters.reads x is y.map y.files its_told its_trees its_table)
+
+    pub failed_changes : (has : Machine → Type 0) (c : Command) (res : Result Unit VolumeFault) → res ≡ Err (of_block b) → Changes has c x.name (volume_for d p x) (volume_for f r y) res
+    failed_changes has c res failed = subst (λ (z : VolumeState). Changes has c x.name (volume_for d p x) (volume_for f r z) res) (sym its_alters.same)
+        (subst (Changes has c x.name (volume_for d p x) (volume_for f r its_left)) (sym failed) (record {
+          agrees = λ m there. no_refusal Unit m c b;
+          becomes = tt;
+          stays = failed_volume d e f p q r first its_alters.reads x is y.map y.files its_told its_trees its_table;
+        }))
+
+-- ---- where it was made, and counted
+
+pub counted_led : (f : Disk) (r : Pool) (w y : VolumeState) → y ≡ record w { now = y.now; ledger = y.ledger; changed = true } → IsLedTo f r w → IsLedTo f r y
+counted_led f r w y counted led = subst (λ (z : VolumeState). IsLedTo f r z) (sym counted) led
+
+pub counted_room : (w y : VolumeState) (most : ℕ) → y ≡ record w { now = y.now; ledger = y.ledger; changed = true } → pending_of w.files ≤ most → pending_of y.files ≤ most
+counted_room w y most counted few = subst (λ (z : VolumeState). pending_of z.files ≤ most) (sym counted) few
+
+-- The parts of a change, one after another: it was judged, the table was changed, and it was counted.
+pub record Parts {T : Type 0} (d e f : Disk) (p q r : Pool) (x v w y : VolumeState) (result : Result T BlockFault) (by : Delta) : Type 0 where
+  pub first : Reads d p e q
+  pub same : v ≡ x
+  pub alters : AltersTable e q f r v w result
+  pub counted : y ≡ record w { now = y.now; ledger = y.ledger; changed = true }
+  pub next : y.now ≡ w.now + 1
+  pub moved : IsChanged w.ledger by y.ledger
+  pub moves : (a b : Volume) → IsLedgerOf a w.ledger → IsDeltaOf a b by → IsLedgerOf b y.ledger
+
+module _ {T : Type 0} (d e f : Disk) (p q r : Pool) (x v w y : VolumeState) (result : Result T BlockFault) (by : Delta) (parts : Parts d e f p q r x v w y result by) where
+  -- the volume once its table was changed, and once that was counted
+  abbrev pub left_so : VolumeState
+  left_so = record x { map = w.map; files = w.files; changed = true }
+
+  abbrev pub done_so : VolumeState
+  done_so = record x { map = w.map; files = w.files; now = y.now; ledger = y.ledger; changed = true }
+
+  pub is_left : w ≡ left_so
+  is_left = parts.alters.same ∙ ap (λ (z : VolumeState). record z { map = w.map; files = w.files; changed = true }) parts.same
+
+  pub is_done : y ≡ done_so
+  is_done = parts.counted ∙ ap (λ (z : VolumeState). record z { now = y.now; ledger = y.ledger; changed = true }) is_left
+
+  pub done_next : y.now ≡ x.now + 1
+  done_next = parts.next ∙ ap (λ (z : VolumeState). z.now + 1) is_left
+
+  done_moved : IsChanged x.ledger by y.ledger
+  done_moved = subst (λ (z : VolumeState). IsChanged z.ledger by y.ledger) is_left parts.moved
+
+  pub done_moves : (a b : Volume) → IsLedgerOf a x.ledger → IsDeltaOf a b by → IsLedgerOf b y.ledger
+  done_moves = subst (λ (z : VolumeState). (a b : Volume) → IsLedgerOf a z.ledger → IsDeltaOf a b by → IsLedgerOf b y.ledger) is_left parts.moves
+
+  left_span : w.map.span ≡ x.map.span
+  left_span = parts.alters.maps.span ∙ ap (λ (z : VolumeState). z.map.span) parts.same
+
+  pub done_ready : IsReady d p x → FitsLedger w by → IsReady f r y
+  done_ready ready fits_it =
+      let fits = subst (λ (z : VolumeState). FitsLedger z by) is_left fits_it in
+      let booked = fits.booked y.ledger done_moved in
+      let more = fits.more in
+      let n = done_next in
+      subst (λ (z : VolumeState). IsReady f r z) (sym is_done)
+      (still_ready e f q r parts.alters.reads done_so
+      (ready_again e q x y.now w.map w.files y.ledger (still_ready d e p q parts.first x ready) (omega (arith, more, n)) left_span
+      (record { size = booked.size; kind = booked.kind; span = booked.span; need = booked.need; charge = booked.charge })))
+
+  pub done_head : KeepsHead {T = Unit {0}} x y (Ok tt)
+  done_head = record {
+    same = is_done ∙ sym (ap (λ (z : VolumeState). record x { now = z.now; map = z.map; files = z.files; ledger = z.ledger; changed = z.changed }) is_done);
+    maps = subst (λ (z : VolumeState). GivesUp x.map z.map) (sym is_done) (subst (λ (z : VolumeState). GivesUp z.map w.map) parts.same parts.alters.maps);
+    later = (let n = done_next in omega (arith, n));
+    failed = tt;
+    refused = tt;
+  }
+
+  -- before it was judged the volume stood
+  module _ (is : IsStanding d p x) where
+    stood : IsStanding e q v
+    stood = subst (λ (z : VolumeState). IsStanding e q z) (sym parts.same) (still_standing d e p q parts.first x is)
+
+    pub done_told : IsTold f r w.map x.slot
+    done_told = subst (λ (z : VolumeState). IsTold f r w.map z.slot) is_left (parts.alters.told stood)
+
+    pub done_trees : AreSoundBy (under (shows e q left_so)) (shows e q left_so).used x.active w.files
+    done_trees = subst (λ (z : VolumeState). AreSoundBy (under (shows e q z)) (shows e q z).used z.active z.files) is_left (parts.alters.trees stood)
+
+    -- what is said of the table before and after its change
+    pub done_says : (says : Standing → Standing → ℕ → Type 0) → (IsStanding e q v → says (standing_for e q v) (standing_for e q w) (v.now + 1)) → says (standing_for e q x) (standing_for e q left_so) (x.now + 1)
+    done_says says made = subst (λ (z : VolumeState). says (standing_for e q x) (standing_for e q z) (x.now + 1)) is_left
+        (subst (λ (z : VolumeState). says (standing_for e q z) (standing_for e q w) (z.now + 1)) parts.same (made stood))

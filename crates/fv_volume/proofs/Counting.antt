@@ -1,0 +1,42 @@
+-- The blocks that a volume takes are at most its overhead.
+use Rattle.std.proofs.Common.{◌≡◌, ℕ, ◌+◌, ◌<◌, ◌≤◌, List, length, Bool, sym, ap, subst, arith, Option}
+use Rattle.std.specs.FinSet as set
+use Rattle.fv_model.specs.Space.{map_blocks, overhead}
+use Rattle.fv_root.specs.Formatted.{IsSize}
+use Rattle.fv_image.specs.Views.{entry_count}
+use Rattle.fv_image.proofs.Overheads.{node_count, overhead_holds}
+use Rattle.fv_container.specs.declared.entry.Entry.{Entry}
+use Rattle.fv_container.specs.Flushed.{Exchanges}
+use Rattle.fv_container.specs.Written.{blocks_needed}
+use Rattle.fv_container.proofs.Laws.{blocks_within}
+use Rattle.fv_aggmap.specs.Freeing.{room_of}
+use Rattle.fv_aggmap.specs.Space.{Space, blocks_of, free_blocks}
+use Rattle.fv_aggmap.proofs.FreeRoom.{free_counted}
+use Rattle.fv_volume.specs.Writing.{HasDrawn}
+
+pub room_for_label : (span free : ℕ) → overhead span ≤ free → 0 < free
+room_for_label span free room = omega (arith, overhead_holds span, room)
+
+pub room_for_map : (span free : ℕ) → overhead span ≤ free + 1 → map_blocks span ≤ free
+room_for_map span free room = omega (arith, overhead_holds span, room)
+
+nodes_fit : (es : List (Option Entry)) (span : ℕ) → length es ≡ entry_count span → 1 + (blocks_needed es + map_blocks span) ≤ overhead span
+nodes_fit es span long =
+    let nodes : blocks_needed es ≤ node_count (entry_count span) = subst (λ (n : ℕ). blocks_needed es ≤ node_count n) long (blocks_within es) in
+    omega (arith, nodes, overhead_holds span)
+
+same_size : (old new : Space) → new.committed ≡ old.committed → IsSize (blocks_of old) → IsSize (blocks_of new)
+same_size old new same size = subst IsSize (sym (ap length same)) size
+
+module _ (es : List (Option Entry)) (span : ℕ) (long : length es ≡ entry_count span) (old mid : Space) (size : IsSize (blocks_of old)) (taken : ℕ → Bool) (drawn : HasDrawn old taken (map_blocks span) mid) where
+  mid_count : set.len (room_of mid).free ≡ free_blocks mid
+  mid_count = free_counted mid (same_size old mid drawn.committed size)
+
+  pub room_for_tree : overhead span ≤ free_blocks old + 1 → blocks_needed es ≤ set.len (room_of mid).free
+  room_for_tree room = rw mid_count (omega (arith, nodes_fit es span long, drawn.fewer, room))
+
+  pub blocks_taken : (new : Space) (nodes given : List ℕ) → Exchanges (room_of mid) nodes given (room_of new) → set.len (room_of mid).free ≤ set.len (room_of new).free + blocks_needed es → free_blocks old + 1 ≤ free_blocks new + overhead span
+  blocks_taken new nodes given exchanges count =
+      let after : set.len (room_of new).free ≡ free_blocks new = free_counted new (same_size mid new exchanges.committed (same_size old mid drawn.committed size)) in
+      let counted : free_blocks mid ≤ free_blocks new + blocks_needed es = rw (← mid_count, ← after) count in
+      omega (arith, nodes_fit es span long, drawn.fewer, counted)

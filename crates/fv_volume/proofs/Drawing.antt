@@ -1,0 +1,310 @@
+-- Blocks that are given back and blocks that are taken, one after another.
+use Rattle.std.proofs.Common.{◌≡◌, ◌≢◌, ℕ, zero, suc, ◌+◌, ◌<◌, ◌≤◌, List, length, Bool, true, false, not, ◌&&◌, ◌||◌, ◌==◌, cond, nat_eq, refl, sym, ap, ◌∙◌, arith, ⊎_elim, Option, Some, None}
+use Rattle.std.specs.Prelude.{slice_set, IfSome, IfNone, IsSome}
+use Rattle.std.specs.List.{list_any, range_with_len}
+use Rattle.std.proofs.lemmas.Bool.{cases_Bool, cases_eq, or_cases, or_left, or_right, true≢false}
+use Rattle.std.proofs.lemmas.Bool.Decides.{nat_tests}
+use Rattle.fv_bits.specs.Members.{is_member}
+use Rattle.fv_bits.proofs.Laws.{is_member-set, is_member_past}
+use Rattle.fv_container.specs.Mapped.{Mapped}
+use Rattle.fv_container.specs.Spelled.{is_at}
+use Rattle.fv_model.specs.Machines.{first_block}
+use Rattle.fv_aggmap.specs.Space.{Space, IsFree, IsFull, blocks_of, free_blocks}
+use Rattle.fv_aggmap.proofs.Room.{no_fewer, one_is_found, one_less}
+use Rattle.fv_volume.specs.declared.state.VolumeState.{VolumeState}
+use Rattle.fv_volume.specs.Writing.{HasDrawn, HasGiven, has_maps_at, leads_away}
+use Rattle.fv_volume.specs.Stored.{leads, place_at, stays}
+
+-- ---- tests
+
+pub or_false : (a : Bool) → (a || false) ≡ a
+or_false true = refl
+or_false false = refl
+
+or_assoc : (a b c : Bool) → (a || (b || c)) ≡ ((a || b) || c)
+or_assoc true b c = refl
+or_assoc false b c = refl
+
+pub or_neither : (a b : Bool) → (a || b) ≡ false → (a ≡ false) × (b ≡ false)
+or_neither false b is = (refl, is)
+or_neither true b is = absurd (true≢false is)
+
+pub not_so : (a : Bool) → (a ≡ true → ⊥) → a ≡ false
+not_so true = λ no. absurd (no refl)
+not_so false = λ no. refl
+
+pub at_itself : (b : ℕ) → b ≢ 0 → is_at b b ≡ true
+at_itself b some = grind (arith, nat_tests, some)
+
+pub at_means : (b place : ℕ) → is_at b place ≡ true → (place ≡ b) × (b ≢ 0)
+at_means b place at = (grind (arith, nat_tests, at), grind (arith, nat_tests, at))
+
+pub at_other : (b place : ℕ) → b ≢ place → is_at b place ≡ false
+at_other b place ne = not_so (is_at b place) (λ at. ne (sym (at_means b place at).0))
+
+pub at_none : (b : ℕ) → is_at b 0 ≡ false
+at_none b = not_so (is_at b 0) (λ at. (at_means b 0 at).1 (sym (at_means b 0 at).0))
+
+-- ---- what entries lead to
+
+any_more : (p : ℕ → Bool) (from n : ℕ) → list_any p (range_with_len from (suc n)) ≡ (list_any p (range_with_len from n) || p (from + n))
+any_more p from zero = let e : from + 0 ≡ from = omega arith in or_false (p from) ∙ ap p (sym e)
+any_more p from (suc n) =
+    let e : (from + 1) + n ≡ from + suc n = omega arith in
+    ap (λ t. p from || t) (any_more p (from + 1) n) ∙ or_assoc (p from) (list_any p (range_with_len (from + 1) n)) (p ((from + 1) + n))
+    ∙ ap (λ (k : ℕ). (p from || list_any p (range_with_len (from + 1) n)) || p k) e
+
+same_any : (p q : ℕ → Bool) (from n : ℕ) → ((k : ℕ) → from ≤ k → k < from + n → p k ≡ q k) → list_any p (range_with_len from n) ≡ list_any q (range_with_len from n)
+same_any p q from zero same = refl
+same_any p q from (suc n) same = λ i. same from (omega arith) (omega arith) i || same_any p q (from + 1) n (λ k low high. same k (omega (arith, low)) (omega (arith, high))) i
+
+-- of the entries that go, none leads anywhere yet
+pub away_none : (x : VolumeState) (map : Mapped) (b : ℕ) → leads_away x map 0 b ≡ false
+unfolding leads_away
+away_none x map b = refl
+
+pub away_more : (x : VolumeState) (map : Mapped) (n b : ℕ) → leads_away x map (n + 1) b ≡ (leads_away x map n b || (not (stays x n) && is_at b (place_at map n)))
+unfolding leads_away
+away_more x map n b =
+    let e : n + 1 ≡ suc n = omega arith in
+    let first : 0 + n ≡ n = omega arith in
+    rw e (any_more (λ v. not (stays x v) && is_at b (place_at map v)) 0 n ∙ ap (λ (k : ℕ). list_any (λ v. not (stays x v) && is_at b (place_at map v)) (range_with_len 0 n) || (not (stays x k) && is_at b (place_at map k))) first)
+
+-- of the active map's blocks, none stands anywhere yet
+pub maps_none : (map : Mapped) (span b : ℕ) → has_maps_at map span 0 b ≡ false
+unfolding has_maps_at
+maps_none map span b = refl
+
+pub maps_more : (old new : Mapped) (span n b : ℕ) → ((k : ℕ) → k < n → place_at new (span + k) ≡ place_at old (span + k)) → has_maps_at new span (n + 1) b ≡ (has_maps_at old span n b || is_at b (place_at new (span + n)))
+unfolding has_maps_at
+maps_more old new span n b same =
+    let e : n + 1 ≡ suc n = omega arith in
+    let first : 0 + n ≡ n = omega arith in
+    rw e (any_more (λ k. is_at b (place_at new (span + k))) 0 n
+    ∙ ap (λ (t : Bool). t || is_at b (place_at new (span + (0 + n)))) (same_any (λ k. is_at b (place_at new (span + k))) (λ k. is_at b (place_at old (span + k))) 0 n (λ k low high. ap (is_at b) (same k (omega (arith, high)))))
+    ∙ ap (λ (k : ℕ). list_any (λ k. is_at b (place_at old (span + k))) (range_with_len 0 n) || is_at b (place_at new (span + k))) first)
+
+pub maps_same : (old new : Mapped) (span n b : ℕ) → ((k : ℕ) → k < n → place_at new (span + k) ≡ place_at old (span + k)) → has_maps_at new span n b ≡ has_maps_at old span n b
+unfolding has_maps_at
+maps_same old new span n b same = same_any (λ k. is_at b (place_at new (span + k))) (λ k. is_at b (place_at old (span + k))) 0 n (λ k low high. ap (is_at b) (same k (omega (arith, high))))
+
+-- a block of the active map stands on the block
+pub record StandsAt (map : Mapped) (span n b : ℕ) : Type 0 where
+  pub index : ℕ
+  pub within : index < n
+  pub place : place_at map (span + index) ≡ b
+  pub some : b ≢ 0
+
+pub maps_where : (map : Mapped) (span n b : ℕ) → has_maps_at map span n b ≡ true → StandsAt map span n b
+maps_where map span zero b is = absurd (true≢false (sym is ∙ maps_none map span b))
+maps_where map span (suc n) b is =
+    let e : n + 1 ≡ suc n = omega arith in
+    ⊎_elim
+    (λ (before : has_maps_at map span n b ≡ true). let at = maps_where map span n b before in record { index = at.index; within = omega (arith, at.within); place = at.place; some = at.some })
+    (λ (here : is_at b (place_at map (span + n)) ≡ true). let means = at_means b (place_at map (span + n)) here in record { index = n; within = omega arith; place = means.0; some = means.1 })
+    (or_cases (has_maps_at map span n b) (is_at b (place_at map (span + n))) (sym (maps_more map map span n b (λ k lt. refl)) ∙ ap (λ (k : ℕ). has_maps_at map span k b) e ∙ is))
+
+pub maps_at : (map : Mapped) (span n k b : ℕ) → k < n → place_at map (span + k) ≡ b → b ≢ 0 → has_maps_at map span n b ≡ true
+maps_at map span zero k b within is some = absurd (omega (arith, within))
+maps_at map span (suc n) k b within is some =
+    let e : n + 1 ≡ suc n = omega arith in
+    ap (λ (k : ℕ). has_maps_at map span k b) (sym e) ∙ maps_more map map span n b (λ k lt. refl) ∙ ⊎_elim
+    (λ (here : k ≡ n). or_right (has_maps_at map span n b) (is_at b (place_at map (span + n))) (ap (is_at b) (ap (λ (m : ℕ). place_at map (span + m)) (sym here) ∙ is) ∙ at_itself b some))
+    (λ (before : k ≢ n). or_left (has_maps_at map span n b) (is_at b (place_at map (span + n))) (maps_at map span n k b (omega (arith, within, before)) is some))
+    (cases_eq k n)
+
+leads_none : (map : Mapped) (b : ℕ) → leads map 0 b ≡ false
+unfolding leads
+leads_none map b = refl
+
+leads_more : (map : Mapped) (n b : ℕ) → leads map (n + 1) b ≡ (leads map n b || is_at b (place_at map n))
+unfolding leads
+leads_more map n b =
+    let e : n + 1 ≡ suc n = omega arith in
+    let first : 0 + n ≡ n = omega arith in
+    rw e (any_more (λ v. is_at b (place_at map v)) 0 n ∙ ap (λ (k : ℕ). list_any (λ v. is_at b (place_at map v)) (range_with_len 0 n) || is_at b (place_at map k)) first)
+
+-- an entry leads to the block
+pub record LeadsAt (map : Mapped) (n b : ℕ) : Type 0 where
+  pub vvbn : ℕ
+  pub within : vvbn < n
+  pub place : place_at map vvbn ≡ b
+  pub some : b ≢ 0
+
+pub leads_where : (map : Mapped) (n b : ℕ) → leads map n b ≡ true → LeadsAt map n b
+leads_where map zero b is = absurd (true≢false (sym is ∙ leads_none map b))
+leads_where map (suc n) b is =
+    let e : n + 1 ≡ suc n = omega arith in
+    ⊎_elim
+    (λ (before : leads map n b ≡ true). let at = leads_where map n b before in record { vvbn = at.vvbn; within = omega (arith, at.within); place = at.place; some = at.some })
+    (λ (here : is_at b (place_at map n) ≡ true). let means = at_means b (place_at map n) here in record { vvbn = n; within = omega arith; place = means.0; some = means.1 })
+    (or_cases (leads map n b) (is_at b (place_at map n)) (sym (leads_more map n b) ∙ ap (λ (k : ℕ). leads map k b) e ∙ is))
+
+pub leads_at : (map : Mapped) (n v b : ℕ) → v < n → place_at map v ≡ b → b ≢ 0 → leads map n b ≡ true
+leads_at map zero v b within is some = absurd (omega (arith, within))
+leads_at map (suc n) v b within is some =
+    let e : n + 1 ≡ suc n = omega arith in
+    ap (λ (k : ℕ). leads map k b) (sym e) ∙ leads_more map n b ∙ ⊎_elim
+    (λ (here : v ≡ n). or_right (leads map n b) (is_at b (place_at map n)) (ap (is_at b) (ap (place_at map) (sym here) ∙ is) ∙ at_itself b some))
+    (λ (before : v ≢ n). or_left (leads map n b) (is_at b (place_at map n)) (leads_at map n v b (omega (arith, within, before)) is some))
+    (cases_eq v n)
+
+-- ---- giving back
+
+pub given_none : (space : Space) (given : ℕ → Bool) → ((b : ℕ) → given b ≡ false) → HasGiven space given space
+given_none space given none = record {
+  committed = refl;
+  held = λ b. sym (ap (λ t. is_member space.next b && not t) (none b) ∙ and_true (is_member space.next b));
+  count = omega arith;
+}
+  where
+    and_true : (t : Bool) → (t && true) ≡ t
+    and_true true = refl
+    and_true false = refl
+
+pub given_then : (old mid new : Space) (f g both : ℕ → Bool) → ((b : ℕ) → both b ≡ (f b || g b)) → HasGiven old f mid → HasGiven mid g new → HasGiven old both new
+given_then old mid new f g both same first second = record {
+  committed = second.committed ∙ first.committed;
+  held = λ b. second.held b ∙ ap (λ t. t && not (g b)) (first.held b) ∙ joined (is_member old.next b) (f b) (g b) ∙ sym (ap (λ t. is_member old.next b && not t) (same b));
+  count = omega (arith, first.count, second.count);
+}
+  where
+    joined : (m s t : Bool) → ((m && not s) && not t) ≡ (m && not (s || t))
+    joined true true t = refl
+    joined true false t = refl
+    joined false s t = refl
+
+-- one entry more: it stays, or it is given back
+pub given_more : (x : VolumeState) (map : Mapped) (n : ℕ) (old mid new : Space) → HasGiven old (leads_away x map n) mid → (stays x n ≡ true → new ≡ mid) → (stays x n ≡ false → HasGiven mid (λ b. is_at b (place_at map n)) new)
+    → HasGiven old (leads_away x map (n + 1)) new
+given_more x map n old mid new before same gave = so (stays x n) refl
+  where
+    so : (t : Bool) → stays x n ≡ t → HasGiven old (leads_away x map (n + 1)) new
+    so true e = given_then old mid new (leads_away x map n) (λ b. false) (leads_away x map (n + 1)) (λ b. away_more x map n b ∙ ap (λ (t : Bool). leads_away x map n b || (not t && is_at b (place_at map n))) e) before (given_same (same e))
+      where
+        given_same : new ≡ mid → HasGiven mid (λ b. false) new
+        given_same is = rw is (given_none mid (λ b. false) (λ b. refl))
+    so false e = given_then old mid new (leads_away x map n) (λ b. is_at b (place_at map n)) (leads_away x map (n + 1)) (λ b. away_more x map n b ∙ ap (λ (t : Bool). leads_away x map n b || (not t && is_at b (place_at map n))) e) before (gave e)
+
+eq_test : (a b : ℕ) → (a == b) ≡ nat_eq a b
+eq_test a b = grind (arith, nat_tests)
+
+pub given_one : (old new : Space) (place : ℕ) → length old.next ≡ blocks_of old → place ≢ 0 → place < blocks_of old → new ≡ record old { next = slice_set old.next place false } → HasGiven old (λ b. is_at b place) new
+given_one old new place long some within is = record {
+  committed = ap (λ (s : Space). s.committed) is;
+  held = λ b.
+      let inside : place < length old.next = omega (arith, long, within) in
+      ap (λ (s : Space). is_member s.next b) is ∙ is_member-set old.next place false b inside ∙ by_test b;
+  count = no_fewer old new place long within is;
+}
+  where
+    here : (b : ℕ) → (b == place) ≡ is_at b place
+    here b = grind (arith, nat_tests, some)
+
+    step : (t m : Bool) → cond t false m ≡ (m && not t)
+    step true true = refl
+    step true false = refl
+    step false true = refl
+    step false false = refl
+
+    by_test : (b : ℕ) → cond (b == place) false (is_member old.next b) ≡ (is_member old.next b && not (is_at b place))
+    by_test b = step (b == place) (is_member old.next b) ∙ ap (λ t. is_member old.next b && not t) (here b)
+
+pub given_past : (space : Space) (place : ℕ) → length space.next ≡ blocks_of space → blocks_of space ≤ place → HasGiven space (λ b. is_at b place) space
+given_past space place long past = record {
+  committed = refl;
+  held = λ b. ⊎_elim
+      (λ (here : is_at b place ≡ true).
+      let same = (at_means b place here).0 in
+      let beyond : is_member space.next b ≡ false = is_member_past space.next b (omega (arith, same, long, past)) in
+      rw beyond refl)
+      (λ (other : is_at b place ≡ false). rw (other, and_true (is_member space.next b)) refl)
+      (cases_Bool (is_at b place));
+  count = omega arith;
+}
+  where
+    and_true : (t : Bool) → (t && true) ≡ t
+    and_true true = refl
+    and_true false = refl
+
+-- ---- taking
+
+pub drawn_none : (space : Space) (taken : ℕ → Bool) → ((b : ℕ) → taken b ≡ false) → HasDrawn space taken 0 space
+drawn_none space taken none = record {
+  committed = refl;
+  free = λ b is. absurd (true≢false (sym is ∙ none b));
+  held = λ b. sym (ap (λ t. t || is_member space.next b) (none b));
+  fewer = omega arith;
+}
+
+pub drawn_one : (old new : Space) (place : ℕ) → length old.next ≡ blocks_of old → place ≢ 0 → IsFree old place → new ≡ record old { next = slice_set old.next place true } → HasDrawn old (λ b. is_at b place) 1 new
+drawn_one old new place long some free is = record {
+  committed = ap (λ (s : Space). s.committed) is;
+  free = λ b at. let same : place ≡ b = (at_means b place at).0 in rw (← same) free;
+  held = λ b.
+      let inside : place < length old.next = omega (arith, long, free.within) in
+      ap (λ (s : Space). is_member s.next b) is ∙ is_member-set old.next place true b inside ∙ by_test b;
+  fewer = one_less old new place long free is;
+}
+  where
+    here : (b : ℕ) → (b == place) ≡ is_at b place
+    here b = grind (arith, nat_tests, some)
+
+    step : (t m : Bool) → cond t true m ≡ (t || m)
+    step true m = refl
+    step false m = refl
+
+    by_test : (b : ℕ) → cond (b == place) true (is_member old.next b) ≡ (is_at b place || is_member old.next b)
+    by_test b = step (b == place) (is_member old.next b) ∙ ap (λ t. t || is_member old.next b) (here b)
+
+-- a map with a free block answers one
+pub some_there : (space : Space) (r : Option ℕ) → 0 < free_blocks space → IfNone r (IsFull space) → IsSome r
+some_there space None some full = absurd (one_is_found space some full)
+some_there space (Some b) some full = refl
+
+pub drawn_taken : (old new : Space) (r : Option ℕ) (place : ℕ) → r ≡ Some place → length old.next ≡ blocks_of old → IfSome r (IsFree old) → IfSome r (λ b. new ≡ record old { next = slice_set old.next b true }) → HasDrawn old (λ b. is_at b place) 1 new
+drawn_taken old new (Some b) place is long free taken =
+    let same : b ≡ place = some_same is in
+    let at : IsFree old place = rw (← same) free in
+    drawn_one old new place long (λ none. omega (arith, at.after, none)) at (taken ∙ ap (λ (k : ℕ). record old { next = slice_set old.next k true }) same)
+  where
+    some_same : {x y : ℕ} → Some x ≡ Some y → x ≡ y
+    some_same e = cc
+drawn_taken old new None place is long free taken = absurd cc
+
+-- what isn't held after some were taken wasn't held before
+pub free_before : (old mid : Space) (taken : ℕ → Bool) (count b : ℕ) → HasDrawn old taken count mid → IsFree mid b → IsFree old b × (taken b ≡ false)
+free_before old mid taken count b drawn free =
+    let len : blocks_of mid ≡ blocks_of old = ap length drawn.committed in
+    let none = or_neither (is_member mid.committed b) (is_member mid.next b) free.free in
+    let next = or_neither (taken b) (is_member old.next b) (sym (drawn.held b) ∙ none.1) in (
+      record {
+        after = ap_le len free.after;
+        within = omega (arith, len, free.within);
+        free = both (is_member old.committed b) (is_member old.next b) (ap (λ (c : List Bool). is_member c b) (sym drawn.committed) ∙ none.0) next.1;
+      },
+      next.0,
+    )
+  where
+    ap_le : {m n : ℕ} → m ≡ n → first_block m ≤ b → first_block n ≤ b
+    ap_le e le = rw (← e) le
+
+    both : (c n : Bool) → c ≡ false → n ≡ false → (c || n) ≡ false
+    both c n one two = rw (one, two) refl
+
+pub drawn_then : (old mid new : Space) (f g both : ℕ → Bool) (m n : ℕ) → ((b : ℕ) → both b ≡ (f b || g b)) → HasDrawn old f m mid → HasDrawn mid g n new → HasDrawn old both (m + n) new
+drawn_then old mid new f g both m n same first second = record {
+  committed = second.committed ∙ first.committed;
+  free = λ b is. ⊎_elim
+      (λ (one : f b ≡ true). first.free b one)
+      (λ (two : g b ≡ true). (free_before old mid f m b first (second.free b two)).0)
+      (or_cases (f b) (g b) (sym (same b) ∙ is));
+  held = λ b. second.held b ∙ ap (λ t. g b || t) (first.held b) ∙ turned (g b) (f b) (is_member old.next b) ∙ sym (ap (λ t. t || is_member old.next b) (same b));
+  fewer = omega (arith, first.fewer, second.fewer);
+}
+  where
+    turned : (g f m : Bool) → (g || (f || m)) ≡ ((f || g) || m)
+    turned true true m = refl
+    turned true false m = refl
+    turned false true m = refl
+    turned false false m = refl

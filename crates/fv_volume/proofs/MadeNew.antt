@@ -1,0 +1,86 @@
+-- A file that was made is the machine's.
+use Rattle.std.proofs.Common.{◌≡◌, ℕ, ◌+◌, ◌≤◌, true, List, Option, Some, None, refl, sym, ap, subst, ◌∙◌, arith}
+use Rattle.std.specs.Prelude.{Result, Ok, Err}
+use Rattle.fv_disk.specs.Shown.{Shown as Disk}
+use Rattle.fv_model.specs.declared.commands.Command.TheVariants.{New}
+use Rattle.fv_model.specs.Tables.{Table, new}
+use Rattle.fv_model.specs.Volumes.{Volume}
+use Rattle.fv_model.specs.Effects.{Becomes, stamped}
+use Rattle.fv_laws.specs.Positions.{HasNoReserve}
+use Rattle.fv_laws.proofs.PathCharges.{new_unreserved}
+use Rattle.fv_laws.proofs.Tables.{new_well}
+use Rattle.fv_tables.specs.Told.{Standing, table_told}
+use Rattle.fv_tree.specs.Standing.{under}
+use Rattle.fv_files.specs.declared.files.Files.{Files}
+use Rattle.fv_charge.specs.declared.delta.Delta.{Delta}
+use Rattle.fv_charge.specs.declared.ledger.Ledger.{Ledger}
+use Rattle.fv_charge.specs.Changes.{IsDeltaOf}
+use Rattle.fv_charge.specs.Ledgers.{IsLedgerOf}
+use Rattle.fv_volmap.specs.Slots.{Volume as Maps}
+use Rattle.fv_volume.specs.declared.pool.Pool.{Pool}
+use Rattle.fv_volume.specs.declared.state.VolumeState.{VolumeState}
+use Rattle.fv_volume.specs.Calls.{Changes, HasBeside, Reads}
+use Rattle.fv_volume.specs.Changing.{AcceptsNew}
+use Rattle.fv_volume.specs.Lending.{IsTold}
+use Rattle.fv_volume.specs.OneVolume.{shows, standing_by, standing_for, table_for, volume_for, AreSoundBy, IsStanding}
+use Rattle.fv_volume.proofs.Calling.{done_moves, done_next, done_says, done_told, done_trees, is_done, Parts}
+use Rattle.fv_volume.proofs.Changed.{made_standing, made_volume}
+use Rattle.fv_volume.proofs.Charging.{new_change, new_delta}
+use Rattle.fv_volume.proofs.OneVolumes.{is_alone, still_table}
+
+module _ (d e f : Disk) (p q r : Pool) (first : Reads d p e q) (second : Reads e q f r) (x : VolumeState) (is : IsStanding d p x) (others : ℕ) (name : List ℕ) (reserve : ℕ) (none : reserve ≡ 0) (by : Delta)
+    (accepts : AcceptsNew d p x others name reserve by) (map : Maps) (files : Option Files) (told : IsTold f r map x.slot)
+    (trees : AreSoundBy (under (shows e q (record x { map = map }))) (shows e q (record x { map = map })).used x.active files)
+    (written : table_told (standing_by (under (shows e q (record x { map = map }))) x.active files) ≡ new (table_for e q x) name reserve (x.now + 1)) where
+  abbrev table : ℕ → Table
+  table = new (table_for d p x) name reserve
+
+  made : table_told (standing_by (under (shows e q (record x { map = map }))) x.active files) ≡ table (x.now + 1)
+  made = written ∙ ap (λ (s : Standing). new (table_told s) name reserve (x.now + 1)) (still_table d e p q first x)
+
+  its_delta : IsDeltaOf (volume_for d p x) (stamped (volume_for d p x) table) by
+  its_delta = subst (λ k. IsDeltaOf (volume_for d p x) (stamped (volume_for d p x) (new (table_for d p x) name k)) by) (sym none)
+      (new_delta (volume_for d p x) (is_alone d p x) is.table is.reserves by name accepts.adds)
+
+  module _ (now : ℕ) (ledger : Ledger) (next : now ≡ x.now + 1) where
+    abbrev done : VolumeState
+    done = record x { map = map; files = files; now = now; ledger = ledger; changed = true }
+
+    pub new_volume : volume_for f r done ≡ stamped (volume_for d p x) table
+    new_volume = made_volume d e f p q r first second x is map files told trees now ledger table next made
+
+    pub new_standing : ((v w : Volume) → IsLedgerOf v x.ledger → IsDeltaOf v w by → IsLedgerOf w ledger) → IsStanding f r done
+    new_standing moves = made_standing d e f p q r first second x is map files told trees now ledger table next made
+        (new_well x.now (x.now + 1) (table_for d p x) name reserve accepts.near (omega arith) is.table accepts.none accepts.few)
+        (subst (λ k. HasNoReserve (new (table_for d p x) name k (x.now + 1))) (sym none) (new_unreserved (table_for d p x) is.reserves name (x.now + 1)))
+        (moves (volume_for d p x) (stamped (volume_for d p x) table) is.ledger its_delta)
+
+    pub new_changes : Changes (HasBeside x.name (volume_for d p x) others p.found.blocks) (New x.name name reserve) x.name (volume_for d p x) (volume_for f r done) (Ok tt)
+    new_changes = record {
+      agrees = λ m has. accepts.accepted m has;
+      becomes = λ m has. new_change m x.name name (volume_for d p x) has.there reserve ∙ ap (λ v. Becomes x.name v) (sym new_volume);
+      stays = tt;
+    }
+
+-- the parts of a new file
+module _ (d e f : Disk) (p q r : Pool) (x v w y : VolumeState) (by : Delta) (parts : Parts {T = Unit {0}} d e f p q r x v w y (Ok tt) by) (is : IsStanding d p x) (others : ℕ) (name : List ℕ) (reserve : ℕ) (none : reserve ≡ 0)
+    (accepts : AcceptsNew d p x others name reserve by) (written : IsStanding e q v → table_for e q w ≡ new (table_for e q v) name reserve (v.now + 1)) where
+  told : IsTold f r w.map x.slot
+  told = done_told d e f p q r x v w y (Ok tt) by parts is
+
+  trees : AreSoundBy (under (shows e q (record x { map = w.map }))) (shows e q (record x { map = w.map })).used x.active w.files
+  trees = done_trees d e f p q r x v w y (Ok tt) by parts is
+
+  its_table : table_told (standing_by (under (shows e q (record x { map = w.map }))) x.active w.files) ≡ new (table_for e q x) name reserve (x.now + 1)
+  its_table = done_says d e f p q r x v w y (Ok tt) by parts is (λ s t n. table_told t ≡ new (table_told s) name reserve n) written
+
+  next : y.now ≡ x.now + 1
+  next = done_next d e f p q r x v w y (Ok tt) by parts
+
+  pub new_stands : IsStanding f r y
+  new_stands = subst (λ (z : VolumeState). IsStanding f r z) (sym (is_done d e f p q r x v w y (Ok tt) by parts))
+      (new_standing d e f p q r parts.first parts.alters.reads x is others name reserve none by accepts w.map w.files told trees its_table y.now y.ledger next (done_moves d e f p q r x v w y (Ok tt) by parts))
+
+  pub new_is : Changes (HasBeside x.name (volume_for d p x) others p.found.blocks) (New x.name name reserve) x.name (volume_for d p x) (volume_for f r y) (Ok tt)
+  new_is = subst (λ (z : VolumeState). Changes (HasBeside x.name (volume_for d p x) others p.found.blocks) (New x.name name reserve) x.name (volume_for d p x) (volume_for f r z) (Ok tt)) (sym (is_done d e f p q r x v w y (Ok tt) by parts))
+      (new_changes d e f p q r parts.first parts.alters.reads x is others name reserve none by accepts w.map w.files told trees its_table y.now y.ledger next)

@@ -1,0 +1,133 @@
+-- A removal of a file that was made is the machine's.
+use Rattle.std.proofs.Common.{◌≡◌, ℕ, ◌+◌, ◌≤◌, true, List, Option, Some, None, refl, sym, ap, subst, ◌∙◌, arith, pos, ◌+ℤ◌}
+use Rattle.std.specs.Prelude.{Result, Ok, Err}
+use Rattle.std.specs.FinMap as fin
+use Rattle.fv_disk.specs.Shown.{Shown as Disk}
+use Rattle.fv_model.specs.declared.commands.Command.TheVariants.{Remove}
+use Rattle.fv_model.specs.Numbers.{is_reserve}
+use Rattle.fv_model.specs.Tables.{File, Table, file_named, rm}
+use Rattle.fv_model.specs.Volumes.{Volume}
+use Rattle.fv_model.specs.Effects.{Becomes, stamped}
+use Rattle.fv_laws.specs.WellFormed.{IsWellTable}
+use Rattle.fv_laws.specs.Positions.{taken_by_rm}
+use Rattle.fv_laws.proofs.Moves.{rm_charge}
+use Rattle.fv_laws.proofs.PathCharges.{rm_unreserved}
+use Rattle.fv_laws.proofs.Tables.{rm_well}
+use Rattle.fv_tables.specs.Told.{Standing, file_in, table_told}
+use Rattle.fv_tables.proofs.Tables.{files_told}
+use Rattle.fv_tree.specs.Standing.{under}
+use Rattle.fv_inode.specs.declared.info.Info.{Info}
+use Rattle.fv_files.specs.declared.files.Files.{Files}
+use Rattle.fv_files.specs.Calls.{RemovesFile, TakesByRemoval}
+use Rattle.fv_charge.specs.declared.delta.Delta.{Delta}
+use Rattle.fv_charge.specs.declared.ledger.Ledger.{Ledger}
+use Rattle.fv_charge.specs.Changes.{IsDeltaOf}
+use Rattle.fv_charge.specs.Ledgers.{IsLedgerOf}
+use Rattle.fv_volmap.specs.Slots.{Volume as Maps}
+use Rattle.fv_volume.specs.declared.pool.Pool.{Pool}
+use Rattle.fv_volume.specs.declared.state.VolumeState.{VolumeState}
+use Rattle.fv_volume.specs.Calls.{Changes, HasWithin, Reads}
+use Rattle.fv_volume.specs.Changing.{AcceptsRemoval}
+use Rattle.fv_volume.specs.Charging.{TakesBlocks}
+use Rattle.fv_volume.specs.Lending.{IsTold}
+use Rattle.fv_volume.specs.OneVolume.{shows, standing_by, standing_for, volume_for, AreSoundBy, IsReady, IsStanding}
+use Rattle.fv_volume.proofs.Asked.{file, file_there, found}
+use Rattle.fv_volume.proofs.Calling.{done_moves, done_next, done_says, done_told, done_trees, is_done, Parts}
+use Rattle.fv_volume.proofs.Changed.{made_standing, made_volume}
+use Rattle.fv_volume.proofs.Charging.{rm_change, rm_delta}
+use Rattle.fv_volume.proofs.OneVolumes.{is_alone, still_table}
+
+module _ (d e f : Disk) (p q r : Pool) (first : Reads d p e q) (second : Reads e q f r) (x : VolumeState) (is : IsStanding d p x) (ready : IsReady d p x) (others : ℕ) (name : List ℕ) (info : Info)
+    (accepts : AcceptsRemoval d p x name info) (map : Maps) (files : Option Files) (told : IsTold f r map x.slot)
+    (trees : AreSoundBy (under (shows e q (record x { map = map }))) (shows e q (record x { map = map })).used x.active files)
+    (removes : RemovesFile (standing_for e q x) (standing_by (under (shows e q (record x { map = map }))) x.active files) info.number (x.now + 1)) (count : ℕ)
+    (takes : TakesByRemoval (standing_for e q x) info.number (x.now + 1) count) (by : Delta) (falls : count ≤ x.ledger.charge → (by.charge +ℤ pos count) ≡ pos 0) (need : by.need ≡ pos 0) (size : by.size ≡ x.ledger.size) (kind : by.kind ≡ x.ledger.kind) where
+  abbrev its : File
+  its = file d p x is name info accepts.first
+
+  its_name : file_named (table_told (standing_for d p x)) name ≡ Some (info.number, its)
+  its_name = found d p x is name info accepts.first
+
+  its_there : file_in (standing_for d p x) info.number ≡ Some its
+  its_there = file_there d p x is name info accepts.first
+
+  in_table : fin.get (table_told (standing_for d p x)).files info.number ≡ Some its
+  in_table = files_told (standing_for d p x) info.number ∙ its_there
+
+  there_now : file_in (standing_for e q x) info.number ≡ Some its
+  there_now = ap (λ (s : Standing). file_in s info.number) (still_table d e p q first x) ∙ its_there
+
+  well_now : IsWellTable x.now (table_told (standing_for e q x))
+  well_now = subst (λ (s : Standing). IsWellTable x.now (table_told s)) (sym (still_table d e p q first x)) is.table
+
+  abbrev table : ℕ → Table
+  table = rm (table_told (standing_for d p x)) info.number
+
+  made : table_told (standing_by (under (shows e q (record x { map = map }))) x.active files) ≡ table (x.now + 1)
+  made = removes x.now well_now ∙ ap (λ (s : Standing). rm (table_told s) info.number (x.now + 1)) (still_table d e p q first x)
+
+  taken_is : count ≡ taken_by_rm (table_told (standing_for d p x)) info.number its
+  taken_is = takes x.now its (omega arith) well_now there_now ∙ ap (λ (s : Standing). taken_by_rm (table_told s) info.number its) (still_table d e p q first x)
+
+  low : count ≤ x.ledger.charge
+  low =
+      let left = rm_charge (volume_for d p x) (is_alone d p x) is.table info.number its in_table in
+      let same = is.ledger.charged in
+      let taken = taken_is in
+      omega (arith, left, same, taken)
+
+  its_delta : IsDeltaOf (volume_for d p x) (stamped (volume_for d p x) table) by
+  its_delta = rm_delta (volume_for d p x) (is_alone d p x) is.table is.reserves by info.number its in_table (record {
+    charge = subst (λ n. (by.charge +ℤ pos n) ≡ pos 0) taken_is (falls low);
+    need = need;
+    size = size ∙ ready.booked.size;
+    kind = kind ∙ ready.booked.kind;
+  })
+
+  module _ (now : ℕ) (ledger : Ledger) (next : now ≡ x.now + 1) where
+    abbrev done : VolumeState
+    done = record x { map = map; files = files; now = now; ledger = ledger; changed = true }
+
+    pub rm_volume : volume_for f r done ≡ stamped (volume_for d p x) table
+    rm_volume = made_volume d e f p q r first second x is map files told trees now ledger table next made
+
+    pub rm_standing : ((v w : Volume) → IsLedgerOf v x.ledger → IsDeltaOf v w by → IsLedgerOf w ledger) → IsStanding f r done
+    rm_standing moves = made_standing d e f p q r first second x is map files told trees now ledger table next made
+        (rm_well x.now (x.now + 1) (table_told (standing_for d p x)) info.number (omega arith) is.table)
+        (rm_unreserved (table_told (standing_for d p x)) is.reserves info.number (x.now + 1))
+        (moves (volume_for d p x) (stamped (volume_for d p x) table) is.ledger its_delta)
+
+    pub rm_changes : Changes (HasWithin x.name (volume_for d p x) others p.found.blocks) (Remove x.name name) x.name (volume_for d p x) (volume_for f r done) (Ok tt)
+    rm_changes = record {
+      agrees = λ m has. accepts.accepted others m has;
+      becomes = λ m has. rm_change m x.name name (volume_for d p x) has.beside.there info.number its its_name ∙ ap (λ v. Becomes x.name v) (sym rm_volume);
+      stays = tt;
+    }
+
+-- the parts of a removal
+module _ (d e f : Disk) (p q r : Pool) (x v w y : VolumeState) (by : Delta) (count : ℕ) (parts : Parts {T = ℕ} d e f p q r x v w y (Ok count) by) (is : IsStanding d p x) (ready : IsReady d p x) (others : ℕ) (name : List ℕ) (info : Info)
+    (accepts : AcceptsRemoval d p x name info) (removes : IsStanding e q v → RemovesFile (standing_for e q v) (standing_for e q w) info.number (v.now + 1)) (takes : IsStanding e q v → TakesByRemoval (standing_for e q v) info.number (v.now + 1) count)
+    (falls : count ≤ x.ledger.charge → (by.charge +ℤ pos count) ≡ pos 0) (need : by.need ≡ pos 0) (size : by.size ≡ x.ledger.size) (kind : by.kind ≡ x.ledger.kind) where
+  is_told : IsTold f r w.map x.slot
+  is_told = done_told d e f p q r x v w y (Ok count) by parts is
+
+  its_trees : AreSoundBy (under (shows e q (record x { map = w.map }))) (shows e q (record x { map = w.map })).used x.active w.files
+  its_trees = done_trees d e f p q r x v w y (Ok count) by parts is
+
+  gone : RemovesFile (standing_for e q x) (standing_by (under (shows e q (record x { map = w.map }))) x.active w.files) info.number (x.now + 1)
+  gone = done_says d e f p q r x v w y (Ok count) by parts is (λ s t n. RemovesFile s t info.number n) removes
+
+  fewer : TakesByRemoval (standing_for e q x) info.number (x.now + 1) count
+  fewer = done_says d e f p q r x v w y (Ok count) by parts is (λ s t n. TakesByRemoval s info.number n count) takes
+
+  its_next : y.now ≡ x.now + 1
+  its_next = done_next d e f p q r x v w y (Ok count) by parts
+
+  pub rm_stands : IsStanding f r y
+  rm_stands = subst (λ (z : VolumeState). IsStanding f r z) (sym (is_done d e f p q r x v w y (Ok count) by parts))
+      (rm_standing d e f p q r parts.first parts.alters.reads x is ready others name info accepts w.map w.files is_told its_trees gone count fewer by falls need size kind y.now y.ledger its_next
+      (done_moves d e f p q r x v w y (Ok count) by parts))
+
+  pub rm_is : Changes (HasWithin x.name (volume_for d p x) others p.found.blocks) (Remove x.name name) x.name (volume_for d p x) (volume_for f r y) (Ok tt)
+  rm_is = subst (λ (z : VolumeState). Changes (HasWithin x.name (volume_for d p x) others p.found.blocks) (Remove x.name name) x.name (volume_for d p x) (volume_for f r z) (Ok tt)) (sym (is_done d e f p q r x v w y (Ok count) by parts))
+      (rm_changes d e f p q r parts.first parts.alters.reads x is ready others name info accepts w.map w.files is_told its_trees gone count fewer by falls need size kind y.now y.ledger its_next)

@@ -1,0 +1,145 @@
+-- What one volume is seen as once blocks were read.
+use Rattle.std.proofs.Common.{◌≡◌, ℕ, ◌≤◌, length, refl, sym, ap, subst, ◌∙◌, arith}
+use Rattle.std.specs.Prelude.{IsTrue, Option, Some, None, IfSome, is_some, cond}
+use Rattle.std.specs.Option.{ForSome}
+use Rattle.fv_disk.specs.Shown.{Shown as Disk}
+use Rattle.fv_disk.specs.DiskCalls.{Stays}
+use Rattle.fv_disk.proofs.Resting.{reads_then as disk_then}
+use Rattle.fv_aggmap.specs.Space.{Space}
+use Rattle.fv_container.specs.Chains.{Slots, container_at, own_entry}
+use Rattle.fv_codec.specs.Blocks.{IsPointer}
+use Rattle.fv_root.specs.declared.find.Found.{Found}
+use Rattle.fv_root.specs.Formatted.{IsSize}
+use Rattle.fv_laws.specs.WellFormed.{IsWellTable}
+use Rattle.fv_laws.specs.Positions.{HasNoReserve, IsAlone}
+use Rattle.fv_tables.specs.Spelled.{Under}
+use Rattle.fv_tables.specs.Told.{Standing, table_told}
+use Rattle.fv_tree.specs.Sources.{Use}
+use Rattle.fv_tree.specs.Standing.{under}
+use Rattle.fv_files.specs.declared.files.Files.{Files}
+use Rattle.fv_charge.specs.Ledgers.{IsLedgerOf}
+use Rattle.fv_volmap.specs.Slots.{Volume}
+use Rattle.fv_volume.specs.declared.pool.Pool.{Pool}
+use Rattle.fv_volume.specs.declared.state.VolumeState.{VolumeState}
+use Rattle.fv_volume.specs.BlocksOver.{AreApart, IsKeptBack, LeavesPool, OtherPlace, entries_in, held_entry}
+use Rattle.fv_volume.specs.Calls.{Reads}
+use Rattle.fv_volume.specs.Labels.{label_said}
+use Rattle.fv_volume.specs.Lending.{IsTold, use_under}
+use Rattle.fv_volume.specs.OneVolume.{shows, standing_by, standing_for, table_for, volume_as, volume_for, AreSoundBy, IsReady, IsStanding}
+use Rattle.fv_volume.proofs.Failing.{blocks_of}
+
+-- it has neither snapshots nor a base
+pub is_alone : (disk : Disk) (pool : Pool) (x : VolumeState) → IsAlone (volume_for disk pool x)
+is_alone disk pool x = record { snapshots = refl; base = refl }
+
+-- what its label says of its table's root fits a pointer
+pub root_fits : (disk : Disk) (pool : Pool) (x : VolumeState) → IsReady disk pool x → IsPointer x.active.root
+unfolding label_said
+root_fits disk pool x ready = (ready.labelled.label 0 1 (omega arith) (omega arith) (omega arith)).root
+
+pub levels_fit : (disk : Disk) (pool : Pool) (x : VolumeState) → IsReady disk pool x → x.active.levels ≤ 2
+levels_fit disk pool x ready = ready.labelled.levels
+
+-- a table that was taken out of a volume is put back as it was
+pub put_back : (kept : Option Files) (taken now : Files) → IfSome kept (λ f. taken ≡ f) → now ≡ taken → cond (is_some kept) (Some now) None ≡ kept
+put_back None taken now was still = refl
+put_back (Some f) taken now was still = ap (λ (g : Files). Some g) (still ∙ was)
+
+-- one read after another
+pub reads_then : (d e f : Disk) (p q r : Pool) → Reads d p e q → Reads e q f r → Reads d p f r
+reads_then d e f p q r first second = record {
+  leaves = record {
+    map = second.leaves.map ∙ first.leaves.map;
+    containers = second.leaves.containers ∙ first.leaves.containers;
+    kept = second.leaves.kept ∙ first.leaves.kept;
+    found = second.leaves.found ∙ first.leaves.found;
+  };
+  only_reads = disk_then d e f first.only_reads second.only_reads;
+  stands = second.stands;
+}
+
+-- the entries of a volume lie apart by the aggregate map and the containers alone
+apart_by : (p q : Pool) (map : Volume) (slot : ℕ) → q.map ≡ p.map → q.containers ≡ p.containers → AreApart p map slot → AreApart q map slot
+apart_by p q map slot spaces slots apart = record {
+  own = λ v. subst (λ (s : Space). ForSome (own_entry (container_at q.containers slot) v) (IsKeptBack s)) (sym spaces)
+      (subst (λ (c : Slots). ForSome (own_entry (container_at c slot) v) (IsKeptBack p.map)) (sym slots) (apart.own v));
+  held = λ v. subst (λ (s : Space). ForSome (held_entry map q.containers slot v) (IsKeptBack s)) (sym spaces)
+      (subst (λ (c : Slots). ForSome (held_entry map c slot v) (IsKeptBack p.map)) (sym slots) (apart.held v));
+  own_apart = λ v w other. subst (λ (c : Slots). ForSome (own_entry (container_at c slot) v) (λ e. ForSome (own_entry (container_at c slot) w) (OtherPlace e))) (sym slots) (apart.own_apart v w other);
+  held_apart = λ v w other. subst (λ (c : Slots). ForSome (own_entry (container_at c slot) v) (λ e. ForSome (held_entry map c slot w) (OtherPlace e))) (sym slots) (apart.held_apart v w other);
+}
+
+-- Where the same blocks are kept, the same entries stand and the disk reads the same, a volume is seen as the same.
+module _ (d e : Disk) (p q : Pool) (x : VolumeState) (spaces : q.map ≡ p.map) (slots : q.containers ≡ p.containers) (kept : q.kept ≡ p.kept) (reads : e.reads ≡ d.reads) (tells : e.tells ≡ d.tells) where
+  same_under : under (shows e q x) ≡ under (shows d p x)
+  same_under = λ j. blocks_of (kept j) (slots j) x.map x.slot (reads j)
+
+  same_used : (shows e q x).used ≡ (shows d p x).used
+  same_used = λ j. use_under x.map (slots j) x.slot
+
+  same_standing_for : standing_for e q x ≡ standing_for d p x
+  same_standing_for = ap (λ (u : Under). standing_by u x.active x.files) same_under
+
+  same_told : IsTold d p x.map x.slot → IsTold e q x.map x.slot
+  same_told told = (subst IsTrue (sym tells) told.0, apart_by p q x.map x.slot spaces slots told.1)
+
+  same_standing : IsStanding d p x → IsStanding e q x
+  same_standing is = record {
+    told = same_told is.told;
+    table = subst (λ (s : Standing). IsWellTable x.now (table_told s)) (sym same_standing_for) is.table;
+    reserves = subst (λ (s : Standing). HasNoReserve (table_told s)) (sym same_standing_for) is.reserves;
+    ledger = subst (λ (s : Standing). IsLedgerOf (volume_as x (table_told s)) x.ledger) (sym same_standing_for) is.ledger;
+    trees = subst (λ (u : ℕ → Option Use). AreSoundBy (under (shows e q x)) u x.active x.files) (sym same_used)
+        (subst (λ (u : Under). AreSoundBy u (shows d p x).used x.active x.files) (sym same_under) is.trees);
+  }
+
+module _ (d e : Disk) (p q : Pool) (reads : Reads d p e q) (x : VolumeState) where
+  abbrev stays : Stays d e
+  stays = reads.only_reads.stays
+
+  -- after reads the same blocks are held, and the same VVBNs are in use
+  pub still_under : under (shows e q x) ≡ under (shows d p x)
+  still_under = same_under d e p q x reads.leaves.map reads.leaves.containers reads.leaves.kept stays.reads stays.tells
+
+  pub still_used : (shows e q x).used ≡ (shows d p x).used
+  still_used = same_used d e p q x reads.leaves.map reads.leaves.containers reads.leaves.kept stays.reads stays.tells
+
+  -- so the volume is seen as before
+  pub still_table : standing_for e q x ≡ standing_for d p x
+  still_table = same_standing_for d e p q x reads.leaves.map reads.leaves.containers reads.leaves.kept stays.reads stays.tells
+
+  pub still_volume : volume_for e q x ≡ volume_for d p x
+  still_volume = ap (λ (s : Standing). volume_as x (table_told s)) still_table
+
+  pub still_told : IsTold d p x.map x.slot → IsTold e q x.map x.slot
+  still_told = same_told d e p q x reads.leaves.map reads.leaves.containers reads.leaves.kept stays.reads stays.tells
+
+  pub still_standing : IsStanding d p x → IsStanding e q x
+  still_standing = same_standing d e p q x reads.leaves.map reads.leaves.containers reads.leaves.kept stays.reads stays.tells
+
+  -- and what stands after reads stood before them
+  pub stood_before : IsStanding e q x → IsStanding d p x
+  stood_before = same_standing e d q p x (sym reads.leaves.map) (sym reads.leaves.containers) (sym reads.leaves.kept) (sym stays.reads) (sym stays.tells)
+
+  -- calls can be made on it
+  pub still_ready : IsReady d p x → IsReady e q x
+  still_ready is = record {
+    lent = record {
+      within = is.lent.within;
+      stands = reads.stands;
+      few = is.lent.few;
+      entries = subst (λ (c : Slots). x.map.span ≤ length (entries_in (container_at c x.slot))) (sym reads.leaves.containers) is.lent.entries;
+    };
+    labelled = is.labelled;
+    booked = is.booked;
+    blocks = subst (λ (f : Found). IsSize f.blocks) (sym reads.leaves.found) is.blocks;
+    changed = is.changed;
+  }
+
+  -- what was said after them of a volume that they left is so of it before
+  pub said_before : (y : VolumeState) → y ≡ x → (says : Standing → Type 0) → (IsStanding e q y → says (standing_for e q y)) → IsStanding d p x → says (standing_for d p x)
+  said_before y same says made is = subst says still_table (subst (λ (z : VolumeState). IsStanding e q z → says (standing_for e q z)) same made (still_standing is))
+
+  -- and what is known of its table before is known after
+  pub said_after : (y : VolumeState) → y ≡ x → (says : Standing → Type 0) → (IsStanding d p x → says (standing_for d p x)) → IsStanding e q y → says (standing_for e q y)
+  said_after y same says known is = subst (λ (z : VolumeState). says (standing_for e q z)) (sym same) (subst says (sym still_table) (known (stood_before (subst (λ (z : VolumeState). IsStanding e q z) same is))))

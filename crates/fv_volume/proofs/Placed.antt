@@ -1,0 +1,222 @@
+-- What a volume is once its files were placed, whole or in part.
+use Rattle.std.proofs.Common.{◌≡◌, ℕ, ◌≤◌, ◌+◌, Bool, true, false, Option, Some, None, refl, sym, ap, subst, ◌∙◌, arith}
+use Rattle.std.specs.Prelude.{min, Ok, Err}
+use Rattle.std.proofs.lemmas.Bool.{both_ways}
+use Rattle.std.proofs.Math.Nat.{min-eq_left, min-le_right}
+use Rattle.fv_disk.specs.Shown.{Shown as Disk}
+use Rattle.fv_disk.specs.declared.fault.BlockFault.{BlockFault}
+use Rattle.fv_codec.specs.declared.pointer.Pointer.{Pointer}
+use Rattle.fv_codec.specs.Blocks.{IsLabel, IsPointer}
+use Rattle.fv_root.specs.declared.find.Found.{Found}
+use Rattle.fv_root.specs.Formatted.{IsSize}
+use Rattle.fv_laws.specs.WellFormed.{IsWellTable}
+use Rattle.fv_laws.specs.Positions.{HasNoReserve}
+use Rattle.fv_store.specs.Held.{StandsOn}
+use Rattle.fv_tables.specs.Told.{Standing, standing_at, table_told, tree_told}
+use Rattle.fv_tables.specs.Kept.{IsPlacedTable}
+use Rattle.fv_tables.proofs.Tables.{placed_table}
+use Rattle.fv_tree.specs.Sources.{Shown}
+use Rattle.fv_tree.specs.Standing.{under}
+use Rattle.fv_files.specs.declared.files.Files.{Files}
+use Rattle.fv_files.specs.Pending.{pending_in}
+use Rattle.fv_files.specs.Tables.{table_in, AreReached, AreStanding, IsLed}
+use Rattle.fv_files.specs.Apart.{AreLed, stored_trees}
+use Rattle.fv_charge.specs.Ledgers.{IsLedgerOf}
+use Rattle.fv_volmap.specs.Slots.{Volume as Maps}
+use Rattle.fv_volume.specs.declared.pool.Pool.{Pool}
+use Rattle.fv_volume.specs.declared.state.Rooted.{Rooted}
+use Rattle.fv_volume.specs.declared.state.VolumeState.{VolumeState}
+use Rattle.fv_volume.specs.BlocksOver.{entries_in}
+use Rattle.fv_volume.specs.Files.{IsLabelled}
+use Rattle.fv_volume.specs.Labels.{label_said}
+use Rattle.fv_volume.specs.Lending.{IsTold, lent_for, sees}
+use Rattle.fv_volume.specs.OneVolume.{home_in, shows, standing_by, standing_for, table_for, volume_for, AreSoundBy, IsReady, IsStanding}
+use Rattle.fv_volume.specs.Placing.{AreLedBy, Goes, IsLedTo, PlacesTable, pending_of}
+
+-- ---- calls can be made on it
+
+module _ (x : VolumeState) (active : Rooted) (few : active.levels ≤ 2) (fits : IsPointer active.root) where
+  label_placed : (container height : ℕ) → IsLabel (label_said x container height) → IsLabel (label_said (record x { active = active }) container height)
+  unfolding label_said
+  label_placed container height is = record {
+    name_least = is.name_least;
+    name_greatest = is.name_greatest;
+    name = is.name;
+    kind = is.kind;
+    size_least = is.size_least;
+    size_greatest = is.size_greatest;
+    most_least = is.most_least;
+    most_greatest = is.most_greatest;
+    span_least = is.span_least;
+    span_greatest = is.span_greatest;
+    span_step = is.span_step;
+    now = is.now;
+    parent = is.parent;
+    base_least = is.base_least;
+    base_greatest = is.base_greatest;
+    splitting = is.splitting;
+    known = is.known;
+    container = is.container;
+    height_least = is.height_least;
+    height_greatest = is.height_greatest;
+    levels = few;
+    root = fits;
+    snapshots = is.snapshots;
+  }
+
+  labelled_placed : (map : Maps) (files : Option Files) → map.span ≡ x.map.span → IsLabelled x.slot x → IsLabelled x.slot (record x { active = active; map = map; files = files; changed = true })
+  unfolding label_said
+  labelled_placed map files span is = record {
+    slot_is = is.slot_is;
+    form = is.form;
+    span = is.span;
+    map = span ∙ is.map;
+    counts = is.counts;
+    levels = few;
+    named = is.named;
+    label = λ container height low least most. label_placed container height (is.label container height low least most);
+  }
+
+-- Its blocks were placed, and its root is one that a label can say.
+pub ready_placed : (d e : Disk) (p q : Pool) (x : VolumeState) (active : Rooted) (map : Maps) (files : Option Files) (room left : ℕ) → IsReady d p x → active.levels ≤ 2 → IsPointer active.root
+    → Goes (lent_for p x.map d 0 (home_in x) room) q map e left → StandsOn e q.store.pairs → IsReady e q (record x { active = active; map = map; files = files; changed = true })
+ready_placed d e p q x active map files room left is few fits goes stands =
+    let over = goes.goes.goes in
+    record {
+      lent = record {
+        within = is.lent.within;
+        stands = stands;
+        few = (let was = is.lent.few in let span = over.span in omega (arith, span, was));
+        entries = (let was = is.lent.entries in let span = over.span in let count = over.shape.count in omega (arith, span, was, count));
+      };
+      labelled = labelled_placed x active few fits map files over.span is.labelled;
+      booked = record { size = is.booked.size; kind = is.booked.kind; span = is.booked.span; need = is.booked.need; charge = is.booked.charge };
+      blocks = subst (λ (f : Found). IsSize f.blocks) (sym over.found) is.blocks;
+      changed = λ isnt. absurd (both_ways true isnt refl);
+    }
+
+-- ---- it stands for what it stood for
+
+module _ (d : Disk) (p : Pool) (x : VolumeState) (f : Files) (held : x.files ≡ Some f) where
+  abbrev before : Shown
+  before = shows d p x
+
+  pub was_table : standing_for d p x ≡ table_in before f
+  was_table = ap (standing_by (under before) x.active) held
+
+  pub was_standing : IsStanding d p x → AreStanding before f
+  was_standing is = subst (AreSoundBy (under before) before.used x.active) held is.trees
+
+  pub was_told : IsStanding d p x → IsTold d p x.map x.slot × AreStanding before f
+  was_told is = (is.told, was_standing is)
+
+  pub was_led : IsLedTo d p x → IsLed before f
+  was_led led = subst (AreLedBy (under before) before.used x.active) held led
+
+  -- its inode file has as many levels as a label can say
+  pub few_levels : IsStanding d p x → (g : Files) → g.inode.tree.levels ≡ f.inode.tree.levels → min g.inode.tree.levels 2 ≡ g.inode.tree.levels
+  unfolding table_told tree_told
+  few_levels is g same = let most = told_levels (subst (λ (s : Standing). IsWellTable x.now (table_told s)) was_table is.table) in min-eq_left (omega (arith, same, most))
+    where
+      told_levels : IsWellTable x.now (table_told (table_in before f)) → f.inode.tree.levels ≤ 2
+      told_levels well = well.levels
+
+  module _ (e : Disk) (q : Pool) (map : Maps) (g : Files) (placed : IsPlacedTable (table_in before f) (table_in (sees q map e (home_in x)) g)) (active : Rooted) (files : Option Files)
+      (now : standing_by (under (sees q map e (home_in x))) active files ≡ table_in (sees q map e (home_in x)) g) where
+    abbrev left : VolumeState
+    left = record x { active = active; map = map; files = files; changed = true }
+
+    left_table : table_for e q left ≡ table_for d p x
+    left_table = ap table_told now ∙ placed_table (table_in before f) (table_in (sees q map e (home_in x)) g) placed ∙ sym (ap table_told was_table)
+
+    pub left_volume : volume_for e q left ≡ volume_for d p x
+    left_volume = λ i. record (volume_for d p x) { active = left_table i }
+
+    pub left_standing : IsStanding d p x → IsTold e q map x.slot → AreSoundBy (under (sees q map e (home_in x))) (sees q map e (home_in x)).used active files → IsStanding e q left
+    left_standing is told trees = record {
+      told = told;
+      table = subst (IsWellTable x.now) (sym left_table) is.table;
+      reserves = subst HasNoReserve (sym left_table) is.reserves;
+      ledger = subst (λ v. IsLedgerOf v x.ledger) (sym left_volume) is.ledger;
+      trees = trees;
+    }
+
+-- Once it was placed whole the root that is answered tells it, and nothing of it is in memory.
+module _ (blocks : Shown) (g : Files) (root : Pointer) (active : Rooted) (files : Option Files) (rooted : active ≡ record { levels = min g.inode.tree.levels 2; root = root }) (none : files ≡ None) where
+  pub few_rooted : active.levels ≤ 2
+  few_rooted = let same : active.levels ≡ min g.inode.tree.levels 2 = ap (λ (r : Rooted). r.levels) rooted in let most = min-le_right g.inode.tree.levels 2 in omega (arith, same, most)
+
+  pub fits_rooted : IsPointer root → IsPointer active.root
+  fits_rooted fits = subst IsPointer (sym (ap (λ (r : Rooted). r.root) rooted)) fits
+
+  module _ (few : min g.inode.tree.levels 2 ≡ g.inode.tree.levels) where
+    pub root_tells : table_in blocks g ≡ standing_at (under blocks) g.inode.tree.levels root → standing_by (under blocks) active files ≡ table_in blocks g
+    root_tells stored = (λ i. standing_by (under blocks) (rooted i) (none i)) ∙ ap (λ n. standing_at (under blocks) n root) few ∙ sym stored
+
+    pub root_stands : AreReached (under blocks) blocks.used g.inode.tree.levels root → AreSoundBy (under blocks) blocks.used active files
+    root_stands reached = subst (λ (o : Option Files). AreSoundBy (under blocks) blocks.used active o) (sym none)
+        (subst (λ (r : Rooted). AreReached (under blocks) blocks.used r.levels r.root) (sym rooted) (subst (λ n. AreReached (under blocks) blocks.used n root) (sym few) reached))
+
+-- ---- what is pending
+
+pub pending_held : (was : Option Files) (f : Files) → was ≡ Some f → (room : ℕ) → pending_of was ≤ room → pending_in f ≤ room
+pending_held was f held room enough = subst (λ (o : Option Files). pending_of o ≤ room) held enough
+
+-- as a table's room, so a volume's
+module _ (was : Option Files) (f g : Files) (held : was ≡ Some f) (before after : ℕ) where
+  pub fits_failed : (pending_in g ≤ pending_in f) × (before + pending_in g ≤ after + pending_in f) → (pending_of (Some g) ≤ pending_of was) × (before + pending_of (Some g) ≤ after + pending_of was)
+  fits_failed fits = subst (λ (o : Option Files). (pending_in g ≤ pending_of o) × (before + pending_in g ≤ after + pending_of o)) (sym held) fits
+
+pub fits_done : (was now : Option Files) (f g : Files) → was ≡ Some f → now ≡ None → (before after : ℕ) → (pending_in g ≤ pending_in f) × (before + pending_in g ≤ after + pending_in f) → pending_in g ≡ 0
+    → (pending_of now ≤ pending_of was) × (before + pending_of now ≤ after + pending_of was)
+fits_done was now f g held none before after fits nothing =
+    subst (λ (o : Option Files). (pending_of o ≤ pending_of was) × (before + pending_of o ≤ after + pending_of was)) (sym none)
+    (subst (λ (o : Option Files). (0 ≤ pending_of o) × (before + 0 ≤ after + pending_of o)) (sym held)
+    (omega arith, (let some = fits.1 in omega (arith, some, nothing))))
+
+-- ---- so a flush leaves it
+
+-- what is told of a volume with files in memory
+abbrev pub Told : Disk → Pool → VolumeState → Files → Type 0
+Told d p x f = IsTold d p x.map x.slot × AreStanding (shows d p x) f
+
+module _ (d e : Disk) (p q : Pool) (x : VolumeState) (f : Files) (held : x.files ≡ Some f) (map : Maps) (g : Files) where
+  abbrev after : Shown
+  after = sees q map e (home_in x)
+
+  -- placed whole
+  module _ (root : Pointer) (active : Rooted) (files : Option Files) (rooted : active ≡ record { levels = min g.inode.tree.levels 2; root = root }) (none : files ≡ None)
+      (table : PlacesTable (Told d p x f) (shows d p x) (under after) after.used f g (Ok root)) (is : IsStanding d p x) where
+    told : Told d p x f
+    told = was_told d p x f held is
+
+    few : min g.inode.tree.levels 2 ≡ g.inode.tree.levels
+    few = few_levels d p x f held is g (table.levels told told.1)
+
+    tells : standing_by (under after) active files ≡ table_in after g
+    tells = root_tells after g root active files rooted none few (table.stored told told.1)
+
+    pub done_volume : volume_for e q (record x { active = active; map = map; files = files; changed = true }) ≡ volume_for d p x
+    done_volume = left_volume d p x f held e q map g (table.placed told told.1) active files tells
+
+    pub done_standing : (Told d p x f → IsTold e q map x.slot) → IsStanding e q (record x { active = active; map = map; files = files; changed = true })
+    done_standing still = left_standing d p x f held e q map g (table.placed told told.1) active files tells is (still told) (root_stands after g root active files rooted none few (table.reached told told.1))
+
+    pub done_led : IsLedTo d p x → IsLedTo e q (record x { active = active; map = map; files = files; changed = true })
+    done_led led = subst (λ (o : Option Files). AreLedBy (under after) after.used active o) (sym none)
+        (subst (λ (r : Rooted). AreLed after.used (stored_trees (under after) r.levels r.root)) (sym rooted)
+        (subst (λ n. AreLed after.used (stored_trees (under after) n root)) (sym few) (table.stored_led told told.1 (was_led d p x f held led))))
+
+  -- placed in part
+  module _ (fault : BlockFault) (table : PlacesTable (Told d p x f) (shows d p x) (under after) after.used f g (Err fault)) (is : IsStanding d p x) where
+    told_then : Told d p x f
+    told_then = was_told d p x f held is
+
+    pub failed_volume : volume_for e q (record x { map = map; files = Some g; changed = true }) ≡ volume_for d p x
+    failed_volume = left_volume d p x f held e q map g (table.placed told_then told_then.1) x.active (Some g) refl
+
+    pub failed_standing : (Told d p x f → IsTold e q map x.slot) → IsStanding e q (record x { map = map; files = Some g; changed = true })
+    failed_standing still = left_standing d p x f held e q map g (table.placed told_then told_then.1) x.active (Some g) refl is (still told_then) (table.stands told_then told_then.1)
+
+    pub failed_led : IsLedTo d p x → IsLedTo e q (record x { map = map; files = Some g; changed = true })
+    failed_led led = table.led told_then told_then.1 (was_led d p x f held led)

@@ -1,0 +1,77 @@
+-- Calls can be made on a volume whose table or whose count of changes is another.
+use Rattle.std.proofs.Common.{◌≡◌, ℕ, ◌+◌, ◌<◌, ◌≤◌, Bool, true, false, Option, refl, sym, ap, subst, ◌∙◌, arith}
+use Rattle.fv_disk.specs.Shown.{Shown as Disk}
+use Rattle.fv_codec.specs.Blocks.{IsLabel}
+use Rattle.fv_model.specs.Numbers.{most_changes}
+use Rattle.fv_files.specs.declared.files.Files.{Files}
+use Rattle.fv_charge.specs.declared.ledger.Ledger.{Ledger}
+use Rattle.fv_volmap.specs.Slots.{Volume as Maps}
+use Rattle.fv_volume.specs.declared.pool.Pool.{Pool}
+use Rattle.fv_volume.specs.declared.state.VolumeState.{VolumeState}
+use Rattle.fv_volume.specs.Files.{IsLabelled}
+use Rattle.fv_volume.specs.Labels.{label_said}
+use Rattle.fv_volume.specs.OneVolume.{IsBooked, IsReady}
+
+module _ (x : VolumeState) (now : ℕ) (few : now ≤ most_changes) where
+  abbrev at_now : VolumeState
+  at_now = record x { now = now }
+
+  label_now : (container height : ℕ) → IsLabel (label_said x container height) → IsLabel (label_said at_now container height)
+  unfolding label_said
+  label_now container height is = record {
+    name_least = is.name_least;
+    name_greatest = is.name_greatest;
+    name = is.name;
+    kind = is.kind;
+    size_least = is.size_least;
+    size_greatest = is.size_greatest;
+    most_least = is.most_least;
+    most_greatest = is.most_greatest;
+    span_least = is.span_least;
+    span_greatest = is.span_greatest;
+    span_step = is.span_step;
+    now = few;
+    parent = is.parent;
+    base_least = is.base_least;
+    base_greatest = is.base_greatest;
+    splitting = is.splitting;
+    known = is.known;
+    container = is.container;
+    height_least = is.height_least;
+    height_greatest = is.height_greatest;
+    levels = is.levels;
+    root = is.root;
+    snapshots = is.snapshots;
+  }
+
+  labelled_now : IsLabelled x.slot x → (map : Maps) → map.span ≡ x.map.span → (files : Option Files) (ledger : Ledger) → ledger.span ≡ x.ledger.span → IsLabelled x.slot (record x { now = now; map = map; files = files; ledger = ledger; changed = true })
+  unfolding label_said
+  labelled_now is map span files ledger counts = record {
+    slot_is = is.slot_is;
+    form = is.form;
+    span = is.span;
+    map = span ∙ is.map;
+    counts = counts ∙ is.counts;
+    levels = is.levels;
+    named = is.named;
+    label = λ container height low least most. label_now container height (is.label container height low least most);
+  }
+
+-- whatever changed of it
+pub ready_again : (d : Disk) (p : Pool) (x : VolumeState) (now : ℕ) (map : Maps) (files : Option Files) (ledger : Ledger) → IsReady d p x → now ≤ most_changes → map.span ≡ x.map.span → IsBooked (record x { ledger = ledger })
+    → IsReady d p (record x { now = now; map = map; files = files; ledger = ledger; changed = true })
+ready_again d p x now map files ledger ready few span booked = record {
+  lent = record {
+    within = ready.lent.within;
+    stands = ready.lent.stands;
+    few = (let was = ready.lent.few in omega (arith, span, was));
+    entries = (let was = ready.lent.entries in omega (arith, span, was));
+  };
+  labelled = labelled_now x now few ready.labelled map span files ledger (booked.span ∙ sym ready.booked.span);
+  booked = record { size = booked.size; kind = booked.kind; span = booked.span; need = booked.need; charge = booked.charge };
+  blocks = ready.blocks;
+  changed = λ isnt. absurd (both isnt);
+}
+  where
+    both : true ≡ false → ⊥
+    both same = cc

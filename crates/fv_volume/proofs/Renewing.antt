@@ -1,0 +1,309 @@
+-- A volume that was written: what went is given back, and what is new was free.
+use Rattle.std.proofs.Common.{◌≡◌, ◌≢◌, ℕ, zero, suc, ◌+◌, ◌-◌, ◌<◌, ◌≤◌, List, length, Bool, true, false, not, ◌&&◌, ◌||◌, refl, sym, ap, ap₂, subst, ◌∙◌, arith, ⊎_elim, inl, inr, ◌⊎◌}
+use Rattle.std.specs.Prelude.{None, nat_lt}
+use Rattle.std.specs.List.{list_any, range_with_len}
+use Rattle.std.proofs.lemmas.Bool.{and_parts, and_from, cases_eq, cases_lt, not-true, or_cases, or_left, or_right, true≢false}
+use Rattle.std.proofs.lemmas.Bool.Decides.{nat_tests}
+use Rattle.fv_bits.specs.Members.{is_member}
+use Rattle.fv_disk.specs.Shown.{Image}
+use Rattle.fv_model.specs.Machines.{first_block}
+use Rattle.fv_model.specs.Space.{map_blocks}
+use Rattle.fv_image.specs.Views.{entry_count}
+use Rattle.fv_image.proofs.HeldPlaces.{same_truth}
+use Rattle.fv_container.specs.Mapped.{Mapped, entry_under}
+use Rattle.fv_container.specs.Spelled.{is_at, names}
+use Rattle.fv_aggmap.specs.Space.{Space, IsFree, blocks_of}
+use Rattle.fv_volume.specs.declared.state.VolumeState.{VolumeState}
+use Rattle.fv_volume.specs.Writing.{AreTaken, HasDrawn, HasGiven, HasLabel, HasOwnBlocks, IsTaken, IsTakenOther, IsWritten, has_maps_at, leads_away, on_disk}
+use Rattle.fv_volume.specs.Stored.{leads, place_at, place_in, stays}
+use Rattle.fv_volume.proofs.SlotBlocks.{any_in_range, range_has}
+use Rattle.fv_volume.proofs.Drawing.{LeadsAt, at_itself, at_means, free_before, leads_at, leads_where, maps_at, maps_where, not_so, or_neither}
+
+-- a block that is free in a space is free where the next root holds no other than the one on the disk
+free_moved : (old new : Space) (b : ℕ) → new.committed ≡ old.committed → IsFree old b → is_member new.next b ≡ false → IsFree new b
+free_moved old new b same free next =
+    let len : blocks_of new ≡ blocks_of old = ap length same in
+    let none = or_neither (is_member old.committed b) (is_member old.next b) free.free in
+    record {
+      after = lower (sym len) free.after;
+      within = omega (arith, len, free.within);
+      free = both (is_member new.committed b) (is_member new.next b) (ap (λ (c : List Bool). is_member c b) same ∙ none.0) next;
+    }
+  where
+    lower : {m n : ℕ} → m ≡ n → first_block m ≤ b → first_block n ≤ b
+    lower e le = rw (← e) le
+
+    both : (c n : Bool) → c ≡ false → n ≡ false → (c || n) ≡ false
+    both c n one two = rw (one, two) refl
+
+uncommitted : (space : Space) (b : ℕ) → IsFree space b → is_member space.committed b ≡ false
+uncommitted space b free = (or_neither (is_member space.committed b) (is_member space.next b) free.free).0
+
+pub free_on_disk : (space : Space) (old : Space) (b : ℕ) → space.committed ≡ old.committed → IsFree space b → IsFree (on_disk old) b
+free_on_disk space old b same free = free_moved space (on_disk old) b (sym same) free (ap (λ (c : List Bool). is_member c b) (sym same) ∙ uncommitted space b free)
+
+-- what is committed isn't free
+committed_taken : (space : Space) (b : ℕ) → is_member space.committed b ≡ true → IsTaken space b
+committed_taken space b is free = true≢false (sym is ∙ uncommitted space b free)
+
+module _ (old given_back drawn : Space) (entries : ℕ → Bool) (label : ℕ) (gave : HasGiven old entries given_back) (took : HasDrawn given_back (λ b. is_at b label) 1 drawn) (some : 1 ≤ label) where
+  pub label_free : IsFree given_back label
+  label_free = took.free label (at_itself label (λ none. omega (arith, some, none)))
+
+  -- the label's place is taken
+  pub label_taken : IsTaken drawn label
+  label_taken free = true≢false (sym (at_itself label (λ none. omega (arith, some, none))) ∙ (free_before given_back drawn (λ b. is_at b label) 1 label took free).1)
+
+  pub drawn_committed : drawn.committed ≡ old.committed
+  drawn_committed = took.committed ∙ gave.committed
+
+  pub spared : (b : ℕ) → IsTaken (on_disk old) b → IsTakenOther drawn label b
+  spared b is = (λ free. is (free_on_disk drawn old b drawn_committed free), λ same. is (subst (λ (k : ℕ). IsFree (on_disk old) k) (sym same) (free_on_disk given_back old label gave.committed label_free)))
+
+  -- what couldn't be written once the entries were given back can't be now
+  pub given_spared : (b : ℕ) → IsTaken given_back b → IsTakenOther drawn label b
+  given_spared b is = (λ free. is (free_before given_back drawn (λ b. is_at b label) 1 b took free).0, λ same. is (subst (λ (k : ℕ). IsFree given_back k) (sym same) label_free))
+
+  pub free_then : (b : ℕ) → IsFree drawn b → IsFree given_back b
+  free_then b free = (free_before given_back drawn (λ b. is_at b label) 1 b took free).0
+
+-- ---- which blocks the next root holds
+
+-- By these tests: the new label, the new nodes, the new blocks of the active map, the blocks that stay; those that go, the old label, the old
+-- nodes; and what the next root held. What is new is none of the old; what stays is no other of the old, and was held.
+renewed : (l n m s a o t k : Bool) → (l ≡ true → (o ≡ false) × (t ≡ false)) → (n ≡ true → o ≡ false) → (m ≡ true → o ≡ false)
+    → (s ≡ true → (k ≡ true) × ((a ≡ false) × ((t ≡ false) × (o ≡ false))))
+    → (((n || m) || ((l || (k && not a)) && not t)) && not o) ≡ ((l || (n || (s || m))) || (k && not (o || (t || (s || a)))))
+renewed l true m s a o t k fl fn fm fs = rw (fn refl, any_true l (s || m)) refl
+  where
+    any_true : (l r : Bool) → (l || (true || r)) ≡ true
+    any_true true r = refl
+    any_true false r = refl
+renewed l false true s a o t k fl fn fm fs = rw (fm refl, any_true l s) refl
+  where
+    any_true : (l s : Bool) → (l || (false || (s || true))) ≡ true
+    any_true true s = refl
+    any_true false true = refl
+    any_true false false = refl
+renewed true false false s a o t k fl fn fm fs = let f = fl refl in rw (f.0, f.1) refl
+renewed false false false true a o t k fl fn fm fs = let f = fs refl in rw (f.0, f.1.0, f.1.1.0, f.1.1.1) refl
+renewed false false false false a o t false fl fn fm fs = refl
+renewed false false false false true true true true fl fn fm fs = refl
+renewed false false false false true true false true fl fn fm fs = refl
+renewed false false false false true false true true fl fn fm fs = refl
+renewed false false false false true false false true fl fn fm fs = refl
+renewed false false false false false true true true fl fn fm fs = refl
+renewed false false false false false true false true fl fn fm fs = refl
+renewed false false false false false false true true fl fn fm fs = refl
+renewed false false false false false false false true fl fn fm fs = refl
+
+-- ---- what the entries of a volume lead to, once its map blocks have new places
+
+-- whether an entry that stays leads to a block
+unfoldable pub leads_on : VolumeState → Mapped → ℕ → ℕ → Bool
+leads_on x map entries b = list_any (λ v. stays x v && is_at b (place_at map v)) (range_with_len 0 entries)
+
+any_parts : (test on : ℕ → Bool) (from n : ℕ) → list_any test (range_with_len from n) ≡ (list_any (λ v. on v && test v) (range_with_len from n) || list_any (λ v. not (on v) && test v) (range_with_len from n))
+any_parts test on from zero = refl
+any_parts test on from (suc n) = ap (λ (t : Bool). test from || t) (any_parts test on (from + 1) n) ∙ joined (test from) (on from) (list_any (λ v. on v && test v) (range_with_len (from + 1) n)) (list_any (λ v. not (on v) && test v) (range_with_len (from + 1) n))
+  where
+    joined : (t o a b : Bool) → (t || (a || b)) ≡ (((o && t) || a) || ((not o && t) || b))
+    joined true true a b = refl
+    joined true false true b = refl
+    joined true false false b = refl
+    joined false true a b = refl
+    joined false false a b = refl
+
+leads_parts : (x : VolumeState) (map : Mapped) (n b : ℕ) → leads map n b ≡ (leads_on x map n b || leads_away x map n b)
+unfolding leads leads_on leads_away
+leads_parts x map n b = any_parts (λ v. is_at b (place_at map v)) (stays x) 0 n
+
+-- an entry that stays leads to the block
+record StaysAt (x : VolumeState) (map : Mapped) (n b : ℕ) : Type 0 where
+  vvbn : ℕ
+  within : vvbn < n
+  on : stays x vvbn ≡ true
+  place : place_at map vvbn ≡ b
+  some : b ≢ 0
+
+on_where : (x : VolumeState) (map : Mapped) (n b : ℕ) → leads_on x map n b ≡ true → StaysAt x map n b
+unfolding leads_on
+on_where x map n b is =
+    let one = any_in_range (λ v. stays x v && is_at b (place_at map v)) 0 n is in
+    let parts = and_parts (stays x one.0) (is_at b (place_at map one.0)) one.3 in
+    let means = at_means b (place_at map one.0) parts.1 in
+    record { vvbn = one.0; within = omega (arith, one.2); on = parts.0; place = means.0; some = means.1 }
+
+on_at : (x : VolumeState) (map : Mapped) (n v b : ℕ) → v < n → stays x v ≡ true → place_at map v ≡ b → b ≢ 0 → leads_on x map n b ≡ true
+unfolding leads_on
+on_at x map n v b within on place some = range_has (λ v. stays x v && is_at b (place_at map v)) v 0 n (omega arith) (omega (arith, within)) (and_from _ _ on (ap (is_at b) place ∙ at_itself b some))
+
+pub away_where : (x : VolumeState) (map : Mapped) (n b : ℕ) → leads_away x map n b ≡ true → (v : ℕ) × (v < n) × (stays x v ≡ false) × (place_at map v ≡ b)
+unfolding leads_away
+away_where x map n b is =
+    let one = any_in_range (λ v. not (stays x v) && is_at b (place_at map v)) 0 n is in
+    let parts = and_parts (not (stays x one.0)) (is_at b (place_at map one.0)) one.3 in
+    let means = at_means b (place_at map one.0) parts.1 in
+    (one.0, omega (arith, one.2), not-true _ parts.0, means.0)
+
+-- and that block is one
+pub away_place : (x : VolumeState) (map : Mapped) (n b : ℕ) → leads_away x map n b ≡ true → b ≢ 0
+unfolding leads_away
+away_place x map n b is =
+    let one = any_in_range (λ v. not (stays x v) && is_at b (place_at map v)) 0 n is in
+    (at_means b (place_at map one.0) (and_parts (not (stays x one.0)) (is_at b (place_at map one.0)) one.3).1).1
+
+pub low_of : (x : VolumeState) (v : ℕ) → stays x v ≡ true → v < x.span
+low_of x v on = let low = (and_parts (nat_lt v x.span) _ on).0 in grind (arith, nat_tests, low)
+
+module _ (x : VolumeState) (old new : Mapped) (blocks : ℕ) (few : blocks ≤ map_blocks x.span)
+    (kept : (v : ℕ) → stays x v ≡ true → entry_under new v ≡ entry_under old v) (holes : (v : ℕ) → stays x v ≡ false → (v < x.span) ⊎ (x.span + blocks ≤ v) → entry_under new v ≡ None) where
+  -- The new entries are those that stay and those of the active map's blocks.
+  pub leads_new : (b : ℕ) → leads new (entry_count x.span) b ≡ (leads_on x old (entry_count x.span) b || has_maps_at new x.span blocks b)
+  leads_new b = same_truth (leads new (entry_count x.span) b) (leads_on x old (entry_count x.span) b || has_maps_at new x.span blocks b) (λ is. to (leads_where new (entry_count x.span) b is)) (λ is. ⊎_elim
+      (λ (on : leads_on x old (entry_count x.span) b ≡ true).
+      let at = on_where x old (entry_count x.span) b on in leads_at new (entry_count x.span) at.vvbn b at.within (ap place_in (kept at.vvbn at.on) ∙ at.place) at.some)
+      (λ (map : has_maps_at new x.span blocks b ≡ true).
+      let at = maps_where new x.span blocks b map in leads_at new (entry_count x.span) (x.span + at.index) b (omega (arith, at.within, few)) at.place at.some)
+      (or_cases (leads_on x old (entry_count x.span) b) (has_maps_at new x.span blocks b) is))
+    where
+      to : LeadsAt new (entry_count x.span) b → (leads_on x old (entry_count x.span) b || has_maps_at new x.span blocks b) ≡ true
+      to at = so (stays x at.vvbn) refl
+        where
+          hole : stays x at.vvbn ≡ false → (at.vvbn < x.span) ⊎ (x.span + blocks ≤ at.vvbn) → ⊥
+          hole off out = at.some (sym at.place ∙ ap place_in (holes at.vvbn off out))
+
+          so : (t : Bool) → stays x at.vvbn ≡ t → (leads_on x old (entry_count x.span) b || has_maps_at new x.span blocks b) ≡ true
+          so true on = or_left _ _ (on_at x old (entry_count x.span) at.vvbn b at.within on (ap place_in (sym (kept at.vvbn on)) ∙ at.place) at.some)
+          so false off = ⊎_elim
+              (λ (low : at.vvbn < x.span). absurd (hole off (inl low)))
+              (λ (past : x.span ≤ at.vvbn). ⊎_elim
+              (λ (inside : at.vvbn < x.span + blocks).
+              let back : x.span + (at.vvbn - x.span) ≡ at.vvbn = omega (arith, past) in
+              or_right (leads_on x old (entry_count x.span) b) _ (maps_at new x.span blocks (at.vvbn - x.span) b (omega (arith, past, inside)) (ap (place_at new) back ∙ at.place) at.some))
+              (λ (over : x.span + blocks ≤ at.vvbn). absurd (hole off (inr over)))
+              (cases_lt at.vvbn (x.span + blocks)))
+              (cases_lt at.vvbn x.span)
+
+-- ---- the volume
+
+module _ (x : VolumeState) (before after : Image) (space given_back drawn stored left : Space) (label : ℕ) (old mid new : Mapped) (own : HasOwnBlocks x old space)
+    (gave : HasGiven space (leads_away x old (entry_count x.span)) given_back) (took : HasDrawn given_back (λ b. is_at b label) 1 drawn) (some : 1 ≤ label)
+    (has : HasLabel x mid drawn label new after stored) (released : HasGiven stored (λ b. is_at b x.label) left) (same : stored.committed ≡ drawn.committed)
+    (long : length new.entries ≡ entry_count x.span) (tree : mid.tree ≡ old.tree)
+    (kept : (v : ℕ) → stays x v ≡ true → entry_under mid v ≡ entry_under old v) (holes : (v : ℕ) → stays x v ≡ false → entry_under mid v ≡ None)
+    (others : (b : ℕ) → IsTakenOther drawn label b → after b ≡ before b)
+  where
+    kept_now : (v : ℕ) → stays x v ≡ true → entry_under new v ≡ entry_under old v
+    kept_now v on = has.blocks.map.others v (inl (low_of x v on)) ∙ kept v on
+
+    holes_now : (v : ℕ) → stays x v ≡ false → (v < x.span) ⊎ (x.span + map_blocks x.span ≤ v) → entry_under new v ≡ None
+    holes_now v off out = has.blocks.map.others v out ∙ holes v off
+
+    given_free : (b : ℕ) → IsFree drawn b → IsFree given_back b
+    given_free b free = free_then space given_back drawn (leads_away x old (entry_count x.span)) label gave took some b free
+
+    label_is_free : IsFree given_back label
+    label_is_free = label_free space given_back drawn (leads_away x old (entry_count x.span)) label gave took some
+
+    -- what is free isn't the root's on the disk
+    not_old : (b : ℕ) → IsFree given_back b → (is_at b x.label ≡ false) × (names old.tree b ≡ false)
+    not_old b free =
+        let off = uncommitted given_back b free in (
+          not_so (is_at b x.label) (λ at. let means = at_means b x.label at in true≢false (sym (ap (λ (c : List Bool). is_member c b) gave.committed ∙ subst (λ (k : ℕ). is_member space.committed k ≡ true) means.0 (own.old_label (λ none. means.1 (sym means.0 ∙ none)))) ∙ off)),
+          not_so (names old.tree b) (λ named. true≢false (sym (ap (λ (c : List Bool). is_member c b) gave.committed ∙ own.old_nodes b named) ∙ off)),
+        )
+
+    -- a node of the new tree is one of the old, or was free
+    node_cases : (b : ℕ) → names new.tree b ≡ true → (names old.tree b ≡ true) ⊎ (IsFree given_back b)
+    node_cases b named = so (names old.tree b) refl
+      where
+        so : (t : Bool) → names old.tree b ≡ t → (names old.tree b ≡ true) ⊎ (IsFree given_back b)
+        so true e = inl e
+        so false e = inr (given_free b (has.blocks.fresh_nodes b named (ap (λ (t : List ℕ). names t b) tree ∙ e)))
+
+    not_label : (b : ℕ) → names new.tree b ≡ true → is_at b x.label ≡ false
+    not_label b named = ⊎_elim
+        (λ (was : names old.tree b ≡ true). not_so (is_at b x.label) (λ at. true≢false (sym was ∙ ap (names old.tree) (sym (at_means b x.label at).0) ∙ own.alone)))
+        (λ (free : IsFree given_back b). (not_old b free).0)
+        (node_cases b named)
+
+    map_led : (k : ℕ) → k < map_blocks x.span → has_maps_at new x.span (map_blocks x.span) (place_at new (x.span + k)) ≡ true
+    map_led k lt = let least = has.blocks.map.some k lt in maps_at new x.span (map_blocks x.span) k (place_at new (x.span + k)) lt refl (λ none. omega (arith, least, none))
+
+    -- a block that stays is none of the others
+    stays_apart : (b : ℕ) → leads_on x old (entry_count x.span) b ≡ true
+        → (is_member space.next b ≡ true) × ((leads_away x old (entry_count x.span) b ≡ false) × ((names old.tree b ≡ false) × (is_at b x.label ≡ false)))
+    stays_apart b on =
+        let at = on_where x old (entry_count x.span) b on in
+        let led : leads old (entry_count x.span) b ≡ true = leads_at old (entry_count x.span) at.vvbn b at.within at.place at.some in (
+          own.held b (or_right (is_at b x.label) _ (or_right (names old.tree b) _ led)),
+          (
+            not_so (leads_away x old (entry_count x.span) b) (λ away.
+                let w = away_where x old (entry_count x.span) b away in
+                two at w),
+            (
+              not_so (names old.tree b) (λ named. true≢false (sym led ∙ own.nodes b named)),
+              not_so (is_at b x.label) (λ here. let means = at_means b x.label here in true≢false (sym led ∙ ap (leads old (entry_count x.span)) (sym means.0) ∙ own.label)),
+            ),
+          ),
+        )
+      where
+        two : StaysAt x old (entry_count x.span) b → ((w : ℕ) × (w < entry_count x.span) × (stays x w ≡ false) × (place_at old w ≡ b)) → ⊥
+        two at w = ⊎_elim
+            (λ (same : at.vvbn ≡ w.0). true≢false (sym at.on ∙ ap (stays x) same ∙ w.2))
+            (λ (other : at.vvbn ≢ w.0). ⊎_elim
+            (λ (less : at.vvbn < w.0). own.entries at.vvbn w.0 less w.1 (λ none. at.some (sym at.place ∙ none)) (at.place ∙ sym w.3))
+            (λ (more : w.0 ≤ at.vvbn). own.entries w.0 at.vvbn (omega (arith, more, other)) at.within (λ none. at.some (sym w.3 ∙ none)) (w.3 ∙ sym at.place))
+            (cases_lt at.vvbn w.0))
+            (cases_eq at.vvbn w.0)
+
+    pub renewed_volume : IsWritten x old before space label new after left
+    renewed_volume = record {
+      root = has.root;
+      root_least = has.root_least;
+      root_greatest = has.root_greatest;
+      said = has.said;
+      tree = has.blocks.tree;
+      long = long;
+      kept = kept_now;
+      active = has.blocks.map.active;
+      placed = has.blocks.map.some;
+      holes = holes_now;
+      bits = has.blocks.bits;
+      given = given_back;
+      gave = gave;
+      some = some;
+      fresh_label = label_is_free;
+      fresh_nodes = λ b named lacks. given_free b (has.blocks.fresh_nodes b named (ap (λ (t : List ℕ). names t b) tree ∙ lacks));
+      fresh_maps = λ k lt. given_free (place_at new (x.span + k)) (has.blocks.fresh_maps (place_at new (x.span + k)) (map_led k lt));
+      alone = not_so (names new.tree label) (λ named. label_taken space given_back drawn (leads_away x old (entry_count x.span)) label gave took some
+          (has.blocks.fresh_nodes label named (ap (λ (t : List ℕ). names t label) tree ∙ (not_old label label_is_free).1)));
+      apart = λ k lt.
+          let free = has.blocks.fresh_maps (place_at new (x.span + k)) (map_led k lt) in
+          (λ same. label_taken space given_back drawn (leads_away x old (entry_count x.span)) label gave took some (subst (λ (b : ℕ). IsFree drawn b) same free), has.blocks.apart (place_at new (x.span + k)) (map_led k lt));
+      once = has.blocks.map.once;
+      held = λ b.
+          released.held b ∙ ap (λ t. t && not (is_at b x.label)) (has.blocks.held b)
+          ∙ ap (λ t. ((names new.tree b || has_maps_at new x.span (map_blocks x.span) b) || (t && not (names mid.tree b))) && not (is_at b x.label)) (took.held b ∙ ap (λ t. is_at b label || t) (gave.held b))
+          ∙ ap (λ (ts : List ℕ). ((names new.tree b || has_maps_at new x.span (map_blocks x.span) b) || ((is_at b label || (is_member space.next b && not (leads_away x old (entry_count x.span) b))) && not (names ts b))) && not (is_at b x.label)) tree
+          ∙ renewed (is_at b label) (names new.tree b) (has_maps_at new x.span (map_blocks x.span) b) (leads_on x old (entry_count x.span) b) (leads_away x old (entry_count x.span) b) (is_at b x.label) (names old.tree b) (is_member space.next b)
+          (λ at. not_old b (took.free b at))
+          (not_label b)
+          (λ map. (not_old b (given_free b (has.blocks.fresh_maps b map))).0)
+          (stays_apart b)
+          ∙ ap₂ (λ (p q : Bool). (is_at b label || (names new.tree b || p)) || (is_member space.next b && not (is_at b x.label || (names old.tree b || q))))
+          (sym (leads_new x old new (map_blocks x.span) (omega arith) kept_now holes_now b)) (sym (leads_parts x old (entry_count x.span) b));
+      committed = released.committed ∙ same ∙ took.committed ∙ gave.committed;
+      others = λ b is. others b (given_spared space given_back drawn (leads_away x old (entry_count x.span)) label gave took some b is);
+    }
+
+-- a block that is free once the entries were given back is no old node
+pub no_old_node : (x : VolumeState) (space given_back : Space) (old kept : Mapped) (b : ℕ) → given_back.committed ≡ space.committed → kept.tree ≡ old.tree → HasOwnBlocks x old space → IsFree given_back b → names kept.tree b ≡ false
+no_old_node x space given_back old kept b same tree own free = not_so (names kept.tree b) (λ named. true≢false (sym (ap (λ (c : List Bool). is_member c b) same ∙ own.old_nodes b (ap (λ (t : List ℕ). names t b) (sym tree) ∙ named)) ∙ uncommitted given_back b free))
+
+-- the old nodes can't be written before the next commit
+pub nodes_taken : (x : VolumeState) (space drawn : Space) (old kept : Mapped) → drawn.committed ≡ space.committed → kept.tree ≡ old.tree → HasOwnBlocks x old space → AreTaken drawn kept.tree
+nodes_taken x space drawn old kept same tree own b named =
+    let was : names old.tree b ≡ true = ap (λ (t : List ℕ). names t b) (sym tree) ∙ named in
+    committed_taken drawn b (ap (λ (c : List Bool). is_member c b) same ∙ own.old_nodes b was)

@@ -1,0 +1,266 @@
+-- From a volume of a session's view to one volume with nothing of it in memory, and back.
+use Rattle.std.proofs.Common.{◌≡◌, ◌≢◌, ℕ, ◌≤◌, Bool, true, false, ◌&&◌, cond, List, [], Option, Some, None, is_some, inl, inr, ⊎_elim, refl, sym, ap, subst, ◌∙◌, arith}
+use Rattle.std.specs.Prelude.{◌⊎◌, IsTrue, map, nat_le}
+use Rattle.std.specs.Option.{ForSome, option_map, option_map_or}
+use Rattle.std.specs.FinMap as fin
+use Rattle.fv_disk.specs.Shown.{Shown as Disk}
+use Rattle.fv_bits.specs.Members.{is_member}
+use Rattle.fv_codec.specs.declared.pointer.Pointer.{Pointer}
+use Rattle.fv_codec.specs.declared.inode.InodeRecord.{InodeRecord}
+use Rattle.fv_codec.specs.Blocks.{greatest_word}
+use Rattle.fv_model.specs.Places.{Owner, InodeFile, OfFile}
+use Rattle.fv_model.specs.Spelling.{name_cmp}
+use Rattle.fv_model.specs.Tables.{Table, empty_table}
+use Rattle.fv_model.specs.Volumes.{Volume}
+use Rattle.fv_laws.specs.WellFormed.{IsWellTable}
+use Rattle.fv_laws.specs.Positions.{HasNoReserve}
+use Rattle.fv_tables.specs.Spelled.{Rooted as Tree, Under, hole, stored, pointer_at}
+use Rattle.fv_tables.specs.Told.{Standing, standing_at, file_at, table_told}
+use Rattle.fv_tables.specs.Kept.{AgreeOnTable}
+use Rattle.fv_tables.proofs.Tables.{kept_table}
+use Rattle.fv_tree.specs.Beside.{unread}
+use Rattle.fv_tree.specs.Flushing.{ReachesOnce}
+use Rattle.fv_tree.specs.Sources.{Shown, Use}
+use Rattle.fv_tree.specs.Standing.{under as blocks_of}
+use Rattle.fv_files.specs.declared.files.Files.{Files}
+use Rattle.fv_files.specs.Apart.{LeadsFrom, LeadsIn, stored_trees}
+use Rattle.fv_files.specs.Tables.{AreReached}
+use Rattle.fv_image.specs.Chains.{under}
+use Rattle.fv_image.specs.Views.{Footing, Head, Placed, Snap, View}
+use Rattle.fv_image.specs.Volumes.{base_from, snap_told, table_at, volume_with}
+use Rattle.fv_image.proofs.LoneTables.{form_snapshots, form_base, no_parent, place_own}
+use Rattle.fv_charge.specs.Ledgers.{IsLedgerOf}
+use Rattle.fv_container.specs.declared.entry.Entry.{Entry}
+use Rattle.fv_container.specs.Chains.{Slots, chain_entry, container_at, own_entry, parent_at}
+use Rattle.fv_volmap.specs.Slots.{Volume as Maps, active_of, taken_in}
+use Rattle.fv_volume.specs.declared.pool.Pool.{Pool}
+use Rattle.fv_volume.specs.declared.state.VolumeState.{VolumeState}
+use Rattle.fv_volume.specs.BlocksOver.{AreApart, IsKeptBack, OtherPlace, block_of, held_entry}
+use Rattle.fv_volume.specs.Calls.{Reads}
+use Rattle.fv_volume.specs.Files.{has_form, IsLabelled, IsState}
+use Rattle.fv_volume.specs.Lending.{IsTold}
+use Rattle.fv_volume.specs.OneVolume.{shows, standing_by, standing_for, table_for, volume_as, volume_for, AreSoundBy, IsStanding}
+use Rattle.fv_volume.specs.Placing.{AreLedBy, IsLedTo}
+use Rattle.fv_volume.specs.States.{States, head_in, placed_in, state_at, view_over}
+use Rattle.fv_volume.specs.Trees.{active_in, no_trees, volume_now}
+use Rattle.fv_volume.proofs.LoadedTables.{StandsInView, chain_own, led, stands_file, stands_inode, stands_led, stands_once, stands_told}
+use Rattle.fv_volume.proofs.OneVolumes.{still_under, still_used}
+use Rattle.fv_volume.proofs.Shows.{get_held, use_none}
+use Rattle.fv_volume.proofs.Told.{head_there}
+
+-- ---- the entries of a volume that stands on no other
+
+module _ (map : Maps) (slots : Slots) (slot : ℕ) (alone : parent_at slots slot ≡ None) where
+  -- a VVBN that is held has the volume's own entry
+  pub held_own : (v : ℕ) (e : Entry) → held_entry map slots slot v ≡ Some e → own_entry (container_at slots slot) v ≡ Some e
+  unfolding held_entry
+  held_own v e is = sym (chain_own slots slot v alone) ∙ by (nat_le v 1048575 && taken_in map.slots v) is
+    where
+      by : (b : Bool) → cond b (chain_entry slots slot v) None ≡ Some e → chain_entry slots slot v ≡ Some e
+      by true is = is
+      by false is = absurd cc
+
+-- by its own entry alone, whatever other containers there are
+pub held_alone : (map : Maps) (slots others : Slots) (slot v : ℕ) → parent_at slots slot ≡ None → parent_at others slot ≡ None → own_entry (container_at slots slot) v ≡ own_entry (container_at others slot) v
+    → held_entry map slots slot v ≡ held_entry map others slot v
+unfolding held_entry
+held_alone map slots others slot v one other same =
+    ap (λ (o : Option Entry). cond (nat_le v 1048575 && taken_in map.slots v) o None) (chain_own slots slot v one ∙ same ∙ sym (chain_own others slot v other))
+
+-- Where the next root holds the block of each entry, and no two lead to one, the entries of such a volume lie apart.
+pub apart_alone : (pool : Pool) (map : Maps) (slot : ℕ) → parent_at pool.containers slot ≡ None → ((v : ℕ) → ForSome (own_entry (container_at pool.containers slot) v) (IsKeptBack pool.map))
+    → ((v w : ℕ) → w ≢ v → ForSome (own_entry (container_at pool.containers slot) v) (λ e. ForSome (own_entry (container_at pool.containers slot) w) (OtherPlace e))) → AreApart pool map slot
+apart_alone pool map slot alone kept apart = record {
+  own = kept;
+  held = λ v e is. kept v e (held_own map pool.containers slot alone v e is);
+  own_apart = apart;
+  held_apart = λ v w other e is f held. apart v w other e is f (held_own map pool.containers slot alone w f held);
+}
+
+-- ---- the volume of a head
+
+-- A volume without snapshots and base is told as its view tells it.
+pub seen_volume : (w : View) (s : ℕ) (x : VolumeState) (table : Table) → has_form (head_in x) ≡ true → volume_with w s (head_in x) table ≡ volume_as x table
+unfolding volume_with
+seen_volume w s x table form =
+    let snaps = form_snapshots (head_in x) form in
+    let base = form_base (head_in x) form in
+    λ i. record {
+      kind = x.kind;
+      size = x.size;
+      most = x.most;
+      span = x.span;
+      now = x.now;
+      active = table;
+      snapshots = ap (λ (ps : List Snap). fin.from_entries {R = name_cmp} (map (snap_told w s) ps)) snaps i;
+      base = ap (base_from w) base i;
+      known = x.known;
+    }
+
+-- its table is that of its head's root
+active_is : (w : View) (s : ℕ) (h : Head) → w.head s ≡ Some h → active_in w no_trees s ≡ table_at w s h.active
+active_is w s h there = ap (λ (o : Option Head). option_map_or (λ h. table_at w s h.active) o empty_table) there
+
+-- ---- from the view
+
+module _ (disk : Disk) (pool : Pool) (states : States) (x : VolumeState) (is : StandsInView pool states disk.reads x.slot x) (none : x.files ≡ None) where
+  abbrev w : View
+  w = view_over pool states disk.reads
+
+  abbrev source : Shown
+  source = shows disk pool x
+
+  -- The table of the volume is told as by the view.
+  pub seen_table : table_for disk pool x ≡ table_at w x.slot (head_in x).active
+  seen_table = ap (λ (o : Option Files). table_told (standing_by (blocks_of source) x.active o)) none ∙ stands_told pool states disk.reads x.slot x is
+
+  abbrev owner_for : Option ℕ → Owner
+  owner_for None = InodeFile
+  owner_for (Some n) = OfFile n
+
+  same_number : (a b : Option ℕ) → owner_for b ≡ owner_for a → a ≡ b
+  same_number None None e = refl
+  same_number None (Some n) e = absurd cc
+  same_number (Some n) None e = absurd cc
+  same_number (Some n) (Some k) e = let same : k ≡ n = cc in ap (λ (j : ℕ). Some j) (sym same)
+
+  -- a place of one of its trees that leads to a VVBN
+  record LedAt (a : Option ℕ) (v : ℕ) : Type 0 where
+    level : ℕ
+    index : ℕ
+    some : (led pool states disk.reads x.slot x is (owner_for a) level index).stamp ≢ 0
+    vvbn : (led pool states disk.reads x.slot x is (owner_for a) level index).vvbn ≡ v
+
+  led_at : (a : Option ℕ) (v : ℕ) → LeadsFrom (stored_trees (blocks_of source) x.active.levels x.active.root) a v → LedAt a v
+  led_at None v leads = record { level = leads.level; index = leads.place; some = leads.leads.some; vvbn = leads.leads.vvbn }
+  led_at (Some n) v leads = by (file_at inodes n) refl leads
+    where
+      inodes : Tree
+      inodes = stored (blocks_of source) greatest_word x.active.levels x.active.root
+
+      by : (o : Option InodeRecord) → file_at inodes n ≡ o → LeadsIn (option_map (λ r. unread (stored (blocks_of source) n r.levels r.root)) o) v → LedAt (Some n) v
+      by None e leads = absurd leads
+      by (Some r) e leads =
+          let at : led pool states disk.reads x.slot x is (OfFile n) leads.level leads.place ≡ pointer_at (stored (blocks_of source) n r.levels r.root) leads.level leads.place =
+          ap (λ (o : Option InodeRecord). option_map_or (λ r. pointer_at (stored (blocks_of source) n r.levels r.root) leads.level leads.place) o hole) e in
+          record {
+            level = leads.level;
+            index = leads.place;
+            some = subst (λ (p : Pointer). p.stamp ≢ 0) (sym at) leads.leads.some;
+            vvbn = ap (λ (p : Pointer). p.vvbn) at ∙ leads.leads.vvbn;
+          }
+
+  -- So each of its trees stands on its blocks.
+  pub seen_reached : AreReached (blocks_of source) source.used x.active.levels x.active.root
+  seen_reached = record {
+    inode = stands_inode pool states disk.reads x.slot x is;
+    files = stands_file pool states disk.reads x.slot x is;
+    apart = λ a b v other first second.
+        let one = led_at a v first in
+        let two = led_at b v second in
+        other (same_number a b (stands_once pool states disk.reads x.slot x is (owner_for a) (owner_for b) one.level one.index two.level two.index one.some two.some (two.vvbn ∙ sym one.vvbn)).0);
+  }
+
+  -- a place that leads to a VVBN is one of a tree of the table
+  leads_from : (o : Owner) (level index v : ℕ) → (led pool states disk.reads x.slot x is o level index).stamp ≢ 0 → (led pool states disk.reads x.slot x is o level index).vvbn ≡ v
+      → (a : Option ℕ) × LeadsFrom (stored_trees (blocks_of source) x.active.levels x.active.root) a v
+  leads_from InodeFile level index v some at = (None, record { level = level; place = index; leads = record { some = some; placed = refl; vvbn = at } })
+  leads_from (OfFile n) level index v some at = by (file_at inodes n) refl
+    where
+      inodes : Tree
+      inodes = stored (blocks_of source) greatest_word x.active.levels x.active.root
+
+      by : (o : Option InodeRecord) → file_at inodes n ≡ o → (a : Option ℕ) × LeadsFrom (stored_trees (blocks_of source) x.active.levels x.active.root) a v
+      by None e = absurd (some (ap (λ (o : Option InodeRecord). (option_map_or (λ r. pointer_at (stored (blocks_of source) n r.levels r.root) level index) o hole).stamp) e))
+      by (Some r) e =
+          let same : led pool states disk.reads x.slot x is (OfFile n) level index ≡ pointer_at (stored (blocks_of source) n r.levels r.root) level index =
+          ap (λ (o : Option InodeRecord). option_map_or (λ r. pointer_at (stored (blocks_of source) n r.levels r.root) level index) o hole) e in (
+            Some n,
+            subst (λ (o : Option InodeRecord). LeadsIn (option_map (λ r. unread (stored (blocks_of source) n r.levels r.root)) o) v) (sym e)
+                (record { level = level; place = index; leads = record { some = subst (λ (p : Pointer). p.stamp ≢ 0) same some; placed = refl; vvbn = sym (ap (λ (p : Pointer). p.vvbn) same) ∙ at } }),
+          )
+
+  -- What is in use is led to.
+  pub seen_led : IsLedTo disk pool x
+  seen_led = subst (AreLedBy (blocks_of source) source.used x.active) (sym none) (λ v nobody. by v nobody (is_member (active_of x.map) v) refl)
+    where
+      by : (v : ℕ) → ((a : Option ℕ) → LeadsFrom (stored_trees (blocks_of source) x.active.levels x.active.root) a v → ⊥) → (b : Bool) → is_member (active_of x.map) v ≡ b → source.used v ≡ None
+      by v nobody false e = use_none x.map pool.containers x.slot v e
+      by v nobody true e =
+          let at = stands_led pool states disk.reads x.slot x is v e in
+          let tree = leads_from at.owner at.level at.index v at.some at.vvbn in
+          absurd (nobody tree.0 tree.1)
+
+  -- The volume stands for the one of the view.
+  pub seen_standing : IsTrue disk.tells → AreApart pool x.map x.slot → IsState w no_trees x.slot x → IsStanding disk pool x
+  seen_standing tells apart state =
+      let active : active_in w no_trees x.slot ≡ table_for disk pool x = active_is w x.slot (head_in x) (head_there pool states disk.reads x.slot x is.there) ∙ sym seen_table in
+      record {
+        told = (tells, apart);
+        table = subst (IsWellTable x.now) active state.table;
+        reserves = subst HasNoReserve active state.reserves;
+        ledger = subst (λ v. IsLedgerOf v x.ledger) (seen_volume w x.slot x (active_in w no_trees x.slot) is.form ∙ ap (volume_as x) active) state.ledger;
+        trees = subst (AreSoundBy (blocks_of source) source.used x.active) (sym none) seen_reached;
+      }
+
+-- ---- to the view
+
+module _ (disk : Disk) (pool : Pool) (states : States) (x : VolumeState) (is : IsStanding disk pool x) (none : x.files ≡ None) (there : state_at states x.slot ≡ Some x) (alone : parent_at pool.containers x.slot ≡ None) (form : has_form (head_in x) ≡ true) where
+  abbrev u : View
+  u = view_over pool states disk.reads
+
+  abbrev shown : Shown
+  shown = shows disk pool x
+
+  here : u.head x.slot ≡ Some (head_in x)
+  here = head_there pool states disk.reads x.slot x there
+
+  entry_is : (v : ℕ) → u.entry x.slot v ≡ placed_in pool.kept disk.reads (own_entry (container_at pool.containers x.slot) v)
+  unfolding view_over
+  entry_is v = refl
+
+  -- what is held has the same block in the view
+  held_there : (v : ℕ) → is_some (blocks_of shown v) ≡ true → under u x.slot v ≡ blocks_of shown v
+  unfolding under
+  held_there v some = by (held_entry x.map pool.containers x.slot v) refl
+    where
+      block : blocks_of shown v ≡ block_of pool.kept disk.reads (held_entry x.map pool.containers x.slot v)
+      block = get_held x.map pool x.slot disk.reads v
+
+      by : (o : Option Entry) → held_entry x.map pool.containers x.slot v ≡ o → under u x.slot v ≡ blocks_of shown v
+      by None e = let wrong : is_some (blocks_of shown v) ≡ false = ap is_some (block ∙ ap (block_of pool.kept disk.reads) e) in absurd cc
+      by (Some e) held =
+          let own : own_entry (container_at pool.containers x.slot) v ≡ Some e = held_own x.map pool.containers x.slot alone v e held in
+          ap (option_map (λ (p : Placed). p.block)) (place_own u x.slot v (no_parent u x.slot (head_in x) here (form_base (head_in x) form)) ∙ entry_is v)
+          ∙ ap (λ (o : Option Entry). option_map (λ (p : Placed). p.block) (placed_in pool.kept disk.reads o)) own
+          ∙ sym (block ∙ ap (block_of pool.kept disk.reads) held)
+
+  pub standing_reached : AreReached (blocks_of shown) shown.used x.active.levels x.active.root
+  standing_reached = subst (AreSoundBy (blocks_of shown) shown.used x.active) none is.trees
+
+  pub agree : AgreeOnTable (blocks_of shown) (under u x.slot) x.active.levels x.active.root
+  agree = record {
+    inode = λ level place some. held_there (pointer_at (stored (blocks_of shown) greatest_word x.active.levels x.active.root) level place).vvbn (standing_reached.inode.held level place some);
+    files = λ number r found level place some. held_there (pointer_at (stored (blocks_of shown) number r.levels r.root) level place).vvbn ((standing_reached.files number r found).held level place some);
+  }
+
+  -- The view tells the table of the volume.
+  pub standing_table : active_in u no_trees x.slot ≡ table_for disk pool x
+  standing_table =
+      active_is u x.slot (head_in x) here
+      ∙ kept_table (blocks_of shown) (under u x.slot) x.active.levels x.active.root agree
+      ∙ sym (ap (λ (o : Option Files). table_told (standing_by (blocks_of shown) x.active o)) none)
+
+  -- The volume is one of the machine that the view tells.
+  pub standing_state : IsLabelled x.slot x → IsState u no_trees x.slot x
+  standing_state labelled = record {
+    labelled = labelled;
+    table = subst (IsWellTable x.now) (sym standing_table) is.table;
+    reserves = subst HasNoReserve (sym standing_table) is.reserves;
+    ledger = subst (λ v. IsLedgerOf v x.ledger) (sym (seen_volume u x.slot x (active_in u no_trees x.slot) form ∙ ap (volume_as x) standing_table)) is.ledger;
+  }
+
+-- After reads what is in use is led to still.
+pub still_led : (d e : Disk) (p q : Pool) → Reads d p e q → (x : VolumeState) → IsLedTo d p x → IsLedTo e q x
+still_led d e p q reads x led = subst (λ (uses : ℕ → Option Use). AreLedBy (blocks_of (shows e q x)) uses x.active x.files) (sym (still_used d e p q reads x))
+    (subst (λ (blocks : Under). AreLedBy blocks (shows d p x).used x.active x.files) (sym (still_under d e p q reads x)) led)

@@ -1,0 +1,224 @@
+-- A volume once it was written: what it has now, that it stands in the image, and that it stays there.
+use Rattle.std.proofs.Common.{◌≡◌, ◌≢◌, ℕ, ◌+◌, ◌-◌, ◌<◌, ◌≤◌, length, Bool, true, false, not, ◌&&◌, ◌||◌, List, refl, sym, ap, subst, ◌∙◌, arith, ⊎_elim, inl, inr, ◌⊎◌}
+use Rattle.std.specs.Prelude.{Option, IfSome}
+use Rattle.std.proofs.lemmas.Bool.{cases_eq, cases_lt, or_cases, or_left, or_right, true≢false}
+use Rattle.fv_disk.specs.Shown.{Image}
+use Rattle.fv_bits.specs.Members.{is_member}
+use Rattle.fv_codec.specs.Blocks.{label_at}
+use Rattle.fv_model.specs.Machines.{first_block}
+use Rattle.fv_model.specs.Space.{map_blocks}
+use Rattle.fv_image.specs.Containers.{height_of}
+use Rattle.fv_image.specs.Views.{entry_count}
+use Rattle.fv_image.specs.Reclaimed.{IsAllocatable}
+use Rattle.fv_container.specs.declared.entry.Entry.{Entry}
+use Rattle.fv_container.specs.Mapped.{Mapped, entry_under}
+use Rattle.fv_container.specs.Spelled.{is_at, names}
+use Rattle.fv_aggmap.specs.Space.{Space, IsFree, blocks_of}
+use Rattle.fv_volume.specs.declared.state.VolumeState.{VolumeState}
+use Rattle.fv_volume.specs.Writing.{HasOwnBlocks, IsTaken, IsWritten, leads_away}
+use Rattle.fv_volume.specs.Stored.{IsStored, is_of, leads, place_at, place_in, stays}
+use Rattle.fv_volume.proofs.Drawing.{LeadsAt, at_itself, at_means, leads_at, leads_where, not_so, or_neither}
+use Rattle.fv_volume.proofs.Renewing.{away_place, away_where, low_of}
+use Rattle.fv_volume.proofs.Spelling.{flushed_still}
+
+-- which entry of a written volume leads to a block: one that stayed, or one of the active map's
+data Led (x : VolumeState) (old new : Mapped) (v : ℕ) : Type 0 where
+  stayed : stays x v ≡ true → place_at new v ≡ place_at old v → Led x old new v
+  mapped : (k : ℕ) → k < map_blocks x.span → v ≡ x.span + k → Led x old new v
+
+module _ (x : VolumeState) (old : Mapped) (before : Image) (space : Space) (label : ℕ) (new : Mapped) (after : Image) (left : Space) (is : IsWritten x old before space label new after left) (own : HasOwnBlocks x old space) (some_old : (v : ℕ) → IfSome (entry_under old v) (λ e. 1 ≤ e.pvbn)) where
+  led : (v : ℕ) → place_at new v ≢ 0 → Led x old new v
+  led v some = so (stays x v) refl
+    where
+      hole : stays x v ≡ false → (v < x.span) ⊎ (x.span + map_blocks x.span ≤ v) → ⊥
+      hole off out = some (ap place_in (is.holes v off out))
+
+      so : (t : Bool) → stays x v ≡ t → Led x old new v
+      so true e = stayed e (ap place_in (is.kept v e))
+      so false e = ⊎_elim
+          (λ (low : v < x.span). absurd (hole e (inl low)))
+          (λ (past : x.span ≤ v). ⊎_elim
+          (λ (inside : v < x.span + map_blocks x.span). mapped (v - x.span) (omega (arith, past, inside)) (omega (arith, past)))
+          (λ (over : x.span + map_blocks x.span ≤ v). absurd (hole e (inr over)))
+          (cases_lt v (x.span + map_blocks x.span)))
+          (cases_lt v x.span)
+
+  -- a block that stays isn't free once the others were given back
+  pub stay_taken : (v : ℕ) → stays x v ≡ true → place_at old v ≢ 0 → IsTaken is.given (place_at old v)
+  stay_taken v on some free =
+      let low = low_of x v on in
+      let led : leads old (entry_count x.span) (place_at old v) ≡ true = leads_at old (entry_count x.span) v (place_at old v) (omega (arith, low)) refl some in
+      let held : is_member space.next (place_at old v) ≡ true = own.held (place_at old v) (or_right (is_at (place_at old v) x.label) _ (or_right (names old.tree (place_at old v)) _ led)) in
+      let none = or_neither (is_member is.given.committed (place_at old v)) (is_member is.given.next (place_at old v)) free.free in
+      let gone : leads_away x old (entry_count x.span) (place_at old v) ≡ true = by (is_member space.next (place_at old v)) (leads_away x old (entry_count x.span) (place_at old v)) held (sym (is.gave.held (place_at old v)) ∙ none.1) in
+      let w = away_where x old (entry_count x.span) (place_at old v) gone in
+      two w low
+    where
+      by : (m a : Bool) → m ≡ true → (m && not a) ≡ false → a ≡ true
+      by true true e f = refl
+      by true false e f = sym f
+      by false a e f = absurd (true≢false (sym e))
+
+      two : ((w : ℕ) × (w < entry_count x.span) × (stays x w ≡ false) × (place_at old w ≡ place_at old v)) → v < x.span → ⊥
+      two w low = ⊎_elim
+          (λ (same : v ≡ w.0). true≢false (sym on ∙ ap (stays x) same ∙ w.2))
+          (λ (other : v ≢ w.0). ⊎_elim
+          (λ (less : v < w.0). own.entries v w.0 less w.1 some (sym w.3))
+          (λ (more : w.0 ≤ v). own.entries w.0 v (omega (arith, more, other)) (omega (arith, low)) (λ none. some (sym w.3 ∙ none)) w.3)
+          (cases_lt v w.0))
+          (cases_eq v w.0)
+
+  map_place : (v k : ℕ) → v ≡ x.span + k → place_at new v ≡ place_at new (x.span + k)
+  map_place v k at = ap (place_at new) at
+
+  -- no two lead to one
+  differ : (v w : ℕ) → v < w → w < entry_count x.span → place_at new v ≢ 0 → place_at new v ≢ place_at new w
+  differ v w lt within some same = elim (led v some) [
+    | stayed on at ↦ elim (led w (λ none. some (same ∙ none))) [
+      | stayed too here ↦ own.entries v w lt within (λ none. some (at ∙ none)) (sym at ∙ same ∙ here)
+      | mapped k low here ↦ stay_taken v on (λ none. some (at ∙ none)) (subst (λ (b : ℕ). IsFree is.given b) (sym (map_place w k here) ∙ sym same ∙ at) (is.fresh_maps k low))
+    ]
+    | mapped j few at ↦ elim (led w (λ none. some (same ∙ none))) [
+      | stayed too here ↦ stay_taken w too (λ none. some (same ∙ here ∙ none)) (subst (λ (b : ℕ). IsFree is.given b) (sym (map_place v j at) ∙ same ∙ here) (is.fresh_maps j few))
+      | mapped k low here ↦ is.once j k (omega (arith, lt, at, here)) low (sym (map_place v j at) ∙ same ∙ map_place w k here)
+    ]
+  ]
+
+  -- a block that was free isn't led to, unless it is one of the active map's
+  not_led : (b : ℕ) → IsFree is.given b → ((k : ℕ) → k < map_blocks x.span → place_at new (x.span + k) ≢ b) → leads new (entry_count x.span) b ≡ false
+  not_led b free other = not_so (leads new (entry_count x.span) b) (λ is_led.
+      let at = leads_where new (entry_count x.span) b is_led in
+      let some : place_at new at.vvbn ≢ 0 = λ none. at.some (sym at.place ∙ none) in elim (led at.vvbn some) [
+        | stayed on same ↦ stay_taken at.vvbn on (λ none. some (same ∙ none)) (subst (λ (c : ℕ). IsFree is.given c) (sym at.place ∙ same) free)
+        | mapped k low here ↦ other k low (sym (map_place at.vvbn k here) ∙ at.place)
+      ])
+
+  -- and neither is an old node
+  node_not_led : (b : ℕ) → names old.tree b ≡ true → leads new (entry_count x.span) b ≡ false
+  node_not_led b node = not_so (leads new (entry_count x.span) b) (λ is_led.
+      let at = leads_where new (entry_count x.span) b is_led in elim (led at.vvbn (λ none. at.some (sym at.place ∙ none))) [
+        | stayed on same ↦ true≢false (sym (leads_at old (entry_count x.span) at.vvbn b at.within (sym same ∙ at.place) at.some) ∙ own.nodes b node)
+        | mapped k low here ↦ old_taken (subst (λ (c : ℕ). IsFree is.given c) (sym (map_place at.vvbn k here) ∙ at.place) (is.fresh_maps k low))
+      ])
+    where
+      old_taken : IsFree is.given b → ⊥
+      old_taken free = true≢false (sym (ap (λ (c : List Bool). is_member c b) is.gave.committed ∙ own.old_nodes b node) ∙ (or_neither (is_member is.given.committed b) (is_member is.given.next b) free.free).0)
+
+  -- each entry leads to a block
+  kept_some : (v : ℕ) → IfSome (entry_under new v) (λ e. 1 ≤ e.pvbn)
+  kept_some v = so (stays x v) refl
+    where
+      hole : stays x v ≡ false → (v < x.span) ⊎ (x.span + map_blocks x.span ≤ v) → IfSome (entry_under new v) (λ e. 1 ≤ e.pvbn)
+      hole off out = subst (λ (o : Option Entry). IfSome o (λ e. 1 ≤ e.pvbn)) (sym (is.holes v off out)) tt
+
+      map_entry : (k : ℕ) → k < map_blocks x.span → v ≡ x.span + k → IfSome (entry_under new v) (λ e. 1 ≤ e.pvbn)
+      map_entry k low at = subst (λ (o : Option Entry). IfSome o (λ e. 1 ≤ e.pvbn)) (sym (ap (entry_under new) at ∙ is.active k low)) (is.placed k low)
+
+      so : (t : Bool) → stays x v ≡ t → IfSome (entry_under new v) (λ e. 1 ≤ e.pvbn)
+      so true e = subst (λ (o : Option Entry). IfSome o (λ e. 1 ≤ e.pvbn)) (sym (is.kept v e)) (some_old v)
+      so false e = ⊎_elim
+          (λ (low : v < x.span). hole e (inl low))
+          (λ (past : x.span ≤ v). ⊎_elim
+          (λ (inside : v < x.span + map_blocks x.span). map_entry (v - x.span) (omega (arith, past, inside)) (omega (arith, past)))
+          (λ (over : x.span + map_blocks x.span ≤ v). hole e (inr over))
+          (cases_lt v (x.span + map_blocks x.span)))
+          (cases_lt v x.span)
+
+  -- a node of the new tree is one of the old, or was free
+  node_cases : (b : ℕ) → names new.tree b ≡ true → (names old.tree b ≡ true) ⊎ (IsFree is.given b)
+  node_cases b named = so (names old.tree b) refl
+    where
+      so : (t : Bool) → names old.tree b ≡ t → (names old.tree b ≡ true) ⊎ (IsFree is.given b)
+      so true e = inl e
+      so false e = inr (is.fresh_nodes b named e)
+
+  -- The volume stands in the image.
+  pub stored : IsStored x old label new after
+  stored = record {
+    root = is.root;
+    root_least = is.root_least;
+    root_greatest = is.root_greatest;
+    some = is.some;
+    said = is.said;
+    tree = is.tree;
+    long = is.long;
+    kept = is.kept;
+    active = is.active;
+    placed = is.placed;
+    holes = is.holes;
+    bits = is.bits;
+    alone = is.alone;
+    apart = record {
+      some = λ v. kept_some v;
+      entries = differ;
+      nodes = λ b named. ⊎_elim (λ (was : names old.tree b ≡ true). node_not_led b was)
+          (λ (free : IsFree is.given b). not_led b free (λ k low same. true≢false (sym named ∙ sym (ap (names new.tree) same) ∙ (is.apart k low).1)))
+          (node_cases b named);
+      label = not_led label is.fresh_label (λ k low same. (is.apart k low).0 same);
+    };
+  }
+
+  -- a block that it has now it had before, or it was free
+  pub from_before : (b : ℕ) → is_of x label new b ≡ true → (is_of x x.label old b ≡ true) ⊎ (IsFree is.given b)
+  from_before b of = ⊎_elim
+      (λ (at : is_at b label ≡ true). inr (subst (λ (c : ℕ). IsFree is.given c) (at_means b label at).0 is.fresh_label))
+      (λ rest. ⊎_elim
+      (λ (named : names new.tree b ≡ true). ⊎_elim (λ (was : names old.tree b ≡ true). inl (or_right (is_at b x.label) _ (or_left (names old.tree b) _ was))) (λ (free : IsFree is.given b). inr free) (node_cases b named))
+      (λ (led_to : leads new (entry_count x.span) b ≡ true). by (leads_where new (entry_count x.span) b led_to))
+      (or_cases (names new.tree b) (leads new (entry_count x.span) b) rest))
+      (or_cases (is_at b label) (names new.tree b || leads new (entry_count x.span) b) of)
+    where
+      by : LeadsAt new (entry_count x.span) b → (is_of x x.label old b ≡ true) ⊎ (IsFree is.given b)
+      by at = elim (led at.vvbn (λ none. at.some (sym at.place ∙ none))) [
+        | stayed on same ↦ inl (or_right (is_at b x.label) _ (or_right (names old.tree b) _ (leads_at old (entry_count x.span) at.vvbn b at.within (sym same ∙ at.place) at.some)))
+        | mapped k low here ↦ inr (subst (λ (c : ℕ). IsFree is.given c) (sym (map_place at.vvbn k here) ∙ at.place) (is.fresh_maps k low))
+      ]
+
+  -- so it was the slot's, or the next root held it not
+  pub from_old : (b : ℕ) → is_of x label new b ≡ true → (is_of x x.label old b ≡ true) ⊎ (is_member space.next b ≡ false)
+  from_old b of = ⊎_elim
+      (λ (was : is_of x x.label old b ≡ true). inl was)
+      (λ (free : IsFree is.given b).
+      let none = (or_neither (is_member is.given.committed b) (is_member is.given.next b) free.free).1 in
+      by (is_member space.next b) (leads_away x old (entry_count x.span) b) refl refl (sym (is.gave.held b) ∙ none))
+      (from_before b of)
+    where
+      by : (m a : Bool) → is_member space.next b ≡ m → leads_away x old (entry_count x.span) b ≡ a → (m && not a) ≡ false → (is_of x x.label old b ≡ true) ⊎ (is_member space.next b ≡ false)
+      by true true e f g = let w = away_where x old (entry_count x.span) b f in
+          inl (or_right (is_at b x.label) _ (or_right (names old.tree b) _ (leads_at old (entry_count x.span) w.0 b w.1 w.3 (away_some f))))
+        where
+          away_some : leads_away x old (entry_count x.span) b ≡ true → b ≢ 0
+          away_some f = away_place x old (entry_count x.span) b f
+      by true false e f g = absurd (true≢false g)
+      by false a e f g = inr e
+
+  -- each lies where a block of a volume can
+  pub new_lies : ((b : ℕ) → is_of x x.label old b ≡ true → IsAllocatable (blocks_of space) b) → (b : ℕ) → is_of x label new b ≡ true → IsAllocatable (blocks_of space) b
+  new_lies lies b of = ⊎_elim
+      (λ (was : is_of x x.label old b ≡ true). lies b was)
+      (λ (free : IsFree is.given b).
+      let size : blocks_of is.given ≡ blocks_of space = ap length is.gave.committed in
+      (subst (λ (m : ℕ). first_block m ≤ b) size free.after, subst (λ (m : ℕ). b < m) size free.within))
+      (from_before b of)
+
+-- what stands stays where its blocks stay
+pub stored_still : (x : VolumeState) (old : Mapped) (label : ℕ) (new : Mapped) (i j : Image) → IsStored x old label new i → ((b : ℕ) → is_of x label new b ≡ true → j b ≡ i b) → IsStored x old label new j
+stored_still x old label new i j is same = record {
+  root = is.root;
+  root_least = is.root_least;
+  root_greatest = is.root_greatest;
+  some = is.some;
+  said = ap label_at (same label (or_left (is_at label label) _ (at_itself label (λ none. omega (arith, is.some, none))))) ∙ is.said;
+  tree = flushed_still i j is.root (height_of (entry_count x.span)) new is.tree (λ b named. same b (or_right (is_at b label) _ (or_left (names new.tree b) _ named)));
+  long = is.long;
+  kept = is.kept;
+  active = is.active;
+  placed = is.placed;
+  holes = is.holes;
+  bits = λ k lt.
+      let place = is.placed k lt in
+      let led : leads new (entry_count x.span) (place_at new (x.span + k)) ≡ true = leads_at new (entry_count x.span) (x.span + k) (place_at new (x.span + k)) (omega (arith, lt)) refl (λ none. omega (arith, place, none)) in
+      rw (same (place_at new (x.span + k)) (or_right (is_at (place_at new (x.span + k)) label) _ (or_right (names new.tree (place_at new (x.span + k))) _ led))) (is.bits k lt);
+  alone = is.alone;
+  apart = is.apart;
+}

@@ -1,0 +1,141 @@
+-- The blocks of a volume after they were written, and after its label was.
+use Rattle.std.proofs.Common.{◌≡◌, ◌≢◌, ℕ, ◌+◌, ◌<◌, ◌-◌, List, length, Bool, true, false, not, ◌&&◌, ◌||◌, refl, sym, ap, subst, ◌∙◌, arith, Option, Some, None}
+use Rattle.std.specs.Prelude.{slice_index_or, min}
+use Rattle.std.specs.FinSet as set
+use Rattle.std.proofs.lemmas.Bool.{true≢false}
+use Rattle.std.proofs.lemmas.Bool.Decides.{nat_tests}
+use Rattle.fv_bits.specs.Members.{is_member}
+use Rattle.fv_disk.specs.Shown.{Image}
+use Rattle.fv_model.specs.Machines.{first_block}
+use Rattle.fv_model.specs.Space.{map_blocks}
+use Rattle.fv_image.specs.Containers.{height_of}
+use Rattle.fv_image.specs.Views.{entry_count}
+use Rattle.fv_container.specs.declared.entry.Entry.{Entry}
+use Rattle.fv_container.specs.Mapped.{Mapped, entry_under}
+use Rattle.fv_container.specs.Spelled.{names}
+use Rattle.fv_container.specs.Flushed.{Exchanges, IsApart, IsFlushed, WasTaken}
+use Rattle.fv_container.specs.Freeing.{Room}
+use Rattle.fv_aggmap.specs.Freeing.{free_has, in_range, is_clear, room_of}
+use Rattle.fv_aggmap.specs.Space.{Space, IsFree, blocks_of, is_held}
+use Rattle.fv_volume.specs.declared.state.VolumeState.{VolumeState}
+use Rattle.fv_volume.specs.Writing.{AreTaken, HasBlocks, HasDrawn, HasMap, IsTaken, Renews, StandBits, has_maps_at}
+use Rattle.fv_volume.specs.Stored.{place_at, place_in}
+use Rattle.fv_volume.proofs.Drawing.{free_before, maps_at, maps_same, not_so}
+use Rattle.fv_volume.proofs.Spelling.{flushed_still}
+
+-- a block of the set of the free ones is free
+pub free_in : (space : Space) (b : ℕ) → set.contains (room_of space).free b ≡ true → IsFree space b
+free_in space b is =
+    let both = parts (is_clear space b) (in_range (first_block (blocks_of space)) (min (blocks_of space) 1048576 - first_block (blocks_of space)) b) (sym (free_has space b) ∙ is) in
+    let range = both.1 in
+    record { after = grind (arith, nat_tests, range); within = grind (arith, nat_tests, range); free = turned (is_held space.committed space.next b) both.0 }
+  where
+    parts : (x y : Bool) → (x && y) ≡ true → (x ≡ true) × (y ≡ true)
+    parts true y h = (refl, h)
+    parts false y h = absurd (true≢false (sym h))
+
+    turned : (t : Bool) → not t ≡ true → t ≡ false
+    turned false h = refl
+    turned true h = sym h
+
+-- what couldn't be written before some blocks were taken isn't free after
+pub was_taken : (space mid : Space) (taken : ℕ → Bool) (count b : ℕ) → HasDrawn space taken count mid → IsTaken space b → WasTaken (room_of mid) b
+was_taken space mid taken count b drawn is = not_so (set.contains (room_of mid).free b) (λ free. is (free_before space mid taken count b drawn (free_in mid b free)).0)
+
+module _ (old new : Mapped) (same : new.entries ≡ old.entries) where
+  under : (v : ℕ) → entry_under new v ≡ entry_under old v
+  under v = ap (λ (es : List (Option Entry)). slice_index_or es v None) same
+
+  place_same : (v : ℕ) → place_at new v ≡ place_at old v
+  place_same v = ap place_in (under v)
+
+  maps_still : (span n b : ℕ) → has_maps_at new span n b ≡ has_maps_at old span n b
+  maps_still span n b = maps_same old new span n b (λ k lt. place_same (span + k))
+
+  map_same : (span k : ℕ) (first : Mapped) → HasMap span k first old → HasMap span k first new
+  map_same span k first has = record {
+    active = λ j lt. under (span + j) ∙ has.active j lt ∙ ap (λ (p : ℕ). Some (record { pvbn = p; kind = 8 })) (sym (place_same (span + j)));
+    some = λ j lt. rw (place_same (span + j)) (has.some j lt);
+    others = λ v out. under v ∙ has.others v out;
+    once = λ i j lt below e. has.once i j lt below (sym (place_same (span + i)) ∙ e ∙ place_same (span + j));
+  }
+
+-- a tree that is written whole renews the old one
+pub renews_whole : (old : Room) (before after : List ℕ) (new : Room) → Exchanges old after before new → Renews old before after new
+renews_whole old before after new is = record { fresh = λ b named lacks. is.free b named; held = is.held; committed = is.committed }
+
+module _ (x : VolumeState) (first : Mapped) (space mid left : Space) (root : ℕ) (old new : Mapped) (before after : Image)
+    (map : HasMap x.span (map_blocks x.span) first old) (bits : StandBits x (map_blocks x.span) old before) (drawn : HasDrawn space (has_maps_at old x.span (map_blocks x.span)) (map_blocks x.span) mid)
+    (tree : old.tree ≡ first.tree) (same : new.entries ≡ old.entries) (renews : Renews (room_of mid) old.tree new.tree (room_of left))
+    (flushed : IsApart (room_of mid) old.tree → IsFlushed after root (height_of (length new.entries)) new) (long : length new.entries ≡ entry_count x.span)
+    (still : (b : ℕ) → WasTaken (room_of mid) b → after b ≡ before b) (taken : AreTaken space first.tree)
+  where
+    abbrev at_maps : Mapped → ℕ → Bool
+    at_maps m b = has_maps_at m x.span (map_blocks x.span) b
+
+    from_mid : (b : ℕ) → IsFree mid b → IsFree space b × (at_maps old b ≡ false)
+    from_mid b free = free_before space mid (has_maps_at old x.span (map_blocks x.span)) (map_blocks x.span) b drawn free
+
+    apart : IsApart (room_of mid) old.tree
+    apart b free = not_so (names old.tree b) (λ named. taken b (ap (λ (t : List ℕ). names t b) (sym tree) ∙ named) (from_mid b (free_in mid b free)).0)
+
+    node_free : (b : ℕ) → names new.tree b ≡ true → names first.tree b ≡ false → IsFree mid b
+    node_free b named lacks = free_in mid b (renews.fresh b named (ap (λ (t : List ℕ). names t b) tree ∙ lacks))
+
+    map_free : (b : ℕ) → at_maps new b ≡ true → IsFree space b
+    map_free b led = drawn.free b (sym (maps_still old new same x.span (map_blocks x.span) b) ∙ led)
+
+    map_apart : (b : ℕ) → at_maps new b ≡ true → names new.tree b ≡ false
+    map_apart b led = not_so (names new.tree b) (λ named.
+        let lacks = not_so (names first.tree b) (λ was. taken b was (map_free b led)) in
+        true≢false (sym (sym (maps_still old new same x.span (map_blocks x.span) b) ∙ led) ∙ (from_mid b (node_free b named lacks)).1))
+
+    placed : (k : ℕ) → k < map_blocks x.span → at_maps old (place_at old (x.span + k)) ≡ true
+    placed k lt = maps_at old x.span (map_blocks x.span) k (place_at old (x.span + k)) lt refl (let some = map.some k lt in λ none. omega (arith, some, none))
+
+    bits_still : StandBits x (map_blocks x.span) new after
+    bits_still k lt =
+        let at : place_at new (x.span + k) ≡ place_at old (x.span + k) = place_same old new same (x.span + k) in
+        let there : after (place_at old (x.span + k)) ≡ before (place_at old (x.span + k)) = still (place_at old (x.span + k)) (not_so _ (λ free. true≢false (sym (placed k lt) ∙ (from_mid (place_at old (x.span + k)) (free_in mid _ free)).1))) in
+        rw (at, there) (bits k lt)
+
+    held : (t l o m : Bool) → (l ≡ true → o ≡ false) → (t || (not o && (l || m))) ≡ ((t || l) || (m && not o))
+    held true l o m off = refl
+    held false true o m off = rw (off refl) refl
+    held false false true true off = refl
+    held false false true false off = refl
+    held false false false true off = refl
+    held false false false false off = refl
+
+    pub blocks_written : HasBlocks x first space root new after left
+    blocks_written = record {
+      tree = subst (λ (k : ℕ). IsFlushed after root (height_of k) new) long (flushed apart);
+      map = map_same old new same x.span (map_blocks x.span) first map;
+      bits = bits_still;
+      fresh_nodes = λ b named lacks. (from_mid b (node_free b named lacks)).0;
+      fresh_maps = map_free;
+      apart = map_apart;
+      held = λ b.
+          renews.held apart b ∙ ap (λ t. names new.tree b || (not t && is_member mid.next b)) (ap (λ (t : List ℕ). names t b) tree)
+          ∙ ap (λ t. names new.tree b || (not (names first.tree b) && t)) (drawn.held b ∙ ap (λ t. t || is_member space.next b) (sym (maps_still old new same x.span (map_blocks x.span) b)))
+          ∙ held (names new.tree b) (at_maps new b) (names first.tree b) (is_member space.next b) (λ led. not_so (names first.tree b) (λ named. taken b named (map_free b led)));
+    }
+
+-- the write of a taken block leaves them
+pub blocks_still : (x : VolumeState) (first : Mapped) (space left : Space) (root label : ℕ) (new : Mapped) (before after : Image)
+    → HasBlocks x first space root new before left → IsTaken space label → names first.tree label ≡ false → ((b : ℕ) → b ≢ label → after b ≡ before b) → HasBlocks x first space root new after left
+blocks_still x first space left root label new before after has taken lacks others =
+    let other : (b : ℕ) → IsFree space b → b ≢ label = λ b free e. taken (rw (← e) free) in
+    let node : (b : ℕ) → names new.tree b ≡ true → b ≢ label = λ b named e. taken (has.fresh_nodes label (ap (names new.tree) (sym e) ∙ named) lacks) in
+    record {
+      tree = flushed_still before after root (height_of (entry_count x.span)) new has.tree (λ b named. others b (node b named));
+      map = has.map;
+      bits = λ k lt.
+          let some = has.map.some k lt in
+          let led : has_maps_at new x.span (map_blocks x.span) (place_at new (x.span + k)) ≡ true = maps_at new x.span (map_blocks x.span) k (place_at new (x.span + k)) lt refl (λ none. omega (arith, some, none)) in
+          rw (others (place_at new (x.span + k)) (other (place_at new (x.span + k)) (has.fresh_maps (place_at new (x.span + k)) led))) (has.bits k lt);
+      fresh_nodes = has.fresh_nodes;
+      fresh_maps = has.fresh_maps;
+      apart = has.apart;
+      held = has.held;
+    }

@@ -1,0 +1,149 @@
+use Rattle.std.proofs.Common.{◌≡◌, ℕ, Ok, Err, rules, refl, sym, subst, ap, ◌∙◌, arith}
+use Rattle.std.specs.Prelude.{◌<◌, None}
+use Rattle.fv_tables.specs.Told.{file_at, Standing}
+use Rattle.fv_model.specs.declared.commands.Command.TheVariants.{New}
+use Rattle.fv_volume.specs.declared.state.VolumeState.{VolumeState}
+use Rattle.fv_volume.specs.Calls.{BlockCause, HasBeside}
+use Rattle.fv_volume.specs.Causes.{of_block}
+use Rattle.fv_volume.specs.Lending.{lent_for}
+use Rattle.fv_volume.specs.OneVolume.{home_in, standing_for, volume_for, IsStanding}
+use Rattle.fv_volume.proofs.CallCauses.{fails_later, failed_cause}
+use Rattle.fv_volume.proofs.Calling.{counted_led, counted_room, left_led, left_room, refused_led, refused_room, left_fits, failed_changes, failed_head, failed_stands, left_ready, refused_changes, refused_head, refused_ready, refused_standing, done_head, done_ready, Parts}
+use Rattle.fv_volume.proofs.OneVolumes.{reads_then, said_after}
+use Rattle.fv_volume.proofs.MadeNew.{new_is, new_stands}
+use Rattle.fv_volume.proofs.state.VolumeState.new_file.Goals as goal
+
+-- ---- refused
+
+pub returns-in_err-delta-clause-changes : goal.returns-in_err-delta-clause-changes
+returns-in_err-delta-clause-changes g c = λ is.
+    let failed : c.from_residual.result ≡ Err c.in_err-delta.field-0.0 = search rules in
+    refused_changes (g.D.Disk.shown c.args.disk.now) (g.D.Disk.shown c.judge_new.new.disk) c.args.pool.now c.judge_new.new.pool c.judge_new.ensures.reads c.args.self.now c.judge_new.new.volume c.judge_new.ensures.same (HasBeside c.args.self.now.name (volume_for (g.D.Disk.shown c.args.disk.now) c.args.pool.now c.args.self.now) c.args.others c.args.pool.now.found.blocks) (New c.args.self.now.name c.args.file.now c.args.reserve) c.from_residual.result c.in_err-delta.field-0.0 failed (c.in_err-delta.ensures.refused is)
+
+pub returns-in_err-delta-clause-standing : goal.returns-in_err-delta-clause-standing
+returns-in_err-delta-clause-standing g c = λ is. refused_standing (g.D.Disk.shown c.args.disk.now) (g.D.Disk.shown c.judge_new.new.disk) c.args.pool.now c.judge_new.new.pool c.judge_new.ensures.reads c.args.self.now c.judge_new.new.volume c.judge_new.ensures.same is
+
+pub returns-in_err-delta-clause-ready : goal.returns-in_err-delta-clause-ready
+returns-in_err-delta-clause-ready g c = refused_ready (g.D.Disk.shown c.args.disk.now) (g.D.Disk.shown c.judge_new.new.disk) c.args.pool.now c.judge_new.new.pool c.judge_new.ensures.reads c.args.self.now c.judge_new.new.volume c.judge_new.ensures.same c.requires.ready
+
+pub returns-in_err-delta-clause-head : goal.returns-in_err-delta-clause-head
+returns-in_err-delta-clause-head g c =
+    let failed : c.from_residual.result ≡ Err c.in_err-delta.field-0.0 = search rules in
+    refused_head (g.D.Disk.shown c.args.disk.now) (g.D.Disk.shown c.judge_new.new.disk) c.args.pool.now c.judge_new.new.pool c.judge_new.ensures.reads c.args.self.now c.judge_new.new.volume c.judge_new.ensures.same c.from_residual.result c.in_err-delta.field-0.0 failed
+
+-- ---- failed
+
+pub create_file-requires-clause-ready : goal.create_file-requires-clause-ready
+create_file-requires-clause-ready g c = refused_ready (g.D.Disk.shown c.args.disk.now) (g.D.Disk.shown c.judge_new.new.disk) c.args.pool.now c.judge_new.new.pool c.judge_new.ensures.reads c.args.self.now c.judge_new.new.volume c.judge_new.ensures.same c.requires.ready
+
+pub returns-in_err-create_file-clause-changes : goal.returns-in_err-create_file-clause-changes
+returns-in_err-create_file-clause-changes g c = λ is.
+    let failed : c.from_residual-in_err-create_file.result ≡ Err (of_block c.in_err-create_file.field-0.0) = search rules in
+    failed_changes (g.D.Disk.shown c.args.disk.now) (g.D.Disk.shown c.judge_new.new.disk) (g.D.Disk.shown c.create_file.new.disk) c.args.pool.now c.judge_new.new.pool c.create_file.new.pool c.judge_new.ensures.reads c.args.self.now c.judge_new.new.volume c.create_file.new.volume c.judge_new.ensures.same c.in_err-create_file.field-0.0 c.in_err-create_file.ensures.alters is (HasBeside c.args.self.now.name (volume_for (g.D.Disk.shown c.args.disk.now) c.args.pool.now c.args.self.now) c.args.others c.args.pool.now.found.blocks) (New c.args.self.now.name c.args.file.now c.args.reserve) c.from_residual-in_err-create_file.result failed
+
+pub returns-in_err-create_file-clause-standing : goal.returns-in_err-create_file-clause-standing
+returns-in_err-create_file-clause-standing g c = λ is. failed_stands (g.D.Disk.shown c.args.disk.now) (g.D.Disk.shown c.judge_new.new.disk) (g.D.Disk.shown c.create_file.new.disk) c.args.pool.now c.judge_new.new.pool c.create_file.new.pool c.judge_new.ensures.reads c.args.self.now c.judge_new.new.volume c.create_file.new.volume c.judge_new.ensures.same c.in_err-create_file.field-0.0 c.in_err-create_file.ensures.alters is
+
+pub returns-in_err-create_file-clause-ready : goal.returns-in_err-create_file-clause-ready
+returns-in_err-create_file-clause-ready g c = left_ready (g.D.Disk.shown c.args.disk.now) (g.D.Disk.shown c.judge_new.new.disk) (g.D.Disk.shown c.create_file.new.disk) c.args.pool.now c.judge_new.new.pool c.create_file.new.pool c.judge_new.ensures.reads c.args.self.now c.judge_new.new.volume c.create_file.new.volume c.judge_new.ensures.same _ c.in_err-create_file.ensures.alters c.requires.ready
+
+pub returns-in_err-create_file-clause-head : goal.returns-in_err-create_file-clause-head
+returns-in_err-create_file-clause-head g c =
+    let failed : c.from_residual-in_err-create_file.result ≡ Err (of_block c.in_err-create_file.field-0.0) = search rules in
+    failed_head (g.D.Disk.shown c.args.disk.now) (g.D.Disk.shown c.judge_new.new.disk) (g.D.Disk.shown c.create_file.new.disk) c.args.pool.now c.judge_new.new.pool c.create_file.new.pool c.judge_new.ensures.reads c.args.self.now c.judge_new.new.volume c.create_file.new.volume c.judge_new.ensures.same c.in_err-create_file.field-0.0 c.in_err-create_file.ensures.alters c.from_residual-in_err-create_file.result failed
+
+pub returns-in_err-create_file-clause-reads : goal.returns-in_err-create_file-clause-reads
+returns-in_err-create_file-clause-reads g c = reads_then (g.D.Disk.shown c.args.disk.now) (g.D.Disk.shown c.judge_new.new.disk) (g.D.Disk.shown c.create_file.new.disk) c.args.pool.now c.judge_new.new.pool c.create_file.new.pool c.judge_new.ensures.reads c.in_err-create_file.ensures.alters.reads
+
+pub returns-in_err-create_file-clause-cause : goal.returns-in_err-create_file-clause-cause
+returns-in_err-create_file-clause-cause g c =
+    let e = c.in_err-create_file.field-0.0 in
+    let failed : c.from_residual-in_err-create_file.result ≡ Err (of_block e) = search rules in
+    let later = subst (λ (z : VolumeState). BlockCause {T = Unit {0}} (IsStanding (g.D.Disk.shown c.judge_new.new.disk) c.judge_new.new.pool z) (standing_for (g.D.Disk.shown c.judge_new.new.disk) c.judge_new.new.pool z) (lent_for c.judge_new.new.pool z.map (g.D.Disk.shown c.judge_new.new.disk) 0 (home_in z) 0) (g.D.Disk.shown c.create_file.new.disk).faults (Err e)) c.judge_new.ensures.same c.in_err-create_file.ensures.cause in
+    failed_cause (IsStanding (g.D.Disk.shown c.args.disk.now) c.args.pool.now c.args.self.now) (standing_for (g.D.Disk.shown c.args.disk.now) c.args.pool.now c.args.self.now) (lent_for c.args.pool.now c.args.self.now.map (g.D.Disk.shown c.args.disk.now) 0 (home_in c.args.self.now) 0) (g.D.Disk.shown c.create_file.new.disk).faults e c.from_residual-in_err-create_file.result failed
+    (fails_later (g.D.Disk.shown c.args.disk.now) (g.D.Disk.shown c.judge_new.new.disk) c.args.pool.now c.judge_new.new.pool c.judge_new.ensures.reads c.args.self.now c.in_ok-delta.ensures.cause 0 {T = Unit {0}} (g.D.Disk.shown c.create_file.new.disk).faults (Err e) later)
+
+-- ---- done
+
+pub count_change-requires : goal.count_change-requires
+count_change-requires g c = record { fits = left_fits (g.D.Disk.shown c.args.disk.now) (g.D.Disk.shown c.judge_new.new.disk) (g.D.Disk.shown c.create_file.new.disk) c.args.pool.now c.judge_new.new.pool c.create_file.new.pool c.judge_new.ensures.reads c.args.self.now c.judge_new.new.volume c.create_file.new.volume c.judge_new.ensures.same (Ok tt) c.in_ok-create_file.ensures.alters c.in_ok-delta.delta c.in_ok-delta.ensures.fits }
+
+pub returns-clause-changes : goal.returns-clause-changes
+returns-clause-changes g c = λ is.
+    let parts : Parts {T = Unit {0}} (g.D.Disk.shown c.args.disk.now) (g.D.Disk.shown c.judge_new.new.disk) (g.D.Disk.shown c.create_file.new.disk) c.args.pool.now c.judge_new.new.pool c.create_file.new.pool c.args.self.now c.judge_new.new.volume c.create_file.new.volume c.count_change.new.volume (Ok tt) c.in_ok-delta.delta = record {
+      first = c.judge_new.ensures.reads;
+      same = c.judge_new.ensures.same;
+      alters = c.in_ok-create_file.ensures.alters;
+      counted = c.count_change.ensures.others;
+      next = c.count_change.ensures.now;
+      moved = c.count_change.ensures.ledger;
+      moves = c.count_change.ensures.machine;
+    } in
+    new_is (g.D.Disk.shown c.args.disk.now) (g.D.Disk.shown c.judge_new.new.disk) (g.D.Disk.shown c.create_file.new.disk) c.args.pool.now c.judge_new.new.pool c.create_file.new.pool c.args.self.now c.judge_new.new.volume c.create_file.new.volume c.count_change.new.volume c.in_ok-delta.delta parts is c.args.others c.args.file.now c.args.reserve c.in_ok-delta.ensures.none (c.in_ok-delta.ensures.accepted is) c.in_ok-create_file.ensures.made
+
+pub returns-clause-standing : goal.returns-clause-standing
+returns-clause-standing g c = λ is.
+    let parts : Parts {T = Unit {0}} (g.D.Disk.shown c.args.disk.now) (g.D.Disk.shown c.judge_new.new.disk) (g.D.Disk.shown c.create_file.new.disk) c.args.pool.now c.judge_new.new.pool c.create_file.new.pool c.args.self.now c.judge_new.new.volume c.create_file.new.volume c.count_change.new.volume (Ok tt) c.in_ok-delta.delta = record {
+      first = c.judge_new.ensures.reads;
+      same = c.judge_new.ensures.same;
+      alters = c.in_ok-create_file.ensures.alters;
+      counted = c.count_change.ensures.others;
+      next = c.count_change.ensures.now;
+      moved = c.count_change.ensures.ledger;
+      moves = c.count_change.ensures.machine;
+    } in
+    new_stands (g.D.Disk.shown c.args.disk.now) (g.D.Disk.shown c.judge_new.new.disk) (g.D.Disk.shown c.create_file.new.disk) c.args.pool.now c.judge_new.new.pool c.create_file.new.pool c.args.self.now c.judge_new.new.volume c.create_file.new.volume c.count_change.new.volume c.in_ok-delta.delta parts is c.args.others c.args.file.now c.args.reserve c.in_ok-delta.ensures.none (c.in_ok-delta.ensures.accepted is) c.in_ok-create_file.ensures.made
+
+pub returns-clause-ready : goal.returns-clause-ready
+returns-clause-ready g c =
+    let parts : Parts {T = Unit {0}} (g.D.Disk.shown c.args.disk.now) (g.D.Disk.shown c.judge_new.new.disk) (g.D.Disk.shown c.create_file.new.disk) c.args.pool.now c.judge_new.new.pool c.create_file.new.pool c.args.self.now c.judge_new.new.volume c.create_file.new.volume c.count_change.new.volume (Ok tt) c.in_ok-delta.delta = record {
+      first = c.judge_new.ensures.reads;
+      same = c.judge_new.ensures.same;
+      alters = c.in_ok-create_file.ensures.alters;
+      counted = c.count_change.ensures.others;
+      next = c.count_change.ensures.now;
+      moved = c.count_change.ensures.ledger;
+      moves = c.count_change.ensures.machine;
+    } in
+    done_ready (g.D.Disk.shown c.args.disk.now) (g.D.Disk.shown c.judge_new.new.disk) (g.D.Disk.shown c.create_file.new.disk) c.args.pool.now c.judge_new.new.pool c.create_file.new.pool c.args.self.now c.judge_new.new.volume c.create_file.new.volume c.count_change.new.volume (Ok tt) c.in_ok-delta.delta parts c.requires.ready (left_fits (g.D.Disk.shown c.args.disk.now) (g.D.Disk.shown c.judge_new.new.disk) (g.D.Disk.shown c.create_file.new.disk) c.args.pool.now c.judge_new.new.pool c.create_file.new.pool c.judge_new.ensures.reads c.args.self.now c.judge_new.new.volume c.create_file.new.volume c.judge_new.ensures.same (Ok tt) c.in_ok-create_file.ensures.alters c.in_ok-delta.delta c.in_ok-delta.ensures.fits)
+
+pub returns-clause-head : goal.returns-clause-head
+returns-clause-head g c =
+    let parts : Parts {T = Unit {0}} (g.D.Disk.shown c.args.disk.now) (g.D.Disk.shown c.judge_new.new.disk) (g.D.Disk.shown c.create_file.new.disk) c.args.pool.now c.judge_new.new.pool c.create_file.new.pool c.args.self.now c.judge_new.new.volume c.create_file.new.volume c.count_change.new.volume (Ok tt) c.in_ok-delta.delta = record {
+      first = c.judge_new.ensures.reads;
+      same = c.judge_new.ensures.same;
+      alters = c.in_ok-create_file.ensures.alters;
+      counted = c.count_change.ensures.others;
+      next = c.count_change.ensures.now;
+      moved = c.count_change.ensures.ledger;
+      moves = c.count_change.ensures.machine;
+    } in
+    done_head (g.D.Disk.shown c.args.disk.now) (g.D.Disk.shown c.judge_new.new.disk) (g.D.Disk.shown c.create_file.new.disk) c.args.pool.now c.judge_new.new.pool c.create_file.new.pool c.args.self.now c.judge_new.new.volume c.create_file.new.volume c.count_change.new.volume (Ok tt) c.in_ok-delta.delta parts
+
+pub returns-clause-reads : goal.returns-clause-reads
+returns-clause-reads g c = reads_then (g.D.Disk.shown c.args.disk.now) (g.D.Disk.shown c.judge_new.new.disk) (g.D.Disk.shown c.create_file.new.disk) c.args.pool.now c.judge_new.new.pool c.create_file.new.pool c.judge_new.ensures.reads c.in_ok-create_file.ensures.alters.reads
+
+pub create_file-requires-clause-free : goal.create_file-requires-clause-free
+create_file-requires-clause-free g c = said_after (g.D.Disk.shown c.args.disk.now) (g.D.Disk.shown c.judge_new.new.disk) c.args.pool.now c.judge_new.new.pool c.judge_new.ensures.reads c.args.self.now c.judge_new.new.volume c.judge_new.ensures.same
+    (λ (s : Standing). (n : ℕ) × ((n < 262144) × (file_at s.inode n ≡ None)))
+    (λ is. (c.in_ok-delta.ensures.accepted is).free)
+
+-- ---- what is led to, and what is pending
+
+pub returns-in_err-delta-clause-led : goal.returns-in_err-delta-clause-led
+returns-in_err-delta-clause-led g c = λ is led. refused_led (g.D.Disk.shown c.args.disk.now) (g.D.Disk.shown c.judge_new.new.disk) c.args.pool.now c.judge_new.new.pool c.judge_new.ensures.reads c.args.self.now c.judge_new.new.volume c.judge_new.ensures.same led
+
+pub returns-in_err-delta-clause-room : goal.returns-in_err-delta-clause-room
+returns-in_err-delta-clause-room g c = λ is. refused_room (g.D.Disk.shown c.args.disk.now) (g.D.Disk.shown c.judge_new.new.disk) c.args.pool.now c.judge_new.new.pool c.judge_new.ensures.reads c.args.self.now c.judge_new.new.volume c.judge_new.ensures.same
+
+pub returns-in_err-create_file-clause-led : goal.returns-in_err-create_file-clause-led
+returns-in_err-create_file-clause-led g c = λ is led. left_led (g.D.Disk.shown c.args.disk.now) (g.D.Disk.shown c.judge_new.new.disk) (g.D.Disk.shown c.create_file.new.disk) c.args.pool.now c.judge_new.new.pool c.create_file.new.pool c.judge_new.ensures.reads c.args.self.now c.judge_new.new.volume c.create_file.new.volume c.judge_new.ensures.same _ c.in_err-create_file.ensures.alters is led
+
+pub returns-in_err-create_file-clause-room : goal.returns-in_err-create_file-clause-room
+returns-in_err-create_file-clause-room g c = λ is. left_room (g.D.Disk.shown c.args.disk.now) (g.D.Disk.shown c.judge_new.new.disk) (g.D.Disk.shown c.create_file.new.disk) c.args.pool.now c.judge_new.new.pool c.create_file.new.pool c.judge_new.ensures.reads c.args.self.now c.judge_new.new.volume c.create_file.new.volume c.judge_new.ensures.same _ c.in_err-create_file.ensures.alters is
+
+pub returns-clause-led : goal.returns-clause-led
+returns-clause-led g c = λ is led. counted_led (g.D.Disk.shown c.create_file.new.disk) c.create_file.new.pool c.create_file.new.volume c.count_change.new.volume c.count_change.ensures.others (left_led (g.D.Disk.shown c.args.disk.now) (g.D.Disk.shown c.judge_new.new.disk) (g.D.Disk.shown c.create_file.new.disk) c.args.pool.now c.judge_new.new.pool c.create_file.new.pool c.judge_new.ensures.reads c.args.self.now c.judge_new.new.volume c.create_file.new.volume c.judge_new.ensures.same (Ok tt) c.in_ok-create_file.ensures.alters is led)
+
+pub returns-clause-room : goal.returns-clause-room
+returns-clause-room g c = λ is. counted_room c.create_file.new.volume c.count_change.new.volume _ c.count_change.ensures.others (left_room (g.D.Disk.shown c.args.disk.now) (g.D.Disk.shown c.judge_new.new.disk) (g.D.Disk.shown c.create_file.new.disk) c.args.pool.now c.judge_new.new.pool c.create_file.new.pool c.judge_new.ensures.reads c.args.self.now c.judge_new.new.volume c.create_file.new.volume c.judge_new.ensures.same (Ok tt) c.in_ok-create_file.ensures.alters is)

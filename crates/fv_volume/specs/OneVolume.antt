@@ -1,0 +1,114 @@
+-- What one volume is seen as, in its pool, over what the disk reads and with the trees that are in memory.
+use Rattle.std.specs.Prelude.{◌≡◌, ◌≤◌, ◌+◌, ℕ, Bool, true, false, Option, Some, None}
+use Rattle.std.specs.Option.{option_map, option_and_then}
+use Rattle.std.specs.FinMap as fin
+use Rattle.fv_disk.specs.Shown.{Shown as Disk}
+use Rattle.fv_model.specs.Numbers.{greatest_span}
+use Rattle.fv_model.specs.Tables.{Table}
+use Rattle.fv_model.specs.Volumes.{Volume}
+use Rattle.fv_model.specs.Machines.{capacity}
+use Rattle.fv_laws.specs.WellFormed.{IsWellTable}
+use Rattle.fv_laws.specs.Positions.{HasNoReserve}
+use Rattle.fv_root.specs.Formatted.{IsSize}
+use Rattle.fv_tables.specs.Spelled.{Under}
+use Rattle.fv_tables.specs.Told.{Standing, standing_at, table_told}
+use Rattle.fv_tree.specs.Sources.{Shown, Use}
+use Rattle.fv_tree.specs.Standing.{under}
+use Rattle.fv_files.specs.declared.files.Files.{Files}
+use Rattle.fv_files.specs.Tables.{changed, AreReached, AreSound}
+use Rattle.fv_files.specs.Trees.{standing_in}
+use Rattle.fv_charge.specs.declared.ledger.Ledger.{Ledger}
+use Rattle.fv_charge.specs.Ledgers.{IsLedgerOf, committed}
+use Rattle.fv_volume.specs.declared.blocks.Home.{Home}
+use Rattle.fv_volume.specs.declared.pool.Pool.{Pool}
+use Rattle.fv_volume.specs.declared.state.Rooted.{Rooted}
+use Rattle.fv_volume.specs.declared.state.VolumeState.{VolumeState}
+use Rattle.fv_volume.specs.Files.{IsLabelled}
+use Rattle.fv_volume.specs.Lending.{CanLend, IsTold, sees}
+use Rattle.fv_volume.specs.States.{States, state_at}
+use Rattle.fv_volume.specs.Trees.{Trees}
+
+-- ---- its table
+
+-- the volume as its blocks are lent for it
+abbrev pub home_in : VolumeState → Home
+home_in x = record { slot = x.slot; label = x.label }
+
+-- what its blocks show to a tree
+abbrev pub shows : Disk → Pool → VolumeState → Shown
+shows disk pool x = sees pool x.map disk (home_in x)
+
+-- a table by its trees in memory, and where there are none by its root
+abbrev pub standing_by : Under → Rooted → Option Files → Standing
+standing_by blocks root None = standing_at blocks root.levels root.root
+standing_by blocks root (Some files) = standing_in blocks (changed files)
+
+-- the active table of the volume
+abbrev pub standing_for : Disk → Pool → VolumeState → Standing
+standing_for disk pool x = standing_by (under (shows disk pool x)) x.active x.files
+
+abbrev pub table_for : Disk → Pool → VolumeState → Table
+table_for disk pool x = table_told (standing_for disk pool x)
+
+-- each of its trees stands on its blocks
+abbrev pub AreSoundBy : Under → (ℕ → Option Use) → Rooted → Option Files → Type 0
+AreSoundBy blocks used root None = AreReached blocks used root.levels root.root
+AreSoundBy blocks used root (Some files) = AreSound blocks used files
+
+-- the trees that volumes have in memory, by slot
+abbrev pub files_in : Option VolumeState → Option Files
+files_in state = option_and_then (λ x. x.files) state
+
+abbrev pub trees_of : States → Trees
+trees_of states s = option_map changed (files_in (state_at states s))
+
+-- ---- the volume
+
+-- a volume of the machine with the numbers of this one and a table; it has no snapshots and no base
+abbrev pub volume_as : VolumeState → Table → Volume
+volume_as x table = record {
+  kind = x.kind;
+  size = x.size;
+  most = x.most;
+  span = x.span;
+  now = x.now;
+  active = table;
+  snapshots = fin.empty;
+  base = None;
+  known = x.known;
+}
+
+-- the volume that this one stands for
+abbrev pub volume_for : Disk → Pool → VolumeState → Volume
+volume_for disk pool x = volume_as x (table_for disk pool x)
+
+-- the numbers of its ledger are those of the volume, and its charge is one that a volume can have
+pub record IsBooked (x : VolumeState) : Type 0 where
+  pub size : x.ledger.size ≡ x.size
+  pub kind : x.ledger.kind ≡ x.kind
+  pub span : x.ledger.span ≡ x.span
+  pub need : x.ledger.need ≡ 0
+  pub charge : x.ledger.charge ≤ greatest_span
+
+-- A volume that calls can be made on, whatever the disk tells: its blocks can be lent, its label and its ledger have numbers in their
+-- ranges, and so has the aggregate. Where trees of its table are in memory it has changed.
+pub record IsReady (disk : Disk) (pool : Pool) (x : VolumeState) : Type 0 where
+  pub lent : CanLend pool x.map disk x.slot
+  pub labelled : IsLabelled x.slot x
+  pub booked : IsBooked x
+  pub blocks : IsSize pool.found.blocks
+  pub changed : x.changed ≡ false → x.files ≡ None
+
+-- Where content is told, the volume stands for one of the machine: its table is well-formed after the changes that it counts, no file has
+-- a reserve, its ledger is right, and each of its trees stands on its blocks.
+pub record IsStanding (disk : Disk) (pool : Pool) (x : VolumeState) : Type 0 where
+  pub told : IsTold disk pool x.map x.slot
+  pub table : IsWellTable x.now (table_for disk pool x)
+  pub reserves : HasNoReserve (table_for disk pool x)
+  pub ledger : IsLedgerOf (volume_for disk pool x) x.ledger
+  pub trees : AreSoundBy (under (shows disk pool x)) (shows disk pool x).used x.active x.files
+
+-- The volume uses at most its size, and it and the others, which commit so much, commit at most what the aggregate has room for.
+pub record IsWithin (pool : Pool) (x : VolumeState) (others : ℕ) : Type 0 where
+  pub size : x.ledger.charge + x.ledger.need ≤ x.size
+  pub capacity : others + committed x.ledger ≤ capacity pool.found.blocks

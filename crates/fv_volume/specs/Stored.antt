@@ -1,0 +1,76 @@
+-- The stored form of a volume: the blocks that it has, and how it stands in an image.
+use Rattle.std.specs.Prelude.{◌≡◌, ◌≢◌, ◌≤◌, ◌<◌, ◌+◌, ◌⊎◌, ℕ, Bool, ◌||◌, ◌&&◌, true, false, List, Option, Some, None, Ok, IfSome, length, nat_lt}
+use Rattle.std.specs.List.{list_any, range_with_len}
+use Rattle.fv_disk.specs.Shown.{Image}
+use Rattle.fv_codec.specs.Blocks.{label_at, last_place}
+use Rattle.fv_bits.specs.Members.{IsBlockOf, is_member}
+use Rattle.fv_model.specs.Space.{map_blocks}
+use Rattle.fv_image.specs.Views.{entry_count}
+use Rattle.fv_image.specs.Containers.{height_of}
+use Rattle.fv_image.specs.Reclaimed.{IsAllocatable}
+use Rattle.fv_container.specs.Mapped.{Mapped, entry_under}
+use Rattle.fv_container.specs.Spelled.{names, is_at}
+use Rattle.fv_container.specs.Flushed.{IsFlushed}
+use Rattle.fv_container.specs.declared.entry.Entry.{Entry}
+use Rattle.fv_volmap.specs.Slots.{active_of}
+use Rattle.fv_volume.specs.declared.state.VolumeState.{VolumeState}
+use Rattle.fv_volume.specs.Labels.{label_said}
+
+-- the place of an entry; a hole has none
+abbrev pub place_in : Option Entry → ℕ
+place_in None = 0
+place_in (Some entry) = entry.pvbn
+
+-- the place under a VVBN; under a hole there is none
+abbrev pub place_at : Mapped → ℕ → ℕ
+place_at map v = place_in (entry_under map v)
+
+-- whether an entry of a container leads to a block
+unfoldable pub leads : Mapped → ℕ → ℕ → Bool
+leads map entries b = list_any (λ v. is_at b (place_in (entry_under map v))) (range_with_len 0 entries)
+
+-- whether the block under a VVBN stays where the volume is written: one of the span that its active map has
+abbrev pub stays : VolumeState → ℕ → Bool
+stays x v = nat_lt v x.span && is_member (active_of x.map) v
+
+-- whether a block is the volume's by its label's place and its container: the label, a node, or what an entry leads to
+abbrev pub is_of : VolumeState → ℕ → Mapped → ℕ → Bool
+is_of x label map b = is_at b label || (names map.tree b || leads map (entry_count x.span) b)
+
+-- Label, nodes and the blocks of entries of a volume are different blocks, each entry leads to one, and no two lead to the same.
+pub record AreApartIn (x : VolumeState) (map : Mapped) : Type 0 where
+  pub some : (v : ℕ) → IfSome (entry_under map v) (λ e. 1 ≤ e.pvbn)
+  pub entries : (v w : ℕ) → v < w → w < entry_count x.span → place_at map v ≢ 0 → place_at map v ≢ place_at map w
+  pub nodes : (b : ℕ) → names map.tree b ≡ true → leads map (entry_count x.span) b ≡ false
+  pub label : leads map (entry_count x.span) x.label ≡ false
+
+-- whether the volume of a slot has a block: its label, a node, or the block of an entry
+abbrev pub has_block : Option VolumeState → Option Mapped → ℕ → Bool
+has_block None container b = false
+has_block (Some x) None b = false
+has_block (Some x) (Some map) b = is_of x x.label map b
+
+-- Volumes by slot are spaced: no two have one block, each block of one is to be held by the next root and can be allocated, and that is
+-- to hold no other.
+pub record AreSpacedIn (blocks : ℕ) (next : List Bool) (state : ℕ → Option VolumeState) (container : ℕ → Option Mapped) : Type 0 where
+  pub apart : (s k b : ℕ) → s < 64 → k < 64 → s ≢ k → has_block (state s) (container s) b ≡ true → has_block (state k) (container k) b ≡ true → ⊥
+  pub held : (s b : ℕ) → s < 64 → has_block (state s) (container s) b ≡ true → (is_member next b ≡ true) × IsAllocatable blocks b
+  pub set : (b : ℕ) → is_member next b ≡ true → (s : ℕ) × (s < 64) × (has_block (state s) (container s) b ≡ true)
+
+-- The volume stands in an image as it was written: its label says it with its tree, the tree spells its container, whose entries are those
+-- that stayed and those of the active map's blocks, and each of these has its bits. Its blocks are apart.
+pub record IsStored (x : VolumeState) (old : Mapped) (label : ℕ) (new : Mapped) (i : Image) : Type 0 where
+  pub root : ℕ
+  pub root_least : 1 ≤ root
+  pub root_greatest : root ≤ last_place
+  pub some : 1 ≤ label
+  pub said : label_at (i label) ≡ Ok (label_said x root (height_of (entry_count x.span)))
+  pub tree : IsFlushed i root (height_of (entry_count x.span)) new
+  pub long : length new.entries ≡ entry_count x.span
+  pub kept : (v : ℕ) → stays x v ≡ true → entry_under new v ≡ entry_under old v
+  pub active : (k : ℕ) → k < map_blocks x.span → entry_under new (x.span + k) ≡ Some (record { pvbn = place_at new (x.span + k); kind = 8 })
+  pub placed : (k : ℕ) → k < map_blocks x.span → 1 ≤ place_at new (x.span + k)
+  pub holes : (v : ℕ) → stays x v ≡ false → (v < x.span) ⊎ (x.span + map_blocks x.span ≤ v) → entry_under new v ≡ None
+  pub bits : (k : ℕ) → k < map_blocks x.span → IsBlockOf (active_of x.map) k (i (place_at new (x.span + k)))
+  pub alone : names new.tree label ≡ false
+  pub apart : AreApartIn (record x { label = label; changed = false }) new

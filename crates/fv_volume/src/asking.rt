@@ -1,0 +1,336 @@
+//! What is asked of a volume. None of it changes the volume.
+
+ghost use Rattle.std.specs.Prelude.{◌≡◌, ◌≤◌, ◌+◌, ◌/◌, None, IfOk, IfErr, OnOk, option_copied};
+ghost use Rattle.fv_inode.specs.Files.{Finds, IsInfo, IsInfoIf};
+ghost use Rattle.fv_inode.specs.Listing.{names_told};
+ghost use Rattle.std.specs.FinMap as fin;
+ghost use Rattle.fv_files.specs.Calls.{GivesCell};
+ghost use Rattle.fv_files.specs.Tables.{tree_known, IsInfoOf};
+ghost use Rattle.fv_tables.specs.Told.{records_each};
+ghost use Rattle.fv_model.specs.Numbers.{greatest_span};
+ghost use Rattle.fv_model.specs.Replies.{stat_of};
+ghost use Rattle.fv_model.specs.declared.answers.Refusal.{Refusal};
+ghost use Rattle.fv_model.specs.declared.answers.Reply.TheVariants as reply;
+ghost use Rattle.fv_model.specs.declared.commands.Command.TheVariants.{Get, Len, Ls};
+ghost use Rattle.fv_charge.specs.Ledgers.{IsLedgerOf};
+ghost use Rattle.fv_model.specs.Tables.{Table};
+ghost use Rattle.fv_volume.specs.Calls.{Asks, BlockCause, CallCause, Has, Reads};
+ghost use Rattle.fv_volume.specs.Lending.{lent_for};
+ghost use Rattle.fv_volume.specs.Paths.{unknown_over, unknown_to, StepsTo};
+ghost use Rattle.fv_volume.specs.declared.fault.VolumeFault.TheVariants.{Refused};
+ghost use Rattle.fv_volume.specs.OneVolume.{home_in, standing_for, volume_as, volume_for, IsReady, IsStanding};
+
+use crate::blocks::Home;
+use crate::fault::VolumeFault;
+use crate::lent_files::{block_told, find_told, kept_table, list_told, record_told, take_table};
+use crate::pool::Pool;
+use crate::state::VolumeState;
+use fv_container::Steps;
+use fv_disk::{Block, BlockFault, Disk};
+use fv_inode::Info;
+use fv_model::{Name, Names, Refusal, Stat, in_index};
+use std::alloc::Global;
+use std::marker::Brand;
+use std::sync::ledger::{Blank, Ledger};
+
+impl VolumeState {
+    /// The length of the file of a name, in blocks. The volume stays, and of the pool nothing changes but its cache.
+    ///
+    /// # Errors
+    ///
+    /// `Refused` as the machine refuses `len`: a snapshot that isn't there, and there is none; no file has the name. `DiskFault`
+    /// only where a read failed in this call. `Damaged` for a pointer to a VVBN that isn't held, at the place of the volume's
+    /// label with 1 and 0, and for a node or an inode block without its shape: its place, and its first field that isn't as said.
+    /// `Memory` where memory ran out. Costs a block for each inode block before the file's and for each node over them.
+    /// `docs/MACHINE.md` has the command.
+    pub fn length<D: Disk>(
+        &mut self,
+        alloc: Global,
+        pool: &mut Pool,
+        disk: &mut D,
+        snapshot: Option<&Name>,
+        file: &Name,
+    ) -> Result<u32, VolumeFault>
+        requires ready { IsReady (D.shown disk.old) pool.old self.old }
+        ensures asked { IsStanding (D.shown disk.old) pool.old self.old
+            → Asks (Has self.old.name (volume_for (D.shown disk.old) pool.old self.old)) (Len self.old.name (option_copied snapshot.entry) file.now) (λ n. reply.Number n) result }
+        ensures same { self.new ≡ self.old }
+        ensures reads { Reads (D.shown disk.old) pool.old (D.shown disk.new) pool.new }
+        ensures cause { CallCause (IsStanding (D.shown disk.old) pool.old self.old) (standing_for (D.shown disk.old) pool.old self.old)
+            (lent_for pool.old self.old.map (D.shown disk.old) 0 (home_in self.old) 0) (D.shown disk.new).faults result }
+    {
+        if snapshot.is_some() {
+            return Err(VolumeFault::Refused(Refusal::NoSnapshot));
+        }
+        match find_file(self, alloc, pool, disk, file)? {
+            None => Err(VolumeFault::Refused(Refusal::NoFile)),
+            Some(info) => Ok(info.length),
+        }
+    }
+
+    /// The names of all files, in byte order. The volume stays, and of the pool nothing changes but its cache.
+    ///
+    /// # Errors
+    ///
+    /// As `length`; the one refusal is that of a snapshot. Costs a block for each inode block and each node over them, and memory
+    /// for each name twice. `docs/MACHINE.md` has the command, `ls`.
+    pub fn list<D: Disk>(
+        &mut self,
+        alloc: Global,
+        pool: &mut Pool,
+        disk: &mut D,
+        snapshot: Option<&Name>,
+    ) -> Result<Names, VolumeFault>
+        requires ready { IsReady (D.shown disk.old) pool.old self.old }
+        ensures asked { IsStanding (D.shown disk.old) pool.old self.old
+            → Asks (Has self.old.name (volume_for (D.shown disk.old) pool.old self.old)) (Ls self.old.name (option_copied snapshot.entry)) (λ names. reply.Names names) result }
+        ensures same { self.new ≡ self.old }
+        ensures reads { Reads (D.shown disk.old) pool.old (D.shown disk.new) pool.new }
+        ensures cause { CallCause (IsStanding (D.shown disk.old) pool.old self.old) (standing_for (D.shown disk.old) pool.old self.old)
+            (lent_for pool.old self.old.map (D.shown disk.old) 0 (home_in self.old) 0) (D.shown disk.new).faults result }
+    {
+        if snapshot.is_some() {
+            return Err(VolumeFault::Refused(Refusal::NoSnapshot));
+        }
+        Ok(list_files(self, alloc, pool, disk)?)
+    }
+
+    /// The block of a file at an index, zeros for a hole. The volume stays, and of the pool nothing changes but its cache. At
+    /// `Err` the content of `into` is open.
+    ///
+    /// The steps rise by the unknown pointers on the path from the root of the volume's table to the file's record and from there to
+    /// the cell, so not at all where all are known. The search for the name isn't counted, and a refused call makes no step.
+    ///
+    /// # Errors
+    ///
+    /// As `length`, and `Refused` too where the index passes 2,097,151, which is asked first, or isn't below the file's length,
+    /// which is asked last. Costs what `length` does, then a block for each node over the file's inode block and that block, a block
+    /// for each level of the file's tree and one for the cell. `docs/MACHINE.md` has the command.
+    pub fn get<D: Disk, L: Ledger>(
+        &mut self,
+        alloc: Global,
+        pool: &mut Pool,
+        disk: &mut D,
+        snapshot: Option<&Name>,
+        file: &Name,
+        index: u32,
+        into: &mut Block,
+        steps: &mut Steps<L>,
+    ) -> Result<(), VolumeFault>
+        requires ready { IsReady (D.shown disk.old) pool.old self.old }
+        ensures asked { IsStanding (D.shown disk.old) pool.old self.old
+            → Asks (Has self.old.name (volume_for (D.shown disk.old) pool.old self.old)) (Get self.old.name (option_copied snapshot.entry) file.now index) (λ _. reply.Content into.new) result }
+        ensures steps { IsStanding (D.shown disk.old) pool.old self.old → OnOk result (StepsTo (standing_for (D.shown disk.old) pool.old self.old) file.now index steps.old steps.new) }
+        ensures unmoved { IfErr result (λ e. (r : Refusal) → e ≡ Refused r → steps.new ≡ steps.old) }
+        ensures same { self.new ≡ self.old }
+        ensures reads { Reads (D.shown disk.old) pool.old (D.shown disk.new) pool.new }
+        ensures cause { CallCause (IsStanding (D.shown disk.old) pool.old self.old) (standing_for (D.shown disk.old) pool.old self.old)
+            (lent_for pool.old self.old.map (D.shown disk.old) 0 (home_in self.old) 0) (D.shown disk.new).faults result }
+    {
+        if !in_index(u64::from(index)) {
+            return Err(VolumeFault::Refused(Refusal::Range));
+        }
+        if snapshot.is_some() {
+            return Err(VolumeFault::Refused(Refusal::NoSnapshot));
+        }
+        match find_file(self, alloc, pool, disk, file)? {
+            None => Err(VolumeFault::Refused(Refusal::NoFile)),
+            Some(info) => {
+                if info.length <= index {
+                    return Err(VolumeFault::Refused(Refusal::Range));
+                }
+                Ok(read_block(self, alloc, pool, disk, &info, index, into, steps)?)
+            }
+        }
+    }
+
+    /// What `vol stat` answers, for a volume whose ledger is that of the volume that it stands for. Costs a step and takes no memory.
+    #[tactic(auto, using(crate::proofs::Asked::stat_is))]
+    pub fn stat(&self) -> Stat
+        requires { self.now.ledger.span ≤ greatest_span }
+        ensures { (table : Table) → IsLedgerOf (volume_as self.entry.now table) self.entry.now.ledger → result ≡ stat_of (volume_as self.entry.now table) }
+    {
+        Stat {
+            size: self.size,
+            used: self.ledger.charge(),
+            need: self.ledger.need(),
+            commit: self.ledger.commit(),
+            kind: self.kind,
+            clean: self.known,
+        }
+    }
+}
+
+/// What is known of the file of a name; `None` exactly where no file has it.
+#[tactic(auto, using(crate::proofs::OneVolumes::root_fits, crate::proofs::OneVolumes::levels_fit))]
+pub(crate) fn find_file<D: Disk>(
+    volume: &mut VolumeState,
+    alloc: Global,
+    pool: &mut Pool,
+    disk: &mut D,
+    name: &Name,
+) -> Result<Option<Info>, BlockFault>
+    requires ready { IsReady (D.shown disk.old) pool.old volume.old }
+    ensures found { IsStanding (D.shown disk.old) pool.old volume.old → IfOk result (Finds (standing_for (D.shown disk.old) pool.old volume.old).inode name.now) }
+    ensures range { IfOk result IsInfoIf }
+    ensures same { volume.new ≡ volume.old }
+    ensures reads { Reads (D.shown disk.old) pool.old (D.shown disk.new) pool.new }
+    ensures cause { BlockCause (IsStanding (D.shown disk.old) pool.old volume.old) (standing_for (D.shown disk.old) pool.old volume.old)
+        (lent_for pool.old volume.old.map (D.shown disk.old) 0 (home_in volume.old) 0) (D.shown disk.new).faults result }
+{
+    let held = volume.files.is_some();
+    let home = Home {
+        slot: volume.slot,
+        label: volume.label,
+    };
+    let mut files = take_table(&mut volume.files, &volume.active, alloc);
+    let found = find_told::<Brand, D, Brand>(
+        &mut files,
+        pool,
+        disk,
+        &mut volume.map,
+        &home,
+        Blank::new(1),
+        name,
+    );
+    volume.files = kept_table(held, files);
+    found
+}
+
+/// The names of all files.
+#[tactic(auto, using(crate::proofs::OneVolumes::root_fits, crate::proofs::OneVolumes::levels_fit))]
+fn list_files<D: Disk>(
+    volume: &mut VolumeState,
+    alloc: Global,
+    pool: &mut Pool,
+    disk: &mut D,
+) -> Result<Names, BlockFault>
+    requires ready { IsReady (D.shown disk.old) pool.old volume.old }
+    ensures names { IsStanding (D.shown disk.old) pool.old volume.old → IfOk result (λ names. names ≡ fin.keys (names_told (standing_for (D.shown disk.old) pool.old volume.old).inode)) }
+    ensures same { volume.new ≡ volume.old }
+    ensures reads { Reads (D.shown disk.old) pool.old (D.shown disk.new) pool.new }
+    ensures cause { BlockCause (IsStanding (D.shown disk.old) pool.old volume.old) (standing_for (D.shown disk.old) pool.old volume.old)
+        (lent_for pool.old volume.old.map (D.shown disk.old) 0 (home_in volume.old) 0) (D.shown disk.new).faults result }
+{
+    let held = volume.files.is_some();
+    let home = Home {
+        slot: volume.slot,
+        label: volume.label,
+    };
+    let mut files = take_table(&mut volume.files, &volume.active, alloc);
+    let names = list_told::<Brand, D, Brand>(
+        &mut files,
+        pool,
+        disk,
+        &mut volume.map,
+        &home,
+        Blank::new(1),
+    );
+    volume.files = kept_table(held, files);
+    names
+}
+
+/// A block of the file of which this is known, or zeros, with the steps of the whole path to it.
+fn read_block<D: Disk, L: Ledger>(
+    volume: &mut VolumeState,
+    alloc: Global,
+    pool: &mut Pool,
+    disk: &mut D,
+    info: &Info,
+    index: u32,
+    into: &mut Block,
+    steps: &mut Steps<L>,
+) -> Result<(), BlockFault>
+    requires ready { IsReady (D.shown disk.old) pool.old volume.old }
+    requires range { IsInfo info.now }
+    requires there { IsStanding (D.shown disk.old) pool.old volume.old → IsInfoOf (standing_for (D.shown disk.old) pool.old volume.old).inode info.now }
+    ensures block { IsStanding (D.shown disk.old) pool.old volume.old → OnOk result (GivesCell (standing_for (D.shown disk.old) pool.old volume.old) info.now.number index into.new) }
+    ensures steps { IsStanding (D.shown disk.old) pool.old volume.old → OnOk result (steps.new ≡ steps.old + unknown_over (standing_for (D.shown disk.old) pool.old volume.old) info.now index) }
+    ensures same { volume.new ≡ volume.old }
+    ensures reads { Reads (D.shown disk.old) pool.old (D.shown disk.new) pool.new }
+    ensures cause { BlockCause (IsStanding (D.shown disk.old) pool.old volume.old) (standing_for (D.shown disk.old) pool.old volume.old)
+        (lent_for pool.old volume.old.map (D.shown disk.old) steps.old (home_in volume.old) 0) (D.shown disk.new).faults result }
+{
+    follow_record(volume, alloc, pool, disk, info.number, steps)?;
+    copy_block(volume, alloc, pool, disk, info, index, into, steps)?;
+    Ok(())
+}
+
+/// Follows the path from the root of a volume's table to the record of a file, for its steps.
+#[tactic(auto, using(crate::proofs::OneVolumes::root_fits, crate::proofs::OneVolumes::levels_fit))]
+fn follow_record<D: Disk, L: Ledger>(
+    volume: &mut VolumeState,
+    alloc: Global,
+    pool: &mut Pool,
+    disk: &mut D,
+    number: u32,
+    steps: &mut Steps<L>,
+) -> Result<(), BlockFault>
+    requires ready { IsReady (D.shown disk.old) pool.old volume.old }
+    ensures steps { IsStanding (D.shown disk.old) pool.old volume.old → OnOk result (steps.new ≡ steps.old + unknown_to (standing_for (D.shown disk.old) pool.old volume.old).inode (number / records_each)) }
+    ensures same { volume.new ≡ volume.old }
+    ensures reads { Reads (D.shown disk.old) pool.old (D.shown disk.new) pool.new }
+    ensures cause { BlockCause (IsStanding (D.shown disk.old) pool.old volume.old) (standing_for (D.shown disk.old) pool.old volume.old)
+        (lent_for pool.old volume.old.map (D.shown disk.old) steps.old (home_in volume.old) 0) (D.shown disk.new).faults result }
+{
+    let held = volume.files.is_some();
+    let home = Home {
+        slot: volume.slot,
+        label: volume.label,
+    };
+    let mut files = take_table(&mut volume.files, &volume.active, alloc);
+    let followed = record_told::<Brand, D, L>(
+        &mut files,
+        pool,
+        disk,
+        &mut volume.map,
+        steps,
+        &home,
+        number,
+    );
+    volume.files = kept_table(held, files);
+    followed
+}
+
+/// A block of the file of which this is known, or zeros, with the steps of the path in its tree.
+#[tactic(auto, using(crate::proofs::OneVolumes::root_fits, crate::proofs::OneVolumes::levels_fit))]
+fn copy_block<D: Disk, L: Ledger>(
+    volume: &mut VolumeState,
+    alloc: Global,
+    pool: &mut Pool,
+    disk: &mut D,
+    info: &Info,
+    index: u32,
+    into: &mut Block,
+    steps: &mut Steps<L>,
+) -> Result<(), BlockFault>
+    requires ready { IsReady (D.shown disk.old) pool.old volume.old }
+    requires range { IsInfo info.now }
+    requires there { IsStanding (D.shown disk.old) pool.old volume.old → IsInfoOf (standing_for (D.shown disk.old) pool.old volume.old).inode info.now }
+    ensures block { IsStanding (D.shown disk.old) pool.old volume.old → OnOk result (GivesCell (standing_for (D.shown disk.old) pool.old volume.old) info.now.number index into.new) }
+    ensures steps { IsStanding (D.shown disk.old) pool.old volume.old → OnOk result (steps.new ≡ steps.old + unknown_to (tree_known (standing_for (D.shown disk.old) pool.old volume.old) info.now) index) }
+    ensures same { volume.new ≡ volume.old }
+    ensures reads { Reads (D.shown disk.old) pool.old (D.shown disk.new) pool.new }
+    ensures cause { BlockCause (IsStanding (D.shown disk.old) pool.old volume.old) (standing_for (D.shown disk.old) pool.old volume.old)
+        (lent_for pool.old volume.old.map (D.shown disk.old) steps.old (home_in volume.old) 0) (D.shown disk.new).faults result }
+{
+    let held = volume.files.is_some();
+    let home = Home {
+        slot: volume.slot,
+        label: volume.label,
+    };
+    let mut files = take_table(&mut volume.files, &volume.active, alloc);
+    let read = block_told::<Brand, D, L>(
+        &mut files,
+        pool,
+        disk,
+        &mut volume.map,
+        steps,
+        &home,
+        info,
+        index,
+        into,
+    );
+    volume.files = kept_table(held, files);
+    read
+}

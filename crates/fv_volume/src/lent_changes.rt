@@ -1,0 +1,229 @@
+//! Changes of the table of one volume over what a session lends. They load blocks and place none.
+
+ghost use Rattle.std.specs.Prelude.{◌≡◌, ◌≤◌, ◌<◌, ℕ, None, IfOk, OnOk};
+ghost use Rattle.fv_codec.specs.Blocks.{most_cells};
+ghost use Rattle.fv_model.specs.Tables.{new};
+ghost use Rattle.fv_tables.specs.Told.{file_at, table_told};
+ghost use Rattle.fv_inode.specs.Files.{rooted, IsInfo};
+ghost use Rattle.fv_inode.specs.Files.{IsFreeNumber, IsNumberIf};
+ghost use Rattle.fv_files.specs.Calls.{AddsCell, AddsFile, WritesCell};
+ghost use Rattle.fv_files.specs.Tables.{table_in, AreStanding, IsInfoOf};
+ghost use Rattle.fv_volume.specs.Calls.{BlockCause, LeavesTable, Reads};
+ghost use Rattle.fv_volume.specs.Lending.{CanLend, IsTold, lent_for, sees};
+
+use crate::blocks::Home;
+use crate::noted::Noted;
+use crate::pool::Pool;
+use crate::volume_blocks::{Guard, VolumeBlocks};
+use fv_container::Steps;
+use fv_disk::{Block, BlockFault, Disk};
+use fv_files::Files;
+use fv_inode::Info;
+use fv_model::Name;
+use fv_volmap::VolMap;
+use std::marker::PhantomData;
+use std::sync::ledger::{Blank, Ledger};
+
+/// How many positions a write of a cell adds to the file of which this is known.
+#[tactic(auto, using(crate::proofs::CallCauses::lent_reads, crate::proofs::CallCauses::lent_map))]
+pub(crate) fn added_told<K: Guard, D: Disk, L: Ledger>(
+    files: &mut Files,
+    pool: &mut Pool,
+    disk: &mut D,
+    map: &mut VolMap,
+    home: &Home,
+    blank: Blank,
+    info: &Info,
+    index: u32,
+) -> Result<u32, BlockFault>
+    requires name { blank.name ≡ L.name }
+    requires parts { blank.parts ≡ L.parts }
+    requires some { 0 < L.parts }
+    requires lent { CanLend pool.old map.old (D.shown disk.old) home.now.slot }
+    requires told { K.told → IsTold (D.shown disk.old) pool.old map.old home.now.slot }
+    requires index { index < 2097152 }
+    requires range { IsInfo info.now }
+    requires there { K.told → IsInfoOf (rooted (sees pool.old map.old (D.shown disk.old) home.now) files.old.inode) info.now }
+    ensures added { K.told → IfOk result (AddsCell (table_in (sees pool.old map.old (D.shown disk.old) home.now) files.old) info.now.number index) }
+    ensures few { IfOk result (λ count. count ≤ 6) }
+    ensures files { files.new ≡ files.old }
+    ensures map { map.new ≡ map.old }
+    ensures reads { Reads (D.shown disk.old) pool.old (D.shown disk.new) pool.new }
+    ensures cause { BlockCause K.told (table_in (sees pool.old map.old (D.shown disk.old) home.now) files.old) (lent_for pool.old map.old (D.shown disk.old) 0 home.now 0) (D.shown disk.new).faults result }
+{
+    let mut steps: Steps<L> = Steps::open(blank);
+    let mut blocks: VolumeBlocks<'_, '_, '_, '_, K, D, L> = VolumeBlocks {
+        pool,
+        disk,
+        map,
+        steps: &mut steps,
+        home: *home,
+        room: 0,
+        strays: 0,
+        noted: Noted::NONE,
+        of: PhantomData,
+    };
+    files.added(&mut blocks, info, index)
+}
+
+/// Writes a cell of the file of which this is known.
+#[tactic(auto, using(crate::proofs::CallCauses::lent_reads, crate::proofs::CallCauses::lent_map))]
+pub(crate) fn write_told<K: Guard, D: Disk, L: Ledger>(
+    files: &mut Files,
+    pool: &mut Pool,
+    disk: &mut D,
+    map: &mut VolMap,
+    home: &Home,
+    blank: Blank,
+    info: &Info,
+    index: u32,
+    block: &Block,
+    stamp: u64,
+) -> Result<(), BlockFault>
+    requires name { blank.name ≡ L.name }
+    requires parts { blank.parts ≡ L.parts }
+    requires some { 0 < L.parts }
+    requires lent { CanLend pool.old map.old (D.shown disk.old) home.now.slot }
+    requires told { K.told → IsTold (D.shown disk.old) pool.old map.old home.now.slot }
+    requires index { index < 2097152 }
+    requires stamp { 1 ≤ stamp }
+    requires range { IsInfo info.now }
+    requires there { K.told → IsInfoOf (rooted (sees pool.old map.old (D.shown disk.old) home.now) files.old.inode) info.now }
+    ensures written { K.told → OnOk result (WritesCell (table_in (sees pool.old map.old (D.shown disk.old) home.now) files.old) (table_in (sees pool.old map.new (D.shown disk.old) home.now) files.new) info.now.number index stamp block.now) }
+    ensures leaves { LeavesTable K.told (sees pool.old map.old (D.shown disk.old) home.now) (sees pool.old map.new (D.shown disk.old) home.now) files.old files.new result }
+    ensures map { map.new ≡ map.old }
+    ensures reads { Reads (D.shown disk.old) pool.old (D.shown disk.new) pool.new }
+    ensures cause { BlockCause K.told (table_in (sees pool.old map.old (D.shown disk.old) home.now) files.old) (lent_for pool.old map.old (D.shown disk.old) 0 home.now 0) (D.shown disk.new).faults result }
+{
+    let mut steps: Steps<L> = Steps::open(blank);
+    let mut blocks: VolumeBlocks<'_, '_, '_, '_, K, D, L> = VolumeBlocks {
+        pool,
+        disk,
+        map,
+        steps: &mut steps,
+        home: *home,
+        room: 0,
+        strays: 0,
+        noted: Noted::NONE,
+        of: PhantomData,
+    };
+    files.write(&mut blocks, info, index, block, stamp)
+}
+
+/// The least number that no file has; `None` where all below 262,144 are taken.
+#[tactic(auto, using(crate::proofs::CallCauses::lent_reads, crate::proofs::CallCauses::lent_map))]
+pub(crate) fn number_told<K: Guard, D: Disk, L: Ledger>(
+    files: &mut Files,
+    pool: &mut Pool,
+    disk: &mut D,
+    map: &mut VolMap,
+    home: &Home,
+    blank: Blank,
+) -> Result<Option<u32>, BlockFault>
+    requires name { blank.name ≡ L.name }
+    requires parts { blank.parts ≡ L.parts }
+    requires some { 0 < L.parts }
+    requires lent { CanLend pool.old map.old (D.shown disk.old) home.now.slot }
+    requires told { K.told → IsTold (D.shown disk.old) pool.old map.old home.now.slot }
+    ensures number { K.told → IfOk result (IsFreeNumber (rooted (sees pool.old map.old (D.shown disk.old) home.now) files.old.inode)) }
+    ensures range { IfOk result IsNumberIf }
+    ensures files { files.new ≡ files.old }
+    ensures map { map.new ≡ map.old }
+    ensures reads { Reads (D.shown disk.old) pool.old (D.shown disk.new) pool.new }
+    ensures cause { BlockCause K.told (table_in (sees pool.old map.old (D.shown disk.old) home.now) files.old) (lent_for pool.old map.old (D.shown disk.old) 0 home.now 0) (D.shown disk.new).faults result }
+{
+    let mut steps: Steps<L> = Steps::open(blank);
+    let mut blocks: VolumeBlocks<'_, '_, '_, '_, K, D, L> = VolumeBlocks {
+        pool,
+        disk,
+        map,
+        steps: &mut steps,
+        home: *home,
+        room: 0,
+        strays: 0,
+        noted: Noted::NONE,
+        of: PhantomData,
+    };
+    files.free_number(&mut blocks)
+}
+
+/// How many positions of the inode file a file of this number adds.
+#[tactic(auto, using(crate::proofs::CallCauses::lent_reads, crate::proofs::CallCauses::lent_map))]
+pub(crate) fn room_told<K: Guard, D: Disk, L: Ledger>(
+    files: &mut Files,
+    pool: &mut Pool,
+    disk: &mut D,
+    map: &mut VolMap,
+    home: &Home,
+    blank: Blank,
+    number: u32,
+) -> Result<u32, BlockFault>
+    requires name { blank.name ≡ L.name }
+    requires parts { blank.parts ≡ L.parts }
+    requires some { 0 < L.parts }
+    requires lent { CanLend pool.old map.old (D.shown disk.old) home.now.slot }
+    requires told { K.told → IsTold (D.shown disk.old) pool.old map.old home.now.slot }
+    requires number { number < 262144 }
+    ensures added { K.told → IfOk result (AddsFile (table_in (sees pool.old map.old (D.shown disk.old) home.now) files.old) number) }
+    ensures few { IfOk result (λ count. count ≤ 6) }
+    ensures files { files.new ≡ files.old }
+    ensures map { map.new ≡ map.old }
+    ensures reads { Reads (D.shown disk.old) pool.old (D.shown disk.new) pool.new }
+    ensures cause { BlockCause K.told (table_in (sees pool.old map.old (D.shown disk.old) home.now) files.old) (lent_for pool.old map.old (D.shown disk.old) 0 home.now 0) (D.shown disk.new).faults result }
+{
+    let mut steps: Steps<L> = Steps::open(blank);
+    let mut blocks: VolumeBlocks<'_, '_, '_, '_, K, D, L> = VolumeBlocks {
+        pool,
+        disk,
+        map,
+        steps: &mut steps,
+        home: *home,
+        room: 0,
+        strays: 0,
+        noted: Noted::NONE,
+        of: PhantomData,
+    };
+    files.added_by_new(&mut blocks, number)
+}
+
+/// Makes a file of a name under the least free number.
+#[tactic(auto, using(crate::proofs::CallCauses::lent_reads, crate::proofs::CallCauses::lent_map))]
+pub(crate) fn create_told<K: Guard, D: Disk, L: Ledger>(
+    files: &mut Files,
+    pool: &mut Pool,
+    disk: &mut D,
+    map: &mut VolMap,
+    home: &Home,
+    blank: Blank,
+    name: &Name,
+    reserve: u32,
+    stamp: u64,
+) -> Result<(), BlockFault>
+    requires name { blank.name ≡ L.name }
+    requires parts { blank.parts ≡ L.parts }
+    requires some { 0 < L.parts }
+    requires lent { CanLend pool.old map.old (D.shown disk.old) home.now.slot }
+    requires told { K.told → IsTold (D.shown disk.old) pool.old map.old home.now.slot }
+    requires stamp { 1 ≤ stamp }
+    requires reserve { reserve ≤ most_cells }
+    requires free { K.told → (n : ℕ) × (n < 262144) × (file_at (rooted (sees pool.old map.old (D.shown disk.old) home.now) files.old.inode) n ≡ None) }
+    ensures made { K.told → OnOk result (AreStanding (sees pool.old map.old (D.shown disk.old) home.now) files.old → table_told (table_in (sees pool.old map.new (D.shown disk.old) home.now) files.new) ≡ new (table_told (table_in (sees pool.old map.old (D.shown disk.old) home.now) files.old)) name.now reserve stamp) }
+    ensures leaves { LeavesTable K.told (sees pool.old map.old (D.shown disk.old) home.now) (sees pool.old map.new (D.shown disk.old) home.now) files.old files.new result }
+    ensures map { map.new ≡ map.old }
+    ensures reads { Reads (D.shown disk.old) pool.old (D.shown disk.new) pool.new }
+    ensures cause { BlockCause K.told (table_in (sees pool.old map.old (D.shown disk.old) home.now) files.old) (lent_for pool.old map.old (D.shown disk.old) 0 home.now 0) (D.shown disk.new).faults result }
+{
+    let mut steps: Steps<L> = Steps::open(blank);
+    let mut blocks: VolumeBlocks<'_, '_, '_, '_, K, D, L> = VolumeBlocks {
+        pool,
+        disk,
+        map,
+        steps: &mut steps,
+        home: *home,
+        room: 0,
+        strays: 0,
+        noted: Noted::NONE,
+        of: PhantomData,
+    };
+    files.create(&mut blocks, name, reserve, stamp)
+}

@@ -1,0 +1,205 @@
+//! The table of one volume over what a session lends: each call of the table, over the volume's blocks.
+
+ghost use Rattle.std.specs.Prelude.{◌≡◌, ◌≤◌, ◌<◌, ◌+◌, ◌/◌, ℕ, cond, IfOk, OnOk, IfSome, Option, Some, None};
+ghost use Rattle.std.specs.FinMap as fin;
+ghost use Rattle.fv_codec.specs.Blocks.{IsPointer};
+ghost use Rattle.fv_tables.specs.Spelled.{Under};
+ghost use Rattle.fv_tables.specs.Told.{records_each};
+ghost use Rattle.fv_tree.specs.Costs.{way_cost};
+ghost use Rattle.fv_tree.specs.Sources.{Use};
+ghost use Rattle.fv_inode.specs.Files.{rooted, Finds, IsInfo, IsInfoIf};
+ghost use Rattle.fv_inode.specs.Listing.{names_told};
+ghost use Rattle.fv_files.specs.Calls.{GivesCell};
+ghost use Rattle.fv_files.specs.Apart.{AreLed};
+ghost use Rattle.fv_files.specs.Pending.{pending_in};
+ghost use Rattle.fv_files.specs.Tables.{changed, loaded_trees, table_in, tree_known, AreSound, IsInfoOf};
+ghost use Rattle.fv_files.specs.Trees.{standing_in};
+ghost use Rattle.fv_volume.specs.Calls.{BlockCause, Reads};
+ghost use Rattle.fv_volume.specs.Lending.{CanLend, IsTold, lent_for, sees};
+ghost use Rattle.fv_volume.specs.OneVolume.{standing_by, AreSoundBy};
+ghost use Rattle.fv_volume.specs.Placing.{pending_of, AreLedBy};
+
+use crate::blocks::Home;
+use crate::noted::Noted;
+use crate::pool::Pool;
+use crate::state::Rooted;
+use crate::volume_blocks::{Guard, VolumeBlocks};
+use fv_container::Steps;
+use fv_disk::{Block, BlockFault, Disk};
+use fv_files::Files;
+use fv_inode::Info;
+use fv_model::{Name, Names};
+use fv_volmap::VolMap;
+use std::alloc::Global;
+use std::marker::{Brand, PhantomData};
+use std::sync::ledger::{Blank, Ledger};
+
+/// Takes the table out of a volume. One that isn't in memory is the one under the active root.
+pub(crate) fn take_table(files: &mut Option<Files>, active: &Rooted, alloc: Global) -> Files
+    requires levels { active.now.levels ≤ 2 }
+    requires root { IsPointer active.now.root }
+    ensures table { (blocks : Under) → standing_in blocks (changed result) ≡ standing_by blocks active.now files.old }
+    ensures trees { (blocks : Under) (used : ℕ → Option Use) → AreSoundBy blocks used active.now files.old → AreSound blocks used result }
+    ensures led { (blocks : Under) (used : ℕ → Option Use) → AreLedBy blocks used active.now files.old → AreLed used (loaded_trees blocks result) }
+    ensures pending { pending_in result ≡ pending_of files.old }
+    ensures held { IfSome files.old (λ f. result ≡ f) }
+    ensures left { files.new ≡ None }
+{
+    match files.take() {
+        Some(table) => table,
+        None => Files::at(alloc, active.levels, active.root),
+    }
+}
+
+/// The table as a volume keeps it: only where it was in memory.
+pub(crate) fn kept_table(held: bool, files: Files) -> Option<Files>
+    ensures { result ≡ cond held (Some files) None }
+{
+    if held { Some(files) } else { None }
+}
+
+/// What is known of the file of a name; `None` exactly where no file has it.
+#[tactic(auto, using(crate::proofs::CallCauses::lent_reads, crate::proofs::CallCauses::lent_map))]
+pub(crate) fn find_told<K: Guard, D: Disk, L: Ledger>(
+    files: &mut Files,
+    pool: &mut Pool,
+    disk: &mut D,
+    map: &mut VolMap,
+    home: &Home,
+    blank: Blank,
+    name: &Name,
+) -> Result<Option<Info>, BlockFault>
+    requires name { blank.name ≡ L.name }
+    requires parts { blank.parts ≡ L.parts }
+    requires some { 0 < L.parts }
+    requires lent { CanLend pool.old map.old (D.shown disk.old) home.now.slot }
+    requires told { K.told → IsTold (D.shown disk.old) pool.old map.old home.now.slot }
+    ensures found { K.told → IfOk result (Finds (rooted (sees pool.old map.old (D.shown disk.old) home.now) files.old.inode) name.now) }
+    ensures range { IfOk result IsInfoIf }
+    ensures files { files.new ≡ files.old }
+    ensures map { map.new ≡ map.old }
+    ensures reads { Reads (D.shown disk.old) pool.old (D.shown disk.new) pool.new }
+    ensures cause { BlockCause K.told (table_in (sees pool.old map.old (D.shown disk.old) home.now) files.old) (lent_for pool.old map.old (D.shown disk.old) 0 home.now 0) (D.shown disk.new).faults result }
+{
+    let mut steps: Steps<L> = Steps::open(blank);
+    let mut blocks: VolumeBlocks<'_, '_, '_, '_, K, D, L> = VolumeBlocks {
+        pool,
+        disk,
+        map,
+        steps: &mut steps,
+        home: *home,
+        room: 0,
+        strays: 0,
+        noted: Noted::NONE,
+        of: PhantomData,
+    };
+    files.find(&mut blocks, name)
+}
+
+/// The names of all files, in byte order.
+#[tactic(auto, using(crate::proofs::CallCauses::lent_reads, crate::proofs::CallCauses::lent_map))]
+pub(crate) fn list_told<K: Guard, D: Disk, L: Ledger>(
+    files: &mut Files,
+    pool: &mut Pool,
+    disk: &mut D,
+    map: &mut VolMap,
+    home: &Home,
+    blank: Blank,
+) -> Result<Names, BlockFault>
+    requires name { blank.name ≡ L.name }
+    requires parts { blank.parts ≡ L.parts }
+    requires some { 0 < L.parts }
+    requires lent { CanLend pool.old map.old (D.shown disk.old) home.now.slot }
+    requires told { K.told → IsTold (D.shown disk.old) pool.old map.old home.now.slot }
+    ensures names { K.told → IfOk result (λ names. names ≡ fin.keys (names_told (rooted (sees pool.old map.old (D.shown disk.old) home.now) files.old.inode))) }
+    ensures files { files.new ≡ files.old }
+    ensures map { map.new ≡ map.old }
+    ensures reads { Reads (D.shown disk.old) pool.old (D.shown disk.new) pool.new }
+    ensures cause { BlockCause K.told (table_in (sees pool.old map.old (D.shown disk.old) home.now) files.old) (lent_for pool.old map.old (D.shown disk.old) 0 home.now 0) (D.shown disk.new).faults result }
+{
+    let mut steps: Steps<L> = Steps::open(blank);
+    let mut blocks: VolumeBlocks<'_, '_, '_, '_, K, D, L> = VolumeBlocks {
+        pool,
+        disk,
+        map,
+        steps: &mut steps,
+        home: *home,
+        room: 0,
+        strays: 0,
+        noted: Noted::NONE,
+        of: PhantomData,
+    };
+    files.list(&mut blocks)
+}
+
+/// Looks the record of a file up, for the steps of the path to it.
+#[tactic(auto, using(crate::proofs::CallCauses::lent_reads, crate::proofs::CallCauses::lent_map))]
+pub(crate) fn record_told<K: Guard, D: Disk, L: Ledger>(
+    files: &mut Files,
+    pool: &mut Pool,
+    disk: &mut D,
+    map: &mut VolMap,
+    steps: &mut Steps<L>,
+    home: &Home,
+    number: u32,
+) -> Result<(), BlockFault>
+    requires lent { CanLend pool.old map.old (D.shown disk.old) home.now.slot }
+    requires told { K.told → IsTold (D.shown disk.old) pool.old map.old home.now.slot }
+    ensures steps { K.told → OnOk result (steps.new ≡ steps.old + way_cost (sees pool.old map.old (D.shown disk.old) home.now).cost (rooted (sees pool.old map.old (D.shown disk.old) home.now) files.old.inode) (number / records_each)) }
+    ensures files { files.new ≡ files.old }
+    ensures map { map.new ≡ map.old }
+    ensures reads { Reads (D.shown disk.old) pool.old (D.shown disk.new) pool.new }
+    ensures cause { BlockCause K.told (table_in (sees pool.old map.old (D.shown disk.old) home.now) files.old) (lent_for pool.old map.old (D.shown disk.old) steps.old home.now 0) (D.shown disk.new).faults result }
+{
+    let mut blocks: VolumeBlocks<'_, '_, '_, '_, K, D, L> = VolumeBlocks {
+        pool,
+        disk,
+        map,
+        steps,
+        home: *home,
+        room: 0,
+        strays: 0,
+        noted: Noted::NONE,
+        of: PhantomData,
+    };
+    files.look(&mut blocks, number)?;
+    Ok(())
+}
+
+/// A block of the file of which this is known, or zeros.
+#[tactic(auto, using(crate::proofs::CallCauses::lent_reads, crate::proofs::CallCauses::lent_map))]
+pub(crate) fn block_told<K: Guard, D: Disk, L: Ledger>(
+    files: &mut Files,
+    pool: &mut Pool,
+    disk: &mut D,
+    map: &mut VolMap,
+    steps: &mut Steps<L>,
+    home: &Home,
+    info: &Info,
+    index: u32,
+    into: &mut Block,
+) -> Result<(), BlockFault>
+    requires lent { CanLend pool.old map.old (D.shown disk.old) home.now.slot }
+    requires told { K.told → IsTold (D.shown disk.old) pool.old map.old home.now.slot }
+    requires range { IsInfo info.now }
+    requires there { K.told → IsInfoOf (rooted (sees pool.old map.old (D.shown disk.old) home.now) files.old.inode) info.now }
+    ensures block { K.told → OnOk result (GivesCell (table_in (sees pool.old map.old (D.shown disk.old) home.now) files.old) info.now.number index into.new) }
+    ensures steps { K.told → OnOk result (steps.new ≡ steps.old + way_cost (sees pool.old map.old (D.shown disk.old) home.now).cost (tree_known (table_in (sees pool.old map.old (D.shown disk.old) home.now) files.old) info.now) index) }
+    ensures files { files.new ≡ files.old }
+    ensures map { map.new ≡ map.old }
+    ensures reads { Reads (D.shown disk.old) pool.old (D.shown disk.new) pool.new }
+    ensures cause { BlockCause K.told (table_in (sees pool.old map.old (D.shown disk.old) home.now) files.old) (lent_for pool.old map.old (D.shown disk.old) steps.old home.now 0) (D.shown disk.new).faults result }
+{
+    let mut blocks: VolumeBlocks<'_, '_, '_, '_, K, D, L> = VolumeBlocks {
+        pool,
+        disk,
+        map,
+        steps,
+        home: *home,
+        room: 0,
+        strays: 0,
+        noted: Noted::NONE,
+        of: PhantomData,
+    };
+    files.read(&mut blocks, info, index, into)
+}

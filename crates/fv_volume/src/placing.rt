@@ -1,0 +1,157 @@
+//! Placing what changed of the files of a volume.
+
+ghost use Rattle.std.specs.Prelude.{◌≡◌, ◌≤◌, ◌<◌, ◌+◌, min, true, None, is_some, IfErr, OnOk};
+ghost use Rattle.fv_store.specs.Held.{StandsOn};
+ghost use Rattle.fv_tree.specs.Standing.{under};
+ghost use Rattle.fv_files.specs.Pending.{pending_in};
+ghost use Rattle.fv_files.specs.Tables.{table_in, AreStanding};
+ghost use Rattle.fv_volume.specs.BlocksOver.{HasRoom};
+ghost use Rattle.fv_volume.specs.Lending.{CanLend, IsTold, lent_for, sees};
+ghost use Rattle.fv_volume.specs.OneVolume.{home_in, standing_for, volume_for, IsReady, IsStanding};
+ghost use Rattle.fv_volume.specs.Placing.{FlushCause, Goes, ComesOfLoad, IsLedTo, FaultOfLoad, IsSeen, KeepsPlaced, LeavesOthers, PlaceCause, PlacesTable, pending_of};
+
+use crate::blocks::Home;
+use crate::fault::VolumeFault;
+use crate::noted::Noted;
+use crate::pool::Pool;
+use crate::state::{Rooted, VolumeState};
+use crate::volume_blocks::{Guard, VolumeBlocks};
+use fv_codec::Pointer;
+use fv_container::Steps;
+use fv_disk::{BlockFault, Disk};
+use fv_files::Files;
+use fv_volmap::VolMap;
+use std::marker::{Brand, PhantomData};
+use std::sync::ledger::{Blank, Ledger};
+
+impl VolumeState {
+    /// Places what changed of the files since the last flush: each block gets a VVBN and a PVBN, its entry is set, and it is kept in
+    /// the pool until the next consistency point. The files' trees come first, each with its root laid into its inode block, and the
+    /// inode file last. Then nothing of the files is in memory, and `active` names them. In every outcome the volume stands for what it
+    /// stood for, as each other one does, and a later flush goes on where one failed. It writes nothing to the disk.
+    ///
+    /// `room` says how many numbers and blocks the caller made sure of. It doesn't rise, and so many are free afterwards. For a volume that
+    /// stands it falls by no more than what is pending does, and where it is enough for all that is pending, damage comes of a load alone.
+    ///
+    /// # Errors
+    ///
+    /// `DiskFault` only where a read failed in this call. `Damaged` where a pointer's VVBN isn't held, at the place of the volume's
+    /// label with 1 and 0; where the room is used up and a number or a block is lacking, at the place of the label or of the root
+    /// with 1 and 0; and for a node or an inode block without its shape: its place, and its first field that isn't as said.
+    /// `Memory` where memory ran out. It refuses nothing.
+    ///
+    /// Costs a block for each node and cell that changed, for each inode block of a file that changed and each node over those.
+    /// `docs/SPACE.md` has what waits for a point.
+    pub fn flush<D: Disk>(
+        &mut self,
+        pool: &mut Pool,
+        disk: &mut D,
+        room: &mut u32,
+    ) -> Result<(), VolumeFault>
+        requires ready { IsReady (D.shown disk.old) pool.old self.old }
+        requires free { HasRoom pool.old.map self.old.map room.old }
+        ensures standing { IsStanding (D.shown disk.old) pool.old self.old → IsStanding (D.shown disk.new) pool.new self.new }
+        ensures volume { IsStanding (D.shown disk.old) pool.old self.old → volume_for (D.shown disk.new) pool.new self.new ≡ volume_for (D.shown disk.old) pool.old self.old }
+        ensures led { IsStanding (D.shown disk.old) pool.old self.old → IsLedTo (D.shown disk.old) pool.old self.old → IsLedTo (D.shown disk.new) pool.new self.new }
+        ensures none { OnOk result (self.new.files ≡ None) }
+        ensures seen { OnOk result (IsStanding (D.shown disk.old) pool.old self.old → IsSeen (D.shown disk.new) pool.new self.new) }
+        ensures ready { IsReady (D.shown disk.new) pool.new self.new }
+        ensures keeps { KeepsPlaced self.old self.new }
+        ensures changed { is_some self.old.files ≡ true → self.new.changed ≡ true }
+        ensures idle { self.old.files ≡ None → (disk.new ≡ disk.old) × ((pool.new ≡ pool.old) × ((self.new ≡ self.old) × (room.new ≡ room.old))) }
+        ensures goes { Goes (lent_for pool.old self.old.map (D.shown disk.old) 0 (home_in self.old) room.old) pool.new self.new.map (D.shown disk.new) room.new }
+        ensures pending { OnOk result (pending_of self.new.files ≡ 0) }
+        ensures fits { IsStanding (D.shown disk.old) pool.old self.old
+            → (pending_of self.new.files ≤ pending_of self.old.files) × (room.old + pending_of self.new.files ≤ room.new + pending_of self.old.files) }
+        ensures enough { IsStanding (D.shown disk.old) pool.old self.old → pending_of self.old.files ≤ room.old
+            → IfErr result (FaultOfLoad (IsStanding (D.shown disk.old) pool.old self.old) (standing_for (D.shown disk.old) pool.old self.old)) }
+        ensures others { LeavesOthers (D.shown disk.old) pool.old self.old.slot (D.shown disk.new) pool.new }
+        ensures free { HasRoom pool.new.map self.new.map room.new }
+        ensures cause { FlushCause (IsStanding (D.shown disk.old) pool.old self.old) (standing_for (D.shown disk.old) pool.old self.old)
+            (lent_for pool.old self.old.map (D.shown disk.old) 0 (home_in self.old) room.old) (D.shown disk.new).faults room.new result }
+    {
+        let Some(mut files) = self.files.take() else {
+            return Ok(());
+        };
+        self.changed = true;
+        let home = Home {
+            slot: self.slot,
+            label: self.label,
+        };
+        match place_table::<Brand, D, Brand>(
+            &mut files,
+            pool,
+            disk,
+            &mut self.map,
+            &home,
+            Blank::new(1),
+            room,
+        ) {
+            Ok(root) => {
+                self.active = rooted(&files, root);
+                Ok(())
+            }
+            Err(fault) => {
+                self.files = Some(files);
+                Err(fault.into())
+            }
+        }
+    }
+}
+
+/// Places what changed of the table of a volume, over the volume's blocks. Answers the root of its inode file.
+fn place_table<K: Guard, D: Disk, L: Ledger>(
+    files: &mut Files,
+    pool: &mut Pool,
+    disk: &mut D,
+    map: &mut VolMap,
+    home: &Home,
+    blank: Blank,
+    room: &mut u32,
+) -> Result<Pointer, BlockFault>
+    requires name { blank.name ≡ L.name }
+    requires parts { blank.parts ≡ L.parts }
+    requires some { 0 < L.parts }
+    requires lent { CanLend pool.old map.old (D.shown disk.old) home.now.slot }
+    requires free { HasRoom pool.old.map map.old room.old }
+    requires told { K.told → IsTold (D.shown disk.old) pool.old map.old home.now.slot }
+    requires stands { K.told → AreStanding (sees pool.old map.old (D.shown disk.old) home.now) files.old }
+    ensures table { PlacesTable K.told (sees pool.old map.old (D.shown disk.old) home.now)
+        (under (sees pool.new map.new (D.shown disk.new) home.now)) (sees pool.new map.new (D.shown disk.new) home.now).used files.old files.new result }
+    ensures goes { Goes (lent_for pool.old map.old (D.shown disk.old) 0 home.now room.old) pool.new map.new (D.shown disk.new) room.new }
+    ensures nothing { OnOk result (pending_in files.new ≡ 0) }
+    ensures fits { K.told → (pending_in files.new ≤ pending_in files.old) × (room.old + pending_in files.new ≤ room.new + pending_in files.old) }
+    ensures enough { K.told → pending_in files.old ≤ room.old → IfErr result (ComesOfLoad K.told (table_in (sees pool.old map.old (D.shown disk.old) home.now) files.old)) }
+    ensures stands { StandsOn (D.shown disk.new) pool.new.store.pairs }
+    ensures told { K.told → IsTold (D.shown disk.new) pool.new map.new home.now.slot }
+    ensures free { HasRoom pool.new.map map.new room.new }
+    ensures cause { PlaceCause K.told (table_in (sees pool.old map.old (D.shown disk.old) home.now) files.old)
+        (lent_for pool.old map.old (D.shown disk.old) 0 home.now room.old) (D.shown disk.new).faults room.new result }
+{
+    let mut steps: Steps<L> = Steps::open(blank);
+    let mut blocks: VolumeBlocks<'_, '_, '_, '_, K, D, L> = VolumeBlocks {
+        pool,
+        disk,
+        map,
+        steps: &mut steps,
+        home: *home,
+        room: *room,
+        strays: 0,
+        noted: Noted::NONE,
+        of: PhantomData,
+    };
+    let placed = files.flush(&mut blocks);
+    *room = blocks.room;
+    placed
+}
+
+/// The table that a root spells. An inode file has at most two levels.
+fn rooted(files: &Files, root: Pointer) -> Rooted
+    ensures { result ≡ record { levels = min files.now.inode.tree.levels 2; root = root } }
+{
+    let levels = files.levels();
+    Rooted {
+        levels: if levels < 2 { levels } else { 2 },
+        root,
+    }
+}

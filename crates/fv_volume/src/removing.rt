@@ -1,0 +1,301 @@
+//! Removals of blocks and of files of a volume.
+
+ghost use Rattle.std.specs.Prelude.{◌≡◌, ◌≤◌, ◌<◌, ◌+◌, ◌^◌, ℕ, pos, ◌+ℤ◌, ◌≤ℤ◌, IfOk, IfErr, OnOk};
+ghost use Rattle.fv_charge.specs.Changes.{CanChange};
+ghost use Rattle.fv_model.specs.Numbers.{greatest_span, most_changes};
+ghost use Rattle.fv_model.specs.declared.commands.Command.TheVariants.{Cut, Remove};
+ghost use Rattle.fv_inode.specs.Files.{IsInfo};
+ghost use Rattle.fv_files.specs.Calls.{CutsFile, RemovesFile, TakesByCut, TakesByRemoval};
+ghost use Rattle.fv_files.specs.Tables.{IsInfoOf};
+ghost use Rattle.fv_volume.specs.Calls.{BlockCause, CallCause, Changes, HasWithin, KeepsHead, Reads};
+ghost use Rattle.fv_volume.specs.Changing.{AcceptsCut, AcceptsRemoval, AltersTable, RefusedIn};
+ghost use Rattle.fv_volume.specs.Lending.{lent_for};
+ghost use Rattle.fv_volume.specs.Placing.{pending_of, IsLedTo};
+ghost use Rattle.fv_volume.specs.OneVolume.{home_in, standing_for, volume_for, IsReady, IsStanding};
+
+use crate::asking::find_file;
+use crate::blocks::Home;
+use crate::changing::{MOST_CHANGES, count_change};
+use crate::fault::VolumeFault;
+use crate::lent_files::take_table;
+use crate::lent_removals::{cut_told, remove_told};
+use crate::pool::Pool;
+use crate::state::VolumeState;
+use fv_charge::{Delta, Ledger};
+use fv_disk::{BlockFault, Disk};
+use fv_inode::Info;
+use fv_model::{Name, Refusal, in_reserve};
+use std::alloc::Global;
+use std::marker::Brand;
+use std::sync::ledger::Blank;
+
+impl VolumeState {
+    /// Cuts a file to a length, in blocks: its cells from there on go. The volume counts one change more, whose number is the
+    /// stamp, also where no cell goes. What changed is in memory. Of the pool nothing changes but its cache, and of the volume's
+    /// maps only the active one, out of which the numbers of what went are taken.
+    ///
+    /// `others` is what the other volumes of the aggregate commit together, in blocks.
+    ///
+    /// # Errors
+    ///
+    /// `Refused` as the machine refuses `cut` where no volume uses more than its size and all of them commit no more than there is,
+    /// in this order: the length passes 2,097,152; no file has the name; the length passes the file's; the volume has counted 2^62
+    /// changes. It is never refused for space there. The other errors as `put`. After each of them the volume stands for what it
+    /// stood for.
+    ///
+    /// Costs what `length` does, then a block for each node and cell that goes and for the file's inode block with the nodes over
+    /// it, as far as they aren't in memory. `docs/MACHINE.md` has the command.
+    pub fn cut<D: Disk>(
+        &mut self,
+        alloc: Global,
+        pool: &mut Pool,
+        disk: &mut D,
+        others: u64,
+        file: &Name,
+        length: u32,
+    ) -> Result<(), VolumeFault>
+        requires ready { IsReady (D.shown disk.old) pool.old self.old }
+        ensures changes { IsStanding (D.shown disk.old) pool.old self.old
+            → Changes (HasWithin self.old.name (volume_for (D.shown disk.old) pool.old self.old) others pool.old.found.blocks) (Cut self.old.name file.now length) self.old.name
+            (volume_for (D.shown disk.old) pool.old self.old) (volume_for (D.shown disk.new) pool.new self.new) result }
+        ensures standing { IsStanding (D.shown disk.old) pool.old self.old → IsStanding (D.shown disk.new) pool.new self.new }
+        ensures led { IsStanding (D.shown disk.old) pool.old self.old → IsLedTo (D.shown disk.old) pool.old self.old → IsLedTo (D.shown disk.new) pool.new self.new }
+        ensures room { IsStanding (D.shown disk.old) pool.old self.old → pending_of self.new.files ≤ pending_of self.old.files + 16 }
+        ensures ready { IsReady (D.shown disk.new) pool.new self.new }
+        ensures head { KeepsHead self.old self.new result }
+        ensures reads { Reads (D.shown disk.old) pool.old (D.shown disk.new) pool.new }
+        ensures cause { CallCause (IsStanding (D.shown disk.old) pool.old self.old) (standing_for (D.shown disk.old) pool.old self.old)
+            (lent_for pool.old self.old.map (D.shown disk.old) 0 (home_in self.old) 0) (D.shown disk.new).faults result }
+    {
+        let info = judge_cut(self, alloc, pool, disk, file, length)?;
+        let count = cut_blocks(self, alloc, pool, disk, &info, length)?;
+        let delta = fewer_blocks(&self.ledger, count);
+        count_change(self, &delta);
+        Ok(())
+    }
+
+    /// Removes a file. The volume counts one change more, whose number is the stamp. What changed is in memory. Of the pool nothing
+    /// changes but its cache, and of the volume's maps only the active one, out of which the numbers of what went are taken.
+    ///
+    /// `others` is what the other volumes of the aggregate commit together, in blocks.
+    ///
+    /// # Errors
+    ///
+    /// `Refused` as the machine refuses `rm` where no volume uses more than its size and all of them commit no more than there is:
+    /// no file has the name; the volume has counted 2^62 changes. It is never refused for space there. The other errors as `put`.
+    /// After each of them the volume stands for what it stood for.
+    ///
+    /// Costs what `length` does, then a block for each node and cell of the file and for its inode block with the nodes over it, as
+    /// far as they aren't in memory. `docs/MACHINE.md` has the command.
+    pub fn remove<D: Disk>(
+        &mut self,
+        alloc: Global,
+        pool: &mut Pool,
+        disk: &mut D,
+        others: u64,
+        file: &Name,
+    ) -> Result<(), VolumeFault>
+        requires ready { IsReady (D.shown disk.old) pool.old self.old }
+        ensures changes { IsStanding (D.shown disk.old) pool.old self.old
+            → Changes (HasWithin self.old.name (volume_for (D.shown disk.old) pool.old self.old) others pool.old.found.blocks) (Remove self.old.name file.now) self.old.name
+            (volume_for (D.shown disk.old) pool.old self.old) (volume_for (D.shown disk.new) pool.new self.new) result }
+        ensures standing { IsStanding (D.shown disk.old) pool.old self.old → IsStanding (D.shown disk.new) pool.new self.new }
+        ensures led { IsStanding (D.shown disk.old) pool.old self.old → IsLedTo (D.shown disk.old) pool.old self.old → IsLedTo (D.shown disk.new) pool.new self.new }
+        ensures room { IsStanding (D.shown disk.old) pool.old self.old → pending_of self.new.files ≤ pending_of self.old.files + 16 }
+        ensures ready { IsReady (D.shown disk.new) pool.new self.new }
+        ensures head { KeepsHead self.old self.new result }
+        ensures reads { Reads (D.shown disk.old) pool.old (D.shown disk.new) pool.new }
+        ensures cause { CallCause (IsStanding (D.shown disk.old) pool.old self.old) (standing_for (D.shown disk.old) pool.old self.old)
+            (lent_for pool.old self.old.map (D.shown disk.old) 0 (home_in self.old) 0) (D.shown disk.new).faults result }
+    {
+        let info = judge_removal(self, alloc, pool, disk, file)?;
+        let count = drop_file(self, alloc, pool, disk, &info)?;
+        let delta = fewer_blocks(&self.ledger, count);
+        count_change(self, &delta);
+        Ok(())
+    }
+}
+
+/// Whether a cut is accepted, and of which file.
+fn judge_cut<D: Disk>(
+    volume: &mut VolumeState,
+    alloc: Global,
+    pool: &mut Pool,
+    disk: &mut D,
+    file: &Name,
+    length: u32,
+) -> Result<Info, VolumeFault>
+    requires ready { IsReady (D.shown disk.old) pool.old volume.old }
+    ensures refused { IsStanding (D.shown disk.old) pool.old volume.old
+        → IfErr result (λ e. (others : ℕ) → RefusedIn (HasWithin volume.old.name (volume_for (D.shown disk.old) pool.old volume.old) others pool.old.found.blocks) (Cut volume.old.name file.now length) e) }
+    ensures accepted { IsStanding (D.shown disk.old) pool.old volume.old → IfOk result (AcceptsCut (D.shown disk.old) pool.old volume.old file.now length) }
+    ensures near { OnOk result (length ≤ 2097152) }
+    ensures range { IfOk result IsInfo }
+    ensures more { OnOk result (volume.old.now < most_changes) }
+    ensures same { volume.new ≡ volume.old }
+    ensures reads { Reads (D.shown disk.old) pool.old (D.shown disk.new) pool.new }
+    ensures cause { CallCause (IsStanding (D.shown disk.old) pool.old volume.old) (standing_for (D.shown disk.old) pool.old volume.old)
+        (lent_for pool.old volume.old.map (D.shown disk.old) 0 (home_in volume.old) 0) (D.shown disk.new).faults result }
+{
+    if !in_reserve(u64::from(length)) {
+        return Err(VolumeFault::Refused(Refusal::Range));
+    }
+    let Some(info) = find_file(volume, alloc, pool, disk, file)? else {
+        return Err(VolumeFault::Refused(Refusal::NoFile));
+    };
+    if info.length < length {
+        return Err(VolumeFault::Refused(Refusal::Range));
+    }
+    if volume.now >= MOST_CHANGES {
+        return Err(VolumeFault::Refused(Refusal::TooMany));
+    }
+    Ok(info)
+}
+
+/// Whether the removal of a file is accepted, and of which file.
+fn judge_removal<D: Disk>(
+    volume: &mut VolumeState,
+    alloc: Global,
+    pool: &mut Pool,
+    disk: &mut D,
+    file: &Name,
+) -> Result<Info, VolumeFault>
+    requires ready { IsReady (D.shown disk.old) pool.old volume.old }
+    ensures refused { IsStanding (D.shown disk.old) pool.old volume.old
+        → IfErr result (λ e. (others : ℕ) → RefusedIn (HasWithin volume.old.name (volume_for (D.shown disk.old) pool.old volume.old) others pool.old.found.blocks) (Remove volume.old.name file.now) e) }
+    ensures accepted { IsStanding (D.shown disk.old) pool.old volume.old → IfOk result (AcceptsRemoval (D.shown disk.old) pool.old volume.old file.now) }
+    ensures range { IfOk result IsInfo }
+    ensures more { OnOk result (volume.old.now < most_changes) }
+    ensures same { volume.new ≡ volume.old }
+    ensures reads { Reads (D.shown disk.old) pool.old (D.shown disk.new) pool.new }
+    ensures cause { CallCause (IsStanding (D.shown disk.old) pool.old volume.old) (standing_for (D.shown disk.old) pool.old volume.old)
+        (lent_for pool.old volume.old.map (D.shown disk.old) 0 (home_in volume.old) 0) (D.shown disk.new).faults result }
+{
+    let Some(info) = find_file(volume, alloc, pool, disk, file)? else {
+        return Err(VolumeFault::Refused(Refusal::NoFile));
+    };
+    if volume.now >= MOST_CHANGES {
+        return Err(VolumeFault::Refused(Refusal::TooMany));
+    }
+    Ok(info)
+}
+
+/// A change of a ledger by so many blocks fewer, down to none.
+pub(crate) fn fewer_blocks(ledger: &Ledger, count: u32) -> Delta
+    requires charge { ledger.now.charge ≤ greatest_span }
+    requires need { ledger.now.need ≡ 0 }
+    ensures charge { count ≤ ledger.now.charge → (result.charge +ℤ pos count) ≡ pos 0 }
+    ensures need { result.need ≡ pos 0 }
+    ensures size { result.size ≡ ledger.now.size }
+    ensures kind { result.kind ≡ ledger.now.kind }
+    ensures fits { CanChange ledger.now result }
+    ensures less { (result.charge ≤ℤ pos 0) }
+{
+    let taken = lesser(count, ledger.charge);
+    Delta {
+        charge: fallen(taken),
+        need: 0,
+        size: ledger.size,
+        kind: ledger.kind,
+    }
+}
+
+/// The lesser of two numbers.
+fn lesser(count: u32, most: u32) -> u32
+    ensures within { result ≤ most }
+    ensures same { count ≤ most → result ≡ count }
+{
+    count.min(most)
+}
+
+/// A number of blocks, as one by which a charge falls.
+fn fallen(count: u32) -> i64
+    ensures { (result +ℤ pos count) ≡ pos 0 }
+{
+    -i64::from(count)
+}
+
+/// Cuts the file of which this is known, stamped with the number of the next change; answers how many positions went.
+#[tactic(auto, using(crate::proofs::OneVolumes::root_fits, crate::proofs::OneVolumes::levels_fit))]
+fn cut_blocks<D: Disk>(
+    volume: &mut VolumeState,
+    alloc: Global,
+    pool: &mut Pool,
+    disk: &mut D,
+    info: &Info,
+    length: u32,
+) -> Result<u32, BlockFault>
+    requires ready { IsReady (D.shown disk.old) pool.old volume.old }
+    requires more { volume.old.now < most_changes }
+    requires length { length ≤ 2097152 }
+    requires range { IsInfo info.now }
+    requires there { IsStanding (D.shown disk.old) pool.old volume.old → IsInfoOf (standing_for (D.shown disk.old) pool.old volume.old).inode info.now }
+    ensures cut { IsStanding (D.shown disk.old) pool.old volume.old
+        → OnOk result (CutsFile (standing_for (D.shown disk.old) pool.old volume.old) (standing_for (D.shown disk.old) pool.old volume.new) info.now.number length (volume.old.now + 1)) }
+    ensures counted { IsStanding (D.shown disk.old) pool.old volume.old → IfOk result (TakesByCut (standing_for (D.shown disk.old) pool.old volume.old) info.now.number length (volume.old.now + 1)) }
+    ensures alters { AltersTable (D.shown disk.old) pool.old (D.shown disk.new) pool.new volume.old volume.new result }
+    ensures cause { BlockCause (IsStanding (D.shown disk.old) pool.old volume.old) (standing_for (D.shown disk.old) pool.old volume.old)
+        (lent_for pool.old volume.old.map (D.shown disk.old) 0 (home_in volume.old) 0) (D.shown disk.new).faults result }
+{
+    let home = Home {
+        slot: volume.slot,
+        label: volume.label,
+    };
+    let stamp = volume.now + 1;
+    let mut files = take_table(&mut volume.files, &volume.active, alloc);
+    let gone = cut_told::<Brand, D, Brand>(
+        &mut files,
+        pool,
+        disk,
+        &mut volume.map,
+        &home,
+        Blank::new(1),
+        info,
+        length,
+        stamp,
+    );
+    volume.files = Some(files);
+    volume.changed = true;
+    gone
+}
+
+/// Removes the file of which this is known, stamped with the number of the next change; answers how many positions went.
+#[tactic(auto, using(crate::proofs::OneVolumes::root_fits, crate::proofs::OneVolumes::levels_fit))]
+fn drop_file<D: Disk>(
+    volume: &mut VolumeState,
+    alloc: Global,
+    pool: &mut Pool,
+    disk: &mut D,
+    info: &Info,
+) -> Result<u32, BlockFault>
+    requires ready { IsReady (D.shown disk.old) pool.old volume.old }
+    requires more { volume.old.now < most_changes }
+    requires range { IsInfo info.now }
+    requires there { IsStanding (D.shown disk.old) pool.old volume.old → IsInfoOf (standing_for (D.shown disk.old) pool.old volume.old).inode info.now }
+    ensures removed { IsStanding (D.shown disk.old) pool.old volume.old
+        → OnOk result (RemovesFile (standing_for (D.shown disk.old) pool.old volume.old) (standing_for (D.shown disk.old) pool.old volume.new) info.now.number (volume.old.now + 1)) }
+    ensures counted { IsStanding (D.shown disk.old) pool.old volume.old → IfOk result (TakesByRemoval (standing_for (D.shown disk.old) pool.old volume.old) info.now.number (volume.old.now + 1)) }
+    ensures alters { AltersTable (D.shown disk.old) pool.old (D.shown disk.new) pool.new volume.old volume.new result }
+    ensures cause { BlockCause (IsStanding (D.shown disk.old) pool.old volume.old) (standing_for (D.shown disk.old) pool.old volume.old)
+        (lent_for pool.old volume.old.map (D.shown disk.old) 0 (home_in volume.old) 0) (D.shown disk.new).faults result }
+{
+    let home = Home {
+        slot: volume.slot,
+        label: volume.label,
+    };
+    let stamp = volume.now + 1;
+    let mut files = take_table(&mut volume.files, &volume.active, alloc);
+    let gone = remove_told::<Brand, D, Brand>(
+        &mut files,
+        pool,
+        disk,
+        &mut volume.map,
+        &home,
+        Blank::new(1),
+        info,
+        stamp,
+    );
+    volume.files = Some(files);
+    volume.changed = true;
+    gone
+}
