@@ -36,7 +36,7 @@ use Rattle.fv_volume.specs.declared.state.VolumeState.{VolumeState}
 use Rattle.fv_volume.specs.Housed.{AreHoused, as_written, settled_at}
 use Rattle.fv_volume.specs.Keeping.{Blocks, seen as block_seen}
 use Rattle.fv_volume.specs.Loading.{IsLoaded, label_of}
-use Rattle.fv_volume.specs.States.{States, head_in, place_in, placed_in, state_at, view_over}
+use Rattle.fv_volume.specs.States.{States, head_in, label_in_state, placed_in, state_at, view_over}
 use Rattle.fv_volume.specs.Stored.{AreApartIn, AreSpacedIn}
 use Rattle.fv_volume.specs.Writing.{on_disk}
 use Rattle.fv_volume.proofs.LentSlots.{lent_from_loaded, loaded_from_lent}
@@ -204,7 +204,7 @@ module _ (disk : Shown) (pool : Pool) (states : States) (before : Machine) (lent
     place_stays s inside None there = tt
     place_stays s inside (Some x) there = λ unchanged.
         let same : IfSome (state_at states s) (λ y. y.changed ≡ false) = subst (λ (o : Option VolumeState). IfSome o (λ y. y.changed ≡ false)) (sym there) unchanged in
-        sym (loaded_then s inside).label ∙ ap place_in (settled_same (state_at states s) (get_or labels s 0) same) ∙ (loaded_from_lent disk.reads pool.found s (state_at states s) (container_at pool.containers s) (lent.slots s inside) same).label
+        sym (loaded_then s inside).label ∙ ap label_in_state (settled_same (state_at states s) (get_or labels s 0) same) ∙ (loaded_from_lent disk.reads pool.found s (state_at states s) (container_at pool.containers s) (lent.slots s inside) same).label
 
     places_stay : (s : ℕ) → IfSome (state_at states s) (λ x. x.changed ≡ false → label_place u s ≡ label_place (root_found pool.found) s)
     places_stay s = ⊎_elim

@@ -1,6 +1,6 @@
 -- What is asked of a volume is answered as the machine answers it.
-use Rattle.std.proofs.Common.{◌≡◌, ℕ, ◌+◌, ◌<◌, ◌≤◌, Bool, true, false, List, Option, Some, None, replicate, refl, sym, ap, subst, ◌∙◌, arith, is_some, option_copied, Bor}
-use Rattle.std.specs.Prelude.{Result, Ok, Err, unwrap_or}
+use Rattle.std.proofs.Common.{◌≡◌, ℕ, ◌<◌, ◌≤◌, true, false, List, Option, Some, None, replicate, refl, sym, ap, subst, ◌∙◌, arith, is_some, option_copied, Bor}
+use Rattle.std.specs.Prelude.{Ok, Err, unwrap_or}
 use Rattle.std.specs.Option.{option_map}
 use Rattle.std.specs.FinMap as fin
 use Rattle.fv_disk.specs.Shown.{Shown as Disk}
@@ -14,10 +14,10 @@ use Rattle.fv_model.specs.declared.commands.Command.TheVariants.{Get, Len, Ls}
 use Rattle.fv_model.specs.Machines.{Machine}
 use Rattle.fv_model.specs.Numbers.{is_index}
 use Rattle.fv_model.specs.Tables.{File, Table, file_named}
-use Rattle.fv_model.specs.Replies.{answer, content, stat_of}
-use Rattle.fv_tables.specs.Told.{Standing, file_at, file_in, file_told, tree_of, table_told}
+use Rattle.fv_model.specs.Replies.{answer, stat_of}
+use Rattle.fv_tables.specs.Told.{Standing, file_in, file_told, tree_of, table_told}
 use Rattle.fv_inode.specs.declared.info.Info.{Info}
-use Rattle.fv_inode.specs.Files.{Finds, HasNone, IsFirst}
+use Rattle.fv_inode.specs.Files.{HasNone, IsFirst}
 use Rattle.fv_inode.specs.Listing.{names_told}
 use Rattle.fv_files.specs.Calls.{GivesCell, or_zeros}
 use Rattle.fv_files.specs.Tables.{IsInfoOf}
@@ -25,7 +25,7 @@ use Rattle.fv_tables.specs.Spelled.{Rooted}
 use Rattle.fv_charge.specs.Ledgers.{IsLedgerOf, committed}
 use Rattle.fv_charge.proofs.Admissions.{commit_is}
 use Rattle.fv_volume.specs.declared.fault.VolumeFault.{VolumeFault}
-use Rattle.fv_volume.specs.declared.fault.VolumeFault.TheVariants.{Refused, DiskFault, Damaged, Memory}
+use Rattle.fv_volume.specs.declared.fault.VolumeFault.TheVariants.{Refused}
 use Rattle.fv_volume.specs.declared.pool.Pool.{Pool}
 use Rattle.fv_volume.specs.declared.state.VolumeState.{VolumeState}
 use Rattle.fv_volume.specs.Calls.{Agrees, Asks, Has, Reads}

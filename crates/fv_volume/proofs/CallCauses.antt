@@ -1,5 +1,5 @@
 -- Why calls on a volume fail, as calls of its table over what a session lends.
-use Rattle.std.proofs.Common.{◌≡◌, ℕ, ◌+◌, Bool, cond, is_some, inl, inr, ⊎_elim, refl, sym, ap, subst, ◌∙◌, arith}
+use Rattle.std.proofs.Common.{◌≡◌, ℕ, cond, is_some, inl, inr, sym, ap, subst, ◌∙◌}
 use Rattle.std.specs.Prelude.{Result, Ok, Err, IfErr}
 use Rattle.fv_disk.specs.declared.fault.BlockFault.{BlockFault}
 use Rattle.fv_disk.specs.declared.fault.BlockFault.TheVariants as block
@@ -12,10 +12,10 @@ use Rattle.fv_tree.specs.Standing.{under, IsNodeDamage}
 use Rattle.fv_tree.specs.Reading.{cell_read_at}
 use Rattle.fv_inode.specs.Failing as inodes
 use Rattle.fv_inode.specs.Failing.{InodeFails, IsInodeDamage}
-use Rattle.fv_files.specs.Failing.{FilesFail, IsFileTree, Looks}
+use Rattle.fv_files.specs.Failing.{FilesFail, Looks}
 use Rattle.fv_model.specs.declared.answers.Refusal.{Refusal}
 use Rattle.fv_volume.specs.declared.fault.VolumeFault.{VolumeFault}
-use Rattle.fv_volume.specs.declared.fault.VolumeFault.TheVariants.{Refused, DiskFault, Damaged, Memory}
+use Rattle.fv_volume.specs.declared.fault.VolumeFault.TheVariants.{Refused}
 use Rattle.fv_volume.specs.Causes.{of_block}
 use Rattle.fv_store.specs.Held.{StandsOn}
 use Rattle.fv_volmap.specs.Slots.{Volume}

@@ -16,7 +16,6 @@ use Rattle.fv_volmap.specs.Slots.{Volume as Maps}
 use Rattle.fv_tables.specs.Told.{Standing}
 use Rattle.fv_volume.specs.Lending.{IsTold}
 use Rattle.fv_volume.specs.declared.fault.VolumeFault.{VolumeFault}
-use Rattle.fv_volume.specs.declared.fault.VolumeFault.TheVariants.{Refused, DiskFault, Damaged, Memory}
 use Rattle.fv_volume.specs.declared.pool.Pool.{Pool}
 use Rattle.fv_volume.specs.declared.state.VolumeState.{VolumeState}
 use Rattle.fv_volume.specs.Calls.{Agrees, Changes, GivesUp, KeepsHead, Reads}
@@ -78,6 +77,9 @@ module _ (d e : Disk) (p q : Pool) (reads : Reads d p e q) (x y : VolumeState) (
     same = refl;
     maps = same_maps x.map x.map refl;
     later = omega arith;
+    counted = tt;
+    marked = tt;
+    unwritten = λ was. was;
     failed = refl;
     refused = λ why none. refl;
   }))
@@ -138,6 +140,9 @@ module _ (d e f : Disk) (p q r : Pool) (first : Reads d p e q) (x v y : VolumeSt
     same = refl;
     maps = its_alters.maps;
     later = omega arith;
+    counted = tt;
+    marked = tt;
+    unwritten = λ was. refl;
     failed = refl;
     refused = λ why none. absurd (not_refused b why none);
   }))
@@ -226,6 +231,9 @@ module _ {T : Type 0} (d e f : Disk) (p q r : Pool) (x v w y : VolumeState) (res
     same = is_done ∙ sym (ap (λ (z : VolumeState). record x { now = z.now; map = z.map; files = z.files; ledger = z.ledger; changed = z.changed }) is_done);
     maps = subst (λ (z : VolumeState). GivesUp x.map z.map) (sym is_done) (subst (λ (z : VolumeState). GivesUp z.map w.map) parts.same parts.alters.maps);
     later = (let n = done_next in omega (arith, n));
+    counted = done_next;
+    marked = ap (λ (z : VolumeState). z.changed) is_done;
+    unwritten = λ was. ap (λ (z : VolumeState). z.changed) is_done;
     failed = tt;
     refused = tt;
   }

@@ -1,10 +1,8 @@
 -- What a volume is once a change of its files was made, and what the machine says of the space for it.
-use Rattle.std.proofs.Common.{◌≡◌, ℕ, ◌+◌, ◌<◌, ◌≤◌, ⊎_elim, Bool, true, cond, nat_lt, List, Option, Some, None, refl, sym, ap, subst, ◌∙◌, arith, pos, ◌+ℤ◌}
-use Rattle.std.specs.Prelude.{Result, Ok, Err, ◌^◌, ◌≤ℤ◌}
-use Rattle.std.specs.FinMap as fin
+use Rattle.std.proofs.Common.{◌≡◌, ℕ, ◌+◌, ◌<◌, ◌≤◌, ⊎_elim, Bool, true, cond, nat_lt, Option, Some, None, refl, sym, ap, subst, ◌∙◌, arith}
+use Rattle.std.specs.Prelude.{Result, Ok, Err}
 use Rattle.std.proofs.lemmas.Bool.{cases_lt}
 use Rattle.std.proofs.lemmas.Bool.Decides.{nat_tests}
-use Rattle.std.proofs.lemmas.Int.{ints}
 use Rattle.fv_disk.specs.Shown.{Shown as Disk}
 use Rattle.fv_model.specs.declared.answers.Refusal.{Refusal}
 use Rattle.fv_model.specs.declared.answers.Refusal.TheVariants.{VolumeFull, AggregateFull}
@@ -30,7 +28,7 @@ use Rattle.fv_volume.specs.declared.pool.Pool.{Pool}
 use Rattle.fv_volume.specs.declared.state.VolumeState.{VolumeState}
 use Rattle.fv_volume.specs.Calls.{HasBeside, Reads}
 use Rattle.fv_volume.specs.Lending.{IsTold}
-use Rattle.fv_volume.specs.OneVolume.{shows, standing_by, standing_for, table_for, volume_as, volume_for, AreSoundBy, IsStanding}
+use Rattle.fv_volume.specs.OneVolume.{shows, standing_by, table_for, volume_as, volume_for, AreSoundBy, IsStanding}
 use Rattle.fv_volume.proofs.Charging.{left_by}
 use Rattle.fv_volume.proofs.OneVolumes.{still_table, still_under, still_used, still_volume}
 

@@ -1,19 +1,16 @@
 -- Whether a change of a volume's files is accepted, as the machine judges it.
-use Rattle.std.proofs.Common.{◌≡◌, ℕ, ◌+◌, ◌<◌, ◌≤◌, Bool, true, false, List, Option, Some, None, refl, sym, ap, subst, ◌∙◌, arith, ℤ, pos, ◌+ℤ◌, ◌≤ℤ◌}
-use Rattle.std.specs.Prelude.{Result, Ok, Err, min}
+use Rattle.std.proofs.Common.{◌≡◌, ℕ, ◌+◌, ◌<◌, ◌≤◌, true, false, List, Some, refl, sym, ap, subst, ◌∙◌, arith, ℤ, pos, ◌+ℤ◌, ◌≤ℤ◌}
+use Rattle.std.specs.Prelude.{Result, Ok, Err}
 use Rattle.std.specs.FinMap as fin
 use Rattle.std.proofs.lemmas.Int.{ints}
 use Rattle.fv_disk.specs.Shown.{Shown as Disk}
-use Rattle.fv_model.specs.declared.answers.Refusal.{Refusal}
-use Rattle.fv_model.specs.declared.answers.Refusal.TheVariants.{NoFile, FileExists, Range, TooMany, WrongKind}
+use Rattle.fv_model.specs.declared.answers.Refusal.TheVariants.{NoFile, Range, TooMany}
 use Rattle.fv_model.specs.declared.commands.Command.{Command}
-use Rattle.fv_model.specs.declared.commands.Command.TheVariants.{New, Put}
-use Rattle.fv_model.specs.Numbers.{is_index, is_reserve, most_changes, most_files, greatest_span}
+use Rattle.fv_model.specs.declared.commands.Command.TheVariants.{Put}
+use Rattle.fv_model.specs.Numbers.{is_index, most_changes, greatest_span}
 use Rattle.fv_model.specs.Tables.{File, file_named, put}
-use Rattle.fv_model.specs.Volumes.{Volume}
 use Rattle.fv_model.specs.Machines.{Machine, capacity}
-use Rattle.fv_model.specs.Effects.{Becomes, change_of, stamped}
-use Rattle.fv_model.specs.Refusals.{first_of, refusal, space}
+use Rattle.fv_model.specs.Effects.{stamped}
 use Rattle.fv_laws.specs.Positions.{added_by}
 use Rattle.fv_tables.specs.Told.{Standing, file_in, table_told}
 use Rattle.fv_tables.proofs.Tables.{files_told}
@@ -28,11 +25,11 @@ use Rattle.fv_volume.specs.declared.fault.VolumeFault.TheVariants.{Refused, Disk
 use Rattle.fv_volume.specs.declared.pool.Pool.{Pool}
 use Rattle.fv_volume.specs.declared.state.VolumeState.{VolumeState}
 use Rattle.fv_root.specs.declared.find.Found.{Found}
-use Rattle.fv_volume.specs.Calls.{Agrees, HasBeside, Reads}
+use Rattle.fv_volume.specs.Calls.{HasBeside, Reads}
 use Rattle.fv_volume.specs.Changing.{AcceptsPut, FitsLedger, RefusedIn, SpaceSays}
 use Rattle.fv_volume.specs.Charging.{AddsBlocks}
 use Rattle.fv_volume.specs.Labels.{label_said}
-use Rattle.fv_volume.specs.OneVolume.{standing_for, table_for, volume_for, IsBooked, IsReady, IsStanding}
+use Rattle.fv_volume.specs.OneVolume.{standing_for, volume_for, IsReady, IsStanding}
 use Rattle.fv_volume.proofs.Answered.{put_changes, put_far, put_none, put_space}
 use Rattle.fv_volume.proofs.Asked.{file, file_there, found}
 use Rattle.fv_volume.proofs.Changed.{leaves_ledger}

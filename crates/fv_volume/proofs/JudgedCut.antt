@@ -1,6 +1,5 @@
 -- Whether a cut or a removal is accepted, as the machine judges it: never refused for space where no volume is past its size.
-use Rattle.std.proofs.Common.{◌≡◌, ℕ, ◌+◌, ◌<◌, ◌≤◌, Bool, true, false, List, [], ◌∷◌, Option, Some, None, refl, sym, ap, subst, ◌∙◌, arith, pos, ◌+ℤ◌, ◌≤ℤ◌}
-use Rattle.std.specs.Prelude.{Result, Ok, Err}
+use Rattle.std.proofs.Common.{◌≡◌, ℕ, ◌<◌, ◌≤◌, true, false, List, [], ◌∷◌, Some, None, refl, ap, subst, ◌∙◌, arith, pos, ◌+ℤ◌, ◌≤ℤ◌}
 use Rattle.std.specs.FinMap as fin
 use Rattle.std.proofs.lemmas.Int.{ints}
 use Rattle.fv_disk.specs.Shown.{Shown as Disk}
@@ -13,20 +12,20 @@ use Rattle.fv_model.specs.Volumes.{Volume}
 use Rattle.fv_model.specs.Machines.{Machine}
 use Rattle.fv_model.specs.Space.{use_of}
 use Rattle.fv_model.specs.Effects.{Becomes, Change, change_of, changed, stamped}
-use Rattle.fv_model.specs.Refusals.{first_of, is_aggregate_full, is_volume_full, refusal, space}
+use Rattle.fv_model.specs.Refusals.{first_of, is_aggregate_full, is_volume_full, space}
 use Rattle.fv_laws.proofs.Commits.{HasBudgetOf}
 use Rattle.fv_laws.proofs.PathCharges.{cut_uses_less, never_full, rm_uses_less}
-use Rattle.fv_tables.specs.Told.{Standing, file_in, table_told}
+use Rattle.fv_tables.specs.Told.{Standing, table_told}
 use Rattle.fv_tables.proofs.Tables.{files_told}
 use Rattle.fv_inode.specs.declared.info.Info.{Info}
 use Rattle.fv_inode.specs.Files.{HasNone, IsFirst}
 use Rattle.fv_charge.specs.declared.delta.Delta.{Delta}
 use Rattle.fv_charge.specs.declared.ledger.Ledger.{Ledger}
-use Rattle.fv_charge.specs.Changes.{CanChange, IsChanged}
+use Rattle.fv_charge.specs.Changes.{CanChange}
 use Rattle.fv_volume.specs.declared.fault.VolumeFault.TheVariants.{Refused}
 use Rattle.fv_volume.specs.declared.pool.Pool.{Pool}
 use Rattle.fv_volume.specs.declared.state.VolumeState.{VolumeState}
-use Rattle.fv_volume.specs.Calls.{HasBeside, HasWithin}
+use Rattle.fv_volume.specs.Calls.{Has, HasBeside, HasWithin}
 use Rattle.fv_volume.specs.Changing.{AcceptsCut, AcceptsRemoval, FitsLedger, RefusedIn}
 use Rattle.fv_volume.specs.OneVolume.{standing_for, volume_for, IsReady, IsStanding}
 use Rattle.fv_volume.proofs.Answered.{cut_changes, cut_far, cut_none, cut_past, cut_space, rm_changes, rm_none, rm_space}
@@ -50,14 +49,14 @@ module _ (d : Disk) (p : Pool) (x : VolumeState) where
   abbrev table : Standing
   table = standing_for d p x
 
-  pub cut_too_far : (f : List ℕ) (most : ℕ) → is_reserve most ≡ false → (others : ℕ) → RefusedIn (within others) (Cut x.name f most) (Refused Range)
-  cut_too_far f most far others m has = cut_far m x.name (volume_for d p x) has.beside.there f most far
+  pub cut_too_far : (f : List ℕ) (most : ℕ) → is_reserve most ≡ false → RefusedIn (Has x.name (volume_for d p x)) (Cut x.name f most) (Refused Range)
+  cut_too_far f most far m has = cut_far m x.name (volume_for d p x) has f most far
 
-  pub cut_missing : (f : List ℕ) (most : ℕ) → is_reserve most ≡ true → HasNone table.inode f → (others : ℕ) → RefusedIn (within others) (Cut x.name f most) (Refused NoFile)
-  cut_missing f most near none others m has = cut_none m x.name (volume_for d p x) has.beside.there f most near (named_none table f none)
+  pub cut_missing : (f : List ℕ) (most : ℕ) → is_reserve most ≡ true → HasNone table.inode f → RefusedIn (Has x.name (volume_for d p x)) (Cut x.name f most) (Refused NoFile)
+  cut_missing f most near none m has = cut_none m x.name (volume_for d p x) has f most near (named_none table f none)
 
-  pub rm_missing : (f : List ℕ) → HasNone table.inode f → (others : ℕ) → RefusedIn (within others) (Remove x.name f) (Refused NoFile)
-  rm_missing f none others m has = rm_none m x.name (volume_for d p x) has.beside.there f (named_none table f none)
+  pub rm_missing : (f : List ℕ) → HasNone table.inode f → RefusedIn (Has x.name (volume_for d p x)) (Remove x.name f) (Refused NoFile)
+  rm_missing f none m has = rm_none m x.name (volume_for d p x) has f (named_none table f none)
 
   module _ (is : IsStanding d p x) (f : List ℕ) (info : Info) (first : IsFirst table.inode f info) where
     abbrev its : File
@@ -69,14 +68,14 @@ module _ (d : Disk) (p : Pool) (x : VolumeState) where
     its_there : fin.get (table_told table).files info.number ≡ Some its
     its_there = files_told table info.number ∙ file_there d p x is f info first
 
-    pub cut_past_end : (most : ℕ) → is_reserve most ≡ true → info.length < most → (others : ℕ) → RefusedIn (within others) (Cut x.name f most) (Refused Range)
-    cut_past_end most near past others m has = cut_past m x.name (volume_for d p x) has.beside.there f info.number its its_name most near (let same = long d p x is f info first in omega (arith, same, past))
+    pub cut_past_end : (most : ℕ) → is_reserve most ≡ true → info.length < most → RefusedIn (Has x.name (volume_for d p x)) (Cut x.name f most) (Refused Range)
+    cut_past_end most near past m has = cut_past m x.name (volume_for d p x) has f info.number its its_name most near (let same = long d p x is f info first in omega (arith, same, past))
 
-    pub cut_counted : (most : ℕ) → is_reserve most ≡ true → most ≤ info.length → most_changes ≤ x.now → (others : ℕ) → RefusedIn (within others) (Cut x.name f most) (Refused TooMany)
-    cut_counted most near low all others m has = cut_changes m x.name (volume_for d p x) has.beside.there f info.number its its_name most near (let same = long d p x is f info first in omega (arith, same, low)) all
+    pub cut_counted : (most : ℕ) → is_reserve most ≡ true → most ≤ info.length → most_changes ≤ x.now → RefusedIn (Has x.name (volume_for d p x)) (Cut x.name f most) (Refused TooMany)
+    cut_counted most near low all m has = cut_changes m x.name (volume_for d p x) has f info.number its its_name most near (let same = long d p x is f info first in omega (arith, same, low)) all
 
-    pub rm_counted : most_changes ≤ x.now → (others : ℕ) → RefusedIn (within others) (Remove x.name f) (Refused TooMany)
-    rm_counted all others m has = rm_changes m x.name (volume_for d p x) has.beside.there f info.number its its_name all
+    pub rm_counted : most_changes ≤ x.now → RefusedIn (Has x.name (volume_for d p x)) (Remove x.name f) (Refused TooMany)
+    rm_counted all m has = rm_changes m x.name (volume_for d p x) has f info.number its its_name all
 
     pub cut_accepted : (most : ℕ) → is_reserve most ≡ true → most ≤ info.length → x.now < most_changes → AcceptsCut d p x f most info
     cut_accepted most near low more = record {

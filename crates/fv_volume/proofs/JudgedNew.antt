@@ -1,5 +1,5 @@
 -- Whether a new file is accepted, as the machine judges it.
-use Rattle.std.proofs.Common.{◌≡◌, ℕ, ◌+◌, ◌<◌, ◌≤◌, Bool, true, false, cond, not, List, Option, Some, None, is_some, refl, sym, ap, subst, ◌∙◌, arith, pos}
+use Rattle.std.proofs.Common.{◌≡◌, ℕ, ◌+◌, ◌<◌, ◌≤◌, true, false, cond, not, List, Option, Some, None, is_some, refl, sym, ap, subst, ◌∙◌, pos}
 use Rattle.std.specs.Prelude.{Result, Ok, Err, nat_lt}
 use Rattle.std.specs.FinMap as fin
 use Rattle.fv_disk.specs.Shown.{Shown as Disk}
@@ -13,9 +13,8 @@ use Rattle.fv_model.specs.Tables.{File, file_named, free_number, inode_cell, new
 use Rattle.fv_model.specs.Machines.{Machine, capacity}
 use Rattle.fv_model.specs.Space.{is_file_kind}
 use Rattle.fv_model.specs.Effects.{stamped}
-use Rattle.fv_model.specs.Refusals.{refusal}
 use Rattle.fv_laws.specs.Positions.{added_by}
-use Rattle.fv_tables.specs.Told.{Standing, file_at, table_told}
+use Rattle.fv_tables.specs.Told.{Standing, table_told}
 use Rattle.fv_inode.specs.declared.info.Info.{Info}
 use Rattle.fv_inode.specs.Files.{HasNone, IsFirst}
 use Rattle.fv_inode.specs.Files.{IsFreeNumber}
@@ -30,7 +29,7 @@ use Rattle.fv_files.specs.Calls.{AddsFile}
 use Rattle.fv_volume.specs.Calls.{HasBeside}
 use Rattle.fv_volume.specs.Changing.{AcceptsNew, RefusedIn, SpaceSays}
 use Rattle.fv_volume.specs.Charging.{AddsBlocks}
-use Rattle.fv_volume.specs.OneVolume.{standing_for, table_for, volume_for, IsReady, IsStanding}
+use Rattle.fv_volume.specs.OneVolume.{standing_for, volume_for, IsReady, IsStanding}
 use Rattle.fv_volume.proofs.Answered.{new_changes, new_far, new_files, new_kind, new_space, new_taken}
 use Rattle.fv_volume.proofs.Asked.{file, found}
 use Rattle.fv_volume.proofs.Changed.{leaves_ledger}

@@ -16,7 +16,7 @@ use Rattle.fv_root.specs.declared.find.Found.{Found}
 use Rattle.fv_root.specs.Finding.{root_found}
 use Rattle.fv_volume.specs.declared.state.VolumeState.{VolumeState}
 use Rattle.fv_volume.specs.Loading.{IsContainerOf, IsLoaded, label_of}
-use Rattle.fv_volume.specs.States.{head_in, place_in as label_in_state}
+use Rattle.fv_volume.specs.States.{head_in, label_in_state}
 use Rattle.fv_volume.specs.Stored.{has_block, is_of}
 use Rattle.fv_volume.proofs.SlotBlocks.{entry_kinds, held_is_of}
 

@@ -1,10 +1,9 @@
 -- A cut that was made is the machine's.
-use Rattle.std.proofs.Common.{◌≡◌, ℕ, ◌+◌, ◌≤◌, true, List, Option, Some, None, refl, sym, ap, subst, ◌∙◌, arith, pos, ◌+ℤ◌}
-use Rattle.std.specs.Prelude.{Result, Ok, Err}
+use Rattle.std.proofs.Common.{◌≡◌, ℕ, ◌+◌, ◌≤◌, true, List, Option, Some, sym, ap, subst, ◌∙◌, arith, pos, ◌+ℤ◌}
+use Rattle.std.specs.Prelude.{Ok}
 use Rattle.std.specs.FinMap as fin
 use Rattle.fv_disk.specs.Shown.{Shown as Disk}
 use Rattle.fv_model.specs.declared.commands.Command.TheVariants.{Cut}
-use Rattle.fv_model.specs.Numbers.{is_reserve}
 use Rattle.fv_model.specs.Tables.{File, Table, file_named, cut}
 use Rattle.fv_model.specs.Volumes.{Volume}
 use Rattle.fv_model.specs.Effects.{Becomes, stamped}
@@ -28,7 +27,6 @@ use Rattle.fv_volume.specs.declared.pool.Pool.{Pool}
 use Rattle.fv_volume.specs.declared.state.VolumeState.{VolumeState}
 use Rattle.fv_volume.specs.Calls.{Changes, HasWithin, Reads}
 use Rattle.fv_volume.specs.Changing.{AcceptsCut}
-use Rattle.fv_volume.specs.Charging.{TakesBlocks}
 use Rattle.fv_volume.specs.Lending.{IsTold}
 use Rattle.fv_volume.specs.OneVolume.{shows, standing_by, standing_for, volume_for, AreSoundBy, IsReady, IsStanding}
 use Rattle.fv_volume.proofs.Asked.{file, file_there, found}
@@ -100,7 +98,7 @@ module _ (d e f : Disk) (p q r : Pool) (first : Reads d p e q) (second : Reads e
     pub cut_changes : Changes (HasWithin x.name (volume_for d p x) others p.found.blocks) (Cut x.name name most) x.name (volume_for d p x) (volume_for f r done) (Ok tt)
     cut_changes = record {
       agrees = λ m has. accepts.accepted others m has;
-      becomes = λ m has. cut_change m x.name name (volume_for d p x) has.beside.there info.number its its_name most ∙ ap (λ v. Becomes x.name v) (sym cut_volume);
+      becomes = λ m has. cut_change m x.name name (volume_for d p x) has info.number its its_name most ∙ ap (λ v. Becomes x.name v) (sym cut_volume);
       stays = tt;
     }
 

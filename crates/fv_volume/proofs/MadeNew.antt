@@ -1,6 +1,6 @@
 -- A file that was made is the machine's.
-use Rattle.std.proofs.Common.{◌≡◌, ℕ, ◌+◌, ◌≤◌, true, List, Option, Some, None, refl, sym, ap, subst, ◌∙◌, arith}
-use Rattle.std.specs.Prelude.{Result, Ok, Err}
+use Rattle.std.proofs.Common.{◌≡◌, ℕ, ◌+◌, true, List, Option, sym, ap, subst, ◌∙◌, arith}
+use Rattle.std.specs.Prelude.{Ok}
 use Rattle.fv_disk.specs.Shown.{Shown as Disk}
 use Rattle.fv_model.specs.declared.commands.Command.TheVariants.{New}
 use Rattle.fv_model.specs.Tables.{Table, new}
@@ -22,7 +22,7 @@ use Rattle.fv_volume.specs.declared.state.VolumeState.{VolumeState}
 use Rattle.fv_volume.specs.Calls.{Changes, HasBeside, Reads}
 use Rattle.fv_volume.specs.Changing.{AcceptsNew}
 use Rattle.fv_volume.specs.Lending.{IsTold}
-use Rattle.fv_volume.specs.OneVolume.{shows, standing_by, standing_for, table_for, volume_for, AreSoundBy, IsStanding}
+use Rattle.fv_volume.specs.OneVolume.{shows, standing_by, table_for, volume_for, AreSoundBy, IsStanding}
 use Rattle.fv_volume.proofs.Calling.{done_moves, done_next, done_says, done_told, done_trees, is_done, Parts}
 use Rattle.fv_volume.proofs.Changed.{made_standing, made_volume}
 use Rattle.fv_volume.proofs.Charging.{new_change, new_delta}
@@ -58,7 +58,7 @@ module _ (d e f : Disk) (p q r : Pool) (first : Reads d p e q) (second : Reads e
     pub new_changes : Changes (HasBeside x.name (volume_for d p x) others p.found.blocks) (New x.name name reserve) x.name (volume_for d p x) (volume_for f r done) (Ok tt)
     new_changes = record {
       agrees = λ m has. accepts.accepted m has;
-      becomes = λ m has. new_change m x.name name (volume_for d p x) has.there reserve ∙ ap (λ v. Becomes x.name v) (sym new_volume);
+      becomes = λ m has. new_change m x.name name (volume_for d p x) has reserve ∙ ap (λ v. Becomes x.name v) (sym new_volume);
       stays = tt;
     }
 

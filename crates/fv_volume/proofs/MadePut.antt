@@ -1,9 +1,8 @@
 -- A write that was made is the machine's.
-use Rattle.std.proofs.Common.{◌≡◌, ℕ, ◌+◌, ◌≤◌, true, List, Option, Some, None, refl, sym, ap, subst, ◌∙◌, arith}
-use Rattle.std.specs.Prelude.{Result, Ok, Err}
+use Rattle.std.proofs.Common.{◌≡◌, ℕ, ◌+◌, true, List, Option, Some, sym, ap, subst, ◌∙◌, arith}
+use Rattle.std.specs.Prelude.{Ok}
 use Rattle.std.specs.FinMap as fin
 use Rattle.fv_disk.specs.Shown.{Shown as Disk}
-use Rattle.fv_disk.specs.declared.fault.BlockFault.{BlockFault}
 use Rattle.fv_model.specs.declared.commands.Command.TheVariants.{Put}
 use Rattle.fv_model.specs.Tables.{File, Table, file_named, put}
 use Rattle.fv_model.specs.Volumes.{Volume}
@@ -76,7 +75,7 @@ module _ (d e f : Disk) (p q r : Pool) (first : Reads d p e q) (second : Reads e
     pub put_changes : Changes (HasBeside x.name (volume_for d p x) others p.found.blocks) (Put x.name name i content) x.name (volume_for d p x) (volume_for f r done) (Ok tt)
     put_changes = record {
       agrees = λ m has. accepts.accepted content m has;
-      becomes = λ m has. put_change m x.name name (volume_for d p x) has.there info.number its its_name i content ∙ ap (λ v. Becomes x.name v) (sym put_volume);
+      becomes = λ m has. put_change m x.name name (volume_for d p x) has info.number its its_name i content ∙ ap (λ v. Becomes x.name v) (sym put_volume);
       stays = tt;
     }
 

@@ -1,5 +1,5 @@
 -- A volume that was just made stands for the machine's new one.
-use Rattle.std.proofs.Common.{◌≡◌, ◌≢◌, ℕ, List, Option, Some, None, refl, sym, ap, subst, ◌∙◌}
+use Rattle.std.proofs.Common.{◌≡◌, ℕ, Option, Some, None, sym, ap, subst, ◌∙◌}
 use Rattle.std.specs.Prelude.{IsTrue}
 use Rattle.std.specs.Option.{option_map}
 use Rattle.std.specs.Ordering.{nat_cmp}
@@ -16,7 +16,7 @@ use Rattle.fv_laws.specs.WellFormed.{IsWellTable}
 use Rattle.fv_laws.specs.Positions.{HasNoReserve}
 use Rattle.fv_laws.proofs.Tables.{empty_well}
 use Rattle.fv_tables.specs.Spelled.{Under, hole, stored}
-use Rattle.fv_tables.specs.Told.{standing_at, file_at, table_told}
+use Rattle.fv_tables.specs.Told.{standing_at, table_told}
 use Rattle.fv_tables.proofs.Bare.{bare_file, bare_table, none_at}
 use Rattle.fv_tree.specs.Beside.{unread}
 use Rattle.fv_tree.specs.Sources.{Use}
@@ -25,8 +25,7 @@ use Rattle.fv_tree.proofs.Whole.{hole_reaches}
 use Rattle.fv_files.specs.declared.files.Files.{Files}
 use Rattle.fv_files.specs.Apart.{LeadsFrom, LeadsIn, stored_trees}
 use Rattle.fv_files.specs.Tables.{AreReached}
-use Rattle.fv_image.specs.Views.{Head, Rooted as Root}
-use Rattle.fv_charge.specs.declared.ledger.Ledger.{Ledger}
+use Rattle.fv_image.specs.Views.{Head}
 use Rattle.fv_charge.specs.Ledgers.{IsLedgerOf}
 use Rattle.fv_container.specs.declared.entry.Entry.{Entry}
 use Rattle.fv_container.specs.Mapped.{Mapped, empty_map}

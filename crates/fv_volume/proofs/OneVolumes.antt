@@ -21,11 +21,11 @@ use Rattle.fv_charge.specs.Ledgers.{IsLedgerOf}
 use Rattle.fv_volmap.specs.Slots.{Volume}
 use Rattle.fv_volume.specs.declared.pool.Pool.{Pool}
 use Rattle.fv_volume.specs.declared.state.VolumeState.{VolumeState}
-use Rattle.fv_volume.specs.BlocksOver.{AreApart, IsKeptBack, LeavesPool, OtherPlace, entries_in, held_entry}
+use Rattle.fv_volume.specs.BlocksOver.{AreApart, IsKeptBack, OtherPlace, entries_in, held_entry}
 use Rattle.fv_volume.specs.Calls.{Reads}
 use Rattle.fv_volume.specs.Labels.{label_said}
 use Rattle.fv_volume.specs.Lending.{IsTold, use_under}
-use Rattle.fv_volume.specs.OneVolume.{shows, standing_by, standing_for, table_for, volume_as, volume_for, AreSoundBy, IsReady, IsStanding}
+use Rattle.fv_volume.specs.OneVolume.{shows, standing_by, standing_for, volume_as, volume_for, AreSoundBy, IsReady, IsStanding}
 use Rattle.fv_volume.proofs.Failing.{blocks_of}
 
 -- it has neither snapshots nor a base

@@ -1,21 +1,19 @@
 -- Why the flush of a volume's table fails, over what a session lends.
-use Rattle.std.proofs.Common.{◌≡◌, ℕ, inl, inr, refl, sym, ap, subst, ◌∙◌}
-use Rattle.std.specs.Prelude.{Result, Ok, Err, List, Some, IfErr}
+use Rattle.std.proofs.Common.{◌≡◌, ℕ, inl, inr, sym, ap, subst, ◌∙◌}
+use Rattle.std.specs.Prelude.{Result, Ok, Err, IfErr}
 use Rattle.fv_disk.specs.declared.fault.BlockFault.{BlockFault}
 use Rattle.fv_disk.specs.declared.fault.BlockFault.TheVariants as block
 use Rattle.fv_disk.specs.declared.fault.BlockFault.TheVariants.{Damaged}
 use Rattle.fv_codec.specs.declared.shape.Shape.{Shape}
-use Rattle.fv_codec.specs.Blocks.{inodes_at}
 use Rattle.fv_tables.specs.Spelled.{Rooted, pointer_at}
 use Rattle.fv_tables.specs.Told.{Standing}
 use Rattle.fv_tree.specs.Sources.{Counts, HasCause, IsDamaged, Shown}
 use Rattle.fv_tree.specs.Standing.{Fails, IsNodeDamage}
 use Rattle.fv_inode.specs.Failing.{InodeFails, IsInodeDamage}
 use Rattle.fv_files.specs.declared.files.Files.{Files}
-use Rattle.fv_files.specs.Failing.{FilesFail, TreeFails}
+use Rattle.fv_files.specs.Failing.{FilesFail}
 use Rattle.fv_files.specs.Flushing.{FlushFails, LayFails, holding}
 use Rattle.fv_files.specs.Tables.{table_in, AreStanding}
-use Rattle.fv_volume.specs.declared.fault.VolumeFault.{VolumeFault}
 use Rattle.fv_volume.specs.Causes.{of_block}
 use Rattle.fv_volume.specs.Lending.{GoesFails, GoesOver, Lent, shown_over}
 use Rattle.fv_volume.specs.Placing.{IsBadNode, ComesOfLoad, FaultOfLoad, IsMisshapen, PlaceCause, PlaceFails}

@@ -1,5 +1,5 @@
 -- The active map of a volume with nothing of it in memory is what its active table reaches, in any view of a session in which it lies.
-use Rattle.std.proofs.Common.{◌≡◌, ◌≢◌, ℕ, Bool, true, false, Option, Some, None, is_some, refl, sym, ap, subst, ◌∙◌, inl, inr, ⊎_elim}
+use Rattle.std.proofs.Common.{◌≡◌, ℕ, Bool, true, false, Option, Some, None, is_some, refl, sym, ap, subst, ◌∙◌, ⊎_elim}
 use Rattle.std.specs.Cmp.{both_ways}
 use Rattle.std.specs.List.{list_all}
 use Rattle.std.specs.Option.{option_map}
@@ -20,7 +20,7 @@ use Rattle.fv_tree.specs.Standing.{under as blocks_of}
 use Rattle.fv_files.specs.Apart.{LeadsFrom, LeadsIn, stored_trees}
 use Rattle.fv_image.specs.Chains.{under}
 use Rattle.fv_image.specs.Volumes.{standing_of}
-use Rattle.fv_image.proofs.OwnIds.{picked, picked_all, picked_is}
+use Rattle.fv_image.proofs.OwnIds.{picked_all, picked_is}
 use Rattle.fv_container.specs.Chains.{parent_at}
 use Rattle.fv_volmap.specs.Slots.{active_of}
 use Rattle.fv_volume.specs.declared.pool.Pool.{Pool}

@@ -1,5 +1,5 @@
 -- Calls can be made on a volume whose table or whose count of changes is another.
-use Rattle.std.proofs.Common.{◌≡◌, ℕ, ◌+◌, ◌<◌, ◌≤◌, Bool, true, false, Option, refl, sym, ap, subst, ◌∙◌, arith}
+use Rattle.std.proofs.Common.{◌≡◌, ℕ, ◌≤◌, true, false, Option, sym, ◌∙◌, arith}
 use Rattle.fv_disk.specs.Shown.{Shown as Disk}
 use Rattle.fv_codec.specs.Blocks.{IsLabel}
 use Rattle.fv_model.specs.Numbers.{most_changes}

@@ -1,6 +1,6 @@
 -- From a volume of a session's view to one volume with nothing of it in memory, and back.
-use Rattle.std.proofs.Common.{◌≡◌, ◌≢◌, ℕ, ◌≤◌, Bool, true, false, ◌&&◌, cond, List, [], Option, Some, None, is_some, inl, inr, ⊎_elim, refl, sym, ap, subst, ◌∙◌, arith}
-use Rattle.std.specs.Prelude.{◌⊎◌, IsTrue, map, nat_le}
+use Rattle.std.proofs.Common.{◌≡◌, ◌≢◌, ℕ, Bool, true, false, ◌&&◌, cond, List, Option, Some, None, is_some, refl, sym, ap, subst, ◌∙◌}
+use Rattle.std.specs.Prelude.{IsTrue, map, nat_le}
 use Rattle.std.specs.Option.{ForSome, option_map, option_map_or}
 use Rattle.std.specs.FinMap as fin
 use Rattle.fv_disk.specs.Shown.{Shown as Disk}
@@ -11,22 +11,20 @@ use Rattle.fv_codec.specs.Blocks.{greatest_word}
 use Rattle.fv_model.specs.Places.{Owner, InodeFile, OfFile}
 use Rattle.fv_model.specs.Spelling.{name_cmp}
 use Rattle.fv_model.specs.Tables.{Table, empty_table}
-use Rattle.fv_model.specs.Volumes.{Volume}
 use Rattle.fv_laws.specs.WellFormed.{IsWellTable}
 use Rattle.fv_laws.specs.Positions.{HasNoReserve}
 use Rattle.fv_tables.specs.Spelled.{Rooted as Tree, Under, hole, stored, pointer_at}
-use Rattle.fv_tables.specs.Told.{Standing, standing_at, file_at, table_told}
+use Rattle.fv_tables.specs.Told.{file_at, table_told}
 use Rattle.fv_tables.specs.Kept.{AgreeOnTable}
 use Rattle.fv_tables.proofs.Tables.{kept_table}
 use Rattle.fv_tree.specs.Beside.{unread}
-use Rattle.fv_tree.specs.Flushing.{ReachesOnce}
 use Rattle.fv_tree.specs.Sources.{Shown, Use}
 use Rattle.fv_tree.specs.Standing.{under as blocks_of}
 use Rattle.fv_files.specs.declared.files.Files.{Files}
 use Rattle.fv_files.specs.Apart.{LeadsFrom, LeadsIn, stored_trees}
 use Rattle.fv_files.specs.Tables.{AreReached}
 use Rattle.fv_image.specs.Chains.{under}
-use Rattle.fv_image.specs.Views.{Footing, Head, Placed, Snap, View}
+use Rattle.fv_image.specs.Views.{Head, Placed, Snap, View}
 use Rattle.fv_image.specs.Volumes.{base_from, snap_told, table_at, volume_with}
 use Rattle.fv_image.proofs.LoneTables.{form_snapshots, form_base, no_parent, place_own}
 use Rattle.fv_charge.specs.Ledgers.{IsLedgerOf}
@@ -38,11 +36,10 @@ use Rattle.fv_volume.specs.declared.state.VolumeState.{VolumeState}
 use Rattle.fv_volume.specs.BlocksOver.{AreApart, IsKeptBack, OtherPlace, block_of, held_entry}
 use Rattle.fv_volume.specs.Calls.{Reads}
 use Rattle.fv_volume.specs.Files.{has_form, IsLabelled, IsState}
-use Rattle.fv_volume.specs.Lending.{IsTold}
-use Rattle.fv_volume.specs.OneVolume.{shows, standing_by, standing_for, table_for, volume_as, volume_for, AreSoundBy, IsStanding}
+use Rattle.fv_volume.specs.OneVolume.{shows, standing_by, table_for, volume_as, AreSoundBy, IsStanding}
 use Rattle.fv_volume.specs.Placing.{AreLedBy, IsLedTo}
 use Rattle.fv_volume.specs.States.{States, head_in, placed_in, state_at, view_over}
-use Rattle.fv_volume.specs.Trees.{active_in, no_trees, volume_now}
+use Rattle.fv_volume.specs.Trees.{active_in, no_trees}
 use Rattle.fv_volume.proofs.LoadedTables.{StandsInView, chain_own, led, stands_file, stands_inode, stands_led, stands_once, stands_told}
 use Rattle.fv_volume.proofs.OneVolumes.{still_under, still_used}
 use Rattle.fv_volume.proofs.Shows.{get_held, use_none}

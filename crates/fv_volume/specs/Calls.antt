@@ -1,10 +1,11 @@
 -- What the calls on a volume answer and leave, by the machine.
-use Rattle.std.specs.Prelude.{◌≡◌, ◌≢◌, ◌≤◌, ◌<◌, ◌+◌, ◌⊎◌, ℕ, List, Option, Some, None, Result, Ok, Err, OnOk, OnErr, IfOk, IfErr}
+use Rattle.std.specs.Prelude.{◌≡◌, ◌≢◌, ◌≤◌, ◌<◌, ◌+◌, ◌⊎◌, ℕ, true, List, Option, Some, None, Result, Ok, Err, OnOk, OnErr, IfOk, IfErr}
 use Rattle.std.specs.FinMap as fin
-use Rattle.fv_disk.specs.Shown.{Rose, Shown as Disk}
+use Rattle.fv_disk.specs.Shown.{Shown as Disk}
 use Rattle.fv_disk.specs.DiskCalls.{OnlyReads}
 use Rattle.fv_disk.specs.declared.fault.BlockFault.{BlockFault}
 use Rattle.fv_disk.specs.declared.fault.BlockFault.TheVariants as block
+use Rattle.fv_laws.specs.WellFormed.{IsWellTable}
 use Rattle.fv_model.specs.declared.commands.Command.{Command}
 use Rattle.fv_model.specs.declared.answers.Refusal.{Refusal}
 use Rattle.fv_model.specs.declared.answers.Reply.{Reply}
@@ -18,11 +19,14 @@ use Rattle.fv_store.specs.Held.{StandsOn}
 use Rattle.fv_tables.specs.Spelled.{Rooted}
 use Rattle.fv_tables.specs.Told.{Standing, table_told}
 use Rattle.fv_tree.specs.Sources.{Shown}
+use Rattle.fv_inode.specs.declared.info.Info.{Info}
 use Rattle.fv_inode.specs.Failing.{IsInodeDamage}
+use Rattle.fv_inode.specs.Files.{rooted, IsInfo}
 use Rattle.fv_files.specs.declared.files.Files.{Files}
 use Rattle.fv_files.specs.Failing.{IsFileTree}
 use Rattle.fv_files.specs.Pending.{pending_in}
-use Rattle.fv_files.specs.Tables.{table_in, AreStanding, IsLed}
+use Rattle.fv_files.specs.Calls.{CutsFile, TakesByCut}
+use Rattle.fv_files.specs.Tables.{table_in, AreStanding, IsInfoOf, IsLed}
 use Rattle.fv_volume.specs.declared.fault.VolumeFault.{VolumeFault}
 use Rattle.fv_volume.specs.declared.fault.VolumeFault.TheVariants.{Refused, DiskFault, Damaged, Memory}
 use Rattle.fv_volume.specs.declared.pool.Pool.{Pool}
@@ -61,11 +65,11 @@ pub record Asks {T : Type 0} (has : Machine → Type 0) (c : Command) (says : T 
   pub agrees : (m : Machine) → has m → Agrees m c result
   pub reply : IfOk result (λ x. (m : Machine) → has m → says x ≡ answer m c)
 
--- A command that changes the volume of a name is answered as in each of those machines. Where it is accepted the volume is the one that it
--- becomes there, and else it is as before.
+-- A command that changes the volume of a name is answered as in each of those machines. Where it is done the volume is the one that it
+-- becomes in each machine that has it, whatever else there is, and where not it is as before.
 pub record Changes (has : Machine → Type 0) (c : Command) (name : List ℕ) (old new : Volume) (result : Result Unit VolumeFault) : Type 0 where
   pub agrees : (m : Machine) → has m → Agrees m c result
-  pub becomes : OnOk result ((m : Machine) → has m → change_of m c ≡ Becomes name new)
+  pub becomes : OnOk result ((m : Machine) → Has name old m → change_of m c ≡ Becomes name new)
   pub stays : OnErr result (new ≡ old)
 
 -- ---- what is left
@@ -84,18 +88,33 @@ pub record LeavesTable {T : Type 0} (told : Type 0) (old new : Shown) (f g : Fil
   pub led : told → AreStanding old f → IsLed old f → IsLed new g
   pub room : told → AreStanding old f → pending_in g ≤ pending_in f + 16
 
+-- What is known of a file is so in the table of a volume, which is a machine's.
+pub record KnowsFile (told : Type 0) (source : Shown) (f : Files) (info : Info) : Type 0 where
+  pub range : IsInfo info
+  pub there : told → IsInfoOf (rooted source f.inode) info
+  pub well : told → (now : ℕ) × IsWellTable now (table_told (table_in source f))
+
+-- A file was cut, and the positions that went were counted.
+pub record CutsTold (told : Type 0) (old new : Shown) (f g : Files) (number length stamp : ℕ) (result : Result ℕ BlockFault) : Type 0 where
+  pub cut : told → OnOk result (AreStanding old f → CutsFile (table_in old f) (table_in new g) number length stamp)
+  pub counted : told → IfOk result (λ count. AreStanding old f → TakesByCut (table_in old f) number length stamp count)
+
 -- Of a volume's maps only the active one changed, which has as many free numbers at least.
 pub record GivesUp (old new : Maps) : Type 0 where
   pub span : new.span ≡ old.span
   pub snapshots : (s : ℕ) → s ≢ 0 → slot_at new s ≡ slot_at old s
   pub numbers : free_numbers old ≤ free_numbers new
 
--- Nothing of a volume changed but its changes and the trees in memory, with their ledger and the numbers in use. A change that failed isn't
--- counted, neither in the changes nor in the ledger, and a refused one leaves all as it was.
+-- Nothing of a volume changed but its changes and the trees in memory, with their ledger and the numbers in use. A change that was made is
+-- counted, and the next point has the volume to write. One that failed isn't counted, neither in the changes nor in the ledger, and what a
+-- point had to write before it still has. A refused one leaves all as it was.
 pub record KeepsHead {T : Type 0} (old new : VolumeState) (result : Result T VolumeFault) : Type 0 where
   pub same : new ≡ record old { now = new.now; map = new.map; files = new.files; ledger = new.ledger; changed = new.changed }
   pub maps : GivesUp old.map new.map
   pub later : old.now ≤ new.now
+  pub counted : OnOk result (new.now ≡ old.now + 1)
+  pub marked : OnOk result (new.changed ≡ true)
+  pub unwritten : old.changed ≡ true → new.changed ≡ true
   pub failed : OnErr result (new ≡ record old { map = new.map; files = new.files; changed = new.changed })
   pub refused : IfErr result (λ e. (r : Refusal) → e ≡ Refused r → new ≡ old)
 

@@ -8,7 +8,6 @@ use Rattle.fv_model.specs.declared.commands.Command.TheVariants.{Cut, New, Put, 
 use Rattle.fv_model.specs.Machines.{Machine}
 use Rattle.fv_model.specs.Numbers.{is_index, is_reserve, most_changes, most_files}
 use Rattle.fv_model.specs.Tables.{File, file_named, free_number, inode_cell}
-use Rattle.fv_model.specs.Volumes.{Volume}
 use Rattle.fv_model.specs.Refusals.{first_of, refusal, space}
 use Rattle.fv_laws.specs.Positions.{added_by}
 use Rattle.fv_tables.specs.Told.{file_at, file_in, Standing}

@@ -1,9 +1,6 @@
 -- What a change of a file costs, by the pointers of its tree, and as a change of the volume's ledger.
-use Rattle.std.specs.Prelude.{◌≡◌, ℕ, ◌+◌, ◌-◌, ◌/◌, ◌^◌, pos, ◌+ℤ◌, not, count_by, ◌==◌, if◌then◌else◌}
-use Rattle.std.specs.List.{range_with_len}
-use Rattle.fv_model.specs.Trees.{fan, levels_with}
+use Rattle.std.specs.Prelude.{◌≡◌, ℕ, pos, ◌+ℤ◌}
 use Rattle.fv_model.specs.Volumes.{Volume}
-use Rattle.fv_tables.specs.Spelled.{Rooted, pointer_at}
 use Rattle.fv_charge.specs.declared.delta.Delta.{Delta}
 unfoldable pub use Rattle.fv_tree.specs.Counting.{found_at, added_at}
 

@@ -196,6 +196,12 @@ pub record CanLend (pool : Pool) (map : Volume) (disk : Disk) (slot : ℕ) : Typ
 abbrev pub IsTold : Disk → Pool → Volume → ℕ → Type 0
 IsTold disk pool map slot = IsTrue disk.tells × AreApart pool map slot
 
+-- A new ledger is one of a name that is cut into parts, of which it has some. It counts the steps of a call.
+pub record IsLedger (blank_name blank_parts of_name of_parts : ℕ) : Type 0 where
+  pub name : blank_name ≡ of_name
+  pub parts : blank_parts ≡ of_parts
+  pub some : 0 < of_parts
+
 abbrev pub no_damage : Noted
 no_damage = record { count = 0; at = 0; want = 0; found = 0 }
 

@@ -24,7 +24,7 @@ use Rattle.fv_charge.specs.declared.ledger.Ledger.{Ledger}
 use Rattle.fv_charge.specs.Counted.{charge_counted}
 use Rattle.fv_volume.specs.declared.state.VolumeState.{VolumeState}
 use Rattle.fv_container.specs.Chains.{Slots, container_at, parent_at, slot_count}
-use Rattle.fv_volume.specs.States.{States, head_in, parent_in, place_in, state_at}
+use Rattle.fv_volume.specs.States.{States, head_in, label_in_state, parent_in, state_at}
 use Rattle.fv_volume.specs.Files.{IsLabelled}
 
 -- ---- forms that can't be loaded yet
@@ -154,7 +154,7 @@ pub record IsCounted (x : VolumeState) : Type 0 where
 pub record IsLoaded (i : Image) (found : Found) (s : ℕ) (state : Option VolumeState) (container : Option Mapped) : Type 0 where
   pub head : option_map head_in state ≡ option_map head_of (label_of found i s)
   pub tree : IsContainerOf i (label_of found i s) container
-  pub label : place_in state ≡ label_place (root_found found) s
+  pub label : label_in_state state ≡ label_place (root_found found) s
   pub bits : IfSome state (λ x. (v : ℕ) → is_member (active_of x.map) v ≡ volume_bit (view_at (root_found found) i) s x.span 0 v)
   pub changed : IfSome state (λ x. IfSome container (λ map. x.changed ≡ has_delayed (active_of x.map) map x.span))
 

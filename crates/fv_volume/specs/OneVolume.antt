@@ -1,5 +1,5 @@
 -- What one volume is seen as, in its pool, over what the disk reads and with the trees that are in memory.
-use Rattle.std.specs.Prelude.{◌≡◌, ◌≤◌, ◌+◌, ℕ, Bool, true, false, Option, Some, None}
+use Rattle.std.specs.Prelude.{◌≡◌, ◌≤◌, ◌+◌, ℕ, false, Option, Some, None}
 use Rattle.std.specs.Option.{option_map, option_and_then}
 use Rattle.std.specs.FinMap as fin
 use Rattle.fv_disk.specs.Shown.{Shown as Disk}
@@ -17,7 +17,6 @@ use Rattle.fv_tree.specs.Standing.{under}
 use Rattle.fv_files.specs.declared.files.Files.{Files}
 use Rattle.fv_files.specs.Tables.{changed, AreReached, AreSound}
 use Rattle.fv_files.specs.Trees.{standing_in}
-use Rattle.fv_charge.specs.declared.ledger.Ledger.{Ledger}
 use Rattle.fv_charge.specs.Ledgers.{IsLedgerOf, committed}
 use Rattle.fv_volume.specs.declared.blocks.Home.{Home}
 use Rattle.fv_volume.specs.declared.pool.Pool.{Pool}

@@ -1,5 +1,5 @@
 -- What the flush of one volume leaves, and why it isn't done.
-use Rattle.std.specs.Prelude.{◌≡◌, ◌≢◌, ◌⊎◌, ℕ, List, Option, Some, None, Ok, Err, Result, IfOk}
+use Rattle.std.specs.Prelude.{◌≡◌, ◌≢◌, ◌≤◌, ◌+◌, ◌⊎◌, ℕ, List, Option, Some, None, Ok, Err, Result, IfErr, IfOk, OnOk}
 use Rattle.fv_disk.specs.Shown.{Rose, Shown as Disk}
 use Rattle.fv_disk.specs.declared.fault.BlockFault.{BlockFault}
 use Rattle.fv_disk.specs.declared.fault.BlockFault.TheVariants as block
@@ -29,7 +29,7 @@ use Rattle.fv_volume.specs.declared.state.Rooted.{Rooted as Rooting}
 use Rattle.fv_volume.specs.declared.state.VolumeState.{VolumeState}
 use Rattle.fv_volume.specs.Files.{IsState}
 use Rattle.fv_volume.specs.Lending.{Lent, GoesLent, IsHole, IsOwn, LacksOne}
-use Rattle.fv_volume.specs.OneVolume.{shows, table_for, volume_for, IsStanding}
+use Rattle.fv_volume.specs.OneVolume.{shows, standing_for, table_for, volume_for, IsStanding}
 use Rattle.fv_volume.specs.States.{States, state_at, table_in as root_of, view_over}
 use Rattle.fv_volume.specs.Trees.{active_in, no_trees}
 
@@ -166,3 +166,22 @@ FaultOfLoad told x Memory = Unit {0}
 abbrev pub FlushCause : Type 0 → Standing → Lent → ℕ → ℕ → Result Unit VolumeFault → Type 0
 FlushCause told x old faults room (Ok done) = faults ≡ old.disk.faults
 FlushCause told x old faults room (Err fault) = FlushFails told x old faults room fault
+
+-- What was placed of a table took no more of the room than of what was pending, and all of that once it was placed whole. With room for all of it
+-- damage comes of a load alone.
+pub record TakesRoom (told : Type 0) (before : Shown) (f g : Files) (room rest : ℕ) (result : Result Pointer BlockFault) : Type 0 where
+  pub nothing : OnOk result (pending_in g ≡ 0)
+  pub fits : told → (pending_in g ≤ pending_in f) × (room + pending_in g ≤ rest + pending_in f)
+  pub enough : told → pending_in f ≤ room → IfErr result (ComesOfLoad told (table_in before f))
+
+-- ---- one volume
+
+-- What changed of a volume that stands was placed, or a part of it. In every outcome it stands for what it stood for, and what is in use is led to
+-- as before. The room falls by no more than what is pending does, and where it was enough for all of that, damage comes of a load alone.
+pub record PlacesVolume (disk : Disk) (pool : Pool) (x : VolumeState) (room : ℕ) (after : Disk) (left : Pool) (y : VolumeState) (rest : ℕ) (result : Result Unit VolumeFault) : Type 0 where
+  pub standing : IsStanding after left y
+  pub volume : volume_for after left y ≡ volume_for disk pool x
+  pub led : IsLedTo disk pool x → IsLedTo after left y
+  pub seen : OnOk result (IsSeen after left y)
+  pub fits : (pending_of y.files ≤ pending_of x.files) × (room + pending_of y.files ≤ rest + pending_of x.files)
+  pub enough : pending_of x.files ≤ room → IfErr result (FaultOfLoad (IsStanding disk pool x) (standing_for disk pool x))

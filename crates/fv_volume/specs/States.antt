@@ -1,5 +1,5 @@
 -- Volumes as they are kept in memory, as heads; and what a pool and volumes tell of together.
-use Rattle.std.specs.Prelude.{◌*◌, ℕ, true, List, [], map, slice_set, slice_index_or, Option, Some, None}
+use Rattle.std.specs.Prelude.{◌≡◌, ◌*◌, ℕ, Bool, true, List, [], map, slice_set, slice_index_or, Option, Some, None}
 use Rattle.std.specs.Option.{option_map}
 use Rattle.fv_disk.specs.Shown.{Image}
 use Rattle.fv_model.specs.declared.commands.Kind.{Kind}
@@ -7,6 +7,7 @@ use Rattle.fv_image.specs.Views.{Footing, Head, Placed, View, Rooted as Table, S
 use Rattle.fv_charge.specs.declared.ledger.Ledger.{Ledger}
 use Rattle.fv_container.specs.declared.entry.Entry.{Entry}
 use Rattle.fv_container.specs.Chains.{container_at, own_entry}
+use Rattle.fv_volmap.specs.Slots.{Volume as Maps}
 use Rattle.fv_volume.specs.declared.state.Base.{Base}
 use Rattle.fv_volume.specs.declared.state.Rooted.{Rooted}
 use Rattle.fv_volume.specs.declared.state.Snap.{Snap}
@@ -60,9 +61,16 @@ abbrev pub ledger_of_empty : ℕ → Kind → ℕ → Ledger
 ledger_of_empty size kind span = record { charge = 0; need = 0; size = size; kind = kind; span = span }
 
 -- where the label lies that the root on the disk names for a slot, a PVBN; 0 for a free slot, and for a volume without one there
-abbrev pub place_in : Option VolumeState → ℕ
-place_in None = 0
-place_in (Some x) = x.label
+abbrev pub label_in_state : Option VolumeState → ℕ
+label_in_state None = 0
+label_in_state (Some x) = x.label
+
+-- a volume of a slot, whose label lies at a place, with its maps, and whether the next consistency point has something to do for it
+pub record IsLaid (x : VolumeState) (at place : ℕ) (maps : Maps) (changes : Bool) : Type 0 where
+  pub slot : x.slot ≡ at
+  pub label : x.label ≡ place
+  pub map : x.map ≡ maps
+  pub changed : x.changed ≡ changes
 
 -- the slot of the volume that a volume stands on; a volume without a base has none, and neither has a free slot
 abbrev pub parent_in : Option VolumeState → Option ℕ

@@ -4,12 +4,11 @@ ghost use Rattle.std.specs.Prelude.{◌≡◌, ◌≤◌, ◌<◌, ℕ, None, If
 ghost use Rattle.fv_codec.specs.Blocks.{most_cells};
 ghost use Rattle.fv_model.specs.Tables.{new};
 ghost use Rattle.fv_tables.specs.Told.{file_at, table_told};
-ghost use Rattle.fv_inode.specs.Files.{rooted, IsInfo};
-ghost use Rattle.fv_inode.specs.Files.{IsFreeNumber, IsNumberIf};
+ghost use Rattle.fv_inode.specs.Files.{rooted, IsFreeNumber, IsInfo, IsNumberIf};
 ghost use Rattle.fv_files.specs.Calls.{AddsCell, AddsFile, WritesCell};
 ghost use Rattle.fv_files.specs.Tables.{table_in, AreStanding, IsInfoOf};
 ghost use Rattle.fv_volume.specs.Calls.{BlockCause, LeavesTable, Reads};
-ghost use Rattle.fv_volume.specs.Lending.{CanLend, IsTold, lent_for, sees};
+ghost use Rattle.fv_volume.specs.Lending.{CanLend, IsLedger, IsTold, lent_for, sees};
 
 use crate::blocks::Home;
 use crate::noted::Noted;
@@ -36,9 +35,7 @@ pub(crate) fn added_told<K: Guard, D: Disk, L: Ledger>(
     info: &Info,
     index: u32,
 ) -> Result<u32, BlockFault>
-    requires name { blank.name ≡ L.name }
-    requires parts { blank.parts ≡ L.parts }
-    requires some { 0 < L.parts }
+    requires blank { IsLedger blank.name blank.parts L.name L.parts }
     requires lent { CanLend pool.old map.old (D.shown disk.old) home.now.slot }
     requires told { K.told → IsTold (D.shown disk.old) pool.old map.old home.now.slot }
     requires index { index < 2097152 }
@@ -80,9 +77,7 @@ pub(crate) fn write_told<K: Guard, D: Disk, L: Ledger>(
     block: &Block,
     stamp: u64,
 ) -> Result<(), BlockFault>
-    requires name { blank.name ≡ L.name }
-    requires parts { blank.parts ≡ L.parts }
-    requires some { 0 < L.parts }
+    requires blank { IsLedger blank.name blank.parts L.name L.parts }
     requires lent { CanLend pool.old map.old (D.shown disk.old) home.now.slot }
     requires told { K.told → IsTold (D.shown disk.old) pool.old map.old home.now.slot }
     requires index { index < 2097152 }
@@ -120,9 +115,7 @@ pub(crate) fn number_told<K: Guard, D: Disk, L: Ledger>(
     home: &Home,
     blank: Blank,
 ) -> Result<Option<u32>, BlockFault>
-    requires name { blank.name ≡ L.name }
-    requires parts { blank.parts ≡ L.parts }
-    requires some { 0 < L.parts }
+    requires blank { IsLedger blank.name blank.parts L.name L.parts }
     requires lent { CanLend pool.old map.old (D.shown disk.old) home.now.slot }
     requires told { K.told → IsTold (D.shown disk.old) pool.old map.old home.now.slot }
     ensures number { K.told → IfOk result (IsFreeNumber (rooted (sees pool.old map.old (D.shown disk.old) home.now) files.old.inode)) }
@@ -158,9 +151,7 @@ pub(crate) fn room_told<K: Guard, D: Disk, L: Ledger>(
     blank: Blank,
     number: u32,
 ) -> Result<u32, BlockFault>
-    requires name { blank.name ≡ L.name }
-    requires parts { blank.parts ≡ L.parts }
-    requires some { 0 < L.parts }
+    requires blank { IsLedger blank.name blank.parts L.name L.parts }
     requires lent { CanLend pool.old map.old (D.shown disk.old) home.now.slot }
     requires told { K.told → IsTold (D.shown disk.old) pool.old map.old home.now.slot }
     requires number { number < 262144 }
@@ -199,9 +190,7 @@ pub(crate) fn create_told<K: Guard, D: Disk, L: Ledger>(
     reserve: u32,
     stamp: u64,
 ) -> Result<(), BlockFault>
-    requires name { blank.name ≡ L.name }
-    requires parts { blank.parts ≡ L.parts }
-    requires some { 0 < L.parts }
+    requires blank { IsLedger blank.name blank.parts L.name L.parts }
     requires lent { CanLend pool.old map.old (D.shown disk.old) home.now.slot }
     requires told { K.told → IsTold (D.shown disk.old) pool.old map.old home.now.slot }
     requires stamp { 1 ≤ stamp }

@@ -1,6 +1,6 @@
 //! The table of one volume over what a session lends: each call of the table, over the volume's blocks.
 
-ghost use Rattle.std.specs.Prelude.{◌≡◌, ◌≤◌, ◌<◌, ◌+◌, ◌/◌, ℕ, cond, IfOk, OnOk, IfSome, Option, Some, None};
+ghost use Rattle.std.specs.Prelude.{◌≡◌, ◌≤◌, ◌+◌, ◌/◌, ℕ, cond, IfOk, OnOk, IfSome, Option, Some, None};
 ghost use Rattle.std.specs.FinMap as fin;
 ghost use Rattle.fv_codec.specs.Blocks.{IsPointer};
 ghost use Rattle.fv_tables.specs.Spelled.{Under};
@@ -15,7 +15,7 @@ ghost use Rattle.fv_files.specs.Pending.{pending_in};
 ghost use Rattle.fv_files.specs.Tables.{changed, loaded_trees, table_in, tree_known, AreSound, IsInfoOf};
 ghost use Rattle.fv_files.specs.Trees.{standing_in};
 ghost use Rattle.fv_volume.specs.Calls.{BlockCause, Reads};
-ghost use Rattle.fv_volume.specs.Lending.{CanLend, IsTold, lent_for, sees};
+ghost use Rattle.fv_volume.specs.Lending.{CanLend, IsLedger, IsTold, lent_for, sees};
 ghost use Rattle.fv_volume.specs.OneVolume.{standing_by, AreSoundBy};
 ghost use Rattle.fv_volume.specs.Placing.{pending_of, AreLedBy};
 
@@ -69,9 +69,7 @@ pub(crate) fn find_told<K: Guard, D: Disk, L: Ledger>(
     blank: Blank,
     name: &Name,
 ) -> Result<Option<Info>, BlockFault>
-    requires name { blank.name ≡ L.name }
-    requires parts { blank.parts ≡ L.parts }
-    requires some { 0 < L.parts }
+    requires blank { IsLedger blank.name blank.parts L.name L.parts }
     requires lent { CanLend pool.old map.old (D.shown disk.old) home.now.slot }
     requires told { K.told → IsTold (D.shown disk.old) pool.old map.old home.now.slot }
     ensures found { K.told → IfOk result (Finds (rooted (sees pool.old map.old (D.shown disk.old) home.now) files.old.inode) name.now) }
@@ -106,9 +104,7 @@ pub(crate) fn list_told<K: Guard, D: Disk, L: Ledger>(
     home: &Home,
     blank: Blank,
 ) -> Result<Names, BlockFault>
-    requires name { blank.name ≡ L.name }
-    requires parts { blank.parts ≡ L.parts }
-    requires some { 0 < L.parts }
+    requires blank { IsLedger blank.name blank.parts L.name L.parts }
     requires lent { CanLend pool.old map.old (D.shown disk.old) home.now.slot }
     requires told { K.told → IsTold (D.shown disk.old) pool.old map.old home.now.slot }
     ensures names { K.told → IfOk result (λ names. names ≡ fin.keys (names_told (rooted (sees pool.old map.old (D.shown disk.old) home.now) files.old.inode))) }

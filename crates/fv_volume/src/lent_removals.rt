@@ -1,13 +1,10 @@
 //! Removals from the table of one volume over what a session lends. They load and give up blocks, and place none.
 
-ghost use Rattle.std.specs.Prelude.{◌≡◌, ◌≤◌, ◌<◌, ℕ, IfOk, OnOk};
-ghost use Rattle.fv_laws.specs.WellFormed.{IsWellTable};
-ghost use Rattle.fv_tables.specs.Told.{table_told};
-ghost use Rattle.fv_inode.specs.Files.{rooted, IsInfo};
-ghost use Rattle.fv_files.specs.Calls.{CutsFile, RemovesFile, TakesByCut, TakesByRemoval};
-ghost use Rattle.fv_files.specs.Tables.{table_in, AreStanding, IsInfoOf};
-ghost use Rattle.fv_volume.specs.Calls.{BlockCause, GivesUp, LeavesTable, Reads};
-ghost use Rattle.fv_volume.specs.Lending.{CanLend, IsTold, lent_for, sees};
+ghost use Rattle.std.specs.Prelude.{◌≤◌, IfOk, OnOk};
+ghost use Rattle.fv_files.specs.Calls.{RemovesFile, TakesByRemoval};
+ghost use Rattle.fv_files.specs.Tables.{table_in, AreStanding};
+ghost use Rattle.fv_volume.specs.Calls.{BlockCause, CutsTold, GivesUp, KnowsFile, LeavesTable, Reads};
+ghost use Rattle.fv_volume.specs.Lending.{CanLend, IsLedger, IsTold, lent_for, sees};
 
 use crate::blocks::Home;
 use crate::noted::Noted;
@@ -35,20 +32,13 @@ pub(crate) fn cut_told<K: Guard, D: Disk, L: Ledger>(
     length: u32,
     stamp: u64,
 ) -> Result<u32, BlockFault>
-    requires name { blank.name ≡ L.name }
-    requires parts { blank.parts ≡ L.parts }
-    requires some { 0 < L.parts }
+    requires blank { IsLedger blank.name blank.parts L.name L.parts }
     requires lent { CanLend pool.old map.old (D.shown disk.old) home.now.slot }
     requires told { K.told → IsTold (D.shown disk.old) pool.old map.old home.now.slot }
     requires length { length ≤ 2097152 }
     requires stamp { 1 ≤ stamp }
-    requires range { IsInfo info.now }
-    requires there { K.told → IsInfoOf (rooted (sees pool.old map.old (D.shown disk.old) home.now) files.old.inode) info.now }
-    requires well { K.told → (now : ℕ) × IsWellTable now (table_told (table_in (sees pool.old map.old (D.shown disk.old) home.now) files.old)) }
-    ensures cut { K.told → OnOk result (AreStanding (sees pool.old map.old (D.shown disk.old) home.now) files.old
-        → CutsFile (table_in (sees pool.old map.old (D.shown disk.old) home.now) files.old) (table_in (sees pool.old map.new (D.shown disk.old) home.now) files.new) info.now.number length stamp) }
-    ensures counted { K.told → IfOk result (λ count. AreStanding (sees pool.old map.old (D.shown disk.old) home.now) files.old
-        → TakesByCut (table_in (sees pool.old map.old (D.shown disk.old) home.now) files.old) info.now.number length stamp count) }
+    requires known { KnowsFile K.told (sees pool.old map.old (D.shown disk.old) home.now) files.old info.now }
+    ensures cuts { CutsTold K.told (sees pool.old map.old (D.shown disk.old) home.now) (sees pool.old map.new (D.shown disk.old) home.now) files.old files.new info.now.number length stamp result }
     ensures leaves { LeavesTable K.told (sees pool.old map.old (D.shown disk.old) home.now) (sees pool.old map.new (D.shown disk.old) home.now) files.old files.new result }
     ensures maps { GivesUp map.old map.new }
     ensures reads { Reads (D.shown disk.old) pool.old (D.shown disk.new) pool.new }
@@ -81,15 +71,11 @@ pub(crate) fn remove_told<K: Guard, D: Disk, L: Ledger>(
     info: &Info,
     stamp: u64,
 ) -> Result<u32, BlockFault>
-    requires name { blank.name ≡ L.name }
-    requires parts { blank.parts ≡ L.parts }
-    requires some { 0 < L.parts }
+    requires blank { IsLedger blank.name blank.parts L.name L.parts }
     requires lent { CanLend pool.old map.old (D.shown disk.old) home.now.slot }
     requires told { K.told → IsTold (D.shown disk.old) pool.old map.old home.now.slot }
     requires stamp { 1 ≤ stamp }
-    requires range { IsInfo info.now }
-    requires there { K.told → IsInfoOf (rooted (sees pool.old map.old (D.shown disk.old) home.now) files.old.inode) info.now }
-    requires well { K.told → (now : ℕ) × IsWellTable now (table_told (table_in (sees pool.old map.old (D.shown disk.old) home.now) files.old)) }
+    requires known { KnowsFile K.told (sees pool.old map.old (D.shown disk.old) home.now) files.old info.now }
     ensures removed { K.told → OnOk result (AreStanding (sees pool.old map.old (D.shown disk.old) home.now) files.old
         → RemovesFile (table_in (sees pool.old map.old (D.shown disk.old) home.now) files.old) (table_in (sees pool.old map.new (D.shown disk.old) home.now) files.new) info.now.number stamp) }
     ensures counted { K.told → IfOk result (λ count. AreStanding (sees pool.old map.old (D.shown disk.old) home.now) files.old

@@ -1,14 +1,13 @@
 //! Placing what changed of the files of a volume.
 
-ghost use Rattle.std.specs.Prelude.{◌≡◌, ◌≤◌, ◌<◌, ◌+◌, min, true, None, is_some, IfErr, OnOk};
+ghost use Rattle.std.specs.Prelude.{◌≡◌, min, true, None, is_some, OnOk};
 ghost use Rattle.fv_store.specs.Held.{StandsOn};
 ghost use Rattle.fv_tree.specs.Standing.{under};
-ghost use Rattle.fv_files.specs.Pending.{pending_in};
 ghost use Rattle.fv_files.specs.Tables.{table_in, AreStanding};
 ghost use Rattle.fv_volume.specs.BlocksOver.{HasRoom};
-ghost use Rattle.fv_volume.specs.Lending.{CanLend, IsTold, lent_for, sees};
-ghost use Rattle.fv_volume.specs.OneVolume.{home_in, standing_for, volume_for, IsReady, IsStanding};
-ghost use Rattle.fv_volume.specs.Placing.{FlushCause, Goes, ComesOfLoad, IsLedTo, FaultOfLoad, IsSeen, KeepsPlaced, LeavesOthers, PlaceCause, PlacesTable, pending_of};
+ghost use Rattle.fv_volume.specs.Lending.{CanLend, IsLedger, IsTold, lent_for, sees};
+ghost use Rattle.fv_volume.specs.OneVolume.{home_in, standing_for, IsReady, IsStanding};
+ghost use Rattle.fv_volume.specs.Placing.{FlushCause, Goes, KeepsPlaced, LeavesOthers, PlaceCause, PlacesTable, PlacesVolume, TakesRoom};
 
 use crate::blocks::Home;
 use crate::fault::VolumeFault;
@@ -50,21 +49,13 @@ impl VolumeState {
     ) -> Result<(), VolumeFault>
         requires ready { IsReady (D.shown disk.old) pool.old self.old }
         requires free { HasRoom pool.old.map self.old.map room.old }
-        ensures standing { IsStanding (D.shown disk.old) pool.old self.old → IsStanding (D.shown disk.new) pool.new self.new }
-        ensures volume { IsStanding (D.shown disk.old) pool.old self.old → volume_for (D.shown disk.new) pool.new self.new ≡ volume_for (D.shown disk.old) pool.old self.old }
-        ensures led { IsStanding (D.shown disk.old) pool.old self.old → IsLedTo (D.shown disk.old) pool.old self.old → IsLedTo (D.shown disk.new) pool.new self.new }
+        ensures places { IsStanding (D.shown disk.old) pool.old self.old → PlacesVolume (D.shown disk.old) pool.old self.old room.old (D.shown disk.new) pool.new self.new room.new result }
         ensures none { OnOk result (self.new.files ≡ None) }
-        ensures seen { OnOk result (IsStanding (D.shown disk.old) pool.old self.old → IsSeen (D.shown disk.new) pool.new self.new) }
         ensures ready { IsReady (D.shown disk.new) pool.new self.new }
         ensures keeps { KeepsPlaced self.old self.new }
         ensures changed { is_some self.old.files ≡ true → self.new.changed ≡ true }
         ensures idle { self.old.files ≡ None → (disk.new ≡ disk.old) × ((pool.new ≡ pool.old) × ((self.new ≡ self.old) × (room.new ≡ room.old))) }
         ensures goes { Goes (lent_for pool.old self.old.map (D.shown disk.old) 0 (home_in self.old) room.old) pool.new self.new.map (D.shown disk.new) room.new }
-        ensures pending { OnOk result (pending_of self.new.files ≡ 0) }
-        ensures fits { IsStanding (D.shown disk.old) pool.old self.old
-            → (pending_of self.new.files ≤ pending_of self.old.files) × (room.old + pending_of self.new.files ≤ room.new + pending_of self.old.files) }
-        ensures enough { IsStanding (D.shown disk.old) pool.old self.old → pending_of self.old.files ≤ room.old
-            → IfErr result (FaultOfLoad (IsStanding (D.shown disk.old) pool.old self.old) (standing_for (D.shown disk.old) pool.old self.old)) }
         ensures others { LeavesOthers (D.shown disk.old) pool.old self.old.slot (D.shown disk.new) pool.new }
         ensures free { HasRoom pool.new.map self.new.map room.new }
         ensures cause { FlushCause (IsStanding (D.shown disk.old) pool.old self.old) (standing_for (D.shown disk.old) pool.old self.old)
@@ -109,9 +100,7 @@ fn place_table<K: Guard, D: Disk, L: Ledger>(
     blank: Blank,
     room: &mut u32,
 ) -> Result<Pointer, BlockFault>
-    requires name { blank.name ≡ L.name }
-    requires parts { blank.parts ≡ L.parts }
-    requires some { 0 < L.parts }
+    requires blank { IsLedger blank.name blank.parts L.name L.parts }
     requires lent { CanLend pool.old map.old (D.shown disk.old) home.now.slot }
     requires free { HasRoom pool.old.map map.old room.old }
     requires told { K.told → IsTold (D.shown disk.old) pool.old map.old home.now.slot }
@@ -119,9 +108,7 @@ fn place_table<K: Guard, D: Disk, L: Ledger>(
     ensures table { PlacesTable K.told (sees pool.old map.old (D.shown disk.old) home.now)
         (under (sees pool.new map.new (D.shown disk.new) home.now)) (sees pool.new map.new (D.shown disk.new) home.now).used files.old files.new result }
     ensures goes { Goes (lent_for pool.old map.old (D.shown disk.old) 0 home.now room.old) pool.new map.new (D.shown disk.new) room.new }
-    ensures nothing { OnOk result (pending_in files.new ≡ 0) }
-    ensures fits { K.told → (pending_in files.new ≤ pending_in files.old) × (room.old + pending_in files.new ≤ room.new + pending_in files.old) }
-    ensures enough { K.told → pending_in files.old ≤ room.old → IfErr result (ComesOfLoad K.told (table_in (sees pool.old map.old (D.shown disk.old) home.now) files.old)) }
+    ensures room { TakesRoom K.told (sees pool.old map.old (D.shown disk.old) home.now) files.old files.new room.old room.new result }
     ensures stands { StandsOn (D.shown disk.new) pool.new.store.pairs }
     ensures told { K.told → IsTold (D.shown disk.new) pool.new map.new home.now.slot }
     ensures free { HasRoom pool.new.map map.new room.new }

@@ -1,13 +1,13 @@
 //! Removals of blocks and of files of a volume.
 
-ghost use Rattle.std.specs.Prelude.{◌≡◌, ◌≤◌, ◌<◌, ◌+◌, ◌^◌, ℕ, pos, ◌+ℤ◌, ◌≤ℤ◌, IfOk, IfErr, OnOk};
+ghost use Rattle.std.specs.Prelude.{◌≡◌, ◌≤◌, ◌<◌, ◌+◌, ◌^◌, pos, ◌+ℤ◌, ◌≤ℤ◌, IfOk, IfErr, OnOk};
 ghost use Rattle.fv_charge.specs.Changes.{CanChange};
 ghost use Rattle.fv_model.specs.Numbers.{greatest_span, most_changes};
 ghost use Rattle.fv_model.specs.declared.commands.Command.TheVariants.{Cut, Remove};
 ghost use Rattle.fv_inode.specs.Files.{IsInfo};
 ghost use Rattle.fv_files.specs.Calls.{CutsFile, RemovesFile, TakesByCut, TakesByRemoval};
 ghost use Rattle.fv_files.specs.Tables.{IsInfoOf};
-ghost use Rattle.fv_volume.specs.Calls.{BlockCause, CallCause, Changes, HasWithin, KeepsHead, Reads};
+ghost use Rattle.fv_volume.specs.Calls.{BlockCause, CallCause, Changes, Has, HasWithin, KeepsHead, Reads};
 ghost use Rattle.fv_volume.specs.Changing.{AcceptsCut, AcceptsRemoval, AltersTable, RefusedIn};
 ghost use Rattle.fv_volume.specs.Lending.{lent_for};
 ghost use Rattle.fv_volume.specs.Placing.{pending_of, IsLedTo};
@@ -38,10 +38,10 @@ impl VolumeState {
     ///
     /// # Errors
     ///
-    /// `Refused` as the machine refuses `cut` where no volume uses more than its size and all of them commit no more than there is,
-    /// in this order: the length passes 2,097,152; no file has the name; the length passes the file's; the volume has counted 2^62
-    /// changes. It is never refused for space there. The other errors as `put`. After each of them the volume stands for what it
-    /// stood for.
+    /// `Refused` as the machine refuses `cut`, in this order: the length passes 2,097,152; no file has the name; the length passes the
+    /// file's; the volume has counted 2^62 changes. It is never refused for space: nor is it by the machine where no volume uses more
+    /// than its size and all of them commit no more than there is. The other errors as `put`. After each of them the volume stands for
+    /// what it stood for.
     ///
     /// Costs what `length` does, then a block for each node and cell that goes and for the file's inode block with the nodes over
     /// it, as far as they aren't in memory. `docs/MACHINE.md` has the command.
@@ -58,6 +58,8 @@ impl VolumeState {
         ensures changes { IsStanding (D.shown disk.old) pool.old self.old
             → Changes (HasWithin self.old.name (volume_for (D.shown disk.old) pool.old self.old) others pool.old.found.blocks) (Cut self.old.name file.now length) self.old.name
             (volume_for (D.shown disk.old) pool.old self.old) (volume_for (D.shown disk.new) pool.new self.new) result }
+        ensures refused { IsStanding (D.shown disk.old) pool.old self.old
+            → IfErr result (RefusedIn (Has self.old.name (volume_for (D.shown disk.old) pool.old self.old)) (Cut self.old.name file.now length)) }
         ensures standing { IsStanding (D.shown disk.old) pool.old self.old → IsStanding (D.shown disk.new) pool.new self.new }
         ensures led { IsStanding (D.shown disk.old) pool.old self.old → IsLedTo (D.shown disk.old) pool.old self.old → IsLedTo (D.shown disk.new) pool.new self.new }
         ensures room { IsStanding (D.shown disk.old) pool.old self.old → pending_of self.new.files ≤ pending_of self.old.files + 16 }
@@ -81,9 +83,9 @@ impl VolumeState {
     ///
     /// # Errors
     ///
-    /// `Refused` as the machine refuses `rm` where no volume uses more than its size and all of them commit no more than there is:
-    /// no file has the name; the volume has counted 2^62 changes. It is never refused for space there. The other errors as `put`.
-    /// After each of them the volume stands for what it stood for.
+    /// `Refused` as the machine refuses `rm`, in this order: no file has the name; the volume has counted 2^62 changes. It is never
+    /// refused for space: nor is it by the machine where no volume uses more than its size and all of them commit no more than there
+    /// is. The other errors as `put`. After each of them the volume stands for what it stood for.
     ///
     /// Costs what `length` does, then a block for each node and cell of the file and for its inode block with the nodes over it, as
     /// far as they aren't in memory. `docs/MACHINE.md` has the command.
@@ -99,6 +101,8 @@ impl VolumeState {
         ensures changes { IsStanding (D.shown disk.old) pool.old self.old
             → Changes (HasWithin self.old.name (volume_for (D.shown disk.old) pool.old self.old) others pool.old.found.blocks) (Remove self.old.name file.now) self.old.name
             (volume_for (D.shown disk.old) pool.old self.old) (volume_for (D.shown disk.new) pool.new self.new) result }
+        ensures refused { IsStanding (D.shown disk.old) pool.old self.old
+            → IfErr result (RefusedIn (Has self.old.name (volume_for (D.shown disk.old) pool.old self.old)) (Remove self.old.name file.now)) }
         ensures standing { IsStanding (D.shown disk.old) pool.old self.old → IsStanding (D.shown disk.new) pool.new self.new }
         ensures led { IsStanding (D.shown disk.old) pool.old self.old → IsLedTo (D.shown disk.old) pool.old self.old → IsLedTo (D.shown disk.new) pool.new self.new }
         ensures room { IsStanding (D.shown disk.old) pool.old self.old → pending_of self.new.files ≤ pending_of self.old.files + 16 }
@@ -127,7 +131,7 @@ fn judge_cut<D: Disk>(
 ) -> Result<Info, VolumeFault>
     requires ready { IsReady (D.shown disk.old) pool.old volume.old }
     ensures refused { IsStanding (D.shown disk.old) pool.old volume.old
-        → IfErr result (λ e. (others : ℕ) → RefusedIn (HasWithin volume.old.name (volume_for (D.shown disk.old) pool.old volume.old) others pool.old.found.blocks) (Cut volume.old.name file.now length) e) }
+        → IfErr result (RefusedIn (Has volume.old.name (volume_for (D.shown disk.old) pool.old volume.old)) (Cut volume.old.name file.now length)) }
     ensures accepted { IsStanding (D.shown disk.old) pool.old volume.old → IfOk result (AcceptsCut (D.shown disk.old) pool.old volume.old file.now length) }
     ensures near { OnOk result (length ≤ 2097152) }
     ensures range { IfOk result IsInfo }
@@ -162,7 +166,7 @@ fn judge_removal<D: Disk>(
 ) -> Result<Info, VolumeFault>
     requires ready { IsReady (D.shown disk.old) pool.old volume.old }
     ensures refused { IsStanding (D.shown disk.old) pool.old volume.old
-        → IfErr result (λ e. (others : ℕ) → RefusedIn (HasWithin volume.old.name (volume_for (D.shown disk.old) pool.old volume.old) others pool.old.found.blocks) (Remove volume.old.name file.now) e) }
+        → IfErr result (RefusedIn (Has volume.old.name (volume_for (D.shown disk.old) pool.old volume.old)) (Remove volume.old.name file.now)) }
     ensures accepted { IsStanding (D.shown disk.old) pool.old volume.old → IfOk result (AcceptsRemoval (D.shown disk.old) pool.old volume.old file.now) }
     ensures range { IfOk result IsInfo }
     ensures more { OnOk result (volume.old.now < most_changes) }

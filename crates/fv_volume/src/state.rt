@@ -9,7 +9,7 @@ ghost use Rattle.fv_volmap.specs.Slots.{empty_volume};
 ghost use Rattle.fv_volume.specs.Labels.{label_said};
 ghost use Rattle.fv_volume.specs.Files.{has_form};
 ghost use Rattle.fv_volume.specs.Loading.{IsCounted, form_in};
-ghost use Rattle.fv_volume.specs.States.{empty_head, head_in, ledger_of_empty};
+ghost use Rattle.fv_volume.specs.States.{empty_head, head_in, ledger_of_empty, IsLaid};
 
 use crate::label::{FREE, HOLE, kind_number, kind_of, name_field, name_of};
 use fv_charge::Ledger;
@@ -181,12 +181,9 @@ impl VolumeState {
         requires range { IsLabel label.now }
         requires form { form_in label.now ≡ None }
         requires map { map.span ≡ label.now.span }
-        ensures slot { result.slot ≡ slot }
+        ensures laid { IsLaid result slot place map changed }
         ensures head { head_in result ≡ head_of label.entry.now }
-        ensures label { result.label ≡ place }
         ensures span { result.span ≡ label.entry.now.span }
-        ensures map { result.map ≡ map }
-        ensures changed { result.changed ≡ changed }
         ensures base { result.base ≡ None }
         ensures files { result.files ≡ None }
         ensures named { is_name result.name ≡ true }

@@ -1,4 +1,4 @@
-use Rattle.std.proofs.Common.{◌≡◌, ◌+◌, ◌/◌, OnOk, sym, subst}
+use Rattle.std.proofs.Common.{◌≡◌, ◌+◌, ◌/◌, OnOk, subst}
 use Rattle.fv_tables.specs.Told.{Standing, records_each}
 use Rattle.fv_tree.specs.Costs.{way_cost}
 use Rattle.fv_tree.specs.Standing.{under}

@@ -1,4 +1,4 @@
-use Rattle.std.proofs.Common.{◌≡◌, ◌+◌, Err, OnOk, arith, rules, sym, subst, ◌∙◌}
+use Rattle.std.proofs.Common.{◌≡◌, ◌+◌, Err, arith, rules, sym, subst}
 use Rattle.fv_tables.specs.Told.{Standing}
 use Rattle.fv_files.specs.Calls.{GivesCell}
 use Rattle.fv_files.specs.Tables.{tree_known, IsInfoOf}

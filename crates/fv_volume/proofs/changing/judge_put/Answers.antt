@@ -1,8 +1,8 @@
-use Rattle.std.proofs.Common.{◌≡◌, ◌<◌, ◌≤◌, ℕ, ◌+◌, Ok, Err, Some, None, true, false, rules, refl, sym, subst, ap, ◌∙◌, arith}
+use Rattle.std.proofs.Common.{◌≡◌, ◌<◌, ◌≤◌, ℕ, ◌+◌, Ok, Err, true, false, rules, subst, ap, ◌∙◌, arith}
 use Rattle.std.proofs.lemmas.Result.{err_from_is_err_and}
 use Rattle.fv_model.specs.Numbers.{is_index, most_changes}
 use Rattle.fv_tables.specs.Told.{Standing}
-use Rattle.fv_inode.specs.Files.{Finds, HasNone, IsFirst}
+use Rattle.fv_inode.specs.Files.{Finds}
 use Rattle.fv_volume.specs.declared.state.VolumeState.{VolumeState}
 use Rattle.fv_volume.specs.Calls.{BlockCause}
 use Rattle.fv_volume.specs.Causes.{of_block}

@@ -1,8 +1,7 @@
-use Rattle.std.proofs.Common.{◌≡◌, ◌+◌, ℕ, List, OnOk, refl, sym, ap, subst, ◌∙◌, rules}
+use Rattle.std.proofs.Common.{◌≡◌, ℕ, OnOk, refl, subst, rules}
 use Rattle.fv_model.specs.Tables.{new}
 use Rattle.fv_tables.specs.Spelled.{Under}
 use Rattle.fv_tables.specs.Told.{table_told}
-use Rattle.fv_files.specs.Calls.{WritesCell}
 use Rattle.fv_files.specs.Tables.{changed, table_in, AreStanding}
 use Rattle.fv_files.specs.Trees.{standing_in}
 use Rattle.fv_volmap.specs.Slots.{Volume}

@@ -1,4 +1,4 @@
-use Rattle.std.proofs.Common.{◌≡◌, ℕ, Ok, Err, refl, sym, subst, rules}
+use Rattle.std.proofs.Common.{◌≡◌, Ok, Err, refl, sym, subst, rules}
 use Rattle.fv_files.specs.Tables.{table_in}
 use Rattle.fv_volume.specs.Calls.{BlockCause}
 use Rattle.fv_volume.specs.Lending.{lent_by, lent_for, sees}

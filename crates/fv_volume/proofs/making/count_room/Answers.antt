@@ -1,10 +1,9 @@
-use Rattle.std.proofs.Common.{IfOk, sym, subst}
+use Rattle.std.proofs.Common.{IfOk, subst}
 use Rattle.fv_files.specs.Calls.{AddsFile}
 use Rattle.fv_tables.specs.Told.{Standing}
 use Rattle.fv_tree.specs.Standing.{under}
 use Rattle.fv_files.specs.Tables.{changed}
 use Rattle.fv_files.specs.Trees.{standing_in}
-use Rattle.fv_inode.specs.Files.{rooted}
 use Rattle.fv_volume.specs.Lending.{IsTold, lent_for}
 use Rattle.fv_volume.specs.OneVolume.{home_in, shows, standing_for, IsStanding}
 use Rattle.fv_volume.proofs.CallCauses.{cause_for}

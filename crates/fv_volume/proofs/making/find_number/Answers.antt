@@ -1,9 +1,6 @@
-use Rattle.std.proofs.Common.{sym, subst}
-use Rattle.fv_tables.specs.Told.{Standing}
 use Rattle.fv_tree.specs.Standing.{under}
 use Rattle.fv_files.specs.Tables.{changed}
 use Rattle.fv_files.specs.Trees.{standing_in}
-use Rattle.fv_inode.specs.Files.{rooted}
 use Rattle.fv_volume.specs.Lending.{IsTold, lent_for}
 use Rattle.fv_volume.specs.OneVolume.{home_in, shows, standing_for, IsStanding}
 use Rattle.fv_volume.proofs.CallCauses.{cause_for}

@@ -1,4 +1,4 @@
-use Rattle.std.proofs.Common.{◌≡◌, ◌<◌, ◌≤◌, ℕ, Option, Err, Some, None, true, false, rules, refl, sym, subst, ap, ◌∙◌, arith}
+use Rattle.std.proofs.Common.{◌≡◌, ◌≤◌, ℕ, Option, Err, Some, None, true, false, rules, subst, ap, ◌∙◌, arith}
 use Rattle.std.proofs.lemmas.Result.{err_from_is_err_and}
 use Rattle.fv_model.specs.Numbers.{is_reserve, most_changes}
 use Rattle.fv_tables.specs.Told.{Standing}
@@ -9,8 +9,7 @@ use Rattle.fv_volume.specs.Causes.{of_block}
 use Rattle.fv_volume.specs.Lending.{lent_for}
 use Rattle.fv_volume.specs.OneVolume.{home_in, standing_for, IsStanding}
 use Rattle.fv_volume.proofs.Calling.{no_refusal, refused_ready}
-use Rattle.fv_volume.proofs.OneVolumes.{reads_then, said_after, said_before}
-use Rattle.fv_model.specs.declared.commands.Kind.TheVariants as kinds
+use Rattle.fv_volume.proofs.OneVolumes.{reads_then, said_before}
 use Rattle.fv_volume.proofs.CallCauses.{fails_later, failed_cause}
 use Rattle.fv_volume.proofs.JudgedNew.{new_all_files, some_is, new_counted, new_exists, new_other_kind, new_too_far}
 use Rattle.fv_volume.proofs.making.judge_name.Goals as goal

@@ -1,4 +1,4 @@
-use Rattle.std.proofs.Common.{◌≡◌, ◌<◌, ◌≤◌, ℕ, ◌+◌, Ok, Err, Some, None, true, false, rules, refl, sym, subst, ap, ◌∙◌, arith}
+use Rattle.std.proofs.Common.{◌≡◌, ◌≤◌, ℕ, ◌+◌, Ok, Err, rules, subst, ◌∙◌}
 use Rattle.std.proofs.lemmas.Result.{err_from_is_err_and}
 use Rattle.fv_tables.specs.Told.{Standing}
 use Rattle.fv_volume.specs.declared.state.VolumeState.{VolumeState}
@@ -7,7 +7,7 @@ use Rattle.fv_volume.specs.Causes.{of_block}
 use Rattle.fv_volume.specs.Lending.{lent_for}
 use Rattle.fv_volume.specs.OneVolume.{home_in, standing_for, IsStanding}
 use Rattle.fv_volume.proofs.Calling.{no_refusal, refused_ready}
-use Rattle.fv_volume.proofs.OneVolumes.{reads_then, said_after, said_before}
+use Rattle.fv_volume.proofs.OneVolumes.{reads_then, said_before}
 use Rattle.fv_charge.specs.declared.ledger.Ledger.{Ledger}
 use Rattle.fv_charge.specs.Changes.{IsChanged}
 use Rattle.fv_files.specs.Calls.{AddsFile}

@@ -37,9 +37,10 @@ returns-clause-cause g c =
     (subst (λ (n : ℕ). PlaceCause g.K.Guard.told x (lent_for c.args.pool.now c.args.map.now disk n c.args.home.now c.args.room.now) (g.D.Disk.shown after.disk.now).faults after.room c.flush-placed.result) c.open-steps.ensures
     (flush_cause g.K.Guard.told _ _ c.args.files.now c.flush-placed.ensures.calls.4 refl c.requires.stands c.flush-placed.result did.lays.counts did.lays.cause))
 
-pub returns-clause-fits : goal.returns-clause-fits
-returns-clause-fits g c = λ told. let fits = c.flush-placed.ensures.flushes.lays.fits told (c.requires.stands told) in (fits.fewer, fits.room)
-
-pub returns-clause-enough : goal.returns-clause-enough
-returns-clause-enough g c = λ told enough.
-    flush_loads g.K.Guard.told _ _ c.args.files.now c.flush-placed.ensures.calls.4 refl c.requires.stands c.flush-placed.result (c.flush-placed.ensures.flushes.lays.enough told (c.requires.stands told) enough)
+pub returns-clause-room : goal.returns-clause-room
+returns-clause-room g c = record {
+  nothing = c.flush-placed.ensures.flushes.nothing;
+  fits = λ told. let fits = c.flush-placed.ensures.flushes.lays.fits told (c.requires.stands told) in (fits.fewer, fits.room);
+  enough = λ told enough.
+      flush_loads g.K.Guard.told _ _ c.args.files.now c.flush-placed.ensures.calls.4 refl c.requires.stands c.flush-placed.result (c.flush-placed.ensures.flushes.lays.enough told (c.requires.stands told) enough);
+}

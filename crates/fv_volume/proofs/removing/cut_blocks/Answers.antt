@@ -25,7 +25,7 @@ returns-clause-cut g c = λ is.
     let f = c.take_table-files.result in
     let table = c.take_table-files.ensures.table (under source) in
     let sound = c.take_table-files.ensures.trees (under source) source.used is.trees in
-    subst (λ (s : Standing). OnOk c.cut_told-gone.result (CutsFile s (standing_in (under (sees pool c.cut_told-gone.new.map disk (home_in x))) (changed c.cut_told-gone.new.files)) c.args.info.now.number c.args.length (x.now + 1))) table (onok_with _ c.cut_told-gone.result sound (c.cut_told-gone.ensures.cut (is.told, subst (λ (s : Standing). IsInfoOf s.inode c.args.info.now) (sym table) (c.requires.there is), (x.now, subst (λ (s : Standing). IsWellTable x.now (table_told s)) (sym table) is.table))))
+    subst (λ (s : Standing). OnOk c.cut_told-gone.result (CutsFile s (standing_in (under (sees pool c.cut_told-gone.new.map disk (home_in x))) (changed c.cut_told-gone.new.files)) c.args.info.now.number c.args.length (x.now + 1))) table (onok_with _ c.cut_told-gone.result sound (c.cut_told-gone.ensures.cuts.cut (is.told, subst (λ (s : Standing). IsInfoOf s.inode c.args.info.now) (sym table) (c.requires.there is), (x.now, subst (λ (s : Standing). IsWellTable x.now (table_told s)) (sym table) is.table))))
 
 pub returns-clause-counted : goal.returns-clause-counted
 returns-clause-counted g c = λ is.
@@ -36,7 +36,7 @@ returns-clause-counted g c = λ is.
     let f = c.take_table-files.result in
     let table = c.take_table-files.ensures.table (under source) in
     let sound = c.take_table-files.ensures.trees (under source) source.used is.trees in
-    subst (λ (s : Standing). IfOk c.cut_told-gone.result (TakesByCut s c.args.info.now.number c.args.length (x.now + 1))) table (ifok_with _ c.cut_told-gone.result sound (c.cut_told-gone.ensures.counted (is.told, subst (λ (s : Standing). IsInfoOf s.inode c.args.info.now) (sym table) (c.requires.there is), (x.now, subst (λ (s : Standing). IsWellTable x.now (table_told s)) (sym table) is.table))))
+    subst (λ (s : Standing). IfOk c.cut_told-gone.result (TakesByCut s c.args.info.now.number c.args.length (x.now + 1))) table (ifok_with _ c.cut_told-gone.result sound (c.cut_told-gone.ensures.cuts.counted (is.told, subst (λ (s : Standing). IsInfoOf s.inode c.args.info.now) (sym table) (c.requires.there is), (x.now, subst (λ (s : Standing). IsWellTable x.now (table_told s)) (sym table) is.table))))
 
 pub returns-clause-alters : goal.returns-clause-alters
 returns-clause-alters g c =

@@ -1,15 +1,12 @@
-use Rattle.std.proofs.Common.{◌≡◌, ◌<◌, ◌≤◌, ℕ, Err, Some, None, true, false, rules, refl, sym, subst, ap, ◌∙◌, arith}
+use Rattle.std.proofs.Common.{◌≡◌, ◌<◌, ◌≤◌, Err, true, false, rules, subst, ap, arith}
 use Rattle.std.proofs.lemmas.Result.{err_from_is_err_and}
 use Rattle.fv_model.specs.Numbers.{is_reserve, most_changes}
-use Rattle.fv_tables.specs.Told.{Standing}
-use Rattle.fv_inode.specs.Files.{Finds, HasNone, IsFirst}
+use Rattle.fv_inode.specs.Files.{Finds}
 use Rattle.fv_volume.specs.declared.state.VolumeState.{VolumeState}
-use Rattle.fv_volume.specs.Calls.{BlockCause}
 use Rattle.fv_volume.specs.Causes.{of_block}
 use Rattle.fv_volume.specs.Lending.{lent_for}
 use Rattle.fv_volume.specs.OneVolume.{home_in, standing_for, IsStanding}
-use Rattle.fv_volume.proofs.Calling.{no_refusal, refused_ready}
-use Rattle.fv_volume.proofs.OneVolumes.{reads_then, said_after, said_before}
+use Rattle.fv_volume.proofs.Calling.{no_refusal}
 use Rattle.fv_volume.proofs.CallCauses.{failed_cause}
 use Rattle.fv_volume.proofs.JudgedCut.{cut_accepted, cut_counted, cut_missing, cut_past_end, cut_too_far}
 use Rattle.fv_volume.proofs.removing.judge_cut.Goals as goal
@@ -22,7 +19,7 @@ returns-then-not-in_reserve-clause-refused g c = λ is.
 pub returns-in_err-info-clause-refused : goal.returns-in_err-info-clause-refused
 returns-in_err-info-clause-refused g c =
     let p = err_from_is_err_and c.from_residual.result c.from_residual.ensures.1 in
-    rw (p.1, p.2) (λ is others m has. no_refusal (Unit {0}) m _ c.in_err-info.field-0.0)
+    rw (p.1, p.2) (λ is m has. no_refusal (Unit {0}) m _ c.in_err-info.field-0.0)
 
 pub returns-in_err-info-clause-cause : goal.returns-in_err-info-clause-cause
 returns-in_err-info-clause-cause g c =

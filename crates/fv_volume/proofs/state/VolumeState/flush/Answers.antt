@@ -1,11 +1,12 @@
-use Rattle.std.proofs.Common.{rules, ◌≡◌, ◌∙◌, Option, Some, None, true, refl, sym, subst}
+use native.Mathlib.Omega.{arith}
+use Rattle.std.proofs.Common.{rules, ◌≡◌, ◌∙◌, Option, Some, None, Ok, true, refl, sym, subst}
 use Rattle.fv_files.specs.declared.files.Files.{Files}
 use Rattle.fv_volume.specs.declared.fault.VolumeFault.{VolumeFault}
 use Rattle.fv_volume.specs.declared.state.VolumeState.{VolumeState}
 use Rattle.fv_volume.specs.Lending.{lent_for, no_damage, sees}
 use Rattle.fv_volume.specs.LendingLaws.{goes_itself}
 use Rattle.fv_volume.specs.OneVolume.{home_in, standing_for, IsStanding}
-use Rattle.fv_volume.specs.Placing.{FlushFails, FaultOfLoad, IsSeen}
+use Rattle.fv_volume.specs.Placing.{FaultOfLoad, FlushFails, PlacesVolume}
 use Rattle.fv_volume.proofs.OneVolumes.{root_fits}
 use Rattle.fv_volume.proofs.Others.{beside_flush}
 use Rattle.fv_volume.proofs.PlaceCauses.{fault_cause, load_fault, place_narrow}
@@ -28,48 +29,6 @@ returns-in-Ok-clause-ready g c =
     (fits_rooted after now.files c.in-Ok.root c.rooted-self.result c.take.new.self c.rooted-self.ensures c.take.ensures.after c.in-Ok.ensures.table.pointer)
     c.place_table.ensures.goes c.place_table.ensures.stands
 
-pub returns-in-Ok-clause-standing : goal.returns-in-Ok-clause-standing
-returns-in-Ok-clause-standing g c = λ is.
-    let x = c.args.self.now in
-    let held : x.files ≡ Some c.in-Some.files = search rules in
-    let now = c.place_table.new in
-    done_standing (g.D.Disk.shown c.args.disk.now) (g.D.Disk.shown now.disk) c.args.pool.now now.pool x c.in-Some.files held now.map now.files c.in-Ok.root c.rooted-self.result c.take.new.self
-    c.rooted-self.ensures c.take.ensures.after c.in-Ok.ensures.table is c.place_table.ensures.told
-
-pub returns-in-Ok-clause-volume : goal.returns-in-Ok-clause-volume
-returns-in-Ok-clause-volume g c = λ is.
-    let x = c.args.self.now in
-    let held : x.files ≡ Some c.in-Some.files = search rules in
-    let now = c.place_table.new in
-    done_volume (g.D.Disk.shown c.args.disk.now) (g.D.Disk.shown now.disk) c.args.pool.now now.pool x c.in-Some.files held now.map now.files c.in-Ok.root c.rooted-self.result c.take.new.self
-    c.rooted-self.ensures c.take.ensures.after c.in-Ok.ensures.table is
-
-pub returns-in-Ok-clause-seen : goal.returns-in-Ok-clause-seen
-returns-in-Ok-clause-seen g c = λ is.
-    let d = g.D.Disk.shown c.args.disk.now in
-    let e = g.D.Disk.shown c.place_table.new.disk in
-    let x = c.args.self.now in
-    let held : x.files ≡ Some c.in-Some.files = search rules in
-    let now = c.place_table.new in
-    let y : VolumeState = record x { active = c.rooted-self.result; map = now.map; files = c.take.new.self; changed = true } in
-    let stands : IsStanding e now.pool y =
-    done_standing d e c.args.pool.now now.pool x c.in-Some.files held now.map now.files c.in-Ok.root c.rooted-self.result c.take.new.self c.rooted-self.ensures c.take.ensures.after c.in-Ok.ensures.table is c.place_table.ensures.told in
-    standing_seen e now.pool y stands c.take.ensures.after (returns-in-Ok-clause-ready g c).labelled
-
-pub returns-in-Err-clause-standing : goal.returns-in-Err-clause-standing
-returns-in-Err-clause-standing g c = λ is.
-    let x = c.args.self.now in
-    let held : x.files ≡ Some c.in-Some.files = search rules in
-    let now = c.place_table.new in
-    failed_standing (g.D.Disk.shown c.args.disk.now) (g.D.Disk.shown now.disk) c.args.pool.now now.pool x c.in-Some.files held now.map now.files c.in-Err.fault c.in-Err.ensures.table is c.place_table.ensures.told
-
-pub returns-in-Err-clause-volume : goal.returns-in-Err-clause-volume
-returns-in-Err-clause-volume g c = λ is.
-    let x = c.args.self.now in
-    let held : x.files ≡ Some c.in-Some.files = search rules in
-    let now = c.place_table.new in
-    failed_volume (g.D.Disk.shown c.args.disk.now) (g.D.Disk.shown now.disk) c.args.pool.now now.pool x c.in-Some.files held now.map now.files c.in-Err.fault c.in-Err.ensures.table is
-
 pub returns-in-Err-clause-ready : goal.returns-in-Err-clause-ready
 returns-in-Err-clause-ready g c =
     let d = g.D.Disk.shown c.args.disk.now in
@@ -77,6 +36,70 @@ returns-in-Err-clause-ready g c =
     let now = c.place_table.new in
     ready_placed d (g.D.Disk.shown now.disk) c.args.pool.now now.pool x x.active now.map (Some now.files) c.args.room.now now.room c.requires.ready
     c.requires.ready.labelled.levels (root_fits d c.args.pool.now x c.requires.ready) c.place_table.ensures.goes c.place_table.ensures.stands
+
+pub returns-in_default-clause-places : goal.returns-in_default-clause-places
+returns-in_default-clause-places g c = λ is.
+    let d = g.D.Disk.shown c.args.disk.now in
+    let p = c.args.pool.now in
+    let x = c.args.self.now in
+    let room = c.args.room.now in
+    let none : x.files ≡ None = search rules in
+    subst (λ (o : Option Files). PlacesVolume d p x room d p (record x { files = o }) room (Ok tt)) (none ∙ sym c.take.ensures.after) (record {
+      standing = is;
+      volume = refl;
+      led = λ led. led;
+      seen = standing_seen d p x is none c.requires.ready.labelled;
+      fits = (omega arith, omega arith);
+      enough = λ enough. tt;
+    })
+
+pub returns-in-Ok-clause-places : goal.returns-in-Ok-clause-places
+returns-in-Ok-clause-places g c = λ is.
+    let d = g.D.Disk.shown c.args.disk.now in
+    let e = g.D.Disk.shown c.place_table.new.disk in
+    let p = c.args.pool.now in
+    let x = c.args.self.now in
+    let files = c.in-Some.files in
+    let held : x.files ≡ Some files = search rules in
+    let now = c.place_table.new in
+    let after = c.take.ensures.after in
+    let table = c.in-Ok.ensures.table in
+    let rooted = c.rooted-self.ensures in
+    let y : VolumeState = record x { active = c.rooted-self.result; map = now.map; files = c.take.new.self; changed = true } in
+    let stands : IsStanding e now.pool y =
+    done_standing d e p now.pool x files held now.map now.files c.in-Ok.root c.rooted-self.result c.take.new.self rooted after table is c.place_table.ensures.told in
+    record {
+      standing = stands;
+      volume = done_volume d e p now.pool x files held now.map now.files c.in-Ok.root c.rooted-self.result c.take.new.self rooted after table is;
+      led = done_led d e p now.pool x files held now.map now.files c.in-Ok.root c.rooted-self.result c.take.new.self rooted after table is;
+      seen = standing_seen e now.pool y stands after (returns-in-Ok-clause-ready g c).labelled;
+      fits = fits_done x.files c.take.new.self files now.files held after c.args.room.now now.room (c.in-Ok.ensures.room.fits (was_told d p x files held is)) c.in-Ok.ensures.room.nothing;
+      enough = λ enough. tt;
+    }
+
+pub returns-in-Err-clause-places : goal.returns-in-Err-clause-places
+returns-in-Err-clause-places g c = λ is.
+    let d = g.D.Disk.shown c.args.disk.now in
+    let e = g.D.Disk.shown c.place_table.new.disk in
+    let p = c.args.pool.now in
+    let x = c.args.self.now in
+    let files = c.in-Some.files in
+    let held : x.files ≡ Some files = search rules in
+    let now = c.place_table.new in
+    let fault = c.in-Err.fault in
+    let table = c.in-Err.ensures.table in
+    let told = was_told d p x files held in
+    record {
+      standing = failed_standing d e p now.pool x files held now.map now.files fault table is c.place_table.ensures.told;
+      volume = failed_volume d e p now.pool x files held now.map now.files fault table is;
+      led = failed_led d e p now.pool x files held now.map now.files fault table is;
+      seen = tt;
+      fits = fits_failed x.files files now.files held c.args.room.now now.room (c.in-Err.ensures.room.fits (told is));
+      enough = λ enough.
+          subst (FaultOfLoad (IsStanding d p x) (standing_for d p x)) (sym c.into.ensures)
+          (load_fault (IsStanding d p x) _ told _ (standing_for d p x) (sym (was_table d p x files held)) fault
+          (c.in-Err.ensures.room.enough (told is) (pending_held x.files files held c.args.room.now enough)));
+    }
 
 pub returns-in-Err-clause-cause : goal.returns-in-Err-clause-cause
 returns-in-Err-clause-cause g c =
@@ -102,49 +125,3 @@ returns-in-Ok-clause-others g c =
 pub returns-in-Err-clause-others : goal.returns-in-Err-clause-others
 returns-in-Err-clause-others g c =
     beside_flush (g.D.Disk.shown c.args.disk.now) (g.D.Disk.shown c.place_table.new.disk) c.args.pool.now c.place_table.new.pool c.args.self.now c.place_table.new.map c.args.room.now c.place_table.new.room c.place_table.ensures.goes
-
-pub returns-in_default-clause-seen : goal.returns-in_default-clause-seen
-returns-in_default-clause-seen g c = λ is.
-    let none : c.args.self.now.files ≡ None = search rules in
-    subst (λ (o : Option Files). IsSeen (g.D.Disk.shown c.args.disk.now) c.args.pool.now (record c.args.self.now { files = o })) (none ∙ sym c.take.ensures.after)
-    (standing_seen (g.D.Disk.shown c.args.disk.now) c.args.pool.now c.args.self.now is none c.requires.ready.labelled)
-
-pub returns-in-Ok-clause-fits : goal.returns-in-Ok-clause-fits
-returns-in-Ok-clause-fits g c = λ is.
-    let x = c.args.self.now in
-    let held : x.files ≡ Some c.in-Some.files = search rules in
-    let fits = c.place_table.ensures.fits (was_told (g.D.Disk.shown c.args.disk.now) c.args.pool.now x c.in-Some.files held is) in
-    fits_done x.files c.take.new.self c.in-Some.files c.place_table.new.files held c.take.ensures.after c.args.room.now c.place_table.new.room fits c.in-Ok.ensures.nothing
-
-pub returns-in-Err-clause-fits : goal.returns-in-Err-clause-fits
-returns-in-Err-clause-fits g c = λ is.
-    let x = c.args.self.now in
-    let held : x.files ≡ Some c.in-Some.files = search rules in
-    let fits = c.place_table.ensures.fits (was_told (g.D.Disk.shown c.args.disk.now) c.args.pool.now x c.in-Some.files held is) in
-    fits_failed x.files c.in-Some.files c.place_table.new.files held c.args.room.now c.place_table.new.room fits
-
-pub returns-in-Err-clause-enough : goal.returns-in-Err-clause-enough
-returns-in-Err-clause-enough g c = λ is enough.
-    let d = g.D.Disk.shown c.args.disk.now in
-    let p = c.args.pool.now in
-    let x = c.args.self.now in
-    let files = c.in-Some.files in
-    let held : x.files ≡ Some files = search rules in
-    let damage = c.in-Err.ensures.enough (was_told d p x files held is) (pending_held x.files files held c.args.room.now enough) in
-    subst (FaultOfLoad (IsStanding d p x) (standing_for d p x)) (sym c.into.ensures)
-    (load_fault (IsStanding d p x) _ (was_told d p x files held) _ (standing_for d p x) (sym (was_table d p x files held)) c.in-Err.fault damage)
-
-pub returns-in-Ok-clause-led : goal.returns-in-Ok-clause-led
-returns-in-Ok-clause-led g c = λ is.
-    let x = c.args.self.now in
-    let held : x.files ≡ Some c.in-Some.files = search rules in
-    let now = c.place_table.new in
-    done_led (g.D.Disk.shown c.args.disk.now) (g.D.Disk.shown now.disk) c.args.pool.now now.pool x c.in-Some.files held now.map now.files c.in-Ok.root c.rooted-self.result c.take.new.self
-    c.rooted-self.ensures c.take.ensures.after c.in-Ok.ensures.table is
-
-pub returns-in-Err-clause-led : goal.returns-in-Err-clause-led
-returns-in-Err-clause-led g c = λ is.
-    let x = c.args.self.now in
-    let held : x.files ≡ Some c.in-Some.files = search rules in
-    let now = c.place_table.new in
-    failed_led (g.D.Disk.shown c.args.disk.now) (g.D.Disk.shown now.disk) c.args.pool.now now.pool x c.in-Some.files held now.map now.files c.in-Err.fault c.in-Err.ensures.table is

@@ -1,4 +1,4 @@
-use Rattle.std.proofs.Common.{◌≡◌, Err, Some, None, true, false, is_some, option_copied, rules, sym, subst, ap, arith, ◌+◌}
+use Rattle.std.proofs.Common.{◌≡◌, Err, Some, None, true, false, is_some, option_copied, rules, sym, subst, ◌+◌}
 use Rattle.fv_tables.specs.Told.{Standing}
 use Rattle.fv_inode.specs.Files.{Finds, IsFirst}
 use Rattle.fv_model.specs.Numbers.{is_index}

@@ -1,7 +1,5 @@
-use Rattle.std.proofs.Common.{◌≡◌, Err, Some, None, true, false, is_some, option_copied, rules, sym, subst}
-use Rattle.fv_tables.specs.Told.{Standing}
+use Rattle.std.proofs.Common.{◌≡◌, Err, Some, None, true, false, is_some, option_copied, rules, subst}
 use Rattle.fv_inode.specs.Files.{Finds, IsFirst}
-use Rattle.fv_model.specs.Numbers.{is_index}
 use Rattle.fv_volume.specs.Causes.{of_block}
 use Rattle.fv_volume.specs.Lending.{lent_for}
 use Rattle.fv_volume.specs.OneVolume.{home_in, standing_for, IsStanding}

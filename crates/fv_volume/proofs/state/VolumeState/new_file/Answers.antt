@@ -1,4 +1,4 @@
-use Rattle.std.proofs.Common.{◌≡◌, ℕ, Ok, Err, rules, refl, sym, subst, ap, ◌∙◌, arith}
+use Rattle.std.proofs.Common.{◌≡◌, ℕ, Ok, Err, rules, subst}
 use Rattle.std.specs.Prelude.{◌<◌, None}
 use Rattle.fv_tables.specs.Told.{file_at, Standing}
 use Rattle.fv_model.specs.declared.commands.Command.TheVariants.{New}

@@ -1,4 +1,4 @@
-use Rattle.std.proofs.Common.{◌≡◌, ℕ, Ok, Err, rules, refl, sym, subst, ap, ◌∙◌, arith}
+use Rattle.std.proofs.Common.{◌≡◌, Ok, Err, rules, subst}
 use Rattle.fv_tables.specs.Told.{Standing}
 use Rattle.fv_files.specs.Tables.{IsInfoOf}
 use Rattle.fv_model.specs.declared.commands.Command.TheVariants.{Put}

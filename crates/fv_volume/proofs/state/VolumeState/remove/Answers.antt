@@ -1,4 +1,5 @@
 use Rattle.std.proofs.Common.{◌≡◌, ℕ, Ok, Err, rules, refl, sym, subst, ap, ◌∙◌, arith}
+use Rattle.std.proofs.lemmas.Result.{err_from_is_err_and}
 use Rattle.fv_tables.specs.Told.{Standing}
 use Rattle.fv_files.specs.Tables.{IsInfoOf}
 use Rattle.fv_model.specs.declared.commands.Command.TheVariants.{Remove}
@@ -10,7 +11,7 @@ use Rattle.fv_volume.specs.Lending.{lent_for}
 use Rattle.fv_volume.specs.OneVolume.{home_in, standing_for, volume_for, IsStanding}
 use Rattle.fv_volume.proofs.Asked.{first_info}
 use Rattle.fv_volume.proofs.CallCauses.{fails_later, failed_cause}
-use Rattle.fv_volume.proofs.Calling.{counted_led, counted_room, left_led, left_room, refused_led, refused_room, left_ledger, left_more, failed_changes, failed_head, failed_stands, left_ready, refused_changes, refused_head, refused_ready, refused_standing, done_head, done_ready, Parts}
+use Rattle.fv_volume.proofs.Calling.{counted_led, counted_room, left_led, left_room, refused_led, refused_room, left_ledger, left_more, failed_changes, no_refusal, failed_head, failed_stands, left_ready, refused_changes, refused_head, refused_ready, refused_standing, done_head, done_ready, Parts}
 use Rattle.fv_volume.proofs.JudgedCut.{fewer_fits, fewer_of}
 use Rattle.fv_volume.proofs.OneVolumes.{reads_then, said_after}
 use Rattle.fv_volume.proofs.MadeRemoval.{rm_is, rm_stands}
@@ -21,7 +22,12 @@ use Rattle.fv_volume.proofs.state.VolumeState.remove.Goals as goal
 pub returns-in_err-info-clause-changes : goal.returns-in_err-info-clause-changes
 returns-in_err-info-clause-changes g c = λ is.
     let failed : c.from_residual.result ≡ Err c.in_err-info.field-0.0 = search rules in
-    refused_changes (g.D.Disk.shown c.args.disk.now) (g.D.Disk.shown c.judge_removal.new.disk) c.args.pool.now c.judge_removal.new.pool c.judge_removal.ensures.reads c.args.self.now c.judge_removal.new.volume c.judge_removal.ensures.same (HasWithin c.args.self.now.name (volume_for (g.D.Disk.shown c.args.disk.now) c.args.pool.now c.args.self.now) c.args.others c.args.pool.now.found.blocks) (Remove c.args.self.now.name c.args.file.now) c.from_residual.result c.in_err-info.field-0.0 failed (c.in_err-info.ensures.refused is c.args.others)
+    refused_changes (g.D.Disk.shown c.args.disk.now) (g.D.Disk.shown c.judge_removal.new.disk) c.args.pool.now c.judge_removal.new.pool c.judge_removal.ensures.reads c.args.self.now c.judge_removal.new.volume c.judge_removal.ensures.same (HasWithin c.args.self.now.name (volume_for (g.D.Disk.shown c.args.disk.now) c.args.pool.now c.args.self.now) c.args.others c.args.pool.now.found.blocks) (Remove c.args.self.now.name c.args.file.now) c.from_residual.result c.in_err-info.field-0.0 failed (λ m has. c.in_err-info.ensures.refused is m has.beside.there)
+
+pub returns-in_err-info-clause-refused : goal.returns-in_err-info-clause-refused
+returns-in_err-info-clause-refused g c =
+    let p = err_from_is_err_and c.from_residual.result c.from_residual.ensures.1 in
+    rw (p.1, p.2) (λ is. c.in_err-info.ensures.refused is)
 
 pub returns-in_err-info-clause-standing : goal.returns-in_err-info-clause-standing
 returns-in_err-info-clause-standing g c = λ is. refused_standing (g.D.Disk.shown c.args.disk.now) (g.D.Disk.shown c.judge_removal.new.disk) c.args.pool.now c.judge_removal.new.pool c.judge_removal.ensures.reads c.args.self.now c.judge_removal.new.volume c.judge_removal.ensures.same is
@@ -43,6 +49,11 @@ pub returns-in_err-count-clause-changes : goal.returns-in_err-count-clause-chang
 returns-in_err-count-clause-changes g c = λ is.
     let failed : c.from_residual-in_err-count.result ≡ Err (of_block c.in_err-count.field-0.0) = search rules in
     failed_changes (g.D.Disk.shown c.args.disk.now) (g.D.Disk.shown c.judge_removal.new.disk) (g.D.Disk.shown c.drop_file.new.disk) c.args.pool.now c.judge_removal.new.pool c.drop_file.new.pool c.judge_removal.ensures.reads c.args.self.now c.judge_removal.new.volume c.drop_file.new.volume c.judge_removal.ensures.same c.in_err-count.field-0.0 c.in_err-count.ensures.alters is (HasWithin c.args.self.now.name (volume_for (g.D.Disk.shown c.args.disk.now) c.args.pool.now c.args.self.now) c.args.others c.args.pool.now.found.blocks) (Remove c.args.self.now.name c.args.file.now) c.from_residual-in_err-count.result failed
+
+pub returns-in_err-count-clause-refused : goal.returns-in_err-count-clause-refused
+returns-in_err-count-clause-refused g c =
+    let p = err_from_is_err_and c.from_residual-in_err-count.result c.from_residual-in_err-count.ensures.1 in
+    rw (p.1, p.2) (λ is m has. no_refusal (Unit {0}) m _ c.in_err-count.field-0.0)
 
 pub returns-in_err-count-clause-standing : goal.returns-in_err-count-clause-standing
 returns-in_err-count-clause-standing g c = λ is. failed_stands (g.D.Disk.shown c.args.disk.now) (g.D.Disk.shown c.judge_removal.new.disk) (g.D.Disk.shown c.drop_file.new.disk) c.args.pool.now c.judge_removal.new.pool c.drop_file.new.pool c.judge_removal.ensures.reads c.args.self.now c.judge_removal.new.volume c.drop_file.new.volume c.judge_removal.ensures.same c.in_err-count.field-0.0 c.in_err-count.ensures.alters is
