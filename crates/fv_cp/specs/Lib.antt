@@ -1,3 +1,5 @@
 pub mod Course
+pub mod Held
 pub mod Lent
+pub mod Placing
 pub mod Points

@@ -3,7 +3,9 @@
 #![tactic(auto)]
 
 mod fault;
+mod placing;
 mod point;
 
 pub use fault::CpFault;
+pub use placing::flush;
 pub use point::consistency_point;

@@ -136,7 +136,7 @@ module _ (pool new : Pool) (map after : Volume) (slot kind : ℕ) (block : List 
   unheld = right (is_member pool.map.committed placed.pvbn) (is_member pool.map.next placed.pvbn) places.takes.free.free
 
   may_take : MayTake pool.map pool.containers slot placed.pvbn
-  may_take = record { spare = spare; free = inl places.takes.free.free }
+  may_take = record { lies = (places.takes.free.after, places.takes.free.within); spare = spare; free = inl places.takes.free.free }
 
   still : (b : ℕ) → is_member pool.map.next b ≡ true → is_member more b ≡ true
   still b was = member_set pool.map.next placed.pvbn b true (λ same. let isnt : true ≡ false = sym was ∙ ap (is_member pool.map.next) same ∙ unheld in cc) ∙ was

@@ -103,6 +103,8 @@ module _ (old new : Lent) (goes : GoesOver old new) (y : VolumeState) (other : y
   beside_goes = record {
     standing = entries_standing old.disk new.disk old.pool new.pool y alone still_alone same_own goes.only_reads.stays.tells goes.only_reads.stays.reads stays still_next is;
     volume = entries_volume old.disk new.disk old.pool new.pool y alone still_alone same_own goes.only_reads.stays.tells goes.only_reads.stays.reads stays still_next;
+    blocks = same_under old.disk new.disk old.pool new.pool y alone still_alone same_own goes.only_reads.stays.tells goes.only_reads.stays.reads stays still_next;
+    used = same_used old.disk new.disk old.pool new.pool y alone still_alone same_own goes.only_reads.stays.tells goes.only_reads.stays.reads stays still_next;
   }
 
 pub beside_flush : (d e : Disk) (p q : Pool) (x : VolumeState) (map : Maps) (room left : ℕ) → Goes (lent_for p x.map d 0 (home_in x) room) q map e left → LeavesOthers d p x.slot e q

@@ -9,7 +9,8 @@ use Rattle.fv_disk.specs.declared.fault.BlockFault.TheVariants.{DiskFault, Damag
 use Rattle.fv_bits.specs.Members.{is_member}
 use Rattle.fv_codec.specs.Blocks.{last_place}
 use Rattle.fv_image.specs.Layout.{root_place}
-use Rattle.fv_aggmap.specs.Space.{Space, is_held}
+use Rattle.fv_image.specs.Reclaimed.{IsAllocatable}
+use Rattle.fv_aggmap.specs.Space.{Space, blocks_of, is_held}
 use Rattle.fv_container.specs.declared.entry.Entry.{Entry}
 use Rattle.fv_container.specs.Chains.{Slots, container_at, own_entry, slot_count}
 use Rattle.fv_container.specs.Mapped.{Mapped}
@@ -131,9 +132,10 @@ pub record IsOwn (slots : Slots) (slot b : ℕ) : Type 0 where
   pub stands : own_entry (container_at slots slot) vvbn ≡ Some entry
   pub leads : entry.pvbn ≡ b
 
--- a block that calls for a slot's volume may take: the root on the disk doesn't hold it, and it is free, or an entry of the
--- volume leads to it, which may be replaced
+-- a block that calls for a slot's volume may take: it lies where a volume's can, the root on the disk doesn't hold it, and it is free, or
+-- an entry of the volume leads to it, which may be replaced
 pub record MayTake (space : Space) (slots : Slots) (slot b : ℕ) : Type 0 where
+  pub lies : IsAllocatable (blocks_of space) b
   pub spare : is_member space.committed b ≡ false
   pub free : (is_held space.committed space.next b ≡ false) ⊎ IsOwn slots slot b
 

@@ -80,6 +80,9 @@ LiesApart slots slot other = (v : ℕ) (e : Entry) → own_entry (container_at s
 pub record StaysBeside (disk : Disk) (pool : Pool) (after : Disk) (left : Pool) (y : VolumeState) : Type 0 where
   pub standing : IsStanding after left y
   pub volume : volume_for after left y ≡ volume_for disk pool y
+  -- it leads to the same blocks, of which the same are in use
+  pub blocks : under (shows after left y) ≡ under (shows disk pool y)
+  pub used : (shows after left y).used ≡ (shows disk pool y).used
 
 -- So it is with each volume without a base in another slot than this, whose blocks aren't this one's.
 abbrev pub LeavesOthers : Disk → Pool → ℕ → Disk → Pool → Type 0

@@ -116,7 +116,7 @@ returns-in-Err-clause-cause g c =
     (place_narrow (IsStanding d p x) _ (was_told d p x files held) _ (standing_for d p x) (sym (was_table d p x files held)) old faults now.room c.in-Err.fault c.in-Err.ensures.cause))
 
 pub returns-in_default-clause-others : goal.returns-in_default-clause-others
-returns-in_default-clause-others g c = λ y other alone apart is. record { standing = is; volume = refl }
+returns-in_default-clause-others g c = λ y other alone apart is. record { standing = is; volume = refl; blocks = refl; used = refl }
 
 pub returns-in-Ok-clause-others : goal.returns-in-Ok-clause-others
 returns-in-Ok-clause-others g c =
