@@ -202,6 +202,13 @@ lent_map p q m n d e s t h k r u a b v w reads = reads.map
 pub failed_cause : {T : Type 0} (told : Type 0) (x : Standing) (old : Lent) (faults : ℕ) (e : BlockFault) (r : Result T VolumeFault) → r ≡ Err (of_block e) → TableFails told x old faults e → CallCause told x old faults r
 failed_cause told x old faults e r failed fails = subst (λ y. CallCause told x old faults y) (sym failed) (fails_as told x old faults e fails)
 
+-- A change failed after its judgement, which only read and left the volume as it was.
+pub failed_change_cause : (d e : Disk) (p q : Pool) (reads : Reads d p e q) (x v : VolumeState) → v ≡ x → e.faults ≡ d.faults → (faults : ℕ) (b : BlockFault) {U : Type 0} (r : Result U VolumeFault) → r ≡ Err (of_block b)
+    → BlockCause {T = ℕ} (IsStanding e q v) (standing_for e q v) (lent_for q v.map e 0 (home_in v) 0) faults (Err b) → CallCause (IsStanding d p x) (standing_for d p x) (lent_for p x.map d 0 (home_in x) 0) faults r
+failed_change_cause d e p q reads x v same calm faults b r failed cause =
+    let later = subst (λ (z : VolumeState). BlockCause {T = ℕ} (IsStanding e q z) (standing_for e q z) (lent_for q z.map e 0 (home_in z) 0) faults (Err b)) same cause in
+    failed_cause (IsStanding d p x) (standing_for d p x) (lent_for p x.map d 0 (home_in x) 0) faults b r failed (fails_later d e p q reads x calm 0 {T = ℕ} faults (Err b) later)
+
 -- a refusal, where no read failed
 pub refused_cause : {T : Type 0} (told : Type 0) (x : Standing) (old : Lent) (faults : ℕ) (fault : VolumeFault) (r : Result T VolumeFault) → r ≡ Err fault → (w : Refusal) × (fault ≡ Refused w) → faults ≡ old.disk.faults → CallCause told x old faults r
 refused_cause told x old faults fault r failed refused calm = subst (CallCause told x old faults) (sym failed) (subst (CallFails told x old faults) (sym refused.1) calm)

@@ -189,6 +189,11 @@ pub record Parts {T : Type 0} (d e f : Disk) (p q r : Pool) (x v w y : VolumeSta
   pub moved : IsChanged w.ledger by y.ledger
   pub moves : (a b : Volume) → IsLedgerOf a w.ledger → IsDeltaOf a b by → IsLedgerOf b y.ledger
 
+pub parts_of : {T : Type 0} {d e f : Disk} {p q r : Pool} {x v w y : VolumeState} {result : Result T BlockFault} {by : Delta} → Reads d p e q → v ≡ x → AltersTable e q f r v w result
+    → y ≡ record w { now = y.now; ledger = y.ledger; changed = true } → y.now ≡ w.now + 1 → IsChanged w.ledger by y.ledger
+    → ((a b : Volume) → IsLedgerOf a w.ledger → IsDeltaOf a b by → IsLedgerOf b y.ledger) → Parts d e f p q r x v w y result by
+parts_of first same alters counted next moved moves = record { first = first; same = same; alters = alters; counted = counted; next = next; moved = moved; moves = moves }
+
 module _ {T : Type 0} (d e f : Disk) (p q r : Pool) (x v w y : VolumeState) (result : Result T BlockFault) (by : Delta) (parts : Parts d e f p q r x v w y result by) where
   -- the volume once its table was changed, and once that was counted
   abbrev pub left_so : VolumeState

@@ -1,128 +1,27 @@
--- What a change costs by pointers, how the ledger of a volume alone changes, and what the machine says of the space for it.
-use Rattle.std.proofs.Common.{◌≡◌, ℕ, ◌+◌, ◌-◌, ◌/◌, ◌^◌, ◌<◌, pos, ◌+ℤ◌, Bool, true, false, cond, not, ◌&&◌, nat_lt, nat_le, List, length, Option, Some, None, is_some, refl, sym, ap, ◌∙◌, arith}
-use Rattle.std.specs.Prelude.{◌==◌, if◌then◌else◌}
+-- How the ledger of a volume alone changes by each command, what the machine says of the space for it, and how the members of a map are counted.
+use Rattle.std.proofs.Common.{◌≡◌, ℕ, ◌+◌, ◌-◌, pos, ◌+ℤ◌, Bool, List, length, Option, Some, refl, sym, ap, ◌∙◌, arith}
 use Rattle.std.specs.Option.{option_map_or}
 use Rattle.std.specs.FinMap as fin
-use Rattle.std.proofs.Math.Nat.{div-eq_of_lt}
-use Rattle.std.proofs.lemmas.Bool.Decides.{nat_tests}
 use Rattle.std.proofs.lemmas.Int.{ints}
 use Rattle.fv_bits.specs.Members.{is_member, count_of, count_between}
 use Rattle.fv_bits.proofs.Counts.{passing, passing_same}
 use Rattle.fv_model.specs.declared.commands.Command.{Command}
 use Rattle.fv_model.specs.declared.commands.Command.TheVariants.{New, Put, Cut, Remove}
-use Rattle.fv_model.specs.Trees.{fan, Spot, spot_cmp, levels_with, holds_one}
 use Rattle.fv_model.specs.Tables.{File, Table, inode_cell, free_number, file_named, new, put, cut, rm}
 use Rattle.fv_model.specs.Volumes.{Volume}
 use Rattle.fv_model.specs.Machines.{Machine, capacity}
 use Rattle.fv_model.specs.Space.{charge, need, commit, commits}
 use Rattle.fv_model.specs.Effects.{Change, Stays, Becomes, changed, change_of, at_file, stamped}
-use Rattle.fv_laws.specs.WellFormed.{IsTree, IsWellTable}
-use Rattle.fv_laws.specs.Positions.{found_over, added_by, taken_by_cut, taken_by_rm, IsAlone, HasNoReserve}
-use Rattle.fv_laws.proofs.Lists.{In}
-use Rattle.fv_laws.proofs.Levels.{all_in, from_holds, holds}
-use Rattle.fv_laws.proofs.Orders.{spot_total, spot_ties}
+use Rattle.fv_laws.specs.WellFormed.{IsWellTable}
+use Rattle.fv_laws.specs.Positions.{added_by, taken_by_cut, taken_by_rm, IsAlone, HasNoReserve}
 use Rattle.fv_laws.proofs.Commits.{now_there, commits_put}
-use Rattle.fv_laws.proofs.Ranges.{counted_same}
 use Rattle.fv_laws.proofs.Moves.{new_charge, put_charge, cut_charge, rm_charge}
 use Rattle.fv_laws.proofs.PathCharges.{no_need, new_unreserved, put_unreserved, cut_unreserved, rm_unreserved}
-use Rattle.fv_tables.specs.Spelled.{Rooted, pointer_at, pointer_below}
-use Rattle.fv_tables.specs.Told.{tree_told}
-use Rattle.fv_tables.proofs.Tables.{stamps_told}
 use Rattle.fv_charge.specs.declared.ledger.Ledger.{Ledger}
 use Rattle.fv_charge.specs.declared.delta.Delta.{Delta}
 use Rattle.fv_charge.specs.Ledgers.{IsLedgerOf}
 use Rattle.fv_charge.specs.Changes.{IsDeltaOf, IsLeft}
-use Rattle.fv_volume.specs.Charging.{found_at, added_at, AddsBlocks, TakesBlocks}
-
--- ---- by pointers
-
-leads_is : (n : ℕ) → is_some (if n == 0 then None else Some n) ≡ not (n == 0)
-leads_is n = so (n == 0)
-  where
-    so : (b : Bool) → is_some (if b then None else Some n) ≡ not b
-    so true = refl
-    so false = refl
-
-stands_is : (t : Rooted) (level place : ℕ) → fin.contains_key (tree_told t).stamps (level, place) ≡ not ((pointer_at t level place).stamp == 0)
-stands_is t level place = ap is_some (stamps_told t level place) ∙ leads_is (pointer_at t level place).stamp
-
--- The positions over a cell are the pointers over it.
-pub found_pointers : (t : Rooted) (i : ℕ) → found_over (tree_told t) i ≡ found_at t i
-unfolding found_over found_at tree_told
-found_pointers t i = counted_same (λ k. fin.contains_key (tree_told t).stamps (k, i / fan ^ k)) (λ k. not ((pointer_at t k (i / fan ^ k)).stamp == 0)) 0 (t.levels + 1) (λ k low high. stands_is t k (i / fan ^ k))
-
-root_is : (t : Rooted) → pointer_at t t.levels 0 ≡ t.root
-unfolding pointer_at pointer_below
-root_is t =
-    let low : nat_le t.levels t.levels ≡ true = grind (arith, nat_tests) in
-    let none : t.levels - t.levels ≡ 0 = omega arith in
-    rw (low, none) refl
-
--- A tree has a position exactly where its root leads somewhere.
-module _ (now start : ℕ) (cells : List ℕ) (t : Rooted) (is : IsTree now start cells (tree_told t)) where
-  abbrev any : Bool
-  any = nat_lt 0 (fin.len (tree_told t).stamps)
-
-  levels_are : (tree_told t).levels ≡ t.levels
-  unfolding tree_told
-  levels_are = refl
-
-  top_stands : fin.contains_key (tree_told t).stamps (t.levels, 0) ≡ not (t.root.stamp == 0)
-  top_stands = stands_is t t.levels 0 ∙ ap (λ p. not (p.stamp == 0)) (root_is t)
-
-  -- over a cell the root leads somewhere
-  over_cell : (j : ℕ) → In j cells → fin.contains_key (tree_told t).stamps (t.levels, 0) ≡ true
-  over_cell j h =
-      let below : j < fan ^ (tree_told t).levels = all_in (λ i. i < fan ^ (tree_told t).levels) cells is.covers j h in
-      let at : j / fan ^ t.levels ≡ 0 = ap (λ (k : ℕ). j / fan ^ k) (sym levels_are) ∙ div-eq_of_lt below in
-      is.exact (t.levels, 0) ∙ (λ i. (let low : nat_le t.levels (tree_told t).levels ≡ true = grind (arith, nat_tests, levels_are) in low) i && holds cells (t.levels, 0) j h at i)
-
-  no_cell : (b : Bool) → fin.contains_key (tree_told t).stamps (t.levels, 0) ≡ b → b ≡ false → (p : Spot) → fin.contains_key (tree_told t).stamps p ≡ false
-  no_cell b e none p = so (holds_one cells p) refl
-    where
-      wrong : false ≡ true → ⊥
-      wrong e = cc
-
-      and_false : (a : Bool) → (a && false) ≡ false
-      and_false true = refl
-      and_false false = refl
-
-      so : (h : Bool) → holds_one cells p ≡ h → fin.contains_key (tree_told t).stamps p ≡ false
-      so false h = is.exact p ∙ ap (λ c. nat_le p.0 (tree_told t).levels && c) h ∙ and_false (nat_le p.0 (tree_told t).levels)
-      so true h = let cell = from_holds cells p h in absurd (wrong (sym none ∙ sym e ∙ over_cell cell.0 cell.1))
-
-  is_empty : ((p : Spot) → fin.contains_key (tree_told t).stamps p ≡ false) → (tree_told t).stamps ≡ fin.empty
-  is_empty none = fin.same_map spot_total spot_ties _ _ (λ p. absent (fin.get (tree_told t).stamps p) (none p) ∙ sym (fin.get-empty spot_cmp p))
-    where
-      absent : (o : Option ℕ) → is_some o ≡ false → o ≡ None
-      absent None e = refl
-      absent (Some u) e = absurd cc
-
-  any_is_root : any ≡ not (t.root.stamp == 0)
-  any_is_root = so (not (t.root.stamp == 0)) refl any refl
-    where
-      so : (b : Bool) → not (t.root.stamp == 0) ≡ b → (a : Bool) → any ≡ a → a ≡ b
-      so true e true d = refl
-      so false e false d = refl
-      so true e false d =
-          let none : fin.len (tree_told t).stamps ≡ 0 = grind (arith, nat_tests, d) in
-          let empty : fin.contains_key (tree_told t).stamps (t.levels, 0) ≡ false = ap (λ (m : fin.FinMap spot_cmp ℕ). is_some (fin.get m (t.levels, 0))) (fin.empty_of_len (tree_told t).stamps none) ∙ ap is_some (fin.get-empty spot_cmp (t.levels, 0)) in
-          sym empty ∙ top_stands ∙ e
-      so false e true d =
-          let empty = is_empty (no_cell (not (t.root.stamp == 0)) top_stands e) in
-          let none : fin.len (tree_told t).stamps ≡ 0 = ap fin.len empty ∙ fin.len-empty spot_cmp ℕ in
-          let no : any ≡ false = grind (arith, nat_tests, none) in
-          sym d ∙ no
-
-  -- What a write adds is told by the pointers over the cell.
-  pub added_pointers : (i : ℕ) → added_by (tree_told t) i ≡ added_at t i
-  unfolding added_by added_at tree_told
-  added_pointers i = (λ j. (levels_with t.levels i + 1 - found_pointers t i j) + cond (any_is_root j) (levels_with t.levels i - t.levels - 1) 0)
-      ∙ ap (λ n. (levels_with t.levels i + 1 - found_at t i) + n) (turned (t.root.stamp == 0) (levels_with t.levels i - t.levels - 1))
-    where
-      turned : (b : Bool) (n : ℕ) → cond (not b) n 0 ≡ (if b then 0 else n)
-      turned true n = refl
-      turned false n = refl
+use Rattle.fv_volume.specs.Charging.{AddsBlocks, TakesBlocks}
 
 -- ---- as changes of a ledger
 

@@ -25,7 +25,7 @@ use Rattle.fv_charge.specs.Changes.{CanChange}
 use Rattle.fv_volume.specs.declared.fault.VolumeFault.TheVariants.{Refused}
 use Rattle.fv_volume.specs.declared.pool.Pool.{Pool}
 use Rattle.fv_volume.specs.declared.state.VolumeState.{VolumeState}
-use Rattle.fv_volume.specs.Calls.{Has, HasBeside, HasWithin}
+use Rattle.fv_volume.specs.Calls.{Has, HasWithin}
 use Rattle.fv_volume.specs.Changing.{AcceptsCut, AcceptsRemoval, FitsLedger, RefusedIn}
 use Rattle.fv_volume.specs.OneVolume.{standing_for, volume_for, IsReady, IsStanding}
 use Rattle.fv_volume.proofs.Answered.{cut_changes, cut_far, cut_none, cut_past, cut_space, rm_changes, rm_none, rm_space}

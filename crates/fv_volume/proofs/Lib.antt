@@ -63,6 +63,7 @@ mod DropCauses
 pub mod JudgedCut
 mod LeftTables
 mod Calling
+mod TakenTable
 pub mod Judged
 pub mod JudgedNew
 mod MadeCut

@@ -1,75 +1,33 @@
-use Rattle.std.proofs.Common.{◌≡◌, ◌+◌, ℕ, IfOk, OnErr, OnOk, refl, sym, subst, arith}
-use Rattle.fv_tables.specs.Told.{Standing, table_told}
+use Rattle.std.proofs.Common.{◌+◌}
+use Rattle.fv_tables.specs.Told.{Standing}
 use Rattle.fv_tree.specs.Standing.{under}
-use Rattle.fv_laws.specs.WellFormed.{IsWellTable}
 use Rattle.fv_files.specs.Calls.{RemovesFile, TakesByRemoval}
-use Rattle.fv_files.specs.Tables.{changed, table_in, IsInfoOf}
-use Rattle.fv_files.specs.Trees.{standing_in}
-use Rattle.fv_inode.specs.Files.{rooted}
-use Rattle.fv_volume.specs.Lending.{IsTold, lent_for, sees}
-use Rattle.fv_volume.specs.OneVolume.{home_in, shows, standing_for, IsStanding}
-use Rattle.fv_volume.proofs.CallCauses.{cause_for}
-use Rattle.fv_volume.proofs.Calling.{ifok_with, onok_with}
+use Rattle.fv_files.specs.Tables.{table_in}
+use Rattle.fv_volume.specs.Lending.{sees}
+use Rattle.fv_volume.specs.OneVolume.{home_in, shows}
 use Rattle.fv_volume.proofs.OneVolumes.{root_fits}
+use Rattle.fv_volume.proofs.TakenTable.{taken_alters, taken_cause, taken_counts, taken_says}
 use Rattle.fv_volume.proofs.removing.drop_file.Goals as goal
 
 pub take_table-files-requires-clause-root : goal.take_table-files-requires-clause-root
 take_table-files-requires-clause-root g c = root_fits (g.D.Disk.shown c.args.disk.now) c.args.pool.now c.args.volume.now c.requires.ready
 
 pub returns-clause-removed : goal.returns-clause-removed
-returns-clause-removed g c = λ is.
-    let disk = g.D.Disk.shown c.args.disk.now in
-    let pool = c.args.pool.now in
-    let x = c.args.volume.now in
-    let source = shows disk pool x in
-    let f = c.take_table-files.result in
-    let table = c.take_table-files.ensures.table (under source) in
-    let sound = c.take_table-files.ensures.trees (under source) source.used is.trees in
-    subst (λ (s : Standing). OnOk c.remove_told-gone.result (RemovesFile s (standing_in (under (sees pool c.remove_told-gone.new.map disk (home_in x))) (changed c.remove_told-gone.new.files)) c.args.info.now.number (x.now + 1))) table (onok_with _ c.remove_told-gone.result sound (c.remove_told-gone.ensures.removed (is.told, subst (λ (s : Standing). IsInfoOf s.inode c.args.info.now) (sym table) (c.requires.there is), (x.now, subst (λ (s : Standing). IsWellTable x.now (table_told s)) (sym table) is.table))))
+returns-clause-removed g c = taken_says (g.D.Disk.shown c.args.disk.now) c.args.pool.now c.args.volume.now c.take_table-files.result c.args.info.now (c.take_table-files.ensures.table (under (shows (g.D.Disk.shown c.args.disk.now) c.args.pool.now c.args.volume.now))) c.requires.there
+    (λ is. c.take_table-files.ensures.trees (under (shows (g.D.Disk.shown c.args.disk.now) c.args.pool.now c.args.volume.now)) (shows (g.D.Disk.shown c.args.disk.now) c.args.pool.now c.args.volume.now).used is.trees) c.remove_told-gone.result
+    (λ (s : Standing). RemovesFile s (table_in (sees c.args.pool.now c.remove_told-gone.new.map (g.D.Disk.shown c.args.disk.now) (home_in c.args.volume.now)) c.remove_told-gone.new.files) c.args.info.now.number (c.args.volume.now.now + 1)) c.remove_told-gone.ensures.removed
 
 pub returns-clause-counted : goal.returns-clause-counted
-returns-clause-counted g c = λ is.
-    let disk = g.D.Disk.shown c.args.disk.now in
-    let pool = c.args.pool.now in
-    let x = c.args.volume.now in
-    let source = shows disk pool x in
-    let f = c.take_table-files.result in
-    let table = c.take_table-files.ensures.table (under source) in
-    let sound = c.take_table-files.ensures.trees (under source) source.used is.trees in
-    subst (λ (s : Standing). IfOk c.remove_told-gone.result (TakesByRemoval s c.args.info.now.number (x.now + 1))) table (ifok_with _ c.remove_told-gone.result sound (c.remove_told-gone.ensures.counted (is.told, subst (λ (s : Standing). IsInfoOf s.inode c.args.info.now) (sym table) (c.requires.there is), (x.now, subst (λ (s : Standing). IsWellTable x.now (table_told s)) (sym table) is.table))))
+returns-clause-counted g c = taken_counts (g.D.Disk.shown c.args.disk.now) c.args.pool.now c.args.volume.now c.take_table-files.result c.args.info.now (c.take_table-files.ensures.table (under (shows (g.D.Disk.shown c.args.disk.now) c.args.pool.now c.args.volume.now))) c.requires.there
+    (λ is. c.take_table-files.ensures.trees (under (shows (g.D.Disk.shown c.args.disk.now) c.args.pool.now c.args.volume.now)) (shows (g.D.Disk.shown c.args.disk.now) c.args.pool.now c.args.volume.now).used is.trees) c.remove_told-gone.result
+    (λ (s : Standing). TakesByRemoval s c.args.info.now.number (c.args.volume.now.now + 1)) c.remove_told-gone.ensures.counted
 
 pub returns-clause-alters : goal.returns-clause-alters
-returns-clause-alters g c =
-    let disk = g.D.Disk.shown c.args.disk.now in
-    let pool = c.args.pool.now in
-    let x = c.args.volume.now in
-    let source = shows disk pool x in
-    let f = c.take_table-files.result in
-    let table = c.take_table-files.ensures.table (under source) in
-    let given : IsStanding disk pool x → IsTold disk pool x.map x.slot × IsInfoOf (rooted source f.inode) c.args.info.now × ((now : ℕ) × IsWellTable now (table_told (table_in source f))) = λ is. (is.told, subst (λ (s : Standing). IsInfoOf s.inode c.args.info.now) (sym table) (c.requires.there is), (x.now, subst (λ (s : Standing). IsWellTable x.now (table_told s)) (sym table) is.table)) in
-    record {
-      same = refl;
-      maps = c.remove_told-gone.ensures.maps;
-      reads = c.remove_told-gone.ensures.reads;
-      told = λ is. c.remove_told-gone.ensures.told (given is);
-      trees = λ is. c.remove_told-gone.ensures.leaves.stands (given is) (c.take_table-files.ensures.trees (under source) source.used is.trees);
-      failed = λ is. subst (λ (s : Standing). OnErr c.remove_told-gone.result (table_told (standing_in (under (sees pool c.remove_told-gone.new.map disk (home_in x))) (changed c.remove_told-gone.new.files)) ≡ table_told s)) table (c.remove_told-gone.ensures.leaves.failed (given is));
-      led = λ is led. c.remove_told-gone.ensures.leaves.led (given is) (c.take_table-files.ensures.trees (under source) source.used is.trees) (c.take_table-files.ensures.led (under source) source.used led);
-      room = λ is.
-          let taken = c.take_table-files.ensures.pending in
-          let grown = c.remove_told-gone.ensures.leaves.room (given is) (c.take_table-files.ensures.trees (under source) source.used is.trees) in
-          omega (arith, taken, grown);
-    }
+returns-clause-alters g c = taken_alters (g.D.Disk.shown c.args.disk.now) c.args.pool.now c.args.volume.now c.take_table-files.result c.args.info.now (c.take_table-files.ensures.table (under (shows (g.D.Disk.shown c.args.disk.now) c.args.pool.now c.args.volume.now))) c.requires.there
+    (λ is. c.take_table-files.ensures.trees (under (shows (g.D.Disk.shown c.args.disk.now) c.args.pool.now c.args.volume.now)) (shows (g.D.Disk.shown c.args.disk.now) c.args.pool.now c.args.volume.now).used is.trees) c.remove_told-gone.result
+    (λ led. c.take_table-files.ensures.led (under (shows (g.D.Disk.shown c.args.disk.now) c.args.pool.now c.args.volume.now)) (shows (g.D.Disk.shown c.args.disk.now) c.args.pool.now c.args.volume.now).used led) c.take_table-files.ensures.pending
+    (g.D.Disk.shown c.remove_told-gone.new.disk) c.remove_told-gone.new.pool c.remove_told-gone.new.map c.remove_told-gone.new.files c.remove_told-gone.ensures.leaves c.remove_told-gone.ensures.maps c.remove_told-gone.ensures.reads c.remove_told-gone.ensures.told
 
 pub returns-clause-cause : goal.returns-clause-cause
-returns-clause-cause g c =
-    let disk = g.D.Disk.shown c.args.disk.now in
-    let pool = c.args.pool.now in
-    let x = c.args.volume.now in
-    let source = shows disk pool x in
-    let f = c.take_table-files.result in
-    let table = c.take_table-files.ensures.table (under source) in
-    cause_for (IsStanding disk pool x) (IsTold disk pool x.map x.slot × IsInfoOf (rooted source f.inode) c.args.info.now × ((now : ℕ) × IsWellTable now (table_told (table_in source f))))
-    (λ is. (is.told, subst (λ (s : Standing). IsInfoOf s.inode c.args.info.now) (sym table) (c.requires.there is), (x.now, subst (λ (s : Standing). IsWellTable x.now (table_told s)) (sym table) is.table)))
-    (lent_for pool x.map disk 0 (home_in x) 0) (g.D.Disk.shown c.remove_told-gone.new.disk).faults
-    (standing_in (under source) (changed f)) (standing_for disk pool x) c.remove_told-gone.result table c.remove_told-gone.ensures.cause
+returns-clause-cause g c = taken_cause (g.D.Disk.shown c.args.disk.now) c.args.pool.now c.args.volume.now c.take_table-files.result c.args.info.now (c.take_table-files.ensures.table (under (shows (g.D.Disk.shown c.args.disk.now) c.args.pool.now c.args.volume.now))) c.requires.there
+    (g.D.Disk.shown c.remove_told-gone.new.disk).faults c.remove_told-gone.result c.remove_told-gone.ensures.cause

@@ -1,21 +1,39 @@
-use Rattle.std.proofs.Common.{◌≡◌, ℕ, Ok, Err, rules, refl, sym, subst, ap, ◌∙◌, arith}
+use Rattle.std.proofs.Common.{◌≡◌, ℕ, Ok, Err, rules, ap, ◌∙◌}
 use Rattle.std.proofs.lemmas.Result.{err_from_is_err_and}
 use Rattle.fv_tables.specs.Told.{Standing}
 use Rattle.fv_files.specs.Tables.{IsInfoOf}
 use Rattle.fv_model.specs.declared.commands.Command.TheVariants.{Cut}
 use Rattle.fv_charge.specs.declared.ledger.Ledger.{Ledger}
-use Rattle.fv_volume.specs.declared.state.VolumeState.{VolumeState}
-use Rattle.fv_volume.specs.Calls.{BlockCause, HasWithin}
+use Rattle.fv_volume.specs.Calls.{HasWithin}
 use Rattle.fv_volume.specs.Causes.{of_block}
-use Rattle.fv_volume.specs.Lending.{lent_for}
-use Rattle.fv_volume.specs.OneVolume.{home_in, standing_for, volume_for, IsStanding}
+use Rattle.fv_volume.specs.OneVolume.{standing_for, volume_for}
 use Rattle.fv_volume.proofs.Asked.{first_info}
-use Rattle.fv_volume.proofs.CallCauses.{fails_later, failed_cause}
-use Rattle.fv_volume.proofs.Calling.{counted_led, counted_room, left_led, left_room, refused_led, refused_room, left_ledger, left_more, failed_changes, no_refusal, failed_head, failed_stands, left_ready, refused_changes, refused_head, refused_ready, refused_standing, done_head, done_ready, Parts}
+use Rattle.fv_volume.proofs.CallCauses.{failed_change_cause}
+use Rattle.fv_volume.proofs.Calling.{counted_led, counted_room, left_led, left_room, refused_led, refused_room, left_ledger, left_more, failed_changes, no_refusal, failed_head, failed_stands, left_ready, refused_changes, refused_head, refused_ready, refused_standing, done_head, done_ready, parts_of, Parts}
 use Rattle.fv_volume.proofs.JudgedCut.{fewer_fits, fewer_of}
 use Rattle.fv_volume.proofs.OneVolumes.{reads_then, said_after}
 use Rattle.fv_volume.proofs.MadeCut.{cut_is, cut_stands}
 use Rattle.fv_volume.proofs.state.VolumeState.cut.Goals as goal
+
+-- ---- what is led to, and what is pending
+
+pub returns-in_err-info-clause-led : goal.returns-in_err-info-clause-led
+returns-in_err-info-clause-led g c = λ is led. refused_led (g.D.Disk.shown c.args.disk.now) (g.D.Disk.shown c.judge_cut.new.disk) c.args.pool.now c.judge_cut.new.pool c.judge_cut.ensures.reads c.args.self.now c.judge_cut.new.volume c.judge_cut.ensures.same led
+
+pub returns-in_err-info-clause-room : goal.returns-in_err-info-clause-room
+returns-in_err-info-clause-room g c = λ is. refused_room (g.D.Disk.shown c.args.disk.now) (g.D.Disk.shown c.judge_cut.new.disk) c.args.pool.now c.judge_cut.new.pool c.judge_cut.ensures.reads c.args.self.now c.judge_cut.new.volume c.judge_cut.ensures.same
+
+pub returns-in_err-count-clause-led : goal.returns-in_err-count-clause-led
+returns-in_err-count-clause-led g c = λ is led. left_led (g.D.Disk.shown c.args.disk.now) (g.D.Disk.shown c.judge_cut.new.disk) (g.D.Disk.shown c.cut_blocks.new.disk) c.args.pool.now c.judge_cut.new.pool c.cut_blocks.new.pool c.judge_cut.ensures.reads c.args.self.now c.judge_cut.new.volume c.cut_blocks.new.volume c.judge_cut.ensures.same _ c.in_err-count.ensures.alters is led
+
+pub returns-in_err-count-clause-room : goal.returns-in_err-count-clause-room
+returns-in_err-count-clause-room g c = λ is. left_room (g.D.Disk.shown c.args.disk.now) (g.D.Disk.shown c.judge_cut.new.disk) (g.D.Disk.shown c.cut_blocks.new.disk) c.args.pool.now c.judge_cut.new.pool c.cut_blocks.new.pool c.judge_cut.ensures.reads c.args.self.now c.judge_cut.new.volume c.cut_blocks.new.volume c.judge_cut.ensures.same _ c.in_err-count.ensures.alters is
+
+pub returns-clause-led : goal.returns-clause-led
+returns-clause-led g c = λ is led. counted_led (g.D.Disk.shown c.cut_blocks.new.disk) c.cut_blocks.new.pool c.cut_blocks.new.volume c.count_change.new.volume c.count_change.ensures.others (left_led (g.D.Disk.shown c.args.disk.now) (g.D.Disk.shown c.judge_cut.new.disk) (g.D.Disk.shown c.cut_blocks.new.disk) c.args.pool.now c.judge_cut.new.pool c.cut_blocks.new.pool c.judge_cut.ensures.reads c.args.self.now c.judge_cut.new.volume c.cut_blocks.new.volume c.judge_cut.ensures.same (Ok c.in_ok-count.count) c.in_ok-count.ensures.alters is led)
+
+pub returns-clause-room : goal.returns-clause-room
+returns-clause-room g c = λ is. counted_room c.cut_blocks.new.volume c.count_change.new.volume _ c.count_change.ensures.others (left_room (g.D.Disk.shown c.args.disk.now) (g.D.Disk.shown c.judge_cut.new.disk) (g.D.Disk.shown c.cut_blocks.new.disk) c.args.pool.now c.judge_cut.new.pool c.cut_blocks.new.pool c.judge_cut.ensures.reads c.args.self.now c.judge_cut.new.volume c.cut_blocks.new.volume c.judge_cut.ensures.same (Ok c.in_ok-count.count) c.in_ok-count.ensures.alters is)
 
 -- ---- refused
 
@@ -62,83 +80,42 @@ pub returns-in_err-count-clause-ready : goal.returns-in_err-count-clause-ready
 returns-in_err-count-clause-ready g c = left_ready (g.D.Disk.shown c.args.disk.now) (g.D.Disk.shown c.judge_cut.new.disk) (g.D.Disk.shown c.cut_blocks.new.disk) c.args.pool.now c.judge_cut.new.pool c.cut_blocks.new.pool c.judge_cut.ensures.reads c.args.self.now c.judge_cut.new.volume c.cut_blocks.new.volume c.judge_cut.ensures.same _ c.in_err-count.ensures.alters c.requires.ready
 
 pub returns-in_err-count-clause-head : goal.returns-in_err-count-clause-head
-returns-in_err-count-clause-head g c =
-    let failed : c.from_residual-in_err-count.result ≡ Err (of_block c.in_err-count.field-0.0) = search rules in
-    failed_head (g.D.Disk.shown c.args.disk.now) (g.D.Disk.shown c.judge_cut.new.disk) (g.D.Disk.shown c.cut_blocks.new.disk) c.args.pool.now c.judge_cut.new.pool c.cut_blocks.new.pool c.judge_cut.ensures.reads c.args.self.now c.judge_cut.new.volume c.cut_blocks.new.volume c.judge_cut.ensures.same c.in_err-count.field-0.0 c.in_err-count.ensures.alters c.from_residual-in_err-count.result failed
+returns-in_err-count-clause-head g c = failed_head (g.D.Disk.shown c.args.disk.now) (g.D.Disk.shown c.judge_cut.new.disk) (g.D.Disk.shown c.cut_blocks.new.disk) c.args.pool.now c.judge_cut.new.pool c.cut_blocks.new.pool c.judge_cut.ensures.reads c.args.self.now c.judge_cut.new.volume c.cut_blocks.new.volume c.judge_cut.ensures.same c.in_err-count.field-0.0 c.in_err-count.ensures.alters c.from_residual-in_err-count.result (let failed : c.from_residual-in_err-count.result ≡ Err (of_block c.in_err-count.field-0.0) = search rules in failed)
 
 pub returns-in_err-count-clause-reads : goal.returns-in_err-count-clause-reads
 returns-in_err-count-clause-reads g c = reads_then (g.D.Disk.shown c.args.disk.now) (g.D.Disk.shown c.judge_cut.new.disk) (g.D.Disk.shown c.cut_blocks.new.disk) c.args.pool.now c.judge_cut.new.pool c.cut_blocks.new.pool c.judge_cut.ensures.reads c.in_err-count.ensures.alters.reads
 
 pub returns-in_err-count-clause-cause : goal.returns-in_err-count-clause-cause
 returns-in_err-count-clause-cause g c =
-    let e = c.in_err-count.field-0.0 in
-    let failed : c.from_residual-in_err-count.result ≡ Err (of_block e) = search rules in
-    let later = subst (λ (z : VolumeState). BlockCause {T = ℕ} (IsStanding (g.D.Disk.shown c.judge_cut.new.disk) c.judge_cut.new.pool z) (standing_for (g.D.Disk.shown c.judge_cut.new.disk) c.judge_cut.new.pool z) (lent_for c.judge_cut.new.pool z.map (g.D.Disk.shown c.judge_cut.new.disk) 0 (home_in z) 0) (g.D.Disk.shown c.cut_blocks.new.disk).faults (Err e)) c.judge_cut.ensures.same c.in_err-count.ensures.cause in
-    failed_cause (IsStanding (g.D.Disk.shown c.args.disk.now) c.args.pool.now c.args.self.now) (standing_for (g.D.Disk.shown c.args.disk.now) c.args.pool.now c.args.self.now) (lent_for c.args.pool.now c.args.self.now.map (g.D.Disk.shown c.args.disk.now) 0 (home_in c.args.self.now) 0) (g.D.Disk.shown c.cut_blocks.new.disk).faults e c.from_residual-in_err-count.result failed
-    (fails_later (g.D.Disk.shown c.args.disk.now) (g.D.Disk.shown c.judge_cut.new.disk) c.args.pool.now c.judge_cut.new.pool c.judge_cut.ensures.reads c.args.self.now c.in_ok-info.ensures.cause 0 {T = ℕ} (g.D.Disk.shown c.cut_blocks.new.disk).faults (Err e) later)
+    let failed : c.from_residual-in_err-count.result ≡ Err (of_block c.in_err-count.field-0.0) = search rules in
+    failed_change_cause (g.D.Disk.shown c.args.disk.now) (g.D.Disk.shown c.judge_cut.new.disk) c.args.pool.now c.judge_cut.new.pool c.judge_cut.ensures.reads c.args.self.now c.judge_cut.new.volume c.judge_cut.ensures.same c.in_ok-info.ensures.cause (g.D.Disk.shown c.cut_blocks.new.disk).faults c.in_err-count.field-0.0 c.from_residual-in_err-count.result failed c.in_err-count.ensures.cause
 
 -- ---- done
 
 pub count_change-requires : goal.count_change-requires
-count_change-requires g c =
-    record {
-      fits = fewer_fits (g.D.Disk.shown c.cut_blocks.new.disk) c.cut_blocks.new.pool c.cut_blocks.new.volume c.fewer_blocks-delta.result (left_ready (g.D.Disk.shown c.args.disk.now) (g.D.Disk.shown c.judge_cut.new.disk) (g.D.Disk.shown c.cut_blocks.new.disk) c.args.pool.now c.judge_cut.new.pool c.cut_blocks.new.pool c.judge_cut.ensures.reads c.args.self.now c.judge_cut.new.volume c.cut_blocks.new.volume c.judge_cut.ensures.same (Ok c.in_ok-count.count) c.in_ok-count.ensures.alters c.requires.ready)
-          (left_more c.args.self.now c.judge_cut.new.volume c.cut_blocks.new.volume c.judge_cut.ensures.same c.in_ok-count.ensures.alters.same c.in_ok-info.ensures.more) c.fewer_blocks-delta.ensures.fits c.fewer_blocks-delta.ensures.less c.fewer_blocks-delta.ensures.need c.fewer_blocks-delta.ensures.size c.fewer_blocks-delta.ensures.kind;
-    }
+count_change-requires g c = record { fits = fewer_fits (g.D.Disk.shown c.cut_blocks.new.disk) c.cut_blocks.new.pool c.cut_blocks.new.volume c.fewer_blocks-delta.result (left_ready (g.D.Disk.shown c.args.disk.now) (g.D.Disk.shown c.judge_cut.new.disk) (g.D.Disk.shown c.cut_blocks.new.disk) c.args.pool.now c.judge_cut.new.pool c.cut_blocks.new.pool c.judge_cut.ensures.reads c.args.self.now c.judge_cut.new.volume c.cut_blocks.new.volume c.judge_cut.ensures.same (Ok c.in_ok-count.count) c.in_ok-count.ensures.alters c.requires.ready) (left_more c.args.self.now c.judge_cut.new.volume c.cut_blocks.new.volume c.judge_cut.ensures.same c.in_ok-count.ensures.alters.same c.in_ok-info.ensures.more) c.fewer_blocks-delta.ensures.fits c.fewer_blocks-delta.ensures.less c.fewer_blocks-delta.ensures.need c.fewer_blocks-delta.ensures.size c.fewer_blocks-delta.ensures.kind }
 
 pub returns-clause-changes : goal.returns-clause-changes
 returns-clause-changes g c = λ is.
-    let parts : Parts {T = ℕ} (g.D.Disk.shown c.args.disk.now) (g.D.Disk.shown c.judge_cut.new.disk) (g.D.Disk.shown c.cut_blocks.new.disk) c.args.pool.now c.judge_cut.new.pool c.cut_blocks.new.pool c.args.self.now c.judge_cut.new.volume c.cut_blocks.new.volume c.count_change.new.volume (Ok c.in_ok-count.count) c.fewer_blocks-delta.result = record {
-      first = c.judge_cut.ensures.reads;
-      same = c.judge_cut.ensures.same;
-      alters = c.in_ok-count.ensures.alters;
-      counted = c.count_change.ensures.others;
-      next = c.count_change.ensures.now;
-      moved = c.count_change.ensures.ledger;
-      moves = c.count_change.ensures.machine;
-    } in
+    let parts : Parts {T = ℕ} (g.D.Disk.shown c.args.disk.now) (g.D.Disk.shown c.judge_cut.new.disk) (g.D.Disk.shown c.cut_blocks.new.disk) c.args.pool.now c.judge_cut.new.pool c.cut_blocks.new.pool c.args.self.now c.judge_cut.new.volume c.cut_blocks.new.volume c.count_change.new.volume (Ok c.in_ok-count.count) c.fewer_blocks-delta.result = parts_of c.judge_cut.ensures.reads c.judge_cut.ensures.same c.in_ok-count.ensures.alters c.count_change.ensures.others c.count_change.ensures.now c.count_change.ensures.ledger c.count_change.ensures.machine in
     cut_is (g.D.Disk.shown c.args.disk.now) (g.D.Disk.shown c.judge_cut.new.disk) (g.D.Disk.shown c.cut_blocks.new.disk) c.args.pool.now c.judge_cut.new.pool c.cut_blocks.new.pool c.args.self.now c.judge_cut.new.volume c.cut_blocks.new.volume c.count_change.new.volume c.fewer_blocks-delta.result c.in_ok-count.count parts is c.requires.ready c.args.others c.args.file.now c.args.length c.in_ok-info.info (c.in_ok-info.ensures.accepted is) c.in_ok-count.ensures.cut c.in_ok-count.ensures.counted
     (fewer_of (left_ledger c.args.self.now c.judge_cut.new.volume c.cut_blocks.new.volume c.judge_cut.ensures.same c.in_ok-count.ensures.alters.same) c.fewer_blocks-delta.result c.in_ok-count.count c.fewer_blocks-delta.ensures.charge) c.fewer_blocks-delta.ensures.need (c.fewer_blocks-delta.ensures.size ∙ ap (λ (l : Ledger). l.size) (left_ledger c.args.self.now c.judge_cut.new.volume c.cut_blocks.new.volume c.judge_cut.ensures.same c.in_ok-count.ensures.alters.same)) (c.fewer_blocks-delta.ensures.kind ∙ ap (λ (l : Ledger). l.kind) (left_ledger c.args.self.now c.judge_cut.new.volume c.cut_blocks.new.volume c.judge_cut.ensures.same c.in_ok-count.ensures.alters.same))
 
 pub returns-clause-standing : goal.returns-clause-standing
 returns-clause-standing g c = λ is.
-    let parts : Parts {T = ℕ} (g.D.Disk.shown c.args.disk.now) (g.D.Disk.shown c.judge_cut.new.disk) (g.D.Disk.shown c.cut_blocks.new.disk) c.args.pool.now c.judge_cut.new.pool c.cut_blocks.new.pool c.args.self.now c.judge_cut.new.volume c.cut_blocks.new.volume c.count_change.new.volume (Ok c.in_ok-count.count) c.fewer_blocks-delta.result = record {
-      first = c.judge_cut.ensures.reads;
-      same = c.judge_cut.ensures.same;
-      alters = c.in_ok-count.ensures.alters;
-      counted = c.count_change.ensures.others;
-      next = c.count_change.ensures.now;
-      moved = c.count_change.ensures.ledger;
-      moves = c.count_change.ensures.machine;
-    } in
+    let parts : Parts {T = ℕ} (g.D.Disk.shown c.args.disk.now) (g.D.Disk.shown c.judge_cut.new.disk) (g.D.Disk.shown c.cut_blocks.new.disk) c.args.pool.now c.judge_cut.new.pool c.cut_blocks.new.pool c.args.self.now c.judge_cut.new.volume c.cut_blocks.new.volume c.count_change.new.volume (Ok c.in_ok-count.count) c.fewer_blocks-delta.result = parts_of c.judge_cut.ensures.reads c.judge_cut.ensures.same c.in_ok-count.ensures.alters c.count_change.ensures.others c.count_change.ensures.now c.count_change.ensures.ledger c.count_change.ensures.machine in
     cut_stands (g.D.Disk.shown c.args.disk.now) (g.D.Disk.shown c.judge_cut.new.disk) (g.D.Disk.shown c.cut_blocks.new.disk) c.args.pool.now c.judge_cut.new.pool c.cut_blocks.new.pool c.args.self.now c.judge_cut.new.volume c.cut_blocks.new.volume c.count_change.new.volume c.fewer_blocks-delta.result c.in_ok-count.count parts is c.requires.ready c.args.others c.args.file.now c.args.length c.in_ok-info.info (c.in_ok-info.ensures.accepted is) c.in_ok-count.ensures.cut c.in_ok-count.ensures.counted
     (fewer_of (left_ledger c.args.self.now c.judge_cut.new.volume c.cut_blocks.new.volume c.judge_cut.ensures.same c.in_ok-count.ensures.alters.same) c.fewer_blocks-delta.result c.in_ok-count.count c.fewer_blocks-delta.ensures.charge) c.fewer_blocks-delta.ensures.need (c.fewer_blocks-delta.ensures.size ∙ ap (λ (l : Ledger). l.size) (left_ledger c.args.self.now c.judge_cut.new.volume c.cut_blocks.new.volume c.judge_cut.ensures.same c.in_ok-count.ensures.alters.same)) (c.fewer_blocks-delta.ensures.kind ∙ ap (λ (l : Ledger). l.kind) (left_ledger c.args.self.now c.judge_cut.new.volume c.cut_blocks.new.volume c.judge_cut.ensures.same c.in_ok-count.ensures.alters.same))
 
 pub returns-clause-ready : goal.returns-clause-ready
 returns-clause-ready g c =
-    let parts : Parts {T = ℕ} (g.D.Disk.shown c.args.disk.now) (g.D.Disk.shown c.judge_cut.new.disk) (g.D.Disk.shown c.cut_blocks.new.disk) c.args.pool.now c.judge_cut.new.pool c.cut_blocks.new.pool c.args.self.now c.judge_cut.new.volume c.cut_blocks.new.volume c.count_change.new.volume (Ok c.in_ok-count.count) c.fewer_blocks-delta.result = record {
-      first = c.judge_cut.ensures.reads;
-      same = c.judge_cut.ensures.same;
-      alters = c.in_ok-count.ensures.alters;
-      counted = c.count_change.ensures.others;
-      next = c.count_change.ensures.now;
-      moved = c.count_change.ensures.ledger;
-      moves = c.count_change.ensures.machine;
-    } in
+    let parts : Parts {T = ℕ} (g.D.Disk.shown c.args.disk.now) (g.D.Disk.shown c.judge_cut.new.disk) (g.D.Disk.shown c.cut_blocks.new.disk) c.args.pool.now c.judge_cut.new.pool c.cut_blocks.new.pool c.args.self.now c.judge_cut.new.volume c.cut_blocks.new.volume c.count_change.new.volume (Ok c.in_ok-count.count) c.fewer_blocks-delta.result = parts_of c.judge_cut.ensures.reads c.judge_cut.ensures.same c.in_ok-count.ensures.alters c.count_change.ensures.others c.count_change.ensures.now c.count_change.ensures.ledger c.count_change.ensures.machine in
     done_ready (g.D.Disk.shown c.args.disk.now) (g.D.Disk.shown c.judge_cut.new.disk) (g.D.Disk.shown c.cut_blocks.new.disk) c.args.pool.now c.judge_cut.new.pool c.cut_blocks.new.pool c.args.self.now c.judge_cut.new.volume c.cut_blocks.new.volume c.count_change.new.volume (Ok c.in_ok-count.count) c.fewer_blocks-delta.result parts c.requires.ready (fewer_fits (g.D.Disk.shown c.cut_blocks.new.disk) c.cut_blocks.new.pool c.cut_blocks.new.volume c.fewer_blocks-delta.result (left_ready (g.D.Disk.shown c.args.disk.now) (g.D.Disk.shown c.judge_cut.new.disk) (g.D.Disk.shown c.cut_blocks.new.disk) c.args.pool.now c.judge_cut.new.pool c.cut_blocks.new.pool c.judge_cut.ensures.reads c.args.self.now c.judge_cut.new.volume c.cut_blocks.new.volume c.judge_cut.ensures.same (Ok c.in_ok-count.count) c.in_ok-count.ensures.alters c.requires.ready)
     (left_more c.args.self.now c.judge_cut.new.volume c.cut_blocks.new.volume c.judge_cut.ensures.same c.in_ok-count.ensures.alters.same c.in_ok-info.ensures.more) c.fewer_blocks-delta.ensures.fits c.fewer_blocks-delta.ensures.less c.fewer_blocks-delta.ensures.need c.fewer_blocks-delta.ensures.size c.fewer_blocks-delta.ensures.kind)
 
 pub returns-clause-head : goal.returns-clause-head
 returns-clause-head g c =
-    let parts : Parts {T = ℕ} (g.D.Disk.shown c.args.disk.now) (g.D.Disk.shown c.judge_cut.new.disk) (g.D.Disk.shown c.cut_blocks.new.disk) c.args.pool.now c.judge_cut.new.pool c.cut_blocks.new.pool c.args.self.now c.judge_cut.new.volume c.cut_blocks.new.volume c.count_change.new.volume (Ok c.in_ok-count.count) c.fewer_blocks-delta.result = record {
-      first = c.judge_cut.ensures.reads;
-      same = c.judge_cut.ensures.same;
-      alters = c.in_ok-count.ensures.alters;
-      counted = c.count_change.ensures.others;
-      next = c.count_change.ensures.now;
-      moved = c.count_change.ensures.ledger;
-      moves = c.count_change.ensures.machine;
-    } in
+    let parts : Parts {T = ℕ} (g.D.Disk.shown c.args.disk.now) (g.D.Disk.shown c.judge_cut.new.disk) (g.D.Disk.shown c.cut_blocks.new.disk) c.args.pool.now c.judge_cut.new.pool c.cut_blocks.new.pool c.args.self.now c.judge_cut.new.volume c.cut_blocks.new.volume c.count_change.new.volume (Ok c.in_ok-count.count) c.fewer_blocks-delta.result = parts_of c.judge_cut.ensures.reads c.judge_cut.ensures.same c.in_ok-count.ensures.alters c.count_change.ensures.others c.count_change.ensures.now c.count_change.ensures.ledger c.count_change.ensures.machine in
     done_head (g.D.Disk.shown c.args.disk.now) (g.D.Disk.shown c.judge_cut.new.disk) (g.D.Disk.shown c.cut_blocks.new.disk) c.args.pool.now c.judge_cut.new.pool c.cut_blocks.new.pool c.args.self.now c.judge_cut.new.volume c.cut_blocks.new.volume c.count_change.new.volume (Ok c.in_ok-count.count) c.fewer_blocks-delta.result parts
 
 pub returns-clause-reads : goal.returns-clause-reads
@@ -148,23 +125,3 @@ pub cut_blocks-requires-clause-there : goal.cut_blocks-requires-clause-there
 cut_blocks-requires-clause-there g c = said_after (g.D.Disk.shown c.args.disk.now) (g.D.Disk.shown c.judge_cut.new.disk) c.args.pool.now c.judge_cut.new.pool c.judge_cut.ensures.reads c.args.self.now c.judge_cut.new.volume c.judge_cut.ensures.same
     (λ (s : Standing). IsInfoOf s.inode c.in_ok-info.info)
     (λ is. first_info (standing_for (g.D.Disk.shown c.args.disk.now) c.args.pool.now c.args.self.now).inode c.args.file.now c.in_ok-info.info (c.in_ok-info.ensures.accepted is).first)
-
--- ---- what is led to, and what is pending
-
-pub returns-in_err-info-clause-led : goal.returns-in_err-info-clause-led
-returns-in_err-info-clause-led g c = λ is led. refused_led (g.D.Disk.shown c.args.disk.now) (g.D.Disk.shown c.judge_cut.new.disk) c.args.pool.now c.judge_cut.new.pool c.judge_cut.ensures.reads c.args.self.now c.judge_cut.new.volume c.judge_cut.ensures.same led
-
-pub returns-in_err-info-clause-room : goal.returns-in_err-info-clause-room
-returns-in_err-info-clause-room g c = λ is. refused_room (g.D.Disk.shown c.args.disk.now) (g.D.Disk.shown c.judge_cut.new.disk) c.args.pool.now c.judge_cut.new.pool c.judge_cut.ensures.reads c.args.self.now c.judge_cut.new.volume c.judge_cut.ensures.same
-
-pub returns-in_err-count-clause-led : goal.returns-in_err-count-clause-led
-returns-in_err-count-clause-led g c = λ is led. left_led (g.D.Disk.shown c.args.disk.now) (g.D.Disk.shown c.judge_cut.new.disk) (g.D.Disk.shown c.cut_blocks.new.disk) c.args.pool.now c.judge_cut.new.pool c.cut_blocks.new.pool c.judge_cut.ensures.reads c.args.self.now c.judge_cut.new.volume c.cut_blocks.new.volume c.judge_cut.ensures.same _ c.in_err-count.ensures.alters is led
-
-pub returns-in_err-count-clause-room : goal.returns-in_err-count-clause-room
-returns-in_err-count-clause-room g c = λ is. left_room (g.D.Disk.shown c.args.disk.now) (g.D.Disk.shown c.judge_cut.new.disk) (g.D.Disk.shown c.cut_blocks.new.disk) c.args.pool.now c.judge_cut.new.pool c.cut_blocks.new.pool c.judge_cut.ensures.reads c.args.self.now c.judge_cut.new.volume c.cut_blocks.new.volume c.judge_cut.ensures.same _ c.in_err-count.ensures.alters is
-
-pub returns-clause-led : goal.returns-clause-led
-returns-clause-led g c = λ is led. counted_led (g.D.Disk.shown c.cut_blocks.new.disk) c.cut_blocks.new.pool c.cut_blocks.new.volume c.count_change.new.volume c.count_change.ensures.others (left_led (g.D.Disk.shown c.args.disk.now) (g.D.Disk.shown c.judge_cut.new.disk) (g.D.Disk.shown c.cut_blocks.new.disk) c.args.pool.now c.judge_cut.new.pool c.cut_blocks.new.pool c.judge_cut.ensures.reads c.args.self.now c.judge_cut.new.volume c.cut_blocks.new.volume c.judge_cut.ensures.same (Ok c.in_ok-count.count) c.in_ok-count.ensures.alters is led)
-
-pub returns-clause-room : goal.returns-clause-room
-returns-clause-room g c = λ is. counted_room c.cut_blocks.new.volume c.count_change.new.volume _ c.count_change.ensures.others (left_room (g.D.Disk.shown c.args.disk.now) (g.D.Disk.shown c.judge_cut.new.disk) (g.D.Disk.shown c.cut_blocks.new.disk) c.args.pool.now c.judge_cut.new.pool c.cut_blocks.new.pool c.judge_cut.ensures.reads c.args.self.now c.judge_cut.new.volume c.cut_blocks.new.volume c.judge_cut.ensures.same (Ok c.in_ok-count.count) c.in_ok-count.ensures.alters is)

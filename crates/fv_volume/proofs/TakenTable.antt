@@ -1,0 +1,57 @@
+-- What a change of a volume's table by a call over what is lent leaves: the table was taken, changed and put back.
+use Rattle.std.proofs.Common.{◌≡◌, ℕ, Some, IfOk, OnErr, OnOk, true, refl, sym, subst, arith}
+use Rattle.std.specs.Prelude.{Result}
+use Rattle.fv_disk.specs.Shown.{Shown as Disk}
+use Rattle.fv_disk.specs.declared.fault.BlockFault.{BlockFault}
+use Rattle.fv_laws.specs.WellFormed.{IsWellTable}
+use Rattle.fv_tables.specs.Told.{Standing, table_told}
+use Rattle.fv_inode.specs.Files.{rooted}
+use Rattle.fv_inode.specs.declared.info.Info.{Info}
+use Rattle.fv_files.specs.declared.files.Files.{Files}
+use Rattle.fv_files.specs.Tables.{table_in, AreStanding, IsInfoOf, IsLed}
+use Rattle.fv_files.specs.Pending.{pending_in}
+use Rattle.fv_volmap.specs.Slots.{Volume as Maps}
+use Rattle.fv_volume.specs.declared.pool.Pool.{Pool}
+use Rattle.fv_volume.specs.declared.state.VolumeState.{VolumeState}
+use Rattle.fv_volume.specs.Calls.{BlockCause, GivesUp, LeavesTable, Reads}
+use Rattle.fv_volume.specs.Changing.{AltersTable}
+use Rattle.fv_volume.specs.Lending.{IsTold, lent_for, sees}
+use Rattle.fv_volume.specs.OneVolume.{home_in, shows, standing_for, IsStanding}
+use Rattle.fv_volume.specs.Placing.{pending_of, IsLedTo}
+use Rattle.fv_volume.proofs.CallCauses.{cause_for}
+use Rattle.fv_volume.proofs.Calling.{ifok_with, onok_with}
+
+module _ (d : Disk) (p : Pool) (x : VolumeState) (f : Files) (info : Info) (table : table_in (shows d p x) f ≡ standing_for d p x) (there : IsStanding d p x → IsInfoOf (standing_for d p x).inode info) where
+  -- what is told of the table that was taken
+  abbrev pub IsGiven : Type 0
+  IsGiven = IsTold d p x.map x.slot × IsInfoOf (rooted (shows d p x) f.inode) info × ((now : ℕ) × IsWellTable now (table_told (table_in (shows d p x) f)))
+
+  pub is_given : IsStanding d p x → IsGiven
+  is_given is = (is.told, subst (λ (s : Standing). IsInfoOf s.inode info) (sym table) (there is), (x.now, subst (λ (s : Standing). IsWellTable x.now (table_told s)) (sym table) is.table))
+
+  pub taken_cause : {T : Type 0} (faults : ℕ) (result : Result T BlockFault) → BlockCause IsGiven (table_in (shows d p x) f) (lent_for p x.map d 0 (home_in x) 0) faults result
+      → BlockCause (IsStanding d p x) (standing_for d p x) (lent_for p x.map d 0 (home_in x) 0) faults result
+  taken_cause faults result cause = cause_for (IsStanding d p x) IsGiven is_given (lent_for p x.map d 0 (home_in x) 0) faults (table_in (shows d p x) f) (standing_for d p x) result table cause
+
+  module _ (sound : IsStanding d p x → AreStanding (shows d p x) f) {T : Type 0} (result : Result T BlockFault) where
+    -- what is said of the table that was taken is said of the volume's
+    pub taken_says : (says : Standing → Type 0) → (IsGiven → OnOk result (AreStanding (shows d p x) f → says (table_in (shows d p x) f))) → IsStanding d p x → OnOk result (says (standing_for d p x))
+    taken_says says made is = subst (λ (s : Standing). OnOk result (says s)) table (onok_with _ result (sound is) (made (is_given is)))
+
+    pub taken_counts : (says : Standing → T → Type 0) → (IsGiven → IfOk result (λ n. AreStanding (shows d p x) f → says (table_in (shows d p x) f) n)) → IsStanding d p x → IfOk result (says (standing_for d p x))
+    taken_counts says made is = subst (λ (s : Standing). IfOk result (says s)) table (ifok_with _ result (sound is) (made (is_given is)))
+
+    -- the volume with the table and the map that the call left
+    pub taken_alters : (led : IsLedTo d p x → IsLed (shows d p x) f) (taken : pending_in f ≡ pending_of x.files) (e : Disk) (q : Pool) (map : Maps) (g : Files)
+        → LeavesTable IsGiven (shows d p x) (sees p map d (home_in x)) f g result → GivesUp x.map map → Reads d p e q → (IsGiven → IsTold e q map x.slot)
+        → AltersTable d p e q x (record x { map = map; files = Some g; changed = true }) result
+    taken_alters led taken e q map g leaves maps reads told = record {
+      same = refl;
+      maps = maps;
+      reads = reads;
+      told = λ is. told (is_given is);
+      trees = λ is. leaves.stands (is_given is) (sound is);
+      failed = λ is. subst (λ (s : Standing). OnErr result (table_told (table_in (sees p map d (home_in x)) g) ≡ table_told s)) table (leaves.failed (is_given is));
+      led = λ is was. leaves.led (is_given is) (sound is) (led was);
+      room = λ is. let grown = leaves.room (is_given is) (sound is) in omega (arith, taken, grown);
+    }
