@@ -50,7 +50,7 @@ abbrev pub IsBare : Option Loaded → Type 0
 IsBare None = Unit {0}
 IsBare (Some s) = (t : Rooted) × (s ≡ unread t) × (t.root.stamp ≡ 0) × ((level place : ℕ) → t.nodes level place ≡ None)
 
-bare_leads : (o : Option Loaded) → IsBare o → (v : ℕ) → LeadsIn o v → ⊥
+pub bare_leads : (o : Option Loaded) → IsBare o → (v : ℕ) → LeadsIn o v → ⊥
 bare_leads None bare v led = led
 bare_leads (Some s) bare v led = none (subst (λ (q : Loaded). LeadsTo q v) bare.1 led)
   where

@@ -30,7 +30,7 @@ use Rattle.fv_files.proofs.Changed.{with_inode}
 use Rattle.fv_files.proofs.Beside.{reread_leads, unread_leads}
 use Rattle.fv_files.proofs.Laid.{flush_goes, flush_uses, flushed_spares, lays_then}
 use Rattle.fv_files.proofs.Sums.{no_cost}
-use Rattle.fv_files.proofs.Whole.{no_trees}
+use Rattle.fv_files.proofs.Whole.{no_trees, none_there}
 
 -- what the flush of an inode file answers and does
 pub record Places (told : Type 0) (old new : Shown) (i j : InodeFile) (r : Result Pointer BlockFault) : Type 0 where
@@ -47,7 +47,7 @@ pub record Places (told : Type 0) (old new : Shown) (i j : InodeFile) (r : Resul
   pub counts : Counts old new r
   pub cause : IfErr r (HasCause old new)
 
-module _ (told : Type 0) (old new : Shown) (f : Files) (i : InodeFile) (r : Result Pointer BlockFault) (is : Places told old new f.inode i r) where
+module _ (told : Type 0) (old new : Shown) (f : Files) (i : InodeFile) (r : Result Pointer BlockFault) (is : Places told old new f.inode i r) (empty : maps.btree_map_len f.trees ≡ 0) where
   abbrev h : Files
   h = with_inode f i
 
@@ -76,6 +76,7 @@ module _ (told : Type 0) (old new : Shown) (f : Files) (i : InodeFile) (r : Resu
     last_stands = inode_stands old new f h 0 (λ k differs. refl) (λ k differs. files k) sound (flushed_spares old new f.inode.tree i.tree (sound.trees None) (is.flushes tells (sound.trees None)))
         (same_trees (under old) (under new) f h 0 refl (files 0)) is.left.owner (is.flushes tells (sound.trees None)).sound
         (λ t at. let own = sound.owners 0 t at in (own.0, ap is_some (files 0) ∙ own.1))
+        (λ k there. none_there (tree_in f k) (no_trees f empty k) there)
 
   pub last_lays : LaysTrees told old new f h r
   last_lays = record {
@@ -84,9 +85,10 @@ module _ (told : Type 0) (old new : Shown) (f : Files) (i : InodeFile) (r : Resu
     led = last_led;
     strays = λ tells sound. is.strays tells (sound.trees None);
     fits = last_fits;
-    enough = λ tells sound room. IfErr-weaker r _ _ (λ e not_ damaged. absurd (not_ damaged)) (is.enough tells (sound.trees None) (omega (arith, room)));
+    enough = λ tells sound room. is.enough tells (sound.trees None) (omega (arith, room));
     counts = is.counts;
     cause = IfErr-weaker r _ _ (λ e cause. inl cause) is.cause;
+    source = λ tells sound. is.cause;
   }
 
 -- ---- at Ok
@@ -105,7 +107,7 @@ module _ (told : Type 0) (old new : Shown) (f : Files) (i : InodeFile) (root : P
   ends_stored = λ j. record { inode = spelled j; trees = λ n. option_map (standing (under new)) (none n j) }
 
   now : AreStanding new g
-  now = last_stands told old new f i (Ok root) is tells sound
+  now = last_stands told old new f i (Ok root) is empty tells sound
 
   file_is : (n : ℕ) → loaded_trees (under new) g (Some n) ≡ stored_trees (under new) i.tree.levels root (Some n)
   file_is n = λ j. option_map (λ r. file_loaded (under new) n r (none n j)) (file_at (spelled j) n)
@@ -122,7 +124,7 @@ module _ (told : Type 0) (old new : Shown) (f : Files) (i : InodeFile) (root : P
   }
 
   pub ends_led : IsLed old f → AreLed new.used (stored_trees (under new) i.tree.levels root)
-  ends_led before v none = last_led told old new f i (Ok root) is tells sound before v (λ a leads. none a (there a v leads))
+  ends_led before v none = last_led told old new f i (Ok root) is empty tells sound before v (λ a leads. none a (there a v leads))
     where
       there : (a : Option ℕ) (v : ℕ) → LeadsFrom (loaded_trees (under new) g) a v → LeadsFrom (stored_trees (under new) i.tree.levels root) a v
       there None v leads = unread_leads (under new) i.tree (stored (under new) greatest_word i.tree.levels root) spelled v leads
@@ -140,7 +142,7 @@ on_ok (Err e) p = tt
 
 pub flush_done : (told : Type 0) (old mid new : Shown) (f g : Files) (i : InodeFile) (r : Result Pointer BlockFault) → LaysTrees {T = Unit {0}} told old mid f g (Ok tt) → maps.btree_map_len g.trees ≡ 0 → Places told mid new g.inode i r → FlushesTable told old new f (with_inode g i) r
 flush_done told old mid new f g i r first empty is = record {
-  lays = lays_then told old mid new f g (with_inode g i) tt r first (last_lays told mid new g i r is);
+  lays = lays_then told old mid new f g (with_inode g i) tt r first (last_lays told mid new g i r is empty);
   root = is.root;
   pointer = is.pointer;
   none = on_ok r (no_trees (with_inode g i) empty);

@@ -19,6 +19,7 @@ use Rattle.fv_tree.specs.Sources.{Shown, HasCause, IsCalm, IsUntouched}
 use Rattle.fv_tree.specs.Standing.{standing, under}
 use Rattle.fv_tree.specs.Flushing.{ReachesOnce, Flushes, IsPlaced, Stands, loaded, loaded_over}
 use Rattle.fv_tree.specs.Leading.{LeadsNoMore}
+use Rattle.fv_tree.specs.Readying.{KeepsReady}
 use Rattle.fv_tree.specs.Beside.{unread, LeadsTo, Spares}
 use Rattle.fv_tree.proofs.Beside.{flush_spares, loading_spares, unread_sound}
 use Rattle.fv_tree.proofs.Causes.{calm_then, counts_then}
@@ -43,6 +44,7 @@ use Rattle.fv_files.proofs.Beside.{LetsGo, UsesNoMore, loading_lets_go, loading_
 use Rattle.fv_files.proofs.Kept.{own_tree_is, file_led, file_stands, led_on_blocks, sound_on}
 use Rattle.fv_files.proofs.Changed.{with_trees, with_inode, kept_inode, kept_led, kept_others, kept_stands, own_told, record_led, record_stands}
 use Rattle.fv_files.proofs.Steps.{none_some}
+use Rattle.fv_files.proofs.Whole.{none_there}
 
 -- ---- a tree is flushed
 
@@ -103,11 +105,11 @@ module _ (old new : Shown) (f : Files) (i : InodeFile) (n levels : ℕ) (root : 
       (keeps_others (table_in old f) (table_in new h) n (λ j v. fin.get (untouched.held j) v) (λ k differs j. option_map (standing (λ v. fin.get (untouched.held j) v)) (tree_in f k)))
       (λ r at. own_still r)
 
-  pub root_stands : i.tree.owner ≡ f.inode.tree.owner → (Stands old f.inode.tree → Stands new i.tree) → LeadsNoMore (loaded old f.inode.tree) (loaded new i.tree) → AreStanding old f → AreStanding new h
-  root_stands owner stands no_more sound =
+  pub root_stands : i.tree.owner ≡ f.inode.tree.owner → (Stands old f.inode.tree → Stands new i.tree) → LeadsNoMore (loaded old f.inode.tree) (loaded new i.tree) → KeepsReady f.inode.tree i.tree → AreStanding old f → AreStanding new h
+  root_stands owner stands no_more keeps_ready sound =
       record_stands new f i n 0 u kept (with_root levels root)
       (λ k. subst (λ (m : Held). file_at (rooted new i) k ≡ cond (nat_eq k n) (option_map (with_root levels root) (file_at (standing (λ v. fin.get m v) f.inode.tree) n)) (file_at (standing (λ v. fin.get m v) f.inode.tree) k)) (sym untouched.held) (sets.files k))
-      owner (stands (sound.trees None)) (subst (λ (m : Held). LeadsNoMore (loaded_over (λ v. fin.get m v) f.inode.tree) (loaded new i.tree)) (sym untouched.held) no_more)
+      owner (stands (sound.trees None)) (subst (λ (m : Held). LeadsNoMore (loaded_over (λ v. fin.get m v) f.inode.tree) (loaded new i.tree)) (sym untouched.held) no_more) keeps_ready
       (sound_on f old new untouched.held untouched.used sound)
 
   pub root_led : LeadsNoMore (loaded old f.inode.tree) (loaded new i.tree) → LeadsNoMore (loaded new i.tree) (loaded old f.inode.tree) → AreStanding old f → IsLed old f → IsLed new h
@@ -173,6 +175,7 @@ module _ (source : Shown) (f : Files) (m : maps.BTreeMap ℕ Tree) (n levels : �
       (λ v led. subst (λ o. LeadsIn o v) (sym was_tree) (reread_leads (under source) u n levels root is v (subst (λ o. LeadsIn o v) now_tree led))))
       (subst (StandsIn source.used) (sym now_tree) (unread_sound source.used (stored (under source) n levels root) (λ level place. refl) reaches))
       (λ w at. absurd (not_some (tree_in g n) w none at))
+      (λ there. none_there (tree_in g n) none there)
     where
       not_some : (o : Option Tree) (w : Tree) → o ≡ None → o ≡ Some w → ⊥
       not_some o w none some = let wrong : false ≡ true = sym (ap is_some none) ∙ ap is_some some in cc
@@ -213,9 +216,10 @@ module _ (told : Type 0) (old mid new : Shown) (f g h : Files) where
     led = λ tells sound led. second.led tells (first.stands tells sound) (first.led tells sound led);
     strays = λ tells sound. second.strays tells (first.stands tells sound) ∙ first.strays tells sound;
     fits = λ tells sound. fits_then (first.fits tells sound) (second.fits tells (first.stands tells sound));
-    enough = λ tells sound room. let one = (first.fits tells sound).room in IfErr-weaker r _ _ (λ e fails damaged. lay_fails x e first (fails damaged)) (second.enough tells (first.stands tells sound) (omega (arith, one, room)));
+    enough = λ tells sound room. let one = (first.fits tells sound).room in second.enough tells (first.stands tells sound) (omega (arith, one, room));
     counts = counts_then old mid new r first.counts.calm second.counts;
     cause = IfErr-weaker r _ _ (λ e fails. flush_fails x e first fails) second.cause;
+    source = λ tells sound. IfErr-weaker r _ _ (λ e cause. cause_later old mid new e first.counts.calm cause) (second.source tells (first.stands tells sound));
   }
 
 -- a call of the inode file that failed in the middle

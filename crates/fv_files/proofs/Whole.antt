@@ -28,6 +28,9 @@ none_in test (x ∷ xs) e = absurd (omega (arith, e))
 pub not_some : {X : Type 0} (o : Option X) (x : X) → o ≡ None → o ≡ Some x → ⊥
 not_some o x none some = let wrong : false ≡ true = sym (ap is_some none) ∙ ap is_some some in cc
 
+pub none_there : {X P : Type 0} (o : Option X) → o ≡ None → is_some o ≡ true → P
+none_there o none there = let wrong : false ≡ true = sym (ap is_some none) ∙ there in absurd (grind (arith, wrong))
+
 -- no tree is in memory
 pub no_trees : (f : Files) → maps.btree_map_len f.trees ≡ 0 → (n : ℕ) → tree_in f n ≡ None
 no_trees f none n = none_in (maps.is_at (nat_cmp n)) f.trees.entries none
@@ -59,6 +62,7 @@ module _ (f : Files) (levels : ℕ) (root : Pointer) (is : (blocks : Under) → 
       owners = λ n t at. absurd (not_some (tree_in f n) t (no_trees f none n) at);
       trees = all_stand none blocks used reached;
       apart = λ a b v differs one other. reached.apart a b v differs (led_there none blocks a v one) (led_there none blocks b v other);
+      ready = λ n there. none_there (tree_in f n) (no_trees f none n) there;
     }
 
   stored_there : maps.btree_map_len f.trees ≡ 0 → (blocks : Under) (a : Option ℕ) (v : ℕ) → LeadsFrom (stored_trees blocks levels root) a v → LeadsFrom (loaded_trees blocks f) a v

@@ -1,5 +1,5 @@
 -- What a flush of a table leaves.
-use Rattle.std.specs.Prelude.{◌≡◌, ◌≤◌, ◌⊎◌, ℕ, List, None, Result, IfOk, IfErr, OnOk}
+use Rattle.std.specs.Prelude.{◌≡◌, ◌⊎◌, ℕ, List, None, Result, IfOk, IfErr, OnOk}
 use Rattle.std.specs.Ordering.{nat_cmp}
 use Rattle.std.specs.BTreeMap as maps
 use Rattle.std.specs.FinMap as fin
@@ -10,7 +10,7 @@ use Rattle.fv_tables.specs.Spelled.{stored}
 use Rattle.fv_tables.specs.Told.{standing_at}
 use Rattle.fv_tables.specs.Kept.{IsPlacedTable}
 use Rattle.fv_tree.specs.declared.kept.Tree.{Tree}
-use Rattle.fv_tree.specs.Sources.{Shown, Counts, HasCause, IsDamaged}
+use Rattle.fv_tree.specs.Sources.{Shown, Counts, HasCause}
 use Rattle.fv_tree.specs.Standing.{standing, under}
 use Rattle.fv_tree.specs.Costs.{pending, Fits, IsEnough}
 use Rattle.fv_tree.specs.Flushing.{Flushes, IsLeft, ReachesOnce, Stands, loaded}
@@ -45,10 +45,12 @@ pub record LaysTrees {T : Type 0} (told : Type 0) (old new : Shown) (f g : Files
   pub led : told → KeepsLed old new f g
   pub strays : told → AreStanding old f → new.strays ≡ old.strays
   pub fits : told → AreStanding old f → FitsTable old f new g
-  -- with room for all that is pending, damage is answered only where a root is laid
-  pub enough : told → AreStanding old f → pending_in f ≤ old.room → IfErr result (λ e. IsDamaged e → LayFails told old new f e)
+  -- with room for all that is pending no damage is answered
+  pub enough : told → AreStanding old f → IsEnough (pending_in f) old.room result
   pub counts : Counts old new result
   pub cause : IfErr result (FlushFails told old new f)
+  -- a table that stands needs no load for the roots
+  pub source : told → AreStanding old f → IfErr result (HasCause old new)
 
 -- A table was placed whole. Nothing of it is in memory, and it is the one under the root.
 pub record FlushesTable (told : Type 0) (old new : Shown) (f g : Files) (result : Result Pointer BlockFault) : Type 0 where

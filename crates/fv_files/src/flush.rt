@@ -17,9 +17,9 @@ impl Files {
     /// Places each block that changed since the last flush once: the trees of the files by number, each with its root laid into
     /// the file's inode block, and the inode file last. Each block that one of them replaces is named once to `gone`. Answers the
     /// root of the inode file, and then nothing is in memory, and the table stands under that root. It is told as before in every
-    /// outcome, and a later flush goes on where one failed. It places no more blocks than are pending; with room for so many,
-    /// damage is answered only of an inode block or of a node over one. All this is so for a table that stands on its blocks. It
-    /// loads what isn't in memory of the inode blocks of the files that it places.
+    /// outcome, and a later flush goes on where one failed. It places no more blocks than are pending; with room for so many no
+    /// damage is answered. It fails as `place` does or for want of memory, since the inode block of each tree in memory is there,
+    /// too. All this is so for a table that stands on its blocks. Of another it loads what isn't in memory of those inode blocks.
     ///
     /// # Errors
     ///

@@ -122,6 +122,7 @@ takes_then told before calls old mid new t u w n s count x first alike called se
       releases_as old new (IsDropped (under old) u w) (IsDropped (under old) t w) (λ v. drops_as old t u w v less) (λ v. drops_as old u t w v more)
       (released_on u w old mid new first.looks.untouched.held first.looks.untouched.used first.looks.counts.calm (second.released is));
   leads = λ is sound level place v led. first.leads is level place v (second.leads is (first.stands is sound) level place v led);
+  stored_well = λ is sound was. second.stored_well is (first.stands is sound) (first.stored_well is was);
   lets_go = λ is sound level place v led. second.lets_go is (first.stands is sound) level place v (first.keeps is level place v led);
   failed = λ is. tt;
   owner = second.owner ∙ first.owner;
@@ -141,6 +142,7 @@ takes_failed told calls old new t u n s e first called = record {
   room = omega (arith, first.looks.untouched.room);
   released = λ is. tt;
   leads = λ is sound. first.leads is;
+  stored_well = λ is sound. first.stored_well is;
   lets_go = λ is sound level place v led. inl (first.keeps is level place v led);
   failed = first.failed;
   owner = first.owner;
@@ -160,6 +162,7 @@ takes_none told calls old new t u n s x first silent called = record {
   room = omega (arith, first.looks.untouched.room);
   released = λ is. absurd (silent is);
   leads = λ is sound. first.leads is;
+  stored_well = λ is sound. first.stored_well is;
   lets_go = λ is sound level place v led. inl (first.keeps is level place v led);
   failed = λ is. tt;
   owner = first.owner;

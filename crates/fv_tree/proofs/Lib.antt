@@ -36,7 +36,12 @@ pub mod Ready
 pub mod Counts
 pub mod Found
 pub mod Readied
+pub mod StillReady
+pub mod GrownReady
+pub mod OthersReady
+pub mod Stored
 pub mod Leading
+pub mod StoredFlush
 pub mod Within
 pub mod Grows
 pub mod Rewritten

@@ -9,6 +9,7 @@ ghost use Rattle.fv_tree.specs.Sources.{Counts, HasCause, IsDamaged, IsUntouched
 ghost use Rattle.fv_tree.specs.Standing.{standing, under};
 ghost use Rattle.fv_tree.specs.Writing.{Remains};
 ghost use Rattle.fv_tree.specs.Flushing.{changed_in, loaded, pointer_in, Flushes, HoldsAsMuch, IsLeft, IsNodeStep, ReachesOnce, Stands};
+ghost use Rattle.fv_tree.specs.Stored.{IsStoredWell, HasPlaces};
 ghost use Rattle.fv_tree.specs.Costs.{changes_in, pending, Fits, IsEnough};
 
 use crate::blocks::{Blocks, TreeFault};
@@ -155,6 +156,7 @@ impl Tree {
         ensures strays { B.told → Stands (B.shown blocks.old) self.old → (B.shown blocks.new).strays ≡ (B.shown blocks.old).strays }
         ensures remains { B.told → Stands (B.shown blocks.old) self.old → Remains (standing (under (B.shown blocks.old)) self.old) (standing (under (B.shown blocks.new)) self.new) }
         ensures left { IsLeft self.old self.new }
+        ensures stored_well { B.told → Stands (B.shown blocks.old) self.old → HasPlaces (B.shown blocks.new).used → IsStoredWell (loaded (B.shown blocks.old) self.old) → IsStoredWell (loaded (B.shown blocks.new) self.new) }
         ensures fits { B.told → Stands (B.shown blocks.old) self.old → Fits (B.shown blocks.old) self.old (B.shown blocks.new) self.new }
         ensures enough { B.told → Stands (B.shown blocks.old) self.old → IsEnough (pending self.old) (B.shown blocks.old).room result }
         ensures spent { (B.shown blocks.new).spent ≡ (B.shown blocks.old).spent }

@@ -1,8 +1,9 @@
-use Rattle.std.proofs.Common.{Err, Ok}
+use Rattle.std.proofs.Common.{Err, Ok, ap}
+use Rattle.std.specs.Prelude.{is_some}
 use Rattle.std.proofs.lemmas.Result.{err_from_is_err_and}
 use Rattle.fv_inode.specs.Files.{rooted}
 use Rattle.fv_files.proofs.Tables.{alike}
-use Rattle.fv_files.proofs.Changed.{with_trees, with_inode}
+use Rattle.fv_files.proofs.Changed.{own_ready, with_trees, with_inode}
 use Rattle.fv_files.proofs.Laid.{lays_then}
 use Rattle.fv_files.proofs.Flushed.{kept_lays, lay_done, lays_failed, ready_lays}
 use Rattle.fv_files.proofs.flush.lay_file.Goals as goal
@@ -27,7 +28,8 @@ returns-in_err-set_root-clause-lays g c =
     let alters = c.in_err-set_root.ensures.alters in
     let p = err_from_is_err_and c.from_residual-in_err-set_root.result c.from_residual-in_err-set_root.ensures.1 in
     rw (p.1, p.2) (lays_then g.B.Blocks.told old mid new f two (with_inode two c.set_root.new.self) c.in_ok-root.root (Err e) (kept_lays g.B.Blocks.told old mid f c.flush_kept.new.trees c.args.number (Ok c.in_ok-root.root) c.in_ok-root.ensures.flushes)
-    (ready_lays g.B.Blocks.told mid new two c.set_root.new.self (Err e) alters (λ told. alike (rooted mid f.inode) (rooted new c.set_root.new.self) (alters.failed told)) c.in_err-set_root.ensures.still))
+    (ready_lays g.B.Blocks.told mid new two c.set_root.new.self (Err e) alters (λ told. alike (rooted mid f.inode) (rooted new c.set_root.new.self) (alters.failed told)) c.in_err-set_root.ensures.still
+    (λ told sound. c.in_err-set_root.ensures.held told (own_ready mid two c.args.number (ap is_some c.in_ok-root.ensures.flushes.becomes.now) sound))))
 
 pub returns-clause-lays : goal.returns-clause-lays
 returns-clause-lays g c =
