@@ -19,7 +19,8 @@ use Rattle.fv_tree.specs.Readying.{KeepsReady}
 use Rattle.fv_tree.specs.Beside.{loaded_on, LeadsTo, Spares}
 use Rattle.fv_tree.proofs.Beside.{loading_spares}
 use Rattle.fv_inode.specs.declared.file.InodeFile.{InodeFile}
-use Rattle.fv_inode.specs.Files.{rooted}
+use Rattle.fv_inode.specs.Files.{rooted, NamesIndexes}
+use Rattle.fv_inode.proofs.Indexed.{rewritten_indexes}
 use Rattle.fv_inode.specs.Changing.{Rewrites}
 use Rattle.fv_inode.specs.Readying.{IsReadyFile}
 use Rattle.fv_inode.proofs.Readied.{holds_there}
@@ -74,7 +75,7 @@ owned_stands source f n t is sound =
 pub owned_stored : (source : Shown) (f : Files) (n : ℕ) (t : Tree) → tree_in f n ≡ Some t → AreStanding source f → IsStored source f → IsStoredWell (loaded source t)
 owned_stored source f n t is sound well =
     let there = has_record (file_at (rooted source f.inode) n) (sound.owners n t is).1 in
-    subst StoredIn (kept_tree_is (under source) f n t there.file is there.is) (well (Some n))
+    subst StoredIn (kept_tree_is (under source) f n t there.file is there.is) (well.trees (Some n))
 
 -- and its record is ready
 pub own_ready : (source : Shown) (f : Files) (n : ℕ) → is_some (tree_in f n) ≡ true → AreStanding source f → IsReadyFile f.inode n
@@ -195,11 +196,11 @@ module _ (source : Shown) (f : Files) (i : InodeFile) (n s : ℕ) (u : Tree) (ke
       (λ t at. let own = sound.owners n t at in (own.0, ap is_some own_record ∙ is_there (file_at (rooted source f.inode) n) own.1))
       (λ k there. keeps_ready (k / records_each) (sound.ready k there))
 
-  pub record_stored : IsStoredWell (loaded source i.tree) → LeadsNoMore (loaded source f.inode.tree) (loaded source i.tree) → AreStanding source f → IsStored source f → IsStored source h
-  record_stored well no_more sound =
+  pub record_stored : IsStoredWell (loaded source i.tree) → (NamesIndexes (rooted source f.inode) → NamesIndexes (rooted source i)) → LeadsNoMore (loaded source f.inode.tree) (loaded source i.tree) → AreStanding source f → IsStored source f → IsStored source h
+  record_stored well named no_more sound =
       inode_stored source source f h n (λ k differs. refl) other_records sound
       (loading_spares source source (LeadsTo (loaded source f.inode.tree)) (LeadsTo (loaded source i.tree)) refl refl (λ v led. record { level = led.level; place = led.place; leads = no_more led.level led.place v led.leads }))
-      own_same well
+      own_same well named
 
 -- ---- both, one after the other
 
@@ -221,4 +222,4 @@ module _ (old new : Shown) (f : Files) (m : maps.BTreeMap ℕ Tree) (n : ℕ) (t
       → IsStoredWell (loaded new u) → IsStored old f → IsStored new (record { inode = i; trees = m; alloc = f.alloc })
   both_stored sound spares same stands record_well well was =
       let half = kept_stored old new f m n t u becomes sound spares well was in
-      record_stored new (with_trees f m) i n s u becomes.now change (rewrites (under new)).files (record_well (under new) (half None)) (leads (under new)) (kept_stands old new f m n t u becomes sound spares same stands) half
+      record_stored new (with_trees f m) i n s u becomes.now change (rewrites (under new)).files (record_well (under new) (half.trees None)) (rewritten_indexes (rooted new f.inode) (rooted new i) n s _ (rewrites (under new))) (leads (under new)) (kept_stands old new f m n t u becomes sound spares same stands) half

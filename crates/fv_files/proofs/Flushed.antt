@@ -20,6 +20,7 @@ use Rattle.fv_tree.specs.Standing.{standing, under}
 use Rattle.fv_tree.specs.Writing.{IsAlike}
 use Rattle.fv_tree.specs.Costs.{pending}
 use Rattle.fv_tree.specs.Flushing.{ReachesOnce, Stands}
+use Rattle.fv_tree.specs.Stored.{KeepsPlaces}
 use Rattle.fv_tree.proofs.Causes.{calm_itself, counts_then}
 use Rattle.fv_inode.specs.declared.file.InodeFile.{InodeFile}
 use Rattle.fv_inode.specs.Files.{rooted, info_of, with_root}
@@ -30,15 +31,17 @@ use Rattle.fv_inode.proofs.Alike.{alike_itself}
 use Rattle.fv_inode.proofs.Looked.{alters_none}
 use Rattle.fv_inode.specs.Changing.{SetsRoot}
 use Rattle.fv_files.specs.declared.files.Files.{Files}
-use Rattle.fv_files.specs.Tables.{table_in, tree_in, AreStanding, IsLed}
+use Rattle.fv_files.specs.Tables.{table_in, tree_in, AreStanding, IsLed, IsStored}
+use Rattle.fv_files.specs.Calls.{KeepsStored}
 use Rattle.fv_files.specs.Flushing.{FlushesKept, LaysTrees}
 use Rattle.fv_files.specs.Pending.{pending_trees, tree_cost, FitsTable}
 use Rattle.fv_files.proofs.Looked.{Held, counts_done, counts_failed}
 use Rattle.fv_files.proofs.Tables.{placed_then}
-use Rattle.fv_files.proofs.Changed.{with_trees, with_inode, owned_stands, has_record}
-use Rattle.fv_files.proofs.Prepared.{readied_led, readied_placed, readied_stands}
+use Rattle.fv_files.proofs.Stored.{places_of}
+use Rattle.fv_files.proofs.Changed.{with_trees, with_inode, owned_stands, owned_stored, has_record}
+use Rattle.fv_files.proofs.Prepared.{readied_led, readied_placed, readied_stands, readied_stored}
 use Rattle.fv_files.proofs.Sums.{most_cost}
-use Rattle.fv_files.proofs.Laid.{HasRoot, kept_flush_led, kept_placed, kept_stood, root_led, root_placed, root_stands, gone_led, gone_placed, gone_stands, lay_failed}
+use Rattle.fv_files.proofs.Laid.{HasRoot, kept_flush_led, kept_flush_stored, kept_placed, kept_stood, root_led, root_placed, root_stands, root_stored, gone_led, gone_placed, gone_stands, gone_stored, lay_failed}
 
 -- ---- no memory
 
@@ -73,6 +76,9 @@ module _ {T : Type 0} (told : Type 0) (old new : Shown) (f : Files) (i : InodeFi
     where
       placed_self : IsPlacedTable (table_in old f) (table_in old f)
       placed_self = readied_placed old old f f (record { held = refl; used = refl; strays = refl; room = refl; cost = refl }) (record { levels = refl; stamps = λ level place. refl; blocks = λ index. refl }) (λ k. refl)
+
+  pub ready_stores : told → KeepsStored old new f h
+  ready_stores tells sound led = readied_stored old new f h alters.looks.untouched (alike tells) (λ k. refl) (alters.stored_well tells) (alters.leads tells) sound
 
 -- the inode file was only read
 pub look_lays : {T : Type 0} (told : Type 0) (old new : Shown) (f : Files) (r : Result T BlockFault) → inodes.Looks told (rooted old f.inode) old new r → (told → AreStanding old f → IfErr r (λ e. e ≡ Memory)) → LaysTrees told old new f f r
@@ -158,6 +164,12 @@ module _ (told : Type 0) (old mid : Shown) (f : Files) (m : maps.BTreeMap ℕ Tr
     cause = IfErr-weaker r _ _ (λ e fails. inl fails) kept.cause;
   }
 
+  pub kept_stores : told → KeepsPlaces old mid → KeepsStored old mid f g
+  kept_stores tells places sound led was =
+      let stood = owned_stands old f n kept.tree kept.becomes.was sound in
+      kept_flush_stored old mid f m n kept.tree kept.next kept.becomes sound stood (kept.flushes tells stood)
+      (kept.stored_well tells stood (places (places_of old f sound led was)) (owned_stored old f n kept.tree kept.becomes.was sound was)) was
+
 -- its root was laid, and it goes from memory
 module _ (told : Type 0) (old mid new : Shown) (f : Files) (m last : maps.BTreeMap ℕ Tree) (i : InodeFile) (n levels : ℕ) (root : Pointer) (kept : FlushesKept told old mid f.trees m n (Ok root)) (levels_is : (t : Tree) → maps.get nat_cmp f.trees n ≡ Some t → levels ≡ t.levels)
     (alters : Alters {T = Unit {0}} told mid new f.inode.tree i.tree (Ok tt)) (set : told → is_some (file_at (rooted mid f.inode) n) ≡ true → SetsRoot (rooted mid f.inode) (rooted new i) n levels root) (more : pending i.tree ≤ pending f.inode.tree + 4)
@@ -220,6 +232,11 @@ module _ (told : Type 0) (old mid new : Shown) (f : Files) (m last : maps.BTreeM
     all_led led = gone_led new three last n levels root kept.next kept.becomes.now gone placed_three own spelled reached
         (root_led mid new two i n levels root kept.next kept.becomes.now alters.looks.untouched sets (alters.leads tells) (alters.keeps tells) placed_two (first.led tells sound led))
 
+    all_stored : KeepsPlaces old mid → IsLed old f → IsStored old f → IsStored new four
+    all_stored places led was = gone_stored new three last n levels root kept.next kept.becomes.now gone placed_three own spelled reached
+        (root_stored mid new two i n levels root kept.next kept.becomes.now alters.looks.untouched sets (alters.stored_well tells) (alters.leads tells) placed_two
+        (kept_stores told old mid f m n (Ok root) kept tells places sound led was))
+
     all_fits : FitsTable old f new four
     all_fits =
         let fits = kept.fits tells stood in
@@ -241,3 +258,6 @@ module _ (told : Type 0) (old mid new : Shown) (f : Files) (m last : maps.BTreeM
     counts = counts_then old mid new (Ok tt) first.counts.calm alters.looks.counts;
     cause = tt;
   }
+
+  pub lay_stores : told → KeepsPlaces old mid → KeepsStored old new f four
+  lay_stores tells places sound = all_stored tells sound places

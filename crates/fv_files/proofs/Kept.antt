@@ -16,12 +16,13 @@ use Rattle.fv_tree.specs.Flushing.{Loaded, loaded, Stands}
 use Rattle.fv_tree.specs.Beside.{loaded_on, LeadsTo, Spares}
 use Rattle.fv_tree.specs.Readying.{IsReady}
 use Rattle.fv_inode.specs.declared.file.InodeFile.{InodeFile}
-use Rattle.fv_inode.specs.Files.{rooted}
+use Rattle.fv_inode.specs.Files.{rooted, NamesIndexes}
+use Rattle.fv_inode.proofs.Indexed.{alike_indexes}
 use Rattle.fv_inode.proofs.Slots.{alike_files}
 use Rattle.fv_inode.proofs.Placed.{KeepsOthers}
 use Rattle.fv_files.specs.declared.files.Files.{Files}
 use Rattle.fv_files.specs.Apart.{LeadsFrom, StandsIn, StoredIn, AreLed}
-use Rattle.fv_files.specs.Tables.{table_in, tree_in, file_loaded, loaded_trees, AreSound, AreStanding, IsLed, IsStored}
+use Rattle.fv_files.specs.Tables.{table_in, tree_in, file_loaded, loaded_trees, AreSound, AreStanding, IsLed, IsStored, IsStoredOn}
 use Rattle.fv_tree.specs.Stored.{IsStoredWell}
 use Rattle.fv_files.proofs.Stored.{stored_still}
 use Rattle.fv_files.proofs.Looked.{Held}
@@ -34,6 +35,9 @@ sound_on f old new held used stands =
 pub led_on_blocks : (f : Files) (old new : Shown) → new.held ≡ old.held → new.used ≡ old.used → IsLed old f → IsLed new f
 led_on_blocks f old new held used led =
     subst (λ (h : Held). AreLed new.used (loaded_trees (λ v. fin.get h v) f)) (sym held) (subst (λ u. AreLed u (loaded_trees (under old) f)) (sym used) led)
+
+pub stored_on_blocks : (f : Files) (old new : Shown) → new.held ≡ old.held → IsStored old f → IsStored new f
+stored_on_blocks f old new held = subst (λ (h : Held). IsStoredOn (λ v. fin.get h v) f) (sym held)
 
 -- ---- trees of files
 
@@ -95,7 +99,10 @@ module _ (old new : Shown) (f g : Files) (n : ℕ) (inode : g.inode ≡ f.inode)
 
   -- what it leads to is as its pointers say,
   pub file_stored : StoredIn (loaded_trees (under new) g (Some n)) → IsStored old f → IsStored new g
-  file_stored = stored_still old new (loaded_trees (under old) f) (loaded_trees (under new) g) (Some n) (trees_laid (under old) f) sound.trees sound.apart spares others
+  file_stored own was = record {
+    trees = stored_still old new (loaded_trees (under old) f) (loaded_trees (under new) g) (Some n) (trees_laid (under old) f) sound.trees sound.apart spares others own was.trees;
+    inodes = alike_indexes (rooted old f.inode) (rooted new g.inode) inode_alike was.inodes;
+  }
 
   -- and all trees stand on their blocks.
   pub file_stands : StandsIn new.used (loaded_trees (under new) g (Some n)) → ((t : Tree) → tree_in g n ≡ Some t → (t.owner ≡ n) × (is_some (file_at (rooted old f.inode) n) ≡ true)) → (is_some (tree_in g n) ≡ true → IsReady f.inode.tree (n / records_each)) → AreStanding new g
@@ -143,8 +150,11 @@ module _ (old new : Shown) (f g : Files) (n : ℕ) (trees : (k : ℕ) → k ≢ 
         (λ (unlike : k ≢ n). same_trees (under old) (under new) f g k (trees k unlike) (files k unlike))
         (cases_eq k n)
 
-    pub inode_stored : IsStoredWell (loaded new g.inode.tree) → IsStored old f → IsStored new g
-    inode_stored = stored_still old new (loaded_trees (under old) f) (loaded_trees (under new) g) None (trees_laid (under old) f) sound.trees sound.apart spares rest
+    pub inode_stored : IsStoredWell (loaded new g.inode.tree) → (NamesIndexes (rooted old f.inode) → NamesIndexes (rooted new g.inode)) → IsStored old f → IsStored new g
+    inode_stored own named was = record {
+      trees = stored_still old new (loaded_trees (under old) f) (loaded_trees (under new) g) None (trees_laid (under old) f) sound.trees sound.apart spares rest own was.trees;
+      inodes = named was.inodes;
+    }
 
     pub inode_stands : g.inode.tree.owner ≡ f.inode.tree.owner → Stands new g.inode.tree → ((t : Tree) → tree_in g n ≡ Some t → (t.owner ≡ n) × (is_some (file_at (rooted new g.inode) n) ≡ true)) → ((k : ℕ) → is_some (tree_in g k) ≡ true → IsReady g.inode.tree (k / records_each)) → AreStanding new g
     inode_stands owner stands of_own ready = record {

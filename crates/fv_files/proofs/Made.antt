@@ -22,6 +22,7 @@ use Rattle.fv_inode.specs.declared.info.Info.{Info}
 use Rattle.fv_inode.specs.declared.file.InodeFile.{InodeFile}
 use Rattle.fv_inode.specs.Files.{rooted, new_record}
 use Rattle.fv_inode.specs.Changing.{Makes}
+use Rattle.fv_inode.proofs.Indexed.{rewritten_indexes}
 use Rattle.fv_inode.proofs.Placed.{keeps_others}
 use Rattle.fv_inode.proofs.Told.{created_told}
 use Rattle.fv_files.specs.declared.files.Files.{Files}
@@ -83,7 +84,7 @@ module _ (old now : Shown) (f : Files) (i : InodeFile) (name : List ℕ) (reserv
   pub made_stored : now.used ≡ old.used → IsStoredWell (loaded now i.tree) → LeadsNoMore (loaded old f.inode.tree) (loaded now i.tree) → IsStored old f → IsStored now g
   made_stored used well no_more = inode_stored old now f g n (λ k differs. refl) others sound
       (loading_spares old now (LeadsTo (loaded old f.inode.tree)) (LeadsTo (loaded now i.tree)) held used (λ v led. record { level = led.level; place = led.place; leads = no_more led.level led.place v led.leads }))
-      (inr bare) well
+      (inr bare) well (rewritten_indexes (rooted old f.inode) (rooted now i) n s _ makes.rewrites)
 
   -- what is in use is led to
   pub made_led : now.used ≡ old.used → LeadsNoMore (loaded old f.inode.tree) (loaded now i.tree) → LeadsNoMore (loaded now i.tree) (loaded old f.inode.tree) → IsLed old f → IsLed now g

@@ -32,6 +32,7 @@ use Rattle.fv_inode.specs.Files.{rooted}
 use Rattle.fv_inode.specs.Failing.{Alters}
 use Rattle.fv_inode.specs.Readying.{IsReadyFile}
 use Rattle.fv_inode.proofs.Alike.{alike_itself}
+use Rattle.fv_inode.proofs.Indexed.{alike_indexes}
 use Rattle.fv_inode.proofs.Placed.{keeps_others}
 use Rattle.fv_inode.proofs.Slots.{alike_files}
 use Rattle.fv_files.specs.declared.files.Files.{Files}
@@ -154,7 +155,7 @@ module _ (old new : Shown) (f g : Files) (untouched : IsUntouched old new) (alik
       let files = alike_files (rooted old f.inode) (rooted new g.inode) alike in
       inode_stored old new f g 0 (λ k differs. trees k) (λ k differs. files k) sound
       (loading_spares old new (LeadsTo (loaded old f.inode.tree)) (LeadsTo (loaded new g.inode.tree)) untouched.held untouched.used (λ v led. record { level = led.level; place = led.place; leads = no_more led.level led.place v led.leads }))
-      (same_trees (under old) (under new) f g 0 (trees 0) (files 0)) (well (was None)) was
+      (same_trees (under old) (under new) f g 0 (trees 0) (files 0)) (well (was.trees None)) (alike_indexes (rooted old f.inode) (rooted new g.inode) alike) was
 
   pub readied_led : LeadsNoMore (loaded old f.inode.tree) (loaded new g.inode.tree) → LeadsNoMore (loaded new g.inode.tree) (loaded old f.inode.tree) → AreStanding old f → IsLed old f → IsLed new g
   readied_led no_more keeps sound =
@@ -210,7 +211,7 @@ module _ (source : Shown) (f : Files) (m : maps.BTreeMap ℕ Tree) (info : Info)
 
   pub held_stored : AreStanding source f → IsStored source f → IsStored source g
   held_stored sound well =
-      let was : IsStoredWell (unread (stored (under source) n is.file.levels is.file.root)) = subst StoredIn was_tree (well (Some n)) in
+      let was : IsStoredWell (unread (stored (under source) n is.file.levels is.file.root)) = subst StoredIn was_tree (well.trees (Some n)) in
       file_stored source source f g n refl others sound
       (loading_spares source source (LeadsFrom (loaded_trees (under source) f) (Some n)) (LeadsFrom (loaded_trees (under source) g) (Some n)) refl refl
       (λ v led. subst (λ o. LeadsIn o v) (sym was_tree) (unread_leads (under source) t (stored (under source) n is.file.levels is.file.root) (own_stored (under source)) v (subst (λ o. LeadsIn o v) now_tree led))))

@@ -109,7 +109,7 @@ module _ (old mid new : Shown) (f : Files) (m last : maps.BTreeMap ℕ Tree) (i 
 
     -- what they lead to is as their pointers say,
     pub removed_stored : IsStoredWell (loaded new i.tree) → IsStored mid g → IsStored new h
-    removed_stored = inode_stored mid new g h n other_trees other_files middle second (inr (subst IsBare (sym nothing) tt))
+    removed_stored well = inode_stored mid new g h n other_trees other_files middle second (inr (subst IsBare (sym nothing) tt)) well taken.indexes
 
     -- what is in use is led to,
     pub removed_led : ((v : ℕ) → LeadsFrom (loaded_trees (under mid) g) (Some n) v → ⊥) → LetsGo new (LeadsTo (loaded mid f.inode.tree)) (LeadsTo (loaded new i.tree)) → UsesNoMore mid new (LeadsTo (loaded mid f.inode.tree)) (LeadsTo (loaded new i.tree)) → IsLed mid g → IsLed new h
@@ -155,7 +155,7 @@ module _ (told cut_calls take_calls : Type 0) (old mid new : Shown) (f : Files) 
     remove_stored holds was =
         let half = kept_stored old mid f m n cuts.tree cuts.next cuts.becomes sound first (cuts.removal.stored_well tells stood (owned_stored old f n cuts.tree cuts.becomes.was sound was)) was in
         removed_stored old mid new f m last i n s cuts.tree cuts.next cuts.becomes sound first cuts.removal.owner (cuts.removal.stands tells stood) gone second (takes.removed tells) holds
-        (takes.stored_well tells (half_way.trees None) (half None)) half
+        (takes.stored_well tells (half_way.trees None) (half.trees None)) half
 
     -- what is in use is led to
     pub remove_led : is_some (file_at (rooted old f.inode) n) ≡ true → (now : ℕ) → IsWellTable now (table_told (table_in old f)) → IsLed old f → IsLed new (record { inode = i; trees = last; alloc = f.alloc })

@@ -106,6 +106,10 @@ pub record Changes {T : Type 0} (told well : Type 0) (old new : Shown) (f g : Fi
 abbrev pub KeepsLed : Shown → Shown → Files → Files → Type 0
 KeepsLed old new f g = AreStanding old f → IsLed old f → IsLed new g
 
+-- what such a table leads to stays as its pointers say
+abbrev pub KeepsStored : Shown → Shown → Files → Files → Type 0
+KeepsStored old new f g = AreStanding old f → IsLed old f → IsStored old f → IsStored new g
+
 -- the tree of file n, which is in memory, failed
 abbrev pub KeptFails : Type 0 → Shown → Shown → Files → ℕ → BlockFault → Type 0
 KeptFails told old new f n e = (t : Tree) → tree_in f n ≡ Some t → Fails told (standing (under old) t) old new e

@@ -15,6 +15,7 @@ use Rattle.fv_tree.specs.Standing.{standing, under}
 use Rattle.fv_tree.specs.Costs.{pending, Fits, IsEnough}
 use Rattle.fv_tree.specs.Flushing.{Flushes, IsLeft, ReachesOnce, Stands, loaded}
 use Rattle.fv_files.specs.declared.files.Files.{Files}
+use Rattle.fv_tree.specs.Stored.{HasPlaces, IsStoredWell}
 use Rattle.fv_files.specs.Apart.{AreLed, stored_trees}
 use Rattle.fv_files.specs.Tables.{table_in, tree_in, AreReached, AreStanding, IsLed}
 use Rattle.fv_files.specs.Failing.{FilesFail}
@@ -70,6 +71,7 @@ pub record FlushesKept (told : Type 0) (old new : Shown) (m n : maps.BTreeMap �
   pub next : Tree
   pub becomes : Becomes m n number tree next
   pub flushes : told → Stands old tree → Flushes (loaded old tree) old.used (loaded new next) new.used
+  pub stored_well : told → Stands old tree → HasPlaces new.used → IsStoredWell (loaded old tree) → IsStoredWell (loaded new next)
   pub strays : told → Stands old tree → new.strays ≡ old.strays
   pub fits : told → Stands old tree → Fits old tree new next
   pub enough : told → Stands old tree → IsEnough (pending tree) old.room result

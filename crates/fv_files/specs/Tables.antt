@@ -15,7 +15,7 @@ use Rattle.fv_tree.specs.Flushing.{Loaded, loaded_over, ReachesOnce}
 use Rattle.fv_tree.specs.Beside.{unread}
 use Rattle.fv_tree.specs.Readying.{IsReady}
 use Rattle.fv_inode.specs.declared.info.Info.{Info}
-use Rattle.fv_inode.specs.Files.{info_of}
+use Rattle.fv_inode.specs.Files.{info_of, NamesIndexes}
 use Rattle.fv_files.specs.declared.files.Files.{Files}
 use Rattle.fv_files.specs.Trees.{Changed, standing_in}
 use Rattle.fv_files.specs.Apart.{Trees, StandsIn, AreApart, AreLed, AreStoredWell, stored_trees}
@@ -61,15 +61,24 @@ AreStanding source = AreSound (under source) source.used
 abbrev pub IsLed : Shown → Files → Type 0
 IsLed source f = AreLed source.used (loaded_trees (under source) f)
 
--- What the table leads to is as its pointers say.
-abbrev pub IsStored : Shown → Files → Type 0
-IsStored source f = AreStoredWell (loaded_trees (under source) f)
-
 -- So they do where nothing is in memory.
 pub record AreReached (blocks : Under) (used : ℕ → Option Use) (levels : ℕ) (root : Pointer) : Type 0 where
   pub inode : ReachesOnce used (stored blocks greatest_word levels root)
   pub files : (n : ℕ) (r : InodeRecord) → file_at (stored blocks greatest_word levels root) n ≡ Some r → ReachesOnce used (stored blocks n r.levels r.root)
   pub apart : AreApart (stored_trees blocks levels root)
+
+-- What the table leads to is as its pointers say, and each inode block names its index.
+pub record IsStoredOn (blocks : Under) (f : Files) : Type 0 where
+  pub trees : AreStoredWell (loaded_trees blocks f)
+  pub inodes : NamesIndexes (standing blocks f.inode.tree)
+
+abbrev pub IsStored : Shown → Files → Type 0
+IsStored source = IsStoredOn (under source)
+
+-- So it is with the table under a root.
+pub record IsStoredUnder (blocks : Under) (levels : ℕ) (root : Pointer) : Type 0 where
+  pub trees : AreStoredWell (stored_trees blocks levels root)
+  pub inodes : NamesIndexes (stored blocks greatest_word levels root)
 
 -- what is known of a file is what its record says
 pub record IsInfoOf (t : Rooted) (info : Info) : Type 0 where

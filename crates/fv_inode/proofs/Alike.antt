@@ -23,6 +23,7 @@ use Rattle.fv_tree.proofs.Levels.{fan_pos}
 use Rattle.fv_tree.proofs.Seen.{remains}
 use Rattle.fv_inode.specs.Failing.{Alters}
 use Rattle.fv_inode.specs.Changing.{Rewrites, HasNeighbor, Takes, TakesFile}
+use Rattle.fv_inode.proofs.Indexed.{alike_indexes}
 use Rattle.fv_inode.proofs.Looked.{earlier, loaded_as, released_on}
 use Rattle.fv_inode.proofs.Slots.{alike_files}
 
@@ -89,6 +90,7 @@ module _ (t u : Rooted) (alike : IsAlike t u) where
   pub takes_after : (w : Rooted) (n s : ℕ) → Takes u w n s → Takes t w n s
   takes_after w n s is = record {
     files = λ k. is.files k ∙ ap (λ o. cond (nat_eq k n) None o) (alike_files t u alike k);
+    indexes = λ named. is.indexes (alike_indexes t u alike named);
     tree = ⊎_elim (λ beside. inl (neighbor_after n beside.0, rewrites_after w n s None beside.1)) (λ last. inr ((λ has. last.0 (neighbor_before n has)), erases_after w (nat_eq (n / 16)) 0 s last.1)) is.tree;
   }
 

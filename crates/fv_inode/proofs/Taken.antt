@@ -26,6 +26,7 @@ use Rattle.fv_tree.proofs.Causes.{calm_itself, untouched_itself}
 use Rattle.fv_tree.proofs.Readied.{ready_stands}
 use Rattle.fv_inode.specs.Files.{AreRecords, blank_record}
 use Rattle.fv_inode.specs.Changing.{WritesFiles, Rewrites, HasNeighbor, Takes, TakesFile}
+use Rattle.fv_inode.proofs.Indexed.{erased_indexes, written_indexes}
 use Rattle.fv_inode.proofs.Looked.{releases_none}
 use Rattle.fv_inode.proofs.Counted.{written_count}
 use Rattle.fv_inode.proofs.Slots.{cell_of, own_record}
@@ -150,12 +151,12 @@ module _ (t : Rooted) (n : ℕ) (fs : List InodeRecord) (r : InodeRecord) (long 
       (cases_eq (k / 16) (n / 16))
 
   pub taken_last : all_free (slice_set fs (n % 16) r) ≡ true → (u : Rooted) (s : ℕ) → Erases t u (nat_eq (n / 16)) 0 s → IsErased t u (nat_eq (n / 16)) 0 s → Takes t u n s
-  taken_last all u s erases is = record { files = files_gone all u s is; tree = inr (no_neighbor all, erases) }
+  taken_last all u s erases is = record { files = files_gone all u s is; indexes = erased_indexes t u (nat_eq (n / 16)) 0 s is; tree = inr (no_neighbor all, erases) }
 
   pub taken_with : all_free (slice_set fs (n % 16) r) ≡ false → (u : Rooted) (s : ℕ) → WritesFiles t u (n / 16) s (slice_set fs (n % 16) r) → Takes t u n s
   taken_with some u s wrote =
       let now : Rewrites t u n s None = subst (Rewrites t u n s) (blank_none r free) (rewrites t u n s fs r long are wrote) in
-      record { files = now.files; tree = inl (neighbor some, now) }
+      record { files = now.files; indexes = written_indexes t u (n / 16) s (slice_set fs (n % 16) r) wrote; tree = inl (neighbor some, now) }
 
 -- ---- the whole change, over blocks
 

@@ -19,7 +19,7 @@ use Rattle.fv_tree.specs.Leading.{LeadsNoMore}
 use Rattle.fv_tree.specs.Stored.{IsStoredWell}
 use Rattle.fv_tree.specs.Counting.{positions_of}
 use Rattle.fv_inode.specs.declared.info.Info.{Info}
-use Rattle.fv_inode.specs.Files.{info_of, new_record, with_root, IsLeastFree}
+use Rattle.fv_inode.specs.Files.{info_of, new_record, with_root, IsLeastFree, NamesIndexes}
 use Rattle.fv_inode.specs.Failing.{InodeFails}
 
 -- A change with the stamp s wrote a cell, with an inode block of these records.
@@ -57,6 +57,7 @@ pub record HasNeighbor (t : Rooted) (n : ℕ) : Type 0 where
 -- the cell is removed, by the machine's removal.
 pub record Takes (old new : Rooted) (n s : ℕ) : Type 0 where
   pub files : (k : ℕ) → file_at new k ≡ cond (nat_eq k n) None (file_at old k)
+  pub indexes : NamesIndexes old → NamesIndexes new
   pub tree : (HasNeighbor old n × Rewrites old new n s None) ⊎ ((HasNeighbor old n → ⊥) × Erases old new (nat_eq (n / records_each)) 0 s)
 
 -- File n was taken away by a change with the stamp s, and so many positions of the inode file went, its cell and marks. After a fault the inode file is seen as before, and no block was named as gone. The room doesn't fall.

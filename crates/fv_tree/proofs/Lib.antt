@@ -22,6 +22,7 @@ pub mod Hints
 pub mod Removing
 pub mod Collected
 pub mod Flushed
+pub mod Known
 pub mod Forgotten
 pub mod Observed
 pub mod Swapped

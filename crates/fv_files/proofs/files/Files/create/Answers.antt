@@ -25,7 +25,7 @@ returns-in-Ok-clause-changes g c =
       stands = λ told asked sound. made_sound (g.B.Blocks.shown c.args.blocks.now) (g.B.Blocks.shown c.create.new.blocks) c.args.self.now c.create.new.self c.args.name.now c.args.reserve c.args.stamp c.in-Ok.field-0
           looks.untouched.held (c.in-Ok.ensures.made told) sound looks.untouched.used alters.owner (alters.stands told (sound.trees None)) (alters.leads told) alters.keeps_ready;
       stored = λ told asked sound was. made_stored (g.B.Blocks.shown c.args.blocks.now) (g.B.Blocks.shown c.create.new.blocks) c.args.self.now c.create.new.self c.args.name.now c.args.reserve c.args.stamp c.in-Ok.field-0
-          looks.untouched.held (c.in-Ok.ensures.made told) sound looks.untouched.used (alters.stored_well told (was None)) (alters.leads told) was;
+          looks.untouched.held (c.in-Ok.ensures.made told) sound looks.untouched.used (alters.stored_well told (was.trees None)) (alters.leads told) was;
       strays = λ told sound. looks.untouched.strays;
       room = same_room (g.B.Blocks.shown c.args.blocks.now) (g.B.Blocks.shown c.create.new.blocks) looks.untouched;
       counts = counts_done (g.B.Blocks.shown c.args.blocks.now) (g.B.Blocks.shown c.create.new.blocks) c.in-Ok.field-0 tt looks.counts;
