@@ -8,7 +8,7 @@ use Rattle.fv_codec.specs.Blocks.{greatest_word}
 use Rattle.fv_tables.specs.Spelled.{Under, Rooted, pointer_at, stored, block_at}
 use Rattle.fv_tables.specs.Told.{records_each, records_in, file_at}
 use Rattle.fv_tree.specs.declared.kept.Tree.{Tree}
-use Rattle.fv_tree.specs.Sources.{Shown, Use}
+use Rattle.fv_tree.specs.Sources.{Shown}
 use Rattle.fv_tree.specs.Standing.{standing, under}
 use Rattle.fv_tree.specs.Flushing.{Loaded, Leads, IsRight, IsSound, IsNodeOf, NamesPosition, kind_for, loaded_over}
 use Rattle.fv_tree.specs.Beside.{IsLaid, LieApart, loaded_on, unread, LeadsTo, Spares}
