@@ -6,7 +6,6 @@ use Rattle.std.specs.Option.{option_map, option_map_or, is_none}
 use Rattle.std.proofs.lemmas.Bool.{and_parts}
 use Rattle.std.proofs.lemmas.Bool.Decides.{nat_tests}
 use Rattle.fv_disk.specs.Shown.{Image, Shown as Disk}
-use Rattle.fv_bits.specs.Members.{is_member}
 use Rattle.fv_codec.specs.declared.inode.InodeBlock.{InodeBlock}
 use Rattle.fv_codec.specs.declared.inode.InodeRecord.{InodeRecord}
 use Rattle.fv_codec.specs.declared.node.Node.{Node}
@@ -16,23 +15,22 @@ use Rattle.fv_codec.specs.Blocks.{greatest_word, inodes_at, node_at}
 use Rattle.fv_codec.specs.Fields.{Verdict, ◌then◌, in_range, verdict_of}
 use Rattle.fv_model.specs.Places.{Owner, InodeFile, OfFile}
 use Rattle.fv_tables.specs.Reached.{Item, items}
-use Rattle.fv_tables.specs.Spelled.{Rooted as Tree, block_at, hole, pointer_at, position, stored}
+use Rattle.fv_tables.specs.Spelled.{Rooted as Tree, block_at, hole, pointer_at, stored}
 use Rattle.fv_tables.specs.Told.{file_at}
 use Rattle.fv_tree.specs.Beside.{unread}
 use Rattle.fv_tree.specs.Flushing.{IsNodeOf}
 use Rattle.fv_tree.specs.Standing.{under as blocks_of}
 use Rattle.fv_inode.specs.Files.{IsInodesOf, NamesIndexes}
-use Rattle.fv_files.specs.declared.files.Files.{Files}
 use Rattle.fv_files.specs.Apart.{AreStoredWell, StoredIn, stored_trees}
 use Rattle.fv_image.specs.Chains.{place, under}
 use Rattle.fv_image.specs.HintRules.{has_known_places}
 use Rattle.fv_image.specs.ReachRules.{block_is, has_reached_positions, has_reached_shapes, inodes_are, is_of_position, node_is, shape_for}
-use Rattle.fv_image.specs.Seen.{Reached, reached_at, volume_seen}
+use Rattle.fv_image.specs.Seen.{volume_seen}
 use Rattle.fv_image.specs.Sound.{is_fine, is_unknown}
 use Rattle.fv_image.specs.Told.{has_none}
 use Rattle.fv_image.specs.Views.{Head, Placed, View}
 use Rattle.fv_image.specs.Volumes.{standing_of}
-use Rattle.fv_image.proofs.ChargeBits.{at_place, number, of_active, pointer_in}
+use Rattle.fv_image.proofs.ChargeBits.{at_place, number, of_active}
 use Rattle.fv_image.proofs.LoneTables.{lone_entry, no_parent, place_own}
 use Rattle.fv_image.proofs.SameSeen.{of_volume}
 use Rattle.fv_volume.specs.declared.pool.Pool.{Pool}

@@ -8,8 +8,8 @@ use Rattle.fv_image.specs.Layout.{root_place}
 use Rattle.fv_tree.specs.Sources.{HasCause, IsDamaged, Shown}
 use Rattle.fv_files.specs.declared.files.Files.{Files}
 use Rattle.fv_files.specs.Failing.{FilesFail}
-use Rattle.fv_files.specs.Flushing.{FlushFails, LayFails, holding}
-use Rattle.fv_files.specs.Tables.{table_in, AreStanding}
+use Rattle.fv_files.specs.Flushing.{FlushFails, holding}
+use Rattle.fv_files.specs.Tables.{table_in}
 use Rattle.fv_volume.specs.declared.noted.Noted.{Noted}
 use Rattle.fv_volume.specs.Causes.{of_block}
 use Rattle.fv_volume.specs.Lending.{IsOutOfRoom, LacksOne, Lent, shown_over}
