@@ -12,7 +12,7 @@ use Rattle.fv_tree.specs.declared.kept.Tree.{Tree}
 use Rattle.fv_tree.specs.Sources.{Shown, Use}
 use Rattle.fv_tree.specs.Standing.{standing, under}
 use Rattle.fv_tree.specs.Writing.{IsAlike}
-use Rattle.fv_tree.specs.Flushing.{Loaded, IsSound, loaded_over}
+use Rattle.fv_tree.specs.Flushing.{Loaded, Leads, IsSound, loaded_over}
 use Rattle.fv_tree.specs.Beside.{IsLaid, loaded_on, unread, LeadsTo, Spares}
 use Rattle.fv_tree.proofs.Beside.{tree_laid, unread_laid, unread_sound, other_alike, other_keeps, other_leads, other_sound, still_apart}
 use Rattle.fv_tree.proofs.Whole.{hole_reaches}
@@ -50,7 +50,7 @@ abbrev pub IsBare : Option Loaded → Type 0
 IsBare None = Unit {0}
 IsBare (Some s) = (t : Rooted) × (s ≡ unread t) × (t.root.stamp ≡ 0) × ((level place : ℕ) → t.nodes level place ≡ None)
 
-bare_leads : (o : Option Loaded) → IsBare o → (v : ℕ) → LeadsIn o v → ⊥
+pub bare_leads : (o : Option Loaded) → IsBare o → (v : ℕ) → LeadsIn o v → ⊥
 bare_leads None bare v led = led
 bare_leads (Some s) bare v led = none (subst (λ (q : Loaded). LeadsTo q v) bare.1 led)
   where
@@ -78,19 +78,19 @@ unread_leads blocks t s is v led = record {
 }
 
 -- and from its blocks where it led
-pub reread_leads : (blocks : Under) (t : Tree) (owner levels : ℕ) (root : Pointer) → standing blocks t ≡ stored blocks owner levels root → (v : ℕ) → LeadsTo (unread (stored blocks owner levels root)) v → LeadsTo (loaded_over blocks t) v
-reread_leads blocks t owner levels root is v led = record {
-  level = led.level;
-  place = led.place;
-  leads = record {
-    some = subst (λ (s : Rooted). (pointer_at s led.level led.place).stamp ≢ 0) (sym is) led.leads.some;
+module _ (blocks : Under) (t : Tree) (owner levels : ℕ) (root : Pointer) (is : standing blocks t ≡ stored blocks owner levels root) where
+  pub reread_led : (level place v : ℕ) → Leads (unread (stored blocks owner levels root)) level place v → Leads (loaded_over blocks t) level place v
+  reread_led level place v led = record {
+    some = subst (λ (s : Rooted). (pointer_at s level place).stamp ≢ 0) (sym is) led.some;
     placed = ⊎_elim
-        (λ (low : led.level ≡ 0). ap (λ k. (loaded_over blocks t).placed k led.place) low ∙ (tree_laid blocks t).cells led.place (ap (λ (s : Rooted). s.cells led.place) is))
-        (λ (high : led.level ≢ 0). (tree_laid blocks t).nodes led.level led.place (omega (arith, high)) (ap (λ (s : Rooted). s.nodes led.level led.place) is))
-        (cases_eq led.level 0);
-    vvbn = subst (λ (s : Rooted). (pointer_at s led.level led.place).vvbn ≡ v) (sym is) led.leads.vvbn;
-  };
-}
+        (λ (low : level ≡ 0). ap (λ k. (loaded_over blocks t).placed k place) low ∙ (tree_laid blocks t).cells place (ap (λ (s : Rooted). s.cells place) is))
+        (λ (high : level ≢ 0). (tree_laid blocks t).nodes level place (omega (arith, high)) (ap (λ (s : Rooted). s.nodes level place) is))
+        (cases_eq level 0);
+    vvbn = subst (λ (s : Rooted). (pointer_at s level place).vvbn ≡ v) (sym is) led.vvbn;
+  }
+
+  pub reread_leads : (v : ℕ) → LeadsTo (unread (stored blocks owner levels root)) v → LeadsTo (loaded_over blocks t) v
+  reread_leads v led = record { level = led.level; place = led.place; leads = reread_led led.level led.place v led.leads }
 
 pub trees_laid : (blocks : Under) (f : Files) (a : Option ℕ) → IsLaidIn blocks (loaded_trees blocks f a)
 trees_laid blocks f None = (refl, tree_laid blocks f.inode.tree)

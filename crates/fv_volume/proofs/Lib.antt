@@ -24,6 +24,7 @@ pub mod Flushed
 pub mod Found
 pub mod Apart
 pub mod LoadedTables
+pub mod LoadedStored
 mod Counting
 pub mod Drawing
 mod Gone

@@ -195,26 +195,28 @@ module _ (old mid new : Lent) (first : GoesOver old mid) (second : GoesOver mid 
       (λ takes. inr (take_before b (at_slot (λ s. MayTake mid.pool.map between s b) takes)))
       (second.kept b)
 
+  -- a room that was used up stays so
+  pub out_still : new.noted ≡ mid.noted → IsOutOfRoom old mid → IsOutOfRoom old new
+  out_still again out = record {
+    none = omega (arith, out.none, second.room);
+    lacks = subst (λ n. WasLack old.home.label (root_place old.pool.found.slot) n) (sym again) out.lacks;
+  }
+
+  -- and the places of the label and the root are those of before
+  pub out_before : IsOutOfRoom mid new → IsOutOfRoom old new
+  out_before out = record {
+    none = out.none;
+    lacks = subst (λ (h : Home). WasLack h.label (root_place old.pool.found.slot) new.noted) first.home
+        (subst (λ f. WasLack mid.home.label (root_place f.slot) new.noted) first.found out.lacks);
+  }
+
   damage_then : (new.noted ≡ old.noted) ⊎ (WasHole old.home.label new.noted ⊎ IsOutOfRoom old new)
   damage_then = ⊎_elim
       (λ again. ⊎_elim
       (λ same. inl (again ∙ same))
-      (λ cause. inr (⊎_elim
-      (λ hole. inl (subst (λ n. WasHole old.home.label n) (sym again) hole))
-      (λ (out : IsOutOfRoom old mid). inr (record {
-        none = omega (arith, out.none, second.room);
-        lacks = subst (λ n. WasLack old.home.label (root_place old.pool.found.slot) n) (sym again) out.lacks;
-      }))
-      cause))
+      (λ cause. inr (⊎_elim (λ hole. inl (subst (λ n. WasHole old.home.label n) (sym again) hole)) (λ out. inr (out_still again out)) cause))
       first.noted)
-      (λ cause. inr (⊎_elim
-      (λ hole. inl (subst (λ (h : Home). WasHole h.label new.noted) first.home hole))
-      (λ (out : IsOutOfRoom mid new). inr (record {
-        none = out.none;
-        lacks = subst (λ (h : Home). WasLack h.label (root_place old.pool.found.slot) new.noted) first.home
-            (subst (λ f. WasLack mid.home.label (root_place f.slot) new.noted) first.found out.lacks);
-      }))
-      cause))
+      (λ cause. inr (⊎_elim (λ hole. inl (subst (λ (h : Home). WasHole h.label new.noted) first.home hole)) (λ out. inr (out_before out)) cause))
       second.noted
 
   shape_then : HasShapeOf (container_at between slot) (container_at after slot) → HasShapeOf (container_at before slot) (container_at after slot)

@@ -26,6 +26,7 @@ mod state;
 mod taking;
 mod volume_blocks;
 mod volume_drops;
+mod volume_places;
 mod volumes;
 mod write;
 
@@ -39,5 +40,6 @@ pub use pool::Pool;
 pub use state::{Base, Rooted, Snap, Snapshots, VolumeState};
 pub use volume_blocks::{Guard, VolumeBlocks};
 pub use volume_drops::VolumeDrops;
+pub use volume_places::VolumePlaces;
 pub use volumes::Volumes;
 pub use write::write_volume;

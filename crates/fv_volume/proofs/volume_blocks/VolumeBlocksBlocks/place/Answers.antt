@@ -54,6 +54,9 @@ returns-in-Err-clause-places g c =
       cause = search rules;
     }
 
+pub returns-in-Ok-clause-known : goal.returns-in-Ok-clause-known
+returns-in-Ok-clause-known g c = λ known. c.in-Ok.ensures.placed.takes.least
+
 pub returns-in-Ok-clause-calls : goal.returns-in-Ok-clause-calls
 returns-in-Ok-clause-calls g c =
     let self = c.args.self.now in
