@@ -30,11 +30,11 @@ use Rattle.fv_files.specs.declared.files.Files.{Files}
 use Rattle.fv_files.specs.Apart.{LeadsIn, LeadsFrom, StandsIn, StoredIn}
 use Rattle.fv_tree.specs.Stored.{IsStoredWell}
 use Rattle.fv_files.specs.Tables.{table_in, tree_in, file_loaded, loaded_trees, AreStanding, IsLed, IsStored, IsTold}
-use Rattle.fv_files.specs.Calls.{Becomes}
+use Rattle.fv_files.specs.Calls.{Becomes, SparesOthers}
 use Rattle.fv_files.proofs.Looked.{Held}
 use Rattle.fv_files.proofs.Tables.{alike, some_same, placed_alike}
 use Rattle.fv_files.proofs.Beside.{IsOther, LetsGo, UsesNoMore, loading_lets_go, loading_uses, spares_as}
-use Rattle.fv_files.proofs.Kept.{own_tree_is, inode_alike, files_same, others_told, file_led, file_stands, file_stored, inode_led, inode_stands, inode_stored}
+use Rattle.fv_files.proofs.Kept.{own_tree_is, inode_alike, files_same, others_told, file_led, file_spares, file_stands, file_stored, inode_led, inode_spares, inode_stands, inode_stored}
 
 -- a table with other trees, or with another inode file
 abbrev pub with_trees : Files → maps.BTreeMap ℕ Tree → Files
@@ -146,6 +146,9 @@ module _ (old new : Shown) (f : Files) (m : maps.BTreeMap ℕ Tree) (n : ℕ) (t
     pub kept_stored : IsStoredWell (loaded new u) → IsStored old f → IsStored new g
     kept_stored well = file_stored old new f g n refl becomes.others sound own_spares (subst StoredIn (sym now_tree) well)
 
+    pub kept_spares : SparesOthers old new f g
+    kept_spares = file_spares old new f g n refl becomes.others sound own_spares
+
     pub kept_led : LetsGo new (LeadsTo (loaded old t)) (LeadsTo (loaded new u)) → UsesNoMore old new (LeadsTo (loaded old t)) (LeadsTo (loaded new u)) → IsLed old f → IsLed new g
     kept_led lets_go no_more = file_led old new f g n refl becomes.others sound own_spares
         (λ v none some led. lets_go v (λ now. none (subst (λ o. LeadsIn o v) (sym now_tree) now)) some (subst (λ o. LeadsIn o v) was_tree led))
@@ -195,6 +198,12 @@ module _ (source : Shown) (f : Files) (i : InodeFile) (n s : ℕ) (u : Tree) (ke
       own_same owner stands
       (λ t at. let own = sound.owners n t at in (own.0, ap is_some own_record ∙ is_there (file_at (rooted source f.inode) n) own.1))
       (λ k there. keeps_ready (k / records_each) (sound.ready k there))
+
+  pub record_spares : LeadsNoMore (loaded source f.inode.tree) (loaded source i.tree) → AreStanding source f → SparesOthers source source f h
+  record_spares no_more sound =
+      inode_spares source source f h n (λ k differs. refl) other_records sound
+      (loading_spares source source (LeadsTo (loaded source f.inode.tree)) (LeadsTo (loaded source i.tree)) refl refl (λ v led. record { level = led.level; place = led.place; leads = no_more led.level led.place v led.leads }))
+      own_same
 
   pub record_stored : IsStoredWell (loaded source i.tree) → (NamesIndexes (rooted source f.inode) → NamesIndexes (rooted source i)) → LeadsNoMore (loaded source f.inode.tree) (loaded source i.tree) → AreStanding source f → IsStored source f → IsStored source h
   record_stored well named no_more sound =

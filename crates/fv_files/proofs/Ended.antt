@@ -24,12 +24,12 @@ use Rattle.fv_inode.proofs.Slots.{alike_files}
 use Rattle.fv_files.specs.declared.files.Files.{Files}
 use Rattle.fv_files.specs.Apart.{LeadsIn, LeadsFrom, StandsIn, StoredIn, AreLed, stored_trees}
 use Rattle.fv_files.specs.Tables.{table_in, tree_in, file_loaded, loaded_trees, AreReached, AreStanding, IsLed, IsStored, IsStoredUnder}
-use Rattle.fv_files.specs.Calls.{KeepsStored}
+use Rattle.fv_files.specs.Calls.{KeepsStored, SparesOthers}
 use Rattle.fv_files.specs.Flushing.{FlushesTable, LaysTrees}
 use Rattle.fv_files.specs.Pending.{FitsTable}
 use Rattle.fv_files.proofs.Tables.{placed_alike}
 use Rattle.fv_files.proofs.Stored.{places_of, reread_stored}
-use Rattle.fv_files.proofs.Kept.{moved_tree, same_trees, records_told, inode_led, inode_stands, inode_stored}
+use Rattle.fv_files.proofs.Kept.{moved_tree, same_trees, records_told, inode_led, inode_spares, inode_stands, inode_stored}
 use Rattle.fv_files.proofs.Changed.{with_inode}
 use Rattle.fv_files.proofs.Beside.{reread_leads, unread_leads}
 use Rattle.fv_files.proofs.Laid.{flush_goes, flush_uses, flushed_spares, lays_then, stores_then}
@@ -71,6 +71,10 @@ module _ (told : Type 0) (old new : Shown) (f : Files) (i : InodeFile) (r : Resu
         (flush_goes old new f.inode.tree i.tree (sound.trees None) (is.flushes tells (sound.trees None)))
         (flush_uses old new f.inode.tree i.tree (is.flushes tells (sound.trees None)))
 
+    last_spares : SparesOthers old new f h
+    last_spares = inode_spares old new f h 0 (λ k differs. refl) (λ k differs. files k) sound (flushed_spares old new f.inode.tree i.tree (sound.trees None) (is.flushes tells (sound.trees None)))
+        (same_trees (under old) (under new) f h 0 refl (files 0))
+
     pub last_stored : KeepsPlaces old new → IsLed old f → IsStored old f → IsStored new h
     last_stored places led was = inode_stored old new f h 0 (λ k differs. refl) (λ k differs. files k) sound (flushed_spares old new f.inode.tree i.tree (sound.trees None) (is.flushes tells (sound.trees None)))
         (same_trees (under old) (under new) f h 0 refl (files 0))
@@ -94,6 +98,7 @@ module _ (told : Type 0) (old new : Shown) (f : Files) (i : InodeFile) (r : Resu
     placed = last_placed;
     stands = last_stands;
     led = last_led;
+    spares = last_spares;
     strays = λ tells sound. is.strays tells (sound.trees None);
     fits = last_fits;
     enough = λ tells sound room. is.enough tells (sound.trees None) (omega (arith, room));

@@ -31,17 +31,19 @@ use Rattle.fv_inode.proofs.Alike.{alike_itself}
 use Rattle.fv_inode.proofs.Looked.{alters_none}
 use Rattle.fv_inode.specs.Changing.{SetsRoot}
 use Rattle.fv_files.specs.declared.files.Files.{Files}
-use Rattle.fv_files.specs.Tables.{table_in, tree_in, AreStanding, IsLed, IsStored}
-use Rattle.fv_files.specs.Calls.{KeepsStored}
+use Rattle.fv_files.specs.Tables.{table_in, tree_in, loaded_trees, AreStanding, IsLed, IsStored}
+use Rattle.fv_tree.proofs.Beside.{loading_spares}
+use Rattle.fv_files.specs.Apart.{LeadsAny}
+use Rattle.fv_files.specs.Calls.{KeepsStored, SparesOthers}
 use Rattle.fv_files.specs.Flushing.{FlushesKept, LaysTrees}
 use Rattle.fv_files.specs.Pending.{pending_trees, tree_cost, FitsTable}
 use Rattle.fv_files.proofs.Looked.{Held, counts_done, counts_failed}
 use Rattle.fv_files.proofs.Tables.{placed_then}
 use Rattle.fv_files.proofs.Stored.{places_of}
 use Rattle.fv_files.proofs.Changed.{with_trees, with_inode, owned_stands, owned_stored, has_record}
-use Rattle.fv_files.proofs.Prepared.{readied_led, readied_placed, readied_stands, readied_stored}
+use Rattle.fv_files.proofs.Prepared.{readied_led, readied_placed, readied_spares, readied_stands, readied_stored}
 use Rattle.fv_files.proofs.Sums.{most_cost}
-use Rattle.fv_files.proofs.Laid.{HasRoot, kept_flush_led, kept_flush_stored, kept_placed, kept_stood, root_led, root_placed, root_stands, root_stored, gone_led, gone_placed, gone_stands, gone_stored, lay_failed}
+use Rattle.fv_files.proofs.Laid.{HasRoot, kept_flush_led, kept_flush_spares, kept_flush_stored, kept_placed, kept_stood, root_led, root_placed, root_spares, root_stands, root_stored, gone_led, gone_placed, gone_spares, gone_stands, gone_stored, lay_failed, table_spares_then}
 
 -- ---- no memory
 
@@ -66,6 +68,7 @@ module _ {T : Type 0} (told : Type 0) (old new : Shown) (f : Files) (i : InodeFi
     placed = λ tells sound. readied_placed old new f h alters.looks.untouched (alike tells) (λ k. refl);
     stands = λ tells sound. readied_stands old new f h alters.looks.untouched (alike tells) (λ k. refl) alters.owner (alters.stands tells) (alters.leads tells) alters.keeps_ready sound;
     led = λ tells sound led. readied_led old new f h alters.looks.untouched (alike tells) (λ k. refl) (alters.leads tells) (alters.keeps tells) sound led;
+    spares = λ tells sound. readied_spares old new f h alters.looks.untouched (alike tells) (λ k. refl) (alters.leads tells) sound;
     strays = λ tells sound. alters.looks.untouched.strays;
     fits = λ tells sound. let same = alters.looks.untouched.room in record { fewer = omega (arith, fewer); room = omega (arith, fewer, same) };
     enough = λ tells sound room. IfErr-weaker r _ _ memory_alone (memory tells sound);
@@ -99,6 +102,7 @@ lays_self told old f = record {
   placed = λ tells sound. readied_placed old old f f (record { held = refl; used = refl; strays = refl; room = refl; cost = refl }) (record { levels = refl; stamps = λ level place. refl; blocks = λ index. refl }) (λ k. refl);
   stands = λ tells sound. sound;
   led = λ tells sound led. led;
+  spares = λ tells sound. loading_spares old old (LeadsAny (loaded_trees (under old) f)) (LeadsAny (loaded_trees (under old) f)) refl refl (λ v led. led);
   strays = λ tells sound. refl;
   fits = λ tells sound. record { fewer = omega arith; room = omega arith };
   enough = λ tells sound room. tt;
@@ -109,10 +113,10 @@ lays_self told old f = record {
 
 -- under another answer
 pub lays_done : {S T : Type 0} (told : Type 0) (old new : Shown) (f g : Files) (x : S) (y : T) → LaysTrees told old new f g (Ok x) → LaysTrees told old new f g (Ok y)
-lays_done told old new f g x y is = record { placed = is.placed; stands = is.stands; led = is.led; strays = is.strays; fits = is.fits; enough = λ tells sound room. tt; source = λ tells sound. tt; counts = counts_done old new x y is.counts; cause = tt }
+lays_done told old new f g x y is = record { placed = is.placed; stands = is.stands; led = is.led; spares = is.spares; strays = is.strays; fits = is.fits; enough = λ tells sound room. tt; source = λ tells sound. tt; counts = counts_done old new x y is.counts; cause = tt }
 
 pub lays_failed : {S T : Type 0} (told : Type 0) (old new : Shown) (f g : Files) (e : BlockFault) → LaysTrees {T = S} told old new f g (Err e) → LaysTrees {T = T} told old new f g (Err e)
-lays_failed {S} told old new f g e is = record { placed = is.placed; stands = is.stands; led = is.led; strays = is.strays; fits = is.fits; enough = is.enough; source = is.source; counts = counts_failed {S = S} old new (Err e) e is.counts; cause = is.cause }
+lays_failed {S} told old new f g e is = record { placed = is.placed; stands = is.stands; led = is.led; spares = is.spares; strays = is.strays; fits = is.fits; enough = is.enough; source = is.source; counts = counts_failed {S = S} old new (Err e) e is.counts; cause = is.cause }
 
 -- a table that stands on its blocks has a file for each tree in memory
 pub strayed : (old : Shown) (f : Files) (n : ℕ) → is_some (tree_in f n) ≡ true → AreStanding old f → is_some (file_at (rooted old f.inode) n) ≡ true
@@ -128,6 +132,7 @@ lays_astray told old new f g x counts never = record {
   placed = λ tells sound. absurd (never tells sound);
   stands = λ tells sound. absurd (never tells sound);
   led = λ tells sound led. absurd (never tells sound);
+  spares = λ tells sound. absurd (never tells sound);
   strays = λ tells sound. absurd (never tells sound);
   fits = λ tells sound. absurd (never tells sound);
   enough = λ tells sound room. tt;
@@ -154,6 +159,7 @@ module _ (told : Type 0) (old mid : Shown) (f : Files) (m : maps.BTreeMap ℕ Tr
     placed = λ tells sound. let stood = owned_stands old f n kept.tree kept.becomes.was sound in kept_placed old mid f m n kept.tree kept.next kept.becomes sound stood (kept.flushes tells stood);
     stands = λ tells sound. let stood = owned_stands old f n kept.tree kept.becomes.was sound in kept_stood old mid f m n kept.tree kept.next kept.becomes sound stood (kept.flushes tells stood) kept.left.owner;
     led = λ tells sound. let stood = owned_stands old f n kept.tree kept.becomes.was sound in kept_flush_led old mid f m n kept.tree kept.next kept.becomes sound stood (kept.flushes tells stood);
+    spares = λ tells sound. let stood = owned_stands old f n kept.tree kept.becomes.was sound in kept_flush_spares old mid f m n kept.tree kept.next kept.becomes sound stood (kept.flushes tells stood);
     strays = λ tells sound. kept.strays tells (owned_stands old f n kept.tree kept.becomes.was sound);
     fits = kept_fits;
     enough = λ tells sound room.
@@ -232,6 +238,11 @@ module _ (told : Type 0) (old mid new : Shown) (f : Files) (m last : maps.BTreeM
     all_led led = gone_led new three last n levels root kept.next kept.becomes.now gone placed_three own spelled reached
         (root_led mid new two i n levels root kept.next kept.becomes.now alters.looks.untouched sets (alters.leads tells) (alters.keeps tells) placed_two (first.led tells sound led))
 
+    all_spares : SparesOthers old new f four
+    all_spares = table_spares_then old new new f three four
+        (table_spares_then old mid new f two three (first.spares tells sound) (root_spares mid new two i n levels root kept.next kept.becomes.now alters.looks.untouched sets (alters.leads tells) placed_two))
+        (gone_spares new three last n levels root kept.next kept.becomes.now gone placed_three own spelled reached)
+
     all_stored : KeepsPlaces old mid → IsLed old f → IsStored old f → IsStored new four
     all_stored places led was = gone_stored new three last n levels root kept.next kept.becomes.now gone placed_three own spelled reached
         (root_stored mid new two i n levels root kept.next kept.becomes.now alters.looks.untouched sets (alters.stored_well tells) (alters.leads tells) placed_two
@@ -251,6 +262,7 @@ module _ (told : Type 0) (old mid new : Shown) (f : Files) (m last : maps.BTreeM
     placed = all_placed;
     stands = λ tells sound. gone_stands new three last n levels root kept.next kept.becomes.now gone (placed_three tells sound) (own tells sound) (spelled tells sound) (reached tells sound);
     led = all_led;
+    spares = all_spares;
     strays = λ tells sound. alters.looks.untouched.strays ∙ first.strays tells sound;
     fits = all_fits;
     enough = λ tells sound room. tt;

@@ -24,9 +24,10 @@ use Rattle.fv_files.specs.declared.files.Files.{Files}
 use Rattle.fv_files.specs.Apart.{LeadsFrom, StandsIn, StoredIn, AreLed}
 use Rattle.fv_files.specs.Tables.{table_in, tree_in, file_loaded, loaded_trees, AreSound, AreStanding, IsLed, IsStored, IsStoredOn}
 use Rattle.fv_tree.specs.Stored.{IsStoredWell}
+use Rattle.fv_files.specs.Calls.{SparesOthers}
 use Rattle.fv_files.proofs.Stored.{stored_still}
 use Rattle.fv_files.proofs.Looked.{Held}
-use Rattle.fv_files.proofs.Beside.{IsOther, KeepsIn, LetsGo, UsesNoMore, led_on, some_differ, trees_laid, other_tree, stand_still, lie_apart}
+use Rattle.fv_files.proofs.Beside.{IsOther, KeepsIn, LetsGo, UsesNoMore, led_on, some_differ, spares_all, trees_laid, other_tree, stand_still, lie_apart}
 
 pub sound_on : (f : Files) (old new : Shown) → new.held ≡ old.held → new.used ≡ old.used → AreStanding old f → AreStanding new f
 sound_on f old new held used stands =
@@ -97,6 +98,10 @@ module _ (old new : Shown) (f g : Files) (n : ℕ) (inode : g.inode ≡ f.inode)
   pub file_led : LetsGo new (LeadsFrom (loaded_trees (under old) f) (Some n)) (LeadsFrom (loaded_trees (under new) g) (Some n)) → UsesNoMore old new (LeadsFrom (loaded_trees (under old) f) (Some n)) (LeadsFrom (loaded_trees (under new) g) (Some n)) → IsLed old f → IsLed new g
   file_led = led_on old new (loaded_trees (under old) f) (loaded_trees (under new) g) (Some n) (trees_laid (under old) f) sound.trees sound.apart spares keeps
 
+  -- what isn't the table's stays,
+  pub file_spares : SparesOthers old new f g
+  file_spares = spares_all old new (loaded_trees (under old) f) (loaded_trees (under new) g) (Some n) (trees_laid (under old) f) sound.trees sound.apart spares others
+
   -- what it leads to is as its pointers say,
   pub file_stored : StoredIn (loaded_trees (under new) g (Some n)) → IsStored old f → IsStored new g
   file_stored own was = record {
@@ -149,6 +154,9 @@ module _ (old new : Shown) (f g : Files) (n : ℕ) (trees : (k : ℕ) → k ≢ 
         (λ (same : k ≡ n). subst (λ m. IsOther (under new) (loaded_trees (under old) f (Some m)) (loaded_trees (under new) g (Some m))) (sym same) own)
         (λ (unlike : k ≢ n). same_trees (under old) (under new) f g k (trees k unlike) (files k unlike))
         (cases_eq k n)
+
+    pub inode_spares : SparesOthers old new f g
+    inode_spares = spares_all old new (loaded_trees (under old) f) (loaded_trees (under new) g) None (trees_laid (under old) f) sound.trees sound.apart spares rest
 
     pub inode_stored : IsStoredWell (loaded new g.inode.tree) → (NamesIndexes (rooted old f.inode) → NamesIndexes (rooted new g.inode)) → IsStored old f → IsStored new g
     inode_stored own named was = record {

@@ -41,11 +41,11 @@ use Rattle.fv_tree.specs.Stored.{IsStoredWell}
 use Rattle.fv_files.specs.Tables.{table_in, tree_in, tree_known, file_loaded, loaded_trees, AreStanding, IsInfoOf, IsLed, IsStored, IsTold}
 use Rattle.fv_files.specs.Failing.{FilesFail, Looks}
 use Rattle.fv_laws.specs.Positions.{taken_by_rm}
-use Rattle.fv_files.specs.Calls.{WritesCell, CutsFile, RemovesFile, TakesByCut, TakesByRemoval, Changes, Holds, IsUnread, KeepsLed, KeptFails, Prepares}
+use Rattle.fv_files.specs.Calls.{WritesCell, CutsFile, RemovesFile, TakesByCut, TakesByRemoval, Changes, Holds, IsUnread, KeepsLed, KeptFails, Prepares, SparesOthers}
 use Rattle.fv_files.proofs.Beside.{loading_lets_go, loading_uses, reread_leads, unread_leads}
 use Rattle.fv_files.proofs.Looked.{Held, counts_failed, counts_done, looks_inode}
 use Rattle.fv_files.proofs.Tables.{file_tree, kept_known, placed_alike, same_placed, some_same, stored_known}
-use Rattle.fv_files.proofs.Kept.{own_tree_is, moved_tree, same_trees, file_led, file_stands, file_stored, inode_led, inode_stands, inode_stored}
+use Rattle.fv_files.proofs.Kept.{own_tree_is, moved_tree, same_trees, file_led, file_stands, file_stored, inode_led, inode_spares, inode_stands, inode_stored}
 use Rattle.fv_files.proofs.Stored.{unread_stored}
 use Rattle.fv_files.proofs.Changed.{with_trees, with_inode}
 use Rattle.fv_files.proofs.Steps.{same_room}
@@ -149,6 +149,13 @@ module _ (old new : Shown) (f g : Files) (untouched : IsUntouched old new) (alik
       (same_trees (under old) (under new) f g 0 (trees 0) (files 0)) owner (stands (sound.trees None))
       (λ t at. let own = sound.owners 0 t (sym (trees 0) ∙ at) in (own.0, ap is_some (files 0) ∙ own.1))
       (λ k there. keeps_ready (k / records_each) (sound.ready k (ap is_some (sym (trees k)) ∙ there)))
+
+  pub readied_spares : LeadsNoMore (loaded old f.inode.tree) (loaded new g.inode.tree) → AreStanding old f → SparesOthers old new f g
+  readied_spares no_more sound =
+      let files = alike_files (rooted old f.inode) (rooted new g.inode) alike in
+      inode_spares old new f g 0 (λ k differs. trees k) (λ k differs. files k) sound
+      (loading_spares old new (LeadsTo (loaded old f.inode.tree)) (LeadsTo (loaded new g.inode.tree)) untouched.held untouched.used (λ v led. record { level = led.level; place = led.place; leads = no_more led.level led.place v led.leads }))
+      (same_trees (under old) (under new) f g 0 (trees 0) (files 0))
 
   pub readied_stored : (IsStoredWell (loaded old f.inode.tree) → IsStoredWell (loaded new g.inode.tree)) → LeadsNoMore (loaded old f.inode.tree) (loaded new g.inode.tree) → AreStanding old f → IsStored old f → IsStored new g
   readied_stored well no_more sound was =

@@ -1,12 +1,12 @@
 -- What the trees of a table lead to stays as their pointers say, where one of them changed.
-use Rattle.std.proofs.Common.{◌≡◌, ◌≢◌, ℕ, ◌/◌, ◌≤◌, refl, sym, ap, subst, ◌∙◌, ⊎_elim}
+use Rattle.std.proofs.Common.{◌≡◌, ◌≢◌, ℕ, ◌≤◌, refl, sym, ap, subst, ◌∙◌, ⊎_elim}
 use Rattle.std.specs.Prelude.{List, Option, Some, None, is_some}
 use Rattle.std.specs.Option.{option_map}
 use Rattle.fv_codec.specs.declared.pointer.Pointer.{Pointer}
 use Rattle.fv_codec.specs.declared.inode.InodeRecord.{InodeRecord}
 use Rattle.fv_codec.specs.Blocks.{greatest_word}
-use Rattle.fv_tables.specs.Spelled.{Under, Rooted, pointer_at, stored, block_at}
-use Rattle.fv_tables.specs.Told.{records_each, records_in, file_at}
+use Rattle.fv_tables.specs.Spelled.{Under, Rooted, pointer_at, stored}
+use Rattle.fv_tables.proofs.Bare.{bare_file}
 use Rattle.fv_tree.specs.declared.kept.Tree.{Tree}
 use Rattle.fv_tree.specs.Sources.{Shown}
 use Rattle.fv_tree.specs.Standing.{standing, under}
@@ -16,7 +16,6 @@ use Rattle.fv_tree.specs.Stored.{HasPlaces, IsStoredWell}
 use Rattle.fv_tree.proofs.Beside.{beside_leads, beside_pointers}
 use Rattle.fv_tree.proofs.Flushed.{some_none}
 use Rattle.fv_tree.proofs.Released.{block_read}
-use Rattle.fv_tree.proofs.Writes.{block_none, none_at}
 use Rattle.fv_inode.specs.Files.{IsInodesOf}
 use Rattle.fv_inode.proofs.Indexed.{bare_indexes}
 use Rattle.fv_files.specs.declared.files.Files.{Files}
@@ -79,19 +78,12 @@ reread_stored blocks t owner levels root is well = record {
 
 -- ---- a table without a file
 
-no_block : (t : Rooted) (n : ℕ) → block_at t (n / records_each) ≡ None → file_at t n ≡ None
-unfolding file_at records_in
-no_block t n none = rw none refl
-
 pub hole_stored : (blocks : Under) (levels : ℕ) (root : Pointer) → root.stamp ≡ 0 → IsStoredUnder blocks levels root
 hole_stored blocks levels root none = record { trees = each; inodes = bare_indexes (stored blocks greatest_word levels root) none }
   where
-    no_file : (n : ℕ) → file_at (stored blocks greatest_word levels root) n ≡ None
-    no_file n = let t = stored blocks greatest_word levels root in no_block t n (block_none t (n / records_each) (none_at t none 0 (n / records_each)))
-
     each : (a : Option ℕ) → StoredIn (stored_trees blocks levels root a)
     each None = bare_stored (Some (unread (stored blocks greatest_word levels root))) (stored blocks greatest_word levels root, refl, none, λ level place. refl)
-    each (Some n) = subst (λ o. StoredIn (option_map (λ (r : InodeRecord). unread (stored blocks n r.levels r.root)) o)) (sym (no_file n)) tt
+    each (Some n) = subst (λ o. StoredIn (option_map (λ (r : InodeRecord). unread (stored blocks n r.levels r.root)) o)) (sym (bare_file (stored blocks greatest_word levels root) none n)) tt
 
 -- ---- a table under a root
 

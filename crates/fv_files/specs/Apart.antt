@@ -25,6 +25,11 @@ LeadsIn (Some s) v = LeadsTo s v
 abbrev pub LeadsFrom : Trees → Option ℕ → ℕ → Type 0
 LeadsFrom x a v = LeadsIn (x a) v
 
+-- some tree of a table leads to this VVBN
+pub record LeadsAny (x : Trees) (v : ℕ) : Type 0 where
+  pub tree : Option ℕ
+  pub leads : LeadsFrom x tree v
+
 -- a tree, where there is one, stands on its blocks
 abbrev pub StandsIn : (ℕ → Option Use) → Option Loaded → Type 0
 StandsIn used None = Unit {0}

@@ -23,7 +23,9 @@ use Rattle.fv_inode.specs.declared.info.Info.{Info}
 use Rattle.fv_inode.specs.Files.{rooted}
 use Rattle.fv_inode.specs.Readying.{IsReadyFile}
 use Rattle.fv_files.specs.declared.files.Files.{Files}
-use Rattle.fv_files.specs.Tables.{table_in, tree_in, tree_known, AreStanding, IsInfoOf, IsLed, IsStored, IsTold}
+use Rattle.fv_tree.specs.Beside.{Spares}
+use Rattle.fv_files.specs.Apart.{LeadsAny}
+use Rattle.fv_files.specs.Tables.{table_in, tree_in, tree_known, loaded_trees, AreStanding, IsInfoOf, IsLed, IsStored, IsTold}
 use Rattle.fv_files.specs.Failing.{Looks}
 use Rattle.fv_files.specs.Pending.{pending_trees}
 
@@ -105,6 +107,11 @@ pub record Changes {T : Type 0} (told well : Type 0) (old new : Shown) (f g : Fi
 -- what is in use is led to by one of the table's trees, if it was before
 abbrev pub KeepsLed : Shown → Shown → Files → Files → Type 0
 KeepsLed old new f g = AreStanding old f → IsLed old f → IsLed new g
+
+-- What isn't the table's stays: a block that is held and to which none of its trees leads. Where they lead afterwards they led before, or
+-- no block was held there.
+abbrev pub SparesOthers : Shown → Shown → Files → Files → Type 0
+SparesOthers old new f g = Spares old new (LeadsAny (loaded_trees (under old) f)) (LeadsAny (loaded_trees (under new) g))
 
 -- what such a table leads to stays as its pointers say
 abbrev pub KeepsStored : Shown → Shown → Files → Files → Type 0

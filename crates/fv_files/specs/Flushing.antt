@@ -19,7 +19,7 @@ use Rattle.fv_tree.specs.Stored.{HasPlaces, IsStoredWell}
 use Rattle.fv_files.specs.Apart.{AreLed, stored_trees}
 use Rattle.fv_files.specs.Tables.{table_in, tree_in, AreReached, AreStanding, IsLed}
 use Rattle.fv_files.specs.Failing.{FilesFail}
-use Rattle.fv_files.specs.Calls.{Becomes, KeepsLed}
+use Rattle.fv_files.specs.Calls.{Becomes, KeepsLed, SparesOthers}
 use Rattle.fv_files.specs.Pending.{pending_in, FitsTable}
 
 -- a source that holds other blocks
@@ -44,6 +44,7 @@ pub record LaysTrees {T : Type 0} (told : Type 0) (old new : Shown) (f g : Files
   pub placed : told → AreStanding old f → IsPlacedTable (table_in old f) (table_in new g)
   pub stands : told → AreStanding old f → AreStanding new g
   pub led : told → KeepsLed old new f g
+  pub spares : told → AreStanding old f → SparesOthers old new f g
   pub strays : told → AreStanding old f → new.strays ≡ old.strays
   pub fits : told → AreStanding old f → FitsTable old f new g
   -- with room for all that is pending no damage is answered
