@@ -20,6 +20,7 @@ mod noted;
 mod placing;
 mod pool;
 mod removing;
+mod room;
 mod search;
 mod sizes;
 mod state;
