@@ -2,6 +2,7 @@
 //! TIMES`. It prints the work's last answer. `bench/blocks.sh` and `bench/files.sh` run it.
 #![tactic(auto)]
 
+mod counted;
 mod files;
 
 ghost use Rattle.fv_codec.specs.Blocks.{IsNode};
@@ -38,6 +39,9 @@ fn answer_of(alloc: Global, work: &str, times: u32) -> Result<u64, AllocError> {
         "copy" => Ok(copy(times)),
         "host" => host(alloc, times),
         "get" => files::gets(alloc, times),
+        "cached" => files::cached_gets(alloc, times),
+        "cold" => files::cold_gets(alloc, times),
+        "look" => Ok(files::looks(times)),
         "put" => files::puts(alloc, times),
         _ => Ok(0),
     }

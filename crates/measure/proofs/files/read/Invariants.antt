@@ -1,5 +1,4 @@
-use Rattle.fv_volume.specs.OneVolume.{IsReady}
 use Rattle.measure.proofs.files.read.Given as goal
 
-abbrev pub invariant-loop-time : goal.invariant-loop-time
-invariant-loop-time g l = IsReady (g.D.Disk.shown l.disk) l.pool l.volume
+abbrev pub ghosts-read_with : goal.ghosts-read_with
+ghosts-read_with g a = record { name = a.blank.name; parts = 1 }
