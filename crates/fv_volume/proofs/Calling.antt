@@ -67,7 +67,7 @@ module _ (d e : Disk) (p q : Pool) (reads : Reads d p e q) (x y : VolumeState) (
   refused_table = record {
     led = λ is. subst (λ (z : VolumeState). IsLedTo e q z) (sym same) (still_led d e p q reads x is);
     well = λ is. subst (λ (z : VolumeState). IsStoredWell e q z) (sym same) (still_well d e p q reads x is);
-    room = subst (λ (z : VolumeState). pending_of z.files ≤ pending_of x.files + 16) (sym same) (omega arith);
+    room = subst (λ (z : VolumeState). pending_of z.files ≤ pending_of x.files + 14) (sym same) (omega arith);
   }
 
   pub refused_head : (r : Result Unit VolumeFault) (fault : VolumeFault) → r ≡ Err fault → KeepsHead x y r

@@ -35,7 +35,7 @@ module _ (old new : Lent) (drops : DropsOver old new) where
   left_stored : (g : Files) → IsStored (shown_over new) g → IsStored (sees old.pool new.map old.disk old.home) g
   left_stored g is = subst (λ (u : Under). IsStoredOn u g) left_over is
 
-  module _ {T : Type 0} (told well : Type 0) (f g : Files) (fails : BlockFault → Type 0) (holds : told → well) (led : told → files.KeepsLed (shown_over old) (shown_over new) f g) (fits : told → AreStanding (shown_over old) f → pending_in g ≤ pending_in f + 16) where
+  module _ {T : Type 0} (told well : Type 0) (f g : Files) (fails : BlockFault → Type 0) (holds : told → well) (led : told → files.KeepsLed (shown_over old) (shown_over new) f g) (fits : told → AreStanding (shown_over old) f → pending_in g ≤ pending_in f + 14) where
     left_fault : (r : Result T BlockFault) → files.Changes told well (shown_over old) (shown_over new) f g fails r → LeavesTable told (shown_over old) (sees old.pool new.map old.disk old.home) f g r
     left_fault (Ok x) changes = record {
       stands = λ t is. left_standing g (changes.stands t (holds t) is);
@@ -53,7 +53,7 @@ module _ (old new : Lent) (drops : DropsOver old new) where
     }
 
 pub leaves_table : {T : Type 0} (told well : Type 0) (old new : Lent) → DropsOver old new → (f g : Files) (fails : BlockFault → Type 0) (r : Result T BlockFault) → files.Changes told well (shown_over old) (shown_over new) f g fails r → (told → well)
-    → (told → files.KeepsLed (shown_over old) (shown_over new) f g) → (told → AreStanding (shown_over old) f → pending_in g ≤ pending_in f + 16) → LeavesTable told (shown_over old) (sees old.pool new.map old.disk old.home) f g r
+    → (told → files.KeepsLed (shown_over old) (shown_over new) f g) → (told → AreStanding (shown_over old) f → pending_in g ≤ pending_in f + 14) → LeavesTable told (shown_over old) (sees old.pool new.map old.disk old.home) f g r
 leaves_table told well old new drops f g fails r changes holds led fits = left_fault old new drops told well f g fails holds led fits r changes
 
 -- what holds of an answer by its two sides

@@ -83,7 +83,7 @@ abbrev pub KeepsButTable : VolumeState → VolumeState → Type 0
 KeepsButTable old new = new ≡ record old { map = new.map; files = new.files; changed = true }
 
 -- A change of a volume's table was made, or it failed; it isn't counted yet. Blocks were read, and its trees stand on those that are left.
--- After a fault its table is told as before. What is in use is led to and stored well if it was before, and a flush has at most 16 blocks more
+-- After a fault its table is told as before. What is in use is led to and stored well if it was before, and a flush has at most 14 blocks more
 -- to place.
 pub record AltersTable {T : Type 0} (old : Disk) (pool : Pool) (new : Disk) (left : Pool) (x y : VolumeState) (result : Result T BlockFault) : Type 0 where
   pub same : KeepsButTable x y
@@ -94,11 +94,11 @@ pub record AltersTable {T : Type 0} (old : Disk) (pool : Pool) (new : Disk) (lef
   pub failed : IsStanding old pool x → OnErr result (table_for old pool y ≡ table_for old pool x)
   pub led : IsStanding old pool x → IsLedTo old pool x → IsLedTo old pool y
   pub well : IsStanding old pool x → IsStoredWell old pool x → IsStoredWell old pool y
-  pub room : IsStanding old pool x → pending_of y.files ≤ pending_of x.files + 16
+  pub room : IsStanding old pool x → pending_of y.files ≤ pending_of x.files + 14
 
 -- What a call that changes files leaves of the table of a volume, in every outcome: what is in use is led to and stored well if it was before, and
--- a flush has at most 16 blocks more to place.
+-- a flush has at most 14 blocks more to place.
 pub record KeepsTable (old : Disk) (pool : Pool) (x : VolumeState) (new : Disk) (left : Pool) (y : VolumeState) : Type 0 where
   pub led : IsLedTo old pool x → IsLedTo new left y
   pub well : IsStoredWell old pool x → IsStoredWell new left y
-  pub room : pending_of y.files ≤ pending_of x.files + 16
+  pub room : pending_of y.files ≤ pending_of x.files + 14
