@@ -76,3 +76,4 @@ pub mod Others
 pub mod Openings
 pub mod NewStanding
 pub mod Reached
+mod Commanded

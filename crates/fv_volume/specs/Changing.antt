@@ -102,3 +102,13 @@ pub record KeepsTable (old : Disk) (pool : Pool) (x : VolumeState) (new : Disk) 
   pub led : IsLedTo old pool x → IsLedTo new left y
   pub well : IsStoredWell old pool x → IsStoredWell new left y
   pub room : pending_of y.files ≤ pending_of x.files + 14
+
+-- ---- commands
+
+-- A command changes a file of the volume of a name: `new` without a reserve, `put`, `cut` or `rm`.
+abbrev pub IsChangeOf : List ℕ → Command → Type 0
+IsChangeOf name (New v f reserve) = (v ≡ name) × (reserve ≡ 0)
+IsChangeOf name (Put v f i block) = v ≡ name
+IsChangeOf name (Cut v f length) = v ≡ name
+IsChangeOf name (Remove v f) = v ≡ name
+IsChangeOf name command = ⊥

@@ -144,7 +144,7 @@ pub(crate) fn admit_change(
 }
 
 /// Whether a write is accepted, of which file, and how the ledger changes by it.
-fn judge_put<D: Disk>(
+pub(crate) fn judge_put<D: Disk>(
     volume: &mut VolumeState,
     alloc: Global,
     pool: &mut Pool,

@@ -9,6 +9,7 @@ mod cells;
 mod changing;
 mod fault;
 mod giving;
+mod judging;
 mod kept;
 mod label;
 mod lent_changes;

@@ -77,7 +77,7 @@ impl VolumeState {
 }
 
 /// Whether a new file is accepted, and how the ledger changes by it.
-fn judge_new<D: Disk>(
+pub(crate) fn judge_new<D: Disk>(
     volume: &mut VolumeState,
     alloc: Global,
     pool: &mut Pool,

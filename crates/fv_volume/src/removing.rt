@@ -118,7 +118,7 @@ impl VolumeState {
 }
 
 /// Whether a cut is accepted, and of which file.
-fn judge_cut<D: Disk>(
+pub(crate) fn judge_cut<D: Disk>(
     volume: &mut VolumeState,
     alloc: Global,
     pool: &mut Pool,
@@ -154,7 +154,7 @@ fn judge_cut<D: Disk>(
 }
 
 /// Whether the removal of a file is accepted, and of which file.
-fn judge_removal<D: Disk>(
+pub(crate) fn judge_removal<D: Disk>(
     volume: &mut VolumeState,
     alloc: Global,
     pool: &mut Pool,

@@ -23,7 +23,10 @@ impl VolumeState {
         ensures free { HasRoom pool.now.map self.entry.now.map result }
         ensures exact { result ≡ min (min (free_blocks pool.now.map) (pending_of self.entry.now.files + 1)) (free_numbers self.entry.now.map) }
     {
-        let blocks = least(pool.map.free_count(), pending_in(&self.files).saturating_add(1));
+        let blocks = least(
+            pool.map.free_count(),
+            pending_in(&self.files).saturating_add(1),
+        );
         count_free(&self.map, self.span, blocks)
     }
 }

@@ -42,8 +42,12 @@ returns-clause-drops g c =
 
 pub returns-clause-calls : goal.returns-clause-calls
 returns-clause-calls g c =
-    let self = c.args.self.now in
-    (refl, refl, refl, record {
-      goes = goes_dropped self.pool.now self.map.now c.drop_number.new.map (g.D.Disk.shown self.disk.now) 0 self.home self.room self.strays c.drop_number.new.strays self.noted c.args.vvbn c.drop_number.ensures.valid c.drop_number.ensures.released;
-      noted = inl refl;
-    })
+    let self = c.args.self.now in (
+      refl,
+      refl,
+      refl,
+      record {
+        goes = goes_dropped self.pool.now self.map.now c.drop_number.new.map (g.D.Disk.shown self.disk.now) 0 self.home self.room self.strays c.drop_number.new.strays self.noted c.args.vvbn c.drop_number.ensures.valid c.drop_number.ensures.released;
+        noted = inl refl;
+      },
+    )
