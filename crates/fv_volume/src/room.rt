@@ -9,7 +9,6 @@ ghost use Rattle.fv_volume.specs.Placing.{pending_of};
 use crate::blocks::is_taken;
 use crate::pool::Pool;
 use crate::state::VolumeState;
-use fv_files::Files;
 use fv_volmap::VolMap;
 
 impl VolumeState {
@@ -23,21 +22,8 @@ impl VolumeState {
         ensures free { HasRoom pool.now.map self.entry.now.map result }
         ensures exact { result ≡ min (min (free_blocks pool.now.map) (pending_of self.entry.now.files + 1)) (free_numbers self.entry.now.map) }
     {
-        let blocks = least(
-            pool.map.free_count(),
-            pending_in(&self.files).saturating_add(1),
-        );
+        let blocks = least(pool.map.free_count(), self.pending().saturating_add(1));
         count_free(&self.map, self.span, blocks)
-    }
-}
-
-/// How many blocks a flush of these files places at most, or 2^64 - 1 where that is less.
-fn pending_in(files: &Option<Files>) -> u64
-    ensures { result ≡ min (pending_of files.now) (2 ^ 64 - 1) }
-{
-    match files {
-        None => 0,
-        Some(files) => files.pending(),
     }
 }
 
