@@ -52,7 +52,7 @@ returns-in_err-consistency_point-clause-still g c =
     let lacks = c.in_err-consistency_point.ensures in
     let failed : c.from_residual-in_err-consistency_point.result ≡ Err (of_block c.in_err-consistency_point.field-0.0) = search rules in
     subst (λ (r : Result Unit VolumeFault). OnErr r (¬ Rose (g.D.Disk.shown c.args.disk.now).write_faults (g.D.Disk.shown c.consistency_point.new.disk).write_faults
-        → StillHeld (g.D.Disk.shown c.args.disk.now) c.args.pool.now c.args.volumes.now (g.D.Disk.shown c.consistency_point.new.disk) c.consistency_point.new.pool c.consistency_point.new.volumes)) (sym failed)
+    → StillHeld (g.D.Disk.shown c.args.disk.now) c.args.pool.now c.args.volumes.now (g.D.Disk.shown c.consistency_point.new.disk) c.consistency_point.new.pool c.consistency_point.new.volumes)) (sym failed)
     (still_after (g.D.Disk.shown c.args.disk.now) c.args.pool.now c.args.volumes.now (g.D.Disk.shown c.args.disk.now) c.flush.new.pool c.flush.new.volumes did.placed g.D.Disk.shown c.args.disk.now c.consistency_point.new.disk refl did.ready did.stands
     c.consistency_point.new.pool c.consistency_point.new.volumes c.in_err-consistency_point.field-0.0 lacks.calm lacks.lacking lacks.counts.write_cause)
 
