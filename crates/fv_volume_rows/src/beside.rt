@@ -54,15 +54,27 @@ fn count(seen: &mut [u32; 17], reply: &Reply) {
     }
 }
 
+/// Whether two replies have one line.
+fn have_one_line(alloc: Global, first: &Reply, second: &Reply) -> Result<bool, Wrong> {
+    let first = line_of(alloc, first)?;
+    let second = line_of(alloc, second)?;
+    Ok(first.as_slice() == second.as_slice())
+}
+
+/// Whether two replies are equal.
+fn are_equal(alloc: Global, first: &Reply, second: &Reply) -> Result<bool, Wrong> {
+    match (first, second) {
+        (Reply::Done, Reply::Done) => Ok(true),
+        (Reply::Content(left), Reply::Content(right)) => Ok(left == right),
+        _ => have_one_line(alloc, first, second),
+    }
+}
+
 /// Whether the volumes answer a command as the machine does.
 pub(crate) fn agrees(pair: &mut Pair, command: &Command) -> Result<bool, Wrong> {
     let alloc = pair.opened.alloc;
     let (reply, wanted) = replies(pair, command)?;
-    Ok(match (&reply, &wanted) {
-        (Reply::Done, Reply::Done) => true,
-        (Reply::Content(left), Reply::Content(right)) => left == right,
-        _ => line_of(alloc, &reply)?.as_slice() == line_of(alloc, &wanted)?.as_slice(),
-    })
+    are_equal(alloc, &reply, &wanted)
 }
 
 /// What a line that says no command is refused for.
@@ -73,16 +85,25 @@ fn refused(fault: LineFault) -> Reply {
     }
 }
 
+/// Whether a reply has this line, told without its end.
+fn is_told(alloc: Global, reply: &Reply, wanted: &[u8]) -> Result<bool, Wrong> {
+    let line = line_of(alloc, reply)?;
+    Ok(is_line(line.as_slice(), wanted))
+}
+
+/// Whether a command is answered by the volumes and by the machine with this reply.
+fn answers_command(pair: &mut Pair, command: &Command, wanted: &[u8]) -> Result<bool, Wrong> {
+    let alloc = pair.opened.alloc;
+    let (first, second) = replies(pair, command)?;
+    Ok(is_told(alloc, &first, wanted)? && is_told(alloc, &second, wanted)?)
+}
+
 /// Whether a line is answered by the volumes and by the machine with this reply, told without its end.
 pub(crate) fn answers(pair: &mut Pair, line: &[u8], wanted: &[u8]) -> Result<bool, Wrong> {
-    let alloc = pair.opened.alloc;
-    let (first, second) = match read_line(line) {
-        Ok(command) => replies(pair, &command)?,
-        Err(fault) => (refused(fault), refused(fault)),
-    };
-    let first = line_of(alloc, &first)?;
-    let second = line_of(alloc, &second)?;
-    Ok(is_line(first.as_slice(), wanted) && is_line(second.as_slice(), wanted))
+    match read_line(line) {
+        Ok(command) => answers_command(pair, &command, wanted),
+        Err(fault) => is_told(pair.opened.alloc, &refused(fault), wanted),
+    }
 }
 
 /// Whether a line is these bytes and a line end.
@@ -112,17 +133,12 @@ pub(crate) fn tells(alloc: Global, rows: &[Row]) -> Result<(), Wrong> {
     walk(&mut pair, rows)
 }
 
-/// The command of a line.
-pub(crate) fn command(line: &[u8]) -> Result<Command, Wrong> {
-    match read_line(line) {
-        Ok(command) => Ok(command),
-        Err(_) => Err(Wrong::Row),
-    }
-}
-
 /// Whether the volumes answer a line as the machine does.
 fn agrees_on(pair: &mut Pair, line: &[u8]) -> Result<bool, Wrong> {
-    agrees(pair, &command(line)?)
+    match read_line(line) {
+        Ok(command) => agrees(pair, &command),
+        Err(_) => Err(Wrong::Row),
+    }
 }
 
 /// Whether the volumes answer lines as the machine does, one after the other.

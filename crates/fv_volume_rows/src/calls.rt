@@ -22,30 +22,53 @@ const MOST: u64 = 4_611_686_018_427_387_904;
 
 /// What a command is answered, refusals among it: making a volume, or a call of one volume.
 pub(crate) fn apply(opened: &mut Opened, command: &Command) -> Result<Reply, VolumeFault> {
-    let reply = match command {
-        Command::VolCreate { volume, size, kind } => create(opened, volume, *size, *kind),
-        _ => ask(opened, command),
-    };
-    match reply {
+    let alloc = opened.alloc;
+    let volumes = &mut opened.volumes;
+    let pool = &mut opened.pool;
+    match answer(volumes, alloc, pool, &mut opened.disk, command) {
         Err(VolumeFault::Refused(refusal)) => Ok(Reply::Refused(refusal)),
-        _ => reply,
+        Err(fault) => Err(fault),
+        Ok(reply) => Ok(reply),
+    }
+}
+
+/// What volumes answer to a command.
+fn answer<D: Disk>(
+    volumes: &mut Volumes,
+    alloc: Global,
+    pool: &mut Pool,
+    disk: &mut D,
+    command: &Command,
+) -> Result<Reply, VolumeFault>
+    requires held { AreHeld (D.shown disk.old) pool.old volumes.old }
+    ensures held { AreHeld (D.shown disk.new) pool.new volumes.new }
+{
+    match command {
+        Command::VolCreate { volume, size, kind } => {
+            create(volumes, pool, disk, volume, *size, *kind)
+        }
+        _ => ask(volumes, alloc, pool, disk, command),
     }
 }
 
 /// Makes a volume where it is admitted.
-fn create(opened: &mut Opened, name: &Name, size: u32, kind: Kind) -> Result<Reply, VolumeFault> {
-    let blocks = opened.pool.found.blocks;
-    match opened.volumes.admit(blocks, name, size, kind) {
+fn create<D: Disk>(
+    volumes: &mut Volumes,
+    pool: &mut Pool,
+    disk: &mut D,
+    name: &Name,
+    size: u32,
+    kind: Kind,
+) -> Result<Reply, VolumeFault>
+    requires held { AreHeld (D.shown disk.old) pool.old volumes.old }
+    ensures held { AreHeld (D.shown disk.new) pool.new volumes.new }
+{
+    match volumes.admit(pool.found.blocks, name, size, kind) {
         Err(refusal) => Err(VolumeFault::Refused(refusal)),
-        Ok(admitted) => {
-            let made = opened
-                .volumes
-                .create(&mut opened.pool, name, size, kind, admitted);
-            match made {
-                Ok(_) => Ok(Reply::Done),
-                Err(_) => Err(VolumeFault::Memory),
-            }
-        }
+        Ok(admitted) => match volumes.create(pool, name, size, kind, admitted) {
+            Ok(_) => Ok(Reply::Done),
+            Err(_) => Err(VolumeFault::Memory),
+        },
     }
 }
 
@@ -65,24 +88,24 @@ fn volume_of(command: &Command) -> Option<&Name> {
 }
 
 /// What the volume of a command answers.
-fn ask(opened: &mut Opened, command: &Command) -> Result<Reply, VolumeFault> {
+fn ask<D: Disk>(
+    volumes: &mut Volumes,
+    alloc: Global,
+    pool: &mut Pool,
+    disk: &mut D,
+    command: &Command,
+) -> Result<Reply, VolumeFault>
+    requires held { AreHeld (D.shown disk.old) pool.old volumes.old }
+    ensures held { AreHeld (D.shown disk.new) pool.new volumes.new }
+{
     let Some(name) = volume_of(command) else {
         return Err(VolumeFault::Refused(Refusal::Syntax));
     };
-    let Some(slot) = opened.volumes.find(name) else {
+    let Some(slot) = volumes.find(name) else {
         return Err(VolumeFault::Refused(Refusal::NoVolume));
     };
-    let others = commits_beside(&opened.volumes, slot);
-    let alloc = opened.alloc;
-    on_volume(
-        &mut opened.volumes,
-        slot,
-        alloc,
-        &mut opened.pool,
-        &mut opened.disk,
-        others,
-        command,
-    )
+    let others = commits_beside(volumes, slot);
+    on_volume(volumes, slot, alloc, pool, disk, others, command)
 }
 
 /// What the volume of a slot answers.

@@ -1,12 +1,14 @@
 //! Each read of a command failing in turn, over images with files: the volume then stands for what it stood for, and the same
 //! command goes through.
 
-use crate::beside::{Pair, agree_on, command};
+use crate::beside::{Pair, agree_on};
 use crate::calls::apply;
 use crate::images::{LAID, Laid, laid};
-use crate::opened::{Part, fail_read, host_of, open};
+use crate::opened::{Opened, Part, fail_read, host_of, open};
 use crate::wrong::Wrong;
 use fv_memdisk::Call;
+use fv_model::Command;
+use fv_script::read_line;
 use fv_volume::VolumeFault;
 use std::alloc::Global;
 use std::test::Fail;
@@ -40,29 +42,62 @@ fn opening_reads(alloc: Global, parts: &[Part]) -> Result<u64, Wrong> {
     Err(Wrong::Row)
 }
 
-/// The volumes of an image after a line whose read of a number failed; `None` where the line doesn't make that read.
-fn failed(alloc: Global, image: &Laid, line: &[u8], nth: u64) -> Result<Option<Pair>, Wrong> {
-    let mut pair = laid(alloc, image)?;
-    fail_read(&mut pair.opened, nth)?;
-    match apply(&mut pair.opened, &command(line)?) {
-        Err(VolumeFault::DiskFault) => Ok(Some(pair)),
+/// Whether a read fails in a command.
+fn fails_in(opened: &mut Opened, command: &Command) -> Result<bool, Wrong> {
+    match apply(opened, command) {
+        Err(VolumeFault::DiskFault) => Ok(true),
         Err(fault) => Err(Wrong::Fault(fault)),
-        Ok(_) => Ok(None),
+        Ok(_) => Ok(false),
     }
+}
+
+/// Whether a read fails in the command of a line.
+fn fails(opened: &mut Opened, line: &[u8]) -> Result<bool, Wrong> {
+    match read_line(line) {
+        Ok(command) => fails_in(opened, &command),
+        Err(_) => Err(Wrong::Row),
+    }
+}
+
+/// Whether a line makes the read of a number, which fails. The volumes then answer the line as the machine does, and agree with it.
+fn goes_through(pair: &mut Pair, line: &[u8], nth: u64) -> Result<bool, Wrong> {
+    fail_read(&mut pair.opened, nth)?;
+    if !fails(&mut pair.opened, line)? {
+        return Ok(false);
+    }
+    agree_on(pair, &[line])?;
+    agree_on(pair, &ASKED)?;
+    Ok(true)
+}
+
+/// Wants a line whose read of a number fails to leave the volumes as they were.
+fn stays(pair: &mut Pair, line: &[u8], nth: u64) -> Result<(), Wrong> {
+    fail_read(&mut pair.opened, nth)?;
+    if !fails(&mut pair.opened, line)? {
+        return Err(Wrong::Row);
+    }
+    agree_on(pair, &ASKED)
+}
+
+/// The first over the volumes of an image.
+fn goes_through_over(alloc: Global, image: &Laid, line: &[u8], nth: u64) -> Result<bool, Wrong> {
+    let mut pair = laid(alloc, image)?;
+    goes_through(&mut pair, line, nth)
+}
+
+/// The second over the volumes of an image.
+fn stays_over(alloc: Global, image: &Laid, line: &[u8], nth: u64) -> Result<(), Wrong> {
+    let mut pair = laid(alloc, image)?;
+    stays(&mut pair, line, nth)
 }
 
 /// Whether a line makes the read of a number, which fails. The volumes answer the line as the machine does once it goes through,
 /// and agree with it, then and before.
 fn fails_at(alloc: Global, image: &Laid, line: &[u8], nth: u64) -> Result<bool, Wrong> {
-    let Some(mut pair) = failed(alloc, image, line, nth)? else {
+    if !goes_through_over(alloc, image, line, nth)? {
         return Ok(false);
-    };
-    agree_on(&mut pair, &[line])?;
-    agree_on(&mut pair, &ASKED)?;
-    let Some(mut before) = failed(alloc, image, line, nth)? else {
-        return Err(Wrong::Row);
-    };
-    agree_on(&mut before, &ASKED)?;
+    }
+    stays_over(alloc, image, line, nth)?;
     Ok(true)
 }
 
@@ -106,8 +141,15 @@ fn each_read_fails_in_turn(rt: HostRuntime) -> Result<(), Fail> {
     Ok(())
 }
 
-/// Whether a block that was read makes no read when it is read again, while the first read of another line fails: of the reads up
-/// to there, `count` are the line's own.
+/// Whether a line that was answered makes no read when it is answered twice again, while the read of a number, which is the next one,
+/// fails: it does so in another line.
+fn reads_no_more(pair: &mut Pair, next: u64, line: &[u8], cold: &[u8]) -> Result<bool, Wrong> {
+    fail_read(&mut pair.opened, next)?;
+    agree_on(pair, &[line, line, line])?;
+    fails(&mut pair.opened, cold)
+}
+
+/// The same over the volumes of an image, where the line makes `count` reads the first time.
 fn is_warm(
     alloc: Global,
     image: &Laid,
@@ -117,10 +159,7 @@ fn is_warm(
 ) -> Result<bool, Wrong> {
     let first = opening_reads(alloc, image.0)?;
     let mut pair = laid(alloc, image)?;
-    fail_read(&mut pair.opened, first.saturating_add(count))?;
-    agree_on(&mut pair, &[line, line, line])?;
-    let reply = apply(&mut pair.opened, &command(cold)?);
-    Ok(matches!(reply, Err(VolumeFault::DiskFault)))
+    reads_no_more(&mut pair, first.saturating_add(count), line, cold)
 }
 
 #[test]

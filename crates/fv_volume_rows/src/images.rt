@@ -1,11 +1,12 @@
 //! Images with files that another implementation wrote: they are read, changed and read again.
 
-use crate::beside::{Pair, Row, command, walk};
+use crate::beside::{Pair, Row, walk};
 use crate::opened::{Part, host_of, open};
 use crate::random::{VOLUMES, run};
 use crate::wrong::Wrong;
 use fv_model::Command;
 use fv_reference::Machine;
+use fv_script::read_line;
 use std::alloc::Global;
 use std::test::Fail;
 
@@ -146,19 +147,28 @@ fn apply_to(alloc: Global, machine: &mut Machine, command: &Command) -> Result<(
 
 /// Applies a line to a machine.
 fn lead(alloc: Global, machine: &mut Machine, line: &[u8]) -> Result<(), Wrong> {
-    apply_to(alloc, machine, &command(line)?)
+    match read_line(line) {
+        Ok(command) => apply_to(alloc, machine, &command),
+        Err(_) => Err(Wrong::Row),
+    }
+}
+
+/// Applies lines to a machine, one after the other.
+fn lead_on(alloc: Global, machine: &mut Machine, lines: &[&[u8]]) -> Result<(), Wrong> {
+    for line in lines {
+        lead(alloc, machine, line)?;
+    }
+    Ok(())
 }
 
 /// The volumes of an image, and their machine.
 pub(crate) fn laid(alloc: Global, laid: &Laid) -> Result<Pair, Wrong> {
     let (parts, lines) = laid;
-    let host = host_of(alloc, parts)?;
     let mut machine = Machine::new(alloc, 1024);
-    for line in *lines {
-        lead(alloc, &mut machine, line)?;
-    }
+    lead_on(alloc, &mut machine, lines)?;
+    let opened = open(alloc, host_of(alloc, parts)?)?;
     Ok(Pair {
-        opened: open(alloc, host)?,
+        opened,
         machine,
         seen: [0; 17],
     })
@@ -238,11 +248,16 @@ fn images_are_read_and_changed(rt: HostRuntime) -> Result<(), Fail> {
     Ok(())
 }
 
+/// Makes the other volumes beside that of an image, and applies random commands to all.
+fn go_on(pair: &mut Pair, seed: u64) -> Result<(), Wrong> {
+    walk(pair, &VOLUMES[1..3])?;
+    run(pair, seed, 300)
+}
+
 /// Random commands where the first volume is that of an image.
 fn on_image(alloc: Global, image: &Laid, seed: u64) -> Result<(), Wrong> {
     let mut pair = laid(alloc, image)?;
-    walk(&mut pair, &VOLUMES[1..3])?;
-    run(&mut pair, seed, 300)
+    go_on(&mut pair, seed)
 }
 
 #[test]

@@ -113,20 +113,25 @@ fn put_next(pair: &mut Pair, index: u32) -> Result<(), Wrong> {
     agree(pair, index, &put(&name(b"t")?, &name(b"f")?, index, 1))
 }
 
-/// Fills an aggregate.
-fn fill(alloc: Global) -> Result<(), Wrong> {
-    let mut pair = new_pair(alloc, 1024)?;
-    walk(&mut pair, &SIX_VOLUMES)?;
+/// Fills an aggregate of 1024 blocks.
+fn fill(pair: &mut Pair) -> Result<(), Wrong> {
+    walk(pair, &SIX_VOLUMES)?;
     for index in 0..19 {
-        put_next(&mut pair, index)?;
+        put_next(pair, index)?;
     }
-    walk(&mut pair, &FULL_AGGREGATE)
+    walk(pair, &FULL_AGGREGATE)
+}
+
+/// A new aggregate that is filled.
+fn full(alloc: Global) -> Result<(), Wrong> {
+    let mut pair = new_pair(alloc, 1024)?;
+    fill(&mut pair)
 }
 
 #[test]
 fn tall_and_full(rt: HostRuntime) -> Result<(), Fail> {
     assert_eq!(rt; tells(rt.alloc(), &TALL), Ok(()));
-    assert_eq!(rt; fill(rt.alloc()), Ok(()));
+    assert_eq!(rt; full(rt.alloc()), Ok(()));
     Ok(())
 }
 
@@ -193,27 +198,39 @@ fn remove_files(pair: &mut Pair, volume: &Name, count: u32) -> Result<(), Wrong>
     Ok(())
 }
 
-/// Whether both list the same names and tell the same numbers.
-fn agree_on_volume(pair: &mut Pair, volume: &Name) -> Result<(), Wrong> {
-    let listed = Command::Ls {
-        volume: *volume,
-        snapshot: None,
-    };
-    agree(pair, 0, &listed)?;
-    agree(pair, 1, &Command::VolStat { volume: *volume })
+/// Whether both list the same names.
+fn agree_on_names(pair: &mut Pair, volume: Name) -> Result<(), Wrong> {
+    let snapshot = None;
+    agree(pair, 0, &Command::Ls { volume, snapshot })
 }
 
-/// A volume with 300 files, of which a third goes and others come.
+/// Whether both tell the same numbers.
+fn agree_on_numbers(pair: &mut Pair, volume: Name) -> Result<(), Wrong> {
+    agree(pair, 1, &Command::VolStat { volume })
+}
+
+/// Whether both list the same names and tell the same numbers.
+fn agree_on_volume(pair: &mut Pair, volume: &Name) -> Result<(), Wrong> {
+    agree_on_names(pair, *volume)?;
+    agree_on_numbers(pair, *volume)
+}
+
+/// A volume gets 300 files, of which a third goes and others come.
+fn change_many(pair: &mut Pair) -> Result<(), Wrong> {
+    walk(pair, &[(b"vol create a 600 none", b"ok")])?;
+    let volume = name(b"a")?;
+    make_files(pair, &volume, 0, 300)?;
+    agree_on_volume(pair, &volume)?;
+    remove_files(pair, &volume, 300)?;
+    agree_on_volume(pair, &volume)?;
+    make_files(pair, &volume, 300, 350)?;
+    agree_on_volume(pair, &volume)
+}
+
+/// The same in a new aggregate.
 fn many(alloc: Global) -> Result<(), Wrong> {
     let mut pair = new_pair(alloc, 1024)?;
-    walk(&mut pair, &[(b"vol create a 600 none", b"ok")])?;
-    let volume = name(b"a")?;
-    make_files(&mut pair, &volume, 0, 300)?;
-    agree_on_volume(&mut pair, &volume)?;
-    remove_files(&mut pair, &volume, 300)?;
-    agree_on_volume(&mut pair, &volume)?;
-    make_files(&mut pair, &volume, 300, 350)?;
-    agree_on_volume(&mut pair, &volume)
+    change_many(&mut pair)
 }
 
 #[test]

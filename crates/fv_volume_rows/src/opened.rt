@@ -2,6 +2,7 @@
 
 ghost use Rattle.std.specs.Prelude.{IfOk};
 ghost use Rattle.fv_root.specs.Finding.{IsInRange};
+ghost use Rattle.fv_volume_rows.specs.Held.{AreHeld};
 
 use crate::wrong::Wrong;
 use fv_disk::{Block, Disk};
@@ -32,11 +33,19 @@ impl Model for Opened {
     ghost invariant = { λ o. AreHeld (shown_of o.disk) o.pool o.volumes };
 }
 
+/// What the volumes of the aggregate that a disk holds share, and the volumes.
+fn read<D: Disk>(alloc: Global, disk: &mut D) -> Result<(Pool, Volumes), Wrong>
+    ensures held { IfOk result (λ opened. AreHeld (D.shown disk.new) opened.0 opened.1) }
+{
+    let found = root_of(disk)?;
+    let mut pool = Pool::open(alloc, disk, found)?;
+    let volumes = Volumes::open(alloc, &mut pool, disk)?;
+    Ok((pool, volumes))
+}
+
 /// The volumes of the aggregate that a disk holds.
 pub(crate) fn open(alloc: Global, mut disk: MemHost) -> Result<Opened, Wrong> {
-    let found = root_of(&mut disk)?;
-    let mut pool = Pool::open(alloc, &mut disk, found)?;
-    let volumes = Volumes::open(alloc, &mut pool, &mut disk)?;
+    let (pool, volumes) = read(alloc, &mut disk)?;
     Ok(Opened {
         alloc,
         disk,

@@ -97,12 +97,22 @@ fn command(state: &mut u64) -> Result<Command, Wrong> {
     }
 }
 
-/// Whether both tell the same numbers and names of a volume.
+/// Whether both tell the same names of a volume.
+fn agree_on_names(pair: &mut Pair, volume: Name) -> Result<bool, Wrong> {
+    let snapshot = None;
+    agrees(pair, &Command::Ls { volume, snapshot })
+}
+
+/// Whether both tell the same numbers of a volume.
+fn agree_on_numbers(pair: &mut Pair, volume: Name) -> Result<bool, Wrong> {
+    agrees(pair, &Command::VolStat { volume })
+}
+
+/// Whether both tell the same of a volume.
 fn agree_on_volume(pair: &mut Pair, word: &[u8]) -> Result<bool, Wrong> {
     let volume = name(word)?;
-    let snapshot = None;
-    let numbers = agrees(pair, &Command::VolStat { volume })?;
-    let names = agrees(pair, &Command::Ls { volume, snapshot })?;
+    let names = agree_on_names(pair, volume)?;
+    let numbers = agree_on_numbers(pair, volume)?;
     Ok(numbers && names)
 }
 
@@ -116,11 +126,14 @@ fn agree_on_volumes(pair: &mut Pair) -> Result<bool, Wrong> {
 
 /// Whether both answer the next command alike.
 fn agrees_next(pair: &mut Pair, state: &mut u64) -> Result<bool, Wrong> {
-    agrees(pair, &command(state)?)
+    match command(state) {
+        Ok(command) => agrees(pair, &command),
+        Err(wrong) => Err(wrong),
+    }
 }
 
 /// Applies the next command to both, and places what changed in a volume now and then. Whether the replies are equal.
-fn step(pair: &mut Pair, state: &mut u64, number: usize) -> Result<bool, Wrong> {
+fn step(pair: &mut Pair, state: &mut u64, number: u32) -> Result<bool, Wrong> {
     let mut same = agrees_next(pair, state)?;
     if number % 40 == 13 {
         flush(&mut pair.opened, (next(state) % 3) as u8)?;
@@ -133,11 +146,11 @@ fn step(pair: &mut Pair, state: &mut u64, number: usize) -> Result<bool, Wrong> 
 }
 
 /// Applies so many commands to both, with equal replies.
-pub(crate) fn run(pair: &mut Pair, seed: u64, count: usize) -> Result<(), Wrong> {
+pub(crate) fn run(pair: &mut Pair, seed: u64, count: u32) -> Result<(), Wrong> {
     let mut state = seed;
     for number in 0..count {
         if !step(pair, &mut state, number)? {
-            return Err(Wrong::Differs(number));
+            return Err(Wrong::Differs(number as usize));
         }
     }
     Ok(())
@@ -149,12 +162,17 @@ fn saw_refusals(pair: &Pair) -> bool {
     seen[0] > 0 && seen[4] > 0 && seen[5] > 0 && seen[8] > 0 && seen[9] > 0 && seen[10] > 0
 }
 
-/// Random commands on new volumes.
+/// Random commands on volumes of each kind. Whether each refusal was seen.
+fn go(pair: &mut Pair) -> Result<bool, Wrong> {
+    walk(pair, &VOLUMES)?;
+    run(pair, 7, 1000)?;
+    Ok(saw_refusals(pair))
+}
+
+/// The same in a new aggregate.
 fn on_new_volumes(alloc: Global) -> Result<bool, Wrong> {
     let mut pair = new_pair(alloc, 1024)?;
-    walk(&mut pair, &VOLUMES)?;
-    run(&mut pair, 7, 1000)?;
-    Ok(saw_refusals(&pair))
+    go(&mut pair)
 }
 
 #[test]

@@ -99,6 +99,43 @@ const GONE: [Row; 12] = [
     ),
 ];
 
+/// Each line could be refused for several causes, and is for the first of them.
+const ORDER: [Row; 30] = [
+    (b"vol create a 4 volume", b"ok"),
+    (b"new a f", b"ok"),
+    (b"put a f 0 01", b"ok"),
+    (b"put a f 1 02", b"ok"),
+    (
+        b"vol stat a",
+        b"size 4 used 4 need 0 commit 44 kind volume clean yes",
+    ),
+    (b"vol create a 0 volume", b"err 10 number out of range"),
+    (b"vol create a 1000 volume", b"err 3 volume exists"),
+    (b"new b f 2097153", b"err 10 number out of range"),
+    (b"new b f 1", b"err 2 no such volume"),
+    (b"new a f 1", b"err 5 file exists"),
+    (b"new a g 1", b"err 16 kind doesn't fit"),
+    (b"put b g 2097152 03", b"err 10 number out of range"),
+    (b"put b g 2 03", b"err 2 no such volume"),
+    (b"put a g 2 03", b"err 4 no such file"),
+    (b"put a f 2 03", b"err 8 volume full"),
+    (b"get b@s g 2097152", b"err 10 number out of range"),
+    (b"get b@s g 9", b"err 2 no such volume"),
+    (b"get a@s g 9", b"err 6 no such snapshot"),
+    (b"get a g 9", b"err 4 no such file"),
+    (b"get a f 9", b"err 10 number out of range"),
+    (b"len b@s g", b"err 2 no such volume"),
+    (b"len a@s g", b"err 6 no such snapshot"),
+    (b"cut b g 2097153", b"err 10 number out of range"),
+    (b"cut b g 9", b"err 2 no such volume"),
+    (b"cut a g 9", b"err 4 no such file"),
+    (b"cut a f 9", b"err 10 number out of range"),
+    (b"rm b g", b"err 2 no such volume"),
+    (b"ls b@s", b"err 2 no such volume"),
+    (b"get a f 0", b"01"),
+    (b"get a f 1", b"02"),
+];
+
 /// A volume of four blocks fills, refuses, and goes on.
 const FULL_VOLUME: [Row; 14] = [
     (b"vol create a 4 volume", b"ok"),
@@ -141,6 +178,7 @@ fn worked_rows(rt: HostRuntime) -> Result<(), Fail> {
     assert_eq!(rt; tells(rt.alloc(), &CONTENTS), Ok(()));
     assert_eq!(rt; tells(rt.alloc(), &HOLES), Ok(()));
     assert_eq!(rt; tells(rt.alloc(), &GONE), Ok(()));
+    assert_eq!(rt; tells(rt.alloc(), &ORDER), Ok(()));
     Ok(())
 }
 
