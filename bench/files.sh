@@ -3,8 +3,9 @@
 # `measure` runs under perf, or valgrind where there is no perf, with two numbers of calls, and the difference is divided by
 # their difference. The gets read a file of 300 blocks in turn, a million times (ten thousand under valgrind): blocks that are in
 # memory since they changed, and blocks that lie on the disk and are in the cache. Each get's block is compared whole with what was
-# put, which `look` costs alone, and none may call the disk. `put` writes ten thousand new blocks of a file, each with other content.
-# Last come the processor seconds of a million gets, by the clock, with the load of the machine. It builds the program on first use.
+# put, which `look` costs alone, and none may call the disk; valgrind counts what memory they take. `put` writes ten thousand new
+# blocks of a file, each with other content. Last come the processor seconds of a million gets, by the clock, with the load of the
+# machine. It builds the program on first use.
 set -eu
 top=$(cd "$(dirname "$(readlink -f "$0")")/.." && pwd)
 program=${PROGRAM:-$top/crates/measure/out/measure}
@@ -24,6 +25,10 @@ instructions() { # WORK TIMES
         valgrind --tool=callgrind --callgrind-out-file=/dev/null "$program" "$1" "$2" 2>&1 >/dev/null \
             | sed -n 's/.*Collected : //p'
     fi
+}
+
+allocations() { # WORK TIMES
+    valgrind --tool=memcheck --leak-check=no "$program" "$1" "$2" 2>&1 >/dev/null | sed -n 's/.*total heap usage: \([0-9,]*\) allocs.*/\1/p' | tr -d ,
 }
 
 cost() { # WORK FEW MANY
@@ -46,6 +51,9 @@ for work in get cached; do
     answers $work 1000000
     one=$(cost $work 100 $((gets + 100)))
     echo "$work: $((one - look)) instructions, and $look to look at the block, by $counter"
+    if command -v valgrind >/dev/null; then
+        echo "$work: 5000 gets more take $(($(allocations $work 5100) - $(allocations $work 100))) pieces of memory"
+    fi
 done
 echo "cold: 300 gets make $("$program" cold 300) calls of the disk"
 answers put 11000
