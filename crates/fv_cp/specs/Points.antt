@@ -85,3 +85,9 @@ pub record Counts (old new : Shown) (result : Result (Unit {0}) BlockFault) : Ty
   pub ends : new.ends ≡ old.ends
   pub cause : HasBlockCause old.faults new.faults result
   pub write_cause : HasBlockCause old.write_faults new.write_faults result
+
+-- what stays where a fault is answered that isn't one of the disk
+abbrev pub IsCalm : {T : Type 0} → T → T → BlockFault → Type 0
+IsCalm old new DiskFault = Unit {0}
+IsCalm old new (Damaged at want found) = new ≡ old
+IsCalm old new Memory = new ≡ old

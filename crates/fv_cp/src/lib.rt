@@ -3,7 +3,11 @@
 #![tactic(auto)]
 
 mod fault;
+mod full;
+mod placing;
 mod point;
 
 pub use fault::CpFault;
+pub use full::full_point;
+pub use placing::flush;
 pub use point::consistency_point;

@@ -17,7 +17,7 @@ ghost use Rattle.fv_volume.specs.Files.{IsLabelled};
 ghost use Rattle.fv_volume.specs.States.{state_at, with_state};
 ghost use Rattle.fv_volume.specs.Housed.{AreHoused, settled_as, settled_at};
 ghost use Rattle.fv_cp.specs.Lent.{AreKept, FitTogether, IsLent, asked_by, blocks_asked};
-ghost use Rattle.fv_cp.specs.Points.{Counts, GoesOn, IsPoint, IsSwitched, LacksRoom, LeavesAll, OldOrLent};
+ghost use Rattle.fv_cp.specs.Points.{Counts, GoesOn, IsCalm, IsPoint, IsSwitched, LacksRoom, LeavesAll, OldOrLent};
 ghost use Rattle.fv_volume.specs.Writing.{IsTaken, on_disk};
 ghost use Rattle.fv_cp.specs.Course.{GoesPast, HasCome};
 
@@ -33,8 +33,8 @@ const SLOTS: u8 = 64;
 
 /// Writes what changed in the volumes and makes a root count that names it, past the point's last barrier: the kept blocks are written
 /// to their places, then each volume that changed in the order of slots, to blocks that were free, and then the root is committed. The
-/// blocks of files stay where they are. A volume without changes isn't written. No file of a volume may be in memory: what changed there
-/// is placed before the call, and then waits among the kept blocks. `want` is the room in blocks that the event needs which asked for
+/// blocks of files stay where they are. A volume without changes isn't written. What changed of files in memory isn't either: `full_point`
+/// places it first, and then it waits among the kept blocks. `want` is the room in blocks that the event needs which asked for
 /// the point; so far a point gives all delayed blocks back whatever is wanted, so nothing depends on it.
 ///
 /// A crash at any moment leaves an image that stands for the machine of before or for that of the volumes lent, and after `Ok` the
@@ -63,6 +63,7 @@ pub fn consistency_point<D: Disk>(
     ensures goes_on { OnOk result (GoesOn (D.shown disk.old) pool.old volumes.old (D.shown disk.new) pool.new volumes.new) }
     ensures room { IfErr result (LacksRoom pool.old volumes.old) }
     ensures lacking { IfErr result (LeavesAll (D.shown disk.old) pool.old volumes.old (D.shown disk.new) pool.new volumes.new) }
+    ensures calm { IfErr result (IsCalm disk.old disk.new) }
     ensures counts { Counts (D.shown disk.old) (D.shown disk.new) result }
 {
     let asked = blocks_asked(volumes);

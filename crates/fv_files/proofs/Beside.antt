@@ -1,6 +1,8 @@
 -- Tables that stand on their blocks, where one tree changed: each other tree stands as before, and all lie apart.
 use Rattle.std.proofs.Common.{◌≡◌, ◌≢◌, ◌⊎◌, inl, inr, ℕ, true, arith, refl, sym, ap, subst, ◌∙◌, ⊎_elim}
-use Rattle.std.specs.Prelude.{Option, Some, None, is_some}
+use Rattle.std.specs.Prelude.{List, Option, Some, None, is_some}
+use Rattle.std.specs.Ordering.{nat_cmp}
+use Rattle.std.specs.FinMap as fin
 use Rattle.std.specs.Option.{option_map}
 use Rattle.std.proofs.lemmas.Bool.{cases_eq}
 use Rattle.fv_codec.specs.declared.inode.InodeRecord.{InodeRecord}
@@ -12,13 +14,14 @@ use Rattle.fv_tree.specs.declared.kept.Tree.{Tree}
 use Rattle.fv_tree.specs.Sources.{Shown, Use}
 use Rattle.fv_tree.specs.Standing.{standing, under}
 use Rattle.fv_tree.specs.Writing.{IsAlike}
-use Rattle.fv_tree.specs.Flushing.{Loaded, IsSound, loaded_over}
+use Rattle.fv_tree.specs.Flushing.{Loaded, Leads, IsSound, loaded_over}
 use Rattle.fv_tree.specs.Beside.{IsLaid, loaded_on, unread, LeadsTo, Spares}
 use Rattle.fv_tree.proofs.Beside.{tree_laid, unread_laid, unread_sound, other_alike, other_keeps, other_leads, other_sound, still_apart}
+use Rattle.fv_tree.proofs.Flushed.{none_some, some_none}
 use Rattle.fv_tree.proofs.Whole.{hole_reaches}
 use Rattle.fv_tree.proofs.Writes.{none_at}
 use Rattle.fv_files.specs.declared.files.Files.{Files}
-use Rattle.fv_files.specs.Apart.{Trees, LeadsIn, LeadsFrom, StandsIn, AreApart, AreLed}
+use Rattle.fv_files.specs.Apart.{Trees, LeadsAny, LeadsIn, LeadsFrom, StandsIn, AreApart, AreLed}
 use Rattle.fv_files.specs.Tables.{tree_in, file_loaded, loaded_trees}
 
 -- ---- numbers of trees
@@ -50,7 +53,7 @@ abbrev pub IsBare : Option Loaded → Type 0
 IsBare None = Unit {0}
 IsBare (Some s) = (t : Rooted) × (s ≡ unread t) × (t.root.stamp ≡ 0) × ((level place : ℕ) → t.nodes level place ≡ None)
 
-bare_leads : (o : Option Loaded) → IsBare o → (v : ℕ) → LeadsIn o v → ⊥
+pub bare_leads : (o : Option Loaded) → IsBare o → (v : ℕ) → LeadsIn o v → ⊥
 bare_leads None bare v led = led
 bare_leads (Some s) bare v led = none (subst (λ (q : Loaded). LeadsTo q v) bare.1 led)
   where
@@ -78,19 +81,19 @@ unread_leads blocks t s is v led = record {
 }
 
 -- and from its blocks where it led
-pub reread_leads : (blocks : Under) (t : Tree) (owner levels : ℕ) (root : Pointer) → standing blocks t ≡ stored blocks owner levels root → (v : ℕ) → LeadsTo (unread (stored blocks owner levels root)) v → LeadsTo (loaded_over blocks t) v
-reread_leads blocks t owner levels root is v led = record {
-  level = led.level;
-  place = led.place;
-  leads = record {
-    some = subst (λ (s : Rooted). (pointer_at s led.level led.place).stamp ≢ 0) (sym is) led.leads.some;
+module _ (blocks : Under) (t : Tree) (owner levels : ℕ) (root : Pointer) (is : standing blocks t ≡ stored blocks owner levels root) where
+  pub reread_led : (level place v : ℕ) → Leads (unread (stored blocks owner levels root)) level place v → Leads (loaded_over blocks t) level place v
+  reread_led level place v led = record {
+    some = subst (λ (s : Rooted). (pointer_at s level place).stamp ≢ 0) (sym is) led.some;
     placed = ⊎_elim
-        (λ (low : led.level ≡ 0). ap (λ k. (loaded_over blocks t).placed k led.place) low ∙ (tree_laid blocks t).cells led.place (ap (λ (s : Rooted). s.cells led.place) is))
-        (λ (high : led.level ≢ 0). (tree_laid blocks t).nodes led.level led.place (omega (arith, high)) (ap (λ (s : Rooted). s.nodes led.level led.place) is))
-        (cases_eq led.level 0);
-    vvbn = subst (λ (s : Rooted). (pointer_at s led.level led.place).vvbn ≡ v) (sym is) led.leads.vvbn;
-  };
-}
+        (λ (low : level ≡ 0). ap (λ k. (loaded_over blocks t).placed k place) low ∙ (tree_laid blocks t).cells place (ap (λ (s : Rooted). s.cells place) is))
+        (λ (high : level ≢ 0). (tree_laid blocks t).nodes level place (omega (arith, high)) (ap (λ (s : Rooted). s.nodes level place) is))
+        (cases_eq level 0);
+    vvbn = subst (λ (s : Rooted). (pointer_at s level place).vvbn ≡ v) (sym is) led.vvbn;
+  }
+
+  pub reread_leads : (v : ℕ) → LeadsTo (unread (stored blocks owner levels root)) v → LeadsTo (loaded_over blocks t) v
+  reread_leads v led = record { level = led.level; place = led.place; leads = reread_led led.level led.place v led.leads }
 
 pub trees_laid : (blocks : Under) (f : Files) (a : Option ℕ) → IsLaidIn blocks (loaded_trees blocks f a)
 trees_laid blocks f None = (refl, tree_laid blocks f.inode.tree)
@@ -127,6 +130,30 @@ pub spares_as : (old new : Shown) (before after more fewer : ℕ → Type 0) →
 spares_as old new before after more fewer spares wider narrower = record {
   stays = λ v there not_. spares.stays v there (λ was. not_ (wider v was));
   leads = λ v led not_. spares.leads v (narrower v led) (λ was. not_ (wider v was));
+}
+
+-- one change after another
+pub spares_then : (old mid new : Shown) (before between after : ℕ → Type 0) → Spares old mid before between → Spares mid new between after → Spares old new before after
+spares_then old mid new before between after one two = record {
+  stays = λ v there not_.
+      let first = one.stays v there not_ in
+      let second = two.stays v (ap is_some first.0 ∙ there) (λ led. none_some (fin.get old.held v) (one.leads v led not_) there) in
+      (second.0 ∙ first.0, second.1 ∙ first.1);
+  leads = λ v led not_. at v led not_ (fin.get old.held v) refl;
+}
+  where
+    at : (v : ℕ) → after v → (before v → ⊥) → (o : Option (List ℕ)) → fin.get old.held v ≡ o → fin.get old.held v ≡ None
+    at v led not_ None is = is
+    at v led not_ (Some block) is =
+        let there : is_some (fin.get old.held v) ≡ true = ap is_some is in
+        let gone = two.leads v led (λ was. none_some (fin.get old.held v) (one.leads v was not_) there) in
+        some_none (fin.get old.held v) block (sym (one.stays v there not_).0 ∙ gone) is
+
+-- a call of another table that left the map
+pub spares_on : (old new : Shown) (f : Files) (after : ℕ → Type 0) → new.held ≡ old.held → new.used ≡ old.used → Spares new new (LeadsAny (loaded_trees (under new) f)) after → Spares old new (LeadsAny (loaded_trees (under old) f)) after
+spares_on old new f after held used spares = record {
+  stays = λ v there not_. (ap (λ m. fin.get m v) held, ap (λ u. u v) used);
+  leads = λ v led not_. ap (λ m. fin.get m v) (sym held) ∙ spares.leads v led (λ was. not_ (subst (λ (h : fin.FinMap nat_cmp (List ℕ)). LeadsAny (loaded_trees (λ w. fin.get h w) f) v) held was));
 }
 
 module _ (old new : Shown) (x y : Trees) (a : Option ℕ) (laid : (b : Option ℕ) → IsLaidIn (under old) (x b)) (stands : (b : Option ℕ) → StandsIn old.used (x b)) (apart : AreApart x)
@@ -202,6 +229,16 @@ module _ (old new : Shown) (x y : Trees) (a : Option ℕ) (laid : (b : Option �
         (λ is. moved_apart b differs (x b) refl v one (subst (λ o. LeadsIn o v) is led))
         (λ bare. bare_leads (y b) bare v led)
         (others b differs)
+
+    -- all else stays
+    pub spares_all : Spares old new (LeadsAny x) (LeadsAny y)
+    spares_all = record {
+      stays = λ v there none. spares.stays v there (λ was. none (record { tree = a; leads = was }));
+      leads = λ v led none. ⊎_elim
+          (λ (same : led.tree ≡ a). spares.leads v (subst (λ b. LeadsFrom y b v) same led.leads) (λ was. none (record { tree = a; leads = was })))
+          (λ (differs : led.tree ≢ a). absurd (none (record { tree = led.tree; leads = led_before led.tree differs v led.leads })))
+          (same_or led.tree a);
+    }
 
     pub lie_apart : AreApart y
     lie_apart b c v differs one other = ⊎_elim

@@ -1,5 +1,5 @@
 -- A table of which the tree of one file in memory changed, and then its record.
-use Rattle.std.proofs.Common.{◌≡◌, ◌≢◌, ℕ, true, false, cond, nat_eq, inl, refl, sym, ap, subst, ◌∙◌, arith}
+use Rattle.std.proofs.Common.{◌≡◌, ◌≢◌, ℕ, ◌/◌, true, false, cond, nat_eq, inl, refl, sym, ap, subst, ◌∙◌, arith}
 use Rattle.std.specs.Prelude.{Option, Some, None, is_some}
 use Rattle.std.specs.Option.{option_map}
 use Rattle.std.specs.BTreeMap as maps
@@ -7,7 +7,7 @@ use Rattle.std.specs.FinMap as fin
 use Rattle.std.proofs.lemmas.Bool.Decides.{nat_tests}
 use Rattle.fv_codec.specs.declared.inode.InodeRecord.{InodeRecord}
 use Rattle.fv_tables.specs.Spelled.{Under, stored}
-use Rattle.fv_tables.specs.Told.{AreTold, file_at, tree_or, tree_of}
+use Rattle.fv_tables.specs.Told.{AreTold, records_each, file_at, tree_or, tree_of}
 use Rattle.fv_tables.proofs.Tables.{placed_table}
 use Rattle.fv_tree.specs.declared.kept.Tree.{Tree}
 use Rattle.fv_tree.specs.Sources.{Shown, Use}
@@ -15,21 +15,26 @@ use Rattle.fv_tree.specs.Standing.{standing, under}
 use Rattle.fv_tree.specs.Writing.{IsAlike, Remains}
 use Rattle.fv_tree.specs.Flushing.{IsSound, loaded, loaded_over, Stands}
 use Rattle.fv_tree.specs.Leading.{LeadsNoMore}
+use Rattle.fv_tree.specs.Readying.{KeepsReady}
 use Rattle.fv_tree.specs.Beside.{loaded_on, LeadsTo, Spares}
 use Rattle.fv_tree.proofs.Beside.{loading_spares}
 use Rattle.fv_inode.specs.declared.file.InodeFile.{InodeFile}
-use Rattle.fv_inode.specs.Files.{rooted}
+use Rattle.fv_inode.specs.Files.{rooted, NamesIndexes}
+use Rattle.fv_inode.proofs.Indexed.{rewritten_indexes}
 use Rattle.fv_inode.specs.Changing.{Rewrites}
+use Rattle.fv_inode.specs.Readying.{IsReadyFile}
+use Rattle.fv_inode.proofs.Readied.{holds_there}
 use Rattle.fv_inode.proofs.Alike.{alike_itself}
 use Rattle.fv_inode.proofs.Placed.{KeepsOthers, keeps_others}
 use Rattle.fv_files.specs.declared.files.Files.{Files}
-use Rattle.fv_files.specs.Apart.{LeadsIn, LeadsFrom, StandsIn}
-use Rattle.fv_files.specs.Tables.{table_in, tree_in, file_loaded, loaded_trees, AreStanding, IsLed, IsTold}
-use Rattle.fv_files.specs.Calls.{Becomes}
+use Rattle.fv_files.specs.Apart.{LeadsIn, LeadsFrom, StandsIn, StoredIn}
+use Rattle.fv_tree.specs.Stored.{IsStoredWell}
+use Rattle.fv_files.specs.Tables.{table_in, tree_in, file_loaded, loaded_trees, AreStanding, IsLed, IsStored, IsTold}
+use Rattle.fv_files.specs.Calls.{Becomes, SparesOthers}
 use Rattle.fv_files.proofs.Looked.{Held}
 use Rattle.fv_files.proofs.Tables.{alike, some_same, placed_alike}
 use Rattle.fv_files.proofs.Beside.{IsOther, LetsGo, UsesNoMore, loading_lets_go, loading_uses, spares_as}
-use Rattle.fv_files.proofs.Kept.{own_tree_is, inode_alike, files_same, others_told, file_led, file_stands, inode_led, inode_stands}
+use Rattle.fv_files.proofs.Kept.{own_tree_is, inode_alike, files_same, others_told, file_led, file_spares, file_stands, file_stored, inode_led, inode_spares, inode_stands, inode_stored}
 
 -- a table with other trees, or with another inode file
 abbrev pub with_trees : Files → maps.BTreeMap ℕ Tree → Files
@@ -65,6 +70,20 @@ pub owned_stands : (source : Shown) (f : Files) (n : ℕ) (t : Tree) → tree_in
 owned_stands source f n t is sound =
     let there = has_record (file_at (rooted source f.inode) n) (sound.owners n t is).1 in
     subst (StandsIn source.used) (kept_tree_is (under source) f n t there.file is there.is) (sound.trees (Some n))
+
+-- and leads to what its pointers say
+pub owned_stored : (source : Shown) (f : Files) (n : ℕ) (t : Tree) → tree_in f n ≡ Some t → AreStanding source f → IsStored source f → IsStoredWell (loaded source t)
+owned_stored source f n t is sound well =
+    let there = has_record (file_at (rooted source f.inode) n) (sound.owners n t is).1 in
+    subst StoredIn (kept_tree_is (under source) f n t there.file is there.is) (well.trees (Some n))
+
+-- and its record is ready
+pub own_ready : (source : Shown) (f : Files) (n : ℕ) → is_some (tree_in f n) ≡ true → AreStanding source f → IsReadyFile f.inode n
+own_ready source f n there sound = holds_there (under source) f.inode.tree n (sound.ready n there) (at (tree_in f n) refl there)
+  where
+    at : (o : Option Tree) → tree_in f n ≡ o → is_some o ≡ true → is_some (file_at (rooted source f.inode) n) ≡ true
+    at None is some = absurd (grind (arith, some))
+    at (Some t) is some = (sound.owners n t is).1
 
 module _ (old new : Shown) (f : Files) (m : maps.BTreeMap ℕ Tree) (n : ℕ) (t u : Tree) (becomes : Becomes f.trees m n t u) where
   abbrev g : Files
@@ -119,9 +138,16 @@ module _ (old new : Shown) (f : Files) (m : maps.BTreeMap ℕ Tree) (n : ℕ) (t
         file_stands old new f g n refl becomes.others sound own_spares
         (subst (StandsIn new.used) (sym (kept_tree_is (under new) g n u was_there.file becomes.now (same n ∙ was_there.is))) stands)
         (λ w at. (ap (λ (x : Tree). x.owner) (some_same w u (sym at ∙ becomes.now)) ∙ owner ∙ owned.0, owned.1))
+        (λ _. sound.ready n (ap is_some becomes.was))
 
     now_tree : loaded_trees (under new) g (Some n) ≡ Some (loaded new u)
     now_tree = kept_tree_is (under new) g n u was_there.file becomes.now (files_same old new f g n refl becomes.others sound own_spares n ∙ was_there.is)
+
+    pub kept_stored : IsStoredWell (loaded new u) → IsStored old f → IsStored new g
+    kept_stored well = file_stored old new f g n refl becomes.others sound own_spares (subst StoredIn (sym now_tree) well)
+
+    pub kept_spares : SparesOthers old new f g
+    kept_spares = file_spares old new f g n refl becomes.others sound own_spares
 
     pub kept_led : LetsGo new (LeadsTo (loaded old t)) (LeadsTo (loaded new u)) → UsesNoMore old new (LeadsTo (loaded old t)) (LeadsTo (loaded new u)) → IsLed old f → IsLed new g
     kept_led lets_go no_more = file_led old new f g n refl becomes.others sound own_spares
@@ -165,25 +191,44 @@ module _ (source : Shown) (f : Files) (i : InodeFile) (n s : ℕ) (u : Tree) (ke
       (loading_uses source source (LeadsTo (loaded source f.inode.tree)) (LeadsTo (loaded source i.tree)) refl)
 
   -- and all trees stand on their blocks.
-  pub record_stands : i.tree.owner ≡ f.inode.tree.owner → Stands source i.tree → LeadsNoMore (loaded source f.inode.tree) (loaded source i.tree) → AreStanding source f → AreStanding source h
-  record_stands owner stands no_more sound =
+  pub record_stands : i.tree.owner ≡ f.inode.tree.owner → Stands source i.tree → LeadsNoMore (loaded source f.inode.tree) (loaded source i.tree) → KeepsReady f.inode.tree i.tree → AreStanding source f → AreStanding source h
+  record_stands owner stands no_more keeps_ready sound =
       inode_stands source source f h n (λ k differs. refl) other_records sound
       (loading_spares source source (LeadsTo (loaded source f.inode.tree)) (LeadsTo (loaded source i.tree)) refl refl (λ v led. record { level = led.level; place = led.place; leads = no_more led.level led.place v led.leads }))
       own_same owner stands
       (λ t at. let own = sound.owners n t at in (own.0, ap is_some own_record ∙ is_there (file_at (rooted source f.inode) n) own.1))
+      (λ k there. keeps_ready (k / records_each) (sound.ready k there))
+
+  pub record_spares : LeadsNoMore (loaded source f.inode.tree) (loaded source i.tree) → AreStanding source f → SparesOthers source source f h
+  record_spares no_more sound =
+      inode_spares source source f h n (λ k differs. refl) other_records sound
+      (loading_spares source source (LeadsTo (loaded source f.inode.tree)) (LeadsTo (loaded source i.tree)) refl refl (λ v led. record { level = led.level; place = led.place; leads = no_more led.level led.place v led.leads }))
+      own_same
+
+  pub record_stored : IsStoredWell (loaded source i.tree) → (NamesIndexes (rooted source f.inode) → NamesIndexes (rooted source i)) → LeadsNoMore (loaded source f.inode.tree) (loaded source i.tree) → AreStanding source f → IsStored source f → IsStored source h
+  record_stored well named no_more sound =
+      inode_stored source source f h n (λ k differs. refl) other_records sound
+      (loading_spares source source (LeadsTo (loaded source f.inode.tree)) (LeadsTo (loaded source i.tree)) refl refl (λ v led. record { level = led.level; place = led.place; leads = no_more led.level led.place v led.leads }))
+      own_same well named
 
 -- ---- both, one after the other
 
 module _ (old new : Shown) (f : Files) (m : maps.BTreeMap ℕ Tree) (n : ℕ) (t u : Tree) (becomes : Becomes f.trees m n t u) (i : InodeFile) (s : ℕ) (change : InodeRecord → InodeRecord)
     (rewrites : (blocks : Under) → Rewrites (standing blocks f.inode.tree) (standing blocks i.tree) n s (option_map change (file_at (standing blocks f.inode.tree) n))) (owner : i.tree.owner ≡ f.inode.tree.owner)
-    (sound_i : (blocks : Under) (used : ℕ → Option Use) → IsSound used (loaded_over blocks f.inode.tree) → IsSound used (loaded_over blocks i.tree)) (leads : (blocks : Under) → LeadsNoMore (loaded_over blocks f.inode.tree) (loaded_over blocks i.tree)) where
+    (sound_i : (blocks : Under) (used : ℕ → Option Use) → IsSound used (loaded_over blocks f.inode.tree) → IsSound used (loaded_over blocks i.tree)) (leads : (blocks : Under) → LeadsNoMore (loaded_over blocks f.inode.tree) (loaded_over blocks i.tree)) (keeps_ready : KeepsReady f.inode.tree i.tree) where
   pub both_stand : AreStanding old f → Spares old new (LeadsTo (loaded old t)) (LeadsTo (loaded new u)) → u.owner ≡ t.owner → Stands new u → AreStanding new (record { inode = i; trees = m; alloc = f.alloc })
   both_stand sound spares same stands =
       let kept = kept_stands old new f m n t u becomes sound spares same stands in
-      record_stands new (with_trees f m) i n s u becomes.now change (rewrites (under new)).files owner (sound_i (under new) new.used (kept.trees None)) (leads (under new)) kept
+      record_stands new (with_trees f m) i n s u becomes.now change (rewrites (under new)).files owner (sound_i (under new) new.used (kept.trees None)) (leads (under new)) keeps_ready kept
 
   pub both_led : AreStanding old f → Spares old new (LeadsTo (loaded old t)) (LeadsTo (loaded new u)) → u.owner ≡ t.owner → Stands new u → ((blocks : Under) → LeadsNoMore (loaded_over blocks i.tree) (loaded_over blocks f.inode.tree))
       → LetsGo new (LeadsTo (loaded old t)) (LeadsTo (loaded new u)) → UsesNoMore old new (LeadsTo (loaded old t)) (LeadsTo (loaded new u)) → IsLed old f → IsLed new (record { inode = i; trees = m; alloc = f.alloc })
   both_led sound spares same stands keeps lets_go no_more led =
       record_led new (with_trees f m) i n s u becomes.now change (rewrites (under new)).files (leads (under new)) (keeps (under new)) (kept_stands old new f m n t u becomes sound spares same stands)
       (kept_led old new f m n t u becomes sound spares lets_go no_more led)
+
+  pub both_stored : AreStanding old f → Spares old new (LeadsTo (loaded old t)) (LeadsTo (loaded new u)) → u.owner ≡ t.owner → Stands new u → ((blocks : Under) → IsStoredWell (loaded_over blocks f.inode.tree) → IsStoredWell (loaded_over blocks i.tree))
+      → IsStoredWell (loaded new u) → IsStored old f → IsStored new (record { inode = i; trees = m; alloc = f.alloc })
+  both_stored sound spares same stands record_well well was =
+      let half = kept_stored old new f m n t u becomes sound spares well was in
+      record_stored new (with_trees f m) i n s u becomes.now change (rewrites (under new)).files (record_well (under new) (half.trees None)) (rewritten_indexes (rooted new f.inode) (rooted new i) n s _ (rewrites (under new))) (leads (under new)) (kept_stands old new f m n t u becomes sound spares same stands) half

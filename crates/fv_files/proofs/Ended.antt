@@ -14,27 +14,32 @@ use Rattle.fv_tree.specs.Sources.{Shown, Counts, HasCause}
 use Rattle.fv_tree.specs.Standing.{standing, under}
 use Rattle.fv_tree.specs.Costs.{pending, Fits, IsEnough}
 use Rattle.fv_tree.specs.Flushing.{Flushes, IsLeft, ReachesOnce, Stands, loaded}
+use Rattle.fv_tree.specs.Stored.{HasPlaces, IsStoredWell, KeepsPlaces}
 use Rattle.fv_tree.specs.Beside.{unread}
 use Rattle.fv_tree.proofs.Beside.{unread_reaches}
 use Rattle.fv_inode.specs.declared.file.InodeFile.{InodeFile}
-use Rattle.fv_inode.specs.Files.{rooted}
+use Rattle.fv_inode.specs.Files.{rooted, NamesIndexes}
+use Rattle.fv_inode.proofs.Indexed.{alike_indexes}
 use Rattle.fv_inode.proofs.Slots.{alike_files}
 use Rattle.fv_files.specs.declared.files.Files.{Files}
-use Rattle.fv_files.specs.Apart.{LeadsIn, LeadsFrom, StandsIn, AreLed, stored_trees}
-use Rattle.fv_files.specs.Tables.{table_in, tree_in, file_loaded, loaded_trees, AreReached, AreStanding, IsLed}
+use Rattle.fv_files.specs.Apart.{LeadsIn, LeadsFrom, StandsIn, StoredIn, AreLed, stored_trees}
+use Rattle.fv_files.specs.Tables.{table_in, tree_in, file_loaded, loaded_trees, AreReached, AreStanding, IsLed, IsStored, IsStoredUnder}
+use Rattle.fv_files.specs.Calls.{KeepsStored, SparesOthers}
 use Rattle.fv_files.specs.Flushing.{FlushesTable, LaysTrees}
 use Rattle.fv_files.specs.Pending.{FitsTable}
 use Rattle.fv_files.proofs.Tables.{placed_alike}
-use Rattle.fv_files.proofs.Kept.{moved_tree, same_trees, records_told, inode_led, inode_stands}
+use Rattle.fv_files.proofs.Stored.{places_of, reread_stored}
+use Rattle.fv_files.proofs.Kept.{moved_tree, same_trees, records_told, inode_led, inode_spares, inode_stands, inode_stored}
 use Rattle.fv_files.proofs.Changed.{with_inode}
 use Rattle.fv_files.proofs.Beside.{reread_leads, unread_leads}
-use Rattle.fv_files.proofs.Laid.{flush_goes, flush_uses, flushed_spares, lays_then}
+use Rattle.fv_files.proofs.Laid.{flush_goes, flush_uses, flushed_spares, lays_then, stores_then}
 use Rattle.fv_files.proofs.Sums.{no_cost}
-use Rattle.fv_files.proofs.Whole.{no_trees}
+use Rattle.fv_files.proofs.Whole.{no_trees, none_there}
 
 -- what the flush of an inode file answers and does
 pub record Places (told : Type 0) (old new : Shown) (i j : InodeFile) (r : Result Pointer BlockFault) : Type 0 where
   pub flushes : told → Stands old i.tree → Flushes (loaded old i.tree) old.used (loaded new j.tree) new.used
+  pub stored_well : told → Stands old i.tree → HasPlaces new.used → IsStoredWell (loaded old i.tree) → IsStoredWell (loaded new j.tree)
   pub strays : told → Stands old i.tree → new.strays ≡ old.strays
   pub left : IsLeft i.tree j.tree
   pub fits : told → Stands old i.tree → Fits old i.tree new j.tree
@@ -47,7 +52,7 @@ pub record Places (told : Type 0) (old new : Shown) (i j : InodeFile) (r : Resul
   pub counts : Counts old new r
   pub cause : IfErr r (HasCause old new)
 
-module _ (told : Type 0) (old new : Shown) (f : Files) (i : InodeFile) (r : Result Pointer BlockFault) (is : Places told old new f.inode i r) where
+module _ (told : Type 0) (old new : Shown) (f : Files) (i : InodeFile) (r : Result Pointer BlockFault) (is : Places told old new f.inode i r) (empty : maps.btree_map_len f.trees ≡ 0) where
   abbrev h : Files
   h = with_inode f i
 
@@ -66,6 +71,16 @@ module _ (told : Type 0) (old new : Shown) (f : Files) (i : InodeFile) (r : Resu
         (flush_goes old new f.inode.tree i.tree (sound.trees None) (is.flushes tells (sound.trees None)))
         (flush_uses old new f.inode.tree i.tree (is.flushes tells (sound.trees None)))
 
+    last_spares : SparesOthers old new f h
+    last_spares = inode_spares old new f h 0 (λ k differs. refl) (λ k differs. files k) sound (flushed_spares old new f.inode.tree i.tree (sound.trees None) (is.flushes tells (sound.trees None)))
+        (same_trees (under old) (under new) f h 0 refl (files 0))
+
+    pub last_stored : KeepsPlaces old new → IsLed old f → IsStored old f → IsStored new h
+    last_stored places led was = inode_stored old new f h 0 (λ k differs. refl) (λ k differs. files k) sound (flushed_spares old new f.inode.tree i.tree (sound.trees None) (is.flushes tells (sound.trees None)))
+        (same_trees (under old) (under new) f h 0 refl (files 0))
+        (is.stored_well tells (sound.trees None) (places (places_of old f sound led was)) (was.trees None))
+        (alike_indexes (rooted old f.inode) (rooted new i) (is.flushes tells (sound.trees None)).alike) was
+
     last_fits : FitsTable old f new h
     last_fits =
         let fits = is.fits tells (sound.trees None) in
@@ -76,17 +91,20 @@ module _ (told : Type 0) (old new : Shown) (f : Files) (i : InodeFile) (r : Resu
     last_stands = inode_stands old new f h 0 (λ k differs. refl) (λ k differs. files k) sound (flushed_spares old new f.inode.tree i.tree (sound.trees None) (is.flushes tells (sound.trees None)))
         (same_trees (under old) (under new) f h 0 refl (files 0)) is.left.owner (is.flushes tells (sound.trees None)).sound
         (λ t at. let own = sound.owners 0 t at in (own.0, ap is_some (files 0) ∙ own.1))
+        (λ k there. none_there (tree_in f k) (no_trees f empty k) there)
 
   pub last_lays : LaysTrees told old new f h r
   last_lays = record {
     placed = last_placed;
     stands = last_stands;
     led = last_led;
+    spares = last_spares;
     strays = λ tells sound. is.strays tells (sound.trees None);
     fits = last_fits;
-    enough = λ tells sound room. IfErr-weaker r _ _ (λ e not_ damaged. absurd (not_ damaged)) (is.enough tells (sound.trees None) (omega (arith, room)));
+    enough = λ tells sound room. is.enough tells (sound.trees None) (omega (arith, room));
     counts = is.counts;
     cause = IfErr-weaker r _ _ (λ e cause. inl cause) is.cause;
+    source = λ tells sound. is.cause;
   }
 
 -- ---- at Ok
@@ -105,7 +123,7 @@ module _ (told : Type 0) (old new : Shown) (f : Files) (i : InodeFile) (root : P
   ends_stored = λ j. record { inode = spelled j; trees = λ n. option_map (standing (under new)) (none n j) }
 
   now : AreStanding new g
-  now = last_stands told old new f i (Ok root) is tells sound
+  now = last_stands told old new f i (Ok root) is empty tells sound
 
   file_is : (n : ℕ) → loaded_trees (under new) g (Some n) ≡ stored_trees (under new) i.tree.levels root (Some n)
   file_is n = λ j. option_map (λ r. file_loaded (under new) n r (none n j)) (file_at (spelled j) n)
@@ -122,11 +140,21 @@ module _ (told : Type 0) (old new : Shown) (f : Files) (i : InodeFile) (root : P
   }
 
   pub ends_led : IsLed old f → AreLed new.used (stored_trees (under new) i.tree.levels root)
-  ends_led before v none = last_led told old new f i (Ok root) is tells sound before v (λ a leads. none a (there a v leads))
+  ends_led before v none = last_led told old new f i (Ok root) is empty tells sound before v (λ a leads. none a (there a v leads))
     where
       there : (a : Option ℕ) (v : ℕ) → LeadsFrom (loaded_trees (under new) g) a v → LeadsFrom (stored_trees (under new) i.tree.levels root) a v
       there None v leads = unread_leads (under new) i.tree (stored (under new) greatest_word i.tree.levels root) spelled v leads
       there (Some n) v leads = subst (λ o. LeadsIn o v) (file_is n) leads
+
+  pub ends_under : KeepsPlaces old new → IsLed old f → IsStored old f → IsStoredUnder (under new) i.tree.levels root
+  ends_under places before was = let here = last_stored told old new f i (Ok root) is empty tells sound places before was in record {
+    trees = under_root here;
+    inodes = subst NamesIndexes spelled here.inodes;
+  }
+    where
+      under_root : IsStored new g → (a : Option ℕ) → StoredIn (stored_trees (under new) i.tree.levels root a)
+      under_root here None = reread_stored (under new) i.tree greatest_word i.tree.levels root spelled (here.trees None)
+      under_root here (Some n) = subst StoredIn (file_is n) (here.trees (Some n))
 
 -- ---- the whole flush
 
@@ -140,7 +168,7 @@ on_ok (Err e) p = tt
 
 pub flush_done : (told : Type 0) (old mid new : Shown) (f g : Files) (i : InodeFile) (r : Result Pointer BlockFault) → LaysTrees {T = Unit {0}} told old mid f g (Ok tt) → maps.btree_map_len g.trees ≡ 0 → Places told mid new g.inode i r → FlushesTable told old new f (with_inode g i) r
 flush_done told old mid new f g i r first empty is = record {
-  lays = lays_then told old mid new f g (with_inode g i) tt r first (last_lays told mid new g i r is);
+  lays = lays_then told old mid new f g (with_inode g i) tt r first (last_lays told mid new g i r is empty);
   root = is.root;
   pointer = is.pointer;
   none = on_ok r (no_trees (with_inode g i) empty);
@@ -150,6 +178,16 @@ flush_done told old mid new f g i r first empty is = record {
   reached = λ tells. at_ok r (λ root done sound. ends_reached told mid new g i root (subst (Places told mid new g.inode i) done is) empty tells (first.stands tells sound));
   stored_led = λ tells. at_ok r (λ root done sound led. ends_led told mid new g i root (subst (Places told mid new g.inode i) done is) empty tells (first.stands tells sound) (first.led tells sound led));
 }
+
+-- and what is led to is as the pointers say
+module _ (told : Type 0) (old mid new : Shown) (f g : Files) (i : InodeFile) (r : Result Pointer BlockFault) (first : LaysTrees {T = Unit {0}} told old mid f g (Ok tt)) (empty : maps.btree_map_len g.trees ≡ 0) (is : Places told mid new g.inode i r)
+    (tells : told) (keeps : KeepsStored old mid f g) (places : KeepsPlaces mid new) where
+  pub flush_stores : KeepsStored old new f (with_inode g i)
+  flush_stores = stores_then told old mid new f g (with_inode g i) tt first tells keeps (λ sound led was. last_stored told mid new g i r is empty tells sound places led was)
+
+  pub flush_under : IfOk r (λ root. AreStanding old f → IsLed old f → IsStored old f → IsStoredUnder (under new) i.tree.levels root)
+  flush_under = at_ok r (λ root done sound led was.
+      ends_under told mid new g i root (subst (Places told mid new g.inode i) done is) empty tells (first.stands tells sound) places (first.led tells sound led) (keeps sound led was))
 
 -- no tree was placed any more
 pub flush_failed : (told : Type 0) (old new : Shown) (f g : Files) (e : BlockFault) → LaysTrees {T = Pointer} told old new f g (Err e) → FlushesTable told old new f g (Err e)

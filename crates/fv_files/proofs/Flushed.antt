@@ -1,6 +1,6 @@
 -- The flush of a table, step by step: a file's tree, the root of it, and last the inode file.
-use Rattle.std.proofs.Common.{◌≡◌, ◌≤◌, ◌+◌, ℕ, true, false, cond, nat_eq, inl, Ok, Err, Result, refl, sym, ap, subst, ◌∙◌, arith}
-use Rattle.std.specs.Prelude.{Option, Some, None, is_some}
+use Rattle.std.proofs.Common.{◌≡◌, ◌≤◌, ◌+◌, ℕ, true, false, cond, nat_eq, inl, Ok, Err, Result, refl, sym, ap, subst, ◌∙◌, ⊎_elim, arith}
+use Rattle.std.specs.Prelude.{Option, Some, None, is_some, IfErr}
 use Rattle.std.specs.Option.{option_map}
 use Rattle.std.specs.Ordering.{nat_cmp}
 use Rattle.std.specs.BTreeMap as maps
@@ -8,17 +8,19 @@ use Rattle.std.specs.FinMap as fin
 use Rattle.std.proofs.lemmas.Bool.Decides.{nat_tests}
 use Rattle.std.proofs.lemmas.Result.{IfErr-weaker}
 use Rattle.fv_disk.specs.declared.fault.BlockFault.{BlockFault}
+use Rattle.fv_disk.specs.declared.fault.BlockFault.TheVariants.{DiskFault, Damaged, Memory}
 use Rattle.fv_codec.specs.declared.pointer.Pointer.{Pointer}
 use Rattle.fv_codec.specs.declared.inode.InodeRecord.{InodeRecord}
-use Rattle.fv_tables.specs.Spelled.{Under, stored}
+use Rattle.fv_tables.specs.Spelled.{Under, Rooted, stored}
 use Rattle.fv_tables.specs.Told.{file_at}
 use Rattle.fv_tables.specs.Kept.{IsPlacedTable}
 use Rattle.fv_tree.specs.declared.kept.Tree.{Tree}
-use Rattle.fv_tree.specs.Sources.{Shown, Counts}
+use Rattle.fv_tree.specs.Sources.{Shown, Counts, HasCause, IsDamaged}
 use Rattle.fv_tree.specs.Standing.{standing, under}
 use Rattle.fv_tree.specs.Writing.{IsAlike}
 use Rattle.fv_tree.specs.Costs.{pending}
 use Rattle.fv_tree.specs.Flushing.{ReachesOnce, Stands}
+use Rattle.fv_tree.specs.Stored.{KeepsPlaces}
 use Rattle.fv_tree.proofs.Causes.{calm_itself, counts_then}
 use Rattle.fv_inode.specs.declared.file.InodeFile.{InodeFile}
 use Rattle.fv_inode.specs.Files.{rooted, info_of, with_root}
@@ -29,42 +31,62 @@ use Rattle.fv_inode.proofs.Alike.{alike_itself}
 use Rattle.fv_inode.proofs.Looked.{alters_none}
 use Rattle.fv_inode.specs.Changing.{SetsRoot}
 use Rattle.fv_files.specs.declared.files.Files.{Files}
-use Rattle.fv_files.specs.Tables.{table_in, tree_in, AreStanding, IsLed}
+use Rattle.fv_files.specs.Tables.{table_in, tree_in, loaded_trees, AreStanding, IsLed, IsStored}
+use Rattle.fv_tree.proofs.Beside.{loading_spares}
+use Rattle.fv_files.specs.Apart.{LeadsAny}
+use Rattle.fv_files.specs.Calls.{KeepsStored, SparesOthers}
 use Rattle.fv_files.specs.Flushing.{FlushesKept, LaysTrees}
 use Rattle.fv_files.specs.Pending.{pending_trees, tree_cost, FitsTable}
 use Rattle.fv_files.proofs.Looked.{Held, counts_done, counts_failed}
 use Rattle.fv_files.proofs.Tables.{placed_then}
-use Rattle.fv_files.proofs.Changed.{with_trees, with_inode, owned_stands, has_record}
-use Rattle.fv_files.proofs.Prepared.{readied_led, readied_placed, readied_stands}
+use Rattle.fv_files.proofs.Stored.{places_of}
+use Rattle.fv_files.proofs.Changed.{with_trees, with_inode, owned_stands, owned_stored, has_record}
+use Rattle.fv_files.proofs.Prepared.{readied_led, readied_placed, readied_spares, readied_stands, readied_stored}
 use Rattle.fv_files.proofs.Sums.{most_cost}
-use Rattle.fv_files.proofs.Laid.{HasRoot, kept_flush_led, kept_placed, kept_stood, root_led, root_placed, root_stands, gone_led, gone_placed, gone_stands, laid_failed, lay_failed}
+use Rattle.fv_files.proofs.Laid.{HasRoot, kept_flush_led, kept_flush_spares, kept_flush_stored, kept_placed, kept_stood, root_led, root_placed, root_spares, root_stands, root_stored, gone_led, gone_placed, gone_spares, gone_stands, gone_stored, lay_failed, table_spares_then}
+
+-- ---- no memory
+
+memory_alone : (e : BlockFault) → e ≡ Memory → IsDamaged e → ⊥
+memory_alone DiskFault is damaged = damaged
+memory_alone (Damaged at want found) is damaged = cc
+memory_alone Memory is damaged = damaged
+
+memory_cause : {T : Type 0} (told : Type 0) (t : Rooted) (old new : Shown) (r : Result T BlockFault) → IfErr r (λ e. e ≡ Memory) → IfErr r (inodes.InodeFails told t old new) → IfErr r (HasCause old new)
+memory_cause told t old new (Ok x) is fails = tt
+memory_cause told t old new (Err e) is fails = subst (HasCause old new) (sym is) (⊎_elim (λ calm. calm) (λ shape. shape.0) (subst (inodes.InodeFails told t old new) is fails))
 
 -- ---- the inode file holds more in memory, or a call of it failed
 
 module _ {T : Type 0} (told : Type 0) (old new : Shown) (f : Files) (i : InodeFile) (r : Result T BlockFault) (alters : Alters told old new f.inode.tree i.tree r) (alike : told → IsAlike (rooted old f.inode) (rooted new i))
-    (fewer : pending i.tree ≤ pending f.inode.tree) where
+    (fewer : pending i.tree ≤ pending f.inode.tree) (memory : told → AreStanding old f → IfErr r (λ e. e ≡ Memory)) where
   abbrev h : Files
   h = with_inode f i
 
   pub ready_lays : LaysTrees told old new f h r
   ready_lays = record {
     placed = λ tells sound. readied_placed old new f h alters.looks.untouched (alike tells) (λ k. refl);
-    stands = λ tells sound. readied_stands old new f h alters.looks.untouched (alike tells) (λ k. refl) alters.owner (alters.stands tells) (alters.leads tells) sound;
+    stands = λ tells sound. readied_stands old new f h alters.looks.untouched (alike tells) (λ k. refl) alters.owner (alters.stands tells) (alters.leads tells) alters.keeps_ready sound;
     led = λ tells sound led. readied_led old new f h alters.looks.untouched (alike tells) (λ k. refl) (alters.leads tells) (alters.keeps tells) sound led;
+    spares = λ tells sound. readied_spares old new f h alters.looks.untouched (alike tells) (λ k. refl) (alters.leads tells) sound;
     strays = λ tells sound. alters.looks.untouched.strays;
     fits = λ tells sound. let same = alters.looks.untouched.room in record { fewer = omega (arith, fewer); room = omega (arith, fewer, same) };
-    enough = λ tells sound room. IfErr-weaker r _ _ (λ e fails damaged. laid_failed told old old new f f e (calm_itself old) (λ tells sound. placed_self) (inl fails)) alters.looks.cause;
+    enough = λ tells sound room. IfErr-weaker r _ _ memory_alone (memory tells sound);
     counts = alters.looks.counts;
     cause = IfErr-weaker r _ _ (λ e fails. lay_failed told old old new f f e (calm_itself old) (λ tells sound. placed_self) (inl fails)) alters.looks.cause;
+    source = λ tells sound. memory_cause told (rooted old f.inode) old new r (memory tells sound) alters.looks.cause;
   }
     where
       placed_self : IsPlacedTable (table_in old f) (table_in old f)
       placed_self = readied_placed old old f f (record { held = refl; used = refl; strays = refl; room = refl; cost = refl }) (record { levels = refl; stamps = λ level place. refl; blocks = λ index. refl }) (λ k. refl)
 
+  pub ready_stores : told → KeepsStored old new f h
+  ready_stores tells sound led = readied_stored old new f h alters.looks.untouched (alike tells) (λ k. refl) (alters.stored_well tells) (alters.leads tells) sound
+
 -- the inode file was only read
-pub look_lays : {T : Type 0} (told : Type 0) (old new : Shown) (f : Files) (r : Result T BlockFault) → inodes.Looks told (rooted old f.inode) old new r → LaysTrees told old new f f r
-look_lays told old new f r looks = ready_lays told old new f f.inode r (alters_none told f.inode.tree old new r looks)
-    (λ tells. subst (λ (h : Held). IsAlike (rooted old f.inode) (standing (λ v. fin.get h v) f.inode.tree)) (sym looks.untouched.held) (alike_itself (rooted old f.inode))) (omega arith)
+pub look_lays : {T : Type 0} (told : Type 0) (old new : Shown) (f : Files) (r : Result T BlockFault) → inodes.Looks told (rooted old f.inode) old new r → (told → AreStanding old f → IfErr r (λ e. e ≡ Memory)) → LaysTrees told old new f f r
+look_lays told old new f r looks memory = ready_lays told old new f f.inode r (alters_none told f.inode.tree old new r looks)
+    (λ tells. subst (λ (h : Held). IsAlike (rooted old f.inode) (standing (λ v. fin.get h v) f.inode.tree)) (sym looks.untouched.held) (alike_itself (rooted old f.inode))) (omega arith) memory
 
 -- and it has no file of a number
 pub look_none : (old : Shown) (f : Files) (n : ℕ) (o : Option Info) → is_some o ≡ false → o ≡ option_map (info_of n) (file_at (rooted old f.inode) n) → is_some (file_at (rooted old f.inode) n) ≡ true → ⊥
@@ -80,19 +102,21 @@ lays_self told old f = record {
   placed = λ tells sound. readied_placed old old f f (record { held = refl; used = refl; strays = refl; room = refl; cost = refl }) (record { levels = refl; stamps = λ level place. refl; blocks = λ index. refl }) (λ k. refl);
   stands = λ tells sound. sound;
   led = λ tells sound led. led;
+  spares = λ tells sound. loading_spares old old (LeadsAny (loaded_trees (under old) f)) (LeadsAny (loaded_trees (under old) f)) refl refl (λ v led. led);
   strays = λ tells sound. refl;
   fits = λ tells sound. record { fewer = omega arith; room = omega arith };
   enough = λ tells sound room. tt;
+  source = λ tells sound. tt;
   counts = record { faults = omega arith; damages = omega arith; spent = omega arith; calm = calm_itself old };
   cause = tt;
 }
 
 -- under another answer
 pub lays_done : {S T : Type 0} (told : Type 0) (old new : Shown) (f g : Files) (x : S) (y : T) → LaysTrees told old new f g (Ok x) → LaysTrees told old new f g (Ok y)
-lays_done told old new f g x y is = record { placed = is.placed; stands = is.stands; led = is.led; strays = is.strays; fits = is.fits; enough = λ tells sound room. tt; counts = counts_done old new x y is.counts; cause = tt }
+lays_done told old new f g x y is = record { placed = is.placed; stands = is.stands; led = is.led; spares = is.spares; strays = is.strays; fits = is.fits; enough = λ tells sound room. tt; source = λ tells sound. tt; counts = counts_done old new x y is.counts; cause = tt }
 
 pub lays_failed : {S T : Type 0} (told : Type 0) (old new : Shown) (f g : Files) (e : BlockFault) → LaysTrees {T = S} told old new f g (Err e) → LaysTrees {T = T} told old new f g (Err e)
-lays_failed {S} told old new f g e is = record { placed = is.placed; stands = is.stands; led = is.led; strays = is.strays; fits = is.fits; enough = is.enough; counts = counts_failed {S = S} old new (Err e) e is.counts; cause = is.cause }
+lays_failed {S} told old new f g e is = record { placed = is.placed; stands = is.stands; led = is.led; spares = is.spares; strays = is.strays; fits = is.fits; enough = is.enough; source = is.source; counts = counts_failed {S = S} old new (Err e) e is.counts; cause = is.cause }
 
 -- a table that stands on its blocks has a file for each tree in memory
 pub strayed : (old : Shown) (f : Files) (n : ℕ) → is_some (tree_in f n) ≡ true → AreStanding old f → is_some (file_at (rooted old f.inode) n) ≡ true
@@ -108,9 +132,11 @@ lays_astray told old new f g x counts never = record {
   placed = λ tells sound. absurd (never tells sound);
   stands = λ tells sound. absurd (never tells sound);
   led = λ tells sound led. absurd (never tells sound);
+  spares = λ tells sound. absurd (never tells sound);
   strays = λ tells sound. absurd (never tells sound);
   fits = λ tells sound. absurd (never tells sound);
   enough = λ tells sound room. tt;
+  source = λ tells sound. tt;
   counts = counts_done old new x tt counts;
   cause = tt;
 }
@@ -133,14 +159,22 @@ module _ (told : Type 0) (old mid : Shown) (f : Files) (m : maps.BTreeMap ℕ Tr
     placed = λ tells sound. let stood = owned_stands old f n kept.tree kept.becomes.was sound in kept_placed old mid f m n kept.tree kept.next kept.becomes sound stood (kept.flushes tells stood);
     stands = λ tells sound. let stood = owned_stands old f n kept.tree kept.becomes.was sound in kept_stood old mid f m n kept.tree kept.next kept.becomes sound stood (kept.flushes tells stood) kept.left.owner;
     led = λ tells sound. let stood = owned_stands old f n kept.tree kept.becomes.was sound in kept_flush_led old mid f m n kept.tree kept.next kept.becomes sound stood (kept.flushes tells stood);
+    spares = λ tells sound. let stood = owned_stands old f n kept.tree kept.becomes.was sound in kept_flush_spares old mid f m n kept.tree kept.next kept.becomes sound stood (kept.flushes tells stood);
     strays = λ tells sound. kept.strays tells (owned_stands old f n kept.tree kept.becomes.was sound);
     fits = kept_fits;
     enough = λ tells sound room.
         let most = most_cost f.trees n kept.tree kept.becomes.was in
-        IfErr-weaker r _ _ (λ e not_ damaged. absurd (not_ damaged)) (kept.enough tells (owned_stands old f n kept.tree kept.becomes.was sound) (omega (arith, most, room)));
+        kept.enough tells (owned_stands old f n kept.tree kept.becomes.was sound) (omega (arith, most, room));
+    source = λ tells sound. kept.cause;
     counts = kept.counts;
     cause = IfErr-weaker r _ _ (λ e fails. inl fails) kept.cause;
   }
+
+  pub kept_stores : told → KeepsPlaces old mid → KeepsStored old mid f g
+  kept_stores tells places sound led was =
+      let stood = owned_stands old f n kept.tree kept.becomes.was sound in
+      kept_flush_stored old mid f m n kept.tree kept.next kept.becomes sound stood (kept.flushes tells stood)
+      (kept.stored_well tells stood (places (places_of old f sound led was)) (owned_stored old f n kept.tree kept.becomes.was sound was)) was
 
 -- its root was laid, and it goes from memory
 module _ (told : Type 0) (old mid new : Shown) (f : Files) (m last : maps.BTreeMap ℕ Tree) (i : InodeFile) (n levels : ℕ) (root : Pointer) (kept : FlushesKept told old mid f.trees m n (Ok root)) (levels_is : (t : Tree) → maps.get nat_cmp f.trees n ≡ Some t → levels ≡ t.levels)
@@ -193,7 +227,7 @@ module _ (told : Type 0) (old mid new : Shown) (f : Files) (m last : maps.BTreeM
     placed_two = first.stands tells sound
 
     placed_three : AreStanding new three
-    placed_three = root_stands mid new two i n levels root kept.next kept.becomes.now alters.looks.untouched sets alters.owner (alters.stands tells) (alters.leads tells) placed_two
+    placed_three = root_stands mid new two i n levels root kept.next kept.becomes.now alters.looks.untouched sets alters.owner (alters.stands tells) (alters.leads tells) alters.keeps_ready placed_two
 
     all_placed : IsPlacedTable (table_in old f) (table_in new four)
     all_placed = placed_then (table_in old f) (table_in new three) (table_in new four)
@@ -203,6 +237,16 @@ module _ (told : Type 0) (old mid new : Shown) (f : Files) (m last : maps.BTreeM
     all_led : IsLed old f → IsLed new four
     all_led led = gone_led new three last n levels root kept.next kept.becomes.now gone placed_three own spelled reached
         (root_led mid new two i n levels root kept.next kept.becomes.now alters.looks.untouched sets (alters.leads tells) (alters.keeps tells) placed_two (first.led tells sound led))
+
+    all_spares : SparesOthers old new f four
+    all_spares = table_spares_then old new new f three four
+        (table_spares_then old mid new f two three (first.spares tells sound) (root_spares mid new two i n levels root kept.next kept.becomes.now alters.looks.untouched sets (alters.leads tells) placed_two))
+        (gone_spares new three last n levels root kept.next kept.becomes.now gone placed_three own spelled reached)
+
+    all_stored : KeepsPlaces old mid → IsLed old f → IsStored old f → IsStored new four
+    all_stored places led was = gone_stored new three last n levels root kept.next kept.becomes.now gone placed_three own spelled reached
+        (root_stored mid new two i n levels root kept.next kept.becomes.now alters.looks.untouched sets (alters.stored_well tells) (alters.leads tells) placed_two
+        (kept_stores told old mid f m n (Ok root) kept tells places sound led was))
 
     all_fits : FitsTable old f new four
     all_fits =
@@ -218,9 +262,14 @@ module _ (told : Type 0) (old mid new : Shown) (f : Files) (m last : maps.BTreeM
     placed = all_placed;
     stands = λ tells sound. gone_stands new three last n levels root kept.next kept.becomes.now gone (placed_three tells sound) (own tells sound) (spelled tells sound) (reached tells sound);
     led = all_led;
+    spares = all_spares;
     strays = λ tells sound. alters.looks.untouched.strays ∙ first.strays tells sound;
     fits = all_fits;
     enough = λ tells sound room. tt;
+    source = λ tells sound. tt;
     counts = counts_then old mid new (Ok tt) first.counts.calm alters.looks.counts;
     cause = tt;
   }
+
+  pub lay_stores : told → KeepsPlaces old mid → KeepsStored old new f four
+  lay_stores tells places sound = all_stored tells sound places

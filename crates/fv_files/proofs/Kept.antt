@@ -1,12 +1,12 @@
 -- Tables that stand on their blocks, where the tree of one file or the inode file changed.
-use Rattle.std.proofs.Common.{◌≡◌, ◌≢◌, ℕ, true, inl, refl, sym, ap, subst, ◌∙◌, ⊎_elim}
+use Rattle.std.proofs.Common.{◌≡◌, ◌≢◌, ℕ, ◌/◌, true, inl, refl, sym, ap, subst, ◌∙◌, ⊎_elim}
 use Rattle.std.specs.Prelude.{Option, Some, None, is_some}
 use Rattle.std.specs.Option.{option_map}
 use Rattle.std.proofs.lemmas.Bool.{cases_eq}
 use Rattle.std.specs.FinMap as fin
 use Rattle.fv_codec.specs.declared.inode.InodeRecord.{InodeRecord}
 use Rattle.fv_tables.specs.Spelled.{Under, stored}
-use Rattle.fv_tables.specs.Told.{AreTold, file_at, tree_or}
+use Rattle.fv_tables.specs.Told.{AreTold, records_each, file_at, tree_or}
 use Rattle.fv_tables.specs.Kept.{over}
 use Rattle.fv_tree.specs.declared.kept.Tree.{Tree}
 use Rattle.fv_tree.specs.Sources.{Shown}
@@ -14,15 +14,20 @@ use Rattle.fv_tree.specs.Standing.{standing, under}
 use Rattle.fv_tree.specs.Writing.{IsAlike}
 use Rattle.fv_tree.specs.Flushing.{Loaded, loaded, Stands}
 use Rattle.fv_tree.specs.Beside.{loaded_on, LeadsTo, Spares}
+use Rattle.fv_tree.specs.Readying.{IsReady}
 use Rattle.fv_inode.specs.declared.file.InodeFile.{InodeFile}
-use Rattle.fv_inode.specs.Files.{rooted}
+use Rattle.fv_inode.specs.Files.{rooted, NamesIndexes}
+use Rattle.fv_inode.proofs.Indexed.{alike_indexes}
 use Rattle.fv_inode.proofs.Slots.{alike_files}
 use Rattle.fv_inode.proofs.Placed.{KeepsOthers}
 use Rattle.fv_files.specs.declared.files.Files.{Files}
-use Rattle.fv_files.specs.Apart.{LeadsFrom, StandsIn, AreLed}
-use Rattle.fv_files.specs.Tables.{table_in, tree_in, file_loaded, loaded_trees, AreSound, AreStanding, IsLed}
+use Rattle.fv_files.specs.Apart.{LeadsFrom, StandsIn, StoredIn, AreLed}
+use Rattle.fv_files.specs.Tables.{table_in, tree_in, file_loaded, loaded_trees, AreSound, AreStanding, IsLed, IsStored, IsStoredOn}
+use Rattle.fv_tree.specs.Stored.{IsStoredWell}
+use Rattle.fv_files.specs.Calls.{SparesOthers}
+use Rattle.fv_files.proofs.Stored.{stored_still}
 use Rattle.fv_files.proofs.Looked.{Held}
-use Rattle.fv_files.proofs.Beside.{IsOther, KeepsIn, LetsGo, UsesNoMore, led_on, some_differ, trees_laid, other_tree, stand_still, lie_apart}
+use Rattle.fv_files.proofs.Beside.{IsOther, KeepsIn, LetsGo, UsesNoMore, led_on, some_differ, spares_all, trees_laid, other_tree, stand_still, lie_apart}
 
 pub sound_on : (f : Files) (old new : Shown) → new.held ≡ old.held → new.used ≡ old.used → AreStanding old f → AreStanding new f
 sound_on f old new held used stands =
@@ -31,6 +36,9 @@ sound_on f old new held used stands =
 pub led_on_blocks : (f : Files) (old new : Shown) → new.held ≡ old.held → new.used ≡ old.used → IsLed old f → IsLed new f
 led_on_blocks f old new held used led =
     subst (λ (h : Held). AreLed new.used (loaded_trees (λ v. fin.get h v) f)) (sym held) (subst (λ u. AreLed u (loaded_trees (under old) f)) (sym used) led)
+
+pub stored_on_blocks : (f : Files) (old new : Shown) → new.held ≡ old.held → IsStored old f → IsStored new f
+stored_on_blocks f old new held = subst (λ (h : Held). IsStoredOn (λ v. fin.get h v) f) (sym held)
 
 -- ---- trees of files
 
@@ -90,9 +98,20 @@ module _ (old new : Shown) (f g : Files) (n : ℕ) (inode : g.inode ≡ f.inode)
   pub file_led : LetsGo new (LeadsFrom (loaded_trees (under old) f) (Some n)) (LeadsFrom (loaded_trees (under new) g) (Some n)) → UsesNoMore old new (LeadsFrom (loaded_trees (under old) f) (Some n)) (LeadsFrom (loaded_trees (under new) g) (Some n)) → IsLed old f → IsLed new g
   file_led = led_on old new (loaded_trees (under old) f) (loaded_trees (under new) g) (Some n) (trees_laid (under old) f) sound.trees sound.apart spares keeps
 
+  -- what isn't the table's stays,
+  pub file_spares : SparesOthers old new f g
+  file_spares = spares_all old new (loaded_trees (under old) f) (loaded_trees (under new) g) (Some n) (trees_laid (under old) f) sound.trees sound.apart spares others
+
+  -- what it leads to is as its pointers say,
+  pub file_stored : StoredIn (loaded_trees (under new) g (Some n)) → IsStored old f → IsStored new g
+  file_stored own was = record {
+    trees = stored_still old new (loaded_trees (under old) f) (loaded_trees (under new) g) (Some n) (trees_laid (under old) f) sound.trees sound.apart spares others own was.trees;
+    inodes = alike_indexes (rooted old f.inode) (rooted new g.inode) inode_alike was.inodes;
+  }
+
   -- and all trees stand on their blocks.
-  pub file_stands : StandsIn new.used (loaded_trees (under new) g (Some n)) → ((t : Tree) → tree_in g n ≡ Some t → (t.owner ≡ n) × (is_some (file_at (rooted old f.inode) n) ≡ true)) → AreStanding new g
-  file_stands own owner = record {
+  pub file_stands : StandsIn new.used (loaded_trees (under new) g (Some n)) → ((t : Tree) → tree_in g n ≡ Some t → (t.owner ≡ n) × (is_some (file_at (rooted old f.inode) n) ≡ true)) → (is_some (tree_in g n) ≡ true → IsReady f.inode.tree (n / records_each)) → AreStanding new g
+  file_stands own owner own_ready = record {
     owner = ap (λ (i : InodeFile). i.tree.owner) inode ∙ sound.owner;
     owners = λ k t at. ⊎_elim
         (λ (same : k ≡ n). let is = owner t (ap (tree_in g) (sym same) ∙ at) in (is.0 ∙ sym same, ap is_some (files_same k ∙ ap (file_at (rooted old f.inode)) same) ∙ is.1))
@@ -100,6 +119,10 @@ module _ (old new : Shown) (f g : Files) (n : ℕ) (inode : g.inode ≡ f.inode)
         (cases_eq k n);
     trees = stand_still old new (loaded_trees (under old) f) (loaded_trees (under new) g) (Some n) (trees_laid (under old) f) sound.trees sound.apart spares others own;
     apart = lie_apart old new (loaded_trees (under old) f) (loaded_trees (under new) g) (Some n) (trees_laid (under old) f) sound.trees sound.apart spares others;
+    ready = λ k there. subst (λ (i : InodeFile). IsReady i.tree (k / records_each)) (sym inode) (⊎_elim
+        (λ (same : k ≡ n). subst (λ m. IsReady f.inode.tree (m / records_each)) (sym same) (own_ready (ap (λ m. is_some (tree_in g m)) (sym same) ∙ there)))
+        (λ (differs : k ≢ n). sound.ready k (ap is_some (sym (trees k differs)) ∙ there))
+        (cases_eq k n));
   }
 
 -- ---- the inode file changed, and the record of one file with it
@@ -132,8 +155,17 @@ module _ (old new : Shown) (f g : Files) (n : ℕ) (trees : (k : ℕ) → k ≢ 
         (λ (unlike : k ≢ n). same_trees (under old) (under new) f g k (trees k unlike) (files k unlike))
         (cases_eq k n)
 
-    pub inode_stands : g.inode.tree.owner ≡ f.inode.tree.owner → Stands new g.inode.tree → ((t : Tree) → tree_in g n ≡ Some t → (t.owner ≡ n) × (is_some (file_at (rooted new g.inode) n) ≡ true)) → AreStanding new g
-    inode_stands owner stands of_own = record {
+    pub inode_spares : SparesOthers old new f g
+    inode_spares = spares_all old new (loaded_trees (under old) f) (loaded_trees (under new) g) None (trees_laid (under old) f) sound.trees sound.apart spares rest
+
+    pub inode_stored : IsStoredWell (loaded new g.inode.tree) → (NamesIndexes (rooted old f.inode) → NamesIndexes (rooted new g.inode)) → IsStored old f → IsStored new g
+    inode_stored own named was = record {
+      trees = stored_still old new (loaded_trees (under old) f) (loaded_trees (under new) g) None (trees_laid (under old) f) sound.trees sound.apart spares rest own was.trees;
+      inodes = named was.inodes;
+    }
+
+    pub inode_stands : g.inode.tree.owner ≡ f.inode.tree.owner → Stands new g.inode.tree → ((t : Tree) → tree_in g n ≡ Some t → (t.owner ≡ n) × (is_some (file_at (rooted new g.inode) n) ≡ true)) → ((k : ℕ) → is_some (tree_in g k) ≡ true → IsReady g.inode.tree (k / records_each)) → AreStanding new g
+    inode_stands owner stands of_own ready = record {
       owner = owner ∙ sound.owner;
       owners = λ k t at. ⊎_elim
           (λ (same : k ≡ n). let is = of_own t (ap (tree_in g) (sym same) ∙ at) in (is.0 ∙ sym same, ap (λ m. is_some (file_at (rooted new g.inode) m)) same ∙ is.1))
@@ -141,4 +173,5 @@ module _ (old new : Shown) (f g : Files) (n : ℕ) (trees : (k : ℕ) → k ≢ 
           (cases_eq k n);
       trees = stand_still old new (loaded_trees (under old) f) (loaded_trees (under new) g) None (trees_laid (under old) f) sound.trees sound.apart spares rest stands;
       apart = lie_apart old new (loaded_trees (under old) f) (loaded_trees (under new) g) None (trees_laid (under old) f) sound.trees sound.apart spares rest;
+      ready = ready;
     }

@@ -19,6 +19,8 @@ use Rattle.fv_tree.specs.Sources.{Shown, HasCause, IsCalm, IsUntouched}
 use Rattle.fv_tree.specs.Standing.{standing, under}
 use Rattle.fv_tree.specs.Flushing.{ReachesOnce, Flushes, IsPlaced, Stands, loaded, loaded_over}
 use Rattle.fv_tree.specs.Leading.{LeadsNoMore}
+use Rattle.fv_tree.specs.Stored.{IsStoredWell}
+use Rattle.fv_tree.specs.Readying.{KeepsReady}
 use Rattle.fv_tree.specs.Beside.{unread, LeadsTo, Spares}
 use Rattle.fv_tree.proofs.Beside.{flush_spares, loading_spares, unread_sound}
 use Rattle.fv_tree.proofs.Causes.{calm_then, counts_then}
@@ -29,20 +31,23 @@ use Rattle.fv_inode.specs.declared.file.InodeFile.{InodeFile}
 use Rattle.fv_inode.specs.Files.{rooted, with_root}
 use Rattle.fv_inode.specs.Changing.{SetsRoot}
 use Rattle.fv_inode.proofs.Alike.{alike_itself}
+use Rattle.fv_inode.proofs.Indexed.{rooted_indexes}
 use Rattle.fv_inode.proofs.Placed.{keeps_others, rooted_table}
 use Rattle.fv_files.specs.declared.files.Files.{Files}
-use Rattle.fv_files.specs.Apart.{LeadsIn, LeadsFrom, StandsIn}
-use Rattle.fv_files.specs.Tables.{table_in, tree_in, file_loaded, loaded_trees, AreStanding, IsLed}
-use Rattle.fv_files.specs.Calls.{Becomes}
+use Rattle.fv_files.specs.Apart.{LeadsAny, LeadsIn, LeadsFrom, StandsIn, StoredIn}
+use Rattle.fv_files.specs.Tables.{table_in, tree_in, file_loaded, loaded_trees, AreStanding, IsLed, IsStored}
+use Rattle.fv_files.specs.Calls.{Becomes, KeepsStored, SparesOthers}
 use Rattle.fv_files.specs.Failing.{FilesFail}
 use Rattle.fv_files.specs.Flushing.{FlushFails, LayFails, LaysTrees, holding}
 use Rattle.fv_files.specs.Pending.{FitsTable}
 use Rattle.fv_files.proofs.Looked.{Held, fails_after}
 use Rattle.fv_files.proofs.Tables.{placed_alike, placed_then, some_same}
-use Rattle.fv_files.proofs.Beside.{LetsGo, UsesNoMore, loading_lets_go, loading_uses, reread_leads, unread_leads}
-use Rattle.fv_files.proofs.Kept.{own_tree_is, file_led, file_stands, led_on_blocks, sound_on}
-use Rattle.fv_files.proofs.Changed.{with_trees, with_inode, kept_inode, kept_led, kept_others, kept_stands, own_told, record_led, record_stands}
+use Rattle.fv_files.proofs.Beside.{LetsGo, UsesNoMore, loading_lets_go, loading_uses, reread_leads, spares_on, spares_then, unread_leads}
+use Rattle.fv_files.proofs.Stored.{reread_stored}
+use Rattle.fv_files.proofs.Kept.{own_tree_is, file_led, file_spares, file_stands, file_stored, led_on_blocks, sound_on, stored_on_blocks}
+use Rattle.fv_files.proofs.Changed.{with_trees, with_inode, kept_inode, kept_led, kept_others, kept_spares, kept_stands, kept_stored, own_told, record_led, record_spares, record_stands, record_stored}
 use Rattle.fv_files.proofs.Steps.{none_some}
+use Rattle.fv_files.proofs.Whole.{none_there}
 
 -- ---- a tree is flushed
 
@@ -82,6 +87,12 @@ module _ (old new : Shown) (f : Files) (m : maps.BTreeMap ℕ Tree) (n : ℕ) (t
   pub kept_flush_led : IsLed old f → IsLed new (with_trees f m)
   kept_flush_led = kept_led old new f m n t u becomes sound (flushed_spares old new t u stood flushes) (flush_goes old new t u stood flushes) (flush_uses old new t u flushes)
 
+  pub kept_flush_spares : SparesOthers old new f (with_trees f m)
+  kept_flush_spares = kept_spares old new f m n t u becomes sound (flushed_spares old new t u stood flushes)
+
+  pub kept_flush_stored : IsStoredWell (loaded new u) → IsStored old f → IsStored new (with_trees f m)
+  kept_flush_stored = kept_stored old new f m n t u becomes sound (flushed_spares old new t u stood flushes)
+
   pub kept_stood : u.owner ≡ t.owner → AreStanding new (with_trees f m)
   kept_stood owner = kept_stands old new f m n t u becomes sound (flushed_spares old new t u stood flushes) owner flushes.sound
 
@@ -103,11 +114,11 @@ module _ (old new : Shown) (f : Files) (i : InodeFile) (n levels : ℕ) (root : 
       (keeps_others (table_in old f) (table_in new h) n (λ j v. fin.get (untouched.held j) v) (λ k differs j. option_map (standing (λ v. fin.get (untouched.held j) v)) (tree_in f k)))
       (λ r at. own_still r)
 
-  pub root_stands : i.tree.owner ≡ f.inode.tree.owner → (Stands old f.inode.tree → Stands new i.tree) → LeadsNoMore (loaded old f.inode.tree) (loaded new i.tree) → AreStanding old f → AreStanding new h
-  root_stands owner stands no_more sound =
+  pub root_stands : i.tree.owner ≡ f.inode.tree.owner → (Stands old f.inode.tree → Stands new i.tree) → LeadsNoMore (loaded old f.inode.tree) (loaded new i.tree) → KeepsReady f.inode.tree i.tree → AreStanding old f → AreStanding new h
+  root_stands owner stands no_more keeps_ready sound =
       record_stands new f i n 0 u kept (with_root levels root)
       (λ k. subst (λ (m : Held). file_at (rooted new i) k ≡ cond (nat_eq k n) (option_map (with_root levels root) (file_at (standing (λ v. fin.get m v) f.inode.tree) n)) (file_at (standing (λ v. fin.get m v) f.inode.tree) k)) (sym untouched.held) (sets.files k))
-      owner (stands (sound.trees None)) (subst (λ (m : Held). LeadsNoMore (loaded_over (λ v. fin.get m v) f.inode.tree) (loaded new i.tree)) (sym untouched.held) no_more)
+      owner (stands (sound.trees None)) (subst (λ (m : Held). LeadsNoMore (loaded_over (λ v. fin.get m v) f.inode.tree) (loaded new i.tree)) (sym untouched.held) no_more) keeps_ready
       (sound_on f old new untouched.held untouched.used sound)
 
   pub root_led : LeadsNoMore (loaded old f.inode.tree) (loaded new i.tree) → LeadsNoMore (loaded new i.tree) (loaded old f.inode.tree) → AreStanding old f → IsLed old f → IsLed new h
@@ -118,6 +129,23 @@ module _ (old new : Shown) (f : Files) (i : InodeFile) (n levels : ℕ) (root : 
       (subst (λ (m : Held). LeadsNoMore (loaded new i.tree) (loaded_over (λ v. fin.get m v) f.inode.tree)) (sym untouched.held) keeps)
       (sound_on f old new untouched.held untouched.used sound)
       (led_on_blocks f old new untouched.held untouched.used led)
+
+  pub root_spares : LeadsNoMore (loaded old f.inode.tree) (loaded new i.tree) → AreStanding old f → SparesOthers old new f h
+  root_spares no_more sound =
+      spares_on old new f (LeadsAny (loaded_trees (under new) h)) untouched.held untouched.used
+      (record_spares new f i n 0 u kept (with_root levels root)
+      (λ k. subst (λ (m : Held). file_at (rooted new i) k ≡ cond (nat_eq k n) (option_map (with_root levels root) (file_at (standing (λ v. fin.get m v) f.inode.tree) n)) (file_at (standing (λ v. fin.get m v) f.inode.tree) k)) (sym untouched.held) (sets.files k))
+      (subst (λ (m : Held). LeadsNoMore (loaded_over (λ v. fin.get m v) f.inode.tree) (loaded new i.tree)) (sym untouched.held) no_more)
+      (sound_on f old new untouched.held untouched.used sound))
+
+  pub root_stored : (IsStoredWell (loaded old f.inode.tree) → IsStoredWell (loaded new i.tree)) → LeadsNoMore (loaded old f.inode.tree) (loaded new i.tree) → AreStanding old f → IsStored old f → IsStored new h
+  root_stored well no_more sound was =
+      record_stored new f i n 0 u kept (with_root levels root)
+      (λ k. subst (λ (m : Held). file_at (rooted new i) k ≡ cond (nat_eq k n) (option_map (with_root levels root) (file_at (standing (λ v. fin.get m v) f.inode.tree) n)) (file_at (standing (λ v. fin.get m v) f.inode.tree) k)) (sym untouched.held) (sets.files k))
+      (well (was.trees None)) (λ _. rooted_indexes (rooted old f.inode) (rooted new i) n levels root sets was.inodes)
+      (subst (λ (m : Held). LeadsNoMore (loaded_over (λ v. fin.get m v) f.inode.tree) (loaded new i.tree)) (sym untouched.held) no_more)
+      (sound_on f old new untouched.held untouched.used sound)
+      (stored_on_blocks f old new untouched.held was)
 
 -- ---- it goes from memory
 
@@ -167,17 +195,32 @@ module _ (source : Shown) (f : Files) (m : maps.BTreeMap ℕ Tree) (n levels : �
       (λ v led. subst (λ o. LeadsIn o v) (sym now_tree) (unread_leads (under source) u (stored (under source) n levels root) is v (subst (λ o. LeadsIn o v) was_tree led))))
       (loading_uses source source (LeadsFrom (loaded_trees (under source) f) (Some n)) (LeadsFrom (loaded_trees (under source) g) (Some n)) refl)
 
+  pub gone_spares : SparesOthers source source f g
+  gone_spares = file_spares source source f g n refl others sound
+      (loading_spares source source (LeadsFrom (loaded_trees (under source) f) (Some n)) (LeadsFrom (loaded_trees (under source) g) (Some n)) refl refl
+      (λ v led. subst (λ o. LeadsIn o v) (sym was_tree) (reread_leads (under source) u n levels root is v (subst (λ o. LeadsIn o v) now_tree led))))
+
+  pub gone_stored : IsStored source f → IsStored source g
+  gone_stored was = file_stored source source f g n refl others sound
+      (loading_spares source source (LeadsFrom (loaded_trees (under source) f) (Some n)) (LeadsFrom (loaded_trees (under source) g) (Some n)) refl refl
+      (λ v led. subst (λ o. LeadsIn o v) (sym was_tree) (reread_leads (under source) u n levels root is v (subst (λ o. LeadsIn o v) now_tree led))))
+      (subst StoredIn (sym now_tree) (reread_stored (under source) u n levels root is (subst StoredIn was_tree (was.trees (Some n))))) was
+
   pub gone_stands : AreStanding source g
   gone_stands = file_stands source source f g n refl others sound
       (loading_spares source source (LeadsFrom (loaded_trees (under source) f) (Some n)) (LeadsFrom (loaded_trees (under source) g) (Some n)) refl refl
       (λ v led. subst (λ o. LeadsIn o v) (sym was_tree) (reread_leads (under source) u n levels root is v (subst (λ o. LeadsIn o v) now_tree led))))
       (subst (StandsIn source.used) (sym now_tree) (unread_sound source.used (stored (under source) n levels root) (λ level place. refl) reaches))
       (λ w at. absurd (not_some (tree_in g n) w none at))
+      (λ there. none_there (tree_in g n) none there)
     where
       not_some : (o : Option Tree) (w : Tree) → o ≡ None → o ≡ Some w → ⊥
       not_some o w none some = let wrong : false ≡ true = sym (ap is_some none) ∙ ap is_some some in cc
 
 -- ---- one step after another
+
+pub table_spares_then : (old mid new : Shown) (f g h : Files) → SparesOthers old mid f g → SparesOthers mid new g h → SparesOthers old new f h
+table_spares_then old mid new f g h = spares_then old mid new (LeadsAny (loaded_trees (under old) f)) (LeadsAny (loaded_trees (under mid) g)) (LeadsAny (loaded_trees (under new) h))
 
 pub cause_later : (old mid new : Shown) (e : BlockFault) → IsCalm old mid → HasCause mid new e → HasCause old new e
 cause_later old mid new DiskFault calm h = (rw (← calm.faults) h.0, h.1 ∙ calm.damages)
@@ -211,12 +254,17 @@ module _ (told : Type 0) (old mid new : Shown) (f g h : Files) where
     placed = λ tells sound. placed_then (table_in old f) (table_in mid g) (table_in new h) (first.placed tells sound) (second.placed tells (first.stands tells sound));
     stands = λ tells sound. second.stands tells (first.stands tells sound);
     led = λ tells sound led. second.led tells (first.stands tells sound) (first.led tells sound led);
+    spares = λ tells sound. table_spares_then old mid new f g h (first.spares tells sound) (second.spares tells (first.stands tells sound));
     strays = λ tells sound. second.strays tells (first.stands tells sound) ∙ first.strays tells sound;
     fits = λ tells sound. fits_then (first.fits tells sound) (second.fits tells (first.stands tells sound));
-    enough = λ tells sound room. let one = (first.fits tells sound).room in IfErr-weaker r _ _ (λ e fails damaged. lay_fails x e first (fails damaged)) (second.enough tells (first.stands tells sound) (omega (arith, one, room)));
+    enough = λ tells sound room. let one = (first.fits tells sound).room in second.enough tells (first.stands tells sound) (omega (arith, one, room));
     counts = counts_then old mid new r first.counts.calm second.counts;
     cause = IfErr-weaker r _ _ (λ e fails. flush_fails x e first fails) second.cause;
+    source = λ tells sound. IfErr-weaker r _ _ (λ e cause. cause_later old mid new e first.counts.calm cause) (second.source tells (first.stands tells sound));
   }
+
+  pub stores_then : {S : Type 0} (x : S) → LaysTrees told old mid f g (Ok x) → told → KeepsStored old mid f g → KeepsStored mid new g h → KeepsStored old new f h
+  stores_then x lays tells first second sound led was = second (lays.stands tells sound) (lays.led tells sound led) (first sound led was)
 
 -- a call of the inode file that failed in the middle
 pub laid_failed : (told : Type 0) (old mid new : Shown) (f h : Files) (e : BlockFault) → IsCalm old mid → (told → AreStanding old f → IsPlacedTable (table_in old f) (table_in mid h)) → FilesFail told (table_in mid h) mid new e → LayFails told old new f e

@@ -5,6 +5,7 @@ pub mod Whole
 pub mod Wrote
 pub mod Made
 pub mod Beside
+pub mod Stored
 pub mod Kept
 pub mod Changed
 pub mod Steps

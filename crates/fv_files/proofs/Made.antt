@@ -1,5 +1,5 @@
 -- A table in which a file was made.
-use Rattle.std.proofs.Common.{◌≡◌, ◌≢◌, ℕ, true, false, cond, nat_eq, List, refl, sym, ap, subst, ◌∙◌, arith, inr}
+use Rattle.std.proofs.Common.{◌≡◌, ◌≢◌, ℕ, ◌/◌, true, false, cond, nat_eq, List, refl, sym, ap, subst, ◌∙◌, arith, inr}
 use Rattle.std.specs.Prelude.{Option, Some, None, is_some}
 use Rattle.std.specs.Option.{option_map}
 use Rattle.std.specs.FinMap as fin
@@ -8,12 +8,13 @@ use Rattle.fv_codec.specs.declared.inode.InodeRecord.{InodeRecord}
 use Rattle.fv_model.specs.Trees.{least_levels}
 use Rattle.fv_model.specs.Tables.{new}
 use Rattle.fv_tables.specs.Spelled.{Rooted, hole, stored}
-use Rattle.fv_tables.specs.Told.{file_at, tree_or, tree_of, table_told}
+use Rattle.fv_tables.specs.Told.{records_each, file_at, tree_or, tree_of, table_told}
 use Rattle.fv_tree.specs.declared.kept.Tree.{Tree}
 use Rattle.fv_tree.specs.Sources.{Shown}
 use Rattle.fv_tree.specs.Standing.{standing, under, Shows}
 use Rattle.fv_tree.specs.Flushing.{Stands, loaded}
 use Rattle.fv_tree.specs.Leading.{LeadsNoMore}
+use Rattle.fv_tree.specs.Readying.{KeepsReady}
 use Rattle.fv_tree.specs.Beside.{unread, LeadsTo}
 use Rattle.fv_tree.proofs.Beside.{loading_spares}
 use Rattle.fv_tree.proofs.Seen.{empty_shown}
@@ -21,13 +22,15 @@ use Rattle.fv_inode.specs.declared.info.Info.{Info}
 use Rattle.fv_inode.specs.declared.file.InodeFile.{InodeFile}
 use Rattle.fv_inode.specs.Files.{rooted, new_record}
 use Rattle.fv_inode.specs.Changing.{Makes}
+use Rattle.fv_inode.proofs.Indexed.{rewritten_indexes}
 use Rattle.fv_inode.proofs.Placed.{keeps_others}
 use Rattle.fv_inode.proofs.Told.{created_told}
 use Rattle.fv_files.specs.declared.files.Files.{Files}
 use Rattle.fv_files.specs.Apart.{LeadsIn}
-use Rattle.fv_files.specs.Tables.{table_in, tree_in, file_loaded, loaded_trees, AreStanding, IsLed}
+use Rattle.fv_files.specs.Tables.{table_in, tree_in, file_loaded, loaded_trees, AreStanding, IsLed, IsStored}
+use Rattle.fv_tree.specs.Stored.{IsStoredWell}
 use Rattle.fv_files.proofs.Beside.{IsBare, loading_lets_go, loading_uses}
-use Rattle.fv_files.proofs.Kept.{inode_led, inode_stands}
+use Rattle.fv_files.proofs.Kept.{inode_led, inode_stands, inode_stored}
 use Rattle.fv_files.proofs.Whole.{not_some}
 
 -- no tree is in memory where no file is
@@ -73,10 +76,15 @@ module _ (old now : Shown) (f : Files) (i : InodeFile) (name : List ℕ) (reserv
       let is : loaded_trees (under now) g (Some n) ≡ Some (unread (stored (under now) n (least_levels reserve) hole)) = (λ j. option_map (λ r. file_loaded (under now) n r (none j)) (own j)) in
       subst IsBare (sym is) (stored (under now) n (least_levels reserve) hole, refl, refl, λ level place. refl)
 
-  pub made_sound : now.used ≡ old.used → i.tree.owner ≡ f.inode.tree.owner → Stands now i.tree → LeadsNoMore (loaded old f.inode.tree) (loaded now i.tree) → AreStanding now g
-  made_sound used owner inode no_more = inode_stands old now f g n (λ k differs. refl) others sound
+  pub made_sound : now.used ≡ old.used → i.tree.owner ≡ f.inode.tree.owner → Stands now i.tree → LeadsNoMore (loaded old f.inode.tree) (loaded now i.tree) → KeepsReady f.inode.tree i.tree → AreStanding now g
+  made_sound used owner inode no_more keeps_ready = inode_stands old now f g n (λ k differs. refl) others sound
       (loading_spares old now (LeadsTo (loaded old f.inode.tree)) (LeadsTo (loaded now i.tree)) held used (λ v led. record { level = led.level; place = led.place; leads = no_more led.level led.place v led.leads }))
-      (inr bare) owner inode (λ t at. absurd (not_some (tree_in f n) t none at))
+      (inr bare) owner inode (λ t at. absurd (not_some (tree_in f n) t none at)) (λ k there. keeps_ready (k / records_each) (sound.ready k there))
+
+  pub made_stored : now.used ≡ old.used → IsStoredWell (loaded now i.tree) → LeadsNoMore (loaded old f.inode.tree) (loaded now i.tree) → IsStored old f → IsStored now g
+  made_stored used well no_more = inode_stored old now f g n (λ k differs. refl) others sound
+      (loading_spares old now (LeadsTo (loaded old f.inode.tree)) (LeadsTo (loaded now i.tree)) held used (λ v led. record { level = led.level; place = led.place; leads = no_more led.level led.place v led.leads }))
+      (inr bare) well (rewritten_indexes (rooted old f.inode) (rooted now i) n s _ makes.rewrites)
 
   -- what is in use is led to
   pub made_led : now.used ≡ old.used → LeadsNoMore (loaded old f.inode.tree) (loaded now i.tree) → LeadsNoMore (loaded now i.tree) (loaded old f.inode.tree) → IsLed old f → IsLed now g

@@ -1,5 +1,5 @@
 -- A file that is held ready for a change, and the change after it.
-use Rattle.std.proofs.Common.{◌≡◌, ◌≢◌, ℕ, Bool, true, false, cond, nat_eq, arith, inl, inr, List, Result, Ok, Err, refl, sym, ap, subst, ◌∙◌, ⊎_elim}
+use Rattle.std.proofs.Common.{◌≡◌, ◌≢◌, ℕ, ◌/◌, Bool, true, false, cond, nat_eq, arith, inl, inr, List, Result, Ok, Err, refl, sym, ap, subst, ◌∙◌, ⊎_elim}
 use Rattle.std.specs.Prelude.{Option, Some, None, is_some, IfOk}
 use Rattle.std.specs.Option.{option_map}
 use Rattle.std.specs.Ordering.{nat_cmp}
@@ -13,7 +13,7 @@ use Rattle.fv_codec.specs.declared.inode.InodeRecord.{InodeRecord}
 use Rattle.fv_model.specs.Tables.{Table, put, cut, rm}
 use Rattle.fv_laws.specs.WellFormed.{IsWellTable}
 use Rattle.fv_tables.specs.Spelled.{Under, Rooted, stored}
-use Rattle.fv_tables.specs.Told.{AreTold, file_at, Standing, tree_or, tree_of, file_in, table_told}
+use Rattle.fv_tables.specs.Told.{AreTold, records_each, file_at, Standing, tree_or, tree_of, file_in, table_told}
 use Rattle.fv_tables.specs.Kept.{IsPlacedTable}
 use Rattle.fv_tables.proofs.Tables.{files_told, placed_table}
 use Rattle.fv_tree.specs.declared.kept.Tree.{Tree}
@@ -22,6 +22,7 @@ use Rattle.fv_tree.specs.Standing.{standing, under, Fails}
 use Rattle.fv_tree.specs.Writing.{IsAlike}
 use Rattle.fv_tree.specs.Flushing.{IsSound, ReachesOnce, loaded, loaded_over, Stands}
 use Rattle.fv_tree.specs.Leading.{LeadsNoMore}
+use Rattle.fv_tree.specs.Readying.{IsReady, KeepsReady}
 use Rattle.fv_tree.specs.Beside.{unread, LeadsTo}
 use Rattle.fv_tree.proofs.Beside.{loading_spares, unread_reaches}
 use Rattle.fv_tree.proofs.Causes.{counts_then, fails_later, untouched_then}
@@ -31,18 +32,21 @@ use Rattle.fv_inode.specs.Files.{rooted}
 use Rattle.fv_inode.specs.Failing.{Alters}
 use Rattle.fv_inode.specs.Readying.{IsReadyFile}
 use Rattle.fv_inode.proofs.Alike.{alike_itself}
+use Rattle.fv_inode.proofs.Indexed.{alike_indexes}
 use Rattle.fv_inode.proofs.Placed.{keeps_others}
 use Rattle.fv_inode.proofs.Slots.{alike_files}
 use Rattle.fv_files.specs.declared.files.Files.{Files}
-use Rattle.fv_files.specs.Apart.{LeadsIn, LeadsFrom, StandsIn}
-use Rattle.fv_files.specs.Tables.{table_in, tree_in, tree_known, file_loaded, loaded_trees, AreStanding, IsInfoOf, IsLed, IsTold}
+use Rattle.fv_files.specs.Apart.{LeadsIn, LeadsFrom, StandsIn, StoredIn}
+use Rattle.fv_tree.specs.Stored.{IsStoredWell}
+use Rattle.fv_files.specs.Tables.{table_in, tree_in, tree_known, file_loaded, loaded_trees, AreStanding, IsInfoOf, IsLed, IsStored, IsTold}
 use Rattle.fv_files.specs.Failing.{FilesFail, Looks}
 use Rattle.fv_laws.specs.Positions.{taken_by_rm}
-use Rattle.fv_files.specs.Calls.{WritesCell, CutsFile, RemovesFile, TakesByCut, TakesByRemoval, Changes, Holds, IsUnread, KeepsLed, KeptFails, Prepares}
+use Rattle.fv_files.specs.Calls.{WritesCell, CutsFile, RemovesFile, TakesByCut, TakesByRemoval, Changes, Holds, IsUnread, KeepsLed, KeptFails, Prepares, SparesOthers}
 use Rattle.fv_files.proofs.Beside.{loading_lets_go, loading_uses, reread_leads, unread_leads}
 use Rattle.fv_files.proofs.Looked.{Held, counts_failed, counts_done, looks_inode}
 use Rattle.fv_files.proofs.Tables.{file_tree, kept_known, placed_alike, same_placed, some_same, stored_known}
-use Rattle.fv_files.proofs.Kept.{own_tree_is, moved_tree, same_trees, file_led, file_stands, inode_led, inode_stands}
+use Rattle.fv_files.proofs.Kept.{own_tree_is, moved_tree, same_trees, file_led, file_stands, file_stored, inode_led, inode_spares, inode_stands, inode_stored}
+use Rattle.fv_files.proofs.Stored.{unread_stored}
 use Rattle.fv_files.proofs.Changed.{with_trees, with_inode}
 use Rattle.fv_files.proofs.Steps.{same_room}
 
@@ -76,6 +80,7 @@ module _ (told well : Type 0) (old mid : Shown) (f g : Files) (info : Info) wher
     failed = first.same;
     untouched = first.looks.untouched;
     stands = λ tells asked. first.stands tells;
+    stored = λ tells asked. first.stored tells;
     strays = λ tells sound. first.looks.untouched.strays;
     room = same_room old mid first.looks.untouched;
     counts = counts_failed {S = Bool} old mid (Err e) e first.looks.counts;
@@ -88,6 +93,7 @@ module _ (told well : Type 0) (old mid : Shown) (f g : Files) (info : Info) wher
     failed = λ tells. tt;
     untouched = tt;
     stands = λ tells asked. first.stands tells;
+    stored = λ tells asked. first.stored tells;
     strays = λ tells sound. first.looks.untouched.strays;
     room = same_room old mid first.looks.untouched;
     counts = counts_done old mid there x first.looks.counts;
@@ -119,6 +125,7 @@ module _ (told well : Type 0) (old mid : Shown) (f g : Files) (info : Info) wher
       failed = λ tells. on_err_weaker r (λ same. same ∙ first.same tells) (second.failed tells);
       untouched = on_err_weaker r (λ same. untouched_then old mid new first.looks.untouched same) second.untouched;
       stands = λ tells asked sound. second.stands tells (so tells asked) (first.stands tells sound);
+      stored = λ tells asked sound was. second.stored tells (so tells asked) (first.stands tells sound) (first.stored tells sound was);
       strays = λ tells sound. second.strays tells (first.stands tells sound) ∙ first.looks.untouched.strays;
       room = (let one = first.looks.untouched.room in let two = second.room in omega (arith, one, two));
       counts = counts_then old mid new r first.looks.counts.calm second.counts;
@@ -134,13 +141,28 @@ module _ (old new : Shown) (f g : Files) (untouched : IsUntouched old new) (alik
   pub readied_told : IsTold old f new g
   readied_told = placed_table (table_in old f) (table_in new g) readied_placed
 
-  pub readied_stands : g.inode.tree.owner ≡ f.inode.tree.owner → (Stands old f.inode.tree → Stands new g.inode.tree) → LeadsNoMore (loaded old f.inode.tree) (loaded new g.inode.tree) → AreStanding old f → AreStanding new g
-  readied_stands owner stands no_more sound =
+  pub readied_stands : g.inode.tree.owner ≡ f.inode.tree.owner → (Stands old f.inode.tree → Stands new g.inode.tree) → LeadsNoMore (loaded old f.inode.tree) (loaded new g.inode.tree) → KeepsReady f.inode.tree g.inode.tree → AreStanding old f → AreStanding new g
+  readied_stands owner stands no_more keeps_ready sound =
       let files = alike_files (rooted old f.inode) (rooted new g.inode) alike in
       inode_stands old new f g 0 (λ k differs. trees k) (λ k differs. files k) sound
       (loading_spares old new (LeadsTo (loaded old f.inode.tree)) (LeadsTo (loaded new g.inode.tree)) untouched.held untouched.used (λ v led. record { level = led.level; place = led.place; leads = no_more led.level led.place v led.leads }))
       (same_trees (under old) (under new) f g 0 (trees 0) (files 0)) owner (stands (sound.trees None))
       (λ t at. let own = sound.owners 0 t (sym (trees 0) ∙ at) in (own.0, ap is_some (files 0) ∙ own.1))
+      (λ k there. keeps_ready (k / records_each) (sound.ready k (ap is_some (sym (trees k)) ∙ there)))
+
+  pub readied_spares : LeadsNoMore (loaded old f.inode.tree) (loaded new g.inode.tree) → AreStanding old f → SparesOthers old new f g
+  readied_spares no_more sound =
+      let files = alike_files (rooted old f.inode) (rooted new g.inode) alike in
+      inode_spares old new f g 0 (λ k differs. trees k) (λ k differs. files k) sound
+      (loading_spares old new (LeadsTo (loaded old f.inode.tree)) (LeadsTo (loaded new g.inode.tree)) untouched.held untouched.used (λ v led. record { level = led.level; place = led.place; leads = no_more led.level led.place v led.leads }))
+      (same_trees (under old) (under new) f g 0 (trees 0) (files 0))
+
+  pub readied_stored : (IsStoredWell (loaded old f.inode.tree) → IsStoredWell (loaded new g.inode.tree)) → LeadsNoMore (loaded old f.inode.tree) (loaded new g.inode.tree) → AreStanding old f → IsStored old f → IsStored new g
+  readied_stored well no_more sound was =
+      let files = alike_files (rooted old f.inode) (rooted new g.inode) alike in
+      inode_stored old new f g 0 (λ k differs. trees k) (λ k differs. files k) sound
+      (loading_spares old new (LeadsTo (loaded old f.inode.tree)) (LeadsTo (loaded new g.inode.tree)) untouched.held untouched.used (λ v led. record { level = led.level; place = led.place; leads = no_more led.level led.place v led.leads }))
+      (same_trees (under old) (under new) f g 0 (trees 0) (files 0)) (well (was.trees None)) (alike_indexes (rooted old f.inode) (rooted new g.inode) alike) was
 
   pub readied_led : LeadsNoMore (loaded old f.inode.tree) (loaded new g.inode.tree) → LeadsNoMore (loaded new g.inode.tree) (loaded old f.inode.tree) → AreStanding old f → IsLed old f → IsLed new g
   readied_led no_more keeps sound =
@@ -182,8 +204,8 @@ module _ (source : Shown) (f : Files) (m : maps.BTreeMap ℕ Tree) (info : Info)
   held_told = placed_table (table_in source f) (table_in source g) (placed_alike (table_in source f) (table_in source g) n (alike_itself (rooted source f.inode))
       (keeps_others (table_in source f) (table_in source g) n refl (λ k differs. ap (option_map (standing (under source))) (others k differs))) own_told)
 
-  pub held_stands : AreStanding source f → AreStanding source g
-  held_stands sound =
+  pub held_stands : IsReady f.inode.tree (info.number / records_each) → AreStanding source f → AreStanding source g
+  held_stands ready sound =
       let was : IsSound source.used (unread (stored (under source) n is.file.levels is.file.root)) = subst (StandsIn source.used) was_tree (sound.trees (Some n)) in
       let reached = unread_reaches source.used (stored (under source) n is.file.levels is.file.root) was in
       let stands : IsSound source.used (loaded_over (under source) t) = stored_is.stands (under source) source.used (subst (λ (v : Info). ReachesOnce source.used (stored (under source) n v.levels v.root)) (sym is.told) reached) in
@@ -192,6 +214,15 @@ module _ (source : Shown) (f : Files) (m : maps.BTreeMap ℕ Tree) (info : Info)
       (λ v led. subst (λ o. LeadsIn o v) (sym was_tree) (unread_leads (under source) t (stored (under source) n is.file.levels is.file.root) (own_stored (under source)) v (subst (λ o. LeadsIn o v) now_tree led))))
       (subst (StandsIn source.used) (sym now_tree) stands)
       (λ u at. (ap (λ (x : Tree). x.owner) (some_same u t (sym at ∙ now)) ∙ ap (λ (s : Rooted). s.owner) (stored_is.is (under source)), ap is_some is.there))
+      (λ _. ready)
+
+  pub held_stored : AreStanding source f → IsStored source f → IsStored source g
+  held_stored sound well =
+      let was : IsStoredWell (unread (stored (under source) n is.file.levels is.file.root)) = subst StoredIn was_tree (well.trees (Some n)) in
+      file_stored source source f g n refl others sound
+      (loading_spares source source (LeadsFrom (loaded_trees (under source) f) (Some n)) (LeadsFrom (loaded_trees (under source) g) (Some n)) refl refl
+      (λ v led. subst (λ o. LeadsIn o v) (sym was_tree) (unread_leads (under source) t (stored (under source) n is.file.levels is.file.root) (own_stored (under source)) v (subst (λ o. LeadsIn o v) now_tree led))))
+      (subst StoredIn (sym now_tree) (unread_stored (under source) t (stored (under source) n is.file.levels is.file.root) (own_stored (under source)) was)) well
 
   pub held_led : AreStanding source f → IsLed source f → IsLed source g
   held_led sound =
@@ -236,7 +267,10 @@ module _ {T : Type 0} (told : Type 0) (old new : Shown) (f : Files) (i : InodeFi
   half_same tells = readied_told old new f half alters.looks.untouched (alike tells) trees
 
   pub half_stands : told → AreStanding old f → AreStanding new half
-  half_stands tells = readied_stands old new f half alters.looks.untouched (alike tells) trees alters.owner (alters.stands tells) (alters.leads tells)
+  half_stands tells = readied_stands old new f half alters.looks.untouched (alike tells) trees alters.owner (alters.stands tells) (alters.leads tells) alters.keeps_ready
+
+  pub half_stored : told → AreStanding old f → IsStored old f → IsStored new half
+  half_stored tells = readied_stored old new f half alters.looks.untouched (alike tells) trees (alters.stored_well tells) (alters.leads tells)
 
   pub half_led : told → KeepsLed old new f half
   half_led tells sound led = readied_led old new f half alters.looks.untouched (alike tells) trees (alters.leads tells) (alters.keeps tells) sound led
@@ -254,6 +288,7 @@ module _ {T : Type 0} (told : Type 0) (old new : Shown) (f : Files) (i : InodeFi
     same = half_same;
     alike = alike;
     stands = half_stands;
+    stored = half_stored;
     led = half_led;
     looks = looks;
     found = found;
@@ -290,7 +325,9 @@ module _ (told : Type 0) (old new : Shown) (f : Files) (i : InodeFile) (m : maps
           let known = half_known told old new f i f.trees info (Ok true) alters alike (λ k. refl) is in record {
             same = λ tells. held_told new half_way m info holds.tree (known tells) new_one.0 new_one.1 holds.now holds.others ∙ half_same told old new f i f.trees info (Ok true) alters alike (λ k. refl) is tells;
             alike = alike;
-            stands = λ tells sound. held_stands new half_way m info holds.tree (known tells) new_one.0 new_one.1 holds.now holds.others (half_stands told old new f i f.trees info (Ok true) alters alike (λ k. refl) is tells sound);
+            stands = λ tells sound. held_stands new half_way m info holds.tree (known tells) new_one.0 new_one.1 holds.now holds.others ready.way (half_stands told old new f i f.trees info (Ok true) alters alike (λ k. refl) is tells sound);
+            stored = λ tells sound was. held_stored new half_way m info holds.tree (known tells) new_one.0 new_one.1 holds.now holds.others (half_stands told old new f i f.trees info (Ok true) alters alike (λ k. refl) is tells sound)
+                (half_stored told old new f i f.trees info (Ok true) alters alike (λ k. refl) is tells sound was);
             led = λ tells sound led. held_led new half_way m info holds.tree (known tells) new_one.0 new_one.1 holds.now holds.others (half_stands told old new f i f.trees info (Ok true) alters alike (λ k. refl) is tells sound)
                 (half_led told old new f i f.trees info (Ok true) alters alike (λ k. refl) is tells sound led);
             looks = done;

@@ -1,16 +1,17 @@
 -- A table from which a file was taken away.
-use Rattle.std.proofs.Common.{◌≡◌, ◌≢◌, ◌≤◌, ◌+◌, ◌*◌, ◌^◌, ℕ, true, false, cond, nat_eq, nat_le, inr, Ok, sym, ap, subst, ◌∙◌, ⊎_elim, arith}
+use Rattle.std.proofs.Common.{◌≡◌, ◌≢◌, ◌≤◌, ◌+◌, ◌*◌, ◌/◌, ◌^◌, ℕ, true, false, cond, nat_eq, nat_le, inr, Ok, sym, ap, subst, ◌∙◌, ⊎_elim, arith}
 use Rattle.std.specs.Prelude.{Option, Some, None, is_some, map}
 use Rattle.std.specs.Option.{option_map}
 use Rattle.std.specs.Ordering.{nat_cmp}
 use Rattle.std.specs.BTreeMap as maps
 use Rattle.std.specs.FinMap as fin
+use Rattle.std.proofs.lemmas.Bool.{cases_eq}
 use Rattle.std.proofs.lemmas.Bool.Decides.{nat_tests}
 use Rattle.fv_model.specs.Trees.{fan}
 use Rattle.fv_model.specs.Tables.{inode_cell}
 use Rattle.fv_laws.specs.WellFormed.{IsWellTable}
 use Rattle.fv_tables.specs.Spelled.{stored, pointer_at}
-use Rattle.fv_tables.specs.Told.{file_at, table_told, tree_of, tree_or}
+use Rattle.fv_tables.specs.Told.{records_each, file_at, table_told, tree_of, tree_or}
 use Rattle.fv_tree.specs.declared.kept.Tree.{Tree}
 use Rattle.fv_tree.specs.Sources.{Shown}
 use Rattle.fv_tree.specs.Counting.{positions_of}
@@ -20,6 +21,8 @@ use Rattle.fv_tree.specs.Erasing.{HoldsCells, IsGrownFrom}
 use Rattle.fv_tree.specs.Costs.{pending}
 use Rattle.fv_tree.specs.Flushing.{loaded, Stands}
 use Rattle.fv_tree.specs.Beside.{LeadsTo, Spares}
+use Rattle.fv_tree.specs.Readying.{IsReady}
+use Rattle.fv_inode.specs.Readying.{IsReadyFile}
 use Rattle.fv_tree.proofs.Beside.{removal_spares}
 use Rattle.fv_tree.proofs.Causes.{counts_then}
 use Rattle.fv_tree.proofs.Counts.{alike_count}
@@ -34,16 +37,18 @@ use Rattle.fv_inode.proofs.Placed.{KeepsOthers}
 use Rattle.fv_inode.proofs.Slots.{alike_files}
 use Rattle.fv_inode.proofs.Told.{inode_told}
 use Rattle.fv_files.specs.declared.files.Files.{Files}
-use Rattle.fv_files.specs.Tables.{table_in, tree_in, file_loaded, loaded_trees, AreStanding, IsLed}
+use Rattle.fv_files.specs.Tables.{table_in, tree_in, file_loaded, loaded_trees, AreStanding, IsLed, IsStored}
+use Rattle.fv_tree.specs.Stored.{IsStoredWell}
 use Rattle.fv_files.specs.Apart.{LeadsFrom}
 use Rattle.fv_files.specs.Pending.{pending_in, pending_trees, tree_cost}
 use Rattle.fv_files.specs.Calls.{Becomes, Changes, CutsKept, KeptFails, RemovesFile, TakesByRemoval}
 use Rattle.fv_files.proofs.Beside.{IsBare, LetsGo, UsesNoMore}
-use Rattle.fv_files.proofs.Kept.{records_told, inode_led, inode_stands}
+use Rattle.fv_files.proofs.Kept.{records_told, inode_led, inode_stands, inode_stored}
 use Rattle.fv_files.proofs.Looked.{counts_done}
 use Rattle.fv_files.proofs.Adding.{grown_holds}
 use Rattle.fv_files.proofs.Counted.{few_positions, nothing_left, removal_counted, tree_holds}
-use Rattle.fv_files.proofs.Changed.{has_record, with_trees, kept_inode, kept_leads, kept_led, kept_others, kept_stands}
+use Rattle.fv_files.proofs.Whole.{none_there}
+use Rattle.fv_files.proofs.Changed.{has_record, own_ready, with_trees, kept_inode, kept_leads, kept_led, kept_others, kept_stands, kept_stored, owned_stored}
 use Rattle.fv_files.proofs.Steps.{cut_spares, cut_stood, none_some, removal_goes, removal_uses}
 
 -- the inode file of a well-formed table has no mark over holes alone
@@ -90,13 +95,21 @@ module _ (old mid new : Shown) (f : Files) (m last : maps.BTreeMap ℕ Tree) (i 
     nothing = ap (option_map (λ r. file_loaded (under new) n r (tree_in h n))) no_file
 
     -- All trees that are left stand on their blocks,
-    pub removed_stands : i.tree.owner ≡ f.inode.tree.owner → (Stands mid f.inode.tree → Stands new i.tree) → AreStanding new h
-    removed_stands owner inode =
+    pub removed_stands : i.tree.owner ≡ f.inode.tree.owner → (Stands mid f.inode.tree → Stands new i.tree) → ((k : ℕ) → k ≢ n → IsReadyFile f.inode k → IsReady i.tree (k / records_each)) → AreStanding new h
+    removed_stands owner inode others_ready =
         inode_stands mid new g h n other_trees other_files middle second
         (inr (subst IsBare (sym nothing) tt)) owner (inode (middle.trees None)) (λ w at. absurd (not_some (tree_in h n) w no_tree at))
+        (λ k there. ⊎_elim
+        (λ (same : k ≡ n). none_there (tree_in h n) no_tree (ap (λ j. is_some (tree_in h j)) (sym same) ∙ there))
+        (λ (differs : k ≢ n). others_ready k differs (own_ready mid g k (ap is_some (sym (other_trees k differs)) ∙ there) middle))
+        (cases_eq k n))
       where
         not_some : (o : Option Tree) (w : Tree) → o ≡ None → o ≡ Some w → ⊥
         not_some o w none some = let wrong : false ≡ true = sym (ap is_some none) ∙ ap is_some some in cc
+
+    -- what they lead to is as their pointers say,
+    pub removed_stored : IsStoredWell (loaded new i.tree) → IsStored mid g → IsStored new h
+    removed_stored well = inode_stored mid new g h n other_trees other_files middle second (inr (subst IsBare (sym nothing) tt)) well taken.indexes
 
     -- what is in use is led to,
     pub removed_led : ((v : ℕ) → LeadsFrom (loaded_trees (under mid) g) (Some n) v → ⊥) → LetsGo new (LeadsTo (loaded mid f.inode.tree)) (LeadsTo (loaded new i.tree)) → UsesNoMore mid new (LeadsTo (loaded mid f.inode.tree)) (LeadsTo (loaded new i.tree)) → IsLed mid g → IsLed new h
@@ -135,8 +148,14 @@ module _ (told cut_calls take_calls : Type 0) (old mid new : Shown) (f : Files) 
     pub remove_table : is_some (file_at (rooted old f.inode) n) ≡ true → RemovesFile (table_in old f) (table_in new (record { inode = i; trees = last; alloc = f.alloc })) n s
     remove_table = removed_table old mid new f m last i n s cuts.tree cuts.next cuts.becomes sound first cuts.removal.owner (cuts.removal.stands tells stood) gone second (takes.removed tells)
 
-    remove_stands : HoldsCells (rooted old f.inode) → AreStanding new (record { inode = i; trees = last; alloc = f.alloc })
-    remove_stands holds = removed_stands old mid new f m last i n s cuts.tree cuts.next cuts.becomes sound first cuts.removal.owner (cuts.removal.stands tells stood) gone second (takes.removed tells) holds takes.owner (takes.stands tells)
+    remove_stands : HoldsCells (rooted old f.inode) → ((k : ℕ) → k ≢ n → IsReadyFile f.inode k → IsReady i.tree (k / records_each)) → AreStanding new (record { inode = i; trees = last; alloc = f.alloc })
+    remove_stands holds others_ready = removed_stands old mid new f m last i n s cuts.tree cuts.next cuts.becomes sound first cuts.removal.owner (cuts.removal.stands tells stood) gone second (takes.removed tells) holds takes.owner (takes.stands tells) others_ready
+
+    remove_stored : HoldsCells (rooted old f.inode) → IsStored old f → IsStored new (record { inode = i; trees = last; alloc = f.alloc })
+    remove_stored holds was =
+        let half = kept_stored old mid f m n cuts.tree cuts.next cuts.becomes sound first (cuts.removal.stored_well tells stood (owned_stored old f n cuts.tree cuts.becomes.was sound was)) was in
+        removed_stored old mid new f m last i n s cuts.tree cuts.next cuts.becomes sound first cuts.removal.owner (cuts.removal.stands tells stood) gone second (takes.removed tells) holds
+        (takes.stored_well tells (half_way.trees None) (half.trees None)) half
 
     -- what is in use is led to
     pub remove_led : is_some (file_at (rooted old f.inode) n) ≡ true → (now : ℕ) → IsWellTable now (table_told (table_in old f)) → IsLed old f → IsLed new (record { inode = i; trees = last; alloc = f.alloc })
@@ -177,12 +196,13 @@ module _ (told cut_calls take_calls : Type 0) (old mid new : Shown) (f : Files) 
         let gone_here = takes.count tells (half_way.trees None) in
         omega (arith, one, two, gone_there, gone_here)
 
-  pub remove_done : {T : Type 0} (x : T) → Changes told (HoldsCells (rooted old f.inode)) old new f (record { inode = i; trees = last; alloc = f.alloc }) (KeptFails told old new f n) (Ok x)
-  remove_done x =
+  pub remove_done : {T : Type 0} (x : T) → ((k : ℕ) → k ≢ n → IsReadyFile f.inode k → IsReady i.tree (k / records_each)) → Changes told (HoldsCells (rooted old f.inode)) old new f (record { inode = i; trees = last; alloc = f.alloc }) (KeptFails told old new f n) (Ok x)
+  remove_done x others_ready =
       let both = counts_then old mid new (Ok count) cuts.removal.counts.calm takes.counts in record {
         failed = λ tells. tt;
         untouched = tt;
-        stands = λ tells holds sound. remove_stands tells sound holds;
+        stands = λ tells holds sound. remove_stands tells sound holds others_ready;
+        stored = λ tells holds sound was. remove_stored tells sound holds was;
         room = (let one = cuts.removal.room in let two = takes.room in omega (arith, one, two));
         strays = λ tells sound. takes.strays tells ((half_way tells sound).trees None) ∙ cuts.removal.strays tells (stood tells sound);
         counts = counts_done old new count x both;

@@ -12,6 +12,8 @@ use Rattle.fv_tree.specs.Sources.{Shown, IsUntouched, Use}
 use Rattle.fv_tree.specs.Standing.{standing, under, Fails}
 use Rattle.fv_tree.specs.Flushing.{IsSound, Stands, loaded, loaded_over}
 use Rattle.fv_tree.specs.Leading.{LeadsNoMore}
+use Rattle.fv_tree.specs.Stored.{IsStoredWell}
+use Rattle.fv_tree.specs.Readying.{KeepsReady}
 use Rattle.fv_tree.specs.Removal.{Removal}
 use Rattle.fv_tree.specs.Erasing.{HoldsCells}
 use Rattle.fv_tree.specs.Beside.{LeadsTo, Spares}
@@ -25,7 +27,7 @@ use Rattle.fv_files.specs.Pending.{pending_trees}
 use Rattle.fv_files.proofs.Beside.{LetsGo, UsesNoMore, loading_lets_go, loading_uses}
 use Rattle.fv_files.proofs.Looked.{counts_failed}
 use Rattle.fv_files.proofs.Tables.{some_same}
-use Rattle.fv_files.proofs.Changed.{with_trees, failed_told, kept_led, kept_stands, both_led, both_stand, owned_stands}
+use Rattle.fv_files.proofs.Changed.{with_trees, failed_told, kept_led, kept_stands, both_led, both_stand, owned_stands, owned_stored, kept_stored, both_stored}
 
 -- a call of a tree that only loads
 pub loaded_spares : (old new : Shown) (t u : Tree) → IsUntouched old new → LeadsNoMore (loaded old t) (loaded new u) → Spares old new (LeadsTo (loaded old t)) (LeadsTo (loaded new u))
@@ -43,6 +45,8 @@ pub record Restates (f : Files) (i : InodeFile) (n s : ℕ) (change : InodeRecor
   pub sound : (blocks : Under) (used : ℕ → Option Use) → IsSound used (loaded_over blocks f.inode.tree) → IsSound used (loaded_over blocks i.tree)
   pub leads : (blocks : Under) → LeadsNoMore (loaded_over blocks f.inode.tree) (loaded_over blocks i.tree)
   pub keeps : (blocks : Under) → LeadsNoMore (loaded_over blocks i.tree) (loaded_over blocks f.inode.tree)
+  pub keeps_ready : KeepsReady f.inode.tree i.tree
+  pub stored_well : (blocks : Under) → IsStoredWell (loaded_over blocks f.inode.tree) → IsStoredWell (loaded_over blocks i.tree)
 
 pub none_some : {X : Type 0} (o : Option X) → o ≡ None → is_some o ≡ true → ⊥
 none_some o none some = let wrong : is_some o ≡ true = some in absurd (so (sym wrong ∙ ap is_some none))
@@ -73,6 +77,8 @@ module _ (told well : Type 0) (old new : Shown) (f : Files) (m : maps.BTreeMap �
     untouched = puts.untouched;
     stands = λ tells asked sound. kept_stands old new f m n puts.tree puts.next puts.becomes sound (loaded_spares old new puts.tree puts.next puts.untouched (puts.leads tells)) puts.owner
         (puts.stands tells (owned_stands old f n puts.tree puts.becomes.was sound));
+    stored = λ tells asked sound was. kept_stored old new f m n puts.tree puts.next puts.becomes sound (loaded_spares old new puts.tree puts.next puts.untouched (puts.leads tells))
+        (puts.stored_well tells (owned_stored old f n puts.tree puts.becomes.was sound was)) was;
     strays = λ tells sound. puts.untouched.strays;
     room = same_room old new puts.untouched;
     counts = puts.counts;
@@ -84,8 +90,10 @@ module _ (told well : Type 0) (old new : Shown) (f : Files) (m : maps.BTreeMap �
   put_done i change x puts is = record {
     failed = λ tells. tt;
     untouched = tt;
-    stands = λ tells asked sound. both_stand old new f m n puts.tree puts.next puts.becomes i s change is.rewrites is.owner is.sound is.leads sound (loaded_spares old new puts.tree puts.next puts.untouched (puts.leads tells)) puts.owner
+    stands = λ tells asked sound. both_stand old new f m n puts.tree puts.next puts.becomes i s change is.rewrites is.owner is.sound is.leads is.keeps_ready sound (loaded_spares old new puts.tree puts.next puts.untouched (puts.leads tells)) puts.owner
         (puts.stands tells (owned_stands old f n puts.tree puts.becomes.was sound));
+    stored = λ tells asked sound was. both_stored old new f m n puts.tree puts.next puts.becomes i s change is.rewrites is.owner is.sound is.leads is.keeps_ready sound (loaded_spares old new puts.tree puts.next puts.untouched (puts.leads tells)) puts.owner
+        (puts.stands tells (owned_stands old f n puts.tree puts.becomes.was sound)) is.stored_well (puts.stored_well tells (owned_stored old f n puts.tree puts.becomes.was sound was)) was;
     strays = λ tells sound. puts.untouched.strays;
     room = same_room old new puts.untouched;
     counts = puts.counts;
@@ -104,7 +112,7 @@ module _ (told well : Type 0) (old new : Shown) (f : Files) (m : maps.BTreeMap �
     put_led_alone tells sound led = kept_led old new f m n puts.tree puts.next puts.becomes sound (loaded_spares old new puts.tree puts.next puts.untouched (puts.leads tells)) (put_goes tells) put_uses led
 
     pub put_led : (i : InodeFile) (change : InodeRecord → InodeRecord) → Restates f i n s change → told → KeepsLed old new f (record { inode = i; trees = m; alloc = f.alloc })
-    put_led i change is tells sound led = both_led old new f m n puts.tree puts.next puts.becomes i s change is.rewrites is.owner is.sound is.leads sound (loaded_spares old new puts.tree puts.next puts.untouched (puts.leads tells)) puts.owner
+    put_led i change is tells sound led = both_led old new f m n puts.tree puts.next puts.becomes i s change is.rewrites is.owner is.sound is.leads is.keeps_ready sound (loaded_spares old new puts.tree puts.next puts.untouched (puts.leads tells)) puts.owner
         (puts.stands tells (owned_stands old f n puts.tree puts.becomes.was sound)) is.keeps (put_goes tells) put_uses led
 
     pub put_pending : pending_trees m ≤ pending_trees f.trees + 6
@@ -120,6 +128,9 @@ module _ (told calls well : Type 0) (old new : Shown) (f : Files) (m : maps.BTre
     stands = λ tells asked sound.
         let stood = owned_stands old f n cuts.tree cuts.becomes.was sound in
         kept_stands old new f m n cuts.tree cuts.next cuts.becomes sound (loaded_spares old new cuts.tree cuts.next is.untouched (is.leads tells stood)) is.owner (is.stands tells stood);
+    stored = λ tells asked sound was.
+        let stood = owned_stands old f n cuts.tree cuts.becomes.was sound in
+        kept_stored old new f m n cuts.tree cuts.next cuts.becomes sound (loaded_spares old new cuts.tree cuts.next is.untouched (is.leads tells stood)) (is.stored_well tells stood (owned_stored old f n cuts.tree cuts.becomes.was sound was)) was;
     strays = λ tells sound. is.untouched.strays;
     room = is.room;
     counts = counts_failed {S = ℕ} old new (Err e) e is.counts;
@@ -138,7 +149,9 @@ module _ (told calls well : Type 0) (old new : Shown) (f : Files) (m : maps.BTre
   cut_done i change count cuts is = record {
     failed = λ tells. tt;
     untouched = tt;
-    stands = λ tells asked sound. both_stand old new f m n cuts.tree cuts.next cuts.becomes i s change is.rewrites is.owner is.sound is.leads sound (cut_spares count cuts tells sound) cuts.removal.owner (cuts.removal.stands tells (cut_stood count cuts tells sound));
+    stands = λ tells asked sound. both_stand old new f m n cuts.tree cuts.next cuts.becomes i s change is.rewrites is.owner is.sound is.leads is.keeps_ready sound (cut_spares count cuts tells sound) cuts.removal.owner (cuts.removal.stands tells (cut_stood count cuts tells sound));
+    stored = λ tells asked sound was. both_stored old new f m n cuts.tree cuts.next cuts.becomes i s change is.rewrites is.owner is.sound is.leads is.keeps_ready sound (cut_spares count cuts tells sound) cuts.removal.owner (cuts.removal.stands tells (cut_stood count cuts tells sound))
+        is.stored_well (cuts.removal.stored_well tells (cut_stood count cuts tells sound) (owned_stored old f n cuts.tree cuts.becomes.was sound was)) was;
     strays = λ tells sound. cuts.removal.strays tells (cut_stood count cuts tells sound);
     room = cuts.removal.room;
     counts = cuts.removal.counts;
@@ -159,7 +172,7 @@ module _ (told calls well : Type 0) (old new : Shown) (f : Files) (m : maps.BTre
 
   pub cut_led : (i : InodeFile) (change : InodeRecord → InodeRecord) (count : ℕ) → CutsKept told calls old new f.trees m n length start s (Ok count) → Restates f i n s change → told → KeepsLed old new f (record { inode = i; trees = m; alloc = f.alloc })
   cut_led i change count cuts is tells sound led =
-      both_led old new f m n cuts.tree cuts.next cuts.becomes i s change is.rewrites is.owner is.sound is.leads sound (cut_spares count cuts tells sound) cuts.removal.owner (cuts.removal.stands tells (cut_stood count cuts tells sound)) is.keeps
+      both_led old new f m n cuts.tree cuts.next cuts.becomes i s change is.rewrites is.owner is.sound is.leads is.keeps_ready sound (cut_spares count cuts tells sound) cuts.removal.owner (cuts.removal.stands tells (cut_stood count cuts tells sound)) is.keeps
       (removal_goes told calls old new cuts.tree cuts.next (nat_le length) start s count cuts.removal tells (cut_stood count cuts tells sound))
       (removal_uses told calls old new cuts.tree cuts.next (nat_le length) start s count cuts.removal tells) led
 

@@ -17,8 +17,10 @@ use Rattle.fv_tree.specs.Beside.{unread}
 use Rattle.fv_tree.proofs.Beside.{unread_sound}
 use Rattle.fv_files.specs.declared.files.Files.{Files}
 use Rattle.fv_files.specs.Trees.{standing_in}
-use Rattle.fv_files.specs.Apart.{LeadsIn, LeadsFrom, StandsIn, AreLed, stored_trees}
-use Rattle.fv_files.specs.Tables.{changed, tree_in, file_loaded, loaded_trees, AreSound, AreReached}
+use Rattle.fv_inode.specs.Files.{NamesIndexes}
+use Rattle.fv_files.specs.Apart.{LeadsIn, LeadsFrom, StandsIn, StoredIn, AreLed, stored_trees}
+use Rattle.fv_files.specs.Tables.{changed, tree_in, file_loaded, loaded_trees, AreSound, AreReached, IsStoredOn, IsStoredUnder}
+use Rattle.fv_files.proofs.Stored.{unread_stored}
 use Rattle.fv_files.proofs.Beside.{reread_leads, unread_leads}
 
 none_in : {K X : Type 0} (test : K → Bool) (es : List (K × X)) → length es ≡ 0 → lookup test es ≡ None
@@ -27,6 +29,9 @@ none_in test (x ∷ xs) e = absurd (omega (arith, e))
 
 pub not_some : {X : Type 0} (o : Option X) (x : X) → o ≡ None → o ≡ Some x → ⊥
 not_some o x none some = let wrong : false ≡ true = sym (ap is_some none) ∙ ap is_some some in cc
+
+pub none_there : {X P : Type 0} (o : Option X) → o ≡ None → is_some o ≡ true → P
+none_there o none there = let wrong : false ≡ true = sym (ap is_some none) ∙ there in absurd (grind (arith, wrong))
 
 -- no tree is in memory
 pub no_trees : (f : Files) → maps.btree_map_len f.trees ≡ 0 → (n : ℕ) → tree_in f n ≡ None
@@ -59,7 +64,16 @@ module _ (f : Files) (levels : ℕ) (root : Pointer) (is : (blocks : Under) → 
       owners = λ n t at. absurd (not_some (tree_in f n) t (no_trees f none n) at);
       trees = all_stand none blocks used reached;
       apart = λ a b v differs one other. reached.apart a b v differs (led_there none blocks a v one) (led_there none blocks b v other);
+      ready = λ n there. none_there (tree_in f n) (no_trees f none n) there;
     }
+
+  -- what it leads to is as its pointers say
+  pub stored_wells : maps.btree_map_len f.trees ≡ 0 → (blocks : Under) → IsStoredUnder blocks levels root → IsStoredOn blocks f
+  stored_wells none blocks well = record { trees = each; inodes = subst NamesIndexes (sym (is blocks)) well.inodes }
+    where
+      each : (a : Option ℕ) → StoredIn (loaded_trees blocks f a)
+      each None = unread_stored blocks f.inode.tree (stored blocks greatest_word levels root) (is blocks) (well.trees None)
+      each (Some n) = subst StoredIn (sym (file_is none blocks n)) (well.trees (Some n))
 
   stored_there : maps.btree_map_len f.trees ≡ 0 → (blocks : Under) (a : Option ℕ) (v : ℕ) → LeadsFrom (stored_trees blocks levels root) a v → LeadsFrom (loaded_trees blocks f) a v
   stored_there none blocks None v led = reread_leads blocks f.inode.tree greatest_word levels root (is blocks) v led

@@ -11,6 +11,7 @@ use Rattle.fv_tables.specs.Told.{file_at}
 use Rattle.fv_tree.specs.Sources.{Use}
 use Rattle.fv_tree.specs.Flushing.{Loaded, IsSound}
 use Rattle.fv_tree.specs.Beside.{unread, LeadsTo}
+use Rattle.fv_tree.specs.Stored.{IsStoredWell}
 
 -- the trees of a table as they stand to their blocks
 abbrev pub Trees : Type 0
@@ -24,6 +25,11 @@ LeadsIn (Some s) v = LeadsTo s v
 abbrev pub LeadsFrom : Trees → Option ℕ → ℕ → Type 0
 LeadsFrom x a v = LeadsIn (x a) v
 
+-- some tree of a table leads to this VVBN
+pub record LeadsAny (x : Trees) (v : ℕ) : Type 0 where
+  pub tree : Option ℕ
+  pub leads : LeadsFrom x tree v
+
 -- a tree, where there is one, stands on its blocks
 abbrev pub StandsIn : (ℕ → Option Use) → Option Loaded → Type 0
 StandsIn used None = Unit {0}
@@ -36,6 +42,15 @@ AreApart x = (a b : Option ℕ) (v : ℕ) → a ≢ b → LeadsFrom x a v → Le
 -- what no tree of a table leads to isn't in use
 abbrev pub AreLed : (ℕ → Option Use) → Trees → Type 0
 AreLed used x = (v : ℕ) → ((a : Option ℕ) → LeadsFrom x a v → ⊥) → used v ≡ None
+
+-- what a tree, where there is one, leads to is as its pointers say
+abbrev pub StoredIn : Option Loaded → Type 0
+StoredIn None = Unit {0}
+StoredIn (Some s) = IsStoredWell s
+
+-- so it is of each tree of a table
+abbrev pub AreStoredWell : Trees → Type 0
+AreStoredWell x = (a : Option ℕ) → StoredIn (x a)
 
 -- the trees of a table of which nothing is in memory
 abbrev pub stored_trees : Under → ℕ → Pointer → Trees

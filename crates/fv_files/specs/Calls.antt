@@ -15,6 +15,7 @@ use Rattle.fv_tree.specs.Standing.{standing, under, Fails}
 use Rattle.fv_tree.specs.Writing.{IsAlike, Writes, Remains}
 use Rattle.fv_tree.specs.Flushing.{IsSound, ReachesOnce, Stands, loaded, loaded_over}
 use Rattle.fv_tree.specs.Leading.{LeadsNoMore}
+use Rattle.fv_tree.specs.Stored.{IsStoredWell}
 use Rattle.fv_tree.specs.Removal.{Removal}
 use Rattle.fv_tree.specs.Erasing.{HoldsCells}
 use Rattle.fv_tree.specs.Costs.{pending}
@@ -22,7 +23,9 @@ use Rattle.fv_inode.specs.declared.info.Info.{Info}
 use Rattle.fv_inode.specs.Files.{rooted}
 use Rattle.fv_inode.specs.Readying.{IsReadyFile}
 use Rattle.fv_files.specs.declared.files.Files.{Files}
-use Rattle.fv_files.specs.Tables.{table_in, tree_in, tree_known, AreStanding, IsInfoOf, IsLed, IsTold}
+use Rattle.fv_tree.specs.Beside.{Spares}
+use Rattle.fv_files.specs.Apart.{LeadsAny}
+use Rattle.fv_files.specs.Tables.{table_in, tree_in, tree_known, loaded_trees, AreStanding, IsInfoOf, IsLed, IsStored, IsTold}
 use Rattle.fv_files.specs.Failing.{Looks}
 use Rattle.fv_files.specs.Pending.{pending_trees}
 
@@ -95,6 +98,7 @@ pub record Changes {T : Type 0} (told well : Type 0) (old new : Shown) (f g : Fi
   pub failed : told → OnErr result (IsTold old f new g)
   pub untouched : OnErr result (IsUntouched old new)
   pub stands : told → well → AreStanding old f → AreStanding new g
+  pub stored : told → well → AreStanding old f → IsStored old f → IsStored new g
   pub strays : told → AreStanding old f → new.strays ≡ old.strays
   pub room : old.room ≤ new.room
   pub counts : Counts old new result
@@ -103,6 +107,15 @@ pub record Changes {T : Type 0} (told well : Type 0) (old new : Shown) (f g : Fi
 -- what is in use is led to by one of the table's trees, if it was before
 abbrev pub KeepsLed : Shown → Shown → Files → Files → Type 0
 KeepsLed old new f g = AreStanding old f → IsLed old f → IsLed new g
+
+-- What isn't the table's stays: a block that is held and to which none of its trees leads. Where they lead afterwards they led before, or
+-- no block was held there.
+abbrev pub SparesOthers : Shown → Shown → Files → Files → Type 0
+SparesOthers old new f g = Spares old new (LeadsAny (loaded_trees (under old) f)) (LeadsAny (loaded_trees (under new) g))
+
+-- what such a table leads to stays as its pointers say
+abbrev pub KeepsStored : Shown → Shown → Files → Files → Type 0
+KeepsStored old new f g = AreStanding old f → IsLed old f → IsStored old f → IsStored new g
 
 -- the tree of file n, which is in memory, failed
 abbrev pub KeptFails : Type 0 → Shown → Shown → Files → ℕ → BlockFault → Type 0
@@ -114,6 +127,7 @@ pub record Prepares (told : Type 0) (old new : Shown) (f g : Files) (info : Info
   pub same : told → IsTold old f new g
   pub alike : told → IsAlike (rooted old f.inode) (rooted new g.inode)
   pub stands : told → AreStanding old f → AreStanding new g
+  pub stored : told → AreStanding old f → IsStored old f → IsStored new g
   pub led : told → KeepsLed old new f g
   pub looks : Looks told (table_in old f) old new result
   pub found : told → IfOk result (λ there. there ≡ true)
@@ -154,6 +168,7 @@ pub record PutsKept (told : Type 0) (old new : Shown) (m n : maps.BTreeMap ℕ T
   pub stands : told → Stands old tree → Stands new next
   pub leads : told → LeadsNoMore (loaded old tree) (loaded new next)
   pub keeps : told → LeadsNoMore (loaded new next) (loaded old tree)
+  pub stored_well : told → IsStoredWell (loaded old tree) → IsStoredWell (loaded new next)
   pub pending : pending next ≤ pending tree + 6
   pub failed : told → OnErr result (Remains (standing (under old) tree) (standing (under new) next))
   pub untouched : IsUntouched old new

@@ -1,5 +1,5 @@
 -- What a flush of a table leaves.
-use Rattle.std.specs.Prelude.{◌≡◌, ◌≤◌, ◌⊎◌, ℕ, List, None, Result, IfOk, IfErr, OnOk}
+use Rattle.std.specs.Prelude.{◌≡◌, ◌⊎◌, ℕ, List, None, Result, IfOk, IfErr, OnOk}
 use Rattle.std.specs.Ordering.{nat_cmp}
 use Rattle.std.specs.BTreeMap as maps
 use Rattle.std.specs.FinMap as fin
@@ -10,15 +10,16 @@ use Rattle.fv_tables.specs.Spelled.{stored}
 use Rattle.fv_tables.specs.Told.{standing_at}
 use Rattle.fv_tables.specs.Kept.{IsPlacedTable}
 use Rattle.fv_tree.specs.declared.kept.Tree.{Tree}
-use Rattle.fv_tree.specs.Sources.{Shown, Counts, HasCause, IsDamaged}
+use Rattle.fv_tree.specs.Sources.{Shown, Counts, HasCause}
 use Rattle.fv_tree.specs.Standing.{standing, under}
 use Rattle.fv_tree.specs.Costs.{pending, Fits, IsEnough}
 use Rattle.fv_tree.specs.Flushing.{Flushes, IsLeft, ReachesOnce, Stands, loaded}
 use Rattle.fv_files.specs.declared.files.Files.{Files}
+use Rattle.fv_tree.specs.Stored.{HasPlaces, IsStoredWell}
 use Rattle.fv_files.specs.Apart.{AreLed, stored_trees}
 use Rattle.fv_files.specs.Tables.{table_in, tree_in, AreReached, AreStanding, IsLed}
 use Rattle.fv_files.specs.Failing.{FilesFail}
-use Rattle.fv_files.specs.Calls.{Becomes, KeepsLed}
+use Rattle.fv_files.specs.Calls.{Becomes, KeepsLed, SparesOthers}
 use Rattle.fv_files.specs.Pending.{pending_in, FitsTable}
 
 -- a source that holds other blocks
@@ -43,12 +44,15 @@ pub record LaysTrees {T : Type 0} (told : Type 0) (old new : Shown) (f g : Files
   pub placed : told → AreStanding old f → IsPlacedTable (table_in old f) (table_in new g)
   pub stands : told → AreStanding old f → AreStanding new g
   pub led : told → KeepsLed old new f g
+  pub spares : told → AreStanding old f → SparesOthers old new f g
   pub strays : told → AreStanding old f → new.strays ≡ old.strays
   pub fits : told → AreStanding old f → FitsTable old f new g
-  -- with room for all that is pending, damage is answered only where a root is laid
-  pub enough : told → AreStanding old f → pending_in f ≤ old.room → IfErr result (λ e. IsDamaged e → LayFails told old new f e)
+  -- with room for all that is pending no damage is answered
+  pub enough : told → AreStanding old f → IsEnough (pending_in f) old.room result
   pub counts : Counts old new result
   pub cause : IfErr result (FlushFails told old new f)
+  -- a table that stands needs no load for the roots
+  pub source : told → AreStanding old f → IfErr result (HasCause old new)
 
 -- A table was placed whole. Nothing of it is in memory, and it is the one under the root.
 pub record FlushesTable (told : Type 0) (old new : Shown) (f g : Files) (result : Result Pointer BlockFault) : Type 0 where
@@ -68,6 +72,7 @@ pub record FlushesKept (told : Type 0) (old new : Shown) (m n : maps.BTreeMap �
   pub next : Tree
   pub becomes : Becomes m n number tree next
   pub flushes : told → Stands old tree → Flushes (loaded old tree) old.used (loaded new next) new.used
+  pub stored_well : told → Stands old tree → HasPlaces new.used → IsStoredWell (loaded old tree) → IsStoredWell (loaded new next)
   pub strays : told → Stands old tree → new.strays ≡ old.strays
   pub fits : told → Stands old tree → Fits old tree new next
   pub enough : told → Stands old tree → IsEnough (pending tree) old.room result

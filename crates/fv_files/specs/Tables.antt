@@ -1,5 +1,5 @@
 -- A table whose changed trees are in memory, and how it stands to its blocks.
-use Rattle.std.specs.Prelude.{◌≡◌, ℕ, true, Option, Some, None, is_some}
+use Rattle.std.specs.Prelude.{◌≡◌, ℕ, ◌/◌, true, Option, Some, None, is_some}
 use Rattle.std.specs.Ordering.{nat_cmp}
 use Rattle.std.specs.Option.{option_map}
 use Rattle.std.specs.BTreeMap as tree
@@ -7,17 +7,18 @@ use Rattle.fv_codec.specs.declared.inode.InodeRecord.{InodeRecord}
 use Rattle.fv_codec.specs.declared.pointer.Pointer.{Pointer}
 use Rattle.fv_codec.specs.Blocks.{greatest_word}
 use Rattle.fv_tables.specs.Spelled.{Under, Rooted, stored}
-use Rattle.fv_tables.specs.Told.{Standing, file_at, tree_or, table_told}
+use Rattle.fv_tables.specs.Told.{Standing, records_each, file_at, tree_or, table_told}
 use Rattle.fv_tree.specs.declared.kept.Tree.{Tree}
 use Rattle.fv_tree.specs.Sources.{Shown, Use}
 use Rattle.fv_tree.specs.Standing.{standing, under}
 use Rattle.fv_tree.specs.Flushing.{Loaded, loaded_over, ReachesOnce}
 use Rattle.fv_tree.specs.Beside.{unread}
+use Rattle.fv_tree.specs.Readying.{IsReady}
 use Rattle.fv_inode.specs.declared.info.Info.{Info}
-use Rattle.fv_inode.specs.Files.{info_of}
+use Rattle.fv_inode.specs.Files.{info_of, NamesIndexes}
 use Rattle.fv_files.specs.declared.files.Files.{Files}
 use Rattle.fv_files.specs.Trees.{Changed, standing_in}
-use Rattle.fv_files.specs.Apart.{Trees, StandsIn, AreApart, AreLed, stored_trees}
+use Rattle.fv_files.specs.Apart.{Trees, StandsIn, AreApart, AreLed, AreStoredWell, stored_trees}
 
 -- the trees that are in memory
 abbrev pub changed : Files → Changed
@@ -50,6 +51,8 @@ pub record AreSound (blocks : Under) (used : ℕ → Option Use) (f : Files) : T
   pub owners : (n : ℕ) (t : Tree) → tree_in f n ≡ Some t → (t.owner ≡ n) × (is_some (file_at (standing blocks f.inode.tree) n) ≡ true)
   pub trees : (a : Option ℕ) → StandsIn used (loaded_trees blocks f a)
   pub apart : AreApart (loaded_trees blocks f)
+  -- the inode block of a tree in memory is ready, so that its root is laid without a load
+  pub ready : (n : ℕ) → is_some (tree_in f n) ≡ true → IsReady f.inode.tree (n / records_each)
 
 abbrev pub AreStanding : Shown → Files → Type 0
 AreStanding source = AreSound (under source) source.used
@@ -63,6 +66,19 @@ pub record AreReached (blocks : Under) (used : ℕ → Option Use) (levels : ℕ
   pub inode : ReachesOnce used (stored blocks greatest_word levels root)
   pub files : (n : ℕ) (r : InodeRecord) → file_at (stored blocks greatest_word levels root) n ≡ Some r → ReachesOnce used (stored blocks n r.levels r.root)
   pub apart : AreApart (stored_trees blocks levels root)
+
+-- What the table leads to is as its pointers say, and each inode block names its index.
+pub record IsStoredOn (blocks : Under) (f : Files) : Type 0 where
+  pub trees : AreStoredWell (loaded_trees blocks f)
+  pub inodes : NamesIndexes (standing blocks f.inode.tree)
+
+abbrev pub IsStored : Shown → Files → Type 0
+IsStored source = IsStoredOn (under source)
+
+-- So it is with the table under a root.
+pub record IsStoredUnder (blocks : Under) (levels : ℕ) (root : Pointer) : Type 0 where
+  pub trees : AreStoredWell (stored_trees blocks levels root)
+  pub inodes : NamesIndexes (stored blocks greatest_word levels root)
 
 -- what is known of a file is what its record says
 pub record IsInfoOf (t : Rooted) (info : Info) : Type 0 where

@@ -18,7 +18,7 @@ use fv_tree::Blocks;
 impl Files {
     /// Makes a file of a name under the least free number, of length 0, with a reserve of at most 2,097,152 blocks and a stamp
     /// of at least 1: the machine's new, for a table that stands on its blocks. A number below 262,144 is free. That no file
-    /// has the name is the caller's to see to. Its cost is that of `InodeFile::create`. A flush has at most 16 blocks more to
+    /// has the name is the caller's to see to. Its cost is that of `InodeFile::create`. A flush has at most 14 blocks more to
     /// place afterwards. After a fault the table is told as before.
     ///
     /// # Errors
@@ -37,7 +37,7 @@ impl Files {
         ensures made { B.told → OnOk result (AreStanding (B.shown blocks.old) self.old → table_told (table_in (B.shown blocks.new) self.new) ≡ new (table_told (table_in (B.shown blocks.old) self.old)) name.now reserve stamp) }
         ensures changes { Changes B.told (Unit {0}) (B.shown blocks.old) (B.shown blocks.new) self.old self.new (FilesFail B.told (table_in (B.shown blocks.old) self.old) (B.shown blocks.old) (B.shown blocks.new)) result }
         ensures led { B.told → KeepsLed (B.shown blocks.old) (B.shown blocks.new) self.old self.new }
-        ensures pending { pending_in self.new ≤ pending_in self.old + 16 }
+        ensures pending { pending_in self.new ≤ pending_in self.old + 14 }
         ensures untouched { IsUntouched (B.shown blocks.old) (B.shown blocks.new) }
         ensures reads { B.reads blocks.old blocks.new }
     {

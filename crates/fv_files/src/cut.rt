@@ -24,7 +24,7 @@ impl Files {
     /// cut, of a table that stands on its blocks. Answers how many cells and marks of the file went. Its record has the
     /// length, also a greater one, and its inode cell gets the stamp even where no cell goes. It loads at most what
     /// `InodeFile::ready` and `Tree::cut` load. Each placed block that goes is named once to `gone`, after the last load.
-    /// A flush has at most 16 blocks more to place afterwards. After a fault the table is told as before, and none was named.
+    /// A flush has at most 14 blocks more to place afterwards. After a fault the table is told as before, and none was named.
     ///
     /// # Errors
     ///
@@ -43,8 +43,8 @@ impl Files {
         ensures cut { B.told → OnOk result (AreStanding (B.shown blocks.old) self.old → CutsFile (table_in (B.shown blocks.old) self.old) (table_in (B.shown blocks.new) self.new) info.now.number length stamp) }
         ensures counted { B.told → IfOk result (λ count. AreStanding (B.shown blocks.old) self.old → TakesByCut (table_in (B.shown blocks.old) self.old) info.now.number length stamp count) }
         ensures led { B.told → KeepsLed (B.shown blocks.old) (B.shown blocks.new) self.old self.new }
-        ensures pending { OnErr result (pending_in self.new ≤ pending_in self.old + 16) }
-        ensures pending_done { B.told → OnOk result (AreStanding (B.shown blocks.old) self.old → (now : ℕ) → IsWellTable now (table_told (table_in (B.shown blocks.old) self.old)) → pending_in self.new ≤ pending_in self.old + 16) }
+        ensures pending { OnErr result (pending_in self.new ≤ pending_in self.old + 14) }
+        ensures pending_done { B.told → OnOk result (AreStanding (B.shown blocks.old) self.old → (now : ℕ) → IsWellTable now (table_told (table_in (B.shown blocks.old) self.old)) → pending_in self.new ≤ pending_in self.old + 14) }
         ensures changes { Changes B.told (Unit {0}) (B.shown blocks.old) (B.shown blocks.new) self.old self.new (FilesFail B.told (table_in (B.shown blocks.old) self.old) (B.shown blocks.old) (B.shown blocks.new)) result }
         ensures calls { B.goes blocks.old blocks.new }
     {

@@ -7,7 +7,7 @@ ghost use Rattle.fv_tables.specs.Told.{standing_at};
 ghost use Rattle.fv_tree.specs.Sources.{Use};
 ghost use Rattle.fv_files.specs.Trees.{standing_in};
 ghost use Rattle.fv_files.specs.Apart.{AreLed, stored_trees};
-ghost use Rattle.fv_files.specs.Tables.{changed, loaded_trees, tree_in, AreReached, AreSound};
+ghost use Rattle.fv_files.specs.Tables.{changed, loaded_trees, tree_in, AreReached, AreSound, IsStoredOn, IsStoredUnder};
 ghost use Rattle.fv_files.specs.Pending.{pending_in};
 
 use fv_codec::Pointer;
@@ -35,6 +35,7 @@ impl Files {
     pub fn new(alloc: Global) -> Files
         ensures stored { (blocks : Under) → standing_in blocks (changed result) ≡ standing_at blocks 0 hole }
         ensures none { (n : ℕ) → tree_in result n ≡ None }
+        ensures well { (blocks : Under) → IsStoredOn blocks result }
         ensures pending { pending_in result ≡ 0 }
     {
         Files {
@@ -52,6 +53,7 @@ impl Files {
         ensures none { (n : ℕ) → tree_in result n ≡ None }
         ensures stands { (blocks : Under) (used : ℕ → Option Use) → AreReached blocks used levels root → AreSound blocks used result }
         ensures led { (blocks : Under) (used : ℕ → Option Use) → AreLed used (stored_trees blocks levels root) → AreLed used (loaded_trees blocks result) }
+        ensures well { (blocks : Under) → IsStoredUnder blocks levels root → IsStoredOn blocks result }
         ensures pending { pending_in result ≡ 0 }
     {
         Files {

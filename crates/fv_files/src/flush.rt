@@ -1,10 +1,13 @@
 //! Placing what changed of a table: its files by number, and the inode file last.
 
-ghost use Rattle.std.specs.Prelude.{◌≡◌, ◌≤◌, ◌+◌, ◌-◌, ℕ, true, Some, is_some, IfNone, IfSome, OnOk};
+ghost use Rattle.std.specs.Prelude.{◌≡◌, ◌≤◌, ◌+◌, ◌-◌, ℕ, true, Some, is_some, IfNone, IfOk, IfSome, OnOk};
 ghost use Rattle.std.specs.Ordering.{nat_cmp};
 ghost use Rattle.std.specs.BTreeMap as maps;
 ghost use Rattle.fv_tree.specs.declared.kept.Tree as kept;
-ghost use Rattle.fv_files.specs.Tables.{tree_in};
+ghost use Rattle.fv_tree.specs.Standing.{under};
+ghost use Rattle.fv_tree.specs.Stored.{KeepsPlaces};
+ghost use Rattle.fv_files.specs.Tables.{tree_in, AreStanding, IsLed, IsStored, IsStoredUnder};
+ghost use Rattle.fv_files.specs.Calls.{KeepsStored};
 ghost use Rattle.fv_files.specs.Flushing.{FlushesKept, FlushesTable, LaysTrees};
 
 use crate::files::{Files, FilesFault};
@@ -17,15 +20,17 @@ impl Files {
     /// Places each block that changed since the last flush once: the trees of the files by number, each with its root laid into
     /// the file's inode block, and the inode file last. Each block that one of them replaces is named once to `gone`. Answers the
     /// root of the inode file, and then nothing is in memory, and the table stands under that root. It is told as before in every
-    /// outcome, and a later flush goes on where one failed. It places no more blocks than are pending; with room for so many,
-    /// damage is answered only of an inode block or of a node over one. All this is so for a table that stands on its blocks. It
-    /// loads what isn't in memory of the inode blocks of the files that it places.
+    /// outcome, and a later flush goes on where one failed. It places no more blocks than are pending; with room for so many no
+    /// damage is answered. It fails as `place` does or for want of memory, since the inode block of each tree in memory is there,
+    /// too. All this is so for a table that stands on its blocks. Of another it loads what isn't in memory of those inode blocks.
     ///
     /// # Errors
     ///
     /// As `place` of the `Blocks` answers them, and as `InodeFile::set_root`.
     pub fn flush<B: Blocks>(&mut self, blocks: &mut B) -> Result<Pointer, FilesFault>
         ensures flushes { FlushesTable B.told (B.shown blocks.old) (B.shown blocks.new) self.old self.new result }
+        ensures stored_well { B.told → B.known → KeepsStored (B.shown blocks.old) (B.shown blocks.new) self.old self.new }
+        ensures stored_under { B.told → B.known → IfOk result (λ root. AreStanding (B.shown blocks.old) self.old → IsLed (B.shown blocks.old) self.old → IsStored (B.shown blocks.old) self.old → IsStoredUnder (under (B.shown blocks.new)) self.new.inode.tree.levels root) }
         ensures calls { B.goes blocks.old blocks.new }
     {
         flush_trees(self, blocks)?;
@@ -36,6 +41,7 @@ impl Files {
 /// Places the trees of all files that are in memory.
 fn flush_trees<B: Blocks>(files: &mut Files, blocks: &mut B) -> Result<(), FilesFault>
     ensures lays { LaysTrees B.told (B.shown blocks.old) (B.shown blocks.new) files.old files.new result }
+    ensures stored_well { B.told → B.known → KeepsStored (B.shown blocks.old) (B.shown blocks.new) files.old files.new }
     ensures none { OnOk result (maps.btree_map_len files.new.trees ≡ 0) }
     ensures calls { B.goes blocks.old blocks.new }
 {
@@ -48,6 +54,7 @@ fn flush_trees<B: Blocks>(files: &mut Files, blocks: &mut B) -> Result<(), Files
 /// Places the tree in memory with the least number.
 fn flush_first<B: Blocks>(files: &mut Files, blocks: &mut B) -> Result<(), FilesFault>
     ensures lays { LaysTrees B.told (B.shown blocks.old) (B.shown blocks.new) files.old files.new result }
+    ensures stored_well { B.told → B.known → KeepsStored (B.shown blocks.old) (B.shown blocks.new) files.old files.new }
     ensures fewer { OnOk result (maps.btree_map_len files.new.trees ≡ maps.btree_map_len files.old.trees - 1) }
     ensures calls { B.goes blocks.old blocks.new }
 {
@@ -73,6 +80,7 @@ fn first_number(trees: &BTreeMap<u32, Tree>) -> Option<u32>
 fn flush_file<B: Blocks>(files: &mut Files, blocks: &mut B, number: u32) -> Result<(), FilesFault>
     requires kept { is_some (tree_in files.old number) ≡ true }
     ensures lays { LaysTrees B.told (B.shown blocks.old) (B.shown blocks.new) files.old files.new result }
+    ensures stored_well { B.told → B.known → KeepsStored (B.shown blocks.old) (B.shown blocks.new) files.old files.new }
     ensures fewer { OnOk result (maps.btree_map_len files.new.trees + 1 ≡ maps.btree_map_len files.old.trees) }
     ensures calls { B.goes blocks.old blocks.new }
 {
@@ -87,6 +95,7 @@ fn flush_file<B: Blocks>(files: &mut Files, blocks: &mut B, number: u32) -> Resu
 fn lay_file<B: Blocks>(files: &mut Files, blocks: &mut B, number: u32) -> Result<(), FilesFault>
     requires kept { is_some (tree_in files.old number) ≡ true }
     ensures lays { LaysTrees B.told (B.shown blocks.old) (B.shown blocks.new) files.old files.new result }
+    ensures stored_well { B.told → B.known → KeepsStored (B.shown blocks.old) (B.shown blocks.new) files.old files.new }
     ensures fewer { OnOk result (maps.btree_map_len files.new.trees + 1 ≡ maps.btree_map_len files.old.trees) }
     ensures calls { B.goes blocks.old blocks.new }
 {
@@ -116,6 +125,7 @@ fn flush_kept<B: Blocks>(
 ) -> Result<Pointer, FilesFault>
     requires kept { is_some (maps.get nat_cmp trees.old number) ≡ true }
     ensures flushes { FlushesKept B.told (B.shown blocks.old) (B.shown blocks.new) trees.old trees.new number result }
+    ensures places { B.known → KeepsPlaces (B.shown blocks.old) (B.shown blocks.new) }
     ensures len { maps.btree_map_len trees.new ≡ maps.btree_map_len trees.old }
     ensures calls { B.goes blocks.old blocks.new }
 {

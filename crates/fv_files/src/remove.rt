@@ -25,7 +25,7 @@ impl Files {
     /// Takes the file of which this is known away, with a stamp of at least 1: the machine's rm, of a table that stands on
     /// its blocks. Answers how many cells and marks went, of the file and of the inode file. It loads at most what
     /// `InodeFile::ready` and `Tree::cut` of the whole file load. Each placed block that goes is named once to `gone`, after
-    /// the last load. A flush has at most 16 blocks more to place afterwards. After a fault the table is told as before, and none
+    /// the last load. A flush has at most 14 blocks more to place afterwards. After a fault the table is told as before, and none
     /// was named.
     ///
     /// # Errors
@@ -43,7 +43,7 @@ impl Files {
         ensures removed { B.told → OnOk result (AreStanding (B.shown blocks.old) self.old → RemovesFile (table_in (B.shown blocks.old) self.old) (table_in (B.shown blocks.new) self.new) info.now.number stamp) }
         ensures counted { B.told → IfOk result (λ count. AreStanding (B.shown blocks.old) self.old → TakesByRemoval (table_in (B.shown blocks.old) self.old) info.now.number stamp count) }
         ensures led { B.told → (now : ℕ) → IsWellTable now (table_told (table_in (B.shown blocks.old) self.old)) → KeepsLed (B.shown blocks.old) (B.shown blocks.new) self.old self.new }
-        ensures pending { pending_in self.new ≤ pending_in self.old + 16 }
+        ensures pending { pending_in self.new ≤ pending_in self.old + 14 }
         ensures changes { Changes B.told (HoldsCells (rooted (B.shown blocks.old) self.old.inode)) (B.shown blocks.old) (B.shown blocks.new) self.old self.new (FilesFail B.told (table_in (B.shown blocks.old) self.old) (B.shown blocks.old) (B.shown blocks.new)) result }
         ensures calls { B.goes blocks.old blocks.new }
     {

@@ -20,7 +20,7 @@ use std::collections::BTreeMap;
 impl Files {
     /// Writes block `index` of the file of which this is known, below 2,097,152, with a stamp of at least 1: the machine's
     /// put. The file's tree is in memory afterwards, and its record has the length. It loads at most what
-    /// `InodeFile::ready` and `Tree::put` load. A flush has at most 16 blocks more to place afterwards. After a fault the table
+    /// `InodeFile::ready` and `Tree::put` load. A flush has at most 14 blocks more to place afterwards. After a fault the table
     /// is told as before.
     ///
     /// # Errors
@@ -41,7 +41,7 @@ impl Files {
         ensures written { B.told → OnOk result (WritesCell (table_in (B.shown blocks.old) self.old) (table_in (B.shown blocks.new) self.new) info.now.number index stamp block.now) }
         ensures changes { Changes B.told (Unit {0}) (B.shown blocks.old) (B.shown blocks.new) self.old self.new (FilesFail B.told (table_in (B.shown blocks.old) self.old) (B.shown blocks.old) (B.shown blocks.new)) result }
         ensures led { B.told → KeepsLed (B.shown blocks.old) (B.shown blocks.new) self.old self.new }
-        ensures pending { pending_in self.new ≤ pending_in self.old + 16 }
+        ensures pending { pending_in self.new ≤ pending_in self.old + 14 }
         ensures untouched { IsUntouched (B.shown blocks.old) (B.shown blocks.new) }
         ensures reads { B.reads blocks.old blocks.new }
     {

@@ -23,6 +23,7 @@ use Rattle.fv_tree.proofs.Levels.{fan_pos}
 use Rattle.fv_tree.proofs.Seen.{remains}
 use Rattle.fv_inode.specs.Failing.{Alters}
 use Rattle.fv_inode.specs.Changing.{Rewrites, HasNeighbor, Takes, TakesFile}
+use Rattle.fv_inode.proofs.Indexed.{alike_indexes}
 use Rattle.fv_inode.proofs.Looked.{earlier, loaded_as, released_on}
 use Rattle.fv_inode.proofs.Slots.{alike_files}
 
@@ -89,6 +90,7 @@ module _ (t u : Rooted) (alike : IsAlike t u) where
   pub takes_after : (w : Rooted) (n s : ℕ) → Takes u w n s → Takes t w n s
   takes_after w n s is = record {
     files = λ k. is.files k ∙ ap (λ o. cond (nat_eq k n) None o) (alike_files t u alike k);
+    indexes = λ named. is.indexes (alike_indexes t u alike named);
     tree = ⊎_elim (λ beside. inl (neighbor_after n beside.0, rewrites_after w n s None beside.1)) (λ last. inr ((λ has. last.0 (neighbor_before n has)), erases_after w (nat_eq (n / 16)) 0 s last.1)) is.tree;
   }
 
@@ -122,6 +124,7 @@ takes_then told before calls old mid new t u w n s count x first alike called se
       releases_as old new (IsDropped (under old) u w) (IsDropped (under old) t w) (λ v. drops_as old t u w v less) (λ v. drops_as old u t w v more)
       (released_on u w old mid new first.looks.untouched.held first.looks.untouched.used first.looks.counts.calm (second.released is));
   leads = λ is sound level place v led. first.leads is level place v (second.leads is (first.stands is sound) level place v led);
+  stored_well = λ is sound was. second.stored_well is (first.stands is sound) (first.stored_well is was);
   lets_go = λ is sound level place v led. second.lets_go is (first.stands is sound) level place v (first.keeps is level place v led);
   failed = λ is. tt;
   owner = second.owner ∙ first.owner;
@@ -141,6 +144,7 @@ takes_failed told calls old new t u n s e first called = record {
   room = omega (arith, first.looks.untouched.room);
   released = λ is. tt;
   leads = λ is sound. first.leads is;
+  stored_well = λ is sound. first.stored_well is;
   lets_go = λ is sound level place v led. inl (first.keeps is level place v led);
   failed = first.failed;
   owner = first.owner;
@@ -160,6 +164,7 @@ takes_none told calls old new t u n s x first silent called = record {
   room = omega (arith, first.looks.untouched.room);
   released = λ is. absurd (silent is);
   leads = λ is sound. first.leads is;
+  stored_well = λ is sound. first.stored_well is;
   lets_go = λ is sound level place v led. inl (first.keeps is level place v led);
   failed = λ is. tt;
   owner = first.owner;

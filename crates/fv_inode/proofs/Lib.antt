@@ -4,6 +4,7 @@ pub mod Rewritten
 pub mod Named
 pub mod Numbered
 pub mod Counted
+pub mod Indexed
 pub mod Taken
 pub mod Views
 pub mod Machines

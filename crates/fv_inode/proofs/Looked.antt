@@ -15,6 +15,8 @@ use Rattle.fv_tree.specs.Standing.{standing, under, Fails}
 use Rattle.fv_tree.specs.Reading.{cell_read_at}
 use Rattle.fv_tree.specs.Writing.{Remains}
 use Rattle.fv_tree.specs.Flushing.{Loaded, IsSound, changed_of, placed_of, loaded, loaded_over, Stands}
+use Rattle.fv_tree.specs.Readying.{KeepsReady}
+use Rattle.fv_tree.specs.Stored.{IsStoredWell}
 use Rattle.fv_tree.specs.Leading.{LeadsNoMore}
 use Rattle.fv_tree.specs.Releasing.{IsDropped, Releases}
 use Rattle.fv_tree.proofs.Causes.{at_err, calm_itself, calm_then, counts_then, fails_later, untouched_itself, untouched_then}
@@ -114,13 +116,15 @@ looks_judged told t old new r cell at block untouched calm lies place damage = r
 
 -- a call of the tree
 pub alters_at : {T : Type 0} (told : Type 0) (t u : Tree) (old new : Shown) (r : Result T BlockFault) → (told → OnErr r (Remains (standing (under old) t) (standing (under new) u))) → u.owner ≡ t.owner → (told → Stands old t → Stands new u)
-    → (told → LeadsNoMore (loaded old t) (loaded new u)) → (told → LeadsNoMore (loaded new u) (loaded old t)) → IsUntouched old new → Counts old new r → IfErr r (Fails told (standing (under old) t) old new) → Alters told old new t u r
-alters_at told t u old new r failed owner stands leads keeps untouched counts cause = record {
+    → (told → LeadsNoMore (loaded old t) (loaded new u)) → (told → LeadsNoMore (loaded new u) (loaded old t)) → (told → IsStoredWell (loaded old t) → IsStoredWell (loaded new u)) → KeepsReady t u → IsUntouched old new → Counts old new r → IfErr r (Fails told (standing (under old) t) old new) → Alters told old new t u r
+alters_at told t u old new r failed owner stands leads keeps stored_well keeps_ready untouched counts cause = record {
   failed = failed;
   owner = owner;
   stands = stands;
   leads = leads;
   keeps = keeps;
+  stored_well = stored_well;
+  keeps_ready = keeps_ready;
   looks = looks_at told (standing (under old) t) old new r untouched counts cause;
 }
 
@@ -136,6 +140,8 @@ alters_none told t old new r looks = record {
   stands = λ is. stands_on t old new looks.untouched.held looks.untouched.used;
   leads = λ is. later (λ v. LeadsNoMore (loaded old t) (loaded_as t v)) t old new looks.untouched.held (λ level place v leads. leads);
   keeps = λ is. later (λ v. LeadsNoMore (loaded_as t v) (loaded old t)) t old new looks.untouched.held (λ level place v leads. leads);
+  stored_well = λ is. later (λ v. IsStoredWell (loaded old t) → IsStoredWell (loaded_as t v)) t old new looks.untouched.held (λ was. was);
+  keeps_ready = λ i ready. ready;
   looks = looks;
 }
 
@@ -147,6 +153,8 @@ alters_then told t u old mid new x r first second = record {
   stands = λ is sound. second.stands is (stands_on t old mid first.untouched.held first.untouched.used sound);
   leads = λ is. earlier (λ v. LeadsNoMore (loaded_as t v) (loaded new u)) t old mid first.untouched.held (second.leads is);
   keeps = λ is. earlier (λ v. LeadsNoMore (loaded new u) (loaded_as t v)) t old mid first.untouched.held (second.keeps is);
+  stored_well = λ is. earlier (λ v. IsStoredWell (loaded_as t v) → IsStoredWell (loaded new u)) t old mid first.untouched.held (second.stored_well is);
+  keeps_ready = second.keeps_ready;
   looks = looks_then told t old mid new x r first second.looks;
 }
 
@@ -158,6 +166,8 @@ alters_failed told t u old new e alters = record {
   stands = alters.stands;
   leads = alters.leads;
   keeps = alters.keeps;
+  stored_well = alters.stored_well;
+  keeps_ready = alters.keeps_ready;
   looks = looks_failed told (standing (under old) t) old new e alters.looks;
 }
 
@@ -168,18 +178,22 @@ alters_done told t u old new x y alters = record {
   stands = alters.stands;
   leads = alters.leads;
   keeps = alters.keeps;
+  stored_well = alters.stored_well;
+  keeps_ready = alters.keeps_ready;
   looks = looks_done told (standing (under old) t) old new x y alters.looks;
 }
 
 -- and then a change in memory
 pub alters_more : {S T : Type 0} (told : Type 0) (t u w : Tree) (old new : Shown) (x : S) (y : T) → Alters told old new t u (Ok x) → w.owner ≡ u.owner
     → ((blocks : Under) (used : ℕ → Option Use) → IsSound used (loaded_over blocks u) → IsSound used (loaded_over blocks w))
-    → ((blocks : Under) → LeadsNoMore (loaded_over blocks u) (loaded_over blocks w)) → ((blocks : Under) → LeadsNoMore (loaded_over blocks w) (loaded_over blocks u)) → Alters told old new t w (Ok y)
-alters_more told t u w old new x y first owner sound leads keeps = record {
+    → ((blocks : Under) → LeadsNoMore (loaded_over blocks u) (loaded_over blocks w)) → ((blocks : Under) → LeadsNoMore (loaded_over blocks w) (loaded_over blocks u)) → ((blocks : Under) → IsStoredWell (loaded_over blocks u) → IsStoredWell (loaded_over blocks w)) → KeepsReady u w → Alters told old new t w (Ok y)
+alters_more told t u w old new x y first owner sound leads keeps stored_well keeps_ready = record {
   failed = λ is. tt;
   owner = owner ∙ first.owner;
   stands = λ is before. sound (under new) new.used (first.stands is before);
   leads = λ is. leads_then (loaded old t) (loaded new u) (loaded new w) (first.leads is) (leads (under new));
   keeps = λ is. leads_then (loaded new w) (loaded new u) (loaded old t) (keeps (under new)) (first.keeps is);
+  stored_well = λ is was. stored_well (under new) (first.stored_well is was);
+  keeps_ready = λ i ready. keeps_ready i (first.keeps_ready i ready);
   looks = looks_done told (standing (under old) t) old new x y first.looks;
 }

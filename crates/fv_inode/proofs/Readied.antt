@@ -1,10 +1,11 @@
 -- A file whose inode block is in memory with the nodes over it.
 use Rattle.std.proofs.Common.{◌≡◌, ◌≢◌, ℕ, ◌/◌, ◌%◌, Bool, true, false, cond, nat_eq, List, length, get_or, replicate, refl, sym, ap, subst, ◌∙◌, ◌≤◌, arith, ⊎_elim}
-use Rattle.std.specs.Prelude.{Some, None, Result, Err, is_some, not, slice_set, ◌==◌, if◌then◌else◌}
+use Rattle.std.specs.Prelude.{Some, None, Result, Ok, Err, IfErr, OnErr, is_some, not, slice_set, ◌==◌, if◌then◌else◌}
 use Rattle.std.specs.Option.{option_map}
 use Rattle.std.proofs.lemmas.Bool.{both_ways}
 use Rattle.std.proofs.lemmas.Bool.Decides.{nat_tests}
 use Rattle.std.proofs.lemmas.List.{get_or-replicate, get_or_default}
+use Rattle.fv_disk.specs.declared.fault.BlockFault.{BlockFault}
 use Rattle.fv_codec.specs.declared.inode.InodeRecord.{InodeRecord}
 use Rattle.fv_codec.specs.declared.inode.InodeBlock.{InodeBlock}
 use Rattle.fv_codec.specs.declared.shape.Shape.{Shape}
@@ -111,3 +112,21 @@ still_holds t u n s f holds ready rewrites =
     ∙ still_some f (file_at (standing nothing_held t) n)
     ∙ ap is_some (held_record nothing_held t n holds.way)
     ∙ holds.used)
+
+-- ---- a file that is ready, beside loads and other files
+
+pub is_refuted : {T : Type 0} (r : Result T BlockFault) (P : BlockFault → Type 0) → IfErr r P → ((e : BlockFault) → P e → ⊥) → OnErr r ⊥
+is_refuted (Ok x) P is none = tt
+is_refuted (Err e) P is none = none e is
+
+-- its inode block has the shape of one
+pub has_shape : (blocks : Under) (t : Tree) (n cell : ℕ) (block : List ℕ) (shape : Shape) → n / records_each ≡ cell → HoldsFile t n → block_at (standing blocks t) cell ≡ Some block → inodes_at block ≡ Err shape → ⊥
+has_shape blocks t n cell block shape at holds is fault =
+    let here : cell_in t (n / records_each) ≡ Some block = sym (ready_block blocks t (n / records_each) holds.way) ∙ ap (block_at (standing blocks t)) at ∙ is in
+    let none : is_some (used_record (get_or (records_in (cell_in t (n / records_each))) (n % records_each) free_record)) ≡ false =
+    ap (λ b. is_some (used_record (get_or (records_in b) (n % records_each) free_record))) here ∙ ap is_some (no_spelled block shape (n % records_each) fault) in
+    both_ways (is_some (used_record (get_or (records_in (cell_in t (n / records_each))) (n % records_each) free_record))) none holds.used
+
+-- no file is beside the last one of an inode block
+pub not_beside : (t : Tree) (m n : ℕ) → HoldsFile t m → (m / 16 ≡ n / 16 → file_at (standing nothing_held t) m ≡ None) → m / records_each ≢ n / records_each
+not_beside t m n holds none at = both_ways (is_some (file_at (standing nothing_held t) m)) (ap is_some (none at)) (ap is_some (held_record nothing_held t m holds.way) ∙ holds.used)

@@ -18,6 +18,7 @@ use Rattle.fv_tree.specs.Writing.{IsWritten}
 use Rattle.fv_tree.specs.Erasing.{Erases, IsErased}
 use Rattle.fv_tree.specs.Releasing.{IsDropped}
 use Rattle.fv_tree.specs.Flushing.{loaded, Stands}
+use Rattle.fv_tree.specs.Stored.{IsStoredWell}
 use Rattle.fv_tree.specs.Leading.{LeadsNoMore}
 use Rattle.fv_tree.specs.Readying.{IsReady}
 use Rattle.fv_tree.specs.Removal.{Removal}
@@ -25,6 +26,7 @@ use Rattle.fv_tree.proofs.Causes.{calm_itself, untouched_itself}
 use Rattle.fv_tree.proofs.Readied.{ready_stands}
 use Rattle.fv_inode.specs.Files.{AreRecords, blank_record}
 use Rattle.fv_inode.specs.Changing.{WritesFiles, Rewrites, HasNeighbor, Takes, TakesFile}
+use Rattle.fv_inode.proofs.Indexed.{erased_indexes, written_indexes}
 use Rattle.fv_inode.proofs.Looked.{releases_none}
 use Rattle.fv_inode.proofs.Counted.{written_count}
 use Rattle.fv_inode.proofs.Slots.{cell_of, own_record}
@@ -113,7 +115,7 @@ module _ (t : Rooted) (n : ℕ) (fs : List InodeRecord) (r : InodeRecord) (long 
       }
 
   -- a file in the same inode block, where no other is left
-  none_beside : all_free (slice_set fs (n % 16) r) ≡ true → (k : ℕ) → k ≢ n → k / 16 ≡ n / 16 → file_at t k ≡ None
+  pub none_beside : all_free (slice_set fs (n % 16) r) ≡ true → (k : ℕ) → k ≢ n → k / 16 ≡ n / 16 → file_at t k ≡ None
   none_beside all k differs beside =
       let slots : k % 16 ≢ n % 16 = λ e. differs (omega (arith, e, beside)) in
       let nothing : (get_or fs (k % 16) free_record).name_length ≡ 0 =
@@ -149,12 +151,12 @@ module _ (t : Rooted) (n : ℕ) (fs : List InodeRecord) (r : InodeRecord) (long 
       (cases_eq (k / 16) (n / 16))
 
   pub taken_last : all_free (slice_set fs (n % 16) r) ≡ true → (u : Rooted) (s : ℕ) → Erases t u (nat_eq (n / 16)) 0 s → IsErased t u (nat_eq (n / 16)) 0 s → Takes t u n s
-  taken_last all u s erases is = record { files = files_gone all u s is; tree = inr (no_neighbor all, erases) }
+  taken_last all u s erases is = record { files = files_gone all u s is; indexes = erased_indexes t u (nat_eq (n / 16)) 0 s is; tree = inr (no_neighbor all, erases) }
 
   pub taken_with : all_free (slice_set fs (n % 16) r) ≡ false → (u : Rooted) (s : ℕ) → WritesFiles t u (n / 16) s (slice_set fs (n % 16) r) → Takes t u n s
   taken_with some u s wrote =
       let now : Rewrites t u n s None = subst (Rewrites t u n s) (blank_none r free) (rewrites t u n s fs r long are wrote) in
-      record { files = now.files; tree = inl (neighbor some, now) }
+      record { files = now.files; indexes = written_indexes t u (n / 16) s (slice_set fs (n % 16) r) wrote; tree = inl (neighbor some, now) }
 
 -- ---- the whole change, over blocks
 
@@ -167,6 +169,7 @@ takes_last told calls old new t u n s count fs r long are free all removal = rec
   room = removal.room;
   released = removal.released;
   leads = removal.leads;
+  stored_well = removal.stored_well;
   lets_go = removal.lets_go;
   failed = λ is. tt;
   owner = removal.owner;
@@ -179,8 +182,8 @@ takes_last told calls old new t u n s count fs r long are free all removal = rec
 
 pub takes_with : (told calls : Type 0) (source : Shown) (t u : Tree) (n s : ℕ) (fs : List InodeRecord) (r : InodeRecord) → length fs ≡ 16 → AreRecords (standing (under source) t) (n / 16) fs → r ≡ blank_record
     → all_free (slice_set fs (n % 16) r) ≡ false → WritesFiles (standing (under source) t) (standing (under source) u) (n / 16) s (slice_set fs (n % 16) r) → IsReady t (n / 16) → u.levels ≡ t.levels → u.owner ≡ t.owner → (Stands source t → Stands source u)
-    → LeadsNoMore (loaded source t) (loaded source u) → LeadsNoMore (loaded source u) (loaded source t) → calls → TakesFile told calls source source t u n s (Ok 0)
-takes_with told calls source t u n s fs r long are free some wrote ready levels owner sound leads keeps called = record {
+    → LeadsNoMore (loaded source t) (loaded source u) → LeadsNoMore (loaded source u) (loaded source t) → (IsStoredWell (loaded source t) → IsStoredWell (loaded source u)) → calls → TakesFile told calls source source t u n s (Ok 0)
+takes_with told calls source t u n s fs r long are free some wrote ready levels owner sound leads keeps stored_well called = record {
   removed = λ is stands holds. taken_with (standing (under source) t) n fs r long are free some (standing (under source) u) s wrote;
   count = λ is stands.
       let same = written_count (standing (under source) t) (standing (under source) u) (n / 16) s wrote.block wrote.place_by_place levels (ready_stands (under source) t (n / 16) ready) in
@@ -191,6 +194,7 @@ takes_with told calls source t u n s fs r long are free some wrote ready levels 
       (λ v drops. still_stands (standing (under source) t) (standing (under source) u) (n / 16) s wrote.block wrote.place_by_place drops.level drops.place drops.led.some drops.goes)
       (untouched_itself source) (calm_itself source);
   leads = λ is stands. leads;
+  stored_well = λ is stands. stored_well;
   lets_go = λ is stands level place v led. inl (keeps level place v led);
   failed = λ is. tt;
   owner = owner;

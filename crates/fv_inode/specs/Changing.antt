@@ -16,9 +16,10 @@ use Rattle.fv_tree.specs.Erasing.{Erases, HoldsCells}
 use Rattle.fv_tree.specs.Releasing.{IsDropped, Releases}
 use Rattle.fv_tree.specs.Flushing.{Leads, loaded, Stands}
 use Rattle.fv_tree.specs.Leading.{LeadsNoMore}
+use Rattle.fv_tree.specs.Stored.{IsStoredWell}
 use Rattle.fv_tree.specs.Counting.{positions_of}
 use Rattle.fv_inode.specs.declared.info.Info.{Info}
-use Rattle.fv_inode.specs.Files.{info_of, new_record, with_root, IsLeastFree}
+use Rattle.fv_inode.specs.Files.{info_of, new_record, with_root, IsLeastFree, NamesIndexes}
 use Rattle.fv_inode.specs.Failing.{InodeFails}
 
 -- A change with the stamp s wrote a cell, with an inode block of these records.
@@ -56,6 +57,7 @@ pub record HasNeighbor (t : Rooted) (n : ℕ) : Type 0 where
 -- the cell is removed, by the machine's removal.
 pub record Takes (old new : Rooted) (n s : ℕ) : Type 0 where
   pub files : (k : ℕ) → file_at new k ≡ cond (nat_eq k n) None (file_at old k)
+  pub indexes : NamesIndexes old → NamesIndexes new
   pub tree : (HasNeighbor old n × Rewrites old new n s None) ⊎ ((HasNeighbor old n → ⊥) × Erases old new (nat_eq (n / records_each)) 0 s)
 
 -- File n was taken away by a change with the stamp s, and so many positions of the inode file went, its cell and marks. After a fault the inode file is seen as before, and no block was named as gone. The room doesn't fall.
@@ -67,6 +69,7 @@ pub record TakesFile (told calls : Type 0) (old new : Shown) (t u : Tree) (n s :
   pub room : old.room ≤ new.room
   pub released : told → OnOk result (Releases old new (IsDropped (under old) t u))
   pub leads : told → Stands old t → LeadsNoMore (loaded old t) (loaded new u)
+  pub stored_well : told → Stands old t → IsStoredWell (loaded old t) → IsStoredWell (loaded new u)
   -- what the tree doesn't lead to any more is out of use
   pub lets_go : told → Stands old t → (level place v : ℕ) → Leads (loaded old t) level place v → Leads (loaded new u) level place v ⊎ (new.used v ≡ None)
   pub failed : told → OnErr result (Remains (standing (under old) t) (standing (under new) u))

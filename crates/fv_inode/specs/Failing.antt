@@ -12,6 +12,8 @@ use Rattle.fv_tree.specs.Reading.{cell_read_at}
 use Rattle.fv_tree.specs.Writing.{Remains}
 use Rattle.fv_tree.specs.Flushing.{loaded, Stands}
 use Rattle.fv_tree.specs.Leading.{LeadsNoMore}
+use Rattle.fv_tree.specs.Stored.{IsStoredWell}
+use Rattle.fv_tree.specs.Readying.{KeepsReady}
 
 -- A block hasn't the shape of an inode block: the place where it was read, and its first field that isn't as said. Where content is
 -- told it is that of a cell.
@@ -43,4 +45,7 @@ pub record Alters {T : Type 0} (told : Type 0) (old new : Shown) (t u : Tree) (r
   -- it leads to the same blocks
   pub leads : told → LeadsNoMore (loaded old t) (loaded new u)
   pub keeps : told → LeadsNoMore (loaded new u) (loaded old t)
+  -- and what that is stays as its pointers say
+  pub stored_well : told → IsStoredWell (loaded old t) → IsStoredWell (loaded new u)
+  pub keeps_ready : KeepsReady t u
   pub looks : Looks told (standing (under old) t) old new result

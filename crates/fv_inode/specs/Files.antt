@@ -1,12 +1,12 @@
 -- Files by their names, as the records of an inode file tell them.
-use Rattle.std.specs.Prelude.{◌≡◌, ℕ, ◌+◌, ◌*◌, ◌<◌, ◌≤◌, ◌++◌, ◌-◌, Bool, true, false, List, take, length, replicate, get_or, Option, Some, None, is_some}
+use Rattle.std.specs.Prelude.{◌≡◌, ℕ, ◌+◌, ◌*◌, ◌<◌, ◌≤◌, ◌++◌, ◌-◌, Bool, true, false, List, take, length, replicate, get_or, Option, Some, None, Ok, is_some}
 use Rattle.fv_codec.specs.declared.pointer.Pointer.{Pointer}
 use Rattle.fv_codec.specs.declared.inode.InodeRecord.{InodeRecord}
-use Rattle.fv_codec.specs.Blocks.{IsPointer, most_cells}
+use Rattle.fv_codec.specs.Blocks.{IsPointer, inodes_at, most_cells}
 use Rattle.fv_model.specs.Numbers.{most_files}
 use Rattle.fv_model.specs.Spelling.{is_same_name}
 use Rattle.fv_model.specs.Trees.{least_levels}
-use Rattle.fv_tables.specs.Spelled.{Rooted, hole}
+use Rattle.fv_tables.specs.Spelled.{Rooted, hole, block_at}
 use Rattle.fv_tables.specs.Told.{records_each, free_record, used_record, file_at}
 use Rattle.fv_tree.specs.Sources.{Shown}
 use Rattle.fv_tree.specs.Standing.{standing, under}
@@ -84,6 +84,15 @@ IsInfoIf (Some info) = IsInfo info
 -- the records of the inode block at a cell; where there is no cell, all of them are free
 abbrev pub AreRecords : Rooted → ℕ → List InodeRecord → Type 0
 AreRecords t cell files = (k : ℕ) → k < records_each → used_record (get_or files k free_record) ≡ file_at t (records_each * cell + k)
+
+-- a block is an inode block that names this index
+pub record IsInodesOf (index : ℕ) (block : List ℕ) : Type 0 where
+  pub files : List InodeRecord
+  pub spells : inodes_at block ≡ Ok (record { index = index; files = files })
+
+-- Each inode block of an inode file, in memory or where the pointer to it leads, names its index, by which no reader judges it.
+abbrev pub NamesIndexes : Rooted → Type 0
+NamesIndexes t = (index : ℕ) (block : List ℕ) → block_at t index ≡ Some block → IsInodesOf index block
 
 -- ---- look-ups
 

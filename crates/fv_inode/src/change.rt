@@ -7,7 +7,9 @@ ghost use Rattle.fv_tables.specs.Told.{file_at};
 ghost use Rattle.fv_tree.specs.Sources.{Use};
 ghost use Rattle.fv_tree.specs.Standing.{standing};
 ghost use Rattle.fv_tree.specs.Flushing.{loaded_over, IsSound};
+ghost use Rattle.fv_tree.specs.Stored.{IsStoredWell};
 ghost use Rattle.fv_tree.specs.Leading.{LeadsNoMore};
+ghost use Rattle.fv_tree.specs.Readying.{KeepsReady};
 ghost use Rattle.fv_tree.specs.Costs.{pending};
 ghost use Rattle.fv_inode.specs.Files.{rooted, with_info, IsInfo};
 ghost use Rattle.fv_inode.specs.Failing.{Alters};
@@ -59,11 +61,13 @@ impl InodeFile {
         requires info { IsInfo info.now }
         ensures rewrites { (blocks : Under) → Rewrites (standing blocks self.old.tree) (standing blocks self.new.tree) info.now.number stamp (option_map (with_info info.now) (file_at (standing blocks self.old.tree) info.now.number)) }
         ensures ready { IsReadyFile self.new info.now.number }
+        ensures keeps_ready { KeepsReady self.old.tree self.new.tree }
         ensures owner { self.new.tree.owner ≡ self.old.tree.owner }
         ensures levels { self.new.tree.levels ≡ self.old.tree.levels }
         ensures sound { (blocks : Under) (used : ℕ → Option Use) → IsSound used (loaded_over blocks self.old.tree) → IsSound used (loaded_over blocks self.new.tree) }
         ensures leads { (blocks : Under) → LeadsNoMore (loaded_over blocks self.old.tree) (loaded_over blocks self.new.tree) }
         ensures keeps { (blocks : Under) → LeadsNoMore (loaded_over blocks self.new.tree) (loaded_over blocks self.old.tree) }
+        ensures stored_well { (blocks : Under) → IsStoredWell (loaded_over blocks self.old.tree) → IsStoredWell (loaded_over blocks self.new.tree) }
         ensures pending { pending self.new.tree ≤ pending self.old.tree }
     {
         let cell = info.number / EACH;

@@ -8,6 +8,7 @@ ghost use Rattle.fv_tables.specs.Told.{file_at};
 ghost use Rattle.fv_tree.specs.Sources.{Counts, HasCause, Use};
 ghost use Rattle.fv_tree.specs.Standing.{standing, under, Shows};
 ghost use Rattle.fv_tree.specs.Writing.{Remains};
+ghost use Rattle.fv_tree.specs.Stored.{HasPlaces, IsStoredWell, KeepsPlaces};
 ghost use Rattle.fv_tree.specs.Costs.{pending, Fits, IsEnough};
 ghost use Rattle.fv_tree.specs.Flushing.{loaded, loaded_over, Flushes, IsSound, IsLeft, ReachesOnce, Stands};
 ghost use Rattle.fv_inode.specs.Files.{rooted};
@@ -85,6 +86,7 @@ impl InodeFile {
         ensures remains { B.told → Stands (B.shown blocks.old) self.old.tree → Remains (rooted (B.shown blocks.old) self.old) (rooted (B.shown blocks.new) self.new) }
         ensures files { B.told → Stands (B.shown blocks.old) self.old.tree → (n : ℕ) → file_at (rooted (B.shown blocks.new) self.new) n ≡ file_at (rooted (B.shown blocks.old) self.old) n }
         ensures left { IsLeft self.old.tree self.new.tree }
+        ensures stored_well { B.told → Stands (B.shown blocks.old) self.old.tree → HasPlaces (B.shown blocks.new).used → IsStoredWell (loaded (B.shown blocks.old) self.old.tree) → IsStoredWell (loaded (B.shown blocks.new) self.new.tree) }
         ensures fits { B.told → Stands (B.shown blocks.old) self.old.tree → Fits (B.shown blocks.old) self.old.tree (B.shown blocks.new) self.new.tree }
         ensures enough { B.told → Stands (B.shown blocks.old) self.old.tree → IsEnough (pending self.old.tree) (B.shown blocks.old).room result }
         ensures spent { (B.shown blocks.new).spent ≡ (B.shown blocks.old).spent }
@@ -93,6 +95,7 @@ impl InodeFile {
         ensures pointer { IfOk result IsPointer }
         ensures stored { IfOk result (λ root. rooted (B.shown blocks.new) self.new ≡ stored (under (B.shown blocks.new)) self.old.tree.owner self.old.tree.levels root) }
         ensures reaches { B.told → IfOk result (λ root. Stands (B.shown blocks.old) self.old.tree → ReachesOnce (B.shown blocks.new).used (stored (under (B.shown blocks.new)) self.old.tree.owner self.old.tree.levels root)) }
+        ensures places { B.known → KeepsPlaces (B.shown blocks.old) (B.shown blocks.new) }
         ensures calls { B.goes blocks.old blocks.new }
         ensures counts { Counts (B.shown blocks.old) (B.shown blocks.new) result }
         ensures cause { IfErr result (HasCause (B.shown blocks.old) (B.shown blocks.new)) }

@@ -1,6 +1,6 @@
 //! Looking a file up by its name.
 
-ghost use Rattle.std.specs.Prelude.{◌≡◌, ◌≤◌, ◌<◌, ◌*◌, ◌+◌, ◌/◌, IfOk, OnOk};
+ghost use Rattle.std.specs.Prelude.{◌≡◌, ◌≤◌, ◌<◌, ◌*◌, ◌+◌, ◌/◌, IfOk, OnOk, OnErr};
 ghost use Rattle.std.specs.List.{All};
 ghost use Rattle.std.specs.Option.{option_map};
 ghost use Rattle.fv_codec.specs.Blocks.{IsInodeRecord};
@@ -9,6 +9,7 @@ ghost use Rattle.fv_tables.specs.Told.{records_each, used_record, file_at};
 ghost use Rattle.fv_tree.specs.Standing.{standing, under};
 ghost use Rattle.fv_tree.specs.Costs.{way_cost};
 ghost use Rattle.fv_inode.specs.Files.{rooted, info_of, AreRecords, IsInfoIf, Finds, FindsBelow, HasNoneBelow};
+ghost use Rattle.fv_inode.specs.Readying.{IsReadyFile};
 ghost use Rattle.fv_inode.specs.Failing.{Looks};
 
 use crate::file::InodeFile;
@@ -52,6 +53,7 @@ impl InodeFile {
         ensures found { B.told → IfOk result (λ found. found ≡ option_map (info_of number) (file_at (rooted (B.shown blocks.old) self.now) number)) }
         ensures range { IfOk result IsInfoIf }
         ensures spent { B.told → OnOk result ((B.shown blocks.new).spent ≡ (B.shown blocks.old).spent + way_cost (B.shown blocks.old).cost (rooted (B.shown blocks.old) self.now) (number / records_each)) }
+        ensures held { B.told → IsReadyFile self.now number → OnErr result ⊥ }
         ensures looks { Looks B.told (rooted (B.shown blocks.old) self.now) (B.shown blocks.old) (B.shown blocks.new) result }
         ensures reads { B.reads blocks.old blocks.new }
     {

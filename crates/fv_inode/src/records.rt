@@ -1,23 +1,25 @@
 //! The records of one inode block.
 
-ghost use Rattle.std.specs.Prelude.{◌≡◌, ◌≤◌, ◌<◌, ◌^◌, ◌+◌, ℕ, Option, Some, false, IfOk, IfErr, OnOk, Ok, Err, length, replicate};
+ghost use Rattle.std.specs.Prelude.{◌≡◌, ◌≤◌, ◌<◌, ◌^◌, ◌+◌, ◌/◌, ℕ, Option, Some, false, IfOk, IfErr, OnOk, OnErr, Ok, Err, length, replicate};
 ghost use Rattle.std.specs.List.{All};
 ghost use Rattle.fv_codec.specs.declared.shape.Shape.{Shape};
 ghost use Rattle.fv_disk.specs.declared.fault.BlockFault.TheVariants.{Damaged};
 ghost use Rattle.fv_codec.specs.Blocks.{all_free, inodes_at, IsInodeRecord};
 ghost use Rattle.fv_model.specs.Spelling.{is_same_name};
 ghost use Rattle.fv_model.specs.Trees.{fan};
-ghost use Rattle.fv_tables.specs.Told.{used_record, records_in};
+ghost use Rattle.fv_tables.specs.Told.{records_each, used_record, records_in};
 ghost use Rattle.fv_tables.specs.Spelled.{Under};
 ghost use Rattle.fv_tree.specs.Sources.{Use};
 ghost use Rattle.fv_tree.specs.Standing.{standing, under};
 ghost use Rattle.fv_tree.specs.Flushing.{loaded_over, IsSound};
+ghost use Rattle.fv_tree.specs.Stored.{IsStoredWell};
 ghost use Rattle.fv_tree.specs.Leading.{LeadsNoMore};
-ghost use Rattle.fv_tree.specs.Readying.{IsReady};
+ghost use Rattle.fv_tree.specs.Readying.{IsReady, KeepsReady};
 ghost use Rattle.fv_tree.specs.Costs.{pending, way_cost};
 ghost use Rattle.fv_inode.specs.Files.{AreRecords, blank_record, has_name};
 ghost use Rattle.fv_inode.specs.Failing.{Alters, Looks};
 ghost use Rattle.fv_inode.specs.Changing.{WritesFiles};
+ghost use Rattle.fv_inode.specs.Readying.{HoldsFile};
 
 use crate::info::InodeFault;
 use fv_codec::{InodeBlock, InodeRecord, Pointer, Shape};
@@ -87,6 +89,7 @@ pub fn read_files<B: Blocks>(
     ensures long { IfOk result (λ files. length files ≡ 16) }
     ensures within { IfOk result (λ files. all_free files ≡ false → cell < 2097152) }
     ensures spent { B.told → OnOk result ((B.shown blocks.new).spent ≡ (B.shown blocks.old).spent + way_cost (B.shown blocks.old).cost (standing (under (B.shown blocks.old)) tree.now) cell) }
+    ensures held { B.told → (n : ℕ) → n / records_each ≡ cell → HoldsFile tree.now n → OnErr result ⊥ }
     ensures few { tree.now.levels ≤ 3 }
     ensures looks { Looks B.told (standing (under (B.shown blocks.old)) tree.now) (B.shown blocks.old) (B.shown blocks.new) result }
     ensures reads { B.reads blocks.old blocks.new }
@@ -181,11 +184,13 @@ pub fn rewrite_files(tree: &mut Tree, cell: u32, files: &[InodeRecord; 16], stam
     requires some { all_free files.now ≡ false }
     ensures written { (blocks : Under) → WritesFiles (standing blocks tree.old) (standing blocks tree.new) cell stamp files.now }
     ensures ready { IsReady tree.new cell }
+    ensures keeps_ready { KeepsReady tree.old tree.new }
     ensures owner { tree.new.owner ≡ tree.old.owner }
     ensures levels { tree.new.levels ≡ tree.old.levels }
     ensures sound { (blocks : Under) (used : ℕ → Option Use) → IsSound used (loaded_over blocks tree.old) → IsSound used (loaded_over blocks tree.new) }
     ensures leads { (blocks : Under) → LeadsNoMore (loaded_over blocks tree.old) (loaded_over blocks tree.new) }
     ensures keeps { (blocks : Under) → LeadsNoMore (loaded_over blocks tree.new) (loaded_over blocks tree.old) }
+    ensures stored_well { (blocks : Under) → IsStoredWell (loaded_over blocks tree.old) → IsStoredWell (loaded_over blocks tree.new) }
     ensures pending { pending tree.new ≤ pending tree.old }
 {
     let block = spelled(cell, files);

@@ -1,7 +1,8 @@
 //! Taking a file away.
 
-ghost use Rattle.std.specs.Prelude.{◌≡◌, ◌≤◌, ◌+◌, true, is_some, Ok};
-ghost use Rattle.fv_tables.specs.Told.{file_at};
+ghost use Rattle.std.specs.Prelude.{◌≡◌, ◌≢◌, ◌≤◌, ◌+◌, ◌/◌, ℕ, true, is_some, Ok};
+ghost use Rattle.fv_tables.specs.Told.{records_each, file_at};
+ghost use Rattle.fv_tree.specs.Readying.{IsReady};
 ghost use Rattle.fv_tree.specs.Costs.{pending};
 ghost use Rattle.fv_inode.specs.Files.{rooted};
 ghost use Rattle.fv_inode.specs.Readying.{IsReadyFile};
@@ -47,6 +48,7 @@ impl InodeFile {
         requires stamp { 1 ≤ stamp }
         requires ready { IsReadyFile self.old number }
         ensures takes { TakesFile B.told (B.goes blocks.old blocks.new) (B.shown blocks.old) (B.shown blocks.new) self.old.tree self.new.tree number stamp (Ok result) }
+        ensures others_ready { (m : ℕ) → m ≢ number → IsReadyFile self.old m → IsReady self.new.tree (m / records_each) }
         ensures pending { pending self.new.tree ≤ pending self.old.tree + 3 }
     {
         let cell = number / EACH;

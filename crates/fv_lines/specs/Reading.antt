@@ -1,5 +1,6 @@
 -- Reading a script from its front.
-use Rattle.std.specs.Prelude.{◌≡◌, ◌<◌, ◌≤◌, ◌+◌, ◌⊎◌, ℕ, Bool, true, false, List, [], ◌∷◌, ◌++◌, length, IsTrue, Result, IfOk, OnOk, OnErr}
+use Rattle.std.specs.Prelude.{◌≡◌, ◌<◌, ◌≤◌, ◌+◌, ◌⊎◌, ℕ, Bool, true, false, not, nat_eq, List, [], ◌∷◌, ◌++◌, length, take, IsTrue, Result, IfOk, OnOk, OnErr}
+use Rattle.std.specs.List.{All, prefix_len}
 use Rattle.fv_disk.specs.declared.Failed.{Failed}
 use Rattle.fv_disk.specs.Shown.{Image, Shown, HasCause}
 use Rattle.fv_disk.specs.HostCalls.{Rests}
@@ -33,40 +34,71 @@ pub record Asks {T : Type 0} (old new : Shown) (result : Result T Failed) : Type
   pub sink_faults : new.ends.sink_faults ≡ old.ends.sink_faults
   pub cause : HasCause old.ends.source_faults new.ends.source_faults result
 
--- the first byte of those that were taken, if there is one and it may be read
-abbrev pub Pops : Held → Next → Held → Type 0
-Pops old (next.Byte byte) new = (old.bytes ≡ byte ∷ new.bytes) × (old.room ≡ new.room + 1) × (new.ended ≡ old.ended)
-Pops old next.End new = (old.bytes ≡ []) × (new ≡ old)
-Pops old next.PastLimit new = (0 < length old.bytes) × (old.room ≡ 0) × (old.ended ≡ false) × (new ≡ old)
+-- no byte of it ends a line
+abbrev pub HasNoEnd : List ℕ → Type 0
+HasNoEnd bytes = All (λ b. nat_eq b 10 ≡ false) bytes
 
--- Nothing is read. Where no byte is held then, the source has said that it ends, or it failed.
+-- how many bytes stand before the first that ends a line
+abbrev pub letters : List ℕ → ℕ
+letters bytes = prefix_len (λ b. not (nat_eq b 10)) bytes
+
+-- So many bytes of a line show what it says: two lines that have them alike say the same, whatever follows.
+abbrev pub SaysAs : List ℕ → List ℕ → Type 0
+SaysAs line other = take 9001 line ≡ take 9001 other
+
+-- these bytes of those that were taken go to the line
+abbrev pub Pops : Held → Next → List ℕ → Held → Type 0
+Pops old next.Line run new = (old.bytes ≡ run ++ 10 ∷ new.bytes) × (old.room ≡ length run + (1 + new.room))
+Pops old next.Part run new = (old.bytes ≡ run) × (new.bytes ≡ []) × (0 < length run) × (old.room ≡ length run + new.room) × (new.closed ≡ false)
+Pops old next.End run new = (old.bytes ≡ []) × (run ≡ []) × (new.bytes ≡ []) × (new.room ≡ old.room)
+Pops old next.PastLimit run new = (old.bytes ≡ run ++ new.bytes) × (0 < length new.bytes) × (old.room ≡ length run) × (new.room ≡ 0) × (new.ended ≡ false)
+
+-- What is held is read, up to the first end of a line and as far as it may be.
+pub record ReadsOn (old : Held) (n : Next) (new : Held) : Type 0 where
+  pub run : List ℕ
+  pub one : HasNoEnd run
+  pub line : new.line ≡ old.line ++ run
+  pub ended : new.ended ≡ old.ended
+  pub pops : Pops old n run new
+
+-- Nothing is read. Where no byte is held then, the source has said that it ends, or it failed. Of a line that is too long bytes may be
+-- forgotten.
 pub record Fills (old_held : Held) (old : Shown) (new_held : Held) (new : Shown) (result : Result Unit Failed) : Type 0 where
   pub same : IsTrue old.tells → unread old_held old ≡ unread new_held new
+  pub line : SaysAs new_held.line old_held.line
+  pub closed : new_held.closed ≡ old_held.closed
   pub room : new_held.room ≡ old_held.room
   pub end : OnOk result (new_held.bytes ≡ [] → new_held.ended ≡ true)
   pub none : OnErr result (new_held.bytes ≡ [])
   pub asks : Asks old new result
 
--- the first byte of the script is read, where there is one and it may be read; one that may not is held
-abbrev pub Reads : Next → List ℕ → List ℕ → Type 0
-Reads (next.Byte byte) old new = old ≡ byte ∷ new
-Reads next.End old new = (old ≡ []) × (new ≡ [])
-Reads next.PastLimit old new = old ≡ new
+-- these bytes of the script are read, and the end of the line where it is there; a byte that may not be read is held
+abbrev pub Reads : Next → List ℕ → List ℕ → List ℕ → Type 0
+Reads next.Line run old new = old ≡ run ++ 10 ∷ new
+Reads next.Part run old new = old ≡ run ++ new
+Reads next.End run old new = (old ≡ []) × (new ≡ [])
+Reads next.PastLimit run old new = old ≡ run ++ new
 
-abbrev pub TakesRoom : Next → Held → Held → Type 0
-TakesRoom (next.Byte byte) old new = old.room ≡ new.room + 1
-TakesRoom next.End old new = new.room ≡ old.room
-TakesRoom next.PastLimit old new = (0 < length new.bytes) × (old.room ≡ 0) × (new.room ≡ 0) × (new.ended ≡ false)
+abbrev pub TakesRoom : Next → List ℕ → Held → Held → Type 0
+TakesRoom next.Line run old new = old.room ≡ length run + (1 + new.room)
+TakesRoom next.Part run old new = (0 < length run) × (old.room ≡ length run + new.room)
+TakesRoom next.End run old new = (run ≡ []) × (new.room ≡ old.room)
+TakesRoom next.PastLimit run old new = (0 < length new.bytes) × (old.room ≡ length run) × (new.room ≡ 0) × (new.ended ≡ false)
 
--- the end of the script is where the source has said that it ends
-abbrev pub EndsAt : Next → Held → Type 0
-EndsAt next.End held = held.ended ≡ true
-EndsAt n held = Unit {0}
+-- a line goes on, and the end of the script is where the source has said that it ends
+abbrev pub GoesOn : Next → Held → Type 0
+GoesOn next.Part held = held.closed ≡ false
+GoesOn next.End held = held.ended ≡ true
+GoesOn n held = Unit {0}
 
+-- The next bytes of a line are read.
 pub record IsNext (old_held : Held) (old : Shown) (new_held : Held) (new : Shown) (result : Result Next Failed) : Type 0 where
-  pub byte : IsTrue old.tells → IfOk result (λ n. Reads n (unread old_held old) (unread new_held new))
-  pub room : IfOk result (λ n. TakesRoom n old_held new_held)
-  pub end : IfOk result (λ n. EndsAt n new_held)
+  pub run : List ℕ
+  pub one : HasNoEnd run
+  pub line : OnOk result (SaysAs new_held.line (old_held.line ++ run))
+  pub bytes : IsTrue old.tells → IfOk result (λ n. Reads n run (unread old_held old) (unread new_held new))
+  pub room : IfOk result (λ n. TakesRoom n run old_held new_held)
+  pub on : IfOk result (λ n. GoesOn n new_held)
   pub same : IsTrue old.tells → OnErr result (unread old_held old ≡ unread new_held new)
   pub none : OnErr result ((new_held.bytes ≡ []) × (new_held.room ≡ old_held.room))
   pub asks : Asks old new result

@@ -4,5 +4,5 @@
 mod reading;
 mod script;
 
-pub use reading::{Found, Line, next_line};
+pub use reading::{Found, next_line};
 pub use script::Script;

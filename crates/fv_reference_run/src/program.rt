@@ -16,7 +16,7 @@ use crate::answering::answer;
 use crate::ending::Fault;
 use crate::words::read_words;
 use fv_disk::{Failed, Host};
-use fv_lines::{Found, Line, Script, next_line};
+use fv_lines::{Found, Script, next_line};
 use fv_reference::Machine;
 use fv_script::write_done;
 use std::alloc::Global;
@@ -75,9 +75,8 @@ fn answer_script<H: Host>(alloc: Global, blocks: u32, host: &mut H) -> Result<()
 {
     let mut machine = Machine::new(alloc, blocks);
     let mut script = Script::new(u64::MAX);
-    let mut line = Line::new();
     for count in 0..u64::MAX {
-        match step(alloc, &mut machine, &mut script, &mut line, host)? {
+        match step(alloc, &mut machine, &mut script, host)? {
             Turn::Answered => {}
             Turn::Ended => return tell_count(count, host),
         }
@@ -101,19 +100,18 @@ fn step<H: Host>(
     alloc: Global,
     machine: &mut Machine,
     script: &mut Script,
-    line: &mut Line,
     host: &mut H,
 ) -> Result<Turn, Fault>
     ensures { Steps machine.old script.old (H.shown host.old) machine.new script.new (H.shown host.new) result }
 {
-    let Ok(found) = next_line(script, host, line) else {
+    let Ok(found) = next_line(script, host) else {
         return Err(Fault::Source);
     };
     match found {
         Found::End => Ok(Turn::Ended),
         Found::PastLimit => Err(Fault::Memory),
         Found::Line => {
-            answer(alloc, machine, line.as_slice(), host)?;
+            answer(alloc, machine, script.line(), host)?;
             Ok(Turn::Answered)
         }
     }

@@ -12,7 +12,7 @@ use crate::ending::Fault;
 use fv_aggregate::Session;
 use fv_container::Steps;
 use fv_disk::{Failed, Host};
-use fv_lines::{Found, Line, Script, next_line};
+use fv_lines::{Found, Script, next_line};
 use fv_model::{Name, Refusal, Reply};
 use fv_script::{LineFault, read_line, write_reply};
 use std::sync::ledger::Ledger;
@@ -29,15 +29,14 @@ pub(crate) fn answer_lines<H: Host, L: Ledger>(
     ensures { AnswersLines limit session.old (H.shown host.old) session.new (H.shown host.new) result }
 {
     let mut script = Script::new(limit);
-    let mut line = Line::new();
     let mut count = 0;
     loop {
-        let Ok(found) = next_line(&mut script, host, &mut line) else {
+        let Ok(found) = next_line(&mut script, host) else {
             return Err(Fault::Source);
         };
         match found {
             Found::Line => {
-                let reply = apply(session, steps, line.as_slice(), host)?;
+                let reply = apply(session, steps, script.line(), host)?;
                 tell(&reply, host)?;
                 count += 1;
             }

@@ -1,5 +1,5 @@
 -- A write past the levels: how the tree stands to its blocks, and what it leads to, from the steps of the write.
-use Rattle.std.proofs.Common.{◌≡◌, ◌≢◌, ◌≤◌, ◌<◌, ℕ, ◌+◌, ◌/◌, ◌^◌, ◌⊎◌, inl, inr, false, cond, List, Option, Some, is_some, nat_eq, sym, ap, subst, ◌∙◌, arith}
+use Rattle.std.proofs.Common.{◌≡◌, ◌≢◌, ◌≤◌, ◌<◌, ℕ, ◌+◌, ◌/◌, ◌^◌, ◌⊎◌, inl, inr, true, false, cond, List, Option, Some, is_some, nat_eq, sym, ap, subst, ◌∙◌, arith}
 use Rattle.std.specs.Ordering.{nat_cmp}
 use Rattle.std.specs.BTreeMap as tree
 use Rattle.fv_model.specs.Trees.{fan, least_levels, Spot, spot_cmp}
@@ -12,13 +12,16 @@ use Rattle.fv_tree.specs.Standing.{cell_in, IsSameBut, IsSameButCells}
 use Rattle.fv_tree.specs.Writing.{HasNewLevels, Stamps, new_child}
 use Rattle.fv_tree.specs.Flushing.{IsSound, loaded_over, node_changed, node_placed, cell_placed}
 use Rattle.fv_tree.specs.Carried.{kept_at, IsBlank, BringsNew, IsTop, Marks}
-use Rattle.fv_tree.specs.Leading.{LeadsNoMore}
-use Rattle.fv_tree.proofs.Leading.{leads_then}
-use Rattle.fv_tree.proofs.Marked.{IsMarked, marked_leads, marked_keeps, marked_sound}
+use Rattle.fv_tree.specs.Leading.{KeepsHints, LeadsNoMore}
+use Rattle.fv_tree.specs.Readying.{KeepsReady}
+use Rattle.fv_tree.proofs.Leading.{hints_then, leads_then}
+use Rattle.fv_tree.proofs.Marked.{IsMarked, marked_hints, marked_leads, marked_keeps, marked_sound}
 use Rattle.fv_tree.proofs.Past.{Raises, past_base}
 use Rattle.fv_tree.proofs.Ready.{cell_there, marked_is}
-use Rattle.fv_tree.proofs.ReadyPast.{past_leads, past_keeps, past_ready, past_unplaced}
+use Rattle.fv_tree.proofs.ReadyPast.{past_hints, past_leads, past_keeps, past_ready, past_unplaced}
 use Rattle.fv_tree.proofs.Steps.{moved}
+use Rattle.fv_tree.proofs.StillReady.{cell_still, chosen, ready_then, stamps_ready}
+use Rattle.fv_tree.proofs.GrownReady.{grown_ready}
 use Rattle.fv_tree.proofs.Writes.{levels_grow}
 
 -- `s` gets new nodes as `t` and the cell as `h`, its levels rise as `v`, and the way gets stamps as `u`
@@ -70,6 +73,9 @@ module _ (s t h v u : Tree) (i stamp levels : ℕ) (block : List ℕ) (far : fan
   others_up : (j : ℕ) → j ≢ i → tree.get nat_cmp v.cells j ≡ tree.get nat_cmp s.cells j
   others_up j differs = ap (λ (m : tree.BTreeMap ℕ KeptCell). tree.get nat_cmp m j) cells ∙ others j differs ∙ ap (λ (m : tree.BTreeMap ℕ KeptCell). tree.get nat_cmp m j) fields.cells
 
+  cells_up : (j : ℕ) → is_some (cell_in s j) ≡ true → is_some (cell_in v j) ≡ true
+  cells_up j is = cell_still h v j cells (ap is_some (cell j) ∙ chosen (nat_eq j i) block (cell_in t j) (cell_still s t j fields.cells is))
+
   marked : (blocks : Under) → IsMarked (loaded_over blocks v) (loaded_over blocks u) i
   marked blocks = marked_is blocks v u i stamp stamps marks given raises.covers (past_base blocks s v i stamp raises given).kept
       (ap (λ (m : tree.BTreeMap ℕ KeptCell). is_some (tree.get nat_cmp m i)) cells ∙ cell_there t h i block cell)
@@ -78,9 +84,17 @@ module _ (s t h v u : Tree) (i stamp levels : ℕ) (block : List ℕ) (far : fan
   grows_leads blocks = leads_then (loaded_over blocks s) (loaded_over blocks v) (loaded_over blocks u) (past_leads blocks s v i stamp raises given brings_up blank_up tops_up own_up others_up)
       (marked_leads (loaded_over blocks v) (loaded_over blocks u) i (marked blocks) (λ level le _. past_unplaced blocks s v i stamp raises given brings_up blank_up tops_up own_up others_up level le))
 
+  pub grows_hints : (blocks : Under) → KeepsHints (loaded_over blocks s) (loaded_over blocks u)
+  grows_hints blocks = hints_then (loaded_over blocks s) (loaded_over blocks v) (loaded_over blocks u) (past_hints blocks s v i stamp raises given brings_up blank_up tops_up own_up others_up)
+      (marked_leads (loaded_over blocks v) (loaded_over blocks u) i (marked blocks) (λ level le _. past_unplaced blocks s v i stamp raises given brings_up blank_up tops_up own_up others_up level le))
+      (marked_hints (loaded_over blocks v) (loaded_over blocks u) i (marked blocks))
+
   pub grows_keeps : (blocks : Under) → LeadsNoMore (loaded_over blocks u) (loaded_over blocks s)
   grows_keeps blocks = leads_then (loaded_over blocks u) (loaded_over blocks v) (loaded_over blocks s) (marked_keeps (loaded_over blocks v) (loaded_over blocks u) i (marked blocks))
       (past_keeps blocks s v i stamp raises given brings_up blank_up tops_up own_up others_up)
 
   pub grows_sound : (blocks : Under) (used : ℕ → Option Use) → IsSound used (loaded_over blocks s) → IsSound used (loaded_over blocks u)
   grows_sound blocks used sound = marked_sound (loaded_over blocks v) (loaded_over blocks u) i (marked blocks) used raises.covers (past_ready blocks s v i stamp raises given brings_up blank_up tops_up own_up others_up used sound)
+
+  pub grows_ready : KeepsReady s u
+  grows_ready = ready_then s v u (λ j ready. grown_ready s v i stamp raises given brings_up tops_up cells_up j ready) (stamps_ready v u i stamp stamps marks given)

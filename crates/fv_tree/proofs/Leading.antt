@@ -11,7 +11,8 @@ use Rattle.fv_tree.specs.Keeping.{IsSame}
 use Rattle.fv_tree.specs.Erasing.{StandsAt}
 use Rattle.fv_tree.specs.Releasing.{KeepsBlocks}
 use Rattle.fv_tree.specs.Flushing.{Loaded, Leads, IsSound, Stands, Flushes, IsFlushed, IsPlaced, IsReplaced, loaded, loaded_over}
-use Rattle.fv_tree.specs.Leading.{LeadsNoMore, Carries}
+use Rattle.fv_tree.specs.Spelled.{pointer_at}
+use Rattle.fv_tree.specs.Leading.{KeepsHints, LeadsNoMore, Carries}
 use Rattle.fv_tree.proofs.Flushed.{bit, false_is_true, unchanged_placed}
 use Rattle.fv_tree.proofs.Gone.{is_memory}
 use Rattle.fv_tree.proofs.Ready.{cells_loaded, stands_again}
@@ -23,14 +24,18 @@ use Rattle.fv_tree.proofs.Removing.{same_over}
 pub leads_then : (a b c : Loaded) → LeadsNoMore a b → LeadsNoMore b c → LeadsNoMore a c
 leads_then a b c first second level place v led = first level place v (second level place v led)
 
+pub hints_then : (a b c : Loaded) → KeepsHints a b → LeadsNoMore b c → KeepsHints b c → KeepsHints a c
+hints_then a b c first no_more second level place v led = second level place v led ∙ first level place v (no_more level place v led)
+
 pub carries_itself : (source : Shown) (t : Tree) → Carries source source t t
-carries_itself source t = record { stands = λ stands. stands; leads = λ level place v led. led; keeps = λ level place v led. led }
+carries_itself source t = record { stands = λ stands. stands; leads = λ level place v led. led; keeps = λ level place v led. led; hints = λ level place v led. refl }
 
 pub carries_then : (a b c : Shown) (t u w : Tree) → Carries a b t u → Carries b c u w → Carries a c t w
 carries_then a b c t u w first second = record {
   stands = λ stands. second.stands (first.stands stands);
   leads = leads_then (loaded a t) (loaded b u) (loaded c w) first.leads second.leads;
   keeps = leads_then (loaded c w) (loaded b u) (loaded a t) second.keeps first.keeps;
+  hints = hints_then (loaded a t) (loaded b u) (loaded c w) first.hints second.leads second.hints;
 }
 
 -- ---- a tree that is the same
@@ -53,6 +58,7 @@ carries_same old new t u untouched same keeps stands = record {
   stands = stands;
   leads = keeps_leads old new t u untouched.held keeps;
   keeps = same_leads old new t u untouched.held same keeps;
+  hints = λ level place v led. ap (λ (p : Pointer). p.pvbn) (same.pointers level place);
 }
 
 -- the same tree over a source that shows the same
@@ -61,6 +67,7 @@ carries_untouched old new t untouched = record {
   stands = stands_again old new t t untouched.held untouched.used refl;
   leads = λ level place v led. subst (λ h. Leads (loaded_over (λ w. fin.get h w) t) level place v) untouched.held led;
   keeps = λ level place v led. subst (λ h. Leads (loaded_over (λ w. fin.get h w) t) level place v) (sym untouched.held) led;
+  hints = λ level place v led j. (pointer_at (standing (λ w. fin.get (untouched.held j) w) t) level place).pvbn;
 }
 
 -- a cell that found no memory
@@ -69,6 +76,7 @@ carries_cells source t u same cells = let seen = cells_loaded (under source) t u
   stands = subst (IsSound source.used) (sym seen);
   leads = λ level place v led. subst (λ s. Leads s level place v) seen led;
   keeps = λ level place v led. subst (λ s. Leads s level place v) (sym seen) led;
+  hints = λ level place v led. ap (λ (s : Loaded). (pointer_at s.tree level place).pvbn) seen;
 }
 
 -- ---- a flush
@@ -80,14 +88,14 @@ module _ (old new : Shown) (t u : Tree) (stands : Stands old t) (is : Flushes (l
   abbrev w : Loaded
   w = loaded new u
 
-  was_some : (level place : ℕ) → StandsAt w.tree level place → StandsAt s.tree level place
+  pub was_some : (level place : ℕ) → StandsAt w.tree level place → StandsAt s.tree level place
   was_some level place some none = some (is.stamps level place ∙ none)
 
   now_some : (level place : ℕ) → StandsAt s.tree level place → StandsAt w.tree level place
   now_some level place some none = some (sym (is.stamps level place) ∙ none)
 
   -- what wasn't placed leads to its block as before
-  placed_as : (level place : ℕ) → (w.changed level place ≡ true) ⊎ (s.changed level place ≡ false) → StandsAt s.tree level place → w.placed level place ≡ s.placed level place
+  pub placed_as : (level place : ℕ) → (w.changed level place ≡ true) ⊎ (s.changed level place ≡ false) → StandsAt s.tree level place → w.placed level place ≡ s.placed level place
   placed_as level place (inl now) some = (is.fewer level place now).1
   placed_as level place (inr same) some = elim (bit (w.changed level place)) [
     | inl unchanged ↦ unchanged_placed w new.used is.sound (is_memory new u) level place unchanged (now_some level place some) ∙ sym (unchanged_placed s old.used stands (is_memory old t) level place same some)
@@ -95,7 +103,7 @@ module _ (old new : Shown) (t u : Tree) (stands : Stands old t) (is : Flushes (l
   ]
 
   -- a block that was replaced was led to from what was placed
-  not_replaced : (level place v : ℕ) → (w.changed level place ≡ true) ⊎ (s.changed level place ≡ false) → Leads s level place v → IsReplaced s w v → ⊥
+  pub not_replaced : (level place v : ℕ) → (w.changed level place ≡ true) ⊎ (s.changed level place ≡ false) → Leads s level place v → IsReplaced s w v → ⊥
   not_replaced level place v (inl now) led replaced =
       let same = stands.once level place replaced.level replaced.place v led replaced.leads in
       false_is_true (w.changed replaced.level replaced.place) replaced.flushed.done ((λ j. w.changed (sym same.0 j) (sym same.1 j)) ∙ now)
@@ -104,7 +112,7 @@ module _ (old new : Shown) (t u : Tree) (stands : Stands old t) (is : Flushes (l
       false_is_true (s.changed replaced.level replaced.place) ((λ j. s.changed (sym at.0 j) (sym at.1 j)) ∙ same) replaced.flushed.was
 
   -- a cell or node stays as it is, or it was placed
-  stays_or_done : (level place : ℕ) → StandsAt s.tree level place → ((w.changed level place ≡ true) ⊎ (s.changed level place ≡ false)) ⊎ IsFlushed s w level place
+  pub stays_or_done : (level place : ℕ) → StandsAt s.tree level place → ((w.changed level place ≡ true) ⊎ (s.changed level place ≡ false)) ⊎ IsFlushed s w level place
   stays_or_done level place some = elim (bit (w.changed level place)) [
     | inr now ↦ inl (inl now)
     | inl done ↦ elim (bit (s.changed level place)) [

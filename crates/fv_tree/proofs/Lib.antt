@@ -22,6 +22,7 @@ pub mod Hints
 pub mod Removing
 pub mod Collected
 pub mod Flushed
+pub mod Known
 pub mod Forgotten
 pub mod Observed
 pub mod Swapped
@@ -36,7 +37,12 @@ pub mod Ready
 pub mod Counts
 pub mod Found
 pub mod Readied
+pub mod StillReady
+pub mod GrownReady
+pub mod OthersReady
+pub mod Stored
 pub mod Leading
+pub mod StoredFlush
 pub mod Within
 pub mod Grows
 pub mod Rewritten

@@ -7,7 +7,7 @@ use Rattle.fv_model.specs.Trees.{fan}
 use Rattle.fv_tree.specs.Sources.{Use}
 use Rattle.fv_tree.specs.Spelled.{hole, pointers_in, pointer_at}
 use Rattle.fv_tree.specs.Flushing.{Loaded, Leads, IsRight, IsSound, IsEmptyNode, kind_for}
-use Rattle.fv_tree.specs.Leading.{LeadsNoMore}
+use Rattle.fv_tree.specs.Leading.{KeepsHints, LeadsNoMore}
 use Rattle.fv_tree.proofs.Flushed.{false_is_true, reached_within}
 use Rattle.fv_tree.proofs.Hints.{right_as}
 use Rattle.fv_tree.proofs.Stamped.{above}
@@ -65,6 +65,9 @@ module _ (v u : Loaded) (i : ℕ) (marked : IsMarked v u i) where
 
   within : (level place : ℕ) → (pointer_at u.tree level place).stamp ≢ 0 → level ≤ v.tree.levels
   within level place reached = omega (arith, marked.levels, reached_within u.tree level place reached)
+
+  pub marked_hints : KeepsHints v u
+  marked_hints level place w leads = same_hint level place (within level place leads.some)
 
   module _ (unplaced : (level : ℕ) → level ≤ v.tree.levels → (pointer_at v.tree level (i / fan ^ level)).stamp ≡ 0 → v.placed level (i / fan ^ level) ≡ false) where
     on_leads : (level place w : ℕ) → place ≡ i / fan ^ level → Leads u level place w → Leads v level place w

@@ -128,7 +128,7 @@ stays_led : (b : Bool) (p q : Pointer) → q.stamp ≢ 0 → (if b then p else h
 stays_led true p q some was = some
 stays_led false p q some was = was
 
-child_stamped : (o : Option (List Pointer)) (slot k s : ℕ) → s ≢ 0 → k < 128 → ((xs : List Pointer) → o ≡ Some xs → 128 ≡ length xs) → (child_of o k).stamp ≢ 0 → (child_of (option_map (stamped_in slot s) o) k).stamp ≢ 0
+pub child_stamped : (o : Option (List Pointer)) (slot k s : ℕ) → s ≢ 0 → k < 128 → ((xs : List Pointer) → o ≡ Some xs → 128 ≡ length xs) → (child_of o k).stamp ≢ 0 → (child_of (option_map (stamped_in slot s) o) k).stamp ≢ 0
 child_stamped None slot k s some lt long was = was
 child_stamped (Some xs) slot k s some lt long was = elim (cases_eq k slot) [
   | inl at ↦ λ none. some (sym (ap (λ (p : Pointer). p.stamp) (ap (λ n. get_or (stamped_in slot s xs) n hole) at ∙ this_stamped xs slot s (let whole = long xs refl in omega (arith, lt, at, whole)))) ∙ none)

@@ -13,7 +13,7 @@ use Rattle.fv_tree.specs.Spelled.{Under, hole, pointers_in, pointer_at}
 use Rattle.fv_tree.specs.Standing.{standing, node_in}
 use Rattle.fv_tree.specs.Flushing.{Leads, IsSound, IsEmptyNode, loaded_over, changed_of, placed_of, changed_in, placed_in, node_changed, node_placed, cell_placed, kind_for}
 use Rattle.fv_tree.specs.Carried.{kept_at, IsBlank, BringsNew, IsTop}
-use Rattle.fv_tree.specs.Leading.{LeadsNoMore}
+use Rattle.fv_tree.specs.Leading.{KeepsHints, LeadsNoMore}
 use Rattle.fv_tree.proofs.Brought.{blank_unplaced}
 use Rattle.fv_tree.proofs.Flushed.{false_is_true, under_none, reached_within, top_is_first}
 use Rattle.fv_tree.proofs.Gone.{cell_changed, spot_changed, cell_led, spot_led}
@@ -113,6 +113,9 @@ module _ (blocks : Under) (t v : Tree) (i s : ℕ) (is : Raises t v i s) (some :
     placed = sym (led_old k q old.0) ∙ leads.placed;
     vvbn = sym (ap (λ (p : Pointer). p.vvbn) old.1) ∙ leads.vvbn;
   }
+
+  pub past_hints : KeepsHints (loaded_over blocks t) (loaded_over blocks v)
+  past_hints k q x leads = ap (λ (p : Pointer). p.pvbn) (was_pointer k q x leads).1
 
   -- and still does
   still_pointer : (k q : ℕ) → (pointer_at (standing blocks t) k q).stamp ≢ 0 → pointer_at (standing blocks v) k q ≡ pointer_at (standing blocks t) k q

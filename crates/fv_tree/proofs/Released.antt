@@ -259,10 +259,11 @@ keeps_then blocks t u v first second = record {
   stood = λ level place there. first.stood level place (second.stood level place there);
   number = λ level place there. second.number level place there ∙ first.number level place (second.stood level place there);
   block = λ level place there. second.block level place there ∙ first.block level place (second.stood level place there);
+  hint = λ level place there. second.hint level place there ∙ first.hint level place (second.stood level place there);
 }
 
 pub keeps_self : (blocks : Under) (t : Tree) → KeepsBlocks blocks t t
-keeps_self blocks t = record { stood = λ level place there. there; number = λ level place there. refl; block = λ level place there. refl }
+keeps_self blocks t = record { stood = λ level place there. there; number = λ level place there. refl; block = λ level place there. refl; hint = λ level place there. refl }
 
 -- a removal of cells, over another map in which it is the same
 pub erased_alike : (a b c : Rooted) (gone : ℕ → Bool) (start s : ℕ) → IsErased a b gone start s → IsAlike b c → IsErased a c gone start s
@@ -295,6 +296,7 @@ keeps_same_blocks old new t u level place p under same at cells nodes = record {
     | inl here ↦ inr (λ none. stood k q there ((λ j. (pointer_at (standing old t) (here.0 j) (here.1 j)).stamp) ∙ ap (λ (p : Pointer). p.stamp) at ∙ none))
     | inr other ↦ inl other
   ]));
+  hint = λ k q there. ap (λ (p : Pointer). p.pvbn) (pointers k q);
 }
   where
     pointers : (k q : ℕ) → pointer_at (standing old u) k q ≡ pointer_at (standing old t) k q

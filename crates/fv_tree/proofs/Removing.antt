@@ -16,7 +16,7 @@ use Rattle.fv_tree.specs.Keeping.{IsSame, IsKept}
 use Rattle.fv_tree.specs.Erasing.{StandsAt, HoldsCells, IsErased, Erases}
 use Rattle.fv_tree.specs.Releasing.{IsDropped, KeepsBlocks, Releases, Removes}
 use Rattle.fv_tree.specs.Flushing.{Leads, IsSound, Stands, loaded, loaded_over}
-use Rattle.fv_tree.specs.Leading.{LeadsNoMore, Carries}
+use Rattle.fv_tree.specs.Leading.{KeepsHints, LeadsNoMore, Carries}
 use Rattle.fv_tree.specs.Counting.{positions_of}
 use Rattle.fv_tree.specs.Removal.{Removal}
 use Rattle.fv_tree.specs.Costs.{pending}
@@ -26,7 +26,8 @@ use Rattle.fv_tree.proofs.Erased.{nothing_erased, erased_then, erased_as, holds_
 use Rattle.fv_tree.proofs.Marks.{erases}
 use Rattle.fv_tree.proofs.Raised.{past_at}
 use Rattle.fv_tree.proofs.Writes.{no_stamp, same_alike}
-use Rattle.fv_tree.proofs.Released.{nothing_released, released_then, released_as, keeps_then, led_before, moved_leads, moved_keeps, blocks_stay, released_alike, released_sound, sound_used, erased_alike}
+use Rattle.fv_tree.proofs.Stored.{stored_off}
+use Rattle.fv_tree.proofs.Released.{nothing_released, released_then, released_as, keeps_then, led_before, moved_leads, moved_keeps, moved_pointers, blocks_stay, released_alike, released_sound, sound_used, erased_alike}
 
 -- a tree that is the same over the same blocks
 pub same_over : (old new : Under) (t u : Tree) → new ≡ old → IsSame (standing old t) (standing new u) → IsSame (standing old t) (standing old u)
@@ -170,6 +171,11 @@ module _ (old new : Shown) (t u : Tree) (gone : ℕ → Bool) (start s : ℕ) (i
   pub removed_leads : LeadsNoMore (loaded old t) (loaded new u)
   removed_leads level place v led = led_before (under old) t u level place v is.keeps (moved_leads (under old) (under new) u (blocks_stay old new t u stands is.keeps is.released) level place v led)
 
+  pub removed_hints : KeepsHints (loaded old t) (loaded new u)
+  removed_hints level place v led =
+      let same = moved_pointers (under old) (under new) u (blocks_stay old new t u stands is.keeps is.released) level place in
+      ap (λ (p : Pointer). p.pvbn) same ∙ is.keeps.hint level place (λ none. led.some (ap (λ (p : Pointer). p.stamp) same ∙ none))
+
   pub removed_lets_go : (level place v : ℕ) → Leads (loaded old t) level place v → Leads (loaded new u) level place v ⊎ (new.used v ≡ None)
   removed_lets_go level place v led = elim (cases_eq (pointer_at (standing (under old) u) level place).stamp 0) [
     | inl hole ↦ inr (is.released.gone v (record { level = level; place = place; led = led; goes = hole }))
@@ -187,6 +193,16 @@ pub leads_after : {X : Type 0} (r : Result X BlockFault) (old new : Shown) (t u 
     → Stands old t → LeadsNoMore (loaded old t) (loaded new u)
 leads_after (Ok x) old new t u gone start s done stays stands = removed_leads old new t u gone start s done stands
 leads_after (Err e) old new t u gone start s done stays stands = stays.leads
+
+pub hints_after : {X : Type 0} (r : Result X BlockFault) (old new : Shown) (t u : Tree) (gone : ℕ → Bool) (start s : ℕ) → OnOk r (Removes old new t u gone start s) → OnErr r (Carries old new t u)
+    → Stands old t → KeepsHints (loaded old t) (loaded new u)
+hints_after (Ok x) old new t u gone start s done stays stands = removed_hints old new t u gone start s done stands
+hints_after (Err e) old new t u gone start s done stays stands = stays.hints
+
+may_go_after : {X : Type 0} (r : Result X BlockFault) (old new : Shown) (t u : Tree) (gone : ℕ → Bool) (start s : ℕ) → OnOk r (Removes old new t u gone start s) → OnErr r (IsUntouched old new)
+    → (v : ℕ) → (under new v ≡ under old v) ⊎ (under new v ≡ None)
+may_go_after (Ok x) old new t u gone start s done untouched v = done.released.may_go v
+may_go_after (Err e) old new t u gone start s done untouched v = inl (λ j. fin.get (untouched.held j) v)
 
 pub lets_go_after : {X : Type 0} (r : Result X BlockFault) (old new : Shown) (t u : Tree) (gone : ℕ → Bool) (start s : ℕ) → OnOk r (Removes old new t u gone start s) → OnErr r (Carries old new t u)
     → Stands old t → (level place v : ℕ) → Leads (loaded old t) level place v → Leads (loaded new u) level place v ⊎ (new.used v ≡ None)
@@ -226,6 +242,8 @@ removal_after told calls r old new t u gone start s done same owner stays untouc
   owner = owner;
   stands = λ tells. stands_after r old new t u gone start s (done tells) (stays tells);
   leads = λ tells. leads_after r old new t u gone start s (done tells) (stays tells);
+  stored_well = λ tells stood. stored_off (loaded old t) (loaded new u) new.used (stands_after r old new t u gone start s (done tells) (stays tells) stood) owner
+      (λ v. may_go_after r old new t u gone start s (done tells) untouched v) (leads_after r old new t u gone start s (done tells) (stays tells) stood) (hints_after r old new t u gone start s (done tells) (stays tells) stood);
   lets_go = λ tells. lets_go_after r old new t u gone start s (done tells) (stays tells);
   count = λ tells. count_after r old new t u gone start s (done tells) (count tells);
   failed = λ tells. remains_after r (standing (under old) t) (standing (under new) u) (same tells);

@@ -17,7 +17,7 @@ use Rattle.fv_tree.specs.Writing.{IsAlike, IsWritten, Stamps}
 use Rattle.fv_tree.specs.Refilling.{IsRefilled}
 use Rattle.fv_tree.specs.Flushing.{IsSound, loaded_over, cell_placed, changed_in, placed_in}
 use Rattle.fv_tree.specs.Carried.{kept_at, Marks}
-use Rattle.fv_tree.specs.Leading.{LeadsNoMore}
+use Rattle.fv_tree.specs.Leading.{KeepsHints, LeadsNoMore}
 use Rattle.fv_tree.specs.Readying.{IsReady}
 use Rattle.fv_tree.proofs.Gone.{map_some}
 use Rattle.fv_tree.proofs.Held.{same_self}
@@ -26,7 +26,7 @@ use Rattle.fv_tree.proofs.Readied.{has_way, ready_cell, ready_stands, stamps_lea
 use Rattle.fv_tree.proofs.Ready.{cell_kept, marked_is}
 use Rattle.fv_tree.proofs.Refilled.{unstamped_none}
 use Rattle.fv_tree.proofs.Steps.{stamps_way, stamped_cells}
-use Rattle.fv_tree.proofs.Within.{within_leads, within_keeps, within_sound}
+use Rattle.fv_tree.proofs.Within.{within_hints, within_leads, within_keeps, within_sound}
 use Rattle.fv_tree.proofs.Writes.{within_base, written_is}
 
 module _ (w v u : Tree) (i s : ℕ) (block : List ℕ) (ready : IsReady w i) (some : 1 ≤ s) (fields : IsSameButCells w v) (cell : (j : ℕ) → cell_in v j ≡ cond (nat_eq j i) (Some block) (cell_in w j))
@@ -66,6 +66,9 @@ module _ (w v u : Tree) (i s : ℕ) (block : List ℕ) (ready : IsReady w i) (so
 
   pub rewritten_keeps : (blocks : Under) → LeadsNoMore (loaded_over blocks u) (loaded_over blocks w)
   rewritten_keeps blocks = within_keeps blocks w v u i true fields own others (unnamed blocks) (λ _. refl) (unplaced blocks) (marked blocks)
+
+  pub rewritten_hints : (blocks : Under) → KeepsHints (loaded_over blocks w) (loaded_over blocks u)
+  rewritten_hints blocks = within_hints blocks w v u i true fields own others (unnamed blocks) (λ _. refl) (unplaced blocks) (marked blocks)
 
   pub rewritten_sound : (blocks : Under) (used : ℕ → Option Use) → IsSound used (loaded_over blocks w) → IsSound used (loaded_over blocks u)
   rewritten_sound blocks = within_sound blocks w v u i true fields own others (unnamed blocks) (λ _. refl) (unplaced blocks) (marked blocks) covers

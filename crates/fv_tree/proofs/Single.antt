@@ -296,6 +296,7 @@ module _ (blocks : Under) (t u : Tree) (i lost start stamp : ℕ) (way : HasWay 
     stood = λ level place there. (kept level place there).0;
     number = λ level place there. (kept level place there).1;
     block = λ level place there. (kept level place there).2;
+    hint = λ level place there. (kept level place there).3;
   }
 
   -- the nodes over another cell that still stands

@@ -15,7 +15,7 @@ use Rattle.fv_tree.specs.Standing.{standing, node_in, IsSameBut}
 use Rattle.fv_tree.specs.Keeping.{IsSame}
 use Rattle.fv_tree.specs.Flushing.{IsSound, IsEmptyNode, loaded_over, changed_of, placed_of, node_changed, node_placed, cell_placed, kind_for}
 use Rattle.fv_tree.specs.Carried.{kept_at, BringsNew}
-use Rattle.fv_tree.specs.Leading.{LeadsNoMore}
+use Rattle.fv_tree.specs.Leading.{KeepsHints, LeadsNoMore}
 use Rattle.fv_tree.proofs.Brought.{blank_empty}
 use Rattle.fv_tree.proofs.Flushed.{under_none, reached_within}
 use Rattle.fv_tree.proofs.Gone.{cell_changed, spot_changed, cell_led, spot_led}
@@ -65,6 +65,9 @@ module _ (blocks : Under) (t v : Tree) (i : ℕ) (far : fan ^ t.levels ≤ i) (f
     | inl e ↦ cell_changed v k q e ∙ ap (λ (cells : tree.BTreeMap ℕ KeptCell). is_some (tree.get nat_cmp cells q)) fields.cells ∙ sym (cell_changed t k q e)
     | inr low ↦ spot_changed v k q (omega arith) ∙ ap node_changed (kept_old blocks t v i far brings k q some) ∙ sym (spot_changed t k q (omega arith))
   ]
+
+  pub still_hints : KeepsHints (loaded_over blocks t) (loaded_over blocks v)
+  still_hints k q x leads = ap (λ (p : Pointer). p.pvbn) (same.pointers k q)
 
   pub still_leads : LeadsNoMore (loaded_over blocks t) (loaded_over blocks v)
   still_leads k q x leads = let some : (pointer_at (standing blocks t) k q).stamp ≢ 0 = λ e. leads.some (stamps k q ∙ e) in record {

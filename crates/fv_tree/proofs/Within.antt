@@ -1,5 +1,5 @@
 -- A cell within the levels that comes into memory, and the way to it that is marked: how the tree stands to its blocks then.
-use Rattle.std.proofs.Common.{◌≡◌, ◌≢◌, ◌≤◌, ◌<◌, ℕ, ◌/◌, ◌^◌, Bool, true, false, ◌&&◌, Option}
+use Rattle.std.proofs.Common.{◌≡◌, ◌≢◌, ◌≤◌, ◌<◌, ℕ, ◌/◌, ◌^◌, Bool, true, false, ◌&&◌, Option, ap, ◌∙◌}
 use Rattle.std.specs.Ordering.{nat_cmp}
 use Rattle.std.specs.BTreeMap as tree
 use Rattle.fv_model.specs.Trees.{fan}
@@ -8,10 +8,11 @@ use Rattle.fv_tree.specs.Spelled.{Under, pointer_at}
 use Rattle.fv_tree.specs.Sources.{Shown, Use}
 use Rattle.fv_tree.specs.Standing.{standing, under, IsSameButCells}
 use Rattle.fv_tree.specs.Flushing.{IsSound, loaded_over, placed_in, cell_placed}
-use Rattle.fv_tree.specs.Leading.{LeadsNoMore, Carries}
+use Rattle.fv_codec.specs.declared.pointer.Pointer.{Pointer}
+use Rattle.fv_tree.specs.Leading.{KeepsHints, LeadsNoMore, Carries}
 use Rattle.fv_tree.proofs.Leading.{leads_then}
-use Rattle.fv_tree.proofs.Marked.{IsMarked, marked_leads, marked_keeps, marked_sound}
-use Rattle.fv_tree.proofs.Ready.{cell_leads, cell_keeps, way_unplaced, within_ready}
+use Rattle.fv_tree.proofs.Marked.{IsMarked, marked_hints, marked_leads, marked_keeps, marked_sound}
+use Rattle.fv_tree.proofs.Ready.{cell_leads, cell_keeps, cell_pointers, way_unplaced, within_ready}
 
 module _ (blocks : Under) (w v u : Tree) (i : ℕ) (named : Bool) (same : IsSameButCells w v)
     (own : cell_placed (tree.get nat_cmp v.cells i) ≡ (named && cell_placed (tree.get nat_cmp w.cells i))) (others : (j : ℕ) → j ≢ i → tree.get nat_cmp v.cells j ≡ tree.get nat_cmp w.cells j)
@@ -26,6 +27,9 @@ module _ (blocks : Under) (w v u : Tree) (i : ℕ) (named : Bool) (same : IsSame
   within_keeps = leads_then (loaded_over blocks u) (loaded_over blocks v) (loaded_over blocks w) (marked_keeps (loaded_over blocks v) (loaded_over blocks u) i marked)
       (cell_keeps blocks w v i named same own others names)
 
+  pub within_hints : KeepsHints (loaded_over blocks w) (loaded_over blocks u)
+  within_hints k q x led = marked_hints (loaded_over blocks v) (loaded_over blocks u) i marked k q x led ∙ ap (λ (p : Pointer). p.pvbn) (cell_pointers blocks w v i named same own others k q)
+
   pub within_sound : i < fan ^ v.levels → (used : ℕ → Option Use) → IsSound used (loaded_over blocks w) → IsSound used (loaded_over blocks u)
   within_sound covers used sound = marked_sound (loaded_over blocks v) (loaded_over blocks u) i marked used covers (within_ready blocks w v i named same own others unnamed unplaced used sound)
 
@@ -37,4 +41,5 @@ carries_within source w v u i named same own others unnamed names unplaced cover
   stands = within_sound (under source) w v u i named same own others unnamed names unplaced marked covers source.used;
   leads = within_leads (under source) w v u i named same own others unnamed names unplaced marked;
   keeps = within_keeps (under source) w v u i named same own others unnamed names unplaced marked;
+  hints = within_hints (under source) w v u i named same own others unnamed names unplaced marked;
 }

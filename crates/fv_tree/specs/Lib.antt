@@ -10,6 +10,7 @@ pub mod Collecting
 pub mod Flushing
 pub mod Counting
 pub mod Readying
+pub mod Stored
 pub mod Leading
 pub mod Removal
 pub mod Carried

@@ -16,3 +16,11 @@ pub record IsReady (t : Tree) (i : ℕ) : Type 0 where
   pub cell : is_some (cell_in t i) ≡ true
   pub way : HoldsWay t i
   pub marked : (level : ℕ) → 1 ≤ level → level ≤ t.levels → changed_in t.nodes level (i / fan ^ level) ≡ true
+
+-- each cell that is ready stays so
+abbrev pub KeepsReady : Tree → Tree → Type 0
+KeepsReady old new = (i : ℕ) → IsReady old i → IsReady new i
+
+-- so does each but one
+abbrev pub KeepsOthersReady : Tree → Tree → ℕ → Type 0
+KeepsOthersReady old new k = (i : ℕ) → i ≢ k → IsReady old i → IsReady new i

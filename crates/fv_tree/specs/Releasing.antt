@@ -29,6 +29,7 @@ pub record KeepsBlocks (blocks : Under) (old new : Tree) : Type 0 where
   pub stood : (level place : ℕ) → StandsAt (standing blocks new) level place → StandsAt (standing blocks old) level place
   pub number : (level place : ℕ) → StandsAt (standing blocks new) level place → (pointer_at (standing blocks new) level place).vvbn ≡ (pointer_at (standing blocks old) level place).vvbn
   pub block : (level place : ℕ) → StandsAt (standing blocks new) level place → placed_of new level place ≡ placed_of old level place
+  pub hint : (level place : ℕ) → StandsAt (standing blocks new) level place → (pointer_at (standing blocks new) level place).pvbn ≡ (pointer_at (standing blocks old) level place).pvbn
 
 -- Cells were removed by a change with the stamp s, over the blocks that there were before.
 pub record Removes (old new : Shown) (t u : Tree) (gone : ℕ → Bool) (start s : ℕ) : Type 0 where

@@ -1,5 +1,6 @@
 //! What a tree reaches its blocks through.
 
+ghost use Rattle.std.specs.Prelude.{◌≤◌, IfOk};
 ghost use Rattle.fv_tree.specs.Sources.{Shown, IsSource, IsKind, Loads, Places, Drops};
 
 use fv_codec::Pointer;
@@ -34,6 +35,10 @@ pub trait Blocks {
     /// on a tree or for none.
     ghost told: { Type 0 };
 
+    /// Whether the place of each block that is placed is told: then `place` never answers a PVBN of 0. A source that asks
+    /// for unknown pointers takes a statement that can't be shown. It is one for a type, as `told` is.
+    ghost known: { Type 0 };
+
     /// What a load leaves of all else that a source has, as of a pool and a disk that it was lent. Each call on a
     /// tree that only loads ensures it, so its caller knows afterwards what its own parts are.
     ghost reads: { Self → Self → Type 0 };
@@ -65,6 +70,7 @@ pub trait Blocks {
     fn place(&mut self, kind: u8, block: &[u8; 4096]) -> Result<Placed, TreeFault>
         requires kind { IsKind kind }
         ensures places { Places told (shown self.old) kind block.now (shown self.new) result }
+        ensures known { known → IfOk result (λ placed. 1 ≤ placed.pvbn) }
         ensures calls { goes self.old self.new };
 
     /// Takes that one VVBN out of use, and may drop it from the map; all else stays. One that isn't in use

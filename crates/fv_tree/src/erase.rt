@@ -17,6 +17,7 @@ ghost use Rattle.fv_tree.specs.Counting.{positions_of};
 ghost use Rattle.fv_tree.specs.Costs.{changes_in, pending};
 ghost use Rattle.fv_tree.specs.Unlinking.{HasWay, HasNoOther, HasOther, AreBare, Unlinks, CellGoes, cleared_in, IsNamed, IsOnWay, IsOver, MarksOnly, NamesOnce};
 ghost use Rattle.fv_tree.specs.Carried.{MarksNoMore};
+ghost use Rattle.fv_tree.specs.Readying.{IsReady, KeepsOthersReady};
 
 use crate::blocks::Blocks;
 use crate::kept::{HOLE, KeptNode, Tree};
@@ -44,6 +45,7 @@ pub fn erase_cell<B: Blocks>(
     ensures strays { HasWay tree.old index → (held : Under) → StandsAt (standing held tree.old) 0 index → IsSound (B.shown blocks.old).used (loaded_over held tree.old) → (B.shown blocks.new).strays ≡ (B.shown blocks.old).strays }
     ensures count { HasWay tree.old index → (held : Under) → StandsAt (standing held tree.old) 0 index → positions_of (standing held tree.old) ≡ positions_of (standing held tree.new) + result }
     ensures few { result ≤ 4 }
+    ensures others_ready { IsReady tree.old index → KeepsOthersReady tree.old tree.new index }
     ensures pending { pending tree.new ≤ pending tree.old + 3 }
     ensures differs { MarksOnly tree.old tree.new index }
     ensures room { (B.shown blocks.old).room ≤ (B.shown blocks.new).room }

@@ -9,6 +9,7 @@ ghost use Rattle.fv_tree.specs.Sources.{Counts, HasCause, IsDamaged, IsUntouched
 ghost use Rattle.fv_tree.specs.Standing.{standing, under};
 ghost use Rattle.fv_tree.specs.Writing.{Remains};
 ghost use Rattle.fv_tree.specs.Flushing.{changed_in, loaded, pointer_in, Flushes, HoldsAsMuch, IsLeft, IsNodeStep, ReachesOnce, Stands};
+ghost use Rattle.fv_tree.specs.Stored.{IsStoredWell, HasPlaces, KeepsPlaces};
 ghost use Rattle.fv_tree.specs.Costs.{changes_in, pending, Fits, IsEnough};
 
 use crate::blocks::{Blocks, TreeFault};
@@ -27,6 +28,7 @@ fn flush_cells<B: Blocks>(tree: &mut Tree, blocks: &mut B) -> Result<(), TreeFau
     ensures enough { B.told → Stands (B.shown blocks.old) tree.old → IsEnough (pending tree.old) (B.shown blocks.old).room result }
     ensures spent { (B.shown blocks.new).spent ≡ (B.shown blocks.old).spent }
     ensures none { OnOk result (maps.btree_map_len tree.new.cells ≡ 0) }
+    ensures places { B.known → KeepsPlaces (B.shown blocks.old) (B.shown blocks.new) }
     ensures calls { B.goes blocks.old blocks.new }
     ensures counts { Counts (B.shown blocks.old) (B.shown blocks.new) result }
     ensures cause { IfErr result (HasCause (B.shown blocks.old) (B.shown blocks.new)) }
@@ -48,6 +50,7 @@ fn flush_nodes<B: Blocks>(tree: &mut Tree, blocks: &mut B) -> Result<(), TreeFau
     ensures spent { (B.shown blocks.new).spent ≡ (B.shown blocks.old).spent }
     ensures cells { tree.new.cells ≡ tree.old.cells }
     ensures none { OnOk result (maps.btree_map_len tree.new.nodes ≡ 0) }
+    ensures places { B.known → KeepsPlaces (B.shown blocks.old) (B.shown blocks.new) }
     ensures calls { B.goes blocks.old blocks.new }
     ensures counts { Counts (B.shown blocks.old) (B.shown blocks.new) result }
     ensures cause { IfErr result (HasCause (B.shown blocks.old) (B.shown blocks.new)) }
@@ -67,6 +70,7 @@ fn flush_first_cell<B: Blocks>(tree: &mut Tree, blocks: &mut B) -> Result<(), Tr
     ensures enough { B.told → Stands (B.shown blocks.old) tree.old → IsEnough (pending tree.old) (B.shown blocks.old).room result }
     ensures spent { (B.shown blocks.new).spent ≡ (B.shown blocks.old).spent }
     ensures fewer { OnOk result (maps.btree_map_len tree.new.cells ≡ maps.btree_map_len tree.old.cells - 1) }
+    ensures places { B.known → KeepsPlaces (B.shown blocks.old) (B.shown blocks.new) }
     ensures calls { B.goes blocks.old blocks.new }
     ensures counts { Counts (B.shown blocks.old) (B.shown blocks.new) result }
     ensures cause { IfErr result (HasCause (B.shown blocks.old) (B.shown blocks.new)) }
@@ -92,6 +96,7 @@ fn flush_first_node<B: Blocks>(tree: &mut Tree, blocks: &mut B) -> Result<(), Tr
     ensures spent { (B.shown blocks.new).spent ≡ (B.shown blocks.old).spent }
     ensures cells { tree.new.cells ≡ tree.old.cells }
     ensures fewer { OnOk result (maps.btree_map_len tree.new.nodes ≡ maps.btree_map_len tree.old.nodes - 1) }
+    ensures places { B.known → KeepsPlaces (B.shown blocks.old) (B.shown blocks.new) }
     ensures calls { B.goes blocks.old blocks.new }
     ensures counts { Counts (B.shown blocks.old) (B.shown blocks.new) result }
     ensures cause { IfErr result (HasCause (B.shown blocks.old) (B.shown blocks.new)) }
@@ -125,6 +130,7 @@ fn flush_node<B: Blocks>(
     ensures enough { (B.shown blocks.old).room ≢ 0 → IfErr result (λ e. IsDamaged e → ⊥) }
     ensures spent { (B.shown blocks.new).spent ≡ (B.shown blocks.old).spent }
     ensures untouched { OnErr result (IsUntouched (B.shown blocks.old) (B.shown blocks.new)) }
+    ensures places { B.known → KeepsPlaces (B.shown blocks.old) (B.shown blocks.new) }
     ensures calls { B.goes blocks.old blocks.new }
     ensures counts { Counts (B.shown blocks.old) (B.shown blocks.new) result }
     ensures cause { IfErr result (HasCause (B.shown blocks.old) (B.shown blocks.new)) }
@@ -155,6 +161,7 @@ impl Tree {
         ensures strays { B.told → Stands (B.shown blocks.old) self.old → (B.shown blocks.new).strays ≡ (B.shown blocks.old).strays }
         ensures remains { B.told → Stands (B.shown blocks.old) self.old → Remains (standing (under (B.shown blocks.old)) self.old) (standing (under (B.shown blocks.new)) self.new) }
         ensures left { IsLeft self.old self.new }
+        ensures stored_well { B.told → Stands (B.shown blocks.old) self.old → HasPlaces (B.shown blocks.new).used → IsStoredWell (loaded (B.shown blocks.old) self.old) → IsStoredWell (loaded (B.shown blocks.new) self.new) }
         ensures fits { B.told → Stands (B.shown blocks.old) self.old → Fits (B.shown blocks.old) self.old (B.shown blocks.new) self.new }
         ensures enough { B.told → Stands (B.shown blocks.old) self.old → IsEnough (pending self.old) (B.shown blocks.old).room result }
         ensures spent { (B.shown blocks.new).spent ≡ (B.shown blocks.old).spent }
@@ -164,6 +171,7 @@ impl Tree {
         ensures pointer { IfOk result IsPointer }
         ensures stored { IfOk result (λ root. standing (under (B.shown blocks.new)) self.new ≡ stored (under (B.shown blocks.new)) self.old.owner self.old.levels root) }
         ensures reaches { B.told → IfOk result (λ root. Stands (B.shown blocks.old) self.old → ReachesOnce (B.shown blocks.new).used (stored (under (B.shown blocks.new)) self.old.owner self.old.levels root)) }
+        ensures places { B.known → KeepsPlaces (B.shown blocks.old) (B.shown blocks.new) }
         ensures calls { B.goes blocks.old blocks.new }
         ensures counts { Counts (B.shown blocks.old) (B.shown blocks.new) result }
         ensures cause { IfErr result (HasCause (B.shown blocks.old) (B.shown blocks.new)) }

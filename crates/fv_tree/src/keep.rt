@@ -1,6 +1,6 @@
 //! Holding the nodes over a cell in memory.
 
-ghost use Rattle.std.specs.Prelude.{◌≡◌, ◌≢◌, ◌≤◌, ◌<◌, ◌/◌, ◌+◌, ◌-◌, ◌^◌, ◌&&◌, ◌⊎◌, ℕ, true, false, cond, nat_eq, Some, IfOk, IfErr, OnOk, OnErr, get_or, length, replicate};
+ghost use Rattle.std.specs.Prelude.{◌≡◌, ◌≢◌, ◌≤◌, ◌<◌, ◌/◌, ◌+◌, ◌-◌, ◌^◌, ◌&&◌, ◌⊎◌, ℕ, true, false, is_some, cond, nat_eq, Some, IfOk, IfErr, OnOk, OnErr, get_or, length, replicate};
 ghost use Rattle.std.specs.List.{All};
 ghost use Rattle.fv_codec.specs.Blocks.{IsPointer};
 ghost use Rattle.fv_model.specs.Trees.{fan};
@@ -11,7 +11,8 @@ ghost use Rattle.fv_tree.specs.Releasing.{KeepsBlocks};
 ghost use Rattle.fv_tree.specs.Keeping.{IsKept, Keeps, IsSame, KeepsBelow};
 ghost use Rattle.fv_tree.specs.Flushing.{placed_in, pointer_in};
 ghost use Rattle.fv_tree.specs.Carried.{kept_at, Brings, IsBlank};
-ghost use Rattle.fv_tree.specs.Readying.{HoldsWay};
+ghost use Rattle.fv_tree.specs.Readying.{HoldsWay, KeepsReady};
+ghost use Rattle.fv_tree.specs.Unlinking.{HasWay};
 ghost use Rattle.fv_tree.specs.Leading.{Carries};
 ghost use Rattle.fv_tree.specs.Costs.{changes_in};
 ghost use Rattle.fv_disk.specs.declared.fault.BlockFault.TheVariants.{Memory};
@@ -33,6 +34,8 @@ pub fn keep_path<B: Blocks>(
     ensures kept { B.told → OnOk result ((level : ℕ) → 1 ≤ level → level ≤ tree.old.levels → IsKept (standing (under (B.shown blocks.new)) tree.new) level (index / fan ^ level)) }
     ensures unplaced { B.told → OnOk result ((level : ℕ) → 1 ≤ level → level ≤ tree.old.levels → (pointer_at (standing (under (B.shown blocks.old)) tree.old) level (index / fan ^ level)).stamp ≡ 0 → placed_in tree.new.nodes level (index / fan ^ level) ≡ false) }
     ensures way { IfOk result (λ p. p.stamp ≢ 0 → HoldsWay tree.new index) }
+    ensures keeps_ready { KeepsReady tree.old tree.new }
+    ensures held { HasWay tree.old index → IfErr result (λ e. e ≡ Memory) }
     ensures changes { changes_in tree.new.nodes ≤ changes_in tree.old.nodes }
     ensures fields { IsSameBut tree.old tree.new }
     ensures carries { B.told → Carries (B.shown blocks.old) (B.shown blocks.new) tree.old tree.new }
@@ -69,6 +72,8 @@ fn keep_step<B: Blocks>(
     ensures blank { OnOk result (pointer.now.stamp ≡ 0 → IsBlank (kept_at tree.new level (index / fan ^ level))) }
     ensures leads { IfOk result (λ p. p.stamp ≢ 0 → pointer.now.stamp ≢ 0) }
     ensures child { IfOk result (λ p. pointer_in tree.new (level - 1) (index / fan ^ (level - 1)) ≡ p) }
+    ensures keeps_ready { pointer.now ≡ pointer_in tree.old level (index / fan ^ level) → KeepsReady tree.old tree.new }
+    ensures held { is_some (kept_at tree.old level (index / fan ^ level)) ≡ true → IfErr result (λ e. e ≡ Memory) }
     ensures changes { changes_in tree.new.nodes ≤ changes_in tree.old.nodes }
     ensures fields { IsSameBut tree.old tree.new }
     ensures others { KeepsBelow (standing (under (B.shown blocks.old)) tree.old) (standing (under (B.shown blocks.new)) tree.new) level }
@@ -98,6 +103,8 @@ pub fn keep_node<B: Blocks>(
     ensures brings { B.told → Brings (under (B.shown blocks.old)) tree.old tree.new level place pointer.now }
     ensures blank { OnOk result (pointer.now.stamp ≡ 0 → IsBlank (kept_at tree.new level place)) }
     ensures others { (k q : ℕ) → (k ≢ level) ⊎ (q ≢ place) → kept_at tree.new k q ≡ kept_at tree.old k q }
+    ensures stays { pointer.now.stamp ≢ 0 → is_some (kept_at tree.old level place) ≡ true → kept_at tree.new level place ≡ kept_at tree.old level place }
+    ensures held { is_some (kept_at tree.old level place) ≡ true → IfErr result (λ e. e ≡ Memory) }
     ensures fields { IsSameBut tree.old tree.new }
     ensures long { IfOk result (λ xs. length xs ≡ 128) }
     ensures changes { changes_in tree.new.nodes ≤ changes_in tree.old.nodes }

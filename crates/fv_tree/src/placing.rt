@@ -9,6 +9,7 @@ ghost use Rattle.fv_model.specs.Trees.{fan, spot_cmp};
 ghost use Rattle.fv_tree.specs.Sources.{Counts, Drops, HasCause, IsCalm, IsDamaged, IsKind, IsUntouched};
 ghost use Rattle.fv_tree.specs.Standing.{children_in};
 ghost use Rattle.fv_tree.specs.Costs.{changes_in};
+ghost use Rattle.fv_tree.specs.Stored.{KeepsPlaces};
 ghost use Rattle.fv_tree.specs.Flushing.{all_known, changed_in, is_unknown, kind_for, placed_in, pointer_in, ForgetsCell, ForgetsNode, HoldsAsMuch, IsHidden, IsMoved, Points, Swaps};
 
 use crate::blocks::{Blocks, Placed, TreeFault};
@@ -128,6 +129,7 @@ pub fn replace<B: Blocks>(
     ensures failed { OnErr result (tree.new ≡ tree.old) }
     ensures changes { ((pointer_in tree.old spot.0 spot.1).stamp ≢ 0 → spot.0 < tree.old.levels → changed_in tree.old.nodes (spot.0 + 1) (spot.1 / fan) ≡ true) → changes_in tree.new.nodes ≤ changes_in tree.old.nodes }
     ensures own { changed_in tree.new.nodes spot.0 spot.1 ≡ changed_in tree.old.nodes spot.0 spot.1 }
+    ensures places { B.known → KeepsPlaces (B.shown blocks.old) (B.shown blocks.new) }
     ensures room { OnOk result ((B.shown blocks.old).room ≤ (B.shown blocks.new).room + 1) }
     ensures enough { (B.shown blocks.old).room ≢ 0 → IfErr result (λ e. IsDamaged e → ⊥) }
     ensures spent { (B.shown blocks.new).spent ≡ (B.shown blocks.old).spent }
@@ -163,6 +165,7 @@ fn swap<B: Blocks>(
     ensures swaps { B.told → IfOk result (λ p. Swaps (B.shown blocks.old) kind block.now placed known old.now.vvbn p (B.shown blocks.new)) }
     ensures stamp { IfOk result (λ p. p.stamp ≡ old.now.stamp) }
     ensures pointer { IfOk result IsPointer }
+    ensures places { B.known → KeepsPlaces (B.shown blocks.old) (B.shown blocks.new) }
     ensures room { OnOk result ((B.shown blocks.old).room ≤ (B.shown blocks.new).room + 1) }
     ensures enough { (B.shown blocks.old).room ≢ 0 → IfErr result (λ e. IsDamaged e → ⊥) }
     ensures spent { (B.shown blocks.new).spent ≡ (B.shown blocks.old).spent }

@@ -1,12 +1,13 @@
 //! Reading a cell with the place where it was read.
 
-ghost use Rattle.std.specs.Prelude.{◌≡◌, ◌≤◌, ◌+◌, ℕ, Option, Some, None, is_some, IfOk, IfErr, OnOk};
+ghost use Rattle.std.specs.Prelude.{◌≡◌, ◌≤◌, ◌+◌, ℕ, Option, Some, None, is_some, true, IfOk, IfErr, OnOk, OnErr};
 ghost use Rattle.std.specs.Option.{option_map};
 ghost use Rattle.fv_tree.specs.Spelled.{pointer_at, block_at};
 ghost use Rattle.fv_tree.specs.Sources.{Counts, IsUntouched};
 ghost use Rattle.fv_tree.specs.Standing.{standing, under, cell_in, Fails, PointerFails};
 ghost use Rattle.fv_tree.specs.Costs.{load_cost, way_cost};
 ghost use Rattle.fv_tree.specs.Reading.{cell_read_at};
+ghost use Rattle.fv_tree.specs.Readying.{IsReady};
 
 use crate::blocks::{Blocks, TreeFault};
 use crate::kept::Tree;
@@ -31,6 +32,7 @@ impl Tree {
         ensures place { B.told → IfOk result (λ at. (place : ℕ) → at ≡ Some place → place ≡ cell_read_at (standing (under (B.shown blocks.old)) self.now) (B.shown blocks.new) index) }
         ensures spent { B.told → OnOk result ((B.shown blocks.new).spent ≡ (B.shown blocks.old).spent + way_cost (B.shown blocks.old).cost (standing (under (B.shown blocks.old)) self.now) index) }
         ensures few { self.now.levels ≤ 3 }
+        ensures held { IsReady self.now index → OnErr result ⊥ }
         ensures untouched { IsUntouched (B.shown blocks.old) (B.shown blocks.new) }
         ensures reads { B.reads blocks.old blocks.new }
         ensures counts { Counts (B.shown blocks.old) (B.shown blocks.new) result }
@@ -54,6 +56,7 @@ fn read_pointed<B: Blocks>(
     ensures cell { B.told → IfOk result (λ at. block_at (standing (under (B.shown blocks.old)) tree.now) index ≡ option_map (λ (place : ℕ). into.new) at) }
     ensures place { B.told → IfOk result (λ at. (place : ℕ) → at ≡ Some place → place ≡ cell_read_at (standing (under (B.shown blocks.old)) tree.now) (B.shown blocks.new) index) }
     ensures spent { OnOk result ((B.shown blocks.new).spent ≡ (B.shown blocks.old).spent + load_cost (B.shown blocks.old).cost (is_some (cell_in tree.now index)) pointer.now) }
+    ensures held { is_some (cell_in tree.now index) ≡ true → OnErr result ⊥ }
     ensures untouched { IsUntouched (B.shown blocks.old) (B.shown blocks.new) }
     ensures reads { B.reads blocks.old blocks.new }
     ensures counts { Counts (B.shown blocks.old) (B.shown blocks.new) result }

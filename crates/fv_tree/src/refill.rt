@@ -8,9 +8,11 @@ ghost use Rattle.fv_model.specs.Trees.{spot_cmp};
 ghost use Rattle.fv_tree.specs.Sources.{Counts, IsUntouched};
 ghost use Rattle.fv_tree.specs.Standing.{standing, under, node_in, children_in, Fails, IsSameBut};
 ghost use Rattle.fv_tree.specs.Writing.{IsAlike, Remains};
-ghost use Rattle.fv_tree.specs.Readying.{IsReady};
+ghost use Rattle.fv_disk.specs.declared.fault.BlockFault.TheVariants.{Memory};
+ghost use Rattle.fv_tree.specs.Readying.{IsReady, KeepsReady};
 ghost use Rattle.fv_tree.specs.Refilling.{IsFilledWay, IsRefilled, Refills};
 ghost use Rattle.fv_tree.specs.Flushing.{changed_in, loaded, placed_in, Stands};
+ghost use Rattle.fv_tree.specs.Stored.{IsStoredWell};
 ghost use Rattle.fv_tree.specs.Leading.{Carries, LeadsNoMore};
 ghost use Rattle.fv_tree.specs.Carried.{Marks};
 ghost use Rattle.fv_tree.specs.Costs.{changes_in, pending};
@@ -42,11 +44,14 @@ impl Tree {
         ensures place_by_place { B.told → IfOk result (IsRefilled (standing (under (B.shown blocks.old)) self.old) (standing (under (B.shown blocks.new)) self.new) index block.now) }
         ensures failed { B.told → OnErr result (Remains (standing (under (B.shown blocks.old)) self.old) (standing (under (B.shown blocks.new)) self.new)) }
         ensures ready { IfOk result (λ there. there ≡ true → IsReady self.new index) }
+        ensures keeps_ready { KeepsReady self.old self.new }
+        ensures held { IsReady self.old index → IfErr result (λ e. e ≡ Memory) }
         ensures owner { self.new.owner ≡ self.old.owner }
         ensures levels { self.new.levels ≡ self.old.levels }
         ensures stands { B.told → Stands (B.shown blocks.old) self.old → Stands (B.shown blocks.new) self.new }
         ensures leads { B.told → LeadsNoMore (loaded (B.shown blocks.old) self.old) (loaded (B.shown blocks.new) self.new) }
         ensures keeps { B.told → LeadsNoMore (loaded (B.shown blocks.new) self.new) (loaded (B.shown blocks.old) self.old) }
+        ensures stored_well { B.told → IsStoredWell (loaded (B.shown blocks.old) self.old) → IsStoredWell (loaded (B.shown blocks.new) self.new) }
         ensures pending { pending self.new ≤ pending self.old + 4 }
         ensures still { OnErr result (pending self.new ≤ pending self.old) }
         ensures untouched { IsUntouched (B.shown blocks.old) (B.shown blocks.new) }
@@ -68,6 +73,8 @@ pub fn refill_cell<B: Blocks>(
     ensures done { B.told → IfOk result (IsRefilled (standing (under (B.shown blocks.old)) tree.old) (standing (under (B.shown blocks.new)) tree.new) index block.now) }
     ensures failed { B.told → OnErr result (IsAlike (standing (under (B.shown blocks.old)) tree.old) (standing (under (B.shown blocks.new)) tree.new)) }
     ensures ready { IfOk result (λ there. there ≡ true → IsReady tree.new index) }
+    ensures keeps_ready { KeepsReady tree.old tree.new }
+    ensures held { IsReady tree.old index → IfErr result (λ e. e ≡ Memory) }
     ensures owner { tree.new.owner ≡ tree.old.owner }
     ensures levels { tree.new.levels ≡ tree.old.levels }
     ensures carries { B.told → Carries (B.shown blocks.old) (B.shown blocks.new) tree.old tree.new }

@@ -7,7 +7,7 @@ ghost use Rattle.fv_tree.specs.Keeping.{IsSame};
 ghost use Rattle.fv_tree.specs.Releasing.{Removes};
 ghost use Rattle.fv_tree.specs.Leading.{Carries};
 ghost use Rattle.fv_tree.specs.Counting.{positions_of};
-ghost use Rattle.fv_tree.specs.Readying.{IsReady};
+ghost use Rattle.fv_tree.specs.Readying.{IsReady, KeepsOthersReady};
 ghost use Rattle.fv_tree.specs.Removal.{Removal};
 ghost use Rattle.fv_tree.specs.Costs.{pending};
 
@@ -48,6 +48,7 @@ impl Tree {
         requires ready { IsReady self.old index }
         requires start { start ≤ 3 }
         requires stamp { 1 ≤ stamp }
+        ensures others_ready { KeepsOthersReady self.old self.new index }
         ensures pending { pending self.new ≤ pending self.old + 3 }
         ensures removal { Removal B.told (B.goes blocks.old blocks.new) (B.shown blocks.old) (B.shown blocks.new) self.old self.new (nat_eq index) start stamp (Ok result) }
     {

@@ -10,8 +10,9 @@ ghost use Rattle.fv_tree.specs.Sources.{Counts, Use, IsUntouched};
 ghost use Rattle.fv_tree.specs.Standing.{standing, under, cell_in, Fails, IsSameButCells};
 ghost use Rattle.fv_tree.specs.Writing.{IsAlike, IsWritten, Remains, Writes};
 ghost use Rattle.fv_tree.specs.Flushing.{cell_placed, loaded, loaded_over, IsSound, Stands};
+ghost use Rattle.fv_tree.specs.Stored.{IsStoredWell};
 ghost use Rattle.fv_tree.specs.Leading.{Carries, LeadsNoMore};
-ghost use Rattle.fv_tree.specs.Readying.{IsReady};
+ghost use Rattle.fv_tree.specs.Readying.{IsReady, KeepsReady};
 ghost use Rattle.fv_tree.specs.Costs.{pending};
 
 use crate::blocks::{Blocks, TreeFault};
@@ -37,11 +38,13 @@ impl Tree {
         ensures there { B.told → IfOk result (λ there. is_some (stamp_in (pointer_at (standing (under (B.shown blocks.old)) self.old) 0 index)) ≡ there) }
         ensures alike { B.told → IsAlike (standing (under (B.shown blocks.old)) self.old) (standing (under (B.shown blocks.new)) self.new) }
         ensures remains { B.told → Remains (standing (under (B.shown blocks.old)) self.old) (standing (under (B.shown blocks.new)) self.new) }
+        ensures keeps_ready { KeepsReady self.old self.new }
         ensures owner { self.new.owner ≡ self.old.owner }
         ensures levels { self.new.levels ≡ self.old.levels }
         ensures stands { B.told → Stands (B.shown blocks.old) self.old → Stands (B.shown blocks.new) self.new }
         ensures leads { B.told → LeadsNoMore (loaded (B.shown blocks.old) self.old) (loaded (B.shown blocks.new) self.new) }
         ensures keeps { B.told → LeadsNoMore (loaded (B.shown blocks.new) self.new) (loaded (B.shown blocks.old) self.old) }
+        ensures stored_well { B.told → IsStoredWell (loaded (B.shown blocks.old) self.old) → IsStoredWell (loaded (B.shown blocks.new) self.new) }
         ensures pending { pending self.new ≤ pending self.old + 4 }
         ensures untouched { IsUntouched (B.shown blocks.old) (B.shown blocks.new) }
         ensures reads { B.reads blocks.old blocks.new }
@@ -72,6 +75,7 @@ impl Tree {
         ensures sound { (held : Under) (used : ℕ → Option Use) → IsSound used (loaded_over held self.old) → IsSound used (loaded_over held self.new) }
         ensures leads { (held : Under) → LeadsNoMore (loaded_over held self.old) (loaded_over held self.new) }
         ensures keeps { (held : Under) → LeadsNoMore (loaded_over held self.new) (loaded_over held self.old) }
+        ensures stored_well { (held : Under) → IsStoredWell (loaded_over held self.old) → IsStoredWell (loaded_over held self.new) }
         ensures ready { (i : ℕ) → IsReady self.old i → IsReady self.new i }
         ensures memory { cell_in self.new index ≡ Some block.now }
         ensures pending { pending self.new ≤ pending self.old }
@@ -86,6 +90,7 @@ fn ready_cell<B: Blocks>(tree: &mut Tree, blocks: &mut B, index: u32) -> Result<
     ensures ready { IfOk result (λ there. there ≡ true → IsReady tree.new index) }
     ensures there { B.told → IfOk result (λ there. is_some (stamp_in (pointer_at (standing (under (B.shown blocks.old)) tree.old) 0 index)) ≡ there) }
     ensures alike { B.told → IsAlike (standing (under (B.shown blocks.old)) tree.old) (standing (under (B.shown blocks.new)) tree.new) }
+    ensures keeps_ready { KeepsReady tree.old tree.new }
     ensures owner { tree.new.owner ≡ tree.old.owner }
     ensures levels { tree.new.levels ≡ tree.old.levels }
     ensures carries { B.told → Carries (B.shown blocks.old) (B.shown blocks.new) tree.old tree.new }

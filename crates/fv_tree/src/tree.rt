@@ -11,6 +11,8 @@ ghost use Rattle.fv_tree.specs.Sources.{Counts, Use, IsUntouched};
 ghost use Rattle.fv_tree.specs.Standing.{standing, under, Shows, Fails};
 ghost use Rattle.fv_tree.specs.Writing.{IsWritten, Writes, Remains};
 ghost use Rattle.fv_tree.specs.Flushing.{loaded, loaded_over, IsSound, ReachesOnce, Stands};
+ghost use Rattle.fv_tree.specs.Readying.{KeepsReady};
+ghost use Rattle.fv_tree.specs.Stored.{IsStoredWell};
 ghost use Rattle.fv_tree.specs.Leading.{LeadsNoMore};
 ghost use Rattle.fv_tree.specs.Costs.{pending, way_cost};
 
@@ -106,6 +108,8 @@ impl Tree {
         ensures stands { B.told → Stands (B.shown blocks.old) self.old → Stands (B.shown blocks.new) self.new }
         ensures leads { B.told → LeadsNoMore (loaded (B.shown blocks.old) self.old) (loaded (B.shown blocks.new) self.new) }
         ensures keeps { B.told → LeadsNoMore (loaded (B.shown blocks.new) self.new) (loaded (B.shown blocks.old) self.old) }
+        ensures stored_well { B.told → IsStoredWell (loaded (B.shown blocks.old) self.old) → IsStoredWell (loaded (B.shown blocks.new) self.new) }
+        ensures keeps_ready { KeepsReady self.old self.new }
         ensures pending { pending self.new ≤ pending self.old + 6 }
         ensures untouched { IsUntouched (B.shown blocks.old) (B.shown blocks.new) }
         ensures reads { B.reads blocks.old blocks.new }

@@ -1,11 +1,12 @@
 //! The way from the root to a cell.
 
-ghost use Rattle.std.specs.Prelude.{◌≡◌, ◌≢◌, ◌≤◌, ◌<◌, ◌/◌, ◌%◌, ◌-◌, ◌^◌, cond, not, ◌==◌, Some, None, IfOk, IfErr, get_or, length, ◌+◌, is_some, OnOk};
+ghost use Rattle.std.specs.Prelude.{◌≡◌, ◌≢◌, ◌≤◌, ◌<◌, ◌/◌, ◌%◌, ◌-◌, ◌^◌, cond, not, ◌==◌, Some, None, IfOk, IfErr, get_or, length, ◌+◌, is_some, true, OnOk, OnErr};
 ghost use Rattle.fv_codec.specs.Blocks.{IsNode};
 ghost use Rattle.fv_model.specs.Trees.{fan};
 ghost use Rattle.fv_tree.specs.Spelled.{Under, hole, pointers_at, pointers_in, pointer_below, pointer_at, block_at};
 ghost use Rattle.fv_tree.specs.Sources.{Counts, IsUntouched};
 ghost use Rattle.fv_tree.specs.Standing.{standing, under, cell_in, node_in, Fails, LoadFails, PointerFails};
+ghost use Rattle.fv_tree.specs.Unlinking.{HasWay};
 ghost use Rattle.fv_tree.specs.Costs.{load_cost, place_cost, way_cost};
 
 use crate::blocks::{Blocks, TreeFault};
@@ -18,6 +19,7 @@ pub fn find<B: Blocks>(tree: &Tree, blocks: &mut B, index: u32) -> Result<Pointe
     ensures pointer { B.told → IfOk result (λ p. p ≡ pointer_at (standing (under (B.shown blocks.old)) tree.now) 0 index) }
     ensures spent { B.told → OnOk result ((B.shown blocks.new).spent + place_cost (B.shown blocks.old).cost (standing (under (B.shown blocks.old)) tree.now) 0 index
         ≡ (B.shown blocks.old).spent + way_cost (B.shown blocks.old).cost (standing (under (B.shown blocks.old)) tree.now) index) }
+    ensures held { HasWay tree.now index → OnErr result ⊥ }
     ensures untouched { IsUntouched (B.shown blocks.old) (B.shown blocks.new) }
     ensures reads { B.reads blocks.old blocks.new }
     ensures counts { Counts (B.shown blocks.old) (B.shown blocks.new) result }
@@ -57,6 +59,7 @@ pub fn step<B: Blocks>(
     requires pointer { B.told → pointer.now ≡ pointer_below (standing (under (B.shown blocks.old)) tree.now) (tree.now.levels - level) (index / fan ^ level) }
     ensures below { B.told → IfOk result (λ p. p ≡ pointer_below (standing (under (B.shown blocks.old)) tree.now) (tree.now.levels - (level - 1)) (index / fan ^ (level - 1))) }
     ensures spent { B.told → OnOk result ((B.shown blocks.new).spent ≡ (B.shown blocks.old).spent + place_cost (B.shown blocks.old).cost (standing (under (B.shown blocks.old)) tree.now) level (index / fan ^ level)) }
+    ensures held { is_some (node_in tree.now level (index / fan ^ level)) ≡ true → OnErr result ⊥ }
     ensures untouched { IsUntouched (B.shown blocks.old) (B.shown blocks.new) }
     ensures reads { B.reads blocks.old blocks.new }
     ensures counts { Counts (B.shown blocks.old) (B.shown blocks.new) result }
@@ -79,6 +82,7 @@ fn child<B: Blocks>(
     requires slot { slot < fan }
     ensures child { B.told → IfOk result (λ p. p ≡ get_or (pointers_at (standing (under (B.shown blocks.old)) tree.now) level place pointer.now) slot hole) }
     ensures spent { OnOk result ((B.shown blocks.new).spent ≡ (B.shown blocks.old).spent + load_cost (B.shown blocks.old).cost (is_some (node_in tree.now level place)) pointer.now) }
+    ensures held { is_some (node_in tree.now level place) ≡ true → OnErr result ⊥ }
     ensures untouched { IsUntouched (B.shown blocks.old) (B.shown blocks.new) }
     ensures reads { B.reads blocks.old blocks.new }
     ensures counts { Counts (B.shown blocks.old) (B.shown blocks.new) result }

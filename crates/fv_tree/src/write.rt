@@ -9,7 +9,8 @@ ghost use Rattle.fv_tree.specs.Standing.{standing, under, children_in, cell_in, 
 ghost use Rattle.fv_tree.specs.Spelled.{Under};
 ghost use Rattle.fv_tree.specs.Sources.{Counts, Use, IsUntouched};
 ghost use Rattle.fv_tree.specs.Flushing.{cell_placed, changed_in, loaded_over, placed_in, IsSound};
-ghost use Rattle.fv_tree.specs.Leading.{Carries, LeadsNoMore};
+ghost use Rattle.fv_tree.specs.Leading.{Carries, KeepsHints, LeadsNoMore};
+ghost use Rattle.fv_tree.specs.Readying.{KeepsReady};
 ghost use Rattle.fv_tree.specs.Carried.{Marks};
 ghost use Rattle.fv_tree.specs.Writing.{stamped, stamped_in, new_child, Stamps, IsAlike, IsWritten};
 ghost use Rattle.fv_tree.specs.Costs.{changes_in, pending};
@@ -140,6 +141,7 @@ pub fn write_within<B: Blocks>(
     ensures failed { B.told → OnErr result (IsAlike (standing (under (B.shown blocks.old)) tree.old) (standing (under (B.shown blocks.new)) tree.new)) }
     ensures owner { tree.new.owner ≡ tree.old.owner }
     ensures carries { B.told → Carries (B.shown blocks.old) (B.shown blocks.new) tree.old tree.new }
+    ensures keeps_ready { KeepsReady tree.old tree.new }
     ensures pending { pending tree.new ≤ pending tree.old + 6 }
     ensures untouched { IsUntouched (B.shown blocks.old) (B.shown blocks.new) }
     ensures reads { B.reads blocks.old blocks.new }
@@ -168,6 +170,8 @@ pub fn write_past(
     ensures stands { (blocks : Under) (used : ℕ → Option Use) → IsSound used (loaded_over blocks tree.old) → IsSound used (loaded_over blocks tree.new) }
     ensures leads { (blocks : Under) → LeadsNoMore (loaded_over blocks tree.old) (loaded_over blocks tree.new) }
     ensures keeps { (blocks : Under) → LeadsNoMore (loaded_over blocks tree.new) (loaded_over blocks tree.old) }
+    ensures hints { (blocks : Under) → KeepsHints (loaded_over blocks tree.old) (loaded_over blocks tree.new) }
+    ensures keeps_ready { KeepsReady tree.old tree.new }
     ensures pending { pending tree.new ≤ pending tree.old + 6 }
     ensures memory { IfErr result (λ e. e ≡ Memory) }
 {
@@ -206,6 +210,7 @@ pub fn write_cell<B: Blocks>(
     ensures failed { B.told → OnErr result (IsAlike (standing (under (B.shown blocks.old)) tree.old) (standing (under (B.shown blocks.new)) tree.new)) }
     ensures owner { tree.new.owner ≡ tree.old.owner }
     ensures carries { B.told → Carries (B.shown blocks.old) (B.shown blocks.new) tree.old tree.new }
+    ensures keeps_ready { KeepsReady tree.old tree.new }
     ensures pending { pending tree.new ≤ pending tree.old + 6 }
     ensures untouched { IsUntouched (B.shown blocks.old) (B.shown blocks.new) }
     ensures reads { B.reads blocks.old blocks.new }

@@ -161,6 +161,8 @@ impl Blocks for MemBlocks {
 
     ghost told = { Unit {0} };
 
+    ghost known = { ⊥ };
+
     ghost reads = { λ a b. b.unknown ≡ a.unknown };
 
     ghost goes = { λ a b. b.unknown ≡ a.unknown };

@@ -25,6 +25,8 @@ impl Blocks for Silent {
 
     ghost told = { ⊥ };
 
+    ghost known = { ⊥ };
+
     ghost reads = { λ a b. Unit {0} };
 
     ghost goes = { λ a b. Unit {0} };

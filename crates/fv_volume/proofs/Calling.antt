@@ -1,5 +1,5 @@
 -- What a change of a volume's files leaves that was refused, or failed while it was made.
-use Rattle.std.proofs.Common.{◌≡◌, Option, ℕ, ◌+◌, ◌<◌, ◌≤◌, true, refl, sym, ap, subst, ◌∙◌, arith}
+use Rattle.std.proofs.Common.{◌≡◌, ℕ, ◌+◌, ◌<◌, ◌≤◌, true, refl, sym, ap, subst, ◌∙◌, arith}
 use Rattle.std.specs.Prelude.{Result, Ok, Err, OnOk, IfOk}
 use Rattle.fv_disk.specs.Shown.{Shown as Disk}
 use Rattle.fv_disk.specs.declared.fault.BlockFault.{BlockFault}
@@ -20,16 +20,15 @@ use Rattle.fv_volume.specs.declared.pool.Pool.{Pool}
 use Rattle.fv_volume.specs.declared.state.VolumeState.{VolumeState}
 use Rattle.fv_volume.specs.Calls.{Agrees, Changes, GivesUp, KeepsHead, Reads}
 use Rattle.fv_volume.specs.Causes.{of_block}
-use Rattle.fv_volume.specs.Changing.{AltersTable, FitsLedger, KeepsButTable, RefusedIn}
-use Rattle.fv_tables.specs.Spelled.{Under}
-use Rattle.fv_tree.specs.Sources.{Use}
-use Rattle.fv_volume.specs.Placing.{pending_of, AreLedBy, IsLedTo}
+use Rattle.fv_volume.specs.Changing.{AltersTable, FitsLedger, KeepsButTable, KeepsTable, RefusedIn}
+use Rattle.fv_volume.specs.Placing.{pending_of, IsLedTo, IsStoredWell}
 use Rattle.fv_volume.specs.Labels.{label_said}
 use Rattle.fv_volume.specs.OneVolume.{shows, standing_for, table_for, volume_for, AreSoundBy, IsReady, IsStanding}
 use Rattle.fv_volume.proofs.CallCauses.{not_refused}
 use Rattle.fv_volume.proofs.Changed.{failed_standing, failed_volume}
-use Rattle.fv_volume.proofs.OneVolumes.{still_ready, still_standing, still_under, still_used, still_volume}
+use Rattle.fv_volume.proofs.OneVolumes.{still_ready, still_standing, still_volume}
 use Rattle.fv_volume.proofs.ReadyAgain.{ready_again}
+use Rattle.fv_volume.proofs.Standings.{still_led, still_well}
 
 -- a fault of blocks is no refusal
 pub no_refusal : (T : Type 0) (m : Machine) (c : Command) (b : BlockFault) → Agrees {T = T} m c (Err (of_block b))
@@ -63,14 +62,13 @@ module _ (d e : Disk) (p q : Pool) (reads : Reads d p e q) (x y : VolumeState) (
   pub refused_ready : IsReady d p x → IsReady e q y
   refused_ready is = subst (λ (z : VolumeState). IsReady e q z) (sym same) (still_ready d e p q reads x is)
 
-  -- what is in use is led to, and as much is pending
-  pub refused_led : IsLedTo d p x → IsLedTo e q y
-  refused_led is = subst (λ (z : VolumeState). IsLedTo e q z) (sym same)
-      (subst (λ (u : ℕ → Option Use). AreLedBy (under (shows e q x)) u x.active x.files) (sym (still_used d e p q reads x))
-      (subst (λ (u : Under). AreLedBy u (shows d p x).used x.active x.files) (sym (still_under d e p q reads x)) is))
-
-  pub refused_room : pending_of y.files ≤ pending_of x.files + 16
-  refused_room = subst (λ (z : VolumeState). pending_of z.files ≤ pending_of x.files + 16) (sym same) (omega arith)
+  -- so its table is kept
+  pub refused_table : KeepsTable d p x e q y
+  refused_table = record {
+    led = λ is. subst (λ (z : VolumeState). IsLedTo e q z) (sym same) (still_led d e p q reads x is);
+    well = λ is. subst (λ (z : VolumeState). IsStoredWell e q z) (sym same) (still_well d e p q reads x is);
+    room = subst (λ (z : VolumeState). pending_of z.files ≤ pending_of x.files + 14) (sym same) (omega arith);
+  }
 
   pub refused_head : (r : Result Unit VolumeFault) (fault : VolumeFault) → r ≡ Err fault → KeepsHead x y r
   refused_head r fault is = subst (λ (z : VolumeState). KeepsHead x z r) (sym same) (subst (KeepsHead x x) (sym is) (record {
@@ -114,11 +112,14 @@ module _ (d e f : Disk) (p q r : Pool) (first : Reads d p e q) (x v w : VolumeSt
       (ready_again e q x x.now w.map w.files x.ledger (still_ready d e p q first x ready) (few_changes d p x ready) alters.maps.span
       (let booked = ready.booked in record { size = booked.size; kind = booked.kind; span = booked.span; need = booked.need; charge = booked.charge })))
 
-  pub left_led : IsStanding d p x → IsLedTo d p x → IsLedTo f r w
-  left_led is led = refused_led e f q r alters.reads w w refl (alters.led (still_standing d e p q first x is) (refused_led d e p q first x x refl led))
-
-  pub left_room : IsStanding d p x → pending_of w.files ≤ pending_of x.files + 16
-  left_room is = alters.room (still_standing d e p q first x is)
+  pub left_table : IsStanding d p x → KeepsTable d p x f r w
+  left_table is =
+      let stood = still_standing d e p q first x is in
+      record {
+        led = λ led. still_led e f q r alters.reads w (alters.led stood (still_led d e p q first x led));
+        well = λ well. still_well e f q r alters.reads w (alters.well stood (still_well d e p q first x well));
+        room = alters.room stood;
+      }
 
   pub left_fits : (by : Delta) → FitsLedger x by → FitsLedger w by
   left_fits by fits = subst (λ (z : VolumeState). FitsLedger z by) (sym alters.same) (record {
@@ -173,11 +174,8 @@ module _ (d e f : Disk) (p q r : Pool) (first : Reads d p e q) (x v y : VolumeSt
 
 -- ---- where it was made, and counted
 
-pub counted_led : (f : Disk) (r : Pool) (w y : VolumeState) → y ≡ record w { now = y.now; ledger = y.ledger; changed = true } → IsLedTo f r w → IsLedTo f r y
-counted_led f r w y counted led = subst (λ (z : VolumeState). IsLedTo f r z) (sym counted) led
-
-pub counted_room : (w y : VolumeState) (most : ℕ) → y ≡ record w { now = y.now; ledger = y.ledger; changed = true } → pending_of w.files ≤ most → pending_of y.files ≤ most
-counted_room w y most counted few = subst (λ (z : VolumeState). pending_of z.files ≤ most) (sym counted) few
+pub counted_table : (d : Disk) (p : Pool) (x : VolumeState) (f : Disk) (r : Pool) (w y : VolumeState) → y ≡ record w { now = y.now; ledger = y.ledger; changed = true } → KeepsTable d p x f r w → KeepsTable d p x f r y
+counted_table d p x f r w y counted kept = subst (λ (z : VolumeState). KeepsTable d p x f r z) (sym counted) (record { led = kept.led; well = kept.well; room = kept.room })
 
 -- The parts of a change, one after another: it was judged, the table was changed, and it was counted.
 pub record Parts {T : Type 0} (d e f : Disk) (p q r : Pool) (x v w y : VolumeState) (result : Result T BlockFault) (by : Delta) : Type 0 where

@@ -27,7 +27,7 @@ still_none before now none same (inr top) = absurd (omega (arith, none, same, to
 pub hole_is : (label : ℕ) (noted : Noted) (at want found : ℕ) → ◌≡◌ {A = Damage} (record { at = noted.at; want = noted.want; found = noted.found }) (record { at = at; want = want; found = found }) → WasHole label noted → IsHole label at want found
 hole_is label noted at want found is hole = subst (λ (d : Damage). IsHole label d.at d.want d.found) is hole
 
-lacks_is : (label root : ℕ) (noted : Noted) (at want found : ℕ) → ◌≡◌ {A = Damage} (record { at = noted.at; want = noted.want; found = noted.found }) (record { at = at; want = want; found = found }) → WasLack label root noted → LacksOne label root at want found
+pub lacks_is : (label root : ℕ) (noted : Noted) (at want found : ℕ) → ◌≡◌ {A = Damage} (record { at = noted.at; want = noted.want; found = noted.found }) (record { at = at; want = want; found = found }) → WasLack label root noted → LacksOne label root at want found
 lacks_is label root noted at want found is lacks = subst (λ (d : Damage). LacksOne label root d.at d.want d.found) is lacks
 
 -- after reads a pointer is read where it was before

@@ -1,5 +1,5 @@
 -- What placing a block of a volume leaves, and why it fails.
-use Rattle.std.proofs.Common.{◌≡◌, ◌≢◌, ◌<◌, ◌≤◌, ◌⊎◌, ◌==◌, ◌||◌, ℕ, zero, suc, Bool, true, false, cond, List, [], ◌∷◌, length, length-set, Option, Some, None, refl, sym, ap, subst, ◌∙◌, inl, inr, arith, get_or-set_same, get_or-set_other}
+use Rattle.std.proofs.Common.{◌≡◌, ◌≢◌, ◌<◌, ◌≤◌, ◌+◌, ◌⊎◌, ◌==◌, ◌||◌, ℕ, zero, suc, Bool, true, false, cond, List, [], ◌∷◌, length, length-set, Option, Some, None, refl, sym, ap, subst, ◌∙◌, inl, inr, arith, get_or-set_same, get_or-set_other}
 use Rattle.std.specs.Prelude.{IfSome, is_some, slice_index_or, slice_set}
 use Rattle.std.specs.Ordering.{nat_cmp, eq_by_cmp}
 use Rattle.std.specs.Cmp.{nat_cmp_total}
@@ -17,15 +17,15 @@ use Rattle.fv_container.specs.Chains.{Slots, container_at, own_entry, with_conta
 use Rattle.fv_container.specs.Mapped.{Mapped, with_entry}
 use Rattle.fv_tree.specs.declared.blocks.Placed.{Placed}
 use Rattle.fv_tree.specs.Sources.{IsDamaged}
-use Rattle.fv_volmap.specs.Slots.{Volume, active_of, slot_at}
+use Rattle.fv_volmap.specs.Slots.{IsVolume, Volume, active_of, slot_at, with_slot}
 use Rattle.fv_volume.specs.declared.blocks.Home.{Home}
 use Rattle.fv_volume.specs.declared.noted.Noted.{Noted}
 use Rattle.fv_volume.specs.declared.pool.Pool.{Pool}
-use Rattle.fv_volume.specs.BlocksOver.{LacksPlace, PlacesBlock, entries_in, free_numbers, given_back}
+use Rattle.fv_volume.specs.BlocksOver.{LacksPlace, LeavesRoom, PlacesBlock, entries_in, free_numbers, given_back}
 use Rattle.fv_volume.specs.Lending.{GoesOver, HasShapeOf, IsNewEntry, IsOutOfRoom, IsOwn, MayTake, Notes, WasHole, WasLack, lent_by, tree_in}
 use Rattle.fv_volume.specs.LendingLaws.{goes_itself}
 use Rattle.fv_volume.proofs.Holding.{own_new, own_other}
-use Rattle.fv_volume.proofs.Shows.{member_cleared, member_set, none_free}
+use Rattle.fv_volume.proofs.Shows.{member_cleared, member_set, none_free, numbers_gone}
 
 -- ---- faults
 
@@ -67,6 +67,7 @@ goes_failed pool map disk steps home room strays noted after cause =
       home = refl;
       found = refl;
       room = omega arith;
+      spends = λ some. record { numbers = omega arith; blocks = omega arith };
       steps = omega arith;
       only_reads = itself.only_reads;
       noted = cause;
@@ -80,6 +81,32 @@ goes_failed pool map disk steps home room strays noted after cause =
       parents = refl;
       span = refl;
       snapshots = λ s other. refl;
+    }
+
+-- ---- a number was given up
+
+pub goes_dropped : (pool : Pool) (map after : Volume) (disk : Disk) (steps : ℕ) (home : Home) (room strays less : ℕ) (noted : Noted) (v : ℕ) → IsVolume map → after ≡ with_slot map 0 (Some (slice_set (active_of map) v false))
+    → GoesOver (lent_by pool map disk steps home room strays noted) (lent_by pool after disk steps home room less noted)
+goes_dropped pool map after disk steps home room strays less noted v is released =
+    let itself = goes_itself (lent_by pool map disk steps home room strays noted) in
+    record {
+      home = refl;
+      found = refl;
+      room = omega arith;
+      spends = λ some. record { numbers = (let more = numbers_gone map after v is released in omega (arith, more)); blocks = omega arith };
+      steps = omega arith;
+      only_reads = itself.only_reads;
+      noted = inl refl;
+      committed = refl;
+      loses = itself.loses;
+      gains = itself.gains;
+      entries = itself.entries;
+      kept = itself.kept;
+      shape = record { there = refl; count = refl; tree = refl };
+      others = λ s other. refl;
+      parents = refl;
+      span = ap (λ (m : Volume). m.span) released;
+      snapshots = λ s other. ap (λ (m : Volume). slot_at m s) released ∙ get_or-set_other map.slots 0 s (Some (slice_set (active_of map) v false)) None other;
     }
 
 -- ---- a block was placed
@@ -136,7 +163,7 @@ module _ (pool new : Pool) (map after : Volume) (slot kind : ℕ) (block : List 
   unheld = right (is_member pool.map.committed placed.pvbn) (is_member pool.map.next placed.pvbn) places.takes.free.free
 
   may_take : MayTake pool.map pool.containers slot placed.pvbn
-  may_take = record { spare = spare; free = inl places.takes.free.free }
+  may_take = record { lies = (places.takes.free.after, places.takes.free.within); spare = spare; free = inl places.takes.free.free }
 
   still : (b : ℕ) → is_member pool.map.next b ≡ true → is_member more b ≡ true
   still b was = member_set pool.map.next placed.pvbn b true (λ same. let isnt : true ≡ false = sym was ∙ ap (is_member pool.map.next) same ∙ unheld in cc) ∙ was
@@ -208,14 +235,15 @@ module _ (pool new : Pool) (map after : Volume) (slot kind : ℕ) (block : List 
       same None = refl
       same (Some d) = refl
 
-  pub goes_with : (disk : Disk) (steps : ℕ) (home : Home) (room less strays : ℕ) (noted : Noted) → home.slot ≡ slot → less ≤ room
+  pub goes_with : (disk : Disk) (steps : ℕ) (home : Home) (room less strays : ℕ) (noted : Noted) → home.slot ≡ slot → less ≤ room → (0 < less → less + 1 ≤ room) → LeavesRoom pool.map map new.map after
       → GoesOver (lent_by pool map disk steps home room strays noted) (lent_by new after disk steps home less strays noted)
-  goes_with disk steps home room less strays noted at fewer =
+  goes_with disk steps home room less strays noted at fewer one leaves =
       let itself = goes_itself (lent_by pool map disk steps home room strays noted) in
       record {
         home = refl;
         found = places.found;
         room = fewer;
+        spends = λ some. let fell = one some in record { numbers = omega (arith, fell, leaves.numbers); blocks = omega (arith, fell, leaves.blocks) };
         steps = omega arith;
         only_reads = itself.only_reads;
         noted = inl refl;
@@ -234,13 +262,13 @@ module _ (pool new : Pool) (map after : Volume) (slot kind : ℕ) (block : List 
       }
 
 module _ (pool new : Pool) (map after : Volume) (kind : ℕ) (block : List ℕ) (placed : Placed) (disk : Disk) (steps : ℕ) (home : Home) (room less strays : ℕ) (noted : Noted)
-    (places : PlacesBlock pool map home.slot kind block new after placed) (fewer : less ≤ room) where
+    (places : PlacesBlock pool map home.slot kind block new after placed) (fewer : less ≤ room) (one : 0 < less → less + 1 ≤ room) (leaves : LeavesRoom pool.map map new.map after) where
   abbrev Goes : Type 0
   Goes = GoesOver (lent_by pool map disk steps home room strays noted) (lent_by new after disk steps home less strays noted)
 
   with_container_there : (o : Option Mapped) → container_at pool.containers home.slot ≡ o → map.span ≤ length (entries_in o) → Goes
   with_container_there None there room_is = absurd (omega (arith, room_is, places.takes.number.within))
-  with_container_there (Some c) there room_is = goes_with pool new map after home.slot kind block placed places c there (omega (arith, room_is, places.takes.number.within)) disk steps home room less strays noted refl fewer
+  with_container_there (Some c) there room_is = goes_with pool new map after home.slot kind block placed places c there (omega (arith, room_is, places.takes.number.within)) disk steps home room less strays noted refl fewer one leaves
 
   pub goes_placed : map.span ≤ length (entries_in (container_at pool.containers home.slot)) → Goes
   goes_placed room_is = with_container_there (container_at pool.containers home.slot) refl room_is

@@ -11,7 +11,7 @@ use Rattle.fv_files.specs.declared.files.Files.{Files}
 use Rattle.fv_files.specs.Calls as files
 use Rattle.fv_files.specs.Apart.{AreLed}
 use Rattle.fv_files.specs.Pending.{pending_in}
-use Rattle.fv_files.specs.Tables.{changed, loaded_trees, table_in, AreSound, AreStanding, IsLed}
+use Rattle.fv_files.specs.Tables.{changed, loaded_trees, table_in, AreSound, AreStanding, IsLed, IsStored, IsStoredOn}
 use Rattle.fv_files.specs.Trees.{standing_in}
 use Rattle.fv_volume.specs.BlocksOver.{block_of, held_entry}
 use Rattle.fv_volume.specs.Calls.{LeavesTable}
@@ -32,23 +32,28 @@ module _ (old new : Lent) (drops : DropsOver old new) where
   left_led : (g : Files) → IsLed (shown_over new) g → IsLed (sees old.pool new.map old.disk old.home) g
   left_led g is = subst (λ (u : ℕ → Option Use). AreLed u (loaded_trees (under (sees old.pool new.map old.disk old.home)) g)) left_used (subst (λ (u : Under). AreLed (shown_over new).used (loaded_trees u g)) left_over is)
 
-  module _ {T : Type 0} (told well : Type 0) (f g : Files) (fails : BlockFault → Type 0) (holds : told → well) (led : told → files.KeepsLed (shown_over old) (shown_over new) f g) (fits : told → AreStanding (shown_over old) f → pending_in g ≤ pending_in f + 16) where
+  left_stored : (g : Files) → IsStored (shown_over new) g → IsStored (sees old.pool new.map old.disk old.home) g
+  left_stored g is = subst (λ (u : Under). IsStoredOn u g) left_over is
+
+  module _ {T : Type 0} (told well : Type 0) (f g : Files) (fails : BlockFault → Type 0) (holds : told → well) (led : told → files.KeepsLed (shown_over old) (shown_over new) f g) (fits : told → AreStanding (shown_over old) f → pending_in g ≤ pending_in f + 14) where
     left_fault : (r : Result T BlockFault) → files.Changes told well (shown_over old) (shown_over new) f g fails r → LeavesTable told (shown_over old) (sees old.pool new.map old.disk old.home) f g r
     left_fault (Ok x) changes = record {
       stands = λ t is. left_standing g (changes.stands t (holds t) is);
       failed = λ t. tt;
       led = λ t is reached. left_led g (led t is reached);
+      well = λ t is stored. left_stored g (changes.stored t (holds t) is stored);
       room = fits;
     }
     left_fault (Err e) changes = record {
       stands = λ t is. left_standing g (changes.stands t (holds t) is);
       failed = λ t. subst (λ (u : Under). table_told (standing_in u (changed g)) ≡ table_told (table_in (shown_over old) f)) left_over (changes.failed t);
       led = λ t is reached. left_led g (led t is reached);
+      well = λ t is stored. left_stored g (changes.stored t (holds t) is stored);
       room = fits;
     }
 
 pub leaves_table : {T : Type 0} (told well : Type 0) (old new : Lent) → DropsOver old new → (f g : Files) (fails : BlockFault → Type 0) (r : Result T BlockFault) → files.Changes told well (shown_over old) (shown_over new) f g fails r → (told → well)
-    → (told → files.KeepsLed (shown_over old) (shown_over new) f g) → (told → AreStanding (shown_over old) f → pending_in g ≤ pending_in f + 16) → LeavesTable told (shown_over old) (sees old.pool new.map old.disk old.home) f g r
+    → (told → files.KeepsLed (shown_over old) (shown_over new) f g) → (told → AreStanding (shown_over old) f → pending_in g ≤ pending_in f + 14) → LeavesTable told (shown_over old) (sees old.pool new.map old.disk old.home) f g r
 leaves_table told well old new drops f g fails r changes holds led fits = left_fault old new drops told well f g fails holds led fits r changes
 
 -- what holds of an answer by its two sides

@@ -24,6 +24,7 @@ pub mod Flushed
 pub mod Found
 pub mod Apart
 pub mod LoadedTables
+pub mod LoadedStored
 mod Counting
 pub mod Drawing
 mod Gone
@@ -75,3 +76,4 @@ pub mod Others
 pub mod Openings
 pub mod NewStanding
 pub mod Reached
+mod Commanded

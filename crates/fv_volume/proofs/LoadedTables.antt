@@ -102,13 +102,13 @@ module _ (pool : Pool) (states : States) (i : Image) (s : ℕ) (x : VolumeState)
   abbrev h : Head
   h = head_in x
 
-  here : w.head s ≡ Some h
+  pub here : w.head s ≡ Some h
   here = head_there pool states i s x is.there
 
-  snapshots : h.snapshots ≡ []
+  pub snapshots : h.snapshots ≡ []
   snapshots = form_snapshots h is.form
 
-  base : h.base ≡ None
+  pub base : h.base ≡ None
   base = form_base h is.form
 
   -- the blocks of its VVBNs, and what is in use
@@ -118,7 +118,7 @@ module _ (pool : Pool) (states : States) (i : Image) (s : ℕ) (x : VolumeState)
   abbrev pub uses : ℕ → Option Use
   uses v = use_under x.map pool.containers s v
 
-  abbrev at : Owner → ℕ → ℕ → Pointer
+  abbrev pub at : Owner → ℕ → ℕ → Pointer
   at o level index = pointer_in (under w s) h.active.levels h.active.root o level index
 
   entry_is : (v : ℕ) → w.entry s v ≡ placed_in pool.kept i (own_entry (container_at pool.containers s) v)
@@ -130,7 +130,7 @@ module _ (pool : Pool) (states : States) (i : Image) (s : ℕ) (x : VolumeState)
     held_own : held_entry x.map pool.containers s v ≡ own_entry (container_at pool.containers s) v
     held_own = held_some x.map pool.containers s v (let most = is.span in omega (arith, low, most)) (member_taken x.map.span x.map.slots v member) ∙ chain_own pool.containers s v is.alone
 
-    same_block : blocks v ≡ under w s v
+    pub same_block : blocks v ≡ under w s v
     unfolding under
     same_block =
         get_held x.map pool s i v
@@ -145,10 +145,10 @@ module _ (pool : Pool) (states : States) (i : Image) (s : ℕ) (x : VolumeState)
     use_is : uses v ≡ Some (use_of (own_entry (container_at pool.containers s) v))
     use_is = (λ j. cond (member j) (Some (use_of (held_own j))) None)
 
-  member_at : (o : Owner) (level index : ℕ) → (at o level index).stamp ≢ 0 → is_member (active_of x.map) (at o level index).vvbn ≡ true
+  pub member_at : (o : Owner) (level index : ℕ) → (at o level index).stamp ≢ 0 → is_member (active_of x.map) (at o level index).vvbn ≡ true
   member_at o level index some = is.bits (at o level index).vvbn ∙ lone_bit w s h is.small here is.tables is.maps is.numbers snapshots base o level index some
 
-  low_at : (o : Owner) (level index : ℕ) → (at o level index).stamp ≢ 0 → (at o level index).vvbn < x.span
+  pub low_at : (o : Owner) (level index : ℕ) → (at o level index).stamp ≢ 0 → (at o level index).vvbn < x.span
   low_at = lone_below w s h is.small here is.tables is.maps is.numbers snapshots base
 
   agree : AgreeOnTable (under w s) blocks h.active.levels h.active.root
@@ -168,10 +168,10 @@ module _ (pool : Pool) (states : States) (i : Image) (s : ℕ) (x : VolumeState)
   abbrev pub led : Owner → ℕ → ℕ → Pointer
   led o level index = pointer_in blocks h.active.levels h.active.root o level index
 
-  led_is : (o : Owner) (level index : ℕ) → led o level index ≡ at o level index
+  pub led_is : (o : Owner) (level index : ℕ) → led o level index ≡ at o level index
   led_is o level index = same_place (under w s) blocks h.active.levels h.active.root agree o level index
 
-  some_at : (o : Owner) (level index : ℕ) → (led o level index).stamp ≢ 0 → (at o level index).stamp ≢ 0
+  pub some_at : (o : Owner) (level index : ℕ) → (led o level index).stamp ≢ 0 → (at o level index).stamp ≢ 0
   some_at o level index some = subst (λ (p : Pointer). p.stamp ≢ 0) (led_is o level index) some
 
   -- One VVBN is led to from one place of one tree.

@@ -21,14 +21,15 @@ use Rattle.fv_volume.specs.Calls.{Reads}
 use Rattle.fv_volume.specs.Files.{IsLabelled, IsState}
 use Rattle.fv_volume.specs.Loading.{Houses, IsCounted, KeptTo, LoadedTo}
 use Rattle.fv_volume.specs.OneVolume.{IsReady, IsStanding}
-use Rattle.fv_volume.specs.Placing.{IsLedTo}
+use Rattle.fv_volume.specs.Placing.{IsLedTo, IsStoredWell}
 use Rattle.fv_volume.specs.States.{States, state_at, view_over}
 use Rattle.fv_volume.specs.Trees.{no_trees}
 use Rattle.fv_volume.proofs.Apart.{loaded_apart}
 use Rattle.fv_volume.proofs.Counted.{counted_within}
+use Rattle.fv_volume.proofs.LoadedStored.{seen_well}
 use Rattle.fv_volume.proofs.LoadedTables.{loaded_stands}
 use Rattle.fv_volume.proofs.OneVolumes.{still_standing}
-use Rattle.fv_volume.proofs.Standings.{seen_led, seen_standing, still_led}
+use Rattle.fv_volume.proofs.Standings.{seen_led, seen_standing, still_led, still_well}
 use Rattle.fv_volume.proofs.Told.{is_inside}
 use Rattle.fv_volume.proofs.Viewed.{loaded_states}
 
@@ -88,6 +89,11 @@ module _ (pool : Pool) (states : States) (kept : KeptTo slot_count states pool.c
       → (m : Machine) → Tells (layout_at (root_found pool.found) disk.reads) m → IsLedTo disk pool x
   loaded_led disk tells whole loaded none m is = seen_led disk pool states x (loaded_stands pool disk.reads states kept loaded none m is whole x.slot x here) counted.none
 
+  -- And what it leads to is stored well.
+  pub loaded_well : (disk : Disk) → ((b : ℕ) → length (disk.reads b) ≡ 4096) → LoadedTo disk.reads pool.found slot_count states pool.containers → pool.kept ≡ fin.empty
+      → (m : Machine) → Tells (layout_at (root_found pool.found) disk.reads) m → IsStoredWell disk pool x
+  loaded_well disk whole loaded none m is = seen_well disk pool states x (loaded_stands pool disk.reads states kept loaded none m is whole x.slot x here) counted.none
+
 -- so with all of them, once the disk was read
 
 pub all_ready : (disk : Disk) (pool : Pool) (states : States) → KeptTo slot_count states pool.containers → StandsOn disk pool.store.pairs → IsSize pool.found.blocks → (s : ℕ) → IfSome (state_at states s) (IsReady disk pool)
@@ -114,3 +120,12 @@ all_led old new pool states reads kept tells whole loaded none m is s = so (stat
     so : (o : Option VolumeState) → state_at states s ≡ o → IfSome o (IsLedTo new pool)
     so None there = tt
     so (Some x) there = still_led old new pool pool reads x (loaded_led pool states kept s x there old tells whole loaded none m is)
+
+pub all_well : (old new : Disk) (pool : Pool) (states : States) → Reads old pool new pool → KeptTo slot_count states pool.containers → ((b : ℕ) → length (old.reads b) ≡ 4096)
+    → LoadedTo old.reads pool.found slot_count states pool.containers → pool.kept ≡ fin.empty → (m : Machine) → Tells (layout_at (root_found pool.found) old.reads) m
+    → (s : ℕ) → IfSome (state_at states s) (IsStoredWell new pool)
+all_well old new pool states reads kept whole loaded none m is s = so (state_at states s) refl
+  where
+    so : (o : Option VolumeState) → state_at states s ≡ o → IfSome o (IsStoredWell new pool)
+    so None there = tt
+    so (Some x) there = still_well old new pool pool reads x (loaded_well pool states kept s x there old whole loaded none m is)

@@ -22,7 +22,7 @@ use Rattle.fv_volume.specs.BlocksOver.{block_of, held_block, held_entry}
 use Rattle.fv_volume.specs.Keeping.{kept_or}
 use Rattle.fv_volume.specs.Lending.{GoesOver, Lent, MayTake, lent_by, lent_for, use_of}
 use Rattle.fv_volume.specs.OneVolume.{home_in, shows, standing_by, standing_for, volume_as, volume_for, AreSoundBy, IsStanding}
-use Rattle.fv_volume.specs.Placing.{Goes, LeavesOthers, LiesApart, StaysBeside}
+use Rattle.fv_volume.specs.Placing.{AreLedBy, AreStoredBy, Goes, IsLedTo, IsStoredWell, LeavesOthers, LiesApart, StaysBeside}
 use Rattle.fv_volume.proofs.Shows.{get_held}
 use Rattle.fv_volume.proofs.Standings.{apart_alone, held_alone, held_own}
 
@@ -66,6 +66,13 @@ module _ (d e : Disk) (p q : Pool) (y : VolumeState) (alone : parent_at p.contai
         (subst (λ (u : Under). AreSoundBy u (shows d p y).used y.active y.files) (sym same_under) is.trees);
   }
 
+  pub entries_led : IsLedTo d p y → IsLedTo e q y
+  entries_led led = subst (λ (u : ℕ → Option Use). AreLedBy (under (shows e q y)) u y.active y.files) (sym same_used)
+      (subst (λ (u : Under). AreLedBy u (shows d p y).used y.active y.files) (sym same_under) led)
+
+  pub entries_well : IsStoredWell d p y → IsStoredWell e q y
+  entries_well well = subst (λ (u : Under). AreStoredBy u y.active y.files) (sym same_under) well
+
 -- ---- calls over the blocks of another volume
 
 module _ (old new : Lent) (goes : GoesOver old new) (y : VolumeState) (other : y.slot ≢ old.home.slot) (alone : parent_at old.pool.containers y.slot ≡ None) (apart : LiesApart old.pool.containers y.slot old.home.slot) (is : IsStanding old.disk old.pool y) where
@@ -103,6 +110,8 @@ module _ (old new : Lent) (goes : GoesOver old new) (y : VolumeState) (other : y
   beside_goes = record {
     standing = entries_standing old.disk new.disk old.pool new.pool y alone still_alone same_own goes.only_reads.stays.tells goes.only_reads.stays.reads stays still_next is;
     volume = entries_volume old.disk new.disk old.pool new.pool y alone still_alone same_own goes.only_reads.stays.tells goes.only_reads.stays.reads stays still_next;
+    led = entries_led old.disk new.disk old.pool new.pool y alone still_alone same_own goes.only_reads.stays.tells goes.only_reads.stays.reads stays still_next;
+    well = entries_well old.disk new.disk old.pool new.pool y alone still_alone same_own goes.only_reads.stays.tells goes.only_reads.stays.reads stays still_next;
   }
 
 pub beside_flush : (d e : Disk) (p q : Pool) (x : VolumeState) (map : Maps) (room left : ℕ) → Goes (lent_for p x.map d 0 (home_in x) room) q map e left → LeavesOthers d p x.slot e q

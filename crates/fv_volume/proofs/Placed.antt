@@ -19,7 +19,7 @@ use Rattle.fv_tree.specs.Sources.{Shown}
 use Rattle.fv_tree.specs.Standing.{under}
 use Rattle.fv_files.specs.declared.files.Files.{Files}
 use Rattle.fv_files.specs.Pending.{pending_in}
-use Rattle.fv_files.specs.Tables.{table_in, AreReached, AreStanding, IsLed}
+use Rattle.fv_files.specs.Tables.{table_in, AreReached, AreStanding, IsLed, IsStored, IsStoredUnder}
 use Rattle.fv_files.specs.Apart.{AreLed, stored_trees}
 use Rattle.fv_charge.specs.Ledgers.{IsLedgerOf}
 use Rattle.fv_volmap.specs.Slots.{Volume as Maps}
@@ -30,7 +30,7 @@ use Rattle.fv_volume.specs.Files.{IsLabelled}
 use Rattle.fv_volume.specs.Labels.{label_said}
 use Rattle.fv_volume.specs.Lending.{IsTold, lent_for, sees}
 use Rattle.fv_volume.specs.OneVolume.{home_in, shows, standing_by, standing_for, table_for, volume_for, AreSoundBy, IsReady, IsStanding}
-use Rattle.fv_volume.specs.Placing.{AreLedBy, Goes, IsLedTo, PlacesTable, pending_of}
+use Rattle.fv_volume.specs.Placing.{AreLedBy, AreStoredBy, Goes, IsLedTo, IsStoredWell, PlacesTable, pending_of}
 
 -- ---- calls can be made on it
 
@@ -111,6 +111,9 @@ module _ (d : Disk) (p : Pool) (x : VolumeState) (f : Files) (held : x.files ≡
 
   pub was_led : IsLedTo d p x → IsLed before f
   was_led led = subst (AreLedBy (under before) before.used x.active) held led
+
+  pub was_well : IsStoredWell d p x → IsStored before f
+  was_well well = subst (AreStoredBy (under before) x.active) held well
 
   -- its inode file has as many levels as a label can say
   pub few_levels : IsStanding d p x → (g : Files) → g.inode.tree.levels ≡ f.inode.tree.levels → min g.inode.tree.levels 2 ≡ g.inode.tree.levels
@@ -206,6 +209,11 @@ module _ (d e : Disk) (p q : Pool) (x : VolumeState) (f : Files) (held : x.files
         (subst (λ (r : Rooted). AreLed after.used (stored_trees (under after) r.levels r.root)) (sym rooted)
         (subst (λ n. AreLed after.used (stored_trees (under after) n root)) (sym few) (table.stored_led told told.1 (was_led d p x f held led))))
 
+    pub done_well : IsLedTo d p x → IsStoredWell d p x → IsStoredWell e q (record x { active = active; map = map; files = files; changed = true })
+    done_well led well = subst (λ (o : Option Files). AreStoredBy (under after) active o) (sym none)
+        (subst (λ (r : Rooted). IsStoredUnder (under after) r.levels r.root) (sym rooted)
+        (subst (λ n. IsStoredUnder (under after) n root) (sym few) (table.stored_well told told.1 (was_led d p x f held led) (was_well d p x f held well))))
+
   -- placed in part
   module _ (fault : BlockFault) (table : PlacesTable (Told d p x f) (shows d p x) (under after) after.used f g (Err fault)) (is : IsStanding d p x) where
     told_then : Told d p x f
@@ -219,3 +227,6 @@ module _ (d e : Disk) (p q : Pool) (x : VolumeState) (f : Files) (held : x.files
 
     pub failed_led : IsLedTo d p x → IsLedTo e q (record x { map = map; files = Some g; changed = true })
     failed_led led = table.led told_then told_then.1 (was_led d p x f held led)
+
+    pub failed_well : IsLedTo d p x → IsStoredWell d p x → IsStoredWell e q (record x { map = map; files = Some g; changed = true })
+    failed_well led well = table.well told_then told_then.1 (was_led d p x f held led) (was_well d p x f held well)

@@ -37,7 +37,7 @@ use Rattle.fv_volume.specs.BlocksOver.{AreApart, IsKeptBack, OtherPlace, block_o
 use Rattle.fv_volume.specs.Calls.{Reads}
 use Rattle.fv_volume.specs.Files.{has_form, IsLabelled, IsState}
 use Rattle.fv_volume.specs.OneVolume.{shows, standing_by, table_for, volume_as, AreSoundBy, IsStanding}
-use Rattle.fv_volume.specs.Placing.{AreLedBy, IsLedTo}
+use Rattle.fv_volume.specs.Placing.{AreLedBy, AreStoredBy, IsLedTo, IsStoredWell}
 use Rattle.fv_volume.specs.States.{States, head_in, placed_in, state_at, view_over}
 use Rattle.fv_volume.specs.Trees.{active_in, no_trees}
 use Rattle.fv_volume.proofs.LoadedTables.{StandsInView, chain_own, led, stands_file, stands_inode, stands_led, stands_once, stands_told}
@@ -261,3 +261,7 @@ module _ (disk : Disk) (pool : Pool) (states : States) (x : VolumeState) (is : I
 pub still_led : (d e : Disk) (p q : Pool) → Reads d p e q → (x : VolumeState) → IsLedTo d p x → IsLedTo e q x
 still_led d e p q reads x led = subst (λ (uses : ℕ → Option Use). AreLedBy (blocks_of (shows e q x)) uses x.active x.files) (sym (still_used d e p q reads x))
     (subst (λ (blocks : Under). AreLedBy blocks (shows d p x).used x.active x.files) (sym (still_under d e p q reads x)) led)
+
+-- And its blocks are stored well still.
+pub still_well : (d e : Disk) (p q : Pool) → Reads d p e q → (x : VolumeState) → IsStoredWell d p x → IsStoredWell e q x
+still_well d e p q reads x well = subst (λ (blocks : Under). AreStoredBy blocks x.active x.files) (sym (still_under d e p q reads x)) well

@@ -8,7 +8,7 @@ use Rattle.fv_tables.specs.Told.{Standing, table_told}
 use Rattle.fv_inode.specs.Files.{rooted}
 use Rattle.fv_inode.specs.declared.info.Info.{Info}
 use Rattle.fv_files.specs.declared.files.Files.{Files}
-use Rattle.fv_files.specs.Tables.{table_in, AreStanding, IsInfoOf, IsLed}
+use Rattle.fv_files.specs.Tables.{table_in, AreStanding, IsInfoOf, IsLed, IsStored}
 use Rattle.fv_files.specs.Pending.{pending_in}
 use Rattle.fv_volmap.specs.Slots.{Volume as Maps}
 use Rattle.fv_volume.specs.declared.pool.Pool.{Pool}
@@ -17,7 +17,7 @@ use Rattle.fv_volume.specs.Calls.{BlockCause, GivesUp, LeavesTable, Reads}
 use Rattle.fv_volume.specs.Changing.{AltersTable}
 use Rattle.fv_volume.specs.Lending.{IsTold, lent_for, sees}
 use Rattle.fv_volume.specs.OneVolume.{home_in, shows, standing_for, IsStanding}
-use Rattle.fv_volume.specs.Placing.{pending_of, IsLedTo}
+use Rattle.fv_volume.specs.Placing.{pending_of, IsLedTo, IsStoredWell}
 use Rattle.fv_volume.proofs.CallCauses.{cause_for}
 use Rattle.fv_volume.proofs.Calling.{ifok_with, onok_with}
 
@@ -42,10 +42,10 @@ module _ (d : Disk) (p : Pool) (x : VolumeState) (f : Files) (info : Info) (tabl
     taken_counts says made is = subst (λ (s : Standing). IfOk result (says s)) table (ifok_with _ result (sound is) (made (is_given is)))
 
     -- the volume with the table and the map that the call left
-    pub taken_alters : (led : IsLedTo d p x → IsLed (shows d p x) f) (taken : pending_in f ≡ pending_of x.files) (e : Disk) (q : Pool) (map : Maps) (g : Files)
+    pub taken_alters : (led : IsLedTo d p x → IsLed (shows d p x) f) (well : IsStoredWell d p x → IsStored (shows d p x) f) (taken : pending_in f ≡ pending_of x.files) (e : Disk) (q : Pool) (map : Maps) (g : Files)
         → LeavesTable IsGiven (shows d p x) (sees p map d (home_in x)) f g result → GivesUp x.map map → Reads d p e q → (IsGiven → IsTold e q map x.slot)
         → AltersTable d p e q x (record x { map = map; files = Some g; changed = true }) result
-    taken_alters led taken e q map g leaves maps reads told = record {
+    taken_alters led well taken e q map g leaves maps reads told = record {
       same = refl;
       maps = maps;
       reads = reads;
@@ -53,5 +53,6 @@ module _ (d : Disk) (p : Pool) (x : VolumeState) (f : Files) (info : Info) (tabl
       trees = λ is. leaves.stands (is_given is) (sound is);
       failed = λ is. subst (λ (s : Standing). OnErr result (table_told (table_in (sees p map d (home_in x)) g) ≡ table_told s)) table (leaves.failed (is_given is));
       led = λ is was. leaves.led (is_given is) (sound is) (led was);
+      well = λ is was. leaves.well (is_given is) (sound is) (well was);
       room = λ is. let grown = leaves.room (is_given is) (sound is) in omega (arith, taken, grown);
     }

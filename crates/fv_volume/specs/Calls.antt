@@ -26,7 +26,7 @@ use Rattle.fv_files.specs.declared.files.Files.{Files}
 use Rattle.fv_files.specs.Failing.{IsFileTree}
 use Rattle.fv_files.specs.Pending.{pending_in}
 use Rattle.fv_files.specs.Calls.{CutsFile, TakesByCut}
-use Rattle.fv_files.specs.Tables.{table_in, AreStanding, IsInfoOf, IsLed}
+use Rattle.fv_files.specs.Tables.{table_in, AreStanding, IsInfoOf, IsLed, IsStored}
 use Rattle.fv_volume.specs.declared.fault.VolumeFault.{VolumeFault}
 use Rattle.fv_volume.specs.declared.fault.VolumeFault.TheVariants.{Refused, DiskFault, Damaged, Memory}
 use Rattle.fv_volume.specs.declared.pool.Pool.{Pool}
@@ -80,13 +80,14 @@ pub record Reads (old : Disk) (pool : Pool) (new : Disk) (left : Pool) : Type 0 
   pub only_reads : OnlyReads old new
   pub stands : StandsOn new left.store.pairs
 
--- What a change of a table leaves over the blocks that are left: each tree stands on them, what is in use is led to if it was before, and
--- after a fault the table is told as before. A flush has at most 16 blocks more to place.
+-- What a change of a table leaves over the blocks that are left: each tree stands on them, what is in use is led to and stored well if it was
+-- before, and after a fault the table is told as before. A flush has at most 14 blocks more to place.
 pub record LeavesTable {T : Type 0} (told : Type 0) (old new : Shown) (f g : Files) (result : Result T BlockFault) : Type 0 where
   pub stands : told → AreStanding old f → AreStanding new g
   pub failed : told → OnErr result (table_told (table_in new g) ≡ table_told (table_in old f))
   pub led : told → AreStanding old f → IsLed old f → IsLed new g
-  pub room : told → AreStanding old f → pending_in g ≤ pending_in f + 16
+  pub well : told → AreStanding old f → IsStored old f → IsStored new g
+  pub room : told → AreStanding old f → pending_in g ≤ pending_in f + 14
 
 -- What is known of a file is so in the table of a volume, which is a machine's.
 pub record KnowsFile (told : Type 0) (source : Shown) (f : Files) (info : Info) : Type 0 where

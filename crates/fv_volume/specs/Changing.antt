@@ -24,7 +24,7 @@ use Rattle.fv_volume.specs.declared.state.VolumeState.{VolumeState}
 use Rattle.fv_volume.specs.Charging.{AddsBlocks}
 use Rattle.fv_volume.specs.Calls.{Agrees, GivesUp, HasBeside, HasWithin, Reads}
 use Rattle.fv_volume.specs.Lending.{IsTold}
-use Rattle.fv_volume.specs.Placing.{pending_of, IsLedTo}
+use Rattle.fv_volume.specs.Placing.{pending_of, IsLedTo, IsStoredWell}
 use Rattle.fv_volume.specs.OneVolume.{shows, standing_for, table_for, volume_for, AreSoundBy, IsBooked, IsStanding}
 
 -- What is said of the space for a command is what the machine says of it.
@@ -83,7 +83,8 @@ abbrev pub KeepsButTable : VolumeState → VolumeState → Type 0
 KeepsButTable old new = new ≡ record old { map = new.map; files = new.files; changed = true }
 
 -- A change of a volume's table was made, or it failed; it isn't counted yet. Blocks were read, and its trees stand on those that are left.
--- After a fault its table is told as before. What is in use is led to if it was before, and a flush has at most 16 blocks more to place.
+-- After a fault its table is told as before. What is in use is led to and stored well if it was before, and a flush has at most 14 blocks more
+-- to place.
 pub record AltersTable {T : Type 0} (old : Disk) (pool : Pool) (new : Disk) (left : Pool) (x y : VolumeState) (result : Result T BlockFault) : Type 0 where
   pub same : KeepsButTable x y
   pub maps : GivesUp x.map y.map
@@ -92,4 +93,22 @@ pub record AltersTable {T : Type 0} (old : Disk) (pool : Pool) (new : Disk) (lef
   pub trees : IsStanding old pool x → AreSoundBy (under (shows old pool y)) (shows old pool y).used y.active y.files
   pub failed : IsStanding old pool x → OnErr result (table_for old pool y ≡ table_for old pool x)
   pub led : IsStanding old pool x → IsLedTo old pool x → IsLedTo old pool y
-  pub room : IsStanding old pool x → pending_of y.files ≤ pending_of x.files + 16
+  pub well : IsStanding old pool x → IsStoredWell old pool x → IsStoredWell old pool y
+  pub room : IsStanding old pool x → pending_of y.files ≤ pending_of x.files + 14
+
+-- What a call that changes files leaves of the table of a volume, in every outcome: what is in use is led to and stored well if it was before, and
+-- a flush has at most 14 blocks more to place.
+pub record KeepsTable (old : Disk) (pool : Pool) (x : VolumeState) (new : Disk) (left : Pool) (y : VolumeState) : Type 0 where
+  pub led : IsLedTo old pool x → IsLedTo new left y
+  pub well : IsStoredWell old pool x → IsStoredWell new left y
+  pub room : pending_of y.files ≤ pending_of x.files + 14
+
+-- ---- commands
+
+-- A command changes a file of the volume of a name: `new` without a reserve, `put`, `cut` or `rm`.
+abbrev pub IsChangeOf : List ℕ → Command → Type 0
+IsChangeOf name (New v f reserve) = (v ≡ name) × (reserve ≡ 0)
+IsChangeOf name (Put v f i block) = v ≡ name
+IsChangeOf name (Cut v f length) = v ≡ name
+IsChangeOf name (Remove v f) = v ≡ name
+IsChangeOf name command = ⊥

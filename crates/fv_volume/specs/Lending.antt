@@ -9,7 +9,8 @@ use Rattle.fv_disk.specs.declared.fault.BlockFault.TheVariants.{DiskFault, Damag
 use Rattle.fv_bits.specs.Members.{is_member}
 use Rattle.fv_codec.specs.Blocks.{last_place}
 use Rattle.fv_image.specs.Layout.{root_place}
-use Rattle.fv_aggmap.specs.Space.{Space, is_held}
+use Rattle.fv_image.specs.Reclaimed.{IsAllocatable}
+use Rattle.fv_aggmap.specs.Space.{Space, blocks_of, free_blocks, is_held}
 use Rattle.fv_container.specs.declared.entry.Entry.{Entry}
 use Rattle.fv_container.specs.Chains.{Slots, container_at, own_entry, slot_count}
 use Rattle.fv_container.specs.Mapped.{Mapped}
@@ -21,7 +22,7 @@ use Rattle.fv_volmap.specs.Slots.{Volume, active_of, slot_at}
 use Rattle.fv_volume.specs.declared.blocks.Home.{Home}
 use Rattle.fv_volume.specs.declared.noted.Noted.{Noted}
 use Rattle.fv_volume.specs.declared.pool.Pool.{Pool}
-use Rattle.fv_volume.specs.BlocksOver.{AreApart, entries_in, held_block, held_entry, steps_by}
+use Rattle.fv_volume.specs.BlocksOver.{AreApart, entries_in, free_numbers, held_block, held_entry, steps_by}
 
 -- What a session lends for one volume: the pool, the volume's maps, the disk, and the counter of steps; with the volume that is
 -- meant, the room that was made for its blocks, the strays, and the damages that were answered.
@@ -131,9 +132,10 @@ pub record IsOwn (slots : Slots) (slot b : ℕ) : Type 0 where
   pub stands : own_entry (container_at slots slot) vvbn ≡ Some entry
   pub leads : entry.pvbn ≡ b
 
--- a block that calls for a slot's volume may take: the root on the disk doesn't hold it, and it is free, or an entry of the
--- volume leads to it, which may be replaced
+-- a block that calls for a slot's volume may take: it lies where a volume's can, the root on the disk doesn't hold it, and it is free, or
+-- an entry of the volume leads to it, which may be replaced
 pub record MayTake (space : Space) (slots : Slots) (slot b : ℕ) : Type 0 where
+  pub lies : IsAllocatable (blocks_of space) b
   pub spare : is_member space.committed b ≡ false
   pub free : (is_held space.committed space.next b ≡ false) ⊎ IsOwn slots slot b
 
@@ -159,13 +161,20 @@ pub record IsOutOfRoom (old new : Lent) : Type 0 where
   pub none : new.room ≡ 0
   pub lacks : WasLack old.home.label (root_place old.pool.found.slot) new.noted
 
+-- no more numbers and blocks went than the room fell by
+pub record Spends (old new : Lent) : Type 0 where
+  pub numbers : free_numbers old.map + new.room ≤ free_numbers new.map + old.room
+  pub blocks : free_blocks old.pool.map + new.room ≤ free_blocks new.pool.map + old.room
+
 -- Blocks were read, placed and given up for one volume. The disk is only read, and the root on it holds what it held. A block
 -- that the next root held it goes on holding unless an entry of the volume led to it, and what it holds anew is an entry's. No
--- block is kept anew, and no entry leads to a block, that couldn't be taken. All of other volumes stays.
+-- block is kept anew, and no entry leads to a block, that couldn't be taken. All of other volumes stays. While some of the room is left, it tells
+-- what was taken.
 pub record GoesOver (old new : Lent) : Type 0 where
   pub home : new.home ≡ old.home
   pub found : new.pool.found ≡ old.pool.found
   pub room : new.room ≤ old.room
+  pub spends : 0 < new.room → Spends old new
   pub steps : old.steps ≤ new.steps
   pub only_reads : OnlyReads old.disk new.disk
   pub noted : (new.noted ≡ old.noted) ⊎ (WasHole old.home.label new.noted ⊎ IsOutOfRoom old new)

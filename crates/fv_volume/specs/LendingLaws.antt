@@ -1,5 +1,5 @@
 -- What calls leave of all that was lent, one after another.
-use Rattle.std.proofs.Common.{◌≡◌, ◌⊎◌, ◌||◌, ℕ, Bool, true, false, length, Option, Some, None, refl, sym, ap, ap₂, subst, ◌∙◌, inl, inr, ⊎_elim, arith}
+use Rattle.std.proofs.Common.{◌≡◌, ◌⊎◌, ◌||◌, ℕ, Bool, true, false, List, length, Option, Some, None, refl, sym, ap, ap₂, subst, ◌∙◌, inl, inr, ⊎_elim, arith}
 use Rattle.std.specs.Prelude.{is_some}
 use Rattle.std.specs.FinMap as fin
 use Rattle.std.proofs.lemmas.Bool.{cases_Bool}
@@ -8,13 +8,14 @@ use Rattle.fv_disk.specs.DiskCalls.{OnlyReads}
 use Rattle.fv_disk.proofs.Resting.{reads_then as disk_then, stays_itself}
 use Rattle.fv_bits.specs.Members.{is_member}
 use Rattle.fv_image.specs.Layout.{root_place}
-use Rattle.fv_aggmap.specs.Space.{Space, is_held}
+use Rattle.fv_image.specs.Reclaimed.{IsAllocatable}
+use Rattle.fv_aggmap.specs.Space.{Space, blocks_of, free_blocks, is_held}
 use Rattle.fv_container.specs.declared.entry.Entry.{Entry}
 use Rattle.fv_container.specs.Chains.{Slots, container_at, own_entry}
 use Rattle.fv_volmap.specs.Slots.{slot_at}
 use Rattle.fv_volume.specs.declared.blocks.Home.{Home}
 use Rattle.fv_volume.specs.declared.noted.Noted.{Noted}
-use Rattle.fv_volume.specs.BlocksOver.{entries_in}
+use Rattle.fv_volume.specs.BlocksOver.{entries_in, free_numbers}
 use Rattle.fv_volume.specs.Lending.{Lent, WasLack, ReadsOver, GoesOver, HasShapeOf, WasHole, IsNewEntry, IsOutOfRoom, IsOwn, MayTake, tree_in}
 
 disk_itself : (disk : Disk) → OnlyReads disk disk
@@ -73,6 +74,10 @@ reads_goes old new reads =
       home = reads.home;
       found = reads.found;
       room = omega (arith, reads.room);
+      spends = λ some.
+          let numbers : free_numbers new.map ≡ free_numbers old.map = ap free_numbers reads.map in
+          let blocks : free_blocks new.pool.map ≡ free_blocks old.pool.map = ap free_blocks reads.space in
+          record { numbers = omega (arith, numbers, reads.room); blocks = omega (arith, blocks, reads.room) };
       steps = reads.steps;
       only_reads = reads.only_reads;
       noted = ⊎_elim (λ same. inl same) (λ hole. inr (inl hole)) reads.noted;
@@ -150,9 +155,10 @@ module _ (old mid new : Lent) (first : GoesOver old mid) (second : GoesOver mid 
   take_before : (b : ℕ) → MayTake mid.pool.map between slot b → MayTake old.pool.map before slot b
   take_before b may =
       let spare : is_member old.pool.map.committed b ≡ false = sym (ap (λ set. is_member set b) first.committed) ∙ may.spare in
+      let lies : IsAllocatable (blocks_of old.pool.map) b = subst (λ (set : List Bool). IsAllocatable (length set) b) first.committed may.lies in
       ⊎_elim
-      (λ free. record { spare = spare; free = free_before b free })
-      (λ own. ⊎_elim (λ owned. record { spare = spare; free = inr owned }) (λ takes. takes) (owned_before b own))
+      (λ free. record { lies = lies; spare = spare; free = free_before b free })
+      (λ own. ⊎_elim (λ owned. record { lies = lies; spare = spare; free = inr owned }) (λ takes. takes) (owned_before b own))
       may.free
 
   at_slot : (P : ℕ → Type 0) → P mid.home.slot → P slot
@@ -195,26 +201,28 @@ module _ (old mid new : Lent) (first : GoesOver old mid) (second : GoesOver mid 
       (λ takes. inr (take_before b (at_slot (λ s. MayTake mid.pool.map between s b) takes)))
       (second.kept b)
 
+  -- a room that was used up stays so
+  pub out_still : new.noted ≡ mid.noted → IsOutOfRoom old mid → IsOutOfRoom old new
+  out_still again out = record {
+    none = omega (arith, out.none, second.room);
+    lacks = subst (λ n. WasLack old.home.label (root_place old.pool.found.slot) n) (sym again) out.lacks;
+  }
+
+  -- and the places of the label and the root are those of before
+  pub out_before : IsOutOfRoom mid new → IsOutOfRoom old new
+  out_before out = record {
+    none = out.none;
+    lacks = subst (λ (h : Home). WasLack h.label (root_place old.pool.found.slot) new.noted) first.home
+        (subst (λ f. WasLack mid.home.label (root_place f.slot) new.noted) first.found out.lacks);
+  }
+
   damage_then : (new.noted ≡ old.noted) ⊎ (WasHole old.home.label new.noted ⊎ IsOutOfRoom old new)
   damage_then = ⊎_elim
       (λ again. ⊎_elim
       (λ same. inl (again ∙ same))
-      (λ cause. inr (⊎_elim
-      (λ hole. inl (subst (λ n. WasHole old.home.label n) (sym again) hole))
-      (λ (out : IsOutOfRoom old mid). inr (record {
-        none = omega (arith, out.none, second.room);
-        lacks = subst (λ n. WasLack old.home.label (root_place old.pool.found.slot) n) (sym again) out.lacks;
-      }))
-      cause))
+      (λ cause. inr (⊎_elim (λ hole. inl (subst (λ n. WasHole old.home.label n) (sym again) hole)) (λ out. inr (out_still again out)) cause))
       first.noted)
-      (λ cause. inr (⊎_elim
-      (λ hole. inl (subst (λ (h : Home). WasHole h.label new.noted) first.home hole))
-      (λ (out : IsOutOfRoom mid new). inr (record {
-        none = out.none;
-        lacks = subst (λ (h : Home). WasLack h.label (root_place old.pool.found.slot) new.noted) first.home
-            (subst (λ f. WasLack mid.home.label (root_place f.slot) new.noted) first.found out.lacks);
-      }))
-      cause))
+      (λ cause. inr (⊎_elim (λ hole. inl (subst (λ (h : Home). WasHole h.label new.noted) first.home hole)) (λ out. inr (out_before out)) cause))
       second.noted
 
   shape_then : HasShapeOf (container_at between slot) (container_at after slot) → HasShapeOf (container_at before slot) (container_at after slot)
@@ -229,6 +237,10 @@ module _ (old mid new : Lent) (first : GoesOver old mid) (second : GoesOver mid 
     home = second.home ∙ first.home;
     found = second.found ∙ first.found;
     room = omega (arith, first.room, second.room);
+    spends = λ some.
+        let one = first.spends (omega (arith, some, second.room)) in
+        let two = second.spends some in
+        record { numbers = omega (arith, one.numbers, two.numbers); blocks = omega (arith, one.blocks, two.blocks) };
     steps = omega (arith, first.steps, second.steps);
     only_reads = disk_then old.disk mid.disk new.disk first.only_reads second.only_reads;
     noted = damage_then;

@@ -15,6 +15,8 @@ pub mod Lending
 pub mod LendingLaws
 pub mod Dropping
 pub mod DroppingLaws
+pub mod Putting
+pub mod PuttingLaws
 pub mod Flushed
 pub mod Flushing
 pub mod Stored

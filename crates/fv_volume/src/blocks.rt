@@ -255,7 +255,7 @@ fn find_entry<D: Disk, L: Ledger>(
 
 /// Whether a slot of the maps has a VVBN, the base's among them. Costs a step for each slot.
 #[tactic(auto, using(crate::proofs::Lent::taken_anywhere))]
-fn is_taken(map: &VolMap, vvbn: u32) -> bool
+pub(crate) fn is_taken(map: &VolMap, vvbn: u32) -> bool
     ensures { result ≡ taken_in map.now.slots vvbn }
 {
     // What the slots are known to be is needed of them.

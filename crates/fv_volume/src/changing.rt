@@ -16,9 +16,8 @@ ghost use Rattle.fv_files.specs.Calls.{AddsCell, WritesCell};
 ghost use Rattle.fv_files.specs.Tables.{IsInfoOf};
 ghost use Rattle.fv_volume.specs.declared.fault.VolumeFault.TheVariants.{Refused};
 ghost use Rattle.fv_volume.specs.Calls.{BlockCause, CallCause, Changes, HasBeside, KeepsHead, Reads};
-ghost use Rattle.fv_volume.specs.Changing.{AcceptsPut, AltersTable, FitsLedger, RefusedIn, SpaceSays};
+ghost use Rattle.fv_volume.specs.Changing.{AcceptsPut, AltersTable, FitsLedger, KeepsTable, RefusedIn, SpaceSays};
 ghost use Rattle.fv_volume.specs.Lending.{lent_for};
-ghost use Rattle.fv_volume.specs.Placing.{pending_of, IsLedTo};
 ghost use Rattle.fv_volume.specs.OneVolume.{home_in, standing_for, volume_for, IsReady, IsStanding};
 
 use crate::asking::find_file;
@@ -81,8 +80,7 @@ impl VolumeState {
             → Changes (HasBeside self.old.name (volume_for (D.shown disk.old) pool.old self.old) others pool.old.found.blocks) (Put self.old.name file.now index block.now) self.old.name
             (volume_for (D.shown disk.old) pool.old self.old) (volume_for (D.shown disk.new) pool.new self.new) result }
         ensures standing { IsStanding (D.shown disk.old) pool.old self.old → IsStanding (D.shown disk.new) pool.new self.new }
-        ensures led { IsStanding (D.shown disk.old) pool.old self.old → IsLedTo (D.shown disk.old) pool.old self.old → IsLedTo (D.shown disk.new) pool.new self.new }
-        ensures room { IsStanding (D.shown disk.old) pool.old self.old → pending_of self.new.files ≤ pending_of self.old.files + 16 }
+        ensures table { IsStanding (D.shown disk.old) pool.old self.old → KeepsTable (D.shown disk.old) pool.old self.old (D.shown disk.new) pool.new self.new }
         ensures ready { IsReady (D.shown disk.new) pool.new self.new }
         ensures map { self.new.map ≡ self.old.map }
         ensures head { KeepsHead self.old self.new result }
@@ -146,7 +144,7 @@ pub(crate) fn admit_change(
 }
 
 /// Whether a write is accepted, of which file, and how the ledger changes by it.
-fn judge_put<D: Disk>(
+pub(crate) fn judge_put<D: Disk>(
     volume: &mut VolumeState,
     alloc: Global,
     pool: &mut Pool,

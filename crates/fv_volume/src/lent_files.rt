@@ -12,12 +12,12 @@ ghost use Rattle.fv_inode.specs.Listing.{names_told};
 ghost use Rattle.fv_files.specs.Calls.{GivesCell};
 ghost use Rattle.fv_files.specs.Apart.{AreLed};
 ghost use Rattle.fv_files.specs.Pending.{pending_in};
-ghost use Rattle.fv_files.specs.Tables.{changed, loaded_trees, table_in, tree_known, AreSound, IsInfoOf};
+ghost use Rattle.fv_files.specs.Tables.{changed, loaded_trees, table_in, tree_known, AreSound, IsInfoOf, IsStoredOn};
 ghost use Rattle.fv_files.specs.Trees.{standing_in};
 ghost use Rattle.fv_volume.specs.Calls.{BlockCause, Reads};
 ghost use Rattle.fv_volume.specs.Lending.{CanLend, IsLedger, IsTold, lent_for, sees};
 ghost use Rattle.fv_volume.specs.OneVolume.{standing_by, AreSoundBy};
-ghost use Rattle.fv_volume.specs.Placing.{pending_of, AreLedBy};
+ghost use Rattle.fv_volume.specs.Placing.{pending_of, AreLedBy, AreStoredBy};
 
 use crate::blocks::Home;
 use crate::noted::Noted;
@@ -41,6 +41,7 @@ pub(crate) fn take_table(files: &mut Option<Files>, active: &Rooted, alloc: Glob
     ensures table { (blocks : Under) → standing_in blocks (changed result) ≡ standing_by blocks active.now files.old }
     ensures trees { (blocks : Under) (used : ℕ → Option Use) → AreSoundBy blocks used active.now files.old → AreSound blocks used result }
     ensures led { (blocks : Under) (used : ℕ → Option Use) → AreLedBy blocks used active.now files.old → AreLed used (loaded_trees blocks result) }
+    ensures well { (blocks : Under) → AreStoredBy blocks active.now files.old → IsStoredOn blocks result }
     ensures pending { pending_in result ≡ pending_of files.old }
     ensures held { IfSome files.old (λ f. result ≡ f) }
     ensures left { files.new ≡ None }

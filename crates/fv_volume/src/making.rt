@@ -11,9 +11,8 @@ ghost use Rattle.fv_inode.specs.Files.{IsFreeNumber, IsNumberIf};
 ghost use Rattle.fv_tables.specs.Told.{file_at};
 ghost use Rattle.fv_files.specs.Calls.{AddsFile};
 ghost use Rattle.fv_volume.specs.Calls.{BlockCause, CallCause, Changes, HasBeside, KeepsHead, Reads};
-ghost use Rattle.fv_volume.specs.Changing.{AcceptsNew, AltersTable, FitsLedger, NamesNew, RefusedIn};
+ghost use Rattle.fv_volume.specs.Changing.{AcceptsNew, AltersTable, FitsLedger, KeepsTable, NamesNew, RefusedIn};
 ghost use Rattle.fv_volume.specs.Lending.{lent_for};
-ghost use Rattle.fv_volume.specs.Placing.{pending_of, IsLedTo};
 ghost use Rattle.fv_volume.specs.OneVolume.{home_in, standing_for, table_for, volume_for, IsReady, IsStanding};
 
 use crate::asking::find_file;
@@ -62,8 +61,7 @@ impl VolumeState {
             → Changes (HasBeside self.old.name (volume_for (D.shown disk.old) pool.old self.old) others pool.old.found.blocks) (New self.old.name file.now reserve) self.old.name
             (volume_for (D.shown disk.old) pool.old self.old) (volume_for (D.shown disk.new) pool.new self.new) result }
         ensures standing { IsStanding (D.shown disk.old) pool.old self.old → IsStanding (D.shown disk.new) pool.new self.new }
-        ensures led { IsStanding (D.shown disk.old) pool.old self.old → IsLedTo (D.shown disk.old) pool.old self.old → IsLedTo (D.shown disk.new) pool.new self.new }
-        ensures room { IsStanding (D.shown disk.old) pool.old self.old → pending_of self.new.files ≤ pending_of self.old.files + 16 }
+        ensures table { IsStanding (D.shown disk.old) pool.old self.old → KeepsTable (D.shown disk.old) pool.old self.old (D.shown disk.new) pool.new self.new }
         ensures ready { IsReady (D.shown disk.new) pool.new self.new }
         ensures map { self.new.map ≡ self.old.map }
         ensures head { KeepsHead self.old self.new result }
@@ -79,7 +77,7 @@ impl VolumeState {
 }
 
 /// Whether a new file is accepted, and how the ledger changes by it.
-fn judge_new<D: Disk>(
+pub(crate) fn judge_new<D: Disk>(
     volume: &mut VolumeState,
     alloc: Global,
     pool: &mut Pool,

@@ -1,27 +1,26 @@
 //! Placing what changed of the files of a volume.
 
-ghost use Rattle.std.specs.Prelude.{◌≡◌, min, true, None, is_some, OnOk};
+ghost use Rattle.std.specs.Prelude.{◌≡◌, min, true, None, is_some, OnOk, IfErr};
 ghost use Rattle.fv_store.specs.Held.{StandsOn};
 ghost use Rattle.fv_tree.specs.Standing.{under};
-ghost use Rattle.fv_files.specs.Tables.{table_in, AreStanding};
+ghost use Rattle.fv_files.specs.Tables.{AreStanding};
 ghost use Rattle.fv_volume.specs.BlocksOver.{HasRoom};
-ghost use Rattle.fv_volume.specs.Lending.{CanLend, IsLedger, IsTold, lent_for, sees};
-ghost use Rattle.fv_volume.specs.OneVolume.{home_in, standing_for, IsReady, IsStanding};
-ghost use Rattle.fv_volume.specs.Placing.{FlushCause, Goes, KeepsPlaced, LeavesOthers, PlaceCause, PlacesTable, PlacesVolume, TakesRoom};
+ghost use Rattle.fv_volume.specs.Lending.{CanLend, IsTold, lent_for, sees};
+ghost use Rattle.fv_volume.specs.OneVolume.{home_in, IsReady, IsStanding};
+ghost use Rattle.fv_volume.specs.Placing.{FlushFails, Goes, KeepsPlaced, LeavesOthers, PlaceFails, PlacesTable, PlacesVolume, TakesRoom};
 
 use crate::blocks::Home;
 use crate::fault::VolumeFault;
 use crate::noted::Noted;
 use crate::pool::Pool;
 use crate::state::{Rooted, VolumeState};
-use crate::volume_blocks::{Guard, VolumeBlocks};
+use crate::volume_blocks::Guard;
+use crate::volume_places::VolumePlaces;
 use fv_codec::Pointer;
-use fv_container::Steps;
 use fv_disk::{BlockFault, Disk};
 use fv_files::Files;
 use fv_volmap::VolMap;
 use std::marker::{Brand, PhantomData};
-use std::sync::ledger::{Blank, Ledger};
 
 impl VolumeState {
     /// Places what changed of the files since the last flush: each block gets a VVBN and a PVBN, its entry is set, and it is kept in
@@ -30,36 +29,34 @@ impl VolumeState {
     /// stood for, as each other one does, and a later flush goes on where one failed. It writes nothing to the disk.
     ///
     /// `room` says how many numbers and blocks the caller made sure of. It doesn't rise, and so many are free afterwards. For a volume that
-    /// stands it falls by no more than what is pending does, and where it is enough for all that is pending, damage comes of a load alone.
+    /// stands it falls by no more than what is pending does, and where it is enough for all that is pending, only memory can be lacking.
     ///
     /// # Errors
     ///
-    /// `DiskFault` only where a read failed in this call. `Damaged` where a pointer's VVBN isn't held, at the place of the volume's
-    /// label with 1 and 0; where the room is used up and a number or a block is lacking, at the place of the label or of the root
-    /// with 1 and 0; and for a node or an inode block without its shape: its place, and its first field that isn't as said.
-    /// `Memory` where memory ran out. It refuses nothing.
+    /// `Damaged` only where the room is used up and a number or a block is lacking: at the place of the label or of the root, with 1 and
+    /// 0. `Memory` where memory ran out. It refuses nothing, and `DiskFault` never comes. A volume that doesn't stand could answer other
+    /// damage, and `Memory` where the inode block of a file in memory isn't there, too.
     ///
-    /// Costs a block for each node and cell that changed, for each inode block of a file that changed and each node over those.
-    /// `docs/SPACE.md` has what waits for a point.
+    /// Nothing is read, which its signature shows. Costs a block for each node and cell that changed, for each inode block of a file that
+    /// changed and each node over those. `docs/SPACE.md` has what waits for a point.
     pub fn flush<D: Disk>(
         &mut self,
         pool: &mut Pool,
-        disk: &mut D,
+        disk: &D,
         room: &mut u32,
     ) -> Result<(), VolumeFault>
-        requires ready { IsReady (D.shown disk.old) pool.old self.old }
+        requires ready { IsReady (D.shown disk.now) pool.old self.old }
         requires free { HasRoom pool.old.map self.old.map room.old }
-        ensures places { IsStanding (D.shown disk.old) pool.old self.old → PlacesVolume (D.shown disk.old) pool.old self.old room.old (D.shown disk.new) pool.new self.new room.new result }
+        ensures places { IsStanding (D.shown disk.now) pool.old self.old → PlacesVolume (D.shown disk.now) pool.old self.old room.old (D.shown disk.now) pool.new self.new room.new result }
         ensures none { OnOk result (self.new.files ≡ None) }
-        ensures ready { IsReady (D.shown disk.new) pool.new self.new }
+        ensures ready { IsReady (D.shown disk.now) pool.new self.new }
         ensures keeps { KeepsPlaced self.old self.new }
         ensures changed { is_some self.old.files ≡ true → self.new.changed ≡ true }
-        ensures idle { self.old.files ≡ None → (disk.new ≡ disk.old) × ((pool.new ≡ pool.old) × ((self.new ≡ self.old) × (room.new ≡ room.old))) }
-        ensures goes { Goes (lent_for pool.old self.old.map (D.shown disk.old) 0 (home_in self.old) room.old) pool.new self.new.map (D.shown disk.new) room.new }
-        ensures others { LeavesOthers (D.shown disk.old) pool.old self.old.slot (D.shown disk.new) pool.new }
+        ensures idle { self.old.files ≡ None → (pool.new ≡ pool.old) × ((self.new ≡ self.old) × (room.new ≡ room.old)) }
+        ensures goes { Goes (lent_for pool.old self.old.map (D.shown disk.now) 0 (home_in self.old) room.old) pool.new self.new.map (D.shown disk.now) room.new }
+        ensures others { LeavesOthers (D.shown disk.now) pool.old self.old.slot (D.shown disk.now) pool.new }
         ensures free { HasRoom pool.new.map self.new.map room.new }
-        ensures cause { FlushCause (IsStanding (D.shown disk.old) pool.old self.old) (standing_for (D.shown disk.old) pool.old self.old)
-            (lent_for pool.old self.old.map (D.shown disk.old) 0 (home_in self.old) room.old) (D.shown disk.new).faults room.new result }
+        ensures cause { IfErr result (FlushFails (IsStanding (D.shown disk.now) pool.old self.old) (lent_for pool.old self.old.map (D.shown disk.now) 0 (home_in self.old) room.old) room.new) }
     {
         let Some(mut files) = self.files.take() else {
             return Ok(());
@@ -69,15 +66,7 @@ impl VolumeState {
             slot: self.slot,
             label: self.label,
         };
-        match place_table::<Brand, D, Brand>(
-            &mut files,
-            pool,
-            disk,
-            &mut self.map,
-            &home,
-            Blank::new(1),
-            room,
-        ) {
+        match place_table::<Brand, D>(&mut files, pool, disk, &mut self.map, &home, room) {
             Ok(root) => {
                 self.active = rooted(&files, root);
                 Ok(())
@@ -91,36 +80,31 @@ impl VolumeState {
 }
 
 /// Places what changed of the table of a volume, over the volume's blocks. Answers the root of its inode file.
-fn place_table<K: Guard, D: Disk, L: Ledger>(
+fn place_table<K: Guard, D: Disk>(
     files: &mut Files,
     pool: &mut Pool,
-    disk: &mut D,
+    disk: &D,
     map: &mut VolMap,
     home: &Home,
-    blank: Blank,
     room: &mut u32,
 ) -> Result<Pointer, BlockFault>
-    requires blank { IsLedger blank.name blank.parts L.name L.parts }
-    requires lent { CanLend pool.old map.old (D.shown disk.old) home.now.slot }
+    requires lent { CanLend pool.old map.old (D.shown disk.now) home.now.slot }
     requires free { HasRoom pool.old.map map.old room.old }
-    requires told { K.told → IsTold (D.shown disk.old) pool.old map.old home.now.slot }
-    requires stands { K.told → AreStanding (sees pool.old map.old (D.shown disk.old) home.now) files.old }
-    ensures table { PlacesTable K.told (sees pool.old map.old (D.shown disk.old) home.now)
-        (under (sees pool.new map.new (D.shown disk.new) home.now)) (sees pool.new map.new (D.shown disk.new) home.now).used files.old files.new result }
-    ensures goes { Goes (lent_for pool.old map.old (D.shown disk.old) 0 home.now room.old) pool.new map.new (D.shown disk.new) room.new }
-    ensures room { TakesRoom K.told (sees pool.old map.old (D.shown disk.old) home.now) files.old files.new room.old room.new result }
-    ensures stands { StandsOn (D.shown disk.new) pool.new.store.pairs }
-    ensures told { K.told → IsTold (D.shown disk.new) pool.new map.new home.now.slot }
+    requires told { K.told → IsTold (D.shown disk.now) pool.old map.old home.now.slot }
+    requires stands { K.told → AreStanding (sees pool.old map.old (D.shown disk.now) home.now) files.old }
+    ensures table { PlacesTable K.told (sees pool.old map.old (D.shown disk.now) home.now)
+        (under (sees pool.new map.new (D.shown disk.now) home.now)) (sees pool.new map.new (D.shown disk.now) home.now).used files.old files.new result }
+    ensures goes { Goes (lent_for pool.old map.old (D.shown disk.now) 0 home.now room.old) pool.new map.new (D.shown disk.now) room.new }
+    ensures room { TakesRoom K.told files.old files.new room.old room.new result }
+    ensures stands { StandsOn (D.shown disk.now) pool.new.store.pairs }
+    ensures told { K.told → IsTold (D.shown disk.now) pool.new map.new home.now.slot }
     ensures free { HasRoom pool.new.map map.new room.new }
-    ensures cause { PlaceCause K.told (table_in (sees pool.old map.old (D.shown disk.old) home.now) files.old)
-        (lent_for pool.old map.old (D.shown disk.old) 0 home.now room.old) (D.shown disk.new).faults room.new result }
+    ensures cause { IfErr result (PlaceFails K.told (lent_for pool.old map.old (D.shown disk.now) 0 home.now room.old) room.new) }
 {
-    let mut steps: Steps<L> = Steps::open(blank);
-    let mut blocks: VolumeBlocks<'_, '_, '_, '_, K, D, L> = VolumeBlocks {
+    let mut blocks: VolumePlaces<'_, '_, '_, K, D> = VolumePlaces {
         pool,
         disk,
         map,
-        steps: &mut steps,
         home: *home,
         room: *room,
         strays: 0,

@@ -8,9 +8,8 @@ ghost use Rattle.fv_inode.specs.Files.{IsInfo};
 ghost use Rattle.fv_files.specs.Calls.{CutsFile, RemovesFile, TakesByCut, TakesByRemoval};
 ghost use Rattle.fv_files.specs.Tables.{IsInfoOf};
 ghost use Rattle.fv_volume.specs.Calls.{BlockCause, CallCause, Changes, Has, HasWithin, KeepsHead, Reads};
-ghost use Rattle.fv_volume.specs.Changing.{AcceptsCut, AcceptsRemoval, AltersTable, RefusedIn};
+ghost use Rattle.fv_volume.specs.Changing.{AcceptsCut, AcceptsRemoval, AltersTable, KeepsTable, RefusedIn};
 ghost use Rattle.fv_volume.specs.Lending.{lent_for};
-ghost use Rattle.fv_volume.specs.Placing.{pending_of, IsLedTo};
 ghost use Rattle.fv_volume.specs.OneVolume.{home_in, standing_for, volume_for, IsReady, IsStanding};
 
 use crate::asking::find_file;
@@ -61,8 +60,7 @@ impl VolumeState {
         ensures refused { IsStanding (D.shown disk.old) pool.old self.old
             → IfErr result (RefusedIn (Has self.old.name (volume_for (D.shown disk.old) pool.old self.old)) (Cut self.old.name file.now length)) }
         ensures standing { IsStanding (D.shown disk.old) pool.old self.old → IsStanding (D.shown disk.new) pool.new self.new }
-        ensures led { IsStanding (D.shown disk.old) pool.old self.old → IsLedTo (D.shown disk.old) pool.old self.old → IsLedTo (D.shown disk.new) pool.new self.new }
-        ensures room { IsStanding (D.shown disk.old) pool.old self.old → pending_of self.new.files ≤ pending_of self.old.files + 16 }
+        ensures table { IsStanding (D.shown disk.old) pool.old self.old → KeepsTable (D.shown disk.old) pool.old self.old (D.shown disk.new) pool.new self.new }
         ensures ready { IsReady (D.shown disk.new) pool.new self.new }
         ensures head { KeepsHead self.old self.new result }
         ensures reads { Reads (D.shown disk.old) pool.old (D.shown disk.new) pool.new }
@@ -104,8 +102,7 @@ impl VolumeState {
         ensures refused { IsStanding (D.shown disk.old) pool.old self.old
             → IfErr result (RefusedIn (Has self.old.name (volume_for (D.shown disk.old) pool.old self.old)) (Remove self.old.name file.now)) }
         ensures standing { IsStanding (D.shown disk.old) pool.old self.old → IsStanding (D.shown disk.new) pool.new self.new }
-        ensures led { IsStanding (D.shown disk.old) pool.old self.old → IsLedTo (D.shown disk.old) pool.old self.old → IsLedTo (D.shown disk.new) pool.new self.new }
-        ensures room { IsStanding (D.shown disk.old) pool.old self.old → pending_of self.new.files ≤ pending_of self.old.files + 16 }
+        ensures table { IsStanding (D.shown disk.old) pool.old self.old → KeepsTable (D.shown disk.old) pool.old self.old (D.shown disk.new) pool.new self.new }
         ensures ready { IsReady (D.shown disk.new) pool.new self.new }
         ensures head { KeepsHead self.old self.new result }
         ensures reads { Reads (D.shown disk.old) pool.old (D.shown disk.new) pool.new }
@@ -121,7 +118,7 @@ impl VolumeState {
 }
 
 /// Whether a cut is accepted, and of which file.
-fn judge_cut<D: Disk>(
+pub(crate) fn judge_cut<D: Disk>(
     volume: &mut VolumeState,
     alloc: Global,
     pool: &mut Pool,
@@ -157,7 +154,7 @@ fn judge_cut<D: Disk>(
 }
 
 /// Whether the removal of a file is accepted, and of which file.
-fn judge_removal<D: Disk>(
+pub(crate) fn judge_removal<D: Disk>(
     volume: &mut VolumeState,
     alloc: Global,
     pool: &mut Pool,

@@ -60,6 +60,8 @@ impl<'p, 'd, 'v, 's, K: Guard, D: Disk, L: Ledger> Blocks for VolumeDrops<'p, 'd
 
     ghost told = { K.told };
 
+    ghost known = { Unit {0} };
+
     ghost reads = { λ a b. (b.pool.ghost_name ≡ a.pool.ghost_name) × (b.disk.ghost_name ≡ a.disk.ghost_name) × (b.map.ghost_name ≡ a.map.ghost_name) × (b.steps.ghost_name ≡ a.steps.ghost_name)
         × ReadsOver (lent_by a.pool.now a.map.now (D.shown a.disk.now) a.steps.now a.home 0 a.strays a.noted) (lent_by b.pool.now b.map.now (D.shown b.disk.now) b.steps.now b.home 0 b.strays b.noted) };
 

@@ -1,6 +1,9 @@
 //! Does one piece of work many times, so that a tool outside can count what it costs: `measure WORK
-//! TIMES`. It prints the work's last answer. `bench/blocks.sh` runs it.
+//! TIMES`. It prints the work's last answer. `bench/blocks.sh` and `bench/files.sh` run it.
 #![tactic(auto)]
+
+mod counted;
+mod files;
 
 ghost use Rattle.fv_codec.specs.Blocks.{IsNode};
 
@@ -35,6 +38,11 @@ fn answer_of(alloc: Global, work: &str, times: u32) -> Result<u64, AllocError> {
         "decode" => Ok(decode(times)),
         "copy" => Ok(copy(times)),
         "host" => host(alloc, times),
+        "get" => files::gets(alloc, times),
+        "cached" => files::cached_gets(alloc, times),
+        "cold" => files::cold_gets(alloc, times),
+        "look" => Ok(files::looks(times)),
+        "put" => files::puts(alloc, times),
         _ => Ok(0),
     }
 }

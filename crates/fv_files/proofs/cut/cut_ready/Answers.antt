@@ -58,6 +58,8 @@ returns-clause-changes g c =
       sound = c.rewrite.ensures.sound;
       leads = c.rewrite.ensures.leads;
       keeps = c.rewrite.ensures.keeps;
+      keeps_ready = c.rewrite.ensures.keeps_ready;
+      stored_well = c.rewrite.ensures.stored_well;
     })
 
 pub returns-in_err-count-clause-led : goal.returns-in_err-count-clause-led
@@ -74,6 +76,8 @@ returns-clause-led g c =
       sound = c.rewrite.ensures.sound;
       leads = c.rewrite.ensures.leads;
       keeps = c.rewrite.ensures.keeps;
+      keeps_ready = c.rewrite.ensures.keeps_ready;
+      stored_well = c.rewrite.ensures.stored_well;
     })
 
 pub returns-in_err-count-clause-pending : goal.returns-in_err-count-clause-pending

@@ -2,8 +2,9 @@ use Rattle.std.proofs.Common.{not, ◌≡◌, true, Err, Ok, ap, ◌∙◌}
 use Rattle.std.specs.Prelude.{is_some}
 use Rattle.std.proofs.lemmas.Result.{err_from_is_err_and}
 use Rattle.fv_files.specs.Tables.{tree_in}
-use Rattle.fv_files.proofs.Changed.{with_trees}
-use Rattle.fv_files.proofs.Laid.{lays_then}
+use Rattle.fv_files.proofs.Changed.{own_ready, with_trees}
+use Rattle.fv_files.proofs.Kept.{stored_on_blocks}
+use Rattle.fv_files.proofs.Laid.{lays_then, stores_then}
 use Rattle.fv_files.proofs.Flushed.{lays_failed, lays_astray, look_lays, look_none, strayed}
 use Rattle.fv_files.proofs.flush.flush_file.Goals as goal
 
@@ -14,7 +15,8 @@ returns-in_err-look-clause-lays g c =
     let f = c.args.files.now in
     let e = c.in_err-look.field-0.0 in
     let p = err_from_is_err_and c.from_residual.result c.from_residual.ensures.1 in
-    rw (p.1, p.2) (lays_failed g.B.Blocks.told old new f f e (look_lays g.B.Blocks.told old new f (Err e) c.in_err-look.ensures.looks))
+    rw (p.1, p.2) (lays_failed g.B.Blocks.told old new f f e (look_lays g.B.Blocks.told old new f (Err e) c.in_err-look.ensures.looks
+    (λ told sound. absurd (c.in_err-look.ensures.held told (own_ready old f c.args.number c.requires.kept sound)))))
 
 pub returns-then-is_none-clause-lays : goal.returns-then-is_none-clause-lays
 returns-then-is_none-clause-lays g c =
@@ -31,5 +33,23 @@ returns-clause-lays g c =
     let mid = g.B.Blocks.shown c.look.new.blocks in
     let new = g.B.Blocks.shown c.lay_file.new.blocks in
     let f = c.args.files.now in
-    lays_then g.B.Blocks.told old mid new f f c.lay_file.new.files c.in_ok-look.field-0 c.lay_file.result (look_lays g.B.Blocks.told old mid f (Ok c.in_ok-look.field-0) c.in_ok-look.ensures.looks)
+    lays_then g.B.Blocks.told old mid new f f c.lay_file.new.files c.in_ok-look.field-0 c.lay_file.result (look_lays g.B.Blocks.told old mid f (Ok c.in_ok-look.field-0) c.in_ok-look.ensures.looks (λ told sound. tt))
     c.lay_file.ensures.lays
+
+pub returns-in_err-look-clause-stored_well : goal.returns-in_err-look-clause-stored_well
+returns-in_err-look-clause-stored_well g c = λ told known sound led.
+    stored_on_blocks c.args.files.now (g.B.Blocks.shown c.args.blocks.now) (g.B.Blocks.shown c.look.new.blocks) c.in_err-look.ensures.looks.untouched.held
+
+pub returns-then-is_none-clause-stored_well : goal.returns-then-is_none-clause-stored_well
+returns-then-is_none-clause-stored_well g c = λ told known sound.
+    let f = c.args.files.now in
+    let there : is_some (tree_in f c.args.number) ≡ true = c.requires.kept in
+    absurd (look_none (g.B.Blocks.shown c.args.blocks.now) f c.args.number c.in_ok-look.field-0 (c.is_none.ensures ∙ ap not c.if-is_none.true) (c.in_ok-look.ensures.found told) (strayed (g.B.Blocks.shown c.args.blocks.now) f c.args.number there sound))
+
+pub returns-clause-stored_well : goal.returns-clause-stored_well
+returns-clause-stored_well g c = λ told known.
+    let old = g.B.Blocks.shown c.args.blocks.now in
+    let mid = g.B.Blocks.shown c.look.new.blocks in
+    let f = c.args.files.now in
+    stores_then g.B.Blocks.told old mid (g.B.Blocks.shown c.lay_file.new.blocks) f f c.lay_file.new.files c.in_ok-look.field-0 (look_lays g.B.Blocks.told old mid f (Ok c.in_ok-look.field-0) c.in_ok-look.ensures.looks (λ told sound. tt)) told
+    (λ sound led. stored_on_blocks f old mid c.in_ok-look.ensures.looks.untouched.held) (c.lay_file.ensures.stored_well told known)

@@ -17,6 +17,7 @@ returns-in-Some-clause-flushes g c =
         sum = set_cost c.args.trees.now (c.get_mut.follows.lender c.flush.new.self) c.args.number c.in-Some.tree.now c.flush.new.self c.in-Some.ensures.value (c.get_mut.follows.holds c.flush.new.self).0;
       };
       flushes = c.flush.ensures.flushes;
+      stored_well = c.flush.ensures.stored_well;
       strays = c.flush.ensures.strays;
       fits = c.flush.ensures.fits;
       enough = c.flush.ensures.enough;

@@ -1,6 +1,6 @@
 use Rattle.std.proofs.Common.{arith, Err, Ok}
 use Rattle.std.proofs.lemmas.Result.{err_from_is_err_and}
-use Rattle.fv_files.proofs.Laid.{lays_then}
+use Rattle.fv_files.proofs.Laid.{lays_then, stores_then}
 use Rattle.fv_files.proofs.flush.flush_trees.Goals as goal
 
 pub loop-preserved : goal.loop-preserved
@@ -8,6 +8,8 @@ loop-preserved g c =
     let was = c.loop.invariant in
     let now = c.in_ok-flush_first.ensures in record {
       lays = lays_then g.B.Blocks.told (g.B.Blocks.shown c.args.blocks.now) (g.B.Blocks.shown c.loop.blocks) (g.B.Blocks.shown c.flush_first.new.blocks) c.args.files.now c.loop.files c.flush_first.new.files tt (Ok tt) was.lays now.lays;
+      stored_well = λ told known. stores_then g.B.Blocks.told (g.B.Blocks.shown c.args.blocks.now) (g.B.Blocks.shown c.loop.blocks) (g.B.Blocks.shown c.flush_first.new.blocks) c.args.files.now c.loop.files c.flush_first.new.files tt was.lays told
+          (was.stored_well told known) (now.stored_well told known);
       count = omega (arith, now.fewer, was.count);
       calls = g.met.B.Blocks.goes_on c.args.blocks.now c.loop.blocks c.flush_first.new.blocks was.calls now.calls;
     }
@@ -18,3 +20,8 @@ returns-in_err-flush_first-clause-lays g c =
     let p = err_from_is_err_and c.from_residual.result c.from_residual.ensures.1 in
     rw (p.1, p.2) (lays_then g.B.Blocks.told (g.B.Blocks.shown c.args.blocks.now) (g.B.Blocks.shown c.loop.blocks) (g.B.Blocks.shown c.flush_first.new.blocks) c.args.files.now c.loop.files c.flush_first.new.files tt (Err e) c.loop.invariant.lays
     c.in_err-flush_first.ensures.lays)
+
+pub returns-in_err-flush_first-clause-stored_well : goal.returns-in_err-flush_first-clause-stored_well
+returns-in_err-flush_first-clause-stored_well g c = λ told known.
+    stores_then g.B.Blocks.told (g.B.Blocks.shown c.args.blocks.now) (g.B.Blocks.shown c.loop.blocks) (g.B.Blocks.shown c.flush_first.new.blocks) c.args.files.now c.loop.files c.flush_first.new.files tt c.loop.invariant.lays told
+    (c.loop.invariant.stored_well told known) (c.in_err-flush_first.ensures.stored_well told known)

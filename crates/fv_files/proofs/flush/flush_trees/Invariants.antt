@@ -1,5 +1,6 @@
 use Rattle.std.proofs.Common.{◌≡◌, ◌-◌}
 use Rattle.std.specs.BTreeMap as maps
+use Rattle.fv_files.specs.Calls.{KeepsStored}
 use Rattle.fv_files.specs.Flushing.{LaysTrees}
 use Rattle.std.specs.Prelude.{Ok}
 use Rattle.fv_files.proofs.flush.flush_trees.Given as goal
@@ -7,6 +8,7 @@ use Rattle.fv_files.proofs.flush.flush_trees.Given as goal
 abbrev pub invariant-loop : goal.invariant-loop
 invariant-loop g l = record {
   lays : LaysTrees {T = Unit {0}} g.B.Blocks.told (g.B.Blocks.shown l.fn.blocks) (g.B.Blocks.shown l.blocks) l.fn.files l.files (Ok tt);
+  stored_well : g.B.Blocks.told → g.B.Blocks.known → KeepsStored (g.B.Blocks.shown l.fn.blocks) (g.B.Blocks.shown l.blocks) l.fn.files l.files;
   count : maps.btree_map_len l.files.trees ≡ maps.btree_map_len l.fn.files.trees - l.counter;
   calls : g.B.Blocks.goes l.fn.blocks l.blocks;
 }

@@ -1,10 +1,11 @@
-use Rattle.std.proofs.Common.{Err, Ok}
+use Rattle.std.proofs.Common.{Err, Ok, ap}
+use Rattle.std.specs.Prelude.{is_some}
 use Rattle.std.proofs.lemmas.Result.{err_from_is_err_and}
 use Rattle.fv_inode.specs.Files.{rooted}
 use Rattle.fv_files.proofs.Tables.{alike}
-use Rattle.fv_files.proofs.Changed.{with_trees, with_inode}
-use Rattle.fv_files.proofs.Laid.{lays_then}
-use Rattle.fv_files.proofs.Flushed.{kept_lays, lay_done, lays_failed, ready_lays}
+use Rattle.fv_files.proofs.Changed.{own_ready, with_trees, with_inode}
+use Rattle.fv_files.proofs.Laid.{lays_then, stores_then}
+use Rattle.fv_files.proofs.Flushed.{kept_lays, kept_stores, lay_done, lay_stores, lays_failed, ready_lays, ready_stores}
 use Rattle.fv_files.proofs.flush.lay_file.Goals as goal
 
 pub returns-in_err-root-clause-lays : goal.returns-in_err-root-clause-lays
@@ -27,9 +28,35 @@ returns-in_err-set_root-clause-lays g c =
     let alters = c.in_err-set_root.ensures.alters in
     let p = err_from_is_err_and c.from_residual-in_err-set_root.result c.from_residual-in_err-set_root.ensures.1 in
     rw (p.1, p.2) (lays_then g.B.Blocks.told old mid new f two (with_inode two c.set_root.new.self) c.in_ok-root.root (Err e) (kept_lays g.B.Blocks.told old mid f c.flush_kept.new.trees c.args.number (Ok c.in_ok-root.root) c.in_ok-root.ensures.flushes)
-    (ready_lays g.B.Blocks.told mid new two c.set_root.new.self (Err e) alters (λ told. alike (rooted mid f.inode) (rooted new c.set_root.new.self) (alters.failed told)) c.in_err-set_root.ensures.still))
+    (ready_lays g.B.Blocks.told mid new two c.set_root.new.self (Err e) alters (λ told. alike (rooted mid f.inode) (rooted new c.set_root.new.self) (alters.failed told)) c.in_err-set_root.ensures.still
+    (λ told sound. c.in_err-set_root.ensures.held told (own_ready mid two c.args.number (ap is_some c.in_ok-root.ensures.flushes.becomes.now) sound))))
 
 pub returns-clause-lays : goal.returns-clause-lays
 returns-clause-lays g c =
     lay_done g.B.Blocks.told (g.B.Blocks.shown c.args.blocks.now) (g.B.Blocks.shown c.flush_kept.new.blocks) (g.B.Blocks.shown c.set_root.new.blocks) c.args.files.now c.flush_kept.new.trees c.forget.new.trees c.set_root.new.self c.args.number c.kept_levels-levels.result c.in_ok-root.root
     c.in_ok-root.ensures.flushes c.kept_levels-levels.ensures.levels c.in_ok-set_root.ensures.alters c.in_ok-set_root.ensures.set c.in_ok-set_root.ensures.pending c.forget.ensures.gone c.forget.ensures.cost
+
+pub returns-in_err-root-clause-stored_well : goal.returns-in_err-root-clause-stored_well
+returns-in_err-root-clause-stored_well g c = λ told known.
+    kept_stores g.B.Blocks.told (g.B.Blocks.shown c.args.blocks.now) (g.B.Blocks.shown c.flush_kept.new.blocks) c.args.files.now c.flush_kept.new.trees c.args.number (Err c.in_err-root.field-0.0) c.in_err-root.ensures.flushes told
+    (c.in_err-root.ensures.places known)
+
+pub returns-in_err-set_root-clause-stored_well : goal.returns-in_err-set_root-clause-stored_well
+returns-in_err-set_root-clause-stored_well g c = λ told known.
+    let old = g.B.Blocks.shown c.args.blocks.now in
+    let mid = g.B.Blocks.shown c.flush_kept.new.blocks in
+    let new = g.B.Blocks.shown c.set_root.new.blocks in
+    let f = c.args.files.now in
+    let two = with_trees f c.flush_kept.new.trees in
+    let e = c.in_err-set_root.field-0.0 in
+    let kept = c.in_ok-root.ensures.flushes in
+    let alters = c.in_err-set_root.ensures.alters in
+    stores_then g.B.Blocks.told old mid new f two (with_inode two c.set_root.new.self) c.in_ok-root.root (kept_lays g.B.Blocks.told old mid f c.flush_kept.new.trees c.args.number (Ok c.in_ok-root.root) kept) told
+    (kept_stores g.B.Blocks.told old mid f c.flush_kept.new.trees c.args.number (Ok c.in_ok-root.root) kept told (c.in_ok-root.ensures.places known))
+    (ready_stores g.B.Blocks.told mid new two c.set_root.new.self (Err e) alters (λ told. alike (rooted mid f.inode) (rooted new c.set_root.new.self) (alters.failed told)) c.in_err-set_root.ensures.still
+    (λ told sound. c.in_err-set_root.ensures.held told (own_ready mid two c.args.number (ap is_some kept.becomes.now) sound)) told)
+
+pub returns-clause-stored_well : goal.returns-clause-stored_well
+returns-clause-stored_well g c = λ told known.
+    lay_stores g.B.Blocks.told (g.B.Blocks.shown c.args.blocks.now) (g.B.Blocks.shown c.flush_kept.new.blocks) (g.B.Blocks.shown c.set_root.new.blocks) c.args.files.now c.flush_kept.new.trees c.forget.new.trees c.set_root.new.self c.args.number c.kept_levels-levels.result c.in_ok-root.root
+    c.in_ok-root.ensures.flushes c.kept_levels-levels.ensures.levels c.in_ok-set_root.ensures.alters c.in_ok-set_root.ensures.set c.in_ok-set_root.ensures.pending c.forget.ensures.gone c.forget.ensures.cost told (c.in_ok-root.ensures.places known)

@@ -33,7 +33,7 @@ returns-clause-counted g c = λ told sound.
 pub returns-clause-changes : goal.returns-clause-changes
 returns-clause-changes g c =
     remove_done g.B.Blocks.told (g.B.Blocks.goes c.args.blocks.now c.cut_kept.new.blocks) (g.B.Blocks.goes c.cut_kept.new.blocks c.erase-inode.new.blocks) (g.B.Blocks.shown c.args.blocks.now) (g.B.Blocks.shown c.cut_kept.new.blocks) (g.B.Blocks.shown c.erase-inode.new.blocks)
-    c.args.files.now c.cut_kept.new.trees c.forget.new.trees c.erase-inode.new.self c.args.info.now.number c.least_levels-start.result c.args.stamp c.in_ok-own.own c.erase-inode.result c.in_ok-own.ensures c.erase-inode.ensures.takes c.forget.ensures.gone _
+    c.args.files.now c.cut_kept.new.trees c.forget.new.trees c.erase-inode.new.self c.args.info.now.number c.least_levels-start.result c.args.stamp c.in_ok-own.own c.erase-inode.result c.in_ok-own.ensures c.erase-inode.ensures.takes c.forget.ensures.gone _ c.erase-inode.ensures.others_ready
 
 pub returns-in_err-own-clause-led : goal.returns-in_err-own-clause-led
 returns-in_err-own-clause-led g c = λ told now well.

@@ -21,6 +21,7 @@ returns-in-Some-clause-puts g c =
       stands = c.put.ensures.stands;
       leads = c.put.ensures.leads;
       keeps = c.put.ensures.keeps;
+      stored_well = c.put.ensures.stored_well;
       pending = c.put.ensures.pending;
       failed = c.put.ensures.failed;
       untouched = c.put.ensures.untouched;

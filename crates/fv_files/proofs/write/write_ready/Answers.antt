@@ -31,6 +31,8 @@ returns-clause-changes g c =
       sound = c.rewrite.ensures.sound;
       leads = c.rewrite.ensures.leads;
       keeps = c.rewrite.ensures.keeps;
+      keeps_ready = c.rewrite.ensures.keeps_ready;
+      stored_well = c.rewrite.ensures.stored_well;
     })
 
 pub returns-in_err-put_kept-clause-led : goal.returns-in_err-put_kept-clause-led
@@ -48,6 +50,8 @@ returns-clause-led g c =
       sound = c.rewrite.ensures.sound;
       leads = c.rewrite.ensures.leads;
       keeps = c.rewrite.ensures.keeps;
+      keeps_ready = c.rewrite.ensures.keeps_ready;
+      stored_well = c.rewrite.ensures.stored_well;
     })
 
 pub returns-in_err-put_kept-clause-pending : goal.returns-in_err-put_kept-clause-pending

@@ -14,7 +14,7 @@ returns-in_err-there-clause-alters g c =
     let new = g.B.Blocks.shown c.ready.new.blocks in
     let p = err_from_is_err_and c.from_residual.result c.from_residual.ensures.1 in
     rw (p.1, p.2) (alters_failed g.B.Blocks.told c.args.tree.now c.ready.new.self old new c.in_err-there.field-0.0
-    (alters_at g.B.Blocks.told c.args.tree.now c.ready.new.self old new (Err c.in_err-there.field-0.0) (λ told. did.remains told) did.owner did.stands did.leads did.keeps did.untouched did.counts did.cause))
+    (alters_at g.B.Blocks.told c.args.tree.now c.ready.new.self old new (Err c.in_err-there.field-0.0) (λ told. did.remains told) did.owner did.stands did.leads did.keeps did.stored_well did.keeps_ready did.untouched did.counts did.cause))
 
 pub returns-then-not-there-clause-there : goal.returns-then-not-there-clause-there
 returns-then-not-there-clause-there g c = λ told.
@@ -26,7 +26,7 @@ returns-then-not-there-clause-alters g c =
     let old = g.B.Blocks.shown c.args.blocks.now in
     let new = g.B.Blocks.shown c.ready.new.blocks in
     alters_done g.B.Blocks.told c.args.tree.now c.ready.new.self old new c.in_ok-there.there _
-    (alters_at g.B.Blocks.told c.args.tree.now c.ready.new.self old new (Ok c.in_ok-there.there) (λ told. tt) did.owner did.stands did.leads did.keeps did.untouched did.counts did.cause)
+    (alters_at g.B.Blocks.told c.args.tree.now c.ready.new.self old new (Ok c.in_ok-there.there) (λ told. tt) did.owner did.stands did.leads did.keeps did.stored_well did.keeps_ready did.untouched did.counts did.cause)
 
 pub returns-clause-ready : goal.returns-clause-ready
 returns-clause-ready g c = λ yes.
@@ -44,4 +44,4 @@ returns-clause-alters g c =
     let old = g.B.Blocks.shown c.args.blocks.now in
     let new = g.B.Blocks.shown c.ready.new.blocks in
     alters_done g.B.Blocks.told c.args.tree.now c.ready.new.self old new c.in_ok-there.there _
-    (alters_at g.B.Blocks.told c.args.tree.now c.ready.new.self old new (Ok c.in_ok-there.there) (λ told. tt) did.owner did.stands did.leads did.keeps did.untouched did.counts did.cause)
+    (alters_at g.B.Blocks.told c.args.tree.now c.ready.new.self old new (Ok c.in_ok-there.there) (λ told. tt) did.owner did.stands did.leads did.keeps did.stored_well did.keeps_ready did.untouched did.counts did.cause)

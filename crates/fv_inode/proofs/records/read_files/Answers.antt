@@ -8,6 +8,8 @@ use Rattle.fv_tree.specs.Standing.{standing, under}
 use Rattle.fv_inode.specs.Files.{blank_record}
 use Rattle.fv_inode.proofs.Looked.{looks_self, looks_done, looks_judged}
 use Rattle.fv_inode.proofs.Slots.{no_cell, no_way, none_are, none_used, records_are, blank_fits}
+use Rattle.fv_tree.specs.Readying.{IsReady}
+use Rattle.fv_inode.proofs.Readied.{has_shape, is_refuted}
 use Rattle.fv_inode.proofs.records.read_files.Goals as goal
 
 pub returns-then-cell-cells-clause-files : goal.returns-then-cell-cells-clause-files
@@ -52,3 +54,11 @@ returns-in-Some-clause-looks g c =
     let read = c.in_ok-read.ensures in
     looks_judged g.B.Blocks.told (standing (under old) c.args.tree.now) old (g.B.Blocks.shown c.read.new.blocks) c.files_of.result c.args.cell c.in-Some.at c.read.new.into read.untouched read.counts.calm
     (λ told. read.cell told ∙ ap (option_map (λ (place : ℕ). c.read.new.into)) c.in-Some.is) (λ told. read.place told c.in-Some.at c.in-Some.is) c.files_of.ensures.damage
+
+pub returns-in_err-read-clause-held : goal.returns-in_err-read-clause-held
+returns-in_err-read-clause-held g c = λ told n at holds. absurd (c.in_err-read.ensures.held (subst (IsReady c.args.tree.now) at holds.way))
+
+pub returns-in-Some-clause-held : goal.returns-in-Some-clause-held
+returns-in-Some-clause-held g c = λ told n at holds.
+    is_refuted c.files_of.result _ c.files_of.ensures.damage
+    (λ e bad. has_shape (under (g.B.Blocks.shown c.args.blocks.now)) c.args.tree.now n c.args.cell c.read.new.into bad.0 at holds (c.in_ok-read.ensures.cell told ∙ ap (option_map (λ (place : ℕ). c.read.new.into)) c.in-Some.is) bad.1)

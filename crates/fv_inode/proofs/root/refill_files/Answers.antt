@@ -17,7 +17,7 @@ returns-clause-alters g c =
     let old = g.B.Blocks.shown c.args.blocks.now in
     let new = g.B.Blocks.shown c.refill.new.blocks in
     alters_done g.B.Blocks.told c.args.tree.now c.refill.new.self old new c.in_ok-refill.field-0 _
-    (alters_at g.B.Blocks.told c.args.tree.now c.refill.new.self old new (Ok c.in_ok-refill.field-0) did.failed did.owner did.stands did.leads did.keeps did.untouched did.counts did.cause)
+    (alters_at g.B.Blocks.told c.args.tree.now c.refill.new.self old new (Ok c.in_ok-refill.field-0) did.failed did.owner did.stands did.leads did.keeps did.stored_well did.keeps_ready did.untouched did.counts did.cause)
 
 pub returns-in_err-refill-clause-alters : goal.returns-in_err-refill-clause-alters
 returns-in_err-refill-clause-alters g c =
@@ -26,4 +26,4 @@ returns-in_err-refill-clause-alters g c =
     let new = g.B.Blocks.shown c.refill.new.blocks in
     let p = err_from_is_err_and c.from_residual.result c.from_residual.ensures.1 in
     rw (p.1, p.2) (alters_failed g.B.Blocks.told c.args.tree.now c.refill.new.self old new c.in_err-refill.field-0.0
-    (alters_at g.B.Blocks.told c.args.tree.now c.refill.new.self old new _ did.failed did.owner did.stands did.leads did.keeps did.untouched did.counts did.cause))
+    (alters_at g.B.Blocks.told c.args.tree.now c.refill.new.self old new _ did.failed did.owner did.stands did.leads did.keeps did.stored_well did.keeps_ready did.untouched did.counts did.cause))

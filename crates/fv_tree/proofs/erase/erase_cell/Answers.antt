@@ -4,6 +4,8 @@ use Rattle.fv_tree.specs.Counting.{positions_of}
 use Rattle.fv_tree.proofs.Counts.{count_goes}
 use Rattle.fv_tree.proofs.Released.{released_as}
 use Rattle.fv_tree.proofs.Single.{one_goes, one_dropped, one_named, named_once}
+use Rattle.fv_tree.proofs.OthersReady.{other_ready}
+use Rattle.fv_tree.proofs.Readied.{has_way}
 use Rattle.fv_tree.proofs.erase.erase_cell.Goals as goal
 
 pub returns-clause-goes : goal.returns-clause-goes
@@ -33,3 +35,8 @@ returns-clause-count g c = λ way held stands.
 
 pub returns-clause-few : goal.returns-clause-few
 returns-clause-few g c = let few = c.bare_levels-lost.ensures.few in let most = c.args.tree.now.few in omega (arith, few, most)
+
+pub returns-clause-others_ready : goal.returns-clause-others_ready
+returns-clause-others_ready g c = λ ready j differs other.
+    other_ready c.args.tree.now c.unlink.new.tree c.args.index j c.bare_levels-lost.result c.args.start c.args.stamp ready other differs c.bare_levels-lost.ensures
+    (c.unlink.ensures.unlinks (has_way c.args.tree.now c.args.index ready.way)) (λ e. absurd (omega (arith, e, c.requires.stamp)))

@@ -31,6 +31,7 @@ loop-preserved g c =
       left = record { owner = now.left.owner ∙ was.left.owner; levels = now.left.levels ∙ was.left.levels };
       count = omega (arith, now.fewer, was.count);
       calm = calm_then old mid new was.calm now.counts.calm;
+      places = λ known has. now.places known (was.places known has);
       calls = g.met.B.Blocks.goes_on c.args.blocks.now c.loop.blocks c.flush_first_cell.new.blocks was.calls now.calls;
     }
 

@@ -2,6 +2,7 @@ use Rattle.std.proofs.Common.{◌≡◌, ◌-◌}
 use Rattle.std.specs.BTreeMap as maps
 use Rattle.fv_tree.specs.Sources.{IsCalm}
 use Rattle.fv_tree.specs.Flushing.{loaded, Flushes, IsLeft, Stands}
+use Rattle.fv_tree.specs.Stored.{KeepsPlaces}
 use Rattle.fv_tree.specs.Costs.{Fits}
 use Rattle.fv_tree.proofs.flush.flush_cells.Given as goal
 
@@ -14,5 +15,6 @@ invariant-loop g l = record {
   left : IsLeft l.fn.tree l.tree;
   count : maps.btree_map_len l.tree.cells ≡ maps.btree_map_len l.fn.tree.cells - l.counter;
   calm : IsCalm (g.B.Blocks.shown l.fn.blocks) (g.B.Blocks.shown l.blocks);
+  places : g.B.Blocks.known → KeepsPlaces (g.B.Blocks.shown l.fn.blocks) (g.B.Blocks.shown l.blocks);
   calls : g.B.Blocks.goes l.fn.blocks l.blocks;
 }

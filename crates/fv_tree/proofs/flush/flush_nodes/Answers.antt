@@ -32,6 +32,7 @@ loop-preserved g c =
       count = omega (arith, now.fewer, was.count);
       cells = now.cells ∙ was.cells;
       calm = calm_then old mid new was.calm now.counts.calm;
+      places = λ known has. now.places known (was.places known has);
       calls = g.met.B.Blocks.goes_on c.args.blocks.now c.loop.blocks c.flush_first_node.new.blocks was.calls now.calls;
     }
 

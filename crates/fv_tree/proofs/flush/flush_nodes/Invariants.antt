@@ -2,6 +2,7 @@ use Rattle.std.proofs.Common.{◌≡◌, ◌-◌}
 use Rattle.std.specs.BTreeMap as maps
 use Rattle.fv_tree.specs.Sources.{IsCalm}
 use Rattle.fv_tree.specs.Flushing.{loaded, Flushes, IsLeft, Stands}
+use Rattle.fv_tree.specs.Stored.{KeepsPlaces}
 use Rattle.fv_tree.specs.Costs.{Fits}
 use Rattle.fv_tree.proofs.flush.flush_nodes.Given as goal
 
@@ -15,5 +16,6 @@ invariant-loop g l = record {
   count : maps.btree_map_len l.tree.nodes ≡ maps.btree_map_len l.fn.tree.nodes - l.counter;
   cells : l.tree.cells ≡ l.fn.tree.cells;
   calm : IsCalm (g.B.Blocks.shown l.fn.blocks) (g.B.Blocks.shown l.blocks);
+  places : g.B.Blocks.known → KeepsPlaces (g.B.Blocks.shown l.fn.blocks) (g.B.Blocks.shown l.blocks);
   calls : g.B.Blocks.goes l.fn.blocks l.blocks;
 }

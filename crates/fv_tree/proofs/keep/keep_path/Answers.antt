@@ -14,6 +14,7 @@ use Rattle.fv_tree.proofs.Brought.{blank_unplaced, brings_stands}
 use Rattle.fv_tree.proofs.Held.{but_then, at_root, same_self, kept_from}
 use Rattle.fv_tree.proofs.Leading.{carries_same, carries_then}
 use Rattle.fv_tree.proofs.Readied.{pointer_as, pointer_top}
+use Rattle.fv_tree.proofs.StillReady.{node_there, ready_then}
 use Rattle.fv_tree.proofs.Ways.{same_then}
 use Rattle.fv_tree.specs.Sources.{Shown}
 use Rattle.std.proofs.lemmas.Result.{err_from_is_err_and}
@@ -32,6 +33,9 @@ loop-level-init g c =
           let first : c.args.index / fan ^ k ≡ 0 = (λ j. c.args.index / fan ^ at j) ∙ div-eq_of_lt c.requires.index in
           λ none. some (ap (λ (p : Pointer). p.stamp) (sym (pointer_top c.args.tree.now k (c.args.index / fan ^ k) at first)) ∙ none);
       changes = omega arith;
+      keeps_ready = λ _ ready. ready;
+      here = sym (pointer_top c.args.tree.now c.args.tree.now.levels (c.args.index / fan ^ c.args.tree.now.levels) refl (div-eq_of_lt c.requires.index));
+      below = λ _ _ _. refl;
       fields = record { owner = refl; levels = refl; root = refl; cells = refl };
       stands = λ _ stands. stands;
       same = λ _. same_self t;
@@ -63,6 +67,9 @@ loop-level-preserved g c =
             (ap (λ (p : Pointer). p.stamp) (sym (pointer_as c.loop-level.tree c.keep_step.new.tree k (c.args.index / fan ^ k) now.fields.levels now.fields.root (λ _. now.others (k + 1) (c.args.index / fan ^ k / fan) (let apart : k + 1 ≢ c.loop-level.level = λ e. absurd (omega (arith, e, low, differs)) in apart)))) ∙ none)
       ];
       changes = omega (arith, was.changes, now.changes);
+      keeps_ready = ready_then c.args.tree.now c.loop-level.tree c.keep_step.new.tree was.keeps_ready (now.keeps_ready was.here);
+      here = sym now.child;
+      below = λ k place le. let differs : k ≢ c.loop-level.level = λ e. absurd (omega (arith, e, le)) in now.others k place differs ∙ was.below k place (omega (arith, le));
       fields = but_then c.args.tree.now c.loop-level.tree c.keep_step.new.tree was.fields now.fields;
       stands = λ told stands. brings_stands (g.B.Blocks.shown c.loop-level.blocks) (g.B.Blocks.shown c.keep_step.new.blocks) c.loop-level.tree c.keep_step.new.tree c.loop-level.level (c.args.index / fan ^ c.loop-level.level) (omega arith) now.untouched.held now.untouched.used now.fields (now.same told)
           (subst (Brings (under (g.B.Blocks.shown c.loop-level.blocks)) c.loop-level.tree c.keep_step.new.tree c.loop-level.level (c.args.index / fan ^ c.loop-level.level)) (was.pointer told) (now.brings told)) (was.stands told stands);
@@ -105,3 +112,17 @@ returns-in_err-pointer-clause-cause g c =
     let p = err_from_is_err_and c.from_residual.result c.from_residual.ensures.1 in
     rw (p.1, p.2) (fails_later g.B.Blocks.told (standing (under old) c.args.tree.now) old mid new c.in_err-pointer.field-0.0 was.calm was.untouched.held
     (fails_same g.B.Blocks.told (standing (under old) c.args.tree.now) (standing (under mid) c.loop-level.tree) mid new c.in_err-pointer.field-0.0 was.same c.in_err-pointer.ensures.cause))
+
+pub returns-in_err-pointer-clause-keeps_ready : goal.returns-in_err-pointer-clause-keeps_ready
+returns-in_err-pointer-clause-keeps_ready g c =
+    let was = c.loop-level.invariant in
+    ready_then c.args.tree.now c.loop-level.tree c.keep_step.new.tree was.keeps_ready (c.keep_step.ensures.keeps_ready was.here)
+
+pub returns-in_err-pointer-clause-held : goal.returns-in_err-pointer-clause-held
+returns-in_err-pointer-clause-held g c = λ way.
+    let was = c.loop-level.invariant in
+    let level = c.loop-level.level in
+    let place = c.args.index / fan ^ level in
+    let node = way level (omega arith) (omega (arith, was.high)) in
+    let p = err_from_is_err_and c.from_residual.result c.from_residual.ensures.1 in
+    rw (p.1, p.2) (c.in_err-pointer.ensures.held (node_there c.loop-level.tree level place node.0 (was.below level place (omega arith) ∙ node.1)))

@@ -4,7 +4,8 @@ use Rattle.fv_tree.specs.Spelled.{pointer_at}
 use Rattle.fv_tree.specs.Releasing.{KeepsBlocks}
 use Rattle.fv_tree.specs.Keeping.{IsKept, IsSame}
 use Rattle.fv_tree.specs.Sources.{IsCalm, IsUntouched}
-use Rattle.fv_tree.specs.Standing.{standing, under, IsSameBut}
+use Rattle.fv_tree.specs.Standing.{standing, under, node_in, IsSameBut}
+use Rattle.fv_tree.specs.Readying.{KeepsReady}
 use Rattle.fv_tree.specs.Flushing.{placed_in, pointer_in, Stands}
 use Rattle.fv_tree.specs.Costs.{changes_in}
 use Rattle.fv_tree.proofs.keep.keep_path.Given as goal
@@ -16,6 +17,9 @@ invariant-loop-level g l = record {
   kept : g.B.Blocks.told → (k : ℕ) → l.level < k → k ≤ l.fn.tree.levels → IsKept (standing (under (g.B.Blocks.shown l.blocks)) l.tree) k (l.index / fan ^ k);
   unplaced : g.B.Blocks.told → (k : ℕ) → l.level < k → k ≤ l.fn.tree.levels → (pointer_at (standing (under (g.B.Blocks.shown l.fn.blocks)) l.fn.tree) k (l.index / fan ^ k)).stamp ≡ 0 → placed_in l.tree.nodes k (l.index / fan ^ k) ≡ false;
   changes : changes_in l.tree.nodes ≤ changes_in l.fn.tree.nodes;
+  keeps_ready : KeepsReady l.fn.tree l.tree;
+  here : l.pointer ≡ pointer_in l.tree l.level (l.index / fan ^ l.level);
+  below : (k place : ℕ) → k ≤ l.level → node_in l.tree k place ≡ node_in l.fn.tree k place;
   fields : IsSameBut l.fn.tree l.tree;
   way : l.pointer.stamp ≢ 0 → (k : ℕ) → l.level ≤ k → k ≤ l.fn.tree.levels → (pointer_in l.tree k (l.index / fan ^ k)).stamp ≢ 0;
   stands : g.B.Blocks.told → Stands (g.B.Blocks.shown l.fn.blocks) l.fn.tree → Stands (g.B.Blocks.shown l.blocks) l.tree;

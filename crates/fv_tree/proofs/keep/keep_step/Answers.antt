@@ -7,11 +7,12 @@ use Rattle.fv_model.specs.Trees.{fan}
 use Rattle.fv_tree.specs.Spelled.{Rooted, hole, pointers_at, pointer_at}
 use Rattle.fv_tree.specs.Carried.{kept_at, IsBlank}
 use Rattle.fv_tree.specs.Keeping.{Keeps, IsSame}
-use Rattle.fv_tree.specs.Flushing.{child_of}
+use Rattle.fv_tree.specs.Flushing.{child_of, pointer_in}
 use Rattle.fv_tree.specs.Standing.{standing, under, node_in}
 use Rattle.fv_tree.proofs.Below.{range_above}
 use Rattle.fv_tree.proofs.Held.{next_pointer, now_kept}
 use Rattle.fv_tree.proofs.Readied.{pointer_low}
+use Rattle.fv_tree.proofs.StillReady.{step_ready}
 use Rattle.fv_tree.proofs.Brought.{leads_on}
 use Rattle.fv_tree.proofs.Released.{keeps_brought}
 use Rattle.fv_tree.proofs.Ways.{keeps_same}
@@ -93,3 +94,17 @@ returns-clause-child g c =
     pointer_low u k (i / fan ^ k) (let same = c.keep_node.ensures.fields.levels in let high = c.requires.high in omega (arith, n, same, high))
     ∙ ap (λ (o : Option (List Pointer)). child_of o (i / fan ^ k % fan)) node
     ∙ ap (λ w. get_or c.in_ok-children.children (i / w % fan) hole) (sym c.width-2.ensures.is)
+
+pub returns-clause-keeps_ready : goal.returns-clause-keeps_ready
+returns-clause-keeps_ready g c = λ here.
+    let t = c.args.tree.now in
+    let place : c.args.index / c.width.result ≡ c.args.index / fan ^ c.args.level = ap (λ w. c.args.index / w) c.width.ensures.is in
+    step_ready t c.keep_node.new.tree c.args.level (c.args.index / c.width.result) c.keep_node.ensures.fields c.keep_node.ensures.others
+    (λ some there. c.keep_node.ensures.stays (λ none. some ((λ j. (pointer_in t c.args.level (place j)).stamp) ∙ ap (λ (p : Pointer). p.stamp) (sym here) ∙ none)) there)
+
+pub returns-in_err-children-clause-keeps_ready : goal.returns-in_err-children-clause-keeps_ready
+returns-in_err-children-clause-keeps_ready g c = λ here.
+    let t = c.args.tree.now in
+    let place : c.args.index / c.width.result ≡ c.args.index / fan ^ c.args.level = ap (λ w. c.args.index / w) c.width.ensures.is in
+    step_ready t c.keep_node.new.tree c.args.level (c.args.index / c.width.result) c.keep_node.ensures.fields c.keep_node.ensures.others
+    (λ some there. c.keep_node.ensures.stays (λ none. some ((λ j. (pointer_in t c.args.level (place j)).stamp) ∙ ap (λ (p : Pointer). p.stamp) (sym here) ∙ none)) there)

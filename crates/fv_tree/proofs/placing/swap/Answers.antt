@@ -1,5 +1,6 @@
 use Rattle.std.proofs.Common.{subst, sym}
 use Rattle.fv_tree.specs.Sources.{Shown}
+use Rattle.fv_tree.proofs.Known.{places_swapped}
 use Rattle.fv_tree.proofs.Swapped.{IsPlacedAt, swapped}
 use Rattle.fv_tree.proofs.placing.swap.Goals as goal
 
@@ -18,3 +19,9 @@ returns-clause-swaps g c = λ told.
     swapped old mid new c.args.kind c.args.block.now c.args.placed c.args.known c.args.old.now.vvbn c.in_ok-at.at.pvbn c.pointer_to.result
     (subst (λ v. IsPlacedAt old c.args.kind c.args.block.now v c.in_ok-at.at.pvbn mid) (sym c.pointer_to.ensures.vvbn) at) c.pointer_to.ensures.known c.pointer_to.ensures.unknown
     c.name_gone.ensures.gone c.name_gone.ensures.untouched
+
+pub returns-clause-places : goal.returns-clause-places
+returns-clause-places g c = λ known.
+    let at = c.in_ok-at.ensures in
+    places_swapped (g.B.Blocks.shown c.args.blocks.now) (g.B.Blocks.shown c.place.new.self) (g.B.Blocks.shown c.name_gone.new.blocks) c.in_ok-at.at.vvbn (record { pvbn = c.in_ok-at.at.pvbn; kind = c.args.kind }) c.args.old.now.vvbn c.args.placed
+    (at.known known) at.places.used c.name_gone.ensures.gone c.name_gone.ensures.untouched

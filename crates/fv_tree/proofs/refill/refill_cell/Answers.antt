@@ -1,4 +1,5 @@
 use Rattle.std.proofs.Common.{◌≡◌, ◌≤◌, ◌<◌, ◌/◌, ◌^◌, ℕ, true, false, Option, Some, None, is_some, refl, sym, ap, subst, ◌∙◌, arith}
+use Rattle.std.proofs.lemmas.Result.{err_from_is_err_and}
 use Rattle.std.specs.BTreeMap as tree
 use Rattle.std.specs.Ordering.{nat_cmp}
 use Rattle.std.specs.Option.{option_map}
@@ -21,6 +22,7 @@ use Rattle.fv_tree.proofs.Ready.{cell_kept, cell_pointers, cell_there}
 use Rattle.fv_tree.proofs.Refilled.{refilled_none, refilled_is, remarked_is}
 use Rattle.fv_tree.proofs.Readied.{filled_way, has_way, way_as}
 use Rattle.fv_tree.proofs.Removing.{none_past}
+use Rattle.fv_tree.proofs.StillReady.{cells_put, cells_same, marks_ready, ready_then}
 use Rattle.fv_tree.proofs.Within.{carries_within}
 use Rattle.fv_tree.proofs.Writes.{same_alike, same_standing}
 use Rattle.fv_tree.proofs.refill.refill_cell.Goals as goal
@@ -120,3 +122,23 @@ returns-clause-carries g c = λ told.
     (λ none. there (ap (λ (p : Pointer). p.stamp) (sym (cell_pointers (under new) v w i true cell.fields cell.own cell.others 0 i)) ∙ none))
     (λ level low high. cell_kept (under new) v w i true cell.fields cell.own cell.others level (path.kept told level low (omega (arith, high, levels))))
     (cell_there v w i c.args.block.now cell.cell)))
+
+pub returns-in_err-keep_cell-clause-keeps_ready : goal.returns-in_err-keep_cell-clause-keeps_ready
+returns-in_err-keep_cell-clause-keeps_ready g c =
+    ready_then c.args.tree.now c.keep_path.new.tree c.keep_cell.new.tree c.keep_path.ensures.keeps_ready
+    (cells_same c.keep_path.new.tree c.keep_cell.new.tree c.keep_cell.ensures.fields c.in_err-keep_cell.ensures.failed)
+
+pub returns-clause-keeps_ready : goal.returns-clause-keeps_ready
+returns-clause-keeps_ready g c =
+    let v = c.keep_path.new.tree in
+    let w = c.keep_cell.new.tree in
+    let u = c.mark_path.new.tree in
+    let marked = c.mark_path.ensures in
+    ready_then c.args.tree.now v u c.keep_path.ensures.keeps_ready (ready_then v w u
+    (cells_put v w c.args.index c.args.block.now c.keep_cell.ensures.fields c.in_ok-keep_cell.ensures.cell)
+    (marks_ready w u c.args.index marked.fields marked.nodes marked.marks))
+
+pub returns-in_err-pointer-clause-held : goal.returns-in_err-pointer-clause-held
+returns-in_err-pointer-clause-held g c = λ ready.
+    let p = err_from_is_err_and c.from_residual.result c.from_residual.ensures.1 in
+    rw (p.1, p.2) (c.in_err-pointer.ensures.held (has_way c.args.tree.now c.args.index ready.way))

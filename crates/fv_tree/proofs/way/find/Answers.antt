@@ -1,4 +1,4 @@
-use Rattle.std.proofs.Common.{rules, ◌≡◌, ◌/◌, ◌^◌, refl, subst, arith}
+use Rattle.std.proofs.Common.{rules, ◌≡◌, ◌/◌, ◌^◌, is_some, ap, refl, subst, arith}
 use Rattle.fv_model.specs.Trees.{fan}
 use Rattle.fv_tree.specs.Costs.{place_cost}
 use Rattle.fv_tree.specs.Standing.{standing, under, Fails}
@@ -62,3 +62,9 @@ returns-clause-spent g c = λ told.
     let last = cost_last old.cost (standing (under old) c.args.tree.now) c.args.index c.loop-level.level (omega arith) in
     let was = c.loop-level.invariant.spent told in
     omega (arith, last, was)
+
+pub returns-in_err-pointer-clause-held : goal.returns-in_err-pointer-clause-held
+returns-in_err-pointer-clause-held g c = λ way.
+    let level = c.loop-level.level in
+    let node = way level (omega arith) (let high = c.loop-level.invariant.high in omega (arith, high)) in
+    absurd (c.in_err-pointer.ensures.held (ap is_some node.1))

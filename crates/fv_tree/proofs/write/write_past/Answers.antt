@@ -10,10 +10,12 @@ use Rattle.fv_tree.specs.Standing.{standing, cell_in, IsSameButCells}
 use Rattle.fv_tree.specs.Writing.{IsAlike, HasNewLevels}
 use Rattle.fv_tree.proofs.Causes.{at_err}
 use Rattle.fv_tree.specs.Flushing.{loaded_over, changed_in}
-use Rattle.fv_tree.specs.Leading.{LeadsNoMore}
-use Rattle.fv_tree.proofs.Grows.{grows_sound, grows_leads, grows_keeps}
+use Rattle.fv_tree.specs.Leading.{KeepsHints, LeadsNoMore}
+use Rattle.fv_tree.proofs.Grows.{grows_hints, grows_sound, grows_leads, grows_keeps, grows_ready}
+use Rattle.fv_tree.proofs.GrownReady.{ungrown_ready}
+use Rattle.fv_tree.proofs.StillReady.{cells_same, ready_then}
 use Rattle.fv_tree.proofs.Ready.{cells_again, cells_loaded}
-use Rattle.fv_tree.proofs.Ungrown.{still_sound, still_leads, still_keeps}
+use Rattle.fv_tree.proofs.Ungrown.{still_hints, still_sound, still_leads, still_keeps}
 use Rattle.fv_tree.proofs.Past.{Raises, past_base}
 use Rattle.fv_tree.proofs.Steps.{stamps_way, stamped_cells, moved}
 use Rattle.fv_tree.proofs.Writes.{same_alike, same_standing, hidden_same, levels_grow, written_is}
@@ -162,3 +164,44 @@ returns-clause-pending c =
           let most = grown.changes in
           omega (arith, few, rises, cells, before, same, one, least, most, lt)
     ]
+
+pub returns-in_err-keep_new_levels-clause-keeps_ready : goal.returns-in_err-keep_new_levels-clause-keeps_ready
+returns-in_err-keep_new_levels-clause-keeps_ready c =
+    ungrown_ready c.args.tree.now c.keep_new_levels.new.tree c.args.index c.requires.past c.keep_new_levels.ensures.fields c.keep_new_levels.ensures.brings
+
+pub returns-in_err-keep_cell-clause-keeps_ready : goal.returns-in_err-keep_cell-clause-keeps_ready
+returns-in_err-keep_cell-clause-keeps_ready c =
+    ready_then c.args.tree.now c.keep_new_levels.new.tree c.keep_cell.new.tree
+    (ungrown_ready c.args.tree.now c.keep_new_levels.new.tree c.args.index c.requires.past c.keep_new_levels.ensures.fields c.keep_new_levels.ensures.brings)
+    (cells_same c.keep_new_levels.new.tree c.keep_cell.new.tree c.keep_cell.ensures.fields c.in_err-keep_cell.ensures.failed)
+
+pub returns-clause-keeps_ready : goal.returns-clause-keeps_ready
+returns-clause-keeps_ready c =
+    let grown = c.in_ok-keep_new_levels.ensures in
+    let cell = c.in_ok-keep_cell.ensures in
+    grows_ready c.args.tree.now c.keep_new_levels.new.tree c.keep_cell.new.tree c.raise.new.tree c.stamp_path.new.tree c.args.index c.args.stamp c.levels_over-levels.result c.args.block.now
+    c.requires.past c.levels_over-levels.ensures.least c.levels_over-levels.ensures.covers grown.fields grown.grows grown.brings grown.blank grown.tops cell.fields cell.cell cell.own cell.others
+    c.raise.ensures.owner c.raise.ensures.nodes c.raise.ensures.cells c.raise.ensures.levels c.raise.ensures.root c.stamp_path.ensures.stamps c.stamp_path.ensures.marks c.requires.stamp
+
+pub returns-in_err-keep_new_levels-clause-hints : goal.returns-in_err-keep_new_levels-clause-hints
+returns-in_err-keep_new_levels-clause-hints c = λ blocks.
+    let fields = c.keep_new_levels.ensures.fields in
+    let t = c.args.tree.now in
+    let v = c.keep_new_levels.new.tree in
+    still_hints blocks t v c.args.index c.requires.past fields (hidden_same blocks t v c.args.index c.requires.past fields c.in_err-keep_new_levels.ensures.failed) c.keep_new_levels.ensures.brings
+
+pub returns-in_err-keep_cell-clause-hints : goal.returns-in_err-keep_cell-clause-hints
+returns-in_err-keep_cell-clause-hints c = λ blocks.
+    let fields = c.keep_new_levels.ensures.fields in
+    let t = c.args.tree.now in
+    let v = c.keep_new_levels.new.tree in
+    subst (KeepsHints (loaded_over blocks t)) (sym (cells_loaded blocks v c.keep_cell.new.tree c.keep_cell.ensures.fields c.in_err-keep_cell.ensures.same))
+    (still_hints blocks t v c.args.index c.requires.past fields (hidden_same blocks t v c.args.index c.requires.past fields c.in_ok-keep_new_levels.ensures.grows.old_nodes) c.keep_new_levels.ensures.brings)
+
+pub returns-clause-hints : goal.returns-clause-hints
+returns-clause-hints c =
+    let grown = c.in_ok-keep_new_levels.ensures in
+    let cell = c.in_ok-keep_cell.ensures in
+    grows_hints c.args.tree.now c.keep_new_levels.new.tree c.keep_cell.new.tree c.raise.new.tree c.stamp_path.new.tree c.args.index c.args.stamp c.levels_over-levels.result c.args.block.now
+    c.requires.past c.levels_over-levels.ensures.least c.levels_over-levels.ensures.covers grown.fields grown.grows grown.brings grown.blank grown.tops cell.fields cell.cell cell.own cell.others
+    c.raise.ensures.owner c.raise.ensures.nodes c.raise.ensures.cells c.raise.ensures.levels c.raise.ensures.root c.stamp_path.ensures.stamps c.stamp_path.ensures.marks c.requires.stamp

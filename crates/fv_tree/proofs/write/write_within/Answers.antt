@@ -10,6 +10,7 @@ use Rattle.fv_tree.specs.Standing.{standing, under}
 use Rattle.fv_tree.specs.Writing.{IsAlike}
 use Rattle.fv_tree.proofs.Causes.{at_err}
 use Rattle.fv_tree.proofs.Steps.{stamps_way, stamped_cells}
+use Rattle.fv_tree.proofs.StillReady.{cells_put, cells_same, ready_then, stamps_ready}
 use Rattle.fv_tree.proofs.Within.{carries_within}
 use Rattle.fv_tree.proofs.Writes.{same_alike, same_standing, within_base, written_is}
 use Rattle.fv_tree.proofs.write.write_within.Goals as goal
@@ -65,3 +66,17 @@ returns-clause-carries g c = λ told.
     (marked_is (under new) v u i c.args.stamp c.stamp_path.ensures.stamps c.stamp_path.ensures.marks some covers
     (λ level low high. cell_kept (under new) w v i named cell.fields cell.own cell.others level (path.kept told level low (omega (arith, high, levels))))
     (cell_there w v i c.args.block.now cell.cell)))
+
+pub returns-in_err-keep_cell-clause-keeps_ready : goal.returns-in_err-keep_cell-clause-keeps_ready
+returns-in_err-keep_cell-clause-keeps_ready g c =
+    ready_then c.args.tree.now c.keep_path.new.tree c.keep_cell.new.tree c.keep_path.ensures.keeps_ready
+    (cells_same c.keep_path.new.tree c.keep_cell.new.tree c.keep_cell.ensures.fields c.in_err-keep_cell.ensures.failed)
+
+pub returns-clause-keeps_ready : goal.returns-clause-keeps_ready
+returns-clause-keeps_ready g c =
+    let w = c.keep_path.new.tree in
+    let v = c.keep_cell.new.tree in
+    let u = c.stamp_path.new.tree in
+    ready_then c.args.tree.now w u c.keep_path.ensures.keeps_ready (ready_then w v u
+    (cells_put w v c.args.index c.args.block.now c.keep_cell.ensures.fields c.in_ok-keep_cell.ensures.cell)
+    (stamps_ready v u c.args.index c.args.stamp c.stamp_path.ensures.stamps c.stamp_path.ensures.marks (λ e. absurd (omega (arith, e, c.requires.stamp)))))

@@ -43,6 +43,7 @@ returns-clause-alters g c =
       trees = λ is. c.write_told-written.ensures.leaves.stands (given is) (c.take_table-files.ensures.trees (under source) source.used is.trees);
       failed = λ is. subst (λ (s : Standing). OnErr c.write_told-written.result (table_told (standing_in (under (sees pool c.write_told-written.new.map disk (home_in x))) (changed c.write_told-written.new.files)) ≡ table_told s)) table (c.write_told-written.ensures.leaves.failed (given is));
       led = λ is led. c.write_told-written.ensures.leaves.led (given is) (c.take_table-files.ensures.trees (under source) source.used is.trees) (c.take_table-files.ensures.led (under source) source.used led);
+      well = λ is well. c.write_told-written.ensures.leaves.well (given is) (c.take_table-files.ensures.trees (under source) source.used is.trees) (c.take_table-files.ensures.well (under source) well);
       room = λ is.
           let taken = c.take_table-files.ensures.pending in
           let grown = c.write_told-written.ensures.leaves.room (given is) (c.take_table-files.ensures.trees (under source) source.used is.trees) in

@@ -44,6 +44,7 @@ returns-clause-alters g c =
       trees = λ is. c.create_told-made.ensures.leaves.stands (given is) (c.take_table-files.ensures.trees (under source) source.used is.trees);
       failed = λ is. subst (λ (s : Standing). OnErr c.create_told-made.result (table_told (standing_in (under (sees pool c.create_told-made.new.map disk (home_in x))) (changed c.create_told-made.new.files)) ≡ table_told s)) table (c.create_told-made.ensures.leaves.failed (given is));
       led = λ is led. c.create_told-made.ensures.leaves.led (given is) (c.take_table-files.ensures.trees (under source) source.used is.trees) (c.take_table-files.ensures.led (under source) source.used led);
+      well = λ is well. c.create_told-made.ensures.leaves.well (given is) (c.take_table-files.ensures.trees (under source) source.used is.trees) (c.take_table-files.ensures.well (under source) well);
       room = λ is.
           let taken = c.take_table-files.ensures.pending in
           let grown = c.create_told-made.ensures.leaves.room (given is) (c.take_table-files.ensures.trees (under source) source.used is.trees) in

@@ -1,6 +1,6 @@
 use Rattle.std.proofs.Common.{arith}
 use Rattle.fv_files.proofs.Sums.{no_cost}
-use Rattle.fv_files.proofs.Whole.{stored_in, stored_led, stored_sound}
+use Rattle.fv_files.proofs.Whole.{stored_in, stored_led, stored_sound, stored_wells}
 use Rattle.fv_files.proofs.files.Files.at.Goals as goal
 
 pub returns-clause-stored : goal.returns-clause-stored
@@ -11,6 +11,9 @@ returns-clause-stands c = stored_sound (record { inode = c.at.result; trees = c.
 
 pub returns-clause-led : goal.returns-clause-led
 returns-clause-led c = stored_led (record { inode = c.at.result; trees = c.new.result; alloc = c.args.alloc }) c.args.levels c.args.root c.at.ensures.stored c.new.ensures.len
+
+pub returns-clause-well : goal.returns-clause-well
+returns-clause-well c = stored_wells (record { inode = c.at.result; trees = c.new.result; alloc = c.args.alloc }) c.args.levels c.args.root c.at.ensures.stored c.new.ensures.len
 
 pub returns-clause-pending : goal.returns-clause-pending
 returns-clause-pending c = let inode = c.at.ensures.pending in let trees = no_cost c.new.result c.new.ensures.len in omega (arith, inode, trees)

@@ -4,8 +4,8 @@ use Rattle.fv_inode.specs.Files.{rooted}
 use Rattle.std.specs.Prelude.{None}
 use Rattle.fv_files.proofs.Changed.{with_inode}
 use Rattle.fv_files.proofs.Looked.{counts_done, counts_failed}
-use Rattle.fv_files.proofs.Made.{made_led, made_table, made_sound}
-use Rattle.fv_files.proofs.Prepared.{readied_led, readied_told, readied_stands}
+use Rattle.fv_files.proofs.Made.{made_led, made_table, made_sound, made_stored}
+use Rattle.fv_files.proofs.Prepared.{readied_led, readied_stored, readied_told, readied_stands}
 use Rattle.fv_files.proofs.Steps.{same_room}
 use Rattle.fv_files.proofs.files.Files.create.Goals as goal
 
@@ -23,7 +23,9 @@ returns-in-Ok-clause-changes g c =
       failed = λ told. tt;
       untouched = tt;
       stands = λ told asked sound. made_sound (g.B.Blocks.shown c.args.blocks.now) (g.B.Blocks.shown c.create.new.blocks) c.args.self.now c.create.new.self c.args.name.now c.args.reserve c.args.stamp c.in-Ok.field-0
-          looks.untouched.held (c.in-Ok.ensures.made told) sound looks.untouched.used alters.owner (alters.stands told (sound.trees None)) (alters.leads told);
+          looks.untouched.held (c.in-Ok.ensures.made told) sound looks.untouched.used alters.owner (alters.stands told (sound.trees None)) (alters.leads told) alters.keeps_ready;
+      stored = λ told asked sound was. made_stored (g.B.Blocks.shown c.args.blocks.now) (g.B.Blocks.shown c.create.new.blocks) c.args.self.now c.create.new.self c.args.name.now c.args.reserve c.args.stamp c.in-Ok.field-0
+          looks.untouched.held (c.in-Ok.ensures.made told) sound looks.untouched.used (alters.stored_well told (was.trees None)) (alters.leads told) was;
       strays = λ told sound. looks.untouched.strays;
       room = same_room (g.B.Blocks.shown c.args.blocks.now) (g.B.Blocks.shown c.create.new.blocks) looks.untouched;
       counts = counts_done (g.B.Blocks.shown c.args.blocks.now) (g.B.Blocks.shown c.create.new.blocks) c.in-Ok.field-0 tt looks.counts;
@@ -41,7 +43,8 @@ returns-in-Err-clause-changes g c =
     record {
       failed = λ told. readied_told old new f h looks.untouched (alike (rooted old f.inode) (rooted new h.inode) (alters.failed told)) (λ k. refl);
       untouched = looks.untouched;
-      stands = λ told asked sound. readied_stands old new f h looks.untouched (alike (rooted old f.inode) (rooted new h.inode) (alters.failed told)) (λ k. refl) alters.owner (alters.stands told) (alters.leads told) sound;
+      stands = λ told asked sound. readied_stands old new f h looks.untouched (alike (rooted old f.inode) (rooted new h.inode) (alters.failed told)) (λ k. refl) alters.owner (alters.stands told) (alters.leads told) alters.keeps_ready sound;
+      stored = λ told asked sound was. readied_stored old new f h looks.untouched (alike (rooted old f.inode) (rooted new h.inode) (alters.failed told)) (λ k. refl) (alters.stored_well told) (alters.leads told) sound was;
       strays = λ told sound. looks.untouched.strays;
       room = same_room old new looks.untouched;
       counts = counts_failed old new _ _ looks.counts;

@@ -1,6 +1,6 @@
 use Rattle.std.proofs.lemmas.Result.{err_from_is_err_and}
 use Rattle.fv_files.proofs.Flushed.{lays_failed}
-use Rattle.fv_files.proofs.Ended.{flush_done, flush_failed}
+use Rattle.fv_files.proofs.Ended.{Places, flush_done, flush_failed, flush_stores, flush_under}
 use Rattle.fv_files.proofs.files.Files.flush.Goals as goal
 
 pub returns-in_err-flush_trees-clause-flushes : goal.returns-in_err-flush_trees-clause-flushes
@@ -11,12 +11,16 @@ returns-in_err-flush_trees-clause-flushes g c =
     let p = err_from_is_err_and c.from_residual.result c.from_residual.ensures.1 in
     rw (p.1, p.2) (flush_failed g.B.Blocks.told old new c.args.self.now c.flush_trees.new.files e (lays_failed g.B.Blocks.told old new c.args.self.now c.flush_trees.new.files e c.in_err-flush_trees.ensures.lays))
 
-pub returns-clause-flushes : goal.returns-clause-flushes
-returns-clause-flushes g c =
+pub returns : goal.returns
+returns g c =
     let is = c.flush.ensures in
-    flush_done g.B.Blocks.told (g.B.Blocks.shown c.args.blocks.now) (g.B.Blocks.shown c.flush_trees.new.blocks) (g.B.Blocks.shown c.flush.new.blocks) c.args.self.now c.flush_trees.new.files c.flush.new.self c.flush.result
-    c.in_ok-flush_trees.ensures.lays c.in_ok-flush_trees.ensures.none (record {
+    let first = c.in_ok-flush_trees.ensures in
+    let old = g.B.Blocks.shown c.args.blocks.now in
+    let mid = g.B.Blocks.shown c.flush_trees.new.blocks in
+    let new = g.B.Blocks.shown c.flush.new.blocks in
+    let last : Places g.B.Blocks.told mid new c.flush_trees.new.files.inode c.flush.new.self c.flush.result = record {
       flushes = is.flushes;
+      stored_well = is.stored_well;
       strays = is.strays;
       left = is.left;
       fits = is.fits;
@@ -28,4 +32,10 @@ returns-clause-flushes g c =
       reaches = is.reaches;
       counts = is.counts;
       cause = is.cause;
-    })
+    } in
+    record {
+      flushes = flush_done g.B.Blocks.told old mid new c.args.self.now c.flush_trees.new.files c.flush.new.self c.flush.result first.lays first.none last;
+      stored_well = λ told known. flush_stores g.B.Blocks.told old mid new c.args.self.now c.flush_trees.new.files c.flush.new.self c.flush.result first.lays first.none last told (first.stored_well told known) (is.places known);
+      stored_under = λ told known. flush_under g.B.Blocks.told old mid new c.args.self.now c.flush_trees.new.files c.flush.new.self c.flush.result first.lays first.none last told (first.stored_well told known) (is.places known);
+      calls = g.met.B.Blocks.goes_on c.args.blocks.now c.flush_trees.new.blocks c.flush.new.blocks first.calls is.calls;
+    }

@@ -1,11 +1,15 @@
 use Rattle.fv_tables.specs.Spelled.{hole}
-use Rattle.std.proofs.Common.{arith}
+use Rattle.std.proofs.Common.{arith, refl}
 use Rattle.fv_files.proofs.Sums.{no_cost}
-use Rattle.fv_files.proofs.Whole.{stored_in}
+use Rattle.fv_files.proofs.Stored.{hole_stored}
+use Rattle.fv_files.proofs.Whole.{stored_in, stored_wells}
 use Rattle.fv_files.proofs.files.Files.new.Goals as goal
 
 pub returns-clause-stored : goal.returns-clause-stored
 returns-clause-stored c = stored_in (record { inode = c.new.result; trees = c.new-2.result; alloc = c.args.alloc }) 0 hole c.new.ensures.stored c.new-2.ensures.len
+
+pub returns-clause-well : goal.returns-clause-well
+returns-clause-well c = λ blocks. stored_wells (record { inode = c.new.result; trees = c.new-2.result; alloc = c.args.alloc }) 0 hole c.new.ensures.stored c.new-2.ensures.len blocks (hole_stored blocks 0 hole refl)
 
 pub returns-clause-pending : goal.returns-clause-pending
 returns-clause-pending c = let inode = c.new.ensures.pending in let trees = no_cost c.new-2.result c.new-2.ensures.len in omega (arith, inode, trees)

@@ -39,4 +39,4 @@ returns-clause-changed g c = λ told.
 pub returns-clause-alters : goal.returns-clause-alters
 returns-clause-alters g c =
     let did = c.rewrite.ensures in
-    alters_more g.B.Blocks.told c.args.self.now.tree c.ready.new.self.tree c.rewrite.new.self.tree (g.B.Blocks.shown c.args.blocks.now) (g.B.Blocks.shown c.ready.new.blocks) c.in_ok-there.there _ c.in_ok-there.ensures.alters did.owner did.sound did.leads did.keeps
+    alters_more g.B.Blocks.told c.args.self.now.tree c.ready.new.self.tree c.rewrite.new.self.tree (g.B.Blocks.shown c.args.blocks.now) (g.B.Blocks.shown c.ready.new.blocks) c.in_ok-there.there _ c.in_ok-there.ensures.alters did.owner did.sound did.leads did.keeps did.stored_well did.keeps_ready

@@ -1,4 +1,4 @@
-use Rattle.std.proofs.Common.{◌%◌, ap, ◌∙◌, arith}
+use Rattle.std.proofs.Common.{◌%◌, refl, ap, ◌∙◌, arith}
 use Rattle.std.specs.Option.{option_map}
 use Rattle.std.proofs.lemmas.List.{get_or_default}
 use Rattle.fv_tables.specs.Told.{free_record, used_record}
@@ -19,3 +19,6 @@ pub returns-clause-looks : goal.returns-clause-looks
 returns-clause-looks g c =
     let old = g.B.Blocks.shown c.args.blocks.now in
     looks_done g.B.Blocks.told (standing (under old) c.args.self.now.tree) old (g.B.Blocks.shown c.read_files.new.blocks) c.in_ok-files.files c.info_in.result c.in_ok-files.ensures.looks
+
+pub returns-in_err-files-clause-held : goal.returns-in_err-files-clause-held
+returns-in_err-files-clause-held g c = λ told holds. absurd (c.in_err-files.ensures.held told c.args.number refl holds)

@@ -56,3 +56,9 @@ returns-then-files-slot-eq0-clause-alters g c =
     let old = g.B.Blocks.shown c.args.blocks.now in
     let new = g.B.Blocks.shown c.read_files.new.blocks in
     alters_none g.B.Blocks.told c.args.self.now.tree old new _ (looks_done g.B.Blocks.told (standing (under old) c.args.self.now.tree) old new c.in_ok-files.files _ c.in_ok-files.ensures.looks)
+
+pub returns-in_err-files-clause-held : goal.returns-in_err-files-clause-held
+returns-in_err-files-clause-held g c = λ told holds. absurd (c.in_err-files.ensures.held told c.args.number refl holds)
+
+pub returns-clause-held : goal.returns-clause-held
+returns-clause-held g c = λ told holds. c.refill_files.ensures.held holds.way

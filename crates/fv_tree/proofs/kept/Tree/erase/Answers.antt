@@ -25,3 +25,6 @@ returns-clause-removal g c =
     removal_after g.B.Blocks.told (g.B.Blocks.goes c.args.blocks.now c.erase_cell.new.blocks) (Ok c.erase_cell.result) a b t u (nat_eq i) c.args.start c.args.stamp
     (λ _. goes) (λ _. tt) did.owner (λ _. tt) tt did.room tt did.calls (record { faults = omega (arith, calm.faults); damages = omega (arith, calm.damages); spent = calm.spent; calm = calm })
     (λ _. did.count way (under a) stands) tt
+
+pub returns-clause-others_ready : goal.returns-clause-others_ready
+returns-clause-others_ready g c = c.erase_cell.ensures.others_ready c.requires.ready

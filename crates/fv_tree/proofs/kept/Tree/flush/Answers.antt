@@ -9,6 +9,7 @@ use Rattle.fv_tree.specs.declared.kept.KeptCell.{KeptCell}
 use Rattle.fv_tree.proofs.Flushes.{flushes_then}
 use Rattle.fv_tree.proofs.Gone.{is_memory}
 use Rattle.fv_tree.proofs.Differing.{fits_then, none_pending}
+use Rattle.fv_tree.proofs.StoredFlush.{stored_flush}
 use Rattle.fv_tree.proofs.Whole.{is_stored, reaches}
 use Rattle.fv_tree.proofs.kept.Tree.flush.Goals as goal
 
@@ -66,3 +67,15 @@ pub returns-clause-pending : goal.returns-clause-pending
 returns-clause-pending g c =
     let nodes = c.in_ok-flush_nodes.ensures in
     none_pending c.flush_nodes.new.tree nodes.none (ap (λ (m : maps.BTreeMap ℕ KeptCell). maps.btree_map_len m) nodes.cells ∙ c.in_ok-flush_cells.ensures.none)
+
+pub returns-in_err-flush_cells-clause-stored_well : goal.returns-in_err-flush_cells-clause-stored_well
+returns-in_err-flush_cells-clause-stored_well g c = λ told stands places was.
+    stored_flush (g.B.Blocks.shown c.args.blocks.now) (g.B.Blocks.shown c.flush_cells.new.blocks) c.args.self.now c.flush_cells.new.tree stands (c.in_err-flush_cells.ensures.flushes told stands) was places
+
+pub returns-in_err-flush_nodes-clause-stored_well : goal.returns-in_err-flush_nodes-clause-stored_well
+returns-in_err-flush_nodes-clause-stored_well g c = λ told stands places was.
+    stored_flush (g.B.Blocks.shown c.args.blocks.now) (g.B.Blocks.shown c.flush_nodes.new.blocks) c.args.self.now c.flush_nodes.new.tree stands (returns-in_err-flush_nodes-clause-flushes g c told stands) was places
+
+pub returns-clause-stored_well : goal.returns-clause-stored_well
+returns-clause-stored_well g c = λ told stands places was.
+    stored_flush (g.B.Blocks.shown c.args.blocks.now) (g.B.Blocks.shown c.flush_nodes.new.blocks) c.args.self.now c.flush_nodes.new.tree stands (returns-clause-flushes g c told stands) was places

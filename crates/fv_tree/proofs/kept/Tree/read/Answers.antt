@@ -5,6 +5,7 @@ use Rattle.fv_tree.specs.Spelled.{block_at}
 use Rattle.fv_tree.specs.Costs.{load_cost, place_cost}
 use Rattle.fv_tree.specs.Standing.{standing, under, cell_in}
 use Rattle.fv_tree.proofs.Causes.{cell_fails, fails_later}
+use Rattle.fv_tree.proofs.Readied.{has_way}
 use Rattle.fv_tree.proofs.kept.Tree.read.Goals as goal
 
 pub returns-clause-cell : goal.returns-clause-cell
@@ -30,3 +31,6 @@ returns-clause-spent g c = λ told.
     let same : load_cost mid.cost (is_some (cell_in t c.args.index)) c.in_ok-pointer.pointer ≡ place_cost old.cost (standing (under old) t) 0 c.args.index =
     λ j. load_cost (path.untouched.cost j) (is_some (cell_in t c.args.index)) (path.pointer told j) in
     on_ok_weaker c.read_pointed.result (λ more. omega (arith, first, same, more)) c.read_pointed.ensures.spent
+
+pub returns-in_err-pointer-clause-held : goal.returns-in_err-pointer-clause-held
+returns-in_err-pointer-clause-held g c = λ ready. absurd (c.in_err-pointer.ensures.held (has_way c.args.self.now c.args.index ready.way))

@@ -1,12 +1,13 @@
-use Rattle.std.proofs.Common.{◌≡◌, ◌≤◌, ◌/◌, ◌^◌, ℕ, ap, ◌∙◌, arith}
+use Rattle.std.proofs.Common.{◌≡◌, ◌≤◌, ◌/◌, ◌^◌, ℕ, refl, ap, ◌∙◌, arith}
 use Rattle.std.specs.BTreeMap as maps
 use Rattle.fv_model.specs.Trees.{fan, Spot}
 use Rattle.fv_tree.specs.declared.kept.KeptNode.{KeptNode}
 use Rattle.fv_tree.specs.declared.kept.KeptCell.{KeptCell}
-use Rattle.fv_tree.specs.Flushing.{changed_in}
+use Rattle.fv_tree.specs.Flushing.{changed_in, loaded_over}
+use Rattle.fv_tree.proofs.Stored.{stored_on}
 use Rattle.fv_tree.specs.Costs.{changes_in}
 use Rattle.fv_tree.specs.Standing.{standing}
-use Rattle.fv_tree.proofs.Rewritten.{rewritten, rewritten_leads, rewritten_keeps, rewritten_sound, still_ready}
+use Rattle.fv_tree.proofs.Rewritten.{rewritten, rewritten_hints, rewritten_leads, rewritten_keeps, rewritten_sound, still_ready}
 use Rattle.fv_tree.proofs.Seen.{writes}
 use Rattle.fv_tree.proofs.kept.Tree.rewrite.Goals as goal
 
@@ -60,3 +61,13 @@ returns-clause-pending c =
     let less : changes_in u.nodes ≤ changes_in v.nodes = c.stamp_path.ensures.again (λ level low high.
     ap (λ (nodes : maps.BTreeMap Spot KeptNode). changed_in nodes level (i / fan ^ level)) put.fields.nodes ∙ ready.marked level low (let levels = put.fields.levels in omega (arith, high, levels))) in
     omega (arith, cells, same, less)
+
+pub returns-clause-stored_well : goal.returns-clause-stored_well
+returns-clause-stored_well c = λ held.
+    let put = c.put_content.ensures in
+    let w = c.args.self.now in
+    let v = c.put_content.new.tree in
+    let u = c.stamp_path.new.tree in
+    stored_on (loaded_over held w) (loaded_over held u) (c.stamp_path.ensures.stamps.owner ∙ put.fields.owner) refl
+    (rewritten_leads w v u c.args.index c.args.stamp c.args.block.now c.requires.ready c.requires.stamp put.fields put.cell put.own put.others c.stamp_path.ensures.stamps c.stamp_path.ensures.marks held)
+    (rewritten_hints w v u c.args.index c.args.stamp c.args.block.now c.requires.ready c.requires.stamp put.fields put.cell put.own put.others c.stamp_path.ensures.stamps c.stamp_path.ensures.marks held)

@@ -9,31 +9,22 @@ use Rattle.fv_volume.specs.Causes.{of_block}
 use Rattle.fv_volume.specs.OneVolume.{standing_for, volume_for}
 use Rattle.fv_volume.proofs.Asked.{first_info}
 use Rattle.fv_volume.proofs.CallCauses.{failed_change_cause}
-use Rattle.fv_volume.proofs.Calling.{counted_led, counted_room, left_led, left_room, refused_led, refused_room, left_ledger, left_more, failed_changes, no_refusal, failed_head, failed_stands, left_ready, refused_changes, refused_head, refused_ready, refused_standing, done_head, done_ready, parts_of, Parts}
+use Rattle.fv_volume.proofs.Calling.{counted_table, left_table, refused_table, left_ledger, left_more, failed_changes, no_refusal, failed_head, failed_stands, left_ready, refused_changes, refused_head, refused_ready, refused_standing, done_head, done_ready, parts_of, Parts}
 use Rattle.fv_volume.proofs.JudgedCut.{fewer_fits, fewer_of}
 use Rattle.fv_volume.proofs.OneVolumes.{reads_then, said_after}
 use Rattle.fv_volume.proofs.MadeCut.{cut_is, cut_stands}
 use Rattle.fv_volume.proofs.state.VolumeState.cut.Goals as goal
 
--- ---- what is led to, and what is pending
+-- ---- its table
 
-pub returns-in_err-info-clause-led : goal.returns-in_err-info-clause-led
-returns-in_err-info-clause-led g c = λ is led. refused_led (g.D.Disk.shown c.args.disk.now) (g.D.Disk.shown c.judge_cut.new.disk) c.args.pool.now c.judge_cut.new.pool c.judge_cut.ensures.reads c.args.self.now c.judge_cut.new.volume c.judge_cut.ensures.same led
+pub returns-in_err-info-clause-table : goal.returns-in_err-info-clause-table
+returns-in_err-info-clause-table g c = λ is. refused_table (g.D.Disk.shown c.args.disk.now) (g.D.Disk.shown c.judge_cut.new.disk) c.args.pool.now c.judge_cut.new.pool c.judge_cut.ensures.reads c.args.self.now c.judge_cut.new.volume c.judge_cut.ensures.same
 
-pub returns-in_err-info-clause-room : goal.returns-in_err-info-clause-room
-returns-in_err-info-clause-room g c = λ is. refused_room (g.D.Disk.shown c.args.disk.now) (g.D.Disk.shown c.judge_cut.new.disk) c.args.pool.now c.judge_cut.new.pool c.judge_cut.ensures.reads c.args.self.now c.judge_cut.new.volume c.judge_cut.ensures.same
+pub returns-in_err-count-clause-table : goal.returns-in_err-count-clause-table
+returns-in_err-count-clause-table g c = λ is. left_table (g.D.Disk.shown c.args.disk.now) (g.D.Disk.shown c.judge_cut.new.disk) (g.D.Disk.shown c.cut_blocks.new.disk) c.args.pool.now c.judge_cut.new.pool c.cut_blocks.new.pool c.judge_cut.ensures.reads c.args.self.now c.judge_cut.new.volume c.cut_blocks.new.volume c.judge_cut.ensures.same _ c.in_err-count.ensures.alters is
 
-pub returns-in_err-count-clause-led : goal.returns-in_err-count-clause-led
-returns-in_err-count-clause-led g c = λ is led. left_led (g.D.Disk.shown c.args.disk.now) (g.D.Disk.shown c.judge_cut.new.disk) (g.D.Disk.shown c.cut_blocks.new.disk) c.args.pool.now c.judge_cut.new.pool c.cut_blocks.new.pool c.judge_cut.ensures.reads c.args.self.now c.judge_cut.new.volume c.cut_blocks.new.volume c.judge_cut.ensures.same _ c.in_err-count.ensures.alters is led
-
-pub returns-in_err-count-clause-room : goal.returns-in_err-count-clause-room
-returns-in_err-count-clause-room g c = λ is. left_room (g.D.Disk.shown c.args.disk.now) (g.D.Disk.shown c.judge_cut.new.disk) (g.D.Disk.shown c.cut_blocks.new.disk) c.args.pool.now c.judge_cut.new.pool c.cut_blocks.new.pool c.judge_cut.ensures.reads c.args.self.now c.judge_cut.new.volume c.cut_blocks.new.volume c.judge_cut.ensures.same _ c.in_err-count.ensures.alters is
-
-pub returns-clause-led : goal.returns-clause-led
-returns-clause-led g c = λ is led. counted_led (g.D.Disk.shown c.cut_blocks.new.disk) c.cut_blocks.new.pool c.cut_blocks.new.volume c.count_change.new.volume c.count_change.ensures.others (left_led (g.D.Disk.shown c.args.disk.now) (g.D.Disk.shown c.judge_cut.new.disk) (g.D.Disk.shown c.cut_blocks.new.disk) c.args.pool.now c.judge_cut.new.pool c.cut_blocks.new.pool c.judge_cut.ensures.reads c.args.self.now c.judge_cut.new.volume c.cut_blocks.new.volume c.judge_cut.ensures.same (Ok c.in_ok-count.count) c.in_ok-count.ensures.alters is led)
-
-pub returns-clause-room : goal.returns-clause-room
-returns-clause-room g c = λ is. counted_room c.cut_blocks.new.volume c.count_change.new.volume _ c.count_change.ensures.others (left_room (g.D.Disk.shown c.args.disk.now) (g.D.Disk.shown c.judge_cut.new.disk) (g.D.Disk.shown c.cut_blocks.new.disk) c.args.pool.now c.judge_cut.new.pool c.cut_blocks.new.pool c.judge_cut.ensures.reads c.args.self.now c.judge_cut.new.volume c.cut_blocks.new.volume c.judge_cut.ensures.same (Ok c.in_ok-count.count) c.in_ok-count.ensures.alters is)
+pub returns-clause-table : goal.returns-clause-table
+returns-clause-table g c = λ is. counted_table (g.D.Disk.shown c.args.disk.now) c.args.pool.now c.args.self.now (g.D.Disk.shown c.cut_blocks.new.disk) c.cut_blocks.new.pool c.cut_blocks.new.volume c.count_change.new.volume c.count_change.ensures.others (left_table (g.D.Disk.shown c.args.disk.now) (g.D.Disk.shown c.judge_cut.new.disk) (g.D.Disk.shown c.cut_blocks.new.disk) c.args.pool.now c.judge_cut.new.pool c.cut_blocks.new.pool c.judge_cut.ensures.reads c.args.self.now c.judge_cut.new.volume c.cut_blocks.new.volume c.judge_cut.ensures.same (Ok c.in_ok-count.count) c.in_ok-count.ensures.alters is)
 
 -- ---- refused
 

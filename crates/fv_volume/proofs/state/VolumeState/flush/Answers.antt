@@ -1,16 +1,16 @@
 use native.Mathlib.Omega.{arith}
-use Rattle.std.proofs.Common.{rules, ◌≡◌, ◌∙◌, Option, Some, None, Ok, true, refl, sym, subst}
+use Rattle.std.proofs.Common.{rules, ◌≡◌, ◌∙◌, Option, Some, None, Ok, true, refl, sym, ap, subst}
 use Rattle.fv_files.specs.declared.files.Files.{Files}
-use Rattle.fv_volume.specs.declared.fault.VolumeFault.{VolumeFault}
 use Rattle.fv_volume.specs.declared.state.VolumeState.{VolumeState}
+use Rattle.fv_volume.specs.Causes.{of_block}
 use Rattle.fv_volume.specs.Lending.{lent_for, no_damage, sees}
 use Rattle.fv_volume.specs.LendingLaws.{goes_itself}
-use Rattle.fv_volume.specs.OneVolume.{home_in, standing_for, IsStanding}
-use Rattle.fv_volume.specs.Placing.{FaultOfLoad, FlushFails, PlacesVolume}
+use Rattle.fv_volume.specs.OneVolume.{home_in, IsStanding}
+use Rattle.fv_volume.specs.Placing.{FlushFails, PlacesVolume}
 use Rattle.fv_volume.proofs.OneVolumes.{root_fits}
 use Rattle.fv_volume.proofs.Others.{beside_flush}
-use Rattle.fv_volume.proofs.PlaceCauses.{fault_cause, load_fault, place_narrow}
-use Rattle.fv_volume.proofs.Placed.{done_led, done_standing, done_volume, failed_led, failed_standing, failed_volume, few_rooted, fits_done, fits_failed, fits_rooted, pending_held, ready_placed, was_table, was_told}
+use Rattle.fv_volume.proofs.PlaceCauses.{fault_cause, place_narrow}
+use Rattle.fv_volume.proofs.Placed.{done_led, done_standing, done_volume, done_well, failed_led, failed_standing, failed_volume, failed_well, few_rooted, fits_done, fits_failed, fits_rooted, pending_held, ready_placed, was_told}
 use Rattle.fv_volume.proofs.Reached.{standing_seen}
 use Rattle.fv_volume.proofs.state.VolumeState.flush.Goals as goal
 
@@ -21,10 +21,9 @@ returns-in_default-clause-goes g c =
 pub returns-in-Ok-clause-ready : goal.returns-in-Ok-clause-ready
 returns-in-Ok-clause-ready g c =
     let d = g.D.Disk.shown c.args.disk.now in
-    let e = g.D.Disk.shown c.place_table.new.disk in
     let now = c.place_table.new in
-    let after = sees now.pool now.map e (home_in c.args.self.now) in
-    ready_placed d e c.args.pool.now now.pool c.args.self.now c.rooted-self.result now.map c.take.new.self c.args.room.now now.room c.requires.ready
+    let after = sees now.pool now.map d (home_in c.args.self.now) in
+    ready_placed d d c.args.pool.now now.pool c.args.self.now c.rooted-self.result now.map c.take.new.self c.args.room.now now.room c.requires.ready
     (few_rooted after now.files c.in-Ok.root c.rooted-self.result c.take.new.self c.rooted-self.ensures c.take.ensures.after)
     (fits_rooted after now.files c.in-Ok.root c.rooted-self.result c.take.new.self c.rooted-self.ensures c.take.ensures.after c.in-Ok.ensures.table.pointer)
     c.place_table.ensures.goes c.place_table.ensures.stands
@@ -34,7 +33,7 @@ returns-in-Err-clause-ready g c =
     let d = g.D.Disk.shown c.args.disk.now in
     let x = c.args.self.now in
     let now = c.place_table.new in
-    ready_placed d (g.D.Disk.shown now.disk) c.args.pool.now now.pool x x.active now.map (Some now.files) c.args.room.now now.room c.requires.ready
+    ready_placed d d c.args.pool.now now.pool x x.active now.map (Some now.files) c.args.room.now now.room c.requires.ready
     c.requires.ready.labelled.levels (root_fits d c.args.pool.now x c.requires.ready) c.place_table.ensures.goes c.place_table.ensures.stands
 
 pub returns-in_default-clause-places : goal.returns-in_default-clause-places
@@ -48,6 +47,7 @@ returns-in_default-clause-places g c = λ is.
       standing = is;
       volume = refl;
       led = λ led. led;
+      well = λ led well. well;
       seen = standing_seen d p x is none c.requires.ready.labelled;
       fits = (omega arith, omega arith);
       enough = λ enough. tt;
@@ -56,7 +56,6 @@ returns-in_default-clause-places g c = λ is.
 pub returns-in-Ok-clause-places : goal.returns-in-Ok-clause-places
 returns-in-Ok-clause-places g c = λ is.
     let d = g.D.Disk.shown c.args.disk.now in
-    let e = g.D.Disk.shown c.place_table.new.disk in
     let p = c.args.pool.now in
     let x = c.args.self.now in
     let files = c.in-Some.files in
@@ -66,13 +65,14 @@ returns-in-Ok-clause-places g c = λ is.
     let table = c.in-Ok.ensures.table in
     let rooted = c.rooted-self.ensures in
     let y : VolumeState = record x { active = c.rooted-self.result; map = now.map; files = c.take.new.self; changed = true } in
-    let stands : IsStanding e now.pool y =
-    done_standing d e p now.pool x files held now.map now.files c.in-Ok.root c.rooted-self.result c.take.new.self rooted after table is c.place_table.ensures.told in
+    let stands : IsStanding d now.pool y =
+    done_standing d d p now.pool x files held now.map now.files c.in-Ok.root c.rooted-self.result c.take.new.self rooted after table is c.place_table.ensures.told in
     record {
       standing = stands;
-      volume = done_volume d e p now.pool x files held now.map now.files c.in-Ok.root c.rooted-self.result c.take.new.self rooted after table is;
-      led = done_led d e p now.pool x files held now.map now.files c.in-Ok.root c.rooted-self.result c.take.new.self rooted after table is;
-      seen = standing_seen e now.pool y stands after (returns-in-Ok-clause-ready g c).labelled;
+      volume = done_volume d d p now.pool x files held now.map now.files c.in-Ok.root c.rooted-self.result c.take.new.self rooted after table is;
+      led = done_led d d p now.pool x files held now.map now.files c.in-Ok.root c.rooted-self.result c.take.new.self rooted after table is;
+      well = done_well d d p now.pool x files held now.map now.files c.in-Ok.root c.rooted-self.result c.take.new.self rooted after table is;
+      seen = standing_seen d now.pool y stands after (returns-in-Ok-clause-ready g c).labelled;
       fits = fits_done x.files c.take.new.self files now.files held after c.args.room.now now.room (c.in-Ok.ensures.room.fits (was_told d p x files held is)) c.in-Ok.ensures.room.nothing;
       enough = λ enough. tt;
     }
@@ -80,7 +80,6 @@ returns-in-Ok-clause-places g c = λ is.
 pub returns-in-Err-clause-places : goal.returns-in-Err-clause-places
 returns-in-Err-clause-places g c = λ is.
     let d = g.D.Disk.shown c.args.disk.now in
-    let e = g.D.Disk.shown c.place_table.new.disk in
     let p = c.args.pool.now in
     let x = c.args.self.now in
     let files = c.in-Some.files in
@@ -90,15 +89,13 @@ returns-in-Err-clause-places g c = λ is.
     let table = c.in-Err.ensures.table in
     let told = was_told d p x files held in
     record {
-      standing = failed_standing d e p now.pool x files held now.map now.files fault table is c.place_table.ensures.told;
-      volume = failed_volume d e p now.pool x files held now.map now.files fault table is;
-      led = failed_led d e p now.pool x files held now.map now.files fault table is;
+      standing = failed_standing d d p now.pool x files held now.map now.files fault table is c.place_table.ensures.told;
+      volume = failed_volume d d p now.pool x files held now.map now.files fault table is;
+      led = failed_led d d p now.pool x files held now.map now.files fault table is;
+      well = failed_well d d p now.pool x files held now.map now.files fault table is;
       seen = tt;
       fits = fits_failed x.files files now.files held c.args.room.now now.room (c.in-Err.ensures.room.fits (told is));
-      enough = λ enough.
-          subst (FaultOfLoad (IsStanding d p x) (standing_for d p x)) (sym c.into.ensures)
-          (load_fault (IsStanding d p x) _ told _ (standing_for d p x) (sym (was_table d p x files held)) fault
-          (c.in-Err.ensures.room.enough (told is) (pending_held x.files files held c.args.room.now enough)));
+      enough = λ enough. c.into.ensures ∙ ap of_block (c.in-Err.ensures.room.enough (told is) (pending_held x.files files held c.args.room.now enough));
     }
 
 pub returns-in-Err-clause-cause : goal.returns-in-Err-clause-cause
@@ -108,20 +105,18 @@ returns-in-Err-clause-cause g c =
     let x = c.args.self.now in
     let files = c.in-Some.files in
     let held : x.files ≡ Some files = search rules in
-    let now = c.place_table.new in
-    let faults = (g.D.Disk.shown now.disk).faults in
+    let room = c.place_table.new.room in
     let old = lent_for p x.map d 0 (home_in x) c.args.room.now in
-    subst (λ (f : VolumeFault). FlushFails (IsStanding d p x) (standing_for d p x) old faults now.room f) (sym c.into.ensures)
-    (fault_cause (IsStanding d p x) (standing_for d p x) old faults now.room c.in-Err.fault
-    (place_narrow (IsStanding d p x) _ (was_told d p x files held) _ (standing_for d p x) (sym (was_table d p x files held)) old faults now.room c.in-Err.fault c.in-Err.ensures.cause))
+    subst (FlushFails (IsStanding d p x) old room) (sym c.into.ensures)
+    (fault_cause (IsStanding d p x) old room c.in-Err.fault (place_narrow (IsStanding d p x) _ (was_told d p x files held) old room c.in-Err.fault c.in-Err.ensures.cause))
 
 pub returns-in_default-clause-others : goal.returns-in_default-clause-others
-returns-in_default-clause-others g c = λ y other alone apart is. record { standing = is; volume = refl }
+returns-in_default-clause-others g c = λ y other alone apart is. record { standing = is; volume = refl; led = λ led. led; well = λ well. well }
 
 pub returns-in-Ok-clause-others : goal.returns-in-Ok-clause-others
 returns-in-Ok-clause-others g c =
-    beside_flush (g.D.Disk.shown c.args.disk.now) (g.D.Disk.shown c.place_table.new.disk) c.args.pool.now c.place_table.new.pool c.args.self.now c.place_table.new.map c.args.room.now c.place_table.new.room c.place_table.ensures.goes
+    beside_flush (g.D.Disk.shown c.args.disk.now) (g.D.Disk.shown c.args.disk.now) c.args.pool.now c.place_table.new.pool c.args.self.now c.place_table.new.map c.args.room.now c.place_table.new.room c.place_table.ensures.goes
 
 pub returns-in-Err-clause-others : goal.returns-in-Err-clause-others
 returns-in-Err-clause-others g c =
-    beside_flush (g.D.Disk.shown c.args.disk.now) (g.D.Disk.shown c.place_table.new.disk) c.args.pool.now c.place_table.new.pool c.args.self.now c.place_table.new.map c.args.room.now c.place_table.new.room c.place_table.ensures.goes
+    beside_flush (g.D.Disk.shown c.args.disk.now) (g.D.Disk.shown c.args.disk.now) c.args.pool.now c.place_table.new.pool c.args.self.now c.place_table.new.map c.args.room.now c.place_table.new.room c.place_table.ensures.goes

@@ -8,7 +8,7 @@ use Rattle.fv_volume.specs.Causes.{of_block}
 use Rattle.fv_volume.specs.Lending.{lent_for}
 use Rattle.fv_volume.specs.OneVolume.{home_in, standing_for, volume_for, IsStanding}
 use Rattle.fv_volume.proofs.CallCauses.{fails_later, failed_cause}
-use Rattle.fv_volume.proofs.Calling.{counted_led, counted_room, left_led, left_room, refused_led, refused_room, left_fits, failed_changes, failed_head, failed_stands, left_ready, refused_changes, refused_head, refused_ready, refused_standing, done_head, done_ready, Parts}
+use Rattle.fv_volume.proofs.Calling.{counted_table, left_table, refused_table, left_fits, failed_changes, failed_head, failed_stands, left_ready, refused_changes, refused_head, refused_ready, refused_standing, done_head, done_ready, Parts}
 use Rattle.fv_volume.proofs.OneVolumes.{reads_then, said_after}
 use Rattle.fv_volume.proofs.MadeNew.{new_is, new_stands}
 use Rattle.fv_volume.proofs.state.VolumeState.new_file.Goals as goal
@@ -128,22 +128,13 @@ create_file-requires-clause-free g c = said_after (g.D.Disk.shown c.args.disk.no
     (λ (s : Standing). (n : ℕ) × ((n < 262144) × (file_at s.inode n ≡ None)))
     (λ is. (c.in_ok-delta.ensures.accepted is).free)
 
--- ---- what is led to, and what is pending
+-- ---- its table
 
-pub returns-in_err-delta-clause-led : goal.returns-in_err-delta-clause-led
-returns-in_err-delta-clause-led g c = λ is led. refused_led (g.D.Disk.shown c.args.disk.now) (g.D.Disk.shown c.judge_new.new.disk) c.args.pool.now c.judge_new.new.pool c.judge_new.ensures.reads c.args.self.now c.judge_new.new.volume c.judge_new.ensures.same led
+pub returns-in_err-delta-clause-table : goal.returns-in_err-delta-clause-table
+returns-in_err-delta-clause-table g c = λ is. refused_table (g.D.Disk.shown c.args.disk.now) (g.D.Disk.shown c.judge_new.new.disk) c.args.pool.now c.judge_new.new.pool c.judge_new.ensures.reads c.args.self.now c.judge_new.new.volume c.judge_new.ensures.same
 
-pub returns-in_err-delta-clause-room : goal.returns-in_err-delta-clause-room
-returns-in_err-delta-clause-room g c = λ is. refused_room (g.D.Disk.shown c.args.disk.now) (g.D.Disk.shown c.judge_new.new.disk) c.args.pool.now c.judge_new.new.pool c.judge_new.ensures.reads c.args.self.now c.judge_new.new.volume c.judge_new.ensures.same
+pub returns-in_err-create_file-clause-table : goal.returns-in_err-create_file-clause-table
+returns-in_err-create_file-clause-table g c = λ is. left_table (g.D.Disk.shown c.args.disk.now) (g.D.Disk.shown c.judge_new.new.disk) (g.D.Disk.shown c.create_file.new.disk) c.args.pool.now c.judge_new.new.pool c.create_file.new.pool c.judge_new.ensures.reads c.args.self.now c.judge_new.new.volume c.create_file.new.volume c.judge_new.ensures.same _ c.in_err-create_file.ensures.alters is
 
-pub returns-in_err-create_file-clause-led : goal.returns-in_err-create_file-clause-led
-returns-in_err-create_file-clause-led g c = λ is led. left_led (g.D.Disk.shown c.args.disk.now) (g.D.Disk.shown c.judge_new.new.disk) (g.D.Disk.shown c.create_file.new.disk) c.args.pool.now c.judge_new.new.pool c.create_file.new.pool c.judge_new.ensures.reads c.args.self.now c.judge_new.new.volume c.create_file.new.volume c.judge_new.ensures.same _ c.in_err-create_file.ensures.alters is led
-
-pub returns-in_err-create_file-clause-room : goal.returns-in_err-create_file-clause-room
-returns-in_err-create_file-clause-room g c = λ is. left_room (g.D.Disk.shown c.args.disk.now) (g.D.Disk.shown c.judge_new.new.disk) (g.D.Disk.shown c.create_file.new.disk) c.args.pool.now c.judge_new.new.pool c.create_file.new.pool c.judge_new.ensures.reads c.args.self.now c.judge_new.new.volume c.create_file.new.volume c.judge_new.ensures.same _ c.in_err-create_file.ensures.alters is
-
-pub returns-clause-led : goal.returns-clause-led
-returns-clause-led g c = λ is led. counted_led (g.D.Disk.shown c.create_file.new.disk) c.create_file.new.pool c.create_file.new.volume c.count_change.new.volume c.count_change.ensures.others (left_led (g.D.Disk.shown c.args.disk.now) (g.D.Disk.shown c.judge_new.new.disk) (g.D.Disk.shown c.create_file.new.disk) c.args.pool.now c.judge_new.new.pool c.create_file.new.pool c.judge_new.ensures.reads c.args.self.now c.judge_new.new.volume c.create_file.new.volume c.judge_new.ensures.same (Ok tt) c.in_ok-create_file.ensures.alters is led)
-
-pub returns-clause-room : goal.returns-clause-room
-returns-clause-room g c = λ is. counted_room c.create_file.new.volume c.count_change.new.volume _ c.count_change.ensures.others (left_room (g.D.Disk.shown c.args.disk.now) (g.D.Disk.shown c.judge_new.new.disk) (g.D.Disk.shown c.create_file.new.disk) c.args.pool.now c.judge_new.new.pool c.create_file.new.pool c.judge_new.ensures.reads c.args.self.now c.judge_new.new.volume c.create_file.new.volume c.judge_new.ensures.same (Ok tt) c.in_ok-create_file.ensures.alters is)
+pub returns-clause-table : goal.returns-clause-table
+returns-clause-table g c = λ is. counted_table (g.D.Disk.shown c.args.disk.now) c.args.pool.now c.args.self.now (g.D.Disk.shown c.create_file.new.disk) c.create_file.new.pool c.create_file.new.volume c.count_change.new.volume c.count_change.ensures.others (left_table (g.D.Disk.shown c.args.disk.now) (g.D.Disk.shown c.judge_new.new.disk) (g.D.Disk.shown c.create_file.new.disk) c.args.pool.now c.judge_new.new.pool c.create_file.new.pool c.judge_new.ensures.reads c.args.self.now c.judge_new.new.volume c.create_file.new.volume c.judge_new.ensures.same (Ok tt) c.in_ok-create_file.ensures.alters is)

@@ -9,7 +9,7 @@ use Rattle.fv_volume.specs.Lending.{lent_for}
 use Rattle.fv_volume.specs.OneVolume.{home_in, standing_for, volume_for, IsStanding}
 use Rattle.fv_volume.proofs.Asked.{first_info}
 use Rattle.fv_volume.proofs.CallCauses.{fails_later, failed_cause}
-use Rattle.fv_volume.proofs.Calling.{counted_led, counted_room, left_led, left_room, refused_led, refused_room, left_fits, failed_changes, failed_head, failed_stands, left_ready, refused_changes, refused_head, refused_ready, refused_standing, done_head, done_ready, Parts}
+use Rattle.fv_volume.proofs.Calling.{counted_table, left_table, refused_table, left_fits, failed_changes, failed_head, failed_stands, left_ready, refused_changes, refused_head, refused_ready, refused_standing, done_head, done_ready, Parts}
 use Rattle.fv_volume.proofs.OneVolumes.{reads_then, said_after}
 use Rattle.fv_volume.proofs.MadePut.{put_is, put_stands}
 use Rattle.fv_volume.proofs.state.VolumeState.put.Goals as goal
@@ -129,22 +129,13 @@ write_block-requires-clause-there g c = said_after (g.D.Disk.shown c.args.disk.n
     (λ (s : Standing). IsInfoOf s.inode c.in_ok-admission.admission.info)
     (λ is. first_info (standing_for (g.D.Disk.shown c.args.disk.now) c.args.pool.now c.args.self.now).inode c.args.file.now c.in_ok-admission.admission.info (c.in_ok-admission.ensures.accepted is).first)
 
--- ---- what is led to, and what is pending
+-- ---- its table
 
-pub returns-in_err-admission-clause-led : goal.returns-in_err-admission-clause-led
-returns-in_err-admission-clause-led g c = λ is led. refused_led (g.D.Disk.shown c.args.disk.now) (g.D.Disk.shown c.judge_put.new.disk) c.args.pool.now c.judge_put.new.pool c.judge_put.ensures.reads c.args.self.now c.judge_put.new.volume c.judge_put.ensures.same led
+pub returns-in_err-admission-clause-table : goal.returns-in_err-admission-clause-table
+returns-in_err-admission-clause-table g c = λ is. refused_table (g.D.Disk.shown c.args.disk.now) (g.D.Disk.shown c.judge_put.new.disk) c.args.pool.now c.judge_put.new.pool c.judge_put.ensures.reads c.args.self.now c.judge_put.new.volume c.judge_put.ensures.same
 
-pub returns-in_err-admission-clause-room : goal.returns-in_err-admission-clause-room
-returns-in_err-admission-clause-room g c = λ is. refused_room (g.D.Disk.shown c.args.disk.now) (g.D.Disk.shown c.judge_put.new.disk) c.args.pool.now c.judge_put.new.pool c.judge_put.ensures.reads c.args.self.now c.judge_put.new.volume c.judge_put.ensures.same
+pub returns-in_err-write_block-clause-table : goal.returns-in_err-write_block-clause-table
+returns-in_err-write_block-clause-table g c = λ is. left_table (g.D.Disk.shown c.args.disk.now) (g.D.Disk.shown c.judge_put.new.disk) (g.D.Disk.shown c.write_block.new.disk) c.args.pool.now c.judge_put.new.pool c.write_block.new.pool c.judge_put.ensures.reads c.args.self.now c.judge_put.new.volume c.write_block.new.volume c.judge_put.ensures.same _ c.in_err-write_block.ensures.alters is
 
-pub returns-in_err-write_block-clause-led : goal.returns-in_err-write_block-clause-led
-returns-in_err-write_block-clause-led g c = λ is led. left_led (g.D.Disk.shown c.args.disk.now) (g.D.Disk.shown c.judge_put.new.disk) (g.D.Disk.shown c.write_block.new.disk) c.args.pool.now c.judge_put.new.pool c.write_block.new.pool c.judge_put.ensures.reads c.args.self.now c.judge_put.new.volume c.write_block.new.volume c.judge_put.ensures.same _ c.in_err-write_block.ensures.alters is led
-
-pub returns-in_err-write_block-clause-room : goal.returns-in_err-write_block-clause-room
-returns-in_err-write_block-clause-room g c = λ is. left_room (g.D.Disk.shown c.args.disk.now) (g.D.Disk.shown c.judge_put.new.disk) (g.D.Disk.shown c.write_block.new.disk) c.args.pool.now c.judge_put.new.pool c.write_block.new.pool c.judge_put.ensures.reads c.args.self.now c.judge_put.new.volume c.write_block.new.volume c.judge_put.ensures.same _ c.in_err-write_block.ensures.alters is
-
-pub returns-clause-led : goal.returns-clause-led
-returns-clause-led g c = λ is led. counted_led (g.D.Disk.shown c.write_block.new.disk) c.write_block.new.pool c.write_block.new.volume c.count_change.new.volume c.count_change.ensures.others (left_led (g.D.Disk.shown c.args.disk.now) (g.D.Disk.shown c.judge_put.new.disk) (g.D.Disk.shown c.write_block.new.disk) c.args.pool.now c.judge_put.new.pool c.write_block.new.pool c.judge_put.ensures.reads c.args.self.now c.judge_put.new.volume c.write_block.new.volume c.judge_put.ensures.same (Ok tt) c.in_ok-write_block.ensures.alters is led)
-
-pub returns-clause-room : goal.returns-clause-room
-returns-clause-room g c = λ is. counted_room c.write_block.new.volume c.count_change.new.volume _ c.count_change.ensures.others (left_room (g.D.Disk.shown c.args.disk.now) (g.D.Disk.shown c.judge_put.new.disk) (g.D.Disk.shown c.write_block.new.disk) c.args.pool.now c.judge_put.new.pool c.write_block.new.pool c.judge_put.ensures.reads c.args.self.now c.judge_put.new.volume c.write_block.new.volume c.judge_put.ensures.same (Ok tt) c.in_ok-write_block.ensures.alters is)
+pub returns-clause-table : goal.returns-clause-table
+returns-clause-table g c = λ is. counted_table (g.D.Disk.shown c.args.disk.now) c.args.pool.now c.args.self.now (g.D.Disk.shown c.write_block.new.disk) c.write_block.new.pool c.write_block.new.volume c.count_change.new.volume c.count_change.ensures.others (left_table (g.D.Disk.shown c.args.disk.now) (g.D.Disk.shown c.judge_put.new.disk) (g.D.Disk.shown c.write_block.new.disk) c.args.pool.now c.judge_put.new.pool c.write_block.new.pool c.judge_put.ensures.reads c.args.self.now c.judge_put.new.volume c.write_block.new.volume c.judge_put.ensures.same (Ok tt) c.in_ok-write_block.ensures.alters is)

@@ -1,5 +1,6 @@
 use Rattle.std.proofs.Common.{◌≡◌, refl, ap, arith}
 use Rattle.fv_volmap.specs.Slots.{Volume}
+use Rattle.fv_volume.proofs.Going.{goes_dropped}
 use Rattle.fv_volume.proofs.Shows.{apart_gone, held_gone, numbers_gone, unused_member, use_gone, used_member}
 use Rattle.fv_volume.proofs.volume_blocks.VolumeBlocksBlocks.gone.Goals as goal
 
@@ -38,3 +39,8 @@ returns-clause-drops g c =
       spent = refl;
       calm = record { faults = refl; damages = refl; spent = omega arith };
     }
+
+pub returns-clause-calls : goal.returns-clause-calls
+returns-clause-calls g c =
+    let self = c.args.self.now in
+    (refl, refl, refl, refl, goes_dropped self.pool.now self.map.now c.drop_number.new.map (g.D.Disk.shown self.disk.now) self.steps.now self.home self.room self.strays c.drop_number.new.strays self.noted c.args.vvbn c.drop_number.ensures.valid c.drop_number.ensures.released)

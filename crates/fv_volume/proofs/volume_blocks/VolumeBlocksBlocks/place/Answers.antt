@@ -1,4 +1,4 @@
-use Rattle.std.proofs.Common.{rules, ◌≤◌, ◌≡◌, ◌⊎◌, refl, sym, ap, subst, ◌∙◌, inl, inr, ⊎_elim, arith}
+use Rattle.std.proofs.Common.{rules, ◌<◌, ◌≤◌, ◌+◌, ◌≡◌, ◌⊎◌, refl, sym, ap, subst, ◌∙◌, inl, inr, ⊎_elim, arith}
 use Rattle.fv_image.specs.Layout.{root_place}
 use Rattle.fv_volume.specs.BlocksOver.{block_of}
 use Rattle.fv_volume.specs.Lending.{GoesOver, IsOutOfRoom, WasHole, lent_by}
@@ -54,16 +54,20 @@ returns-in-Err-clause-places g c =
       cause = search rules;
     }
 
+pub returns-in-Ok-clause-known : goal.returns-in-Ok-clause-known
+returns-in-Ok-clause-known g c = λ known. c.in-Ok.ensures.placed.takes.least
+
 pub returns-in-Ok-clause-calls : goal.returns-in-Ok-clause-calls
 returns-in-Ok-clause-calls g c =
     let self = c.args.self.now in
-    let fewer : c.saturating_sub-self.result ≤ self.room = omega (arith, c.saturating_sub-self.ensures) in (
+    let fewer : c.saturating_sub-self.result ≤ self.room = omega (arith, c.saturating_sub-self.ensures) in
+    let one : 0 < c.saturating_sub-self.result → c.saturating_sub-self.result + 1 ≤ self.room = λ some. omega (arith, some, c.saturating_sub-self.ensures) in (
       refl,
       refl,
       refl,
       refl,
       goes_placed self.pool.now c.place_block.new.pool self.map.now c.place_block.new.map c.args.kind c.args.block.now c.in-Ok.placed (g.D.Disk.shown self.disk.now) self.steps.now self.home
-          self.room c.saturating_sub-self.result self.strays self.noted c.in-Ok.ensures.placed fewer self.entries,
+          self.room c.saturating_sub-self.result self.strays self.noted c.in-Ok.ensures.placed fewer one c.in-Ok.ensures.leaves self.entries,
     )
 
 pub returns-in-Err-clause-calls : goal.returns-in-Err-clause-calls

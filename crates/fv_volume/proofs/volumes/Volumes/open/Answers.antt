@@ -1,6 +1,6 @@
 use Rattle.std.proofs.Common.{◌≡◌, ℕ, length, refl, arith}
 use Rattle.std.specs.Prelude.{IsTrue}
-use Rattle.fv_volume.proofs.Openings.{all_led, all_ready, all_standing}
+use Rattle.fv_volume.proofs.Openings.{all_led, all_ready, all_standing, all_well}
 use Rattle.fv_volume.proofs.Viewed.{loaded_machine, loaded_states, viewed}
 use Rattle.fv_volume.specs.Calls.{Reads}
 use Rattle.fv_volume.specs.declared.pool.Pool.{Pool}
@@ -24,6 +24,7 @@ returns g c =
       whole = λ tells none m is. loaded_states left i states did.kept (did.loaded tells) none m is (whole tells);
       ready = λ size s. all_ready (g.D.Disk.shown c.load_states.new.disk) left states did.kept did.stands size s;
       led = λ tells none m is s. all_led disk (g.D.Disk.shown c.load_states.new.disk) left states reads did.kept tells (whole tells) (did.loaded tells) none m is s;
+      well = λ tells none m is s. all_well disk (g.D.Disk.shown c.load_states.new.disk) left states reads did.kept (whole tells) (did.loaded tells) none m is s;
       standing = λ tells none map m is s. all_standing disk (g.D.Disk.shown c.load_states.new.disk) left states reads did.kept tells (whole tells) (did.loaded tells) none map m is s;
       map = refl;
       kept = refl;

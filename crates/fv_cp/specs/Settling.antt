@@ -1,0 +1,82 @@
+-- What a consistency point does in front of which the files of all volumes are placed.
+use Rattle.std.specs.Prelude.{◌≡◌, ◌<◌, ◌+◌, ◌⊎◌, ℕ, false, List, Some, Result, Ok, Err, IfSome, IsTrue}
+use Rattle.std.specs.FinMap as fin
+use Rattle.fv_disk.specs.Shown.{Image, IsSettled, Rose, Shown}
+use Rattle.fv_model.specs.Machines.{Machine}
+use Rattle.fv_image.specs.Held.{view_at}
+use Rattle.fv_image.specs.Views.{delayed}
+use Rattle.fv_image.specs.WholeMachine.{machine_of}
+use Rattle.fv_root.specs.Finding.{root_found}
+use Rattle.fv_root.specs.Commits.{IsFoundOn}
+use Rattle.fv_store.specs.Held.{StandsOn}
+use Rattle.fv_container.specs.Chains.{parent_at}
+use Rattle.fv_aggmap.specs.Loading.{IsLoaded as IsMapLoaded}
+use Rattle.fv_aggmap.specs.Space.{free_blocks}
+use Rattle.fv_volume.specs.declared.fault.VolumeFault.{VolumeFault}
+use Rattle.fv_volume.specs.declared.fault.VolumeFault.TheVariants.{Refused, DiskFault, Damaged, Memory}
+use Rattle.fv_volume.specs.declared.pool.Pool.{Pool}
+use Rattle.fv_volume.specs.States.{States, state_at}
+use Rattle.fv_cp.specs.Held.{machine_held, IsHeld}
+use Rattle.fv_cp.specs.Lent.{blocks_asked, FitTogether}
+use Rattle.fv_cp.specs.Placing.{pending_files, ArePlaced, AreReady, HasNoFiles, HasNumbers, KeepCores}
+
+-- an image stands for the machine of the last point, or for that of the session
+abbrev pub OldOrHeld : Shown → Pool → States → Machine → Image → List ℕ → Type 0
+OldOrHeld disk pool states before c g = ((machine_of c ≡ Some before) ⊎ (machine_of c ≡ Some (machine_held disk pool states))) × (g ≡ disk.given)
+
+-- What such a point that was done leaves: a settled disk that stands for the machine of the session, which still stands for it, with nothing in
+-- memory that isn't on the disk, and nothing delayed.
+pub record IsHeldPoint (old : Shown) (pool : Pool) (states : States) (new : Shown) (left : Pool) (stay : States) : Type 0 where
+  pub settled : IsSettled new
+  pub stands : machine_of new.reads ≡ Some (machine_held old pool states)
+  pub held : IsHeld new left stay (machine_held old pool states)
+  pub machine : machine_held new left stay ≡ machine_held old pool states
+  pub unchanged : (s : ℕ) → IfSome (state_at stay s) (λ x. x.changed ≡ false)
+  pub reclaimed : delayed (view_at (root_found left.found) new.reads) ≡ 0
+
+-- What it leaves of any disk, and of any volumes: the cache tells what the disk reads, the root and the map in memory are those of the new root,
+-- all fits together as the next point needs it, no file is in memory, calls can be made on each volume, and of each only that is new which
+-- placing and a point change.
+pub record GoesOnWhole (old : Shown) (pool : Pool) (states : States) (new : Shown) (left : Pool) (stay : States) : Type 0 where
+  pub stands : StandsOn new left.store.pairs
+  pub found : IsTrue old.tells → IsFoundOn new left.found
+  pub loaded : IsTrue old.tells → IsMapLoaded new.reads left.found left.map
+  pub fit : FitTogether left stay
+  pub ready : AreReady new left stay
+  pub none : (s : ℕ) → HasNoFiles (state_at stay s)
+  pub unkept : left.kept ≡ fin.empty
+  pub cores : KeepCores states stay
+  pub parents : (s : ℕ) → parent_at left.containers s ≡ parent_at pool.containers s
+  pub blocks : left.found.blocks ≡ pool.found.blocks
+
+-- What is left where it wasn't done, but for want of a write or a barrier: some files may have been placed. The volumes are what they were.
+pub record StillHeld (old : Shown) (pool : Pool) (states : States) (new : Shown) (left : Pool) (stay : States) : Type 0 where
+  pub placed : ArePlaced old pool states new left stay
+  pub stands : StandsOn new left.store.pairs
+  pub ready : AreReady new left stay
+
+-- Both counts of faults rose where a write or barrier failed, and stay elsewhere. Nothing is refused.
+abbrev pub HasWholeCause : Shown → Shown → Result Unit VolumeFault → Type 0
+HasWholeCause old new (Ok done) = (new.faults ≡ old.faults) × (new.write_faults ≡ old.write_faults)
+HasWholeCause old new (Err (Refused r)) = ⊥
+HasWholeCause old new (Err DiskFault) = Rose old.faults new.faults × Rose old.write_faults new.write_faults
+HasWholeCause old new (Err (Damaged at want found)) = (new.faults ≡ old.faults) × (new.write_faults ≡ old.write_faults)
+HasWholeCause old new (Err Memory) = (new.faults ≡ old.faults) × (new.write_faults ≡ old.write_faults)
+
+-- what is told and given and the ends of a host stay
+pub record WholeCounts (old new : Shown) (result : Result Unit VolumeFault) : Type 0 where
+  pub tells : new.tells ≡ old.tells
+  pub given : new.given ≡ old.given
+  pub ends : new.ends ≡ old.ends
+  pub cause : HasWholeCause old new result
+
+-- With so many free numbers in each volume, and so many free blocks, no damage is answered.
+pub record HaveFullRoom (pool : Pool) (states : States) : Type 0 where
+  pub numbers : (s : ℕ) → HasNumbers (state_at states s)
+  pub blocks : blocks_asked states + pending_files states < free_blocks pool.map
+
+abbrev pub IsNoDamage : VolumeFault → Type 0
+IsNoDamage (Refused r) = Unit {0}
+IsNoDamage DiskFault = Unit {0}
+IsNoDamage (Damaged at want found) = ⊥
+IsNoDamage Memory = Unit {0}

@@ -1,0 +1,71 @@
+//! A consistency point of all that changed, files included.
+
+ghost use Rattle.std.specs.Prelude.{◌≡◌, IsTrue, IfErr, OnOk, OnErr};
+ghost use Rattle.fv_disk.specs.Crash.{Leaves};
+ghost use Rattle.fv_disk.specs.Shown.{Rose};
+ghost use Rattle.fv_model.specs.Machines.{Machine};
+ghost use Rattle.fv_root.specs.Commits.{IsFoundOn};
+ghost use Rattle.fv_store.specs.Held.{StandsOn};
+ghost use Rattle.fv_container.specs.Chains.{IsSlots, container_at, with_container};
+ghost use Rattle.fv_cp.specs.Held.{IsHeld};
+ghost use Rattle.fv_cp.specs.Lent.{FitTogether};
+ghost use Rattle.fv_cp.specs.Placing.{AreReady};
+ghost use Rattle.fv_cp.specs.Settling.{GoesOnWhole, HaveFullRoom, IsHeldPoint, IsNoDamage, OldOrHeld, StillHeld, WholeCounts};
+
+use crate::placing::flush;
+use crate::point::consistency_point;
+use fv_container::Containers;
+use fv_disk::Disk;
+use fv_volume::{Pool, VolumeFault, Volumes};
+
+/// Places what changed of the files of all volumes, writes what changed in the volumes, and makes a root count that names it: `flush`, and
+/// then `consistency_point`. `want` is the room in blocks that the event needs which asked for the point.
+///
+/// A crash at any moment leaves an image that stands for the machine of the last point or for that of the volumes with their files in memory,
+/// and after `Ok` the latter, on a settled disk. No file is in memory then.
+///
+/// # Errors
+/// `DiskFault` comes only where a write or a barrier failed in this call; of what is in memory nothing is said then, and of images as above.
+/// After every other fault the volumes are what they were, and stand for the machine that they stood for, so that they can be changed further
+/// and a later point can write them. `Damaged` and `Memory` come as in `flush`, and `Damaged` where fewer blocks are free than a point asks
+/// for. Volumes that stand for a machine, with more free numbers than are pending, are never `Damaged` where more blocks are free than are
+/// pending and asked for. Nothing is `Refused`.
+///
+/// Costs what the two calls cost.
+pub fn full_point<D: Disk>(
+    volumes: &mut Volumes,
+    pool: &mut Pool,
+    disk: &mut D,
+    want: u64,
+) -> Result<(), VolumeFault>
+    requires stands { StandsOn (D.shown disk.old) pool.old.store.pairs }
+    requires found { IsTrue (D.shown disk.old).tells → IsFoundOn (D.shown disk.old) pool.old.found }
+    requires fit { FitTogether pool.old volumes.old }
+    requires ready { AreReady (D.shown disk.old) pool.old volumes.old }
+    ensures any_moment { IsTrue (D.shown disk.old).tells → (before : Machine) → IsHeld (D.shown disk.old) pool.old volumes.old before
+        → Leaves (D.shown disk.old) (D.shown disk.new) (OldOrHeld (D.shown disk.old) pool.old volumes.old before) }
+    ensures point { IsTrue (D.shown disk.old).tells → (before : Machine) → IsHeld (D.shown disk.old) pool.old volumes.old before
+        → OnOk result (IsHeldPoint (D.shown disk.old) pool.old volumes.old (D.shown disk.new) pool.new volumes.new) }
+    ensures goes_on { OnOk result (GoesOnWhole (D.shown disk.old) pool.old volumes.old (D.shown disk.new) pool.new volumes.new) }
+    ensures still { OnErr result (¬ Rose (D.shown disk.old).write_faults (D.shown disk.new).write_faults
+        → StillHeld (D.shown disk.old) pool.old volumes.old (D.shown disk.new) pool.new volumes.new) }
+    ensures enough { IsTrue (D.shown disk.old).tells → (before : Machine) → IsHeld (D.shown disk.old) pool.old volumes.old before
+        → HaveFullRoom pool.old volumes.old → IfErr result IsNoDamage }
+    ensures counts { WholeCounts (D.shown disk.old) (D.shown disk.new) result }
+{
+    flush(volumes, pool, &*disk)?;
+    consistency_point(volumes, pool, disk, want)?;
+    count_slots(&mut pool.containers);
+    Ok(())
+}
+
+/// There are as many slots as volumes can have, which is needed of them.
+fn count_slots(containers: &mut Containers)
+    ensures same { containers.new ≡ with_container containers.old 0 (container_at containers.old 0) }
+    ensures valid { IsSlots containers.old }
+{
+    match containers.get_mut(0) {
+        Some(_) => {}
+        None => {}
+    }
+}

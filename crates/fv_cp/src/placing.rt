@@ -1,0 +1,89 @@
+//! Placing what changed of the files of all volumes.
+
+ghost use Rattle.std.specs.Prelude.{◌≡◌, ◌<◌, ℕ, Some, None, IfErr, IfSome, OnOk, length};
+ghost use Rattle.fv_container.specs.Chains.{slot_count};
+ghost use Rattle.fv_store.specs.Held.{StandsOn};
+ghost use Rattle.fv_volmap.specs.Slots.{active_of};
+ghost use Rattle.fv_volume.specs.OneVolume.{IsReady};
+ghost use Rattle.fv_volume.specs.States.{state_at};
+ghost use Rattle.fv_cp.specs.Lent.{FitTogether};
+ghost use Rattle.fv_model.specs.Machines.{Machine};
+ghost use Rattle.fv_volume.specs.declared.fault.VolumeFault.TheVariants.{Memory};
+ghost use Rattle.fv_cp.specs.Held.{IsHeld};
+ghost use Rattle.fv_cp.specs.Placing.{ArePlaced, AreReady, HasNoFiles, HasWholeMap, HaveRoom, IsPlaceFault, IsPlacedAs, IsReadyIn, MayFail, PlacesSlot};
+
+use fv_disk::Disk;
+use fv_volume::{Pool, VolumeFault, VolumeState, Volumes};
+
+/// How many volumes there can be.
+const SLOTS: u8 = 64;
+
+/// Places what changed of the files of all volumes, in the order of slots, so that a consistency point can follow: each block waits among
+/// the kept ones, and its volume's active root names the files. Then no file is in memory. In every outcome the volumes stand for the
+/// machine that they stood for, and a later call goes on where one failed. It makes no call of the disk.
+///
+/// # Errors
+/// `Damaged` and `Memory` come as in `VolumeState::flush`, for the volume of the least slot that they come for. Where volumes stand for a
+/// machine, and each has more free numbers, and the aggregate more free blocks, than are pending, only `Memory` comes. Nothing is `Refused`,
+/// and `DiskFault` doesn't come.
+///
+/// Costs what the flush of each volume costs with files in memory, and for each of these a step for each number of its span.
+pub fn flush<D: Disk>(volumes: &mut Volumes, pool: &mut Pool, disk: &D) -> Result<(), VolumeFault>
+    requires fit { FitTogether pool.old volumes.old }
+    requires stands { StandsOn (D.shown disk.now) pool.old.store.pairs }
+    requires ready { AreReady (D.shown disk.now) pool.old volumes.old }
+    ensures placed { ArePlaced (D.shown disk.now) pool.old volumes.old (D.shown disk.now) pool.new volumes.new }
+    ensures none { OnOk result ((s : ℕ) → HasNoFiles (state_at volumes.new s)) }
+    ensures whole { OnOk result ((s : ℕ) → HasWholeMap (state_at volumes.new s)) }
+    ensures stands { StandsOn (D.shown disk.now) pool.new.store.pairs }
+    ensures ready { AreReady (D.shown disk.now) pool.new volumes.new }
+    ensures enough { (before : Machine) → IsHeld (D.shown disk.now) pool.old volumes.old before → HaveRoom pool.old volumes.old → IfErr result (λ e. e ≡ Memory) }
+    ensures cause { IfErr result IsPlaceFault }
+{
+    for slot in 0..SLOTS {
+        flush_slot(volumes, pool, disk, slot)?;
+    }
+    Ok(())
+}
+
+/// Places what changed of the files of the volume of a slot, if there is one.
+fn flush_slot<D: Disk>(
+    volumes: &mut Volumes,
+    pool: &mut Pool,
+    disk: &D,
+    slot: u8,
+) -> Result<(), VolumeFault>
+    requires slot { slot < slot_count }
+    requires ready { IfSome (state_at volumes.old slot) (IsReadyIn (D.shown disk.now) pool.old slot) }
+    ensures placed { PlacesSlot (D.shown disk.now) pool.old volumes.old slot (state_at volumes.old slot) (D.shown disk.now) pool.new volumes.new }
+    ensures idle { state_at volumes.old slot ≡ None → (pool.new ≡ pool.old) × (volumes.new ≡ volumes.old) }
+    ensures none { OnOk result (HasNoFiles (state_at volumes.new slot)) }
+    ensures whole { HasWholeMap (state_at volumes.new slot) }
+    ensures fails { IfErr result (MayFail (D.shown disk.now) pool.old (state_at volumes.old slot)) }
+    ensures cause { IfErr result IsPlaceFault }
+{
+    match volumes.get_mut(slot) {
+        Some(state) => flush_volume(state, pool, disk),
+        None => Ok(()),
+    }
+}
+
+/// Places what changed of the files of a volume, with all the room that there is for it.
+fn flush_volume<D: Disk>(
+    state: &mut VolumeState,
+    pool: &mut Pool,
+    disk: &D,
+) -> Result<(), VolumeFault>
+    requires ready { IsReady (D.shown disk.now) pool.old state.old }
+    ensures placed { IsPlacedAs (D.shown disk.now) pool.old state.old (D.shown disk.now) pool.new state.new }
+    ensures none { OnOk result (state.new.files ≡ None) }
+    ensures whole { length (active_of state.new.map) ≡ state.new.map.span }
+    ensures fails { IfErr result (MayFail (D.shown disk.now) pool.old (Some state.old)) }
+    ensures cause { IfErr result IsPlaceFault }
+{
+    let mut room = state.room(pool);
+    let flushed = state.flush(pool, disk, &mut room);
+    // What is known of every map is needed of this one.
+    let _ = state.map.active();
+    flushed
+}

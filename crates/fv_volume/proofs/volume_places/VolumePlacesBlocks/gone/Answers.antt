@@ -1,0 +1,53 @@
+use Rattle.std.proofs.Common.{◌≡◌, inl, refl, ap, arith}
+use Rattle.fv_volmap.specs.Slots.{Volume}
+use Rattle.fv_volume.proofs.Going.{goes_dropped}
+use Rattle.fv_volume.proofs.Shows.{apart_gone, held_gone, numbers_gone, unused_member, use_gone, used_member}
+use Rattle.fv_volume.proofs.volume_places.VolumePlacesBlocks.gone.Goals as goal
+
+pub invariant_of-self-clause-few : goal.invariant_of-self-clause-few
+invariant_of-self-clause-few g c =
+    let span : c.drop_number.new.map.span ≡ c.args.self.now.map.now.span = ap (λ (m : Volume). m.span) c.drop_number.ensures.released in
+    omega (arith, span, c.args.self.now.few)
+
+pub invariant_of-self-clause-entries : goal.invariant_of-self-clause-entries
+invariant_of-self-clause-entries g c =
+    let span : c.drop_number.new.map.span ≡ c.args.self.now.map.now.span = ap (λ (m : Volume). m.span) c.drop_number.ensures.released in
+    omega (arith, span, c.args.self.now.entries)
+
+pub invariant_of-self-clause-numbers : goal.invariant_of-self-clause-numbers
+invariant_of-self-clause-numbers g c =
+    let more = numbers_gone c.args.self.now.map.now c.drop_number.new.map c.args.vvbn c.drop_number.ensures.valid c.drop_number.ensures.released in
+    omega (arith, more, c.args.self.now.numbers)
+
+pub invariant_of-self-clause-apart : goal.invariant_of-self-clause-apart
+invariant_of-self-clause-apart g c = λ told. apart_gone c.args.self.now.map.now c.drop_number.new.map c.args.vvbn c.drop_number.ensures.valid c.drop_number.ensures.released c.args.self.now.pool.now c.args.self.now.home.slot
+    (c.args.self.now.apart told)
+
+pub returns-clause-drops : goal.returns-clause-drops
+returns-clause-drops g c =
+    let self = c.args.self.now in
+    let map = self.map.now in
+    let slots = self.pool.now.containers in
+    let slot = self.home.slot in
+    let v = c.args.vvbn in
+    record {
+      held = held_gone map c.drop_number.new.map v c.drop_number.ensures.valid c.drop_number.ensures.released slots slot self.pool.now (g.D.Disk.shown self.disk.now).reads refl;
+      used = use_gone map c.drop_number.new.map v c.drop_number.ensures.valid c.drop_number.ensures.released slots slot;
+      named = λ some. c.drop_number.ensures.named (used_member map slots slot v some);
+      stray = λ none. c.drop_number.ensures.stray (unused_member map slots slot v none);
+      room = omega arith;
+      spent = refl;
+      calm = record { faults = refl; damages = refl; spent = omega arith };
+    }
+
+pub returns-clause-calls : goal.returns-clause-calls
+returns-clause-calls g c =
+    let self = c.args.self.now in (
+      refl,
+      refl,
+      refl,
+      record {
+        goes = goes_dropped self.pool.now self.map.now c.drop_number.new.map (g.D.Disk.shown self.disk.now) 0 self.home self.room self.strays c.drop_number.new.strays self.noted c.args.vvbn c.drop_number.ensures.valid c.drop_number.ensures.released;
+        noted = inl refl;
+      },
+    )
