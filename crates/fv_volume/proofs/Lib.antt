@@ -16,6 +16,7 @@ mod Holding
 pub mod Trees
 pub mod Charging
 mod Shows
+mod PlaceShown
 mod Going
 mod Failing
 pub mod Splits
