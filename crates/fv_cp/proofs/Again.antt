@@ -31,7 +31,7 @@ use Rattle.fv_volume.proofs.Told.{head_there, is_inside}
 use Rattle.fv_volume.proofs.Trees.{unchanged_machine}
 use Rattle.fv_cp.specs.Held.{IsHeld, IsHeldIn}
 use Rattle.fv_cp.specs.Lent.{IsLent}
-use Rattle.fv_cp.proofs.Ruled.{seen_lone}
+use Rattle.fv_volume.proofs.Ruled.{seen_lone}
 
 at_most : (a b : ℕ) → nat_le a b ≡ true → a ≤ b
 at_most a b test = grind (arith, nat_tests, test)

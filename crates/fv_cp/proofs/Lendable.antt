@@ -63,13 +63,13 @@ use Rattle.fv_cp.specs.Held.{machine_held, named_held, IsHeld, IsHeldIn}
 use Rattle.fv_cp.specs.Lent.{FitTogether, HaveReach, IsLent}
 use Rattle.fv_cp.specs.Placing.{HasNoFiles, HasWholeMap}
 use Rattle.fv_cp.specs.Points.{machine_lent}
-use Rattle.fv_cp.proofs.Facts.{are_ruled, led_by}
+use Rattle.fv_volume.proofs.Facts.{are_ruled, led_by}
 use Rattle.fv_cp.proofs.Placed.{alone_by, own_has}
-use Rattle.fv_cp.proofs.Records.{all_records, cell_below, file_levels, file_there, inode_levels, names_apart}
+use Rattle.fv_volume.proofs.Records.{all_records, cell_below, file_levels, file_there, inode_levels, names_apart}
 use Rattle.fv_bits.specs.Members.{is_member}
 use Rattle.fv_laws.specs.Positions.{HasNoReserve}
-use Rattle.fv_cp.proofs.Ruled as rule
-use Rattle.fv_cp.proofs.Ruled.{AreRuled, IsRuled, lone, lone_root, owner_number, seen_lone}
+use Rattle.fv_volume.proofs.Ruled as rule
+use Rattle.fv_volume.proofs.Ruled.{AreRuled, IsRuled, lone, lone_root, owner_number, seen_lone}
 
 at_most : (a b : ℕ) → a ≤ b → nat_le a b ≡ true
 at_most a b le = grind (arith, nat_tests, le)

@@ -47,7 +47,7 @@ use Rattle.fv_volume.proofs.Told.{is_inside, none_some}
 use Rattle.fv_cp.specs.Held.{machine_held, named_held, IsHeld, IsHeldIn}
 use Rattle.fv_cp.specs.Lent.{asked_by, blocks_asked, AreKept, FitTogether}
 use Rattle.fv_cp.specs.Placing.{core_of, pending_by, pending_files, AreReady, HasNumbers, HaveRoom, HaveSpent, IsPlacedAs, IsReadyIn, KeepCores}
-use Rattle.fv_cp.proofs.Owned.{apart_now, bits, from_free, leads_own, lies_well, tree_same}
+use Rattle.fv_volume.proofs.Owned.{apart_now, bits, from_free, leads_own, lies_well, tree_same}
 
 -- a container that is there
 record Lies (c : Option Mapped) : Type 0 where

@@ -77,3 +77,7 @@ pub mod Openings
 pub mod NewStanding
 pub mod Reached
 mod Commanded
+pub mod Ruled
+pub mod Facts
+pub mod Records
+pub mod Owned

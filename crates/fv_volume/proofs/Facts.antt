@@ -54,7 +54,7 @@ use Rattle.fv_volume.specs.OneVolume.{shows, standing_by, IsStanding}
 use Rattle.fv_volume.specs.States.{States, head_in, placed_in, state_at, view_over}
 use Rattle.fv_volume.proofs.Standings.{agree, held_own, standing_reached}
 use Rattle.fv_volume.proofs.Told.{head_there}
-use Rattle.fv_cp.proofs.Ruled.{AreRuled, IsRuled, owner_number}
+use Rattle.fv_volume.proofs.Ruled.{AreRuled, IsRuled, owner_number}
 
 -- ---- what a block says
 
