@@ -1,5 +1,5 @@
 -- The files of volumes are placed slot by slot.
-use Rattle.std.proofs.Common.{◌≡◌, ◌≢◌, ℕ, ◌<◌, ◌≤◌, ◌+◌, Option, Some, None, inl, ⊎_elim, refl, sym, ap, subst, ◌∙◌, arith, get_or-set_other}
+use Rattle.std.proofs.Common.{◌≡◌, ◌≢◌, ℕ, ◌<◌, ◌+◌, Option, Some, None, inl, ⊎_elim, refl, sym, ap, subst, ◌∙◌, arith, get_or-set_other}
 use Rattle.std.specs.Prelude.{IfSome}
 use Rattle.std.proofs.lemmas.Bool.{cases_eq}
 use Rattle.std.proofs.lemmas.List.Sums.{sum_by-set}
@@ -18,7 +18,8 @@ use Rattle.fv_volume.proofs.Told.{is_inside}
 use Rattle.fv_cp.specs.Held.{IsHeld, IsHeldIn}
 use Rattle.fv_cp.specs.Lent.{FitTogether}
 use Rattle.fv_cp.specs.Placing.{ArePlaced, AreReady, HasNoFiles, HasNumbers, HasWholeMap, HaveRoom, HaveSpent, IsReadyIn, IsSlotPlaced, MayFail, PlacesSlot, pending_by}
-use Rattle.fv_cp.proofs.Placed.{asked_still, cores_still, fit_still, found_still, held_still, idle_still, spent_still, machine_still, only_read, ready_still}
+use Rattle.fv_cp.proofs.Placed.{asked_still, fit_still, held_still, spent_still, machine_still}
+use Rattle.fv_volume.proofs.PlacedIn as one
 
 -- what the placing of some files leaves
 pub record HasCome (disk : Shown) (pool : Pool) (states : States) (after : Shown) (left : Pool) (stay : States) : Type 0 where
@@ -72,13 +73,13 @@ module _ (disk : Shown) (pool : Pool) (states : States) (mid : Shown) (held : Po
       by None none fails = absurd fails
       by (Some x) there fails =
           let now : HaveRoom held between = room_now spent room in
-          let one : IsHeldIn mid held slot x = subst (λ (o : Option VolumeState). IfSome o (IsHeldIn mid held slot)) there ((come.placed.held before was).each slot) in
+          let own : IsHeldIn mid held slot x = subst (λ (o : Option VolumeState). IfSome o (IsHeldIn mid held slot)) there ((come.placed.held before was).each slot) in
           let inside = is_inside between slot x come.placed.fit.housed.long there in
           let long = come.placed.fit.housed.long in
           let part = sum_by-set pending_by between slot None None (omega (arith, inside, long)) in
           let is : pending_by (state_at between slot) ≡ pending_of x.files = ap pending_by there in
           let blocks = now.blocks in
-          fails one.stands (subst HasNumbers there (now.numbers slot)) (omega (arith, part, is, blocks))
+          fails own.stands (subst HasNumbers there (now.numbers slot)) (omega (arith, part, is, blocks))
 
   -- a slot with a volume
   with_volume : (x : VolumeState) → state_at between slot ≡ Some x → IsSlotPlaced mid held between slot x after left stay → HasCome disk pool states after left stay
@@ -91,21 +92,21 @@ module _ (disk : Shown) (pool : Pool) (states : States) (mid : Shown) (held : Po
           held = λ before was. held_still mid after held left between stay x did.now here now come.placed.fit did.placed before (come.placed.held before was);
           machine = λ before was. machine_still mid after held left between stay x did.now here now come.placed.fit did.placed before (come.placed.held before was) ∙ come.placed.machine before was;
           fit = fit_still mid after held left between stay x did.now here now come.placed.fit did.placed;
-          found = found_still mid after held left between stay x did.now here now come.placed.fit did.placed ∙ come.placed.found;
-          cores = λ s. cores_still mid after held left between stay x did.now here now come.placed.fit did.placed s ∙ come.placed.cores s;
+          found = did.placed.goes.goes.goes.found ∙ come.placed.found;
+          cores = λ s. one.cores_still mid after held left between stay x did.now here now come.placed.fit.housed did.placed s ∙ come.placed.cores s;
           asked = asked_still mid after held left between stay x did.now here now come.placed.fit did.placed ready.ready ∙ come.placed.asked;
           spent = λ before was room.
               let first = come.placed.spent before was room in
               let second = spent_still mid after held left between stay x did.now here now come.placed.fit did.placed before (come.placed.held before was) (room_now first room) in
               record { fewer = omega (arith, first.fewer, second.fewer); numbers = second.numbers; blocks = omega (arith, first.blocks, second.blocks) };
-          only_reads = reads_then disk mid after come.placed.only_reads (only_read mid after held left between stay x did.now here now come.placed.fit did.placed);
+          only_reads = reads_then disk mid after come.placed.only_reads (one.only_read mid after held left between stay x did.now here now come.placed.fit.housed did.placed);
           idle = λ none.
               let first = come.placed.idle none in
               let files : HasNoFiles (state_at between slot) = subst (λ (xs : States). HasNoFiles (state_at xs slot)) (sym first.1) (none slot) in
-              let second = idle_still mid after held left between stay x did.now here now come.placed.fit did.placed (subst HasNoFiles there files) in
+              let second = one.idle_still mid after held left between stay x did.now here now come.placed.fit.housed did.placed (subst HasNoFiles there files) in
               (second.0 ∙ first.0, second.1 ∙ first.1);
         };
-        ready = ready_still mid after held left between stay x did.now here now come.placed.fit did.placed come.ready;
+        ready = one.ready_still mid after held left between stay x did.now here now come.placed.fit.housed did.placed come.ready;
         stands = did.placed.ready.lent.stands;
       }
 

@@ -64,12 +64,12 @@ use Rattle.fv_cp.specs.Lent.{FitTogether, HaveReach, IsLent}
 use Rattle.fv_cp.specs.Placing.{HasNoFiles, HasWholeMap}
 use Rattle.fv_cp.specs.Points.{machine_lent}
 use Rattle.fv_volume.proofs.Facts.{are_ruled, led_by}
-use Rattle.fv_cp.proofs.Placed.{alone_by, own_has}
+use Rattle.fv_volume.proofs.PlacedIn.{alone_by, own_has}
 use Rattle.fv_volume.proofs.Records.{all_records, cell_below, file_levels, file_there, inode_levels, names_apart}
 use Rattle.fv_bits.specs.Members.{is_member}
 use Rattle.fv_laws.specs.Positions.{HasNoReserve}
 use Rattle.fv_volume.proofs.Ruled as rule
-use Rattle.fv_volume.proofs.Ruled.{AreRuled, IsRuled, lone, lone_root, owner_number, seen_lone}
+use Rattle.fv_volume.proofs.Ruled.{AreRuled, IsRuled, lone, owner_number, seen_lone}
 
 at_most : (a b : ℕ) → a ≤ b → nat_le a b ≡ true
 at_most a b le = grind (arith, nat_tests, le)
@@ -110,7 +110,7 @@ module _ (disk : Shown) (pool : Pool) (states : States) (before : Machine) (held
     inside = is_inside states s x fit.housed.long there
 
     own : (v : ℕ) (e : Entry) → own_entry (container_at pool.containers s) v ≡ Some e → (first_block pool.found.blocks ≤ e.pvbn) × (e.pvbn < pool.found.blocks)
-    own v e at = (held.spaced.held s e.pvbn inside (own_has disk pool states fit before held s x there e.pvbn (record { vvbn = v; entry = e; stands = at; leads = refl }))).1
+    own v e at = (held.spaced.held s e.pvbn inside (own_has disk pool states fit.housed held.slots s x there e.pvbn (record { vvbn = v; entry = e; stands = at; leads = refl }))).1
 
     stored_well : IsStoredUnder (blocks_of (shows disk pool x)) x.active.levels x.active.root
     stored_well = subst (AreStoredBy (blocks_of (shows disk pool x)) x.active) no_files one.well

@@ -18,7 +18,7 @@ use Rattle.fv_volume.specs.declared.pool.Pool.{Pool}
 use Rattle.fv_volume.specs.declared.state.VolumeState.{VolumeState}
 use Rattle.fv_volume.specs.BlocksOver.{AreApart}
 use Rattle.fv_volume.specs.Files.{IsLabelled, IsState}
-use Rattle.fv_volume.specs.Loading.{IsLoaded, LoadedTo}
+use Rattle.fv_volume.specs.Loading.{LoadedTo}
 use Rattle.fv_volume.specs.OneVolume.{IsReady, IsStanding}
 use Rattle.fv_volume.specs.Placing.{IsLedTo, IsStoredWell}
 use Rattle.fv_volume.specs.States.{States, head_in, parent_in, state_at, view_over}
@@ -34,7 +34,7 @@ use Rattle.fv_cp.specs.Held.{IsHeld}
 use Rattle.fv_cp.specs.Lent.{FitTogether, IsLent}
 use Rattle.fv_cp.specs.Placing.{HasNoFiles}
 use Rattle.fv_cp.proofs.Again.{lent_held}
-use Rattle.fv_cp.proofs.Placed.{alone_by}
+use Rattle.fv_volume.proofs.PlacedIn.{alone_by}
 
 module _ (disk : Shown) (pool : Pool) (states : States) (m : Machine) (lent : IsLent disk pool states m) (fit : FitTogether pool states) (unchanged : (s : ℕ) → IfSome (state_at states s) (λ x. x.changed ≡ false)) (unkept : pool.kept ≡ fin.empty)
     (few : length pool.containers.containers ≡ 64) (map : IsMapLoaded disk.reads pool.found pool.map) (tells : IsTrue disk.tells) (whole : (b : ℕ) → length (disk.reads b) ≡ 4096) (none : (s : ℕ) → HasNoFiles (state_at states s)) where

@@ -1,9 +1,8 @@
 -- A consistency point in front of which all files are placed.
-use Rattle.std.proofs.Common.{◌≡◌, ℕ, ◌+◌, ◌<◌, ◌≤◌, false, List, length, Option, Some, None, inl, inr, ⊎_elim, refl, sym, ap, subst, ◌∙◌, arith, Ok, Err}
+use Rattle.std.proofs.Common.{◌≡◌, ℕ, ◌<◌, ◌≤◌, length, Option, Some, None, inl, inr, ⊎_elim, refl, sym, ap, subst, ◌∙◌, arith, Ok, Err}
 use Rattle.std.specs.Prelude.{IfSome, IsTrue}
 use Rattle.std.specs.Option.{option_map}
 use Rattle.fv_disk.specs.Crash.{Leaves}
-use Rattle.fv_disk.specs.DiskCalls.{OnlyReads}
 use Rattle.fv_disk.specs.Faults.{HasBlockCause}
 use Rattle.fv_disk.specs.Shown.{Image, IsDisk, Rose, Shown}
 use Rattle.fv_disk.specs.declared.fault.BlockFault.{BlockFault}
@@ -11,11 +10,10 @@ use Rattle.fv_disk.specs.declared.fault.BlockFault.TheVariants.{DiskFault, Damag
 use Rattle.fv_disk.proofs.Moments.{goes_on, started, then, weaken}
 use Rattle.fv_model.specs.Machines.{Machine}
 use Rattle.fv_image.specs.Held.{layout_at}
-use Rattle.fv_image.specs.Views.{entry_count}
 use Rattle.fv_image.specs.WholeMachine.{machine_from, machine_of}
 use Rattle.fv_image.proofs.SoundTests.{machine_told, machine_under}
 use Rattle.fv_root.specs.declared.find.Found.{Found}
-use Rattle.fv_root.specs.Finding.{IsFound, root_found}
+use Rattle.fv_root.specs.Finding.{root_found}
 use Rattle.fv_root.specs.Formatted.{IsSize}
 use Rattle.fv_root.specs.Commits.{IsFoundOn}
 use Rattle.fv_store.specs.Held.{StandsOn}
@@ -40,7 +38,7 @@ use Rattle.fv_cp.specs.Points.{machine_lent, Counts, GoesOn, IsCalm, IsPoint, La
 use Rattle.fv_cp.specs.Settling.{GoesOnWhole, HasWholeCause, HaveFullRoom, IsHeldPoint, IsNoDamage, OldOrHeld, StillHeld, WholeCounts}
 use Rattle.fv_cp.proofs.Lendable.{held_lent, held_machine}
 use Rattle.fv_cp.proofs.Past.{past_held}
-use Rattle.fv_cp.proofs.Placed.{housed_count}
+use Rattle.fv_volume.proofs.PlacedIn.{found_read, housed_count}
 
 -- each image that a crash leaves between points stands for the machine of the last one
 held_stands : (disk : Shown) (pool : Pool) (states : States) (before : Machine) → IsHeld disk pool states before → (c : Image) → disk.images c → machine_of c ≡ Some before
@@ -56,10 +54,7 @@ module _ (disk : Shown) (pool : Pool) (states : States) (mid : Shown) (held : Po
   pub found_mid : (IsTrue disk.tells → IsFoundOn disk pool.found) → IsTrue mid.tells → IsFoundOn mid held.found
   found_mid found told =
       let on = found (subst IsTrue placed.only_reads.stays.tells told) in
-      subst (λ (f : Found). IsFoundOn mid f) (sym placed.found) (record {
-        reads = subst (λ (i : Image). IsFound i pool.found) (sym placed.only_reads.stays.reads) on.reads;
-        images = λ c now. on.images c (placed.only_reads.stays.no_more c now);
-      })
+      subst (λ (f : Found). IsFoundOn mid f) (sym placed.found) (found_read disk mid pool.found placed.only_reads on)
 
   -- while files are placed the image stays
   pub placing : IsDisk disk → (before : Machine) → IsHeld disk pool states before → Leaves disk mid (OldOrHeld disk pool states before)

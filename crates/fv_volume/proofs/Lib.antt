@@ -81,3 +81,4 @@ pub mod Ruled
 pub mod Facts
 pub mod Records
 pub mod Owned
+pub mod PlacedIn
