@@ -8,5 +8,4 @@ pub mod Placed
 pub mod Flushing
 pub mod Again
 pub mod Lendable
-pub mod Past
 pub mod Whole

@@ -82,3 +82,7 @@ pub mod Facts
 pub mod Records
 pub mod Owned
 pub mod PlacedIn
+pub mod HeldAlone
+pub mod SeenAlone
+pub mod HeldSettled
+pub mod Spending
