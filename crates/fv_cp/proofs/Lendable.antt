@@ -1,6 +1,6 @@
--- Volumes that are held, with no file in memory and stored well, can be lent to a point.
-use Rattle.std.proofs.Common.{◌≡◌, ℕ, ◌≤◌, Bool, true, not, ◌||◌, List, Option, Some, None, refl, ap, subst, arith, length}
-use Rattle.std.specs.Prelude.{IfSome, nat_le, map, ◌==◌}
+-- Volumes that are held, with no file in memory and stored well, can be lent to a point, and volumes that could be lent are held.
+use Rattle.std.proofs.Common.{◌≡◌, ℕ, ◌≤◌, Bool, true, not, ◌||◌, List, Option, Some, None, refl, ap, subst, arith, length, false}
+use Rattle.std.specs.Prelude.{IfSome, nat_le, map, ◌==◌, IsTrue}
 use Rattle.std.specs.List.{list_all}
 use Rattle.std.specs.Option.{option_map, option_map_or}
 use Rattle.std.specs.FinMap as fin
@@ -38,10 +38,23 @@ use Rattle.fv_bits.specs.Members.{is_member}
 use Rattle.fv_volume.proofs.Ruled as rule
 use Rattle.fv_volume.proofs.Ruled.{AreRuled, lone}
 use Rattle.fv_volume.proofs.HeldAlone as alone
-use Rattle.fv_volume.proofs.HeldAlone.{all_seen, commits_in_view, of_each}
+use Rattle.fv_volume.proofs.HeldAlone.{all_seen, commits_in_view, of_each, seen_wide, seen_within}
+use Rattle.fv_volume.specs.OneVolume.{IsReady, IsStanding}
+use Rattle.fv_volume.specs.Placing.{IsLedTo, IsStoredWell}
+use Rattle.fv_volume.specs.Slots.{sum_of}
+use Rattle.fv_aggmap.specs.Loading.{IsLoaded as IsMapLoaded}
+use Rattle.fv_container.specs.Chains.{container_at, slot_count}
+use Rattle.fv_volume.specs.Loading.{LoadedTo}
+use Rattle.fv_volume.proofs.LentSlots.{loaded_from_lent}
+use Rattle.fv_volume.proofs.SeenAlone as loaded_alone
 
 at_most : (a b : ℕ) → a ≤ b → nat_le a b ≡ true
 at_most a b le = grind (arith, nat_tests, le)
+
+at_least : (a b : ℕ) → nat_le a b ≡ true → a ≤ b
+at_least a b test = grind (arith, nat_tests, test)
+
+-- ---- what is held can be lent
 
 module _ (disk : Shown) (pool : Pool) (states : States) (before : Machine) (held : IsHeld disk pool states before) (fit : FitTogether pool states) (none : (s : ℕ) → HasNoFiles (state_at states s))
     (maps : (s : ℕ) → HasWholeMap (state_at states s)) where
@@ -141,3 +154,50 @@ module _ (disk : Shown) (pool : Pool) (states : States) (before : Machine) (held
     volumes = fin.from_entries {R = name_cmp} (same_parts (λ k. named_held disk pool (state_at states k)) (λ k. named_with w (active_at w) k (w.head k)) 0 64
         (λ k low high. of_each states fit.housed.volumes (λ k o. named_held disk pool o ≡ named_with w (active_at w) k (option_map head_in o)) (λ k. refl) (λ x e. alone.named_is disk pool states fit.housed held.slots held.spaced x e (one x e) (no_files x e) (whole x e)) k) j);
   }
+
+-- ---- what could be lent is held
+
+module _ (disk : Shown) (pool : Pool) (states : States) (before : Machine) (lent : IsLent disk pool states before) (long : length states ≡ 64) where
+  abbrev lent_view : View
+  lent_view = view_over pool states disk.reads
+
+  commits_fit : sum_of states ≤ capacity pool.found.blocks
+  unfolding has_commits_in_capacity seen view_over
+  commits_fit = let fits = at_least (commits_seen (seen lent_view)) (capacity pool.found.blocks) lent.tables.commits in let same = commits_in_view pool states disk.reads long lent.states in omega (arith, fits, same)
+
+  -- Where calls can be made on each, and each stands for one of the machine, they are what they are between points.
+  pub lent_held : ((s : ℕ) → IfSome (state_at states s) (IsReady disk pool)) → ((s : ℕ) → IfSome (state_at states s) (IsStanding disk pool)) → ((s : ℕ) → IfSome (state_at states s) (IsLedTo disk pool)) → ((s : ℕ) → IfSome (state_at states s) (IsStoredWell disk pool)) → IsHeld disk pool states before
+  lent_held ready stands led well = record {
+    found = lent.found;
+    tells = lent.tells;
+    keeps = lent.keeps;
+    map = lent.map;
+    slots = lent.slots;
+    spaced = lent.spaced;
+    names = lent.states.names;
+    each = λ s. by s (state_at states s) refl (ready s) (stands s) (led s) (well s);
+    commits = commits_fit;
+  }
+    where
+      by : (s : ℕ) (o : Option VolumeState) → state_at states s ≡ o → IfSome o (IsReady disk pool) → IfSome o (IsStanding disk pool) → IfSome o (IsLedTo disk pool) → IfSome o (IsStoredWell disk pool) → IfSome o (IsHeldIn disk pool s)
+      by s None there a b c d = tt
+      by s (Some x) there a b c d =
+          let state : IsState lent_view no_trees s x = subst (λ (o : Option VolumeState). IfSome o (IsState lent_view no_trees s)) there (lent.states.each s) in
+          record { slot = state.labelled.slot_is; ready = a; stands = b; led = c; well = d; wide = seen_wide pool states disk.reads long lent.tables s x there state; within = seen_within pool states disk.reads long lent.tables s x there state }
+
+-- ---- nothing is in memory that isn't on the disk
+
+module _ (disk : Shown) (pool : Pool) (states : States) (m : Machine) (lent : IsLent disk pool states m) (fit : FitTogether pool states) (unchanged : (s : ℕ) → IfSome (state_at states s) (λ x. x.changed ≡ false)) (unkept : pool.kept ≡ fin.empty)
+    (few : length pool.containers.containers ≡ 64) (map : IsMapLoaded disk.reads pool.found pool.map) (tells : IsTrue disk.tells) (whole : (b : ℕ) → length (disk.reads b) ≡ 4096) (none : (s : ℕ) → HasNoFiles (state_at states s)) where
+  loaded : LoadedTo disk.reads pool.found slot_count states pool.containers
+  loaded = record { each = λ s inside. loaded_from_lent disk.reads pool.found s (state_at states s) (container_at pool.containers s) (lent.slots s inside) (unchanged s) }
+
+  of_loaded : (P : VolumeState → Type 0) → ((x : VolumeState) → state_at states x.slot ≡ Some x → x.files ≡ None → P x) → (s : ℕ) → IfSome (state_at states s) P
+  of_loaded P some s = of_each states fit.housed.volumes (λ s o. HasNoFiles o → IfSome o P) (λ s no_files. tt) some s (none s)
+
+  -- So they are after a point that was done, and after opening.
+  pub past_held : ((s : ℕ) → IfSome (state_at states s) (IsReady disk pool)) → IsHeld disk pool states m
+  past_held ready = lent_held disk pool states m lent fit.housed.long ready
+      (of_loaded (IsStanding disk pool) (λ x there no_files. loaded_alone.standing disk pool states fit.housed loaded unkept few whole m lent.tells x there no_files lent.states map tells))
+      (of_loaded (IsLedTo disk pool) (λ x there no_files. loaded_alone.led disk pool states fit.housed loaded unkept few whole m lent.tells x there no_files))
+      (of_loaded (IsStoredWell disk pool) (λ x there no_files. loaded_alone.well disk pool states fit.housed loaded unkept few whole m lent.tells x there no_files))

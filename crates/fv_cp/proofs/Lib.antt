@@ -1,11 +1,7 @@
-pub mod Asked
 pub mod Stepping
 pub mod Crashing
 pub mod Arrived
-pub mod Coming
 pub mod Ending
-pub mod Placed
 pub mod Flushing
-pub mod Again
 pub mod Lendable
 pub mod Whole

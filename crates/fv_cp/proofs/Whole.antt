@@ -32,8 +32,7 @@ use Rattle.fv_cp.specs.Lent.{FitTogether, IsLent}
 use Rattle.fv_cp.specs.Placing.{core_of, ArePlaced, AreReady, HasNoFiles, HasWholeMap, HaveRoom, IsPlaceFault, IsReadyIn}
 use Rattle.fv_cp.specs.Points.{machine_lent, Counts, GoesOn, IsCalm, IsPoint, LacksRoom, LeavesAll, OldOrLent}
 use Rattle.fv_cp.specs.Settling.{GoesOnWhole, HasWholeCause, HaveFullRoom, IsHeldPoint, IsNoDamage, OldOrHeld, StillHeld, WholeCounts}
-use Rattle.fv_cp.proofs.Lendable.{held_lent, held_machine}
-use Rattle.fv_cp.proofs.Again.{past_held}
+use Rattle.fv_cp.proofs.Lendable.{held_lent, held_machine, past_held}
 use Rattle.fv_volume.proofs.PlacedIn.{found_read}
 
 -- each image that a crash leaves between points stands for the machine of the last one

@@ -12,7 +12,7 @@ use Rattle.fv_files.specs.declared.files.Files.{Files}
 use Rattle.fv_image.specs.Held.{AllKeep, Keeps}
 use Rattle.fv_image.specs.NewerRoot.{Taken}
 use Rattle.fv_image.specs.Reclaimed.{IsAllocatable}
-use Rattle.fv_image.specs.Views.{entry_count, slots}
+use Rattle.fv_image.specs.Views.{entry_count}
 use Rattle.fv_image.proofs.LoneTables.{form_base}
 use Rattle.fv_root.specs.declared.find.Found.{Found}
 use Rattle.fv_root.specs.Commits.{IsFoundOn}
