@@ -1,6 +1,5 @@
 pub mod Stepping
 pub mod Crashing
-pub mod Arrived
 pub mod Ending
 pub mod Flushing
 pub mod Lendable
