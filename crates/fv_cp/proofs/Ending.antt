@@ -1,12 +1,13 @@
--- What a consistency point ends with: once all slots are passed the volumes stand under the labels of the new root, and then that counts.
-use Rattle.std.proofs.Common.{◌≡◌, ℕ, ◌<◌, ◌≤◌, false, List, length, get_or, refl, sym, ap, subst, ◌∙◌, arith, ⊎_elim, Ok, Bool, true}
-use Rattle.std.specs.Prelude.{Option, Some, None, IfSome, IsTrue, nat_lt, if◌then◌else◌}
+-- What a consistency point leaves at a crash, and what it ends with: once all slots are passed the volumes stand under the labels of the new
+-- root, and then that counts.
+use Rattle.std.proofs.Common.{◌≡◌, ℕ, ◌<◌, ◌≤◌, false, List, length, get_or, refl, sym, ap, subst, ◌∙◌, arith, ⊎_elim, Ok, Bool, true, inl}
+use Rattle.std.specs.Prelude.{Option, Some, None, IfSome, IsTrue, nat_lt, if◌then◌else◌, Result}
 use Rattle.std.specs.Option.{option_map}
 use Rattle.std.specs.FinMap as fin
 use Rattle.std.specs.Ordering.{nat_cmp}
 use Rattle.std.proofs.lemmas.Bool.{cases_lt}
 use Rattle.std.proofs.lemmas.List.{get_or_past}
-use Rattle.fv_disk.specs.Shown.{Image, Shown}
+use Rattle.fv_disk.specs.Shown.{Image, Shown, IsDisk}
 use Rattle.fv_disk.specs.Crash.{Leaves}
 use Rattle.fv_disk.proofs.Resting.{settled_image}
 use Rattle.fv_bits.specs.Members.{is_member}
@@ -14,21 +15,21 @@ use Rattle.fv_codec.specs.declared.root.Root.{Root}
 use Rattle.fv_model.specs.Machines.{Machine}
 use Rattle.fv_image.specs.NewerRoot.{Taken}
 use Rattle.fv_image.specs.Views.{View, delayed}
-use Rattle.fv_image.specs.Held.{AgreeOnHeld, Keeps, label_place, layout_at, view_at, with_bits}
+use Rattle.fv_image.specs.Held.{AgreeOnHeld, Keeps, label_place, layout_at, view_at, with_bits, Layout, is_held}
 use Rattle.fv_image.specs.Soundness.{AreTables}
 use Rattle.fv_image.specs.Staying.{StaysHeld}
 use Rattle.fv_image.specs.WholeMachine.{Tells, machine_of, machine_from}
 use Rattle.fv_image.proofs.Points.{built_stays}
-use Rattle.fv_image.proofs.SameLayout.{held_with_bits, same_view}
+use Rattle.fv_image.proofs.SameLayout.{held_with_bits, same_view, kept}
 use Rattle.fv_image.proofs.SameSeen.{same_seen, same_told}
 use Rattle.fv_image.proofs.SoundSlots.{held_lies}
-use Rattle.fv_image.proofs.SoundTests.{machine_under, tells_from}
+use Rattle.fv_image.proofs.SoundTests.{machine_under, tells_from, machine_told}
 use Rattle.fv_container.specs.Mapped.{Mapped, entry_under}
 use Rattle.fv_container.specs.Chains.{Slots, container_at, own_entry, parent_at}
 use Rattle.fv_root.specs.declared.find.Found.{Found}
 use Rattle.fv_root.specs.Finding.{IsInRange, root_found}
 use Rattle.fv_root.specs.Commits.{IsCommitted, IsFoundOn, OldOrNew, next_found}
-use Rattle.fv_root.proofs.Crashes.{IsReadyFor, new_machine}
+use Rattle.fv_root.proofs.Crashes.{IsReadyFor, new_machine, old_or_new_machine}
 use Rattle.fv_store.specs.Held.{StandsOn}
 use Rattle.fv_aggmap.specs.Space.{Space}
 use Rattle.fv_volume.specs.declared.pool.Pool.{Pool}
@@ -38,8 +39,8 @@ use Rattle.fv_volume.specs.Keeping.{Blocks, seen as block_seen, kept_or, seen}
 use Rattle.fv_volume.specs.Loading.{IsLoaded, label_of}
 use Rattle.fv_volume.specs.States.{States, head_in, label_in_state, placed_in, state_at, view_over}
 use Rattle.fv_volume.specs.Stored.{AreApartIn, AreSpacedIn, has_block, is_of, place_at, place_in, stays}
-use Rattle.fv_volume.specs.Writing.{on_disk}
-use Rattle.fv_volume.proofs.LentSlots.{lent_from_loaded, loaded_from_lent, lent_slot}
+use Rattle.fv_volume.specs.Writing.{on_disk, IsTaken}
+use Rattle.fv_volume.proofs.LentSlots.{lent_from_loaded, loaded_from_lent, lent_slot, area_taken, held_taken}
 use Rattle.fv_volume.proofs.Settled.{heads_stay, housed_after, same_stay, settled_same, unchanged_stay, settled_written}
 use Rattle.fv_volume.proofs.Spacing.{spaced_same}
 use Rattle.fv_volume.proofs.StaysStates.{reach_stays, states_stay}
@@ -49,8 +50,7 @@ use Rattle.fv_volume.proofs.Viewed.{entry_of}
 use Rattle.fv_cp.specs.Course.{HasCome, IsOnCourse, as_lent, found_with, renewed, IsCourse, StaysFrom}
 use Rattle.fv_cp.specs.Lent.{FitTogether, IsLent, IsLentAt}
 use Rattle.fv_cp.specs.Points.{GoesOn, IsPoint, IsSwitched, OldOrLent, machine_lent}
-use Rattle.fv_volume.proofs.RootFound.{found_still, map_now, next_in_range}
-use Rattle.fv_cp.proofs.Crashing.{switching, old_stays}
+use Rattle.fv_volume.proofs.RootFound.{found_still, map_now, next_in_range, fixed_taken}
 use Rattle.std.proofs.lemmas.Bool.Decides.{nat_tests}
 use Rattle.std.proofs.lemmas.Option.{same_Some}
 use Rattle.fv_image.specs.Reclaimed.{IsAllocatable}
@@ -58,6 +58,55 @@ use Rattle.fv_container.specs.declared.entry.Entry.{Entry}
 use Rattle.fv_volume.specs.Files.{IsLabelled}
 use Rattle.fv_volume.specs.UnderRoot.{AllStandUnder, StandsUnder}
 use Rattle.fv_volume.proofs.StoredSlot.{stored_stands}
+use Rattle.fv_disk.specs.declared.Failed.{Failed}
+use Rattle.fv_disk.specs.Sparing.{LeftBefore, Spares}
+use Rattle.fv_disk.proofs.Moments.{started, then, weaken}
+use Rattle.fv_image.specs.Layout.{area_place}
+use Rattle.fv_image.specs.MachineOf.{AllStandFor}
+use Rattle.fv_image.proofs.Kept.{slot_is_small}
+
+-- ---- what a crash leaves
+
+module _ (disk : Shown) (pool : Pool) (states : States) (before : Machine) (lent : IsLent disk pool states before) where
+  abbrev t : Taken
+  t = root_found pool.found
+
+  pub left_keeps : (c : Image) → LeftBefore (IsTaken (on_disk pool.map)) disk c → Keeps t disk.reads c
+  left_keeps c left =
+      let d : Image = left.0 in
+      let was : Keeps t disk.reads d = lent.keeps d left.1 in
+      let still : Keeps t d c = kept t d c was.root (λ b low. left.2 b (fixed_taken (on_disk pool.map) b low)) (record {
+        area = λ k within. left.2 (area_place t.blocks t.slot k) (area_taken disk.reads pool.found pool.map lent.tells.sound lent.map k (slot_is_small d t was.root) within);
+        held = λ b held. left.2 b (held_taken disk.reads pool.found pool.map lent.tells.sound lent.map b (ap (λ (y : Layout). is_held y b) (sym was.layout) ∙ held));
+      }) in
+      record { root = still.root; layout = still.layout ∙ was.layout }
+
+  kept_stands : (c : Image) → Keeps t disk.reads c → machine_of c ≡ Some before
+  kept_stands c keeps = machine_under c t keeps.root ∙ ap machine_from keeps.layout ∙ machine_told (layout_at t disk.reads) before lent.tells
+
+  -- Nothing was written.
+  pub rests : IsDisk disk → Leaves disk disk (OldOrLent disk pool states before)
+  rests laws = started disk (OldOrLent disk pool states before) laws (λ c now. (inl (kept_stands c (lent.keeps c now)), refl))
+
+  module _ (mid : Shown) (result : Result Unit Failed) (spares : Spares (IsTaken (on_disk pool.map)) disk mid result) where
+    -- Volumes were written.
+    pub writing : Leaves disk mid (OldOrLent disk pool states before)
+    writing = weaken disk mid (λ c g. LeftBefore (IsTaken (on_disk pool.map)) disk c × (g ≡ disk.given)) (OldOrLent disk pool states before) (λ c g left. (inl (kept_stands c (left_keeps c left.0)), left.1)) spares.any_moment
+
+    -- what the root on the disk holds stays
+    pub old_stays : IsTrue disk.tells → AgreeOnHeld t disk.reads mid.reads
+    old_stays tells b held = spares.reads tells b (held_taken disk.reads pool.found pool.map lent.tells.sound lent.map b held)
+
+    pub images_stand : AllStandFor mid before
+    images_stand c now = kept_stands c (left_keeps c (spares.images c now))
+
+    -- The new root was written, too.
+    pub switching : (found : Found) (root : Root) (map : List Bool) (new : Shown) → IsFoundOn mid found → IsReadyFor mid found root map (machine_lent disk pool states) → Leaves mid new (OldOrNew mid found root map) → Leaves disk new (OldOrLent disk pool states before)
+    switching found root map new stands ready left = (then) disk mid new (OldOrLent disk pool states before) writing
+        (weaken mid new (OldOrNew mid found root map) (OldOrLent disk pool states before)
+        (λ c g side. (old_or_new_machine mid found root map before (machine_lent disk pool states) c g stands images_stand ready side, side.1 ∙ spares.counted.given)) left)
+
+-- ---- what a point ends with
 
 -- the label of a slot, by the root that was found
 place_is : (found : Found) (s : ℕ) → s < 64 → label_place (root_found found) s ≡ get_or found.root.labels s 0
@@ -161,8 +210,8 @@ module _ (disk : Shown) (pool : Pool) (states : States) (before : Machine) (lent
           (loaded_from_lent disk.reads pool.found s (state_at states s) (container_at pool.containers s) (lent.slots s inside) (none_changed (state_at states s) s inside waits))))
 
   -- an entry that stays has its block
-  kept : (s v : ℕ) (x : VolumeState) → s < 64 → state_at states s ≡ Some x → stays x v ≡ true → placed_in fin.empty mid.reads (own_entry (container_at left.containers s) v) ≡ placed_in pool.kept disk.reads (own_entry (container_at pool.containers s) v)
-  kept s v x inside there on = by (is.each s inside)
+  block_kept : (s v : ℕ) (x : VolumeState) → s < 64 → state_at states s ≡ Some x → stays x v ≡ true → placed_in fin.empty mid.reads (own_entry (container_at left.containers s) v) ≡ placed_in pool.kept disk.reads (own_entry (container_at pool.containers s) v)
+  block_kept s v x inside there on = by (is.each s inside)
     where
       of_entry : (map : Mapped) → container_at pool.containers s ≡ Some map → StaysFrom x map (seen pool.kept disk.reads) mid.reads → (o : Option Entry) → entry_under map v ≡ o → placed_in fin.empty mid.reads o ≡ placed_in pool.kept disk.reads o
       of_entry map lies stay None e = refl
@@ -188,7 +237,7 @@ module _ (disk : Shown) (pool : Pool) (states : States) (before : Machine) (lent
   pub all_stand : AllStandUnder pool states disk.reads f labels left.map.next (container_at left.containers) mid.reads
   all_stand = record {
     each = stands;
-    kept = kept;
+    kept = block_kept;
     spaced = spaced_same pool.found.blocks left.map.next is.now (settled_at labels states) (container_at left.containers) (container_at left.containers) settled_is (λ s inside. refl) is.spaced;
   }
 

@@ -1,11 +1,10 @@
 -- Volumes that are held, with no file in memory and stored well, can be lent to a point, and volumes that could be lent are held.
 use Rattle.std.proofs.Common.{◌≡◌, ℕ, ◌≤◌, Bool, true, not, ◌||◌, List, Option, Some, None, refl, ap, subst, arith, length, false}
-use Rattle.std.specs.Prelude.{IfSome, nat_le, map, ◌==◌, IsTrue}
+use Rattle.std.specs.Prelude.{IfSome, map, ◌==◌, IsTrue}
 use Rattle.std.specs.List.{list_all}
 use Rattle.std.specs.Option.{option_map, option_map_or}
 use Rattle.std.specs.FinMap as fin
-use Rattle.std.proofs.lemmas.Bool.{and_from}
-use Rattle.std.proofs.lemmas.Bool.Decides.{nat_tests}
+use Rattle.std.proofs.lemmas.Bool.{le-leb, leb-true, and_from}
 use Rattle.fv_disk.specs.Shown.{Shown}
 use Rattle.fv_codec.specs.declared.inode.InodeRecord.{InodeRecord}
 use Rattle.fv_codec.specs.declared.pointer.Pointer.{Pointer}
@@ -47,12 +46,6 @@ use Rattle.fv_container.specs.Chains.{container_at, slot_count}
 use Rattle.fv_volume.specs.Loading.{LoadedTo}
 use Rattle.fv_volume.proofs.LentSlots.{loaded_from_lent}
 use Rattle.fv_volume.proofs.SeenAlone as loaded_alone
-
-at_most : (a b : ℕ) → a ≤ b → nat_le a b ≡ true
-at_most a b le = grind (arith, nat_tests, le)
-
-at_least : (a b : ℕ) → nat_le a b ≡ true → a ≤ b
-at_least a b test = grind (arith, nat_tests, test)
 
 -- ---- what is held can be lent
 
@@ -121,7 +114,7 @@ module _ (disk : Shown) (pool : Pool) (states : States) (before : Machine) (held
     rests = all_held _ (λ x e. rule.rests w x.slot (head_in x) (led x e) (ruled x e) (form_base (head_in x) (form x e))
         (λ r. list_all (λ (e : Reached). e.own || is_based (lone w x.slot (head_in x)) e.item.pointer.vvbn) r.reached));
     sizes = all_held _ (λ x e. alone.size_rule disk pool states fit.housed held.slots held.spaced x e (one x e) (no_files x e) (whole x e));
-    commits = (let same = commits_in_view pool states disk.reads fit.housed.long each_state in let fits = held.commits in at_most (commits_seen (seen w)) (capacity pool.found.blocks) (omega (arith, same, fits)));
+    commits = (let same = commits_in_view pool states disk.reads fit.housed.long each_state in let fits = held.commits in le-leb (commits_seen (seen w)) (capacity pool.found.blocks) (omega (arith, same, fits)));
   }
 
   built : is_built w ≡ true
@@ -163,7 +156,7 @@ module _ (disk : Shown) (pool : Pool) (states : States) (before : Machine) (lent
 
   commits_fit : sum_of states ≤ capacity pool.found.blocks
   unfolding has_commits_in_capacity seen view_over
-  commits_fit = let fits = at_least (commits_seen (seen lent_view)) (capacity pool.found.blocks) lent.tables.commits in let same = commits_in_view pool states disk.reads long lent.states in omega (arith, fits, same)
+  commits_fit = let fits = leb-true (commits_seen (seen lent_view)) (capacity pool.found.blocks) lent.tables.commits in let same = commits_in_view pool states disk.reads long lent.states in omega (arith, fits, same)
 
   -- Where calls can be made on each, and each stands for one of the machine, they are what they are between points.
   pub lent_held : ((s : ℕ) → IfSome (state_at states s) (IsReady disk pool)) → ((s : ℕ) → IfSome (state_at states s) (IsStanding disk pool)) → ((s : ℕ) → IfSome (state_at states s) (IsLedTo disk pool)) → ((s : ℕ) → IfSome (state_at states s) (IsStoredWell disk pool)) → IsHeld disk pool states before

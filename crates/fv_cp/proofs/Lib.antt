@@ -1,5 +1,4 @@
 pub mod Stepping
-pub mod Crashing
 pub mod Ending
 pub mod Flushing
 pub mod Lendable
