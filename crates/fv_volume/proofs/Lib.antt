@@ -78,3 +78,12 @@ pub mod Openings
 pub mod NewStanding
 pub mod Reached
 mod Commanded
+pub mod Ruled
+pub mod Facts
+pub mod Records
+pub mod Owned
+pub mod PlacedIn
+pub mod HeldAlone
+pub mod SeenAlone
+pub mod HeldSettled
+pub mod Spending
