@@ -1,7 +1,7 @@
 -- What a consistency point leaves at a crash, and what it ends with: once all slots are passed the volumes stand under the labels of the new
 -- root, and then that counts.
 use Rattle.std.proofs.Common.{◌≡◌, ℕ, ◌<◌, ◌≤◌, false, List, length, get_or, refl, sym, ap, subst, ◌∙◌, arith, ⊎_elim, Ok, Bool, true, inl}
-use Rattle.std.specs.Prelude.{Option, Some, None, IfSome, IsTrue, nat_lt, if◌then◌else◌, Result}
+use Rattle.std.specs.Prelude.{Option, Some, None, IfSome, IsTrue, Result}
 use Rattle.std.specs.Option.{option_map}
 use Rattle.std.specs.FinMap as fin
 use Rattle.std.specs.Ordering.{nat_cmp}
@@ -23,7 +23,7 @@ use Rattle.fv_image.proofs.Points.{built_stays}
 use Rattle.fv_image.proofs.SameLayout.{held_with_bits, same_view, kept}
 use Rattle.fv_image.proofs.SameSeen.{same_seen, same_told}
 use Rattle.fv_image.proofs.SoundSlots.{held_lies}
-use Rattle.fv_image.proofs.SoundTests.{machine_under, tells_from, machine_told}
+use Rattle.fv_image.proofs.SoundTests.{machine_under, tells_from}
 use Rattle.fv_container.specs.Mapped.{Mapped, entry_under}
 use Rattle.fv_container.specs.Chains.{Slots, container_at, own_entry, parent_at}
 use Rattle.fv_root.specs.declared.find.Found.{Found}
@@ -35,10 +35,10 @@ use Rattle.fv_aggmap.specs.Space.{Space}
 use Rattle.fv_volume.specs.declared.pool.Pool.{Pool}
 use Rattle.fv_volume.specs.declared.state.VolumeState.{VolumeState}
 use Rattle.fv_volume.specs.Housed.{AreHoused, as_written, settled_at}
-use Rattle.fv_volume.specs.Keeping.{Blocks, seen as block_seen, kept_or, seen}
+use Rattle.fv_volume.specs.Keeping.{Blocks, seen as block_seen, seen}
 use Rattle.fv_volume.specs.Loading.{IsLoaded, label_of}
 use Rattle.fv_volume.specs.States.{States, head_in, label_in_state, placed_in, state_at, view_over}
-use Rattle.fv_volume.specs.Stored.{AreApartIn, AreSpacedIn, has_block, is_of, place_at, place_in, stays}
+use Rattle.fv_volume.specs.Stored.{AreApartIn, AreSpacedIn, has_block, is_of, stays}
 use Rattle.fv_volume.specs.Writing.{on_disk, IsTaken}
 use Rattle.fv_volume.proofs.LentSlots.{lent_from_loaded, loaded_from_lent, lent_slot, area_taken, held_taken}
 use Rattle.fv_volume.proofs.Settled.{heads_stay, housed_after, same_stay, settled_same, unchanged_stay, settled_written}
@@ -51,12 +51,11 @@ use Rattle.fv_cp.specs.Course.{HasCome, IsOnCourse, as_lent, found_with, renewed
 use Rattle.fv_cp.specs.Lent.{FitTogether, IsLent, IsLentAt}
 use Rattle.fv_cp.specs.Points.{GoesOn, IsPoint, IsSwitched, OldOrLent, machine_lent}
 use Rattle.fv_volume.proofs.RootFound.{found_still, map_now, next_in_range, fixed_taken}
-use Rattle.std.proofs.lemmas.Bool.Decides.{nat_tests}
 use Rattle.std.proofs.lemmas.Option.{same_Some}
 use Rattle.fv_image.specs.Reclaimed.{IsAllocatable}
-use Rattle.fv_container.specs.declared.entry.Entry.{Entry}
 use Rattle.fv_volume.specs.Files.{IsLabelled}
 use Rattle.fv_volume.specs.UnderRoot.{AllStandUnder, StandsUnder}
+use Rattle.fv_volume.proofs.Staying.{entry_kept, kept_stands, place_is}
 use Rattle.fv_volume.proofs.StoredSlot.{stored_stands}
 use Rattle.fv_disk.specs.declared.Failed.{Failed}
 use Rattle.fv_disk.specs.Sparing.{LeftBefore, Spares}
@@ -81,24 +80,21 @@ module _ (disk : Shown) (pool : Pool) (states : States) (before : Machine) (lent
       }) in
       record { root = still.root; layout = still.layout ∙ was.layout }
 
-  kept_stands : (c : Image) → Keeps t disk.reads c → machine_of c ≡ Some before
-  kept_stands c keeps = machine_under c t keeps.root ∙ ap machine_from keeps.layout ∙ machine_told (layout_at t disk.reads) before lent.tells
-
   -- Nothing was written.
   pub rests : IsDisk disk → Leaves disk disk (OldOrLent disk pool states before)
-  rests laws = started disk (OldOrLent disk pool states before) laws (λ c now. (inl (kept_stands c (lent.keeps c now)), refl))
+  rests laws = started disk (OldOrLent disk pool states before) laws (λ c now. (inl (kept_stands t disk.reads c before lent.tells (lent.keeps c now)), refl))
 
   module _ (mid : Shown) (result : Result Unit Failed) (spares : Spares (IsTaken (on_disk pool.map)) disk mid result) where
     -- Volumes were written.
     pub writing : Leaves disk mid (OldOrLent disk pool states before)
-    writing = weaken disk mid (λ c g. LeftBefore (IsTaken (on_disk pool.map)) disk c × (g ≡ disk.given)) (OldOrLent disk pool states before) (λ c g left. (inl (kept_stands c (left_keeps c left.0)), left.1)) spares.any_moment
+    writing = weaken disk mid (λ c g. LeftBefore (IsTaken (on_disk pool.map)) disk c × (g ≡ disk.given)) (OldOrLent disk pool states before) (λ c g left. (inl (kept_stands t disk.reads c before lent.tells (left_keeps c left.0)), left.1)) spares.any_moment
 
     -- what the root on the disk holds stays
     pub old_stays : IsTrue disk.tells → AgreeOnHeld t disk.reads mid.reads
     old_stays tells b held = spares.reads tells b (held_taken disk.reads pool.found pool.map lent.tells.sound lent.map b held)
 
     pub images_stand : AllStandFor mid before
-    images_stand c now = kept_stands c (left_keeps c (spares.images c now))
+    images_stand c now = kept_stands t disk.reads c before lent.tells (left_keeps c (spares.images c now))
 
     -- The new root was written, too.
     pub switching : (found : Found) (root : Root) (map : List Bool) (new : Shown) → IsFoundOn mid found → IsReadyFor mid found root map (machine_lent disk pool states) → Leaves mid new (OldOrNew mid found root map) → Leaves disk new (OldOrLent disk pool states before)
@@ -107,11 +103,6 @@ module _ (disk : Shown) (pool : Pool) (states : States) (before : Machine) (lent
         (λ c g side. (old_or_new_machine mid found root map before (machine_lent disk pool states) c g stands images_stand ready side, side.1 ∙ spares.counted.given)) left)
 
 -- ---- what a point ends with
-
--- the label of a slot, by the root that was found
-place_is : (found : Found) (s : ℕ) → s < 64 → label_place (root_found found) s ≡ get_or found.root.labels s 0
-unfolding label_place
-place_is found s inside = let test : nat_lt s 64 ≡ true = grind (arith, nat_tests, inside) in ap (λ (t : Bool). if t then get_or found.root.labels s 0 else 0) test
 
 none_changed : (o : Option VolumeState) (s : ℕ) → s < 64 → IfSome o (λ x. x.changed ≡ true → 64 ≤ s) → IfSome o (λ x. x.changed ≡ false)
 none_changed None s inside waits = tt
@@ -213,24 +204,19 @@ module _ (disk : Shown) (pool : Pool) (states : States) (before : Machine) (lent
   block_kept : (s v : ℕ) (x : VolumeState) → s < 64 → state_at states s ≡ Some x → stays x v ≡ true → placed_in fin.empty mid.reads (own_entry (container_at left.containers s) v) ≡ placed_in pool.kept disk.reads (own_entry (container_at pool.containers s) v)
   block_kept s v x inside there on = by (is.each s inside)
     where
-      of_entry : (map : Mapped) → container_at pool.containers s ≡ Some map → StaysFrom x map (seen pool.kept disk.reads) mid.reads → (o : Option Entry) → entry_under map v ≡ o → placed_in fin.empty mid.reads o ≡ placed_in pool.kept disk.reads o
-      of_entry map lies stay None e = refl
-      of_entry map lies stay (Some y) e =
-          let at : place_at map v ≡ y.pvbn = ap place_in e in
-          let some : 1 ≤ y.pvbn = subst (λ (o : Option Entry). IfSome o (λ e. 1 ≤ e.pvbn)) e ((lent_slot disk.reads pool.found s (state_at states s) (container_at pool.containers s) x map there lies (lent.slots s inside)).apart.some v) in
-          let same : mid.reads y.pvbn ≡ seen pool.kept disk.reads y.pvbn = subst (λ (b : ℕ). mid.reads b ≡ seen pool.kept disk.reads b) at (stay v on (λ none. omega (arith, some, at, none))) in
-          ap (λ (block : List ℕ). Some (record { pvbn = y.pvbn; kind = y.kind; block = block })) (ap (λ (o : Option (List ℕ)). kept_or o (mid.reads y.pvbn)) (fin.get-empty nat_cmp y.pvbn) ∙ same)
+      of_map : (map : Mapped) → container_at pool.containers s ≡ Some map → StaysFrom x map (seen pool.kept disk.reads) mid.reads → placed_in fin.empty mid.reads (entry_under map v) ≡ placed_in pool.kept disk.reads (entry_under map v)
+      of_map map lies stay = entry_kept map pool.kept disk.reads mid.reads v ((lent_slot disk.reads pool.found s (state_at states s) (container_at pool.containers s) x map there lies (lent.slots s inside)).apart.some v) (stay v on)
 
       of_container : (c : Option Mapped) → container_at pool.containers s ≡ c → ((map : Mapped) → container_at pool.containers s ≡ Some map → StaysFrom x map (seen pool.kept disk.reads) mid.reads) → placed_in fin.empty mid.reads (own_entry c v) ≡ placed_in pool.kept disk.reads (own_entry c v)
       of_container None lies stay = refl
-      of_container (Some map) lies stay = of_entry map lies (stay map lies) (entry_under map v) refl
+      of_container (Some map) lies stay = of_map map lies (stay map lies)
 
       by : IsOnCourse pool states (seen pool.kept disk.reads) 64 s (is.now s) (get_or labels s 0) (container_at left.containers s) mid.reads → placed_in fin.empty mid.reads (own_entry (container_at left.containers s) v) ≡ placed_in pool.kept disk.reads (own_entry (container_at pool.containers s) v)
       by (renewed y low here changed now r) =
           let same : y ≡ x = same_Some y x (sym here ∙ there) in
           let stayed : entry_under r.new v ≡ entry_under r.old v = r.stored.kept v (ap (λ (z : VolumeState). stays z v) same ∙ on) in
           ap (λ (c : Option Mapped). placed_in fin.empty mid.reads (own_entry c v)) r.now ∙ ap (placed_in fin.empty mid.reads) stayed
-          ∙ of_entry r.old r.was (subst (λ (z : VolumeState). StaysFrom z r.old (seen pool.kept disk.reads) mid.reads) same r.stay) (entry_under r.old v) refl
+          ∙ of_map r.old r.was (subst (λ (z : VolumeState). StaysFrom z r.old (seen pool.kept disk.reads) mid.reads) same r.stay)
           ∙ sym (ap (λ (c : Option Mapped). placed_in pool.kept disk.reads (own_entry c v)) r.was)
       by (as_lent waits at) = ap (λ (c : Option Mapped). placed_in fin.empty mid.reads (own_entry c v)) at.lies ∙ of_container (container_at pool.containers s) refl (λ map lies. at.stay x map there lies)
 

@@ -1,5 +1,5 @@
 -- The files of volumes are placed slot by slot.
-use Rattle.std.proofs.Common.{◌≡◌, ◌≢◌, ℕ, ◌<◌, ◌≤◌, ◌+◌, Bool, List, length, Some, None, ⊎_elim, sym, ap, subst, ◌∙◌, arith, Option, inl, refl, get_or-set_other}
+use Rattle.std.proofs.Common.{◌≡◌, ◌≢◌, ℕ, ◌<◌, ◌≤◌, ◌+◌, Bool, List, length, Some, None, ⊎_elim, sym, ap, subst, ◌∙◌, arith, Option, refl, get_or-set_other}
 use Rattle.std.specs.Prelude.{cond, IfSome}
 use Rattle.std.specs.FinMap as fin
 use Rattle.std.proofs.lemmas.Bool.{cases_eq}
@@ -26,11 +26,11 @@ use Rattle.fv_volume.specs.States.{States, state_at, with_state}
 use Rattle.fv_volume.specs.Stored.{AreSpacedIn}
 use Rattle.fv_volume.proofs.PlacedIn as one
 use Rattle.fv_volume.proofs.Told.{is_inside}
+use Rattle.fv_volume.proofs.Staying.{only_itself}
 use Rattle.fv_cp.specs.Held.{machine_held, named_held, IsHeld, IsHeldIn}
 use Rattle.fv_cp.specs.Lent.{asked_by, blocks_asked, FitTogether}
 use Rattle.fv_cp.specs.Placing.{pending_by, pending_files, HasNumbers, HaveRoom, HaveSpent, IsPlacedAs, ArePlaced, AreReady, HasNoFiles, HasWholeMap, IsReadyIn, IsSlotPlaced, MayFail, PlacesSlot}
-use Rattle.fv_disk.specs.DiskCalls.{OnlyReads}
-use Rattle.fv_disk.proofs.Resting.{reads_then, stays_itself}
+use Rattle.fv_disk.proofs.Resting.{reads_then}
 use Rattle.fv_store.specs.Held.{StandsOn}
 use Rattle.fv_volume.specs.declared.fault.VolumeFault.{VolumeFault}
 use Rattle.fv_volume.specs.declared.fault.VolumeFault.TheVariants.{Memory}
@@ -122,16 +122,6 @@ pub record HasPassed (disk : Shown) (pool : Pool) (states : States) (count : ℕ
   pub come : HasCome disk pool states after left stay
   pub done : (s : ℕ) → s < count → HasNoFiles (state_at stay s)
   pub whole : (s : ℕ) → s < count → HasWholeMap (state_at stay s)
-
-only_itself : (disk : Shown) → OnlyReads disk disk
-only_itself disk = record {
-  stays = stays_itself disk;
-  time = record { later = omega arith; nothing_else = λ t c g le left. inl left; keeps = λ t c g le left. left };
-  given = refl;
-  ends = refl;
-  faults = omega arith;
-  write_faults = refl;
-}
 
 pub passed_none : (disk : Shown) (pool : Pool) (states : States) → FitTogether pool states → AreReady disk pool states → StandsOn disk pool.store.pairs → HasPassed disk pool states 0 disk pool states
 passed_none disk pool states fit ready stands = record {

@@ -10,7 +10,6 @@ use Rattle.fv_codec.specs.declared.inode.InodeRecord.{InodeRecord}
 use Rattle.fv_codec.specs.declared.pointer.Pointer.{Pointer}
 use Rattle.fv_model.specs.Machines.{Machine, capacity}
 use Rattle.fv_model.specs.Spelling.{name_cmp}
-use Rattle.fv_model.specs.Space.{commits}
 use Rattle.fv_tables.specs.Reached.{is_listed, items}
 use Rattle.fv_tables.proofs.Lists.{all_of_range, same_parts}
 use Rattle.fv_image.specs.HintRules.{has_known_places, has_split_places, has_true_hints, is_based, is_copied, is_in_label, is_known, leads_unknown, leaves_base, rests_on_base}

@@ -4,14 +4,11 @@ use Rattle.std.specs.Prelude.{IfSome, IsTrue}
 use Rattle.std.specs.Option.{option_map}
 use Rattle.fv_disk.specs.Crash.{Leaves}
 use Rattle.fv_disk.specs.Faults.{HasBlockCause}
-use Rattle.fv_disk.specs.Shown.{Image, IsDisk, Rose, Shown}
+use Rattle.fv_disk.specs.Shown.{IsDisk, Rose, Shown}
 use Rattle.fv_disk.specs.declared.fault.BlockFault.{BlockFault}
 use Rattle.fv_disk.specs.declared.fault.BlockFault.TheVariants.{DiskFault, Damaged, Memory}
 use Rattle.fv_disk.proofs.Moments.{goes_on, started, then, weaken}
 use Rattle.fv_model.specs.Machines.{Machine}
-use Rattle.fv_image.specs.Held.{layout_at}
-use Rattle.fv_image.specs.WholeMachine.{machine_from, machine_of}
-use Rattle.fv_image.proofs.SoundTests.{machine_told, machine_under}
 use Rattle.fv_root.specs.declared.find.Found.{Found}
 use Rattle.fv_root.specs.Finding.{root_found}
 use Rattle.fv_root.specs.Commits.{IsFoundOn}
@@ -26,6 +23,7 @@ use Rattle.fv_volume.specs.Files.{IsLabelled}
 use Rattle.fv_volume.specs.Loading.{Houses}
 use Rattle.fv_volume.specs.OneVolume.{IsReady}
 use Rattle.fv_volume.specs.States.{States, parent_in, state_at}
+use Rattle.fv_volume.proofs.Staying.{kept_stands}
 use Rattle.fv_volume.proofs.HeldSettled.{settled_core, settled_no_files, settled_ready, settled_whole}
 use Rattle.fv_cp.specs.Held.{machine_held, IsHeld}
 use Rattle.fv_cp.specs.Lent.{FitTogether, IsLent}
@@ -34,12 +32,6 @@ use Rattle.fv_cp.specs.Points.{machine_lent, Counts, GoesOn, IsCalm, IsPoint, La
 use Rattle.fv_cp.specs.Settling.{GoesOnWhole, HasWholeCause, HaveFullRoom, IsHeldPoint, IsNoDamage, OldOrHeld, StillHeld, WholeCounts}
 use Rattle.fv_cp.proofs.Lendable.{held_lent, held_machine, past_held}
 use Rattle.fv_volume.proofs.PlacedIn.{found_read}
-
--- each image that a crash leaves between points stands for the machine of the last one
-held_stands : (disk : Shown) (pool : Pool) (states : States) (before : Machine) → IsHeld disk pool states before → (c : Image) → disk.images c → machine_of c ≡ Some before
-held_stands disk pool states before held c now =
-    let keeps = held.keeps c now in
-    machine_under c (root_found pool.found) keeps.root ∙ ap machine_from keeps.layout ∙ machine_told (layout_at (root_found pool.found) disk.reads) before held.tells
 
 -- where there is room for all, there is room for what is pending
 pub some_room : (pool : Pool) (states : States) → HaveFullRoom pool states → HaveRoom pool states
@@ -54,9 +46,9 @@ module _ (disk : Shown) (pool : Pool) (states : States) (mid : Shown) (held : Po
   -- while files are placed the image stays
   pub placing : IsDisk disk → (before : Machine) → IsHeld disk pool states before → Leaves disk mid (OldOrHeld disk pool states before)
   placing laws before was = goes_on disk disk mid (OldOrHeld disk pool states before)
-      (started disk (OldOrHeld disk pool states before) laws (λ c now. (inl (held_stands disk pool states before was c now), refl)))
+      (started disk (OldOrHeld disk pool states before) laws (λ c now. (inl (kept_stands (root_found pool.found) disk.reads c before was.tells (was.keeps c now)), refl)))
       placed.only_reads.time
-      (λ c now. (inl (held_stands mid held between before (placed.held before was) c now), placed.only_reads.given))
+      (λ c now. (inl (kept_stands (root_found held.found) mid.reads c before (placed.held before was).tells ((placed.held before was).keeps c now)), placed.only_reads.given))
 
   module _ (none : (s : ℕ) → HasNoFiles (state_at between s)) (whole : (s : ℕ) → HasWholeMap (state_at between s)) where
     lent_mid : (before : Machine) → IsHeld disk pool states before → IsLent mid held between before

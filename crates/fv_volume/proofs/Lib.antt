@@ -87,3 +87,4 @@ pub mod HeldAlone
 pub mod SeenAlone
 pub mod HeldSettled
 pub mod Spending
+pub mod Staying
