@@ -1,0 +1,242 @@
+//! Commands as calls of their volumes.
+
+ghost use Rattle.std.specs.Prelude.{◌≡◌, ◌<◌, ◌≤◌, ◌^◌, ℕ, IfSome};
+ghost use Rattle.fv_model.specs.Numbers.{greatest_span};
+ghost use Rattle.fv_volume.specs.Calls.{Reads};
+ghost use Rattle.fv_volume.specs.OneVolume.{IsReady};
+ghost use Rattle.fv_volume.specs.States.{state_at};
+
+use crate::opened::Opened;
+use fv_container::Steps;
+use fv_disk::{Block, Disk};
+use fv_model::{Command, Kind, Name, Refusal, Reply};
+use fv_volume::{Pool, VolumeFault, VolumeState, Volumes};
+use std::alloc::Global;
+use std::marker::Brand;
+use std::sync::ledger::{Blank, Ledger};
+
+/// The most that other volumes may commit together.
+const MOST: u64 = 4_611_686_018_427_387_904;
+
+/// What a command is answered, refusals among it: making a volume, or a call of one volume.
+pub(crate) fn apply(opened: &mut Opened, command: &Command) -> Result<Reply, VolumeFault> {
+    let reply = match command {
+        Command::VolCreate { volume, size, kind } => create(opened, volume, *size, *kind),
+        _ => ask(opened, command),
+    };
+    match reply {
+        Err(VolumeFault::Refused(refusal)) => Ok(Reply::Refused(refusal)),
+        _ => reply,
+    }
+}
+
+/// Makes a volume.
+fn create(opened: &mut Opened, name: &Name, size: u32, kind: Kind) -> Result<Reply, VolumeFault> {
+    let blocks = opened.pool.found.blocks;
+    match opened.volumes.admit(blocks, name, size, kind) {
+        Err(refusal) => Err(VolumeFault::Refused(refusal)),
+        Ok(admitted) => {
+            let pool = &mut opened.pool;
+            match opened.volumes.create(pool, name, size, kind, admitted) {
+                Ok(_) => Ok(Reply::Done),
+                Err(_) => Err(VolumeFault::Memory),
+            }
+        }
+    }
+}
+
+/// The volume that a command speaks of.
+fn volume_of(command: &Command) -> Option<&Name> {
+    match command {
+        Command::VolStat { volume } => Some(volume),
+        Command::New { volume, .. } => Some(volume),
+        Command::Put { volume, .. } => Some(volume),
+        Command::Get { volume, .. } => Some(volume),
+        Command::Len { volume, .. } => Some(volume),
+        Command::Cut { volume, .. } => Some(volume),
+        Command::Remove { volume, .. } => Some(volume),
+        Command::Ls { volume, .. } => Some(volume),
+        _ => None,
+    }
+}
+
+/// What the volume of a command answers.
+fn ask(opened: &mut Opened, command: &Command) -> Result<Reply, VolumeFault> {
+    let Some(name) = volume_of(command) else {
+        return Err(VolumeFault::Refused(Refusal::Syntax));
+    };
+    let Some(slot) = opened.volumes.find(name) else {
+        return Err(VolumeFault::Refused(Refusal::NoVolume));
+    };
+    let others = commits_beside(&opened.volumes, slot);
+    match opened.volumes.get_mut(slot) {
+        None => Err(VolumeFault::Refused(Refusal::NoVolume)),
+        Some(volume) => {
+            let alloc = opened.alloc;
+            call(
+                volume,
+                alloc,
+                &mut opened.pool,
+                &mut opened.disk,
+                others,
+                command,
+            )
+        }
+    }
+}
+
+/// What all volumes but that of a slot commit together.
+fn commits_beside(volumes: &Volumes, slot: u8) -> u64
+    requires each { (s : ℕ) → IfSome (state_at volumes.now s) (λ x. x.ledger.span ≤ greatest_span) }
+    ensures { result ≤ 2 ^ 62 }
+{
+    let mut sum: u64 = 0;
+    for other in 0..64_u8 {
+        if let Some(volume) = volumes.get(other) {
+            if other != slot {
+                sum = sum.saturating_add(volume.ledger.commit());
+            }
+        }
+    }
+    sum.min(MOST)
+}
+
+/// What a volume answers to a command.
+fn call<D: Disk>(
+    volume: &mut VolumeState,
+    alloc: Global,
+    pool: &mut Pool,
+    disk: &mut D,
+    others: u64,
+    command: &Command,
+) -> Result<Reply, VolumeFault>
+    requires ready { IsReady (D.shown disk.old) pool.old volume.old }
+    requires others { others ≤ 2 ^ 62 }
+    ensures ready { IsReady (D.shown disk.new) pool.new volume.new }
+    ensures reads { Reads (D.shown disk.old) pool.old (D.shown disk.new) pool.new }
+{
+    let done = match command {
+        Command::New { file, reserve, .. } => {
+            new_file(volume, alloc, pool, disk, others, file, *reserve)
+        }
+        Command::Put {
+            file,
+            index,
+            block,
+            ..
+        } => volume.put(alloc, pool, disk, others, file, *index, block),
+        Command::Cut { file, length, .. } => volume.cut(alloc, pool, disk, others, file, *length),
+        Command::Remove { file, .. } => volume.remove(alloc, pool, disk, others, file),
+        _ => return tell(volume, alloc, pool, disk, command),
+    };
+    done?;
+    Ok(Reply::Done)
+}
+
+/// Makes a file. Reserves of files aren't built yet.
+fn new_file<D: Disk>(
+    volume: &mut VolumeState,
+    alloc: Global,
+    pool: &mut Pool,
+    disk: &mut D,
+    others: u64,
+    file: &Name,
+    reserve: u32,
+) -> Result<(), VolumeFault>
+    requires ready { IsReady (D.shown disk.old) pool.old volume.old }
+    requires others { others ≤ 2 ^ 62 }
+    ensures ready { IsReady (D.shown disk.new) pool.new volume.new }
+    ensures reads { Reads (D.shown disk.old) pool.old (D.shown disk.new) pool.new }
+{
+    if reserve > 0 && volume.kind == Kind::File {
+        return Err(VolumeFault::Memory);
+    }
+    volume.new_file(alloc, pool, disk, others, file, reserve)
+}
+
+/// What is asked of a volume.
+fn tell<D: Disk>(
+    volume: &mut VolumeState,
+    alloc: Global,
+    pool: &mut Pool,
+    disk: &mut D,
+    command: &Command,
+) -> Result<Reply, VolumeFault>
+    requires ready { IsReady (D.shown disk.old) pool.old volume.old }
+    ensures same { volume.new ≡ volume.old }
+    ensures reads { Reads (D.shown disk.old) pool.old (D.shown disk.new) pool.new }
+{
+    match command {
+        Command::VolStat { .. } => Ok(Reply::Stat(volume.stat())),
+        Command::Len { snapshot, file, .. } => {
+            let length = volume.length(alloc, pool, disk, snapshot.as_ref(), file)?;
+            Ok(Reply::Number(u64::from(length)))
+        }
+        Command::Ls { snapshot, .. } => {
+            let names = volume.list(alloc, pool, disk, snapshot.as_ref())?;
+            Ok(Reply::Names(names))
+        }
+        Command::Get {
+            snapshot,
+            file,
+            index,
+            ..
+        } => {
+            let block = content(volume, alloc, pool, disk, snapshot.as_ref(), file, *index)?;
+            Ok(Reply::Content(block))
+        }
+        _ => Err(VolumeFault::Refused(Refusal::Syntax)),
+    }
+}
+
+/// A block of a file.
+fn content<D: Disk>(
+    volume: &mut VolumeState,
+    alloc: Global,
+    pool: &mut Pool,
+    disk: &mut D,
+    snapshot: Option<&Name>,
+    file: &Name,
+    index: u32,
+) -> Result<Block, VolumeFault>
+    requires ready { IsReady (D.shown disk.old) pool.old volume.old }
+    ensures same { volume.new ≡ volume.old }
+    ensures reads { Reads (D.shown disk.old) pool.old (D.shown disk.new) pool.new }
+{
+    counted::<D, Brand>(
+        volume,
+        alloc,
+        pool,
+        disk,
+        snapshot,
+        file,
+        index,
+        Blank::new(1),
+    )
+}
+
+/// The same, with a counter of its own.
+fn counted<D: Disk, L: Ledger>(
+    volume: &mut VolumeState,
+    alloc: Global,
+    pool: &mut Pool,
+    disk: &mut D,
+    snapshot: Option<&Name>,
+    file: &Name,
+    index: u32,
+    blank: Blank,
+) -> Result<Block, VolumeFault>
+    requires name { blank.name ≡ L.name }
+    requires parts { blank.parts ≡ L.parts }
+    requires some { 0 < L.parts }
+    requires ready { IsReady (D.shown disk.old) pool.old volume.old }
+    ensures same { volume.new ≡ volume.old }
+    ensures reads { Reads (D.shown disk.old) pool.old (D.shown disk.new) pool.new }
+{
+    let mut steps: Steps<L> = Steps::open(blank);
+    let mut block: Block = [0; 4096];
+    volume.get(
+        alloc, pool, disk, snapshot, file, index, &mut block, &mut steps,
+    )?;
+    Ok(block)
+}
