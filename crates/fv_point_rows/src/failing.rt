@@ -1,12 +1,11 @@
 //! Points of which a call of the disk fails.
 
-use crate::beside::{Pair, new_pair};
 use crate::points::{Lines, go, make_point};
-use crate::torn::{Either, look, plain, told};
-use crate::wrong::Wrong;
-use fv_memdisk::Call;
+use crate::torn::{either_of, look};
+use fv_memdisk::{Call, MemHost};
 use fv_volume::VolumeFault;
-use std::alloc::Global;
+use fv_volume_rows::{Opened, Pair, Wrong, new_pair};
+use std::alloc::{AllocError, Global};
 use std::test::Fail;
 
 const FIRST: Lines = &[
@@ -22,41 +21,41 @@ const FIRST: Lines = &[
     b"put b f 0 06",
 ];
 
-/// How many calls of a kind a host makes up to the last line.
-fn pair_failing(alloc: Global, call: Call, nth: u64) -> Result<Option<Pair>, Wrong> {
-    let mut pair = new_pair(alloc, 1024)?;
-    pair.opened.disk.fail(call, nth)?;
-    match go(&mut pair, FIRST) {
-        Ok(()) => Ok(Some(pair)),
-        Err(Wrong::Fault(VolumeFault::DiskFault)) => Ok(None),
-        Err(wrong) => Err(wrong),
+/// Lets the call of a number fail, counted from 0 over all calls of its kind.
+fn fail(opened: &mut Opened, call: Call, nth: u64) -> Result<(), AllocError> {
+    opened.disk.fail(call, nth)
+}
+
+/// Looks at the images that a host whose last call failed may leave: each is that of before the last point or that of after it.
+fn see_images(alloc: Global, disk: &MemHost) -> Result<(), Wrong> {
+    let mut either = either_of(alloc, FIRST, 5, FIRST.len())?;
+    let last = disk.moments().saturating_sub(1);
+    look(alloc, disk, last, 24, &mut either)
+}
+
+/// Whether a call fails in the point of volumes. It then leaves one of the two machines.
+fn fails_in(alloc: Global, pair: Pair) -> Result<bool, Wrong> {
+    match make_point(pair.opened) {
+        Ok(_) => Ok(false),
+        Err(lost) => {
+            if lost.fault != VolumeFault::DiskFault {
+                return Err(Wrong::Fault(lost.fault));
+            }
+            see_images(alloc, &lost.disk)?;
+            Ok(true)
+        }
     }
 }
 
-/// Whether the call of a number is one of the last point; if so it fails, and the images are those of before or of after.
+/// Whether the call of a number is one of the last point, if it isn't an earlier one; it fails then.
 fn fails(alloc: Global, call: Call, nth: u64) -> Result<Option<bool>, Wrong> {
-    let Some(mut pair) = pair_failing(alloc, call, nth)? else {
-        return Ok(None);
-    };
-    match make_point(&mut pair.opened) {
-        Ok(()) => return Ok(Some(false)),
-        Err(Wrong::Fault(VolumeFault::DiskFault)) => {}
-        Err(wrong) => return Err(wrong),
+    let mut pair = new_pair(alloc, 1024)?;
+    fail(&mut pair.opened, call, nth)?;
+    match go(pair, FIRST) {
+        Ok(pair) => Ok(Some(fails_in(alloc, pair)?)),
+        Err(Wrong::Fault(VolumeFault::DiskFault)) => Ok(None),
+        Err(wrong) => Err(wrong),
     }
-    let mut either = Either {
-        before: plain(alloc, 1024, FIRST, 5)?,
-        after: plain(alloc, 1024, FIRST, FIRST.len())?,
-        seen: [0; 2],
-    };
-    let last = pair.opened.disk.moments().saturating_sub(1);
-    look(alloc, &pair.opened.disk, last, 24, &mut either)?;
-    if call == Call::Read {
-        let now = told(&mut pair.opened)?;
-        if now.as_slice() != either.after.as_slice() {
-            return Err(Wrong::Row);
-        }
-    }
-    Ok(Some(true))
 }
 
 /// How many calls of a kind the last point makes, each of which fails in turn, up to the call of a number.

@@ -3,20 +3,10 @@
 #![tactic(auto)]
 
 #[cfg(test)]
-mod beside;
-#[cfg(test)]
-mod calls;
-#[cfg(test)]
 mod failing;
 #[cfg(test)]
 mod filling;
 #[cfg(test)]
-mod opened;
-#[cfg(test)]
 mod points;
 #[cfg(test)]
-mod random;
-#[cfg(test)]
 mod torn;
-#[cfg(test)]
-mod wrong;

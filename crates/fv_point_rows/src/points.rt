@@ -1,39 +1,71 @@
 //! Consistency points of volumes with files, and what they cost.
 
-use crate::beside::{Pair, agrees, command, new_pair};
-use crate::opened::Opened;
-use crate::wrong::Wrong;
-use fv_cp::consistency_point;
+ghost use Rattle.std.specs.Prelude.{OnOk};
+ghost use Rattle.fv_volume_rows.specs.Held.{AreFit, AreHeld};
+
+use fv_cp::full_point;
+use fv_disk::Disk;
+use fv_memdisk::MemHost;
+use fv_volume::{Pool, VolumeFault, Volumes};
+use fv_volume_rows::{Opened, Pair, Wrong, agrees_on, new_pair};
 use std::alloc::Global;
 use std::test::Fail;
 
+/// The disk of volumes whose point failed, and why.
+#[derive(Drop)]
+pub(crate) struct Lost {
+    pub(crate) disk: MemHost,
+    pub(crate) fault: VolumeFault,
+}
+
 /// Places what changed of all volumes, and makes a point.
-pub(crate) fn make_point(opened: &mut Opened) -> Result<(), Wrong> {
-    for slot in 0..64_u8 {
-        flush(opened, slot)?;
-    }
-    consistency_point(&mut opened.volumes, &mut opened.pool, &mut opened.disk, 0)?;
+fn point<D: Disk>(volumes: &mut Volumes, pool: &mut Pool, disk: &mut D) -> Result<(), VolumeFault>
+    requires held { AreHeld (D.shown disk.old) pool.old volumes.old }
+    requires fit { AreFit (D.shown disk.old) pool.old volumes.old }
+    ensures held { OnOk result (AreHeld (D.shown disk.new) pool.new volumes.new) }
+    ensures fit { OnOk result (AreFit (D.shown disk.new) pool.new volumes.new) }
+{
+    full_point(volumes, pool, disk, 0)?;
     Ok(())
 }
 
-/// Places what changed of the volume of a slot.
-fn flush(opened: &mut Opened, slot: u8) -> Result<(), Wrong> {
-    let mut room = 0;
-    if let Some(volume) = opened.volumes.get_mut(slot) {
-        volume.flush(&mut opened.pool, &mut opened.disk, &mut room)?;
+/// The volumes after a point.
+pub(crate) fn make_point(mut opened: Opened) -> Result<Opened, Lost> {
+    match point(&mut opened.volumes, &mut opened.pool, &mut opened.disk) {
+        Ok(()) => Ok(opened),
+        Err(fault) => Err(Lost {
+            disk: opened.disk,
+            fault,
+        }),
     }
-    Ok(())
+}
+
+/// The volumes and their machine after a point.
+pub(crate) fn make(pair: Pair) -> Result<Pair, Wrong> {
+    let Pair {
+        opened,
+        machine,
+        seen,
+    } = pair;
+    match make_point(opened) {
+        Ok(opened) => Ok(Pair {
+            opened,
+            machine,
+            seen,
+        }),
+        Err(lost) => Err(Wrong::Fault(lost.fault)),
+    }
 }
 
 /// A line of a script: `cp` makes a point, and each other one is answered as the machine answers it.
-pub(crate) fn step(pair: &mut Pair, number: usize, line: &[u8]) -> Result<(), Wrong> {
+pub(crate) fn step(mut pair: Pair, line: &[u8]) -> Result<Pair, Wrong> {
     if line == b"cp".as_slice() {
-        return make_point(&mut pair.opened);
+        return make(pair);
     }
-    if agrees(pair, &command(line)?)? {
-        Ok(())
+    if agrees_on(&mut pair, line)? {
+        Ok(pair)
     } else {
-        Err(Wrong::Differs(number))
+        Err(Wrong::Row)
     }
 }
 
@@ -41,19 +73,25 @@ pub(crate) fn step(pair: &mut Pair, number: usize, line: &[u8]) -> Result<(), Wr
 pub(crate) type Lines = &'static [&'static [u8]];
 
 /// All lines, one after the other.
-pub(crate) fn go(pair: &mut Pair, lines: Lines) -> Result<(), Wrong> {
-    for (number, line) in lines.iter().enumerate() {
-        step(pair, number, line)?;
+pub(crate) fn go(pair: Pair, lines: Lines) -> Result<Pair, Wrong> {
+    let mut pair = pair;
+    for line in lines {
+        pair = step(pair, line)?;
     }
-    Ok(())
+    Ok(pair)
 }
 
 /// How many writes and barriers a point makes, and how many blocks are free after it.
-fn cost(pair: &mut Pair) -> Result<(u64, u32), Wrong> {
+type Cost = (u64, u32);
+
+/// What a point costs after lines.
+fn cost(pair: Pair, lines: Lines) -> Result<(Pair, Cost), Wrong> {
+    let pair = go(pair, lines)?;
     let before = pair.opened.disk.moments();
-    make_point(&mut pair.opened)?;
+    let pair = make(pair)?;
     let calls = pair.opened.disk.moments().saturating_sub(before);
-    Ok((calls, pair.opened.pool.map.free_count()))
+    let free = pair.opened.pool.map.free_count();
+    Ok((pair, (calls, free)))
 }
 
 const MAKES: Lines = &[
@@ -67,17 +105,12 @@ const MAKES: Lines = &[
 const OVERWRITES: Lines = &[b"put a f 0 03", b"put a f 200 04"];
 
 /// The costs of a first point, of one without changes, and of three after the same blocks were overwritten.
-fn costs(alloc: Global) -> Result<[(u64, u32); 5], Wrong> {
-    let mut pair = new_pair(alloc, 1024)?;
-    go(&mut pair, MAKES)?;
-    let first = cost(&mut pair)?;
-    let second = cost(&mut pair)?;
-    go(&mut pair, OVERWRITES)?;
-    let third = cost(&mut pair)?;
-    go(&mut pair, OVERWRITES)?;
-    let fourth = cost(&mut pair)?;
-    go(&mut pair, OVERWRITES)?;
-    let fifth = cost(&mut pair)?;
+fn costs(alloc: Global) -> Result<[Cost; 5], Wrong> {
+    let (pair, first) = cost(new_pair(alloc, 1024)?, MAKES)?;
+    let (pair, second) = cost(pair, &[])?;
+    let (pair, third) = cost(pair, OVERWRITES)?;
+    let (pair, fourth) = cost(pair, OVERWRITES)?;
+    let (_pair, fifth) = cost(pair, OVERWRITES)?;
     Ok([first, second, third, fourth, fifth])
 }
 

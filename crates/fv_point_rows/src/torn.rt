@@ -1,12 +1,11 @@
 //! The images that a crash may leave while a point is made.
 
-use crate::beside::{Pair, command, line_of, new_pair};
-use crate::calls::apply;
-use crate::opened::{Opened, open};
-use crate::points::{Lines, step};
-use crate::wrong::Wrong;
+use crate::points::{Lines, make_point, step};
 use fv_memdisk::{MemHost, Tear};
+use fv_model::Command;
 use fv_reference::Machine;
+use fv_script::read_line;
+use fv_volume_rows::{Opened, Pair, Wrong, apply, line_of, new_pair, open};
 use std::alloc::Global;
 use std::test::Fail;
 
@@ -25,41 +24,92 @@ const ASKED: Lines = &[
     b"get b f 2097151",
 ];
 
-/// What volumes answer, one line after the other.
-pub(crate) fn told(opened: &mut Opened) -> Result<Vec<u8>, Wrong> {
-    let alloc = opened.alloc;
-    let mut lines = Vec::new(alloc);
+/// Adds the line of what volumes answer to a command.
+fn tell(opened: &mut Opened, command: &Command, lines: &mut Vec<u8>) -> Result<(), Wrong> {
+    let reply = apply(opened, command)?;
+    let line = line_of(opened.alloc, &reply)?;
+    lines.extend_from_slice(line.as_slice())?;
+    Ok(())
+}
+
+/// The same for a line.
+fn tell_line(opened: &mut Opened, line: &[u8], lines: &mut Vec<u8>) -> Result<(), Wrong> {
+    match read_line(line) {
+        Ok(command) => tell(opened, &command, lines),
+        Err(_) => Err(Wrong::Row),
+    }
+}
+
+/// What volumes answer to what is asked, one line after the other.
+fn told(opened: &mut Opened) -> Result<Vec<u8>, Wrong> {
+    let mut lines = Vec::new(opened.alloc);
     for line in ASKED {
-        let reply = apply(opened, &command(line)?)?;
-        lines.extend_from_slice(line_of(alloc, &reply)?.as_slice())?;
+        tell_line(opened, line, &mut lines)?;
     }
     Ok(lines)
 }
 
-/// What the plain machine of so many blocks answers after the first so many lines; a `cp` is no command of it.
-pub(crate) fn plain(
+/// Adds the line of what a machine answers to a command.
+fn add(
     alloc: Global,
-    blocks: u32,
-    lines: Lines,
-    count: usize,
-) -> Result<Vec<u8>, Wrong> {
-    let mut machine = Machine::new(alloc, blocks);
-    for line in lines.iter().take(count) {
-        let _ = machine.apply(alloc, &command(line)?)?;
+    machine: &mut Machine,
+    command: &Command,
+    lines: &mut Vec<u8>,
+) -> Result<(), Wrong> {
+    let reply = machine.apply(alloc, command)?;
+    let line = line_of(alloc, &reply)?;
+    lines.extend_from_slice(line.as_slice())?;
+    Ok(())
+}
+
+/// The same for a line.
+fn add_line(
+    alloc: Global,
+    machine: &mut Machine,
+    line: &[u8],
+    lines: &mut Vec<u8>,
+) -> Result<(), Wrong> {
+    match read_line(line) {
+        Ok(command) => add(alloc, machine, &command, lines),
+        Err(_) => Err(Wrong::Row),
     }
+}
+
+/// What a machine answers to lines, one after the other.
+fn add_lines(
+    alloc: Global,
+    machine: &mut Machine,
+    asked: &[&[u8]],
+    lines: &mut Vec<u8>,
+) -> Result<(), Wrong> {
+    for line in asked {
+        add_line(alloc, machine, line, lines)?;
+    }
+    Ok(())
+}
+
+/// What the plain machine of 1,024 blocks answers to what is asked, after the first so many lines; a `cp` is no command that it sees.
+fn plain(alloc: Global, lines: Lines, count: usize) -> Result<Vec<u8>, Wrong> {
+    let mut machine = Machine::new(alloc, 1024);
+    let mut before = Vec::new(alloc);
+    add_lines(alloc, &mut machine, &lines[..count.min(lines.len())], &mut before)?;
     let mut answers = Vec::new(alloc);
-    for line in ASKED {
-        let reply = machine.apply(alloc, &command(line)?)?;
-        answers.extend_from_slice(line_of(alloc, &reply)?.as_slice())?;
-    }
+    add_lines(alloc, &mut machine, ASKED, &mut answers)?;
     Ok(answers)
 }
 
 /// What an image answers, and that it answers the same after a point of its own.
-pub(crate) fn image_told(alloc: Global, image: MemHost) -> Result<Vec<u8>, Wrong> {
+fn image_told(alloc: Global, image: MemHost) -> Result<Vec<u8>, Wrong> {
     let mut opened = open(alloc, image)?;
     let first = told(&mut opened)?;
-    crate::points::make_point(&mut opened)?;
+    match make_point(opened) {
+        Ok(after) => told_as(after, first),
+        Err(lost) => Err(Wrong::Fault(lost.fault)),
+    }
+}
+
+/// These answers, where volumes give them.
+fn told_as(mut opened: Opened, first: Vec<u8>) -> Result<Vec<u8>, Wrong> {
     let again = told(&mut opened)?;
     if first.as_slice() == again.as_slice() {
         Ok(first)
@@ -69,7 +119,7 @@ pub(crate) fn image_told(alloc: Global, image: MemHost) -> Result<Vec<u8>, Wrong
 }
 
 /// What the tear of a number does to the blocks that wait for a barrier.
-pub(crate) fn tear_of(number: u32) -> Tear {
+fn tear_of(number: u32) -> Tear {
     match number {
         0 => Tear::Old,
         1 => Tear::New,
@@ -82,9 +132,55 @@ pub(crate) fn tear_of(number: u32) -> Tear {
 /// Two answers that an image may give, and how often each was seen.
 #[derive(Drop)]
 pub(crate) struct Either {
-    pub(crate) before: Vec<u8>,
-    pub(crate) after: Vec<u8>,
-    pub(crate) seen: [u32; 2],
+    before: Vec<u8>,
+    after: Vec<u8>,
+    seen: [u32; 2],
+}
+
+/// What the plain machine answers after so many lines, and after so many more.
+pub(crate) fn either_of(
+    alloc: Global,
+    lines: Lines,
+    last: usize,
+    number: usize,
+) -> Result<Either, Wrong> {
+    Ok(Either {
+        before: plain(alloc, lines, last)?,
+        after: plain(alloc, lines, number)?,
+        seen: [0; 2],
+    })
+}
+
+/// Counts an answer; false where it is neither.
+fn count(either: &mut Either, answer: &[u8]) -> bool {
+    if answer == either.before.as_slice() {
+        either.seen[0] = either.seen[0].saturating_add(1);
+        return true;
+    }
+    if answer == either.after.as_slice() {
+        either.seen[1] = either.seen[1].saturating_add(1);
+        return true;
+    }
+    false
+}
+
+/// Looks at the tear of a number at a moment below `moments()`.
+fn look_at(
+    alloc: Global,
+    host: &MemHost,
+    moment: u64,
+    number: u32,
+    either: &mut Either,
+) -> Result<(), Wrong> {
+    if moment >= host.moments() {
+        return Err(Wrong::Row);
+    }
+    let answer = image_told(alloc, host.image(moment, tear_of(number))?)?;
+    if count(either, answer.as_slice()) {
+        Ok(())
+    } else {
+        Err(Wrong::Differs(number as usize))
+    }
 }
 
 /// Looks at the tears of a moment at which at most so many blocks wait for a barrier.
@@ -99,20 +195,12 @@ pub(crate) fn look(
         if number > 3 && u64::from(number) > waiting.saturating_add(3) {
             return Ok(());
         }
-        let image = host.image(moment, tear_of(number))?;
-        let answer = image_told(alloc, image)?;
-        if answer.as_slice() == either.before.as_slice() {
-            either.seen[0] = either.seen[0].saturating_add(1);
-        } else if answer.as_slice() == either.after.as_slice() {
-            either.seen[1] = either.seen[1].saturating_add(1);
-        } else {
-            return Err(Wrong::Differs(number as usize));
-        }
+        look_at(alloc, host, moment, number, either)?;
     }
     Ok(())
 }
 
-/// Two points of two volumes: files come, are overwritten, cut and removed.
+/// Points of two volumes: files come, are overwritten, cut and removed.
 const SCRIPT: Lines = &[
     b"vol create a 100 volume",
     b"vol create b 300 none",
@@ -137,44 +225,10 @@ const SCRIPT: Lines = &[
     b"cp",
 ];
 
-/// Whether each image of each point stands for the machine of the point before or for that of this one, and both are seen.
-fn walk(alloc: Global, blocks: u32, lines: Lines) -> Result<(), Wrong> {
-    let mut pair = new_pair(alloc, blocks)?;
-    let mut last = 0;
-    for (number, line) in lines.iter().enumerate() {
-        let first = pair.opened.disk.moments().saturating_sub(1);
-        step(&mut pair, number, line)?;
-        if *line == b"cp".as_slice() {
-            see_point(&pair, blocks, lines, last, number, first)?;
-            last = number;
-        }
-    }
-    Ok(())
-}
-
-/// Whether each image from a moment on stands for one of the two machines.
-fn see_point(
-    pair: &Pair,
-    blocks: u32,
-    lines: Lines,
-    last: usize,
-    number: usize,
-    first: u64,
-) -> Result<(), Wrong> {
-    let alloc = pair.opened.alloc;
-    let mut either = Either {
-        before: plain(alloc, blocks, lines, last)?,
-        after: plain(alloc, blocks, lines, number)?,
-        seen: [0; 2],
-    };
-    for moment in first..pair.opened.disk.moments() {
-        look(
-            alloc,
-            &pair.opened.disk,
-            moment,
-            moment.saturating_sub(first),
-            &mut either,
-        )?;
+/// Whether each image from a moment on stands for one of the two machines, and both are seen.
+fn see_point(host: &MemHost, alloc: Global, first: u64, either: &mut Either) -> Result<(), Wrong> {
+    for moment in first..host.moments() {
+        look(alloc, host, moment, moment.saturating_sub(first), either)?;
     }
     if either.seen[0] == 0 || either.seen[1] == 0 {
         return Err(Wrong::Row);
@@ -182,8 +236,38 @@ fn see_point(
     Ok(())
 }
 
+/// Applies the line of a number. Where it is a point, each image of it stands for the machine of the point before, after `last` lines, or for
+/// that of this one.
+fn see_step(pair: Pair, lines: Lines, last: usize, number: usize) -> Result<Pair, Wrong> {
+    if number >= lines.len() {
+        return Err(Wrong::Row);
+    }
+    let line = lines[number];
+    let alloc = pair.opened.alloc;
+    let first = pair.opened.disk.moments().saturating_sub(1);
+    let pair = step(pair, line)?;
+    if line == b"cp".as_slice() {
+        let mut either = either_of(alloc, lines, last, number)?;
+        see_point(&pair.opened.disk, alloc, first, &mut either)?;
+    }
+    Ok(pair)
+}
+
+/// Applies lines in a new aggregate, and sees each of their points.
+fn see(alloc: Global, lines: Lines) -> Result<(), Wrong> {
+    let mut pair = new_pair(alloc, 1024)?;
+    let mut last = 0;
+    for number in 0..lines.len() {
+        pair = see_step(pair, lines, last, number)?;
+        if lines[number] == b"cp".as_slice() {
+            last = number;
+        }
+    }
+    Ok(())
+}
+
 #[test]
 fn each_image_of_a_point(rt: HostRuntime) -> Result<(), Fail> {
-    assert_eq!(rt; walk(rt.alloc(), 1024, SCRIPT), Ok(()));
+    assert_eq!(rt; see(rt.alloc(), SCRIPT), Ok(()));
     Ok(())
 }

@@ -1,12 +1,14 @@
 -- Volumes that a point can be made of, after a call on one of them.
-use Rattle.std.proofs.Common.{◌≡◌, ◌≢◌, ◌<◌, ℕ, Bool, List, length, Option, Some, None, refl, sym, ap, subst, ◌∙◌, inl, inr, ⊎_elim, arith, length-set}
-use Rattle.std.specs.Prelude.{◌⊎◌, IfSome, IsTrue, is_some, slice_index_or}
+use Rattle.std.proofs.Common.{◌≡◌, ◌≢◌, ◌<◌, ℕ, Bool, List, length, Option, Some, None, Result, Ok, Err, refl, sym, ap, subst, ◌∙◌, inl, inr, ⊎_elim, arith, length-set}
+use Rattle.std.specs.Prelude.{◌⊎◌, IfOk, IfSome, IsTrue, OnErr, OnOk, is_some, slice_index_or}
 use Rattle.std.specs.Ordering.{nat_cmp}
 use Rattle.std.specs.FinMap as fin
 use Rattle.std.proofs.lemmas.Bool.{cases_eq, or_from}
 use Rattle.std.proofs.lemmas.List.{get_or-set_other, get_or-set_same}
-use Rattle.fv_disk.specs.Shown.{Image, Shown as Disk}
-use Rattle.fv_disk.specs.DiskCalls.{Stays}
+use Rattle.fv_disk.specs.Shown.{Image, Shown as Disk, IsSettled}
+use Rattle.fv_disk.specs.DiskCalls.{OnlyReads, Stays}
+use Rattle.fv_disk.proofs.Resting.{reads_then, settled_image}
+use Rattle.fv_model.specs.declared.commands.Kind.{Kind}
 use Rattle.fv_bits.specs.Members.{is_member}
 use Rattle.fv_root.specs.declared.find.Found.{Found}
 use Rattle.fv_root.specs.Commits.{IsFoundOn}
@@ -20,6 +22,8 @@ use Rattle.fv_volume.specs.declared.state.Base.{Base}
 use Rattle.fv_volume.specs.declared.state.VolumeState.{VolumeState}
 use Rattle.fv_volume.specs.BlocksOver.{entries_in}
 use Rattle.fv_volume.specs.Calls.{Reads}
+use Rattle.fv_volume.specs.Creating.{IsMade, IsNew, with_holes}
+use Rattle.fv_volume.proofs.Housing.{housed_with}
 use Rattle.fv_volume.specs.Files.{IsLabelled}
 use Rattle.fv_volume.specs.Keeping.{Blocks, IsUnkept}
 use Rattle.fv_volume.specs.Lending.{GoesOver, MayTake, lent_by, lent_for}
@@ -149,6 +153,32 @@ fit_placed d e p q xs slot room left x y was within there same labelled goes =
 
     here : x.slot ≡ slot
     here = (there_at {P = IsLabelled slot} (state_at xs slot) x there (was.fit.housed.volumes slot)).slot_is
+
+-- ---- a volume is made, or all are read
+
+-- a new volume beside those that were, or none
+pub made_fit : {E : Type 0} (d : Disk) (p q : Pool) (xs ys : States) (name : List ℕ) (size : ℕ) (kind : Kind) (r : Result ℕ E) → AreFit d p xs → IfOk r (λ slot. IsMade xs slot name size kind ys)
+    → IfOk r (λ slot. IsNew (state_at ys slot) (container_at q.containers slot) name size kind) → IfOk r (λ slot. q ≡ with_holes p slot size) → OnOk r ((s : ℕ) → IfSome (state_at ys s) (IsLabelled s))
+    → OnErr r (ys ≡ xs) → OnErr r (q ≡ p) → AreFit d q ys
+made_fit d p q xs ys name size kind (Ok slot) was made new holes each same same_pool = subst (λ (w : Pool). AreFit d w ys) (sym holes) (record {
+  fit = record {
+    range = was.fit.range;
+    size = was.fit.size;
+    housed = housed_with p xs ys slot name size kind made (subst (λ (w : Pool). IsNew (state_at ys slot) (container_at w.containers slot) name size kind) holes new) each was.fit.housed;
+    kept = was.fit.kept;
+  };
+  root = was.root;
+})
+made_fit d p q xs ys name size kind (Err e) was made new holes each same same_pool = subst (λ (w : Pool). AreFit d w ys) (sym same_pool) (subst (λ (ss : States). AreFit d p ss) (sym same) was)
+
+-- a root that was found on a settled disk, after reads
+pub root_on : (b c d e : Disk) (found : Found) → IsSettled b → IsFound b.reads found → OnlyReads b c → OnlyReads c d → OnlyReads d e → IsFoundOn e found
+root_on b c d e found settled is one two three =
+    let all = reads_then b d e (reads_then b c d one two) three in
+    record {
+      reads = subst (λ (i : Image). IsFound i found) (sym all.stays.reads) is;
+      images = λ x now. subst (λ (i : Image). IsFound i found) (sym (settled_image b x settled (all.stays.no_more x now))) is;
+    }
 
 -- ---- what a point asks for and gives
 
