@@ -44,8 +44,8 @@ pub record KeepsPlace (x y : VolumeState) : Type 0 where
   pub base : y.base ≡ x.base
 
 -- what a fact of each slot says of its volume
-there_at : {P : VolumeState → Type 0} (o : Option VolumeState) (x : VolumeState) → o ≡ Some x → IfSome o P → P x
-there_at {P} o x is all = subst (λ (y : Option VolumeState). IfSome y P) is all
+there_at : (P : VolumeState → Type 0) (o : Option VolumeState) (x : VolumeState) → o ≡ Some x → IfSome o P → P x
+there_at P o x is all = subst (λ (y : Option VolumeState). IfSome y P) is all
 
 -- A fact of each slot stays one where a slot gets a volume.
 with_at : (P : ℕ → Option VolumeState → Type 0) (xs : States) (slot : ℕ) (y : VolumeState) → slot < length xs → P slot (Some y) → ((s : ℕ) → s ≢ slot → P s (state_at xs s)) → (s : ℕ) → P s (state_at (with_state xs slot (Some y)) s)
@@ -96,7 +96,7 @@ module _ (d e : Disk) (p q : Pool) (xs : States) (slot : ℕ) (was : AreFit d p 
   fit_with : (x y : VolumeState) → slot < slot_count → state_at xs slot ≡ Some x → KeepsPlace x y → IsLabelled y.slot y → AreFit e q (with_state xs slot (Some y))
   fit_with x y within at same labelled =
       let inside : slot < length xs = (let long = was.fit.housed.long in omega (arith, within, long)) in
-      let mine = there_at {P = IsLabelled slot} (state_at xs slot) x at (was.fit.housed.volumes slot) in
+      let mine = there_at (IsLabelled slot) (state_at xs slot) x at (was.fit.housed.volumes slot) in
       record {
         fit = record {
           range = subst IsInRange (sym leaves.found) was.fit.range;
@@ -152,7 +152,7 @@ fit_placed d e p q xs slot room left x y was within there same labelled goes =
     over = goes.goes.goes
 
     here : x.slot ≡ slot
-    here = (there_at {P = IsLabelled slot} (state_at xs slot) x there (was.fit.housed.volumes slot)).slot_is
+    here = (there_at (IsLabelled slot) (state_at xs slot) x there (was.fit.housed.volumes slot)).slot_is
 
 -- ---- a volume is made, or all are read
 
