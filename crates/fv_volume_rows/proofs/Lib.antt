@@ -1,1 +1,1 @@
-mod Fitting
+pub mod Fitting
