@@ -92,7 +92,12 @@ fn add_lines(
 fn plain(alloc: Global, lines: Lines, count: usize) -> Result<Vec<u8>, Wrong> {
     let mut machine = Machine::new(alloc, 1024);
     let mut before = Vec::new(alloc);
-    add_lines(alloc, &mut machine, &lines[..count.min(lines.len())], &mut before)?;
+    add_lines(
+        alloc,
+        &mut machine,
+        &lines[..count.min(lines.len())],
+        &mut before,
+    )?;
     let mut answers = Vec::new(alloc);
     add_lines(alloc, &mut machine, ASKED, &mut answers)?;
     Ok(answers)
