@@ -1,12 +1,13 @@
--- What a consistency point that was done ends with.
-use Rattle.std.proofs.Common.{◌≡◌, ℕ, ◌<◌, ◌≤◌, false, List, length, get_or, refl, sym, ap, subst, ◌∙◌, arith, ⊎_elim, Ok}
-use Rattle.std.specs.Prelude.{Option, Some, None, IfSome, IsTrue}
+-- What a consistency point leaves at a crash, and what it ends with: once all slots are passed the volumes stand under the labels of the new
+-- root, and then that counts.
+use Rattle.std.proofs.Common.{◌≡◌, ℕ, ◌<◌, ◌≤◌, false, List, length, get_or, refl, sym, ap, subst, ◌∙◌, arith, ⊎_elim, Ok, Bool, true, inl}
+use Rattle.std.specs.Prelude.{Option, Some, None, IfSome, IsTrue, Result}
 use Rattle.std.specs.Option.{option_map}
 use Rattle.std.specs.FinMap as fin
 use Rattle.std.specs.Ordering.{nat_cmp}
 use Rattle.std.proofs.lemmas.Bool.{cases_lt}
 use Rattle.std.proofs.lemmas.List.{get_or_past}
-use Rattle.fv_disk.specs.Shown.{Image, Shown}
+use Rattle.fv_disk.specs.Shown.{Image, Shown, IsDisk}
 use Rattle.fv_disk.specs.Crash.{Leaves}
 use Rattle.fv_disk.proofs.Resting.{settled_image}
 use Rattle.fv_bits.specs.Members.{is_member}
@@ -14,44 +15,102 @@ use Rattle.fv_codec.specs.declared.root.Root.{Root}
 use Rattle.fv_model.specs.Machines.{Machine}
 use Rattle.fv_image.specs.NewerRoot.{Taken}
 use Rattle.fv_image.specs.Views.{View, delayed}
-use Rattle.fv_image.specs.Held.{AgreeOnHeld, Keeps, label_place, layout_at, view_at, with_bits}
+use Rattle.fv_image.specs.Held.{AgreeOnHeld, Keeps, label_place, layout_at, view_at, with_bits, Layout, is_held}
 use Rattle.fv_image.specs.Soundness.{AreTables}
 use Rattle.fv_image.specs.Staying.{StaysHeld}
-use Rattle.fv_image.specs.WholeMachine.{Tells, machine_of}
+use Rattle.fv_image.specs.WholeMachine.{Tells, machine_of, machine_from}
 use Rattle.fv_image.proofs.Points.{built_stays}
-use Rattle.fv_image.proofs.SameLayout.{held_with_bits, same_view}
+use Rattle.fv_image.proofs.SameLayout.{held_with_bits, same_view, kept}
 use Rattle.fv_image.proofs.SameSeen.{same_seen, same_told}
 use Rattle.fv_image.proofs.SoundSlots.{held_lies}
 use Rattle.fv_image.proofs.SoundTests.{machine_under, tells_from}
-use Rattle.fv_container.specs.Mapped.{Mapped}
+use Rattle.fv_container.specs.Mapped.{Mapped, entry_under}
 use Rattle.fv_container.specs.Chains.{Slots, container_at, own_entry, parent_at}
 use Rattle.fv_root.specs.declared.find.Found.{Found}
 use Rattle.fv_root.specs.Finding.{IsInRange, root_found}
 use Rattle.fv_root.specs.Commits.{IsCommitted, IsFoundOn, OldOrNew, next_found}
-use Rattle.fv_root.proofs.Crashes.{IsReadyFor, new_machine}
+use Rattle.fv_root.proofs.Crashes.{IsReadyFor, new_machine, old_or_new_machine}
 use Rattle.fv_store.specs.Held.{StandsOn}
 use Rattle.fv_aggmap.specs.Space.{Space}
 use Rattle.fv_volume.specs.declared.pool.Pool.{Pool}
 use Rattle.fv_volume.specs.declared.state.VolumeState.{VolumeState}
 use Rattle.fv_volume.specs.Housed.{AreHoused, as_written, settled_at}
-use Rattle.fv_volume.specs.Keeping.{Blocks, seen as block_seen}
+use Rattle.fv_volume.specs.Keeping.{Blocks, seen as block_seen, seen}
 use Rattle.fv_volume.specs.Loading.{IsLoaded, label_of}
 use Rattle.fv_volume.specs.States.{States, head_in, label_in_state, placed_in, state_at, view_over}
-use Rattle.fv_volume.specs.Stored.{AreApartIn, AreSpacedIn}
-use Rattle.fv_volume.specs.Writing.{on_disk}
-use Rattle.fv_volume.proofs.LentSlots.{lent_from_loaded, loaded_from_lent}
-use Rattle.fv_volume.proofs.Settled.{heads_stay, housed_after, same_stay, settled_same, unchanged_stay}
+use Rattle.fv_volume.specs.Stored.{AreApartIn, AreSpacedIn, has_block, is_of, stays}
+use Rattle.fv_volume.specs.Writing.{on_disk, IsTaken}
+use Rattle.fv_volume.proofs.LentSlots.{lent_from_loaded, loaded_from_lent, lent_slot, area_taken, held_taken}
+use Rattle.fv_volume.proofs.Settled.{heads_stay, housed_after, same_stay, settled_same, unchanged_stay, settled_written}
 use Rattle.fv_volume.proofs.Spacing.{spaced_same}
 use Rattle.fv_volume.proofs.StaysStates.{reach_stays, states_stay}
-use Rattle.fv_volume.proofs.StillLoaded.{still_loaded}
-use Rattle.fv_volume.proofs.StoredTold.{entry_stays, stays_in, undelayed}
+use Rattle.fv_volume.proofs.StillLoaded.{still_loaded, still_stands}
+use Rattle.fv_volume.proofs.StoredTold.{entry_stays, stays_in, undelayed, past_clear, stands_for}
 use Rattle.fv_volume.proofs.Viewed.{entry_of}
-use Rattle.fv_cp.specs.Course.{HasCome, IsOnCourse, as_lent, found_with, renewed}
+use Rattle.fv_cp.specs.Course.{HasCome, IsOnCourse, as_lent, found_with, renewed, IsCourse, StaysFrom}
 use Rattle.fv_cp.specs.Lent.{FitTogether, IsLent, IsLentAt}
 use Rattle.fv_cp.specs.Points.{GoesOn, IsPoint, IsSwitched, OldOrLent, machine_lent}
-use Rattle.fv_cp.proofs.Arrived.{all_stand, is, ready, settled_is}
-use Rattle.fv_volume.proofs.RootFound.{found_still, map_now, next_in_range}
-use Rattle.fv_cp.proofs.Crashing.{switching}
+use Rattle.fv_volume.proofs.RootFound.{found_still, map_now, next_in_range, fixed_taken}
+use Rattle.std.proofs.lemmas.Option.{same_Some}
+use Rattle.fv_image.specs.Reclaimed.{IsAllocatable}
+use Rattle.fv_volume.specs.Files.{IsLabelled}
+use Rattle.fv_volume.specs.UnderRoot.{AllStandUnder, StandsUnder}
+use Rattle.fv_volume.proofs.Staying.{entry_kept, kept_stands, place_is}
+use Rattle.fv_volume.proofs.StoredSlot.{stored_stands}
+use Rattle.fv_disk.specs.declared.Failed.{Failed}
+use Rattle.fv_disk.specs.Sparing.{LeftBefore, Spares}
+use Rattle.fv_disk.proofs.Moments.{started, then, weaken}
+use Rattle.fv_image.specs.Layout.{area_place}
+use Rattle.fv_image.specs.MachineOf.{AllStandFor}
+use Rattle.fv_image.proofs.Kept.{slot_is_small}
+
+-- ---- what a crash leaves
+
+module _ (disk : Shown) (pool : Pool) (states : States) (before : Machine) (lent : IsLent disk pool states before) where
+  abbrev t : Taken
+  t = root_found pool.found
+
+  pub left_keeps : (c : Image) → LeftBefore (IsTaken (on_disk pool.map)) disk c → Keeps t disk.reads c
+  left_keeps c left =
+      let d : Image = left.0 in
+      let was : Keeps t disk.reads d = lent.keeps d left.1 in
+      let still : Keeps t d c = kept t d c was.root (λ b low. left.2 b (fixed_taken (on_disk pool.map) b low)) (record {
+        area = λ k within. left.2 (area_place t.blocks t.slot k) (area_taken disk.reads pool.found pool.map lent.tells.sound lent.map k (slot_is_small d t was.root) within);
+        held = λ b held. left.2 b (held_taken disk.reads pool.found pool.map lent.tells.sound lent.map b (ap (λ (y : Layout). is_held y b) (sym was.layout) ∙ held));
+      }) in
+      record { root = still.root; layout = still.layout ∙ was.layout }
+
+  -- Nothing was written.
+  pub rests : IsDisk disk → Leaves disk disk (OldOrLent disk pool states before)
+  rests laws = started disk (OldOrLent disk pool states before) laws (λ c now. (inl (kept_stands t disk.reads c before lent.tells (lent.keeps c now)), refl))
+
+  module _ (mid : Shown) (result : Result Unit Failed) (spares : Spares (IsTaken (on_disk pool.map)) disk mid result) where
+    -- Volumes were written.
+    pub writing : Leaves disk mid (OldOrLent disk pool states before)
+    writing = weaken disk mid (λ c g. LeftBefore (IsTaken (on_disk pool.map)) disk c × (g ≡ disk.given)) (OldOrLent disk pool states before) (λ c g left. (inl (kept_stands t disk.reads c before lent.tells (left_keeps c left.0)), left.1)) spares.any_moment
+
+    -- what the root on the disk holds stays
+    pub old_stays : IsTrue disk.tells → AgreeOnHeld t disk.reads mid.reads
+    old_stays tells b held = spares.reads tells b (held_taken disk.reads pool.found pool.map lent.tells.sound lent.map b held)
+
+    pub images_stand : AllStandFor mid before
+    images_stand c now = kept_stands t disk.reads c before lent.tells (left_keeps c (spares.images c now))
+
+    -- The new root was written, too.
+    pub switching : (found : Found) (root : Root) (map : List Bool) (new : Shown) → IsFoundOn mid found → IsReadyFor mid found root map (machine_lent disk pool states) → Leaves mid new (OldOrNew mid found root map) → Leaves disk new (OldOrLent disk pool states before)
+    switching found root map new stands ready left = (then) disk mid new (OldOrLent disk pool states before) writing
+        (weaken mid new (OldOrNew mid found root map) (OldOrLent disk pool states before)
+        (λ c g side. (old_or_new_machine mid found root map before (machine_lent disk pool states) c g stands images_stand ready side, side.1 ∙ spares.counted.given)) left)
+
+-- ---- what a point ends with
+
+none_changed : (o : Option VolumeState) (s : ℕ) → s < 64 → IfSome o (λ x. x.changed ≡ true → 64 ≤ s) → IfSome o (λ x. x.changed ≡ false)
+none_changed None s inside waits = tt
+none_changed (Some x) s inside waits = so x.changed refl
+  where
+    so : (t : Bool) → x.changed ≡ t → t ≡ false
+    so true e = let high = waits e in absurd (omega (arith, high, inside))
+    so false e = refl
 
 -- the root of a point: the one that was found, with these labels
 abbrev pub root_with : Pool → List ℕ → Root
@@ -111,10 +170,73 @@ module _ (disk : Shown) (pool : Pool) (states : States) (before : Machine) (lent
   told : IsTrue mid.tells
   told = subst IsTrue (sym come.spares.counted.tells) tells
 
+  -- ---- all slots are passed
+
+  pub is : IsCourse pool states (seen pool.kept disk.reads) 64 labels left.map.next left.containers mid.reads
+  is = come.written tells before lent
+
+  agrees : AgreeOnHeld (root_found pool.found) disk.reads mid.reads
+  agrees = old_stays disk pool states before lent mid (Ok tt) come.spares tells
+
+  -- each is settled then
+  pub settled_is : (s : ℕ) → s < 64 → settled_at labels states s ≡ is.now s
+  settled_is s inside = by (is.each s inside)
+    where
+      by : IsOnCourse pool states (seen pool.kept disk.reads) 64 s (is.now s) (get_or labels s 0) (container_at left.containers s) mid.reads → settled_at labels states s ≡ is.now s
+      by (renewed x low there changed now r) = settled_written (state_at states s) x (get_or labels s 0) there changed ∙ sym now
+      by (as_lent waits at) = settled_same (state_at states s) (get_or labels s 0) (none_changed (state_at states s) s inside waits) ∙ sym at.state
+
+  stands : (s : ℕ) → s < 64 → StandsUnder mid.reads f s (settled_at labels states s) (container_at left.containers s)
+  stands s inside = subst (λ (o : Option VolumeState). StandsUnder mid.reads f s o (container_at left.containers s)) (sym (settled_is s inside)) (by (is.each s inside))
+    where
+      by : IsOnCourse pool states (seen pool.kept disk.reads) 64 s (is.now s) (get_or labels s 0) (container_at left.containers s) mid.reads → StandsUnder mid.reads f s (is.now s) (container_at left.containers s)
+      by (renewed x low there changed now r) =
+          let lies : (b : ℕ) → is_of x (get_or labels s 0) r.new b ≡ true → IsAllocatable u.blocks b = λ b of. (is.spaced.held s b inside ((λ k. has_block (now k) (r.now k) b) ∙ of)).1 in
+          subst (λ (o : Option VolumeState). StandsUnder mid.reads f s o (container_at left.containers s)) (sym now) (subst (λ (c : Option Mapped). StandsUnder mid.reads f s (Some (as_written x (get_or labels s 0))) c) (sym r.now)
+          (stored_stands f mid.reads s x r.old (get_or labels s 0) r.new r.stored (place_is f s inside) (subst (λ (o : Option VolumeState). IfSome o (IsLabelled s)) there (fit.housed.volumes s)) r.valid
+          (past_clear pool states disk.reads fit.housed lent.tables lent.reach s x inside there) lies))
+      by (as_lent waits at) =
+          subst (λ (o : Option VolumeState). StandsUnder mid.reads f s o (container_at left.containers s)) (sym at.state) (subst (λ (c : Option Mapped). StandsUnder mid.reads f s (state_at states s) c) (sym at.lies)
+          (still_stands pool.found f disk.reads mid.reads s inside (place_is f s inside ∙ at.named ∙ sym (place_is pool.found s inside)) agrees lent.tells.sound refl (state_at states s) (container_at pool.containers s)
+          (loaded_from_lent disk.reads pool.found s (state_at states s) (container_at pool.containers s) (lent.slots s inside) (none_changed (state_at states s) s inside waits))))
+
+  -- an entry that stays has its block
+  block_kept : (s v : ℕ) (x : VolumeState) → s < 64 → state_at states s ≡ Some x → stays x v ≡ true → placed_in fin.empty mid.reads (own_entry (container_at left.containers s) v) ≡ placed_in pool.kept disk.reads (own_entry (container_at pool.containers s) v)
+  block_kept s v x inside there on = by (is.each s inside)
+    where
+      of_map : (map : Mapped) → container_at pool.containers s ≡ Some map → StaysFrom x map (seen pool.kept disk.reads) mid.reads → placed_in fin.empty mid.reads (entry_under map v) ≡ placed_in pool.kept disk.reads (entry_under map v)
+      of_map map lies stay = entry_kept map pool.kept disk.reads mid.reads v ((lent_slot disk.reads pool.found s (state_at states s) (container_at pool.containers s) x map there lies (lent.slots s inside)).apart.some v) (stay v on)
+
+      of_container : (c : Option Mapped) → container_at pool.containers s ≡ c → ((map : Mapped) → container_at pool.containers s ≡ Some map → StaysFrom x map (seen pool.kept disk.reads) mid.reads) → placed_in fin.empty mid.reads (own_entry c v) ≡ placed_in pool.kept disk.reads (own_entry c v)
+      of_container None lies stay = refl
+      of_container (Some map) lies stay = of_map map lies (stay map lies)
+
+      by : IsOnCourse pool states (seen pool.kept disk.reads) 64 s (is.now s) (get_or labels s 0) (container_at left.containers s) mid.reads → placed_in fin.empty mid.reads (own_entry (container_at left.containers s) v) ≡ placed_in pool.kept disk.reads (own_entry (container_at pool.containers s) v)
+      by (renewed y low here changed now r) =
+          let same : y ≡ x = same_Some y x (sym here ∙ there) in
+          let stayed : entry_under r.new v ≡ entry_under r.old v = r.stored.kept v (ap (λ (z : VolumeState). stays z v) same ∙ on) in
+          ap (λ (c : Option Mapped). placed_in fin.empty mid.reads (own_entry c v)) r.now ∙ ap (placed_in fin.empty mid.reads) stayed
+          ∙ of_map r.old r.was (subst (λ (z : VolumeState). StaysFrom z r.old (seen pool.kept disk.reads) mid.reads) same r.stay)
+          ∙ sym (ap (λ (c : Option Mapped). placed_in pool.kept disk.reads (own_entry c v)) r.was)
+      by (as_lent waits at) = ap (λ (c : Option Mapped). placed_in fin.empty mid.reads (own_entry c v)) at.lies ∙ of_container (container_at pool.containers s) refl (λ map lies. at.stay x map there lies)
+
+  pub all_stand : AllStandUnder pool states disk.reads f labels left.map.next (container_at left.containers) mid.reads
+  all_stand = record {
+    each = stands;
+    kept = block_kept;
+    spaced = spaced_same pool.found.blocks left.map.next is.now (settled_at labels states) (container_at left.containers) (container_at left.containers) settled_is (λ s inside. refl) is.spaced;
+  }
+
+  -- What lies on the disk is ready for the commit.
+  pub ready : machine_from (with_bits (is_member left.map.next) (layout_at u mid.reads)) ≡ Some (machine_lent disk pool states)
+  ready = stands_for pool states disk.reads fit.housed lent.tables lent.reach f labels left.map.next (container_at left.containers) mid.reads refl refl all_stand fit.range.size lent.states.names lent.built
+
+  -- ---- the new root
+
   -- The new root was written, too.
   pub moments : (new : Shown) → (IsTrue mid.tells → Leaves mid new (OldOrNew mid left.found root left.map.next)) → Leaves disk new (OldOrLent disk pool states before)
   moments new switched = switching disk pool states before lent mid (Ok tt) come.spares left.found root left.map.next new (found_left disk pool states fit labels left mid come (λ t. lent.found) told)
-      (subst (λ (x : Found). IsReadyFor mid x root left.map.next m) (sym come.found) (ready disk pool states before lent fit labels left mid come tells)) (switched told)
+      (subst (λ (x : Found). IsReadyFor mid x root left.map.next m) (sym come.found) ready) (switched told)
 
   module _ (new : Shown) (committed : IsTrue mid.tells → IsCommitted mid left.found root left.map.next new) (last : Pool) (stay : States) (switched : IsSwitched left root last) (containers : last.containers ≡ left.containers) (kept : last.kept ≡ left.kept) (settled : (s : ℕ) → state_at stay s ≡ settled_at labels states s) where
     done : IsCommitted mid pool.found root left.map.next new
@@ -124,7 +246,7 @@ module _ (disk : Shown) (pool : Pool) (states : States) (before : Machine) (lent
     found = found_last disk pool states fit labels left mid come new last stay switched containers kept settled
 
     now_ready : IsReadyFor mid pool.found root left.map.next m
-    now_ready = ready disk pool states before lent fit labels left mid come tells
+    now_ready = ready
 
     stands_now : machine_of new.reads ≡ Some m
     stands_now = new_machine mid pool.found root left.map.next m new.reads now_ready done.side
@@ -142,7 +264,7 @@ module _ (disk : Shown) (pool : Pool) (states : States) (before : Machine) (lent
     same_now = same_view u mid.reads new.reads new_agrees
 
     loaded_then : (s : ℕ) → s < 64 → IsLoaded new.reads f s (settled_at labels states s) (container_at left.containers s)
-    loaded_then s inside = still_loaded f f mid.reads new.reads s inside refl new_agrees (settled_at labels states s) (container_at left.containers s) ((all_stand disk pool states before lent fit labels left mid come tells).each s inside).loaded
+    loaded_then s inside = still_loaded f f mid.reads new.reads s inside refl new_agrees (settled_at labels states s) (container_at left.containers s) (all_stand.each s inside).loaded
 
     -- ---- the view
 
@@ -158,7 +280,7 @@ module _ (disk : Shown) (pool : Pool) (states : States) (before : Machine) (lent
     stays_now : StaysHeld w (view_over last stay new.reads)
     stays_now = stays_in pool states disk.reads fit.housed lent.tables lent.reach (view_over last stay new.reads) view_stays.0 view_stays.1.0 view_stays.1.1 (λ s v x inside there on.
         entry_now s v inside ∙ ap (λ (z : View). z.entry s v) same_now
-        ∙ entry_stays pool states disk.reads fit.housed lent.tables lent.reach f labels left.map.next (container_at left.containers) mid.reads refl refl (all_stand disk pool states before lent fit labels left mid come tells) s v x inside there on)
+        ∙ entry_stays pool states disk.reads fit.housed lent.tables lent.reach f labels left.map.next (container_at left.containers) mid.reads refl refl all_stand s v x inside there on)
 
     heads_told : (s : ℕ) → w.head s ≡ option_map head_in (state_at states s)
     unfolding view_over
@@ -167,14 +289,14 @@ module _ (disk : Shown) (pool : Pool) (states : States) (before : Machine) (lent
     -- ---- the slots
 
     apart_now : (s : ℕ) → s < 64 → IfSome (settled_at labels states s) (λ x. IfSome (container_at left.containers s) (AreApartIn x))
-    apart_now s inside = subst (λ (o : Option VolumeState). IfSome o (λ x. IfSome (container_at left.containers s) (AreApartIn x))) (sym (settled_is disk pool states before lent fit labels left mid come tells s inside)) (by ((is disk pool states before lent fit labels left mid come tells).each s inside))
+    apart_now s inside = subst (λ (o : Option VolumeState). IfSome o (λ x. IfSome (container_at left.containers s) (AreApartIn x))) (sym (settled_is s inside)) (by (is.each s inside))
       where
         as_it_was : (o : Option VolumeState) (c : Option Mapped) → IsLentAt disk.reads pool.found s o c → IfSome o (λ x. IfSome c (AreApartIn x))
         as_it_was None c at = tt
         as_it_was (Some x) None at = tt
         as_it_was (Some x) (Some map) at = at.apart
 
-        by : IsOnCourse pool states (block_seen pool.kept disk.reads) 64 s ((is disk pool states before lent fit labels left mid come tells).now s) (get_or labels s 0) (container_at left.containers s) mid.reads → IfSome ((is disk pool states before lent fit labels left mid come tells).now s) (λ x. IfSome (container_at left.containers s) (AreApartIn x))
+        by : IsOnCourse pool states (block_seen pool.kept disk.reads) 64 s (is.now s) (get_or labels s 0) (container_at left.containers s) mid.reads → IfSome (is.now s) (λ x. IfSome (container_at left.containers s) (AreApartIn x))
         by (renewed x low there changed now r) = subst (λ (o : Option VolumeState). IfSome o (λ x. IfSome (container_at left.containers s) (AreApartIn x))) (sym now) (subst (λ (c : Option Mapped). IfSome c (AreApartIn (as_written x (get_or labels s 0)))) (sym r.now) r.stored.apart)
         by (as_lent waits at) = subst (λ (o : Option VolumeState). IfSome o (λ x. IfSome (container_at left.containers s) (AreApartIn x))) (sym at.state) (subst (λ (c : Option Mapped). IfSome (state_at states s) (λ x. IfSome c (AreApartIn x))) (sym at.lies) (as_it_was (state_at states s) (container_at pool.containers s) (lent.slots s inside)))
 
@@ -192,7 +314,7 @@ module _ (disk : Shown) (pool : Pool) (states : States) (before : Machine) (lent
       map = let is_map = map_now mid left.found root left.map.next new (committed told) last.found last.map switched.found switched.map switched.size in record { len = is_map.len; bits = is_map.bits };
       slots = λ s inside. subst (λ (x : Found). IsLentAt new.reads x s (state_at stay s) (container_at last.containers s)) (sym found) (lent_at_now s inside);
       spaced = subst (λ (n : ℕ). AreSpacedIn n last.map.next (state_at stay) (container_at last.containers)) (ap (λ (x : Found). x.blocks) (sym found)) (subst (λ (x : Space). AreSpacedIn pool.found.blocks x.next (state_at stay) (container_at last.containers)) (sym switched.map)
-          (spaced_same pool.found.blocks left.map.next (settled_at labels states) (state_at stay) (container_at left.containers) (container_at last.containers) (λ s inside. settled s) (λ s inside. ap (λ (c : Slots). container_at c s) containers) (all_stand disk pool states before lent fit labels left mid come tells).spaced));
+          (spaced_same pool.found.blocks left.map.next (settled_at labels states) (state_at stay) (container_at left.containers) (container_at last.containers) (λ s inside. settled s) (λ s inside. ap (λ (c : Slots). container_at c s) containers) all_stand.spaced));
       states = states_stay w (view_over last stay new.reads) states fit.housed.long heads_told stays_now lent.tables stay labels settled lent.states;
       built = built_stays w (view_over last stay new.reads) stays_now lent.tables.bases lent.tables.rests ∙ lent.built;
       tables = subst AreTables (sym (same_seen w (view_over last stay new.reads) stays_now lent.tables.bases lent.tables.rests)) lent.tables;
@@ -221,7 +343,7 @@ module _ (disk : Shown) (pool : Pool) (states : States) (before : Machine) (lent
       machine = same_told w (view_over last stay new.reads) stays_now lent.tables.bases lent.tables.rests;
       unchanged = unchanged_stay states stay labels settled;
       reclaimed = subst (λ (x : Found). delayed (view_at (root_found x) new.reads) ≡ 0) (sym found) (ap delayed same_now
-          ∙ undelayed pool states disk.reads fit.housed lent.tables lent.reach f labels left.map.next (container_at left.containers) mid.reads refl refl (all_stand disk pool states before lent fit labels left mid come tells));
+          ∙ undelayed pool states disk.reads fit.housed lent.tables lent.reach f labels left.map.next (container_at left.containers) mid.reads refl refl all_stand);
       blocks = ap (λ (x : Found). x.blocks) found;
       same = same_stay states stay labels settled;
       label_same = λ s. subst (λ (t : Found). IfSome (state_at states s) (λ x. x.changed ≡ false → label_place (root_found t) s ≡ label_place (root_found pool.found) s)) (sym found) (places_stay s);

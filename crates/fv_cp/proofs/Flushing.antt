@@ -1,24 +1,115 @@
 -- The files of volumes are placed slot by slot.
-use Rattle.std.proofs.Common.{◌≡◌, ◌≢◌, ℕ, ◌<◌, ◌≤◌, ◌+◌, Option, Some, None, inl, ⊎_elim, refl, sym, ap, subst, ◌∙◌, arith, get_or-set_other}
-use Rattle.std.specs.Prelude.{IfSome}
+use Rattle.std.proofs.Common.{◌≡◌, ◌≢◌, ℕ, ◌<◌, ◌≤◌, ◌+◌, Bool, List, length, Some, None, ⊎_elim, sym, ap, subst, ◌∙◌, arith, Option, refl, get_or-set_other}
+use Rattle.std.specs.Prelude.{cond, IfSome}
+use Rattle.std.specs.FinMap as fin
 use Rattle.std.proofs.lemmas.Bool.{cases_eq}
 use Rattle.std.proofs.lemmas.List.Sums.{sum_by-set}
-use Rattle.fv_disk.specs.Shown.{Shown}
-use Rattle.fv_disk.specs.DiskCalls.{OnlyReads}
-use Rattle.fv_disk.proofs.Resting.{reads_then, stays_itself}
-use Rattle.fv_store.specs.Held.{StandsOn}
-use Rattle.fv_model.specs.Machines.{Machine}
-use Rattle.fv_volume.specs.declared.fault.VolumeFault.{VolumeFault}
-use Rattle.fv_volume.specs.declared.fault.VolumeFault.TheVariants.{Memory}
+use Rattle.fv_disk.specs.Shown.{Image, Shown}
+use Rattle.fv_model.specs.Spelling.{name_cmp}
+use Rattle.fv_model.specs.Machines.{Machine, capacity}
+use Rattle.fv_model.specs.Space.{overhead}
+use Rattle.fv_tables.proofs.Lists.{same_parts}
+use Rattle.fv_image.specs.Held.{AllKeep, layout_at}
+use Rattle.fv_image.specs.Views.{slots}
+use Rattle.fv_image.specs.WholeMachine.{Tells}
+use Rattle.fv_root.specs.declared.find.Found.{Found}
+use Rattle.fv_root.specs.Finding.{IsInRange, root_found}
+use Rattle.fv_root.specs.Commits.{IsFoundOn}
+use Rattle.fv_container.specs.Chains.{container_at}
 use Rattle.fv_volume.specs.declared.pool.Pool.{Pool}
 use Rattle.fv_volume.specs.declared.state.VolumeState.{VolumeState}
+use Rattle.fv_volume.specs.BlocksOver.{free_numbers}
+use Rattle.fv_volume.specs.OneVolume.{IsReady}
 use Rattle.fv_volume.specs.Placing.{pending_of}
+use Rattle.fv_volume.specs.Slots.{sum_of}
 use Rattle.fv_volume.specs.States.{States, state_at, with_state}
+use Rattle.fv_volume.specs.Stored.{AreSpacedIn}
+use Rattle.fv_volume.proofs.PlacedIn as one
 use Rattle.fv_volume.proofs.Told.{is_inside}
-use Rattle.fv_cp.specs.Held.{IsHeld, IsHeldIn}
-use Rattle.fv_cp.specs.Lent.{FitTogether}
-use Rattle.fv_cp.specs.Placing.{ArePlaced, AreReady, HasNoFiles, HasNumbers, HasWholeMap, HaveRoom, HaveSpent, IsReadyIn, IsSlotPlaced, MayFail, PlacesSlot, pending_by}
-use Rattle.fv_cp.proofs.Placed.{asked_still, cores_still, fit_still, found_still, held_still, idle_still, spent_still, machine_still, only_read, ready_still}
+use Rattle.fv_volume.proofs.Staying.{only_itself}
+use Rattle.fv_cp.specs.Held.{machine_held, named_held, IsHeld, IsHeldIn}
+use Rattle.fv_cp.specs.Lent.{asked_by, blocks_asked, FitTogether}
+use Rattle.fv_cp.specs.Placing.{pending_by, pending_files, HasNumbers, HaveRoom, HaveSpent, IsPlacedAs, ArePlaced, AreReady, HasNoFiles, HasWholeMap, IsReadyIn, IsSlotPlaced, MayFail, PlacesSlot}
+use Rattle.fv_disk.proofs.Resting.{reads_then}
+use Rattle.fv_store.specs.Held.{StandsOn}
+use Rattle.fv_volume.specs.declared.fault.VolumeFault.{VolumeFault}
+use Rattle.fv_volume.specs.declared.fault.VolumeFault.TheVariants.{Memory}
+
+-- ---- one volume: the session is what it was between points
+
+module _ (disk after : Shown) (pool left : Pool) (states stay : States) (x y : VolumeState) (there : state_at states x.slot ≡ Some x) (now : stay ≡ with_state states x.slot (Some y)) (fit : FitTogether pool states) (placed : IsPlacedAs disk pool x after left y) where
+  found_same : left.found ≡ pool.found
+  found_same = placed.goes.goes.goes.found
+
+  in_list : x.slot < length states
+  in_list = let low = is_inside states x.slot x fit.housed.long there in let long = fit.housed.long in omega (arith, low, long)
+
+  pub fit_still : FitTogether left stay
+  fit_still = record {
+    range = subst IsInRange (sym found_same) fit.range;
+    size = ap (λ (c : List Bool). length c) placed.goes.goes.goes.committed ∙ fit.size ∙ ap (λ (f : Found). f.blocks) (sym found_same);
+    housed = one.housed_still disk after pool left states stay x y there now fit.housed placed;
+    kept = one.kept_still disk after pool left states stay x y there now fit.housed placed fit.kept;
+  }
+
+  pub asked_still : IsReady disk pool x → blocks_asked stay ≡ blocks_asked states
+  asked_still ready =
+      let sum = sum_by-set asked_by states x.slot (Some y) None in_list in
+      let changed = one.changed_still disk after pool left states stay x y there now fit.housed placed ready in
+      let same : asked_by (Some y) ≡ asked_by (state_at states x.slot) = ap (λ (z : VolumeState). cond y.changed (overhead z.span) 0) placed.keeps ∙ ap (λ (t : Bool). cond t (overhead x.span) 0) changed ∙ sym (ap asked_by there) in
+      let all : blocks_asked stay ≡ blocks_asked (with_state states x.slot (Some y)) = ap blocks_asked now in
+      omega (arith, sum, same, all)
+
+  module _ (before : Machine) (held : IsHeld disk pool states before) where
+    -- what was placed took no more than there is fewer pending
+    pub spent_still : HaveRoom pool states → HaveSpent pool states left stay
+    spent_still room =
+        let sum = sum_by-set pending_by states x.slot (Some y) None in_list in
+        let part = sum_by-set pending_by states x.slot None None in_list in
+        let was : pending_by (state_at states x.slot) ≡ pending_of x.files = ap pending_by there in
+        let all : pending_files stay ≡ pending_files (with_state states x.slot (Some y)) = ap pending_files now in
+        let blocks = room.blocks in
+        let numbers : pending_of x.files < free_numbers x.map = subst HasNumbers there (room.numbers x.slot) in
+        let spent = placed.spent (one.mine disk after pool left states stay x y there now fit.housed placed fit.size held.slots held.spaced held.each).stands numbers (omega (arith, part, was, blocks)) in
+        record {
+          fewer = omega (arith, sum, was, all, spent.fewer);
+          blocks = omega (arith, sum, was, all, spent.blocks);
+          numbers = λ k. ⊎_elim
+              (λ (e : k ≡ x.slot). subst (λ (n : ℕ). HasNumbers (state_at stay n)) (sym e) (subst HasNumbers (sym (one.here disk after pool left states stay x y there now fit.housed placed)) (below numbers spent.numbers spent.fewer)))
+              (λ (differ : k ≢ x.slot). subst HasNumbers (sym (one.other disk after pool left states stay x y there now fit.housed placed k differ)) (room.numbers k))
+              (cases_eq k x.slot);
+        }
+      where
+        below : pending_of x.files < free_numbers x.map → free_numbers x.map + pending_of y.files ≤ free_numbers y.map + pending_of x.files → pending_of y.files ≤ pending_of x.files → pending_of y.files < free_numbers y.map
+        below some took fewer = omega (arith, some, took, fewer)
+
+    -- The volumes are what they are between points.
+    pub held_still : IsHeld after left stay before
+    held_still =
+        let reads = placed.goes.goes.goes.only_reads in
+        record {
+          found = subst (λ (f : Found). IsFoundOn after f) (sym found_same) (one.found_read disk after pool.found reads held.found);
+          tells = subst (λ (f : Found). Tells (layout_at (root_found f) after.reads) before) (sym found_same) (subst (λ (i : Image). Tells (layout_at (root_found pool.found) i) before) (sym reads.stays.reads) held.tells);
+          keeps = subst (λ (f : Found). AllKeep (root_found f) after.reads after) (sym found_same) (one.keeps_read disk after (root_found pool.found) reads held.keeps);
+          map = one.map_still disk after pool left states stay x y there now fit.housed placed held.map;
+          slots = one.slots_still disk after pool left states stay x y there now fit.housed placed fit.size held.slots held.spaced held.each;
+          spaced = subst (λ (f : Found). AreSpacedIn f.blocks left.map.next (state_at stay) (container_at left.containers)) (sym found_same) (one.spaced_still disk after pool left states stay x y there now fit.housed placed fit.size held.slots held.spaced held.each);
+          names = one.names_still disk after pool left states stay x y there now fit.housed placed held.names;
+          each = one.each_still disk after pool left states stay x y there now fit.housed placed fit.size held.slots held.spaced held.each;
+          commits = (let same = one.commits_still disk after pool left states stay x y there now fit.housed placed in subst (λ (f : Found). sum_of stay ≤ capacity f.blocks) (sym found_same) (let fits = held.commits in omega (arith, same, fits)));
+        }
+
+    -- They stand for the machine that they stood for.
+    pub machine_still : machine_held after left stay ≡ machine_held disk pool states
+    unfolding machine_held slots
+    machine_still = λ j. record {
+      blocks = (found_same j).blocks;
+      version = (found_same j).root.version;
+      volumes = fin.from_entries {R = name_cmp} (same_parts (λ k. named_held after left (state_at stay k)) (λ k. named_held disk pool (state_at states k)) 0 64
+          (λ k low high. one.named_still disk after pool left states stay x y there now fit.housed placed fit.size held.slots held.spaced held.each k) j);
+    }
+
+-- ---- slot by slot
 
 -- what the placing of some files leaves
 pub record HasCome (disk : Shown) (pool : Pool) (states : States) (after : Shown) (left : Pool) (stay : States) : Type 0 where
@@ -31,16 +122,6 @@ pub record HasPassed (disk : Shown) (pool : Pool) (states : States) (count : ℕ
   pub come : HasCome disk pool states after left stay
   pub done : (s : ℕ) → s < count → HasNoFiles (state_at stay s)
   pub whole : (s : ℕ) → s < count → HasWholeMap (state_at stay s)
-
-only_itself : (disk : Shown) → OnlyReads disk disk
-only_itself disk = record {
-  stays = stays_itself disk;
-  time = record { later = omega arith; nothing_else = λ t c g le left. inl left; keeps = λ t c g le left. left };
-  given = refl;
-  ends = refl;
-  faults = omega arith;
-  write_faults = refl;
-}
 
 pub passed_none : (disk : Shown) (pool : Pool) (states : States) → FitTogether pool states → AreReady disk pool states → StandsOn disk pool.store.pairs → HasPassed disk pool states 0 disk pool states
 passed_none disk pool states fit ready stands = record {
@@ -72,13 +153,13 @@ module _ (disk : Shown) (pool : Pool) (states : States) (mid : Shown) (held : Po
       by None none fails = absurd fails
       by (Some x) there fails =
           let now : HaveRoom held between = room_now spent room in
-          let one : IsHeldIn mid held slot x = subst (λ (o : Option VolumeState). IfSome o (IsHeldIn mid held slot)) there ((come.placed.held before was).each slot) in
+          let own : IsHeldIn mid held slot x = subst (λ (o : Option VolumeState). IfSome o (IsHeldIn mid held slot)) there ((come.placed.held before was).each slot) in
           let inside = is_inside between slot x come.placed.fit.housed.long there in
           let long = come.placed.fit.housed.long in
           let part = sum_by-set pending_by between slot None None (omega (arith, inside, long)) in
           let is : pending_by (state_at between slot) ≡ pending_of x.files = ap pending_by there in
           let blocks = now.blocks in
-          fails one.stands (subst HasNumbers there (now.numbers slot)) (omega (arith, part, is, blocks))
+          fails own.stands (subst HasNumbers there (now.numbers slot)) (omega (arith, part, is, blocks))
 
   -- a slot with a volume
   with_volume : (x : VolumeState) → state_at between slot ≡ Some x → IsSlotPlaced mid held between slot x after left stay → HasCome disk pool states after left stay
@@ -91,21 +172,21 @@ module _ (disk : Shown) (pool : Pool) (states : States) (mid : Shown) (held : Po
           held = λ before was. held_still mid after held left between stay x did.now here now come.placed.fit did.placed before (come.placed.held before was);
           machine = λ before was. machine_still mid after held left between stay x did.now here now come.placed.fit did.placed before (come.placed.held before was) ∙ come.placed.machine before was;
           fit = fit_still mid after held left between stay x did.now here now come.placed.fit did.placed;
-          found = found_still mid after held left between stay x did.now here now come.placed.fit did.placed ∙ come.placed.found;
-          cores = λ s. cores_still mid after held left between stay x did.now here now come.placed.fit did.placed s ∙ come.placed.cores s;
+          found = did.placed.goes.goes.goes.found ∙ come.placed.found;
+          cores = λ s. one.cores_still mid after held left between stay x did.now here now come.placed.fit.housed did.placed s ∙ come.placed.cores s;
           asked = asked_still mid after held left between stay x did.now here now come.placed.fit did.placed ready.ready ∙ come.placed.asked;
           spent = λ before was room.
               let first = come.placed.spent before was room in
               let second = spent_still mid after held left between stay x did.now here now come.placed.fit did.placed before (come.placed.held before was) (room_now first room) in
               record { fewer = omega (arith, first.fewer, second.fewer); numbers = second.numbers; blocks = omega (arith, first.blocks, second.blocks) };
-          only_reads = reads_then disk mid after come.placed.only_reads (only_read mid after held left between stay x did.now here now come.placed.fit did.placed);
+          only_reads = reads_then disk mid after come.placed.only_reads (one.only_read mid after held left between stay x did.now here now come.placed.fit.housed did.placed);
           idle = λ none.
               let first = come.placed.idle none in
               let files : HasNoFiles (state_at between slot) = subst (λ (xs : States). HasNoFiles (state_at xs slot)) (sym first.1) (none slot) in
-              let second = idle_still mid after held left between stay x did.now here now come.placed.fit did.placed (subst HasNoFiles there files) in
+              let second = one.idle_still mid after held left between stay x did.now here now come.placed.fit.housed did.placed (subst HasNoFiles there files) in
               (second.0 ∙ first.0, second.1 ∙ first.1);
         };
-        ready = ready_still mid after held left between stay x did.now here now come.placed.fit did.placed come.ready;
+        ready = one.ready_still mid after held left between stay x did.now here now come.placed.fit.housed did.placed come.ready;
         stands = did.placed.ready.lent.stands;
       }
 

@@ -1,16 +1,5 @@
-pub mod Asked
 pub mod Stepping
-pub mod Crashing
-pub mod Arrived
-pub mod Coming
 pub mod Ending
-pub mod Owned
-pub mod Placed
 pub mod Flushing
-pub mod Ruled
-pub mod Facts
-pub mod Again
-pub mod Records
 pub mod Lendable
-pub mod Past
 pub mod Whole

@@ -1,52 +1,37 @@
 -- A consistency point in front of which all files are placed.
-use Rattle.std.proofs.Common.{◌≡◌, ℕ, ◌+◌, ◌<◌, ◌≤◌, false, List, length, Option, Some, None, inl, inr, ⊎_elim, refl, sym, ap, subst, ◌∙◌, arith, Ok, Err}
+use Rattle.std.proofs.Common.{◌≡◌, ℕ, length, Option, Some, None, inl, inr, ⊎_elim, refl, sym, ap, subst, ◌∙◌, arith, Ok, Err}
 use Rattle.std.specs.Prelude.{IfSome, IsTrue}
 use Rattle.std.specs.Option.{option_map}
 use Rattle.fv_disk.specs.Crash.{Leaves}
-use Rattle.fv_disk.specs.DiskCalls.{OnlyReads}
 use Rattle.fv_disk.specs.Faults.{HasBlockCause}
-use Rattle.fv_disk.specs.Shown.{Image, IsDisk, Rose, Shown}
+use Rattle.fv_disk.specs.Shown.{IsDisk, Rose, Shown}
 use Rattle.fv_disk.specs.declared.fault.BlockFault.{BlockFault}
 use Rattle.fv_disk.specs.declared.fault.BlockFault.TheVariants.{DiskFault, Damaged, Memory}
 use Rattle.fv_disk.proofs.Moments.{goes_on, started, then, weaken}
 use Rattle.fv_model.specs.Machines.{Machine}
-use Rattle.fv_image.specs.Held.{layout_at}
-use Rattle.fv_image.specs.Views.{entry_count}
-use Rattle.fv_image.specs.WholeMachine.{machine_from, machine_of}
-use Rattle.fv_image.proofs.SoundTests.{machine_told, machine_under}
 use Rattle.fv_root.specs.declared.find.Found.{Found}
-use Rattle.fv_root.specs.Finding.{IsFound, root_found}
-use Rattle.fv_root.specs.Formatted.{IsSize}
+use Rattle.fv_root.specs.Finding.{root_found}
 use Rattle.fv_root.specs.Commits.{IsFoundOn}
 use Rattle.fv_store.specs.Held.{StandsOn}
 use Rattle.fv_container.specs.Chains.{container_at, parent_at}
-use Rattle.fv_volmap.specs.Slots.{active_of}
 use Rattle.fv_volume.specs.declared.fault.VolumeFault.{VolumeFault}
 use Rattle.fv_volume.specs.declared.fault.VolumeFault.TheVariants as volume
 use Rattle.fv_volume.specs.declared.pool.Pool.{Pool}
 use Rattle.fv_volume.specs.declared.state.VolumeState.{VolumeState}
-use Rattle.fv_volume.specs.BlocksOver.{entries_in}
 use Rattle.fv_volume.specs.Causes.{of_block}
 use Rattle.fv_volume.specs.Files.{IsLabelled}
-use Rattle.fv_volume.specs.Housed.{as_written, settled_as}
 use Rattle.fv_volume.specs.Loading.{Houses}
-use Rattle.fv_volume.specs.OneVolume.{IsBooked, IsReady}
+use Rattle.fv_volume.specs.OneVolume.{IsReady}
 use Rattle.fv_volume.specs.States.{States, parent_in, state_at}
-use Rattle.fv_volume.proofs.Settled.{settled_has, settled_keeps}
+use Rattle.fv_volume.proofs.Staying.{kept_stands}
+use Rattle.fv_volume.proofs.HeldSettled.{settled_core, settled_no_files, settled_ready, settled_whole}
 use Rattle.fv_cp.specs.Held.{machine_held, IsHeld}
 use Rattle.fv_cp.specs.Lent.{FitTogether, IsLent}
-use Rattle.fv_cp.specs.Placing.{core_of, ArePlaced, AreReady, HasNoFiles, HasWholeMap, HaveRoom, IsPlaceFault, IsReadyIn, KeepCores}
+use Rattle.fv_cp.specs.Placing.{core_of, ArePlaced, AreReady, HasNoFiles, HasWholeMap, HaveRoom, IsPlaceFault, IsReadyIn}
 use Rattle.fv_cp.specs.Points.{machine_lent, Counts, GoesOn, IsCalm, IsPoint, LacksRoom, LeavesAll, OldOrLent}
 use Rattle.fv_cp.specs.Settling.{GoesOnWhole, HasWholeCause, HaveFullRoom, IsHeldPoint, IsNoDamage, OldOrHeld, StillHeld, WholeCounts}
-use Rattle.fv_cp.proofs.Lendable.{held_lent, held_machine}
-use Rattle.fv_cp.proofs.Past.{past_held}
-use Rattle.fv_cp.proofs.Placed.{housed_count}
-
--- each image that a crash leaves between points stands for the machine of the last one
-held_stands : (disk : Shown) (pool : Pool) (states : States) (before : Machine) → IsHeld disk pool states before → (c : Image) → disk.images c → machine_of c ≡ Some before
-held_stands disk pool states before held c now =
-    let keeps = held.keeps c now in
-    machine_under c (root_found pool.found) keeps.root ∙ ap machine_from keeps.layout ∙ machine_told (layout_at (root_found pool.found) disk.reads) before held.tells
+use Rattle.fv_cp.proofs.Lendable.{held_lent, held_machine, past_held}
+use Rattle.fv_volume.proofs.PlacedIn.{found_read}
 
 -- where there is room for all, there is room for what is pending
 pub some_room : (pool : Pool) (states : States) → HaveFullRoom pool states → HaveRoom pool states
@@ -56,17 +41,14 @@ module _ (disk : Shown) (pool : Pool) (states : States) (mid : Shown) (held : Po
   pub found_mid : (IsTrue disk.tells → IsFoundOn disk pool.found) → IsTrue mid.tells → IsFoundOn mid held.found
   found_mid found told =
       let on = found (subst IsTrue placed.only_reads.stays.tells told) in
-      subst (λ (f : Found). IsFoundOn mid f) (sym placed.found) (record {
-        reads = subst (λ (i : Image). IsFound i pool.found) (sym placed.only_reads.stays.reads) on.reads;
-        images = λ c now. on.images c (placed.only_reads.stays.no_more c now);
-      })
+      subst (λ (f : Found). IsFoundOn mid f) (sym placed.found) (found_read disk mid pool.found placed.only_reads on)
 
   -- while files are placed the image stays
   pub placing : IsDisk disk → (before : Machine) → IsHeld disk pool states before → Leaves disk mid (OldOrHeld disk pool states before)
   placing laws before was = goes_on disk disk mid (OldOrHeld disk pool states before)
-      (started disk (OldOrHeld disk pool states before) laws (λ c now. (inl (held_stands disk pool states before was c now), refl)))
+      (started disk (OldOrHeld disk pool states before) laws (λ c now. (inl (kept_stands (root_found pool.found) disk.reads c before was.tells (was.keeps c now)), refl)))
       placed.only_reads.time
-      (λ c now. (inl (held_stands mid held between before (placed.held before was) c now), placed.only_reads.given))
+      (λ c now. (inl (kept_stands (root_found held.found) mid.reads c before (placed.held before was).tells ((placed.held before was).keeps c now)), placed.only_reads.given))
 
   module _ (none : (s : ℕ) → HasNoFiles (state_at between s)) (whole : (s : ℕ) → HasWholeMap (state_at between s)) where
     lent_mid : (before : Machine) → IsHeld disk pool states before → IsLent mid held between before
@@ -84,29 +66,11 @@ module _ (disk : Shown) (pool : Pool) (states : States) (mid : Shown) (held : Po
     -- ---- the point was done
 
     module _ (fit : FitTogether pool states) (ready : AreReady mid held between) (new : Shown) (left : Pool) (stay : States) (goes : GoesOn mid held between new left stay) where
-      settled_of : (P : Option VolumeState → Type 0) (s : ℕ) → P (option_map (settled_as (goes.settled s).0) (state_at between s)) → P (state_at stay s)
-      settled_of P s = subst P (sym (goes.settled s).1)
-
       none_now : (s : ℕ) → HasNoFiles (state_at stay s)
-      none_now s = settled_of HasNoFiles s (by (state_at between s) (none s))
-        where
-          by : (o : Option VolumeState) → HasNoFiles o → HasNoFiles (option_map (settled_as (goes.settled s).0) o)
-          by None is = tt
-          by (Some x) is = settled_has (λ (y : VolumeState). y.files ≡ None) x (goes.settled s).0 (λ e. is) (λ e. is)
+      none_now s = subst HasNoFiles (sym (goes.settled s).1) (settled_no_files (state_at between s) (goes.settled s).0 (none s))
 
       whole_now : (s : ℕ) → HasWholeMap (state_at stay s)
-      whole_now s = settled_of HasWholeMap s (by (state_at between s) (whole s))
-        where
-          by : (o : Option VolumeState) → HasWholeMap o → HasWholeMap (option_map (settled_as (goes.settled s).0) o)
-          by None is = tt
-          by (Some x) is = settled_has (λ (y : VolumeState). length (active_of y.map) ≡ y.map.span) x (goes.settled s).0 (λ e. is) (λ e. is)
-
-      cores_now : KeepCores states stay
-      cores_now s = ap (option_map core_of) (goes.settled s).1 ∙ by (state_at between s) ∙ placed.cores s
-        where
-          by : (o : Option VolumeState) → option_map core_of (option_map (settled_as (goes.settled s).0) o) ≡ option_map core_of o
-          by None = refl
-          by (Some x) = ap (λ (y : VolumeState). Some y) (settled_keeps core_of x (goes.settled s).0 refl)
+      whole_now s = subst HasWholeMap (sym (goes.settled s).1) (settled_whole (state_at between s) (goes.settled s).0 (whole s))
 
       parent_of_core : (o : Option VolumeState) → parent_in o ≡ parent_in (option_map core_of o)
       parent_of_core None = refl
@@ -115,38 +79,11 @@ module _ (disk : Shown) (pool : Pool) (states : States) (mid : Shown) (held : Po
       parents_now : (s : ℕ) → parent_at left.containers s ≡ parent_at pool.containers s
       parents_now s = goes.parents s ∙ placed.fit.housed.parents s ∙ parent_of_core (state_at between s) ∙ ap parent_in (placed.cores s) ∙ sym (parent_of_core (state_at states s)) ∙ sym (fit.housed.parents s)
 
-      -- calls can be made on a volume that has its container
-      ready_as : (s : ℕ) (y : VolumeState) → y.slot ≡ s → y.slot < 64 → y.map.span ≤ 1048576 → IsBooked y → IsSize held.found.blocks → y.files ≡ None → IsLabelled s y → Houses (Some y) (container_at left.containers s) → IsReadyIn new left s y
-      ready_as s y slot within few booked size no_files labelled houses = record {
-        slot = slot;
-        ready = record {
-          lent = record {
-            within = within;
-            stands = goes.stands;
-            few = few;
-            entries = (let span = labelled.map in let count = ap (λ (n : ℕ). length (entries_in (container_at left.containers n))) slot ∙ housed_count (Some y) (container_at left.containers s) y refl houses in omega (arith, span, count));
-          };
-          labelled = subst (λ (n : ℕ). IsLabelled n y) (sym slot) labelled;
-          booked = booked;
-          blocks = subst IsSize (sym goes.blocks) size;
-          changed = λ isnt. no_files;
-        };
-      }
-
       ready_now : AreReady new left stay
-      ready_now s = settled_of (λ (o : Option VolumeState). IfSome o (IsReadyIn new left s)) s (by (state_at between s) refl (ready s) (none s))
-        where
-          by : (o : Option VolumeState) → state_at between s ≡ o → IfSome o (IsReadyIn mid held s) → HasNoFiles o → IfSome (option_map (settled_as (goes.settled s).0) o) (IsReadyIn new left s)
-          by None e is no_files = tt
-          by (Some x) e is no_files =
-              let label = (goes.settled s).0 in
-              let row : state_at stay s ≡ Some (settled_as label x) = (goes.settled s).1 ∙ ap (option_map (settled_as label)) e in
-              let b = is.ready.booked in
-              settled_has (λ (y : VolumeState). IsLabelled s y → Houses (Some y) (container_at left.containers s) → IsReadyIn new left s y) x label
-              (λ changed. ready_as s (as_written x label) is.slot is.ready.lent.within is.ready.lent.few (record { size = b.size; kind = b.kind; span = b.span; need = b.need; charge = b.charge }) is.ready.blocks no_files)
-              (λ same. ready_as s x is.slot is.ready.lent.within is.ready.lent.few b is.ready.blocks no_files)
-              (subst (λ (o : Option VolumeState). IfSome o (IsLabelled s)) row (goes.fit.housed.volumes s))
-              (subst (λ (o : Option VolumeState). Houses o (container_at left.containers s)) row (goes.fit.housed.each s))
+      ready_now s =
+          let same = (goes.settled s).1 in
+          subst (λ (o : Option VolumeState). IfSome o (IsReadyIn new left s)) (sym same) (settled_ready mid new held left s goes.stands goes.blocks (goes.settled s).0 (state_at between s) (ready s) (none s)
+          (subst (λ (o : Option VolumeState). IfSome o (IsLabelled s)) same (goes.fit.housed.volumes s)) (subst (λ (o : Option VolumeState). Houses o (container_at left.containers s)) same (goes.fit.housed.each s)))
 
       pub goes_whole : GoesOnWhole disk pool states new left stay
       goes_whole = record {
@@ -157,7 +94,7 @@ module _ (disk : Shown) (pool : Pool) (states : States) (mid : Shown) (held : Po
         ready = ready_now;
         none = none_now;
         unkept = goes.unkept;
-        cores = cores_now;
+        cores = λ s. ap (option_map core_of) (goes.settled s).1 ∙ settled_core (state_at between s) (goes.settled s).0 ∙ placed.cores s;
         parents = parents_now;
         blocks = goes.blocks ∙ ap (λ (f : Found). f.blocks) placed.found;
       }

@@ -1,10 +1,9 @@
 -- What volumes of a session are between points, whatever of their files is in memory.
-use Rattle.std.specs.Prelude.{◌≡◌, ◌≤◌, ◌<◌, ◌+◌, ℕ, List, [], ◌∷◌, flat_map, Option, Some, None, IfSome}
+use Rattle.std.specs.Prelude.{◌≤◌, ◌<◌, ℕ, flat_map, IfSome}
 use Rattle.std.specs.FinMap as fin
 use Rattle.fv_disk.specs.Shown.{Shown}
 use Rattle.fv_model.specs.Machines.{Machine, capacity}
 use Rattle.fv_model.specs.Spelling.{name_cmp}
-use Rattle.fv_model.specs.Volumes.{Volume}
 use Rattle.fv_image.specs.Views.{slots}
 use Rattle.fv_image.specs.Held.{layout_at, AllKeep}
 use Rattle.fv_image.specs.WholeMachine.{Tells}
@@ -12,29 +11,12 @@ use Rattle.fv_root.specs.Finding.{root_found}
 use Rattle.fv_root.specs.Commits.{IsFoundOn}
 use Rattle.fv_container.specs.Chains.{slot_count, container_at}
 use Rattle.fv_volume.specs.declared.pool.Pool.{Pool}
-use Rattle.fv_volume.specs.declared.state.VolumeState.{VolumeState}
 use Rattle.fv_volume.specs.Files.{AreNamed}
-use Rattle.fv_volume.specs.OneVolume.{volume_for, IsReady, IsStanding}
-use Rattle.fv_volume.specs.Placing.{IsLedTo, IsStoredWell}
+pub use Rattle.fv_volume.specs.Held.{named_held, IsHeldIn}
 use Rattle.fv_volume.specs.Slots.{sum_of}
 use Rattle.fv_volume.specs.States.{States, state_at}
 use Rattle.fv_volume.specs.Stored.{AreSpacedIn}
 use Rattle.fv_volume.specs.UnderRoot.{IsLentAt, IsMapOf}
-
--- ---- one volume
-
--- A volume of a slot that calls can be made on and that stands for one of the machine. What it has in use is led to, and that is stored well.
--- Its span is wide enough for all that it may grow to, and it uses at most its size.
-pub record IsHeldIn (disk : Shown) (pool : Pool) (s : ℕ) (x : VolumeState) : Type 0 where
-  pub slot : x.slot ≡ s
-  pub ready : IsReady disk pool x
-  pub stands : IsStanding disk pool x
-  pub led : IsLedTo disk pool x
-  pub well : IsStoredWell disk pool x
-  pub wide : x.most + 256 ≤ x.span
-  pub within : x.ledger.charge ≤ x.size
-
--- ---- all of them
 
 -- The volumes of a session between points. `before` is the machine that the image of the root on the disk stands for, and each image that a
 -- crash now may leave keeps that image's layout. The next root will hold the blocks of the volumes and no others. Files may be in memory:
@@ -49,11 +31,6 @@ pub record IsHeld (disk : Shown) (pool : Pool) (states : States) (before : Machi
   pub names : AreNamed states
   pub each : (s : ℕ) → IfSome (state_at states s) (IsHeldIn disk pool s)
   pub commits : sum_of states ≤ capacity pool.found.blocks
-
--- the volume of a slot with its name
-abbrev pub named_held : Shown → Pool → Option VolumeState → List (List ℕ × Volume)
-named_held disk pool None = []
-named_held disk pool (Some x) = (x.name, volume_for disk pool x) ∷ []
 
 -- The machine that a session stands for between points: each volume by its own table, in memory and in its blocks.
 unfoldable pub machine_held : Shown → Pool → States → Machine

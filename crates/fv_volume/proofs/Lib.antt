@@ -16,6 +16,7 @@ mod Holding
 pub mod Trees
 pub mod Charging
 mod Shows
+mod PlaceShown
 mod Going
 mod Failing
 pub mod Splits
@@ -77,3 +78,13 @@ pub mod Openings
 pub mod NewStanding
 pub mod Reached
 mod Commanded
+pub mod Ruled
+pub mod Facts
+pub mod Records
+pub mod Owned
+pub mod PlacedIn
+pub mod HeldAlone
+pub mod SeenAlone
+pub mod HeldSettled
+pub mod Spending
+pub mod Staying

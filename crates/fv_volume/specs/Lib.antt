@@ -28,3 +28,4 @@ pub mod Paths
 pub mod Calls
 pub mod Changing
 pub mod Placing
+pub mod Held

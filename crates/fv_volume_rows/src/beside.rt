@@ -4,22 +4,22 @@ use crate::calls::apply;
 use crate::opened::{Opened, empty};
 use crate::wrong::Wrong;
 use fv_memdisk::MemHost;
-use fv_model::{Command, Refusal, Reply};
+use fv_model::{Command, Name, Refusal, Reply};
 use fv_reference::Machine;
 use fv_script::{LineFault, read_line, write_reply};
 use std::alloc::Global;
 
 /// Volumes, and the plain machine that they stand for.
 #[derive(Drop)]
-pub(crate) struct Pair {
-    pub(crate) opened: Opened,
-    pub(crate) machine: Machine,
+pub struct Pair {
+    pub opened: Opened,
+    pub machine: Machine,
     /// How often the machine answered each refusal, by its number, and anything else under 0.
-    pub(crate) seen: [u32; 17],
+    pub seen: [u32; 17],
 }
 
 /// A new aggregate of so many blocks, from 512 to 1,048,576, and its machine.
-pub(crate) fn new_pair(alloc: Global, blocks: u32) -> Result<Pair, Wrong> {
+pub fn new_pair(alloc: Global, blocks: u32) -> Result<Pair, Wrong> {
     Ok(Pair {
         opened: empty(alloc, blocks)?,
         machine: Machine::new(alloc, blocks),
@@ -28,7 +28,7 @@ pub(crate) fn new_pair(alloc: Global, blocks: u32) -> Result<Pair, Wrong> {
 }
 
 /// The line of a reply, with its end.
-fn line_of(alloc: Global, reply: &Reply) -> Result<Vec<u8>, Wrong> {
+pub fn line_of(alloc: Global, reply: &Reply) -> Result<Vec<u8>, Wrong> {
     let mut sink = MemHost::new(alloc, Vec::new(alloc));
     write_reply(reply, &mut sink)?;
     Ok(Vec::from_slice(alloc, sink.given())?)
@@ -71,7 +71,7 @@ fn are_equal(alloc: Global, first: &Reply, second: &Reply) -> Result<bool, Wrong
 }
 
 /// Whether the volumes answer a command as the machine does.
-pub(crate) fn agrees(pair: &mut Pair, command: &Command) -> Result<bool, Wrong> {
+pub fn agrees(pair: &mut Pair, command: &Command) -> Result<bool, Wrong> {
     let alloc = pair.opened.alloc;
     let (reply, wanted) = replies(pair, command)?;
     are_equal(alloc, &reply, &wanted)
@@ -99,10 +99,18 @@ fn answers_command(pair: &mut Pair, command: &Command, wanted: &[u8]) -> Result<
 }
 
 /// Whether a line is answered by the volumes and by the machine with this reply, told without its end.
-pub(crate) fn answers(pair: &mut Pair, line: &[u8], wanted: &[u8]) -> Result<bool, Wrong> {
+pub fn answers(pair: &mut Pair, line: &[u8], wanted: &[u8]) -> Result<bool, Wrong> {
     match read_line(line) {
         Ok(command) => answers_command(pair, &command, wanted),
         Err(fault) => is_told(pair.opened.alloc, &refused(fault), wanted),
+    }
+}
+
+/// The name that a word spells.
+pub fn name(word: &[u8]) -> Result<Name, Wrong> {
+    match Name::read(word) {
+        Some(name) => Ok(name),
+        None => Err(Wrong::Row),
     }
 }
 
@@ -115,10 +123,10 @@ fn is_line(line: &[u8], bytes: &[u8]) -> bool {
 }
 
 /// A line of a script, and its reply.
-pub(crate) type Row = (&'static [u8], &'static [u8]);
+pub type Row = (&'static [u8], &'static [u8]);
 
 /// Whether rows are answered as they say, one after the other.
-pub(crate) fn walk(pair: &mut Pair, rows: &[Row]) -> Result<(), Wrong> {
+pub fn walk(pair: &mut Pair, rows: &[Row]) -> Result<(), Wrong> {
     for (number, (line, wanted)) in rows.iter().enumerate() {
         if !answers(pair, line, wanted)? {
             return Err(Wrong::Differs(number));
@@ -128,13 +136,13 @@ pub(crate) fn walk(pair: &mut Pair, rows: &[Row]) -> Result<(), Wrong> {
 }
 
 /// Whether rows are answered as they say in a new aggregate of 1024 blocks.
-pub(crate) fn tells(alloc: Global, rows: &[Row]) -> Result<(), Wrong> {
+pub fn tells(alloc: Global, rows: &[Row]) -> Result<(), Wrong> {
     let mut pair = new_pair(alloc, 1024)?;
     walk(&mut pair, rows)
 }
 
 /// Whether the volumes answer a line as the machine does.
-fn agrees_on(pair: &mut Pair, line: &[u8]) -> Result<bool, Wrong> {
+pub fn agrees_on(pair: &mut Pair, line: &[u8]) -> Result<bool, Wrong> {
     match read_line(line) {
         Ok(command) => agrees(pair, &command),
         Err(_) => Err(Wrong::Row),
@@ -142,7 +150,7 @@ fn agrees_on(pair: &mut Pair, line: &[u8]) -> Result<bool, Wrong> {
 }
 
 /// Whether the volumes answer lines as the machine does, one after the other.
-pub(crate) fn agree_on(pair: &mut Pair, lines: &[&[u8]]) -> Result<(), Wrong> {
+pub fn agree_on(pair: &mut Pair, lines: &[&[u8]]) -> Result<(), Wrong> {
     for (number, line) in lines.iter().enumerate() {
         if !agrees_on(pair, line)? {
             return Err(Wrong::Differs(number));

@@ -6,7 +6,7 @@ ghost use Rattle.fv_model.specs.Numbers.{greatest_span};
 ghost use Rattle.fv_volume.specs.Calls.{Reads};
 ghost use Rattle.fv_volume.specs.OneVolume.{IsReady};
 ghost use Rattle.fv_volume.specs.States.{state_at};
-ghost use Rattle.fv_volume_rows.specs.Held.{AreHeld};
+ghost use Rattle.fv_volume_rows.specs.Held.{AreFit, AreHeld};
 
 use crate::opened::Opened;
 use fv_container::Steps;
@@ -21,7 +21,7 @@ use std::sync::ledger::{Blank, Ledger};
 const MOST: u64 = 4_611_686_018_427_387_904;
 
 /// What a command is answered, refusals among it: making a volume, or a call of one volume.
-pub(crate) fn apply(opened: &mut Opened, command: &Command) -> Result<Reply, VolumeFault> {
+pub fn apply(opened: &mut Opened, command: &Command) -> Result<Reply, VolumeFault> {
     let alloc = opened.alloc;
     let volumes = &mut opened.volumes;
     let pool = &mut opened.pool;
@@ -41,7 +41,9 @@ fn answer<D: Disk>(
     command: &Command,
 ) -> Result<Reply, VolumeFault>
     requires held { AreHeld (D.shown disk.old) pool.old volumes.old }
+    requires fit { AreFit (D.shown disk.old) pool.old volumes.old }
     ensures held { AreHeld (D.shown disk.new) pool.new volumes.new }
+    ensures fit { AreFit (D.shown disk.new) pool.new volumes.new }
 {
     match command {
         Command::VolCreate { volume, size, kind } => {
@@ -61,7 +63,9 @@ fn create<D: Disk>(
     kind: Kind,
 ) -> Result<Reply, VolumeFault>
     requires held { AreHeld (D.shown disk.old) pool.old volumes.old }
+    requires fit { AreFit (D.shown disk.old) pool.old volumes.old }
     ensures held { AreHeld (D.shown disk.new) pool.new volumes.new }
+    ensures fit { AreFit (D.shown disk.new) pool.new volumes.new }
 {
     match volumes.admit(pool.found.blocks, name, size, kind) {
         Err(refusal) => Err(VolumeFault::Refused(refusal)),
@@ -96,7 +100,9 @@ fn ask<D: Disk>(
     command: &Command,
 ) -> Result<Reply, VolumeFault>
     requires held { AreHeld (D.shown disk.old) pool.old volumes.old }
+    requires fit { AreFit (D.shown disk.old) pool.old volumes.old }
     ensures held { AreHeld (D.shown disk.new) pool.new volumes.new }
+    ensures fit { AreFit (D.shown disk.new) pool.new volumes.new }
 {
     let Some(name) = volume_of(command) else {
         return Err(VolumeFault::Refused(Refusal::Syntax));
@@ -119,9 +125,11 @@ fn on_volume<D: Disk>(
     command: &Command,
 ) -> Result<Reply, VolumeFault>
     requires held { AreHeld (D.shown disk.old) pool.old volumes.old }
+    requires fit { AreFit (D.shown disk.old) pool.old volumes.old }
     requires slot { slot < slot_count }
     requires others { others ≤ 2 ^ 62 }
     ensures held { AreHeld (D.shown disk.new) pool.new volumes.new }
+    ensures fit { AreFit (D.shown disk.new) pool.new volumes.new }
 {
     match volumes.get_mut(slot) {
         None => Err(VolumeFault::Refused(Refusal::NoVolume)),
@@ -130,7 +138,7 @@ fn on_volume<D: Disk>(
 }
 
 /// Places what changed in the volume of a slot below 64, where there is one.
-pub(crate) fn flush(opened: &mut Opened, slot: u8) -> Result<(), VolumeFault> {
+pub fn flush(opened: &mut Opened, slot: u8) -> Result<(), VolumeFault> {
     if slot >= 64 {
         return Ok(());
     }
@@ -150,8 +158,10 @@ fn flush_volume<D: Disk>(
     disk: &mut D,
 ) -> Result<(), VolumeFault>
     requires held { AreHeld (D.shown disk.old) pool.old volumes.old }
+    requires fit { AreFit (D.shown disk.old) pool.old volumes.old }
     requires slot { slot < slot_count }
     ensures held { AreHeld (D.shown disk.new) pool.new volumes.new }
+    ensures fit { AreFit (D.shown disk.new) pool.new volumes.new }
 {
     match volumes.get_mut(slot) {
         None => Ok(()),
@@ -191,6 +201,8 @@ fn call<D: Disk>(
     requires others { others ≤ 2 ^ 62 }
     ensures ready { IsReady (D.shown disk.new) pool.new volume.new }
     ensures slot { volume.new.slot ≡ volume.old.slot }
+    ensures span { volume.new.span ≡ volume.old.span }
+    ensures base { volume.new.base ≡ volume.old.base }
     ensures reads { Reads (D.shown disk.old) pool.old (D.shown disk.new) pool.new }
 {
     match command {
@@ -231,6 +243,8 @@ fn new_file<D: Disk>(
     requires others { others ≤ 2 ^ 62 }
     ensures ready { IsReady (D.shown disk.new) pool.new volume.new }
     ensures slot { volume.new.slot ≡ volume.old.slot }
+    ensures span { volume.new.span ≡ volume.old.span }
+    ensures base { volume.new.base ≡ volume.old.base }
     ensures reads { Reads (D.shown disk.old) pool.old (D.shown disk.new) pool.new }
 {
     if reserve > 0 && volume.kind == Kind::File {

@@ -1,6 +1,6 @@
 //! Tall files, many files, and an aggregate that is full.
 
-use crate::beside::{Pair, Row, agrees, new_pair, tells, walk};
+use crate::beside::{Pair, Row, agrees, name, new_pair, tells, walk};
 use crate::wrong::Wrong;
 use fv_model::{Command, Name};
 use std::alloc::Global;
@@ -80,14 +80,6 @@ const FULL_AGGREGATE: [Row; 8] = [
     (b"put t f 19 01", b"ok"),
     (b"put t f 18 01", b"err 9 aggregate full"),
 ];
-
-/// The name that a word spells.
-pub(crate) fn name(word: &[u8]) -> Result<Name, Wrong> {
-    match Name::read(word) {
-        Some(name) => Ok(name),
-        None => Err(Wrong::Row),
-    }
-}
 
 /// Applies a command to both, and wants equal replies.
 fn agree(pair: &mut Pair, number: u32, command: &Command) -> Result<(), Wrong> {

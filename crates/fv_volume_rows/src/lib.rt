@@ -2,9 +2,7 @@
 //! and random commands on three volumes. No consistency point is made.
 #![tactic(auto)]
 
-#[cfg(test)]
 mod beside;
-#[cfg(test)]
 mod calls;
 #[cfg(test)]
 mod failing;
@@ -12,11 +10,16 @@ mod failing;
 mod images;
 #[cfg(test)]
 mod large;
-#[cfg(test)]
 mod opened;
-#[cfg(test)]
 mod random;
 #[cfg(test)]
 mod rows;
-#[cfg(test)]
 mod wrong;
+
+pub use beside::{
+    Pair, Row, agree_on, agrees, agrees_on, answers, line_of, name, new_pair, tells, walk,
+};
+pub use calls::{apply, flush};
+pub use opened::{Opened, Part, empty, fail_read, host_of, open};
+pub use random::{VOLUMES, agree_on_volumes, run};
+pub use wrong::Wrong;

@@ -1,15 +1,12 @@
 //! Random commands on three volumes, with the plain machine beside them.
 
-use crate::beside::{Pair, Row, agrees, new_pair, walk};
+use crate::beside::{Pair, Row, agrees, name};
 use crate::calls::flush;
-use crate::large::name;
 use crate::wrong::Wrong;
 use fv_model::{Command, Name};
-use std::alloc::Global;
-use std::test::Fail;
 
 /// Volumes of each kind: `a` fills soon, and `z` leaves 13 blocks for `b` and `c`.
-pub(crate) const VOLUMES: [Row; 4] = [
+pub const VOLUMES: [Row; 4] = [
     (b"vol create a 14 volume", b"ok"),
     (b"vol create b 500 none", b"ok"),
     (b"vol create c 30 file", b"ok"),
@@ -117,7 +114,7 @@ fn agree_on_volume(pair: &mut Pair, word: &[u8]) -> Result<bool, Wrong> {
 }
 
 /// The same of the three volumes.
-fn agree_on_volumes(pair: &mut Pair) -> Result<bool, Wrong> {
+pub fn agree_on_volumes(pair: &mut Pair) -> Result<bool, Wrong> {
     let first = agree_on_volume(pair, b"a")?;
     let second = agree_on_volume(pair, b"b")?;
     let third = agree_on_volume(pair, b"c")?;
@@ -146,37 +143,12 @@ fn step(pair: &mut Pair, state: &mut u64, number: u32) -> Result<bool, Wrong> {
 }
 
 /// Applies so many commands to both, with equal replies.
-pub(crate) fn run(pair: &mut Pair, seed: u64, count: u32) -> Result<(), Wrong> {
+pub fn run(pair: &mut Pair, seed: u64, count: u32) -> Result<(), Wrong> {
     let mut state = seed;
     for number in 0..count {
         if !step(pair, &mut state, number)? {
             return Err(Wrong::Differs(number as usize));
         }
     }
-    Ok(())
-}
-
-/// Whether no such file, file exists, volume full, aggregate full and a number out of range were all answered.
-fn saw_refusals(pair: &Pair) -> bool {
-    let seen = &pair.seen;
-    seen[0] > 0 && seen[4] > 0 && seen[5] > 0 && seen[8] > 0 && seen[9] > 0 && seen[10] > 0
-}
-
-/// Random commands on volumes of each kind. Whether each refusal was seen.
-fn go(pair: &mut Pair) -> Result<bool, Wrong> {
-    walk(pair, &VOLUMES)?;
-    run(pair, 7, 1000)?;
-    Ok(saw_refusals(pair))
-}
-
-/// The same in a new aggregate.
-fn on_new_volumes(alloc: Global) -> Result<bool, Wrong> {
-    let mut pair = new_pair(alloc, 1024)?;
-    go(&mut pair)
-}
-
-#[test]
-fn random_commands(rt: HostRuntime) -> Result<(), Fail> {
-    assert_eq!(rt; on_new_volumes(rt.alloc()), Ok(true));
     Ok(())
 }

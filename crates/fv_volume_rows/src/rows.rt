@@ -1,6 +1,8 @@
 //! Rows worked out by hand, each in a new aggregate of 1024 blocks.
 
-use crate::beside::{Row, tells};
+use crate::beside::{Pair, Row, new_pair, tells, walk};
+use crate::random::{VOLUMES, run};
+use crate::wrong::Wrong;
 use std::alloc::Global;
 use std::test::Fail;
 
@@ -186,5 +188,30 @@ fn worked_rows(rt: HostRuntime) -> Result<(), Fail> {
 fn space(rt: HostRuntime) -> Result<(), Fail> {
     assert_eq!(rt; tells(rt.alloc(), &FULL_VOLUME), Ok(()));
     assert_eq!(rt; tells(rt.alloc(), &EQUAL), Ok(()));
+    Ok(())
+}
+
+/// Whether no such file, file exists, volume full, aggregate full and a number out of range were all answered.
+fn saw_refusals(pair: &Pair) -> bool {
+    let seen = &pair.seen;
+    seen[0] > 0 && seen[4] > 0 && seen[5] > 0 && seen[8] > 0 && seen[9] > 0 && seen[10] > 0
+}
+
+/// Random commands on volumes of each kind. Whether each refusal was seen.
+fn go(pair: &mut Pair) -> Result<bool, Wrong> {
+    walk(pair, &VOLUMES)?;
+    run(pair, 7, 1000)?;
+    Ok(saw_refusals(pair))
+}
+
+/// The same in a new aggregate.
+fn on_new_volumes(alloc: Global) -> Result<bool, Wrong> {
+    let mut pair = new_pair(alloc, 1024)?;
+    go(&mut pair)
+}
+
+#[test]
+fn random_commands(rt: HostRuntime) -> Result<(), Fail> {
+    assert_eq!(rt; on_new_volumes(rt.alloc()), Ok(true));
     Ok(())
 }

@@ -6,7 +6,7 @@ use std::alloc::AllocError;
 
 /// What went wrong.
 #[derive(Debug, PartialEq, Eq, Drop)]
-pub(crate) enum Wrong {
+pub enum Wrong {
     /// A call failed.
     Fault(VolumeFault),
     /// No aggregate was found.

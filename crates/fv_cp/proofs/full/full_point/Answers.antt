@@ -1,18 +1,14 @@
-use Rattle.std.proofs.Common.{◌≡◌, ℕ, length, None, Err, Result, rules, refl, sym, ap, subst, ◌∙◌, arith}
-use Rattle.std.proofs.lemmas.List.{set-get_or}
+use Rattle.std.proofs.Common.{◌≡◌, ℕ, length, Err, Result, rules, refl, sym, ap, subst, ◌∙◌, arith}
 use Rattle.std.specs.Prelude.{IsTrue, IfErr, OnErr}
 use Rattle.fv_disk.specs.Shown.{Rose}
-use Rattle.fv_container.specs.Chains.{Slots, container_at, with_container}
+use Rattle.fv_container.specs.Chains.{Slots}
 use Rattle.fv_volume.specs.declared.fault.VolumeFault.{VolumeFault}
 use Rattle.fv_volume.specs.declared.pool.Pool.{Pool}
 use Rattle.fv_volume.specs.Causes.{of_block}
+use Rattle.fv_volume.proofs.Staying.{slot_again}
 use Rattle.fv_cp.specs.Settling.{GoesOnWhole, IsHeldPoint, IsNoDamage, StillHeld, WholeCounts}
 use Rattle.fv_cp.proofs.Whole.{counts_done, counts_failed, counts_placed, enough_left, found_mid, goes_whole, no_damage, placing, point_held, pointing, some_room, still_after}
 use Rattle.fv_cp.proofs.full.full_point.Goals as goal
-
--- a slot that keeps its container
-slot_again : (slots : Slots) → with_container slots 0 (container_at slots 0) ≡ slots
-slot_again slots = λ i. record { containers = set-get_or slots.containers 0 None i; parents = slots.parents }
 
 pub consistency_point-requires-clause-found : goal.consistency_point-requires-clause-found
 consistency_point-requires-clause-found g c = found_mid (g.D.Disk.shown c.args.disk.now) c.args.pool.now c.args.volumes.now (g.D.Disk.shown c.args.disk.now) c.flush.new.pool c.flush.new.volumes c.flush.ensures.placed c.requires.found
@@ -58,10 +54,9 @@ returns-in_err-consistency_point-clause-still g c =
 
 pub returns-in_err-consistency_point-clause-counts : goal.returns-in_err-consistency_point-clause-counts
 returns-in_err-consistency_point-clause-counts g c =
-    let did = c.in_ok-flush.ensures in
     let failed : c.from_residual-in_err-consistency_point.result ≡ Err (of_block c.in_err-consistency_point.field-0.0) = search rules in
     subst (WholeCounts (g.D.Disk.shown c.args.disk.now) (g.D.Disk.shown c.consistency_point.new.disk)) (sym failed)
-    (counts_failed (g.D.Disk.shown c.args.disk.now) c.args.pool.now c.args.volumes.now (g.D.Disk.shown c.args.disk.now) c.flush.new.pool c.flush.new.volumes did.placed refl (g.D.Disk.shown c.consistency_point.new.disk) c.in_err-consistency_point.field-0.0
+    (counts_failed (g.D.Disk.shown c.args.disk.now) c.args.pool.now c.args.volumes.now (g.D.Disk.shown c.args.disk.now) c.flush.new.pool c.flush.new.volumes c.in_ok-flush.ensures.placed refl (g.D.Disk.shown c.consistency_point.new.disk) c.in_err-consistency_point.field-0.0
     c.in_err-consistency_point.ensures.counts)
 
 pub returns-in_err-consistency_point-clause-enough : goal.returns-in_err-consistency_point-clause-enough
@@ -100,5 +95,4 @@ returns-clause-point g c = λ tells before was.
 
 pub returns-clause-counts : goal.returns-clause-counts
 returns-clause-counts g c =
-    let did = c.in_ok-flush.ensures in
-    counts_done (g.D.Disk.shown c.args.disk.now) c.args.pool.now c.args.volumes.now (g.D.Disk.shown c.args.disk.now) c.flush.new.pool c.flush.new.volumes did.placed refl (g.D.Disk.shown c.consistency_point.new.disk) c.in_ok-consistency_point.ensures.counts
+    counts_done (g.D.Disk.shown c.args.disk.now) c.args.pool.now c.args.volumes.now (g.D.Disk.shown c.args.disk.now) c.flush.new.pool c.flush.new.volumes c.in_ok-flush.ensures.placed refl (g.D.Disk.shown c.consistency_point.new.disk) c.in_ok-consistency_point.ensures.counts

@@ -1,34 +1,12 @@
-use Rattle.std.proofs.Common.{◌≡◌, ℕ, ◌+◌, ◌<◌, ◌≤◌, List, Bool, length, Some, None, Ok, Err, Result, subst, arith}
-use Rattle.std.specs.Prelude.{IfErr, IfSome, min}
-use Rattle.std.proofs.lemmas.List.Elements.{All-get_or}
-use Rattle.fv_volmap.specs.Slots.{IsVolume, Slot, Volume, active_of}
-use Rattle.fv_disk.specs.Shown.{Shown}
-use Rattle.fv_aggmap.specs.Space.{free_blocks}
+use Rattle.std.proofs.Common.{◌≡◌, ◌≤◌, Some, Ok, Err, Result, arith}
+use Rattle.std.specs.Prelude.{IfErr}
 use Rattle.fv_volume.specs.declared.fault.VolumeFault.{VolumeFault}
 use Rattle.fv_volume.specs.declared.fault.VolumeFault.TheVariants.{Memory}
-use Rattle.fv_volume.specs.declared.pool.Pool.{Pool}
-use Rattle.fv_volume.specs.declared.state.VolumeState.{VolumeState}
-use Rattle.fv_volume.specs.BlocksOver.{free_numbers}
-use Rattle.fv_volume.specs.Lending.{lent_for}
-use Rattle.fv_volume.specs.OneVolume.{home_in, IsStanding}
-use Rattle.fv_volume.specs.Placing.{pending_of, Goes}
-use Rattle.fv_cp.specs.Placing.{HasSpent, MayFail}
+use Rattle.fv_volume.specs.OneVolume.{IsStanding}
+use Rattle.fv_volume.specs.Placing.{pending_of}
+use Rattle.fv_volume.proofs.Spending.{spends, whole_map}
+use Rattle.fv_cp.specs.Placing.{MayFail}
 use Rattle.fv_cp.proofs.placing.flush_volume.Goals as goal
-
-active_long : (map : Volume) → IsVolume map → length (active_of map) ≡ map.span
-active_long map is =
-    let all = All-get_or (λ (slot : Slot). IfSome slot (λ m. length m ≡ map.span)) map.slots 0 None (omega (arith, is.count)) is.long in
-    subst (λ (slot : Slot). IfSome slot (λ m. length m ≡ map.span)) is.active all
-
--- what was placed of a volume, by the room that there was for it
-spends : (disk : Shown) (pool : Pool) (x : VolumeState) (room : ℕ) (left : Pool) (y : VolumeState) (rest : ℕ) → room ≡ min (min (free_blocks pool.map) (pending_of x.files + 1)) (free_numbers x.map)
-    → Goes (lent_for pool x.map disk 0 (home_in x) room) left y.map disk rest → (pending_of y.files ≤ pending_of x.files) × (room + pending_of y.files ≤ rest + pending_of x.files)
-    → pending_of x.files < free_numbers x.map → pending_of x.files < free_blocks pool.map → HasSpent pool x left y
-spends disk pool x room left y rest exact goes fits numbers blocks =
-    let all : room ≡ pending_of x.files + 1 = omega (arith, exact, numbers, blocks) in
-    let some : 0 < rest = omega (arith, all, fits.1) in
-    let took = goes.goes.goes.spends some in
-    record { fewer = fits.0; numbers = omega (arith, all, fits.1, took.numbers); blocks = omega (arith, all, fits.1, took.blocks) }
 
 pub returns-clause-placed : goal.returns-clause-placed
 returns-clause-placed g c =
@@ -58,4 +36,4 @@ returns-clause-fails g c = by c.flush-flushed.result (λ is. (c.flush-flushed.en
     by (Err e) enough = λ is numbers blocks. enough is (let exact = c.room-room.ensures.exact in omega (arith, exact, numbers, blocks))
 
 pub returns-clause-whole : goal.returns-clause-whole
-returns-clause-whole g c = active_long _ c.active.ensures.valid
+returns-clause-whole g c = whole_map _ c.active.ensures.valid

@@ -1,6 +1,6 @@
 use Rattle.std.proofs.Common.{ap, ◌∙◌, arith}
 use Rattle.fv_cp.specs.Lent.{asked_by}
-use Rattle.fv_cp.proofs.Asked.{asked_none, asked_on}
+use Rattle.fv_cp.proofs.Stepping.{asked_none, asked_on}
 use Rattle.fv_cp.proofs.point.blocks_asked.Goals as goal
 
 pub loop-slot-preserved : goal.loop-slot-preserved

@@ -1,5 +1,4 @@
-use Rattle.fv_cp.proofs.Crashing.{rests, writing}
-use Rattle.fv_cp.proofs.Ending.{found_left, goes_on, moments, point}
+use Rattle.fv_cp.proofs.Ending.{found_left, goes_on, moments, point, rests, writing}
 use Rattle.fv_cp.proofs.point.consistency_point.Goals as goal
 
 pub returns-then-free-asked-clause-any_moment : goal.returns-then-free-asked-clause-any_moment

@@ -1,5 +1,5 @@
 use Rattle.std.proofs.Common.{refl, sym, ◌∙◌}
-use Rattle.fv_cp.proofs.Coming.{past_written}
+use Rattle.fv_cp.proofs.Stepping.{past_written}
 use Rattle.fv_cp.proofs.point.write_slot.Goals as goal
 
 pub returns-clause-past : goal.returns-clause-past

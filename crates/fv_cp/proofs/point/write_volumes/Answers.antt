@@ -3,8 +3,7 @@ use Rattle.std.specs.Prelude.{Ok, Err}
 use Rattle.fv_volume.specs.Keeping.{IsUnkept}
 use Rattle.fv_cp.specs.Course.{HasCome}
 use Rattle.fv_volume.specs.Writing.{IsTaken, on_disk}
-use Rattle.fv_cp.proofs.Coming.{come_first, come_more, spares_on}
-use Rattle.fv_cp.proofs.Asked.{asked_on}
+use Rattle.fv_cp.proofs.Stepping.{asked_on, come_first, come_more, spares_on}
 use Rattle.fv_volume.proofs.Sparing.{failed_as, spares_fewer}
 use Rattle.fv_cp.proofs.point.write_volumes.Goals as goal
 

@@ -1,7 +1,8 @@
 use Rattle.std.proofs.Common.{◌≡◌, refl, ap, arith}
 use Rattle.fv_volmap.specs.Slots.{Volume}
 use Rattle.fv_volume.proofs.Going.{goes_dropped}
-use Rattle.fv_volume.proofs.Shows.{apart_gone, held_gone, numbers_gone, unused_member, use_gone, used_member}
+use Rattle.fv_volume.proofs.PlaceShown.{gone_shown}
+use Rattle.fv_volume.proofs.Shows.{apart_gone, numbers_gone}
 use Rattle.fv_volume.proofs.volume_blocks.VolumeBlocksBlocks.gone.Goals as goal
 
 pub invariant_of-self-clause-few : goal.invariant_of-self-clause-few
@@ -26,19 +27,8 @@ invariant_of-self-clause-apart g c = λ told. apart_gone c.args.self.now.map.now
 pub returns-clause-drops : goal.returns-clause-drops
 returns-clause-drops g c =
     let self = c.args.self.now in
-    let map = self.map.now in
-    let slots = self.pool.now.containers in
-    let slot = self.home.slot in
-    let v = c.args.vvbn in
-    record {
-      held = held_gone map c.drop_number.new.map v c.drop_number.ensures.valid c.drop_number.ensures.released slots slot self.pool.now (g.D.Disk.shown self.disk.now).reads refl;
-      used = use_gone map c.drop_number.new.map v c.drop_number.ensures.valid c.drop_number.ensures.released slots slot;
-      named = λ some. c.drop_number.ensures.named (used_member map slots slot v some);
-      stray = λ none. c.drop_number.ensures.stray (unused_member map slots slot v none);
-      room = omega arith;
-      spent = refl;
-      calm = record { faults = refl; damages = refl; spent = omega arith };
-    }
+    gone_shown self.pool.now self.map.now c.drop_number.new.map (g.D.Disk.shown self.disk.now) self.steps.now self.home self.room self.strays c.drop_number.new.strays self.noted c.args.vvbn c.drop_number.ensures.valid c.drop_number.ensures.released
+    c.drop_number.ensures.named c.drop_number.ensures.stray
 
 pub returns-clause-calls : goal.returns-clause-calls
 returns-clause-calls g c =

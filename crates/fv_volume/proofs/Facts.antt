@@ -1,6 +1,6 @@
 -- What is known of each pointer that the table of a volume reaches, of which nothing is in memory and which is stored well.
 use Rattle.std.proofs.Common.{◌≡◌, ◌≢◌, ◌⊎◌, ℕ, ◌+◌, ◌<◌, ◌≤◌, ◌/◌, ◌%◌, Bool, true, false, not, ◌||◌, List, Option, Some, None, Ok, is_some, get_or, inl, inr, refl, sym, ap, subst, ◌∙◌, arith, ⊎_elim, length}
-use Rattle.std.specs.Prelude.{IfSome, nat_lt, ◌==◌, if◌then◌else◌, cond, min}
+use Rattle.std.specs.Prelude.{nat_lt, ◌==◌, if◌then◌else◌, cond, min}
 use Rattle.std.specs.List.{list_all}
 use Rattle.std.specs.Option.{option_map, option_map_or}
 use Rattle.std.specs.FinMap as fin
@@ -54,7 +54,7 @@ use Rattle.fv_volume.specs.OneVolume.{shows, standing_by, IsStanding}
 use Rattle.fv_volume.specs.States.{States, head_in, placed_in, state_at, view_over}
 use Rattle.fv_volume.proofs.Standings.{agree, held_own, standing_reached}
 use Rattle.fv_volume.proofs.Told.{head_there}
-use Rattle.fv_cp.proofs.Ruled.{AreRuled, IsRuled, owner_number}
+use Rattle.fv_volume.proofs.Ruled.{AreRuled, IsRuled, owner_number}
 
 -- ---- what a block says
 

@@ -1,0 +1,28 @@
+-- What the placing of one volume's files takes of its numbers and of the blocks.
+use Rattle.std.proofs.Common.{◌≡◌, ℕ, ◌+◌, ◌<◌, ◌≤◌, length, arith}
+use Rattle.std.specs.Prelude.{min}
+use Rattle.fv_volmap.specs.Slots.{IsVolume, Volume, active_of}
+use Rattle.fv_disk.specs.Shown.{Shown}
+use Rattle.fv_aggmap.specs.Space.{free_blocks}
+use Rattle.fv_volume.specs.declared.pool.Pool.{Pool}
+use Rattle.fv_volume.specs.declared.state.VolumeState.{VolumeState}
+use Rattle.fv_volume.specs.BlocksOver.{free_numbers}
+use Rattle.fv_volume.specs.Lending.{lent_for}
+use Rattle.fv_volume.specs.OneVolume.{home_in}
+use Rattle.fv_volume.specs.Placing.{pending_of, Goes}
+use Rattle.fv_volume.specs.Held.{HasSpent}
+use Rattle.fv_volume.proofs.Shows.{active_long}
+
+-- the active map of a volume has each number of its span
+pub whole_map : (map : Volume) → IsVolume map → length (active_of map) ≡ map.span
+whole_map map is = active_long map is
+
+-- what was placed of a volume, by the room that there was for it
+pub spends : (disk : Shown) (pool : Pool) (x : VolumeState) (room : ℕ) (left : Pool) (y : VolumeState) (rest : ℕ) → room ≡ min (min (free_blocks pool.map) (pending_of x.files + 1)) (free_numbers x.map)
+    → Goes (lent_for pool x.map disk 0 (home_in x) room) left y.map disk rest → (pending_of y.files ≤ pending_of x.files) × (room + pending_of y.files ≤ rest + pending_of x.files)
+    → pending_of x.files < free_numbers x.map → pending_of x.files < free_blocks pool.map → HasSpent pool x left y
+spends disk pool x room left y rest exact goes fits numbers blocks =
+    let all : room ≡ pending_of x.files + 1 = omega (arith, exact, numbers, blocks) in
+    let some : 0 < rest = omega (arith, all, fits.1) in
+    let took = goes.goes.goes.spends some in
+    record { fewer = fits.0; numbers = omega (arith, all, fits.1, took.numbers); blocks = omega (arith, all, fits.1, took.blocks) }
