@@ -1,6 +1,6 @@
 -- What is known of each pointer that the table of a volume reaches, of which nothing is in memory and which is stored well.
 use Rattle.std.proofs.Common.{◌≡◌, ◌≢◌, ◌⊎◌, ℕ, ◌+◌, ◌<◌, ◌≤◌, ◌/◌, ◌%◌, Bool, true, false, not, ◌||◌, List, Option, Some, None, Ok, is_some, get_or, inl, inr, refl, sym, ap, subst, ◌∙◌, arith, ⊎_elim, length}
-use Rattle.std.specs.Prelude.{IfSome, nat_lt, ◌==◌, if◌then◌else◌, cond, min}
+use Rattle.std.specs.Prelude.{nat_lt, ◌==◌, if◌then◌else◌, cond, min}
 use Rattle.std.specs.List.{list_all}
 use Rattle.std.specs.Option.{option_map, option_map_or}
 use Rattle.std.specs.FinMap as fin

@@ -14,3 +14,5 @@ pub mod Records
 pub mod Lendable
 pub mod Past
 pub mod Whole
+pub mod Resting
+pub mod Called

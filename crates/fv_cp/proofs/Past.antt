@@ -18,7 +18,7 @@ use Rattle.fv_volume.specs.declared.pool.Pool.{Pool}
 use Rattle.fv_volume.specs.declared.state.VolumeState.{VolumeState}
 use Rattle.fv_volume.specs.BlocksOver.{AreApart}
 use Rattle.fv_volume.specs.Files.{IsLabelled, IsState}
-use Rattle.fv_volume.specs.Loading.{IsLoaded, LoadedTo}
+use Rattle.fv_volume.specs.Loading.{LoadedTo}
 use Rattle.fv_volume.specs.OneVolume.{IsReady, IsStanding}
 use Rattle.fv_volume.specs.Placing.{IsLedTo, IsStoredWell}
 use Rattle.fv_volume.specs.States.{States, head_in, parent_in, state_at, view_over}

@@ -1,9 +1,8 @@
 -- A consistency point in front of which all files are placed.
-use Rattle.std.proofs.Common.{◌≡◌, ℕ, ◌+◌, ◌<◌, ◌≤◌, false, List, length, Option, Some, None, inl, inr, ⊎_elim, refl, sym, ap, subst, ◌∙◌, arith, Ok, Err}
+use Rattle.std.proofs.Common.{◌≡◌, ℕ, ◌<◌, ◌≤◌, false, length, Option, Some, None, inl, inr, ⊎_elim, refl, sym, ap, subst, ◌∙◌, arith, Ok, Err}
 use Rattle.std.specs.Prelude.{IfSome, IsTrue}
 use Rattle.std.specs.Option.{option_map}
 use Rattle.fv_disk.specs.Crash.{Leaves}
-use Rattle.fv_disk.specs.DiskCalls.{OnlyReads}
 use Rattle.fv_disk.specs.Faults.{HasBlockCause}
 use Rattle.fv_disk.specs.Shown.{Image, IsDisk, Rose, Shown}
 use Rattle.fv_disk.specs.declared.fault.BlockFault.{BlockFault}
@@ -11,7 +10,6 @@ use Rattle.fv_disk.specs.declared.fault.BlockFault.TheVariants.{DiskFault, Damag
 use Rattle.fv_disk.proofs.Moments.{goes_on, started, then, weaken}
 use Rattle.fv_model.specs.Machines.{Machine}
 use Rattle.fv_image.specs.Held.{layout_at}
-use Rattle.fv_image.specs.Views.{entry_count}
 use Rattle.fv_image.specs.WholeMachine.{machine_from, machine_of}
 use Rattle.fv_image.proofs.SoundTests.{machine_told, machine_under}
 use Rattle.fv_root.specs.declared.find.Found.{Found}
@@ -35,9 +33,9 @@ use Rattle.fv_volume.specs.States.{States, parent_in, state_at}
 use Rattle.fv_volume.proofs.Settled.{settled_has, settled_keeps}
 use Rattle.fv_cp.specs.Held.{machine_held, IsHeld}
 use Rattle.fv_cp.specs.Lent.{FitTogether, IsLent}
-use Rattle.fv_cp.specs.Placing.{core_of, ArePlaced, AreReady, HasNoFiles, HasWholeMap, HaveRoom, IsPlaceFault, IsReadyIn, KeepCores}
+use Rattle.fv_cp.specs.Placing.{core_of, ArePlaced, AreReady, HasNoFiles, HasWholeMap, HaveNoFiles, HaveRoom, IsPlaceFault, IsReadyIn, KeepCores}
 use Rattle.fv_cp.specs.Points.{machine_lent, Counts, GoesOn, IsCalm, IsPoint, LacksRoom, LeavesAll, OldOrLent}
-use Rattle.fv_cp.specs.Settling.{GoesOnWhole, HasWholeCause, HaveFullRoom, IsHeldPoint, IsNoDamage, OldOrHeld, StillHeld, WholeCounts}
+use Rattle.fv_cp.specs.Settling.{GoesOnWhole, HasWholeCause, HaveFullRoom, IsHeldPoint, IsNoDamage, IsStill, OldOrHeld, StillHeld, WholeCounts, WholeFails}
 use Rattle.fv_cp.proofs.Lendable.{held_lent, held_machine}
 use Rattle.fv_cp.proofs.Past.{past_held}
 use Rattle.fv_cp.proofs.Placed.{housed_count}
@@ -50,7 +48,7 @@ held_stands disk pool states before held c now =
 
 -- where there is room for all, there is room for what is pending
 pub some_room : (pool : Pool) (states : States) → HaveFullRoom pool states → HaveRoom pool states
-some_room pool states room = record { numbers = room.numbers; blocks = (let blocks = room.blocks in omega (arith, blocks)) }
+some_room pool states room = record { numbers = room.numbers; blocks = room.free }
 
 module _ (disk : Shown) (pool : Pool) (states : States) (mid : Shown) (held : Pool) (between : States) (placed : ArePlaced disk pool states mid held between) where
   pub found_mid : (IsTrue disk.tells → IsFoundOn disk pool.found) → IsTrue mid.tells → IsFoundOn mid held.found
@@ -93,6 +91,13 @@ module _ (disk : Shown) (pool : Pool) (states : States) (mid : Shown) (held : Po
           by : (o : Option VolumeState) → HasNoFiles o → HasNoFiles (option_map (settled_as (goes.settled s).0) o)
           by None is = tt
           by (Some x) is = settled_has (λ (y : VolumeState). y.files ≡ None) x (goes.settled s).0 (λ e. is) (λ e. is)
+
+      unchanged_now : (s : ℕ) → IfSome (state_at stay s) (λ x. x.changed ≡ false)
+      unchanged_now s = settled_of (λ (o : Option VolumeState). IfSome o (λ x. x.changed ≡ false)) s (by (state_at between s))
+        where
+          by : (o : Option VolumeState) → IfSome (option_map (settled_as (goes.settled s).0) o) (λ x. x.changed ≡ false)
+          by None = tt
+          by (Some x) = settled_has (λ (y : VolumeState). y.changed ≡ false) x (goes.settled s).0 (λ e. refl) (λ e. e)
 
       whole_now : (s : ℕ) → HasWholeMap (state_at stay s)
       whole_now s = settled_of HasWholeMap s (by (state_at between s) (whole s))
@@ -156,6 +161,7 @@ module _ (disk : Shown) (pool : Pool) (states : States) (mid : Shown) (held : Po
         fit = goes.fit;
         ready = ready_now;
         none = none_now;
+        unchanged = unchanged_now;
         unkept = goes.unkept;
         cores = cores_now;
         parents = parents_now;
@@ -192,10 +198,10 @@ module _ (disk : Shown) (pool : Pool) (states : States) (mid : Shown) (held : Po
       (subst (λ (xs : States). StillHeld disk pool states mid held xs) (sym g) (record { placed = placed; stands = stands; ready = ready })))
 
   pub still_after : {T : Type 0} (shown : T → Shown) (a b : T) → shown a ≡ mid → AreReady mid held between → StandsOn mid held.store.pairs → (left : Pool) (stay : States) (e : BlockFault) → IsCalm a b e → LeavesAll mid held between (shown b) left stay e
-      → HasBlockCause {T = Unit {0}} mid.write_faults (shown b).write_faults (Err e) → (Rose disk.write_faults (shown b).write_faults → ⊥) → StillHeld disk pool states (shown b) left stay
-  still_after shown a b at ready stands left stay DiskFault calm leaves cause calmly = absurd (calmly (subst (λ (n : ℕ). Rose n (shown b).write_faults) placed.only_reads.write_faults cause))
-  still_after shown a b at ready stands left stay (Damaged what want found) calm leaves cause calmly = still_placed ready (shown b) left stay (ap shown calm ∙ at) leaves.1.0 leaves.1.1 stands
-  still_after shown a b at ready stands left stay Memory calm leaves cause calmly = still_placed ready (shown b) left stay (ap shown calm ∙ at) leaves.1.0 leaves.1.1 stands
+      → IsStill disk pool states (shown b) left stay (of_block e)
+  still_after shown a b at ready stands left stay DiskFault calm leaves = tt
+  still_after shown a b at ready stands left stay (Damaged what want found) calm leaves = still_placed ready (shown b) left stay (ap shown calm ∙ at) leaves.1.0 leaves.1.1 stands
+  still_after shown a b at ready stands left stay Memory calm leaves = still_placed ready (shown b) left stay (ap shown calm ∙ at) leaves.1.0 leaves.1.1 stands
 
   -- ---- the counts
 
@@ -234,7 +240,27 @@ module _ (disk : Shown) (pool : Pool) (states : States) (mid : Shown) (held : Po
       let blocks = room.blocks in
       absurd (omega (arith, lacks.1.0, lacks.1.1.0, lacks.1.1.1, spent.blocks, asked, blocks))
 
+  -- why it wasn't done, with the files in their places
+  pub fails_left : (new : Shown) (left : Pool) (stay : States) (e : BlockFault) → LacksRoom held between e → LeavesAll mid held between new left stay e → WholeFails states left stay (of_block e)
+  fails_left new left stay DiskFault lacks leaves = tt
+  fails_left new left stay Memory lacks leaves = absurd lacks
+  fails_left new left stay (Damaged at want found) lacks leaves =
+      inl (subst (λ (p : Pool). LacksRoom p stay (Damaged at want found)) (sym leaves.1.0) (subst (λ (xs : States). LacksRoom held xs (Damaged at want found)) (sym leaves.1.1) lacks))
+
 -- ---- the files weren't placed
+
+-- what was placed of the files stays
+pub still_placing : (disk : Shown) (pool : Pool) (states : States) (left : Pool) (stay : States) (e : VolumeFault) → IsPlaceFault e → StillHeld disk pool states disk left stay → IsStill disk pool states disk left stay e
+still_placing disk pool states left stay (volume.Refused r) fault still = fault
+still_placing disk pool states left stay volume.DiskFault fault still = tt
+still_placing disk pool states left stay (volume.Damaged at want found) fault still = still
+still_placing disk pool states left stay volume.Memory fault still = still
+
+pub fails_placed : (states : States) (left : Pool) (stay : States) (e : VolumeFault) → IsPlaceFault e → (HaveNoFiles states → ⊥) → WholeFails states left stay e
+fails_placed states left stay (volume.Refused r) fault filed = absurd fault
+fails_placed states left stay volume.DiskFault fault filed = absurd fault
+fails_placed states left stay (volume.Damaged at want found) fault filed = inr filed
+fails_placed states left stay volume.Memory fault filed = filed
 
 place_cause : (disk : Shown) (e : VolumeFault) → IsPlaceFault e → HasWholeCause disk disk (Err e)
 place_cause disk (volume.Refused r) fault = absurd fault
