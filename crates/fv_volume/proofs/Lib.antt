@@ -77,3 +77,5 @@ pub mod Openings
 pub mod NewStanding
 pub mod Reached
 mod Commanded
+pub mod Undamaged
+pub mod KnownSteps
