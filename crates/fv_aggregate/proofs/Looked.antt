@@ -31,7 +31,8 @@ use Rattle.fv_volume.specs.Stored.{AreSpacedIn}
 use Rattle.fv_volume.specs.UnderRoot.{IsLentAt, IsMapOf}
 use Rattle.fv_volume.proofs.OneVolumes.{still_ready, still_standing, still_under, still_volume}
 use Rattle.fv_volume.proofs.Standings.{still_led}
-use Rattle.fv_cp.specs.Held.{machine_held, named_held, AreStoredBy, AreStoredWell, IsHeld, IsHeldIn, IsStoredWell}
+use Rattle.fv_volume.specs.Placing.{AreStoredBy}
+use Rattle.fv_cp.specs.Held.{machine_held, named_held, IsHeld, IsHeldIn}
 use Rattle.fv_cp.specs.Lent.{FitTogether}
 use Rattle.fv_cp.specs.Placing.{AreReady, IsReadyIn}
 use Rattle.fv_aggregate.specs.declared.fault.Fault.{Fault}
@@ -54,6 +55,7 @@ module _ (d e : Shown) (p q : Pool) (reads : Reads d p e q) where
     ready = still_ready d e p q reads x is.ready;
     stands = still_standing d e p q reads x is.stands;
     led = still_led d e p q reads x is.led;
+    well = subst (λ (u : Under). AreStoredBy u x.active x.files) (sym (still_under d e p q reads x)) is.well;
     wide = is.wide;
     within = is.within;
   }
@@ -96,15 +98,8 @@ module _ (d e : Shown) (p q : Pool) (reads : Reads d p e q) where
       named s None = refl
       named s (Some x) = λ j. (x.name, still_volume d e p q reads x j) ∷ []
 
-  pub well_read : (states : States) → AreStoredWell d p states → AreStoredWell e q states
-  well_read states well s = over_slot (IsStoredWell d p) (IsStoredWell e q) (λ x is. subst (λ (u : Under). AreStoredBy u x.active x.files) (sym (still_under d e p q reads x)) is) (state_at states s) (well s)
-
-  pub ready_read : (states : States) → AreReady d p states 0 → AreReady e q states 0
-  ready_read states ready s = over_slot (IsReadyIn d p 0 s) (IsReadyIn e q 0 s) (λ x is. record {
-    slot = is.slot;
-    ready = still_ready d e p q reads x is.ready;
-    free = record { numbers = omega arith; blocks = omega arith };
-  }) (state_at states s) (ready s)
+  pub ready_read : (states : States) → AreReady d p states → AreReady e q states
+  ready_read states ready s = over_slot (IsReadyIn d p s) (IsReadyIn e q s) (λ x is. record { slot = is.slot; ready = still_ready d e p q reads x is.ready }) (state_at states s) (ready s)
 
   pub fit_read : (states : States) → FitTogether p states → FitTogether q states
   fit_read states fit = record {
@@ -160,7 +155,6 @@ module _ (d e : Shown) (s : Session) (q : Pool) (reads : Reads d s.pool e q) whe
       let free = ap free_blocks reads.leaves.map in
       record {
         held = held_read d e s.pool q reads s.volumes last is.held;
-        well = well_read d e s.pool q reads s.volumes is.well;
         machine = machine_read d e s.pool q reads s.volumes ∙ is.machine;
         settled = settled is.settled;
         pending = omega (arith, is.pending, was, now);

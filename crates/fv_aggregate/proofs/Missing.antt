@@ -13,10 +13,10 @@ use Rattle.fv_model.specs.Machines.{Machine}
 use Rattle.fv_model.specs.Numbers.{is_index, is_reserve}
 use Rattle.fv_model.specs.Refusals.{conditions, first_of, has_all_changes, has_all_files, has_file, is_missing, lacks_file, lacks_snapshot, next, of_file, of_volume, refusal, space}
 use Rattle.fv_model.specs.Effects.{effect}
-use Rattle.fv_model.specs.Replies.{Allows, AllowsBy}
+use Rattle.fv_model.specs.Replies.{is_open, Allows, AllowsBy}
 use Rattle.fv_model.specs.Space.{is_file_kind}
 use Rattle.fv_model.specs.Volumes.{Volume}
-use Rattle.fv_aggregate.specs.Commands.{changed_by, has_range}
+use Rattle.fv_aggregate.specs.Commands.{asked_by, changed_by, has_range}
 
 -- a refusal is the reply that the machine allows, and leaves it
 pub refused_allows : (m : Machine) (c : Command) (r : Refusal) → refusal m c ≡ Some r → Allows m c (Refused r)
@@ -144,3 +144,55 @@ module _ (m : Machine) (home : List ℕ) where
   far_change (Probe v f i) change far = absurd (nothing change)
   far_change (Work n) change far = absurd (nothing change)
   far_change Cp change far = absurd (nothing change)
+
+-- ---- commands that ask
+
+-- what holds of `get`, `len` and `ls` of a volume holds of each command that asks for its files
+pub asked_cases : (P : Command → Type 0) (name : List ℕ) → ((s : Option (List ℕ)) (f : List ℕ) (i : ℕ) → P (Get name s f i)) → ((s : Option (List ℕ)) (f : List ℕ) → P (Len name s f)) → ((s : Option (List ℕ)) → P (Ls name s))
+    → (c : Command) → asked_by c ≡ Some name → P c
+asked_cases P name get len ls (Get v s f i) is = subst (λ (n : List ℕ). P (Get n s f i)) (sym (same_some v name is)) (get s f i)
+asked_cases P name get len ls (Len v s f) is = subst (λ (n : List ℕ). P (Len n s f)) (sym (same_some v name is)) (len s f)
+asked_cases P name get len ls (Ls v s) is = subst (λ (n : List ℕ). P (Ls n s)) (sym (same_some v name is)) (ls s)
+asked_cases P name get len ls (New v f reserve) is = absurd (nothing is)
+asked_cases P name get len ls (Put v f i block) is = absurd (nothing is)
+asked_cases P name get len ls (Cut v f length) is = absurd (nothing is)
+asked_cases P name get len ls (Remove v f) is = absurd (nothing is)
+asked_cases P name get len ls (VolCreate v size kind) is = absurd (nothing is)
+asked_cases P name get len ls (VolDestroy v) is = absurd (nothing is)
+asked_cases P name get len ls (VolResize v size) is = absurd (nothing is)
+asked_cases P name get len ls (VolGuarantee v kind) is = absurd (nothing is)
+asked_cases P name get len ls VolList is = absurd (nothing is)
+asked_cases P name get len ls (VolStat v) is = absurd (nothing is)
+asked_cases P name get len ls (SnapCreate v s) is = absurd (nothing is)
+asked_cases P name get len ls (SnapDelete v s) is = absurd (nothing is)
+asked_cases P name get len ls (SnapRestore v s) is = absurd (nothing is)
+asked_cases P name get len ls (SnapList v) is = absurd (nothing is)
+asked_cases P name get len ls (CloneCreate x v s size kind) is = absurd (nothing is)
+asked_cases P name get len ls (SplitStart x) is = absurd (nothing is)
+asked_cases P name get len ls (SplitFinish x) is = absurd (nothing is)
+asked_cases P name get len ls (Mirror v s w size kind) is = absurd (nothing is)
+asked_cases P name get len ls (Clean v) is = absurd (nothing is)
+asked_cases P name get len ls (Probe v f i) is = absurd (nothing is)
+asked_cases P name get len ls (Work n) is = absurd (nothing is)
+asked_cases P name get len ls Cp is = absurd (nothing is)
+
+module _ (c : Command) (name : List ℕ) (asks : asked_by c ≡ Some name) where
+  -- each has one answer
+  pub asked_closed : (m : Machine) → is_open m c ≡ false
+  asked_closed = asked_cases (λ (k : Command). (m : Machine) → is_open m k ≡ false) name (λ s f i m. refl) (λ s f m. refl) (λ s m. refl) c asks
+
+  -- a volume that isn't there is refused, once a number is in its range
+  pub asked_missing : has_range c ≡ true → (m : Machine) → fin.get m.volumes name ≡ None → refusal m c ≡ Some NoVolume
+  asked_missing = asked_cases (λ (k : Command). has_range k ≡ true → (m : Machine) → fin.get m.volumes name ≡ None → refusal m k ≡ Some NoVolume) name
+      (λ s f i near m none. no_get m name none s f i near)
+      (λ s f near m none. no_len m name none s f)
+      (λ s near m none. no_ls m name none s)
+      c asks
+
+  -- and one out of its range is refused first
+  pub asked_far : has_range c ≡ false → (m : Machine) → refusal m c ≡ Some Range
+  asked_far = asked_cases (λ (k : Command). has_range k ≡ false → (m : Machine) → refusal m k ≡ Some Range) name
+      (λ s f i far m. far_get m name s f i far)
+      (λ s f far m. cc)
+      (λ s far m. cc)
+      c asks

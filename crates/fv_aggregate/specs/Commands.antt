@@ -61,9 +61,17 @@ changed_by (Cut volume file length) = Some volume
 changed_by (Remove volume file) = Some volume
 changed_by command = None
 
--- whether the number of such a command is in its range
+-- the volume that a command asks for files
+abbrev pub asked_by : Command → Option (List ℕ)
+asked_by (Get volume snapshot file index) = Some volume
+asked_by (Len volume snapshot file) = Some volume
+asked_by (Ls volume snapshot) = Some volume
+asked_by command = None
+
+-- whether the number of a command on files is in its range
 abbrev pub has_range : Command → Bool
 has_range (Put volume file index block) = is_index index
+has_range (Get volume snapshot file index) = is_index index
 has_range (Cut volume file length) = is_reserve length
 has_range command = true
 

@@ -1,8 +1,10 @@
 -- What commands on files do in a session: those that ask, and those that change.
-use Rattle.std.specs.Prelude.{◌≡◌, ◌<◌, ◌≤◌, ◌+◌, ℕ, Some, None, IsTrue, IsNone, Result, OnOk, IfOk}
+use Rattle.std.specs.Prelude.{◌≡◌, ◌<◌, ◌≤◌, ◌+◌, ◌⊎◌, ℕ, List, length, Option, Some, None, IsTrue, IsNone, Result, Ok, Err, OnOk, IfOk, IfErr}
 use Rattle.fv_disk.specs.Shown.{Shown, Rose}
 use Rattle.fv_disk.specs.DiskCalls.{OnlyReads}
 use Rattle.fv_container.specs.Chains.{slot_count}
+use Rattle.fv_model.specs.declared.answers.Refusal.{Refusal}
+use Rattle.fv_model.specs.declared.answers.Refusal.TheVariants.{NoVolume}
 use Rattle.fv_model.specs.declared.answers.Reply.{Reply}
 use Rattle.fv_model.specs.declared.answers.Reply.TheVariants.{Refused}
 use Rattle.fv_model.specs.declared.commands.Command.{Command}
@@ -10,7 +12,13 @@ use Rattle.fv_model.specs.Machines.{Machine}
 use Rattle.fv_model.specs.Refusals.{next, refusal}
 use Rattle.fv_model.specs.Replies.{Allows}
 use Rattle.fv_volume.specs.declared.state.VolumeState.{VolumeState}
+use Rattle.fv_volume.specs.declared.pool.Pool.{Pool}
+use Rattle.fv_volume.specs.Calls.{Asks, CallCause, Has, Reads}
 use Rattle.fv_volume.specs.Changing.{IsChangeOf}
+use Rattle.fv_volume.specs.Lending.{lent_for}
+use Rattle.fv_volume.specs.OneVolume.{home_in, standing_for, volume_for, IsStanding}
+use Rattle.fv_volume.specs.Placing.{IsStoredWell}
+use Rattle.fv_volume.specs.Slots.{NoneHasName}
 use Rattle.fv_volume.specs.States.{States, state_at}
 use Rattle.fv_volume.specs.declared.fault.VolumeFault.{VolumeFault}
 use Rattle.fv_volume.specs.declared.fault.VolumeFault.TheVariants as volume
@@ -38,6 +46,43 @@ pub record Makes (before : Shown) (old : Session) (command : Command) (after : S
   pub reply : IsTrue before.tells → (last m : Machine) → StandsFor before old last m → IfOk result (Allows m command)
   pub refused : IfOk result (λ reply. IsTrue (is_refusal reply) → WasRead before old after new)
   pub calm : old.pending + file_room ≤ dirty_limit → OnlyReads before after
+
+-- ---- a volume that is asked
+
+-- A volume was asked, and answers as in each machine that has it. Nothing changed but the cache. Where it stands, and its blocks are as its
+-- pointers say, no step was made.
+pub record AsksState (before : Shown) (pool : Pool) (x : VolumeState) (command : Command) (start : ℕ) (after : Shown) (left : Pool) (steps : ℕ) (result : Result Reply VolumeFault) : Type 0 where
+  pub reads : Reads before pool after left
+  pub asked : IsStanding before pool x → Asks (Has x.name (volume_for before pool x)) command (λ reply. reply) result
+  pub cause : CallCause (IsStanding before pool x) (standing_for before pool x) (lent_for pool x.map before 0 (home_in x) 0) after.faults result
+  pub known : IsStanding before pool x → IsStoredWell before pool x → OnOk result ((m : Machine) → Has x.name (volume_for before pool x) m → steps ≡ start)
+  pub unmoved : IfErr result (λ e. (r : Refusal) → e ≡ volume.Refused r → steps ≡ start)
+
+-- so it is of the volume of a slot
+abbrev pub AsksSlot : Shown → Pool → Option VolumeState → Command → ℕ → Shown → Pool → ℕ → Result Reply VolumeFault → Type 0
+AsksSlot before pool None command start after left steps result = ⊥
+AsksSlot before pool (Some x) command start after left steps result = AsksState before pool x command start after left steps result
+
+-- no volume has the name, and nothing was read
+pub record FindsNone (states : States) (name : List ℕ) (before : Shown) (pool : Pool) (start : ℕ) (after : Shown) (left : Pool) (steps : ℕ) (result : Result Reply VolumeFault) : Type 0 where
+  pub none : NoneHasName states name
+  pub calm : after.faults ≡ before.faults
+  pub unmoved : steps ≡ start
+  pub refused : result ≡ Err (volume.Refused NoVolume)
+
+-- the volume of a slot has it, and was asked
+pub record FindsOne (states : States) (name : List ℕ) (before : Shown) (pool : Pool) (command : Command) (start : ℕ) (after : Shown) (left : Pool) (steps : ℕ) (result : Result Reply VolumeFault) : Type 0 where
+  pub slot : ℕ
+  pub state : VolumeState
+  pub there : state_at states slot ≡ Some state
+  pub named : state.name ≡ name
+  pub asks : AsksState before pool state command start after left steps result
+
+-- The volume of a name was asked, if there is one.
+pub record AsksVolume (before : Shown) (pool : Pool) (states : States) (name : List ℕ) (command : Command) (start : ℕ) (after : Shown) (left : Pool) (steps : ℕ) (result : Result Reply VolumeFault) : Type 0 where
+  pub long : length states ≡ slot_count
+  pub reads : Reads before pool after left
+  pub which : FindsNone states name before pool start after left steps result ⊎ FindsOne states name before pool command start after left steps result
 
 -- ---- in parts
 
@@ -75,3 +120,15 @@ Breaks disk (volume.Refused r) old new fault = (fault ≡ DiskFault) × HasFaile
 Breaks disk volume.DiskFault old new fault = (fault ≡ DiskFault) × HasFailed disk old new
 Breaks disk (volume.Damaged at want found) old new fault = (fault ≡ Damaged at want found) × (new ≡ old)
 Breaks disk volume.Memory old new fault = (fault ≡ Memory) × (new ≡ old)
+
+-- a session answers with a fault
+abbrev pub Faults : Shown → VolumeFault → Session → Session → Result Reply Fault → Type 0
+Faults disk fault old new result = (e : Fault) × ((result ≡ Err e) × Breaks disk fault old new e)
+
+-- what a session answers for a volume that only read
+abbrev pub Replied : Shown → Result Reply VolumeFault → Session → Session → Result Reply Fault → Type 0
+Replied disk (Ok reply) old new result = (result ≡ Ok reply) × (new ≡ old)
+Replied disk (Err (volume.Refused r)) old new result = (result ≡ Ok (Refused r)) × (new ≡ old)
+Replied disk (Err volume.DiskFault) old new result = Faults disk volume.DiskFault old new result
+Replied disk (Err (volume.Damaged at want found)) old new result = Faults disk (volume.Damaged at want found) old new result
+Replied disk (Err volume.Memory) old new result = Faults disk volume.Memory old new result

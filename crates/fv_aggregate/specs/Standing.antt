@@ -16,7 +16,7 @@ use Rattle.fv_volume.specs.declared.state.VolumeState.{VolumeState}
 use Rattle.fv_volume.specs.Placing.{pending_of}
 use Rattle.fv_volume.specs.States.{States, view_over}
 use Rattle.fv_volume.specs.UnderRoot.{IsMapOf}
-use Rattle.fv_cp.specs.Held.{machine_held, AreStoredWell, IsHeld}
+use Rattle.fv_cp.specs.Held.{machine_held, IsHeld}
 use Rattle.fv_cp.specs.Placing.{AreReady}
 use Rattle.fv_aggregate.specs.declared.session.Session.{Session}
 
@@ -27,7 +27,7 @@ pub record Stands (disk : Shown) (session : Session) : Type 0 where
   pub found : IsTrue disk.tells → IsFoundOn disk session.pool.found
   pub map : IsTrue disk.tells → IsMapOf disk.reads session.pool.found session.pool.map
   pub cache : StandsOn disk session.pool.store.pairs
-  pub ready : AreReady disk session.pool session.volumes 0
+  pub ready : AreReady disk session.pool session.volumes
 
 -- how many blocks a flush of a slot's volume places at most, and how many one of all volumes
 abbrev pub pending_by : Option VolumeState → ℕ
@@ -46,7 +46,6 @@ placed_in disk session = (overheads (view_at (root_found session.pool.found) dis
 -- that point's machine.
 pub record StandsFor (disk : Shown) (session : Session) (last now : Machine) : Type 0 where
   pub held : IsHeld disk session.pool session.volumes last
-  pub well : AreStoredWell disk session.pool session.volumes
   pub machine : machine_held disk session.pool session.volumes ≡ now
   pub settled : IsSettled disk
   -- among the pending blocks are those by which the overheads have passed those of the last point, and those that a flush has to place

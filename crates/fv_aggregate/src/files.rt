@@ -37,12 +37,13 @@ pub(crate) fn changed_volume(command: &Command) -> Option<&Name>
     }
 }
 
-/// Whether the number of a command that changes a file is in its range.
-fn is_in_range(command: &Command) -> bool
+/// Whether the number of a command on files is in its range.
+pub(crate) fn is_in_range(command: &Command) -> bool
     ensures { result ≡ has_range command.now }
 {
     match command {
         Command::Put { index, .. } => in_index(u64::from(*index)),
+        Command::Get { index, .. } => in_index(u64::from(*index)),
         Command::Cut { length, .. } => in_reserve(u64::from(*length)),
         _ => true,
     }

@@ -99,8 +99,7 @@ impl Session {
 impl Session {
     /// Places what changed of the files of all volumes, so that a point can write it.
     fn place<D: Disk>(&mut self, disk: &mut D) -> Result<(), Fault> {
-        let mut room = 0;
-        match flush(&mut self.volumes, &mut self.pool, disk, &mut room) {
+        match flush(&mut self.volumes, &mut self.pool, disk) {
             Ok(()) => Ok(()),
             Err(fault) => Err(self.fault_of(disk, fault)),
         }

@@ -134,18 +134,9 @@ impl Session {
             Command::VolCreate { volume, size, kind } => self.create(disk, volume, *size, *kind),
             Command::VolList => Ok(Reply::Names(names_of(self.alloc, &self.volumes)?)),
             Command::Cp => self.reclaim(disk),
-            Command::Get {
-                volume,
-                snapshot,
-                file,
-                index,
-            } => self.content(disk, volume, snapshot.as_ref(), file, *index, steps),
-            Command::Len {
-                volume,
-                snapshot,
-                file,
-            } => self.length(disk, volume, snapshot.as_ref(), file),
-            Command::Ls { volume, snapshot } => self.list(disk, volume, snapshot.as_ref()),
+            Command::Get { volume, .. } => self.look(disk, volume, command, steps),
+            Command::Len { volume, .. } => self.look(disk, volume, command, steps),
+            Command::Ls { volume, .. } => self.look(disk, volume, command, steps),
             _ => match changed_volume(command) {
                 Some(volume) => self.change(disk, volume, command),
                 None => Ok(Reply::Refused(Refusal::Syntax)),
