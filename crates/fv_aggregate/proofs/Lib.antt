@@ -11,3 +11,7 @@ mod Charges
 mod Opened
 mod Whole
 mod Applied
+mod Missing
+mod HeldMachine
+mod Looked
+mod Asked

@@ -14,12 +14,13 @@ use Rattle.fv_volume.specs.Slots.{IsFirstFree}
 use Rattle.fv_volume.specs.States.{state_at, view_over}
 use Rattle.fv_volume.specs.Trees.{Trees, machine_in}
 use Rattle.fv_volume.specs.Files.{AreStates, IsLabelled, Over}
-use Rattle.fv_cp.specs.Lent.{blocks_asked}
 use Rattle.fv_aggregate.specs.declared.session.Session.{Session}
+use Rattle.fv_aggregate.specs.Asking.{overheads_in}
+use Rattle.fv_aggregate.specs.Standing.{pending_files, placed_in}
 
 -- Beside the overheads of the last point there is room for what is pending, and for so many blocks more.
 abbrev pub HasRoom : Shown → Session → ℕ → Type 0
-HasRoom disk session room = overheads (view_at (root_found session.pool.found) disk.reads) + max 256 (session.pending + room) ≤ free_blocks session.pool.map
+HasRoom disk session room = overheads (view_at (root_found session.pool.found) disk.reads) + max 256 (session.pending + room) ≤ free_blocks session.pool.map + placed_in disk session
 
 -- a new volume that was admitted is admitted still
 abbrev pub StillAdmits : Session → Session → Type 0
@@ -36,6 +37,7 @@ pub record IsAdded (old : Session) (name : List ℕ) (size : ℕ) (kind : Kind) 
   pub states : (trees : Trees) (i : Image) → AreStates (view_over old.pool old.volumes i) trees old.volumes → AreStates (view_over new.pool new.volumes i) trees new.volumes
   pub accepted : (trees : Trees) → Over old.pool old.volumes trees (λ m. refusal m (VolCreate name size kind) ≡ None)
   pub machine : (trees : Trees) (i : Image) → AreStates (view_over old.pool old.volumes i) trees old.volumes → machine_in new.pool new.volumes trees i ≡ next (machine_in old.pool old.volumes trees i) (VolCreate name size kind)
+  pub files : pending_files new.volumes ≡ pending_files old.volumes
   pub long : length old.volumes ≡ slot_count
-  pub asked : blocks_asked new.volumes ≤ blocks_asked old.volumes + room
+  pub asked : overheads_in new.volumes ≤ overheads_in old.volumes + room
   pub failed : new.failed ≡ old.failed

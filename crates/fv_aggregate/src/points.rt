@@ -1,6 +1,6 @@
 //! The consistency points of a session.
 
-ghost use Rattle.std.specs.Prelude.{◌≡◌, ◌≤◌, ◌+◌, ◌*◌, ℕ, max, IsTrue, IsNone, IfOk, OnErr, OnOk, Some};
+ghost use Rattle.std.specs.Prelude.{◌≡◌, ◌≤◌, ◌+◌, ◌*◌, ℕ, max, nat_le, IsTrue, IsNone, IfOk, OnErr, OnOk, Some};
 ghost use Rattle.fv_disk.specs.Shown.{Rose};
 ghost use Rattle.fv_model.specs.Machines.{Machine, capacity};
 ghost use Rattle.fv_model.specs.Space.{commits};
@@ -12,7 +12,7 @@ ghost use Rattle.fv_aggregate.specs.Standing.{Stands, StandsFor};
 
 use crate::fault::Fault;
 use crate::session::Session;
-use fv_cp::{CpFault, consistency_point};
+use fv_cp::{CpFault, consistency_point, flush};
 use fv_disk::Disk;
 use fv_model::Reply;
 
@@ -34,11 +34,18 @@ impl Session {
         ensures admits { OnOk result (StillAdmits self.old self.new) }
         ensures calm { self.old.pending + room ≤ dirty_limit → (disk.new ≡ disk.old) × (self.new ≡ self.old) }
     {
-        if self.pending <= DIRTY_LIMIT && room <= DIRTY_LIMIT - self.pending {
+        if self.has_room(room) {
             Ok(())
         } else {
             self.point(disk, room)
         }
+    }
+
+    /// Whether what is pending and this room stay within the dirty limit together.
+    pub(crate) fn has_room(&self, room: u64) -> bool
+        ensures { result ≡ nat_le (self.now.pending + room) dirty_limit }
+    {
+        self.pending <= DIRTY_LIMIT && room <= DIRTY_LIMIT - self.pending
     }
 
     /// The consistency point that a command asks for.
@@ -73,6 +80,7 @@ impl Session {
         ensures admits { OnOk result (StillAdmits self.old self.new) }
     {
         let before = disk.write_faults();
+        self.place(disk)?;
         match consistency_point(&mut self.volumes, &mut self.pool, disk, want) {
             Ok(()) => {
                 self.pending = 0;
@@ -88,9 +96,19 @@ impl Session {
     }
 }
 
+impl Session {
+    /// Places what changed of the files of all volumes, so that a point can write it.
+    fn place<D: Disk>(&mut self, disk: &mut D) -> Result<(), Fault> {
+        match flush(&mut self.volumes, &mut self.pool, disk) {
+            Ok(()) => Ok(()),
+            Err(fault) => Err(self.fault_of(disk, fault)),
+        }
+    }
+}
+
 /// The disk's count of faults, where a write or a barrier has failed since its count of those was `before`. A count that stands at its
 /// greatest value counts as risen.
-fn failure<D: Disk>(disk: &D, before: u64) -> Option<u64>
+pub(crate) fn failure<D: Disk>(disk: &D, before: u64) -> Option<u64>
     ensures failed { Rose before (D.shown disk.now).write_faults → result ≡ Some (D.shown disk.now).faults }
     ensures goes_on { ¬ Rose before (D.shown disk.now).write_faults → IsNone result }
 {

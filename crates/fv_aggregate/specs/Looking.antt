@@ -1,0 +1,134 @@
+-- What commands on files do in a session: those that ask, and those that change.
+use Rattle.std.specs.Prelude.{◌≡◌, ◌<◌, ◌≤◌, ◌+◌, ◌⊎◌, ℕ, List, length, Option, Some, None, IsTrue, IsNone, Result, Ok, Err, OnOk, IfOk, IfErr}
+use Rattle.fv_disk.specs.Shown.{Shown, Rose}
+use Rattle.fv_disk.specs.DiskCalls.{OnlyReads}
+use Rattle.fv_container.specs.Chains.{slot_count}
+use Rattle.fv_model.specs.declared.answers.Refusal.{Refusal}
+use Rattle.fv_model.specs.declared.answers.Refusal.TheVariants.{NoVolume}
+use Rattle.fv_model.specs.declared.answers.Reply.{Reply}
+use Rattle.fv_model.specs.declared.answers.Reply.TheVariants.{Refused}
+use Rattle.fv_model.specs.declared.commands.Command.{Command}
+use Rattle.fv_model.specs.Machines.{Machine}
+use Rattle.fv_model.specs.Refusals.{next, refusal}
+use Rattle.fv_model.specs.Replies.{Allows}
+use Rattle.fv_volume.specs.declared.state.VolumeState.{VolumeState}
+use Rattle.fv_volume.specs.declared.pool.Pool.{Pool}
+use Rattle.fv_volume.specs.Calls.{Asks, CallCause, Has, Reads}
+use Rattle.fv_volume.specs.Changing.{IsChangeOf}
+use Rattle.fv_volume.specs.Lending.{lent_for}
+use Rattle.fv_volume.specs.OneVolume.{home_in, standing_for, volume_for, IsStanding}
+use Rattle.fv_volume.specs.Placing.{IsStoredWell}
+use Rattle.fv_volume.specs.Slots.{NoneHasName}
+use Rattle.fv_volume.specs.States.{States, state_at}
+use Rattle.fv_volume.specs.declared.fault.VolumeFault.{VolumeFault}
+use Rattle.fv_volume.specs.declared.fault.VolumeFault.TheVariants as volume
+use Rattle.fv_aggregate.specs.declared.fault.Fault.{Fault}
+use Rattle.fv_aggregate.specs.declared.fault.Fault.TheVariants.{DiskFault, Damaged, Memory}
+use Rattle.fv_aggregate.specs.declared.session.Session.{Session}
+use Rattle.fv_aggregate.specs.Calls.{Goes, GoesFor, WasRead}
+use Rattle.fv_aggregate.specs.Commands.{dirty_limit, file_room, is_refusal}
+use Rattle.fv_aggregate.specs.Standing.{StandsFor}
+
+-- A command that asks was answered as the machine answers it, and nothing changed but the cache. After a fault the session stands for what it
+-- stood for.
+pub record Looks (before : Shown) (old : Session) (command : Command) (after : Shown) (new : Session) (result : Result Reply Fault) : Type 0 where
+  pub goes : Goes 0 before old after new result
+  pub goes_for : IsTrue before.tells → (last m : Machine) → StandsFor before old last m → GoesFor before last m m after new result
+  pub reply : IsTrue before.tells → (last m : Machine) → StandsFor before old last m → IfOk result (Allows m command)
+  pub only_reads : OnlyReads before after
+  pub read : OnOk result (WasRead before old after new)
+
+-- A command that changes a file was carried out as the machine carries it out. A refused one changed nothing but the cache, and one with room
+-- below the dirty limit wrote nothing.
+pub record Makes (before : Shown) (old : Session) (command : Command) (after : Shown) (new : Session) (result : Result Reply Fault) : Type 0 where
+  pub goes : Goes file_room before old after new result
+  pub goes_for : IsTrue before.tells → (last m : Machine) → StandsFor before old last m → GoesFor before last m (next m command) after new result
+  pub reply : IsTrue before.tells → (last m : Machine) → StandsFor before old last m → IfOk result (Allows m command)
+  pub refused : IfOk result (λ reply. IsTrue (is_refusal reply) → WasRead before old after new)
+  pub calm : old.pending + file_room ≤ dirty_limit → OnlyReads before after
+
+-- ---- a volume that is asked
+
+-- A volume was asked, and answers as in each machine that has it. Nothing changed but the cache. Where it stands, and its blocks are as its
+-- pointers say, no step was made.
+pub record AsksState (before : Shown) (pool : Pool) (x : VolumeState) (command : Command) (start : ℕ) (after : Shown) (left : Pool) (steps : ℕ) (result : Result Reply VolumeFault) : Type 0 where
+  pub reads : Reads before pool after left
+  pub asked : IsStanding before pool x → Asks (Has x.name (volume_for before pool x)) command (λ reply. reply) result
+  pub cause : CallCause (IsStanding before pool x) (standing_for before pool x) (lent_for pool x.map before 0 (home_in x) 0) after.faults result
+  pub known : IsStanding before pool x → IsStoredWell before pool x → OnOk result ((m : Machine) → Has x.name (volume_for before pool x) m → steps ≡ start)
+  pub unmoved : IfErr result (λ e. (r : Refusal) → e ≡ volume.Refused r → steps ≡ start)
+
+-- so it is of the volume of a slot
+abbrev pub AsksSlot : Shown → Pool → Option VolumeState → Command → ℕ → Shown → Pool → ℕ → Result Reply VolumeFault → Type 0
+AsksSlot before pool None command start after left steps result = ⊥
+AsksSlot before pool (Some x) command start after left steps result = AsksState before pool x command start after left steps result
+
+-- no volume has the name, and nothing was read
+pub record FindsNone (states : States) (name : List ℕ) (before : Shown) (pool : Pool) (start : ℕ) (after : Shown) (left : Pool) (steps : ℕ) (result : Result Reply VolumeFault) : Type 0 where
+  pub none : NoneHasName states name
+  pub calm : after.faults ≡ before.faults
+  pub unmoved : steps ≡ start
+  pub refused : result ≡ Err (volume.Refused NoVolume)
+
+-- the volume of a slot has it, and was asked
+pub record FindsOne (states : States) (name : List ℕ) (before : Shown) (pool : Pool) (command : Command) (start : ℕ) (after : Shown) (left : Pool) (steps : ℕ) (result : Result Reply VolumeFault) : Type 0 where
+  pub slot : ℕ
+  pub state : VolumeState
+  pub there : state_at states slot ≡ Some state
+  pub named : state.name ≡ name
+  pub asks : AsksState before pool state command start after left steps result
+
+-- The volume of a name was asked, if there is one.
+pub record AsksVolume (before : Shown) (pool : Pool) (states : States) (name : List ℕ) (command : Command) (start : ℕ) (after : Shown) (left : Pool) (steps : ℕ) (result : Result Reply VolumeFault) : Type 0 where
+  pub long : length states ≡ slot_count
+  pub reads : Reads before pool after left
+  pub which : FindsNone states name before pool start after left steps result ⊎ FindsOne states name before pool command start after left steps result
+
+-- ---- in parts
+
+-- a command changes a file of the volume of a slot
+pub record IsAimed (states : States) (slot : ℕ) (command : Command) : Type 0 where
+  pub within : slot < slot_count
+  pub state : VolumeState
+  pub there : state_at states slot ≡ Some state
+  pub change : IsChangeOf state.name command
+
+-- what the machine says of a command that is judged: a refusal, or that it is accepted
+abbrev pub Judges : Machine → Command → Reply → Type 0
+Judges m command (Refused r) = refusal m command ≡ Some r
+Judges m command reply = refusal m command ≡ None
+
+-- A command was judged. Nothing changed but the cache.
+pub record HasJudged (before : Shown) (old : Session) (command : Command) (after : Shown) (new : Session) (result : Result Reply Fault) : Type 0 where
+  pub goes : Goes 0 before old after new result
+  pub goes_for : IsTrue before.tells → (last m : Machine) → StandsFor before old last m → GoesFor before last m m after new result
+  pub judges : IsTrue before.tells → (last m : Machine) → StandsFor before old last m → IfOk result (Judges m command)
+  pub only_reads : OnlyReads before after
+  pub read : OnOk result (WasRead before old after new)
+
+-- ---- faults
+
+-- A read failed: the session goes on, but where the count of failed writes stands at its greatest value.
+pub record HasFailed (disk : Shown) (old new : Session) : Type 0 where
+  pub same : new ≡ record old { failed = new.failed }
+  pub written : Rose disk.write_faults disk.write_faults → new.failed ≡ Some disk.faults
+  pub unwritten : ¬ Rose disk.write_faults disk.write_faults → IsNone new.failed
+
+-- what a session makes of a fault of a call on a volume
+abbrev pub Breaks : Shown → VolumeFault → Session → Session → Fault → Type 0
+Breaks disk (volume.Refused r) old new fault = (fault ≡ DiskFault) × HasFailed disk old new
+Breaks disk volume.DiskFault old new fault = (fault ≡ DiskFault) × HasFailed disk old new
+Breaks disk (volume.Damaged at want found) old new fault = (fault ≡ Damaged at want found) × (new ≡ old)
+Breaks disk volume.Memory old new fault = (fault ≡ Memory) × (new ≡ old)
+
+-- a session answers with a fault
+abbrev pub Faults : Shown → VolumeFault → Session → Session → Result Reply Fault → Type 0
+Faults disk fault old new result = (e : Fault) × ((result ≡ Err e) × Breaks disk fault old new e)
+
+-- what a session answers for a volume that only read
+abbrev pub Replied : Shown → Result Reply VolumeFault → Session → Session → Result Reply Fault → Type 0
+Replied disk (Ok reply) old new result = (result ≡ Ok reply) × (new ≡ old)
+Replied disk (Err (volume.Refused r)) old new result = (result ≡ Ok (Refused r)) × (new ≡ old)
+Replied disk (Err volume.DiskFault) old new result = Faults disk volume.DiskFault old new result
+Replied disk (Err (volume.Damaged at want found)) old new result = Faults disk (volume.Damaged at want found) old new result
+Replied disk (Err volume.Memory) old new result = Faults disk volume.Memory old new result
