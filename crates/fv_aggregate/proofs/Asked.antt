@@ -42,11 +42,11 @@ answer_allows m c reply none closed is = subst (λ (o : Option Refusal). AllowsB
 -- ---- one volume, by the call of it
 
 -- a fault is refused alike, whatever would have been answered
-agrees_err : {T U : Type 0} (m : Machine) (c : Command) (e : VolumeFault) → Agrees {T = T} m c (Err e) → Agrees {T = U} m c (Err e)
-agrees_err m c (volume.Refused r) is = is
-agrees_err m c volume.DiskFault is = is
-agrees_err m c (volume.Damaged at want found) is = is
-agrees_err m c volume.Memory is = is
+agrees_err : (T U : Type 0) (m : Machine) (c : Command) (e : VolumeFault) → Agrees {T = T} m c (Err e) → Agrees {T = U} m c (Err e)
+agrees_err T U m c (volume.Refused r) is = is
+agrees_err T U m c volume.DiskFault is = is
+agrees_err T U m c (volume.Damaged at want found) is = is
+agrees_err T U m c volume.Memory is = is
 
 module _ (d e : Shown) (p q : Pool) (x : VolumeState) (reads : Reads d p e q) (c command : Command) (same : c ≡ command) (start steps : ℕ) where
   abbrev has : Machine → Type 0
@@ -65,11 +65,11 @@ module _ (d e : Shown) (p q : Pool) (x : VolumeState) (reads : Reads d p e q) (c
     unmoved = tt;
   }
 
-  pub state_failed : {T : Type 0} (says : T → Reply) (f : VolumeFault) → (IsStanding d p x → Asks {T = T} has c says (Err f)) → CallCause {T = T} (IsStanding d p x) (standing_for d p x) its e.faults (Err f)
+  pub state_failed : (T : Type 0) (says : T → Reply) (f : VolumeFault) → (IsStanding d p x → Asks {T = T} has c says (Err f)) → CallCause {T = T} (IsStanding d p x) (standing_for d p x) its e.faults (Err f)
       → ((r : Refusal) → f ≡ volume.Refused r → steps ≡ start) → AsksState d p x command start e q steps (Err f)
-  state_failed {T} says f asks cause unmoved = record {
+  state_failed T says f asks cause unmoved = record {
     reads = reads;
-    asked = λ is. subst (λ (k : Command). Asks {T = Reply} has k (λ reply. reply) (Err f)) same (record { agrees = λ m there. agrees_err {T = T} {U = Reply} m c f ((asks is).agrees m there); reply = tt });
+    asked = λ is. subst (λ (k : Command). Asks {T = Reply} has k (λ reply. reply) (Err f)) same (record { agrees = λ m there. agrees_err T Reply m c f ((asks is).agrees m there); reply = tt });
     cause = cause;
     known = λ is well. tt;
     unmoved = unmoved;
@@ -217,15 +217,15 @@ module _ (d e : Shown) (laws : IsDisk d) (s : Session) (q : Pool) (c : Command) 
         (answered_by d s long of.slot of.state of.there c (λ reply. reply) reply closed of.asks.asked))
     by_one (Err (volume.Refused r)) of new result is = as_is new result (Ok (Refused r)) now is.1 is.0 (looks_done d e laws s q reads fresh stands c (Refused r) of.asks.cause
         (refused_by d s long of.slot of.state of.there c (λ reply. reply) r of.asks.asked))
-    by_one (Err volume.DiskFault) of new result (f, is, breaks) = as_is new result (Err DiskFault) (record now { failed = new.failed }) breaks.1.same (is ∙ ap (λ (g : Fault). Err g) breaks.0)
-        (looks_broken d e laws s q reads fresh stands c new.failed (rose_by _ _ _ e.faults of.asks.cause) breaks.1.written breaks.1.unwritten)
-    by_one (Err (volume.Damaged at want found)) of new result (f, is, breaks) = as_is new result (Err (Damaged at want found)) now breaks.1 (is ∙ ap (λ (g : Fault). Err g) breaks.0)
+    by_one (Err volume.DiskFault) of new result b = as_is new result (Err DiskFault) (record now { failed = new.failed }) b.1.1.1.same (b.1.0 ∙ ap (λ (g : Fault). Err g) b.1.1.0)
+        (looks_broken d e laws s q reads fresh stands c new.failed (rose_by _ _ _ e.faults of.asks.cause) b.1.1.1.written b.1.1.1.unwritten)
+    by_one (Err (volume.Damaged at want found)) of new result b = as_is new result (Err (Damaged at want found)) now b.1.1.1 (b.1.0 ∙ ap (λ (g : Fault). Err g) b.1.1.0)
         (looks_damaged d e laws s q reads fresh stands c at want found (calm_damage _ _ _ e.faults at want found of.asks.cause)
-        (inr (inr (record { fresh = fresh; slot = of.slot; there = subst IsSome (sym of.there) tt })))
+        (inr (inr (record { fresh = fresh; slot = of.slot; there = subst IsSome (sym of.there) refl })))
         (λ tells last m held.
         let here = one d s.pool s.volumes long last held.held of.slot of.state of.there in
         no_damage d s.pool of.state here.stands here.well 0 e.faults at want found of.asks.cause))
-    by_one (Err volume.Memory) of new result (f, is, breaks) = as_is new result (Err Memory) now breaks.1 (is ∙ ap (λ (g : Fault). Err g) breaks.0)
+    by_one (Err volume.Memory) of new result b = as_is new result (Err Memory) now b.1.1.1 (b.1.0 ∙ ap (λ (g : Fault). Err g) b.1.1.0)
         (looks_wanting d e laws s q reads fresh stands c (calm_memory _ _ _ e.faults of.asks.cause))
 
   pub looks_by : (r : Result Reply VolumeFault) → AsksVolume d s.pool s.volumes name c start e q steps r → (new : Session) (result : Result Reply Fault) → Replied e r now new result → Looks d s c e new result
@@ -241,7 +241,7 @@ module _ (d e : Shown) (laws : IsDisk d) (s : Session) (q : Pool) (c : Command) 
   known_by r asks new result is last m held = by asks.which
     where
       fault_in : (g : VolumeFault) → Faults e g now new result → OnOk result (steps ≡ start)
-      fault_in g (f, is, breaks) = subst (λ (z : Result Reply Fault). OnOk z (steps ≡ start)) (sym is) tt
+      fault_in g b = subst (λ (z : Result Reply Fault). OnOk z (steps ≡ start)) (sym b.1.0) tt
 
       in_ok : (y : Reply) → result ≡ Ok y → steps ≡ start → OnOk result (steps ≡ start)
       in_ok y is same = subst (λ (z : Result Reply Fault). OnOk z (steps ≡ start)) (sym is) same
