@@ -1,6 +1,6 @@
 -- What a session answers to a command that asks for files, by the call of a volume.
 use Rattle.std.proofs.Common.{◌≡◌, ◌⊎◌, ℕ, Bool, true, false, List, Option, Some, None, Result, Ok, Err, inl, inr, refl, sym, ap, subst, ◌∙◌, length}
-use Rattle.std.specs.Prelude.{IsNone, IsSome, IsTrue, OnOk, IfErr, IfOk}
+use Rattle.std.specs.Prelude.{IfSome, IsNone, IsSome, IsTrue, OnOk, IfErr, IfOk}
 use Rattle.std.specs.FinMap as fin
 use Rattle.fv_disk.specs.Shown.{Shown, IsDisk, Rose}
 use Rattle.fv_disk.specs.declared.fault.BlockFault.TheVariants as block
@@ -12,6 +12,7 @@ use Rattle.fv_model.specs.declared.commands.Command.{Command}
 use Rattle.fv_model.specs.declared.commands.Command.TheVariants.{Get, Len, Ls}
 use Rattle.fv_model.specs.Machines.{Machine}
 use Rattle.fv_model.specs.Refusals.{refusal}
+use Rattle.fv_laws.proofs.Changes.{same_name}
 use Rattle.fv_model.specs.Replies.{answer, is_open, Allows, AllowsBy, IsAnswer}
 use Rattle.fv_volume.specs.declared.fault.VolumeFault.{VolumeFault}
 use Rattle.fv_volume.specs.declared.fault.VolumeFault.TheVariants as volume
@@ -21,7 +22,8 @@ use Rattle.fv_volume.specs.Calls.{Agrees, Asks, CallCause, Has, Reads, TableFail
 use Rattle.fv_volume.specs.Lending.{Lent, lent_for}
 use Rattle.fv_volume.specs.OneVolume.{home_in, standing_for, volume_for, IsStanding}
 use Rattle.fv_volume.specs.Placing.{IsStoredWell}
-use Rattle.fv_volume.specs.States.{state_at}
+use Rattle.fv_volume.specs.Slots.{is_named}
+use Rattle.fv_volume.specs.States.{States, state_at}
 use Rattle.fv_volume.proofs.Undamaged.{no_damage}
 use Rattle.fv_tables.specs.Told.{Standing}
 use Rattle.fv_aggregate.specs.declared.fault.Fault.{Fault}
@@ -29,7 +31,7 @@ use Rattle.fv_aggregate.specs.declared.fault.Fault.TheVariants.{DiskFault, Damag
 use Rattle.fv_aggregate.specs.declared.session.Session.{Session}
 use Rattle.fv_aggregate.specs.Calls.{HasDamage, IsDamage, GoesFor}
 use Rattle.fv_aggregate.specs.Commands.{asked_by}
-use Rattle.fv_aggregate.specs.Looking.{AsksState, AsksVolume, Faults, FindsNone, FindsOne, Looks, Replied}
+use Rattle.fv_aggregate.specs.Looking.{AsksSlot, AsksState, AsksVolume, Faults, FindsNone, FindsOne, Looks, Replied}
 use Rattle.fv_aggregate.specs.Standing.{Stands, StandsFor}
 use Rattle.fv_aggregate.proofs.HeldMachine.{is_there, not_there, one}
 use Rattle.fv_aggregate.proofs.Looked.{broken, goes_broken, goes_damaged, goes_for_broken, goes_for_read, goes_for_wanting, goes_read, goes_wanting, left, was_read}
@@ -192,14 +194,14 @@ calm_damage told x old faults at want found (inr (inl bad)) = bad.calm
 calm_damage told x old faults at want found (inr (inr fails)) = fails.fails.0
 
 module _ (d e : Shown) (laws : IsDisk d) (s : Session) (q : Pool) (c : Command) (name : List ℕ) (start steps : ℕ) (fresh : IsNone s.failed) (stands : Stands d s)
-    (closed : (m : Machine) → is_open m c ≡ false) (missing : (m : Machine) → fin.get m.volumes name ≡ None → refusal m c ≡ Some NoVolume) where
+    (long : length s.volumes ≡ 64) (closed : (m : Machine) → is_open m c ≡ false) (missing : (m : Machine) → fin.get m.volumes name ≡ None → refusal m c ≡ Some NoVolume) where
   abbrev now : Session
   now = record s { pool = q }
 
   as_is : (new : Session) (result wanted : Result Reply Fault) (was : Session) → new ≡ was → result ≡ wanted → Looks d s c e was wanted → Looks d s c e new result
   as_is new result wanted was same is looks = subst (λ (r : Result Reply Fault). Looks d s c e new r) (sym is) (subst (λ (n : Session). Looks d s c e n wanted) (sym same) looks)
 
-  module _ (long : length s.volumes ≡ 64) (reads : Reads d s.pool e q) where
+  module _ (reads : Reads d s.pool e q) where
     -- no volume has the name
     by_none : (r : Result Reply VolumeFault) → FindsNone s.volumes name d s.pool start e q steps r → (new : Session) (result : Result Reply Fault) → Replied e r now new result → Looks d s c e new result
     by_none (Ok reply) none new result is = absurd (ok_or reply (volume.Refused NoVolume) none.refused)
@@ -232,8 +234,8 @@ module _ (d e : Shown) (laws : IsDisk d) (s : Session) (q : Pool) (c : Command) 
   looks_by r (asks) new result is = by asks.which
     where
       by : FindsNone s.volumes name d s.pool start e q steps r ⊎ FindsOne s.volumes name d s.pool c start e q steps r → Looks d s c e new result
-      by (inl none) = by_none asks.long asks.reads r none new result is
-      by (inr of) = by_one asks.long asks.reads r of new result is
+      by (inl none) = by_none asks.reads r none new result is
+      by (inr of) = by_one asks.reads r of new result is
 
   -- no step was made
   pub known_by : (r : Result Reply VolumeFault) → AsksVolume d s.pool s.volumes name c start e q steps r → (new : Session) (result : Result Reply Fault) → Replied e r now new result
@@ -248,8 +250,8 @@ module _ (d e : Shown) (laws : IsDisk d) (s : Session) (q : Pool) (c : Command) 
 
       moved : (z : Result Reply VolumeFault) → r ≡ z → Replied e z now new result → FindsOne s.volumes name d s.pool c start e q steps z → OnOk result (steps ≡ start)
       moved (Ok reply) at is of =
-          let here = one d s.pool s.volumes asks.long last held.held of.slot of.state of.there in
-          in_ok reply is.0 (of.asks.known here.stands here.well m (has_volume d s asks.long of.slot of.state of.there last m held))
+          let here = one d s.pool s.volumes long last held.held of.slot of.state of.there in
+          in_ok reply is.0 (of.asks.known here.stands here.well m (has_volume d s long of.slot of.state of.there last m held))
       moved (Err (volume.Refused r)) at is of = in_ok (Refused r) is.0 (of.asks.unmoved r refl)
       moved (Err volume.DiskFault) at is of = fault_in volume.DiskFault is
       moved (Err (volume.Damaged a w f)) at is of = fault_in (volume.Damaged a w f) is
@@ -262,3 +264,17 @@ module _ (d e : Shown) (laws : IsDisk d) (s : Session) (q : Pool) (c : Command) 
       by : FindsNone s.volumes name d s.pool start e q steps r ⊎ FindsOne s.volumes name d s.pool c start e q steps r → OnOk result (steps ≡ start)
       by (inl none) = unmoved result none.unmoved
       by (inr of) = moved r refl is of
+
+-- ---- the volume that is found by its name
+
+pub named_asked : (o : Option VolumeState) (name : List ℕ) (c : Command) → is_named o name ≡ true → asked_by c ≡ Some name → IfSome o (λ x. asked_by c ≡ Some x.name)
+named_asked None name c is asks = tt
+named_asked (Some x) name c is asks = asks ∙ ap (λ (n : List ℕ). Some n) (sym (same_name x.name name is))
+
+module _ (d e : Shown) (p q : Pool) (states : States) (name : List ℕ) (c : Command) (start steps : ℕ) (r : Result Reply VolumeFault) where
+  pub found_asks : (slot : ℕ) (o : Option VolumeState) → state_at states slot ≡ o → is_named o name ≡ true → AsksSlot d p o c start e q steps r → AsksVolume d p states name c start e q steps r
+  found_asks slot None there is asks = absurd asks
+  found_asks slot (Some x) there is asks = record {
+    reads = asks.reads;
+    which = inr (record { slot = slot; state = x; there = there; named = same_name x.name name is; asks = asks });
+  }

@@ -46,7 +46,7 @@ rests_wanting room disk session fresh stands = record {
   stands = λ none. stands;
   asks = λ tells kept asks none. asks_more disk session kept room asks;
   done = tt;
-  fault = record { reason = fresh; counts = same_counts disk; session = fresh; disk = inl (reads_itself disk, refl) };
+  fault = record { reason = fresh; counts = same_counts disk; session = fresh; disk = inl (reads_itself disk) };
 }
 
 -- a session that failed before
@@ -73,7 +73,12 @@ EndsAs (Err e) (Ok y) = ⊥
 
 more_room : (least room : ℕ) → least ≤ room → (before : Shown) (old : Session) (after : Shown) (new : Session) (e : Fault) → HasFault least before old after new e → HasFault room before old after new e
 more_room least room le before old after new DiskFault row = row
-more_room least room le before old after new (Damaged at want found) row = row
+more_room least room le before old after new (Damaged at want found) row = record {
+  reason = row.reason;
+  counts = row.counts;
+  session = row.session;
+  disk = ⊎_elim (λ untouched. inl untouched) (λ past. inr (omega (arith, past, le))) row.disk;
+}
 more_room least room le before old after new (Failed faults) row = row
 more_room least room le before old after new Memory row = record {
   reason = row.reason;

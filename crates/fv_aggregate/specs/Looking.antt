@@ -80,7 +80,6 @@ pub record FindsOne (states : States) (name : List ℕ) (before : Shown) (pool :
 
 -- The volume of a name was asked, if there is one.
 pub record AsksVolume (before : Shown) (pool : Pool) (states : States) (name : List ℕ) (command : Command) (start : ℕ) (after : Shown) (left : Pool) (steps : ℕ) (result : Result Reply VolumeFault) : Type 0 where
-  pub long : length states ≡ slot_count
   pub reads : Reads before pool after left
   pub which : FindsNone states name before pool start after left steps result ⊎ FindsOne states name before pool command start after left steps result
 

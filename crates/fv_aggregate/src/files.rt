@@ -1,6 +1,6 @@
 //! The commands that change files.
 
-ghost use Rattle.std.specs.Prelude.{◌≡◌, ◌≤◌, ◌<◌, ◌+◌, ◌-◌, ◌^◌, ℕ, max, Some, IsNone, IfSome, option_copied};
+ghost use Rattle.std.specs.Prelude.{◌≡◌, ◌≤◌, ◌<◌, ◌+◌, ◌-◌, ◌^◌, ℕ, max, Some, None, IsNone, IfSome, if◌then◌else◌, option_copied};
 ghost use Rattle.fv_container.specs.Chains.{slot_count};
 ghost use Rattle.fv_disk.specs.DiskCalls.{OnlyReads};
 ghost use Rattle.fv_volume.specs.Slots.{committed_by, sum_of};
@@ -29,12 +29,19 @@ pub(crate) fn changed_volume(command: &Command) -> Option<&Name>
             volume,
             reserve,
             ..
-        } => if *reserve == 0 { Some(volume) } else { None },
+        } => volume_if(*reserve == 0, volume),
         Command::Put { volume, .. } => Some(volume),
         Command::Cut { volume, .. } => Some(volume),
         Command::Remove { volume, .. } => Some(volume),
         _ => None,
     }
+}
+
+/// The volume, if that is so.
+fn volume_if(is: bool, volume: &Name) -> Option<&Name>
+    ensures { option_copied result ≡ (if is then Some volume.now else None) }
+{
+    if is { Some(volume) } else { None }
 }
 
 /// Whether the number of a command on files is in its range.
