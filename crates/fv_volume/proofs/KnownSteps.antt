@@ -1,5 +1,5 @@
 -- A read of a volume that stands, and whose blocks are as its pointers say, makes no step: each of its pointers is known.
-use Rattle.std.proofs.Common.{◌≡◌, ◌≢◌, ℕ, zero, suc, ◌+◌, ◌/◌, ◌^◌, ◌<◌, Bool, true, false, cond, ◌||◌, ◌==◌, List, Option, Some, None, is_some, find, refl, sym, ap, ap₂, subst, ◌∙◌, arith}
+use Rattle.std.proofs.Common.{◌≡◌, ◌≢◌, ℕ, zero, suc, ◌+◌, ◌/◌, ◌^◌, ◌<◌, Bool, true, false, cond, ◌||◌, ◌==◌, List, Option, Some, None, is_some, refl, sym, ap, ap₂, subst, ◌∙◌, arith}
 use Rattle.std.specs.FinMap as fin
 use Rattle.std.specs.Cmp.{nat_cmp_total}
 use Rattle.std.proofs.lemmas.Bool.Decides.{nat_tests}
@@ -19,9 +19,9 @@ use Rattle.fv_model.specs.Spelling.{is_same_name}
 use Rattle.fv_model.specs.Tables.{File, file_named}
 use Rattle.fv_model.specs.Trees.{fan}
 use Rattle.fv_tables.specs.Spelled.{Rooted, Under, pointer_at}
-use Rattle.fv_tables.specs.Told.{Standing, file_at, file_in, file_told, records_each, table_told, tree_of}
+use Rattle.fv_tables.specs.Told.{Standing, file_at, file_told, records_each, table_told, tree_of}
 use Rattle.fv_tables.proofs.Tables.{files_told}
-use Rattle.fv_tree.specs.Costs.{cost_below, is_kept, place_cost, way_cost}
+use Rattle.fv_tree.specs.Costs.{cost_below, is_kept}
 use Rattle.fv_tree.specs.Sources.{Use}
 use Rattle.fv_tree.specs.Standing.{IsUnread}
 use Rattle.fv_inode.specs.declared.info.Info.{Info}
@@ -37,7 +37,7 @@ use Rattle.fv_volume.specs.Placing.{IsStoredWell}
 use Rattle.fv_volume.proofs.Answered.{get_far, get_none, get_snapshot}
 use Rattle.fv_volume.proofs.Asked.{first_info}
 use Rattle.fv_volume.proofs.Followed.{same_way}
-use Rattle.fv_volume.proofs.Lookups.{found_passes, name_told, not_both, record_of, told_by}
+use Rattle.fv_volume.proofs.Lookups.{found_passes, name_told, record_of, told_by}
 use Rattle.fv_volume.proofs.OneVolumes.{is_alone}
 use Rattle.fv_volume.proofs.Undamaged.{file_holds, inode_holds, led_by, HoldsWell}
 

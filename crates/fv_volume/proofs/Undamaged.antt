@@ -1,5 +1,5 @@
 -- A read of a volume that stands, and whose blocks are as its pointers say, finds no damage.
-use Rattle.std.proofs.Common.{◌≡◌, ◌≢◌, ℕ, zero, suc, Bool, true, false, List, Option, Some, None, Result, Ok, Err, is_some, true≢false, inl, inr, refl, sym, ap, subst, ◌∙◌, arith}
+use Rattle.std.proofs.Common.{◌≡◌, ◌≢◌, ℕ, zero, suc, Option, Some, None, Result, Ok, Err, is_some, true≢false, inl, inr, refl, sym, ap, subst, ◌∙◌, arith}
 use Rattle.std.specs.Option.{option_map}
 use Rattle.fv_disk.specs.Shown.{Shown as Disk}
 use Rattle.fv_disk.specs.declared.fault.BlockFault.{BlockFault}
@@ -7,7 +7,7 @@ use Rattle.fv_disk.specs.declared.fault.BlockFault.TheVariants as block
 use Rattle.fv_codec.specs.declared.inode.InodeRecord.{InodeRecord}
 use Rattle.fv_codec.specs.Blocks.{greatest_word, inodes_at, node_at}
 use Rattle.fv_tables.specs.Spelled.{Rooted, Under, pointer_at, stored}
-use Rattle.fv_tables.specs.Told.{Standing, file_at, tree_of, tree_or}
+use Rattle.fv_tables.specs.Told.{file_at, tree_of, tree_or}
 use Rattle.fv_tree.specs.declared.kept.Tree.{Tree}
 use Rattle.fv_tree.specs.Sources.{Shown, Use}
 use Rattle.fv_tree.specs.Standing.{standing, under, IsNodeDamage, IsUnread, LacksBlock}
@@ -15,16 +15,13 @@ use Rattle.fv_tree.specs.Flushing.{Leads, Loaded, loaded_over, IsSound}
 use Rattle.fv_tree.specs.Beside.{unread, IsLaid}
 use Rattle.fv_tree.specs.Stored.{IsStoredWell as IsTreeStoredWell}
 use Rattle.fv_tree.proofs.Beside.{tree_laid, unread_laid, unread_sound}
-use Rattle.fv_inode.specs.Failing.{IsInodeDamage}
 use Rattle.fv_inode.specs.Files.{NamesIndexes}
 use Rattle.fv_files.specs.declared.files.Files.{Files}
 use Rattle.fv_files.specs.Apart.{StandsIn, StoredIn}
-use Rattle.fv_files.specs.Failing.{IsFileTree}
 use Rattle.fv_files.specs.Tables.{file_loaded, tree_in}
-use Rattle.fv_volume.specs.declared.fault.VolumeFault.TheVariants.{Damaged}
 use Rattle.fv_volume.specs.declared.pool.Pool.{Pool}
 use Rattle.fv_volume.specs.declared.state.VolumeState.{VolumeState}
-use Rattle.fv_volume.specs.Calls.{CallFails, FileFails, IsBadInodes, TableFails}
+use Rattle.fv_volume.specs.Calls.{FileFails, IsBadInodes, TableFails}
 use Rattle.fv_volume.specs.Lending.{Lent, ReadFails, lent_for, shown_over}
 use Rattle.fv_volume.specs.OneVolume.{home_in, shows, standing_by, standing_for, AreSoundBy, IsStanding}
 use Rattle.fv_volume.specs.Placing.{AreStoredBy, IsStoredWell}
