@@ -1,6 +1,6 @@
 -- What a session answers to a command that asks for files, by the call of a volume.
 use Rattle.std.proofs.Common.{◌≡◌, ◌⊎◌, ℕ, Bool, true, false, List, Option, Some, None, Result, Ok, Err, inl, inr, refl, sym, ap, subst, ◌∙◌, length}
-use Rattle.std.specs.Prelude.{IfSome, IsNone, IsSome, IsTrue, OnOk, IfErr, IfOk}
+use Rattle.std.specs.Prelude.{IfSome, IsNone, IsSome, IsTrue, OnOk}
 use Rattle.std.specs.FinMap as fin
 use Rattle.fv_disk.specs.Shown.{Shown, IsDisk, Rose}
 use Rattle.fv_disk.specs.declared.fault.BlockFault.TheVariants as block
@@ -29,7 +29,7 @@ use Rattle.fv_tables.specs.Told.{Standing}
 use Rattle.fv_aggregate.specs.declared.fault.Fault.{Fault}
 use Rattle.fv_aggregate.specs.declared.fault.Fault.TheVariants.{DiskFault, Damaged, Memory}
 use Rattle.fv_aggregate.specs.declared.session.Session.{Session}
-use Rattle.fv_aggregate.specs.Calls.{HasDamage, IsDamage, GoesFor}
+use Rattle.fv_aggregate.specs.Calls.{HasDamage}
 use Rattle.fv_aggregate.specs.Commands.{asked_by}
 use Rattle.fv_aggregate.specs.Looking.{AsksSlot, AsksState, AsksVolume, Faults, FindsNone, FindsOne, Looks, Replied}
 use Rattle.fv_aggregate.specs.Standing.{Stands, StandsFor}

@@ -1,9 +1,7 @@
-use Rattle.std.proofs.Common.{◌≡◌, Ok, Err, rules, refl, ap, sym, subst, ◌∙◌, option_copied}
-use Rattle.std.specs.Prelude.{ℕ, Result}
-use Rattle.fv_model.specs.declared.answers.Reply.{Reply}
+use Rattle.std.proofs.Common.{◌≡◌, Ok, rules, refl, ap, sym, subst, ◌∙◌, option_copied}
+use Rattle.std.specs.Prelude.{ℕ}
 use Rattle.fv_model.specs.declared.answers.Reply.TheVariants.{Content, Number, Names}
 use Rattle.fv_model.specs.declared.commands.Command.TheVariants.{Get, Len, Ls}
-use Rattle.fv_volume.specs.declared.fault.VolumeFault.{VolumeFault}
 use Rattle.fv_volume.proofs.KnownSteps.{known_get}
 use Rattle.fv_aggregate.specs.Looking.{AsksState}
 use Rattle.fv_aggregate.proofs.Asked.{of_get, of_len, of_ls, state_answered, state_failed}

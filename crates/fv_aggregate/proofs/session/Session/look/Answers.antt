@@ -1,4 +1,4 @@
-use Rattle.std.proofs.Common.{◌≡◌, true, false, length, refl, rules, sym, ap, subst, ◌∙◌}
+use Rattle.std.proofs.Common.{◌≡◌, true, false, length, refl, sym, ap, subst, ◌∙◌}
 use Rattle.std.specs.Prelude.{IsNone}
 use Rattle.fv_model.specs.declared.answers.Refusal.TheVariants.{Range}
 use Rattle.fv_model.specs.declared.answers.Reply.TheVariants.{Refused}
