@@ -6,13 +6,14 @@ ghost use Rattle.std.specs.FinMap as fin;
 ghost use Rattle.fv_tables.specs.Told.{file_at, records_each};
 ghost use Rattle.fv_tree.specs.Costs.{way_cost};
 ghost use Rattle.fv_inode.specs.Files.{rooted, info_of, Finds, IsFreeNumber, IsInfoIf, IsNumberIf};
-ghost use Rattle.fv_inode.specs.Listing.{names_told};
+ghost use Rattle.fv_inode.specs.Listing.{names_told, numbers_in};
 ghost use Rattle.fv_inode.specs.Failing as inodes;
 
 use crate::files::{Files, FilesFault};
 use fv_inode::Info;
 use fv_model::{Name, Names};
 use fv_tree::Blocks;
+use std::collections::BTreeMap;
 
 impl Files {
     /// What is known of the file of a name; `None` exactly where no file has it. Its cost is that of `InodeFile::find`.
@@ -76,5 +77,18 @@ impl Files {
         ensures reads { B.reads blocks.old blocks.new }
     {
         self.inode.list(blocks)
+    }
+
+    /// The numbers of all files by their names. Its cost is that of `InodeFile::index`.
+    ///
+    /// # Errors
+    ///
+    /// As `InodeFile::index`.
+    pub fn index<B: Blocks>(&self, blocks: &mut B) -> Result<BTreeMap<Name, u32>, FilesFault>
+        ensures numbers { B.told → IfOk result (λ numbers. numbers_in numbers ≡ names_told (rooted (B.shown blocks.old) self.now.inode)) }
+        ensures looks { inodes.Looks B.told (rooted (B.shown blocks.old) self.now.inode) (B.shown blocks.old) (B.shown blocks.new) result }
+        ensures reads { B.reads blocks.old blocks.new }
+    {
+        self.inode.index(blocks)
     }
 }

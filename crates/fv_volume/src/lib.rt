@@ -17,6 +17,7 @@ mod lent_files;
 mod lent_removals;
 mod load;
 mod making;
+mod names;
 mod noted;
 mod placing;
 mod pool;
