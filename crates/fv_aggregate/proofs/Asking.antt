@@ -1,6 +1,6 @@
 -- What a consistency point asks for, and the image that lacks it.
-use Rattle.std.proofs.Common.{◌≡◌, ◌≤◌, ◌+◌, ◌-◌, ℕ, Bool, true, false, not, ◌||◌, cond, List, length, Option, Some, None, refl, sym, ap, subst, ◌∙◌, arith}
-use Rattle.std.specs.Prelude.{count_by, max}
+use Rattle.std.proofs.Common.{◌≡◌, ◌<◌, ◌≤◌, ◌+◌, ◌-◌, ℕ, Bool, true, false, not, ◌||◌, cond, List, length, Option, Some, None, refl, sym, ap, subst, ◌∙◌, arith}
+use Rattle.std.specs.Prelude.{IsTrue, count_by, max}
 use Rattle.std.specs.List.{range_with_len}
 use Rattle.std.specs.Option.{option_map}
 use Rattle.std.proofs.lemmas.List.Sums.{sum_by-set}
@@ -10,6 +10,7 @@ use Rattle.fv_bits.specs.Members.{is_member}
 use Rattle.fv_model.specs.declared.commands.Kind.{Kind}
 use Rattle.fv_model.specs.Machines.{first_block}
 use Rattle.fv_model.specs.Space.{overhead, span_of}
+use Rattle.fv_image.specs.Layout.{root_place}
 use Rattle.fv_image.specs.Maps.{map_bit}
 use Rattle.fv_image.specs.Held.{view_at}
 use Rattle.fv_image.specs.Sound.{overheads}
@@ -27,7 +28,8 @@ use Rattle.fv_volume.specs.States.{States, state_at, view_over}
 use Rattle.fv_volume.specs.Housed.{AreSettled, settled_as}
 use Rattle.fv_cp.specs.Lent.{asked_by, blocks_asked}
 use Rattle.fv_aggregate.specs.declared.session.Session.{Session}
-use Rattle.fv_aggregate.specs.Asking.{overheads_in, AsksWithin, free_under}
+use Rattle.fv_aggregate.specs.Asking.{AsksWithin, IsShort, free_under}
+use Rattle.fv_aggregate.specs.Standing.{Stands}
 use Rattle.fv_aggregate.proofs.Sums.{asked_within, over_slots}
 
 -- ---- free blocks
@@ -44,6 +46,18 @@ free_is i found map loaded = λ j. count_by (λ b. not (held b j)) (range_with_l
     held : (b : ℕ) → is_held map.committed map.next b ≡ map_bit (root_found found) i b
     held b = ap (λ (next : List Bool). is_held map.committed next b) loaded.same ∙ twice (is_member map.committed b) ∙ loaded.bits b
 
+-- where a point lacks blocks in the session's map, the image lacks them
+pub short_is : (disk : Shown) (session : Session) (room at want found : ℕ) → IsTrue disk.tells → Stands disk session → AsksWithin disk session room
+    → at ≡ root_place session.pool.found.slot → want ≡ blocks_asked session.volumes → found ≡ free_blocks session.pool.map → found < want → IsShort disk.reads room at want found
+short_is disk session room at want found tells stands asks place asked free short = record {
+  root = root_found session.pool.found;
+  counts = (stands.found tells).reads.root;
+  place = place;
+  free = free ∙ free_is disk.reads session.pool.found session.pool.map (stands.map tells);
+  within = omega (arith, asked, asks.asked, asks.pending);
+  short = short;
+}
+
 -- ---- what is asked for
 
 pub asks_more : (disk : Shown) (session : Session) (kept room : ℕ) → AsksWithin disk session kept → AsksWithin disk session (max kept room)
@@ -52,7 +66,7 @@ asks_more disk session kept room asks = record { asked = asks.asked; pending = o
 -- over a disk that reads as before
 pub asks_after_reads : (old new : Shown) (session : Session) (room : ℕ) → OnlyReads old new → AsksWithin old session room → AsksWithin new session room
 asks_after_reads old new session room reads asks = record {
-  asked = subst (λ (i : Image). overheads_in session.volumes ≤ overheads (view_at (root_found session.pool.found) i) + session.pending) (sym reads.stays.reads) asks.asked;
+  asked = subst (λ (i : Image). blocks_asked session.volumes ≤ overheads (view_at (root_found session.pool.found) i) + session.pending) (sym reads.stays.reads) asks.asked;
   pending = asks.pending;
 }
 

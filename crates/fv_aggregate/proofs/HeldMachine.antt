@@ -102,7 +102,7 @@ module _ (disk : Shown) (pool : Pool) (states : States) (long : length states �
   unfolding machine_held
   blocks_are = refl
 
-  at_name : (name : List ℕ) → fin.get m.volumes name ≡ find name_cmp name (named_from meant 0 states)
+  pub at_name : (name : List ℕ) → fin.get m.volumes name ≡ find name_cmp name (named_from meant 0 states)
   at_name name = ap (λ v. fin.get v name) volumes_by_name ∙ fin.get-from_entries name_total (named_from meant 0 states) name
 
   -- a name that no slot has is no volume's
@@ -110,7 +110,7 @@ module _ (disk : Shown) (pool : Pool) (states : States) (long : length states �
   not_there name no_name = at_name name ∙ none_named meant states 0 name (λ s lt. no_name.none s (omega (arith, lt, long)))
 
   module _ (before : Machine) (held : IsHeld disk pool states before) where
-    distinct : AreDistinct (named_from meant 0 states)
+    pub distinct : AreDistinct (named_from meant 0 states)
     distinct = distinct_from meant states 0 (λ e s x y lt here there. so e s x y lt here there (is_same_name y.name x.name) refl)
       where
         so : (e s : ℕ) (x y : VolumeState) → e < s → state_at states e ≡ Some x → state_at states s ≡ Some y → (b : Bool) → is_same_name y.name x.name ≡ b → b ≡ false

@@ -11,7 +11,3 @@ mod Charges
 mod Opened
 mod Whole
 mod Applied
-mod Missing
-mod HeldMachine
-mod Looked
-mod Asked

@@ -1,6 +1,6 @@
 -- What a consistency point asks for, also where the image stands for no machine, and when that is too much.
-use Rattle.std.specs.Prelude.{◌≡◌, ◌≤◌, ◌<◌, ◌+◌, ◌-◌, ◌*◌, ℕ, max, not, count_by, Option, Some, None}
-use Rattle.std.specs.List.{range_with_len, sum_by}
+use Rattle.std.specs.Prelude.{◌≡◌, ◌≤◌, ◌<◌, ◌+◌, ◌-◌, ◌*◌, ℕ, max, not, count_by, Some}
+use Rattle.std.specs.List.{range_with_len}
 use Rattle.fv_disk.specs.Shown.{Image, Shown}
 use Rattle.fv_model.specs.Machines.{first_block}
 use Rattle.fv_image.specs.Layout.{root_place}
@@ -9,35 +9,25 @@ use Rattle.fv_image.specs.NewerRoot.{Taken, root_of}
 use Rattle.fv_image.specs.Held.{view_at}
 use Rattle.fv_image.specs.Sound.{overheads}
 use Rattle.fv_root.specs.Finding.{root_found}
-use Rattle.fv_model.specs.Space.{overhead}
-use Rattle.fv_volume.specs.declared.state.VolumeState.{VolumeState}
-use Rattle.fv_volume.specs.States.{States}
+use Rattle.fv_cp.specs.Lent.{blocks_asked}
 use Rattle.fv_aggregate.specs.declared.session.Session.{Session}
 
 -- how many blocks the aggregate map under a root leaves free
 unfoldable pub free_under : Taken → Image → ℕ
 free_under t i = count_by (λ b. not (map_bit t i b)) (range_with_len (first_block t.blocks) (t.blocks - first_block t.blocks))
 
--- the overheads of all volumes of a session, whether they changed or not
-abbrev pub overhead_by : Option VolumeState → ℕ
-overhead_by None = 0
-overhead_by (Some x) = overhead x.span
-
-abbrev pub overheads_in : States → ℕ
-overheads_in states = sum_by overhead_by states
-
 -- A point of a session asks for no more blocks than the space rule keeps: for the overheads of the volumes that the root on the disk
 -- names, and for what is pending, which is at most 256 or the room of an event.
 pub record AsksWithin (disk : Shown) (session : Session) (room : ℕ) : Type 0 where
-  pub asked : overheads_in session.volumes ≤ overheads (view_at (root_found session.pool.found) disk.reads) + session.pending
+  pub asked : blocks_asked session.volumes ≤ overheads (view_at (root_found session.pool.found) disk.reads) + session.pending
   pub pending : session.pending ≤ max 256 room
 
--- An image lacks blocks: beside those that files were placed in since, its aggregate map leaves `found` of them free, and `want`, which is
--- more, is at most the right side of the space rule for an event with this room. `at` is the place of the root that counts.
-pub record IsShort (i : Image) (room placed at want found : ℕ) : Type 0 where
+-- An image lacks blocks: its aggregate map leaves `found` of them free, and `want`, which is more, is at most the right side of the
+-- space rule for an event with this room. `at` is the place of the root that counts.
+pub record IsShort (i : Image) (room at want found : ℕ) : Type 0 where
   pub root : Taken
   pub counts : root_of i ≡ Some root
   pub place : at ≡ root_place root.slot
-  pub free : found + placed ≡ free_under root i
+  pub free : found ≡ free_under root i
   pub within : want ≤ 2 * overheads (view_at root i) + max 256 room
   pub short : found < want

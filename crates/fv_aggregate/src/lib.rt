@@ -3,10 +3,8 @@
 
 mod adding;
 mod fault;
-mod files;
 mod opening;
 mod points;
-mod reading;
 mod session;
 mod volumes;
 

@@ -1,6 +1,6 @@
 //! The consistency points of a session.
 
-ghost use Rattle.std.specs.Prelude.{◌≡◌, ◌≤◌, ◌+◌, ◌*◌, ℕ, max, nat_le, IsTrue, IsNone, IfOk, OnErr, OnOk, Some};
+ghost use Rattle.std.specs.Prelude.{◌≡◌, ◌≤◌, ◌+◌, ◌*◌, ℕ, max, IsTrue, IsNone, IfOk, OnErr, OnOk, Some};
 ghost use Rattle.fv_disk.specs.Shown.{Rose};
 ghost use Rattle.fv_model.specs.Machines.{Machine, capacity};
 ghost use Rattle.fv_model.specs.Space.{commits};
@@ -12,9 +12,10 @@ ghost use Rattle.fv_aggregate.specs.Standing.{Stands, StandsFor};
 
 use crate::fault::Fault;
 use crate::session::Session;
-use fv_cp::{CpFault, consistency_point, flush};
+use fv_cp::full_point;
 use fv_disk::Disk;
 use fv_model::Reply;
+use fv_volume::VolumeFault;
 
 /// The dirty limit: so many blocks may be pending, with the room of the next event, before a consistency point runs. `docs/SPACE.md`
 /// has the rule; beside the overheads of the last point at least as many blocks are free.
@@ -34,18 +35,11 @@ impl Session {
         ensures admits { OnOk result (StillAdmits self.old self.new) }
         ensures calm { self.old.pending + room ≤ dirty_limit → (disk.new ≡ disk.old) × (self.new ≡ self.old) }
     {
-        if self.has_room(room) {
+        if self.pending <= DIRTY_LIMIT && room <= DIRTY_LIMIT - self.pending {
             Ok(())
         } else {
             self.point(disk, room)
         }
-    }
-
-    /// Whether what is pending and this room stay within the dirty limit together.
-    pub(crate) fn has_room(&self, room: u64) -> bool
-        ensures { result ≡ nat_le (self.now.pending + room) dirty_limit }
-    {
-        self.pending <= DIRTY_LIMIT && room <= DIRTY_LIMIT - self.pending
     }
 
     /// The consistency point that a command asks for.
@@ -80,36 +74,25 @@ impl Session {
         ensures admits { OnOk result (StillAdmits self.old self.new) }
     {
         let before = disk.write_faults();
-        self.place(disk)?;
-        match consistency_point(&mut self.volumes, &mut self.pool, disk, want) {
+        match full_point(&mut self.volumes, &mut self.pool, disk, want) {
             Ok(()) => {
                 self.pending = 0;
                 Ok(())
             }
-            Err(CpFault::DiskFault) => {
+            Err(VolumeFault::DiskFault) => {
                 self.failed = failure(disk, before);
                 Err(Fault::DiskFault)
             }
-            Err(CpFault::Damaged { at, want, found }) => Err(Fault::Damaged { at, want, found }),
-            Err(CpFault::Memory) => Err(Fault::Memory),
-        }
-    }
-}
-
-impl Session {
-    /// Places what changed of the files of all volumes, so that a point can write it.
-    fn place<D: Disk>(&mut self, disk: &mut D) -> Result<(), Fault> {
-        let mut room = 0;
-        match flush(&mut self.volumes, &mut self.pool, disk, &mut room) {
-            Ok(()) => Ok(()),
-            Err(fault) => Err(self.fault_of(disk, fault)),
+            Err(VolumeFault::Damaged { at, want, found }) => Err(Fault::Damaged { at, want, found }),
+            Err(VolumeFault::Memory) => Err(Fault::Memory),
+            Err(VolumeFault::Refused(_)) => unreachable!(),
         }
     }
 }
 
 /// The disk's count of faults, where a write or a barrier has failed since its count of those was `before`. A count that stands at its
 /// greatest value counts as risen.
-pub(crate) fn failure<D: Disk>(disk: &D, before: u64) -> Option<u64>
+fn failure<D: Disk>(disk: &D, before: u64) -> Option<u64>
     ensures failed { Rose before (D.shown disk.now).write_faults → result ≡ Some (D.shown disk.now).faults }
     ensures goes_on { ¬ Rose before (D.shown disk.now).write_faults → IsNone result }
 {

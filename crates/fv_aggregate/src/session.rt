@@ -1,22 +1,20 @@
 //! A session.
 
-ghost use Rattle.std.specs.Prelude.{◌≡◌, ◌≢◌, ◌≤◌, ◌+◌, ◌⊎◌, false, IsTrue, IsNone, IsSome, IfOk, IfErr, OnErr, OnOk, Some};
+ghost use Rattle.std.specs.Prelude.{◌≡◌, ◌≢◌, ◌≤◌, ◌+◌, ◌⊎◌, ℕ, IsTrue, IsNone, IsSome, IfOk, IfErr, OnErr, OnOk, Some};
 ghost use Rattle.fv_disk.specs.Shown.{IsSettled, Rose, Shown};
-ghost use Rattle.fv_disk.specs.DiskCalls.{OnlyReads};
 ghost use Rattle.fv_model.specs.Machines.{Machine};
 ghost use Rattle.fv_model.specs.declared.commands.Command.TheVariants.{Cp};
 ghost use Rattle.fv_image.specs.WholeMachine.{machine_of};
 ghost use Rattle.fv_volume.specs.Trees.{Trees};
 ghost use Rattle.fv_volume.specs.Files.{Over};
 ghost use Rattle.fv_aggregate.specs.Asking.{AsksWithin};
-ghost use Rattle.fv_aggregate.specs.Calls.{Goes, GoesFor, HasNoFilesIn, IsPlain, SameCounts, WasRead};
+ghost use Rattle.fv_aggregate.specs.Calls.{Goes, GoesFor, SameCounts};
 ghost use Rattle.fv_aggregate.specs.Causes.{HasOpenCause, IsOpenFault, IsUnwritten};
-ghost use Rattle.fv_aggregate.specs.Commands.{Replies, dirty_limit, is_refusal, machine_after, reads_files, room_of};
+ghost use Rattle.fv_aggregate.specs.Commands.{Replies, dirty_limit, is_refusal, machine_after, room_of};
 ghost use Rattle.fv_aggregate.specs.Opening.{IsOpened};
 ghost use Rattle.fv_aggregate.specs.Standing.{Stands, StandsFor, charged_in};
 
 use crate::fault::{Fault, OpenFault};
-use crate::files::changed_volume;
 use crate::opening::load;
 use crate::volumes::{names_of, sum_charges};
 use fv_container::Steps;
@@ -89,21 +87,18 @@ impl Session {
 
     /// Applies a command, and answers the machine's reply, refusals included. A command whose room, in blocks, would pass the dirty
     /// limit of 256 together with the blocks pending is preceded by a consistency point; one that is refused changes nothing, not
-    /// even that. So far `vol create`, `vol list`, `cp`, `new` without a reserve, `put`, `get`, `len`, `cut`, `rm` and `ls` are built, and
-    /// every other command is refused as none.
+    /// even that. So far `vol create`, `vol list` and `cp` are built, and every other command is refused as none.
     ///
-    /// `steps` counts the unknown pointers that a `get` passes; there are none in what a session stands for yet.
+    /// `steps` counts the unknown pointers that a `get` passes; no command raises it yet.
     ///
     /// # Errors
     /// `DiskFault` comes only where a read, a write or a barrier failed in this call. Where it was a write or a barrier the session
     /// has failed: it answers `Failed`, with the disk's count of faults of that moment, to every call from then on, and reaches the
-    /// disk no more. `Memory` comes where memory ran out, and `Damaged` only where fewer blocks or numbers are free than a consistency
-    /// point asks for, or a block of a volume's files isn't as it has to be, which no aggregate leads to that stands for a machine. After
-    /// these, and after a read that failed, the session goes on and stands for the machine of before.
+    /// disk no more. `Memory` comes where memory ran out, and `Damaged` only where fewer blocks are free than a consistency point
+    /// asks for, which no aggregate leads to that stands for a machine. After these, and after a read that failed, the session goes
+    /// on and stands for the machine of before.
     ///
-    /// Costs a step for each slot, and memory for the names in `vol list`. A command on files costs what the call of `VolumeState` does, and
-    /// one that changes them a step for each node in memory, too; the search for a file reads the inode blocks before its own. Where room has
-    /// to be made the command is judged first, which costs the search twice. `vol create` costs a step for each VVBN of the new
+    /// Costs a step for each slot, and memory for the names in `vol list`. `vol create` costs a step for each VVBN of the new
     /// volume, and holds an entry for each. Where a consistency point runs it costs what `consistency_point` does. `docs/SPACE.md`
     /// has the dirty limit, and `docs/MACHINE.md` the commands.
     pub fn apply<D: Disk, L: Ledger>(
@@ -118,13 +113,11 @@ impl Session {
             → GoesFor (D.shown disk.old) last m (machine_after m command.now) (D.shown disk.new) self.new result }
         ensures reply { IsTrue (D.shown disk.old).tells → (last m : Machine) → StandsFor (D.shown disk.old) self.old last m
             → IfOk result (Replies m command.now) }
-        ensures refused { IfOk result (λ reply. IsTrue (is_refusal reply) → WasRead (D.shown disk.old) self.old (D.shown disk.new) self.new) }
-        ensures plain { reads_files command.now ≡ false → IsPlain command.now (D.shown disk.old) disk.old self.old disk.new self.new result }
+        ensures refused { IfOk result (λ reply. IsTrue (is_refusal reply) → (disk.new ≡ disk.old) × (self.new ≡ self.old)) }
         ensures point { IsTrue (D.shown disk.old).tells → (last m : Machine) → StandsFor (D.shown disk.old) self.old last m → command.now ≡ Cp
             → OnOk result (StandsFor (D.shown disk.new) self.new m m) }
-        ensures calm { command.now ≢ Cp → (room_of command.now ≡ 0) ⊎ (self.old.pending + room_of command.now ≤ dirty_limit) → OnlyReads (D.shown disk.old) (D.shown disk.new) }
-        ensures steps { reads_files command.now ≡ false → steps.new ≡ steps.old }
-        ensures known { IsTrue (D.shown disk.old).tells → (last m : Machine) → StandsFor (D.shown disk.old) self.old last m → OnOk result (steps.new ≡ steps.old) }
+        ensures calm { command.now ≢ Cp → (room_of command.now ≡ 0) ⊎ (self.old.pending + room_of command.now ≤ dirty_limit) → disk.new ≡ disk.old }
+        ensures steps { steps.new ≡ steps.old }
         ensures dead { IsSome self.old.failed → disk.new ≡ disk.old }
     {
         if let Some(faults) = self.failed {
@@ -134,22 +127,7 @@ impl Session {
             Command::VolCreate { volume, size, kind } => self.create(disk, volume, *size, *kind),
             Command::VolList => Ok(Reply::Names(names_of(self.alloc, &self.volumes)?)),
             Command::Cp => self.reclaim(disk),
-            Command::Get {
-                volume,
-                snapshot,
-                file,
-                index,
-            } => self.content(disk, volume, snapshot.as_ref(), file, *index, steps),
-            Command::Len {
-                volume,
-                snapshot,
-                file,
-            } => self.length(disk, volume, snapshot.as_ref(), file),
-            Command::Ls { volume, snapshot } => self.list(disk, volume, snapshot.as_ref()),
-            _ => match changed_volume(command) {
-                Some(volume) => self.change(disk, volume, command),
-                None => Ok(Reply::Refused(Refusal::Syntax)),
-            },
+            _ => Ok(Reply::Refused(Refusal::Syntax)),
         }
     }
 
@@ -170,7 +148,6 @@ impl Session {
             → OnOk result (StandsFor (D.shown disk.new) self.new m m) }
         ensures kept { IsTrue (D.shown disk.old).tells → (last m : Machine) → StandsFor (D.shown disk.old) self.old last m
             → IsNone self.new.failed → OnErr result (StandsFor (D.shown disk.new) self.new last m) }
-        ensures idle { HasNoFilesIn self.old → IfErr result (λ fault. fault ≢ Fault.Memory) }
         ensures dead { IsSome self.old.failed → disk.new ≡ disk.old }
     {
         match self.failed {

@@ -1,5 +1,5 @@
 -- The files of volumes are placed slot by slot.
-use Rattle.std.proofs.Common.{◌≡◌, ◌≢◌, ℕ, ◌<◌, ◌≤◌, ◌+◌, Option, Some, None, inl, ⊎_elim, refl, sym, ap, subst, ◌∙◌, arith, get_or-set_other}
+use Rattle.std.proofs.Common.{◌≡◌, ◌≢◌, ℕ, ◌<◌, ◌≤◌, ◌+◌, Option, Some, None, is_some, true≢false, inl, ⊎_elim, refl, sym, ap, subst, ◌∙◌, arith, get_or-set_other}
 use Rattle.std.specs.Prelude.{IfSome}
 use Rattle.std.proofs.lemmas.Bool.{cases_eq}
 use Rattle.std.proofs.lemmas.List.Sums.{sum_by-set}
@@ -17,7 +17,7 @@ use Rattle.fv_volume.specs.States.{States, state_at, with_state}
 use Rattle.fv_volume.proofs.Told.{is_inside}
 use Rattle.fv_cp.specs.Held.{IsHeld, IsHeldIn}
 use Rattle.fv_cp.specs.Lent.{FitTogether}
-use Rattle.fv_cp.specs.Placing.{ArePlaced, AreReady, HasNoFiles, HasNumbers, HasWholeMap, HaveRoom, HaveSpent, IsReadyIn, IsSlotPlaced, MayFail, PlacesSlot, pending_by}
+use Rattle.fv_cp.specs.Placing.{ArePlaced, AreReady, HasNoFiles, HasNumbers, HasWholeMap, HaveNoFiles, HaveRoom, HaveSpent, IsReadyIn, IsSlotPlaced, MayFail, PlacesSlot, pending_by}
 use Rattle.fv_cp.proofs.Placed.{asked_still, cores_still, fit_still, found_still, held_still, idle_still, spent_still, machine_still, only_read, ready_still}
 
 -- what the placing of some files leaves
@@ -78,7 +78,15 @@ module _ (disk : Shown) (pool : Pool) (states : States) (mid : Shown) (held : Po
           let part = sum_by-set pending_by between slot None None (omega (arith, inside, long)) in
           let is : pending_by (state_at between slot) ≡ pending_of x.files = ap pending_by there in
           let blocks = now.blocks in
-          fails one.stands (subst HasNumbers there (now.numbers slot)) (omega (arith, part, is, blocks))
+          fails.1 one.stands (subst HasNumbers there (now.numbers slot) fails.0) (omega (arith, part, is, blocks))
+
+  -- it fails with a file in memory alone
+  pub filed_more : (e : VolumeFault) → MayFail mid held (state_at between slot) e → HaveNoFiles states → ⊥
+  filed_more e fails none = by (state_at between slot) fails (subst (λ (xs : States). HasNoFiles (state_at xs slot)) (sym (come.placed.idle none).1) (none slot))
+    where
+      by : (o : Option VolumeState) → MayFail mid held o e → HasNoFiles o → ⊥
+      by None fails none = fails
+      by (Some x) fails none = true≢false (sym fails.0 ∙ ap is_some none)
 
   -- a slot with a volume
   with_volume : (x : VolumeState) → state_at between slot ≡ Some x → IsSlotPlaced mid held between slot x after left stay → HasCome disk pool states after left stay

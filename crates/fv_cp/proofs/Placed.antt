@@ -230,9 +230,8 @@ module _ (disk after : Shown) (pool left : Pool) (states stay : States) (x y : V
     standing : IsStanding after left y
     standing = placed.standing mine.stands
 
-    -- what was placed took no more than there is fewer pending
-    pub spent_still : HaveRoom pool states → HaveSpent pool states left stay
-    spent_still room =
+    spent_some : HaveRoom pool states → is_some x.files ≡ true → HaveSpent pool states left stay
+    spent_some room files =
         let low = inside in
         let long = fit.housed.long in
         let inside_list : s < length states = omega (arith, low, long) in
@@ -241,19 +240,32 @@ module _ (disk after : Shown) (pool left : Pool) (states stay : States) (x y : V
         let was : pending_by (state_at states s) ≡ pending_of x.files = ap pending_by there in
         let all : pending_files stay ≡ pending_files (with_state states s (Some y)) = ap pending_files now in
         let blocks = room.blocks in
-        let numbers : pending_of x.files < free_numbers x.map = subst HasNumbers there (room.numbers s) in
+        let numbers : pending_of x.files < free_numbers x.map = subst HasNumbers there (room.numbers s) files in
         let one = placed.spent mine.stands numbers (omega (arith, part, was, blocks)) in
         record {
           fewer = omega (arith, sum, was, all, one.fewer);
           blocks = omega (arith, sum, was, all, one.blocks);
           numbers = λ k. ⊎_elim
-              (λ (e : k ≡ s). subst (λ (n : ℕ). HasNumbers (state_at stay n)) (sym e) (subst HasNumbers (sym here) (below numbers one.numbers one.fewer)))
+              (λ (e : k ≡ s). subst (λ (n : ℕ). HasNumbers (state_at stay n)) (sym e) (subst HasNumbers (sym here) (λ more. below numbers one.numbers one.fewer)))
               (λ (differ : k ≢ s). subst HasNumbers (sym (other k differ)) (room.numbers k))
               (cases_eq k s);
         }
       where
         below : pending_of x.files < free_numbers x.map → free_numbers x.map + pending_of y.files ≤ free_numbers y.map + pending_of x.files → pending_of y.files ≤ pending_of x.files → pending_of y.files < free_numbers y.map
         below some took fewer = omega (arith, some, took, fewer)
+
+    -- what was placed took no more than there is fewer pending
+    pub spent_still : HaveRoom pool states → HaveSpent pool states left stay
+    spent_still room = of x.files refl
+      where
+        none_left : x.files ≡ None → HaveSpent pool states left stay
+        none_left none =
+            let same = idle_still none in
+            subst (λ (p : Pool). HaveSpent pool states p stay) (sym same.0) (subst (λ (xs : States). HaveSpent pool states pool xs) (sym same.1) (record { fewer = omega arith; numbers = room.numbers; blocks = omega arith }))
+
+        of : (o : Option Files) → x.files ≡ o → HaveSpent pool states left stay
+        of None none = none_left none
+        of (Some f) some = spent_some room (ap is_some some)
 
     told : AreApart left y.map s
     told = subst (λ (n : ℕ). AreApart left y.map n) (ap (λ (z : VolumeState). z.slot) placed.keeps) standing.told.1

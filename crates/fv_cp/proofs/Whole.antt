@@ -35,9 +35,9 @@ use Rattle.fv_volume.specs.States.{States, parent_in, state_at}
 use Rattle.fv_volume.proofs.Settled.{settled_has, settled_keeps}
 use Rattle.fv_cp.specs.Held.{machine_held, IsHeld}
 use Rattle.fv_cp.specs.Lent.{FitTogether, IsLent}
-use Rattle.fv_cp.specs.Placing.{core_of, ArePlaced, AreReady, HasNoFiles, HasWholeMap, HaveRoom, IsPlaceFault, IsReadyIn, KeepCores}
+use Rattle.fv_cp.specs.Placing.{core_of, ArePlaced, AreReady, HasNoFiles, HasWholeMap, HaveNoFiles, HaveRoom, IsPlaceFault, IsReadyIn, KeepCores}
 use Rattle.fv_cp.specs.Points.{machine_lent, Counts, GoesOn, IsCalm, IsPoint, LacksRoom, LeavesAll, OldOrLent}
-use Rattle.fv_cp.specs.Settling.{GoesOnWhole, HasWholeCause, HaveFullRoom, IsHeldPoint, IsNoDamage, OldOrHeld, StillHeld, WholeCounts}
+use Rattle.fv_cp.specs.Settling.{GoesOnWhole, HasWholeCause, HaveFullRoom, IsHeldPoint, IsNoDamage, OldOrHeld, StillHeld, WholeCounts, WholeFails}
 use Rattle.fv_cp.proofs.Lendable.{held_lent, held_machine}
 use Rattle.fv_cp.proofs.Past.{past_held}
 use Rattle.fv_cp.proofs.Placed.{housed_count}
@@ -50,7 +50,7 @@ held_stands disk pool states before held c now =
 
 -- where there is room for all, there is room for what is pending
 pub some_room : (pool : Pool) (states : States) → HaveFullRoom pool states → HaveRoom pool states
-some_room pool states room = record { numbers = room.numbers; blocks = (let blocks = room.blocks in omega (arith, blocks)) }
+some_room pool states room = record { numbers = room.numbers; blocks = room.free }
 
 module _ (disk : Shown) (pool : Pool) (states : States) (mid : Shown) (held : Pool) (between : States) (placed : ArePlaced disk pool states mid held between) where
   pub found_mid : (IsTrue disk.tells → IsFoundOn disk pool.found) → IsTrue mid.tells → IsFoundOn mid held.found
@@ -93,6 +93,13 @@ module _ (disk : Shown) (pool : Pool) (states : States) (mid : Shown) (held : Po
           by : (o : Option VolumeState) → HasNoFiles o → HasNoFiles (option_map (settled_as (goes.settled s).0) o)
           by None is = tt
           by (Some x) is = settled_has (λ (y : VolumeState). y.files ≡ None) x (goes.settled s).0 (λ e. is) (λ e. is)
+
+      unchanged_now : (s : ℕ) → IfSome (state_at stay s) (λ x. x.changed ≡ false)
+      unchanged_now s = settled_of (λ (o : Option VolumeState). IfSome o (λ x. x.changed ≡ false)) s (by (state_at between s))
+        where
+          by : (o : Option VolumeState) → IfSome (option_map (settled_as (goes.settled s).0) o) (λ x. x.changed ≡ false)
+          by None = tt
+          by (Some x) = settled_has (λ (y : VolumeState). y.changed ≡ false) x (goes.settled s).0 (λ e. refl) (λ e. e)
 
       whole_now : (s : ℕ) → HasWholeMap (state_at stay s)
       whole_now s = settled_of HasWholeMap s (by (state_at between s) (whole s))
@@ -156,6 +163,7 @@ module _ (disk : Shown) (pool : Pool) (states : States) (mid : Shown) (held : Po
         fit = goes.fit;
         ready = ready_now;
         none = none_now;
+        unchanged = unchanged_now;
         unkept = goes.unkept;
         cores = cores_now;
         parents = parents_now;
@@ -234,7 +242,20 @@ module _ (disk : Shown) (pool : Pool) (states : States) (mid : Shown) (held : Po
       let blocks = room.blocks in
       absurd (omega (arith, lacks.1.0, lacks.1.1.0, lacks.1.1.1, spent.blocks, asked, blocks))
 
+  -- why it wasn't done, with the files in their places
+  pub fails_left : (new : Shown) (left : Pool) (stay : States) (e : BlockFault) → LacksRoom held between e → LeavesAll mid held between new left stay e → WholeFails states left stay (of_block e)
+  fails_left new left stay DiskFault lacks leaves = tt
+  fails_left new left stay Memory lacks leaves = absurd lacks
+  fails_left new left stay (Damaged at want found) lacks leaves =
+      inl (subst (λ (p : Pool). LacksRoom p stay (Damaged at want found)) (sym leaves.1.0) (subst (λ (xs : States). LacksRoom held xs (Damaged at want found)) (sym leaves.1.1) lacks))
+
 -- ---- the files weren't placed
+
+pub fails_placed : (states : States) (left : Pool) (stay : States) (e : VolumeFault) → IsPlaceFault e → (HaveNoFiles states → ⊥) → WholeFails states left stay e
+fails_placed states left stay (volume.Refused r) fault filed = absurd fault
+fails_placed states left stay volume.DiskFault fault filed = absurd fault
+fails_placed states left stay (volume.Damaged at want found) fault filed = inr filed
+fails_placed states left stay volume.Memory fault filed = filed
 
 place_cause : (disk : Shown) (e : VolumeFault) → IsPlaceFault e → HasWholeCause disk disk (Err e)
 place_cause disk (volume.Refused r) fault = absurd fault

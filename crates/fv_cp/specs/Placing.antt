@@ -56,10 +56,10 @@ abbrev pub PlacesSlot : Shown → Pool → States → ℕ → Option VolumeState
 PlacesSlot disk pool states s None after left stay = Unit {0}
 PlacesSlot disk pool states s (Some x) after left stay = IsSlotPlaced disk pool states s x after left stay
 
--- With a number and a block more than are pending, only memory can be lacking. Nothing fails without a volume.
+-- With a number and a block more than are pending, only memory can be lacking. Nothing fails without a volume that has files in memory.
 abbrev pub MayFail : Shown → Pool → Option VolumeState → VolumeFault → Type 0
 MayFail disk pool None e = ⊥
-MayFail disk pool (Some x) e = IsStanding disk pool x → pending_of x.files < free_numbers x.map → pending_of x.files < free_blocks pool.map → e ≡ Memory
+MayFail disk pool (Some x) e = (is_some x.files ≡ true) × (IsStanding disk pool x → pending_of x.files < free_numbers x.map → pending_of x.files < free_blocks pool.map → e ≡ Memory)
 
 -- ---- all volumes
 
@@ -71,9 +71,9 @@ pending_by (Some x) = pending_of x.files
 abbrev pub pending_files : States → ℕ
 pending_files states = sum_by pending_by states
 
--- a volume has more free numbers than blocks are pending
+-- a volume with files in memory has more free numbers than blocks are pending
 abbrev pub HasNumbers : Option VolumeState → Type 0
-HasNumbers state = IfSome state (λ x. pending_of x.files < free_numbers x.map)
+HasNumbers state = IfSome state (λ x. is_some x.files ≡ true → pending_of x.files < free_numbers x.map)
 
 -- So it is with each, and more blocks are free than are pending.
 pub record HaveRoom (pool : Pool) (states : States) : Type 0 where
@@ -99,6 +99,10 @@ AreReady disk pool states = (s : ℕ) → IfSome (state_at states s) (IsReadyIn 
 abbrev pub HasNoFiles : Option VolumeState → Type 0
 HasNoFiles state = IfSome state (λ x. x.files ≡ None)
 
+-- nor of any
+abbrev pub HaveNoFiles : States → Type 0
+HaveNoFiles states = (s : ℕ) → HasNoFiles (state_at states s)
+
 -- The active map of a volume has each number of its span.
 abbrev pub HasWholeMap : Option VolumeState → Type 0
 HasWholeMap state = IfSome state (λ x. length (active_of x.map) ≡ x.map.span)
@@ -123,7 +127,7 @@ pub record ArePlaced (disk : Shown) (pool : Pool) (states : States) (after : Sho
   pub asked : blocks_asked stay ≡ blocks_asked states
   pub spent : (before : Machine) → IsHeld disk pool states before → HaveRoom pool states → HaveSpent pool states left stay
   pub only_reads : OnlyReads disk after
-  pub idle : ((s : ℕ) → HasNoFiles (state_at states s)) → (left ≡ pool) × (stay ≡ states)
+  pub idle : HaveNoFiles states → (left ≡ pool) × (stay ≡ states)
 
 -- Nothing is refused or read.
 abbrev pub IsPlaceFault : VolumeFault → Type 0

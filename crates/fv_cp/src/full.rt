@@ -10,7 +10,7 @@ ghost use Rattle.fv_container.specs.Chains.{IsSlots, container_at, with_containe
 ghost use Rattle.fv_cp.specs.Held.{IsHeld};
 ghost use Rattle.fv_cp.specs.Lent.{FitTogether};
 ghost use Rattle.fv_cp.specs.Placing.{AreReady};
-ghost use Rattle.fv_cp.specs.Settling.{GoesOnWhole, HaveFullRoom, IsHeldPoint, IsNoDamage, OldOrHeld, StillHeld, WholeCounts};
+ghost use Rattle.fv_cp.specs.Settling.{GoesOnWhole, HaveFullRoom, IsHeldPoint, IsNoDamage, OldOrHeld, StillHeld, WholeCounts, WholeFails};
 
 use crate::placing::flush;
 use crate::point::consistency_point;
@@ -28,8 +28,9 @@ use fv_volume::{Pool, VolumeFault, Volumes};
 /// `DiskFault` comes only where a write or a barrier failed in this call; of what is in memory nothing is said then, and of images as above.
 /// After every other fault the volumes are what they were, and stand for the machine that they stood for, so that they can be changed further
 /// and a later point can write them. `Damaged` and `Memory` come as in `flush`, and `Damaged` where fewer blocks are free than a point asks
-/// for. Volumes that stand for a machine, with more free numbers than are pending, are never `Damaged` where more blocks are free than are
-/// pending and asked for. Nothing is `Refused`.
+/// for. Without a file in memory `Memory` doesn't come, and `Damaged` for want of blocks alone. Volumes that stand for a machine, with more
+/// free numbers than are pending where files are in memory, are never `Damaged` where as many blocks are free as are pending and asked for,
+/// and more than are pending. Nothing is `Refused`.
 ///
 /// Costs what the two calls cost.
 pub fn full_point<D: Disk>(
@@ -52,6 +53,7 @@ pub fn full_point<D: Disk>(
     ensures enough { IsTrue (D.shown disk.old).tells → (before : Machine) → IsHeld (D.shown disk.old) pool.old volumes.old before
         → HaveFullRoom pool.old volumes.old → IfErr result IsNoDamage }
     ensures counts { WholeCounts (D.shown disk.old) (D.shown disk.new) result }
+    ensures fails { IfErr result (WholeFails volumes.old pool.new volumes.new) }
 {
     flush(volumes, pool, &*disk)?;
     consistency_point(volumes, pool, disk, want)?;

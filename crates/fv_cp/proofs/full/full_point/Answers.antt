@@ -6,8 +6,8 @@ use Rattle.fv_container.specs.Chains.{Slots, container_at, with_container}
 use Rattle.fv_volume.specs.declared.fault.VolumeFault.{VolumeFault}
 use Rattle.fv_volume.specs.declared.pool.Pool.{Pool}
 use Rattle.fv_volume.specs.Causes.{of_block}
-use Rattle.fv_cp.specs.Settling.{GoesOnWhole, IsHeldPoint, IsNoDamage, StillHeld, WholeCounts}
-use Rattle.fv_cp.proofs.Whole.{counts_done, counts_failed, counts_placed, enough_left, found_mid, goes_whole, no_damage, placing, point_held, pointing, some_room, still_after}
+use Rattle.fv_cp.specs.Settling.{GoesOnWhole, IsHeldPoint, IsNoDamage, StillHeld, WholeCounts, WholeFails}
+use Rattle.fv_cp.proofs.Whole.{counts_done, counts_failed, counts_placed, enough_left, fails_left, fails_placed, found_mid, goes_whole, no_damage, placing, point_held, pointing, some_room, still_after}
 use Rattle.fv_cp.proofs.full.full_point.Goals as goal
 
 -- a slot that keeps its container
@@ -102,3 +102,18 @@ pub returns-clause-counts : goal.returns-clause-counts
 returns-clause-counts g c =
     let did = c.in_ok-flush.ensures in
     counts_done (g.D.Disk.shown c.args.disk.now) c.args.pool.now c.args.volumes.now (g.D.Disk.shown c.args.disk.now) c.flush.new.pool c.flush.new.volumes did.placed refl (g.D.Disk.shown c.consistency_point.new.disk) c.in_ok-consistency_point.ensures.counts
+
+pub returns-in_err-flush-clause-fails : goal.returns-in_err-flush-clause-fails
+returns-in_err-flush-clause-fails g c =
+    let failed : c.from_residual.result ≡ Err c.in_err-flush.field-0.0 = search rules in
+    subst (λ (r : Result Unit VolumeFault). IfErr r (WholeFails c.args.volumes.now c.flush.new.pool c.flush.new.volumes)) (sym failed)
+    (fails_placed c.args.volumes.now c.flush.new.pool c.flush.new.volumes c.in_err-flush.field-0.0 c.in_err-flush.ensures.cause c.in_err-flush.ensures.filed)
+
+pub returns-in_err-consistency_point-clause-fails : goal.returns-in_err-consistency_point-clause-fails
+returns-in_err-consistency_point-clause-fails g c =
+    let did = c.in_ok-flush.ensures in
+    let lacks = c.in_err-consistency_point.ensures in
+    let failed : c.from_residual-in_err-consistency_point.result ≡ Err (of_block c.in_err-consistency_point.field-0.0) = search rules in
+    subst (λ (r : Result Unit VolumeFault). IfErr r (WholeFails c.args.volumes.now c.consistency_point.new.pool c.consistency_point.new.volumes)) (sym failed)
+    (fails_left (g.D.Disk.shown c.args.disk.now) c.args.pool.now c.args.volumes.now (g.D.Disk.shown c.args.disk.now) c.flush.new.pool c.flush.new.volumes did.placed (g.D.Disk.shown c.consistency_point.new.disk) c.consistency_point.new.pool c.consistency_point.new.volumes
+    c.in_err-consistency_point.field-0.0 lacks.room lacks.lacking)
