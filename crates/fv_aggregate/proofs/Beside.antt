@@ -53,7 +53,7 @@ use Rattle.fv_volume.proofs.Made.{from_pairs, to_pair}
 use Rattle.fv_volume.proofs.NewStanding.{made_standing, made_volume, made_well}
 use Rattle.fv_volume.proofs.Others.{entries_led, entries_standing, entries_volume, entries_well}
 use Rattle.fv_volume.proofs.SlotBlocks.{any_in_range, at_is}
-use Rattle.fv_volume.proofs.Told.{find_set, is_inside, named_from, none_named, same_named}
+use Rattle.fv_volume.proofs.Told.{find_set, is_inside, named_from, none_named as none_found, same_named}
 use Rattle.fv_cp.specs.Held.{machine_held, IsHeld, IsHeldIn}
 use Rattle.fv_cp.specs.Lent.{FitTogether, IsLentAt, IsLentSlot}
 use Rattle.fv_cp.specs.Placing.{AreReady, HasNoFiles, HaveNoFiles, IsReadyIn}
@@ -221,11 +221,11 @@ module _ (disk : Shown) (pool : Pool) (states : States) (slot : ℕ) (name : Lis
     no_number v = ap (λ (m : MapSlots). is_member (active_of m) v) is.map ∙ is_member-replicate x.span v
 
     led_new : IsLedTo disk after x
-    led_new = subst (AreLedBy (under (shows disk after x)) (shows disk after x).used x.active) (sym is.files) (λ v nowhere. unused (is_member (active_of x.map) v) (no_number v))
+    led_new = subst (AreLedBy (under (shows disk after x)) (shows disk after x).used x.active) (sym is.files) (λ v nowhere. unused _ (is_member (active_of x.map) v) (no_number v))
       where
-        unused : {u : Use} (b : Bool) → b ≡ false → cond b (Some u) None ≡ None
-        unused true e = absurd (true≢false e)
-        unused false e = refl
+        unused : (u : Use) (b : Bool) → b ≡ false → cond b (Some u) None ≡ None
+        unused u true e = absurd (true≢false e)
+        unused u false e = refl
 
     held_new : IsHeldIn disk after slot x
     held_new = record {
@@ -362,7 +362,7 @@ module _ (disk : Shown) (pool : Pool) (states : States) (slot : ℕ) (name : Lis
         let m : Machine = machine_held disk pool states in
         let called : x.name ≡ name = ap (λ (h : Head). h.name) is.head in
         let volume : now_meant (0 + slot) x ≡ empty_volume size kind = made_volume disk after x size kind head_own is.ledger is.files in
-        let unnamed : find name_cmp x.name (named_from now_meant 0 states) ≡ None = (λ j. find name_cmp (called j) (old_same j)) ∙ none_named meant states 0 name (λ s lt. admits.1.name_is.none s (let all = fit.housed.long in omega (arith, lt, all))) in
+        let unnamed : find name_cmp x.name (named_from now_meant 0 states) ≡ None = (λ j. find name_cmp (called j) (old_same j)) ∙ none_found meant states 0 name (λ s lt. admits.1.name_is.none s (let all = fit.housed.long in omega (arith, lt, all))) in
         let map : (machine_held disk after new).volumes ≡ fin.insert m.volumes name (empty_volume size kind) =
         fin.same_map name_total name_ties _ _ (λ q.
         at_name disk after new housed.long q ∙ ap (λ (xs : States). find name_cmp q (named_from now_meant 0 xs)) now_is

@@ -11,7 +11,7 @@ use Rattle.fv_volume.specs.Creating.{Admits, IsMade, IsNew, with_holes}
 use Rattle.fv_volume.specs.Slots.{IsFirstFree}
 use Rattle.fv_volume.specs.States.{state_at}
 use Rattle.fv_volume.specs.Files.{IsLabelled}
-use Rattle.fv_cp.specs.Lent.{blocks_asked}
+use Rattle.fv_cp.specs.Lent.{FitTogether, blocks_asked}
 use Rattle.fv_aggregate.specs.declared.session.Session.{Session}
 
 -- Beside the overheads of the last point there is room for what is pending, and for so many blocks more.
@@ -33,6 +33,7 @@ pub record IsAdded (old : Session) (name : List ℕ) (size : ℕ) (kind : Kind) 
   pub place : ℕ
   pub span : ℕ
   pub admits : Admits old.volumes old.pool.found.blocks name size kind place span
+  pub fit : FitTogether old.pool old.volumes
   pub long : length old.volumes ≡ slot_count
   pub asked : blocks_asked new.volumes ≤ blocks_asked old.volumes + room
   pub failed : new.failed ≡ old.failed

@@ -37,7 +37,7 @@ use Rattle.fv_cp.specs.Held.{machine_held, IsHeld}
 use Rattle.fv_cp.specs.Lent.{FitTogether, IsLent}
 use Rattle.fv_cp.specs.Placing.{core_of, ArePlaced, AreReady, HasNoFiles, HasWholeMap, HaveNoFiles, HaveRoom, IsPlaceFault, IsReadyIn, KeepCores}
 use Rattle.fv_cp.specs.Points.{machine_lent, Counts, GoesOn, IsCalm, IsPoint, LacksRoom, LeavesAll, OldOrLent}
-use Rattle.fv_cp.specs.Settling.{GoesOnWhole, HasWholeCause, HaveFullRoom, IsHeldPoint, IsNoDamage, OldOrHeld, StillHeld, WholeCounts, WholeFails}
+use Rattle.fv_cp.specs.Settling.{GoesOnWhole, HasWholeCause, HaveFullRoom, IsHeldPoint, IsNoDamage, IsStill, OldOrHeld, StillHeld, WholeCounts, WholeFails}
 use Rattle.fv_cp.proofs.Lendable.{held_lent, held_machine}
 use Rattle.fv_cp.proofs.Past.{past_held}
 use Rattle.fv_cp.proofs.Placed.{housed_count}
@@ -200,10 +200,10 @@ module _ (disk : Shown) (pool : Pool) (states : States) (mid : Shown) (held : Po
       (subst (λ (xs : States). StillHeld disk pool states mid held xs) (sym g) (record { placed = placed; stands = stands; ready = ready })))
 
   pub still_after : {T : Type 0} (shown : T → Shown) (a b : T) → shown a ≡ mid → AreReady mid held between → StandsOn mid held.store.pairs → (left : Pool) (stay : States) (e : BlockFault) → IsCalm a b e → LeavesAll mid held between (shown b) left stay e
-      → HasBlockCause {T = Unit {0}} mid.write_faults (shown b).write_faults (Err e) → (Rose disk.write_faults (shown b).write_faults → ⊥) → StillHeld disk pool states (shown b) left stay
-  still_after shown a b at ready stands left stay DiskFault calm leaves cause calmly = absurd (calmly (subst (λ (n : ℕ). Rose n (shown b).write_faults) placed.only_reads.write_faults cause))
-  still_after shown a b at ready stands left stay (Damaged what want found) calm leaves cause calmly = still_placed ready (shown b) left stay (ap shown calm ∙ at) leaves.1.0 leaves.1.1 stands
-  still_after shown a b at ready stands left stay Memory calm leaves cause calmly = still_placed ready (shown b) left stay (ap shown calm ∙ at) leaves.1.0 leaves.1.1 stands
+      → IsStill disk pool states (shown b) left stay (of_block e)
+  still_after shown a b at ready stands left stay DiskFault calm leaves = tt
+  still_after shown a b at ready stands left stay (Damaged what want found) calm leaves = still_placed ready (shown b) left stay (ap shown calm ∙ at) leaves.1.0 leaves.1.1 stands
+  still_after shown a b at ready stands left stay Memory calm leaves = still_placed ready (shown b) left stay (ap shown calm ∙ at) leaves.1.0 leaves.1.1 stands
 
   -- ---- the counts
 
@@ -250,6 +250,13 @@ module _ (disk : Shown) (pool : Pool) (states : States) (mid : Shown) (held : Po
       inl (subst (λ (p : Pool). LacksRoom p stay (Damaged at want found)) (sym leaves.1.0) (subst (λ (xs : States). LacksRoom held xs (Damaged at want found)) (sym leaves.1.1) lacks))
 
 -- ---- the files weren't placed
+
+-- what was placed of the files stays
+pub still_placing : (disk : Shown) (pool : Pool) (states : States) (left : Pool) (stay : States) (e : VolumeFault) → IsPlaceFault e → StillHeld disk pool states disk left stay → IsStill disk pool states disk left stay e
+still_placing disk pool states left stay (volume.Refused r) fault still = fault
+still_placing disk pool states left stay volume.DiskFault fault still = tt
+still_placing disk pool states left stay (volume.Damaged at want found) fault still = still
+still_placing disk pool states left stay volume.Memory fault still = still
 
 pub fails_placed : (states : States) (left : Pool) (stay : States) (e : VolumeFault) → IsPlaceFault e → (HaveNoFiles states → ⊥) → WholeFails states left stay e
 fails_placed states left stay (volume.Refused r) fault filed = absurd fault

@@ -52,11 +52,18 @@ pub record GoesOnWhole (old : Shown) (pool : Pool) (states : States) (new : Show
   pub parents : (s : ℕ) → parent_at left.containers s ≡ parent_at pool.containers s
   pub blocks : left.found.blocks ≡ pool.found.blocks
 
--- What is left where it wasn't done, but for want of a write or a barrier: some files may have been placed. The volumes are what they were.
+-- What is left where it wasn't done for want of blocks, numbers or memory: some files may have been placed. The volumes are what they were.
 pub record StillHeld (old : Shown) (pool : Pool) (states : States) (new : Shown) (left : Pool) (stay : States) : Type 0 where
   pub placed : ArePlaced old pool states new left stay
   pub stands : StandsOn new left.store.pairs
   pub ready : AreReady new left stay
+
+-- So it is after each fault but one of the disk.
+abbrev pub IsStill : Shown → Pool → States → Shown → Pool → States → VolumeFault → Type 0
+IsStill old pool states new left stay (Refused r) = ⊥
+IsStill old pool states new left stay DiskFault = Unit {0}
+IsStill old pool states new left stay (Damaged at want found) = StillHeld old pool states new left stay
+IsStill old pool states new left stay Memory = StillHeld old pool states new left stay
 
 -- Both counts of faults rose where a write or barrier failed, and stay elsewhere. Nothing is refused.
 abbrev pub HasWholeCause : Shown → Shown → Result Unit VolumeFault → Type 0

@@ -1,8 +1,7 @@
 //! A consistency point of all that changed, files included.
 
-ghost use Rattle.std.specs.Prelude.{◌≡◌, IsTrue, IfErr, OnOk, OnErr};
+ghost use Rattle.std.specs.Prelude.{◌≡◌, IsTrue, IfErr, OnOk};
 ghost use Rattle.fv_disk.specs.Crash.{Leaves};
-ghost use Rattle.fv_disk.specs.Shown.{Rose};
 ghost use Rattle.fv_model.specs.Machines.{Machine};
 ghost use Rattle.fv_root.specs.Commits.{IsFoundOn};
 ghost use Rattle.fv_store.specs.Held.{StandsOn};
@@ -10,7 +9,7 @@ ghost use Rattle.fv_container.specs.Chains.{IsSlots, container_at, with_containe
 ghost use Rattle.fv_cp.specs.Held.{IsHeld};
 ghost use Rattle.fv_cp.specs.Lent.{FitTogether};
 ghost use Rattle.fv_cp.specs.Placing.{AreReady};
-ghost use Rattle.fv_cp.specs.Settling.{GoesOnWhole, HaveFullRoom, IsHeldPoint, IsNoDamage, OldOrHeld, StillHeld, WholeCounts, WholeFails};
+ghost use Rattle.fv_cp.specs.Settling.{GoesOnWhole, HaveFullRoom, IsHeldPoint, IsNoDamage, IsStill, OldOrHeld, WholeCounts, WholeFails};
 
 use crate::placing::flush;
 use crate::point::consistency_point;
@@ -48,8 +47,7 @@ pub fn full_point<D: Disk>(
     ensures point { IsTrue (D.shown disk.old).tells → (before : Machine) → IsHeld (D.shown disk.old) pool.old volumes.old before
         → OnOk result (IsHeldPoint (D.shown disk.old) pool.old volumes.old (D.shown disk.new) pool.new volumes.new) }
     ensures goes_on { OnOk result (GoesOnWhole (D.shown disk.old) pool.old volumes.old (D.shown disk.new) pool.new volumes.new) }
-    ensures still { OnErr result (¬ Rose (D.shown disk.old).write_faults (D.shown disk.new).write_faults
-        → StillHeld (D.shown disk.old) pool.old volumes.old (D.shown disk.new) pool.new volumes.new) }
+    ensures still { IfErr result (IsStill (D.shown disk.old) pool.old volumes.old (D.shown disk.new) pool.new volumes.new) }
     ensures enough { IsTrue (D.shown disk.old).tells → (before : Machine) → IsHeld (D.shown disk.old) pool.old volumes.old before
         → HaveFullRoom pool.old volumes.old → IfErr result IsNoDamage }
     ensures counts { WholeCounts (D.shown disk.old) (D.shown disk.new) result }
