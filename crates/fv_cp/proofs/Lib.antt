@@ -14,3 +14,4 @@ pub mod Records
 pub mod Lendable
 pub mod Past
 pub mod Whole
+pub mod Resting
