@@ -1,7 +1,7 @@
 -- A new volume beside those of a session between points: all of them are what they were, and the machine has one more.
-use Rattle.std.proofs.Common.{◌≡◌, ◌≢◌, ℕ, zero, suc, ◌+◌, ◌*◌, ◌<◌, ◌≤◌, Bool, true, false, cond, List, length, length-set, Option, Some, None, true≢false, refl, sym, ap, subst, ◌∙◌, ⊎_elim, arith}
+use Rattle.std.proofs.Common.{◌≡◌, ◌≢◌, ℕ, zero, suc, ◌+◌, ◌<◌, ◌≤◌, Bool, true, false, cond, List, length, Option, Some, None, true≢false, refl, sym, ap, subst, ◌∙◌, ⊎_elim, arith}
 use Rattle.std.specs.Prelude.{IfSome, IsTrue, replicate, ◌||◌}
-use Rattle.std.specs.Option.{is_some, option_map}
+use Rattle.std.specs.Option.{is_some}
 use Rattle.std.specs.Ordering.{eq_by_cmp}
 use Rattle.std.specs.FinMap as fin
 use Rattle.std.specs.FinMap.{find}
@@ -19,19 +19,17 @@ use Rattle.fv_model.specs.Space.{span_of}
 use Rattle.fv_model.specs.Spelling.{is_same_name, name_cmp}
 use Rattle.fv_model.specs.Volumes.{Volume}
 use Rattle.fv_model.specs.Effects.{change_of, effect, empty_volume}
-use Rattle.fv_model.specs.Refusals.{next, refusal}
+use Rattle.fv_model.specs.Refusals.{next}
 use Rattle.fv_laws.proofs.Changes.{itself}
 use Rattle.fv_laws.proofs.Orders.{name_total, name_ties}
 use Rattle.fv_tree.specs.Sources.{Use}
 use Rattle.fv_tree.specs.Standing.{under}
-use Rattle.fv_files.specs.declared.files.Files.{Files}
 use Rattle.fv_image.specs.Views.{Head, entry_count}
 use Rattle.fv_image.specs.Held.{label_place}
 use Rattle.fv_image.proofs.LoneTables.{form_base}
 use Rattle.fv_root.specs.Finding.{root_found}
 use Rattle.fv_charge.specs.declared.ledger.Ledger.{Ledger}
 use Rattle.fv_charge.specs.Ledgers.{committed}
-use Rattle.fv_container.specs.declared.entry.Entry.{Entry}
 use Rattle.fv_container.specs.Mapped.{Mapped, empty_map, entry_under, node_count}
 use Rattle.fv_container.specs.Spelled.{is_at, names}
 use Rattle.fv_container.specs.Chains.{container_at, own_entry, parent_at}
@@ -43,11 +41,11 @@ use Rattle.fv_volume.specs.BlocksOver.{entries_in}
 use Rattle.fv_volume.specs.Creating.{Admits, IsMade, IsNew, new_ledger_of, with_holes}
 use Rattle.fv_volume.specs.Files.{AreNamed, IsLabelled}
 use Rattle.fv_volume.specs.Housed.{AreHoused}
-use Rattle.fv_volume.specs.OneVolume.{shows, volume_for, IsReady, IsStanding}
-use Rattle.fv_volume.specs.Placing.{AreLedBy, IsLedTo, IsStoredWell}
+use Rattle.fv_volume.specs.OneVolume.{shows, volume_for, IsReady}
+use Rattle.fv_volume.specs.Placing.{AreLedBy, IsLedTo}
 use Rattle.fv_volume.specs.Slots.{committed_by, is_named, sum_of, IsFirstFree}
 use Rattle.fv_volume.specs.States.{States, empty_head, head_in, parent_in, state_at, with_state}
-use Rattle.fv_volume.specs.Stored.{AreApartIn, AreSpacedIn, has_block, is_of, leads, place_at, place_in}
+use Rattle.fv_volume.specs.Stored.{AreSpacedIn, has_block, is_of, leads, place_in}
 use Rattle.fv_volume.proofs.Housing.{housed_with}
 use Rattle.fv_volume.proofs.Made.{from_pairs, to_pair}
 use Rattle.fv_volume.proofs.NewStanding.{made_standing, made_volume, made_well}
@@ -56,10 +54,10 @@ use Rattle.fv_volume.proofs.SlotBlocks.{any_in_range, at_is}
 use Rattle.fv_volume.proofs.Told.{find_set, is_inside, named_from, none_named as none_found, same_named}
 use Rattle.fv_cp.specs.Held.{machine_held, IsHeld, IsHeldIn}
 use Rattle.fv_cp.specs.Lent.{FitTogether, IsLentAt, IsLentSlot}
-use Rattle.fv_cp.specs.Placing.{AreReady, HasNoFiles, HaveNoFiles, IsReadyIn}
+use Rattle.fv_cp.specs.Placing.{AreReady, HaveNoFiles, IsReadyIn}
 use Rattle.fv_cp.proofs.Placed.{alone_by}
 use Rattle.fv_aggregate.proofs.Admitting.{accepted_held}
-use Rattle.fv_aggregate.proofs.HeldMachine.{at_name, blocks_are, one}
+use Rattle.fv_aggregate.proofs.HeldMachine.{at_name, one}
 
 -- ---- a container of holes
 

@@ -1,10 +1,10 @@
 -- What a session stands for after a consistency point.
-use Rattle.std.proofs.Common.{◌≡◌, ◌<◌, ◌≤◌, ◌+◌, ◌-◌, ◌*◌, ℕ, true, false, cond, List, Option, Some, None, Ok, Err, is_some, true≢false, refl, sym, ap, subst, ◌∙◌, ⊎_elim, inl, inr, arith, length, sum_by}
+use Rattle.std.proofs.Common.{◌≡◌, ◌<◌, ◌≤◌, ◌+◌, ◌-◌, ◌*◌, ℕ, true, false, List, Option, Some, None, Ok, Err, is_some, true≢false, refl, sym, ap, subst, ◌∙◌, ⊎_elim, inl, inr, arith, length, sum_by}
 use Rattle.std.specs.Prelude.{IfSome, IsNone, IsSome, IsTrue, max}
 use Rattle.std.specs.List.{range_with_len}
 use Rattle.std.specs.Option.{option_map}
 use Rattle.std.proofs.lemmas.Bool.Decides.{nat_tests}
-use Rattle.fv_disk.specs.Shown.{Rose, Shown}
+use Rattle.fv_disk.specs.Shown.{Shown}
 use Rattle.fv_disk.specs.Crash.{Leaves}
 use Rattle.fv_disk.specs.DiskCalls.{OnlyReads}
 use Rattle.fv_disk.proofs.Moments.{weaken}
@@ -23,15 +23,13 @@ use Rattle.fv_image.proofs.OwnBases.{uses_own}
 use Rattle.fv_image.proofs.Points.{UsesOwn, room_beside_commits}
 use Rattle.fv_image.proofs.WellLabels.{numbers_at}
 use Rattle.fv_root.specs.Finding.{root_found}
-use Rattle.fv_root.specs.Commits.{IsFoundOn}
-use Rattle.fv_store.specs.Held.{StandsOn}
 use Rattle.fv_aggmap.specs.Loading.{IsLoaded as IsMapLoaded}
 use Rattle.fv_aggmap.specs.Space.{free_blocks}
 use Rattle.fv_aggmap.proofs.Room.{room_when_loaded, room_when_sound}
 use Rattle.fv_container.specs.Chains.{container_at}
 use Rattle.fv_container.specs.Mapped.{Mapped}
 use Rattle.fv_cp.specs.Held.{machine_held, IsHeld}
-use Rattle.fv_cp.specs.Lent.{IsLentAt, blocks_asked}
+use Rattle.fv_cp.specs.Lent.{IsLentAt}
 use Rattle.fv_cp.specs.Placing.{pending_by, pending_files, core_of, AreReady, HasNoFiles, HasNumbers, HaveNoFiles, KeepCores}
 use Rattle.fv_cp.specs.Points.{LacksRoom}
 use Rattle.fv_cp.specs.Settling.{GoesOnWhole, HaveFullRoom, IsHeldPoint, OldOrHeld, StillHeld, WholeCounts, WholeFails}

@@ -1,5 +1,5 @@
 -- The steps of `vol create`: it is admitted, room is made for it, and then it is added in memory.
-use Rattle.std.specs.Prelude.{◌≡◌, ◌≤◌, ◌+◌, ℕ, List, length, max, None, IfSome}
+use Rattle.std.specs.Prelude.{◌≡◌, ◌≤◌, ◌+◌, ℕ, List, length, max, IfSome}
 use Rattle.fv_disk.specs.Shown.{Shown}
 use Rattle.fv_model.specs.declared.commands.Kind.{Kind}
 use Rattle.fv_image.specs.Held.{view_at}

@@ -83,7 +83,11 @@ impl Session {
                 self.failed = failure(disk, before);
                 Err(Fault::DiskFault)
             }
-            Err(VolumeFault::Damaged { at, want, found }) => Err(Fault::Damaged { at, want, found }),
+            Err(VolumeFault::Damaged { at, want, found }) => Err(Fault::Damaged {
+                at,
+                want,
+                found,
+            }),
             Err(VolumeFault::Memory) => Err(Fault::Memory),
             Err(VolumeFault::Refused(_)) => unreachable!(),
         }

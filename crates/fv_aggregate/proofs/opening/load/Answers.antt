@@ -1,4 +1,4 @@
-use Rattle.std.proofs.Common.{◌≡◌, ◌∙◌, ℕ, length, Some, None, Result, Err, rules, sym, ap, subst}
+use Rattle.std.proofs.Common.{◌≡◌, ◌∙◌, length, Some, None, Result, Err, rules, sym, ap, subst}
 use Rattle.std.specs.Prelude.{IfErr, IsTrue}
 use Rattle.fv_disk.specs.declared.fault.BlockFault.{BlockFault}
 use Rattle.fv_aggregate.specs.declared.fault.OpenFault.{OpenFault}

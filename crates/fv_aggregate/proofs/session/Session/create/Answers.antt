@@ -1,4 +1,4 @@
-use Rattle.std.proofs.Common.{◌≡◌, length, sym, ap, subst, ◌∙◌}
+use Rattle.std.proofs.Common.{length, sym, ap, subst, ◌∙◌}
 use Rattle.std.specs.Prelude.{IsNone}
 use Rattle.fv_volume.specs.Creating.{Admits, Refuses}
 use Rattle.fv_aggregate.specs.declared.session.Session.{Session}
