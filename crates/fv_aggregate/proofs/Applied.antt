@@ -2,7 +2,7 @@
 use Rattle.std.proofs.Common.{◌≡◌, ◌≢◌, ℕ, Bool, false, List, Result, Ok, Err, refl, sym, ap, subst, ◌∙◌, arith}
 use Rattle.std.specs.Prelude.{IfOk, if◌then◌else◌}
 use Rattle.std.specs.FinMap as fin
-use Rattle.fv_disk.specs.Shown.{Image, Shown, IsDisk}
+use Rattle.fv_disk.specs.Shown.{Shown, IsDisk}
 use Rattle.fv_model.specs.declared.answers.Refusal.TheVariants.{Syntax}
 use Rattle.fv_model.specs.declared.answers.Reply.{Reply}
 use Rattle.fv_model.specs.declared.answers.Reply.TheVariants.{Done, Names, Refused}
@@ -14,14 +14,14 @@ use Rattle.fv_model.specs.Effects.{change_of}
 use Rattle.fv_model.specs.Refusals.{conditions, next}
 use Rattle.fv_model.specs.Replies.{Allows, answer}
 use Rattle.fv_model.specs.Space.{overhead, span_of}
-use Rattle.fv_volume.specs.declared.pool.Pool.{Pool}
-use Rattle.fv_volume.specs.Trees.{Trees, machine_in, no_trees}
 use Rattle.fv_aggregate.specs.declared.fault.Fault.{Fault}
 use Rattle.fv_aggregate.specs.declared.session.Session.{Session}
 use Rattle.fv_aggregate.specs.Calls.{Goes, GoesFor, IsNoDamage}
 use Rattle.fv_aggregate.specs.Commands.{Replies, RepliesBy, is_built, machine_after, room_of}
 use Rattle.fv_aggregate.specs.Standing.{StandsAfter, StandsFor}
+use Rattle.fv_aggregate.specs.Telling.{names_from}
 use Rattle.fv_aggregate.proofs.Standing.{rests_for_last, stays_for}
+use Rattle.fv_aggregate.proofs.Telling.{names_are}
 
 -- ---- a call that leaves the disk and the session
 
@@ -72,10 +72,10 @@ unfolding is_built machine_after conditions change_of
 list_after command m is = ap (machine_after m) is
 
 pub list_replies : (command : Command) → command ≡ VolList → (disk : Shown) (session : Session) (last m : Machine) → StandsFor disk session last m → (names : List (List ℕ))
-    → ((pool : Pool) (trees : Trees) (i : Image) → names ≡ fin.keys (machine_in pool session.volumes trees i).volumes) → Replies m command (Names names)
+    → names ≡ names_from session.volumes 0 64 → Replies m command (Names names)
 unfolding is_built conditions answer
 list_replies command is disk session last m stands names listed =
-    let told : names ≡ fin.keys m.volumes = listed session.pool no_trees disk.reads ∙ ap (λ (x : Machine). fin.keys x.volumes) stands.machine in
+    let told : names ≡ fin.keys m.volumes = listed ∙ names_are disk session.pool session.volumes ∙ ap (λ (x : Machine). fin.keys x.volumes) stands.machine in
     subst (λ (c : Command). Replies m c (Names names)) (sym is) (ap Names told)
 
 -- ---- cp

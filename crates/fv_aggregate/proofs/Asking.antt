@@ -1,8 +1,7 @@
 -- What a consistency point asks for, and the image that lacks it.
 use Rattle.std.proofs.Common.{◌≡◌, ◌<◌, ◌≤◌, ◌+◌, ◌-◌, ℕ, Bool, true, false, not, ◌||◌, cond, List, length, Option, Some, None, refl, sym, ap, subst, ◌∙◌, arith}
-use Rattle.std.specs.Prelude.{IsTrue, count_by, max}
+use Rattle.std.specs.Prelude.{IfSome, IsTrue, count_by, max}
 use Rattle.std.specs.List.{range_with_len}
-use Rattle.std.specs.Option.{option_map}
 use Rattle.std.proofs.lemmas.List.Sums.{sum_by-set}
 use Rattle.fv_disk.specs.Shown.{Image, Shown}
 use Rattle.fv_disk.specs.DiskCalls.{OnlyReads}
@@ -25,7 +24,6 @@ use Rattle.fv_volume.specs.declared.state.VolumeState.{VolumeState}
 use Rattle.fv_volume.specs.Creating.{IsMade}
 use Rattle.fv_volume.specs.Slots.{IsFirstFree}
 use Rattle.fv_volume.specs.States.{States, state_at, view_over}
-use Rattle.fv_volume.specs.Housed.{AreSettled, settled_as}
 use Rattle.fv_cp.specs.Lent.{asked_by, blocks_asked}
 use Rattle.fv_aggregate.specs.declared.session.Session.{Session}
 use Rattle.fv_aggregate.specs.Asking.{AsksWithin, IsShort, free_under}
@@ -74,19 +72,13 @@ asks_after_reads old new session room reads asks = record {
 pub asked_opened : (pool : Pool) (states : States) (i : Image) → length states ≡ 64 → view_over pool states i ≡ view_at (root_found pool.found) i → blocks_asked states ≤ overheads (view_at (root_found pool.found) i)
 asked_opened pool states i long seen = omega (arith, asked_within pool states i long, ap overheads seen)
 
--- a volume that was just written asks for nothing
-settled_asks : (o : Option VolumeState) (label : ℕ) → asked_by (option_map (settled_as label) o) ≡ 0
-settled_asks None label = refl
-settled_asks (Some x) label = so x.changed refl
+-- volumes without changes ask for nothing, as after a point
+pub asked_unchanged : (states : States) → length states ≡ 64 → ((s : ℕ) → IfSome (state_at states s) (λ x. x.changed ≡ false)) → blocks_asked states ≡ 0
+asked_unchanged states long unchanged = over_slots asked_by states long ∙ none_sum (λ s. asked_by (state_at states s)) 0 64 (λ k low high. by (state_at states k) (unchanged k))
   where
-    so : (t : Bool) → x.changed ≡ t → asked_by (Some (cond t (record x { label = label; changed = false }) x)) ≡ 0
-    so true e = refl
-    so false e = ap {B = ℕ} (λ (b : Bool). cond b (overhead x.span) 0) e
-
--- so after a point nothing is asked for
-pub asked_settled : (were now : States) → length now ≡ 64 → AreSettled were now → blocks_asked now ≡ 0
-asked_settled were now long settled =
-    over_slots asked_by now long ∙ none_sum (λ s. asked_by (state_at now s)) 0 64 (λ k low high. ap asked_by (settled k).1 ∙ settled_asks (state_at were k) (settled k).0)
+    by : (o : Option VolumeState) → IfSome o (λ x. x.changed ≡ false) → asked_by o ≡ 0
+    by None is = refl
+    by (Some x) is = ap {B = ℕ} (λ (b : Bool). cond b (overhead x.span) 0) is
 
 -- a new volume asks for its overhead
 pub asked_made : (states : States) (slot : ℕ) (name : List ℕ) (size : ℕ) (kind : Kind) (now : States) → length states ≡ 64 → IsFirstFree states slot → IsMade states slot name size kind now

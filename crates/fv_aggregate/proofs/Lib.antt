@@ -4,6 +4,8 @@ mod Calls
 mod Standing
 mod Lent
 mod PointEnds
+mod HeldMachine
+mod Admitting
 mod Beside
 mod Added
 mod Telling

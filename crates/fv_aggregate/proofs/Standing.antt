@@ -12,7 +12,8 @@ use Rattle.fv_image.specs.WholeMachine.{Tells, machine_of}
 use Rattle.fv_image.proofs.SoundTests.{machine_told, machine_under}
 use Rattle.fv_root.specs.Finding.{IsFound, root_found}
 use Rattle.fv_aggmap.specs.Loading.{IsLoaded as IsMapLoaded}
-use Rattle.fv_cp.specs.Lent.{IsLent}
+use Rattle.fv_cp.specs.Held.{IsHeld}
+use Rattle.fv_cp.specs.Placing.{AreReady}
 use Rattle.fv_volume.specs.declared.pool.Pool.{Pool}
 use Rattle.fv_volume.specs.States.{States}
 use Rattle.fv_aggregate.specs.declared.session.Session.{Session}
@@ -25,8 +26,8 @@ held_after old new session reads held = record {
   same = λ tells pvbn block has. held.same (subst IsTrue reads.stays.tells tells) pvbn block has ∙ ap (λ (i : Image). i pvbn) (sym reads.stays.reads);
 }
 
-pub stands_after_reads : (old new : Shown) (session : Session) → OnlyReads old new → Stands old session → Stands new session
-stands_after_reads old new session reads stands = record {
+pub stands_after_reads : (old new : Shown) (session : Session) → OnlyReads old new → AreReady new session.pool session.volumes → Stands old session → Stands new session
+stands_after_reads old new session reads ready stands = record {
   found = λ tells.
       let was = stands.found (subst IsTrue reads.stays.tells tells) in
       record {
@@ -35,6 +36,8 @@ stands_after_reads old new session reads stands = record {
       };
   map = λ tells. subst (λ i. IsMapLoaded i session.pool.found session.pool.map) (sym reads.stays.reads) (stands.map (subst IsTrue reads.stays.tells tells));
   cache = held_after old new session reads stands.cache;
+  ready = ready;
+  none = stands.none;
 }
 
 -- each block that a disk reads is one of 4096 bytes
@@ -44,15 +47,15 @@ reads_whole disk laws tells b = (laws.blocks disk.moment disk.reads disk.given (
 -- ---- what a crash leaves
 
 -- each image of a crash stands for the machine of the last point
-pub stands_for_last : (disk : Shown) (pool : Pool) (states : States) (last : Machine) → IsLent disk pool states last → (c : Image) → disk.images c → machine_of c ≡ Some last
-stands_for_last disk pool states last lent c now =
-    let keeps = lent.keeps c now in
-    machine_under c (root_found pool.found) keeps.root ∙ machine_told (layout_at (root_found pool.found) c) last (subst (λ (y : Layout). Tells y last) (sym keeps.layout) lent.tells)
+pub stands_for_last : (disk : Shown) (pool : Pool) (states : States) (last : Machine) → IsHeld disk pool states last → (c : Image) → disk.images c → machine_of c ≡ Some last
+stands_for_last disk pool states last held c now =
+    let keeps = held.keeps c now in
+    machine_under c (root_found pool.found) keeps.root ∙ machine_told (layout_at (root_found pool.found) c) last (subst (λ (y : Layout). Tells y last) (sym keeps.layout) held.tells)
 
 -- so does each moment of a call that doesn't reach the disk
 pub rests_for_last : (disk : Shown) (session : Session) (last m after : Machine) → IsDisk disk → StandsFor disk session last m → Leaves disk disk (λ c g. OneOf last m after c × (g ≡ disk.given))
 rests_for_last disk session last m after laws stands =
-    started disk (λ c g. OneOf last m after c × (g ≡ disk.given)) laws (λ c now. (inl (stands_for_last disk session.pool session.volumes last stands.lent c now), refl))
+    started disk (λ c g. OneOf last m after c × (g ≡ disk.given)) laws (λ c now. (inl (stands_for_last disk session.pool session.volumes last stands.held c now), refl))
 
 -- a moment of the machine before a command is one of the whole command
 pub earlier_moments : (old new : Shown) (last m after : Machine) (given : List ℕ) → Leaves old new (λ c g. OneOf last m m c × (g ≡ given)) → Leaves old new (λ c g. OneOf last m after c × (g ≡ given))

@@ -14,21 +14,24 @@ use Rattle.fv_root.specs.Commits.{IsFoundOn}
 use Rattle.fv_aggmap.specs.Loading.{IsLoaded as IsMapLoaded}
 use Rattle.fv_aggmap.specs.Space.{free_blocks}
 use Rattle.fv_volume.specs.States.{view_over}
-use Rattle.fv_volume.specs.Trees.{machine_in, no_trees}
-use Rattle.fv_cp.specs.Lent.{IsLent}
+use Rattle.fv_cp.specs.Held.{machine_held, IsHeld}
+use Rattle.fv_cp.specs.Placing.{AreReady, HaveNoFiles}
 use Rattle.fv_aggregate.specs.declared.session.Session.{Session}
 
 -- A session stands on a disk: its root is what `find_root` would answer, over what reads give and over each image that a crash now
--- may leave, with the blocks whose bits are set in that root's map area; and each block in its cache is what the disk reads there.
+-- may leave, with the blocks whose bits are set in that root's map area; each block in its cache is what the disk reads there; and calls
+-- can be made on each of its volumes, of which no file is in memory.
 pub record Stands (disk : Shown) (session : Session) : Type 0 where
   pub found : IsTrue disk.tells → IsFoundOn disk session.pool.found
   pub map : IsTrue disk.tells → IsMapLoaded disk.reads session.pool.found session.pool.map
   pub cache : StandsOn disk session.pool.store.pairs
+  pub ready : AreReady disk session.pool session.volumes
+  pub none : HaveNoFiles session.volumes
 
--- A session stands for a machine, and the image of its last consistency point for that point's machine.
+-- A session stands for a machine, each volume by its own table, and the image of its last consistency point for that point's machine.
 pub record StandsFor (disk : Shown) (session : Session) (last now : Machine) : Type 0 where
-  pub lent : IsLent disk session.pool session.volumes last
-  pub machine : machine_in session.pool session.volumes no_trees disk.reads ≡ now
+  pub held : IsHeld disk session.pool session.volumes last
+  pub machine : machine_held disk session.pool session.volumes ≡ now
   pub settled : IsSettled disk
   -- the pending blocks: those by which the overheads have passed those of the last point
   pub pending : overheads (view_over session.pool session.volumes disk.reads) ≡ overheads (view_at (root_found session.pool.found) disk.reads) + session.pending

@@ -1,16 +1,14 @@
 //! The volumes that a session makes.
 
-ghost use Rattle.std.specs.Prelude.{◌≡◌, ◌≤◌, ◌+◌, ◌*◌, ℕ, length, max, IsTrue, IsNone, IfOk, OnOk, OnErr};
+ghost use Rattle.std.specs.Prelude.{◌≡◌, ◌≤◌, ◌+◌, ℕ, length, max, IsTrue, IsNone, IfOk, OnOk, OnErr};
 ghost use Rattle.fv_container.specs.Chains.{slot_count};
-ghost use Rattle.fv_model.specs.Machines.{Machine, capacity};
-ghost use Rattle.fv_model.specs.Space.{commits, overhead, span_of};
+ghost use Rattle.fv_model.specs.Machines.{Machine};
+ghost use Rattle.fv_model.specs.Space.{overhead, span_of};
 ghost use Rattle.fv_model.specs.Refusals.{next};
 ghost use Rattle.fv_model.specs.Replies.{Allows};
 ghost use Rattle.fv_model.specs.declared.answers.Reply.TheVariants.{Done};
 ghost use Rattle.fv_model.specs.declared.commands.Command.TheVariants.{VolCreate};
 ghost use Rattle.fv_volume.specs.Creating.{Admits};
-ghost use Rattle.fv_volume.specs.Trees.{Trees};
-ghost use Rattle.fv_volume.specs.Files.{Over};
 ghost use Rattle.fv_aggregate.specs.Adding.{IsAdded};
 ghost use Rattle.fv_aggregate.specs.Calls.{Goes, GoesFor};
 ghost use Rattle.fv_aggregate.specs.Commands.{dirty_limit, is_refusal};
@@ -62,7 +60,6 @@ impl Session {
         requires stands { Stands (D.shown disk.old) self.old }
         requires long { length self.old.volumes ≡ slot_count }
         requires admitted { Admits self.old.volumes self.old.pool.found.blocks name.now size kind admitted.slot admitted.span }
-        requires commits { (trees : Trees) → Over self.old.pool self.old.volumes trees (λ m. commits m + 2 * overhead admitted.span ≤ capacity self.old.pool.found.blocks) }
         ensures goes { Goes (overhead admitted.span) (D.shown disk.old) self.old (D.shown disk.new) self.new result }
         ensures goes_for { IsTrue (D.shown disk.old).tells → (last m : Machine) → StandsFor (D.shown disk.old) self.old last m
             → GoesFor (D.shown disk.old) last m (next m (VolCreate name.now size kind)) (D.shown disk.new) self.new result }

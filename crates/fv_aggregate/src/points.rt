@@ -12,9 +12,10 @@ ghost use Rattle.fv_aggregate.specs.Standing.{Stands, StandsFor};
 
 use crate::fault::Fault;
 use crate::session::Session;
-use fv_cp::{CpFault, consistency_point};
+use fv_cp::full_point;
 use fv_disk::Disk;
 use fv_model::Reply;
+use fv_volume::VolumeFault;
 
 /// The dirty limit: so many blocks may be pending, with the room of the next event, before a consistency point runs. `docs/SPACE.md`
 /// has the rule; beside the overheads of the last point at least as many blocks are free.
@@ -73,17 +74,22 @@ impl Session {
         ensures admits { OnOk result (StillAdmits self.old self.new) }
     {
         let before = disk.write_faults();
-        match consistency_point(&mut self.volumes, &mut self.pool, disk, want) {
+        match full_point(&mut self.volumes, &mut self.pool, disk, want) {
             Ok(()) => {
                 self.pending = 0;
                 Ok(())
             }
-            Err(CpFault::DiskFault) => {
+            Err(VolumeFault::DiskFault) => {
                 self.failed = failure(disk, before);
                 Err(Fault::DiskFault)
             }
-            Err(CpFault::Damaged { at, want, found }) => Err(Fault::Damaged { at, want, found }),
-            Err(CpFault::Memory) => Err(Fault::Memory),
+            Err(VolumeFault::Damaged { at, want, found }) => Err(Fault::Damaged {
+                at,
+                want,
+                found,
+            }),
+            Err(VolumeFault::Memory) => Err(Fault::Memory),
+            Err(VolumeFault::Refused(_)) => unreachable!(),
         }
     }
 }

@@ -2,6 +2,7 @@
 
 ghost use Rattle.std.specs.Prelude.{◌≡◌, ◌≢◌, ◌≤◌, ◌+◌, ◌⊎◌, ℕ, IsTrue, IsNone, IsSome, IfOk, IfErr, OnErr, OnOk, Some};
 ghost use Rattle.fv_disk.specs.Shown.{IsSettled, Rose};
+ghost use Rattle.fv_container.specs.Chains.{slot_count};
 ghost use Rattle.fv_model.specs.Machines.{Machine};
 ghost use Rattle.fv_model.specs.declared.commands.Command.TheVariants.{Cp};
 ghost use Rattle.fv_image.specs.WholeMachine.{machine_of};
@@ -13,6 +14,7 @@ ghost use Rattle.fv_aggregate.specs.Causes.{HasOpenCause, IsOpenFault, IsUnwritt
 ghost use Rattle.fv_aggregate.specs.Commands.{Replies, dirty_limit, is_refusal, machine_after, room_of};
 ghost use Rattle.fv_aggregate.specs.Opening.{IsOpened};
 ghost use Rattle.fv_aggregate.specs.Standing.{Stands, StandsFor, charged_in};
+ghost use Rattle.fv_aggregate.specs.Telling.{charged_from};
 
 use crate::fault::{Fault, OpenFault};
 use crate::opening::load;
@@ -158,7 +160,8 @@ impl Session {
 
     /// The sum of the charges of all volumes, in blocks. Costs a step for each slot.
     pub fn charged(&self) -> u64
-        ensures { (trees : Trees) → Over self.now.pool self.now.volumes trees (λ m. result ≡ charged_in m) }
+        ensures over { (trees : Trees) → Over self.now.pool self.now.volumes trees (λ m. result ≡ charged_in m) }
+        ensures slots { result ≡ charged_from self.now.volumes 0 slot_count }
     {
         sum_charges(&self.volumes)
     }

@@ -1,5 +1,5 @@
 -- A volume of a session after a point: what it is once the root on the disk names it.
-use Rattle.std.proofs.Common.{◌≡◌, ℕ, ◌<◌, ◌≤◌, Option, Some, None, length, refl, sym, ap, subst, ◌∙◌, arith}
+use Rattle.std.proofs.Common.{◌≡◌, ℕ, ◌<◌, ◌≤◌, false, Option, Some, None, length, refl, sym, ap, subst, ◌∙◌, arith}
 use Rattle.std.specs.Prelude.{IfSome}
 use Rattle.std.specs.Option.{option_map}
 use Rattle.fv_disk.specs.Shown.{Shown}
@@ -17,6 +17,11 @@ use Rattle.fv_volume.specs.Loading.{Houses}
 use Rattle.fv_volume.specs.OneVolume.{IsBooked}
 use Rattle.fv_volume.proofs.PlacedIn.{housed_count}
 use Rattle.fv_volume.proofs.Settled.{settled_has, settled_keeps}
+
+-- nothing of it waits to be written
+pub settled_unchanged : (o : Option VolumeState) (label : ℕ) → IfSome (option_map (settled_as label) o) (λ x. x.changed ≡ false)
+settled_unchanged None label = tt
+settled_unchanged (Some x) label = settled_has (λ (y : VolumeState). y.changed ≡ false) x label (λ e. refl) (λ e. e)
 
 -- it has files in memory, numbers in its map and a core as before
 pub settled_no_files : (o : Option VolumeState) (label : ℕ) → HasNoFiles o → HasNoFiles (option_map (settled_as label) o)

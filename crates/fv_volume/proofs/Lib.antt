@@ -88,3 +88,4 @@ pub mod SeenAlone
 pub mod HeldSettled
 pub mod Spending
 pub mod Staying
+pub mod Resting

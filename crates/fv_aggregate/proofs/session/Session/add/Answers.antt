@@ -3,7 +3,7 @@ use Rattle.std.specs.Prelude.{IsNone}
 use Rattle.fv_model.specs.Space.{overhead, span_of}
 use Rattle.fv_container.specs.Chains.{container_at}
 use Rattle.fv_volume.specs.declared.pool.Pool.{Pool}
-use Rattle.fv_volume.specs.Creating.{IsNew}
+use Rattle.fv_volume.specs.Creating.{Admits, IsNew}
 use Rattle.fv_volume.specs.States.{state_at}
 use Rattle.fv_cp.specs.Lent.{FitTogether, blocks_asked}
 use Rattle.fv_volume.proofs.Housing.{housed_with}
@@ -40,9 +40,10 @@ returns-clause-added c =
       new_there = e.new;
       holes = e.holes;
       each = e.each;
-      states = e.states;
-      accepted = e.accepted;
-      machine = e.machine;
+      place = c.args.admitted.slot;
+      span = c.args.admitted.span;
+      admits = subst (λ (x : Session). Admits x.volumes x.pool.found.blocks c.args.name.now c.args.size c.args.kind c.args.admitted.slot c.args.admitted.span) (sym c.self.view_is) c.requires.admitted;
+      fit = c.self.invariant (subst (λ (s : Session). IsNone s.failed) (sym c.self.view_is) c.requires.fresh);
       long = long;
       asked = asked;
       failed = refl;

@@ -1,10 +1,7 @@
 use Rattle.std.proofs.Common.{◌≡◌, ◌≤◌, ◌+◌, ℕ, rules, Err, refl, sym, subst, ◌∙◌, ⊎_elim}
 use Rattle.std.specs.Prelude.{IsNone}
-use Rattle.std.specs.FinMap as fin
-use Rattle.fv_disk.specs.Shown.{Image}
 use Rattle.fv_model.specs.Space.{overhead, span_of}
-use Rattle.fv_volume.specs.declared.pool.Pool.{Pool}
-use Rattle.fv_volume.specs.Trees.{Trees, machine_in}
+use Rattle.fv_aggregate.specs.Telling.{names_from}
 use Rattle.fv_aggregate.specs.declared.session.Session.{Session}
 use Rattle.fv_model.specs.declared.answers.Reply.{Reply}
 use Rattle.fv_model.specs.declared.answers.Reply.TheVariants.{Names, Refused}
@@ -66,7 +63,7 @@ returns-in-VolCreate-clause-calm g c = λ other calm.
 pub returns-in_ok-names_of-in-VolList-clause-reply : goal.returns-in_ok-names_of-in-VolList-clause-reply
 returns-in_ok-names_of-in-VolList-clause-reply g c = λ tells last m stands.
     let names = c.in_ok-names_of-in-VolList.field-0 in
-    let listed = subst (λ (s : Session). (pool : Pool) (trees : Trees) (i : Image) → names ≡ fin.keys (machine_in pool s.volumes trees i).volumes) c.self.view_is c.in_ok-names_of-in-VolList.ensures in
+    let listed = subst (λ (s : Session). names ≡ names_from s.volumes 0 64) c.self.view_is c.in_ok-names_of-in-VolList.ensures in
     list_replies c.args.command.now c.in-VolList.is (g.D.Disk.shown c.args.disk.now) c.args.self.now last m stands names listed
 
 pub returns-in-Cp-clause-point : goal.returns-in-Cp-clause-point

@@ -1,4 +1,5 @@
 use Rattle.std.proofs.Common.{◌≡◌, ◌≤◌, ◌+◌, ◌*◌, ℕ, rules, Ok, Err, sym, ap, subst, ◌∙◌, arith}
+use Rattle.std.specs.Prelude.{IsTrue}
 use Rattle.fv_model.specs.declared.answers.Reply.{Reply}
 use Rattle.fv_model.specs.declared.answers.Reply.TheVariants.{Done}
 use Rattle.fv_model.specs.declared.commands.Command.TheVariants.{VolCreate}
@@ -47,6 +48,7 @@ returns-clause-goes_for g c = λ tells last m stands.
     let mid = g.D.Disk.shown c.make_room.new.disk in
     let made = c.in_ok-make_room.ensures in
     let room : c.from-room.result ≡ overhead c.args.admitted.span = search rules in
-    let fits : commits m + 2 * c.from-room.result ≤ capacity m.blocks = omega (arith, room, room_for old c.args.self.now last m (overhead c.args.admitted.span) c.requires.long stands c.requires.commits) in
-    added_for old c.args.self.now mid c.make_room.new.self c.args.name.now c.args.size c.args.kind c.from-room.result last m (made.goes_for tells last m stands) (room ∙ ap overhead c.requires.admitted.span_is)
+    let fits : commits m + 2 * c.from-room.result ≤ capacity m.blocks = omega (arith, room, room_for old c.args.self.now last m c.requires.long stands c.args.name.now c.args.size c.args.kind c.args.admitted.slot c.args.admitted.span c.requires.admitted) in
+    added_for old c.args.self.now mid c.make_room.new.self c.args.name.now c.args.size c.args.kind c.from-room.result (subst IsTrue (sym made.goes.ends.tells) tells) (made.goes.stands made.goes.done.goes_on).cache
+    last m (made.goes_for tells last m stands) (room ∙ ap overhead c.requires.admitted.span_is)
     (made.room tells last m stands fits) c.add.new.self c.in_ok-add.ensures.added c.in_ok-add.ensures.pending
