@@ -40,13 +40,14 @@ use Rattle.fv_volume.specs.Loading.{IsLoaded, label_of}
 use Rattle.fv_volume.specs.States.{States, head_in, label_in_state, placed_in, state_at, view_over}
 use Rattle.fv_volume.specs.Stored.{AreApartIn, AreSpacedIn, has_block, is_of, stays}
 use Rattle.fv_volume.specs.Writing.{on_disk, IsTaken}
-use Rattle.fv_volume.proofs.LentSlots.{lent_from_loaded, loaded_from_lent, lent_slot, area_taken, held_taken}
+use Rattle.fv_volume.proofs.LentSlots.{lent_apart, lent_from_loaded, loaded_from_lent, lent_slot, area_taken, held_taken}
 use Rattle.fv_volume.proofs.Settled.{heads_stay, housed_after, same_stay, settled_same, unchanged_stay, settled_written}
 use Rattle.fv_volume.proofs.Spacing.{spaced_same}
 use Rattle.fv_volume.proofs.StaysStates.{reach_stays, states_stay}
 use Rattle.fv_volume.proofs.StillLoaded.{still_loaded, still_stands}
 use Rattle.fv_volume.proofs.StoredTold.{entry_stays, stays_in, undelayed, past_clear, stands_for}
 use Rattle.fv_volume.proofs.Viewed.{entry_of}
+use Rattle.fv_volume.proofs.Waiting.{none_waits}
 use Rattle.fv_cp.specs.Course.{HasCome, IsOnCourse, as_lent, found_with, renewed, IsCourse, StaysFrom}
 use Rattle.fv_cp.specs.Lent.{FitTogether, IsLent, IsLentAt}
 use Rattle.fv_cp.specs.Points.{GoesOn, IsPoint, IsSwitched, OldOrLent, machine_lent}
@@ -103,14 +104,6 @@ module _ (disk : Shown) (pool : Pool) (states : States) (before : Machine) (lent
         (λ c g side. (old_or_new_machine mid found root map before (machine_lent disk pool states) c g stands images_stand ready side, side.1 ∙ spares.counted.given)) left)
 
 -- ---- what a point ends with
-
-none_changed : (o : Option VolumeState) (s : ℕ) → s < 64 → IfSome o (λ x. x.changed ≡ true → 64 ≤ s) → IfSome o (λ x. x.changed ≡ false)
-none_changed None s inside waits = tt
-none_changed (Some x) s inside waits = so x.changed refl
-  where
-    so : (t : Bool) → x.changed ≡ t → t ≡ false
-    so true e = let high = waits e in absurd (omega (arith, high, inside))
-    so false e = refl
 
 -- the root of a point: the one that was found, with these labels
 abbrev pub root_with : Pool → List ℕ → Root
@@ -184,7 +177,7 @@ module _ (disk : Shown) (pool : Pool) (states : States) (before : Machine) (lent
     where
       by : IsOnCourse pool states (seen pool.kept disk.reads) 64 s (is.now s) (get_or labels s 0) (container_at left.containers s) mid.reads → settled_at labels states s ≡ is.now s
       by (renewed x low there changed now r) = settled_written (state_at states s) x (get_or labels s 0) there changed ∙ sym now
-      by (as_lent waits at) = settled_same (state_at states s) (get_or labels s 0) (none_changed (state_at states s) s inside waits) ∙ sym at.state
+      by (as_lent waits at) = settled_same (state_at states s) (get_or labels s 0) (none_waits (state_at states s) s inside waits) ∙ sym at.state
 
   stands : (s : ℕ) → s < 64 → StandsUnder mid.reads f s (settled_at labels states s) (container_at left.containers s)
   stands s inside = subst (λ (o : Option VolumeState). StandsUnder mid.reads f s o (container_at left.containers s)) (sym (settled_is s inside)) (by (is.each s inside))
@@ -198,7 +191,7 @@ module _ (disk : Shown) (pool : Pool) (states : States) (before : Machine) (lent
       by (as_lent waits at) =
           subst (λ (o : Option VolumeState). StandsUnder mid.reads f s o (container_at left.containers s)) (sym at.state) (subst (λ (c : Option Mapped). StandsUnder mid.reads f s (state_at states s) c) (sym at.lies)
           (still_stands pool.found f disk.reads mid.reads s inside (place_is f s inside ∙ at.named ∙ sym (place_is pool.found s inside)) agrees lent.tells.sound refl (state_at states s) (container_at pool.containers s)
-          (loaded_from_lent disk.reads pool.found s (state_at states s) (container_at pool.containers s) (lent.slots s inside) (none_changed (state_at states s) s inside waits))))
+          (loaded_from_lent disk.reads pool.found s (state_at states s) (container_at pool.containers s) (lent.slots s inside) (none_waits (state_at states s) s inside waits))))
 
   -- an entry that stays has its block
   block_kept : (s v : ℕ) (x : VolumeState) → s < 64 → state_at states s ≡ Some x → stays x v ≡ true → placed_in fin.empty mid.reads (own_entry (container_at left.containers s) v) ≡ placed_in pool.kept disk.reads (own_entry (container_at pool.containers s) v)
@@ -291,14 +284,9 @@ module _ (disk : Shown) (pool : Pool) (states : States) (before : Machine) (lent
     apart_now : (s : ℕ) → s < 64 → IfSome (settled_at labels states s) (λ x. IfSome (container_at left.containers s) (AreApartIn x))
     apart_now s inside = subst (λ (o : Option VolumeState). IfSome o (λ x. IfSome (container_at left.containers s) (AreApartIn x))) (sym (settled_is s inside)) (by (is.each s inside))
       where
-        as_it_was : (o : Option VolumeState) (c : Option Mapped) → IsLentAt disk.reads pool.found s o c → IfSome o (λ x. IfSome c (AreApartIn x))
-        as_it_was None c at = tt
-        as_it_was (Some x) None at = tt
-        as_it_was (Some x) (Some map) at = at.apart
-
         by : IsOnCourse pool states (block_seen pool.kept disk.reads) 64 s (is.now s) (get_or labels s 0) (container_at left.containers s) mid.reads → IfSome (is.now s) (λ x. IfSome (container_at left.containers s) (AreApartIn x))
         by (renewed x low there changed now r) = subst (λ (o : Option VolumeState). IfSome o (λ x. IfSome (container_at left.containers s) (AreApartIn x))) (sym now) (subst (λ (c : Option Mapped). IfSome c (AreApartIn (as_written x (get_or labels s 0)))) (sym r.now) r.stored.apart)
-        by (as_lent waits at) = subst (λ (o : Option VolumeState). IfSome o (λ x. IfSome (container_at left.containers s) (AreApartIn x))) (sym at.state) (subst (λ (c : Option Mapped). IfSome (state_at states s) (λ x. IfSome c (AreApartIn x))) (sym at.lies) (as_it_was (state_at states s) (container_at pool.containers s) (lent.slots s inside)))
+        by (as_lent waits at) = subst (λ (o : Option VolumeState). IfSome o (λ x. IfSome (container_at left.containers s) (AreApartIn x))) (sym at.state) (subst (λ (c : Option Mapped). IfSome (state_at states s) (λ x. IfSome c (AreApartIn x))) (sym at.lies) (lent_apart disk.reads pool.found s (state_at states s) (container_at pool.containers s) (lent.slots s inside)))
 
     lent_at_now : (s : ℕ) → s < 64 → IsLentAt new.reads f s (state_at stay s) (container_at last.containers s)
     lent_at_now s inside = subst (λ (o : Option VolumeState). IsLentAt new.reads f s o (container_at last.containers s)) (sym (settled s)) (subst (λ (c : Slots). IsLentAt new.reads f s (settled_at labels states s) (container_at c s)) (sym containers)

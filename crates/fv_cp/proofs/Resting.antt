@@ -1,5 +1,5 @@
 -- Over a disk that reads as before volumes are what they were between points.
-use Rattle.std.proofs.Common.{◌≡◌, ℕ, flat_map, sym, subst}
+use Rattle.std.proofs.Common.{◌≡◌, flat_map, sym, subst}
 use Rattle.std.specs.FinMap as fin
 use Rattle.fv_disk.specs.Shown.{Image, Shown}
 use Rattle.fv_disk.specs.DiskCalls.{Stays}

@@ -89,3 +89,4 @@ pub mod HeldSettled
 pub mod Spending
 pub mod Staying
 pub mod Resting
+pub mod Waiting

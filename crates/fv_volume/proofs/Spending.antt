@@ -1,5 +1,5 @@
 -- What the placing of one volume's files takes of its numbers and of the blocks.
-use Rattle.std.proofs.Common.{◌≡◌, ℕ, ◌+◌, ◌<◌, ◌≤◌, true, is_some, length, Option, Some, None, refl, sym, ap, subst, arith}
+use Rattle.std.proofs.Common.{◌≡◌, ℕ, ◌+◌, ◌<◌, ◌≤◌, is_some, length, Option, Some, None, refl, sym, ap, subst, arith}
 use Rattle.std.specs.Prelude.{min}
 use Rattle.fv_volmap.specs.Slots.{IsVolume, Volume, active_of}
 use Rattle.fv_disk.specs.Shown.{Shown}
