@@ -1,76 +1,41 @@
 -- A session with a new volume.
-use Rattle.std.proofs.Common.{◌≡◌, ◌≢◌, ◌<◌, ◌≤◌, ◌+◌, ◌*◌, ℕ, Bool, true, false, cond, List, length, Option, Some, None, refl, sym, ap, subst, ◌∙◌, ⊎_elim, inl, inr, true≢false, arith, length-set, Result, Ok, Err}
-use Rattle.std.specs.Prelude.{IfOk, IsNone, IsTrue, max, nat_lt}
-use Rattle.std.specs.Option.{is_some, option_map}
-use Rattle.std.proofs.lemmas.Bool.{cases_eq, cases_lt}
-use Rattle.std.proofs.lemmas.Bool.Decides.{nat_tests}
-use Rattle.std.proofs.lemmas.List.{get_or-set_other}
+use Rattle.std.proofs.Common.{◌≡◌, ◌≤◌, ◌+◌, ◌*◌, ℕ, cond, List, length, Option, Some, None, refl, sym, ap, subst, ◌∙◌, true≢false, arith, Result, Ok, Err}
+use Rattle.std.specs.Prelude.{IfOk, IsNone, IsTrue, max}
+use Rattle.std.specs.Option.{is_some}
 use Rattle.fv_disk.specs.Shown.{IsDisk, Shown}
-use Rattle.fv_disk.specs.DiskCalls.{OnlyReads}
 use Rattle.fv_model.specs.declared.answers.Refusal.{Refusal}
-use Rattle.fv_model.specs.declared.answers.Refusal.TheVariants.{VolumeExists, AggregateFull, Range, TooMany}
 use Rattle.fv_model.specs.declared.answers.Reply.{Reply}
 use Rattle.fv_model.specs.declared.answers.Reply.TheVariants.{Done, Refused}
 use Rattle.fv_model.specs.declared.commands.Kind.{Kind}
-use Rattle.fv_model.specs.declared.commands.Command.{Command}
 use Rattle.fv_model.specs.declared.commands.Command.TheVariants.{VolCreate}
 use Rattle.fv_model.specs.Machines.{Machine, capacity}
 use Rattle.fv_model.specs.Space.{commits, overhead, span_of}
-use Rattle.fv_model.specs.Effects.{change_of, effect}
-use Rattle.fv_model.specs.Refusals.{conditions, is_aggregate_full, next, refusal}
+use Rattle.fv_model.specs.Effects.{effect}
+use Rattle.fv_model.specs.Refusals.{next, refusal}
 use Rattle.fv_model.specs.Replies.{Allows, AllowsBy, answer}
-use Rattle.fv_image.specs.Views.{Head, Placed, View, entry_count}
 use Rattle.fv_image.specs.Held.{view_at}
 use Rattle.fv_image.specs.Sound.{overheads}
-use Rattle.fv_image.specs.Adding.{IsEmptySlot, with_volume}
-use Rattle.fv_image.proofs.Added.{head_elsewhere, head_there, overheads_with}
 use Rattle.fv_root.specs.Finding.{root_found}
-use Rattle.fv_aggmap.specs.Space.{free_blocks}
-use Rattle.fv_container.specs.Mapped.{empty_map}
 use Rattle.fv_container.specs.Chains.{container_at}
 use Rattle.fv_volume.specs.declared.pool.Pool.{Pool}
-use Rattle.fv_volume.specs.Creating.{IsNew, with_holes}
-use Rattle.fv_volume.specs.Files.{AreStates, Over}
-use Rattle.fv_volume.specs.States.{States, head_in, state_at, view_over}
-use Rattle.fv_volume.specs.Trees.{Trees, machine_in, no_trees}
-use Rattle.fv_volume.proofs.Made.{blocks_are}
+use Rattle.fv_store.specs.Held.{StandsOn}
+use Rattle.fv_volume.specs.Creating.{Admits, IsNew, Refuses, with_holes}
+use Rattle.fv_volume.specs.States.{state_at}
 use Rattle.fv_aggregate.specs.declared.fault.Fault.{Fault}
 use Rattle.fv_aggregate.specs.declared.session.Session.{Session}
 use Rattle.fv_aggregate.specs.Adding.{HasRoom, IsAdded}
 use Rattle.fv_aggregate.specs.declared.fault.Fault.TheVariants.{Memory}
 use Rattle.fv_aggregate.specs.Asking.{AsksWithin}
-use Rattle.fv_aggregate.specs.Calls.{Goes, GoesFor}
+use Rattle.fv_aggregate.specs.Calls.{Goes, GoesFor, KeepsAsking}
 use Rattle.fv_aggregate.specs.Commands.{is_refusal}
-use Rattle.fv_aggregate.specs.Standing.{Stands, StandsFor}
+use Rattle.fv_aggregate.specs.Standing.{clear_blocks, unwritten, IsWithoutFiles, Stands, StandsFor}
 use Rattle.fv_aggregate.proofs.Applied.{rests_for}
 use Rattle.fv_aggregate.proofs.Standing.{earlier_moments}
-use Rattle.fv_aggregate.proofs.Beside.{lent_beside}
-use Rattle.fv_aggregate.proofs.Sums.{same_overheads}
+use Rattle.fv_aggregate.proofs.Admitting.{accepted_held, refused_held, room_held}
+use Rattle.fv_aggregate.proofs.Beside.{held_beside, machine_beside, none_beside, ready_beside}
 
 none_some : {X : Type 0} (x : X) → None ≡ Some x → ⊥
 none_some x e = cc
-
--- ---- what admission leaves
-
-last_of : (a b c d : Bool) → cond a (Some Range) (cond b (Some VolumeExists) (cond c (Some TooMany) (cond d (Some AggregateFull) None))) ≡ None → d ≡ false
-last_of true b c d e = absurd cc
-last_of false true c d e = absurd cc
-last_of false false true d e = absurd cc
-last_of false false false true e = absurd cc
-last_of false false false false e = refl
-
--- the commits after an accepted `vol create` fit the capacity
-pub fits_after : (m : Machine) (name : List ℕ) (size : ℕ) (kind : Kind) → refusal m (VolCreate name size kind) ≡ None → commits (effect m (VolCreate name size kind)) ≤ capacity m.blocks
-unfolding conditions change_of
-fits_after m name size kind none =
-    let full : is_aggregate_full (effect m (VolCreate name size kind)) ≡ false = last_of _ _ _ _ none in
-    fits (capacity m.blocks) (commits (effect m (VolCreate name size kind))) full
-  where
-    fits : (a b : ℕ) → nat_lt a b ≡ false → b ≤ a
-    fits a b e = grind (arith, nat_tests)
-
-pub next_is : (m : Machine) (name : List ℕ) (size : ℕ) (kind : Kind) → refusal m (VolCreate name size kind) ≡ None → next m (VolCreate name size kind) ≡ effect m (VolCreate name size kind)
-next_is m name size kind none = ap (λ (r : Option Refusal). cond (is_some r) m (effect m (VolCreate name size kind))) none
 
 -- ---- the slots
 
@@ -85,78 +50,46 @@ module _ (session : Session) (name : List ℕ) (size : ℕ) (kind : Kind) (room 
   abbrev pool : Pool
   pool = with_holes session.pool added.slot size
 
-  pub state_there : state_at new.volumes added.slot ≡ Some added.new_there.volume
-  state_there = added.new_there.state_is
-
-  pub state_elsewhere : (s : ℕ) → s ≢ added.slot → state_at new.volumes s ≡ state_at session.volumes s
-  state_elsewhere s ne = ap (λ (xs : States). state_at xs s) added.made.states ∙ get_or-set_other session.volumes added.slot s (Some added.made.state) None ne
-
-  container_elsewhere : (s : ℕ) → s ≢ added.slot → container_at pool.containers s ≡ container_at session.pool.containers s
-  container_elsewhere s ne = get_or-set_other session.pool.containers.containers added.slot s (Some (empty_map (entry_count (span_of size 0 0)))) None ne
-
   new_slot : IsNew (state_at new.volumes added.slot) (container_at pool.containers added.slot) name size kind
   new_slot = subst (λ (p : Pool). IsNew (state_at new.volumes added.slot) (container_at p.containers added.slot) name size kind) added.holes added.new_there
 
-  new_long : length session.volumes ≡ 64 → length new.volumes ≡ 64
-  new_long long = ap (λ (xs : States). length xs) added.made.states ∙ length-set session.volumes added.slot (Some added.made.state) ∙ long
+  with_session : (disk : Shown) → Stands disk (record new { pool = pool }) → Stands disk new
+  with_session disk = subst (λ (p : Pool). Stands disk (record new { pool = p })) (sym added.holes)
 
   stands_added : (disk : Shown) → Stands disk session → Stands disk new
-  stands_added disk stands = subst (λ (p : Pool). Stands disk (record new { pool = p })) (sym added.holes) (record { found = stands.found; map = stands.map; cache = stands.cache })
+  stands_added disk stands = with_session disk (record {
+    found = stands.found;
+    map = stands.map;
+    cache = stands.cache;
+    ready = ready_beside disk session.pool session.volumes added.slot name size kind new.volumes added.fit added.free added.made new_slot added.each stands.cache stands.ready;
+  })
 
-  asks_added : (disk : Shown) (kept : ℕ) → new.pending ≡ session.pending + room → session.pending + room ≤ max 256 room → AsksWithin disk session (max kept room) → AsksWithin disk new (max kept room)
+  pub asks_added : (disk : Shown) (kept : ℕ) → new.pending ≡ session.pending + room → session.pending + room ≤ max 256 room → AsksWithin disk session (max kept room) → AsksWithin disk new (max kept room)
   asks_added disk kept pending few asks = subst (λ (p : Pool). AsksWithin disk (record new { pool = p }) (max kept room)) (sym added.holes) (record {
     asked = omega (arith, asks.asked, added.asked, pending);
     pending = omega (arith, few, pending);
   })
 
+  pub made_files : (disk : Shown) → IsWithoutFiles session → IsWithoutFiles new
+  made_files disk none = subst (λ (p : Pool). IsWithoutFiles (record new { pool = p })) (sym added.holes) (record {
+    none = none_beside disk session.pool session.volumes added.slot name size kind new.volumes added.fit added.free added.made new_slot added.each none.none;
+    same = none.same;
+  })
+
   module _ (disk : Shown) (last m : Machine) (stands : StandsFor disk session last m) where
-    long : length session.volumes ≡ 64
-    long = added.long
-
-    are : AreStates (view_over session.pool session.volumes disk.reads) no_trees session.volumes
-    are = stands.lent.states
-
-    accepted : refusal m (VolCreate name size kind) ≡ None
-    accepted = ap (λ (x : Machine). refusal x (VolCreate name size kind)) (sym stands.machine) ∙ added.accepted no_trees disk.reads are
-
-    machine_with : machine_in pool new.volumes no_trees disk.reads ≡ next m (VolCreate name size kind)
-    machine_with = ap (λ (p : Pool). machine_in p new.volumes no_trees disk.reads) (sym added.holes) ∙ added.machine no_trees disk.reads are ∙ ap (λ (x : Machine). next x (VolCreate name size kind)) stands.machine
-
-    blocks_kept : m.blocks ≡ session.pool.found.blocks
-    blocks_kept = ap (λ (x : Machine). x.blocks) (sym stands.machine) ∙ blocks_are session.pool session.volumes no_trees disk.reads long
-
-    states_with : AreStates (view_over pool new.volumes disk.reads) no_trees new.volumes
-    states_with = subst (λ (p : Pool). AreStates (view_over p new.volumes disk.reads) no_trees new.volumes) added.holes (added.states no_trees disk.reads are)
-
-    commits_with : commits (machine_in pool new.volumes no_trees disk.reads) ≤ capacity session.pool.found.blocks
-    commits_with =
-        let after : commits (machine_in pool new.volumes no_trees disk.reads) ≡ commits (effect m (VolCreate name size kind)) = ap commits (machine_with ∙ next_is m name size kind accepted) in
-        omega (arith, after, fits_after m name size kind accepted, ap capacity blocks_kept)
-
-    overheads_now : overheads (view_over pool new.volumes disk.reads) ≡ overheads (view_over session.pool session.volumes disk.reads) + overhead (span_of size 0 0)
-    unfolding view_over
-    overheads_now =
-        let w : View = view_over session.pool session.volumes disk.reads in
-        let h : Head = head_in added.new_there.volume in
-        let nothing : ℕ → Option Placed = λ v. None in
-        let is : IsEmptySlot w added.slot = record { inside = added.free.within; empty = ap (option_map head_in) added.free.free } in
-        let span : h.span ≡ span_of size 0 0 = ap (λ (g : Head). g.span) added.new_there.head in
-        same_overheads (view_over pool new.volumes disk.reads) (with_volume w added.slot h nothing) (λ s inside. ⊎_elim
-        (λ (here : s ≡ added.slot). ap (λ (k : ℕ). option_map head_in (state_at new.volumes k)) here ∙ ap (option_map head_in) state_there ∙ sym (ap (with_volume w added.slot h nothing).head here ∙ head_there w added.slot h nothing))
-        (λ (other : s ≢ added.slot). ap (option_map head_in) (state_elsewhere s other) ∙ sym (head_elsewhere w added.slot h nothing s other))
-        (cases_eq s added.slot))
-        ∙ overheads_with w added.slot h nothing is ∙ ap (λ (n : ℕ). overheads w + overhead n) span
-
-    pub made_stands : new.pending ≡ session.pending + room → room ≡ overhead (span_of size 0 0) → HasRoom disk session room → StandsFor disk new last (next m (VolCreate name size kind))
-    made_stands pending room_is enough =
-        let over = overheads_now in
-        let held = stands.pending in
+    pub made_stands : IsTrue disk.tells → StandsOn disk session.pool.store.pairs → new.pending ≡ session.pending + room → room ≡ overhead (span_of size 0 0) → HasRoom disk session room → StandsFor disk new last (next m (VolCreate name size kind))
+    made_stands tells cache pending room_is enough =
+        let none : unwritten (record new { pool = pool }) ≡ unwritten session = (let files = added.files in omega (arith, files)) in
+        let over = added.overheads in
         subst (λ (p : Pool). StandsFor disk (record new { pool = p }) last (next m (VolCreate name size kind))) (sym added.holes) (record {
-          lent = lent_beside disk session.pool session.volumes last stands.lent added.slot name size kind new.volumes added.free added.made new_slot states_with commits_with;
-          machine = machine_with;
+          held = held_beside disk session.pool session.volumes added.slot name size kind new.volumes added.fit added.free added.made new_slot added.each last stands.held tells cache added.span (added.place, added.admits);
+          machine = machine_beside disk session.pool session.volumes added.slot name size kind new.volumes added.fit added.free added.made new_slot added.each last stands.held tells cache added.span (added.place, added.admits)
+              ∙ ap (λ (x : Machine). next x (VolCreate name size kind)) stands.machine;
           settled = stands.settled;
-          pending = omega (arith, over, held, room_is, pending);
-          room = subst (λ (n : ℕ). overheads (view_at (root_found session.pool.found) disk.reads) + max 256 n ≤ free_blocks session.pool.map) (sym pending) enough;
+          pending = omega (arith, none, over, pending, stands.pending);
+          files = omega (arith, none, pending, stands.files);
+          few = omega (arith, none, stands.few);
+          room = subst (λ (n : ℕ). overheads (view_at (root_found session.pool.found) disk.reads) + max 256 n ≤ clear_blocks session.pool.map) (sym pending) enough;
         })
 
 -- ---- the reply
@@ -173,15 +106,15 @@ pub refusal_leaves : (m : Machine) (name : List ℕ) (size : ℕ) (kind : Kind) 
 refusal_leaves m name size kind r is = ap (λ (x : Option Refusal). cond (is_some x) m (effect m (VolCreate name size kind))) is
 
 -- what is known of a session's volumes, said of the machine that it stands for
-pub room_for : (disk : Shown) (session : Session) (last m : Machine) (room : ℕ) → length session.volumes ≡ 64 → StandsFor disk session last m
-    → ((trees : Trees) → Over session.pool session.volumes trees (λ n. commits n + 2 * room ≤ capacity session.pool.found.blocks)) → commits m + 2 * room ≤ capacity m.blocks
-room_for disk session last m room long stands enough =
-    let blocks : m.blocks ≡ session.pool.found.blocks = ap (λ (x : Machine). x.blocks) (sym stands.machine) ∙ blocks_are session.pool session.volumes no_trees disk.reads long in
-    omega (arith, enough no_trees disk.reads stands.lent.states, ap commits stands.machine, ap capacity blocks)
+module _ (disk : Shown) (session : Session) (last m : Machine) (long : length session.volumes ≡ 64) (stands : StandsFor disk session last m) (name : List ℕ) (size : ℕ) (kind : Kind) where
+  pub room_for : (slot span : ℕ) → Admits session.volumes session.pool.found.blocks name size kind slot span → commits m + 2 * overhead span ≤ capacity m.blocks
+  room_for slot span is = subst (λ (x : Machine). commits x + 2 * overhead span ≤ capacity x.blocks) stands.machine (room_held disk session.pool session.volumes long last stands.held name size kind slot span is)
 
-pub answer_for : (disk : Shown) (session : Session) (last m : Machine) (command : Command) (answer : Option Refusal) → StandsFor disk session last m
-    → ((trees : Trees) → Over session.pool session.volumes trees (λ n. refusal n command ≡ answer)) → refusal m command ≡ answer
-answer_for disk session last m command answer stands is = ap (λ (x : Machine). refusal x command) (sym stands.machine) ∙ is no_trees disk.reads stands.lent.states
+  pub accepted_for : (slot span : ℕ) → Admits session.volumes session.pool.found.blocks name size kind slot span → refusal m (VolCreate name size kind) ≡ None
+  accepted_for slot span is = ap (λ (x : Machine). refusal x (VolCreate name size kind)) (sym stands.machine) ∙ accepted_held disk session.pool session.volumes long last stands.held name size kind slot span is
+
+  pub refused_as : (r : Refusal) → Refuses session.volumes session.pool.found.blocks name size kind r → refusal m (VolCreate name size kind) ≡ Some r
+  refused_as r is = ap (λ (x : Machine). refusal x (VolCreate name size kind)) (sym stands.machine) ∙ refused_held disk session.pool session.volumes long last stands.held name size kind r is
 
 -- a volume that is admitted is made, and nothing else is answered
 pub done_allowed : (m : Machine) (name : List ℕ) (size : ℕ) (kind : Kind) → refusal m (VolCreate name size kind) ≡ None → (result : Result Reply Fault) → IfOk result (λ reply. reply ≡ Done) → IfOk result (Allows m (VolCreate name size kind))
@@ -205,37 +138,25 @@ module _ (before : Shown) (old : Session) (mid : Shown) (session : Session) (nam
   added_goes goes few new added pending = record {
     ends = goes.ends;
     stands = λ fresh. stands_added session name size kind room new added mid (goes.stands goes.done.goes_on);
-    asks = λ tells kept asks fresh. asks_added session name size kind room new added mid kept pending few (goes.asks tells kept asks goes.done.goes_on);
     done = record { was = goes.done.was; goes_on = subst IsNone (sym added.failed) goes.done.goes_on; counts = goes.done.counts };
     fault = tt;
   }
 
-  pub added_for : (last m : Machine) → GoesFor {T = Unit {0}} before last m m mid session (Ok tt) → room ≡ overhead (span_of size 0 0) → HasRoom mid session room → (new : Session) → IsAdded session name size kind room new → new.pending ≡ session.pending + room
+  pub added_asks : Goes {T = Unit {0}} room before old mid session (Ok tt) → KeepsAsking room before old mid session → session.pending + room ≤ max 256 room → (new : Session) → IsAdded session name size kind room new → new.pending ≡ session.pending + room → KeepsAsking room before old mid new
+  added_asks goes keeps few new added pending = λ tells kept asks fresh. asks_added session name size kind room new added mid kept pending few (keeps tells kept asks goes.done.goes_on)
+
+  pub added_for : IsTrue mid.tells → StandsOn mid session.pool.store.pairs → (last m : Machine) → GoesFor {T = Unit {0}} before last m m mid session (Ok tt) → room ≡ overhead (span_of size 0 0) → HasRoom mid session room → (new : Session) → IsAdded session name size kind room new → new.pending ≡ session.pending + room
       → GoesFor before last m (next m (VolCreate name size kind)) mid new (Ok Done)
-  added_for last m goes room_is enough new added pending =
+  added_for tells cache last m goes room_is enough new added pending =
       let stands = goes.done in
       record {
         any_moment = earlier_moments before mid last m (next m (VolCreate name size kind)) before.given goes.any_moment;
-        done = record { point = stands.point; one = stands.one; stands = made_stands session name size kind room new added mid stands.point m stands.stands pending room_is enough };
+        done = record { point = stands.point; one = stands.one; stands = made_stands session name size kind room new added mid stands.point m stands.stands tells cache pending room_is enough };
         still = λ fresh. tt;
         whole = tt;
       }
 
   -- memory ran out
-  pub wanting_goes : Goes {T = Unit {0}} room before old mid session (Ok tt) → (old.pending + room ≤ 256 → OnlyReads before mid × (session ≡ old)) → Goes {T = Reply} room before old mid session (Err Memory)
-  wanting_goes goes calm = record {
-    ends = goes.ends;
-    stands = goes.stands;
-    asks = goes.asks;
-    done = tt;
-    fault = record {
-      reason = goes.done.was;
-      counts = goes.done.counts;
-      session = goes.done.goes_on;
-      disk = ⊎_elim (λ (past : 256 < old.pending + room). inr past) (λ (low : old.pending + room ≤ 256). inl (calm low)) (cases_lt 256 (old.pending + room));
-    };
-  }
-
   pub wanting_for : (last m : Machine) → GoesFor {T = Unit {0}} before last m m mid session (Ok tt) → GoesFor {T = Reply} before last m (next m (VolCreate name size kind)) mid session (Err Memory)
   wanting_for last m goes = record {
     any_moment = earlier_moments before mid last m (next m (VolCreate name size kind)) before.given goes.any_moment;

@@ -1,8 +1,8 @@
 -- The commands as `apply` has them.
-use Rattle.std.proofs.Common.{◌≡◌, ◌≢◌, ℕ, Bool, false, List, Result, Ok, Err, refl, sym, ap, subst, ◌∙◌, arith}
+use Rattle.std.proofs.Common.{◌≡◌, ◌≢◌, ◌==◌, ℕ, Bool, true, false, List, Option, Some, None, Result, Ok, Err, refl, sym, ap, subst, ◌∙◌, arith}
 use Rattle.std.specs.Prelude.{IfOk, if◌then◌else◌}
 use Rattle.std.specs.FinMap as fin
-use Rattle.fv_disk.specs.Shown.{Image, Shown, IsDisk}
+use Rattle.fv_disk.specs.Shown.{Shown, IsDisk}
 use Rattle.fv_model.specs.declared.answers.Refusal.TheVariants.{Syntax}
 use Rattle.fv_model.specs.declared.answers.Reply.{Reply}
 use Rattle.fv_model.specs.declared.answers.Reply.TheVariants.{Done, Names, Refused}
@@ -14,14 +14,14 @@ use Rattle.fv_model.specs.Effects.{change_of}
 use Rattle.fv_model.specs.Refusals.{conditions, next}
 use Rattle.fv_model.specs.Replies.{Allows, answer}
 use Rattle.fv_model.specs.Space.{overhead, span_of}
-use Rattle.fv_volume.specs.declared.pool.Pool.{Pool}
-use Rattle.fv_volume.specs.Trees.{Trees, machine_in, no_trees}
 use Rattle.fv_aggregate.specs.declared.fault.Fault.{Fault}
 use Rattle.fv_aggregate.specs.declared.session.Session.{Session}
-use Rattle.fv_aggregate.specs.Calls.{Goes, GoesFor, IsNoDamage}
-use Rattle.fv_aggregate.specs.Commands.{Replies, RepliesBy, is_built, machine_after, room_of}
+use Rattle.fv_aggregate.specs.Calls.{Goes, GoesFor, IsNoDamage, KeepsAsking}
+use Rattle.fv_aggregate.specs.Commands.{Replies, RepliesBy, asked_by, changed_by, is_built, machine_after, room_of}
 use Rattle.fv_aggregate.specs.Standing.{StandsAfter, StandsFor}
+use Rattle.fv_aggregate.specs.Telling.{names_from}
 use Rattle.fv_aggregate.proofs.Standing.{rests_for_last, stays_for}
+use Rattle.fv_aggregate.proofs.Telling.{names_are}
 
 -- ---- a call that leaves the disk and the session
 
@@ -56,6 +56,16 @@ module _ (command : Command) (name : List ℕ) (size : ℕ) (kind : Kind) (is : 
   unfolding is_built
   create_replies m result allowed = subst (λ (c : Command). IfOk result (Replies m c)) (sym is) allowed
 
+  pub create_asks : (before : Shown) (old : Session) (after : Shown) (new : Session) → KeepsAsking (overhead (span_of size 0 0)) before old after new → KeepsAsking (room_of command) before old after new
+  unfolding room_of
+  create_asks before old after new asks = subst (λ (c : Command). KeepsAsking (room_of c) before old after new) (sym is) asks
+
+  pub create_no_point : (X : Type 0) → command ≡ Cp → X
+  create_no_point X cp = absurd (apart (sym is ∙ cp))
+    where
+      apart : VolCreate name size kind ≡ Cp → ⊥
+      apart e = cc
+
   pub create_room : room_of command ≡ overhead (span_of size 0 0)
   unfolding room_of
   create_room = ap room_of is
@@ -72,10 +82,10 @@ unfolding is_built machine_after conditions change_of
 list_after command m is = ap (machine_after m) is
 
 pub list_replies : (command : Command) → command ≡ VolList → (disk : Shown) (session : Session) (last m : Machine) → StandsFor disk session last m → (names : List (List ℕ))
-    → ((pool : Pool) (trees : Trees) (i : Image) → names ≡ fin.keys (machine_in pool session.volumes trees i).volumes) → Replies m command (Names names)
+    → names ≡ names_from session.volumes 0 64 → Replies m command (Names names)
 unfolding is_built conditions answer
 list_replies command is disk session last m stands names listed =
-    let told : names ≡ fin.keys m.volumes = listed session.pool no_trees disk.reads ∙ ap (λ (x : Machine). fin.keys x.volumes) stands.machine in
+    let told : names ≡ fin.keys m.volumes = listed ∙ names_are disk session.pool session.volumes ∙ ap (λ (x : Machine). fin.keys x.volumes) stands.machine in
     subst (λ (c : Command). Replies m c (Names names)) (sym is) (ap Names told)
 
 -- ---- cp
@@ -88,6 +98,10 @@ pub cp_goes_for : (command : Command) → command ≡ Cp → (before : Shown) (l
 unfolding is_built machine_after conditions change_of
 cp_goes_for command is before last m after new result goes = subst (λ (c : Command). GoesFor before last m (machine_after m c) after new result) (sym is) goes
 
+pub cp_asks : (command : Command) → command ≡ Cp → (before : Shown) (old : Session) (after : Shown) (new : Session) → KeepsAsking 0 before old after new → KeepsAsking (room_of command) before old after new
+unfolding room_of
+cp_asks command is before old after new asks = subst (λ (c : Command). KeepsAsking (room_of c) before old after new) (sym is) asks
+
 pub cp_replies : (command : Command) → command ≡ Cp → (m : Machine) (result : Result Reply Fault) → IfOk result (λ reply. reply ≡ Done) → IfOk result (Replies m command)
 unfolding is_built conditions answer
 cp_replies command is m (Err fault) done = tt
@@ -95,33 +109,68 @@ cp_replies command is m (Ok reply) done = subst (λ (c : Command). Replies m c r
 
 -- ---- the others
 
-pub unbuilt : (command : Command) → ((name : List ℕ) (size : ℕ) (kind : Kind) → command ≢ VolCreate name size kind) → command ≢ VolList → command ≢ Cp → is_built command ≡ false
+some_none : (v : List ℕ) → Some v ≡ None → ⊥
+some_none v e = cc
+
+none_if : (t : Bool) (v : List ℕ) → (if t then Some v else None) ≡ None → t ≡ false
+none_if true v none = absurd (some_none v none)
+none_if false v none = refl
+
+pub unbuilt : (command : Command) → ((name : List ℕ) (size : ℕ) (kind : Kind) → command ≢ VolCreate name size kind) → command ≢ VolList → command ≢ Cp → asked_by command ≡ None → changed_by command ≡ None → is_built command ≡ false
 unfolding is_built
-unbuilt (VolCreate v size kind) a b c = absurd (a v size kind refl)
-unbuilt (VolDestroy v) a b c = refl
-unbuilt (VolResize v size) a b c = refl
-unbuilt (VolGuarantee v kind) a b c = refl
-unbuilt VolList a b c = absurd (b refl)
-unbuilt (VolStat v) a b c = refl
-unbuilt (New v f reserve) a b c = refl
-unbuilt (Put v f i block) a b c = refl
-unbuilt (Get v s f i) a b c = refl
-unbuilt (Len v s f) a b c = refl
-unbuilt (Cut v f length) a b c = refl
-unbuilt (Remove v f) a b c = refl
-unbuilt (Ls v s) a b c = refl
-unbuilt (SnapCreate v s) a b c = refl
-unbuilt (SnapDelete v s) a b c = refl
-unbuilt (SnapRestore v s) a b c = refl
-unbuilt (SnapList v) a b c = refl
-unbuilt (CloneCreate x v s size kind) a b c = refl
-unbuilt (SplitStart x) a b c = refl
-unbuilt (SplitFinish x) a b c = refl
-unbuilt (Mirror v s w size kind) a b c = refl
-unbuilt (Clean v) a b c = refl
-unbuilt (Probe v f i) a b c = refl
-unbuilt (Work n) a b c = refl
-unbuilt Cp a b c = absurd (c refl)
+unbuilt (VolCreate v size kind) a b c asked changed = absurd (a v size kind refl)
+unbuilt (VolDestroy v) a b c asked changed = refl
+unbuilt (VolResize v size) a b c asked changed = refl
+unbuilt (VolGuarantee v kind) a b c asked changed = refl
+unbuilt VolList a b c asked changed = absurd (b refl)
+unbuilt (VolStat v) a b c asked changed = refl
+unbuilt (New v f reserve) a b c asked changed = none_if (reserve == 0) v changed
+unbuilt (Put v f i block) a b c asked changed = absurd (some_none v changed)
+unbuilt (Get v s f i) a b c asked changed = absurd (some_none v asked)
+unbuilt (Len v s f) a b c asked changed = absurd (some_none v asked)
+unbuilt (Cut v f length) a b c asked changed = absurd (some_none v changed)
+unbuilt (Remove v f) a b c asked changed = absurd (some_none v changed)
+unbuilt (Ls v s) a b c asked changed = absurd (some_none v asked)
+unbuilt (SnapCreate v s) a b c asked changed = refl
+unbuilt (SnapDelete v s) a b c asked changed = refl
+unbuilt (SnapRestore v s) a b c asked changed = refl
+unbuilt (SnapList v) a b c asked changed = refl
+unbuilt (CloneCreate x v s size kind) a b c asked changed = refl
+unbuilt (SplitStart x) a b c asked changed = refl
+unbuilt (SplitFinish x) a b c asked changed = refl
+unbuilt (Mirror v s w size kind) a b c asked changed = refl
+unbuilt (Clean v) a b c asked changed = refl
+unbuilt (Probe v f i) a b c asked changed = refl
+unbuilt (Work n) a b c asked changed = refl
+unbuilt Cp a b c asked changed = absurd (c refl)
+
+-- a command that is none of `get`, `len` and `ls` asks for no files
+pub asks_none : (command : Command) → ((v : List ℕ) (s : Option (List ℕ)) (f : List ℕ) (i : ℕ) → command ≢ Get v s f i) → ((v : List ℕ) (s : Option (List ℕ)) (f : List ℕ) → command ≢ Len v s f) → ((v : List ℕ) (s : Option (List ℕ)) → command ≢ Ls v s) → asked_by command ≡ None
+asks_none (VolCreate v size kind) get len ls = refl
+asks_none (VolDestroy v) get len ls = refl
+asks_none (VolResize v size) get len ls = refl
+asks_none (VolGuarantee v kind) get len ls = refl
+asks_none VolList get len ls = refl
+asks_none (VolStat v) get len ls = refl
+asks_none (New v f reserve) get len ls = refl
+asks_none (Put v f i block) get len ls = refl
+asks_none (Get v s f i) get len ls = absurd (get v s f i refl)
+asks_none (Len v s f) get len ls = absurd (len v s f refl)
+asks_none (Cut v f length) get len ls = refl
+asks_none (Remove v f) get len ls = refl
+asks_none (Ls v s) get len ls = absurd (ls v s refl)
+asks_none (SnapCreate v s) get len ls = refl
+asks_none (SnapDelete v s) get len ls = refl
+asks_none (SnapRestore v s) get len ls = refl
+asks_none (SnapList v) get len ls = refl
+asks_none (CloneCreate x v s size kind) get len ls = refl
+asks_none (SplitStart x) get len ls = refl
+asks_none (SplitFinish x) get len ls = refl
+asks_none (Mirror v s w size kind) get len ls = refl
+asks_none (Clean v) get len ls = refl
+asks_none (Probe v f i) get len ls = refl
+asks_none (Work n) get len ls = refl
+asks_none Cp get len ls = refl
 
 pub unbuilt_after : (m : Machine) (command : Command) → is_built command ≡ false → machine_after m command ≡ m
 unfolding machine_after

@@ -1,59 +1,44 @@
 -- What a consistency point asks for, and the image that lacks it.
-use Rattle.std.proofs.Common.{◌≡◌, ◌<◌, ◌≤◌, ◌+◌, ◌-◌, ℕ, Bool, true, false, not, ◌||◌, cond, List, length, Option, Some, None, refl, sym, ap, subst, ◌∙◌, arith}
-use Rattle.std.specs.Prelude.{IsTrue, count_by, max}
-use Rattle.std.specs.List.{range_with_len}
-use Rattle.std.specs.Option.{option_map}
+use Rattle.std.proofs.Common.{◌≡◌, ◌<◌, ◌≤◌, ◌+◌, ℕ, Bool, true, false, cond, List, length, Option, Some, None, refl, sym, ap, subst, ◌∙◌, arith}
+use Rattle.std.specs.Prelude.{IfSome, IsTrue, max}
+use Rattle.std.proofs.lemmas.List.{get_or-set_same}
 use Rattle.std.proofs.lemmas.List.Sums.{sum_by-set}
 use Rattle.fv_disk.specs.Shown.{Image, Shown}
 use Rattle.fv_disk.specs.DiskCalls.{OnlyReads}
-use Rattle.fv_bits.specs.Members.{is_member}
 use Rattle.fv_model.specs.declared.commands.Kind.{Kind}
-use Rattle.fv_model.specs.Machines.{first_block}
 use Rattle.fv_model.specs.Space.{overhead, span_of}
 use Rattle.fv_image.specs.Layout.{root_place}
-use Rattle.fv_image.specs.Maps.{map_bit}
 use Rattle.fv_image.specs.Held.{view_at}
 use Rattle.fv_image.specs.Sound.{overheads}
 use Rattle.fv_image.specs.Views.{Head}
 use Rattle.fv_image.proofs.Counts.{none_sum}
 use Rattle.fv_root.specs.declared.find.Found.{Found}
 use Rattle.fv_root.specs.Finding.{root_found}
-use Rattle.fv_aggmap.specs.Loading.{IsLoaded as IsMapLoaded}
-use Rattle.fv_aggmap.specs.Space.{Space, free_blocks, free_from, is_held}
+use Rattle.fv_aggmap.specs.Space.{free_blocks}
+use Rattle.fv_container.specs.Mapped.{Mapped}
 use Rattle.fv_volume.specs.declared.pool.Pool.{Pool}
 use Rattle.fv_volume.specs.declared.state.VolumeState.{VolumeState}
-use Rattle.fv_volume.specs.Creating.{IsMade}
+use Rattle.fv_volume.specs.Creating.{IsMade, IsNew}
 use Rattle.fv_volume.specs.Slots.{IsFirstFree}
 use Rattle.fv_volume.specs.States.{States, state_at, view_over}
-use Rattle.fv_volume.specs.Housed.{AreSettled, settled_as}
 use Rattle.fv_cp.specs.Lent.{asked_by, blocks_asked}
+use Rattle.fv_cp.specs.Placing.{pending_by, pending_files}
 use Rattle.fv_aggregate.specs.declared.session.Session.{Session}
-use Rattle.fv_aggregate.specs.Asking.{AsksWithin, IsShort, free_under}
-use Rattle.fv_aggregate.specs.Standing.{Stands}
-use Rattle.fv_aggregate.proofs.Sums.{asked_within, over_slots}
+use Rattle.fv_aggregate.specs.Asking.{AsksWithin, IsShort}
+use Rattle.fv_aggregate.specs.Standing.{overhead_by, overheads_in, placed_in, Stands}
+use Rattle.fv_aggregate.proofs.Clear.{clear_is, clear_stays, free_and_placed}
+use Rattle.fv_aggregate.proofs.Sums.{asked_within, over_slots, overheads_are, overheads_in_with, pending_with}
 
--- ---- free blocks
-
--- a map that is loaded leaves as many blocks free as the image has it
-pub free_is : (i : Image) (found : Found) (map : Space) → IsMapLoaded i found map → free_blocks map ≡ free_under (root_found found) i
-unfolding free_from free_under
-free_is i found map loaded = λ j. count_by (λ b. not (held b j)) (range_with_len (first_block (loaded.len j)) (loaded.len j - first_block (loaded.len j)))
-  where
-    twice : (b : Bool) → (b || b) ≡ b
-    twice true = refl
-    twice false = refl
-
-    held : (b : ℕ) → is_held map.committed map.next b ≡ map_bit (root_found found) i b
-    held b = ap (λ (next : List Bool). is_held map.committed next b) loaded.same ∙ twice (is_member map.committed b) ∙ loaded.bits b
+-- ---- an image that lacks blocks
 
 -- where a point lacks blocks in the session's map, the image lacks them
-pub short_is : (disk : Shown) (session : Session) (room at want found : ℕ) → IsTrue disk.tells → Stands disk session → AsksWithin disk session room
-    → at ≡ root_place session.pool.found.slot → want ≡ blocks_asked session.volumes → found ≡ free_blocks session.pool.map → found < want → IsShort disk.reads room at want found
-short_is disk session room at want found tells stands asks place asked free short = record {
+pub short_is : (disk : Shown) (session : Session) (left : Pool) (room at want found : ℕ) → IsTrue disk.tells → Stands disk session → AsksWithin disk session room → left.map.committed ≡ session.pool.map.committed
+    → at ≡ root_place session.pool.found.slot → want ≡ blocks_asked session.volumes → found ≡ free_blocks left.map → found < want → IsShort disk.reads room (placed_in left.map) at want found
+short_is disk session left room at want found tells stands asks same place asked free short = record {
   root = root_found session.pool.found;
   counts = (stands.found tells).reads.root;
   place = place;
-  free = free ∙ free_is disk.reads session.pool.found session.pool.map (stands.map tells);
+  free = (let all = free_and_placed left.map in let stays = clear_stays session.pool.map left.map same in let image = clear_is disk.reads session.pool.found session.pool.map (stands.map tells) in omega (arith, free, all, stays, image));
   within = omega (arith, asked, asks.asked, asks.pending);
   short = short;
 }
@@ -70,23 +55,27 @@ asks_after_reads old new session room reads asks = record {
   pending = asks.pending;
 }
 
+-- where a point came to no end, which asked for as much
+pub asks_still : (old new : Shown) (session after : Session) (room : ℕ) → OnlyReads old new → after.pool.found ≡ session.pool.found → blocks_asked after.volumes ≡ blocks_asked session.volumes → after.pending ≡ session.pending
+    → AsksWithin old session room → AsksWithin new after room
+asks_still old new session after room reads found asked pending asks =
+    let was = asks_after_reads old new session room reads asks in
+    record {
+      asked = subst (λ (f : Found). blocks_asked after.volumes ≤ overheads (view_at (root_found f) new.reads) + after.pending) (sym found) (omega (arith, asked, pending, was.asked));
+      pending = omega (arith, pending, was.pending);
+    }
+
 -- volumes that were just read
 pub asked_opened : (pool : Pool) (states : States) (i : Image) → length states ≡ 64 → view_over pool states i ≡ view_at (root_found pool.found) i → blocks_asked states ≤ overheads (view_at (root_found pool.found) i)
-asked_opened pool states i long seen = omega (arith, asked_within pool states i long, ap overheads seen)
+asked_opened pool states i long seen = omega (arith, asked_within states, overheads_are pool states i long, ap overheads seen)
 
--- a volume that was just written asks for nothing
-settled_asks : (o : Option VolumeState) (label : ℕ) → asked_by (option_map (settled_as label) o) ≡ 0
-settled_asks None label = refl
-settled_asks (Some x) label = so x.changed refl
+-- volumes without changes ask for nothing, as after a point
+pub asked_unchanged : (states : States) → length states ≡ 64 → ((s : ℕ) → IfSome (state_at states s) (λ x. x.changed ≡ false)) → blocks_asked states ≡ 0
+asked_unchanged states long unchanged = over_slots asked_by states long ∙ none_sum (λ s. asked_by (state_at states s)) 0 64 (λ k low high. by (state_at states k) (unchanged k))
   where
-    so : (t : Bool) → x.changed ≡ t → asked_by (Some (cond t (record x { label = label; changed = false }) x)) ≡ 0
-    so true e = refl
-    so false e = ap {B = ℕ} (λ (b : Bool). cond b (overhead x.span) 0) e
-
--- so after a point nothing is asked for
-pub asked_settled : (were now : States) → length now ≡ 64 → AreSettled were now → blocks_asked now ≡ 0
-asked_settled were now long settled =
-    over_slots asked_by now long ∙ none_sum (λ s. asked_by (state_at now s)) 0 64 (λ k low high. ap asked_by (settled k).1 ∙ settled_asks (state_at were k) (settled k).0)
+    by : (o : Option VolumeState) → IfSome o (λ x. x.changed ≡ false) → asked_by o ≡ 0
+    by None is = refl
+    by (Some x) is = ap {B = ℕ} (λ (b : Bool). cond b (overhead x.span) 0) is
 
 -- a new volume asks for its overhead
 pub asked_made : (states : States) (slot : ℕ) (name : List ℕ) (size : ℕ) (kind : Kind) (now : States) → length states ≡ 64 → IsFirstFree states slot → IsMade states slot name size kind now
@@ -101,3 +90,25 @@ asked_made states slot name size kind now long free made =
     chosen : (b : Bool) (n : ℕ) → cond b n 0 ≤ n
     chosen true n = omega arith
     chosen false n = omega arith
+
+-- and it is one more to keep room for
+pub overheads_made : (states : States) (slot : ℕ) (name : List ℕ) (size : ℕ) (kind : Kind) (now : States) → length states ≡ 64 → IsFirstFree states slot → IsMade states slot name size kind now
+    → overheads_in now ≡ overheads_in states + overhead (span_of size 0 0)
+overheads_made states slot name size kind now long free made =
+    let sum : overheads_in now + overhead_by (state_at states slot) ≡ overheads_in states + overhead_by (Some made.state) =
+    ap (λ (xs : States). overheads_in xs + overhead_by (state_at states slot)) made.states ∙ overheads_in_with states slot (Some made.state) (omega (arith, long, free.within)) in
+    let nothing : overhead_by (state_at states slot) ≡ 0 = ap overhead_by free.free in
+    let span : made.state.span ≡ span_of size 0 0 = ap (λ (h : Head). h.span) made.head in
+    omega (arith, sum, nothing, ap overhead span)
+
+-- without a file in memory
+pub pending_made : (states : States) (slot : ℕ) (name : List ℕ) (size : ℕ) (kind : Kind) (now : States) (container : Option Mapped) → length states ≡ 64 → IsFirstFree states slot → IsMade states slot name size kind now
+    → IsNew (state_at now slot) container name size kind → pending_files now ≡ pending_files states
+pending_made states slot name size kind now container long free made new =
+    let inside : slot < length states = omega (arith, long, free.within) in
+    let sum : pending_files now + pending_by (state_at states slot) ≡ pending_files states + pending_by (Some made.state) =
+    ap (λ (xs : States). pending_files xs + pending_by (state_at states slot)) made.states ∙ pending_with states slot (Some made.state) inside in
+    let nothing : pending_by (state_at states slot) ≡ 0 = ap pending_by free.free in
+    let there : state_at now slot ≡ Some made.state = ap (λ (xs : States). state_at xs slot) made.states ∙ get_or-set_same states slot (Some made.state) None inside in
+    let bare : pending_by (Some made.state) ≡ 0 = ap pending_by (sym there ∙ new.state_is) ∙ ap (λ f. pending_by (Some (record new.volume { files = f }))) new.files in
+    omega (arith, sum, nothing, bare)

@@ -1,48 +1,63 @@
--- A new volume beside those that can be lent to a consistency point: all of them can.
-use Rattle.std.proofs.Common.{◌≡◌, ◌≢◌, ℕ, zero, suc, ◌+◌, ◌<◌, ◌≤◌, Bool, true, false, List, Option, Some, None, true≢false, refl, sym, ap, subst, ◌∙◌, ⊎_elim, arith}
-use Rattle.std.specs.Prelude.{IfSome, replicate, ◌||◌, nat_le}
-use Rattle.std.specs.Option.{option_map}
+-- A new volume beside those of a session between points: all of them are what they were, and the machine has one more.
+use Rattle.std.proofs.Common.{◌≡◌, ◌≢◌, ℕ, zero, suc, ◌+◌, ◌<◌, ◌≤◌, Bool, true, false, cond, List, length, Option, Some, None, true≢false, refl, sym, ap, subst, ◌∙◌, ⊎_elim, arith}
+use Rattle.std.specs.Prelude.{IfSome, IsTrue, replicate, ◌||◌}
+use Rattle.std.specs.Option.{is_some}
+use Rattle.std.specs.Ordering.{eq_by_cmp}
+use Rattle.std.specs.FinMap as fin
+use Rattle.std.specs.FinMap.{find}
 use Rattle.std.proofs.lemmas.Bool.{both_ways, cases_eq}
-use Rattle.std.proofs.lemmas.Bool.Decides.{nat_tests}
-use Rattle.std.proofs.lemmas.List.{get_or-set_other}
+use Rattle.std.proofs.lemmas.List.{get_or-set_other, get_or-set_same, length-replicate}
+use Rattle.std.proofs.lemmas.List.Sums.{sum_by-set}
 use Rattle.fv_disk.specs.Shown.{Shown}
 use Rattle.fv_bits.specs.Members.{is_member}
 use Rattle.fv_bits.proofs.Laws.{is_member-replicate}
+use Rattle.fv_model.specs.declared.answers.Refusal.{Refusal}
 use Rattle.fv_model.specs.declared.commands.Kind.{Kind}
+use Rattle.fv_model.specs.declared.commands.Command.TheVariants.{VolCreate}
 use Rattle.fv_model.specs.Machines.{Machine, capacity}
-use Rattle.fv_model.specs.Space.{commits, span_of}
-use Rattle.fv_tables.specs.Spelled.{Under}
-use Rattle.fv_tables.specs.Told.{standing_at}
-use Rattle.fv_tables.specs.Reached.{Item, items, is_listed}
-use Rattle.fv_tables.proofs.Bare.{bare_reach}
-use Rattle.fv_image.specs.Views.{Head, View, entry_count}
-use Rattle.fv_image.specs.Held.{Layout, label_place, layout_at}
-use Rattle.fv_image.specs.Volumes.{standing_of}
-use Rattle.fv_image.specs.Seen.{seen}
-use Rattle.fv_image.specs.Soundness.{AreTables}
-use Rattle.fv_image.specs.VolumeRules.{commits_seen, has_commits_in_capacity}
-use Rattle.fv_image.specs.WholeMachine.{has_form, is_built}
-use Rattle.fv_image.proofs.Beside.{IsBeside, built_beside, tables_beside, under_beside}
-use Rattle.fv_image.proofs.Committed.{commits_told}
-use Rattle.fv_image.proofs.PlainVolumes.{IsPlainHead}
+use Rattle.fv_model.specs.Space.{span_of}
+use Rattle.fv_model.specs.Spelling.{is_same_name, name_cmp}
+use Rattle.fv_model.specs.Volumes.{Volume}
+use Rattle.fv_model.specs.Effects.{change_of, effect, empty_volume}
+use Rattle.fv_model.specs.Refusals.{next}
+use Rattle.fv_laws.proofs.Changes.{itself}
+use Rattle.fv_laws.proofs.Orders.{name_total, name_ties}
+use Rattle.fv_tree.specs.Sources.{Use}
+use Rattle.fv_tree.specs.Standing.{under}
+use Rattle.fv_image.specs.Views.{Head, entry_count}
+use Rattle.fv_image.specs.Held.{label_place}
+use Rattle.fv_image.proofs.LoneTables.{form_base}
 use Rattle.fv_root.specs.Finding.{root_found}
+use Rattle.fv_charge.specs.declared.ledger.Ledger.{Ledger}
+use Rattle.fv_charge.specs.Ledgers.{committed}
 use Rattle.fv_container.specs.Mapped.{Mapped, empty_map, entry_under, node_count}
 use Rattle.fv_container.specs.Spelled.{is_at, names}
-use Rattle.fv_container.specs.Chains.{container_at, own_entry}
+use Rattle.fv_container.specs.Chains.{container_at, own_entry, parent_at}
+use Rattle.fv_store.specs.Held.{StandsOn}
 use Rattle.fv_volmap.specs.Slots.{Volume as MapSlots, active_of}
 use Rattle.fv_volume.specs.declared.pool.Pool.{Pool}
 use Rattle.fv_volume.specs.declared.state.VolumeState.{VolumeState}
-use Rattle.fv_volume.specs.Creating.{IsMade, IsNew, with_holes}
-use Rattle.fv_volume.specs.Files.{AreStates, IsState}
-use Rattle.fv_volume.specs.Slots.{IsFirstFree}
-use Rattle.fv_volume.specs.States.{States, head_in, placed_in, state_at, table_in, view_over}
-use Rattle.fv_volume.specs.Trees.{machine_in, no_trees}
-use Rattle.fv_volume.proofs.Trees.{unchanged_machine}
-use Rattle.fv_volume.specs.Stored.{AreApartIn, AreSpacedIn, has_block, is_of, leads, place_at, place_in}
-use Rattle.fv_volume.specs.Housed.{HaveReach}
-use Rattle.fv_cp.specs.Lent.{IsLent, IsLentAt, IsLentSlot}
-use Rattle.fv_volume.proofs.Distinct.{same_names}
+use Rattle.fv_volume.specs.BlocksOver.{entries_in}
+use Rattle.fv_volume.specs.Creating.{Admits, IsMade, IsNew, new_ledger_of, with_holes}
+use Rattle.fv_volume.specs.Files.{AreNamed, IsLabelled}
+use Rattle.fv_volume.specs.Housed.{AreHoused}
+use Rattle.fv_volume.specs.OneVolume.{shows, volume_for, IsReady}
+use Rattle.fv_volume.specs.Placing.{AreLedBy, IsLedTo}
+use Rattle.fv_volume.specs.Slots.{committed_by, is_named, sum_of, IsFirstFree}
+use Rattle.fv_volume.specs.States.{States, empty_head, head_in, parent_in, state_at, with_state}
+use Rattle.fv_volume.specs.Stored.{AreSpacedIn, has_block, is_of, leads, place_in}
+use Rattle.fv_volume.proofs.Housing.{housed_with}
+use Rattle.fv_volume.proofs.Made.{from_pairs, to_pair}
+use Rattle.fv_volume.proofs.NewStanding.{made_standing, made_volume, made_well}
+use Rattle.fv_volume.proofs.Others.{entries_led, entries_standing, entries_volume, entries_well}
 use Rattle.fv_volume.proofs.SlotBlocks.{any_in_range, at_is}
+use Rattle.fv_volume.proofs.Told.{find_set, is_inside, named_from, none_named as none_found, same_named}
+use Rattle.fv_cp.specs.Held.{machine_held, IsHeld, IsHeldIn}
+use Rattle.fv_cp.specs.Lent.{FitTogether, IsLentAt, IsLentSlot}
+use Rattle.fv_cp.specs.Placing.{AreReady, HaveNoFiles, IsReadyIn}
+use Rattle.fv_volume.proofs.PlacedIn.{alone_by}
+use Rattle.fv_aggregate.proofs.Admitting.{accepted_held}
+use Rattle.fv_aggregate.proofs.HeldMachine.{at_name, one}
 
 -- ---- a container of holes
 
@@ -75,21 +90,19 @@ none_led n entries b = so (leads (empty_map n) entries b) refl
 none_of : (x : VolumeState) (n b : ℕ) → x.label ≡ 0 → is_of x x.label (empty_map n) b ≡ false
 none_of x n b none = (λ i. is_at b (none i) || (names (empty_map n).tree b || leads (empty_map n) (entry_count x.span) b)) ∙ (λ i. at_none b i || (none_named (node_count n) b i || none_led n (entry_count x.span) b i))
 
--- ---- the session with the new volume
+-- ---- what calls need of it
 
-module _ (disk : Shown) (pool : Pool) (states : States) (last : Machine) (lent : IsLent disk pool states last) (slot : ℕ) (name : List ℕ) (size : ℕ) (kind : Kind) (new : States)
-    (free : IsFirstFree states slot) (made : IsMade states slot name size kind new) (is : IsNew (state_at new slot) (container_at (with_holes pool slot size).containers slot) name size kind) where
+module _ (disk : Shown) (pool : Pool) (states : States) (slot : ℕ) (name : List ℕ) (size : ℕ) (kind : Kind) (new : States) (fit : FitTogether pool states)
+    (free : IsFirstFree states slot) (made : IsMade states slot name size kind new) (is : IsNew (state_at new slot) (container_at (with_holes pool slot size).containers slot) name size kind)
+    (each : (s : ℕ) → IfSome (state_at new s) (IsLabelled s)) where
   abbrev after : Pool
   after = with_holes pool slot size
 
   abbrev x : VolumeState
   x = is.volume
 
-  abbrev w : View
-  w = view_over pool states disk.reads
-
-  abbrev u : View
-  u = view_over after new disk.reads
+  here : IsLabelled slot x
+  here = subst (λ (o : Option VolumeState). IfSome o (IsLabelled slot)) is.state_is (each slot)
 
   elsewhere : (s : ℕ) → s ≢ slot → state_at new s ≡ state_at states s
   elsewhere s ne = ap (λ (xs : States). state_at xs s) made.states ∙ get_or-set_other states slot s (Some made.state) None ne
@@ -97,133 +110,263 @@ module _ (disk : Shown) (pool : Pool) (states : States) (last : Machine) (lent :
   container_elsewhere : (s : ℕ) → s ≢ slot → container_at after.containers s ≡ container_at pool.containers s
   container_elsewhere s ne = get_or-set_other pool.containers.containers slot s (Some (empty_map (entry_count (span_of size 0 0)))) None ne
 
-  plain_new : IsPlainHead (head_in x)
-  plain_new = subst IsPlainHead (sym is.head) (record { root = refl; levels = refl; snapshots = refl; base = refl })
-
-  form_new : has_form (head_in x) ≡ true
-  form_new = ap has_form is.head
-
-  wide_new : (head_in x).most + 256 ≤ (head_in x).span
-  wide_new = subst (λ (h : Head). h.most + 256 ≤ h.span) (sym is.head) (omega arith)
-
-  beside : IsBeside w u slot (head_in x)
-  unfolding view_over
-  beside = record {
-    inside = free.within;
-    there = ap (option_map head_in) is.state_is;
-    plain = plain_new;
-    form = form_new;
-    wide = wide_new;
-    blocks = refl;
-    heads = λ s other. ap (option_map head_in) (elsewhere s other);
-    entries = λ s other v. ap (λ (c : Option Mapped). placed_in pool.kept disk.reads (own_entry c v)) (container_elsewhere s other);
-  }
-
-  pub built_now : is_built u ≡ true
-  built_now = built_beside w u slot (head_in x) beside lent.built
-
-  -- what all commit, by the rule and by the machine
-  committed_now : AreStates u no_trees new → commits_seen (seen u) ≡ commits (machine_in after new no_trees disk.reads)
-  unfolding view_over
-  committed_now are =
-      let y : Layout = record (layout_at (root_found pool.found) disk.reads) { view = u } in
-      sym (commits_told y (same_names u y (λ s. refl) new (λ s. refl) are.names)) ∙ ap commits (sym (unchanged_machine after new no_trees disk.reads (λ s. refl)))
-
-  pub tables_now : AreStates u no_trees new → commits (machine_in after new no_trees disk.reads) ≤ capacity pool.found.blocks → AreTables (seen u)
-  unfolding has_commits_in_capacity seen view_over
-  tables_now are fits = tables_beside w u slot (head_in x) beside lent.built lent.tables (within (commits_seen (seen u)) (capacity pool.found.blocks) (omega (arith, committed_now are, fits)))
-    where
-      within : (a b : ℕ) → a ≤ b → nat_le a b ≡ true
-      within a b le = grind (arith, nat_tests, le)
-
-  -- ---- the blocks
+  housed : AreHoused after.containers new
+  housed = housed_with pool states new slot name size kind made is each fit.housed
 
   not_changed : x.changed ≡ false → ⊥
   not_changed e = true≢false (sym is.changed ∙ e)
 
-  slot_new : label_place (root_found pool.found) slot ≡ 0 → IsLentSlot disk.reads pool.found slot x (empty_map (entry_count x.span))
-  slot_new nowhere = record {
-    label = is.label ∙ sym nowhere;
-    nodes = λ b named. absurd (both_ways (names (empty_map (entry_count x.span)).tree b) (none_named (node_count (entry_count x.span)) b) named);
-    apart = record {
-      some = λ v. subst (λ o. IfSome o (λ e. 1 ≤ e.pvbn)) (sym (no_entry (entry_count x.span) v)) tt;
-      entries = λ v w lt within some same. some (ap place_in (no_entry (entry_count x.span) v));
-      nodes = λ b named. none_led (entry_count x.span) (entry_count x.span) b;
-      label = none_led (entry_count x.span) (entry_count x.span) x.label;
+  many : x.map.span ≤ length (entries_in (container_at after.containers x.slot))
+  many = subst (λ (n : ℕ). x.map.span ≤ length (entries_in (container_at after.containers n))) (sym here.slot_is)
+      (subst (λ (c : Option Mapped). x.map.span ≤ length (entries_in c)) (sym is.holes)
+      (let count : length (entries_in (Some (empty_map (entry_count x.span)))) ≡ entry_count x.span = length-replicate (entry_count x.span) None in
+      let span = here.map in omega (arith, count, span)))
+
+  ready_new : StandsOn disk pool.store.pairs → IsReady disk after x
+  ready_new stands = record {
+    lent = record {
+      within = (let at = here.slot_is in omega (arith, at, free.within));
+      stands = stands;
+      few = (let span = here.map in let most = here.span in omega (arith, span, most));
+      entries = many;
     };
-    unchanged = λ e. absurd (not_changed e);
+    labelled = subst (λ (n : ℕ). IsLabelled n x) (sym here.slot_is) here;
+    booked = record {
+      size = ap (λ (l : Ledger). l.size) is.ledger ∙ sym (ap (λ (h : Head). h.size) is.head);
+      kind = ap (λ (l : Ledger). l.kind) is.ledger ∙ sym (ap (λ (h : Head). h.kind) is.head);
+      span = here.counts;
+      need = ap (λ (l : Ledger). l.need) is.ledger;
+      charge = (let none : x.ledger.charge ≡ 0 = ap (λ (l : Ledger). l.charge) is.ledger in omega (arith, none));
+    };
+    blocks = fit.range.size;
+    changed = λ isnt. absurd (not_changed isnt);
   }
 
-  was_free : label_place (root_found pool.found) slot ≡ 0
-  was_free = by (container_at pool.containers slot) (subst (λ (o : Option VolumeState). IsLentAt disk.reads pool.found slot o (container_at pool.containers slot)) free.free (lent.slots slot free.within))
+  ready_old : (s : ℕ) (y : VolumeState) → s ≢ slot → y.slot ≡ s → IsReady disk pool y → IsReady disk after y
+  ready_old s y other at ready = record {
+    lent = record {
+      within = ready.lent.within;
+      stands = ready.lent.stands;
+      few = ready.lent.few;
+      entries = subst (λ (c : Option Mapped). y.map.span ≤ length (entries_in c)) (sym (container_elsewhere y.slot (λ e. other (sym at ∙ e)))) ready.lent.entries;
+    };
+    labelled = ready.labelled;
+    booked = ready.booked;
+    blocks = ready.blocks;
+    changed = ready.changed;
+  }
+
+  -- what holds of the new volume, and stays of each other one, holds of each
+  put : (P Q : ℕ → VolumeState → Type 0) → Q slot x → ((s : ℕ) (y : VolumeState) → s ≢ slot → state_at states s ≡ Some y → P s y → Q s y) → ((s : ℕ) → IfSome (state_at states s) (P s)) → (s : ℕ) → IfSome (state_at new s) (Q s)
+  put P Q new_is stays was s = ⊎_elim
+      (λ (same : s ≡ slot). subst (λ (k : ℕ). IfSome (state_at new k) (Q k)) (sym same) (subst (λ (o : Option VolumeState). IfSome o (Q slot)) (sym is.state_is) new_is))
+      (λ (other : s ≢ slot). subst (λ (o : Option VolumeState). IfSome o (Q s)) (sym (elsewhere s other)) (by other (state_at states s) refl (was s)))
+      (cases_eq s slot)
     where
-      by : (c : Option Mapped) → IsLentAt disk.reads pool.found slot None c → label_place (root_found pool.found) slot ≡ 0
-      by None nowhere = nowhere
-      by (Some map) never = absurd never
+      by : s ≢ slot → (o : Option VolumeState) → state_at states s ≡ o → IfSome o (P s) → IfSome o (Q s)
+      by other None there none = tt
+      by other (Some y) there one = stays s y other there one
 
-  pub slots_now : (s : ℕ) → s < 64 → IsLentAt disk.reads pool.found s (state_at new s) (container_at after.containers s)
-  slots_now s inside = ⊎_elim
-      (λ (here : s ≡ slot). subst (λ (k : ℕ). IsLentAt disk.reads pool.found k (state_at new k) (container_at after.containers k)) (sym here)
-      (subst (λ (o : Option VolumeState). IsLentAt disk.reads pool.found slot o (container_at after.containers slot)) (sym is.state_is)
-      (subst (λ (c : Option Mapped). IsLentAt disk.reads pool.found slot (Some x) c) (sym is.holes) (slot_new was_free))))
-      (λ (other : s ≢ slot). subst (λ (o : Option VolumeState). IsLentAt disk.reads pool.found s o (container_at after.containers s)) (sym (elsewhere s other))
-      (subst (λ (c : Option Mapped). IsLentAt disk.reads pool.found s (state_at states s) c) (sym (container_elsewhere s other)) (lent.slots s inside)))
-      (cases_eq s slot)
+  pub ready_beside : StandsOn disk pool.store.pairs → AreReady disk pool states → AreReady disk after new
+  ready_beside stands ready = put (IsReadyIn disk pool) (IsReadyIn disk after) (record { slot = here.slot_is; ready = ready_new stands })
+      (λ s y other there one. record { slot = one.slot; ready = ready_old s y other one.slot one.ready }) ready
 
-  -- the new volume has no block yet
-  none_new : (b : ℕ) → has_block (state_at new slot) (container_at after.containers slot) b ≡ false
-  none_new b = (λ i. has_block (is.state_is i) (is.holes i) b) ∙ none_of x (entry_count x.span) b is.label
+  pub none_beside : HaveNoFiles states → HaveNoFiles new
+  none_beside none = put (λ s y. y.files ≡ None) (λ s y. y.files ≡ None) is.files (λ s y other there no. no) none
 
-  has_as_before : (s b : ℕ) → s ≢ slot → has_block (state_at new s) (container_at after.containers s) b ≡ has_block (state_at states s) (container_at pool.containers s) b
-  has_as_before s b other = λ i. has_block (elsewhere s other i) (container_elsewhere s other i) b
+  -- ---- where the session stands for a machine
 
-  not_here : (s b : ℕ) → has_block (state_at new s) (container_at after.containers s) b ≡ true → s ≢ slot
-  not_here s b there here = both_ways _ (ap (λ (k : ℕ). has_block (state_at new k) (container_at after.containers k) b) here ∙ none_new b) there
+  module _ (last : Machine) (held : IsHeld disk pool states last) (tells : IsTrue disk.tells) (stands : StandsOn disk pool.store.pairs) (span : ℕ) (admits : (place : ℕ) × Admits states pool.found.blocks name size kind place span) where
+    mine : (s : ℕ) (y : VolumeState) → state_at states s ≡ Some y → IsHeldIn disk pool s y
+    mine s y there = one disk pool states fit.housed.long last held s y there
 
-  was_there : (s b : ℕ) → has_block (state_at states s) (container_at pool.containers s) b ≡ true → s ≢ slot
-  was_there s b there here = both_ways _ (ap (λ (k : ℕ). has_block (state_at states k) (container_at pool.containers k) b) here ∙ ap (λ (o : Option VolumeState). has_block o (container_at pool.containers slot) b) free.free) there
+    alone_old : (s : ℕ) (y : VolumeState) → state_at states s ≡ Some y → parent_at pool.containers y.slot ≡ None
+    alone_old s y there = let is = mine s y there in
+        fit.housed.parents y.slot ∙ ap (λ (n : ℕ). parent_in (state_at states n)) is.slot ∙ ap parent_in there ∙ alone_by y.base (form_base (head_in y) is.ready.labelled.form)
 
-  pub spaced_now : AreSpacedIn pool.found.blocks pool.map.next (state_at new) (container_at after.containers)
-  spaced_now = record {
-    apart = λ s k b small large other here there.
-        lent.spaced.apart s k b small large other (sym (has_as_before s b (not_here s b here)) ∙ here) (sym (has_as_before k b (not_here k b there)) ∙ there);
-    held = λ s b small there. lent.spaced.held s b small (sym (has_as_before s b (not_here s b there)) ∙ there);
-    set = λ b set. let s = lent.spaced.set b set in (s.0, s.1, has_as_before s.0 b (was_there s.0 b s.2) ∙ s.2);
-  }
+    alone_now : (s : ℕ) (y : VolumeState) → y.slot ≡ s → IsLabelled s y → state_at new s ≡ Some y → parent_at after.containers y.slot ≡ None
+    alone_now s y at labelled there = housed.parents y.slot ∙ ap (λ (n : ℕ). parent_in (state_at new n)) at ∙ ap parent_in there ∙ alone_by y.base (form_base (head_in y) labelled.form)
 
-  -- ---- the active maps
+    module _ (s : ℕ) (y : VolumeState) (other : s ≢ slot) (there : state_at states s ≡ Some y) where
+      was : IsHeldIn disk pool s y
+      was = mine s y there
 
-  Reaches : View → ℕ → Option VolumeState → Type 0
-  Reaches v s o = IfSome o (λ z. (n : ℕ) → is_member (active_of z.map) n ≡ is_listed (items (standing_of v s (table_in z.active))) n)
+      still : parent_at after.containers y.slot ≡ None
+      still = alone_now s y was.slot (subst (λ (n : ℕ). IsLabelled n y) was.slot was.ready.labelled) (elsewhere s other ∙ there)
 
-  reach_new : (n : ℕ) → is_member (active_of x.map) n ≡ is_listed (items (standing_of u slot (table_in x.active))) n
-  reach_new n =
-      ap (λ (m : MapSlots). is_member (active_of m) n) is.map ∙ is_member-replicate x.span n
-      ∙ sym (ap (λ (es : List Item). is_listed es n) (bare_reach (standing_of u slot (table_in x.active)) plain_new.root))
+      same_own : (v : ℕ) → own_entry (container_at after.containers y.slot) v ≡ own_entry (container_at pool.containers y.slot) v
+      same_own v = ap (λ (c : Option Mapped). own_entry c v) (container_elsewhere y.slot (λ e. other (sym was.slot ∙ e)))
 
-  reach_old : (s : ℕ) → s ≢ slot → (o : Option VolumeState) → state_at states s ≡ o → IfSome o (IsState w no_trees s) → Reaches w s o → Reaches u s o
-  unfolding view_over Reaches
-  reach_old s other None there was reached = tt
-  reach_old s other (Some z) there was reached = λ n.
-      reached n ∙ sym (ap (λ (blocks : Under). is_listed (items (standing_at blocks z.active.levels z.active.root)) n) (under_beside w u slot (head_in x) beside lent.built s (head_in z) other (ap (option_map head_in) there) was.labelled.form))
+      volume_old : volume_for disk after y ≡ volume_for disk pool y
+      volume_old = entries_volume disk disk pool after y (alone_old s y there) still same_own refl refl (λ v e at. refl) (λ v e at. was.stands.told.1.own v e at)
 
-  pub reach_now : HaveReach u new
-  unfolding Reaches
-  reach_now s inside = ⊎_elim
-      (λ (here : s ≡ slot). subst (λ (k : ℕ). Reaches u k (state_at new k)) (sym here) (subst (Reaches u slot) (sym is.state_is) reach_new))
-      (λ (other : s ≢ slot). subst (Reaches u s) (sym (elsewhere s other)) (reach_old s other (state_at states s) refl (lent.states.each s) (lent.reach s inside)))
-      (cases_eq s slot)
+      held_old : IsHeldIn disk after s y
+      held_old = record {
+        slot = was.slot;
+        ready = ready_old s y other was.slot was.ready;
+        stands = entries_standing disk disk pool after y (alone_old s y there) still same_own refl refl (λ v e at. refl) (λ v e at. was.stands.told.1.own v e at) was.stands;
+        led = entries_led disk disk pool after y (alone_old s y there) still same_own refl refl (λ v e at. refl) (λ v e at. was.stands.told.1.own v e at) was.led;
+        well = entries_well disk disk pool after y (alone_old s y there) still same_own refl refl (λ v e at. refl) (λ v e at. was.stands.told.1.own v e at) was.well;
+        wide = was.wide;
+        within = was.within;
+      }
 
-  pub lent_beside : AreStates u no_trees new → commits (machine_in after new no_trees disk.reads) ≤ capacity pool.found.blocks → IsLent disk after new last
-  lent_beside are fits = record {
-    found = lent.found;
-    tells = lent.tells;
-    keeps = lent.keeps;
-    map = record { len = lent.map.len; bits = lent.map.bits };
-    slots = slots_now;
-    spaced = spaced_now;
-    states = are;
-    built = built_now;
-    tables = tables_now are fits;
-    reach = reach_now;
-  }
+    -- the new one
+    head_own : head_in x ≡ empty_head x.name size kind (span_of size 0 0)
+    head_own = is.head ∙ ap (λ (n : List ℕ). empty_head n size kind (span_of size 0 0)) (sym (ap (λ (h : Head). h.name) is.head))
+
+    no_number : (v : ℕ) → is_member (active_of x.map) v ≡ false
+    no_number v = ap (λ (m : MapSlots). is_member (active_of m) v) is.map ∙ is_member-replicate x.span v
+
+    led_new : IsLedTo disk after x
+    led_new = subst (AreLedBy (under (shows disk after x)) (shows disk after x).used x.active) (sym is.files) (λ v nowhere. unused _ (is_member (active_of x.map) v) (no_number v))
+      where
+        unused : (u : Use) (b : Bool) → b ≡ false → cond b (Some u) None ≡ None
+        unused u true e = absurd (true≢false e)
+        unused u false e = refl
+
+    held_new : IsHeldIn disk after slot x
+    held_new = record {
+      slot = here.slot_is;
+      ready = ready_new stands;
+      stands = made_standing disk after x size kind head_own is.ledger is.files (entry_count x.span) tells (ap (container_at after.containers) here.slot_is ∙ is.holes) (alone_now slot x here.slot_is here is.state_is);
+      led = led_new;
+      well = made_well disk after x size kind head_own is.ledger is.files;
+      wide = subst (λ (h : Head). h.most + 256 ≤ h.span) (sym is.head) (omega arith);
+      within = (let none : x.ledger.charge ≡ 0 = ap (λ (l : Ledger). l.charge) is.ledger in omega (arith, none));
+    }
+
+    new_name : (s : ℕ) (y : VolumeState) → state_at states s ≡ Some y → x.name ≡ y.name → ⊥
+    new_name s y there same =
+        let called : x.name ≡ name = ap (λ (h : Head). h.name) is.head in
+        let none : is_named (state_at states s) name ≡ false = admits.1.name_is.none s (is_inside states s y fit.housed.long there) in
+        let some : is_named (Some y) name ≡ true = ap (λ (n : List ℕ). is_same_name y.name n) (sym called ∙ same) ∙ itself y.name in
+        true≢false (sym some ∙ ap (λ (o : Option VolumeState). is_named o name) (sym there) ∙ none)
+
+    names_now : AreNamed new
+    names_now = from_pairs new (λ s k a b first second same. ⊎_elim
+        (λ (e : s ≡ slot). ⊎_elim
+        (λ (f : k ≡ slot). e ∙ sym f)
+        (λ (differs : k ≢ slot). absurd (new_name k b (sym (elsewhere k differs) ∙ second) (ap (λ (z : VolumeState). z.name) (the_new s a e first) ∙ same)))
+        (cases_eq k slot))
+        (λ (other : s ≢ slot). ⊎_elim
+        (λ (f : k ≡ slot). absurd (new_name s a (sym (elsewhere s other) ∙ first) (ap (λ (z : VolumeState). z.name) (the_new k b f second) ∙ sym same)))
+        (λ (differs : k ≢ slot). to_pair states held.names s k a b (sym (elsewhere s other) ∙ first) (sym (elsewhere k differs) ∙ second) same)
+        (cases_eq k slot))
+        (cases_eq s slot))
+      where
+        the_new : (s : ℕ) (a : VolumeState) → s ≡ slot → state_at new s ≡ Some a → x ≡ a
+        the_new s a same there = same_some (sym is.state_is ∙ ap (state_at new) (sym same) ∙ there)
+          where
+            same_some : {a b : VolumeState} → Some a ≡ Some b → a ≡ b
+            same_some e = cc
+
+    inside : slot < length states
+    inside = let within = free.within in let all = fit.housed.long in omega (arith, within, all)
+
+    now_is : new ≡ with_state states slot (Some x)
+    now_is = made.states ∙ ap (with_state states slot) (sym (get_or-set_same states slot (Some made.state) None inside) ∙ sym (ap (λ (xs : States). state_at xs slot) made.states) ∙ is.state_is)
+
+    commits_now : sum_of new ≤ capacity pool.found.blocks
+    commits_now =
+        let sum : sum_of new + committed_by (state_at states slot) ≡ sum_of states + committed_by (Some x) =
+        ap (λ (xs : States). sum_of xs + committed_by (state_at states slot)) now_is ∙ sum_by-set committed_by states slot (Some x) None inside in
+        let nothing : committed_by (state_at states slot) ≡ 0 = ap committed_by free.free in
+        let commit : committed x.ledger ≡ new_ledger_of size kind = ap committed is.ledger in
+        omega (arith, sum, nothing, commit, admits.1.room)
+
+    -- ---- the blocks
+
+    slot_new : label_place (root_found pool.found) slot ≡ 0 → IsLentSlot disk.reads pool.found slot x (empty_map (entry_count x.span))
+    slot_new nowhere = record {
+      label = is.label ∙ sym nowhere;
+      nodes = λ b named. absurd (both_ways (names (empty_map (entry_count x.span)).tree b) (none_named (node_count (entry_count x.span)) b) named);
+      apart = record {
+        some = λ v. subst (λ o. IfSome o (λ e. 1 ≤ e.pvbn)) (sym (no_entry (entry_count x.span) v)) tt;
+        entries = λ v w lt within some same. some (ap place_in (no_entry (entry_count x.span) v));
+        nodes = λ b named. none_led (entry_count x.span) (entry_count x.span) b;
+        label = none_led (entry_count x.span) (entry_count x.span) x.label;
+      };
+      unchanged = λ e. absurd (not_changed e);
+    }
+
+    was_free : label_place (root_found pool.found) slot ≡ 0
+    was_free = by (container_at pool.containers slot) (subst (λ (o : Option VolumeState). IsLentAt disk.reads pool.found slot o (container_at pool.containers slot)) free.free (held.slots slot free.within))
+      where
+        by : (c : Option Mapped) → IsLentAt disk.reads pool.found slot None c → label_place (root_found pool.found) slot ≡ 0
+        by None nowhere = nowhere
+        by (Some map) never = absurd never
+
+    pub slots_now : (s : ℕ) → s < 64 → IsLentAt disk.reads pool.found s (state_at new s) (container_at after.containers s)
+    slots_now s inside = ⊎_elim
+        (λ (here : s ≡ slot). subst (λ (k : ℕ). IsLentAt disk.reads pool.found k (state_at new k) (container_at after.containers k)) (sym here)
+        (subst (λ (o : Option VolumeState). IsLentAt disk.reads pool.found slot o (container_at after.containers slot)) (sym is.state_is)
+        (subst (λ (c : Option Mapped). IsLentAt disk.reads pool.found slot (Some x) c) (sym is.holes) (slot_new was_free))))
+        (λ (other : s ≢ slot). subst (λ (o : Option VolumeState). IsLentAt disk.reads pool.found s o (container_at after.containers s)) (sym (elsewhere s other))
+        (subst (λ (c : Option Mapped). IsLentAt disk.reads pool.found s (state_at states s) c) (sym (container_elsewhere s other)) (held.slots s inside)))
+        (cases_eq s slot)
+
+    -- the new volume has no block yet
+    none_new : (b : ℕ) → has_block (state_at new slot) (container_at after.containers slot) b ≡ false
+    none_new b = (λ i. has_block (is.state_is i) (is.holes i) b) ∙ none_of x (entry_count x.span) b is.label
+
+    has_as_before : (s b : ℕ) → s ≢ slot → has_block (state_at new s) (container_at after.containers s) b ≡ has_block (state_at states s) (container_at pool.containers s) b
+    has_as_before s b other = λ i. has_block (elsewhere s other i) (container_elsewhere s other i) b
+
+    not_here : (s b : ℕ) → has_block (state_at new s) (container_at after.containers s) b ≡ true → s ≢ slot
+    not_here s b there here = both_ways _ (ap (λ (k : ℕ). has_block (state_at new k) (container_at after.containers k) b) here ∙ none_new b) there
+
+    was_there : (s b : ℕ) → has_block (state_at states s) (container_at pool.containers s) b ≡ true → s ≢ slot
+    was_there s b there here = both_ways _ (ap (λ (k : ℕ). has_block (state_at states k) (container_at pool.containers k) b) here ∙ ap (λ (o : Option VolumeState). has_block o (container_at pool.containers slot) b) free.free) there
+
+    pub spaced_now : AreSpacedIn pool.found.blocks pool.map.next (state_at new) (container_at after.containers)
+    spaced_now = record {
+      apart = λ s k b small large other here there.
+          held.spaced.apart s k b small large other (sym (has_as_before s b (not_here s b here)) ∙ here) (sym (has_as_before k b (not_here k b there)) ∙ there);
+      held = λ s b small there. held.spaced.held s b small (sym (has_as_before s b (not_here s b there)) ∙ there);
+      set = λ b set. let s = held.spaced.set b set in (s.0, s.1, has_as_before s.0 b (was_there s.0 b s.2) ∙ s.2);
+    }
+
+    pub held_beside : IsHeld disk after new last
+    held_beside = record {
+      found = held.found;
+      tells = held.tells;
+      keeps = held.keeps;
+      map = record { len = held.map.len; bits = held.map.bits };
+      slots = slots_now;
+      spaced = spaced_now;
+      names = names_now;
+      each = put (IsHeldIn disk pool) (IsHeldIn disk after) held_new (λ s y other there was. held_old s y other there) held.each;
+      commits = commits_now;
+    }
+
+    -- ---- the machine
+
+    abbrev meant : ℕ → VolumeState → Volume
+    meant s y = volume_for disk pool y
+
+    abbrev now_meant : ℕ → VolumeState → Volume
+    now_meant s y = volume_for disk after y
+
+    old_same : named_from now_meant 0 states ≡ named_from meant 0 states
+    old_same = same_named meant now_meant states 0 (λ k y there. volume_old k y (λ same. none_some y (sym there ∙ ap (state_at states) same ∙ free.free)) there)
+      where
+        none_some : (y : VolumeState) → ◌≡◌ {A = Option VolumeState} (Some y) None → ⊥
+        none_some y e = cc
+
+    pub machine_beside : machine_held disk after new ≡ next (machine_held disk pool states) (VolCreate name size kind)
+    unfolding change_of machine_held
+    machine_beside =
+        let m : Machine = machine_held disk pool states in
+        let called : x.name ≡ name = ap (λ (h : Head). h.name) is.head in
+        let volume : now_meant (0 + slot) x ≡ empty_volume size kind = made_volume disk after x size kind head_own is.ledger is.files in
+        let unnamed : find name_cmp x.name (named_from now_meant 0 states) ≡ None = (λ j. find name_cmp (called j) (old_same j)) ∙ none_found meant states 0 name (λ s lt. admits.1.name_is.none s (let all = fit.housed.long in omega (arith, lt, all))) in
+        let map : (machine_held disk after new).volumes ≡ fin.insert m.volumes name (empty_volume size kind) =
+        fin.same_map name_total name_ties _ _ (λ q.
+        at_name disk after new housed.long q ∙ ap (λ (xs : States). find name_cmp q (named_from now_meant 0 xs)) now_is
+        ∙ find_set now_meant x states 0 slot inside free.free unnamed q
+        ∙ (λ j. cond (eq_by_cmp name_cmp q (called j)) (Some (volume j)) (find name_cmp q (old_same j)))
+        ∙ ap (λ (o : Option Volume). cond (eq_by_cmp name_cmp q name) (Some (empty_volume size kind)) o) (sym (at_name disk pool states fit.housed.long q))
+        ∙ sym (fin.get-insert name_total m.volumes name (empty_volume size kind) q)) in
+        (λ j. record { blocks = pool.found.blocks; version = pool.found.root.version; volumes = map j })
+        ∙ sym (ap (λ (r : Option Refusal). cond (is_some r) m (effect m (VolCreate name size kind))) (accepted_held disk pool states fit.housed.long last held name size kind admits.0 span admits.1))

@@ -8,7 +8,7 @@ use Rattle.fv_model.specs.Machines.{Machine}
 use Rattle.fv_aggregate.specs.declared.fault.Fault.{Fault}
 use Rattle.fv_aggregate.specs.declared.fault.Fault.TheVariants.{DiskFault, Damaged, Memory, Failed}
 use Rattle.fv_aggregate.specs.declared.session.Session.{Session}
-use Rattle.fv_aggregate.specs.Calls.{Goes, GoesFor, HasFault, SameCounts}
+use Rattle.fv_aggregate.specs.Calls.{Goes, GoesFor, HasFault, KeepsAsking, SameCounts}
 use Rattle.fv_aggregate.specs.Causes.{KeepsEnds}
 use Rattle.fv_aggregate.specs.Standing.{Stands}
 use Rattle.fv_aggregate.proofs.Asking.{asks_more}
@@ -35,7 +35,6 @@ pub rests_done : {T : Type 0} (x : T) (room : ℕ) (disk : Shown) (session : Ses
 rests_done x room disk session fresh stands = record {
   ends = same_ends disk;
   stands = λ none. stands;
-  asks = λ tells kept asks none. asks_more disk session kept room asks;
   done = record { was = fresh; goes_on = fresh; counts = same_counts disk };
   fault = tt;
 }
@@ -44,17 +43,18 @@ pub rests_wanting : {T : Type 0} (room : ℕ) (disk : Shown) (session : Session)
 rests_wanting room disk session fresh stands = record {
   ends = same_ends disk;
   stands = λ none. stands;
-  asks = λ tells kept asks none. asks_more disk session kept room asks;
   done = tt;
-  fault = record { reason = fresh; counts = same_counts disk; session = fresh; disk = inl (reads_itself disk, refl) };
+  fault = record { reason = fresh; counts = same_counts disk; session = fresh; disk = inl (reads_itself disk) };
 }
+
+pub rests_asks : (room : ℕ) (disk : Shown) (session : Session) → KeepsAsking room disk session disk session
+rests_asks room disk session = λ tells kept asks none. asks_more disk session kept room asks
 
 -- a session that failed before
 pub stays_failed : {T : Type 0} (faults room : ℕ) (disk : Shown) (session : Session) → session.failed ≡ Some faults → Goes {T = T} room disk session disk session (Err (Failed faults))
 stays_failed faults room disk session failed = record {
   ends = same_ends disk;
   stands = λ none. absurd (both session.failed none failed);
-  asks = λ tells kept asks none. asks_more disk session kept room asks;
   done = tt;
   fault = record { reason = failed; counts = same_counts disk; session = refl; disk = reads_itself disk };
 }
@@ -73,13 +73,18 @@ EndsAs (Err e) (Ok y) = ⊥
 
 more_room : (least room : ℕ) → least ≤ room → (before : Shown) (old : Session) (after : Shown) (new : Session) (e : Fault) → HasFault least before old after new e → HasFault room before old after new e
 more_room least room le before old after new DiskFault row = row
-more_room least room le before old after new (Damaged at want found) row = row
+more_room least room le before old after new (Damaged at want found) row = record {
+  reason = row.reason;
+  counts = row.counts;
+  session = row.session;
+  disk = ⊎_elim (λ reads. inl reads) (λ past. inr (omega (arith, past, le))) row.disk;
+}
 more_room least room le before old after new (Failed faults) row = row
 more_room least room le before old after new Memory row = record {
   reason = row.reason;
   counts = row.counts;
   session = row.session;
-  disk = ⊎_elim (λ untouched. inl untouched) (λ past. inr (omega (arith, past, le))) row.disk;
+  disk = ⊎_elim (λ reads. inl reads) (λ past. inr (omega (arith, past, le))) row.disk;
 }
 
 pub goes_as : {T U : Type 0} (least room : ℕ) → least ≤ room → (before : Shown) (old : Session) (after : Shown) (new : Session) (r : Result T Fault) (s : Result U Fault) → EndsAs r s
@@ -87,14 +92,12 @@ pub goes_as : {T U : Type 0} (least room : ℕ) → least ≤ room → (before :
 goes_as least room le before old after new (Ok x) (Ok y) same goes = record {
   ends = goes.ends;
   stands = goes.stands;
-  asks = λ tells kept asks none. let is = goes.asks tells kept asks none in record { asked = is.asked; pending = omega (arith, is.pending, le) };
   done = goes.done;
   fault = tt;
 }
 goes_as least room le before old after new (Err e) (Err f) same goes = record {
   ends = goes.ends;
   stands = goes.stands;
-  asks = λ tells kept asks none. let is = goes.asks tells kept asks none in record { asked = is.asked; pending = omega (arith, is.pending, le) };
   done = tt;
   fault = subst (HasFault room before old after new) (sym same) (more_room least room le before old after new e goes.fault);
 }
@@ -102,6 +105,9 @@ goes_as least room le before old after new (Ok x) (Err f) same goes = absurd sam
 goes_as least room le before old after new (Err e) (Ok y) same goes = absurd same
 
 -- ---- with more room
+
+pub asks_within : (least room : ℕ) → least ≤ room → (before : Shown) (old : Session) (after : Shown) (new : Session) → KeepsAsking least before old after new → KeepsAsking room before old after new
+asks_within least room le before old after new keeps = λ tells kept asks none. let is = keeps tells kept asks none in record { asked = is.asked; pending = omega (arith, is.pending, le) }
 
 pub goes_more : (room : ℕ) (before : Shown) (old : Session) (after : Shown) (new : Session) (r : Result (Unit {0}) Fault) → Goes 0 before old after new r → Goes room before old after new r
 goes_more room before old after new (Ok x) goes = goes_as 0 room (omega arith) before old after new (Ok x) (Ok x) tt goes

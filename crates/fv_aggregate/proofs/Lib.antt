@@ -1,9 +1,12 @@
 mod Sums
+pub mod Clear
 mod Asking
 mod Calls
 mod Standing
 mod Lent
 mod PointEnds
+mod HeldMachine
+mod Admitting
 mod Beside
 mod Added
 mod Telling
@@ -11,3 +14,14 @@ mod Charges
 mod Opened
 mod Whole
 mod Applied
+mod Missing
+mod Called
+mod Looked
+mod CallEnds
+mod Asked
+mod Becoming
+mod Changed
+mod Changing
+mod Carried
+mod PointFirst
+mod Applying

@@ -1,6 +1,6 @@
 -- A session that was just opened.
 use Rattle.std.proofs.Common.{◌≡◌, ◌≤◌, ℕ, length, Option, Some, refl, sym, ap, subst, ◌∙◌, inl, inr, arith, Result, Ok, Err, true}
-use Rattle.std.specs.Prelude.{IfOk, IsTrue}
+use Rattle.std.specs.Prelude.{IfOk, IfSome, IsTrue, None}
 use Rattle.std.specs.Ordering.{nat_cmp}
 use Rattle.std.specs.FinMap as fin
 use Rattle.fv_disk.specs.Shown.{Image, Shown, IsSettled}
@@ -19,25 +19,37 @@ use Rattle.fv_root.specs.declared.find.Found.{Found}
 use Rattle.fv_root.specs.Finding.{IsFound, IsInRange, root_found}
 use Rattle.fv_root.specs.Commits.{IsFoundOn}
 use Rattle.fv_store.specs.Held.{StandsOn}
-use Rattle.fv_aggmap.specs.Loading.{IsFault as IsMapFault, IsLoaded as IsMapLoaded}
+use Rattle.fv_aggmap.specs.Loading.{IsFault as IsMapFault}
 use Rattle.fv_container.specs.Chains.{slot_count}
-use Rattle.fv_cp.specs.Lent.{FitTogether, blocks_asked}
+use Rattle.fv_cp.specs.Held.{IsHeld}
+use Rattle.fv_cp.specs.Lent.{FitTogether, IsLent, blocks_asked}
+use Rattle.fv_cp.specs.Placing.{AreReady, IsReadyIn}
+use Rattle.fv_cp.proofs.Lendable.{held_machine, lent_held}
 use Rattle.fv_volume.specs.Housed.{HaveReach}
 use Rattle.fv_aggmap.specs.Space.{blocks_of}
 use Rattle.fv_aggmap.proofs.Room.{room_when_sound}
 use Rattle.fv_disk.specs.declared.fault.BlockFault.{BlockFault}
 use Rattle.fv_disk.specs.declared.fault.BlockFault.TheVariants.{DiskFault, Damaged, Memory}
 use Rattle.fv_volume.specs.Keeping.{Blocks}
-use Rattle.fv_volume.specs.Loading.{IsLoadFault, KeptTo}
-use Rattle.fv_volume.specs.States.{States, view_over}
+use Rattle.fv_volume.specs.declared.state.VolumeState.{VolumeState}
+use Rattle.fv_volume.specs.Files.{IsLabelled}
+use Rattle.fv_volume.specs.Loading.{IsCounted, IsLoadFault, KeptTo}
+use Rattle.fv_volume.specs.OneVolume.{IsReady}
+use Rattle.fv_volume.specs.States.{States, state_at, view_over}
+use Rattle.fv_volume.specs.Trees.{no_trees}
+use Rattle.fv_volume.proofs.Trees.{unchanged_machine}
 use Rattle.fv_volume.specs.declared.pool.Pool.{Pool}
 use Rattle.fv_aggregate.specs.declared.fault.OpenFault.{OpenFault}
 use Rattle.fv_aggregate.specs.declared.session.Session.{Session}
 use Rattle.fv_aggregate.specs.Causes.{IsOpenFault, of_block}
-use Rattle.fv_aggregate.specs.Opening.{IsFresh, IsOpened}
-use Rattle.fv_aggregate.specs.Standing.{Stands, StandsFor}
+use Rattle.fv_aggregate.specs.Opening.{AreOpened, IsFresh, IsOpened}
+use Rattle.fv_aggregate.specs.Standing.{IsWithoutFiles, Stands, StandsFor}
 use Rattle.fv_aggregate.specs.Asking.{AsksWithin}
+use Rattle.fv_volume.specs.UnderRoot.{IsMapOf}
 use Rattle.fv_aggregate.proofs.Asking.{asks_after_reads}
+use Rattle.fv_aggregate.proofs.Clear.{clear_is_free, none_placed}
+use Rattle.fv_aggregate.proofs.Standing.{settled_after_reads}
+use Rattle.fv_aggregate.proofs.Sums.{none_pending, overheads_are}
 use Rattle.fv_aggregate.proofs.Lent.{reach_opened, slots_opened, spaced_opened}
 
 -- ---- faults
@@ -83,37 +95,56 @@ found_on disk found settled is = record {
   images = λ c now. subst (λ (i : Image). IsFound i found) (sym (settled_image disk c settled now)) is;
 }
 
-pub opened_for : (disk : Shown) (session : Session) (m : Machine) → IsSettled disk → ((b : ℕ) → length (disk.reads b) ≡ 4096) → IsOpened disk.reads session → IsFresh session → machine_of disk.reads ≡ Some m → StandsFor disk session m m
+lent_opened : (disk : Shown) (session : Session) (m : Machine) → IsSettled disk → ((b : ℕ) → length (disk.reads b) ≡ 4096) → IsOpened disk.reads session → machine_of disk.reads ≡ Some m → IsLent disk session.pool session.volumes m
 unfolding layout_at
-opened_for disk session m settled whole opened fresh machine =
+lent_opened disk session m settled whole opened machine =
     let found = session.pool.found in
     let t = root_found found in
     let tells = found_tells disk.reads found m opened.found machine in
     let alike : view_over session.pool session.volumes disk.reads ≡ view_at t disk.reads = opened.view in
-    let none : session.pending ≡ 0 = fresh.pending in
     record {
-      lent = record {
-        found = found_on disk found settled opened.found;
-        tells = tells;
-        keeps = λ c now. subst (λ (i : Image). Keeps t disk.reads i) (sym (settled_image disk c settled now)) (record { root = opened.found.root; layout = refl });
-        map = record { len = opened.map.len; bits = opened.map.bits };
-        slots = slots_opened disk.reads found m tells session.volumes session.pool.containers opened.slots;
-        spaced = spaced_opened disk.reads found m tells session.volumes session.pool.containers opened.slots session.pool.map opened.map;
-        states = opened.states m tells;
-        built = subst (λ (w : View). is_built w ≡ true) (sym alike) tells.built;
-        tables = subst (λ (w : View). AreTables (seen w)) (sym alike) tells.sound.tables;
-        reach = subst (λ (w : View). HaveReach w session.volumes) (sym alike) (reach_opened disk.reads found m tells session.volumes session.pool.containers opened.slots whole);
-      };
-      machine = opened.machine m tells;
-      settled = settled;
-      pending = ap overheads alike ∙ omega (arith, none);
-      room = omega (arith, none, room_when_sound disk.reads found session.pool.map opened.map tells.sound);
+      found = found_on disk found settled opened.found;
+      tells = tells;
+      keeps = λ c now. subst (λ (i : Image). Keeps t disk.reads i) (sym (settled_image disk c settled now)) (record { root = opened.found.root; layout = refl });
+      map = record { len = opened.map.len; bits = opened.map.bits };
+      slots = slots_opened disk.reads found m tells session.volumes session.pool.containers opened.slots;
+      spaced = spaced_opened disk.reads found m tells session.volumes session.pool.containers opened.slots session.pool.map opened.map;
+      states = opened.states m tells;
+      built = subst (λ (w : View). is_built w ≡ true) (sym alike) tells.built;
+      tables = subst (λ (w : View). AreTables (seen w)) (sym alike) tells.sound.tables;
+      reach = subst (λ (w : View). HaveReach w session.volumes) (sym alike) (reach_opened disk.reads found m tells session.volumes session.pool.containers opened.slots whole);
     }
+
+pub opened_for : (disk : Shown) (session : Session) (m : Machine) → IsSettled disk → IsTrue disk.tells → ((b : ℕ) → length (disk.reads b) ≡ 4096) → IsOpened disk.reads session → AreOpened disk disk.reads session → IsFresh session → machine_of disk.reads ≡ Some m → StandsFor disk session m m
+opened_for disk session m settled told whole opened each fresh machine =
+    let found = session.pool.found in
+    let tells = found_tells disk.reads found m opened.found machine in
+    let alike : view_over session.pool session.volumes disk.reads ≡ view_at (root_found found) disk.reads = opened.view in
+    let none : session.pending ≡ 0 = fresh.pending in
+    let placed = none_placed session.pool.map opened.map.same in
+    let pending = none_pending session.volumes each.fit.housed.long each.none in
+    let over = overheads_are session.pool session.volumes disk.reads each.fit.housed.long in
+    let same = ap overheads alike in
+    let held : IsHeld disk session.pool session.volumes m = lent_held disk session.pool session.volumes m (lent_opened disk session m settled whole opened machine) each.fit.housed.long
+    (λ s. ready_of s (state_at session.volumes s) (each.ready s)) (each.standing m told machine) (each.led m told machine) (each.well m told machine) in
+    record {
+      held = held;
+      machine = held_machine disk session.pool session.volumes m held each.fit each.none each.maps ∙ sym (unchanged_machine session.pool session.volumes no_trees disk.reads (λ s. refl)) ∙ opened.machine m tells;
+      settled = settled;
+      pending = omega (arith, placed, pending, over, same);
+      files = omega (arith, placed, pending);
+      few = omega (arith, placed, pending);
+      room = omega (arith, none, clear_is_free session.pool.map opened.map.same, room_when_sound disk.reads found session.pool.map opened.map tells.sound);
+    }
+  where
+    ready_of : (s : ℕ) (o : Option VolumeState) → IfSome o (IsReadyIn disk session.pool s) → IfSome o (IsReady disk session.pool)
+    ready_of s None is = tt
+    ready_of s (Some x) is = is.ready
 
 -- A session that was opened over a disk that a barrier had settled, by a call that only read, stands on it.
 module _ (mid new : Shown) (settled : IsTrue mid.tells → IsSettled mid) (reads : OnlyReads mid new) where
-  stands_opened : (session : Session) → (IsTrue mid.tells → IsOpened mid.reads session) → StandsOn new session.pool.store.pairs → Stands new session
-  stands_opened session opened cache =
+  stands_opened : (session : Session) → (IsTrue mid.tells → IsOpened mid.reads session) → StandsOn new session.pool.store.pairs → AreOpened new mid.reads session → Stands new session
+  stands_opened session opened cache each =
       let same : new.reads ≡ mid.reads = reads.stays.reads in
       record {
         found = λ tells.
@@ -126,13 +157,18 @@ module _ (mid new : Shown) (settled : IsTrue mid.tells → IsSettled mid) (reads
             };
         map = λ tells.
             let is = opened (subst IsTrue reads.stays.tells tells) in
-            subst (λ (i : Image). IsMapLoaded i session.pool.found session.pool.map) (sym same) is.map;
+            subst (λ (i : Image). IsMapOf i session.pool.found session.pool.map) (sym same) (record { len = is.map.len; bits = is.map.bits });
         cache = cache;
+        ready = each.ready;
       }
 
-  pub stands_result : (result : Result Session OpenFault) → (IsTrue mid.tells → IfOk result (IsOpened mid.reads)) → IfOk result (λ session. StandsOn new session.pool.store.pairs) → IfOk result (Stands new)
-  stands_result (Ok session) opened cache = stands_opened session opened cache
-  stands_result (Err fault) opened cache = tt
+  pub stands_result : (result : Result Session OpenFault) → (IsTrue mid.tells → IfOk result (IsOpened mid.reads)) → IfOk result (λ session. StandsOn new session.pool.store.pairs) → IfOk result (AreOpened new mid.reads) → IfOk result (Stands new)
+  stands_result (Ok session) opened cache each = stands_opened session opened cache each
+  stands_result (Err fault) opened cache each = tt
+
+  pub without_files : (result : Result Session OpenFault) → IfOk result (IsOpened mid.reads) → IfOk result (AreOpened new mid.reads) → IfOk result IsWithoutFiles
+  without_files (Ok session) opened each = record { none = each.none; same = opened.map.same }
+  without_files (Err fault) opened each = tt
 
   -- what a point of it asks for is what the volumes that were read have
   pub asks_result : (result : Result Session OpenFault) → IfOk result IsFresh → IfOk result (λ session. blocks_asked session.volumes ≤ overheads (view_at (root_found session.pool.found) mid.reads)) → IfOk result (λ session. AsksWithin new session 0)
@@ -142,11 +178,27 @@ module _ (mid new : Shown) (settled : IsTrue mid.tells → IsSettled mid) (reads
   asks_result (Err fault) fresh asked = tt
 
 -- the answer of a call that only read, over a disk that a barrier had settled
-pub opened_result : (mid new : Shown) (m : Machine) (result : Result Session OpenFault) → IsSettled mid → ((b : ℕ) → length (mid.reads b) ≡ 4096) → OnlyReads mid new → IfOk result (IsOpened mid.reads) → IfOk result IsFresh → machine_of mid.reads ≡ Some m
+pub opened_result : (mid new : Shown) (m : Machine) (result : Result Session OpenFault) → IsSettled mid → IsTrue mid.tells → ((b : ℕ) → length (mid.reads b) ≡ 4096) → OnlyReads mid new → IfOk result (IsOpened mid.reads) → IfOk result (AreOpened new mid.reads) → IfOk result IsFresh → machine_of mid.reads ≡ Some m
     → IfOk result (λ session. StandsFor new session m m)
-opened_result mid new m (Ok session) settled whole reads opened fresh machine =
+opened_result mid new m (Ok session) settled told whole reads opened each fresh machine =
     let same : new.reads ≡ mid.reads = reads.stays.reads in
-    opened_for new session m (λ c now a. settled c (reads.stays.no_more c now) a ∙ ap (λ (i : Image). i a) (sym same))
+    opened_for new session m (settled_after_reads mid new reads settled) (subst IsTrue (sym reads.stays.tells) told)
     (λ b. ap (λ (i : Image). length (i b)) same ∙ whole b)
-    (subst (λ (i : Image). IsOpened i session) (sym same) opened) fresh (ap machine_of same ∙ machine)
-opened_result mid new m (Err fault) settled whole reads opened fresh machine = tt
+    (subst (λ (i : Image). IsOpened i session) (sym same) opened) (subst (λ (i : Image). AreOpened new i session) (sym same) each) fresh (ap machine_of same ∙ machine)
+opened_result mid new m (Err fault) settled told whole reads opened each fresh machine = tt
+
+-- ---- what holds of each volume that was read
+
+pub counted_each : (P : VolumeState → Type 0) → ((x : VolumeState) → IsCounted x → P x) → (states : States) → ((s : ℕ) → IfSome (state_at states s) IsCounted) → (s : ℕ) → IfSome (state_at states s) P
+counted_each P to states each s = by (state_at states s) (each s)
+  where
+    by : (o : Option VolumeState) → IfSome o IsCounted → IfSome o P
+    by None is = tt
+    by (Some x) is = to x is
+
+pub ready_each : (disk : Shown) (pool : Pool) (states : States) → ((s : ℕ) → IfSome (state_at states s) (IsLabelled s)) → ((s : ℕ) → IfSome (state_at states s) (IsReady disk pool)) → AreReady disk pool states
+ready_each disk pool states labelled ready s = by (state_at states s) (labelled s) (ready s)
+  where
+    by : (o : Option VolumeState) → IfSome o (IsLabelled s) → IfSome o (IsReady disk pool) → IfSome o (IsReadyIn disk pool s)
+    by None a b = tt
+    by (Some x) a b = record { slot = a.slot_is; ready = b }

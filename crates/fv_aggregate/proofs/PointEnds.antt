@@ -1,13 +1,19 @@
 -- What a session stands for after a consistency point.
-use Rattle.std.proofs.Common.{◌≡◌, ◌<◌, ◌≤◌, ◌+◌, ◌-◌, ◌*◌, ℕ, true, false, Option, Some, None, Ok, Err, refl, sym, ap, subst, ◌∙◌, ⊎_elim, inl, inr, arith, length}
-use Rattle.std.specs.Prelude.{IfSome, IsNone, IsTrue, max}
+use Rattle.std.proofs.Common.{◌≡◌, ◌<◌, ◌≤◌, ◌+◌, ◌-◌, ◌*◌, ℕ, Bool, true, false, List, Option, Some, None, Ok, Err, refl, sym, ap, subst, ◌∙◌, ⊎_elim, inl, inr, arith, length, sum_by}
+use Rattle.std.specs.Prelude.{IfSome, IsNone, IsSome, IsTrue, max}
+use Rattle.std.specs.List.{range_with_len}
+use Rattle.std.specs.Option.{option_map}
 use Rattle.std.proofs.lemmas.Bool.Decides.{nat_tests}
-use Rattle.fv_disk.specs.Shown.{Shown}
+use Rattle.fv_disk.specs.Shown.{Image, Shown}
 use Rattle.fv_disk.specs.Crash.{Leaves}
 use Rattle.fv_disk.specs.DiskCalls.{OnlyReads}
 use Rattle.fv_disk.proofs.Moments.{weaken}
+use Rattle.fv_bits.specs.Members.{is_member}
+use Rattle.fv_model.specs.declared.commands.Kind.{Kind}
 use Rattle.fv_model.specs.Machines.{Machine, capacity, first_block}
 use Rattle.fv_model.specs.Space.{commits}
+use Rattle.fv_image.specs.Layout.{root_place}
+use Rattle.fv_image.specs.Maps.{map_bit}
 use Rattle.fv_image.specs.Views.{View, delayed, own}
 use Rattle.fv_image.specs.Held.{layout_at, view_at}
 use Rattle.fv_image.specs.Volumes.{told_with}
@@ -15,124 +21,266 @@ use Rattle.fv_image.specs.Sound.{leaves_room, overheads}
 use Rattle.fv_image.specs.Seen.{seen}
 use Rattle.fv_image.specs.VolumeRules.{commits_seen}
 use Rattle.fv_image.proofs.Committed.{commits_told}
+use Rattle.fv_image.proofs.Counts.{same_sum}
 use Rattle.fv_image.proofs.OwnBases.{uses_own}
 use Rattle.fv_image.proofs.Points.{UsesOwn, room_beside_commits}
 use Rattle.fv_image.proofs.WellLabels.{numbers_at}
-use Rattle.fv_root.specs.Finding.{root_found}
+use Rattle.fv_root.specs.declared.find.Found.{Found}
 use Rattle.fv_root.specs.Commits.{IsFoundOn}
-use Rattle.fv_store.specs.Held.{StandsOn}
+use Rattle.fv_root.specs.Finding.{IsFound, root_found}
 use Rattle.fv_aggmap.specs.Loading.{IsLoaded as IsMapLoaded}
 use Rattle.fv_aggmap.specs.Space.{free_blocks}
 use Rattle.fv_aggmap.proofs.Room.{room_when_loaded, room_when_sound}
 use Rattle.fv_container.specs.Chains.{container_at}
 use Rattle.fv_container.specs.Mapped.{Mapped}
-use Rattle.fv_cp.specs.Lent.{IsLent, IsLentAt, blocks_asked}
-use Rattle.fv_volume.proofs.StillLoaded.{none_loaded}
-use Rattle.fv_disk.specs.declared.fault.BlockFault.TheVariants as cp
-use Rattle.fv_volume.specs.Housed.{AreSettled}
-use Rattle.fv_cp.specs.Points.{Counts, IsPoint, LacksRoom, OldOrLent, machine_lent}
-use Rattle.fv_volume.proofs.StillAdmitted.{still_admitted}
+use Rattle.fv_cp.specs.Held.{machine_held, IsHeld}
+use Rattle.fv_cp.specs.Lent.{blocks_asked, IsLentAt}
+use Rattle.fv_cp.specs.Placing.{pending_files, core_of, HaveNoFiles, KeepCores}
+use Rattle.fv_cp.specs.Points.{LacksRoom}
+use Rattle.fv_cp.specs.Settling.{GoesOnWhole, HaveFullRoom, IsHeldPoint, OldOrHeld, StillHeld, WholeCounts, WholeFails}
+use Rattle.fv_disk.specs.declared.fault.BlockFault.TheVariants as block
+use Rattle.fv_volume.specs.declared.fault.VolumeFault.TheVariants as cp
 use Rattle.fv_volume.specs.declared.pool.Pool.{Pool}
 use Rattle.fv_volume.specs.declared.state.VolumeState.{VolumeState}
 use Rattle.fv_volume.specs.Creating.{Admits}
 use Rattle.fv_volume.specs.Loading.{IsLoaded}
+use Rattle.fv_volume.specs.Slots.{committed_by, is_named, sum_of}
 use Rattle.fv_volume.specs.States.{States, state_at, view_over}
-use Rattle.fv_volume.specs.Trees.{machine_in, no_trees}
-use Rattle.fv_volume.proofs.Trees.{unchanged_machine}
+use Rattle.fv_volume.proofs.FreeNumbers.{has_numbers}
+use Rattle.fv_volume.proofs.StillLoaded.{none_loaded}
 use Rattle.fv_aggregate.specs.declared.session.Session.{Session}
-use Rattle.fv_aggregate.specs.declared.fault.Fault.TheVariants.{DiskFault, Damaged}
-use Rattle.fv_aggregate.specs.Adding.{HasRoom, StillAdmits}
-use Rattle.fv_aggregate.specs.Asking.{AsksWithin}
-use Rattle.fv_aggregate.specs.Calls.{FailsByWrite, Goes, GoesFor}
-use Rattle.fv_aggregate.specs.Standing.{OneOf, Stands, StandsFor}
-use Rattle.fv_aggregate.proofs.Asking.{asked_settled, asks_after_reads, asks_more, short_is}
-use Rattle.fv_aggregate.proofs.Standing.{stands_after_reads}
-use Rattle.fv_aggregate.proofs.Sums.{asked_within, same_overheads}
+use Rattle.fv_aggregate.specs.declared.fault.Fault.TheVariants.{DiskFault, Damaged, Memory}
+use Rattle.fv_aggregate.specs.Adding.{HasRoom, IsPointed, StillAdmits}
+use Rattle.fv_aggregate.specs.Calls.{FailsByWrite, Goes, GoesFor, IsForWant, KeepsAsking}
+use Rattle.fv_aggregate.specs.Standing.{clear_blocks, overheads_in, placed_in, unwritten, OneOf, Stands, StandsFor}
+use Rattle.fv_aggregate.proofs.Asking.{asked_unchanged, asks_more, asks_still, short_is}
+use Rattle.fv_aggregate.proofs.Clear.{clear_is_free, clear_stays, free_and_placed, none_placed}
+use Rattle.fv_aggregate.proofs.Standing.{settled_after_reads}
+use Rattle.fv_aggregate.proofs.Sums.{asked_within, none_pending, one_pending, over_slots, overheads_are, overheads_kept, same_overheads}
 
 -- ---- before a point
 
--- a session that stands for a machine has the blocks that a point asks for
-pub lacks_none : (disk : Shown) (session : Session) (last m : Machine) → length session.volumes ≡ 64 → StandsFor disk session last m → blocks_asked session.volumes ≤ free_blocks session.pool.map
-lacks_none disk session last m long stands =
-    let asked = asked_within session.pool session.volumes disk.reads long in
-    omega (arith, asked, stands.pending, stands.room)
+-- a session that stands for a machine has the numbers and the blocks that a point asks for
+pub has_full_room : (disk : Shown) (session : Session) (last m : Machine) → StandsFor disk session last m → HaveFullRoom session.pool session.volumes
+has_full_room disk session last m stands =
+    let all = free_and_placed session.pool.map in
+    record {
+      numbers = λ s. has_numbers disk session.pool s (state_at session.volumes s) (stands.held.each s) (omega (arith, one_pending session.volumes s, stands.few));
+      free = omega (arith, all, stands.few, stands.room);
+      blocks = omega (arith, all, asked_within session.volumes, stands.pending, stands.room);
+    }
 
-pub no_lack : (disk : Shown) (session : Session) (last m : Machine) → length session.volumes ≡ 64 → StandsFor disk session last m → (want found : ℕ) → want ≡ blocks_asked session.volumes → found ≡ free_blocks session.pool.map → found < want → ⊥
-no_lack disk session last m long stands want found asked free lacks = omega (arith, lacks_none disk session last m long stands, asked, free, lacks)
+-- what the session stands for, by its parts
+pub held_as : (disk : Shown) (session : Session) (last m : Machine) → StandsFor disk session last m → (pool : Pool) (states : States) → session.pool ≡ pool → session.volumes ≡ states → IsHeld disk pool states last
+held_as disk session last m stands pool states same_pool same_states = subst (λ (p : Pool). IsHeld disk p states last) same_pool (subst (λ (v : States). IsHeld disk session.pool v last) same_states stands.held)
 
--- the volumes that are lent to a point
-pub lent_as : (disk : Shown) (session : Session) (last m : Machine) → StandsFor disk session last m → (pool : Pool) (states : States) → session.pool ≡ pool → session.volumes ≡ states → IsLent disk pool states last
-lent_as disk session last m stands pool states same_pool same_states = subst (λ (p : Pool). IsLent disk p states last) same_pool (subst (λ (v : States). IsLent disk session.pool v last) same_states stands.lent)
-
--- and their machine
-lent_machine : (disk : Shown) (session : Session) (last m : Machine) → StandsFor disk session last m → (pool : Pool) (states : States) → session.pool ≡ pool → session.volumes ≡ states → machine_lent disk pool states ≡ m
-lent_machine disk session last m stands pool states same_pool same_states =
-    sym (unchanged_machine pool states no_trees disk.reads (λ s. refl)) ∙ (λ j. machine_in (sym same_pool j) (sym same_states j) no_trees disk.reads) ∙ stands.machine
+held_is : (disk : Shown) (session : Session) (last m : Machine) → StandsFor disk session last m → (pool : Pool) (states : States) → session.pool ≡ pool → session.volumes ≡ states → machine_held disk pool states ≡ m
+held_is disk session last m stands pool states same_pool same_states = (λ j. machine_held disk (sym same_pool j) (sym same_states j)) ∙ stands.machine
 
 -- what a crash leaves at each moment of a point
 pub point_moments : (old new : Shown) (session : Session) (last m : Machine) → StandsFor old session last m → (pool : Pool) (states : States) → session.pool ≡ pool → session.volumes ≡ states
-    → Leaves old new (OldOrLent old pool states last) → Leaves old new (λ c g. OneOf last m m c × (g ≡ old.given))
+    → Leaves old new (OldOrHeld old pool states last) → Leaves old new (λ c g. OneOf last m m c × (g ≡ old.given))
 point_moments old new session last m stands pool states same_pool same_states left =
-    let machine : machine_lent old pool states ≡ m = lent_machine old session last m stands pool states same_pool same_states in
-    weaken old new (OldOrLent old pool states last) (λ c g. OneOf last m m c × (g ≡ old.given)) (λ c g one. (⊎_elim (λ l. inl l) (λ lent. inr (inl (lent ∙ ap Some machine))) one.0, one.1)) left
+    let machine : machine_held old pool states ≡ m = held_is old session last m stands pool states same_pool same_states in
+    weaken old new (OldOrHeld old pool states last) (λ c g. OneOf last m m c × (g ≡ old.given)) (λ c g one. (⊎_elim (λ l. inl l) (λ held. inr (inl (held ∙ ap Some machine))) one.0, one.1)) left
 
 -- ---- a point as a call
 
 pub both : (o : Option ℕ) (n : ℕ) → IsNone o → o ≡ Some n → ⊥
 both o n none some = cc
 
-pub point_done : (before : Shown) (old : Session) (after : Shown) (new : Session) → IsNone old.failed → IsNone new.failed → new.pending ≡ 0 → Counts before after (Ok tt) → StandsOn after new.pool.store.pairs
-    → (IsTrue before.tells → IsFoundOn after new.pool.found) → (IsTrue before.tells → IsMapLoaded after.reads new.pool.found new.pool.map) → length new.volumes ≡ 64 → AreSettled old.volumes new.volumes
-    → Goes {T = Unit {0}} 0 before old after new (Ok tt)
-point_done before old after new was now none counts cache found map long settled = record {
+pub point_done : (before : Shown) (old : Session) (after : Shown) (new : Session) → IsNone old.failed → IsNone new.failed → WholeCounts before after (Ok tt) → (pool : Pool) (states : States)
+    → GoesOnWhole before pool states after new.pool new.volumes → Goes {T = Unit {0}} 0 before old after new (Ok tt)
+point_done before old after new was now counts pool states goes = record {
   ends = record { tells = counts.tells; given = counts.given; ends = counts.ends };
-  stands = λ fresh. record { found = λ tells. found (subst IsTrue counts.tells tells); map = λ tells. map (subst IsTrue counts.tells tells); cache = cache };
-  asks = λ tells kept asks fresh. record { asked = omega (arith, asked_settled old.volumes new.volumes long settled); pending = omega (arith, none) };
-  done = record { was = was; goes_on = now; counts = record { faults = counts.cause; write_faults = counts.write_cause } };
+  stands = λ fresh. record {
+    found = λ tells. goes.found (subst IsTrue counts.tells tells);
+    map = λ tells. let map = goes.loaded (subst IsTrue counts.tells tells) in record { len = map.len; bits = map.bits };
+    cache = goes.stands;
+    ready = goes.ready;
+  };
+  done = record { was = was; goes_on = now; counts = record { faults = counts.cause.0; write_faults = counts.cause.1 } };
   fault = tt;
 }
 
-pub point_failed : (before : Shown) (old : Session) (after : Shown) (new : Session) → IsNone old.failed → Counts before after (Err cp.DiskFault) → FailsByWrite before after new → Goes {T = Unit {0}} 0 before old after new (Err DiskFault)
+-- after a point nothing is asked for
+pub done_asks : (before : Shown) (old : Session) (after : Shown) (new : Session) (pool : Pool) (states : States) → new.pending ≡ 0 → GoesOnWhole before pool states after new.pool new.volumes → KeepsAsking 0 before old after new
+done_asks before old after new pool states none goes = λ tells kept asks fresh. record { asked = omega (arith, asked_unchanged new.volumes goes.fit.housed.long goes.unchanged); pending = omega (arith, none) }
+
+pub point_failed : (before : Shown) (old : Session) (after : Shown) (new : Session) → IsNone old.failed → WholeCounts before after (Err cp.DiskFault) → FailsByWrite before after new → Goes {T = Unit {0}} 0 before old after new (Err DiskFault)
 point_failed before old after new was counts fails =
-    let failed : new.failed ≡ Some after.faults = fails.by_write counts.write_cause in
+    let failed : new.failed ≡ Some after.faults = fails.by_write counts.cause.1 in
     record {
       ends = record { tells = counts.tells; given = counts.given; ends = counts.ends };
       stands = λ fresh. absurd (both new.failed after.faults fresh failed);
-      asks = λ tells kept asks fresh. absurd (both new.failed after.faults fresh failed);
       done = tt;
-      fault = record { reason = was; counts = record { faults = counts.cause; write_faults = λ calm. absurd (calm counts.write_cause) }; session = fails; disk = tt };
+      fault = record { reason = was; counts = record { faults = counts.cause.0; write_faults = λ calm. absurd (calm counts.cause.1) }; session = fails; disk = tt };
     }
+
+pub failed_asks : (before : Shown) (old : Session) (after : Shown) (new : Session) (faults : ℕ) → new.failed ≡ Some faults → KeepsAsking 0 before old after new
+failed_asks before old after new faults failed = λ tells kept asks fresh. absurd (both new.failed faults fresh failed)
 
 -- after a failed write the session has failed, so it needn't stand for anything
 pub point_failed_for : (before : Shown) (last m : Machine) (after : Shown) (new : Session) → Leaves before after (λ c g. OneOf last m m c × (g ≡ before.given)) → new.failed ≡ Some after.faults → GoesFor {T = Unit {0}} before last m m after new (Err DiskFault)
 point_failed_for before last m after new moments failed = record { any_moment = moments; done = tt; still = λ fresh. absurd (both new.failed after.faults fresh failed); whole = tt }
 
-pub point_lacks : (before : Shown) (old : Session) (after : Shown) (new : Session) (at want found : ℕ) → IsNone old.failed → Stands before old → Counts before after (Err (cp.Damaged at want found))
-    → LacksRoom old.pool old.volumes (cp.Damaged at want found) → OnlyReads before after → new ≡ old → Goes {T = Unit {0}} 0 before old after new (Err (Damaged at want found))
-point_lacks before old after new at want found was stands counts lacks reads same = record {
-  ends = record { tells = counts.tells; given = counts.given; ends = counts.ends };
-  stands = λ fresh. subst (Stands after) (sym same) (stands_after_reads before after old reads stands);
-  asks = λ tells kept asks fresh. subst (λ (s : Session). AsksWithin after s (max kept 0)) (sym same) (asks_more after old kept 0 (asks_after_reads before after old kept reads asks));
-  done = tt;
-  fault = record {
-    reason = record {
-      fresh = was;
-      place = lacks.0;
-      asked = lacks.1.0;
-      free = lacks.1.1.0;
-      short = lacks.1.1.1;
-      image = λ tells room asks. short_is before old room at want found tells stands asks lacks.0 lacks.1.0 lacks.1.1.0 lacks.1.1.1;
+-- A point that came to no end, but by no fault of the disk: some files may have been placed.
+module _ (before : Shown) (old : Session) (after : Shown) (new : Session) (still : StillHeld before old.pool old.volumes after new.pool new.volumes) (parts : new ≡ record old { pool = new.pool; volumes = new.volumes }) where
+  reads : OnlyReads before after
+  reads = still.placed.only_reads
+
+  pending_same : new.pending ≡ old.pending
+  pending_same = ap (λ (s : Session). s.pending) parts
+
+  failed_same : new.failed ≡ old.failed
+  failed_same = ap (λ (s : Session). s.failed) parts
+
+  still_stands : Stands before old → Stands after new
+  still_stands stands = record {
+    found = λ tells.
+        let was = stands.found (subst IsTrue reads.stays.tells tells) in
+        subst (IsFoundOn after) (sym still.placed.found) (record {
+          reads = subst (λ (i : Image). IsFound i old.pool.found) (sym reads.stays.reads) was.reads;
+          images = λ c now. was.images c (reads.stays.no_more c now);
+        });
+    map = λ tells.
+        let is = stands.map (subst IsTrue reads.stays.tells tells) in
+        record {
+          len = ap (λ (c : List Bool). length c) still.placed.committed ∙ is.len ∙ ap (λ (f : Found). f.blocks) (sym still.placed.found);
+          bits = λ b. ap (λ (c : List Bool). is_member c b) still.placed.committed ∙ is.bits b ∙ (λ j. map_bit (root_found (sym still.placed.found j)) (sym reads.stays.reads j) b);
+        };
+    cache = still.stands;
+    ready = still.ready;
+  }
+
+  pub still_asks : KeepsAsking 0 before old after new
+  still_asks = λ tells kept asks fresh. asks_more after new kept 0 (asks_still before after old new kept reads still.placed.found still.placed.asked pending_same asks)
+
+  -- it lacks blocks, or a place for a file
+  pub still_wants : (at want found : ℕ) → IsNone old.failed → Stands before old → WholeFails old.volumes new.pool new.volumes (cp.Damaged at want found) → IsForWant before old after new (Damaged at want found)
+  still_wants at want found was stands fails = (
+    reads,
+    ⊎_elim
+        (λ (lacks : LacksRoom new.pool new.volumes (block.Damaged at want found)).
+        let place : at ≡ root_place old.pool.found.slot = lacks.0 ∙ ap (λ (f : Found). root_place f.slot) still.placed.found in
+        let asked : want ≡ blocks_asked old.volumes = lacks.1.0 ∙ still.placed.asked in
+        inl (record {
+          fresh = was;
+          place = place;
+          asked = asked;
+          free = lacks.1.1.0;
+          short = lacks.1.1.1;
+          image = λ tells room asks. short_is before old new.pool room at want found tells stands asks still.placed.committed place asked lacks.1.1.0 lacks.1.1.1;
+          same = λ none. let idle = still.placed.idle none in parts ∙ (λ j. record old { pool = idle.0 j; volumes = idle.1 j });
+        }))
+        (λ (filed : HaveNoFiles old.volumes → ⊥). inr (record { fresh = was; files = filed }))
+        fails,
+  )
+
+  pub point_lacks : (at want found : ℕ) → IsNone old.failed → Stands before old → WholeCounts before after (Err (cp.Damaged at want found)) → WholeFails old.volumes new.pool new.volumes (cp.Damaged at want found)
+      → Goes {T = Unit {0}} 0 before old after new (Err (Damaged at want found))
+  point_lacks at want found was stands counts fails = record {
+    ends = record { tells = counts.tells; given = counts.given; ends = counts.ends };
+    stands = λ fresh. still_stands stands;
+    done = tt;
+    fault = record {
+      reason = ⊎_elim (λ lacks. inl lacks) (λ lacks. inr (inl lacks)) (still_wants at want found was stands fails).1;
+      counts = record { faults = counts.cause.0; write_faults = counts.cause.1 };
+      session = subst IsNone (sym failed_same) was;
+      disk = inl reads;
     };
-    counts = record { faults = counts.cause; write_faults = counts.write_cause };
-    session = same;
-    disk = reads;
-  };
-}
+  }
+
+  pub point_wanting : IsNone old.failed → Stands before old → WholeCounts before after (Err cp.Memory) → Goes {T = Unit {0}} 0 before old after new (Err Memory)
+  point_wanting was stands counts = record {
+    ends = record { tells = counts.tells; given = counts.given; ends = counts.ends };
+    stands = λ fresh. still_stands stands;
+    done = tt;
+    fault = record {
+      reason = was;
+      counts = record { faults = counts.cause.0; write_faults = counts.cause.1 };
+      session = subst IsNone (sym failed_same) was;
+      disk = inl reads;
+    };
+  }
+
+  -- it stands for the machine that it stood for: no more blocks were taken than there are fewer pending
+  pub still_for : (last m : Machine) → length old.volumes ≡ 64 → StandsFor before old last m → StandsFor after new last m
+  still_for last m long stands =
+      let full = has_full_room before old last m stands in
+      let spent = still.placed.spent last stands.held (record { numbers = full.numbers; blocks = full.free }) in
+      let over = overheads_kept old.volumes new.volumes long still.placed.fit.housed.long still.placed.cores in
+      let clear = clear_stays old.pool.map new.pool.map still.placed.committed in
+      let fewer : unwritten new ≤ unwritten old = omega (arith, spent.blocks, clear, free_and_placed old.pool.map, free_and_placed new.pool.map) in
+      let same : overheads (view_at (root_found new.pool.found) after.reads) ≡ overheads (view_at (root_found old.pool.found) before.reads) = λ j. overheads (view_at (root_found (still.placed.found j)) (reads.stays.reads j)) in
+      record {
+        held = still.placed.held last stands.held;
+        machine = still.placed.machine last stands.held ∙ stands.machine;
+        settled = settled_after_reads before after reads stands.settled;
+        pending = omega (arith, same, fewer, over, pending_same, stands.pending);
+        files = omega (arith, fewer, pending_same, stands.files);
+        few = omega (arith, fewer, stands.few);
+        room = omega (arith, same, clear, pending_same, stands.room);
+      }
 
 -- what was admitted before a point is admitted after it
-pub admits_still : (old new : Session) → length new.volumes ≡ length old.volumes → AreSettled old.volumes new.volumes → new.pool.found.blocks ≡ old.pool.found.blocks → StillAdmits old new
-admits_still old new long settled blocks name size kind slot span is =
-    subst (λ (n : ℕ). Admits new.volumes n name size kind slot span) (sym blocks) (still_admitted old.volumes new.volumes old.pool.found.blocks name size kind slot span long settled is)
+module _ (states stay : States) (cores : KeepCores states stay) where
+  named_core : (o : Option VolumeState) (name : List ℕ) → is_named (option_map core_of o) name ≡ is_named o name
+  named_core None name = refl
+  named_core (Some x) name = refl
+
+  commits_core : (o : Option VolumeState) → committed_by (option_map core_of o) ≡ committed_by o
+  commits_core None = refl
+  commits_core (Some x) = refl
+
+  used_core : (o : Option VolumeState) → IsSome (option_map core_of o) → IsSome o
+  used_core None is = is
+  used_core (Some x) is = is
+
+  core_used : (o : Option VolumeState) → IsSome o → IsSome (option_map core_of o)
+  core_used None is = is
+  core_used (Some x) is = is
+
+  free_core : (o : Option VolumeState) → option_map core_of o ≡ None → o ≡ None
+  free_core None e = refl
+  free_core (Some x) e = cc
+
+  commits_same : (s : ℕ) → committed_by (state_at stay s) ≡ committed_by (state_at states s)
+  commits_same s = sym (commits_core (state_at stay s)) ∙ ap committed_by (cores s) ∙ commits_core (state_at states s)
+
+  pub admits_by_cores : (blocks : ℕ) (name : List ℕ) (size : ℕ) (kind : Kind) (slot span : ℕ) → length states ≡ 64 → length stay ≡ 64 → Admits states blocks name size kind slot span → Admits stay blocks name size kind slot span
+  admits_by_cores blocks name size kind slot span long long_too is =
+      let sum : sum_of stay ≡ sum_of states = over_slots committed_by stay long_too ∙ (λ j. sum_of_slots j) ∙ sym (over_slots committed_by states long) in
+      record {
+        size_is = is.size_is;
+        name_is = record { none = λ s within. sym (named_core (state_at stay s) name) ∙ ap (λ (o : Option VolumeState). is_named o name) (cores s) ∙ named_core (state_at states s) name ∙ is.name_is.none s within };
+        free = record {
+          within = is.free.within;
+          free = free_core (state_at stay slot) (cores slot ∙ ap (option_map core_of) is.free.free);
+          first = λ s lt. used_core (state_at stay s) (subst (λ (o : Option VolumeState). IsSome o) (sym (cores s)) (core_used (state_at states s) (is.free.first s lt)));
+        };
+        span_is = is.span_is;
+        most = is.most;
+        room = omega (arith, sum, is.room);
+      }
+    where
+      sum_of_slots : sum_by (λ s. committed_by (state_at stay s)) (range_with_len 0 64) ≡ sum_by (λ s. committed_by (state_at states s)) (range_with_len 0 64)
+      sum_of_slots = same_sum _ _ 0 64 (λ k low high. commits_same k)
+
+admits_still : (old new : Session) → length old.volumes ≡ 64 → length new.volumes ≡ 64 → KeepCores old.volumes new.volumes → new.pool.found.blocks ≡ old.pool.found.blocks → StillAdmits old new
+admits_still old new long long_too cores blocks name size kind slot span is =
+    subst (λ (n : ℕ). Admits new.volumes n name size kind slot span) (sym blocks) (admits_by_cores old.volumes new.volumes cores old.pool.found.blocks name size kind slot span long long_too is)
+
+pub pointed_left : (before : Shown) (old : Session) (after : Shown) (new : Session) (pool : Pool) (states : States) → new.pending ≡ 0 → pool ≡ old.pool → states ≡ old.volumes → length old.volumes ≡ 64
+    → GoesOnWhole before pool states after new.pool new.volumes → IsPointed before old new
+pointed_left before old after new pool states none same_pool same_states long goes =
+    let cores : KeepCores old.volumes new.volumes = subst (λ (xs : States). KeepCores xs new.volumes) same_states goes.cores in
+    record {
+      pending = none;
+      files = λ tells. record { none = goes.none; same = (goes.loaded tells).same };
+      cores = cores;
+      admits = admits_still old new long goes.fit.housed.long cores (goes.blocks ∙ ap (λ (p : Pool). p.found.blocks) same_pool);
+    }
 
 -- ---- after a point
 
@@ -142,10 +290,10 @@ large w rule =
     let enough : 2 * overheads w + max 256 0 ≤ w.blocks - first_block w.blocks - own w - delayed w = grind (arith, nat_tests, rule) in
     omega (arith, enough)
 
-module _ (old : Shown) (pool : Pool) (states : States) (new : Shown) (left : Pool) (stay : States) (is : IsPoint old pool states new left stay) (loaded : IsMapLoaded new.reads left.found left.map) where
+module _ (old : Shown) (pool : Pool) (states : States) (new : Shown) (left : Pool) (stay : States) (is : IsHeldPoint old pool states new left stay) (loaded : IsMapLoaded new.reads left.found left.map) where
   -- each slot is as the new root has it
   all_loaded : (s : ℕ) → s < 64 → IsLoaded new.reads left.found s (state_at stay s) (container_at left.containers s)
-  all_loaded s inside = by (state_at stay s) (container_at left.containers s) (is.lent.slots s inside) (is.unchanged s)
+  all_loaded s inside = by (state_at stay s) (container_at left.containers s) (is.held.slots s inside) (is.unchanged s)
     where
       by : (o : Option VolumeState) (c : Option Mapped) → IsLentAt new.reads left.found s o c → IfSome o (λ x. x.changed ≡ false) → IsLoaded new.reads left.found s o c
       by None None nowhere unchanged = none_loaded left.found new.reads s nowhere
@@ -158,21 +306,28 @@ module _ (old : Shown) (pool : Pool) (states : States) (new : Shown) (left : Poo
   overheads_stay = same_overheads (view_over left stay new.reads) (view_at (root_found left.found) new.reads) (λ s inside. (all_loaded s inside).head)
 
   module _ (session : Session) (last m : Machine) (stands : StandsFor old session last m) (same_pool : session.pool ≡ pool) (same_states : session.volumes ≡ states) where
-    pub machine_is : machine_lent old pool states ≡ m
-    machine_is = lent_machine old session last m stands pool states same_pool same_states
+    pub machine_is : machine_held old pool states ≡ m
+    machine_is = held_is old session last m stands pool states same_pool same_states
 
-    lent_is : IsLent new left stay m
-    lent_is = subst (IsLent new left stay) machine_is is.lent
+    now_held : IsHeld new left stay m
+    now_held = subst (IsHeld new left stay) machine_is is.held
 
-    pub pointed : (after : Session) → after.pool ≡ left → after.volumes ≡ stay → after.pending ≡ 0 → StandsFor new after m m
-    pointed after new_pool new_states none = record {
-      lent = subst (λ (p : Pool). IsLent new p after.volumes m) (sym new_pool) (subst (λ (v : States). IsLent new left v m) (sym new_states) lent_is);
-      machine = (λ j. machine_in (new_pool j) (new_states j) no_trees new.reads) ∙ unchanged_machine left stay no_trees new.reads (λ s. refl) ∙ is.machine ∙ machine_is;
-      settled = is.settled;
-      pending = (λ j. overheads (view_over (new_pool j) (new_states j) new.reads)) ∙ overheads_stay ∙ omega (arith, none, ap (λ (p : Pool). overheads (view_at (root_found p.found) new.reads)) new_pool);
-      room = subst (λ (p : Pool). overheads (view_at (root_found p.found) new.reads) + max 256 after.pending ≤ free_blocks p.map) (sym new_pool)
-          (omega (arith, none, room_when_sound new.reads left.found left.map loaded lent_is.tells.sound));
-    }
+    pub pointed : length stay ≡ 64 → HaveNoFiles stay → (after : Session) → after.pool ≡ left → after.volumes ≡ stay → after.pending ≡ 0 → StandsFor new after m m
+    pointed long bare after new_pool new_states none =
+        let placed : placed_in after.pool.map ≡ 0 = ap (λ (p : Pool). placed_in p.map) new_pool ∙ none_placed left.map loaded.same in
+        let pending : pending_files after.volumes ≡ 0 = ap pending_files new_states ∙ none_pending stay long bare in
+        let over : overheads_in after.volumes ≡ overheads (view_at (root_found left.found) new.reads) = ap overheads_in new_states ∙ overheads_are left stay new.reads long ∙ overheads_stay in
+        let same : overheads (view_at (root_found after.pool.found) new.reads) ≡ overheads (view_at (root_found left.found) new.reads) = ap (λ (p : Pool). overheads (view_at (root_found p.found) new.reads)) new_pool in
+        let clear : clear_blocks after.pool.map ≡ free_blocks left.map = ap (λ (p : Pool). clear_blocks p.map) new_pool ∙ clear_is_free left.map loaded.same in
+        record {
+          held = subst (λ (p : Pool). IsHeld new p after.volumes m) (sym new_pool) (subst (λ (v : States). IsHeld new left v m) (sym new_states) now_held);
+          machine = (λ j. machine_held new (new_pool j) (new_states j)) ∙ is.machine ∙ machine_is;
+          settled = is.settled;
+          pending = omega (arith, placed, pending, over, same);
+          files = omega (arith, placed, pending);
+          few = omega (arith, placed, pending);
+          room = omega (arith, none, same, clear, room_when_sound new.reads left.found left.map loaded now_held.tells.sound);
+        }
 
     -- where the commits leave room for an event twice, there is room for it after the point
     pub point_room : ((b : ℕ) → length (new.reads b) ≡ 4096) → (after : Session) → after.pool ≡ left → after.pending ≡ 0 → (room : ℕ) → commits m + 2 * room ≤ capacity m.blocks → HasRoom new after room
@@ -180,12 +335,12 @@ module _ (old : Shown) (pool : Pool) (states : States) (new : Shown) (left : Poo
     point_room whole after new_pool none room fits =
         let t = root_found left.found in
         let w : View = view_at t new.reads in
-        let sound = lent_is.tells.sound in
-        let blocks : left.found.blocks ≡ m.blocks = ap (λ (x : Machine). x.blocks) lent_is.tells.machine in
-        let promised : commits_seen (seen w) ≡ commits m = sym (commits_told (layout_at t new.reads) sound.names) ∙ ap commits lent_is.tells.machine in
+        let sound = now_held.tells.sound in
+        let blocks : left.found.blocks ≡ m.blocks = ap (λ (x : Machine). x.blocks) now_held.tells.machine in
+        let promised : commits_seen (seen w) ≡ commits m = sym (commits_told (layout_at t new.reads) sound.names) ∙ ap commits now_held.tells.machine in
         let none_delayed : delayed w ≡ 0 = is.reclaimed in
         let uses : UsesOwn w = uses_own w sound.tables sound.maps (λ s h inside there. numbers_at t new.reads whole s h there) in
         let enough : commits_seen (seen w) + 2 * room ≤ capacity w.blocks = omega (arith, fits, promised, ap capacity blocks) in
         let rule : leaves_room w (256 + 2 * room) ≡ true = room_beside_commits w sound.tables uses (2 * room) none_delayed (large w sound.room) enough in
         let free = room_when_loaded new.reads left.found left.map (256 + 2 * room) loaded sound rule in
-        subst (λ (p : Pool). overheads (view_at (root_found p.found) new.reads) + max 256 (after.pending + room) ≤ free_blocks p.map) (sym new_pool) (omega (arith, none, free))
+        subst (λ (p : Pool). overheads (view_at (root_found p.found) new.reads) + max 256 (after.pending + room) ≤ clear_blocks p.map) (sym new_pool) (omega (arith, none, free, clear_is_free left.map loaded.same))

@@ -1,41 +1,25 @@
--- Sessions over disks that change nothing, and images that keep what a session stands for.
+-- Disks that change nothing, and images that keep what a session stands for.
 use Rattle.std.proofs.Common.{◌≡◌, ℕ, List, length, Some, refl, sym, ap, subst, ◌∙◌, inl, inr, ⊎_elim, arith}
 use Rattle.std.specs.Prelude.{IsTrue}
-use Rattle.fv_disk.specs.Shown.{Image, Shown, IsDisk}
+use Rattle.fv_disk.specs.Shown.{Image, Shown, IsDisk, IsSettled}
 use Rattle.fv_disk.specs.DiskCalls.{OnlyReads}
 use Rattle.fv_disk.specs.Crash.{Leaves}
 use Rattle.fv_disk.proofs.Moments.{started, weaken}
 use Rattle.fv_model.specs.Machines.{Machine}
-use Rattle.fv_store.specs.Held.{StandsOn}
 use Rattle.fv_image.specs.Held.{Layout, layout_at}
 use Rattle.fv_image.specs.WholeMachine.{Tells, machine_of}
 use Rattle.fv_image.proofs.SoundTests.{machine_told, machine_under}
-use Rattle.fv_root.specs.Finding.{IsFound, root_found}
-use Rattle.fv_aggmap.specs.Loading.{IsLoaded as IsMapLoaded}
-use Rattle.fv_cp.specs.Lent.{IsLent}
+use Rattle.fv_root.specs.Finding.{root_found}
+use Rattle.fv_cp.specs.Held.{IsHeld}
 use Rattle.fv_volume.specs.declared.pool.Pool.{Pool}
 use Rattle.fv_volume.specs.States.{States}
 use Rattle.fv_aggregate.specs.declared.session.Session.{Session}
-use Rattle.fv_aggregate.specs.Standing.{OneOf, Stands, StandsAfter, StandsFor}
+use Rattle.fv_aggregate.specs.Standing.{OneOf, StandsAfter, StandsFor}
 
--- ---- a session on a disk that was only read
+-- ---- a disk that was only read
 
-held_after : (old new : Shown) (session : Session) → OnlyReads old new → StandsOn old session.pool.store.pairs → StandsOn new session.pool.store.pairs
-held_after old new session reads held = record {
-  same = λ tells pvbn block has. held.same (subst IsTrue reads.stays.tells tells) pvbn block has ∙ ap (λ (i : Image). i pvbn) (sym reads.stays.reads);
-}
-
-pub stands_after_reads : (old new : Shown) (session : Session) → OnlyReads old new → Stands old session → Stands new session
-stands_after_reads old new session reads stands = record {
-  found = λ tells.
-      let was = stands.found (subst IsTrue reads.stays.tells tells) in
-      record {
-        reads = subst (λ i. IsFound i session.pool.found) (sym reads.stays.reads) was.reads;
-        images = λ c now. was.images c (reads.stays.no_more c now);
-      };
-  map = λ tells. subst (λ i. IsMapLoaded i session.pool.found session.pool.map) (sym reads.stays.reads) (stands.map (subst IsTrue reads.stays.tells tells));
-  cache = held_after old new session reads stands.cache;
-}
+pub settled_after_reads : (old new : Shown) → OnlyReads old new → IsSettled old → IsSettled new
+settled_after_reads old new reads settled = λ c now a. settled c (reads.stays.no_more c now) a ∙ ap (λ (i : Image). i a) (sym reads.stays.reads)
 
 -- each block that a disk reads is one of 4096 bytes
 pub reads_whole : (disk : Shown) → IsDisk disk → IsTrue disk.tells → (b : ℕ) → length (disk.reads b) ≡ 4096
@@ -44,15 +28,15 @@ reads_whole disk laws tells b = (laws.blocks disk.moment disk.reads disk.given (
 -- ---- what a crash leaves
 
 -- each image of a crash stands for the machine of the last point
-pub stands_for_last : (disk : Shown) (pool : Pool) (states : States) (last : Machine) → IsLent disk pool states last → (c : Image) → disk.images c → machine_of c ≡ Some last
-stands_for_last disk pool states last lent c now =
-    let keeps = lent.keeps c now in
-    machine_under c (root_found pool.found) keeps.root ∙ machine_told (layout_at (root_found pool.found) c) last (subst (λ (y : Layout). Tells y last) (sym keeps.layout) lent.tells)
+pub stands_for_last : (disk : Shown) (pool : Pool) (states : States) (last : Machine) → IsHeld disk pool states last → (c : Image) → disk.images c → machine_of c ≡ Some last
+stands_for_last disk pool states last held c now =
+    let keeps = held.keeps c now in
+    machine_under c (root_found pool.found) keeps.root ∙ machine_told (layout_at (root_found pool.found) c) last (subst (λ (y : Layout). Tells y last) (sym keeps.layout) held.tells)
 
 -- so does each moment of a call that doesn't reach the disk
 pub rests_for_last : (disk : Shown) (session : Session) (last m after : Machine) → IsDisk disk → StandsFor disk session last m → Leaves disk disk (λ c g. OneOf last m after c × (g ≡ disk.given))
 rests_for_last disk session last m after laws stands =
-    started disk (λ c g. OneOf last m after c × (g ≡ disk.given)) laws (λ c now. (inl (stands_for_last disk session.pool session.volumes last stands.lent c now), refl))
+    started disk (λ c g. OneOf last m after c × (g ≡ disk.given)) laws (λ c now. (inl (stands_for_last disk session.pool session.volumes last stands.held c now), refl))
 
 -- a moment of the machine before a command is one of the whole command
 pub earlier_moments : (old new : Shown) (last m after : Machine) (given : List ℕ) → Leaves old new (λ c g. OneOf last m m c × (g ≡ given)) → Leaves old new (λ c g. OneOf last m after c × (g ≡ given))

@@ -1,29 +1,35 @@
 -- The steps of `vol create`: it is admitted, room is made for it, and then it is added in memory.
-use Rattle.std.specs.Prelude.{◌≡◌, ◌≤◌, ◌+◌, ℕ, List, length, max, None, IfSome}
-use Rattle.fv_disk.specs.Shown.{Image, Shown}
+use Rattle.std.specs.Prelude.{◌≡◌, ◌≤◌, ◌+◌, ℕ, List, length, max, IfSome, IsTrue}
+use Rattle.fv_disk.specs.Shown.{Shown}
 use Rattle.fv_model.specs.declared.commands.Kind.{Kind}
-use Rattle.fv_model.specs.declared.commands.Command.TheVariants.{VolCreate}
-use Rattle.fv_model.specs.Refusals.{next, refusal}
 use Rattle.fv_image.specs.Held.{view_at}
 use Rattle.fv_image.specs.Sound.{overheads}
 use Rattle.fv_root.specs.Finding.{root_found}
 use Rattle.fv_container.specs.Chains.{container_at, slot_count}
-use Rattle.fv_aggmap.specs.Space.{free_blocks}
 use Rattle.fv_volume.specs.Creating.{Admits, IsMade, IsNew, with_holes}
 use Rattle.fv_volume.specs.Slots.{IsFirstFree}
-use Rattle.fv_volume.specs.States.{state_at, view_over}
-use Rattle.fv_volume.specs.Trees.{Trees, machine_in}
-use Rattle.fv_volume.specs.Files.{AreStates, IsLabelled, Over}
-use Rattle.fv_cp.specs.Lent.{blocks_asked}
+use Rattle.fv_volume.specs.States.{state_at}
+use Rattle.fv_volume.specs.Files.{IsLabelled}
+use Rattle.fv_cp.specs.Lent.{FitTogether, blocks_asked}
+use Rattle.fv_cp.specs.Placing.{pending_files, KeepCores}
 use Rattle.fv_aggregate.specs.declared.session.Session.{Session}
+use Rattle.fv_aggregate.specs.Standing.{clear_blocks, overheads_in, IsWithoutFiles}
 
 -- Beside the overheads of the last point there is room for what is pending, and for so many blocks more.
 abbrev pub HasRoom : Shown → Session → ℕ → Type 0
-HasRoom disk session room = overheads (view_at (root_found session.pool.found) disk.reads) + max 256 (session.pending + room) ≤ free_blocks session.pool.map
+HasRoom disk session room = overheads (view_at (root_found session.pool.found) disk.reads) + max 256 (session.pending + room) ≤ clear_blocks session.pool.map
 
 -- a new volume that was admitted is admitted still
 abbrev pub StillAdmits : Session → Session → Type 0
 StillAdmits old new = (name : List ℕ) (size : ℕ) (kind : Kind) (slot span : ℕ) → Admits old.volumes old.pool.found.blocks name size kind slot span → Admits new.volumes new.pool.found.blocks name size kind slot span
+
+-- What a consistency point that was done leaves of a session, also over an image that stands for no machine: nothing is pending, no file is in
+-- memory, and of the volumes stays what placing and points keep.
+pub record IsPointed (before : Shown) (old new : Session) : Type 0 where
+  pub pending : new.pending ≡ 0
+  pub files : IsTrue before.tells → IsWithoutFiles new
+  pub cores : KeepCores old.volumes new.volumes
+  pub admits : StillAdmits old new
 
 -- a new volume was added to a session, with this room
 pub record IsAdded (old : Session) (name : List ℕ) (size : ℕ) (kind : Kind) (room : ℕ) (new : Session) : Type 0 where
@@ -33,9 +39,12 @@ pub record IsAdded (old : Session) (name : List ℕ) (size : ℕ) (kind : Kind) 
   pub new_there : IsNew (state_at new.volumes slot) (container_at new.pool.containers slot) name size kind
   pub holes : new.pool ≡ with_holes old.pool slot size
   pub each : (s : ℕ) → IfSome (state_at new.volumes s) (IsLabelled s)
-  pub states : (trees : Trees) (i : Image) → AreStates (view_over old.pool old.volumes i) trees old.volumes → AreStates (view_over new.pool new.volumes i) trees new.volumes
-  pub accepted : (trees : Trees) → Over old.pool old.volumes trees (λ m. refusal m (VolCreate name size kind) ≡ None)
-  pub machine : (trees : Trees) (i : Image) → AreStates (view_over old.pool old.volumes i) trees old.volumes → machine_in new.pool new.volumes trees i ≡ next (machine_in old.pool old.volumes trees i) (VolCreate name size kind)
+  pub place : ℕ
+  pub span : ℕ
+  pub admits : Admits old.volumes old.pool.found.blocks name size kind place span
+  pub fit : FitTogether old.pool old.volumes
   pub long : length old.volumes ≡ slot_count
   pub asked : blocks_asked new.volumes ≤ blocks_asked old.volumes + room
+  pub overheads : overheads_in new.volumes ≡ overheads_in old.volumes + room
+  pub files : pending_files new.volumes ≡ pending_files old.volumes
   pub failed : new.failed ≡ old.failed

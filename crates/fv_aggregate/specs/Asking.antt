@@ -22,12 +22,12 @@ pub record AsksWithin (disk : Shown) (session : Session) (room : ℕ) : Type 0 w
   pub asked : blocks_asked session.volumes ≤ overheads (view_at (root_found session.pool.found) disk.reads) + session.pending
   pub pending : session.pending ≤ max 256 room
 
--- An image lacks blocks: its aggregate map leaves `found` of them free, and `want`, which is more, is at most the right side of the
--- space rule for an event with this room. `at` is the place of the root that counts.
-pub record IsShort (i : Image) (room at want found : ℕ) : Type 0 where
+-- An image lacks blocks: its aggregate map leaves `found` of them free, beside those in which files were placed since, and `want`, which is
+-- more, is at most the right side of the space rule for an event with this room. `at` is the place of the root that counts.
+pub record IsShort (i : Image) (room placed at want found : ℕ) : Type 0 where
   pub root : Taken
   pub counts : root_of i ≡ Some root
   pub place : at ≡ root_place root.slot
-  pub free : found ≡ free_under root i
+  pub free : found + placed ≡ free_under root i
   pub within : want ≤ 2 * overheads (view_at root i) + max 256 room
   pub short : found < want

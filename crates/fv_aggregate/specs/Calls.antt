@@ -1,19 +1,25 @@
 -- What every call of a session does: to the disk and to the session, and to the machines that the two stand for.
-use Rattle.std.specs.Prelude.{◌≡◌, ◌<◌, ◌+◌, ◌⊎◌, ℕ, max, IsTrue, IsNone, Some, Result, OnOk, OnErr, IfErr}
+use Rattle.std.specs.Prelude.{◌≡◌, ◌≢◌, ◌<◌, ◌≤◌, ◌+◌, ◌⊎◌, ℕ, max, IsTrue, IsNone, IsSome, Some, Result, OnOk, OnErr, IfOk, IfErr}
 use Rattle.fv_disk.specs.Shown.{Shown, Rose}
 use Rattle.fv_disk.specs.Crash.{Leaves}
 use Rattle.fv_disk.specs.DiskCalls.{OnlyReads}
+use Rattle.fv_model.specs.declared.answers.Reply.{Reply}
+use Rattle.fv_model.specs.declared.commands.Command.{Command}
+use Rattle.fv_model.specs.declared.commands.Command.TheVariants.{Cp}
 use Rattle.fv_model.specs.Machines.{Machine}
 use Rattle.fv_image.specs.Layout.{root_place}
 use Rattle.fv_aggmap.specs.Space.{free_blocks}
+use Rattle.fv_volume.specs.BlocksOver.{LeavesPool}
+use Rattle.fv_volume.specs.States.{state_at}
 use Rattle.fv_cp.specs.Lent.{blocks_asked}
+use Rattle.fv_cp.specs.Placing.{HaveNoFiles}
 use Rattle.fv_aggregate.specs.declared.fault.Fault.{Fault}
 use Rattle.fv_aggregate.specs.declared.fault.Fault.TheVariants.{DiskFault, Damaged, Memory, Failed}
 use Rattle.fv_aggregate.specs.declared.session.Session.{Session}
 use Rattle.fv_aggregate.specs.Asking.{AsksWithin, IsShort}
 use Rattle.fv_aggregate.specs.Causes.{KeepsEnds}
-use Rattle.fv_aggregate.specs.Commands.{dirty_limit}
-use Rattle.fv_aggregate.specs.Standing.{OneOf, Stands, StandsAfter}
+use Rattle.fv_aggregate.specs.Commands.{dirty_limit, is_refusal, room_of}
+use Rattle.fv_aggregate.specs.Standing.{placed_in, OneOf, Stands, StandsAfter}
 
 -- ---- faults
 
@@ -33,18 +39,32 @@ pub record FailsByWrite (before after : Shown) (new : Session) : Type 0 where
   pub by_write : Rose before.write_faults after.write_faults → new.failed ≡ Some after.faults
   pub by_read : ¬ Rose before.write_faults after.write_faults → IsNone new.failed
 
--- Fewer blocks are free in the session's map than a consistency point of it asks for; and so it is in the image.
-pub record LacksBlocks (before : Shown) (old : Session) (at want found : ℕ) : Type 0 where
+-- Fewer blocks are free in the session's map than a consistency point of it asks for, with the files in their places; and so it is in the
+-- image, beside the blocks that were placed. Without a file in memory the session is as it was.
+pub record LacksBlocks (before : Shown) (old new : Session) (at want found : ℕ) : Type 0 where
   pub fresh : IsNone old.failed
   pub place : at ≡ root_place old.pool.found.slot
   pub asked : want ≡ blocks_asked old.volumes
-  pub free : found ≡ free_blocks old.pool.map
+  pub free : found ≡ free_blocks new.pool.map
   pub short : found < want
-  pub image : IsTrue before.tells → (room : ℕ) → AsksWithin before old room → IsShort before.reads room at want found
+  pub image : IsTrue before.tells → (room : ℕ) → AsksWithin before old room → IsShort before.reads room (placed_in new.pool.map) at want found
+  pub same : HaveNoFiles old.volumes → new ≡ old
 
--- nothing was written, and the session is as it was
-abbrev pub Untouched : Shown → Session → Shown → Session → Type 0
-Untouched before old after new = OnlyReads before after × (new ≡ old)
+-- While files were placed no number of a volume was free, or no block.
+pub record LacksPlace (old : Session) : Type 0 where
+  pub fresh : IsNone old.failed
+  pub files : HaveNoFiles old.volumes → ⊥
+
+-- A block of a volume's table that was read in the call isn't as it has to be, or a pointer of the table leads nowhere. The calls of `fv_volume`
+-- say no more of it where the volume doesn't stand for one of a machine, and where it does this never comes.
+pub record IsDamage (old : Session) : Type 0 where
+  pub fresh : IsNone old.failed
+  pub slot : ℕ
+  pub there : IsSome (state_at old.volumes slot)
+
+-- fewer blocks or numbers are free than a point asks for, or a block of a table isn't as it has to be
+abbrev pub HasDamage : Shown → Session → Session → ℕ → ℕ → ℕ → Type 0
+HasDamage before old new at want found = LacksBlocks before old new at want found ⊎ (LacksPlace old ⊎ IsDamage old)
 
 -- a row of the table of faults
 pub record Row (Reason Counts Kept Written : Type 0) : Type 0 where
@@ -57,15 +77,14 @@ pub record Row (Reason Counts Kept Written : Type 0) : Type 0 where
   -- what was written
   pub disk : Written
 
--- Why a call that may add `room` blocks wasn't done. Want of memory writes nothing and leaves the session, but where room had to be made
--- first.
+-- Why a call that may add `room` blocks wasn't done. Want of memory and damage write nothing, but where room had to be made first.
 abbrev pub HasFault : ℕ → Shown → Session → Shown → Session → Fault → Type 0
 HasFault room before old after new DiskFault =
     Row (IsNone old.failed) (RoseOnDisk before after) (FailsByWrite before after new) (Unit {0})
 HasFault room before old after new (Damaged at want found) =
-    Row (LacksBlocks before old at want found) (SameCounts before after) (new ≡ old) (OnlyReads before after)
+    Row (HasDamage before old new at want found) (SameCounts before after) (IsNone new.failed) (OnlyReads before after ⊎ (dirty_limit < old.pending + room))
 HasFault room before old after new Memory =
-    Row (IsNone old.failed) (SameCounts before after) (IsNone new.failed) (Untouched before old after new ⊎ (dirty_limit < old.pending + room))
+    Row (IsNone old.failed) (SameCounts before after) (IsNone new.failed) (OnlyReads before after ⊎ (dirty_limit < old.pending + room))
 HasFault room before old after new (Failed faults) =
     Row (old.failed ≡ Some faults) (SameCounts before after) (new ≡ old) (OnlyReads before after)
 
@@ -86,9 +105,13 @@ pub record IsDone (before : Shown) (old : Session) (after : Shown) (new : Sessio
 pub record Goes {T : Type 0} (room : ℕ) (before : Shown) (old : Session) (after : Shown) (new : Session) (result : Result T Fault) : Type 0 where
   pub ends : KeepsEnds before after
   pub stands : IsNone new.failed → Stands after new
-  pub asks : IsTrue before.tells → (kept : ℕ) → AsksWithin before old kept → IsNone new.failed → AsksWithin after new (max kept room)
   pub done : OnOk result (IsDone before old after new)
   pub fault : IfErr result (HasFault room before old after new)
+
+-- Where a point of the session asked for no more than the space rule keeps, it does so after a call that may add `room` blocks. A change of
+-- a file alone doesn't keep that: over an image that stands for no machine the root may name fewer overheads than the session's volumes have.
+abbrev pub KeepsAsking : ℕ → Shown → Session → Shown → Session → Type 0
+KeepsAsking room before old after new = IsTrue before.tells → (kept : ℕ) → AsksWithin before old kept → IsNone new.failed → AsksWithin after new (max kept room)
 
 -- What a call does where the session stands for the machine `m` and its last point for `last`; `next` is the machine after it. Each
 -- image at each moment stands for one of the three. After a fault that the session survives it stands for `m`.
@@ -97,3 +120,28 @@ pub record GoesFor {T : Type 0} (before : Shown) (last m next : Machine) (after 
   pub done : OnOk result (StandsAfter after new last m next)
   pub still : IsNone new.failed → OnErr result (StandsAfter after new last m m)
   pub whole : IfErr result IsNoDamage
+
+-- ---- commands
+
+-- Blocks were read for a session. Of the disk only the time and the count of faults changed, and of the session only its cache.
+pub record WasRead (before : Shown) (old : Session) (after : Shown) (new : Session) : Type 0 where
+  pub only_reads : OnlyReads before after
+  pub pool : LeavesPool old.pool new.pool
+  pub same : new ≡ record old { pool = new.pool }
+
+-- the disk and the session are as they were
+abbrev pub IsUntouched : {D : Type 0} → D → Session → D → Session → Type 0
+IsUntouched before old after new = (after ≡ before) × (new ≡ old)
+
+-- damage for want of blocks or of numbers alone, with nothing written
+abbrev pub IsForWant : Shown → Session → Shown → Session → Fault → Type 0
+IsForWant before old after new (Damaged at want found) = OnlyReads before after × (LacksBlocks before old new at want found ⊎ LacksPlace old)
+IsForWant before old after new fault = Unit {0}
+
+-- What a command that reads no file does beside. Refused it leaves all as it was. Without room, or with room below the dirty limit, it doesn't
+-- reach the disk, but for a `cp`; and then it leaves the session where memory ran out. Damage comes for want of blocks alone.
+pub record IsPlain {D : Type 0} (command : Command) (shown : Shown) (before : D) (old : Session) (shown_after : Shown) (after : D) (new : Session) (result : Result Reply Fault) : Type 0 where
+  pub refused : IfOk result (λ reply. IsTrue (is_refusal reply) → IsUntouched before old after new)
+  pub calm : command ≢ Cp → (room_of command ≡ 0) ⊎ (old.pending + room_of command ≤ dirty_limit) → after ≡ before
+  pub wanting : command ≢ Cp → (room_of command ≡ 0) ⊎ (old.pending + room_of command ≤ dirty_limit) → IfErr result (λ e. e ≡ Memory → new ≡ old)
+  pub damage : IfErr result (IsForWant shown old shown_after new)

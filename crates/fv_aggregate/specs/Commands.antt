@@ -1,21 +1,45 @@
 -- Which commands are carried out so far, what a session answers to each, and how many blocks it may add.
-use Rattle.std.specs.Prelude.{◌≡◌, ℕ, Bool, true, false, if◌then◌else◌}
+use Rattle.std.specs.Prelude.{◌≡◌, ℕ, ◌==◌, List, Option, Some, None, Bool, true, false, if◌then◌else◌}
 use Rattle.fv_model.specs.declared.answers.Refusal.TheVariants.{Syntax}
 use Rattle.fv_model.specs.declared.answers.Reply.{Reply}
 use Rattle.fv_model.specs.declared.answers.Reply.TheVariants.{Refused}
 use Rattle.fv_model.specs.declared.commands.Command.{Command}
-use Rattle.fv_model.specs.declared.commands.Command.TheVariants.{VolCreate, VolList, Cp}
+use Rattle.fv_model.specs.declared.commands.Command.TheVariants.{VolCreate, VolList, New, Put, Get, Len, Cut, Remove, Ls, Cp}
 use Rattle.fv_model.specs.Machines.{Machine}
+use Rattle.fv_model.specs.Numbers.{is_index, is_reserve}
 use Rattle.fv_model.specs.Refusals.{next}
 use Rattle.fv_model.specs.Replies.{Allows}
 use Rattle.fv_model.specs.Space.{overhead, span_of}
 
--- the commands that are built; the others are refused as no command, until they are
+-- the commands that are built; the others are refused as no command, until they are. A file with a reserve is one of those.
 unfoldable pub is_built : Command → Bool
 is_built (VolCreate volume size kind) = true
 is_built VolList = true
+is_built (New volume file reserve) = reserve == 0
+is_built (Put volume file index block) = true
+is_built (Get volume snapshot file index) = true
+is_built (Len volume snapshot file) = true
+is_built (Cut volume file length) = true
+is_built (Remove volume file) = true
+is_built (Ls volume snapshot) = true
 is_built Cp = true
 is_built command = false
+
+-- the commands that are built and read blocks of files; each other one reaches the disk by a consistency point alone
+unfoldable pub reads_files : Command → Bool
+reads_files (New volume file reserve) = reserve == 0
+reads_files (Put volume file index block) = true
+reads_files (Get volume snapshot file index) = true
+reads_files (Len volume snapshot file) = true
+reads_files (Cut volume file length) = true
+reads_files (Remove volume file) = true
+reads_files (Ls volume snapshot) = true
+reads_files command = false
+
+-- whether a command reads a cell of a file, for which pointers are passed
+unfoldable pub is_get : Command → Bool
+is_get (Get volume snapshot file index) = true
+is_get command = false
 
 -- whether a reply refuses the command
 abbrev pub is_refusal : Reply → Bool
@@ -34,9 +58,39 @@ RepliesBy false m command reply = reply ≡ Refused Syntax
 abbrev pub Replies : Machine → Command → Reply → Type 0
 Replies m command reply = RepliesBy (is_built command) m command reply
 
+-- the volume whose files a command changes that is built
+abbrev pub changed_by : Command → Option (List ℕ)
+changed_by (New volume file reserve) = if reserve == 0 then Some volume else None
+changed_by (Put volume file index block) = Some volume
+changed_by (Cut volume file length) = Some volume
+changed_by (Remove volume file) = Some volume
+changed_by command = None
+
+-- the volume that a command asks for files
+abbrev pub asked_by : Command → Option (List ℕ)
+asked_by (Get volume snapshot file index) = Some volume
+asked_by (Len volume snapshot file) = Some volume
+asked_by (Ls volume snapshot) = Some volume
+asked_by command = None
+
+-- whether the number of a command on files is in its range
+abbrev pub has_range : Command → Bool
+has_range (Put volume file index block) = is_index index
+has_range (Get volume snapshot file index) = is_index index
+has_range (Cut volume file length) = is_reserve length
+has_range command = true
+
+-- so many blocks a command that changes a file adds at most
+abbrev pub file_room : ℕ
+file_room = 16
+
 -- the room of a command: so many blocks it may add, which the next consistency point writes
 unfoldable pub room_of : Command → ℕ
 room_of (VolCreate volume size kind) = overhead (span_of size 0 0)
+room_of (New volume file reserve) = if reserve == 0 then file_room else 0
+room_of (Put volume file index block) = file_room
+room_of (Cut volume file length) = file_room
+room_of (Remove volume file) = file_room
 room_of command = 0
 
 -- so many blocks may be pending, with the room of the next command, before a consistency point makes room for it

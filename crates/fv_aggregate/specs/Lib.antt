@@ -4,6 +4,7 @@ pub mod Asking
 pub mod Commands
 pub mod Causes
 pub mod Calls
+pub mod Looking
 pub mod Opening
 pub mod Adding
 pub mod Telling

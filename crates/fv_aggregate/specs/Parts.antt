@@ -11,7 +11,7 @@ pub record Parts : Type 0 where
   pub volumes : States
   -- what they share: cache, aggregate map, containers, and the root of the last consistency point
   pub pool : Pool
-  -- by how many blocks the overheads have passed those of the last consistency point
+  -- how many blocks were added since the last consistency point, at most: overheads of new volumes, and blocks of files
   pub pending : ℕ
   -- the disk's count of faults after the call in which a write or a barrier failed, if one did
   pub failed : Option ℕ

@@ -1,39 +1,71 @@
 -- Where a session stands: on a disk, and for the machines that the two stand for together.
-use Rattle.std.specs.Prelude.{◌≡◌, ◌≤◌, ◌+◌, ◌⊎◌, ℕ, max, IsTrue, Some}
+use Rattle.std.specs.Prelude.{◌≡◌, ◌≤◌, ◌<◌, ◌+◌, ◌-◌, ◌⊎◌, ℕ, max, IsTrue, Option, Some, None}
 use Rattle.std.specs.List.{sum_by}
 use Rattle.std.specs.FinMap as fin
-use Rattle.fv_model.specs.Space.{charge}
+use Rattle.fv_model.specs.Space.{charge, overhead}
 use Rattle.fv_disk.specs.Shown.{Image, Shown, IsSettled}
 use Rattle.fv_store.specs.Held.{StandsOn}
-use Rattle.fv_model.specs.Machines.{Machine}
+use Rattle.fv_model.specs.Machines.{Machine, first_block}
 use Rattle.fv_image.specs.Held.{view_at}
 use Rattle.fv_image.specs.Sound.{overheads}
 use Rattle.fv_image.specs.WholeMachine.{machine_of}
 use Rattle.fv_root.specs.Finding.{root_found}
 use Rattle.fv_root.specs.Commits.{IsFoundOn}
-use Rattle.fv_aggmap.specs.Loading.{IsLoaded as IsMapLoaded}
-use Rattle.fv_aggmap.specs.Space.{free_blocks}
-use Rattle.fv_volume.specs.States.{view_over}
-use Rattle.fv_volume.specs.Trees.{machine_in, no_trees}
-use Rattle.fv_cp.specs.Lent.{IsLent}
+use Rattle.fv_aggmap.specs.Space.{Space, blocks_of, free_blocks, free_from}
+use Rattle.fv_volume.specs.declared.state.VolumeState.{VolumeState}
+use Rattle.fv_volume.specs.States.{States}
+use Rattle.fv_volume.specs.UnderRoot.{IsMapOf}
+use Rattle.fv_cp.specs.Held.{machine_held, IsHeld}
+use Rattle.fv_cp.specs.Placing.{pending_files, AreReady, HaveNoFiles}
 use Rattle.fv_aggregate.specs.declared.session.Session.{Session}
 
 -- A session stands on a disk: its root is what `find_root` would answer, over what reads give and over each image that a crash now
--- may leave, with the blocks whose bits are set in that root's map area; and each block in its cache is what the disk reads there.
+-- may leave, with the blocks whose bits are set in that root's map area; each block in its cache is what the disk reads there; and calls
+-- can be made on each of its volumes.
 pub record Stands (disk : Shown) (session : Session) : Type 0 where
   pub found : IsTrue disk.tells → IsFoundOn disk session.pool.found
-  pub map : IsTrue disk.tells → IsMapLoaded disk.reads session.pool.found session.pool.map
+  pub map : IsTrue disk.tells → IsMapOf disk.reads session.pool.found session.pool.map
   pub cache : StandsOn disk session.pool.store.pairs
+  pub ready : AreReady disk session.pool session.volumes
 
--- A session stands for a machine, and the image of its last consistency point for that point's machine.
+-- how many blocks the root on the disk leaves free
+abbrev pub clear_blocks : Space → ℕ
+clear_blocks space = free_from space.committed space.committed (first_block (blocks_of space))
+
+-- how many of those the next root will hold: the blocks that were taken since the last point
+abbrev pub placed_in : Space → ℕ
+placed_in space = clear_blocks space - free_blocks space
+
+-- The blocks of files that the disk hasn't: those that a flush places at most, and those that have their places already.
+abbrev pub unwritten : Session → ℕ
+unwritten session = pending_files session.volumes + placed_in session.pool.map
+
+-- no file is in memory, and no block was taken for one since the last point
+pub record IsWithoutFiles (session : Session) : Type 0 where
+  pub none : HaveNoFiles session.volumes
+  pub same : session.pool.map.next ≡ session.pool.map.committed
+
+-- the overheads of all volumes of a session, whether they changed or not
+abbrev pub overhead_by : Option VolumeState → ℕ
+overhead_by None = 0
+overhead_by (Some x) = overhead x.span
+
+abbrev pub overheads_in : States → ℕ
+overheads_in states = sum_by overhead_by states
+
+-- A session stands for a machine, each volume by its files in memory and in its blocks, and the image of its last consistency point for
+-- that point's machine.
 pub record StandsFor (disk : Shown) (session : Session) (last now : Machine) : Type 0 where
-  pub lent : IsLent disk session.pool session.volumes last
-  pub machine : machine_in session.pool session.volumes no_trees disk.reads ≡ now
+  pub held : IsHeld disk session.pool session.volumes last
+  pub machine : machine_held disk session.pool session.volumes ≡ now
   pub settled : IsSettled disk
-  -- the pending blocks: those by which the overheads have passed those of the last point
-  pub pending : overheads (view_over session.pool session.volumes disk.reads) ≡ overheads (view_at (root_found session.pool.found) disk.reads) + session.pending
+  -- among the pending blocks are the unwritten ones of files, and those by which the overheads have passed those of the last point
+  pub pending : unwritten session + overheads_in session.volumes ≤ overheads (view_at (root_found session.pool.found) disk.reads) + session.pending
+  pub files : unwritten session ≤ session.pending
+  -- and the dirty limit bounds those of files
+  pub few : unwritten session < 256
   -- beside the overheads of the last point there is room for 256 blocks, and for what is pending
-  pub room : overheads (view_at (root_found session.pool.found) disk.reads) + max 256 session.pending ≤ free_blocks session.pool.map
+  pub room : overheads (view_at (root_found session.pool.found) disk.reads) + max 256 session.pending ≤ clear_blocks session.pool.map
 
 -- an image stands for the machine of the last point, for the machine before a command, or for the one after it
 abbrev pub OneOf : Machine → Machine → Machine → Image → Type 0

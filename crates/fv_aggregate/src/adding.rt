@@ -1,20 +1,19 @@
 //! The volumes that a session makes.
 
-ghost use Rattle.std.specs.Prelude.{◌≡◌, ◌≤◌, ◌+◌, ◌*◌, ℕ, length, max, IsTrue, IsNone, IfOk, OnOk, OnErr};
+ghost use Rattle.std.specs.Prelude.{◌≡◌, ◌≤◌, ◌+◌, ℕ, length, max, IsTrue, IsNone, IfErr, IfOk, OnOk, OnErr};
 ghost use Rattle.fv_container.specs.Chains.{slot_count};
-ghost use Rattle.fv_model.specs.Machines.{Machine, capacity};
-ghost use Rattle.fv_model.specs.Space.{commits, overhead, span_of};
+ghost use Rattle.fv_model.specs.Machines.{Machine};
+ghost use Rattle.fv_model.specs.Space.{overhead, span_of};
 ghost use Rattle.fv_model.specs.Refusals.{next};
 ghost use Rattle.fv_model.specs.Replies.{Allows};
 ghost use Rattle.fv_model.specs.declared.answers.Reply.TheVariants.{Done};
 ghost use Rattle.fv_model.specs.declared.commands.Command.TheVariants.{VolCreate};
 ghost use Rattle.fv_volume.specs.Creating.{Admits};
-ghost use Rattle.fv_volume.specs.Trees.{Trees};
-ghost use Rattle.fv_volume.specs.Files.{Over};
+ghost use Rattle.fv_aggregate.specs.declared.fault.Fault.TheVariants.{Memory};
 ghost use Rattle.fv_aggregate.specs.Adding.{IsAdded};
-ghost use Rattle.fv_aggregate.specs.Calls.{Goes, GoesFor};
+ghost use Rattle.fv_aggregate.specs.Calls.{Goes, GoesFor, IsForWant, KeepsAsking};
 ghost use Rattle.fv_aggregate.specs.Commands.{dirty_limit, is_refusal};
-ghost use Rattle.fv_aggregate.specs.Standing.{Stands, StandsFor};
+ghost use Rattle.fv_aggregate.specs.Standing.{IsWithoutFiles, Stands, StandsFor};
 
 use crate::fault::Fault;
 use crate::session::Session;
@@ -36,12 +35,16 @@ impl Session {
         requires fresh { IsNone self.old.failed }
         requires stands { Stands (D.shown disk.old) self.old }
         ensures goes { Goes (overhead (span_of size 0 0)) (D.shown disk.old) self.old (D.shown disk.new) self.new result }
+        ensures asks { KeepsAsking (overhead (span_of size 0 0)) (D.shown disk.old) self.old (D.shown disk.new) self.new }
+        ensures damage { IfErr result (IsForWant (D.shown disk.old) self.old (D.shown disk.new) self.new) }
         ensures goes_for { IsTrue (D.shown disk.old).tells → (last m : Machine) → StandsFor (D.shown disk.old) self.old last m
             → GoesFor (D.shown disk.old) last m (next m (VolCreate name.now size kind)) (D.shown disk.new) self.new result }
         ensures reply { IsTrue (D.shown disk.old).tells → (last m : Machine) → StandsFor (D.shown disk.old) self.old last m
             → IfOk result (Allows m (VolCreate name.now size kind)) }
         ensures refused { IfOk result (λ reply. IsTrue (is_refusal reply) → (disk.new ≡ disk.old) × (self.new ≡ self.old)) }
         ensures calm { self.old.pending + overhead (span_of size 0 0) ≤ dirty_limit → disk.new ≡ disk.old }
+        ensures files { IsTrue (D.shown disk.old).tells → IsWithoutFiles self.old → OnOk result (IsWithoutFiles self.new) }
+        ensures wanting { self.old.pending + overhead (span_of size 0 0) ≤ dirty_limit → IfErr result (λ e. e ≡ Memory → self.new ≡ self.old) }
     {
         match self.volumes.admit(self.pool.found.blocks, name, size, kind) {
             Ok(admitted) => self.make(disk, name, size, kind, admitted),
@@ -62,12 +65,15 @@ impl Session {
         requires stands { Stands (D.shown disk.old) self.old }
         requires long { length self.old.volumes ≡ slot_count }
         requires admitted { Admits self.old.volumes self.old.pool.found.blocks name.now size kind admitted.slot admitted.span }
-        requires commits { (trees : Trees) → Over self.old.pool self.old.volumes trees (λ m. commits m + 2 * overhead admitted.span ≤ capacity self.old.pool.found.blocks) }
         ensures goes { Goes (overhead admitted.span) (D.shown disk.old) self.old (D.shown disk.new) self.new result }
+        ensures asks { KeepsAsking (overhead admitted.span) (D.shown disk.old) self.old (D.shown disk.new) self.new }
+        ensures damage { IfErr result (IsForWant (D.shown disk.old) self.old (D.shown disk.new) self.new) }
         ensures goes_for { IsTrue (D.shown disk.old).tells → (last m : Machine) → StandsFor (D.shown disk.old) self.old last m
             → GoesFor (D.shown disk.old) last m (next m (VolCreate name.now size kind)) (D.shown disk.new) self.new result }
         ensures reply { IfOk result (λ reply. reply ≡ Done) }
         ensures calm { self.old.pending + overhead admitted.span ≤ dirty_limit → disk.new ≡ disk.old }
+        ensures files { IsTrue (D.shown disk.old).tells → IsWithoutFiles self.old → OnOk result (IsWithoutFiles self.new) }
+        ensures wanting { self.old.pending + overhead admitted.span ≤ dirty_limit → IfErr result (λ e. e ≡ Memory → self.new ≡ self.old) }
     {
         let room = u64::from(overhead(admitted.span()));
         self.make_room(disk, room)?;

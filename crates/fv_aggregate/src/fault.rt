@@ -76,14 +76,14 @@ pub enum Fault {
     /// A read, a write or a barrier failed in this call.
     #[error("DiskFault")]
     DiskFault,
-    /// Fewer blocks are free than a consistency point asks for.
+    /// Fewer blocks are free than a consistency point asks for, or a block of a volume's files isn't as it has to be.
     #[error("Damaged")]
     Damaged {
-        /// The place of the root that counts.
+        /// The place of the root that counts, of the volume's label, or of the block.
         at: u64,
-        /// How many blocks it asks for.
+        /// How many blocks are asked for, or what had to stand in the block's first field that isn't as said.
         want: u64,
-        /// How many are free.
+        /// How many are free, or what stands there.
         found: u64,
     },
     /// Memory ran out.

@@ -3,8 +3,10 @@
 
 mod adding;
 mod fault;
+mod files;
 mod opening;
 mod points;
+mod reading;
 mod session;
 mod volumes;
 

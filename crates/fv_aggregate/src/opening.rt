@@ -8,7 +8,7 @@ ghost use Rattle.fv_image.specs.Sound.{overheads};
 ghost use Rattle.fv_root.specs.Finding.{root_found};
 ghost use Rattle.fv_cp.specs.Lent.{blocks_asked};
 ghost use Rattle.fv_aggregate.specs.Causes.{HasOpenCause, IsOpenFault};
-ghost use Rattle.fv_aggregate.specs.Opening.{IsFresh, IsOpened};
+ghost use Rattle.fv_aggregate.specs.Opening.{AreOpened, IsFresh, IsOpened};
 
 use crate::fault::OpenFault;
 use crate::session::Session;
@@ -21,6 +21,7 @@ use std::alloc::Global;
 pub(crate) fn load<D: Disk>(alloc: Global, disk: &mut D) -> Result<Session, OpenFault>
     ensures loaded { IsTrue (D.shown disk.old).tells → IfOk result (IsOpened (D.shown disk.old).reads) }
     ensures asked { IsTrue (D.shown disk.old).tells → IfOk result (λ session. blocks_asked session.volumes ≤ overheads (view_at (root_found session.pool.found) (D.shown disk.old).reads)) }
+    ensures each { IfOk result (AreOpened (D.shown disk.new) (D.shown disk.old).reads) }
     ensures cache { IfOk result (λ session. StandsOn (D.shown disk.new) session.pool.store.pairs) }
     ensures fresh { IfOk result IsFresh }
     ensures fault { IsTrue (D.shown disk.old).tells → IfErr result (IsOpenFault (D.shown disk.old).reads) }

@@ -1,20 +1,23 @@
 //! The consistency points of a session.
 
-ghost use Rattle.std.specs.Prelude.{◌≡◌, ◌≤◌, ◌+◌, ◌*◌, ℕ, max, IsTrue, IsNone, IfOk, OnErr, OnOk, Some};
+ghost use Rattle.std.specs.Prelude.{◌≡◌, ◌≢◌, ◌≤◌, ◌+◌, ◌*◌, ℕ, nat_le, max, IsTrue, IsNone, IfErr, IfOk, OnErr, OnOk, Some};
 ghost use Rattle.fv_disk.specs.Shown.{Rose};
 ghost use Rattle.fv_model.specs.Machines.{Machine, capacity};
 ghost use Rattle.fv_model.specs.Space.{commits};
 ghost use Rattle.fv_model.specs.declared.answers.Reply.TheVariants.{Done};
-ghost use Rattle.fv_aggregate.specs.Adding.{HasRoom, StillAdmits};
-ghost use Rattle.fv_aggregate.specs.Calls.{Goes, GoesFor};
+ghost use Rattle.fv_cp.specs.Placing.{HaveNoFiles, KeepCores};
+ghost use Rattle.fv_aggregate.specs.declared.fault.Fault.TheVariants.{Memory};
+ghost use Rattle.fv_aggregate.specs.Adding.{HasRoom, IsPointed, StillAdmits};
+ghost use Rattle.fv_aggregate.specs.Calls.{Goes, GoesFor, IsForWant, KeepsAsking};
 ghost use Rattle.fv_aggregate.specs.Commands.{dirty_limit};
-ghost use Rattle.fv_aggregate.specs.Standing.{Stands, StandsFor};
+ghost use Rattle.fv_aggregate.specs.Standing.{IsWithoutFiles, Stands, StandsFor};
 
 use crate::fault::Fault;
 use crate::session::Session;
-use fv_cp::{CpFault, consistency_point};
+use fv_cp::full_point;
 use fv_disk::Disk;
 use fv_model::Reply;
+use fv_volume::VolumeFault;
 
 /// The dirty limit: so many blocks may be pending, with the room of the next event, before a consistency point runs. `docs/SPACE.md`
 /// has the rule; beside the overheads of the last point at least as many blocks are free.
@@ -26,19 +29,30 @@ impl Session {
         requires fresh { IsNone self.old.failed }
         requires stands { Stands (D.shown disk.old) self.old }
         ensures goes { Goes room (D.shown disk.old) self.old (D.shown disk.new) self.new result }
+        ensures asks { KeepsAsking room (D.shown disk.old) self.old (D.shown disk.new) self.new }
+        ensures damage { IfErr result (IsForWant (D.shown disk.old) self.old (D.shown disk.new) self.new) }
         ensures goes_for { IsTrue (D.shown disk.old).tells → (last m : Machine) → StandsFor (D.shown disk.old) self.old last m
             → GoesFor (D.shown disk.old) last m m (D.shown disk.new) self.new result }
         ensures room { IsTrue (D.shown disk.old).tells → (last m : Machine) → StandsFor (D.shown disk.old) self.old last m
             → commits m + 2 * room ≤ capacity m.blocks → OnOk result (HasRoom (D.shown disk.new) self.new room) }
         ensures few { OnOk result (self.new.pending + room ≤ max dirty_limit room) }
         ensures admits { OnOk result (StillAdmits self.old self.new) }
+        ensures cores { OnOk result (KeepCores self.old.volumes self.new.volumes) }
         ensures calm { self.old.pending + room ≤ dirty_limit → (disk.new ≡ disk.old) × (self.new ≡ self.old) }
+        ensures files { IsTrue (D.shown disk.old).tells → IsWithoutFiles self.old → OnOk result (IsWithoutFiles self.new) }
     {
-        if self.pending <= DIRTY_LIMIT && room <= DIRTY_LIMIT - self.pending {
+        if self.has_room(room) {
             Ok(())
         } else {
             self.point(disk, room)
         }
+    }
+
+    /// Whether what is pending and this room stay within the dirty limit together.
+    pub(crate) fn has_room(&self, room: u64) -> bool
+        ensures { result ≡ nat_le (self.now.pending + room) dirty_limit }
+    {
+        self.pending <= DIRTY_LIMIT && room <= DIRTY_LIMIT - self.pending
     }
 
     /// The consistency point that a command asks for.
@@ -46,11 +60,15 @@ impl Session {
         requires fresh { IsNone self.old.failed }
         requires stands { Stands (D.shown disk.old) self.old }
         ensures goes { Goes 0 (D.shown disk.old) self.old (D.shown disk.new) self.new result }
+        ensures asks { KeepsAsking 0 (D.shown disk.old) self.old (D.shown disk.new) self.new }
+        ensures damage { IfErr result (IsForWant (D.shown disk.old) self.old (D.shown disk.new) self.new) }
+        ensures memory { HaveNoFiles self.old.volumes → IfErr result (λ e. e ≢ Memory) }
         ensures goes_for { IsTrue (D.shown disk.old).tells → (last m : Machine) → StandsFor (D.shown disk.old) self.old last m
             → GoesFor (D.shown disk.old) last m m (D.shown disk.new) self.new result }
         ensures done { IsTrue (D.shown disk.old).tells → (last m : Machine) → StandsFor (D.shown disk.old) self.old last m
             → OnOk result (StandsFor (D.shown disk.new) self.new m m) }
         ensures reply { IfOk result (λ reply. reply ≡ Done) }
+        ensures files { IsTrue (D.shown disk.old).tells → OnOk result (IsWithoutFiles self.new) }
     {
         self.point(disk, 0)?;
         Ok(Reply::Done)
@@ -61,6 +79,9 @@ impl Session {
         requires fresh { IsNone self.old.failed }
         requires stands { Stands (D.shown disk.old) self.old }
         ensures goes { Goes 0 (D.shown disk.old) self.old (D.shown disk.new) self.new result }
+        ensures asks { KeepsAsking 0 (D.shown disk.old) self.old (D.shown disk.new) self.new }
+        ensures damage { IfErr result (IsForWant (D.shown disk.old) self.old (D.shown disk.new) self.new) }
+        ensures memory { HaveNoFiles self.old.volumes → IfErr result (λ e. e ≢ Memory) }
         ensures goes_for { IsTrue (D.shown disk.old).tells → (last m : Machine) → StandsFor (D.shown disk.old) self.old last m
             → GoesFor (D.shown disk.old) last m m (D.shown disk.new) self.new result }
         ensures done { IsTrue (D.shown disk.old).tells → (last m : Machine) → StandsFor (D.shown disk.old) self.old last m
@@ -69,28 +90,32 @@ impl Session {
             → IsNone self.new.failed → OnErr result (StandsFor (D.shown disk.new) self.new last m) }
         ensures room { IsTrue (D.shown disk.old).tells → (last m : Machine) → StandsFor (D.shown disk.old) self.old last m
             → (room : ℕ) → commits m + 2 * room ≤ capacity m.blocks → OnOk result (HasRoom (D.shown disk.new) self.new room) }
-        ensures pending { OnOk result (self.new.pending ≡ 0) }
-        ensures admits { OnOk result (StillAdmits self.old self.new) }
+        ensures left { OnOk result (IsPointed (D.shown disk.old) self.old self.new) }
     {
         let before = disk.write_faults();
-        match consistency_point(&mut self.volumes, &mut self.pool, disk, want) {
+        match full_point(&mut self.volumes, &mut self.pool, disk, want) {
             Ok(()) => {
                 self.pending = 0;
                 Ok(())
             }
-            Err(CpFault::DiskFault) => {
+            Err(VolumeFault::DiskFault) => {
                 self.failed = failure(disk, before);
                 Err(Fault::DiskFault)
             }
-            Err(CpFault::Damaged { at, want, found }) => Err(Fault::Damaged { at, want, found }),
-            Err(CpFault::Memory) => Err(Fault::Memory),
+            Err(VolumeFault::Damaged { at, want, found }) => Err(Fault::Damaged {
+                at,
+                want,
+                found,
+            }),
+            Err(VolumeFault::Memory) => Err(Fault::Memory),
+            Err(VolumeFault::Refused(_)) => unreachable!(),
         }
     }
 }
 
 /// The disk's count of faults, where a write or a barrier has failed since its count of those was `before`. A count that stands at its
 /// greatest value counts as risen.
-fn failure<D: Disk>(disk: &D, before: u64) -> Option<u64>
+pub(crate) fn failure<D: Disk>(disk: &D, before: u64) -> Option<u64>
     ensures failed { Rose before (D.shown disk.now).write_faults → result ≡ Some (D.shown disk.now).faults }
     ensures goes_on { ¬ Rose before (D.shown disk.now).write_faults → IsNone result }
 {

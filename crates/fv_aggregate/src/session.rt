@@ -1,20 +1,26 @@
 //! A session.
 
-ghost use Rattle.std.specs.Prelude.{◌≡◌, ◌≢◌, ◌≤◌, ◌+◌, ◌⊎◌, ℕ, IsTrue, IsNone, IsSome, IfOk, IfErr, OnErr, OnOk, Some};
+ghost use Rattle.std.specs.Prelude.{◌≡◌, ◌≢◌, ◌≤◌, ◌+◌, ◌⊎◌, ℕ, false, IsTrue, IsNone, IsSome, IfOk, IfErr, OnErr, OnOk, Some};
 ghost use Rattle.fv_disk.specs.Shown.{IsSettled, Rose};
+ghost use Rattle.fv_container.specs.Chains.{slot_count};
 ghost use Rattle.fv_model.specs.Machines.{Machine};
 ghost use Rattle.fv_model.specs.declared.commands.Command.TheVariants.{Cp};
 ghost use Rattle.fv_image.specs.WholeMachine.{machine_of};
 ghost use Rattle.fv_volume.specs.Trees.{Trees};
 ghost use Rattle.fv_volume.specs.Files.{Over};
+ghost use Rattle.fv_cp.specs.Placing.{HaveNoFiles};
+ghost use Rattle.fv_aggregate.specs.declared.fault.Fault.TheVariants.{Memory};
 ghost use Rattle.fv_aggregate.specs.Asking.{AsksWithin};
-ghost use Rattle.fv_aggregate.specs.Calls.{Goes, GoesFor, SameCounts};
+ghost use Rattle.fv_disk.specs.DiskCalls.{OnlyReads};
+ghost use Rattle.fv_aggregate.specs.Calls.{Goes, GoesFor, IsForWant, IsPlain, KeepsAsking, SameCounts, WasRead};
 ghost use Rattle.fv_aggregate.specs.Causes.{HasOpenCause, IsOpenFault, IsUnwritten};
-ghost use Rattle.fv_aggregate.specs.Commands.{Replies, dirty_limit, is_refusal, machine_after, room_of};
+ghost use Rattle.fv_aggregate.specs.Commands.{Replies, changed_by, dirty_limit, is_get, is_refusal, machine_after, reads_files, room_of};
 ghost use Rattle.fv_aggregate.specs.Opening.{IsOpened};
-ghost use Rattle.fv_aggregate.specs.Standing.{Stands, StandsFor, charged_in};
+ghost use Rattle.fv_aggregate.specs.Standing.{IsWithoutFiles, Stands, StandsFor, charged_in};
+ghost use Rattle.fv_aggregate.specs.Telling.{charged_from};
 
 use crate::fault::{Fault, OpenFault};
+use crate::files::changed_volume;
 use crate::opening::load;
 use crate::volumes::{names_of, sum_charges};
 use fv_container::Steps;
@@ -32,7 +38,7 @@ pub struct Session {
     pub(crate) alloc: Global,
     pub(crate) volumes: Volumes,
     pub(crate) pool: Pool,
-    /// By how many blocks the overheads have passed those of the last consistency point.
+    /// How many blocks were added since the last consistency point, at most: overheads of new volumes, and blocks of files.
     pub(crate) pending: u64,
     /// The disk's count of faults after the call in which a write or a barrier failed.
     pub(crate) failed: Option<u64>,
@@ -68,6 +74,7 @@ impl Session {
         ensures stands { IfOk result (Stands (D.shown disk.new)) }
         ensures fresh { IfOk result (λ session. IsNone session.failed) }
         ensures asks { IsTrue (D.shown disk.old).tells → IfOk result (λ session. AsksWithin (D.shown disk.new) session 0) }
+        ensures none { IsTrue (D.shown disk.old).tells → IfOk result IsWithoutFiles }
         ensures settled { IsTrue (D.shown disk.old).tells → OnOk result (IsSettled (D.shown disk.new)) }
         ensures at_rest { IsTrue (D.shown disk.old).tells → ¬ Rose (D.shown disk.old).write_faults (D.shown disk.new).write_faults
             → IsSettled (D.shown disk.new) }
@@ -87,18 +94,21 @@ impl Session {
 
     /// Applies a command, and answers the machine's reply, refusals included. A command whose room, in blocks, would pass the dirty
     /// limit of 256 together with the blocks pending is preceded by a consistency point; one that is refused changes nothing, not
-    /// even that. So far `vol create`, `vol list` and `cp` are built, and every other command is refused as none.
+    /// even that. So far `vol create`, `vol list`, `cp`, `new` without a reserve, `put`, `get`, `len`, `cut`, `rm` and `ls` are built, and
+    /// every other command is refused as none.
     ///
-    /// `steps` counts the unknown pointers that a `get` passes; no command raises it yet.
+    /// `steps` counts the unknown pointers that a `get` passes; there are none in what a session stands for yet.
     ///
     /// # Errors
     /// `DiskFault` comes only where a read, a write or a barrier failed in this call. Where it was a write or a barrier the session
     /// has failed: it answers `Failed`, with the disk's count of faults of that moment, to every call from then on, and reaches the
-    /// disk no more. `Memory` comes where memory ran out, and `Damaged` only where fewer blocks are free than a consistency point
-    /// asks for, which no aggregate leads to that stands for a machine. After these, and after a read that failed, the session goes
-    /// on and stands for the machine of before.
+    /// disk no more. `Memory` comes where memory ran out, and `Damaged` only where fewer blocks or numbers are free than a consistency
+    /// point asks for, or a block of a volume's files isn't as it has to be, which no aggregate leads to that stands for a machine. After
+    /// these, and after a read that failed, the session goes on and stands for the machine of before.
     ///
-    /// Costs a step for each slot, and memory for the names in `vol list`. `vol create` costs a step for each VVBN of the new
+    /// Costs a step for each slot, and memory for the names in `vol list`. A command on files costs what the call of `VolumeState` does, and
+    /// one that changes them a step for each node in memory, too; the search for a file reads the inode blocks before its own. Where room has
+    /// to be made the command is judged first, which costs the search twice. `vol create` costs a step for each VVBN of the new
     /// volume, and holds an entry for each. Where a consistency point runs it costs what `consistency_point` does. `docs/SPACE.md`
     /// has the dirty limit, and `docs/MACHINE.md` the commands.
     pub fn apply<D: Disk, L: Ledger>(
@@ -109,15 +119,20 @@ impl Session {
     ) -> Result<Reply, Fault>
         requires stands { IsNone self.old.failed → Stands (D.shown disk.old) self.old }
         ensures goes { Goes (room_of command.now) (D.shown disk.old) self.old (D.shown disk.new) self.new result }
+        ensures asks { changed_by command.now ≡ None → KeepsAsking (room_of command.now) (D.shown disk.old) self.old (D.shown disk.new) self.new }
         ensures goes_for { IsTrue (D.shown disk.old).tells → (last m : Machine) → StandsFor (D.shown disk.old) self.old last m
             → GoesFor (D.shown disk.old) last m (machine_after m command.now) (D.shown disk.new) self.new result }
         ensures reply { IsTrue (D.shown disk.old).tells → (last m : Machine) → StandsFor (D.shown disk.old) self.old last m
             → IfOk result (Replies m command.now) }
-        ensures refused { IfOk result (λ reply. IsTrue (is_refusal reply) → (disk.new ≡ disk.old) × (self.new ≡ self.old)) }
+        ensures refused { IsTrue (D.shown disk.old).tells → (last m : Machine) → StandsFor (D.shown disk.old) self.old last m
+            → IfOk result (λ reply. IsTrue (is_refusal reply) → WasRead (D.shown disk.old) self.old (D.shown disk.new) self.new) }
+        ensures plain { reads_files command.now ≡ false → IsPlain command.now (D.shown disk.old) disk.old self.old (D.shown disk.new) disk.new self.new result }
         ensures point { IsTrue (D.shown disk.old).tells → (last m : Machine) → StandsFor (D.shown disk.old) self.old last m → command.now ≡ Cp
             → OnOk result (StandsFor (D.shown disk.new) self.new m m) }
-        ensures calm { command.now ≢ Cp → (room_of command.now ≡ 0) ⊎ (self.old.pending + room_of command.now ≤ dirty_limit) → disk.new ≡ disk.old }
-        ensures steps { steps.new ≡ steps.old }
+        ensures calm { command.now ≢ Cp → (room_of command.now ≡ 0) ⊎ (self.old.pending + room_of command.now ≤ dirty_limit) → OnlyReads (D.shown disk.old) (D.shown disk.new) }
+        ensures files { IsTrue (D.shown disk.old).tells → changed_by command.now ≡ None → IsWithoutFiles self.old → OnOk result (IsWithoutFiles self.new) }
+        ensures steps { is_get command.now ≡ false → steps.new ≡ steps.old }
+        ensures known { IsTrue (D.shown disk.old).tells → (last m : Machine) → StandsFor (D.shown disk.old) self.old last m → OnOk result (steps.new ≡ steps.old) }
         ensures dead { IsSome self.old.failed → disk.new ≡ disk.old }
     {
         if let Some(faults) = self.failed {
@@ -127,7 +142,13 @@ impl Session {
             Command::VolCreate { volume, size, kind } => self.create(disk, volume, *size, *kind),
             Command::VolList => Ok(Reply::Names(names_of(self.alloc, &self.volumes)?)),
             Command::Cp => self.reclaim(disk),
-            _ => Ok(Reply::Refused(Refusal::Syntax)),
+            Command::Get { volume, .. } => self.look(disk, volume, command, steps),
+            Command::Len { volume, .. } => self.look(disk, volume, command, steps),
+            Command::Ls { volume, .. } => self.look(disk, volume, command, steps),
+            _ => match changed_volume(command) {
+                Some(volume) => self.change(disk, volume, command),
+                None => Ok(Reply::Refused(Refusal::Syntax)),
+            },
         }
     }
 
@@ -136,12 +157,16 @@ impl Session {
     /// # Errors
     /// As of `apply`: what fails, what a session does then, and what stays.
     ///
-    /// Costs for each volume that changed a step for each entry and at most its overhead in writes, and then, also without changes,
-    /// a commit: the blocks of one map area, a root and at most two gates in writes, and two barriers or three. It reads nothing and
-    /// takes no memory. `docs/SPACE.md` has the order.
+    /// Costs for each volume with files in memory a step for each number of its span, and memory and a write for each block that is
+    /// placed; for each volume that changed a step for each entry and at most its overhead in writes; and then, also without changes, a
+    /// commit: the blocks of one map area, a root and at most two gates in writes, and two barriers or three. It reads nothing, and without
+    /// a file in memory it takes none. `docs/SPACE.md` has the order.
     pub fn consistency_point<D: Disk>(&mut self, disk: &mut D) -> Result<(), Fault>
         requires stands { IsNone self.old.failed → Stands (D.shown disk.old) self.old }
         ensures goes { Goes 0 (D.shown disk.old) self.old (D.shown disk.new) self.new result }
+        ensures asks { KeepsAsking 0 (D.shown disk.old) self.old (D.shown disk.new) self.new }
+        ensures damage { IfErr result (IsForWant (D.shown disk.old) self.old (D.shown disk.new) self.new) }
+        ensures memory { HaveNoFiles self.old.volumes → IfErr result (λ e. e ≢ Memory) }
         ensures goes_for { IsTrue (D.shown disk.old).tells → (last m : Machine) → StandsFor (D.shown disk.old) self.old last m
             → GoesFor (D.shown disk.old) last m m (D.shown disk.new) self.new result }
         ensures point { IsTrue (D.shown disk.old).tells → (last m : Machine) → StandsFor (D.shown disk.old) self.old last m
@@ -158,7 +183,8 @@ impl Session {
 
     /// The sum of the charges of all volumes, in blocks. Costs a step for each slot.
     pub fn charged(&self) -> u64
-        ensures { (trees : Trees) → Over self.now.pool self.now.volumes trees (λ m. result ≡ charged_in m) }
+        ensures over { (trees : Trees) → Over self.now.pool self.now.volumes trees (λ m. result ≡ charged_in m) }
+        ensures slots { result ≡ charged_from self.now.volumes 0 slot_count }
     {
         sum_charges(&self.volumes)
     }

@@ -1,15 +1,13 @@
 //! What a session tells of its volumes.
 
 ghost use Rattle.std.specs.Prelude.{◌≡◌, ◌<◌, ◌≤◌, ◌++◌, ℕ, [], IfOk, OnOk, OnErr, Some, None, length};
-ghost use Rattle.std.specs.FinMap as fin;
 ghost use Rattle.fv_container.specs.Chains.{slot_count};
-ghost use Rattle.fv_disk.specs.Shown.{Image};
 ghost use Rattle.fv_volume.specs.States.{state_at};
-ghost use Rattle.fv_volume.specs.Trees.{Trees, machine_in};
+ghost use Rattle.fv_volume.specs.Trees.{Trees};
 ghost use Rattle.fv_volume.specs.Files.{Over};
 ghost use Rattle.fv_volume.specs.declared.pool.Pool.{Pool};
 ghost use Rattle.fv_aggregate.specs.Standing.{charged_in};
-ghost use Rattle.fv_aggregate.specs.Telling.{charged_by, names_from, with_name};
+ghost use Rattle.fv_aggregate.specs.Telling.{charged_by, charged_from, names_from, with_name};
 
 use fv_model::{Name, Names};
 use fv_volume::Volumes;
@@ -20,9 +18,8 @@ use std::collections::BTreeSet;
 const SLOTS: u8 = 64;
 
 /// The names of all volumes in byte order.
-#[tactic(auto, using(crate::proofs::Telling::names_are))]
 pub(crate) fn names_of(alloc: Global, volumes: &Volumes) -> Result<Names, AllocError>
-    ensures { IfOk result (λ names. (pool : Pool) (trees : Trees) (i : Image) → names ≡ fin.keys (machine_in pool volumes.now trees i).volumes) }
+    ensures { IfOk result (λ names. names ≡ names_from volumes.now 0 slot_count) }
 {
     let mut sorted = BTreeSet::new(alloc);
     sort_names(volumes, &mut sorted)?;
@@ -76,7 +73,8 @@ fn charge_of(volumes: &Volumes, slot: u8) -> u64
 /// The sum of the charges of all volumes, in blocks.
 #[tactic(auto, using(crate::proofs::Charges::charges_are, crate::proofs::Charges::charges_none, crate::proofs::Charges::charges_more))]
 pub(crate) fn sum_charges(volumes: &Volumes) -> u64
-    ensures { (pool : Pool) (trees : Trees) → Over pool volumes.now trees (λ m. result ≡ charged_in m) }
+    ensures over { (pool : Pool) (trees : Trees) → Over pool volumes.now trees (λ m. result ≡ charged_in m) }
+    ensures slots { result ≡ charged_from volumes.now 0 slot_count }
 {
     let mut sum: u64 = 0;
     for step in 0..SLOTS {

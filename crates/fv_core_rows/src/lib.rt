@@ -6,6 +6,8 @@ mod containers;
 #[cfg(test)]
 mod failed;
 #[cfg(test)]
+mod going_on;
+#[cfg(test)]
 mod maps;
 #[cfg(test)]
 mod store;

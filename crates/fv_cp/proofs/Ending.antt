@@ -5,8 +5,6 @@ use Rattle.std.specs.Prelude.{Option, Some, None, IfSome, IsTrue, Result}
 use Rattle.std.specs.Option.{option_map}
 use Rattle.std.specs.FinMap as fin
 use Rattle.std.specs.Ordering.{nat_cmp}
-use Rattle.std.proofs.lemmas.Bool.{cases_lt}
-use Rattle.std.proofs.lemmas.List.{get_or_past}
 use Rattle.fv_disk.specs.Shown.{Image, Shown, IsDisk}
 use Rattle.fv_disk.specs.Crash.{Leaves}
 use Rattle.fv_disk.proofs.Resting.{settled_image}
@@ -40,13 +38,16 @@ use Rattle.fv_volume.specs.Loading.{IsLoaded, label_of}
 use Rattle.fv_volume.specs.States.{States, head_in, label_in_state, placed_in, state_at, view_over}
 use Rattle.fv_volume.specs.Stored.{AreApartIn, AreSpacedIn, has_block, is_of, stays}
 use Rattle.fv_volume.specs.Writing.{on_disk, IsTaken}
-use Rattle.fv_volume.proofs.LentSlots.{lent_from_loaded, loaded_from_lent, lent_slot, area_taken, held_taken}
+use Rattle.fv_volume.proofs.HeldAlone.{of_each}
+use Rattle.fv_volume.proofs.LentSlots.{lent_apart, lent_from_loaded, loaded_from_lent, lent_slot, area_taken, held_taken}
 use Rattle.fv_volume.proofs.Settled.{heads_stay, housed_after, same_stay, settled_same, unchanged_stay, settled_written}
 use Rattle.fv_volume.proofs.Spacing.{spaced_same}
 use Rattle.fv_volume.proofs.StaysStates.{reach_stays, states_stay}
 use Rattle.fv_volume.proofs.StillLoaded.{still_loaded, still_stands}
 use Rattle.fv_volume.proofs.StoredTold.{entry_stays, stays_in, undelayed, past_clear, stands_for}
+use Rattle.fv_volume.proofs.Told.{head_at, is_inside}
 use Rattle.fv_volume.proofs.Viewed.{entry_of}
+use Rattle.fv_volume.proofs.Waiting.{none_waits}
 use Rattle.fv_cp.specs.Course.{HasCome, IsOnCourse, as_lent, found_with, renewed, IsCourse, StaysFrom}
 use Rattle.fv_cp.specs.Lent.{FitTogether, IsLent, IsLentAt}
 use Rattle.fv_cp.specs.Points.{GoesOn, IsPoint, IsSwitched, OldOrLent, machine_lent}
@@ -103,14 +104,6 @@ module _ (disk : Shown) (pool : Pool) (states : States) (before : Machine) (lent
         (λ c g side. (old_or_new_machine mid found root map before (machine_lent disk pool states) c g stands images_stand ready side, side.1 ∙ spares.counted.given)) left)
 
 -- ---- what a point ends with
-
-none_changed : (o : Option VolumeState) (s : ℕ) → s < 64 → IfSome o (λ x. x.changed ≡ true → 64 ≤ s) → IfSome o (λ x. x.changed ≡ false)
-none_changed None s inside waits = tt
-none_changed (Some x) s inside waits = so x.changed refl
-  where
-    so : (t : Bool) → x.changed ≡ t → t ≡ false
-    so true e = let high = waits e in absurd (omega (arith, high, inside))
-    so false e = refl
 
 -- the root of a point: the one that was found, with these labels
 abbrev pub root_with : Pool → List ℕ → Root
@@ -184,7 +177,7 @@ module _ (disk : Shown) (pool : Pool) (states : States) (before : Machine) (lent
     where
       by : IsOnCourse pool states (seen pool.kept disk.reads) 64 s (is.now s) (get_or labels s 0) (container_at left.containers s) mid.reads → settled_at labels states s ≡ is.now s
       by (renewed x low there changed now r) = settled_written (state_at states s) x (get_or labels s 0) there changed ∙ sym now
-      by (as_lent waits at) = settled_same (state_at states s) (get_or labels s 0) (none_changed (state_at states s) s inside waits) ∙ sym at.state
+      by (as_lent waits at) = settled_same (state_at states s) (get_or labels s 0) (none_waits (state_at states s) s inside waits) ∙ sym at.state
 
   stands : (s : ℕ) → s < 64 → StandsUnder mid.reads f s (settled_at labels states s) (container_at left.containers s)
   stands s inside = subst (λ (o : Option VolumeState). StandsUnder mid.reads f s o (container_at left.containers s)) (sym (settled_is s inside)) (by (is.each s inside))
@@ -198,7 +191,7 @@ module _ (disk : Shown) (pool : Pool) (states : States) (before : Machine) (lent
       by (as_lent waits at) =
           subst (λ (o : Option VolumeState). StandsUnder mid.reads f s o (container_at left.containers s)) (sym at.state) (subst (λ (c : Option Mapped). StandsUnder mid.reads f s (state_at states s) c) (sym at.lies)
           (still_stands pool.found f disk.reads mid.reads s inside (place_is f s inside ∙ at.named ∙ sym (place_is pool.found s inside)) agrees lent.tells.sound refl (state_at states s) (container_at pool.containers s)
-          (loaded_from_lent disk.reads pool.found s (state_at states s) (container_at pool.containers s) (lent.slots s inside) (none_changed (state_at states s) s inside waits))))
+          (loaded_from_lent disk.reads pool.found s (state_at states s) (container_at pool.containers s) (lent.slots s inside) (none_waits (state_at states s) s inside waits))))
 
   -- an entry that stays has its block
   block_kept : (s v : ℕ) (x : VolumeState) → s < 64 → state_at states s ≡ Some x → stays x v ≡ true → placed_in fin.empty mid.reads (own_entry (container_at left.containers s) v) ≡ placed_in pool.kept disk.reads (own_entry (container_at pool.containers s) v)
@@ -282,23 +275,14 @@ module _ (disk : Shown) (pool : Pool) (states : States) (before : Machine) (lent
         entry_now s v inside ∙ ap (λ (z : View). z.entry s v) same_now
         ∙ entry_stays pool states disk.reads fit.housed lent.tables lent.reach f labels left.map.next (container_at left.containers) mid.reads refl refl all_stand s v x inside there on)
 
-    heads_told : (s : ℕ) → w.head s ≡ option_map head_in (state_at states s)
-    unfolding view_over
-    heads_told s = refl
-
     -- ---- the slots
 
     apart_now : (s : ℕ) → s < 64 → IfSome (settled_at labels states s) (λ x. IfSome (container_at left.containers s) (AreApartIn x))
     apart_now s inside = subst (λ (o : Option VolumeState). IfSome o (λ x. IfSome (container_at left.containers s) (AreApartIn x))) (sym (settled_is s inside)) (by (is.each s inside))
       where
-        as_it_was : (o : Option VolumeState) (c : Option Mapped) → IsLentAt disk.reads pool.found s o c → IfSome o (λ x. IfSome c (AreApartIn x))
-        as_it_was None c at = tt
-        as_it_was (Some x) None at = tt
-        as_it_was (Some x) (Some map) at = at.apart
-
         by : IsOnCourse pool states (block_seen pool.kept disk.reads) 64 s (is.now s) (get_or labels s 0) (container_at left.containers s) mid.reads → IfSome (is.now s) (λ x. IfSome (container_at left.containers s) (AreApartIn x))
         by (renewed x low there changed now r) = subst (λ (o : Option VolumeState). IfSome o (λ x. IfSome (container_at left.containers s) (AreApartIn x))) (sym now) (subst (λ (c : Option Mapped). IfSome c (AreApartIn (as_written x (get_or labels s 0)))) (sym r.now) r.stored.apart)
-        by (as_lent waits at) = subst (λ (o : Option VolumeState). IfSome o (λ x. IfSome (container_at left.containers s) (AreApartIn x))) (sym at.state) (subst (λ (c : Option Mapped). IfSome (state_at states s) (λ x. IfSome c (AreApartIn x))) (sym at.lies) (as_it_was (state_at states s) (container_at pool.containers s) (lent.slots s inside)))
+        by (as_lent waits at) = subst (λ (o : Option VolumeState). IfSome o (λ x. IfSome (container_at left.containers s) (AreApartIn x))) (sym at.state) (subst (λ (c : Option Mapped). IfSome (state_at states s) (λ x. IfSome c (AreApartIn x))) (sym at.lies) (lent_apart disk.reads pool.found s (state_at states s) (container_at pool.containers s) (lent.slots s inside)))
 
     lent_at_now : (s : ℕ) → s < 64 → IsLentAt new.reads f s (state_at stay s) (container_at last.containers s)
     lent_at_now s inside = subst (λ (o : Option VolumeState). IsLentAt new.reads f s o (container_at last.containers s)) (sym (settled s)) (subst (λ (c : Slots). IsLentAt new.reads f s (settled_at labels states s) (container_at c s)) (sym containers)
@@ -315,24 +299,18 @@ module _ (disk : Shown) (pool : Pool) (states : States) (before : Machine) (lent
       slots = λ s inside. subst (λ (x : Found). IsLentAt new.reads x s (state_at stay s) (container_at last.containers s)) (sym found) (lent_at_now s inside);
       spaced = subst (λ (n : ℕ). AreSpacedIn n last.map.next (state_at stay) (container_at last.containers)) (ap (λ (x : Found). x.blocks) (sym found)) (subst (λ (x : Space). AreSpacedIn pool.found.blocks x.next (state_at stay) (container_at last.containers)) (sym switched.map)
           (spaced_same pool.found.blocks left.map.next (settled_at labels states) (state_at stay) (container_at left.containers) (container_at last.containers) (λ s inside. settled s) (λ s inside. ap (λ (c : Slots). container_at c s) containers) all_stand.spaced));
-      states = states_stay w (view_over last stay new.reads) states fit.housed.long heads_told stays_now lent.tables stay labels settled lent.states;
+      states = states_stay w (view_over last stay new.reads) states fit.housed.long (head_at pool states disk.reads) stays_now lent.tables stay labels settled lent.states;
       built = built_stays w (view_over last stay new.reads) stays_now lent.tables.bases lent.tables.rests ∙ lent.built;
       tables = subst AreTables (sym (same_seen w (view_over last stay new.reads) stays_now lent.tables.bases lent.tables.rests)) lent.tables;
-      reach = reach_stays w (view_over last stay new.reads) states fit.housed.long heads_told stays_now lent.tables stay labels settled lent.reach;
+      reach = reach_stays w (view_over last stay new.reads) states fit.housed.long (head_at pool states disk.reads) stays_now lent.tables stay labels settled lent.reach;
     }
 
     -- the label of a volume without a change stays where it was
-    place_stays : (s : ℕ) → s < 64 → (o : Option VolumeState) → state_at states s ≡ o → IfSome o (λ x. x.changed ≡ false → label_place u s ≡ label_place (root_found pool.found) s)
-    place_stays s inside None there = tt
-    place_stays s inside (Some x) there = λ unchanged.
-        let same : IfSome (state_at states s) (λ y. y.changed ≡ false) = subst (λ (o : Option VolumeState). IfSome o (λ y. y.changed ≡ false)) (sym there) unchanged in
-        sym (loaded_then s inside).label ∙ ap label_in_state (settled_same (state_at states s) (get_or labels s 0) same) ∙ (loaded_from_lent disk.reads pool.found s (state_at states s) (container_at pool.containers s) (lent.slots s inside) same).label
-
     places_stay : (s : ℕ) → IfSome (state_at states s) (λ x. x.changed ≡ false → label_place u s ≡ label_place (root_found pool.found) s)
-    places_stay s = ⊎_elim
-        (λ (inside : s < 64). place_stays s inside (state_at states s) refl)
-        (λ (past : 64 ≤ s). subst (λ (o : Option VolumeState). IfSome o (λ x. x.changed ≡ false → label_place u s ≡ label_place (root_found pool.found) s)) (sym (get_or_past states s None (omega (arith, past, fit.housed.long)))) tt)
-        (cases_lt s 64)
+    places_stay = of_each states fit.housed.volumes (λ s o. IfSome o (λ x. x.changed ≡ false → label_place u s ≡ label_place (root_found pool.found) s)) (λ s. tt) (λ x there unchanged.
+        let inside = is_inside states x.slot x fit.housed.long there in
+        let same : IfSome (state_at states x.slot) (λ y. y.changed ≡ false) = subst (λ (o : Option VolumeState). IfSome o (λ y. y.changed ≡ false)) (sym there) unchanged in
+        sym (loaded_then x.slot inside).label ∙ ap label_in_state (settled_same (state_at states x.slot) (get_or labels x.slot 0) same) ∙ (loaded_from_lent disk.reads pool.found x.slot (state_at states x.slot) (container_at pool.containers x.slot) (lent.slots x.slot inside) same).label)
 
     pub point : IsPoint disk pool states new last stay
     point = record {

@@ -1,5 +1,5 @@
 -- The files of volumes are placed slot by slot.
-use Rattle.std.proofs.Common.{◌≡◌, ◌≢◌, ℕ, ◌<◌, ◌≤◌, ◌+◌, Bool, List, length, Some, None, ⊎_elim, sym, ap, subst, ◌∙◌, arith, Option, refl, get_or-set_other}
+use Rattle.std.proofs.Common.{◌≡◌, ◌≢◌, ℕ, ◌<◌, ◌≤◌, ◌+◌, Bool, List, length, Some, None, is_some, true≢false, ⊎_elim, sym, ap, subst, ◌∙◌, arith, Option, refl, get_or-set_other}
 use Rattle.std.specs.Prelude.{cond, IfSome}
 use Rattle.std.specs.FinMap as fin
 use Rattle.std.proofs.lemmas.Bool.{cases_eq}
@@ -18,7 +18,6 @@ use Rattle.fv_root.specs.Commits.{IsFoundOn}
 use Rattle.fv_container.specs.Chains.{container_at}
 use Rattle.fv_volume.specs.declared.pool.Pool.{Pool}
 use Rattle.fv_volume.specs.declared.state.VolumeState.{VolumeState}
-use Rattle.fv_volume.specs.BlocksOver.{free_numbers}
 use Rattle.fv_volume.specs.OneVolume.{IsReady}
 use Rattle.fv_volume.specs.Placing.{pending_of}
 use Rattle.fv_volume.specs.Slots.{sum_of}
@@ -26,10 +25,11 @@ use Rattle.fv_volume.specs.States.{States, state_at, with_state}
 use Rattle.fv_volume.specs.Stored.{AreSpacedIn}
 use Rattle.fv_volume.proofs.PlacedIn as one
 use Rattle.fv_volume.proofs.Told.{is_inside}
+use Rattle.fv_volume.proofs.Spending.{spent_one}
 use Rattle.fv_volume.proofs.Staying.{only_itself}
 use Rattle.fv_cp.specs.Held.{machine_held, named_held, IsHeld, IsHeldIn}
 use Rattle.fv_cp.specs.Lent.{asked_by, blocks_asked, FitTogether}
-use Rattle.fv_cp.specs.Placing.{pending_by, pending_files, HasNumbers, HaveRoom, HaveSpent, IsPlacedAs, ArePlaced, AreReady, HasNoFiles, HasWholeMap, IsReadyIn, IsSlotPlaced, MayFail, PlacesSlot}
+use Rattle.fv_cp.specs.Placing.{pending_by, pending_files, HasNumbers, HaveNoFiles, HaveRoom, HaveSpent, IsPlacedAs, ArePlaced, AreReady, HasNoFiles, HasWholeMap, IsReadyIn, IsSlotPlaced, MayFail, PlacesSlot}
 use Rattle.fv_disk.proofs.Resting.{reads_then}
 use Rattle.fv_store.specs.Held.{StandsOn}
 use Rattle.fv_volume.specs.declared.fault.VolumeFault.{VolumeFault}
@@ -69,19 +69,15 @@ module _ (disk after : Shown) (pool left : Pool) (states stay : States) (x y : V
         let was : pending_by (state_at states x.slot) ≡ pending_of x.files = ap pending_by there in
         let all : pending_files stay ≡ pending_files (with_state states x.slot (Some y)) = ap pending_files now in
         let blocks = room.blocks in
-        let numbers : pending_of x.files < free_numbers x.map = subst HasNumbers there (room.numbers x.slot) in
-        let spent = placed.spent (one.mine disk after pool left states stay x y there now fit.housed placed fit.size held.slots held.spaced held.each).stands numbers (omega (arith, part, was, blocks)) in
+        let spent = spent_one disk after pool left x y placed (one.mine disk after pool left states stay x y there now fit.housed placed fit.size held.slots held.spaced held.each).stands (subst HasNumbers there (room.numbers x.slot)) (omega (arith, part, was, blocks)) in
         record {
-          fewer = omega (arith, sum, was, all, spent.fewer);
-          blocks = omega (arith, sum, was, all, spent.blocks);
+          fewer = omega (arith, sum, was, all, spent.0.fewer);
+          blocks = omega (arith, sum, was, all, spent.0.blocks);
           numbers = λ k. ⊎_elim
-              (λ (e : k ≡ x.slot). subst (λ (n : ℕ). HasNumbers (state_at stay n)) (sym e) (subst HasNumbers (sym (one.here disk after pool left states stay x y there now fit.housed placed)) (below numbers spent.numbers spent.fewer)))
+              (λ (e : k ≡ x.slot). subst (λ (n : ℕ). HasNumbers (state_at stay n)) (sym e) (subst HasNumbers (sym (one.here disk after pool left states stay x y there now fit.housed placed)) spent.1))
               (λ (differ : k ≢ x.slot). subst HasNumbers (sym (one.other disk after pool left states stay x y there now fit.housed placed k differ)) (room.numbers k))
               (cases_eq k x.slot);
         }
-      where
-        below : pending_of x.files < free_numbers x.map → free_numbers x.map + pending_of y.files ≤ free_numbers y.map + pending_of x.files → pending_of y.files ≤ pending_of x.files → pending_of y.files < free_numbers y.map
-        below some took fewer = omega (arith, some, took, fewer)
 
     -- The volumes are what they are between points.
     pub held_still : IsHeld after left stay before
@@ -126,7 +122,7 @@ pub record HasPassed (disk : Shown) (pool : Pool) (states : States) (count : ℕ
 pub passed_none : (disk : Shown) (pool : Pool) (states : States) → FitTogether pool states → AreReady disk pool states → StandsOn disk pool.store.pairs → HasPassed disk pool states 0 disk pool states
 passed_none disk pool states fit ready stands = record {
   come = record {
-    placed = record { held = λ before held. held; machine = λ before held. refl; fit = fit; found = refl; cores = λ s. refl; asked = refl; spent = λ before held room. record { fewer = omega arith; numbers = room.numbers; blocks = omega arith }; only_reads = only_itself disk; idle = λ none. (refl, refl) };
+    placed = record { held = λ before held. held; machine = λ before held. refl; fit = fit; found = refl; committed = refl; cores = λ s. refl; asked = refl; spent = λ before held room. record { fewer = omega arith; numbers = room.numbers; blocks = omega arith }; only_reads = only_itself disk; idle = λ none. (refl, refl) };
     ready = ready;
     stands = stands;
   };
@@ -159,7 +155,15 @@ module _ (disk : Shown) (pool : Pool) (states : States) (mid : Shown) (held : Po
           let part = sum_by-set pending_by between slot None None (omega (arith, inside, long)) in
           let is : pending_by (state_at between slot) ≡ pending_of x.files = ap pending_by there in
           let blocks = now.blocks in
-          fails own.stands (subst HasNumbers there (now.numbers slot)) (omega (arith, part, is, blocks))
+          fails.1 own.stands (subst HasNumbers there (now.numbers slot) fails.0) (omega (arith, part, is, blocks))
+
+  -- it fails with a file in memory alone
+  pub filed_more : (e : VolumeFault) → MayFail mid held (state_at between slot) e → HaveNoFiles states → ⊥
+  filed_more e fails none = by (state_at between slot) fails (subst (λ (xs : States). HasNoFiles (state_at xs slot)) (sym (come.placed.idle none).1) (none slot))
+    where
+      by : (o : Option VolumeState) → MayFail mid held o e → HasNoFiles o → ⊥
+      by None fails none = fails
+      by (Some x) fails none = true≢false (sym fails.0 ∙ ap is_some none)
 
   -- a slot with a volume
   with_volume : (x : VolumeState) → state_at between slot ≡ Some x → IsSlotPlaced mid held between slot x after left stay → HasCome disk pool states after left stay
@@ -173,6 +177,7 @@ module _ (disk : Shown) (pool : Pool) (states : States) (mid : Shown) (held : Po
           machine = λ before was. machine_still mid after held left between stay x did.now here now come.placed.fit did.placed before (come.placed.held before was) ∙ come.placed.machine before was;
           fit = fit_still mid after held left between stay x did.now here now come.placed.fit did.placed;
           found = did.placed.goes.goes.goes.found ∙ come.placed.found;
+          committed = did.placed.goes.goes.goes.committed ∙ come.placed.committed;
           cores = λ s. one.cores_still mid after held left between stay x did.now here now come.placed.fit.housed did.placed s ∙ come.placed.cores s;
           asked = asked_still mid after held left between stay x did.now here now come.placed.fit did.placed ready.ready ∙ come.placed.asked;
           spent = λ before was room.

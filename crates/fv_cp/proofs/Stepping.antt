@@ -1,7 +1,7 @@
 -- The course of a consistency point: its start, a slot that is passed, and a slot that is written, also as the code goes it.
 use Rattle.std.proofs.Common.{◌≡◌, ◌≢◌, ℕ, suc, ◌<◌, ◌≤◌, Bool, true, false, cond, List, get_or, nat_eq, refl, sym, ap, subst, ◌∙◌, arith, ⊎_elim, ◌+◌, length, All, Ok, Result, length-set, drop, drop-cons}
 use Rattle.std.specs.Prelude.{Option, Some, None, IfSome, IsTrue, sum_by}
-use Rattle.std.proofs.lemmas.Bool.{both_ways, cases_eq, or_right}
+use Rattle.std.proofs.lemmas.Bool.{cases_eq, or_right}
 use Rattle.std.proofs.lemmas.Bool.Decides.{nat_tests}
 use Rattle.std.proofs.lemmas.List.{get_or-set_same, get_or-set_other}
 use Rattle.fv_disk.specs.Shown.{Image, Shown}
@@ -22,6 +22,7 @@ use Rattle.fv_volume.proofs.Drawing.{leads_at}
 use Rattle.fv_volume.proofs.Renewing.{low_of}
 use Rattle.fv_volume.proofs.Spacing.{LeavesSpaced, written_leaves}
 use Rattle.fv_volume.proofs.Stored.{stored, stored_still}
+use Rattle.fv_volume.proofs.Waiting.{waits_first, waits_on}
 use Rattle.fv_cp.specs.Lent.{IsLent, IsLentSlot, asked_by, blocks_asked}
 use Rattle.fv_cp.specs.Course.{HasCome, IsAsLent, IsCourse, IsOnCourse, IsSlotWritten, as_lent, renewed, GoesPast, IsPassed, asked_from}
 use Rattle.fv_volume.proofs.LentSlots.{lent_slot, own_blocks}
@@ -43,12 +44,8 @@ pub course_begins : (disk : Shown) (pool : Pool) (states : States) (before : Mac
 course_begins disk pool states before lent first i reads = record {
   now = state_at states;
   spaced = lent.spaced;
-  each = λ s inside. as_lent (waits s (state_at states s)) (record { state = refl; lies = refl; named = refl; stay = λ x map there lies v on some. reads (place_at map v) });
+  each = λ s inside. as_lent (waits_first s (state_at states s)) (record { state = refl; lies = refl; named = refl; stay = λ x map there lies v on some. reads (place_at map v) });
 }
-  where
-    waits : (s : ℕ) (o : Option VolumeState) → IfSome o (λ x. x.changed ≡ true → 0 ≤ s)
-    waits s None = tt
-    waits s (Some x) = λ changed. omega arith
 
 -- the course under other names of the same
 pub same_course : (pool : Pool) (states : States) (first : Image) (count : ℕ) (labels named : List ℕ) (next map : List Bool) (containers left : Slots) (i j : Image) → named ≡ labels → map ≡ next → left ≡ containers → j ≡ i
@@ -60,17 +57,10 @@ same_course pool states first count labels named next map containers left i j e 
 -- ---- a slot more
 
 module _ (pool : Pool) (states : States) (first : Image) (s k : ℕ) (now : Option VolumeState) (label : ℕ) (container : Option Mapped) (i : Image) (alike : k ≡ s → IfSome (state_at states k) (λ x. x.changed ≡ false)) where
-  waits_on : (o : Option VolumeState) → (k ≡ s → IfSome o (λ x. x.changed ≡ false)) → IfSome o (λ x. x.changed ≡ true → s ≤ k) → IfSome o (λ x. x.changed ≡ true → suc s ≤ k)
-  waits_on None same waits = tt
-  waits_on (Some x) same waits = λ changed. ⊎_elim
-      (λ (e : k ≡ s). absurd (both_ways _ (same e) changed))
-      (λ (other : k ≢ s). let high = waits changed in omega (arith, high, other))
-      (cases_eq k s)
-
   -- a slot of which nothing is written in the step
   one_more : IsOnCourse pool states first s k now label container i → IsOnCourse pool states first (suc s) k now label container i
   one_more (renewed x low there changed is r) = renewed x (omega (arith, low)) there changed is r
-  one_more (as_lent waits is) = as_lent (waits_on (state_at states k) alike waits) is
+  one_more (as_lent waits is) = as_lent (waits_on s k (state_at states k) alike waits) is
 
 -- a slot is passed
 pub course_passes : (pool : Pool) (states : States) (first : Image) (s : ℕ) (labels : List ℕ) (next : List Bool) (containers : Slots) (i : Image) → IfSome (state_at states s) (λ x. x.changed ≡ false)

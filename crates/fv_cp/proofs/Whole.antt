@@ -1,5 +1,5 @@
 -- A consistency point in front of which all files are placed.
-use Rattle.std.proofs.Common.{◌≡◌, ℕ, length, Option, Some, None, inl, inr, ⊎_elim, refl, sym, ap, subst, ◌∙◌, arith, Ok, Err}
+use Rattle.std.proofs.Common.{◌≡◌, ℕ, false, length, Option, Some, inl, inr, ⊎_elim, refl, sym, ap, subst, ◌∙◌, arith, Ok, Err}
 use Rattle.std.specs.Prelude.{IfSome, IsTrue}
 use Rattle.std.specs.Option.{option_map}
 use Rattle.fv_disk.specs.Crash.{Leaves}
@@ -21,21 +21,20 @@ use Rattle.fv_volume.specs.declared.state.VolumeState.{VolumeState}
 use Rattle.fv_volume.specs.Causes.{of_block}
 use Rattle.fv_volume.specs.Files.{IsLabelled}
 use Rattle.fv_volume.specs.Loading.{Houses}
-use Rattle.fv_volume.specs.OneVolume.{IsReady}
 use Rattle.fv_volume.specs.States.{States, parent_in, state_at}
 use Rattle.fv_volume.proofs.Staying.{kept_stands}
-use Rattle.fv_volume.proofs.HeldSettled.{settled_core, settled_no_files, settled_ready, settled_whole}
+use Rattle.fv_volume.proofs.HeldSettled.{core_parent, ready_of, settled_core, settled_no_files, settled_ready, settled_unchanged, settled_whole}
 use Rattle.fv_cp.specs.Held.{machine_held, IsHeld}
 use Rattle.fv_cp.specs.Lent.{FitTogether, IsLent}
-use Rattle.fv_cp.specs.Placing.{core_of, ArePlaced, AreReady, HasNoFiles, HasWholeMap, HaveRoom, IsPlaceFault, IsReadyIn}
+use Rattle.fv_cp.specs.Placing.{core_of, ArePlaced, AreReady, HasNoFiles, HasWholeMap, HaveNoFiles, HaveRoom, IsPlaceFault, IsReadyIn}
 use Rattle.fv_cp.specs.Points.{machine_lent, Counts, GoesOn, IsCalm, IsPoint, LacksRoom, LeavesAll, OldOrLent}
-use Rattle.fv_cp.specs.Settling.{GoesOnWhole, HasWholeCause, HaveFullRoom, IsHeldPoint, IsNoDamage, OldOrHeld, StillHeld, WholeCounts}
+use Rattle.fv_cp.specs.Settling.{GoesOnWhole, HasWholeCause, HaveFullRoom, IsHeldPoint, IsNoDamage, IsStill, OldOrHeld, StillHeld, WholeCounts, WholeFails}
 use Rattle.fv_cp.proofs.Lendable.{held_lent, held_machine, past_held}
 use Rattle.fv_volume.proofs.PlacedIn.{found_read}
 
 -- where there is room for all, there is room for what is pending
 pub some_room : (pool : Pool) (states : States) → HaveFullRoom pool states → HaveRoom pool states
-some_room pool states room = record { numbers = room.numbers; blocks = (let blocks = room.blocks in omega (arith, blocks)) }
+some_room pool states room = record { numbers = room.numbers; blocks = room.free }
 
 module _ (disk : Shown) (pool : Pool) (states : States) (mid : Shown) (held : Pool) (between : States) (placed : ArePlaced disk pool states mid held between) where
   pub found_mid : (IsTrue disk.tells → IsFoundOn disk pool.found) → IsTrue mid.tells → IsFoundOn mid held.found
@@ -72,12 +71,8 @@ module _ (disk : Shown) (pool : Pool) (states : States) (mid : Shown) (held : Po
       whole_now : (s : ℕ) → HasWholeMap (state_at stay s)
       whole_now s = subst HasWholeMap (sym (goes.settled s).1) (settled_whole (state_at between s) (goes.settled s).0 (whole s))
 
-      parent_of_core : (o : Option VolumeState) → parent_in o ≡ parent_in (option_map core_of o)
-      parent_of_core None = refl
-      parent_of_core (Some x) = refl
-
       parents_now : (s : ℕ) → parent_at left.containers s ≡ parent_at pool.containers s
-      parents_now s = goes.parents s ∙ placed.fit.housed.parents s ∙ parent_of_core (state_at between s) ∙ ap parent_in (placed.cores s) ∙ sym (parent_of_core (state_at states s)) ∙ sym (fit.housed.parents s)
+      parents_now s = goes.parents s ∙ placed.fit.housed.parents s ∙ core_parent (state_at between s) ∙ ap parent_in (placed.cores s) ∙ sym (core_parent (state_at states s)) ∙ sym (fit.housed.parents s)
 
       ready_now : AreReady new left stay
       ready_now s =
@@ -93,6 +88,7 @@ module _ (disk : Shown) (pool : Pool) (states : States) (mid : Shown) (held : Po
         fit = goes.fit;
         ready = ready_now;
         none = none_now;
+        unchanged = λ s. subst (λ (o : Option VolumeState). IfSome o (λ x. x.changed ≡ false)) (sym (goes.settled s).1) (settled_unchanged (state_at between s) (goes.settled s).0);
         unkept = goes.unkept;
         cores = λ s. ap (option_map core_of) (goes.settled s).1 ∙ settled_core (state_at between s) (goes.settled s).0 ∙ placed.cores s;
         parents = parents_now;
@@ -107,7 +103,7 @@ module _ (disk : Shown) (pool : Pool) (states : States) (mid : Shown) (held : Po
           let told_mid : IsTrue mid.tells = subst IsTrue (sym placed.only_reads.stays.tells) told in
           let same = machine_mid before was in
           let now : IsHeld new left stay (machine_lent mid held between) = past_held new left stay (machine_lent mid held between) point.lent goes.fit point.unchanged goes.unkept few (goes.loaded told_mid) (subst IsTrue (sym tells) told_mid) long none_now
-          (λ s. ready_of s (state_at stay s) (ready_now s)) in
+          (λ s. ready_of new left s (state_at stay s) (ready_now s)) in
           record {
             settled = point.settled;
             stands = point.stands ∙ ap (λ (m : Machine). Some m) same;
@@ -116,10 +112,6 @@ module _ (disk : Shown) (pool : Pool) (states : States) (mid : Shown) (held : Po
             unchanged = point.unchanged;
             reclaimed = point.reclaimed;
           }
-        where
-          ready_of : (s : ℕ) (o : Option VolumeState) → IfSome o (IsReadyIn new left s) → IfSome o (IsReady new left)
-          ready_of s None is = tt
-          ready_of s (Some x) is = is.ready
 
   -- ---- it wasn't done
 
@@ -129,10 +121,10 @@ module _ (disk : Shown) (pool : Pool) (states : States) (mid : Shown) (held : Po
       (subst (λ (xs : States). StillHeld disk pool states mid held xs) (sym g) (record { placed = placed; stands = stands; ready = ready })))
 
   pub still_after : {T : Type 0} (shown : T → Shown) (a b : T) → shown a ≡ mid → AreReady mid held between → StandsOn mid held.store.pairs → (left : Pool) (stay : States) (e : BlockFault) → IsCalm a b e → LeavesAll mid held between (shown b) left stay e
-      → HasBlockCause {T = Unit {0}} mid.write_faults (shown b).write_faults (Err e) → (Rose disk.write_faults (shown b).write_faults → ⊥) → StillHeld disk pool states (shown b) left stay
-  still_after shown a b at ready stands left stay DiskFault calm leaves cause calmly = absurd (calmly (subst (λ (n : ℕ). Rose n (shown b).write_faults) placed.only_reads.write_faults cause))
-  still_after shown a b at ready stands left stay (Damaged what want found) calm leaves cause calmly = still_placed ready (shown b) left stay (ap shown calm ∙ at) leaves.1.0 leaves.1.1 stands
-  still_after shown a b at ready stands left stay Memory calm leaves cause calmly = still_placed ready (shown b) left stay (ap shown calm ∙ at) leaves.1.0 leaves.1.1 stands
+      → IsStill disk pool states (shown b) left stay (of_block e)
+  still_after shown a b at ready stands left stay DiskFault calm leaves = tt
+  still_after shown a b at ready stands left stay (Damaged what want found) calm leaves = still_placed ready (shown b) left stay (ap shown calm ∙ at) leaves.1.0 leaves.1.1 stands
+  still_after shown a b at ready stands left stay Memory calm leaves = still_placed ready (shown b) left stay (ap shown calm ∙ at) leaves.1.0 leaves.1.1 stands
 
   -- ---- the counts
 
@@ -171,16 +163,31 @@ module _ (disk : Shown) (pool : Pool) (states : States) (mid : Shown) (held : Po
       let blocks = room.blocks in
       absurd (omega (arith, lacks.1.0, lacks.1.1.0, lacks.1.1.1, spent.blocks, asked, blocks))
 
+  -- why it wasn't done, with the files in their places
+  pub fails_left : (new : Shown) (left : Pool) (stay : States) (e : BlockFault) → LacksRoom held between e → LeavesAll mid held between new left stay e → WholeFails states left stay (of_block e)
+  fails_left new left stay DiskFault lacks leaves = tt
+  fails_left new left stay Memory lacks leaves = absurd lacks
+  fails_left new left stay (Damaged at want found) lacks leaves =
+      inl (subst (λ (p : Pool). LacksRoom p stay (Damaged at want found)) (sym leaves.1.0) (subst (λ (xs : States). LacksRoom held xs (Damaged at want found)) (sym leaves.1.1) lacks))
+
 -- ---- the files weren't placed
 
-place_cause : (disk : Shown) (e : VolumeFault) → IsPlaceFault e → HasWholeCause disk disk (Err e)
-place_cause disk (volume.Refused r) fault = absurd fault
-place_cause disk volume.DiskFault fault = absurd fault
-place_cause disk (volume.Damaged at want found) fault = (refl, refl)
-place_cause disk volume.Memory fault = (refl, refl)
+-- a flush fails by damage or for want of memory
+of_fault : (P : VolumeFault → Type 0) → ((at want found : ℕ) → P (volume.Damaged at want found)) → P volume.Memory → (e : VolumeFault) → IsPlaceFault e → P e
+of_fault P damaged memory (volume.Refused r) fault = absurd fault
+of_fault P damaged memory volume.DiskFault fault = absurd fault
+of_fault P damaged memory (volume.Damaged at want found) fault = damaged at want found
+of_fault P damaged memory volume.Memory fault = memory
+
+-- what was placed of the files stays
+pub still_placing : (disk : Shown) (pool : Pool) (states : States) (left : Pool) (stay : States) (e : VolumeFault) → IsPlaceFault e → StillHeld disk pool states disk left stay → IsStill disk pool states disk left stay e
+still_placing disk pool states left stay e fault still = of_fault (IsStill disk pool states disk left stay) (λ at want found. still) still e fault
+
+pub fails_placed : (states : States) (left : Pool) (stay : States) (e : VolumeFault) → IsPlaceFault e → (HaveNoFiles states → ⊥) → WholeFails states left stay e
+fails_placed states left stay e fault filed = of_fault (WholeFails states left stay) (λ at want found. inr filed) filed e fault
 
 pub counts_placed : (disk : Shown) (e : VolumeFault) → IsPlaceFault e → WholeCounts disk disk (Err e)
-counts_placed disk e fault = record { tells = refl; given = refl; ends = refl; cause = place_cause disk e fault }
+counts_placed disk e fault = record { tells = refl; given = refl; ends = refl; cause = of_fault (λ e. HasWholeCause disk disk (Err e)) (λ at want found. (refl, refl)) (refl, refl) e fault }
 
 pub no_damage : (e : VolumeFault) → e ≡ volume.Memory → IsNoDamage e
 no_damage e is = subst IsNoDamage (sym is) tt

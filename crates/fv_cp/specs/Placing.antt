@@ -1,5 +1,5 @@
 -- What the placing of files leaves of a session: of one volume, and of all.
-use Rattle.std.specs.Prelude.{◌≡◌, ◌<◌, ◌≤◌, ◌+◌, ℕ, Option, Some, None, IfSome}
+use Rattle.std.specs.Prelude.{◌≡◌, ◌<◌, ◌≤◌, ◌+◌, ℕ, true, Option, Some, None, is_some, IfSome}
 use Rattle.std.specs.List.{sum_by}
 use Rattle.std.specs.Option.{option_map}
 use Rattle.fv_disk.specs.Shown.{Shown}
@@ -31,10 +31,10 @@ abbrev pub PlacesSlot : Shown → Pool → States → ℕ → Option VolumeState
 PlacesSlot disk pool states s None after left stay = Unit {0}
 PlacesSlot disk pool states s (Some x) after left stay = IsSlotPlaced disk pool states s x after left stay
 
--- With a number and a block more than are pending, only memory can be lacking. Nothing fails without a volume.
+-- With a number and a block more than are pending, only memory can be lacking. Nothing fails without a volume that has files in memory.
 abbrev pub MayFail : Shown → Pool → Option VolumeState → VolumeFault → Type 0
 MayFail disk pool None e = ⊥
-MayFail disk pool (Some x) e = IsStanding disk pool x → pending_of x.files < free_numbers x.map → pending_of x.files < free_blocks pool.map → e ≡ Memory
+MayFail disk pool (Some x) e = (is_some x.files ≡ true) × (IsStanding disk pool x → pending_of x.files < free_numbers x.map → pending_of x.files < free_blocks pool.map → e ≡ Memory)
 
 -- ---- all volumes
 
@@ -42,7 +42,7 @@ MayFail disk pool (Some x) e = IsStanding disk pool x → pending_of x.files < f
 abbrev pub pending_files : States → ℕ
 pending_files states = sum_by pending_by states
 
--- Each volume has more free numbers than blocks are pending, and more blocks are free than are pending.
+-- Each volume with files in memory has more free numbers than blocks are pending, and more blocks are free than are pending.
 pub record HaveRoom (pool : Pool) (states : States) : Type 0 where
   pub numbers : (s : ℕ) → HasNumbers (state_at states s)
   pub blocks : pending_files states < free_blocks pool.map
@@ -57,6 +57,10 @@ pub record HaveSpent (pool : Pool) (states : States) (left : Pool) (stay : State
 abbrev pub AreReady : Shown → Pool → States → Type 0
 AreReady disk pool states = (s : ℕ) → IfSome (state_at states s) (IsReadyIn disk pool s)
 
+-- no volume has files in memory
+abbrev pub HaveNoFiles : States → Type 0
+HaveNoFiles states = (s : ℕ) → HasNoFiles (state_at states s)
+
 -- so much stays of each
 abbrev pub KeepCores : States → States → Type 0
 KeepCores states stay = (s : ℕ) → option_map core_of (state_at stay s) ≡ option_map core_of (state_at states s)
@@ -68,12 +72,14 @@ pub record ArePlaced (disk : Shown) (pool : Pool) (states : States) (after : Sho
   pub machine : (before : Machine) → IsHeld disk pool states before → machine_held after left stay ≡ machine_held disk pool states
   pub fit : FitTogether left stay
   pub found : left.found ≡ pool.found
+  -- the map of the root that counts stays; the next root's may differ
+  pub committed : left.map.committed ≡ pool.map.committed
   pub cores : KeepCores states stay
   -- what a point asks for stays
   pub asked : blocks_asked stay ≡ blocks_asked states
   pub spent : (before : Machine) → IsHeld disk pool states before → HaveRoom pool states → HaveSpent pool states left stay
   pub only_reads : OnlyReads disk after
-  pub idle : ((s : ℕ) → HasNoFiles (state_at states s)) → (left ≡ pool) × (stay ≡ states)
+  pub idle : HaveNoFiles states → (left ≡ pool) × (stay ≡ states)
 
 -- Nothing is refused or read.
 abbrev pub IsPlaceFault : VolumeFault → Type 0

@@ -1,5 +1,5 @@
 -- What a consistency point does in front of which the files of all volumes are placed.
-use Rattle.std.specs.Prelude.{◌≡◌, ◌<◌, ◌+◌, ◌⊎◌, ℕ, false, List, Some, Result, Ok, Err, IfSome, IsTrue}
+use Rattle.std.specs.Prelude.{◌≡◌, ◌≤◌, ◌<◌, ◌+◌, ◌⊎◌, ℕ, false, List, Some, Result, Ok, Err, IfSome, IsTrue}
 use Rattle.std.specs.FinMap as fin
 use Rattle.fv_disk.specs.Shown.{Image, IsSettled, Rose, Shown}
 use Rattle.fv_model.specs.Machines.{Machine}
@@ -18,7 +18,9 @@ use Rattle.fv_volume.specs.declared.pool.Pool.{Pool}
 use Rattle.fv_volume.specs.States.{States, state_at}
 use Rattle.fv_cp.specs.Held.{machine_held, IsHeld}
 use Rattle.fv_cp.specs.Lent.{blocks_asked, FitTogether}
-use Rattle.fv_cp.specs.Placing.{pending_files, ArePlaced, AreReady, HasNoFiles, HasNumbers, KeepCores}
+use Rattle.fv_disk.specs.declared.fault.BlockFault.TheVariants as block
+use Rattle.fv_cp.specs.Placing.{pending_files, ArePlaced, AreReady, HasNumbers, HaveNoFiles, KeepCores}
+use Rattle.fv_cp.specs.Points.{LacksRoom}
 
 -- an image stands for the machine of the last point, or for that of the session
 abbrev pub OldOrHeld : Shown → Pool → States → Machine → Image → List ℕ → Type 0
@@ -35,25 +37,33 @@ pub record IsHeldPoint (old : Shown) (pool : Pool) (states : States) (new : Show
   pub reclaimed : delayed (view_at (root_found left.found) new.reads) ≡ 0
 
 -- What it leaves of any disk, and of any volumes: the cache tells what the disk reads, the root and the map in memory are those of the new root,
--- all fits together as the next point needs it, no file is in memory, calls can be made on each volume, and of each only that is new which
--- placing and a point change.
+-- all fits together as the next point needs it, no file is in memory and nothing of a volume waits to be written, calls can be made on each
+-- volume, and of each only that is new which placing and a point change.
 pub record GoesOnWhole (old : Shown) (pool : Pool) (states : States) (new : Shown) (left : Pool) (stay : States) : Type 0 where
   pub stands : StandsOn new left.store.pairs
   pub found : IsTrue old.tells → IsFoundOn new left.found
   pub loaded : IsTrue old.tells → IsMapLoaded new.reads left.found left.map
   pub fit : FitTogether left stay
   pub ready : AreReady new left stay
-  pub none : (s : ℕ) → HasNoFiles (state_at stay s)
+  pub none : HaveNoFiles stay
+  pub unchanged : (s : ℕ) → IfSome (state_at stay s) (λ x. x.changed ≡ false)
   pub unkept : left.kept ≡ fin.empty
   pub cores : KeepCores states stay
   pub parents : (s : ℕ) → parent_at left.containers s ≡ parent_at pool.containers s
   pub blocks : left.found.blocks ≡ pool.found.blocks
 
--- What is left where it wasn't done, but for want of a write or a barrier: some files may have been placed. The volumes are what they were.
+-- What is left where it wasn't done for want of blocks, numbers or memory: some files may have been placed. The volumes are what they were.
 pub record StillHeld (old : Shown) (pool : Pool) (states : States) (new : Shown) (left : Pool) (stay : States) : Type 0 where
   pub placed : ArePlaced old pool states new left stay
   pub stands : StandsOn new left.store.pairs
   pub ready : AreReady new left stay
+
+-- So it is after each fault but one of the disk.
+abbrev pub IsStill : Shown → Pool → States → Shown → Pool → States → VolumeFault → Type 0
+IsStill old pool states new left stay (Refused r) = ⊥
+IsStill old pool states new left stay DiskFault = Unit {0}
+IsStill old pool states new left stay (Damaged at want found) = StillHeld old pool states new left stay
+IsStill old pool states new left stay Memory = StillHeld old pool states new left stay
 
 -- Both counts of faults rose where a write or barrier failed, and stay elsewhere. Nothing is refused.
 abbrev pub HasWholeCause : Shown → Shown → Result Unit VolumeFault → Type 0
@@ -63,6 +73,13 @@ HasWholeCause old new (Err DiskFault) = Rose old.faults new.faults × Rose old.w
 HasWholeCause old new (Err (Damaged at want found)) = (new.faults ≡ old.faults) × (new.write_faults ≡ old.write_faults)
 HasWholeCause old new (Err Memory) = (new.faults ≡ old.faults) × (new.write_faults ≡ old.write_faults)
 
+-- Why such a point isn't done. Fewer blocks are free than it asks for, with the files in their places; or a file was in memory that wasn't placed.
+abbrev pub WholeFails : States → Pool → States → VolumeFault → Type 0
+WholeFails states left stay (Refused r) = ⊥
+WholeFails states left stay DiskFault = Unit {0}
+WholeFails states left stay (Damaged at want found) = LacksRoom left stay (block.Damaged at want found) ⊎ (HaveNoFiles states → ⊥)
+WholeFails states left stay Memory = HaveNoFiles states → ⊥
+
 -- what is told and given and the ends of a host stay
 pub record WholeCounts (old new : Shown) (result : Result Unit VolumeFault) : Type 0 where
   pub tells : new.tells ≡ old.tells
@@ -70,10 +87,11 @@ pub record WholeCounts (old new : Shown) (result : Result Unit VolumeFault) : Ty
   pub ends : new.ends ≡ old.ends
   pub cause : HasWholeCause old new result
 
--- With so many free numbers in each volume, and so many free blocks, no damage is answered.
+-- With so many free numbers in each volume with files in memory, and so many free blocks, no damage is answered.
 pub record HaveFullRoom (pool : Pool) (states : States) : Type 0 where
   pub numbers : (s : ℕ) → HasNumbers (state_at states s)
-  pub blocks : blocks_asked states + pending_files states < free_blocks pool.map
+  pub free : pending_files states < free_blocks pool.map
+  pub blocks : blocks_asked states + pending_files states ≤ free_blocks pool.map
 
 abbrev pub IsNoDamage : VolumeFault → Type 0
 IsNoDamage (Refused r) = Unit {0}

@@ -1,8 +1,7 @@
 //! A consistency point of all that changed, files included.
 
-ghost use Rattle.std.specs.Prelude.{◌≡◌, IsTrue, IfErr, OnOk, OnErr};
+ghost use Rattle.std.specs.Prelude.{◌≡◌, IsTrue, IfErr, OnOk};
 ghost use Rattle.fv_disk.specs.Crash.{Leaves};
-ghost use Rattle.fv_disk.specs.Shown.{Rose};
 ghost use Rattle.fv_model.specs.Machines.{Machine};
 ghost use Rattle.fv_root.specs.Commits.{IsFoundOn};
 ghost use Rattle.fv_store.specs.Held.{StandsOn};
@@ -10,7 +9,7 @@ ghost use Rattle.fv_container.specs.Chains.{IsSlots, container_at, with_containe
 ghost use Rattle.fv_cp.specs.Held.{IsHeld};
 ghost use Rattle.fv_cp.specs.Lent.{FitTogether};
 ghost use Rattle.fv_cp.specs.Placing.{AreReady};
-ghost use Rattle.fv_cp.specs.Settling.{GoesOnWhole, HaveFullRoom, IsHeldPoint, IsNoDamage, OldOrHeld, StillHeld, WholeCounts};
+ghost use Rattle.fv_cp.specs.Settling.{GoesOnWhole, HaveFullRoom, IsHeldPoint, IsNoDamage, IsStill, OldOrHeld, WholeCounts, WholeFails};
 
 use crate::placing::flush;
 use crate::point::consistency_point;
@@ -28,8 +27,9 @@ use fv_volume::{Pool, VolumeFault, Volumes};
 /// `DiskFault` comes only where a write or a barrier failed in this call; of what is in memory nothing is said then, and of images as above.
 /// After every other fault the volumes are what they were, and stand for the machine that they stood for, so that they can be changed further
 /// and a later point can write them. `Damaged` and `Memory` come as in `flush`, and `Damaged` where fewer blocks are free than a point asks
-/// for. Volumes that stand for a machine, with more free numbers than are pending, are never `Damaged` where more blocks are free than are
-/// pending and asked for. Nothing is `Refused`.
+/// for. Without a file in memory `Memory` doesn't come, and `Damaged` for want of blocks alone. Volumes that stand for a machine, with more
+/// free numbers than are pending where files are in memory, are never `Damaged` where as many blocks are free as are pending and asked for,
+/// and more than are pending. Nothing is `Refused`.
 ///
 /// Costs what the two calls cost.
 pub fn full_point<D: Disk>(
@@ -47,11 +47,11 @@ pub fn full_point<D: Disk>(
     ensures point { IsTrue (D.shown disk.old).tells → (before : Machine) → IsHeld (D.shown disk.old) pool.old volumes.old before
         → OnOk result (IsHeldPoint (D.shown disk.old) pool.old volumes.old (D.shown disk.new) pool.new volumes.new) }
     ensures goes_on { OnOk result (GoesOnWhole (D.shown disk.old) pool.old volumes.old (D.shown disk.new) pool.new volumes.new) }
-    ensures still { OnErr result (¬ Rose (D.shown disk.old).write_faults (D.shown disk.new).write_faults
-        → StillHeld (D.shown disk.old) pool.old volumes.old (D.shown disk.new) pool.new volumes.new) }
+    ensures still { IfErr result (IsStill (D.shown disk.old) pool.old volumes.old (D.shown disk.new) pool.new volumes.new) }
     ensures enough { IsTrue (D.shown disk.old).tells → (before : Machine) → IsHeld (D.shown disk.old) pool.old volumes.old before
         → HaveFullRoom pool.old volumes.old → IfErr result IsNoDamage }
     ensures counts { WholeCounts (D.shown disk.old) (D.shown disk.new) result }
+    ensures fails { IfErr result (WholeFails volumes.old pool.new volumes.new) }
 {
     flush(volumes, pool, &*disk)?;
     consistency_point(volumes, pool, disk, want)?;

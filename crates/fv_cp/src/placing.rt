@@ -10,7 +10,7 @@ ghost use Rattle.fv_cp.specs.Lent.{FitTogether};
 ghost use Rattle.fv_model.specs.Machines.{Machine};
 ghost use Rattle.fv_volume.specs.declared.fault.VolumeFault.TheVariants.{Memory};
 ghost use Rattle.fv_cp.specs.Held.{IsHeld};
-ghost use Rattle.fv_cp.specs.Placing.{ArePlaced, AreReady, HasNoFiles, HasWholeMap, HaveRoom, IsPlaceFault, IsPlacedAs, IsReadyIn, MayFail, PlacesSlot};
+ghost use Rattle.fv_cp.specs.Placing.{ArePlaced, AreReady, HasNoFiles, HasWholeMap, HaveNoFiles, HaveRoom, IsPlaceFault, IsPlacedAs, IsReadyIn, MayFail, PlacesSlot};
 
 use fv_disk::Disk;
 use fv_volume::{Pool, VolumeFault, VolumeState, Volumes};
@@ -24,8 +24,8 @@ const SLOTS: u8 = 64;
 ///
 /// # Errors
 /// `Damaged` and `Memory` come as in `VolumeState::flush`, for the volume of the least slot that they come for. Where volumes stand for a
-/// machine, and each has more free numbers, and the aggregate more free blocks, than are pending, only `Memory` comes. Nothing is `Refused`,
-/// and `DiskFault` doesn't come.
+/// machine, and each with files in memory has more free numbers, and the aggregate more free blocks, than are pending, only `Memory` comes.
+/// Nothing is `Refused`, and `DiskFault` doesn't come. Without a file in memory no fault comes.
 ///
 /// Costs what the flush of each volume costs with files in memory, and for each of these a step for each number of its span.
 pub fn flush<D: Disk>(volumes: &mut Volumes, pool: &mut Pool, disk: &D) -> Result<(), VolumeFault>
@@ -39,6 +39,7 @@ pub fn flush<D: Disk>(volumes: &mut Volumes, pool: &mut Pool, disk: &D) -> Resul
     ensures ready { AreReady (D.shown disk.now) pool.new volumes.new }
     ensures enough { (before : Machine) → IsHeld (D.shown disk.now) pool.old volumes.old before → HaveRoom pool.old volumes.old → IfErr result (λ e. e ≡ Memory) }
     ensures cause { IfErr result IsPlaceFault }
+    ensures filed { IfErr result (λ e. HaveNoFiles volumes.old → ⊥) }
 {
     for slot in 0..SLOTS {
         flush_slot(volumes, pool, disk, slot)?;

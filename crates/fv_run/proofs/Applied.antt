@@ -1,9 +1,9 @@
 -- A line is applied.
-use Rattle.std.proofs.Common.{◌≡◌, ◌≢◌, ℕ, inl, inr, Bool, true, false, cond, [], ◌∷◌, refl, sym, subst, ap, ◌∙◌, arith}
+use Rattle.std.proofs.Common.{◌≡◌, ◌≢◌, ℕ, inl, inr, Bool, true, false, cond, List, [], ◌∷◌, refl, sym, subst, ap, ◌∙◌, arith}
+use Rattle.std.proofs.lemmas.Bool.{both_ways}
 use Rattle.std.proofs.lemmas.Bool.Decides.{nat_tests}
-use Rattle.fv_model.specs.Space.{overhead, span_of}
-use Rattle.std.specs.Prelude.{nat_lt, None, Ok, Err, IsTrue, IsNone}
-use Rattle.fv_disk.specs.Shown.{Image, Shown, IsDisk, Ends, Rose}
+use Rattle.std.specs.Prelude.{◌||◌, is_some, nat_lt, Option, Some, None, Ok, Err, IsTrue, IsNone}
+use Rattle.fv_disk.specs.Shown.{Shown, IsDisk, Ends, Rose}
 use Rattle.fv_disk.specs.Crash.{Leaves}
 use Rattle.fv_disk.proofs.Moments.{started}
 use Rattle.fv_model.specs.declared.answers.Refusal.TheVariants.{Syntax, Range}
@@ -22,17 +22,17 @@ use Rattle.fv_lines.proofs.Counting.{counts_none}
 use Rattle.fv_aggregate.specs.declared.fault.Fault.{Fault as SessionFault}
 use Rattle.fv_aggregate.specs.declared.fault.Fault.TheVariants as session_fault
 use Rattle.fv_aggregate.specs.declared.session.Session.{Session}
-use Rattle.fv_aggregate.specs.Asking.{IsShort}
-use Rattle.fv_aggregate.specs.Calls.{Goes, GoesFor}
-use Rattle.fv_aggregate.specs.Commands.{is_built, machine_after, Replies, RepliesBy, room_of}
-use Rattle.fv_aggregate.specs.Standing.{OneOf, StandsAfter, StandsFor}
+use Rattle.fv_aggregate.specs.Calls.{Goes, GoesFor, KeepsAsking}
+use Rattle.fv_aggregate.specs.Calls as calls
+use Rattle.fv_aggregate.specs.Commands.{changed_by, is_built, machine_after, reads_files, Replies, RepliesBy, room_of}
+use Rattle.fv_aggregate.specs.Standing.{IsWithoutFiles, OneOf, StandsAfter, StandsFor}
 use Rattle.fv_run.specs.declared.ending.Fault.{Fault}
 use Rattle.fv_run.specs.declared.ending.Fault.TheVariants.{Disk, Memory, Damaged}
 use Rattle.fv_run.specs.Endings.{count_of, of_session, IsWholeFault}
 use Rattle.fv_run.specs.Built.{built}
-use Rattle.fv_run.specs.Running.{asks_point, IsRoomIn}
+use Rattle.fv_run.specs.Running.{asks_point, changes_files, IsRoomIn, reads_blocks}
 use Rattle.fv_run.specs.Answering.{Applies, IsReady, IsSessionFault}
-use Rattle.fv_run.proofs.Sessions.{images_stand, never_failed}
+use Rattle.fv_run.proofs.Sessions.{images_stand, lacks, never_failed}
 
 -- ---- a command, built or not
 
@@ -87,21 +87,85 @@ after_cp : (m : Machine) → machine_after m Cp ≡ m
 unfolding machine_after is_built conditions change_of
 after_cp m = refl
 
+-- what isn't built adds no block and changes no file
+unbuilt_room : (c : Command) → is_built c ≡ false → room_of c ≡ 0
+unfolding is_built room_of
+unbuilt_room (VolCreate v size kind) e = absurd cc
+unbuilt_room (New v f reserve) e = rw e refl
+unbuilt_room (Put v f i block) e = absurd cc
+unbuilt_room (Cut v f length) e = absurd cc
+unbuilt_room (Remove v f) e = absurd cc
+unbuilt_room c e = refl
+
+unbuilt_change : (c : Command) → is_built c ≡ false → changed_by c ≡ None
+unfolding is_built
+unbuilt_change (New v f reserve) e = rw e refl
+unbuilt_change (Put v f i block) e = absurd cc
+unbuilt_change (Cut v f length) e = absurd cc
+unbuilt_change (Remove v f) e = absurd cc
+unbuilt_change c e = refl
+
+cp_built : is_built Cp ≡ true
+unfolding is_built
+cp_built = refl
+
+-- what reads files is built
+built_reads : (c : Command) → reads_files c ≡ true → is_built c ≡ true
+unfolding is_built reads_files
+built_reads (New v f reserve) e = e
+built_reads (Put v f i block) e = refl
+built_reads (Get v s f i) e = refl
+built_reads (Len v s f) e = refl
+built_reads (Cut v f length) e = refl
+built_reads (Remove v f) e = refl
+built_reads (Ls v s) e = refl
+built_reads c e = absurd cc
+
 -- the room of a command is that of its line
 room_said : (c : Command) → IsRoomIn (built (Says c) ∷ []) (room_of c)
-unfolding is_built room_of
-room_said (VolCreate v size kind) = inr (VolCreate v size kind, (0, omega arith, refl), refl)
-room_said c = inl refl
+room_said c = so (is_built c) refl
+  where
+    so : (is : Bool) → is_built c ≡ is → IsRoomIn (cond is (Says c) NoCommand ∷ []) (room_of c)
+    so true e = inr (c, (0, omega arith, refl), refl)
+    so false e = inl (unbuilt_room c e)
 
 -- a line that asks for no point says no `cp`, and no command with room
 quiet : (c : Command) → asks_point (built (Says c)) ≡ false → (c ≢ Cp) × (room_of c ≡ 0)
-unfolding is_built room_of
-quiet (VolCreate v size kind) none = (λ e. cc, nothing (overhead (span_of size 0 0)) none)
+quiet c none = so (is_built c) refl none
   where
+    neither : (a b : Bool) → (a || b) ≡ false → (a ≡ false) × (b ≡ false)
+    neither true b e = absurd cc
+    neither false b e = (refl, e)
+
     nothing : (n : ℕ) → nat_lt 0 n ≡ false → n ≡ 0
     nothing n e = grind (arith, nat_tests)
-quiet Cp none = absurd cc
-quiet c none = (λ e. cc, refl)
+
+    is_point : c ≡ Cp → is_cp (Says c) ≡ true
+    is_point e = ap (λ (c : Command). is_cp (Says c)) e
+
+    built_point : c ≡ Cp → is_built c ≡ true
+    built_point e = ap is_built e ∙ cp_built
+
+    so : (is : Bool) → is_built c ≡ is → asks_point (cond is (Says c) NoCommand) ≡ false → (c ≢ Cp) × (room_of c ≡ 0)
+    so true e none =
+        let parts = neither (is_cp (Says c)) (nat_lt 0 (room_of c)) none in
+        (λ is. both_ways _ parts.0 (is_point is), nothing (room_of c) parts.1)
+    so false e none = (λ is. both_ways _ e (built_point is), unbuilt_room c e)
+
+-- a line reads files where its command does, and changes them where its command does
+reads_said : (c : Command) → reads_files c ≡ true → reads_blocks (built (Says c)) ≡ true
+reads_said c e = ap (λ (is : Bool). reads_blocks (cond is (Says c) NoCommand)) (built_reads c e) ∙ e
+
+changes_said : (c : Command) → changes_files (built (Says c)) ≡ false → changed_by c ≡ None
+changes_said c none = so (is_built c) refl none
+  where
+    no_volume : (volume : Option (List ℕ)) → is_some volume ≡ false → volume ≡ None
+    no_volume None e = refl
+    no_volume (Some v) e = absurd cc
+
+    so : (is : Bool) → is_built c ≡ is → changes_files (cond is (Says c) NoCommand) ≡ false → changed_by c ≡ None
+    so true e none = no_volume (changed_by c) none
+    so false e none = unbuilt_change c e
 
 -- ---- what a line says
 
@@ -140,7 +204,8 @@ no_change session line reply host laws ready no_point allowed stays = record {
   no_damage = λ tells last m stands. tt;
   ready = ready;
   ends = tt;
-  asks = λ tells room asks. (0, inl refl, record { asked = asks.asked; pending = omega (arith, asks.pending) });
+  files = λ tells same none. none;
+  asks = λ tells same room asks. (0, inl refl, record { asked = asks.asked; pending = omega (arith, asks.pending) });
   given = refl;
   left = refl;
   counts = counts_none host;
@@ -169,13 +234,18 @@ module _ (session new_session : Session) (line : Line) (command : Command) (old 
   calm_by : (command ≢ Cp → room_of command ≡ 0 → new.reads ≡ old.reads) → asks_point (built line) ≡ false → new.reads ≡ old.reads
   calm_by calm none = let is = quiet command (subst (λ (l : Line). asks_point (built l) ≡ false) says none) in calm is.0 is.1
 
+  same_by : changes_files (built line) ≡ false → changed_by command ≡ None
+  same_by none = changes_said command (subst (λ (l : Line). changes_files (built l) ≡ false) says none)
+
   -- the command was carried out, or refused
   pub applied : (reply : Reply) → (command ≢ Cp → room_of command ≡ 0 → new.reads ≡ old.reads) → Goes (room_of command) old session new new_session (Ok reply)
+      → (changed_by command ≡ None → KeepsAsking (room_of command) old session new new_session)
+      → (IsTrue old.tells → changed_by command ≡ None → IsWithoutFiles session → IsWithoutFiles new_session)
       → (IsTrue old.tells → (last m : Machine) → StandsFor old session last m → GoesFor {T = Reply} old last m (machine_after m command) new new_session (Ok reply))
       → (IsTrue old.tells → (last m : Machine) → StandsFor old session last m → Replies m command reply)
       → (IsTrue old.tells → (last m : Machine) → StandsFor old session last m → command ≡ Cp → StandsFor new new_session m m)
       → Applies session (built line) old new_session new (Ok reply)
-  applied reply calm goes goes_for replies point = record {
+  applied reply calm goes keeps files goes_for replies point = record {
     done = λ tells last m so_far. (
       subst (λ (l : Line). AllowsAt m (built l) reply) (sym says) (allowed_built m command reply (replies tells last m so_far)),
       record {
@@ -188,7 +258,8 @@ module _ (session new_session : Session) (line : Line) (command : Command) (old 
     no_damage = λ tells last m so_far. tt;
     ready = record { unfailed = goes.done.goes_on; stands = goes.stands goes.done.goes_on };
     ends = tt;
-    asks = λ tells room asks. (room_of command, subst (λ (l : Line). IsRoomIn (built l ∷ []) (room_of command)) (sym says) (room_said command), goes.asks tells room asks goes.done.goes_on);
+    files = λ tells same none. files tells (same_by same) none;
+    asks = λ tells same room asks. (room_of command, subst (λ (l : Line). IsRoomIn (built l ∷ []) (room_of command)) (sym says) (room_said command), keeps (same_by same) tells room asks goes.done.goes_on);
     given = goes.ends.given;
     left = ap (λ (e : Ends). e.left) goes.ends.ends;
     counts = record { tells = goes.ends.tells; source = ap (λ (e : Ends). e.source_faults) goes.ends.ends; sink = ap (λ (e : Ends). e.sink_faults) goes.ends.ends; disk = goes.done.counts.faults };
@@ -203,7 +274,7 @@ module _ (session new_session : Session) (line : Line) (command : Command) (old 
   module _ (calm : command ≢ Cp → room_of command ≡ 0 → new.reads ≡ old.reads) (fault : SessionFault) (goes : Goes {T = Reply} (room_of command) old session new new_session (Err fault))
       (goes_for : IsTrue old.tells → (last m : Machine) → StandsFor old session last m → GoesFor {T = Reply} old last m (machine_after m command) new new_session (Err fault)) where
     stopped_by : (end : Fault) → Counts old new (count_of end) → (¬ Rose old.write_faults new.write_faults → IsNone new_session.failed)
-        → (IsTrue old.tells → (last m : Machine) → StandsFor old session last m → IsWholeFault end) → IsSessionFault old session new end → Applies session (built line) old new_session new (Err end)
+        → (IsTrue old.tells → (last m : Machine) → StandsFor old session last m → IsWholeFault end) → IsSessionFault (built line) old session new end → Applies session (built line) old new_session new (Err end)
     stopped_by end counts lives no_damage ends = record {
       done = λ tells last m so_far. tt;
       any_moment = λ tells last m so_far. subst (λ (x : Machine). Leaves old new (λ c g. OneOf last m x c × (g ≡ old.given))) (after_is m) (goes_for tells last m so_far).any_moment;
@@ -211,7 +282,8 @@ module _ (session new_session : Session) (line : Line) (command : Command) (old 
       no_damage = no_damage;
       ready = tt;
       ends = ends;
-      asks = λ tells room asks. tt;
+      files = λ tells same none. tt;
+      asks = λ tells same room asks. tt;
       given = goes.ends.given;
       left = ap (λ (e : Ends). e.left) goes.ends.ends;
       counts = counts;
@@ -222,15 +294,24 @@ module _ (session new_session : Session) (line : Line) (command : Command) (old 
     no_count : new.faults ≡ old.faults → Counts old new None
     no_count same = record { tells = goes.ends.tells; source = ap (λ (e : Ends). e.source_faults) goes.ends.ends; sink = ap (λ (e : Ends). e.sink_faults) goes.ends.ends; disk = same }
 
+  -- damage in a line
+  damaged : (at want found : ℕ) → (reads_files command ≡ false → calls.IsForWant old session new new_session (session_fault.Damaged at want found)) → IsSessionFault (built line) old session new Damaged
+  damaged at want found plain = so (reads_files command) refl
+    where
+      so : (reads : Bool) → reads_files command ≡ reads → IsSessionFault (built line) old session new Damaged
+      so true e = inl (ap (λ (l : Line). reads_blocks (built l)) says ∙ reads_said command e)
+      so false e = inr (lacks old new session new_session at want found (plain e))
+
   pub unapplied : (command ≢ Cp → room_of command ≡ 0 → new.reads ≡ old.reads) → (fault : SessionFault) → Goes {T = Reply} (room_of command) old session new new_session (Err fault)
+      → (reads_files command ≡ false → calls.IsForWant old session new new_session fault)
       → (IsTrue old.tells → (last m : Machine) → StandsFor old session last m → GoesFor {T = Reply} old last m (machine_after m command) new new_session (Err fault))
       → Applies session (built line) old new_session new (Err (of_session fault))
-  unapplied calm session_fault.DiskFault goes goes_for = stopped_by calm session_fault.DiskFault goes goes_for Disk
+  unapplied calm session_fault.DiskFault goes plain goes_for = stopped_by calm session_fault.DiskFault goes goes_for Disk
       (record { tells = goes.ends.tells; source = ap (λ (e : Ends). e.source_faults) goes.ends.ends; sink = ap (λ (e : Ends). e.sink_faults) goes.ends.ends; disk = goes.fault.counts.faults })
       goes.fault.session.by_read (λ tells last m so_far. tt) tt
-  unapplied calm session_fault.Memory goes goes_for = stopped_by calm session_fault.Memory goes goes_for Memory (no_count calm session_fault.Memory goes goes_for goes.fault.counts.faults) (λ calm. goes.fault.session) (λ tells last m so_far. tt) tt
-  unapplied calm (session_fault.Damaged at want found) goes goes_for = stopped_by calm (session_fault.Damaged at want found) goes goes_for Damaged (no_count calm (session_fault.Damaged at want found) goes goes_for goes.fault.counts.faults)
-      (λ calm. subst (λ (s : Session). IsNone s.failed) (sym goes.fault.session) ready.unfailed)
+  unapplied calm session_fault.Memory goes plain goes_for = stopped_by calm session_fault.Memory goes goes_for Memory (no_count calm session_fault.Memory goes goes_for goes.fault.counts.faults) (λ calm. goes.fault.session) (λ tells last m so_far. tt) tt
+  unapplied calm (session_fault.Damaged at want found) goes plain goes_for = stopped_by calm (session_fault.Damaged at want found) goes goes_for Damaged (no_count calm (session_fault.Damaged at want found) goes goes_for goes.fault.counts.faults)
+      (λ calm. goes.fault.session)
       (λ tells last m so_far. absurd (goes_for tells last m so_far).whole)
-      (λ tells room asks. (at, want, found, subst (λ (i : Image). IsShort i room at want found) (sym goes.fault.disk.stays.reads) (goes.fault.reason.image tells room asks)))
-  unapplied calm (session_fault.Failed faults) goes goes_for = absurd (never_failed session.failed faults ready.unfailed goes.fault.reason)
+      (damaged at want found plain)
+  unapplied calm (session_fault.Failed faults) goes plain goes_for = absurd (never_failed session.failed faults ready.unfailed goes.fault.reason)

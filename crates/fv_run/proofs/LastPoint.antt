@@ -20,21 +20,21 @@ use Rattle.fv_lines.proofs.Ends.{whole_append}
 use Rattle.fv_aggregate.specs.declared.fault.Fault.{Fault as SessionFault}
 use Rattle.fv_aggregate.specs.declared.fault.Fault.TheVariants as session_fault
 use Rattle.fv_aggregate.specs.declared.session.Session.{Session}
-use Rattle.fv_aggregate.specs.Asking.{IsShort}
 use Rattle.fv_aggregate.specs.Calls.{Goes, GoesFor}
+use Rattle.fv_aggregate.specs.Calls as calls
 use Rattle.fv_aggregate.specs.Causes.{KeepsEnds}
 use Rattle.fv_aggregate.specs.Standing.{OneOf, StandsFor}
 use Rattle.fv_run.specs.declared.ending.Fault.{Fault}
 use Rattle.fv_run.specs.declared.ending.Fault.TheVariants.{Disk, Memory, Damaged}
 use Rattle.fv_run.specs.Built.{built, lines_built}
 use Rattle.fv_run.specs.Endings.{count_of, IsWholeFault, of_session}
-use Rattle.fv_run.specs.Running.{IsAtRest, IsOverLimit, Survives}
-use Rattle.fv_run.specs.Answering.{HasAnswered, IsAtEnd, IsEndOf, IsLine, TellsLine}
+use Rattle.fv_run.specs.Running.{HasChanged, IsAtRest, IsOverLimit, Survives}
+use Rattle.fv_run.specs.Answering.{AsksFor, HasAnswered, IsAtEnd, IsEndOf, LacksSpace, IsLine, TellsLine}
 use Rattle.fv_run.proofs.Acked.{acked_all, acked_whole, up_to_take}
 use Rattle.fv_run.proofs.Following.{follows_part, follows_whole, full}
 use Rattle.fv_run.proofs.Limits.{all_read}
 use Rattle.fv_run.proofs.Lines.{no_end, one_end}
-use Rattle.fv_run.proofs.Sessions.{images_stand, never_failed, reads_stand, rests_standing_for}
+use Rattle.fv_run.proofs.Sessions.{images_stand, lacks, never_failed, reads_stand, rests_standing_for}
 use Rattle.fv_run.proofs.Surviving.{after_some, after_all, asked_for, part_of_one, rested}
 use Rattle.fv_run.proofs.Answered.{survives, followed}
 use Rattle.fv_run.proofs.Ran.{RanOpen}
@@ -236,22 +236,31 @@ module _ (limit : ℕ) (session : Session) (mid : Shown) (last : Session) (end :
       → (new : Shown) (result : Result Unit Fault) → TellsLine point (done_text count) new result → RanOpen limit session mid new result
   ran_whole next point goes goes_for done new result told = told_whole next point (λ tells before m stands. (goes_for tells before m stands).any_moment) goes.ends done goes.done.counts.faults new result told
 
+  -- a point that lacks blocks lacks them in the image, or for files that a line changed
+  damaged : (point : Shown) → KeepsEnds end point → LacksSpace end last point → IsEndOf limit session mid point Damaged
+  damaged point keeps wants = λ tells within none. ⊎_elim
+      (λ (asks : AsksFor (lines_built mid.ends.left) end last).
+      let short = wants (end_told tells) asks.none asks.room asks.asks in
+      inl (record { room = asks.room; asks = asks.line; at = short.0; want = short.1; found = short.2; short = short.3 }))
+      (λ (changed : HasChanged (lines_built mid.ends.left) count).
+      let read = at_end.stands.reads tells in
+      inr (record { output = read.output; given = keeps.given ∙ read.given; line = inr (subst (λ (n : ℕ). HasChanged (lines_built mid.ends.left) n) (sym read.answered) changed) }))
+      (at_end.stands.asks tells within none)
+
   -- it wasn't made
   pub point_failed : (next : Session) (point : Shown) (fault : SessionFault) → Goes {T = Unit {0}} 0 end last point next (Err fault)
       → (IsTrue end.tells → (before m : Machine) → StandsFor end last before m → GoesFor {T = Unit {0}} end before m m point next (Err fault))
       → (IsTrue end.tells → (before m : Machine) → StandsFor end last before m → IsNone next.failed → StandsFor point next before m)
-      → RanOpen limit session mid point (Err (of_session fault))
-  point_failed next point session_fault.DiskFault goes goes_for kept = point_stopped next point (λ tells before m stands. (goes_for tells before m stands).any_moment) goes.ends Disk
+      → calls.IsForWant end last point next fault → RanOpen limit session mid point (Err (of_session fault))
+  point_failed next point session_fault.DiskFault goes goes_for kept wants = point_stopped next point (λ tells before m stands. (goes_for tells before m stands).any_moment) goes.ends Disk
       (record { tells = goes.ends.tells; source = ap (λ (e : Ends). e.source_faults) goes.ends.ends; sink = ap (λ (e : Ends). e.sink_faults) goes.ends.ends; disk = goes.fault.counts.faults })
       (λ tells before m stands calm. kept tells before m stands (goes.fault.session.by_read calm)) (λ tells m stands. tt) tt
-  point_failed next point session_fault.Memory goes goes_for kept = point_stopped next point (λ tells before m stands. (goes_for tells before m stands).any_moment) goes.ends Memory
+  point_failed next point session_fault.Memory goes goes_for kept wants = point_stopped next point (λ tells before m stands. (goes_for tells before m stands).any_moment) goes.ends Memory
       (record { tells = goes.ends.tells; source = ap (λ (e : Ends). e.source_faults) goes.ends.ends; sink = ap (λ (e : Ends). e.sink_faults) goes.ends.ends; disk = goes.fault.counts.faults })
       (λ tells before m stands calm. kept tells before m stands goes.fault.session) (λ tells m stands. tt) tt
-  point_failed next point (session_fault.Damaged at want found) goes goes_for kept = point_stopped next point (λ tells before m stands. (goes_for tells before m stands).any_moment) goes.ends Damaged
+  point_failed next point (session_fault.Damaged at want found) goes goes_for kept wants = point_stopped next point (λ tells before m stands. (goes_for tells before m stands).any_moment) goes.ends Damaged
       (record { tells = goes.ends.tells; source = ap (λ (e : Ends). e.source_faults) goes.ends.ends; sink = ap (λ (e : Ends). e.sink_faults) goes.ends.ends; disk = goes.fault.counts.faults })
       (λ tells before m stands calm. absurd (goes_for tells before m stands).whole)
       (λ tells m stands. let a = answers tells m stands in absurd (goes_for (end_told tells) (after m (lines_built mid.ends.left) a.point) (after m (lines_built mid.ends.left) count) a.stands).whole)
-      (λ tells within.
-      let asks = at_end.stands.asks tells within in
-      record { room = asks.room; asks = asks.line; at = at; want = want; found = found; short = subst (λ (i : Image). IsShort i asks.room at want found) (sym goes.fault.disk.stays.reads) (goes.fault.reason.image (end_told tells) asks.room asks.asks) })
-  point_failed next point (session_fault.Failed faults) goes goes_for kept = absurd (never_failed last.failed faults at_end.stands.ready.unfailed goes.fault.reason)
+      (damaged point goes.ends (lacks end point last next at want found wants))
+  point_failed next point (session_fault.Failed faults) goes goes_for kept wants = absurd (never_failed last.failed faults at_end.stands.ready.unfailed goes.fault.reason)

@@ -1,4 +1,5 @@
 mod Acked
+mod Admitted
 mod Answered
 mod Applied
 mod Asked
@@ -9,7 +10,9 @@ mod Limits
 mod Lines
 mod Opening
 mod Phrases
+mod Promises
 mod Ran
+mod Resting
 mod Rooms
 mod Sessions
 mod Stepped

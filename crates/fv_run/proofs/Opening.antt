@@ -19,8 +19,10 @@ use Rattle.fv_run.specs.declared.ending.Fault.TheVariants.{NotAggregate, Disk, M
 use Rattle.fv_run.specs.Built.{lines_built}
 use Rattle.fv_run.specs.Endings.{count_of, IsWholeFault, of_opening}
 use Rattle.fv_run.specs.Running.{HasFollowed, HasReason, IsAtRest, IsOverLimit, IsUnopened, Ran, Survives, SurvivesFrom}
+use Rattle.fv_run.proofs.Admitted.{image_is_admitted}
 use Rattle.fv_run.proofs.Acked.{acked_part, up_to_take}
 use Rattle.fv_run.proofs.Following.{follows_first}
+use Rattle.fv_run.proofs.Promises.{are_guaranteed, are_isolated}
 use Rattle.fv_run.proofs.Sessions.{not_damaged}
 use Rattle.fv_run.proofs.Surviving.{after_some}
 use Rattle.fv_run.proofs.Answered.{survives}
@@ -71,6 +73,8 @@ module _ (limit : ℕ) (old mid : Shown) (laws : IsDisk old) (unwritten : IsUnwr
       crash_from = λ tells m is. crash_unsettled m;
       at_rest = λ tells m is calm. rested m (Err fault) is (rest tells calm);
       no_damage = no_damage;
+      isolated = λ tells m is. are_isolated m script (image_is_admitted old.reads m is);
+      guaranteed = λ tells m is. are_guaranteed m script (image_is_admitted old.reads m is);
       counts = counts;
       reason = reason;
       unopened = how;

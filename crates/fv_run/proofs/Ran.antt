@@ -1,5 +1,5 @@
 -- A run of a session that was opened, as one from its beginning.
-use Rattle.std.proofs.Common.{◌≡◌, inr, ℕ, ◌+◌, ◌<◌, ◌≤◌, ◌++◌, List, length, take, sym, ap, subst, ◌∙◌}
+use Rattle.std.proofs.Common.{◌≡◌, ◌⊎◌, inl, inr, ⊎_elim, true, ℕ, ◌+◌, ◌<◌, ◌≤◌, ◌++◌, List, length, take, sym, ap, subst, ◌∙◌}
 use Rattle.std.specs.Prelude.{Some, None, Result, Ok, Err, IsTrue, IfErr, OnOk}
 use Rattle.fv_disk.specs.Shown.{Ends, Image, Shown, IsDisk, IsSettled, Rose}
 use Rattle.fv_disk.specs.Crash.{Leaves}
@@ -13,15 +13,18 @@ use Rattle.fv_aggregate.specs.declared.session.Session.{Session}
 use Rattle.fv_aggregate.specs.Asking.{AsksWithin}
 use Rattle.fv_aggregate.specs.Calls.{SameCounts}
 use Rattle.fv_aggregate.specs.Causes.{IsUnwritten}
-use Rattle.fv_aggregate.specs.Standing.{Stands, StandsFor}
+use Rattle.fv_aggregate.specs.Standing.{IsWithoutFiles, Stands, StandsFor}
 use Rattle.fv_run.specs.declared.ending.Fault.{Fault}
 use Rattle.fv_run.specs.declared.ending.Fault.TheVariants.{Usage, NotAggregate, Source, Sink, Disk, Memory, Damaged, Limit}
 use Rattle.fv_run.specs.Built.{lines_built}
 use Rattle.fv_run.specs.Endings.{IsWholeFault, raised_by}
-use Rattle.fv_run.specs.Running.{HasAnsweredAll, HasFollowed, HasReason, Holds, IsAskedFor, IsAtRest, IsLacking, IsOverLimit, IsPastLimit, Ran, Survives, SurvivesFrom}
+use Rattle.fv_run.specs.Promises.{line_at}
+use Rattle.fv_run.specs.Running.{HasAnsweredAll, HasChanged, HasFollowed, HasReason, Holds, IsAskedFor, IsAtRest, IsFileDamage, IsLacking, IsOverLimit, IsPastLimit, IsSessionDamage, Ran, reads_blocks, Survives, SurvivesFrom}
 use Rattle.fv_run.specs.Answering.{IsEndOf, Stopped}
+use Rattle.fv_run.proofs.Admitted.{image_is_admitted}
 use Rattle.fv_run.proofs.Sessions.{not_opened}
 use Rattle.fv_run.proofs.Opening.{crash_opened, crash_unsettled}
+use Rattle.fv_run.proofs.Promises.{are_guaranteed, are_isolated}
 
 -- of a session that was opened at `mid`
 pub record RanOpen (limit : ℕ) (session : Session) (mid new : Shown) (result : Result Unit Fault) : Type 0 where
@@ -43,7 +46,7 @@ stopped_open limit session mid new fault stopped = record {
 }
 
 module _ (limit : ℕ) (session : Session) (old mid new : Shown) (laws : IsDisk old) (unwritten : IsUnwritten old mid) (stands : Stands mid session)
-    (machine : IsTrue old.tells → (m : Machine) → machine_of old.reads ≡ Some m → StandsFor mid session m m) (within : IsTrue old.tells → AsksWithin mid session 0) (calm : SameCounts old mid) where
+    (machine : IsTrue old.tells → (m : Machine) → machine_of old.reads ≡ Some m → StandsFor mid session m m) (within : IsTrue old.tells → AsksWithin mid session 0) (none : IsTrue old.tells → IsWithoutFiles session) (calm : SameCounts old mid) where
   mid_told : IsTrue old.tells → IsTrue mid.tells
   mid_told tells = rw unwritten.kept.tells tells
 
@@ -110,6 +113,16 @@ module _ (limit : ℕ) (session : Session) (old mid new : Shown) (laws : IsDisk 
   open_counts : Counts old mid None
   open_counts = record { tells = unwritten.kept.tells; source = ap (λ (e : Ends). e.source_faults) unwritten.kept.ends; sink = ap (λ (e : Ends). e.sink_faults) unwritten.kept.ends; disk = calm.faults }
 
+  damage_since : IsSessionDamage (lines_built mid.ends.left) mid new → IsSessionDamage (lines_built old.ends.left) old new
+  damage_since is = ⊎_elim
+      (λ (lacking : IsLacking (lines_built mid.ends.left) new.reads). inl (subst (λ (l : List ℕ). IsLacking (lines_built l) new.reads) same_left lacking))
+      (λ (file : IsFileDamage (lines_built mid.ends.left) mid new). inr (record {
+        output = file.output;
+        given = since_given file.output file.given;
+        line = subst (λ (l : List ℕ). (reads_blocks (line_at (lines_built l) (whole file.output)) ≡ true) ⊎ HasChanged (lines_built l) (whole file.output)) same_left file.line;
+      }))
+      is
+
   reason_since : (fault : Fault) → IsEndOf limit session mid new fault → HasReason limit old new fault
   reason_since Usage is = is
   reason_since NotAggregate is = absurd is
@@ -117,7 +130,7 @@ module _ (limit : ℕ) (session : Session) (old mid new : Shown) (laws : IsDisk 
   reason_since Sink is = tt
   reason_since Disk is = tt
   reason_since Memory is = tt
-  reason_since Damaged is = λ tells. inr (subst (λ (l : List ℕ). IsLacking (lines_built l) new.reads) same_left (is (mid_told tells) (within tells)))
+  reason_since Damaged is = λ tells. inr (damage_since (is (mid_told tells) (within tells) (none tells)))
   reason_since Limit is = λ tells. past_since (is (mid_told tells))
 
   reasons_since : (result : Result Unit Fault) → IfErr result (IsEndOf limit session mid new) → IfErr result (HasReason limit old new)
@@ -136,6 +149,8 @@ module _ (limit : ℕ) (session : Session) (old mid new : Shown) (laws : IsDisk 
     crash_from = λ tells m is. crash_from m (r.holds (mid_told tells) m (machine tells m is)).crash;
     at_rest = λ tells m is none. rested_since m result ((r.holds (mid_told tells) m (machine tells m is)).at_rest (calm_since none));
     no_damage = λ tells m is. r.no_damage (mid_told tells) m (machine tells m is);
+    isolated = λ tells m is. are_isolated m (lines_built old.ends.left) (image_is_admitted old.reads m is);
+    guaranteed = λ tells m is. are_guaranteed m (lines_built old.ends.left) (image_is_admitted old.reads m is);
     counts = counts_then old mid new (raised_by result) open_counts r.counts;
     reason = reasons_since result r.reason;
     unopened = λ tells none. absurd (not_opened mid session (mid_told tells) stands (rw unwritten.reads none));

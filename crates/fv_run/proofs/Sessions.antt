@@ -11,25 +11,22 @@ use Rattle.fv_model.specs.Machines.{Machine}
 use Rattle.fv_image.specs.Layout.{superblock, gate_place}
 use Rattle.fv_image.specs.NewerRoot.{behind, newer, taken_of, root_of}
 use Rattle.fv_image.specs.Held.{Layout, layout_at}
-use Rattle.fv_image.specs.WholeMachine.{Tells, is_built, machine_of}
+use Rattle.fv_image.specs.WholeMachine.{Tells, machine_of}
 use Rattle.fv_image.proofs.SoundTests.{machine_told, machine_under}
 use Rattle.fv_root.specs.Commits.{IsFoundOn}
-use Rattle.fv_volume.specs.declared.pool.Pool.{Pool}
-use Rattle.fv_image.specs.Seen.{seen}
-use Rattle.fv_image.specs.Soundness.{AreTables}
-use Rattle.fv_container.specs.Chains.{container_at}
-use Rattle.fv_volume.specs.States.{States, state_at, view_over}
-use Rattle.fv_volume.specs.Trees.{no_trees}
-use Rattle.fv_volume.specs.Files.{AreStates}
-use Rattle.fv_volume.specs.Housed.{HaveReach}
-use Rattle.fv_cp.specs.Lent.{IsLent, IsLentAt}
+use Rattle.fv_run.proofs.Resting.{all_ready_still, held_still, machine_rests}
 use Rattle.fv_root.specs.declared.find.Found.{Found}
 use Rattle.fv_root.specs.Finding.{IsDamaged, IsFound, IsNoAggregate, root_found}
 use Rattle.fv_aggregate.specs.declared.fault.OpenFault.TheVariants.{Damaged}
 use Rattle.fv_aggregate.specs.declared.session.Session.{Session}
-use Rattle.fv_aggregate.specs.Standing.{Stands, StandsAfter, StandsFor}
-use Rattle.fv_aggregate.specs.Asking.{AsksWithin}
+use Rattle.fv_aggregate.specs.declared.fault.Fault.TheVariants as session_fault
+use Rattle.fv_aggregate.specs.Standing.{placed_in, IsWithoutFiles, Stands, StandsAfter, StandsFor}
+use Rattle.fv_aggregate.specs.Asking.{AsksWithin, IsShort}
+use Rattle.fv_aggregate.specs.Calls.{LacksBlocks, LacksPlace}
+use Rattle.fv_aggregate.specs.Calls as calls
 use Rattle.fv_aggregate.specs.Causes.{IsOpenFault, IsUnder}
+use Rattle.fv_aggregate.proofs.Clear.{none_placed}
+use Rattle.fv_run.specs.Answering.{LacksSpace}
 
 abbrev nothing_behind : Option (Result Root Shape)
 nothing_behind = None
@@ -37,11 +34,11 @@ nothing_behind = None
 -- each image that a crash now may leave stands for the machine of the last consistency point, as what reads give
 pub images_stand : (disk : Shown) (session : Session) (last m : Machine) → StandsFor disk session last m → (c : Image) → disk.images c → machine_of c ≡ Some last
 images_stand disk session last m stands c now =
-    let keeps = stands.lent.keeps c now in
-    machine_under c (root_found session.pool.found) keeps.root ∙ machine_told (layout_at (root_found session.pool.found) c) last (subst (λ (y : Layout). Tells y last) (sym keeps.layout) stands.lent.tells)
+    let keeps = stands.held.keeps c now in
+    machine_under c (root_found session.pool.found) keeps.root ∙ machine_told (layout_at (root_found session.pool.found) c) last (subst (λ (y : Layout). Tells y last) (sym keeps.layout) stands.held.tells)
 
 pub reads_stand : (disk : Shown) (session : Session) (last m : Machine) → StandsFor disk session last m → machine_of disk.reads ≡ Some last
-reads_stand disk session last m stands = machine_under disk.reads (root_found session.pool.found) stands.lent.found.reads.root ∙ machine_told (layout_at (root_found session.pool.found) disk.reads) last stands.lent.tells
+reads_stand disk session last m stands = machine_under disk.reads (root_found session.pool.found) stands.held.found.reads.root ∙ machine_told (layout_at (root_found session.pool.found) disk.reads) last stands.held.tells
 
 -- where reads give what they gave, the last point is the one that it was
 pub point_stays : (old new : Shown) (session next : Session) (last m before now : Machine) → new.reads ≡ old.reads → StandsFor old session last m → (stands : StandsAfter new next last before now) → stands.point ≡ last
@@ -60,31 +57,20 @@ rests_standing old new session rests stands = record {
   found = λ tells. found_still old new session.pool.found rests (stands.found (rw (← rests.stays.tells) tells));
   map = λ tells. rw rests.stays.reads (stands.map (rw (← rests.stays.tells) tells));
   cache = record { same = λ tells pvbn block has. rw rests.stays.reads (stands.cache.same (rw (← rests.stays.tells) tells) pvbn block has) };
+  ready = all_ready_still old new rests.stays session.pool session.volumes stands.ready;
 }
 
 pub rests_asking : (old new : Shown) (session : Session) (room : ℕ) → Rests old new → AsksWithin old session room → AsksWithin new session room
 rests_asking old new session room rests asks = record { asked = rw rests.stays.reads asks.asked; pending = asks.pending }
 
-still_lent : (old new : Shown) (pool : Pool) (states : States) (last : Machine) → Rests old new → IsLent old pool states last → IsLent new pool states last
-still_lent old new pool states last rests lent = record {
-  found = found_still old new pool.found rests lent.found;
-  tells = rw rests.stays.reads lent.tells;
-  keeps = λ c now. rw rests.stays.reads (lent.keeps c (rests.stays.no_more c now));
-  map = rw rests.stays.reads lent.map;
-  slots = λ s below. subst (λ (i : Image). IsLentAt i pool.found s (state_at states s) (container_at pool.containers s)) (sym rests.stays.reads) (lent.slots s below);
-  spaced = lent.spaced;
-  states = subst (λ (i : Image). AreStates (view_over pool states i) no_trees states) (sym rests.stays.reads) lent.states;
-  built = subst (λ (i : Image). is_built (view_over pool states i) ≡ true) (sym rests.stays.reads) lent.built;
-  tables = subst (λ (i : Image). AreTables (seen (view_over pool states i))) (sym rests.stays.reads) lent.tables;
-  reach = subst (λ (i : Image). HaveReach (view_over pool states i) states) (sym rests.stays.reads) lent.reach;
-}
-
 pub rests_standing_for : (old new : Shown) (session : Session) (last m : Machine) → Rests old new → StandsFor old session last m → StandsFor new session last m
 rests_standing_for old new session last m rests stands = record {
-  lent = still_lent old new session.pool session.volumes last rests stands.lent;
-  machine = rw rests.stays.reads stands.machine;
+  held = held_still old new rests.stays session.pool session.volumes last stands.held;
+  machine = machine_rests old new rests.stays session.pool session.volumes ∙ stands.machine;
   settled = λ c now a. rw rests.stays.reads (stands.settled c (rests.stays.no_more c now) a);
   pending = rw rests.stays.reads stands.pending;
+  files = stands.files;
+  few = stands.few;
   room = rw rests.stays.reads stands.room;
 }
 
@@ -157,3 +143,14 @@ not_damaged i at want number none fault = ⊎_elim
     (λ (is : IsDamaged i at want number). not_behind i at want number none is)
     (λ (is : IsUnder i at want number). not_found i is.root none is.found)
     fault
+
+-- ---- points that lack blocks
+
+-- where nothing of files waits, a point that lacks blocks lacks them in the image
+pub lacks : (old new : Shown) (session new_session : Session) (at want found : ℕ) → calls.IsForWant old session new new_session (session_fault.Damaged at want found) → LacksSpace old session new
+lacks old new session new_session at want found is tells none room asks = ⊎_elim
+    (λ (short : LacksBlocks old session new_session at want found).
+    let same : placed_in new_session.pool.map ≡ 0 = ap (λ (s : Session). placed_in s.pool.map) (short.same none.none) ∙ none_placed session.pool.map none.same in
+    (at, want, found, subst (λ (i : Image). IsShort i room 0 at want found) (sym is.0.stays.reads) (subst (λ (n : ℕ). IsShort old.reads room n at want found) same (short.image tells room asks))))
+    (λ (place : LacksPlace session). absurd (place.files none.none))
+    is.1

@@ -1,9 +1,10 @@
 -- The loop over the lines of a script: how it goes on, and how it ends.
-use Rattle.std.proofs.Common.{◌≡◌, inl, inr, ⊎_elim, ℕ, ◌+◌, ◌<◌, ◌≤◌, ◌++◌, Bool, List, [], ◌∷◌, length, map, max, take, refl, sym, ap, subst, ◌∙◌, arith, append_assoc, append-nil}
+use Rattle.std.proofs.Common.{◌≡◌, ◌⊎◌, inl, inr, ⊎_elim, ℕ, ◌+◌, ◌<◌, ◌≤◌, ◌++◌, Bool, true, false, List, [], ◌∷◌, length, map, max, take, drop, refl, sym, ap, subst, ◌∙◌, arith, append_assoc, append-nil}
 use Rattle.std.specs.Prelude.{flat_map, Contains, Ok, Err, None, IsTrue, Result}
 use Rattle.std.proofs.lemmas.List.{length-append}
 use Rattle.fv_disk.specs.declared.Failed.{Failed}
 use Rattle.fv_disk.specs.Shown.{Shown, IsDisk, Rose}
+use Rattle.fv_disk.specs.HostCalls.{Rests}
 use Rattle.fv_disk.specs.Crash.{Leaves}
 use Rattle.fv_model.specs.declared.answers.Reply.{Reply}
 use Rattle.fv_model.specs.Machines.{Machine}
@@ -19,13 +20,15 @@ use Rattle.fv_lines.proofs.Counting as counting
 use Rattle.fv_lines.proofs.Ends.{whole_append}
 use Rattle.fv_aggregate.specs.declared.session.Session.{Session}
 use Rattle.fv_aggregate.specs.Asking.{AsksWithin}
-use Rattle.fv_aggregate.specs.Standing.{StandsFor}
+use Rattle.fv_aggregate.specs.Standing.{IsWithoutFiles, StandsFor}
 use Rattle.fv_run.specs.declared.ending.Fault.{Fault}
 use Rattle.fv_run.specs.declared.ending.Fault.TheVariants.{Usage, NotAggregate, Source, Sink, Disk, Memory, Damaged, Limit}
 use Rattle.fv_run.specs.Built.{built, lines_built}
 use Rattle.fv_run.specs.Endings.{count_of, IsWholeFault}
-use Rattle.fv_run.specs.Running.{begun, Holds, IsOverLimit, IsPastLimit, Survives}
-use Rattle.fv_run.specs.Answering.{Applies, AsksFor, HasAnswered, HasRead, IsAtEnd, IsEndOf, IsReady, IsSessionFault, StandsAt, Stopped, TellsLine}
+use Rattle.fv_run.specs.Promises.{line_at}
+use Rattle.fv_run.specs.Running.{begun, changes_files, HasChanged, Holds, IsOverLimit, IsPastLimit, IsSessionDamage, reads_blocks, Survives}
+use Rattle.fv_run.specs.Answering.{Applies, AsksFor, HasAnswered, HasRead, IsAtEnd, IsEndOf, LacksSpace, IsReady, IsSessionFault, StandsAt, Stopped, TellsLine}
+use Rattle.fv_run.proofs.Following.{left_next, line_behind}
 use Rattle.fv_run.proofs.Lines.{no_end, one_end}
 use Rattle.fv_run.proofs.Limits.{all_read, ends_before, ends_all, past_limit, same_behind, none_behind, to_come_most}
 use Rattle.fv_run.proofs.Rooms.{first_in, later_in, greater_room, room_of_line}
@@ -41,14 +44,25 @@ starts limit first old laws ready = record {
   room = omega arith;
   reads = λ tells. record { output = []; given = sym (append-nil old.given); answered = refl; read = []; front = refl; room = omega arith; ended = inl refl };
   lines = λ tells line is. is;
-  asks = λ tells asks. record { room = 0; line = inl refl; asks = asks };
+  behind = λ tells. refl;
+  asks = λ tells asks none. inl (record { none = none; room = 0; line = inl refl; asks = asks });
   answers = λ tells m stands. none_answered m (lines_built old.ends.left) old first laws stands;
 }
 
 module _ (limit : ℕ) (first : Session) (old : Shown) (held : Held) (session : Session) (now : Shown) (count : ℕ) (so_far : StandsAt limit first old held session now count)
     (new_held : Held) (mid : Shown) (bytes : List ℕ) where
+  abbrev script : List Line
+  script = lines_built old.ends.left
+
   told : IsTrue old.tells → IsTrue now.tells
   told tells = rw so_far.counts.tells tells
+
+  -- while the source is asked a session asks for what it did
+  asks_still : Rests now mid → AsksFor script now session ⊎ HasChanged script count → AsksFor script mid session ⊎ HasChanged script count
+  asks_still rests asks = ⊎_elim
+      (λ (few : AsksFor script now session). inl (record { none = few.none; room = few.room; line = few.line; asks = rests_asking now mid session few.room rests few.asks }))
+      (λ (changed : HasChanged script count). inr changed)
+      asks
 
   -- the source failed
   module _ (e : Failed) (finds : Finds held now new_held mid bytes (Err e)) where
@@ -145,7 +159,8 @@ module _ (limit : ℕ) (first : Session) (old : Shown) (held : Held) (session : 
         room = omega (arith, so_far.room, finds.room);
         reads = end_reads;
         lines = λ tells line is. let more = finds.reads (told tells) in so_far.lines tells line (subst (λ (l : List Line). Contains l line) (ap lines_built (more.found.1 ∙ sym more.found.0)) is);
-        asks = λ tells within. let asks = so_far.asks tells within in record { room = asks.room; line = asks.line; asks = rests_asking now mid session asks.room finds.asks.rests asks.asks };
+        behind = λ tells. let more = finds.reads (told tells) in ap lines_built (more.found.1 ∙ sym more.found.0) ∙ so_far.behind tells;
+        asks = λ tells within none. asks_still finds.asks.rests (so_far.asks tells within none);
         answers = λ tells m stands.
             let more = finds.reads (told tells) in
             left_as m (lines_built old.ends.left) (lines_built (unread held now)) (lines_built (unread new_held mid)) old session mid count (ap lines_built (more.found.0 ∙ sym more.found.1))
@@ -165,8 +180,8 @@ module _ (limit : ℕ) (first : Session) (old : Shown) (held : Held) (session : 
     mid_writes : mid.write_faults ≡ old.write_faults
     mid_writes = finds.asks.rests.write_faults ∙ so_far.writes
 
-    mid_asks : IsTrue old.tells → AsksWithin old first 0 → AsksFor (lines_built old.ends.left) mid session
-    mid_asks tells within = let asks = so_far.asks tells within in record { room = asks.room; line = asks.line; asks = rests_asking now mid session asks.room finds.asks.rests asks.asks }
+    mid_asks : IsTrue old.tells → AsksWithin old first 0 → IsWithoutFiles first → AsksFor script mid session ⊎ HasChanged script count
+    mid_asks tells within none = asks_still finds.asks.rests (so_far.asks tells within none)
 
     mid_told : IsTrue old.tells → IsTrue mid.tells
     mid_told tells = rw mid_counts.tells tells
@@ -174,6 +189,12 @@ module _ (limit : ℕ) (first : Session) (old : Shown) (held : Held) (session : 
     -- the line and those behind it are lines of the script
     all_lines : IsTrue old.tells → (line : Line) → Contains (built (line_of bytes) ∷ lines_built (unread new_held mid)) line → Contains (lines_built old.ends.left) line
     all_lines tells line is = so_far.lines tells line (subst (λ (l : List Line). Contains l line) (sym (ap (λ (l : List Line). map built l) (finds.reads (told tells)).found.0)) is)
+
+    mid_behind : IsTrue old.tells → built (line_of bytes) ∷ lines_built (unread new_held mid) ≡ drop count script
+    mid_behind tells = sym (ap (λ (l : List Line). map built l) (finds.reads (told tells)).found.0) ∙ so_far.behind tells
+
+    line_is : IsTrue old.tells → line_at script count ≡ built (line_of bytes)
+    line_is tells = line_behind count script (lines_built (unread new_held mid)) (built (line_of bytes)) (mid_behind tells)
 
     found_next : IsTrue old.tells → (m : Machine) → StandsFor old first m m → HasAnswered m (lines_built old.ends.left) (built (line_of bytes) ∷ lines_built (unread new_held mid)) old session mid count
     found_next tells m stands =
@@ -227,21 +248,35 @@ module _ (limit : ℕ) (first : Session) (old : Shown) (held : Held) (session : 
           let all : new.given ≡ old.given ++ (read.output ++ bytes) = since ∙ ap (λ (l : List ℕ). l ++ bytes) (finds.asks.given ∙ read.given) ∙ append_assoc old.given read.output bytes in
           ap whole (same_behind old.given output (read.output ++ bytes) (sym is ∙ all)) ∙ whole_append read.output bytes ∙ ap (λ (n : ℕ). n + whole bytes) read.answered
 
-      ends_so : (fault : Fault) → IsSessionFault mid session end fault → IsEndOf limit first old end fault
-      ends_so Usage is = is
-      ends_so NotAggregate is = is
-      ends_so Source is = absurd is
-      ends_so Sink is = absurd is
-      ends_so Disk is = is
-      ends_so Memory is = is
-      ends_so Damaged is = λ tells within.
-          let asks = mid_asks tells within in
-          let lacks = is (mid_told tells) asks.room asks.asks in
-          record { room = asks.room; asks = asks.line; at = lacks.0; want = lacks.1; found = lacks.2; short = lacks.3 }
-      ends_so Limit is = absurd is
+      file_damage : end.given ≡ mid.given → IsTrue old.tells → (reads_blocks (line_at script count) ≡ true) ⊎ HasChanged script count → IsSessionDamage script old end
+      file_damage same tells line =
+          let read = so_far.reads tells in
+          inr (record {
+            output = read.output;
+            given = same ∙ finds.asks.given ∙ read.given;
+            line = subst (λ (n : ℕ). (reads_blocks (line_at script n) ≡ true) ⊎ HasChanged script n) (sym read.answered) line;
+          })
+
+      ends_so : end.given ≡ mid.given → (fault : Fault) → IsSessionFault (built (line_of bytes)) mid session end fault → IsEndOf limit first old end fault
+      ends_so same Usage is = is
+      ends_so same NotAggregate is = is
+      ends_so same Source is = absurd is
+      ends_so same Sink is = absurd is
+      ends_so same Disk is = is
+      ends_so same Memory is = is
+      ends_so same Damaged is = λ tells within none. ⊎_elim
+          (λ (reads : reads_blocks (built (line_of bytes)) ≡ true). file_damage same tells (inl (ap reads_blocks (line_is tells) ∙ reads)))
+          (λ (wants : LacksSpace mid session end). ⊎_elim
+          (λ (asks : AsksFor script mid session).
+          let lacks = wants (mid_told tells) asks.none asks.room asks.asks in
+          inl (record { room = asks.room; asks = asks.line; at = lacks.0; want = lacks.1; found = lacks.2; short = lacks.3 }))
+          (λ (changed : HasChanged script count). file_damage same tells (inr changed))
+          (mid_asks tells within none))
+          is
+      ends_so same Limit is = absurd is
 
       -- a fault of a session's call comes in a line
-      in_line : (fault : Fault) → IsSessionFault mid session end fault → (output : List ℕ) → begun (Err fault) output ≡ whole output + 1
+      in_line : (fault : Fault) → IsSessionFault (built (line_of bytes)) mid session end fault → (output : List ℕ) → begun (Err fault) output ≡ whole output + 1
       in_line Usage is output = refl
       in_line NotAggregate is output = refl
       in_line Source is output = absurd is
@@ -266,7 +301,7 @@ module _ (limit : ℕ) (first : Session) (old : Shown) (held : Held) (session : 
               applies.no_damage (mid_told tells) (after m (lines_built old.ends.left) answers.point) (after m (lines_built old.ends.left) count) answers.stands,
             );
         counts = counts_then old mid end (count_of fault) mid_counts applies.counts;
-        reason = ends_so fault applies.ends;
+        reason = ends_so applies.given fault applies.ends;
         cut_off = λ tells past. absurd (not_past end tells past (output_since end tells [] past.output (applies.given ∙ sym (append-nil mid.given)) past.given ∙ omega arith));
       }
 
@@ -332,14 +367,24 @@ module _ (limit : ℕ) (first : Session) (old : Shown) (held : Held) (session : 
                   more.found.1;
             }
 
-        asks_next : TellsLine end (text reply) new (Ok tt) → IsTrue old.tells → AsksWithin old first 0 → AsksFor (lines_built old.ends.left) new next_session
-        asks_next tells_it tells within =
-            let L : List Line = lines_built old.ends.left in
-            let line : Line = built (line_of bytes) in
-            let asks = mid_asks tells within in
-            let next = applies.asks (mid_told tells) asks.room asks.asks in
-            let more = room_of_line L line next.0 (all_lines tells line (first_in line (lines_built (unread new_held mid)))) next.1 in
-            record { room = max asks.room next.0; line = greater_room L asks.room next.0 asks.line more; asks = rests_asking end new next_session (max asks.room next.0) tells_it.tells.gives.rests next.2 }
+        asks_next : TellsLine end (text reply) new (Ok tt) → IsTrue old.tells → AsksWithin old first 0 → IsWithoutFiles first → AsksFor script new next_session ⊎ HasChanged script (count + 1)
+        asks_next tells_it tells within none = ⊎_elim
+            (λ (asks : AsksFor script mid session). so asks (changes_files (built (line_of bytes))) refl)
+            (λ (changed : HasChanged script count). let before = changed.before in inr (record { line = changed.line; before = omega (arith, before); changes = changed.changes }))
+            (mid_asks tells within none)
+          where
+            so : AsksFor script mid session → (changes : Bool) → changes_files (built (line_of bytes)) ≡ changes → AsksFor script new next_session ⊎ HasChanged script (count + 1)
+            so asks true e = inr (record { line = count; before = omega arith; changes = ap changes_files (line_is tells) ∙ e })
+            so asks false e =
+                let line : Line = built (line_of bytes) in
+                let next = applies.asks (mid_told tells) e asks.room asks.asks in
+                let more = room_of_line script line next.0 (all_lines tells line (first_in line (lines_built (unread new_held mid)))) next.1 in
+                inl (record {
+                  none = applies.files (mid_told tells) e asks.none;
+                  room = max asks.room next.0;
+                  line = greater_room script asks.room next.0 asks.line more;
+                  asks = rests_asking end new next_session (max asks.room next.0) tells_it.tells.gives.rests next.2;
+                })
 
         -- its reply was given
         pub goes_on : TellsLine end (text reply) new (Ok tt) → StandsAt limit first old new_held next_session new (count + 1)
@@ -350,6 +395,7 @@ module _ (limit : ℕ) (first : Session) (old : Shown) (held : Held) (session : 
           room = omega (arith, so_far.room, finds.room);
           reads = reads_next tells_it;
           lines = λ tells line is. all_lines tells line (later_in (built (line_of bytes)) (lines_built (unread new_held mid)) line (subst (λ (l : List ℕ). Contains (lines_built l) line) (same_left tells_it) is));
+          behind = λ tells. ap lines_built (same_left tells_it) ∙ left_next count script (lines_built (unread new_held mid)) (built (line_of bytes)) (mid_behind tells);
           asks = asks_next tells_it;
           answers = λ tells m stands.
               let L : List Line = lines_built old.ends.left in

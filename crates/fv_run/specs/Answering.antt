@@ -12,12 +12,12 @@ use Rattle.fv_lines.specs.Held.{Held}
 use Rattle.fv_lines.specs.Reading.{unread}
 use Rattle.fv_aggregate.specs.declared.session.Session.{Session}
 use Rattle.fv_aggregate.specs.Asking.{AsksWithin, IsShort}
-use Rattle.fv_aggregate.specs.Standing.{OneOf, Stands, StandsAfter, StandsFor}
+use Rattle.fv_aggregate.specs.Standing.{IsWithoutFiles, OneOf, Stands, StandsAfter, StandsFor}
 use Rattle.fv_run.specs.declared.ending.Fault.{Fault}
 use Rattle.fv_run.specs.declared.ending.Fault.TheVariants.{Source, Sink, Disk, Memory, Damaged, Limit}
 use Rattle.fv_run.specs.Endings.{IsWholeFault, count_of, raised_by}
 use Rattle.fv_run.specs.Built.{lines_built}
-use Rattle.fv_run.specs.Running.{asks_behind, asks_point, Holds, IsLacking, IsOverLimit, IsPastLimit, IsRoomIn, Survives}
+use Rattle.fv_run.specs.Running.{asks_behind, asks_point, changes_files, HasChanged, Holds, IsOverLimit, IsPastLimit, IsRoomIn, IsSessionDamage, reads_blocks, Survives}
 
 -- ---- lines and their replies
 
@@ -37,14 +37,18 @@ pub record TellsLine (old : Shown) (bytes : List ℕ) (new : Shown) (result : Re
 
 -- a consistency point lacks blocks that keeps room for an event with this room
 abbrev pub Lacks : ℕ → Image → Type 0
-Lacks room i = (at want found : ℕ) × IsShort i room at want found
+Lacks room i = (at want found : ℕ) × IsShort i room 0 at want found
 
--- a fault of a session's calls, each with its reason beside the counts
-abbrev pub IsSessionFault : Shown → Session → Shown → Fault → Type 0
-IsSessionFault old session new Disk = Unit {0}
-IsSessionFault old session new Memory = Unit {0}
-IsSessionFault old session new Damaged = IsTrue old.tells → (room : ℕ) → AsksWithin old session room → Lacks room new.reads
-IsSessionFault old session new fault = ⊥
+-- a consistency point lacks blocks, where nothing of files waits for it
+abbrev pub LacksSpace : Shown → Session → Shown → Type 0
+LacksSpace old session new = IsTrue old.tells → IsWithoutFiles session → (room : ℕ) → AsksWithin old session room → Lacks room new.reads
+
+-- a fault of a session's calls in a line, each with its reason beside the counts
+abbrev pub IsSessionFault : Line → Shown → Session → Shown → Fault → Type 0
+IsSessionFault line old session new Disk = Unit {0}
+IsSessionFault line old session new Memory = Unit {0}
+IsSessionFault line old session new Damaged = (reads_blocks line ≡ true) ⊎ LacksSpace old session new
+IsSessionFault line old session new fault = ⊥
 
 -- a session that hasn't failed, on its disk
 pub record IsReady (disk : Shown) (session : Session) : Type 0 where
@@ -57,8 +61,9 @@ pub record StandsOnward (disk : Shown) (session : Session) (last m : Machine) (l
   pub after : StandsAfter disk session last m (after_line m line)
   pub point : is_cp line ≡ true → StandsFor disk session (after_line m line) (after_line m line)
 
--- a session asks for no more than the space rule keeps, for the event of a line or for none
+-- nothing of files waits in a session, and it asks for no more than the space rule keeps, for the event of a line or for none
 pub record AsksFor (lines : List Line) (disk : Shown) (session : Session) : Type 0 where
+  pub none : IsWithoutFiles session
   pub room : ℕ
   pub line : IsRoomIn lines room
   pub asks : AsksWithin disk session room
@@ -70,8 +75,10 @@ pub record Applies (session : Session) (line : Line) (old : Shown) (new_session 
   pub still : IsTrue old.tells → (last m : Machine) → StandsFor old session last m → ¬ Rose old.write_faults new.write_faults → OnErr result (StandsAfter new new_session last m m)
   pub no_damage : IsTrue old.tells → (last m : Machine) → StandsFor old session last m → IfErr result IsWholeFault
   pub ready : OnOk result (IsReady new new_session)
-  pub ends : IfErr result (IsSessionFault old session new)
-  pub asks : IsTrue old.tells → (room : ℕ) → AsksWithin old session room → OnOk result ((more : ℕ) × IsRoomIn (line ∷ []) more × AsksWithin new new_session (max room more))
+  pub ends : IfErr result (IsSessionFault line old session new)
+  -- a line that changes no files
+  pub files : IsTrue old.tells → changes_files line ≡ false → IsWithoutFiles session → OnOk result (IsWithoutFiles new_session)
+  pub asks : IsTrue old.tells → changes_files line ≡ false → (room : ℕ) → AsksWithin old session room → OnOk result ((more : ℕ) × IsRoomIn (line ∷ []) more × AsksWithin new new_session (max room more))
   pub given : new.given ≡ old.given
   pub left : new.ends.left ≡ old.ends.left
   pub counts : Counts old new (raised_by result)
@@ -119,7 +126,9 @@ pub record StandsAt (limit : ℕ) (first : Session) (old : Shown) (held : Held) 
   pub room : count + held.room ≤ limit
   pub reads : IsTrue old.tells → HasRead limit old held now count
   pub lines : IsTrue old.tells → (line : Line) → Contains (lines_built (unread held now)) line → Contains (lines_built old.ends.left) line
-  pub asks : IsTrue old.tells → AsksWithin old first 0 → AsksFor (lines_built old.ends.left) now session
+  pub behind : IsTrue old.tells → lines_built (unread held now) ≡ drop count (lines_built old.ends.left)
+  -- until a line has changed files
+  pub asks : IsTrue old.tells → AsksWithin old first 0 → IsWithoutFiles first → AsksFor (lines_built old.ends.left) now session ⊎ HasChanged (lines_built old.ends.left) count
   pub answers : IsTrue old.tells → (m : Machine) → StandsFor old first m m → HasAnswered m (lines_built old.ends.left) (lines_built (unread held now)) old session now count
 
 -- All lines are answered, and so many there are.
@@ -134,7 +143,7 @@ IsEndOf limit first old new Source = Unit {0}
 IsEndOf limit first old new Sink = Unit {0}
 IsEndOf limit first old new Disk = Unit {0}
 IsEndOf limit first old new Memory = Unit {0}
-IsEndOf limit first old new Damaged = IsTrue old.tells → AsksWithin old first 0 → IsLacking (lines_built old.ends.left) new.reads
+IsEndOf limit first old new Damaged = IsTrue old.tells → AsksWithin old first 0 → IsWithoutFiles first → IsSessionDamage (lines_built old.ends.left) old new
 IsEndOf limit first old new Limit = IsTrue old.tells → IsPastLimit limit old new
 IsEndOf limit first old new fault = ⊥
 

@@ -1,5 +1,5 @@
 -- Running a script on an aggregate: the headline, clause by clause.
-use Rattle.std.specs.Prelude.{◌≡◌, ◌⊎◌, ◌<◌, ◌≤◌, ◌+◌, ◌||◌, ℕ, nat_lt, Bool, true, false, List, ◌++◌, length, take, get_or, Some, Contains, IsTrue, Result, Err, IfErr, OnOk}
+use Rattle.std.specs.Prelude.{◌≡◌, ◌⊎◌, ◌<◌, ◌≤◌, ◌+◌, ◌||◌, ℕ, nat_lt, is_some, Bool, true, false, List, ◌++◌, length, take, get_or, Some, Contains, IsTrue, Result, Err, IfErr, OnOk}
 use Rattle.fv_disk.specs.Shown.{Image, Shown, IsSettled, Rose}
 use Rattle.fv_disk.specs.Crash.{Leaves}
 use Rattle.fv_lines.specs.Counts.{Counts}
@@ -11,11 +11,12 @@ use Rattle.fv_root.specs.Finding.{IsNoAggregate}
 use Rattle.fv_aggregate.specs.declared.fault.OpenFault.TheVariants as opening
 use Rattle.fv_aggregate.specs.Asking.{IsShort}
 use Rattle.fv_aggregate.specs.Causes.{IsOpenFault, IsUnwritten}
-use Rattle.fv_aggregate.specs.Commands.{room_of}
+use Rattle.fv_aggregate.specs.Commands.{changed_by, reads_files, room_of}
 use Rattle.fv_run.specs.declared.ending.Fault.{Fault}
 use Rattle.fv_run.specs.declared.ending.Fault.TheVariants.{Usage, NotAggregate, Source, Sink, Disk, Memory, Damaged, Limit}
 use Rattle.fv_run.specs.Endings.{EndsWith, IsWholeFault, raised_by}
 use Rattle.fv_run.specs.Built.{lines_built}
+use Rattle.fv_run.specs.Promises.{AreGuaranteed, AreIsolated, line_at}
 
 -- ---- replies
 
@@ -116,6 +117,24 @@ pub record IsOverLimit (limit : ℕ) (old new : Shown) : Type 0 where
 abbrev pub IsRoomIn : List Line → ℕ → Type 0
 IsRoomIn lines room = (room ≡ 0) ⊎ ((command : Command) × Contains lines (Says command) × (room ≡ room_of command))
 
+-- whether a line changes files of a volume
+abbrev pub changes_files : Line → Bool
+changes_files (Says command) = is_some (changed_by command)
+changes_files NoCommand = false
+changes_files OutOfRange = false
+
+-- whether a line reads blocks of the files of a volume; one that changes them does
+abbrev pub reads_blocks : Line → Bool
+reads_blocks (Says command) = reads_files command
+reads_blocks NoCommand = false
+reads_blocks OutOfRange = false
+
+-- one of the first `count` lines changes files
+pub record HasChanged (lines : List Line) (count : ℕ) : Type 0 where
+  pub line : ℕ
+  pub before : line < count
+  pub changes : changes_files (line_at lines line) ≡ true
+
 -- A consistency point lacks blocks: the root at `at`, which counts, leaves `found` of them free, and `want`, which is more, is at most the
 -- right side of the space rule.
 pub record IsLacking (lines : List Line) (i : Image) : Type 0 where
@@ -124,12 +143,23 @@ pub record IsLacking (lines : List Line) (i : Image) : Type 0 where
   pub at : ℕ
   pub want : ℕ
   pub found : ℕ
-  pub short : IsShort i room at want found
+  pub short : IsShort i room 0 at want found
 
--- Opening found a block without the shape of its kind, or a number past its bound, and nothing was written or given; or at the end a
--- consistency point lacks blocks.
+-- The files of a volume are damaged, or have no place: the line behind those that are answered reads blocks of files, and one of them isn't as
+-- it has to be; or a line that is answered changes files, and a consistency point lacked blocks or numbers, for them or beside them.
+pub record IsFileDamage (lines : List Line) (old end : Shown) : Type 0 where
+  pub output : List ℕ
+  pub given : end.given ≡ old.given ++ output
+  pub line : (reads_blocks (line_at lines (whole output)) ≡ true) ⊎ HasChanged lines (whole output)
+
+-- what a session is damaged by: at the end a point lacks blocks, or its lines came to files
+abbrev pub IsSessionDamage : List Line → Shown → Shown → Type 0
+IsSessionDamage lines old end = IsLacking lines end.reads ⊎ IsFileDamage lines old end
+
+-- Opening found a block without the shape of its kind, or a number past its bound, and nothing was written or given; or the session that was
+-- opened is damaged.
 abbrev pub IsDamage : Shown → Shown → Type 0
-IsDamage old end = (IsUnwritten old end × ((at want found : ℕ) × IsOpenFault old.reads (opening.Damaged at want found))) ⊎ IsLacking (lines_built old.ends.left) end.reads
+IsDamage old end = (IsUnwritten old end × ((at want found : ℕ) × IsOpenFault old.reads (opening.Damaged at want found))) ⊎ IsSessionDamage (lines_built old.ends.left) old end
 
 -- Why a run ended, with its status. A fault of the source, the sink or the disk has its count, and want of memory has no cause.
 abbrev pub HasReason : ℕ → Shown → Shown → Fault → Type 0
@@ -177,6 +207,9 @@ pub record Ran (limit : ℕ) (old new : Shown) (result : Result Unit Fault) : Ty
   -- after the first fault no further one was made.
   pub at_rest : IsTrue old.tells → (m : Machine) → machine_of old.reads ≡ Some m → ¬ Rose old.write_faults new.write_faults → IsAtRest m (lines_built old.ends.left) result old new
   pub no_damage : IsTrue old.tells → (m : Machine) → machine_of old.reads ≡ Some m → IfErr result IsWholeFault
+  -- Its lines are isolated by their homes, and in a volume of kind `volume` the size is guaranteed.
+  pub isolated : IsTrue old.tells → (m : Machine) → machine_of old.reads ≡ Some m → AreIsolated m (lines_built old.ends.left)
+  pub guaranteed : IsTrue old.tells → (m : Machine) → machine_of old.reads ≡ Some m → AreGuaranteed m (lines_built old.ends.left)
   -- each fault has its cause, and leaves the counts of the others; where none rose the run ends with Ok or a fault that has no count
   pub counts : Counts old new (raised_by result)
   pub reason : IfErr result (HasReason limit old new)

@@ -20,8 +20,8 @@ pub(crate) enum Fault {
     Disk,
     /// Memory ran out.
     Memory,
-    /// A block isn't as it has to be, a label is of a form that can't be loaded yet, or fewer blocks are free than a consistency point
-    /// asks for.
+    /// A block isn't as it has to be, a label is of a form that can't be loaded yet, or fewer blocks or numbers are free than a
+    /// consistency point asks for.
     Damaged,
     /// The script has a byte past its limit.
     Limit,

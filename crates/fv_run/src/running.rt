@@ -22,7 +22,7 @@ use std::sync::ledger::{Blank, Ledger};
 ///
 /// The status is 0 where all was done, 2 where block 0 is no superblock or neither gate is open, 3, 4 or 5
 /// where the source, the sink or the disk failed, 6 where memory ran out, 8 where a block isn't as it has to
-/// be, a label is of a form that can't be loaded yet or fewer blocks are free than a consistency point asks for,
+/// be, a label is of a form that can't be loaded yet or fewer blocks or numbers are free than a consistency point asks for,
 /// and 9 where the source gave byte `limit + 1` of the script. The first of these ends the call at once, without a
 /// further consistency point: where no write and no barrier failed the disk is settled then, with the image of the last point that
 /// was asked for, by a `cp`, by a line with room or by the end of the script. That each reply comes before the next line is applied,

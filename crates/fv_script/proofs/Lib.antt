@@ -10,3 +10,4 @@ pub mod Hexes
 pub mod NamesTold
 pub mod ScriptLines
 pub mod Generating
+pub mod Befores

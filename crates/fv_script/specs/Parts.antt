@@ -22,6 +22,13 @@ abbrev pub in_range : Bool → {A : Type 0} → A → Result A LineFault
 in_range true n = Ok n
 in_range false n = Err Range
 
+-- how many bytes stand before the first one of a value
+abbrev pub is_other : ℕ → ℕ → Bool
+is_other wanted b = not (nat_eq b wanted)
+
+abbrev pub before : ℕ → List ℕ → ℕ
+before wanted bytes = prefix_len (is_other wanted) bytes
+
 -- how many spaces begin a line, and how many bytes stand before its first space
 abbrev pub is_space : ℕ → Bool
 is_space b = nat_eq b 32

@@ -28,10 +28,16 @@ fn is_hex(word: &[u8]) -> bool
     2 <= word.len() && word.len() <= 8192 && word.len() % 2 == 0 && has_hex_alone(word)
 }
 
+/// It looks at each byte, also behind one that is no digit, so that a compiler can look at many in one step.
+#[tactic(auto, using(crate::proofs::Befores::tests_begin, crate::proofs::Befores::tests_more, crate::proofs::Befores::tests_end))]
 fn has_hex_alone(word: &[u8]) -> bool
     ensures { result ≡ list_all is_ascii_hexdigit word.now }
 {
-    word.iter().all(|b| b.is_ascii_hexdigit())
+    let mut all = true;
+    for byte in word {
+        all &= byte.is_ascii_hexdigit();
+    }
+    all
 }
 
 /// The bytes of the digits, and zeros after them.

@@ -4,6 +4,7 @@
 mod content;
 mod fault;
 mod files;
+mod finding;
 mod generate;
 mod hex;
 mod lines;

@@ -6,6 +6,7 @@ ghost use Rattle.fv_model.specs.Grammar.{first};
 ghost use Rattle.fv_script.specs.Parts.{Ends, Gives, letters, spaces};
 
 use crate::LineFault;
+use crate::finding::before;
 use crate::hex::block_of;
 use crate::values::{is_number, kind_of, table_of};
 use fv_model::{Block, Kind, Name};
@@ -54,7 +55,7 @@ fn spaces(line: &[u8]) -> usize
 fn letters(line: &[u8]) -> usize
     ensures { result ≡ letters line.now }
 {
-    line.iter().take_while(|b| **b != b' ').count()
+    before(line, b' ')
 }
 
 /// The name that the next word is.

@@ -1,18 +1,53 @@
 -- Why calls of a tree fail, over several calls of its source.
-use Rattle.std.proofs.Common.{◌≡◌, ◌≤◌, ℕ, inl, inr, subst, sym, ◌∙◌, arith, refl, Some, Result, Ok, Err, OnOk, OnErr}
+use Rattle.std.proofs.Common.{◌≡◌, ◌≢◌, ◌≤◌, ℕ, zero, suc, true, inl, inr, ap, subst, sym, ◌∙◌, arith, refl, Option, Some, None, Result, Ok, Err, OnOk, OnErr, is_some}
+use Rattle.std.specs.Prelude.{IfErr}
 use Rattle.std.specs.FinMap as fin
+use Rattle.std.specs.Option.{option_map}
 use Rattle.fv_disk.specs.declared.fault.BlockFault.{BlockFault}
 use Rattle.fv_disk.specs.declared.fault.BlockFault.TheVariants.{DiskFault, Damaged, Memory}
 use Rattle.fv_codec.specs.declared.pointer.Pointer.{Pointer}
-use Rattle.fv_tree.specs.Spelled.{Rooted, pointer_at}
-use Rattle.fv_tree.specs.Sources.{Shown, Counts, IsCalm, IsUntouched}
+use Rattle.fv_tree.specs.declared.kept.Tree.{Tree}
+use Rattle.fv_tree.specs.declared.kept.KeptNode.{KeptNode}
+use Rattle.fv_tree.specs.Spelled.{Under, Rooted, pointer_at}
+use Rattle.fv_tree.specs.Sources.{Shown, Counts, IsCalm, IsDamaged, IsUntouched}
+use Rattle.fv_tree.specs.Carried.{kept_at}
 use Rattle.fv_tree.specs.Keeping.{IsSame}
-use Rattle.fv_tree.specs.Standing.{under, IsBlockDamage, LeadsAway, PointerFails, LoadFails, Fails}
+use Rattle.fv_tree.specs.Standing.{under, IsBlockDamage, IsUnread, LeadsAway, node_in, PointerFails, LoadFails, Fails}
+
+-- ---- what isn't in memory
+
+none_there : {X : Type 0} (o : Option X) → (is_some o ≡ true → ⊥) → o ≡ None
+none_there None never = refl
+none_there (Some x) never = absurd (never refl)
+
+node_unread : (t : Rooted) (level place : ℕ) → 1 ≤ level → (is_some (t.nodes level place) ≡ true → ⊥) → IsUnread t level place
+node_unread t zero place low never = absurd (omega (arith, low))
+node_unread t (suc level) place low never = none_there (t.nodes (suc level) place) never
+
+-- it wasn't there in a tree that is the same, either
+same_unread : (t u : Rooted) → IsSame t u → (level place : ℕ) → (pointer_at t level place).stamp ≢ 0 → IsUnread u level place → IsUnread t level place
+same_unread t u same zero place some none = ap (λ (cells : Under). cells place) (sym same.cells) ∙ none
+same_unread t u same (suc level) place some none = same.nodes (suc level) place some none
+
+-- where a node in memory leaves only want of memory, no damage comes with it
+kept_there : (o : Option KeptNode) → is_some (option_map (λ (kept : KeptNode). kept.children) o) ≡ true → is_some o ≡ true
+kept_there None is = is
+kept_there (Some kept) is = refl
+
+pub kept_damage : (t : Tree) (level place : ℕ) (e : BlockFault) → (is_some (kept_at t level place) ≡ true → e ≡ Memory) → IsDamaged e → is_some (node_in t level place) ≡ true → ⊥
+kept_damage t level place e held damaged there = subst IsDamaged (held (kept_there (kept_at t level place) there)) damaged
+
+-- a fault that doesn't come where something is in memory
+pub err_unless : {T E : Type 0} (P : Type 0) (C : E → Type 0) (r : Result T E) → (P → OnErr r ⊥) → IfErr r C → IfErr r (λ e. (P → ⊥) × C e)
+err_unless P C (Ok x) unless cause = tt
+err_unless P C (Err e) unless cause = (unless, cause)
+
+-- ---- one call
 
 -- a cell of the tree that wasn't loaded
-pub cell_fails : (told : Type 0) (t : Rooted) (old new : Shown) (index : ℕ) (p : Pointer) (e : BlockFault) → t.under ≡ under old → (told → p ≡ pointer_at t 0 index) → PointerFails old new p e → Fails told t old new e
-cell_fails told t old new index p DiskFault held is (cause, away) = cause
-cell_fails told t old new index p (Damaged at want found) held is ((faults, was), away) = (
+pub cell_fails : (told : Type 0) (t : Rooted) (old new : Shown) (index : ℕ) (p : Pointer) (e : BlockFault) → t.under ≡ under old → (told → p ≡ pointer_at t 0 index) → (is_some (t.cells index) ≡ true → ⊥) → PointerFails old new p e → Fails told t old new e
+cell_fails told t old new index p DiskFault held is fresh (cause, away) = cause
+cell_fails told t old new index p (Damaged at want found) held is fresh ((faults, was), away) = (
   faults,
   inl (
     was,
@@ -20,17 +55,18 @@ cell_fails told t old new index p (Damaged at want found) held is ((faults, was)
       level = 0;
       place = index;
       high = omega arith;
+      unread = none_there (t.cells index) fresh;
       away = subst (LeadsAway t.under) (is tells) (subst (λ b. LeadsAway b p) (sym held) (away tt));
     },
   ),
 )
-cell_fails told t old new index p Memory held is (cause, away) = cause
+cell_fails told t old new index p Memory held is fresh (cause, away) = cause
 
 -- a node of the tree that wasn't loaded
 pub node_fails : (told : Type 0) (t : Rooted) (old new : Shown) (level place : ℕ) (p : Pointer) (e : BlockFault) → t.under ≡ under old → 1 ≤ level → level ≤ t.levels → (told → pointer_at t level place ≡ p)
-    → LoadFails told old new p e → Fails told t old new e
-node_fails told t old new level place p DiskFault held low high is h = h
-node_fails told t old new level place p (Damaged at want found) held low high is (faults, inl h) = (
+    → (IsDamaged e → is_some (t.nodes level place) ≡ true → ⊥) → LoadFails told old new p e → Fails told t old new e
+node_fails told t old new level place p DiskFault held low high is fresh h = h
+node_fails told t old new level place p (Damaged at want found) held low high is fresh (faults, inl h) = (
   faults,
   inl (
     h.0,
@@ -38,11 +74,12 @@ node_fails told t old new level place p (Damaged at want found) held low high is
       level = level;
       place = place;
       high = high;
+      unread = node_unread t level place low (fresh tt);
       away = subst (LeadsAway t.under) (sym (is tells)) (subst (λ b. LeadsAway b p) (sym held) h.1);
     },
   ),
 )
-node_fails told t old new level place p (Damaged at want found) held low high is (faults, inr h) = (
+node_fails told t old new level place p (Damaged at want found) held low high is fresh (faults, inr h) = (
   faults,
   inr (
     h.0,
@@ -51,11 +88,12 @@ node_fails told t old new level place p (Damaged at want found) held low high is
       place = place;
       low = low;
       high = high;
+      unread = node_unread t level place low (fresh tt);
       damage = subst (λ q. IsBlockDamage old new q at want found) (sym (is tells)) (h.1 tells);
     },
   ),
 )
-node_fails told t old new level place p Memory held low high is h = h
+node_fails told t old new level place p Memory held low high is fresh h = h
 
 -- ---- over several calls
 
@@ -104,6 +142,7 @@ fails_later told t old mid new (Damaged at want found) calm held (faults, inr (d
       place = h.place;
       low = h.low;
       high = h.high;
+      unread = h.unread;
       damage = record {
         some = h.damage.some;
         block = h.damage.block;
@@ -135,6 +174,7 @@ fails_same told t u old new (Damaged at want found) same (faults, inl h) = (
       level = was.level;
       place = was.place;
       high = omega (arith, was.high, alike.levels);
+      unread = same_unread t u alike was.level was.place (λ none. was.away.0 (ap (λ (p : Pointer). p.stamp) (alike.pointers was.level was.place) ∙ none)) was.unread;
       away = subst (λ b. LeadsAway b (pointer_at t was.level was.place)) alike.under (subst (LeadsAway u.under) (alike.pointers was.level was.place) was.away);
     },
   ),
@@ -148,6 +188,7 @@ fails_same told t u old new (Damaged at want found) same (faults, inr (damages, 
       place = h.place;
       low = h.low;
       high = omega (arith, h.high, alike.levels);
+      unread = same_unread t u alike h.level h.place (λ none. h.damage.some (ap (λ (p : Pointer). p.stamp) (alike.pointers h.level h.place) ∙ none)) h.unread;
       damage = subst (λ p. IsBlockDamage old new p at want found) (alike.pointers h.level h.place) h.damage;
     },
   ),

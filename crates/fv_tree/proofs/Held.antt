@@ -90,6 +90,7 @@ same_self t = record {
   root = refl;
   cells = refl;
   pointers = λ k q. refl;
+  nodes = λ k q some none. none;
 }
 
 -- ---- a node that was put into memory, and the others

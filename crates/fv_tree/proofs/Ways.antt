@@ -1,5 +1,5 @@
 -- The pointers of a tree are the only ones that agree with its root and its nodes, level by level.
-use Rattle.std.proofs.Common.{◌≡◌, ◌≢◌, ◌≤◌, ◌<◌, ℕ, zero, suc, ◌+◌, ◌-◌, ◌/◌, ◌%◌, ◌⊎◌, inl, inr, true, false, List, [], get_or, replicate, refl, sym, ap, ◌∙◌, arith, ◌==◌, nat_le, if◌then◌else◌}
+use Rattle.std.proofs.Common.{◌≡◌, ◌≢◌, ◌≤◌, ◌<◌, ℕ, zero, suc, ◌+◌, ◌-◌, ◌/◌, ◌%◌, ◌⊎◌, inl, inr, true, false, List, [], length, Some, None, get_or, replicate, refl, sym, ap, ◌∙◌, arith, ◌==◌, nat_le, if◌then◌else◌}
 use Rattle.std.proofs.lemmas.Bool.{cases_eq, cases_lt}
 use Rattle.std.proofs.lemmas.Bool.Decides.{nat_tests}
 use Rattle.std.proofs.lemmas.List.{get_or-replicate, get_or_past, length-replicate}
@@ -102,6 +102,22 @@ keeps_pointers t u level place keeps k q = elim (cases_lt t.levels k) [
   | inr le ↦ is_way u (pointer_at t) (keeps_way t u level place keeps) k q (omega (arith, le, keeps.levels))
 ]
 
+-- a node that isn't in memory wasn't there before
+keeps_unread : (t u : Rooted) (level place : ℕ) (p : Pointer) → Keeps t u level place p → (k q : ℕ) → u.nodes k q ≡ None → t.nodes k q ≡ None
+keeps_unread t u level place p keeps k q none = elim (cases_eq k level) [
+  | inr differs ↦ sym (keeps.others k q (inl differs)) ∙ none
+  | inl low ↦ elim (cases_eq q place) [
+    | inr apart ↦ sym (keeps.others k q (inr apart)) ∙ none
+    | inl at ↦
+        let here : u.nodes level place ≡ None = (λ j. u.nodes (sym low j) (sym at j)) ∙ none in
+        (λ j. t.nodes (low j) (at j)) ∙ own here keeps.own
+  ]
+]
+  where
+    own : u.nodes level place ≡ None → (u.nodes level place ≡ t.nodes level place) ⊎ ((xs : List Pointer) × (u.nodes level place ≡ Some xs) × (length xs ≡ 128) × ((slot : ℕ) → get_or xs slot hole ≡ get_or (pointers_at t level place p) slot hole)) → t.nodes level place ≡ None
+    own here (inl same) = sym same ∙ here
+    own here (inr there) = absurd (let both = sym here ∙ there.1 in cc)
+
 pub keeps_same : (t u : Rooted) (level place : ℕ) → Keeps t u level place (pointer_at t level place) → IsSame t u
 keeps_same t u level place keeps = record {
   under = keeps.under;
@@ -110,6 +126,7 @@ keeps_same t u level place keeps = record {
   root = keeps.root;
   cells = keeps.cells;
   pointers = keeps_pointers t u level place keeps;
+  nodes = λ k q some none. keeps_unread t u level place (pointer_at t level place) keeps k q none;
 }
 
 pub same_then : (t u v : Rooted) → IsSame t u → IsSame u v → IsSame t v
@@ -120,4 +137,5 @@ same_then t u v first second = record {
   root = second.root ∙ first.root;
   cells = second.cells ∙ first.cells;
   pointers = λ k q. second.pointers k q ∙ first.pointers k q;
+  nodes = λ k q some none. first.nodes k q some (second.nodes k q (λ gone. some (ap (λ (p : Pointer). p.stamp) (sym (first.pointers k q)) ∙ gone)) none);
 }

@@ -78,6 +78,10 @@ hidden_same blocks t u i far same nodes = record {
     | inl lt ↦ past (standing blocks u) k q (omega (arith, lt, same.levels)) ∙ sym (past (standing blocks t) k q lt)
     | inr le ↦ is_way (standing blocks u) (pointer_at (standing blocks t)) (hidden_way (standing blocks t) (standing blocks u) i far same.owner refl same.levels same.root nodes) k q (omega (arith, le, same.levels))
   ];
+  nodes = λ k q some none. elim (cases_lt t.levels k) [
+    | inl lt ↦ absurd (some (ap (λ (p : Pointer). p.stamp) (past (standing blocks t) k q lt)))
+    | inr le ↦ sym (nodes k q le (λ at. some (ap (λ (p : Pointer). p.stamp) (ap (pointer_at (standing blocks t) k) at ∙ past_at (standing blocks t) i k far le)))) ∙ none
+  ];
 }
 
 -- ---- a write, from the tree that it stamps

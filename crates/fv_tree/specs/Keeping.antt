@@ -1,9 +1,9 @@
 -- What a tree holds in memory, where that changes and the tree stays.
-use Rattle.std.specs.Prelude.{◌≡◌, ◌≢◌, ◌⊎◌, ℕ, List, Some, get_or, length}
+use Rattle.std.specs.Prelude.{◌≡◌, ◌≢◌, ◌⊎◌, ℕ, List, Some, None, get_or, length}
 use Rattle.fv_codec.specs.declared.pointer.Pointer.{Pointer}
 use Rattle.fv_tree.specs.Spelled.{Rooted, hole, pointers_at, pointer_at}
 
--- the same tree, with other nodes in memory
+-- the same tree, with other nodes in memory, among them all those to which a pointer leads that were there
 pub record IsSame (old new : Rooted) : Type 0 where
   pub under : new.under ≡ old.under
   pub owner : new.owner ≡ old.owner
@@ -11,6 +11,7 @@ pub record IsSame (old new : Rooted) : Type 0 where
   pub root : new.root ≡ old.root
   pub cells : new.cells ≡ old.cells
   pub pointers : (level place : ℕ) → pointer_at new level place ≡ pointer_at old level place
+  pub nodes : (level place : ℕ) → (pointer_at old level place).stamp ≢ 0 → new.nodes level place ≡ None → old.nodes level place ≡ None
 
 -- a node is in memory; where nothing leads to it, it holds nothing
 pub record IsKept (t : Rooted) (level place : ℕ) : Type 0 where

@@ -1,5 +1,5 @@
 -- A tree over what a source of blocks holds, and why its calls fail.
-use Rattle.std.specs.Prelude.{◌≡◌, ◌≢◌, ◌≤◌, ◌⊎◌, ℕ, List, Option, Some, None, Err}
+use Rattle.std.specs.Prelude.{◌≡◌, ◌≢◌, ◌≤◌, ◌⊎◌, ℕ, zero, suc, List, Option, Some, None, Err}
 use Rattle.std.specs.Option.{option_map}
 use Rattle.std.specs.Ordering.{nat_cmp}
 use Rattle.std.specs.BTreeMap as tree
@@ -70,23 +70,30 @@ pub record IsBlockDamage (old new : Shown) (p : Pointer) (at want found : ℕ) :
   pub fault : node_at block ≡ Err (record { want = want; found = found })
   pub read : at ≡ new.read_at p
 
--- the block of a node of the tree hasn't its shape
+-- a cell or node isn't in memory, so that it is loaded where a pointer leads to it
+abbrev pub IsUnread : Rooted → ℕ → ℕ → Type 0
+IsUnread t zero place = t.cells place ≡ None
+IsUnread t (suc level) place = t.nodes (suc level) place ≡ None
+
+-- the block of a node of the tree, which isn't in memory, hasn't its shape
 pub record IsNodeDamage (t : Rooted) (old new : Shown) (at want found : ℕ) : Type 0 where
   pub level : ℕ
   pub place : ℕ
   pub low : 1 ≤ level
   pub high : level ≤ t.levels
+  pub unread : IsUnread t level place
   pub damage : IsBlockDamage old new (pointer_at t level place) at want found
 
 -- a pointer leads to a VVBN that isn't held
 abbrev pub LeadsAway : Under → Pointer → Type 0
 LeadsAway blocks p = (p.stamp ≢ 0) × (blocks p.vvbn ≡ None)
 
--- so does one of the tree
+-- so does one of the tree, to what isn't in memory
 pub record LacksBlock (t : Rooted) : Type 0 where
   pub level : ℕ
   pub place : ℕ
   pub high : level ≤ t.levels
+  pub unread : IsUnread t level place
   pub away : LeadsAway t.under (pointer_at t level place)
 
 -- why a load of this pointer failed

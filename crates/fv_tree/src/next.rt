@@ -1,10 +1,10 @@
 //! The next cell that stands.
 
-ghost use Rattle.std.specs.Prelude.{◌≡◌, ◌≢◌, ◌≤◌, ◌<◌, ◌-◌, ◌/◌, ◌%◌, ◌^◌, ◌⊎◌, ℕ, IfOk, IfErr, IfSome, IfNone, get_or};
+ghost use Rattle.std.specs.Prelude.{◌≡◌, ◌≢◌, ◌≤◌, ◌<◌, ◌-◌, ◌/◌, ◌%◌, ◌^◌, ◌⊎◌, ℕ, IfOk, IfErr, IfSome, IfNone, get_or, is_some, true, OnErr};
 ghost use Rattle.fv_model.specs.Trees.{fan};
 ghost use Rattle.fv_tree.specs.Spelled.{hole, pointers_at, pointer_at};
 ghost use Rattle.fv_tree.specs.Sources.{Counts, IsUntouched};
-ghost use Rattle.fv_tree.specs.Standing.{standing, under, Fails, LoadFails};
+ghost use Rattle.fv_tree.specs.Standing.{standing, under, Fails, LoadFails, node_in};
 ghost use Rattle.fv_tree.specs.Seeking.{IsNextCell, IsFirstLed, IsFirstChild, Lands, IsFurther};
 
 use crate::blocks::{Blocks, TreeFault};
@@ -122,6 +122,7 @@ fn children_of<B: Blocks>(
 ) -> Result<[Pointer; 128], TreeFault>
     requires some { pointer.now.stamp ≢ 0 }
     ensures children { B.told → IfOk result (λ xs. xs ≡ pointers_at (standing (under (B.shown blocks.old)) tree.now) level place pointer.now) }
+    ensures held { is_some (node_in tree.now level place) ≡ true → OnErr result ⊥ }
     ensures untouched { IsUntouched (B.shown blocks.old) (B.shown blocks.new) }
     ensures reads { B.reads blocks.old blocks.new }
     ensures counts { Counts (B.shown blocks.old) (B.shown blocks.new) result }

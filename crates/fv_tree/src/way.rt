@@ -135,6 +135,7 @@ pub fn read_cell<B: Blocks>(
 ) -> Result<bool, TreeFault>
     requires pointer { B.told → pointer.now ≡ pointer_at (standing (under (B.shown blocks.old)) tree.now) 0 index }
     ensures there { IfOk result (λ there. there ≡ not (pointer.now.stamp == 0)) }
+    ensures held { is_some (cell_in tree.now index) ≡ true → OnErr result ⊥ }
     ensures cell { B.told → IfOk result (λ there. block_at (standing (under (B.shown blocks.old)) tree.now) index ≡ cond there (Some into.new) None) }
     ensures spent { OnOk result ((B.shown blocks.new).spent ≡ (B.shown blocks.old).spent + load_cost (B.shown blocks.old).cost (is_some (cell_in tree.now index)) pointer.now) }
     ensures untouched { IsUntouched (B.shown blocks.old) (B.shown blocks.new) }

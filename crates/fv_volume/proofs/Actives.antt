@@ -1,9 +1,9 @@
 -- The active map as it is read from its blocks.
-use Rattle.std.proofs.Common.{◌≡◌, ◌<◌, ◌≤◌, ◌+◌, ◌*◌, ℕ, Bool, true, false, List, length, length-set, Option, Some, None, refl, sym, ap, subst, ◌∙◌, ⊎_elim, arith}
-use Rattle.std.specs.Prelude.{nat_lt, ◌&&◌, IfNone}
+use Rattle.std.proofs.Common.{◌≡◌, ◌<◌, ◌≤◌, ◌+◌, ◌*◌, ℕ, Bool, true, false, List, length, length-set, replicate, zero, suc, ◌≢◌, Option, Some, None, refl, sym, ap, subst, ◌∙◌, ⊎_elim, arith}
+use Rattle.std.specs.Prelude.{nat_lt, ◌&&◌, slice_index_or, IfNone}
 use Rattle.std.proofs.lemmas.Bool.{cases_lt}
 use Rattle.std.proofs.lemmas.Bool.Decides.{nat_tests}
-use Rattle.std.proofs.lemmas.List.{get_or-set_same}
+use Rattle.std.proofs.lemmas.List.{get_or-set_other, get_or-set_same}
 use Rattle.fv_disk.specs.Shown.{Image}
 use Rattle.fv_bits.specs.Bits.{bit_of_area, bit_of_bytes, block_bits}
 use Rattle.fv_bits.specs.Members.{TakesBlock, is_member}
@@ -11,7 +11,8 @@ use Rattle.fv_bits.proofs.Laws.{is_member-replicate, taken_more, zero_block}
 use Rattle.fv_model.specs.Space.{map_blocks}
 use Rattle.fv_container.specs.declared.entry.Entry.{Entry}
 use Rattle.fv_container.specs.Mapped.{Mapped, entry_under}
-use Rattle.fv_volmap.specs.Slots.{IsVolume, Loads, Volume, active_of, empty_volume, map_or_empty, slot_at}
+use Rattle.fv_volmap.specs.Slots.{IsVolume, Loads, Slot, Volume, active_of, empty_volume, map_or_empty, slot_at}
+use Rattle.fv_volume.specs.Files.{IsOneMap}
 use Rattle.fv_volume.specs.Loading.{HasRead, active_bit, entry_block}
 
 -- a block that was taken into the active slot
@@ -21,6 +22,20 @@ active_taken old index block new loads is =
     let there : slot_at new 0 ≡ Some loads.map = ap (λ (x : Volume). slot_at x 0) loads.volume ∙ get_or-set_same old.slots 0 (Some loads.map) None (omega (arith, long, is.count)) in
     let now : active_of new ≡ loads.map = ap (map_or_empty new.span) there in
     subst (λ (m : List Bool). TakesBlock (active_of old) m index block) (sym now) loads.taken
+
+-- a new volume has one map
+pub one_empty : (span : ℕ) → IsOneMap (empty_volume span)
+one_empty span zero other = absurd (other refl)
+one_empty span (suc k) other = none 25 k
+  where
+    none : (n k : ℕ) → slice_index_or {A = Slot} (replicate n None) k None ≡ None
+    none zero k = refl
+    none (suc n) zero = refl
+    none (suc n) (suc k) = none n k
+
+-- and so it has once a block was read into that
+pub one_loaded : (old : Volume) (index : ℕ) (block : List ℕ) (new : Volume) → Loads old 0 index block new → IsOneMap old → IsOneMap new
+one_loaded old index block new loads one k other = ap (λ (m : Volume). slot_at m k) loads.volume ∙ get_or-set_other old.slots 0 k (Some loads.map) None other ∙ one k other
 
 module _ (i : Image) (c : Mapped) (span : ℕ) where
   area : ℕ → List ℕ

@@ -135,6 +135,7 @@ module _ (d e : Disk) (p q : Pool) (reads : Reads d p e q) (x : VolumeState) (ca
     place = n.place;
     low = n.low;
     high = n.high;
+    unread = n.unread;
     damage = record {
       some = n.damage.some;
       block = n.damage.block;

@@ -1,6 +1,7 @@
 -- What a change of a volume's files leaves that was refused, or failed while it was made.
-use Rattle.std.proofs.Common.{◌≡◌, ℕ, ◌+◌, ◌<◌, ◌≤◌, true, refl, sym, ap, subst, ◌∙◌, arith}
+use Rattle.std.proofs.Common.{◌≡◌, ◌≢◌, ℕ, ◌+◌, ◌<◌, ◌≤◌, true, refl, sym, ap, subst, ◌∙◌, arith}
 use Rattle.std.specs.Prelude.{Result, Ok, Err, OnOk, IfOk}
+use Rattle.std.proofs.lemmas.Bool.{both_ways}
 use Rattle.fv_disk.specs.Shown.{Shown as Disk}
 use Rattle.fv_disk.specs.declared.fault.BlockFault.{BlockFault}
 use Rattle.fv_disk.specs.declared.fault.BlockFault.TheVariants as block
@@ -12,7 +13,7 @@ use Rattle.fv_charge.specs.declared.delta.Delta.{Delta}
 use Rattle.fv_charge.specs.Changes.{IsChanged, IsDeltaOf}
 use Rattle.fv_charge.specs.Ledgers.{IsLedgerOf}
 use Rattle.fv_model.specs.Volumes.{Volume}
-use Rattle.fv_volmap.specs.Slots.{Volume as Maps}
+use Rattle.fv_volmap.specs.Slots.{Volume as Maps, slot_at}
 use Rattle.fv_tables.specs.Told.{Standing}
 use Rattle.fv_volume.specs.Lending.{IsTold}
 use Rattle.fv_volume.specs.declared.fault.VolumeFault.{VolumeFault}
@@ -78,6 +79,7 @@ module _ (d e : Disk) (p q : Pool) (reads : Reads d p e q) (x y : VolumeState) (
     counted = tt;
     marked = tt;
     unwritten = λ was. was;
+    idle = λ unchanged. refl;
     failed = refl;
     refused = λ why none. refl;
   }))
@@ -109,7 +111,7 @@ module _ (d e f : Disk) (p q r : Pool) (first : Reads d p e q) (x v w : VolumeSt
   pub left_ready : IsReady d p x → IsReady f r w
   left_ready ready = subst (λ (z : VolumeState). IsReady f r z) (sym alters.same)
       (still_ready e f q r alters.reads left
-      (ready_again e q x x.now w.map w.files x.ledger (still_ready d e p q first x ready) (few_changes d p x ready) alters.maps.span
+      (ready_again e q x x.now w.map w.files x.ledger (still_ready d e p q first x ready) (few_changes d p x ready) alters.maps.span alters.maps.snapshots
       (let booked = ready.booked in record { size = booked.size; kind = booked.kind; span = booked.span; need = booked.need; charge = booked.charge })))
 
   pub left_table : IsStanding d p x → KeepsTable d p x f r w
@@ -144,6 +146,7 @@ module _ (d e f : Disk) (p q r : Pool) (first : Reads d p e q) (x v y : VolumeSt
     counted = tt;
     marked = tt;
     unwritten = λ was. refl;
+    idle = λ unchanged. absurd (both_ways true unchanged refl);
     failed = refl;
     refused = λ why none. absurd (not_refused b why none);
   }))
@@ -218,6 +221,9 @@ module _ {T : Type 0} (d e f : Disk) (p q r : Pool) (x v w y : VolumeState) (res
   left_span : w.map.span ≡ x.map.span
   left_span = parts.alters.maps.span ∙ ap (λ (z : VolumeState). z.map.span) parts.same
 
+  left_slots : (k : ℕ) → k ≢ 0 → slot_at w.map k ≡ slot_at x.map k
+  left_slots k other = parts.alters.maps.snapshots k other ∙ ap (λ (z : VolumeState). slot_at z.map k) parts.same
+
   pub done_ready : IsReady d p x → FitsLedger w by → IsReady f r y
   done_ready ready fits_it =
       let fits = subst (λ (z : VolumeState). FitsLedger z by) is_left fits_it in
@@ -226,7 +232,7 @@ module _ {T : Type 0} (d e f : Disk) (p q r : Pool) (x v w y : VolumeState) (res
       let n = done_next in
       subst (λ (z : VolumeState). IsReady f r z) (sym is_done)
       (still_ready e f q r parts.alters.reads done_so
-      (ready_again e q x y.now w.map w.files y.ledger (still_ready d e p q parts.first x ready) (omega (arith, more, n)) left_span
+      (ready_again e q x y.now w.map w.files y.ledger (still_ready d e p q parts.first x ready) (omega (arith, more, n)) left_span left_slots
       (record { size = booked.size; kind = booked.kind; span = booked.span; need = booked.need; charge = booked.charge })))
 
   pub done_head : KeepsHead {T = Unit {0}} x y (Ok tt)
@@ -237,6 +243,7 @@ module _ {T : Type 0} (d e f : Disk) (p q r : Pool) (x v w y : VolumeState) (res
     counted = done_next;
     marked = ap (λ (z : VolumeState). z.changed) is_done;
     unwritten = λ was. ap (λ (z : VolumeState). z.changed) is_done;
+    idle = λ unchanged. absurd (both_ways y.changed unchanged (ap (λ (z : VolumeState). z.changed) is_done));
     failed = tt;
     refused = tt;
   }

@@ -90,6 +90,7 @@ module _ (old new : Lent) (drops : DropsOver old new) (held : (shown_over new).h
           place = n.place;
           low = n.low;
           high = n.high;
+          unread = n.unread;
           damage = record { some = n.damage.some; block = n.damage.block; lies = n.damage.lies; fault = n.damage.fault; read = n.damage.read ∙ read_there (pointer_at t n.level n.place) n.damage.block n.damage.lies };
         }
     loads_fail t block.Memory cause = cause.faults

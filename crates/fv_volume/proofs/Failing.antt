@@ -51,6 +51,7 @@ read_fails told t old new (Damaged at want found) reads none (faults, inr (same,
       place = n.place;
       low = n.low;
       high = n.high;
+      unread = n.unread;
       damage = record { some = n.damage.some; block = n.damage.block; lies = n.damage.lies; fault = n.damage.fault; read = n.damage.read ∙ same_place old new reads (pointer_at t n.level n.place) };
     }
 read_fails told t old new Memory reads none cause = cause.faults

@@ -1,5 +1,5 @@
 -- A volume of a session after a point: what it is once the root on the disk names it.
-use Rattle.std.proofs.Common.{◌≡◌, ℕ, ◌<◌, ◌≤◌, Option, Some, None, length, refl, sym, ap, subst, ◌∙◌, arith}
+use Rattle.std.proofs.Common.{◌≡◌, ℕ, ◌<◌, ◌≤◌, false, Option, Some, None, length, refl, sym, ap, subst, ◌∙◌, arith}
 use Rattle.std.specs.Prelude.{IfSome}
 use Rattle.std.specs.Option.{option_map}
 use Rattle.fv_disk.specs.Shown.{Shown}
@@ -14,9 +14,15 @@ use Rattle.fv_volume.specs.Files.{IsLabelled}
 use Rattle.fv_volume.specs.Held.{core_of, HasNoFiles, HasWholeMap, IsReadyIn}
 use Rattle.fv_volume.specs.Housed.{as_written, settled_as}
 use Rattle.fv_volume.specs.Loading.{Houses}
-use Rattle.fv_volume.specs.OneVolume.{IsBooked}
+use Rattle.fv_volume.specs.OneVolume.{IsBooked, IsReady}
+use Rattle.fv_volume.specs.States.{parent_in}
 use Rattle.fv_volume.proofs.PlacedIn.{housed_count}
 use Rattle.fv_volume.proofs.Settled.{settled_has, settled_keeps}
+
+-- nothing of it waits to be written
+pub settled_unchanged : (o : Option VolumeState) (label : ℕ) → IfSome (option_map (settled_as label) o) (λ x. x.changed ≡ false)
+settled_unchanged None label = tt
+settled_unchanged (Some x) label = settled_has (λ (y : VolumeState). y.changed ≡ false) x label (λ e. refl) (λ e. e)
 
 -- it has files in memory, numbers in its map and a core as before
 pub settled_no_files : (o : Option VolumeState) (label : ℕ) → HasNoFiles o → HasNoFiles (option_map (settled_as label) o)
@@ -30,6 +36,16 @@ settled_whole (Some x) label is = settled_has (λ (y : VolumeState). length (act
 pub settled_core : (o : Option VolumeState) (label : ℕ) → option_map core_of (option_map (settled_as label) o) ≡ option_map core_of o
 settled_core None label = refl
 settled_core (Some x) label = ap (λ (y : VolumeState). Some y) (settled_keeps core_of x label refl)
+
+-- its core has its parent
+pub core_parent : (o : Option VolumeState) → parent_in o ≡ parent_in (option_map core_of o)
+core_parent None = refl
+core_parent (Some x) = refl
+
+-- calls can be made on it, whatever slot it has
+pub ready_of : (disk : Shown) (pool : Pool) (s : ℕ) (o : Option VolumeState) → IfSome o (IsReadyIn disk pool s) → IfSome o (IsReady disk pool)
+ready_of disk pool s None is = tt
+ready_of disk pool s (Some x) is = is.ready
 
 module _ (old new : Shown) (pool left : Pool) (s : ℕ) (stands : StandsOn new left.store.pairs) (size : left.found.blocks ≡ pool.found.blocks) where
   -- calls can be made on a volume that has its container

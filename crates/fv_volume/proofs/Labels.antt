@@ -19,7 +19,7 @@ use Rattle.fv_charge.specs.declared.ledger.Ledger.{Ledger}
 use Rattle.fv_volmap.specs.Slots.{Volume as MapSlots}
 use Rattle.fv_volume.specs.declared.state.VolumeState.{VolumeState}
 use Rattle.fv_volume.specs.Labels.{free_record, kind_number, label_said}
-use Rattle.fv_volume.specs.Files.{IsLabelled, has_form}
+use Rattle.fv_volume.specs.Files.{IsLabelled, IsOneMap, has_form}
 use Rattle.fv_volume.specs.States.{head_in}
 use Rattle.fv_volume.proofs.Naming.{same_byte}
 
@@ -183,6 +183,7 @@ same_labelled slot x y head at map ledger is =
       form = ap has_form head ∙ is.form;
       span = subst (λ (n : ℕ). n ≤ greatest_span) (sym span) is.span;
       map = ap (λ (m : MapSlots). m.span) map ∙ is.map ∙ sym span;
+      one = subst IsOneMap (sym map) is.one;
       counts = ap (λ (l : Ledger). l.span) ledger ∙ is.counts ∙ sym span;
       levels = subst (λ (h : Head). h.active.levels ≤ 2) (sym head) is.levels;
       named = ap (λ (h : Head). is_name h.name) head ∙ is.named;

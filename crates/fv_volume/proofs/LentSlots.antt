@@ -40,6 +40,12 @@ nodes_of i found s (Some l) map there tree b named = (l, there, subst (λ (n : �
 both_or_none : (i : Image) (found : Found) (s : ℕ) (o : Option VolumeState) (c : Option Mapped) (l : Option Label) → label_of found i s ≡ l → IsLoaded i found s o c → IsContainerOf i l c × (option_map head_in o ≡ option_map head_of l)
 both_or_none i found s o c l there is = (subst (λ (l : Option Label). IsContainerOf i l c) there is.tree, is.head ∙ ap (option_map head_of) there)
 
+-- the blocks of a volume that can be lent are apart
+pub lent_apart : (i : Image) (found : Found) (s : ℕ) (o : Option VolumeState) (c : Option Mapped) → IsLentAt i found s o c → IfSome o (λ x. IfSome c (AreApartIn x))
+lent_apart i found s None c at = tt
+lent_apart i found s (Some x) None at = tt
+lent_apart i found s (Some x) (Some map) at = at.apart
+
 -- A loaded volume whose blocks are apart can be lent.
 pub lent_from_loaded : (i : Image) (found : Found) (s : ℕ) (o : Option VolumeState) (c : Option Mapped) → IsLoaded i found s o c → IfSome o (λ x. IfSome c (AreApartIn x)) → IsLentAt i found s o c
 lent_from_loaded i found s None None is apart = sym is.label

@@ -88,3 +88,8 @@ pub mod SeenAlone
 pub mod HeldSettled
 pub mod Spending
 pub mod Staying
+pub mod Resting
+pub mod Undamaged
+pub mod KnownSteps
+pub mod FreeNumbers
+pub mod Waiting

@@ -8,7 +8,7 @@ use Rattle.fv_image.specs.Told.{has_none}
 use Rattle.fv_codec.proofs.Numbers.{up_to-le}
 use Rattle.fv_volume.specs.declared.state.Snap.{Snap as StateSnap}
 use Rattle.fv_volume.specs.declared.state.VolumeState.{VolumeState}
-use Rattle.fv_volume.specs.Files.{IsLabelled, has_form}
+use Rattle.fv_volume.specs.Files.{IsLabelled, has_form, IsOneMap}
 use Rattle.fv_volume.specs.States.{head_in, snap_in}
 use Rattle.std.proofs.lemmas.Bool.Decides.{nat_tests}
 use Rattle.fv_codec.specs.declared.label.Label.{Label}
@@ -119,9 +119,9 @@ sayable l range y head named =
     }
 
 -- a volume with the head of such a label has its numbers and its name
-pub labelled_from : (l : Label) → IsLabel l → form_in l ≡ None → (y : VolumeState) (slot : ℕ) → y.slot ≡ slot → head_in y ≡ head_of l → y.ledger.span ≡ l.span → is_name y.name ≡ true → y.map.span ≡ y.span → IsLabelled slot y
+pub labelled_from : (l : Label) → IsLabel l → form_in l ≡ None → (y : VolumeState) (slot : ℕ) → y.slot ≡ slot → head_in y ≡ head_of l → y.ledger.span ≡ l.span → is_name y.name ≡ true → y.map.span ≡ y.span → IsOneMap y.map → IsLabelled slot y
 unfolding head_of
-labelled_from l range none y slot at head ledger named map =
+labelled_from l range none y slot at head ledger named map one =
     let same : y.span ≡ l.span = ap (λ h. h.span) head in
     let levels : y.active.levels ≡ l.levels = ap (λ h. h.active.levels) head in
     record {
@@ -129,6 +129,7 @@ labelled_from l range none y slot at head ledger named map =
       form = ap has_form head ∙ head_bare l range (bare l none);
       span = omega (arith, same, range.span_greatest);
       map = map;
+      one = one;
       counts = ledger ∙ sym same;
       levels = omega (arith, levels, range.levels);
       named = named;

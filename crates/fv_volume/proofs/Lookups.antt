@@ -28,7 +28,7 @@ use Rattle.fv_inode.specs.Listing.{names_from, names_told}
 
 module _ {X : Type 0} (test : X → Bool) where
   -- what is found passes the test, and nothing is found only where nothing passes
-  found_passes : (x : X) (xs : List X) → find test xs ≡ Some x → test x ≡ true
+  pub found_passes : (x : X) (xs : List X) → find test xs ≡ Some x → test x ≡ true
   found_passes x [] e = absurd cc
   found_passes x (y ∷ ys) e = elim (test y) as (λ b. test y ≡ b → cond b (Some y) (find test ys) ≡ Some x → test x ≡ true) [
     | true ↦ λ d h. let same : y ≡ x = cc in ap test (sym same) ∙ d
@@ -45,7 +45,7 @@ module _ {X : Type 0} (test : X → Bool) where
     ]
   ] refl e there
 
-not_both : {b : Bool} → b ≡ true → b ≡ false → ⊥
+pub not_both : {b : Bool} → b ≡ true → b ≡ false → ⊥
 not_both is isnt = let wrong : true ≡ false = sym is ∙ isnt in cc
 
 some_same : {X : Type 0} (x y : X) → Some x ≡ Some y → x ≡ y
@@ -55,16 +55,16 @@ module _ (x : Standing) (name : List ℕ) where
   abbrev is_named : ℕ × File → Bool
   is_named e = is_same_name e.1.name name
 
-  name_told : (n : ℕ) (r : InodeRecord) → (file_told (tree_of x n r) r).name ≡ name_of r
+  pub name_told : (n : ℕ) (r : InodeRecord) → (file_told (tree_of x n r) r).name ≡ name_of r
   unfolding file_told
   name_told n r = refl
 
-  told_by : (n : ℕ) (r : InodeRecord) → file_at x.inode n ≡ Some r → file_in x n ≡ Some (file_told (tree_of x n r) r)
+  pub told_by : (n : ℕ) (r : InodeRecord) → file_at x.inode n ≡ Some r → file_in x n ≡ Some (file_told (tree_of x n r) r)
   unfolding file_in
   told_by n r there = ap (option_map (λ r. file_told (tree_of x n r) r)) there
 
   -- a file of the table has a record
-  record_of : (n : ℕ) (f : File) → file_in x n ≡ Some f → (r : InodeRecord) × (file_at x.inode n ≡ Some r) × (f ≡ file_told (tree_of x n r) r)
+  pub record_of : (n : ℕ) (f : File) → file_in x n ≡ Some f → (r : InodeRecord) × (file_at x.inode n ≡ Some r) × (f ≡ file_told (tree_of x n r) r)
   unfolding file_in
   record_of n f there = by (file_at x.inode n) refl there
     where

@@ -46,11 +46,12 @@ use Rattle.fv_volume.specs.Creating.{Admits, IsNew, Refuses, new_ledger_of}
 use Rattle.fv_volume.specs.Labels.{hole}
 use Rattle.fv_volume.proofs.Labels.{IsSayable, label_range}
 use Rattle.fv_volume.specs.Slots.{is_named, HasName, HaveSpans, HasSpan, IsFirstFree, IsFull, NoneHasName, sum_of}
-use Rattle.fv_volume.specs.Files.{AreNamed, AreStates, IsLabelled, IsState, has_form}
+use Rattle.fv_volume.specs.Files.{AreNamed, AreStates, IsLabelled, IsState, has_form, IsOneMap}
 use Rattle.fv_volume.specs.States.{States, empty_head, head_in, ledger_of_empty, placed_in, state_at, view_over, with_state}
 use Rattle.fv_volume.specs.Trees.{Trees, active_by, active_in, machine_in}
 use Rattle.fv_volume.proofs.Told.{Named, AreDistinct, named_from, volume_by, all_named, counted, distinct_from, fewer_named, find_set, head_there, is_inside, ledger_commit, none_named, none_some, same_named, some_named, summed, summed_states, volumes_are}
 use Rattle.fv_volume.proofs.Trees.{told_alike, same_active}
+use Rattle.fv_volume.proofs.Actives.{one_empty}
 
 -- ---- the new volume
 
@@ -252,6 +253,7 @@ new_labelled y slot name size kind span fits is at head ledger sized named map =
       form = ap has_form head ∙ form_new name size kind span;
       span = omega (arith, span_is, fits);
       map = ap (λ (x : MapSlots). x.span) map ∙ sym span_is;
+      one = subst IsOneMap (sym map) (one_empty span);
       counts = ap (λ (l : Ledger). l.span) ledger ∙ sym span_is;
       levels = omega (arith, levels);
       named = ap is_name (ap (λ h. h.name) head) ∙ named;
@@ -462,8 +464,8 @@ module _ (pool : Pool) (states : States) (slot : ℕ) (name : List ℕ) (size : 
 
 -- the new volume as it lies in its slot
 pub is_new : (states : States) (slot : ℕ) (y : VolumeState) (container : Option Mapped) (name : List ℕ) (size : ℕ) (kind : Kind) (span : ℕ) → slot < length states → span ≡ span_of size 0 0 → head_in y ≡ empty_head name size kind span
-    → y.map ≡ no_numbers span → y.ledger ≡ ledger_of_empty size kind span → y.label ≡ 0 → y.changed ≡ true → container ≡ Some (empty_map (entry_count span)) → IsNew (state_at (with_state states slot (Some y)) slot) container name size kind
-is_new states slot y container name size kind span within is head map ledger label changed holes =
+    → y.map ≡ no_numbers span → y.ledger ≡ ledger_of_empty size kind span → y.label ≡ 0 → y.changed ≡ true → y.files ≡ None → container ≡ Some (empty_map (entry_count span)) → IsNew (state_at (with_state states slot (Some y)) slot) container name size kind
+is_new states slot y container name size kind span within is head map ledger label changed files holes =
     let span_is : y.span ≡ span = ap (λ h. h.span) head in
     record {
       volume = y;
@@ -473,5 +475,6 @@ is_new states slot y container name size kind span within is head map ledger lab
       ledger = ledger ∙ ap (ledger_of_empty size kind) is;
       label = label;
       changed = changed;
+      files = files;
       holes = holes ∙ ap (λ (n : ℕ). Some (empty_map (entry_count n))) (sym span_is);
     }

@@ -1,5 +1,5 @@
 -- What a volume is once its files were placed, whole or in part.
-use Rattle.std.proofs.Common.{◌≡◌, ℕ, ◌≤◌, ◌+◌, true, Option, Some, None, refl, sym, ap, subst, ◌∙◌, arith}
+use Rattle.std.proofs.Common.{◌≡◌, ◌≢◌, ℕ, ◌≤◌, ◌+◌, true, Option, Some, None, refl, sym, ap, subst, ◌∙◌, arith}
 use Rattle.std.specs.Prelude.{min, Ok, Err}
 use Rattle.std.proofs.lemmas.Bool.{both_ways}
 use Rattle.std.proofs.Math.Nat.{min-eq_left, min-le_right}
@@ -22,7 +22,7 @@ use Rattle.fv_files.specs.Pending.{pending_in}
 use Rattle.fv_files.specs.Tables.{table_in, AreReached, AreStanding, IsLed, IsStored, IsStoredUnder}
 use Rattle.fv_files.specs.Apart.{AreLed, stored_trees}
 use Rattle.fv_charge.specs.Ledgers.{IsLedgerOf}
-use Rattle.fv_volmap.specs.Slots.{Volume as Maps}
+use Rattle.fv_volmap.specs.Slots.{Volume as Maps, slot_at}
 use Rattle.fv_volume.specs.declared.pool.Pool.{Pool}
 use Rattle.fv_volume.specs.declared.state.Rooted.{Rooted}
 use Rattle.fv_volume.specs.declared.state.VolumeState.{VolumeState}
@@ -63,13 +63,14 @@ module _ (x : VolumeState) (active : Rooted) (few : active.levels ≤ 2) (fits :
     snapshots = is.snapshots;
   }
 
-  labelled_placed : (map : Maps) (files : Option Files) → map.span ≡ x.map.span → IsLabelled x.slot x → IsLabelled x.slot (record x { active = active; map = map; files = files; changed = true })
+  labelled_placed : (map : Maps) (files : Option Files) → map.span ≡ x.map.span → ((k : ℕ) → k ≢ 0 → slot_at map k ≡ slot_at x.map k) → IsLabelled x.slot x → IsLabelled x.slot (record x { active = active; map = map; files = files; changed = true })
   unfolding label_said
-  labelled_placed map files span is = record {
+  labelled_placed map files span slots is = record {
     slot_is = is.slot_is;
     form = is.form;
     span = is.span;
     map = span ∙ is.map;
+    one = λ k other. slots k other ∙ is.one k other;
     counts = is.counts;
     levels = few;
     named = is.named;
@@ -88,7 +89,7 @@ ready_placed d e p q x active map files room left is few fits goes stands =
         few = (let was = is.lent.few in let span = over.span in omega (arith, span, was));
         entries = (let was = is.lent.entries in let span = over.span in let count = over.shape.count in omega (arith, span, was, count));
       };
-      labelled = labelled_placed x active few fits map files over.span is.labelled;
+      labelled = labelled_placed x active few fits map files over.span over.snapshots is.labelled;
       booked = record { size = is.booked.size; kind = is.booked.kind; span = is.booked.span; need = is.booked.need; charge = is.booked.charge };
       blocks = subst (λ (f : Found). IsSize f.blocks) (sym over.found) is.blocks;
       changed = λ isnt. absurd (both_ways true isnt refl);

@@ -1,11 +1,11 @@
 -- Calls can be made on a volume whose table or whose count of changes is another.
-use Rattle.std.proofs.Common.{◌≡◌, ℕ, ◌≤◌, true, false, Option, sym, ◌∙◌, arith}
+use Rattle.std.proofs.Common.{◌≡◌, ◌≢◌, ℕ, ◌≤◌, true, false, Option, sym, ◌∙◌, arith}
 use Rattle.fv_disk.specs.Shown.{Shown as Disk}
 use Rattle.fv_codec.specs.Blocks.{IsLabel}
 use Rattle.fv_model.specs.Numbers.{most_changes}
 use Rattle.fv_files.specs.declared.files.Files.{Files}
 use Rattle.fv_charge.specs.declared.ledger.Ledger.{Ledger}
-use Rattle.fv_volmap.specs.Slots.{Volume as Maps}
+use Rattle.fv_volmap.specs.Slots.{Volume as Maps, slot_at}
 use Rattle.fv_volume.specs.declared.pool.Pool.{Pool}
 use Rattle.fv_volume.specs.declared.state.VolumeState.{VolumeState}
 use Rattle.fv_volume.specs.Files.{IsLabelled}
@@ -44,13 +44,14 @@ module _ (x : VolumeState) (now : ℕ) (few : now ≤ most_changes) where
     snapshots = is.snapshots;
   }
 
-  labelled_now : IsLabelled x.slot x → (map : Maps) → map.span ≡ x.map.span → (files : Option Files) (ledger : Ledger) → ledger.span ≡ x.ledger.span → IsLabelled x.slot (record x { now = now; map = map; files = files; ledger = ledger; changed = true })
+  labelled_now : IsLabelled x.slot x → (map : Maps) → map.span ≡ x.map.span → ((k : ℕ) → k ≢ 0 → slot_at map k ≡ slot_at x.map k) → (files : Option Files) (ledger : Ledger) → ledger.span ≡ x.ledger.span → IsLabelled x.slot (record x { now = now; map = map; files = files; ledger = ledger; changed = true })
   unfolding label_said
-  labelled_now is map span files ledger counts = record {
+  labelled_now is map span slots files ledger counts = record {
     slot_is = is.slot_is;
     form = is.form;
     span = is.span;
     map = span ∙ is.map;
+    one = λ k other. slots k other ∙ is.one k other;
     counts = counts ∙ is.counts;
     levels = is.levels;
     named = is.named;
@@ -58,16 +59,16 @@ module _ (x : VolumeState) (now : ℕ) (few : now ≤ most_changes) where
   }
 
 -- whatever changed of it
-pub ready_again : (d : Disk) (p : Pool) (x : VolumeState) (now : ℕ) (map : Maps) (files : Option Files) (ledger : Ledger) → IsReady d p x → now ≤ most_changes → map.span ≡ x.map.span → IsBooked (record x { ledger = ledger })
+pub ready_again : (d : Disk) (p : Pool) (x : VolumeState) (now : ℕ) (map : Maps) (files : Option Files) (ledger : Ledger) → IsReady d p x → now ≤ most_changes → map.span ≡ x.map.span → ((k : ℕ) → k ≢ 0 → slot_at map k ≡ slot_at x.map k) → IsBooked (record x { ledger = ledger })
     → IsReady d p (record x { now = now; map = map; files = files; ledger = ledger; changed = true })
-ready_again d p x now map files ledger ready few span booked = record {
+ready_again d p x now map files ledger ready few span slots booked = record {
   lent = record {
     within = ready.lent.within;
     stands = ready.lent.stands;
     few = (let was = ready.lent.few in omega (arith, span, was));
     entries = (let was = ready.lent.entries in omega (arith, span, was));
   };
-  labelled = labelled_now x now few ready.labelled map span files ledger (booked.span ∙ sym ready.booked.span);
+  labelled = labelled_now x now few ready.labelled map span slots files ledger (booked.span ∙ sym ready.booked.span);
   booked = record { size = booked.size; kind = booked.kind; span = booked.span; need = booked.need; charge = booked.charge };
   blocks = ready.blocks;
   changed = λ isnt. absurd (both isnt);

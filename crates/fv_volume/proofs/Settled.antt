@@ -60,6 +60,7 @@ still_labelled s x label is = record {
   form = is.form;
   span = is.span;
   map = is.map;
+  one = is.one;
   counts = is.counts;
   levels = is.levels;
   named = is.named;

@@ -1,16 +1,17 @@
 -- What the placing of one volume's files takes of its numbers and of the blocks.
-use Rattle.std.proofs.Common.{◌≡◌, ℕ, ◌+◌, ◌<◌, ◌≤◌, length, arith}
+use Rattle.std.proofs.Common.{◌≡◌, ℕ, ◌+◌, ◌<◌, ◌≤◌, is_some, length, Option, Some, None, refl, sym, ap, subst, arith}
 use Rattle.std.specs.Prelude.{min}
 use Rattle.fv_volmap.specs.Slots.{IsVolume, Volume, active_of}
 use Rattle.fv_disk.specs.Shown.{Shown}
 use Rattle.fv_aggmap.specs.Space.{free_blocks}
+use Rattle.fv_files.specs.declared.files.Files.{Files}
 use Rattle.fv_volume.specs.declared.pool.Pool.{Pool}
 use Rattle.fv_volume.specs.declared.state.VolumeState.{VolumeState}
 use Rattle.fv_volume.specs.BlocksOver.{free_numbers}
 use Rattle.fv_volume.specs.Lending.{lent_for}
-use Rattle.fv_volume.specs.OneVolume.{home_in}
+use Rattle.fv_volume.specs.OneVolume.{home_in, IsStanding}
 use Rattle.fv_volume.specs.Placing.{pending_of, Goes}
-use Rattle.fv_volume.specs.Held.{HasSpent}
+use Rattle.fv_volume.specs.Held.{HasNumbers, HasSpent, IsPlacedAs}
 use Rattle.fv_volume.proofs.Shows.{active_long}
 
 -- the active map of a volume has each number of its span
@@ -26,3 +27,19 @@ spends disk pool x room left y rest exact goes fits numbers blocks =
     let some : 0 < rest = omega (arith, all, fits.1) in
     let took = goes.goes.goes.spends some in
     record { fewer = fits.0; numbers = omega (arith, all, fits.1, took.numbers); blocks = omega (arith, all, fits.1, took.blocks) }
+
+-- with files in memory or without them: what was placed took no more than there is fewer pending, and there are numbers still
+pub spent_one : (disk after : Shown) (pool left : Pool) (x y : VolumeState) → IsPlacedAs disk pool x after left y → IsStanding disk pool x → HasNumbers (Some x) → pending_of x.files < free_blocks pool.map → HasSpent pool x left y × HasNumbers (Some y)
+spent_one disk after pool left x y placed stands numbers blocks = by x.files refl
+  where
+    below : pending_of x.files < free_numbers x.map → free_numbers x.map + pending_of y.files ≤ free_numbers y.map + pending_of x.files → pending_of y.files ≤ pending_of x.files → pending_of y.files < free_numbers y.map
+    below some took fewer = omega (arith, some, took, fewer)
+
+    by : (o : Option Files) → x.files ≡ o → HasSpent pool x left y × HasNumbers (Some y)
+    by None none =
+        let same = placed.idle none in
+        subst (λ (p : Pool). HasSpent pool x p y × HasNumbers (Some y)) (sym same.0) (subst (λ (z : VolumeState). HasSpent pool x pool z × HasNumbers (Some z)) (sym same.1) (record { fewer = omega arith; numbers = omega arith; blocks = omega arith }, numbers))
+    by (Some f) some =
+        let room = numbers (ap is_some some) in
+        let spent = placed.spent stands room blocks in
+        (spent, λ more. below room spent.numbers spent.fewer)

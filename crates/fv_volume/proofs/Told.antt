@@ -231,10 +231,14 @@ summed_states meant (Some x ∷ xs) from right =
 
 -- ---- a slot in use
 
--- the head of a volume in the view of its session
-pub head_there : (pool : Pool) (states : States) (i : Image) (s : ℕ) (x : VolumeState) → state_at states s ≡ Some x → (view_over pool states i).head s ≡ Some (head_in x)
+-- the head of each slot in the view of a session
+pub head_at : (pool : Pool) (states : States) (i : Image) (s : ℕ) → (view_over pool states i).head s ≡ option_map head_in (state_at states s)
 unfolding view_over
-head_there pool states i s x there = ap (option_map head_in) there
+head_at pool states i s = refl
+
+-- and that of a volume
+pub head_there : (pool : Pool) (states : States) (i : Image) (s : ℕ) (x : VolumeState) → state_at states s ≡ Some x → (view_over pool states i).head s ≡ Some (head_in x)
+head_there pool states i s x there = head_at pool states i s ∙ ap (option_map head_in) there
 
 -- a slot in use is one of those that there are
 pub is_inside : (states : States) (s : ℕ) (x : VolumeState) → length states ≡ 64 → state_at states s ≡ Some x → s < 64

@@ -1,5 +1,5 @@
 -- What the calls on a volume answer and leave, by the machine.
-use Rattle.std.specs.Prelude.{◌≡◌, ◌≢◌, ◌≤◌, ◌+◌, ◌⊎◌, ℕ, true, List, Some, None, Result, Ok, Err, OnOk, OnErr, IfOk, IfErr}
+use Rattle.std.specs.Prelude.{◌≡◌, ◌≢◌, ◌≤◌, ◌+◌, ◌⊎◌, ℕ, true, false, List, Some, None, Result, Ok, Err, OnOk, OnErr, IfOk, IfErr}
 use Rattle.std.specs.FinMap as fin
 use Rattle.fv_disk.specs.Shown.{Shown as Disk}
 use Rattle.fv_disk.specs.DiskCalls.{OnlyReads}
@@ -108,7 +108,8 @@ pub record GivesUp (old new : Maps) : Type 0 where
 
 -- Nothing of a volume changed but its changes and the trees in memory, with their ledger and the numbers in use. A change that was made is
 -- counted, and the next point has the volume to write. One that failed isn't counted, neither in the changes nor in the ledger, and what a
--- point had to write before it still has. A refused one leaves all as it was.
+-- point had to write before it still has. A refused one leaves all as it was, and so does each call after which the next point hasn't the volume
+-- to write.
 pub record KeepsHead {T : Type 0} (old new : VolumeState) (result : Result T VolumeFault) : Type 0 where
   pub same : new ≡ record old { now = new.now; map = new.map; files = new.files; ledger = new.ledger; changed = new.changed }
   pub maps : GivesUp old.map new.map
@@ -116,6 +117,7 @@ pub record KeepsHead {T : Type 0} (old new : VolumeState) (result : Result T Vol
   pub counted : OnOk result (new.now ≡ old.now + 1)
   pub marked : OnOk result (new.changed ≡ true)
   pub unwritten : old.changed ≡ true → new.changed ≡ true
+  pub idle : new.changed ≡ false → new ≡ old
   pub failed : OnErr result (new ≡ record old { map = new.map; files = new.files; changed = new.changed })
   pub refused : IfErr result (λ e. (r : Refusal) → e ≡ Refused r → new ≡ old)
 

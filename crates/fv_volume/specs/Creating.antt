@@ -52,8 +52,8 @@ pub record IsMade (old : States) (slot : ℕ) (name : List ℕ) (size : ℕ) (ki
   pub states : new ≡ with_state old slot (Some state)
   pub head : head_in state ≡ empty_head name size kind (span_of size 0 0)
 
--- A new volume that a consistency point has yet to write: no number is held, no label lies anywhere, and its container has a hole for
--- each VVBN.
+-- A new volume that a consistency point has yet to write: no number is held, no file is in memory, no label lies anywhere, and its container
+-- has a hole for each VVBN.
 pub record IsNew (state : Option VolumeState) (container : Option Mapped) (name : List ℕ) (size : ℕ) (kind : Kind) : Type 0 where
   pub volume : VolumeState
   pub state_is : state ≡ Some volume
@@ -62,6 +62,7 @@ pub record IsNew (state : Option VolumeState) (container : Option Mapped) (name 
   pub ledger : volume.ledger ≡ ledger_of_empty size kind (span_of size 0 0)
   pub label : volume.label ≡ 0
   pub changed : volume.changed ≡ true
+  pub files : volume.files ≡ None
   pub holes : container ≡ Some (empty_map (entry_count volume.span))
 
 -- the pool with a container of holes for a slot: not even the blocks of the active map are placed before a consistency point

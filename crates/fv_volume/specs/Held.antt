@@ -55,9 +55,9 @@ abbrev pub pending_by : Option VolumeState → ℕ
 pending_by None = 0
 pending_by (Some x) = pending_of x.files
 
--- a volume has more free numbers than blocks are pending
+-- a volume with files in memory has more free numbers than blocks are pending
 abbrev pub HasNumbers : Option VolumeState → Type 0
-HasNumbers state = IfSome state (λ x. pending_of x.files < free_numbers x.map)
+HasNumbers state = IfSome state (λ x. is_some x.files ≡ true → pending_of x.files < free_numbers x.map)
 
 -- What was placed of one volume took no more numbers and blocks than there are fewer pending.
 pub record HasSpent (pool : Pool) (x : VolumeState) (left : Pool) (y : VolumeState) : Type 0 where

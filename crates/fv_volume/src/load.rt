@@ -11,6 +11,7 @@ ghost use Rattle.fv_image.specs.Views.{entry_count, head_of};
 ghost use Rattle.fv_model.specs.Numbers.{greatest_span};
 ghost use Rattle.fv_model.specs.Space.{map_blocks};
 ghost use Rattle.fv_store.specs.Held.{StandsOn};
+ghost use Rattle.fv_volume.specs.Files.{IsOneMap};
 ghost use Rattle.fv_volume.specs.Loading.{HasRead, IsBadLabel, IsBadMap, IsFilled, IsLoadFault, IsLoaded, KeptTo, LeavesOthers, LoadedTo, form_in, has_delayed, is_delayed_entry, is_kept_vvbn};
 ghost use Rattle.fv_volume.specs.States.{head_in, state_at};
 
@@ -42,6 +43,7 @@ fn read_map_block<D: Disk>(
     requires entries { length container.now.entries ≡ entry_count span }
     requires within { index < map_blocks span }
     ensures map { map.new.span ≡ map.old.span }
+    ensures one { OnOk result (IsOneMap map.old → IsOneMap map.new) }
     ensures read { IsTrue (D.shown disk.old).tells → HasRead (D.shown disk.old).reads container.now span index map.old
         → OnOk result (HasRead (D.shown disk.old).reads container.now span (index + 1) map.new) }
     ensures fault { IsTrue (D.shown disk.old).tells → IfErr result (IsBadMap (D.shown disk.old).reads container.now span) }
@@ -77,6 +79,7 @@ fn read_map<D: Disk>(
     requires least { 1 ≤ span }
     requires entries { length container.now.entries ≡ entry_count span }
     ensures map { IfOk result (λ map. map.span ≡ span) }
+    ensures one { IfOk result IsOneMap }
     ensures read { IsTrue (D.shown disk.old).tells → IfOk result (HasRead (D.shown disk.old).reads container.now span (map_blocks span)) }
     ensures fault { IsTrue (D.shown disk.old).tells → IfErr result (IsBadMap (D.shown disk.old).reads container.now span) }
     ensures only_reads { OnlyReads (D.shown disk.old) (D.shown disk.new) }
@@ -102,6 +105,7 @@ fn read_map_blocks<D: Disk>(
     requires map { map.old.span ≡ span }
     requires entries { length container.now.entries ≡ entry_count span }
     ensures map { map.new.span ≡ map.old.span }
+    ensures one { OnOk result (IsOneMap map.old → IsOneMap map.new) }
     ensures read { IsTrue (D.shown disk.old).tells → HasRead (D.shown disk.old).reads container.now span 0 map.old
         → OnOk result (HasRead (D.shown disk.old).reads container.now span (map_blocks span) map.new) }
     ensures fault { IsTrue (D.shown disk.old).tells → IfErr result (IsBadMap (D.shown disk.old).reads container.now span) }

@@ -35,7 +35,7 @@ impl VolumeState {
     ///
     /// `Damaged` only where the room is used up and a number or a block is lacking: at the place of the label or of the root, with 1 and
     /// 0. `Memory` where memory ran out. It refuses nothing, and `DiskFault` never comes. A volume that doesn't stand could answer other
-    /// damage, and `Memory` where the inode block of a file in memory isn't there, too.
+    /// damage, and `Memory` where the inode block of a file in memory isn't there, too. Without a file in memory no fault comes.
     ///
     /// Nothing is read, which its signature shows. Costs a block for each node and cell that changed, for each inode block of a file that
     /// changed and each node over those. `docs/SPACE.md` has what waits for a point.
@@ -57,6 +57,7 @@ impl VolumeState {
         ensures others { LeavesOthers (D.shown disk.now) pool.old self.old.slot (D.shown disk.now) pool.new }
         ensures free { HasRoom pool.new.map self.new.map room.new }
         ensures cause { IfErr result (FlushFails (IsStanding (D.shown disk.now) pool.old self.old) (lent_for pool.old self.old.map (D.shown disk.now) 0 (home_in self.old) room.old) room.new) }
+        ensures filed { IfErr result (λ e. is_some self.old.files ≡ true) }
     {
         let Some(mut files) = self.files.take() else {
             return Ok(());

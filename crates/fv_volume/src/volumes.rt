@@ -15,7 +15,7 @@ ghost use Rattle.fv_root.specs.Formatted.{IsSize};
 ghost use Rattle.fv_volume.specs.declared.pool.Pool.{Pool};
 ghost use Rattle.fv_store.specs.Held.{StandsOn};
 ghost use Rattle.fv_volume.specs.Causes.{WithBlockFault};
-ghost use Rattle.fv_volume.specs.Creating.{Admits, IsMade, IsNew, with_holes};
+ghost use Rattle.fv_volume.specs.Creating.{Admits, IsMade, IsNew, with_holes, Refuses};
 ghost use Rattle.fv_volume.specs.Opening.{OpensVolumes};
 ghost use Rattle.fv_volume.specs.States.{view_over, state_at, with_state};
 ghost use Rattle.fv_volume.specs.Trees.{Trees, machine_in};
@@ -133,6 +133,7 @@ impl Volumes {
     pub fn commits(&self) -> u64
         requires { (s : ℕ) → IfSome (state_at self.now s) (IsLabelled s) }
         ensures exact { result ≡ sum_of self.now }
+        ensures most { result ≤ 2 ^ 40 }
         ensures machine { (pool : Pool) (trees : Trees) → Over pool self.now trees (λ m. result ≡ commits m) }
     {
         sum_commits(&self.states)
@@ -202,6 +203,7 @@ impl Volumes {
             → Over pool self.now trees (λ m. commits m + 2 * overhead a.span ≤ capacity blocks)) }
         ensures refused { IfErr result (λ r. (pool : Pool) (trees : Trees) → pool.found.blocks ≡ blocks
             → Over pool self.now trees (λ m. refusal m (VolCreate name.now size kind) ≡ Some r)) }
+        ensures why { IfErr result (Refuses self.now blocks name.now size kind) }
     {
         admit(&self.states, blocks, name, size, kind)
     }

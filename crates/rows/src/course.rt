@@ -60,23 +60,40 @@ impl Course {
         self.add_plain(bench, blocks, b"")
     }
 
-    /// The states before the first line of a script and after each.
+    /// The states before the first line of a script and after each. The plain machine is asked at each of them in one go, since what is
+    /// asked changes nothing.
     fn go_on(&mut self, bench: &Bench) -> Result<(), AllocError> {
-        let mut lines = Vec::from_slice(bench.alloc, bench.lines.as_slice())?;
+        let asks = bench.run.asks();
+        let mut script = Vec::from_slice(bench.alloc, asks)?;
         let mut least = 0;
+        self.acknowledged.push(least)?;
         let mut rest = bench.run.script.as_slice();
-        for at in 0..=rest.len() {
-            self.add_plain(bench, bench.blocks, lines.as_slice())?;
-            self.acknowledged.push(least)?;
+        for at in 0..rest.len() {
             if rest.is_empty() {
-                return Ok(());
+                break;
             }
             let (line, after) = split_lines(rest, 1);
-            add_lines(&mut lines, line)?;
+            add_lines(&mut script, line)?;
+            script.extend_from_slice(asks)?;
             if line == b"cp\n".as_slice() || line == b"cp".as_slice() {
                 least = at + 1;
             }
+            self.acknowledged.push(least)?;
             rest = after;
+        }
+        let lines = bench.lines.as_slice();
+        let replies = plain_replies(bench.alloc, bench.blocks, lines, script.as_slice())?;
+        self.add_answers(bench, replies.as_slice())
+    }
+
+    /// Adds the states whose answers these are, one after another, with the reply to a line of the script between two.
+    fn add_answers(&mut self, bench: &Bench, replies: &[u8]) -> Result<(), AllocError> {
+        let asks = lines_in(bench.run.asks());
+        let mut rest = replies;
+        for _ in 0..self.acknowledged.len() {
+            let (look, after) = split_lines(rest, asks);
+            self.add(Vec::from_slice(bench.alloc, look)?)?;
+            rest = split_lines(after, 1).1;
         }
         Ok(())
     }

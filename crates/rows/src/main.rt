@@ -9,6 +9,8 @@ mod bench;
 mod blocks;
 mod cause;
 mod course;
+mod drawing;
+mod drawn;
 mod failing;
 mod lines;
 mod playing;

@@ -4,6 +4,7 @@ use crate::answers::settled;
 use crate::bench::{Bench, Program, Run};
 use crate::blocks::{copy, is_damaged, is_word, lay, set, zero};
 use crate::cause::{Cause, unread};
+use crate::drawn::play_drawn;
 use crate::failing::try_failing;
 use crate::lines::{add_line, line_of, number, read_spread};
 use crate::playing::{aggregate, begin_run, begin_walks, end_run, image};
@@ -71,6 +72,7 @@ fn read_step(bench: &mut Bench, word: &str, rest: &str) -> Result<(), Cause> {
         "flexvol" => begin_run(bench, Program::Flexvol, rest),
         "reference" => begin_run(bench, Program::Reference, rest),
         "aggregate" => aggregate(bench, rest),
+        "drawn" => play_drawn(bench, rest),
         "image" => image(bench, rest),
         "after" => add_line(&mut bench.lines, rest),
         "lay" => lay(bench.alloc, &mut bench.host, rest),

@@ -49,17 +49,19 @@ pub fn see(bench: &Bench, host: &MemHost, moment: u64, seen: &mut Vec<bool>) -> 
         if number > 3 && u64::from(number) >= moment.saturating_add(3) {
             return Ok(());
         }
-        let mut image = image_at(host, moment, tear_of(number))?;
-        match state_of(bench, &mut image, given_by(host, moment))? {
-            Some(state) => mark(seen, state),
-            None => return Err(because(
-                "an image stands for other lines",
-                moment,
-                u64::from(number),
-            )),
-        }
+        let state = see_torn(bench, host, moment, number)?;
+        mark(seen, state);
     }
     Ok(())
+}
+
+/// Looks at the image of a moment with the tear of a number, and answers the number of its answer, which has to be one that it may have.
+pub fn see_torn(bench: &Bench, host: &MemHost, moment: u64, number: u32) -> Result<usize, Cause> {
+    let mut image = image_at(host, moment, tear_of(number))?;
+    match state_of(bench, &mut image, given_by(host, moment))? {
+        Some(state) => Ok(state),
+        None => Err(because("an image stands for other lines", moment, u64::from(number))),
+    }
 }
 
 fn mark(seen: &mut Vec<bool>, state: usize) {

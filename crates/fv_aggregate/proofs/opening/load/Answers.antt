@@ -1,15 +1,18 @@
-use Rattle.std.proofs.Common.{◌≡◌, ◌∙◌, Result, Err, rules, sym, ap, subst}
+use Rattle.std.proofs.Common.{◌≡◌, ◌∙◌, length, Some, None, Result, Err, rules, sym, ap, subst}
 use Rattle.std.specs.Prelude.{IfErr, IsTrue}
 use Rattle.fv_disk.specs.declared.fault.BlockFault.{BlockFault}
 use Rattle.fv_aggregate.specs.declared.fault.OpenFault.{OpenFault}
 use Rattle.fv_aggregate.specs.declared.session.Session.{Session}
 use Rattle.fv_aggregate.specs.Causes.{IsOpenFault, of_block}
-use Rattle.fv_aggregate.proofs.Opened.{fits_opened, load_fault}
+use Rattle.fv_model.specs.Machines.{Machine}
+use Rattle.fv_root.specs.Formatted.{IsSize}
+use Rattle.fv_volmap.specs.Slots.{active_of}
+use Rattle.fv_aggregate.proofs.Opened.{counted_each, fits_opened, found_tells, load_fault, ready_each}
 use Rattle.fv_disk.specs.Shown.{Image}
 use Rattle.fv_root.specs.declared.find.Found.{Found}
 use Rattle.fv_container.specs.Chains.{slot_count}
 use Rattle.fv_image.specs.Held.{layout_at, view_at}
-use Rattle.fv_image.specs.WholeMachine.{Tells}
+use Rattle.fv_image.specs.WholeMachine.{Tells, machine_of}
 use Rattle.fv_root.specs.Finding.{IsFound, root_found}
 use Rattle.fv_aggmap.specs.Space.{Space}
 use Rattle.fv_aggmap.specs.Loading.{IsLoaded}
@@ -48,6 +51,37 @@ returns-clause-loaded g c = λ tells.
       view = ap (λ (k : Image). view_over pool volumes k) (sym same) ∙ e.view still c.in_ok-pool.ensures.empty ∙ (λ t. view_at (root_found (sym now t)) (same t));
       machine = λ m is. ap (λ (k : Image). machine_in pool volumes no_trees k) (sym same) ∙ e.machine still c.in_ok-pool.ensures.empty m (subst (λ (k : Image). Tells (layout_at (root_found c.in_ok-pool.pool.found) k) m) (sym same) (subst (λ (f : Found). Tells (layout_at (root_found f) i) m) now is));
       states = λ m is. subst (λ (k : Image). AreStates (view_over pool volumes k) no_trees volumes) same (e.whole still c.in_ok-pool.ensures.empty m (subst (λ (k : Image). Tells (layout_at (root_found c.in_ok-pool.pool.found) k) m) (sym same) (subst (λ (f : Found). Tells (layout_at (root_found f) i) m) now is)));
+    }
+
+pub returns-clause-each : goal.returns-clause-each
+returns-clause-each g c =
+    let i = (g.D.Disk.shown c.args.disk.now).reads in
+    let j = (g.D.Disk.shown c.open.new.disk).reads in
+    let first = c.find_root.ensures.only_reads.stays in
+    let second = c.open.ensures.only_reads.stays in
+    let third = c.in_ok-volumes.ensures.only_reads.stays in
+    let same : j ≡ i = second.reads ∙ first.reads in
+    let was = c.in_ok-pool.ensures in
+    let e = c.in_ok-volumes.ensures in
+    let pool = c.open-2.new.pool in
+    let states = c.in_ok-volumes.volumes in
+    let disk = g.D.Disk.shown c.open-2.new.disk in
+    let told : IsTrue disk.tells → IsTrue (g.D.Disk.shown c.open.new.disk).tells = λ tells. subst IsTrue third.tells tells in
+    let still : IsTrue disk.tells → IsTrue (g.D.Disk.shown c.find_root.new.disk).tells = λ tells. subst IsTrue second.tells (told tells) in
+    let firstly : IsTrue disk.tells → IsTrue (g.D.Disk.shown c.args.disk.now).tells = λ tells. subst IsTrue first.tells (still tells) in
+    let means : (m : Machine) → IsTrue disk.tells → machine_of i ≡ Some m → Tells (layout_at (root_found c.in_ok-pool.pool.found) j) m = λ m tells machine.
+    subst (λ (k : Image). Tells (layout_at (root_found c.in_ok-pool.pool.found) k) m) (sym same)
+    (subst (λ (f : Found). Tells (layout_at (root_found f) i) m) (sym was.found) (found_tells i c.in_ok-found.found m (c.in_ok-found.ensures.finds (firstly tells)) machine)) in
+    let map : IsTrue disk.tells → IsLoaded j c.in_ok-pool.pool.found c.in_ok-pool.pool.map = λ tells.
+    subst (λ (f : Found). IsLoaded j f c.in_ok-pool.pool.map) (sym was.found) (subst (λ (k : Image). IsLoaded k c.in_ok-found.found c.in_ok-pool.pool.map) (sym second.reads) (was.map (still tells))) in
+    record {
+      fit = fits_opened c.in_ok-found.found c.in_ok-pool.pool pool states c.in_ok-found.ensures.range was.size was.found was.empty e.states e.map e.kept e.found;
+      ready = ready_each disk pool states e.states.each (e.ready (subst (λ (f : Found). IsSize f.blocks) (sym was.found) c.in_ok-found.ensures.range.size));
+      none = counted_each (λ x. x.files ≡ None) (λ x is. is.none) states e.states.counted;
+      maps = counted_each (λ x. length (active_of x.map) ≡ x.map.span) (λ x is. is.long) states e.states.counted;
+      standing = λ m tells machine. e.standing (told tells) was.empty (map tells) m (means m tells machine);
+      led = λ m tells machine. e.led (told tells) was.empty m (means m tells machine);
+      well = λ m tells machine. e.well (told tells) was.empty m (means m tells machine);
     }
 
 pub returns-clause-asked : goal.returns-clause-asked

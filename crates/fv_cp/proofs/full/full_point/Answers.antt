@@ -1,13 +1,12 @@
 use Rattle.std.proofs.Common.{◌≡◌, ℕ, length, Err, Result, rules, refl, sym, ap, subst, ◌∙◌, arith}
-use Rattle.std.specs.Prelude.{IsTrue, IfErr, OnErr}
-use Rattle.fv_disk.specs.Shown.{Rose}
+use Rattle.std.specs.Prelude.{IsTrue, IfErr}
 use Rattle.fv_container.specs.Chains.{Slots}
 use Rattle.fv_volume.specs.declared.fault.VolumeFault.{VolumeFault}
 use Rattle.fv_volume.specs.declared.pool.Pool.{Pool}
 use Rattle.fv_volume.specs.Causes.{of_block}
 use Rattle.fv_volume.proofs.Staying.{slot_again}
-use Rattle.fv_cp.specs.Settling.{GoesOnWhole, IsHeldPoint, IsNoDamage, StillHeld, WholeCounts}
-use Rattle.fv_cp.proofs.Whole.{counts_done, counts_failed, counts_placed, enough_left, found_mid, goes_whole, no_damage, placing, point_held, pointing, some_room, still_after}
+use Rattle.fv_cp.specs.Settling.{GoesOnWhole, IsHeldPoint, IsNoDamage, IsStill, WholeCounts, WholeFails}
+use Rattle.fv_cp.proofs.Whole.{counts_done, counts_failed, counts_placed, enough_left, fails_left, fails_placed, found_mid, goes_whole, no_damage, placing, point_held, pointing, some_room, still_after, still_placing}
 use Rattle.fv_cp.proofs.full.full_point.Goals as goal
 
 pub consistency_point-requires-clause-found : goal.consistency_point-requires-clause-found
@@ -23,8 +22,9 @@ returns-in_err-flush-clause-any_moment g c = λ tells before was.
 pub returns-in_err-flush-clause-still : goal.returns-in_err-flush-clause-still
 returns-in_err-flush-clause-still g c =
     let failed : c.from_residual.result ≡ Err c.in_err-flush.field-0.0 = search rules in
-    subst (λ (r : Result Unit VolumeFault). OnErr r (¬ Rose (g.D.Disk.shown c.args.disk.now).write_faults (g.D.Disk.shown c.args.disk.now).write_faults → StillHeld (g.D.Disk.shown c.args.disk.now) c.args.pool.now c.args.volumes.now (g.D.Disk.shown c.args.disk.now) c.flush.new.pool c.flush.new.volumes)) (sym failed)
-    (λ calm. record { placed = c.flush.ensures.placed; stands = c.flush.ensures.stands; ready = c.flush.ensures.ready })
+    subst (λ (r : Result Unit VolumeFault). IfErr r (IsStill (g.D.Disk.shown c.args.disk.now) c.args.pool.now c.args.volumes.now (g.D.Disk.shown c.args.disk.now) c.flush.new.pool c.flush.new.volumes)) (sym failed)
+    (still_placing (g.D.Disk.shown c.args.disk.now) c.args.pool.now c.args.volumes.now c.flush.new.pool c.flush.new.volumes c.in_err-flush.field-0.0 c.in_err-flush.ensures.cause
+    (record { placed = c.flush.ensures.placed; stands = c.flush.ensures.stands; ready = c.flush.ensures.ready }))
 
 pub returns-in_err-flush-clause-counts : goal.returns-in_err-flush-clause-counts
 returns-in_err-flush-clause-counts g c =
@@ -47,10 +47,9 @@ returns-in_err-consistency_point-clause-still g c =
     let did = c.in_ok-flush.ensures in
     let lacks = c.in_err-consistency_point.ensures in
     let failed : c.from_residual-in_err-consistency_point.result ≡ Err (of_block c.in_err-consistency_point.field-0.0) = search rules in
-    subst (λ (r : Result Unit VolumeFault). OnErr r (¬ Rose (g.D.Disk.shown c.args.disk.now).write_faults (g.D.Disk.shown c.consistency_point.new.disk).write_faults
-    → StillHeld (g.D.Disk.shown c.args.disk.now) c.args.pool.now c.args.volumes.now (g.D.Disk.shown c.consistency_point.new.disk) c.consistency_point.new.pool c.consistency_point.new.volumes)) (sym failed)
+    subst (λ (r : Result Unit VolumeFault). IfErr r (IsStill (g.D.Disk.shown c.args.disk.now) c.args.pool.now c.args.volumes.now (g.D.Disk.shown c.consistency_point.new.disk) c.consistency_point.new.pool c.consistency_point.new.volumes)) (sym failed)
     (still_after (g.D.Disk.shown c.args.disk.now) c.args.pool.now c.args.volumes.now (g.D.Disk.shown c.args.disk.now) c.flush.new.pool c.flush.new.volumes did.placed g.D.Disk.shown c.args.disk.now c.consistency_point.new.disk refl did.ready did.stands
-    c.consistency_point.new.pool c.consistency_point.new.volumes c.in_err-consistency_point.field-0.0 lacks.calm lacks.lacking lacks.counts.write_cause)
+    c.consistency_point.new.pool c.consistency_point.new.volumes c.in_err-consistency_point.field-0.0 lacks.calm lacks.lacking)
 
 pub returns-in_err-consistency_point-clause-counts : goal.returns-in_err-consistency_point-clause-counts
 returns-in_err-consistency_point-clause-counts g c =
@@ -96,3 +95,18 @@ returns-clause-point g c = λ tells before was.
 pub returns-clause-counts : goal.returns-clause-counts
 returns-clause-counts g c =
     counts_done (g.D.Disk.shown c.args.disk.now) c.args.pool.now c.args.volumes.now (g.D.Disk.shown c.args.disk.now) c.flush.new.pool c.flush.new.volumes c.in_ok-flush.ensures.placed refl (g.D.Disk.shown c.consistency_point.new.disk) c.in_ok-consistency_point.ensures.counts
+
+pub returns-in_err-flush-clause-fails : goal.returns-in_err-flush-clause-fails
+returns-in_err-flush-clause-fails g c =
+    let failed : c.from_residual.result ≡ Err c.in_err-flush.field-0.0 = search rules in
+    subst (λ (r : Result Unit VolumeFault). IfErr r (WholeFails c.args.volumes.now c.flush.new.pool c.flush.new.volumes)) (sym failed)
+    (fails_placed c.args.volumes.now c.flush.new.pool c.flush.new.volumes c.in_err-flush.field-0.0 c.in_err-flush.ensures.cause c.in_err-flush.ensures.filed)
+
+pub returns-in_err-consistency_point-clause-fails : goal.returns-in_err-consistency_point-clause-fails
+returns-in_err-consistency_point-clause-fails g c =
+    let did = c.in_ok-flush.ensures in
+    let lacks = c.in_err-consistency_point.ensures in
+    let failed : c.from_residual-in_err-consistency_point.result ≡ Err (of_block c.in_err-consistency_point.field-0.0) = search rules in
+    subst (λ (r : Result Unit VolumeFault). IfErr r (WholeFails c.args.volumes.now c.consistency_point.new.pool c.consistency_point.new.volumes)) (sym failed)
+    (fails_left (g.D.Disk.shown c.args.disk.now) c.args.pool.now c.args.volumes.now (g.D.Disk.shown c.args.disk.now) c.flush.new.pool c.flush.new.volumes did.placed (g.D.Disk.shown c.consistency_point.new.disk) c.consistency_point.new.pool c.consistency_point.new.volumes
+    c.in_err-consistency_point.field-0.0 lacks.room lacks.lacking)

@@ -2,7 +2,8 @@ use Rattle.std.proofs.Common.{◌≡◌, Err, Result, rules, refl, sym, subst}
 use Rattle.std.specs.Prelude.{IfErr}
 use Rattle.fv_volume.specs.declared.fault.VolumeFault.{VolumeFault}
 use Rattle.fv_volume.specs.declared.fault.VolumeFault.TheVariants.{Memory}
-use Rattle.fv_cp.proofs.Flushing.{come_more, enough_more, passed_more}
+use Rattle.fv_cp.specs.Placing.{HaveNoFiles}
+use Rattle.fv_cp.proofs.Flushing.{come_more, enough_more, filed_more, passed_more}
 use Rattle.fv_cp.proofs.placing.flush.Goals as goal
 
 pub returns-in_err-flush_slot-clause-placed : goal.returns-in_err-flush_slot-clause-placed
@@ -16,6 +17,12 @@ returns-in_err-flush_slot-clause-enough g c = λ before was room.
     let failed : c.from_residual.result ≡ Err c.in_err-flush_slot.field-0.0 = search rules in
     subst (λ (r : Result Unit VolumeFault). IfErr r (λ e. e ≡ Memory)) (sym failed) (enough_more (g.D.Disk.shown c.args.disk.now) c.args.pool.now c.args.volumes.now (g.D.Disk.shown c.args.disk.now) c.loop-slot.pool c.loop-slot.volumes c.loop-slot.invariant.come c.loop-slot.slot
     (g.D.Disk.shown c.args.disk.now) c.flush_slot.new.pool c.flush_slot.new.volumes before was room c.in_err-flush_slot.field-0.0 c.in_err-flush_slot.ensures.fails)
+
+pub returns-in_err-flush_slot-clause-filed : goal.returns-in_err-flush_slot-clause-filed
+returns-in_err-flush_slot-clause-filed g c =
+    let failed : c.from_residual.result ≡ Err c.in_err-flush_slot.field-0.0 = search rules in
+    subst (λ (r : Result Unit VolumeFault). IfErr r (λ e. HaveNoFiles c.args.volumes.now → ⊥)) (sym failed) (filed_more (g.D.Disk.shown c.args.disk.now) c.args.pool.now c.args.volumes.now (g.D.Disk.shown c.args.disk.now) c.loop-slot.pool c.loop-slot.volumes c.loop-slot.invariant.come c.loop-slot.slot
+    (g.D.Disk.shown c.args.disk.now) c.flush_slot.new.pool c.flush_slot.new.volumes c.in_err-flush_slot.field-0.0 c.in_err-flush_slot.ensures.fails)
 
 pub loop-slot-preserved : goal.loop-slot-preserved
 loop-slot-preserved g c =

@@ -1,4 +1,4 @@
-use Rattle.std.proofs.Common.{◌≡◌, ◌≤◌, Some, Ok, Err, Result, arith}
+use Rattle.std.proofs.Common.{◌≡◌, ◌≤◌, true, is_some, Some, Ok, Err, Result, arith}
 use Rattle.std.specs.Prelude.{IfErr}
 use Rattle.fv_volume.specs.declared.fault.VolumeFault.{VolumeFault}
 use Rattle.fv_volume.specs.declared.fault.VolumeFault.TheVariants.{Memory}
@@ -28,12 +28,12 @@ returns-clause-placed g c =
     }
 
 pub returns-clause-fails : goal.returns-clause-fails
-returns-clause-fails g c = by c.flush-flushed.result (λ is. (c.flush-flushed.ensures.places is).enough)
+returns-clause-fails g c = by c.flush-flushed.result (λ is. (c.flush-flushed.ensures.places is).enough) c.flush-flushed.ensures.filed
   where
     by : (r : Result Unit VolumeFault) → (IsStanding (g.D.Disk.shown c.args.disk.now) c.args.pool.now c.args.state.now → pending_of c.args.state.now.files ≤ c.room-room.result → IfErr r (λ e. e ≡ Memory))
-        → IfErr r (MayFail (g.D.Disk.shown c.args.disk.now) c.args.pool.now (Some c.args.state.now))
-    by (Ok done) enough = tt
-    by (Err e) enough = λ is numbers blocks. enough is (let exact = c.room-room.ensures.exact in omega (arith, exact, numbers, blocks))
+        → IfErr r (λ e. is_some c.args.state.now.files ≡ true) → IfErr r (MayFail (g.D.Disk.shown c.args.disk.now) c.args.pool.now (Some c.args.state.now))
+    by (Ok done) enough filed = tt
+    by (Err e) enough filed = (filed, λ is numbers blocks. enough is (let exact = c.room-room.ensures.exact in omega (arith, exact, numbers, blocks)))
 
 pub returns-clause-whole : goal.returns-clause-whole
 returns-clause-whole g c = whole_map _ c.active.ensures.valid

@@ -8,7 +8,7 @@ use Rattle.fv_tree.specs.Carried.{Brings}
 use Rattle.fv_tree.specs.Collecting.{IsChildPast, IsUnder}
 use Rattle.fv_tree.proofs.Bordered.{brings_marks}
 use Rattle.fv_tree.proofs.Brought.{brings_stands}
-use Rattle.fv_tree.proofs.Causes.{node_fails}
+use Rattle.fv_tree.proofs.Causes.{kept_damage, node_fails}
 use Rattle.fv_tree.proofs.Collected.{pointer_in_is, range_within, under_as, under_from, extends_as}
 use Rattle.fv_tree.proofs.Released.{keeps_brought}
 use Rattle.fv_tree.proofs.Ways.{keeps_same}
@@ -54,7 +54,7 @@ returns-in_err-children-clause-cause g c =
     let new = g.B.Blocks.shown c.keep_node.new.blocks in
     let is : g.B.Blocks.told → c.pointer_in-pointer.result ≡ pointer_at (standing (under old) c.args.tree.now) c.args.level c.args.place = λ told. c.pointer_in-pointer.ensures.is ∙ pointer_in_is (under old) c.args.tree.now c.args.level c.args.place (c.requires.stands told) (c.requires.node told) in
     let p = err_from_is_err_and c.from_residual.result c.from_residual.ensures.1 in
-    rw (p.1, p.2) (node_fails g.B.Blocks.told (standing (under old) c.args.tree.now) old new c.args.level c.args.place c.pointer_in-pointer.result c.in_err-children.field-0.0 refl c.requires.low c.requires.high (λ told. sym (is told)) c.in_err-children.ensures.cause)
+    rw (p.1, p.2) (node_fails g.B.Blocks.told (standing (under old) c.args.tree.now) old new c.args.level c.args.place c.pointer_in-pointer.result c.in_err-children.field-0.0 refl c.requires.low c.requires.high (λ told. sym (is told)) (kept_damage c.args.tree.now c.args.level c.args.place c.in_err-children.field-0.0 c.in_err-children.ensures.held) c.in_err-children.ensures.cause)
 
 pub add_ranges-requires-clause-range : goal.add_ranges-requires-clause-range
 add_ranges-requires-clause-range g c = range_within c.args.level c.args.place c.requires.low (omega (arith, c.requires.high, c.args.tree.now.few)) c.requires.range

@@ -1,4 +1,5 @@
-use Rattle.std.proofs.Common.{◌≡◌, ◌+◌, ◌/◌, ◌%◌, ◌-◌, ◌^◌, ℕ, inl, List, Option, Some, get_or, sym, ap, subst, ◌∙◌, arith}
+use Rattle.std.proofs.Common.{◌≡◌, ◌+◌, ◌/◌, ◌%◌, ◌-◌, ◌^◌, ℕ, inl, List, Option, Some, get_or, refl, sym, ap, subst, ◌∙◌, arith}
+use Rattle.std.proofs.lemmas.Result.{err_from_is_err_and}
 use Rattle.std.specs.FinMap as fin
 use Rattle.std.specs.Option.{option_map}
 use Rattle.fv_tree.specs.declared.kept.KeptNode.{KeptNode}
@@ -14,6 +15,7 @@ use Rattle.fv_tree.proofs.Held.{next_pointer, now_kept}
 use Rattle.fv_tree.proofs.Readied.{pointer_low}
 use Rattle.fv_tree.proofs.StillReady.{step_ready}
 use Rattle.fv_tree.proofs.Brought.{leads_on}
+use Rattle.fv_tree.proofs.Causes.{kept_damage, node_fails}
 use Rattle.fv_tree.proofs.Released.{keeps_brought}
 use Rattle.fv_tree.proofs.Ways.{keeps_same}
 use Rattle.fv_tree.proofs.keep.keep_step.Goals as goal
@@ -32,6 +34,18 @@ spells t level i width slot p xs is way xs_are = xs_are slot ∙ (λ j. get_or (
 pub returns-in_err-children-clause-same : goal.returns-in_err-children-clause-same
 returns-in_err-children-clause-same g c = λ told.
     stays (standing (under (g.B.Blocks.shown c.args.blocks.now)) c.args.tree.now) _ c.args.level c.args.index c.width.result c.args.pointer.now c.width.ensures.is (c.requires.pointer told) (c.keep_node.ensures.keeps told)
+
+pub returns-in_err-children-clause-cause : goal.returns-in_err-children-clause-cause
+returns-in_err-children-clause-cause g c =
+    let old = g.B.Blocks.shown c.args.blocks.now in
+    let new = g.B.Blocks.shown c.keep_node.new.blocks in
+    let t = standing (under old) c.args.tree.now in
+    let e = c.in_err-children.field-0.0 in
+    let place = c.args.index / c.width.result in
+    let p = err_from_is_err_and c.from_residual.result c.from_residual.ensures.1 in
+    rw (p.1, p.2) (node_fails g.B.Blocks.told t old new c.args.level place c.args.pointer.now e refl c.requires.low c.requires.high
+    (λ told. (λ j. pointer_at t c.args.level (c.args.index / c.width.ensures.is j)) ∙ sym (c.requires.pointer told))
+    (kept_damage c.args.tree.now c.args.level place e c.in_err-children.ensures.held) c.in_err-children.ensures.cause)
 
 pub returns-clause-below : goal.returns-clause-below
 returns-clause-below g c = λ told.

@@ -14,7 +14,7 @@ returns-in_err-children-clause-cause g c =
     let old = g.B.Blocks.shown c.args.blocks.now in
     let new = g.B.Blocks.shown c.children_of.new.blocks in
     let p = err_from_is_err_and c.from_residual.result c.from_residual.ensures.1 in
-    rw (p.1, p.2) (node_fails g.B.Blocks.told (standing (under old) c.args.tree.now) old new c.args.level (c.args.first / fan) c.args.pointer.now c.in_err-children.field-0.0 refl c.requires.low c.requires.high (λ told. sym (c.requires.pointer told)) c.in_err-children.ensures.cause)
+    rw (p.1, p.2) (node_fails g.B.Blocks.told (standing (under old) c.args.tree.now) old new c.args.level (c.args.first / fan) c.args.pointer.now c.in_err-children.field-0.0 refl c.requires.low c.requires.high (λ told. sym (c.requires.pointer told)) (λ _. c.in_err-children.ensures.held) c.in_err-children.ensures.cause)
 
 pub returns-clause-found : goal.returns-clause-found
 returns-clause-found g c = IfSome_then c.first_led.result c.first_led.ensures.found (λ led is. (is.low, is.high, is.some))

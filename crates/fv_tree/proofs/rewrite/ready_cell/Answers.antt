@@ -66,7 +66,7 @@ returns-in_err-read_cell-clause-cause g c =
     let p = err_from_is_err_and c.from_residual-in_err-read_cell.result c.from_residual-in_err-read_cell.ensures.1 in
     rw (p.1, p.2) (fails_later g.B.Blocks.told t a b d e path.counts.calm path.untouched.held
     (fails_same g.B.Blocks.told t v b d e path.same
-    (cell_fails g.B.Blocks.told v b d c.args.index c.in_ok-pointer.pointer e refl (λ told. path.pointer told ∙ sym ((path.same told).pointers 0 c.args.index)) c.in_err-read_cell.ensures.cause)))
+    (cell_fails g.B.Blocks.told v b d c.args.index c.in_ok-pointer.pointer e refl (λ told. path.pointer told ∙ sym ((path.same told).pointers 0 c.args.index)) c.in_err-read_cell.ensures.held c.in_err-read_cell.ensures.cause)))
 
 pub returns-clause-there : goal.returns-clause-there
 returns-clause-there g c = λ told.

@@ -8,6 +8,7 @@ use Rattle.fv_image.specs.Held.{view_at}
 use Rattle.fv_root.specs.Finding.{root_found}
 use Rattle.fv_volmap.specs.Slots.{Volume, active_of}
 use Rattle.fv_container.specs.Spelled.{IsFault, Spelled}
+use Rattle.fv_volume.specs.Files.{IsOneMap}
 use Rattle.fv_volume.specs.Loading.{HasRead, has_delayed, IsBadMap, IsLoadFault}
 use Rattle.fv_volume.proofs.Labelled.{bad_label, bad_map, bad_tree, handed, is_label, loaded_none, loaded_some}
 use Rattle.fv_volume.proofs.Loaded.{labelled_from}
@@ -77,7 +78,7 @@ returns-clause-loaded g c = λ tells empty.
 
 pub returns-clause-filled : goal.returns-clause-filled
 returns-clause-filled g c = record {
-  state = labelled_from c.in_ok-label.label c.in_ok-label.ensures.range c.in_ok-label.ensures.form c.of_label.result c.args.slot c.of_label.ensures.laid.slot c.of_label.ensures.head c.of_label.ensures.ledger c.of_label.ensures.named (ap (λ (x : Volume). x.span) c.of_label.ensures.laid.map ∙ c.in_ok-map.ensures.map ∙ sym c.of_label.ensures.span);
+  state = labelled_from c.in_ok-label.label c.in_ok-label.ensures.range c.in_ok-label.ensures.form c.of_label.result c.args.slot c.of_label.ensures.laid.slot c.of_label.ensures.head c.of_label.ensures.ledger c.of_label.ensures.named (ap (λ (x : Volume). x.span) c.of_label.ensures.laid.map ∙ c.in_ok-map.ensures.map ∙ sym c.of_label.ensures.span) (subst IsOneMap (sym c.of_label.ensures.laid.map) c.in_ok-map.ensures.one);
   counted = c.of_label.ensures.counted;
   housed = has_container c.in_ok-label.label c.of_label.result c.in_ok-container.container _ c.of_label.ensures.head c.in_ok-container.ensures.size c.put.ensures.there;
   parent = search rules;

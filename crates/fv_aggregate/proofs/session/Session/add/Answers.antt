@@ -3,13 +3,13 @@ use Rattle.std.specs.Prelude.{IsNone}
 use Rattle.fv_model.specs.Space.{overhead, span_of}
 use Rattle.fv_container.specs.Chains.{container_at}
 use Rattle.fv_volume.specs.declared.pool.Pool.{Pool}
-use Rattle.fv_volume.specs.Creating.{IsNew}
+use Rattle.fv_volume.specs.Creating.{Admits, IsNew}
 use Rattle.fv_volume.specs.States.{state_at}
 use Rattle.fv_cp.specs.Lent.{FitTogether, blocks_asked}
 use Rattle.fv_volume.proofs.Housing.{housed_with}
 use Rattle.fv_aggregate.specs.declared.session.Session.{Session}
 use Rattle.fv_aggregate.proofs.Added.{added_as}
-use Rattle.fv_aggregate.proofs.Asking.{asked_made}
+use Rattle.fv_aggregate.proofs.Asking.{asked_made, overheads_made, pending_made}
 use Rattle.fv_aggregate.proofs.session.Session.add.Goals as goal
 
 pub invariant_of-self-2 : goal.invariant_of-self-2
@@ -40,10 +40,13 @@ returns-clause-added c =
       new_there = e.new;
       holes = e.holes;
       each = e.each;
-      states = e.states;
-      accepted = e.accepted;
-      machine = e.machine;
+      place = c.args.admitted.slot;
+      span = c.args.admitted.span;
+      admits = subst (λ (x : Session). Admits x.volumes x.pool.found.blocks c.args.name.now c.args.size c.args.kind c.args.admitted.slot c.args.admitted.span) (sym c.self.view_is) c.requires.admitted;
+      fit = c.self.invariant (subst (λ (s : Session). IsNone s.failed) (sym c.self.view_is) c.requires.fresh);
       long = long;
       asked = asked;
+      overheads = omega (arith, overheads_made c.self.inside.volumes slot c.args.name.now c.args.size c.args.kind c.create.new.self long e.slot e.made, room);
+      files = pending_made c.self.inside.volumes slot c.args.name.now c.args.size c.args.kind c.create.new.self _ long e.slot e.made e.new;
       failed = refl;
     })

@@ -1,47 +1,211 @@
-use Rattle.std.proofs.Common.{◌≡◌, ◌≤◌, ◌+◌, ℕ, rules, Err, refl, sym, subst, ◌∙◌, ⊎_elim}
+use Rattle.std.proofs.Common.{◌≡◌, ◌≤◌, ◌+◌, ◌⊎◌, ℕ, rules, Err, Some, true≢false, refl, sym, ap, subst, ◌∙◌, ⊎_elim}
 use Rattle.std.specs.Prelude.{IsNone}
-use Rattle.std.specs.FinMap as fin
-use Rattle.fv_disk.specs.Shown.{Image}
 use Rattle.fv_model.specs.Space.{overhead, span_of}
-use Rattle.fv_volume.specs.declared.pool.Pool.{Pool}
-use Rattle.fv_volume.specs.Trees.{Trees, machine_in}
+use Rattle.fv_aggregate.specs.Telling.{names_from}
 use Rattle.fv_aggregate.specs.declared.session.Session.{Session}
 use Rattle.fv_model.specs.declared.answers.Reply.{Reply}
 use Rattle.fv_model.specs.declared.answers.Reply.TheVariants.{Names, Refused}
 use Rattle.fv_model.specs.declared.answers.Refusal.TheVariants.{Syntax}
 use Rattle.fv_aggregate.specs.declared.fault.Fault.TheVariants.{Failed, Memory}
 use Rattle.fv_aggregate.specs.Calls.{GoesFor}
-use Rattle.fv_aggregate.specs.Commands.{dirty_limit, machine_after, room_of}
-use Rattle.fv_aggregate.proofs.Applied.{cp_goes, cp_goes_for, cp_replies, create_goes, create_goes_for, create_replies, create_room, list_after, list_replies, some_room, rests_for, rests_for_fault, unbuilt, unbuilt_after, unbuilt_replies}
-use Rattle.fv_aggregate.proofs.Calls.{rests_done}
+use Rattle.fv_aggregate.specs.Commands.{asked_by, changed_by, dirty_limit, machine_after, room_of}
+use Rattle.fv_aggregate.proofs.Added.{not_refused}
+use Rattle.fv_aggregate.proofs.Applied.{asks_none, cp_asks, cp_goes, cp_goes_for, cp_replies, create_asks, create_goes, create_goes_for, create_no_point, create_replies, create_room, list_after, list_replies, some_room, rests_for, rests_for_fault, unbuilt, unbuilt_after, unbuilt_replies}
+use Rattle.fv_aggregate.proofs.Applying.{asks_still, look_asks, look_files, look_goes, look_goes_for, look_no_point, look_refused, look_reply, make_asks, make_calm, make_files, make_goes, make_goes_for, make_no_point, make_reply, no_step, not_dead, refused_as, rests_as, untouched_read}
+use Rattle.fv_aggregate.proofs.Calls.{reads_itself, rests_done}
+use Rattle.fv_aggregate.proofs.Changing.{change_of_volume, change_reads, look_reads}
 use Rattle.fv_aggregate.proofs.session.Session.apply.Goals as goal
 
 pub returns-in-Some-clause-goes_for : goal.returns-in-Some-clause-goes_for
 returns-in-Some-clause-goes_for g c = λ tells last m stands.
     rests_for_fault (Failed c.in-Some.faults) (g.D.Disk.shown c.args.disk.now) c.args.self.now last m (machine_after m c.args.command.now) (g.met.D.Disk.laws c.args.disk.now) tt stands
 
-pub returns-in-VolCreate-clause-goes : goal.returns-in-VolCreate-clause-goes
-returns-in-VolCreate-clause-goes g c =
-    create_goes c.args.command.now _ _ _ c.in-VolCreate.is (g.D.Disk.shown c.args.disk.now) c.args.self.now (g.D.Disk.shown c.create.new.disk) c.create.new.self c.create.result c.create.ensures.goes
+pub returns-in-VolCreate : goal.returns-in-VolCreate
+returns-in-VolCreate g c =
+    let d = g.D.Disk.shown c.args.disk.now in
+    let e = g.D.Disk.shown c.create.new.disk in
+    let s = c.args.self.now in
+    let n = c.create.new.self in
+    let command = c.args.command.now in
+    let size = c.in-VolCreate.size in
+    let room : room_of command ≡ overhead (span_of size 0 0) = create_room command _ size _ c.in-VolCreate.is in
+    let fresh : IsNone s.failed = subst (λ (k : Session). IsNone k.failed) c.self.view_is (subst IsNone (sym c.in_default.is) refl) in
+    let low : (room_of command ≡ 0) ⊎ (s.pending + room_of command ≤ dirty_limit) → s.pending + overhead (span_of size 0 0) ≤ dirty_limit =
+    λ few. ⊎_elim (λ (none : room_of command ≡ 0). absurd (some_room size (sym room ∙ none))) (λ (few : s.pending + room_of command ≤ dirty_limit). subst (λ (k : ℕ). s.pending + k ≤ dirty_limit) room few) few in
+    record {
+      goes = create_goes command _ _ _ c.in-VolCreate.is d s e n c.create.result c.create.ensures.goes;
+      asks = λ none. create_asks command _ _ _ c.in-VolCreate.is d s e n c.create.ensures.asks;
+      goes_for = λ tells last m stands. create_goes_for command _ _ _ c.in-VolCreate.is d last m e n c.create.result (c.create.ensures.goes_for tells last m stands);
+      reply = λ tells last m stands. create_replies command _ _ _ c.in-VolCreate.is m c.create.result (c.create.ensures.reply tells last m stands);
+      refused = λ tells last m stands. refused_as g.D.Disk.shown c.args.disk.now c.create.new.disk s n c.create.result c.create.ensures.refused;
+      plain = λ plain. record {
+        refused = c.create.ensures.refused;
+        calm = λ other few. c.create.ensures.calm (low few);
+        wanting = λ other few. c.create.ensures.wanting (low few);
+        damage = c.create.ensures.damage;
+      };
+      point = λ tells last m stands cp. create_no_point command _ _ _ c.in-VolCreate.is _ cp;
+      calm = λ other few. rests_as g.D.Disk.shown c.args.disk.now c.create.new.disk (c.create.ensures.calm (low few));
+      files = λ tells none without. c.create.ensures.files tells without;
+      steps = λ none. refl;
+      known = λ tells last m stands. no_step c.create.result c.args.steps.now;
+      dead = λ failed. not_dead _ s fresh failed;
+    }
 
-pub returns-in-VolCreate-clause-goes_for : goal.returns-in-VolCreate-clause-goes_for
-returns-in-VolCreate-clause-goes_for g c = λ tells last m stands.
-    create_goes_for c.args.command.now _ _ _ c.in-VolCreate.is (g.D.Disk.shown c.args.disk.now) last m (g.D.Disk.shown c.create.new.disk) c.create.new.self c.create.result (c.create.ensures.goes_for tells last m stands)
+pub returns-in-Cp : goal.returns-in-Cp
+returns-in-Cp g c =
+    let d = g.D.Disk.shown c.args.disk.now in
+    let e = g.D.Disk.shown c.reclaim.new.disk in
+    let s = c.args.self.now in
+    let n = c.reclaim.new.self in
+    let command = c.args.command.now in
+    let fresh : IsNone s.failed = subst (λ (k : Session). IsNone k.failed) c.self.view_is (subst IsNone (sym c.in_default.is) refl) in
+    record {
+      goes = cp_goes command c.in-Cp.is d s e n c.reclaim.result c.reclaim.ensures.goes;
+      asks = λ none. cp_asks command c.in-Cp.is d s e n c.reclaim.ensures.asks;
+      goes_for = λ tells last m stands. cp_goes_for command c.in-Cp.is d last m e n c.reclaim.result (c.reclaim.ensures.goes_for tells last m stands);
+      reply = λ tells last m stands. cp_replies command c.in-Cp.is m c.reclaim.result c.reclaim.ensures.reply;
+      refused = λ tells last m stands. not_refused _ c.reclaim.result c.reclaim.ensures.reply;
+      plain = λ plain. record {
+        refused = not_refused _ c.reclaim.result c.reclaim.ensures.reply;
+        calm = λ other. absurd (other c.in-Cp.is);
+        wanting = λ other. absurd (other c.in-Cp.is);
+        damage = c.reclaim.ensures.damage;
+      };
+      point = λ tells last m stands cp. c.reclaim.ensures.done tells last m stands;
+      calm = λ other. absurd (other c.in-Cp.is);
+      files = λ tells none without. c.reclaim.ensures.files tells;
+      steps = λ none. refl;
+      known = λ tells last m stands. no_step c.reclaim.result c.args.steps.now;
+      dead = λ failed. not_dead _ s fresh failed;
+    }
 
-pub returns-in-VolCreate-clause-reply : goal.returns-in-VolCreate-clause-reply
-returns-in-VolCreate-clause-reply g c = λ tells last m stands.
-    create_replies c.args.command.now _ _ _ c.in-VolCreate.is m c.create.result (c.create.ensures.reply tells last m stands)
+pub returns-in-Get : goal.returns-in-Get
+returns-in-Get g c =
+    let d = g.D.Disk.shown c.args.disk.now in
+    let e = g.D.Disk.shown c.look.new.disk in
+    let s = c.args.self.now in
+    let n = c.look.new.self in
+    let command = c.args.command.now in
+    let name = c.in-Get.volume in
+    let asks = ap asked_by c.in-Get.is in
+    let looks = c.look.ensures.looks in
+    let fresh : IsNone s.failed = subst (λ (k : Session). IsNone k.failed) c.self.view_is (subst IsNone (sym c.in_default.is) refl) in
+    record {
+      goes = look_goes command name asks d s e n c.look.result looks;
+      asks = λ none. look_asks command name asks d s e n c.look.result looks;
+      goes_for = look_goes_for command name asks d s e n c.look.result looks;
+      reply = look_reply command name asks d s e n c.look.result looks;
+      refused = λ tells last m stands. look_refused command name asks d s e n c.look.result looks;
+      plain = λ plain. absurd (true≢false (sym (look_reads command name asks) ∙ plain));
+      point = λ tells last m stands cp. look_no_point command name asks d s e n c.look.result looks _ cp;
+      calm = λ other few. looks.only_reads;
+      files = λ tells none without. look_files command name asks d s e n c.look.result looks without;
+      steps = c.look.ensures.steps;
+      known = c.look.ensures.known;
+      dead = λ failed. not_dead _ s fresh failed;
+    }
 
-pub returns-in-Cp-clause-goes : goal.returns-in-Cp-clause-goes
-returns-in-Cp-clause-goes g c =
-    cp_goes c.args.command.now c.in-Cp.is (g.D.Disk.shown c.args.disk.now) c.args.self.now (g.D.Disk.shown c.reclaim.new.disk) c.reclaim.new.self c.reclaim.result c.reclaim.ensures.goes
+pub returns-in-Len : goal.returns-in-Len
+returns-in-Len g c =
+    let d = g.D.Disk.shown c.args.disk.now in
+    let e = g.D.Disk.shown c.look-in-Len.new.disk in
+    let s = c.args.self.now in
+    let n = c.look-in-Len.new.self in
+    let command = c.args.command.now in
+    let name = c.in-Len.volume in
+    let asks = ap asked_by c.in-Len.is in
+    let looks = c.look-in-Len.ensures.looks in
+    let fresh : IsNone s.failed = subst (λ (k : Session). IsNone k.failed) c.self.view_is (subst IsNone (sym c.in_default.is) refl) in
+    record {
+      goes = look_goes command name asks d s e n c.look-in-Len.result looks;
+      asks = λ none. look_asks command name asks d s e n c.look-in-Len.result looks;
+      goes_for = look_goes_for command name asks d s e n c.look-in-Len.result looks;
+      reply = look_reply command name asks d s e n c.look-in-Len.result looks;
+      refused = λ tells last m stands. look_refused command name asks d s e n c.look-in-Len.result looks;
+      plain = λ plain. absurd (true≢false (sym (look_reads command name asks) ∙ plain));
+      point = λ tells last m stands cp. look_no_point command name asks d s e n c.look-in-Len.result looks _ cp;
+      calm = λ other few. looks.only_reads;
+      files = λ tells none without. look_files command name asks d s e n c.look-in-Len.result looks without;
+      steps = c.look-in-Len.ensures.steps;
+      known = c.look-in-Len.ensures.known;
+      dead = λ failed. not_dead _ s fresh failed;
+    }
 
-pub returns-in-Cp-clause-goes_for : goal.returns-in-Cp-clause-goes_for
-returns-in-Cp-clause-goes_for g c = λ tells last m stands.
-    cp_goes_for c.args.command.now c.in-Cp.is (g.D.Disk.shown c.args.disk.now) last m (g.D.Disk.shown c.reclaim.new.disk) c.reclaim.new.self c.reclaim.result (c.reclaim.ensures.goes_for tells last m stands)
+pub returns-in-Ls : goal.returns-in-Ls
+returns-in-Ls g c =
+    let d = g.D.Disk.shown c.args.disk.now in
+    let e = g.D.Disk.shown c.look-in-Ls.new.disk in
+    let s = c.args.self.now in
+    let n = c.look-in-Ls.new.self in
+    let command = c.args.command.now in
+    let name = c.in-Ls.volume in
+    let asks = ap asked_by c.in-Ls.is in
+    let looks = c.look-in-Ls.ensures.looks in
+    let fresh : IsNone s.failed = subst (λ (k : Session). IsNone k.failed) c.self.view_is (subst IsNone (sym c.in_default.is) refl) in
+    record {
+      goes = look_goes command name asks d s e n c.look-in-Ls.result looks;
+      asks = λ none. look_asks command name asks d s e n c.look-in-Ls.result looks;
+      goes_for = look_goes_for command name asks d s e n c.look-in-Ls.result looks;
+      reply = look_reply command name asks d s e n c.look-in-Ls.result looks;
+      refused = λ tells last m stands. look_refused command name asks d s e n c.look-in-Ls.result looks;
+      plain = λ plain. absurd (true≢false (sym (look_reads command name asks) ∙ plain));
+      point = λ tells last m stands cp. look_no_point command name asks d s e n c.look-in-Ls.result looks _ cp;
+      calm = λ other few. looks.only_reads;
+      files = λ tells none without. look_files command name asks d s e n c.look-in-Ls.result looks without;
+      steps = c.look-in-Ls.ensures.steps;
+      known = c.look-in-Ls.ensures.known;
+      dead = λ failed. not_dead _ s fresh failed;
+    }
 
-pub returns-in-Cp-clause-reply : goal.returns-in-Cp-clause-reply
-returns-in-Cp-clause-reply g c = λ tells last m stands. cp_replies c.args.command.now c.in-Cp.is m c.reclaim.result c.reclaim.ensures.reply
+pub returns-in-Some-changed_volume : goal.returns-in-Some-changed_volume
+returns-in-Some-changed_volume g c =
+    let d = g.D.Disk.shown c.args.disk.now in
+    let e = g.D.Disk.shown c.change.new.disk in
+    let s = c.args.self.now in
+    let n = c.change.new.self in
+    let command = c.args.command.now in
+    let name = c.in-Some-changed_volume.volume.now in
+    let of : changed_by command ≡ Some name = sym c.in-Some-changed_volume.ensures in
+    let makes = c.change.ensures in
+    let fresh : IsNone s.failed = subst (λ (k : Session). IsNone k.failed) c.self.view_is (subst IsNone (sym c.in_default.is) refl) in
+    record {
+      goes = make_goes command name of d s e n c.change.result makes;
+      asks = make_asks command name of d s e n c.change.result makes;
+      goes_for = make_goes_for command name of d s e n c.change.result makes;
+      reply = make_reply command name of d s e n c.change.result makes;
+      refused = makes.refused;
+      plain = λ plain. absurd (true≢false (sym (change_reads name command (change_of_volume name command of)) ∙ plain));
+      point = λ tells last m stands cp. make_no_point command name of d s e n c.change.result makes _ cp;
+      calm = λ other few. make_calm command name of d s e n c.change.result makes few;
+      files = λ tells isnt without. make_files command name of d s e n c.change.result makes _ isnt;
+      steps = λ none. refl;
+      known = λ tells last m stands. no_step c.change.result c.args.steps.now;
+      dead = λ failed. not_dead _ s fresh failed;
+    }
+
+pub returns-in-None : goal.returns-in-None
+returns-in-None g c =
+    let disk = g.D.Disk.shown c.args.disk.now in
+    let session = c.args.self.now in
+    let command = c.args.command.now in
+    let at = c.in_default-command in
+    let other = unbuilt command at.not-VolCreate at.not-VolList at.not-Cp (asks_none command at.not-Get at.not-Len at.not-Ls) (sym c.in-None.ensures) in
+    let fresh : IsNone session.failed = subst (λ (s : Session). IsNone s.failed) c.self.view_is (subst IsNone (sym c.in_default.is) refl) in
+    record {
+      goes = rests_done (Refused Syntax) (room_of command) disk session fresh (c.requires.stands fresh);
+      asks = λ none. asks_still (room_of command) disk session;
+      goes_for = λ tells last m stands. rests_for (Refused Syntax) disk session last m (machine_after m command) (g.met.D.Disk.laws c.args.disk.now) (unbuilt_after m command other) stands;
+      reply = λ tells last m stands. unbuilt_replies m command other;
+      refused = λ tells last m stands refused. untouched_read disk session;
+      plain = λ plain. record { refused = λ refused. (refl, refl); calm = λ not few. refl; wanting = λ not few. tt; damage = tt };
+      point = λ tells last m stands cp. absurd (at.not-Cp cp);
+      calm = λ not few. reads_itself disk;
+      files = λ tells none without. without;
+      steps = λ none. refl;
+      known = λ tells last m stands. refl;
+      dead = λ failed. refl;
+    }
 
 pub returns-in_err-names_of-in-VolList-clause-goes_for : goal.returns-in_err-names_of-in-VolList-clause-goes_for
 returns-in_err-names_of-in-VolList-clause-goes_for g c = λ tells last m stands.
@@ -54,37 +218,8 @@ pub returns-in_ok-names_of-in-VolList-clause-goes_for : goal.returns-in_ok-names
 returns-in_ok-names_of-in-VolList-clause-goes_for g c = λ tells last m stands.
     rests_for (Names c.in_ok-names_of-in-VolList.field-0) (g.D.Disk.shown c.args.disk.now) c.args.self.now last m (machine_after m c.args.command.now) (g.met.D.Disk.laws c.args.disk.now) (list_after c.args.command.now m c.in-VolList.is) stands
 
-pub returns-in-VolCreate-clause-calm : goal.returns-in-VolCreate-clause-calm
-returns-in-VolCreate-clause-calm g c = λ other calm.
-    let size = c.in-VolCreate.size in
-    let room : room_of c.args.command.now ≡ overhead (span_of size 0 0) = create_room c.args.command.now _ size _ c.in-VolCreate.is in
-    ⊎_elim
-    (λ (none : room_of c.args.command.now ≡ 0). absurd (some_room size (sym room ∙ none)))
-    (λ (few : c.args.self.now.pending + room_of c.args.command.now ≤ dirty_limit). c.create.ensures.calm (subst (λ (n : ℕ). c.args.self.now.pending + n ≤ dirty_limit) room few))
-    calm
-
 pub returns-in_ok-names_of-in-VolList-clause-reply : goal.returns-in_ok-names_of-in-VolList-clause-reply
 returns-in_ok-names_of-in-VolList-clause-reply g c = λ tells last m stands.
     let names = c.in_ok-names_of-in-VolList.field-0 in
-    let listed = subst (λ (s : Session). (pool : Pool) (trees : Trees) (i : Image) → names ≡ fin.keys (machine_in pool s.volumes trees i).volumes) c.self.view_is c.in_ok-names_of-in-VolList.ensures in
+    let listed = subst (λ (s : Session). names ≡ names_from s.volumes 0 64) c.self.view_is c.in_ok-names_of-in-VolList.ensures in
     list_replies c.args.command.now c.in-VolList.is (g.D.Disk.shown c.args.disk.now) c.args.self.now last m stands names listed
-
-pub returns-in-Cp-clause-point : goal.returns-in-Cp-clause-point
-returns-in-Cp-clause-point g c = λ tells last m stands cp. c.reclaim.ensures.done tells last m stands
-
-pub returns-in_default-command : goal.returns-in_default-command
-returns-in_default-command g c =
-    let disk = g.D.Disk.shown c.args.disk.now in
-    let session = c.args.self.now in
-    let other = unbuilt c.args.command.now c.in_default-command.not-VolCreate c.in_default-command.not-VolList c.in_default-command.not-Cp in
-    let fresh : IsNone session.failed = subst (λ (s : Session). IsNone s.failed) c.self.view_is (subst IsNone (sym c.in_default.is) refl) in
-    record {
-      goes = rests_done (Refused Syntax) (room_of c.args.command.now) disk session fresh (c.requires.stands fresh);
-      goes_for = λ tells last m stands. rests_for (Refused Syntax) disk session last m (machine_after m c.args.command.now) (g.met.D.Disk.laws c.args.disk.now) (unbuilt_after m c.args.command.now other) stands;
-      reply = λ tells last m stands. unbuilt_replies m c.args.command.now other;
-      refused = λ refused. (refl, refl);
-      point = λ tells last m stands cp. absurd (c.in_default-command.not-Cp cp);
-      calm = λ not few. refl;
-      steps = refl;
-      dead = λ failed. refl;
-    }

@@ -1,24 +1,27 @@
-use Rattle.std.proofs.Common.{◌≡◌, None, Some, Option, refl, subst}
-use Rattle.fv_model.specs.declared.answers.Refusal.{Refusal}
-use Rattle.fv_model.specs.declared.commands.Command.TheVariants.{VolCreate}
-use Rattle.fv_model.specs.Refusals.{refusal}
-use Rattle.fv_volume.specs.Trees.{Trees}
-use Rattle.fv_volume.specs.Files.{Over}
+use Rattle.std.proofs.Common.{length, sym, ap, subst, ◌∙◌}
+use Rattle.std.specs.Prelude.{IsNone}
+use Rattle.fv_volume.specs.Creating.{Admits, Refuses}
 use Rattle.fv_aggregate.specs.declared.session.Session.{Session}
-use Rattle.fv_aggregate.proofs.Added.{answer_for, done_allowed, refused_for}
+use Rattle.fv_aggregate.proofs.Added.{accepted_for, done_allowed, refusal_allowed, refused_as, refused_for}
 use Rattle.fv_aggregate.proofs.session.Session.create.Goals as goal
 
 pub returns-in-Ok-clause-reply : goal.returns-in-Ok-clause-reply
 returns-in-Ok-clause-reply g c = λ tells last m stands.
-    let command = VolCreate c.args.name.now c.args.size c.args.kind in
-    let none = answer_for (g.D.Disk.shown c.args.disk.now) c.args.self.now last m command None stands
-    (subst (λ (s : Session). (trees : Trees) → Over s.pool s.volumes trees (λ n. refusal n command ≡ None)) c.self.view_is (λ trees. c.in-Ok.ensures.accepted c.self.inside.pool trees refl)) in
-    done_allowed m c.args.name.now c.args.size c.args.kind none c.make.result c.make.ensures.reply
+    let long = ap (λ (s : Session). length s.volumes) (sym c.self.view_is) ∙ (c.self.invariant (subst (λ (s : Session). IsNone s.failed) (sym c.self.view_is) c.requires.fresh)).housed.long in
+    let a = c.in-Ok.admitted in
+    let admits = subst (λ (s : Session). Admits s.volumes s.pool.found.blocks c.args.name.now c.args.size c.args.kind a.slot a.span) c.self.view_is c.in-Ok.ensures.admitted in
+    done_allowed m c.args.name.now c.args.size c.args.kind (accepted_for (g.D.Disk.shown c.args.disk.now) c.args.self.now last m long stands c.args.name.now c.args.size c.args.kind a.slot a.span admits) c.make.result c.make.ensures.reply
 
 pub returns-in-Err-clause-goes_for : goal.returns-in-Err-clause-goes_for
 returns-in-Err-clause-goes_for g c = λ tells last m stands.
-    let command = VolCreate c.args.name.now c.args.size c.args.kind in
+    let long = ap (λ (s : Session). length s.volumes) (sym c.self.view_is) ∙ (c.self.invariant (subst (λ (s : Session). IsNone s.failed) (sym c.self.view_is) c.requires.fresh)).housed.long in
     let r = c.in-Err.refusal in
-    let some = answer_for (g.D.Disk.shown c.args.disk.now) c.args.self.now last m command (Some r) stands
-    (subst (λ (s : Session). (trees : Trees) → Over s.pool s.volumes trees (λ n. ◌≡◌ {A = Option Refusal} (refusal n command) (Some r))) c.self.view_is (λ trees. c.in-Err.ensures.refused c.self.inside.pool trees refl)) in
-    refused_for (g.D.Disk.shown c.args.disk.now) c.args.self.now last m c.args.name.now c.args.size c.args.kind r (g.met.D.Disk.laws c.args.disk.now) stands some
+    let why = subst (λ (s : Session). Refuses s.volumes s.pool.found.blocks c.args.name.now c.args.size c.args.kind r) c.self.view_is c.in-Err.ensures.why in
+    refused_for (g.D.Disk.shown c.args.disk.now) c.args.self.now last m c.args.name.now c.args.size c.args.kind r (g.met.D.Disk.laws c.args.disk.now) stands (refused_as (g.D.Disk.shown c.args.disk.now) c.args.self.now last m long stands c.args.name.now c.args.size c.args.kind r why)
+
+pub returns-in-Err-clause-reply : goal.returns-in-Err-clause-reply
+returns-in-Err-clause-reply g c = λ tells last m stands.
+    let long = ap (λ (s : Session). length s.volumes) (sym c.self.view_is) ∙ (c.self.invariant (subst (λ (s : Session). IsNone s.failed) (sym c.self.view_is) c.requires.fresh)).housed.long in
+    let r = c.in-Err.refusal in
+    let why = subst (λ (s : Session). Refuses s.volumes s.pool.found.blocks c.args.name.now c.args.size c.args.kind r) c.self.view_is c.in-Err.ensures.why in
+    refusal_allowed m c.args.name.now c.args.size c.args.kind r (refused_as (g.D.Disk.shown c.args.disk.now) c.args.self.now last m long stands c.args.name.now c.args.size c.args.kind r why)

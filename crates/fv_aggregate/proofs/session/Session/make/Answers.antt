@@ -1,4 +1,5 @@
 use Rattle.std.proofs.Common.{◌≡◌, ◌≤◌, ◌+◌, ◌*◌, ℕ, rules, Ok, Err, sym, ap, subst, ◌∙◌, arith}
+use Rattle.std.specs.Prelude.{IsTrue}
 use Rattle.fv_model.specs.declared.answers.Reply.{Reply}
 use Rattle.fv_model.specs.declared.answers.Reply.TheVariants.{Done}
 use Rattle.fv_model.specs.declared.commands.Command.TheVariants.{VolCreate}
@@ -7,8 +8,8 @@ use Rattle.fv_model.specs.Refusals.{next}
 use Rattle.fv_model.specs.Space.{commits, overhead}
 use Rattle.fv_aggregate.specs.declared.fault.Fault.TheVariants.{Memory}
 use Rattle.fv_aggregate.specs.declared.session.Session.{Session}
-use Rattle.fv_aggregate.specs.Calls.{Goes, GoesFor}
-use Rattle.fv_aggregate.proofs.Added.{added_for, added_goes, room_for, unmade_for, wanting_for}
+use Rattle.fv_aggregate.specs.Calls.{Goes, GoesFor, KeepsAsking}
+use Rattle.fv_aggregate.proofs.Added.{added_asks, added_for, added_goes, made_files, room_for, unmade_for, wanting_for}
 use Rattle.fv_aggregate.proofs.session.Session.make.Goals as goal
 
 pub returns-in_err-make_room-clause-goes_for : goal.returns-in_err-make_room-clause-goes_for
@@ -41,12 +42,26 @@ returns-clause-goes g c =
     subst (λ (n : ℕ). Goes n old c.args.self.now mid c.add.new.self (Ok Done)) room
     (added_goes old c.args.self.now mid c.make_room.new.self c.args.name.now c.args.size c.args.kind c.from-room.result made.goes made.few c.add.new.self c.in_ok-add.ensures.added c.in_ok-add.ensures.pending)
 
+pub returns-clause-asks : goal.returns-clause-asks
+returns-clause-asks g c =
+    let old = g.D.Disk.shown c.args.disk.now in
+    let mid = g.D.Disk.shown c.make_room.new.disk in
+    let made = c.in_ok-make_room.ensures in
+    let room : c.from-room.result ≡ overhead c.args.admitted.span = search rules in
+    subst (λ (n : ℕ). KeepsAsking n old c.args.self.now mid c.add.new.self) room
+    (added_asks old c.args.self.now mid c.make_room.new.self c.args.name.now c.args.size c.args.kind c.from-room.result made.goes made.asks made.few c.add.new.self c.in_ok-add.ensures.added c.in_ok-add.ensures.pending)
+
+pub returns-clause-files : goal.returns-clause-files
+returns-clause-files g c = λ tells none.
+    made_files c.make_room.new.self c.args.name.now c.args.size c.args.kind c.from-room.result c.add.new.self c.in_ok-add.ensures.added (g.D.Disk.shown c.make_room.new.disk) (c.in_ok-make_room.ensures.files tells none)
+
 pub returns-clause-goes_for : goal.returns-clause-goes_for
 returns-clause-goes_for g c = λ tells last m stands.
     let old = g.D.Disk.shown c.args.disk.now in
     let mid = g.D.Disk.shown c.make_room.new.disk in
     let made = c.in_ok-make_room.ensures in
     let room : c.from-room.result ≡ overhead c.args.admitted.span = search rules in
-    let fits : commits m + 2 * c.from-room.result ≤ capacity m.blocks = omega (arith, room, room_for old c.args.self.now last m (overhead c.args.admitted.span) c.requires.long stands c.requires.commits) in
-    added_for old c.args.self.now mid c.make_room.new.self c.args.name.now c.args.size c.args.kind c.from-room.result last m (made.goes_for tells last m stands) (room ∙ ap overhead c.requires.admitted.span_is)
+    let fits : commits m + 2 * c.from-room.result ≤ capacity m.blocks = omega (arith, room, room_for old c.args.self.now last m c.requires.long stands c.args.name.now c.args.size c.args.kind c.args.admitted.slot c.args.admitted.span c.requires.admitted) in
+    added_for old c.args.self.now mid c.make_room.new.self c.args.name.now c.args.size c.args.kind c.from-room.result (subst IsTrue (sym made.goes.ends.tells) tells) (made.goes.stands made.goes.done.goes_on).cache
+    last m (made.goes_for tells last m stands) (room ∙ ap overhead c.requires.admitted.span_is)
     (made.room tells last m stands fits) c.add.new.self c.in_ok-add.ensures.added c.in_ok-add.ensures.pending

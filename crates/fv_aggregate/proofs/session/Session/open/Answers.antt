@@ -1,7 +1,7 @@
 use Rattle.std.proofs.Common.{◌∙◌, sym, ap, subst}
 use Rattle.std.specs.Prelude.{IsTrue}
 use Rattle.fv_image.specs.WholeMachine.{machine_of}
-use Rattle.fv_aggregate.proofs.Opened.{asks_result, opened_result, stands_result}
+use Rattle.fv_aggregate.proofs.Opened.{asks_result, opened_result, stands_result, without_files}
 use Rattle.fv_aggregate.proofs.Standing.{reads_whole}
 use Rattle.fv_aggregate.proofs.Whole.{whole_result}
 use Rattle.fv_aggregate.proofs.session.Session.open.Goals as goal
@@ -10,7 +10,7 @@ pub returns-clause-machine : goal.returns-clause-machine
 returns-clause-machine g c = λ tells m is.
     let mid = g.D.Disk.shown c.barrier.new.self in
     let told = subst IsTrue (sym c.barrier.ensures.tells) tells in
-    opened_result mid (g.D.Disk.shown c.load.new.disk) m c.load.result (c.in_ok-barrier.ensures.durable tells) (reads_whole mid (g.met.D.Disk.laws c.barrier.new.self) told) c.load.ensures.only_reads (c.load.ensures.loaded told) c.load.ensures.fresh (ap machine_of c.barrier.ensures.reads ∙ is)
+    opened_result mid (g.D.Disk.shown c.load.new.disk) m c.load.result (c.in_ok-barrier.ensures.durable tells) told (reads_whole mid (g.met.D.Disk.laws c.barrier.new.self) told) c.load.ensures.only_reads (c.load.ensures.loaded told) c.load.ensures.each c.load.ensures.fresh (ap machine_of c.barrier.ensures.reads ∙ is)
 
 pub returns-clause-whole : goal.returns-clause-whole
 returns-clause-whole g c = λ tells m is.
@@ -22,7 +22,7 @@ pub returns-clause-stands : goal.returns-clause-stands
 returns-clause-stands g c =
     let mid = g.D.Disk.shown c.barrier.new.self in
     let done = c.load.ensures in
-    stands_result mid (g.D.Disk.shown c.load.new.disk) (λ tells. c.in_ok-barrier.ensures.durable (subst IsTrue c.barrier.ensures.tells tells)) done.only_reads c.load.result done.loaded done.cache
+    stands_result mid (g.D.Disk.shown c.load.new.disk) (λ tells. c.in_ok-barrier.ensures.durable (subst IsTrue c.barrier.ensures.tells tells)) done.only_reads c.load.result done.loaded done.cache done.each
 
 pub returns-clause-asks : goal.returns-clause-asks
 returns-clause-asks g c = λ tells.
@@ -30,3 +30,10 @@ returns-clause-asks g c = λ tells.
     let told = subst IsTrue (sym c.barrier.ensures.tells) tells in
     let done = c.load.ensures in
     asks_result mid (g.D.Disk.shown c.load.new.disk) (λ tells. c.in_ok-barrier.ensures.durable (subst IsTrue c.barrier.ensures.tells tells)) done.only_reads c.load.result done.fresh (done.asked told)
+
+pub returns-clause-none : goal.returns-clause-none
+returns-clause-none g c = λ tells.
+    let mid = g.D.Disk.shown c.barrier.new.self in
+    let told = subst IsTrue (sym c.barrier.ensures.tells) tells in
+    let done = c.load.ensures in
+    without_files mid (g.D.Disk.shown c.load.new.disk) (λ tells. c.in_ok-barrier.ensures.durable (subst IsTrue c.barrier.ensures.tells tells)) done.only_reads c.load.result (done.loaded told) done.each

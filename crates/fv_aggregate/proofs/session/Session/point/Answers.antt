@@ -1,35 +1,40 @@
-use Rattle.std.proofs.Common.{◌≡◌, ◌∙◌, ℕ, length, Err, Some, inr, refl, sym, ap, subst}
+use Rattle.std.proofs.Common.{◌≡◌, ◌∙◌, ℕ, length, Err, Some, inl, inr, refl, sym, ap, subst}
 use Rattle.std.specs.Prelude.{IsNone, IsTrue}
-use Rattle.fv_disk.specs.declared.fault.BlockFault.{BlockFault}
-use Rattle.fv_disk.specs.declared.fault.BlockFault.TheVariants.{Damaged, DiskFault}
 use Rattle.fv_disk.specs.Shown.{Rose}
+use Rattle.fv_volume.specs.declared.fault.VolumeFault.{VolumeFault}
+use Rattle.fv_volume.specs.declared.fault.VolumeFault.TheVariants.{Damaged, DiskFault, Memory}
 use Rattle.fv_volume.specs.States.{States}
-use Rattle.fv_volume.specs.Housed.{AreSettled}
-use Rattle.fv_cp.specs.Points.{Counts, LacksRoom, LeavesAll}
+use Rattle.fv_cp.specs.Placing.{HaveNoFiles}
+use Rattle.fv_cp.specs.Settling.{HaveFullRoom, IsNoDamage, IsStill, StillHeld, WholeCounts, WholeFails}
 use Rattle.fv_aggregate.specs.declared.session.Session.{Session}
-use Rattle.fv_aggregate.proofs.PointEnds.{admits_still, lent_as, no_lack, point_done, point_failed_for, point_lacks, point_moments, point_room, pointed}
+use Rattle.fv_aggregate.proofs.PointEnds.{done_asks, failed_asks, has_full_room, held_as, point_done, point_failed_for, point_lacks, point_moments, point_room, point_wanting, pointed, pointed_left, still_asks, still_for, still_wants}
 use Rattle.fv_aggregate.proofs.Standing.{reads_whole}
 use Rattle.fv_aggregate.proofs.session.Session.point.Goals as goal
 
 pub returns-in-Ok-clause-goes : goal.returns-in-Ok-clause-goes
 returns-in-Ok-clause-goes g c =
     let e = c.in-Ok.ensures in
-    point_done (g.D.Disk.shown c.args.disk.now) c.args.self.now (g.D.Disk.shown c.consistency_point.new.disk) _ c.requires.fresh (subst (λ (s : Session). IsNone s.failed) (sym c.self.view_is) c.requires.fresh) refl
-    e.counts e.goes_on.stands e.goes_on.found e.goes_on.loaded e.goes_on.fit.housed.long (subst (λ (s : Session). AreSettled s.volumes c.consistency_point.new.volumes) c.self.view_is e.goes_on.settled)
+    point_done (g.D.Disk.shown c.args.disk.now) c.args.self.now (g.D.Disk.shown c.full_point.new.disk) _ c.requires.fresh (subst (λ (s : Session). IsNone s.failed) (sym c.self.view_is) c.requires.fresh)
+    e.counts c.self.inside.pool c.self.inside.volumes e.goes_on
+
+pub returns-in-Ok-clause-asks : goal.returns-in-Ok-clause-asks
+returns-in-Ok-clause-asks g c =
+    done_asks (g.D.Disk.shown c.args.disk.now) c.args.self.now (g.D.Disk.shown c.full_point.new.disk) (record { volumes = c.full_point.new.volumes; pool = c.full_point.new.pool; pending = 0; failed = c.self.inside.failed })
+    c.self.inside.pool c.self.inside.volumes refl c.in-Ok.ensures.goes_on
 
 pub returns-in-Ok-clause-goes_for : goal.returns-in-Ok-clause-goes_for
 returns-in-Ok-clause-goes_for g c = λ tells last m stands.
     let session = c.args.self.now in
     let pool = ap (λ (s : Session). s.pool) (sym c.self.view_is) in
     let volumes = ap (λ (s : Session). s.volumes) (sym c.self.view_is) in
-    let lent = lent_as (g.D.Disk.shown c.args.disk.now) session last m stands c.self.inside.pool c.self.inside.volumes pool volumes in
+    let held = held_as (g.D.Disk.shown c.args.disk.now) session last m stands c.self.inside.pool c.self.inside.volumes pool volumes in
     record {
-      any_moment = point_moments (g.D.Disk.shown c.args.disk.now) (g.D.Disk.shown c.consistency_point.new.disk) session last m stands c.self.inside.pool c.self.inside.volumes pool volumes (c.in-Ok.ensures.any_moment tells last lent);
+      any_moment = point_moments (g.D.Disk.shown c.args.disk.now) (g.D.Disk.shown c.full_point.new.disk) session last m stands c.self.inside.pool c.self.inside.volumes pool volumes (c.in-Ok.ensures.any_moment tells last held);
       done = record {
         point = m;
         one = inr refl;
-        stands = pointed (g.D.Disk.shown c.args.disk.now) c.self.inside.pool c.self.inside.volumes (g.D.Disk.shown c.consistency_point.new.disk) c.consistency_point.new.pool c.consistency_point.new.volumes
-            (c.in-Ok.ensures.point tells last lent) (c.in-Ok.ensures.goes_on.loaded tells) session last m stands pool volumes _ refl refl refl;
+        stands = pointed (g.D.Disk.shown c.args.disk.now) c.self.inside.pool c.self.inside.volumes (g.D.Disk.shown c.full_point.new.disk) c.full_point.new.pool c.full_point.new.volumes
+            (c.in-Ok.ensures.point tells last held) (c.in-Ok.ensures.goes_on.loaded tells) session last m stands pool volumes c.in-Ok.ensures.goes_on.fit.housed.long c.in-Ok.ensures.goes_on.none _ refl refl refl;
       };
       still = λ none. tt;
       whole = tt;
@@ -40,60 +45,159 @@ returns-in-Ok-clause-done g c = λ tells last m stands.
     let session = c.args.self.now in
     let pool = ap (λ (s : Session). s.pool) (sym c.self.view_is) in
     let volumes = ap (λ (s : Session). s.volumes) (sym c.self.view_is) in
-    let lent = lent_as (g.D.Disk.shown c.args.disk.now) session last m stands c.self.inside.pool c.self.inside.volumes pool volumes in
-    pointed (g.D.Disk.shown c.args.disk.now) c.self.inside.pool c.self.inside.volumes (g.D.Disk.shown c.consistency_point.new.disk) c.consistency_point.new.pool c.consistency_point.new.volumes
-    (c.in-Ok.ensures.point tells last lent) (c.in-Ok.ensures.goes_on.loaded tells) session last m stands pool volumes _ refl refl refl
+    let held = held_as (g.D.Disk.shown c.args.disk.now) session last m stands c.self.inside.pool c.self.inside.volumes pool volumes in
+    pointed (g.D.Disk.shown c.args.disk.now) c.self.inside.pool c.self.inside.volumes (g.D.Disk.shown c.full_point.new.disk) c.full_point.new.pool c.full_point.new.volumes
+    (c.in-Ok.ensures.point tells last held) (c.in-Ok.ensures.goes_on.loaded tells) session last m stands pool volumes c.in-Ok.ensures.goes_on.fit.housed.long c.in-Ok.ensures.goes_on.none _ refl refl refl
 
 pub returns-in-Ok-clause-room : goal.returns-in-Ok-clause-room
 returns-in-Ok-clause-room g c = λ tells last m stands room fits.
     let session = c.args.self.now in
     let pool = ap (λ (s : Session). s.pool) (sym c.self.view_is) in
     let volumes = ap (λ (s : Session). s.volumes) (sym c.self.view_is) in
-    let lent = lent_as (g.D.Disk.shown c.args.disk.now) session last m stands c.self.inside.pool c.self.inside.volumes pool volumes in
+    let held = held_as (g.D.Disk.shown c.args.disk.now) session last m stands c.self.inside.pool c.self.inside.volumes pool volumes in
     let told = subst IsTrue (sym c.in-Ok.ensures.counts.tells) tells in
-    let whole = reads_whole (g.D.Disk.shown c.consistency_point.new.disk) (g.met.D.Disk.laws c.consistency_point.new.disk) told in
-    point_room (g.D.Disk.shown c.args.disk.now) c.self.inside.pool c.self.inside.volumes (g.D.Disk.shown c.consistency_point.new.disk) c.consistency_point.new.pool c.consistency_point.new.volumes
-    (c.in-Ok.ensures.point tells last lent) (c.in-Ok.ensures.goes_on.loaded tells) session last m stands pool volumes whole (record { volumes = c.consistency_point.new.volumes; pool = c.consistency_point.new.pool; pending = 0; failed = c.self.inside.failed }) refl refl room fits
+    let whole = reads_whole (g.D.Disk.shown c.full_point.new.disk) (g.met.D.Disk.laws c.full_point.new.disk) told in
+    point_room (g.D.Disk.shown c.args.disk.now) c.self.inside.pool c.self.inside.volumes (g.D.Disk.shown c.full_point.new.disk) c.full_point.new.pool c.full_point.new.volumes
+    (c.in-Ok.ensures.point tells last held) (c.in-Ok.ensures.goes_on.loaded tells) session last m stands pool volumes whole (record { volumes = c.full_point.new.volumes; pool = c.full_point.new.pool; pending = 0; failed = c.self.inside.failed }) refl refl room fits
+
+pub returns-in-Ok-clause-left : goal.returns-in-Ok-clause-left
+returns-in-Ok-clause-left g c =
+    let e = c.in-Ok.ensures in
+    let fresh = subst (λ (s : Session). IsNone s.failed) (sym c.self.view_is) c.requires.fresh in
+    let was = ap (λ (s : Session). s.volumes) c.self.view_is in
+    pointed_left (g.D.Disk.shown c.args.disk.now) c.args.self.now (g.D.Disk.shown c.full_point.new.disk) (record { volumes = c.full_point.new.volumes; pool = c.full_point.new.pool; pending = 0; failed = c.self.inside.failed })
+    c.self.inside.pool c.self.inside.volumes refl (ap (λ (s : Session). s.pool) c.self.view_is) was (sym (ap (λ (v : States). length v) was) ∙ (c.self.invariant fresh).housed.long) e.goes_on
 
 pub returns-in-Err-DiskFault-clause-goes_for : goal.returns-in-Err-DiskFault-clause-goes_for
 returns-in-Err-DiskFault-clause-goes_for g c = λ tells last m stands.
     let e = c.in-Err-DiskFault in
     let session = c.args.self.now in
     let old = g.D.Disk.shown c.args.disk.now in
-    let new = g.D.Disk.shown c.consistency_point.new.disk in
+    let new = g.D.Disk.shown c.full_point.new.disk in
     let pool = ap (λ (s : Session). s.pool) (sym c.self.view_is) in
     let volumes = ap (λ (s : Session). s.volumes) (sym c.self.view_is) in
-    let lent = lent_as old session last m stands c.self.inside.pool c.self.inside.volumes pool volumes in
-    let counts : Counts old new (Err DiskFault) = rw e.field-0-is at e.ensures.counts in
-    let failed : c.failure-self-inside.result ≡ Some new.faults = c.failure-self-inside.ensures.failed (subst (λ (n : ℕ). Rose n new.write_faults) (sym c.write_faults-before.ensures) counts.write_cause) in
-    point_failed_for old last m new _ (point_moments old new session last m stands c.self.inside.pool c.self.inside.volumes pool volumes (e.ensures.any_moment tells last lent)) failed
+    let held = held_as old session last m stands c.self.inside.pool c.self.inside.volumes pool volumes in
+    let counts : WholeCounts old new (Err DiskFault) = rw e.field-0-is at e.ensures.counts in
+    let failed : c.failure-self-inside.result ≡ Some new.faults = c.failure-self-inside.ensures.failed (subst (λ (n : ℕ). Rose n new.write_faults) (sym c.write_faults-before.ensures) counts.cause.1) in
+    point_failed_for old last m new _ (point_moments old new session last m stands c.self.inside.pool c.self.inside.volumes pool volumes (e.ensures.any_moment tells last held)) failed
+
+pub returns-in-Err-DiskFault-clause-asks : goal.returns-in-Err-DiskFault-clause-asks
+returns-in-Err-DiskFault-clause-asks g c =
+    let e = c.in-Err-DiskFault in
+    let old = g.D.Disk.shown c.args.disk.now in
+    let new = g.D.Disk.shown c.full_point.new.disk in
+    let counts : WholeCounts old new (Err DiskFault) = rw e.field-0-is at e.ensures.counts in
+    failed_asks old c.args.self.now new _ new.faults (c.failure-self-inside.ensures.failed (subst (λ (n : ℕ). Rose n new.write_faults) (sym c.write_faults-before.ensures) counts.cause.1))
+
+pub invariant_of-self-in-Err-Damaged : goal.invariant_of-self-in-Err-Damaged
+invariant_of-self-in-Err-Damaged g c = λ fresh.
+    let e = c.in-Err-Damaged in
+    let still : StillHeld (g.D.Disk.shown c.args.disk.now) c.self.inside.pool c.self.inside.volumes (g.D.Disk.shown c.full_point.new.disk) c.full_point.new.pool c.full_point.new.volumes =
+    subst (IsStill (g.D.Disk.shown c.args.disk.now) c.self.inside.pool c.self.inside.volumes (g.D.Disk.shown c.full_point.new.disk) c.full_point.new.pool c.full_point.new.volumes) e.field-0-is e.ensures.still in
+    still.placed.fit
+
+pub invariant_of-self-in-Err-Memory : goal.invariant_of-self-in-Err-Memory
+invariant_of-self-in-Err-Memory g c = λ fresh.
+    let e = c.in-Err-Memory in
+    let still : StillHeld (g.D.Disk.shown c.args.disk.now) c.self.inside.pool c.self.inside.volumes (g.D.Disk.shown c.full_point.new.disk) c.full_point.new.pool c.full_point.new.volumes =
+    subst (IsStill (g.D.Disk.shown c.args.disk.now) c.self.inside.pool c.self.inside.volumes (g.D.Disk.shown c.full_point.new.disk) c.full_point.new.pool c.full_point.new.volumes) e.field-0-is e.ensures.still in
+    still.placed.fit
 
 pub returns-in-Err-Damaged-clause-goes : goal.returns-in-Err-Damaged-clause-goes
 returns-in-Err-Damaged-clause-goes g c =
     let e = c.in-Err-Damaged in
     let old = g.D.Disk.shown c.args.disk.now in
-    let new = g.D.Disk.shown c.consistency_point.new.disk in
-    let fault : BlockFault = Damaged e.at e.want e.found in
-    let left : LeavesAll old c.self.inside.pool c.self.inside.volumes new c.consistency_point.new.pool c.consistency_point.new.volumes fault =
-    subst (LeavesAll old c.self.inside.pool c.self.inside.volumes new c.consistency_point.new.pool c.consistency_point.new.volumes) e.field-0-is e.ensures.lacking in
-    let lacks : LacksRoom c.args.self.now.pool c.args.self.now.volumes fault = subst (λ (s : Session). LacksRoom s.pool s.volumes fault) c.self.view_is (subst (LacksRoom c.self.inside.pool c.self.inside.volumes) e.field-0-is e.ensures.room) in
-    point_lacks old c.args.self.now new _ e.at e.want e.found c.requires.fresh c.requires.stands (rw e.field-0-is at e.ensures.counts) lacks left.0
-    ((λ j. record { volumes = left.1.1 j; pool = left.1.0 j; pending = c.self.inside.pending; failed = c.self.inside.failed }) ∙ c.self.view_is)
+    let new = g.D.Disk.shown c.full_point.new.disk in
+    let fault : VolumeFault = Damaged e.at e.want e.found in
+    let pool = c.full_point.new.pool in
+    let volumes = c.full_point.new.volumes in
+    let fails : WholeFails c.args.self.now.volumes pool volumes fault = subst (λ (s : Session). WholeFails s.volumes pool volumes fault) c.self.view_is (subst (WholeFails c.self.inside.volumes pool volumes) e.field-0-is e.ensures.fails) in
+    let still : StillHeld old c.args.self.now.pool c.args.self.now.volumes new pool volumes = subst (λ (s : Session). StillHeld old s.pool s.volumes new pool volumes) c.self.view_is (subst (IsStill old c.self.inside.pool c.self.inside.volumes new pool volumes) e.field-0-is e.ensures.still) in
+    point_lacks old c.args.self.now new _ still (λ j. record (c.self.view_is j) { pool = pool; volumes = volumes }) e.at e.want e.found c.requires.fresh c.requires.stands (rw e.field-0-is at e.ensures.counts) fails
+
+pub returns-in-Err-Damaged-clause-damage : goal.returns-in-Err-Damaged-clause-damage
+returns-in-Err-Damaged-clause-damage g c =
+    let e = c.in-Err-Damaged in
+    let old = g.D.Disk.shown c.args.disk.now in
+    let new = g.D.Disk.shown c.full_point.new.disk in
+    let fault : VolumeFault = Damaged e.at e.want e.found in
+    let pool = c.full_point.new.pool in
+    let volumes = c.full_point.new.volumes in
+    let fails : WholeFails c.args.self.now.volumes pool volumes fault = subst (λ (s : Session). WholeFails s.volumes pool volumes fault) c.self.view_is (subst (WholeFails c.self.inside.volumes pool volumes) e.field-0-is e.ensures.fails) in
+    let still : StillHeld old c.args.self.now.pool c.args.self.now.volumes new pool volumes = subst (λ (s : Session). StillHeld old s.pool s.volumes new pool volumes) c.self.view_is (subst (IsStill old c.self.inside.pool c.self.inside.volumes new pool volumes) e.field-0-is e.ensures.still) in
+    still_wants old c.args.self.now new _ still (λ j. record (c.self.view_is j) { pool = pool; volumes = volumes }) e.at e.want e.found c.requires.fresh c.requires.stands fails
+
+pub returns-in-Err-Damaged-clause-asks : goal.returns-in-Err-Damaged-clause-asks
+returns-in-Err-Damaged-clause-asks g c =
+    let e = c.in-Err-Damaged in
+    let old = g.D.Disk.shown c.args.disk.now in
+    let new = g.D.Disk.shown c.full_point.new.disk in
+    let pool = c.full_point.new.pool in
+    let volumes = c.full_point.new.volumes in
+    let still : StillHeld old c.args.self.now.pool c.args.self.now.volumes new pool volumes = subst (λ (s : Session). StillHeld old s.pool s.volumes new pool volumes) c.self.view_is (subst (IsStill old c.self.inside.pool c.self.inside.volumes new pool volumes) e.field-0-is e.ensures.still) in
+    still_asks old c.args.self.now new _ still (λ j. record (c.self.view_is j) { pool = pool; volumes = volumes })
 
 pub returns-in-Err-Damaged-clause-goes_for : goal.returns-in-Err-Damaged-clause-goes_for
 returns-in-Err-Damaged-clause-goes_for g c = λ tells last m stands.
     let e = c.in-Err-Damaged in
-    let fault : BlockFault = Damaged e.at e.want e.found in
-    let lacks : LacksRoom c.args.self.now.pool c.args.self.now.volumes fault = subst (λ (s : Session). LacksRoom s.pool s.volumes fault) c.self.view_is (subst (LacksRoom c.self.inside.pool c.self.inside.volumes) e.field-0-is e.ensures.room) in
-    absurd (no_lack (g.D.Disk.shown c.args.disk.now) c.args.self.now last m (ap (λ (s : Session). length s.volumes) (sym c.self.view_is) ∙ (c.self.invariant (subst (λ (s : Session). IsNone s.failed) (sym c.self.view_is) c.requires.fresh)).housed.long) stands e.want e.found lacks.1.0 lacks.1.1.0 lacks.1.1.1)
+    let session = c.args.self.now in
+    let held = held_as (g.D.Disk.shown c.args.disk.now) session last m stands c.self.inside.pool c.self.inside.volumes (ap (λ (s : Session). s.pool) (sym c.self.view_is)) (ap (λ (s : Session). s.volumes) (sym c.self.view_is)) in
+    let room : HaveFullRoom c.self.inside.pool c.self.inside.volumes = subst (λ (s : Session). HaveFullRoom s.pool s.volumes) (sym c.self.view_is) (has_full_room (g.D.Disk.shown c.args.disk.now) session last m stands) in
+    let damage : ⊥ = subst IsNoDamage e.field-0-is (e.ensures.enough tells last held room) in
+    absurd damage
 
 pub returns-in-Err-Damaged-clause-kept : goal.returns-in-Err-Damaged-clause-kept
 returns-in-Err-Damaged-clause-kept g c = λ tells last m stands. absurd (returns-in-Err-Damaged-clause-goes_for g c tells last m stands).whole
 
-pub returns-in-Ok-clause-admits : goal.returns-in-Ok-clause-admits
-returns-in-Ok-clause-admits g c =
-    let e = c.in-Ok.ensures in
-    let fresh = subst (λ (s : Session). IsNone s.failed) (sym c.self.view_is) c.requires.fresh in
-    let was = ap (λ (s : Session). s.volumes) c.self.view_is in
-    admits_still c.args.self.now (record { volumes = c.consistency_point.new.volumes; pool = c.consistency_point.new.pool; pending = 0; failed = c.self.inside.failed }) (e.goes_on.fit.housed.long ∙ sym (c.self.invariant fresh).housed.long ∙ ap (λ (v : States). length v) was) (subst (λ (s : Session). AreSettled s.volumes c.consistency_point.new.volumes) c.self.view_is e.goes_on.settled)
-    (e.goes_on.blocks ∙ ap (λ (s : Session). s.pool.found.blocks) c.self.view_is)
+pub returns-in-Err-Memory-clause-goes : goal.returns-in-Err-Memory-clause-goes
+returns-in-Err-Memory-clause-goes g c =
+    let e = c.in-Err-Memory in
+    let old = g.D.Disk.shown c.args.disk.now in
+    let new = g.D.Disk.shown c.full_point.new.disk in
+    let pool = c.full_point.new.pool in
+    let volumes = c.full_point.new.volumes in
+    let still : StillHeld old c.args.self.now.pool c.args.self.now.volumes new pool volumes = subst (λ (s : Session). StillHeld old s.pool s.volumes new pool volumes) c.self.view_is (subst (IsStill old c.self.inside.pool c.self.inside.volumes new pool volumes) e.field-0-is e.ensures.still) in
+    point_wanting old c.args.self.now new _ still (λ j. record (c.self.view_is j) { pool = pool; volumes = volumes }) c.requires.fresh c.requires.stands (rw e.field-0-is at e.ensures.counts)
+
+pub returns-in-Err-Memory-clause-asks : goal.returns-in-Err-Memory-clause-asks
+returns-in-Err-Memory-clause-asks g c =
+    let e = c.in-Err-Memory in
+    let old = g.D.Disk.shown c.args.disk.now in
+    let new = g.D.Disk.shown c.full_point.new.disk in
+    let pool = c.full_point.new.pool in
+    let volumes = c.full_point.new.volumes in
+    let still : StillHeld old c.args.self.now.pool c.args.self.now.volumes new pool volumes = subst (λ (s : Session). StillHeld old s.pool s.volumes new pool volumes) c.self.view_is (subst (IsStill old c.self.inside.pool c.self.inside.volumes new pool volumes) e.field-0-is e.ensures.still) in
+    still_asks old c.args.self.now new _ still (λ j. record (c.self.view_is j) { pool = pool; volumes = volumes })
+
+pub returns-in-Err-Memory-clause-kept : goal.returns-in-Err-Memory-clause-kept
+returns-in-Err-Memory-clause-kept g c = λ tells last m stands fresh.
+    let e = c.in-Err-Memory in
+    let old = g.D.Disk.shown c.args.disk.now in
+    let new = g.D.Disk.shown c.full_point.new.disk in
+    let pool = c.full_point.new.pool in
+    let volumes = c.full_point.new.volumes in
+    let still : StillHeld old c.args.self.now.pool c.args.self.now.volumes new pool volumes = subst (λ (s : Session). StillHeld old s.pool s.volumes new pool volumes) c.self.view_is (subst (IsStill old c.self.inside.pool c.self.inside.volumes new pool volumes) e.field-0-is e.ensures.still) in
+    let long = ap (λ (s : Session). length s.volumes) (sym c.self.view_is) ∙ (c.self.invariant (subst (λ (s : Session). IsNone s.failed) (sym c.self.view_is) c.requires.fresh)).housed.long in
+    still_for old c.args.self.now new _ still (λ j. record (c.self.view_is j) { pool = pool; volumes = volumes }) last m long stands
+
+pub returns-in-Err-Memory-clause-goes_for : goal.returns-in-Err-Memory-clause-goes_for
+returns-in-Err-Memory-clause-goes_for g c = λ tells last m stands.
+    let e = c.in-Err-Memory in
+    let old = g.D.Disk.shown c.args.disk.now in
+    let new = g.D.Disk.shown c.full_point.new.disk in
+    let session = c.args.self.now in
+    let pool = ap (λ (s : Session). s.pool) (sym c.self.view_is) in
+    let volumes = ap (λ (s : Session). s.volumes) (sym c.self.view_is) in
+    let held = held_as old session last m stands c.self.inside.pool c.self.inside.volumes pool volumes in
+    record {
+      any_moment = point_moments old new session last m stands c.self.inside.pool c.self.inside.volumes pool volumes (e.ensures.any_moment tells last held);
+      done = tt;
+      still = λ fresh. record { point = last; one = inl refl; stands = returns-in-Err-Memory-clause-kept g c tells last m stands fresh };
+      whole = tt;
+    }
+
+pub returns-in-Err-Memory-clause-memory : goal.returns-in-Err-Memory-clause-memory
+returns-in-Err-Memory-clause-memory g c = λ none.
+    let e = c.in-Err-Memory in
+    let fails : WholeFails c.self.inside.volumes c.full_point.new.pool c.full_point.new.volumes Memory = subst (WholeFails c.self.inside.volumes c.full_point.new.pool c.full_point.new.volumes) e.field-0-is e.ensures.fails in
+    absurd (fails (subst (λ (s : Session). HaveNoFiles s.volumes) (sym c.self.view_is) none))

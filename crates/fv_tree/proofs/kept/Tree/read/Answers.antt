@@ -4,7 +4,7 @@ use Rattle.std.proofs.lemmas.Result.{IfOk-weaker, IfErr-weaker, on_ok_weaker}
 use Rattle.fv_tree.specs.Spelled.{block_at}
 use Rattle.fv_tree.specs.Costs.{load_cost, place_cost}
 use Rattle.fv_tree.specs.Standing.{standing, under, cell_in}
-use Rattle.fv_tree.proofs.Causes.{cell_fails, fails_later}
+use Rattle.fv_tree.proofs.Causes.{cell_fails, err_unless, fails_later}
 use Rattle.fv_tree.proofs.Readied.{has_way}
 use Rattle.fv_tree.proofs.kept.Tree.read.Goals as goal
 
@@ -18,8 +18,8 @@ returns-clause-cause g c =
     let mid = g.B.Blocks.shown c.find.new.blocks in
     let t = standing (under old) c.args.self.now in
     let held : under old ≡ under mid = ap (λ h v. fin.get h v) (sym c.find.ensures.untouched.held) in
-    IfErr-weaker c.read_pointed.result _ _ (λ e h. fails_later g.B.Blocks.told t old mid (g.B.Blocks.shown c.read_pointed.new.blocks) e c.in_ok-pointer.ensures.counts.calm c.find.ensures.untouched.held
-    (cell_fails g.B.Blocks.told t mid (g.B.Blocks.shown c.read_pointed.new.blocks) c.args.index c.in_ok-pointer.pointer e held c.in_ok-pointer.ensures.pointer h)) c.read_pointed.ensures.cause
+    IfErr-weaker c.read_pointed.result _ _ (λ e p. fails_later g.B.Blocks.told t old mid (g.B.Blocks.shown c.read_pointed.new.blocks) e c.in_ok-pointer.ensures.counts.calm c.find.ensures.untouched.held
+    (cell_fails g.B.Blocks.told t mid (g.B.Blocks.shown c.read_pointed.new.blocks) c.args.index c.in_ok-pointer.pointer e held c.in_ok-pointer.ensures.pointer p.0 p.1)) (err_unless _ _ c.read_pointed.result c.read_pointed.ensures.held c.read_pointed.ensures.cause)
 
 pub returns-clause-spent : goal.returns-clause-spent
 returns-clause-spent g c = λ told.

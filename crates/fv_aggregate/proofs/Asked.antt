@@ -1,0 +1,291 @@
+-- What a session answers to a command that asks for files, by the call of a volume.
+use Rattle.std.proofs.Common.{◌≡◌, ◌⊎◌, ℕ, Bool, true, false, List, Option, Some, None, Result, Ok, Err, inl, inr, refl, sym, ap, subst, ◌∙◌, length}
+use Rattle.std.specs.Prelude.{IfSome, IsNone, IsSome, IsTrue, OnOk}
+use Rattle.std.specs.FinMap as fin
+use Rattle.fv_disk.specs.Shown.{Shown, IsDisk, Rose}
+use Rattle.fv_disk.specs.declared.fault.BlockFault.TheVariants as block
+use Rattle.fv_model.specs.declared.answers.Refusal.{Refusal}
+use Rattle.fv_model.specs.declared.answers.Refusal.TheVariants.{NoVolume}
+use Rattle.fv_model.specs.declared.answers.Reply.{Reply}
+use Rattle.fv_model.specs.declared.answers.Reply.TheVariants.{Refused}
+use Rattle.fv_model.specs.declared.commands.Command.{Command}
+use Rattle.fv_model.specs.declared.commands.Command.TheVariants.{Get, Len, Ls}
+use Rattle.fv_model.specs.Machines.{Machine}
+use Rattle.fv_model.specs.Refusals.{refusal}
+use Rattle.fv_laws.proofs.Changes.{same_name}
+use Rattle.fv_model.specs.Replies.{answer, is_open, Allows, AllowsBy, IsAnswer}
+use Rattle.fv_volume.specs.declared.fault.VolumeFault.{VolumeFault}
+use Rattle.fv_volume.specs.declared.fault.VolumeFault.TheVariants as volume
+use Rattle.fv_volume.specs.declared.pool.Pool.{Pool}
+use Rattle.fv_volume.specs.declared.state.VolumeState.{VolumeState}
+use Rattle.fv_volume.specs.Calls.{Agrees, Asks, CallCause, Has, Reads, TableFails}
+use Rattle.fv_volume.specs.Lending.{Lent, lent_for}
+use Rattle.fv_volume.specs.OneVolume.{home_in, standing_for, volume_for, IsStanding}
+use Rattle.fv_volume.specs.Placing.{IsStoredWell}
+use Rattle.fv_volume.specs.Slots.{is_named}
+use Rattle.fv_volume.specs.States.{States, state_at}
+use Rattle.fv_volume.proofs.Undamaged.{no_damage}
+use Rattle.fv_tables.specs.Told.{Standing}
+use Rattle.fv_aggregate.specs.declared.fault.Fault.{Fault}
+use Rattle.fv_aggregate.specs.declared.fault.Fault.TheVariants.{DiskFault, Damaged, Memory}
+use Rattle.fv_aggregate.specs.declared.session.Session.{Session}
+use Rattle.fv_aggregate.specs.Calls.{HasDamage}
+use Rattle.fv_aggregate.specs.Commands.{asked_by}
+use Rattle.fv_aggregate.specs.Looking.{AsksSlot, AsksState, AsksVolume, Faults, FindsNone, FindsOne, Looks, Replied}
+use Rattle.fv_aggregate.specs.Standing.{Stands, StandsFor}
+use Rattle.fv_aggregate.proofs.HeldMachine.{is_there, not_there, one}
+use Rattle.fv_aggregate.proofs.CallEnds.{goes_broken, goes_damaged, goes_done, goes_for_broken, goes_for_done, goes_for_fault, goes_wanting}
+use Rattle.fv_aggregate.proofs.Looked.{asks_read, left, stands_for_read, stands_read, was_read}
+use Rattle.fv_aggregate.proofs.Missing.{refused_allows}
+
+-- an answer is the reply that the machine allows
+pub answer_allows : (m : Machine) (c : Command) (reply : Reply) → refusal m c ≡ None → is_open m c ≡ false → reply ≡ answer m c → Allows m c reply
+answer_allows m c reply none closed is = subst (λ (o : Option Refusal). AllowsBy o m c reply) (sym none) (subst (λ (b : Bool). IsAnswer b (answer m c) reply) (sym closed) is)
+
+-- ---- one volume, by the call of it
+
+-- a fault is refused alike, whatever would have been answered
+agrees_err : (T U : Type 0) (m : Machine) (c : Command) (e : VolumeFault) → Agrees {T = T} m c (Err e) → Agrees {T = U} m c (Err e)
+agrees_err T U m c (volume.Refused r) is = is
+agrees_err T U m c volume.DiskFault is = is
+agrees_err T U m c (volume.Damaged at want found) is = is
+agrees_err T U m c volume.Memory is = is
+
+module _ (d e : Shown) (p q : Pool) (x : VolumeState) (reads : Reads d p e q) (c command : Command) (same : c ≡ command) (start steps : ℕ) where
+  abbrev has : Machine → Type 0
+  has = Has x.name (volume_for d p x)
+
+  abbrev its : Lent
+  its = lent_for p x.map d 0 (home_in x) 0
+
+  pub state_answered : {T : Type 0} (says : T → Reply) (y : T) → (IsStanding d p x → Asks has c says (Ok y)) → CallCause {T = T} (IsStanding d p x) (standing_for d p x) its e.faults (Ok y)
+      → (IsStanding d p x → IsStoredWell d p x → (m : Machine) → has m → refusal m c ≡ None → steps ≡ start) → AsksState d p x command start e q steps (Ok (says y))
+  state_answered says y asks cause known = record {
+    reads = reads;
+    asked = λ is. subst (λ (k : Command). Asks {T = Reply} has k (λ reply. reply) (Ok (says y))) same (let a = asks is in record { agrees = λ m there. a.agrees m there; reply = λ m there. a.reply m there });
+    cause = cause;
+    known = λ is well m there. known is well m there ((asks is).agrees m there);
+    unmoved = tt;
+  }
+
+  pub state_failed : (T : Type 0) (says : T → Reply) (f : VolumeFault) → (IsStanding d p x → Asks {T = T} has c says (Err f)) → CallCause {T = T} (IsStanding d p x) (standing_for d p x) its e.faults (Err f)
+      → ((r : Refusal) → f ≡ volume.Refused r → steps ≡ start) → AsksState d p x command start e q steps (Err f)
+  state_failed T says f asks cause unmoved = record {
+    reads = reads;
+    asked = λ is. subst (λ (k : Command). Asks {T = Reply} has k (λ reply. reply) (Err f)) same (record { agrees = λ m there. agrees_err T Reply m c f ((asks is).agrees m there); reply = tt });
+    cause = cause;
+    known = λ is well. tt;
+    unmoved = unmoved;
+  }
+
+-- the command by the name of the volume
+some_name : (a b : List ℕ) → ◌≡◌ {A = Option (List ℕ)} (Some a) (Some b) → a ≡ b
+some_name a b e = cc
+
+pub of_get : (c : Command) (name v : List ℕ) (s : Option (List ℕ)) (f : List ℕ) (i : ℕ) → c ≡ Get v s f i → asked_by c ≡ Some name → Get name s f i ≡ c
+of_get c name v s f i is asks = let of : v ≡ name = some_name v name (sym (ap asked_by is) ∙ asks) in ap (λ (n : List ℕ). Get n s f i) (sym of) ∙ sym is
+
+pub of_len : (c : Command) (name v : List ℕ) (s : Option (List ℕ)) (f : List ℕ) → c ≡ Len v s f → asked_by c ≡ Some name → Len name s f ≡ c
+of_len c name v s f is asks = let of : v ≡ name = some_name v name (sym (ap asked_by is) ∙ asks) in ap (λ (n : List ℕ). Len n s f) (sym of) ∙ sym is
+
+pub of_ls : (c : Command) (name v : List ℕ) (s : Option (List ℕ)) → c ≡ Ls v s → asked_by c ≡ Some name → Ls name s ≡ c
+of_ls c name v s is asks = let of : v ≡ name = some_name v name (sym (ap asked_by is) ∙ asks) in ap (λ (n : List ℕ). Ls n s) (sym of) ∙ sym is
+
+-- ---- a session, by what it read
+
+module _ (d e : Shown) (laws : IsDisk d) (s : Session) (q : Pool) (reads : Reads d s.pool e q) (fresh : IsNone s.failed) (stands : Stands d s) (c : Command) where
+  abbrev still : Stands e (left d e s q reads)
+  still = stands_read d e s q reads stands
+
+  for_left : (last m : Machine) → StandsFor d s last m → StandsFor e (left d e s q reads) last m
+  for_left last m is = stands_for_read d e s q reads last m is
+
+  -- an answer that the machine has in each machine that the session may stand for
+  pub looks_done : (reply : Reply) → e.faults ≡ d.faults → ((last m : Machine) → StandsFor d s last m → Allows m c reply) → Looks d s c e (left d e s q reads) (Ok reply)
+  looks_done reply calm allowed = record {
+    goes = goes_done d e laws s (left d e s q reads) 0 reads.only_reads fresh fresh still reply calm;
+    asks = asks_read d e s q reads;
+    goes_for = λ tells last m is. goes_for_done d e laws s (left d e s q reads) 0 reads.only_reads fresh fresh still reply last m m is (for_left last m is);
+    reply = λ tells last m is. allowed last m is;
+    only_reads = reads.only_reads;
+    read = was_read d e s q reads;
+  }
+
+  pub looks_broken : (o : Option ℕ) → Rose d.faults e.faults → (Rose e.write_faults e.write_faults → o ≡ Some e.faults) → (¬ Rose e.write_faults e.write_faults → IsNone o) → Looks d s c e (record s { pool = q; failed = o }) (Err DiskFault)
+  looks_broken o rose written unwritten = record {
+    goes = goes_broken d e laws s (left d e s q reads) 0 reads.only_reads fresh fresh still o rose written unwritten;
+    asks = λ tells kept asks none. let is = asks_read d e s q reads tells kept asks fresh in record { asked = is.asked; pending = is.pending };
+    goes_for = λ tells last m is. goes_for_broken d e laws s (left d e s q reads) 0 reads.only_reads fresh fresh still o last m m is (for_left last m is);
+    reply = λ tells last m is. tt;
+    only_reads = reads.only_reads;
+    read = tt;
+  }
+
+  pub looks_wanting : e.faults ≡ d.faults → Looks d s c e (left d e s q reads) (Err Memory)
+  looks_wanting calm = record {
+    goes = goes_wanting d e laws s (left d e s q reads) 0 reads.only_reads fresh fresh still calm;
+    asks = asks_read d e s q reads;
+    goes_for = λ tells last m is. goes_for_fault d e laws s (left d e s q reads) 0 reads.only_reads fresh fresh still Memory last m m tt is (for_left last m is);
+    reply = λ tells last m is. tt;
+    only_reads = reads.only_reads;
+    read = tt;
+  }
+
+  pub looks_damaged : (at want found : ℕ) → e.faults ≡ d.faults → HasDamage d s (left d e s q reads) at want found → (IsTrue d.tells → (last m : Machine) → StandsFor d s last m → ⊥)
+      → Looks d s c e (left d e s q reads) (Err (Damaged at want found))
+  looks_damaged at want found calm damage whole = record {
+    goes = goes_damaged d e laws s (left d e s q reads) 0 reads.only_reads fresh fresh still at want found calm damage;
+    asks = asks_read d e s q reads;
+    goes_for = λ tells last m is. absurd (whole tells last m is);
+    reply = λ tells last m is. tt;
+    only_reads = reads.only_reads;
+    read = tt;
+  }
+
+-- ---- a volume of a slot
+
+module _ (d : Shown) (s : Session) (long : length s.volumes ≡ 64) (slot : ℕ) (x : VolumeState) (there : state_at s.volumes slot ≡ Some x) where
+  -- the machine of the session has it
+  pub has_volume : (last m : Machine) → StandsFor d s last m → Has x.name (volume_for d s.pool x) m
+  has_volume last m is = subst (Has x.name (volume_for d s.pool x)) is.machine (is_there d s.pool s.volumes long last is.held slot x there)
+
+  pub volume_stands : (last m : Machine) → StandsFor d s last m → IsStanding d s.pool x
+  volume_stands last m is = (one d s.pool s.volumes long last is.held slot x there).stands
+
+  module _ (c : Command) where
+    pub refused_by : {T : Type 0} (says : T → Reply) (r : Refusal) → (IsStanding d s.pool x → Asks {T = T} (Has x.name (volume_for d s.pool x)) c says (Err (volume.Refused r))) → (last m : Machine) → StandsFor d s last m → Allows m c (Refused r)
+    refused_by says r asks last m is = refused_allows m c r ((asks (volume_stands last m is)).agrees m (has_volume last m is))
+
+    pub answered_by : {T : Type 0} (says : T → Reply) (y : T) → ((m : Machine) → is_open m c ≡ false) → (IsStanding d s.pool x → Asks (Has x.name (volume_for d s.pool x)) c says (Ok y)) → (last m : Machine) → StandsFor d s last m → Allows m c (says y)
+    answered_by says y closed asks last m is =
+        let of = asks (volume_stands last m is) in
+        let has = has_volume last m is in
+        answer_allows m c (says y) (of.agrees m has) (closed m) (of.reply m has)
+
+-- ---- by the volume of a name
+
+ok_or : {X E : Type 0} (x : X) (e : E) → ◌≡◌ {A = Result X E} (Ok x) (Err e) → ⊥
+ok_or x e same = cc
+
+same_err : {X : Type 0} (a b : VolumeFault) → ◌≡◌ {A = Result X VolumeFault} (Err a) (Err b) → a ≡ b
+same_err a b e = cc
+
+same_refusal : (a b : Refusal) → volume.Refused a ≡ volume.Refused b → a ≡ b
+same_refusal a b e = cc
+
+not_disk : (a : Refusal) → volume.DiskFault ≡ volume.Refused a → ⊥
+not_disk a e = cc
+
+not_damage : (at want found : ℕ) (a : Refusal) → volume.Damaged at want found ≡ volume.Refused a → ⊥
+not_damage at want found a e = cc
+
+not_memory : (a : Refusal) → volume.Memory ≡ volume.Refused a → ⊥
+not_memory a e = cc
+
+disk_damage : (at want found : ℕ) → block.DiskFault ≡ block.Damaged at want found → ⊥
+disk_damage at want found e = cc
+
+memory_damage : (at want found : ℕ) → block.Memory ≡ block.Damaged at want found → ⊥
+memory_damage at want found e = cc
+
+-- what the disk counted in a call that failed
+pub rose_by : (told : Type 0) (x : Standing) (old : Lent) (faults : ℕ) → TableFails told x old faults block.DiskFault → Rose old.disk.faults faults
+rose_by told x old faults (inl fails) = fails
+rose_by told x old faults (inr (inl bad)) = absurd (disk_damage _ _ _ bad.damage.is)
+rose_by told x old faults (inr (inr fails)) = fails.fails
+
+pub calm_memory : (told : Type 0) (x : Standing) (old : Lent) (faults : ℕ) → TableFails told x old faults block.Memory → faults ≡ old.disk.faults
+calm_memory told x old faults (inl fails) = fails
+calm_memory told x old faults (inr (inl bad)) = bad.calm
+calm_memory told x old faults (inr (inr fails)) = fails.fails
+
+pub calm_damage : (told : Type 0) (x : Standing) (old : Lent) (faults at want found : ℕ) → TableFails told x old faults (block.Damaged at want found) → faults ≡ old.disk.faults
+calm_damage told x old faults at want found (inl fails) = fails.0
+calm_damage told x old faults at want found (inr (inl bad)) = bad.calm
+calm_damage told x old faults at want found (inr (inr fails)) = fails.fails.0
+
+module _ (d e : Shown) (laws : IsDisk d) (s : Session) (q : Pool) (c : Command) (name : List ℕ) (start steps : ℕ) (fresh : IsNone s.failed) (stands : Stands d s)
+    (long : length s.volumes ≡ 64) (closed : (m : Machine) → is_open m c ≡ false) (missing : (m : Machine) → fin.get m.volumes name ≡ None → refusal m c ≡ Some NoVolume) where
+  abbrev now : Session
+  now = record s { pool = q }
+
+  as_is : (new : Session) (result wanted : Result Reply Fault) (was : Session) → new ≡ was → result ≡ wanted → Looks d s c e was wanted → Looks d s c e new result
+  as_is new result wanted was same is looks = subst (λ (r : Result Reply Fault). Looks d s c e new r) (sym is) (subst (λ (n : Session). Looks d s c e n wanted) (sym same) looks)
+
+  module _ (reads : Reads d s.pool e q) where
+    -- no volume has the name
+    by_none : (r : Result Reply VolumeFault) → FindsNone s.volumes name d s.pool start e q steps r → (new : Session) (result : Result Reply Fault) → Replied e r now new result → Looks d s c e new result
+    by_none (Ok reply) none new result is = absurd (ok_or reply (volume.Refused NoVolume) none.refused)
+    by_none (Err volume.DiskFault) none new result is = absurd (not_disk NoVolume (same_err {X = Reply} volume.DiskFault (volume.Refused NoVolume) none.refused))
+    by_none (Err (volume.Damaged at want found)) none new result is = absurd (not_damage at want found NoVolume (same_err {X = Reply} (volume.Damaged at want found) (volume.Refused NoVolume) none.refused))
+    by_none (Err volume.Memory) none new result is = absurd (not_memory NoVolume (same_err {X = Reply} volume.Memory (volume.Refused NoVolume) none.refused))
+    by_none (Err (volume.Refused r)) none new result is =
+        let which : r ≡ NoVolume = same_refusal r NoVolume (same_err {X = Reply} (volume.Refused r) (volume.Refused NoVolume) none.refused) in
+        as_is new result (Ok (Refused r)) now is.1 is.0 (looks_done d e laws s q reads fresh stands c (Refused r) none.calm (λ last m held.
+        refused_allows m c r (missing m (subst (λ (k : Machine). fin.get k.volumes name ≡ None) held.machine (not_there d s.pool s.volumes long name none.none)) ∙ ap (λ (a : Refusal). Some a) (sym which))))
+
+    -- the volume of a slot has it
+    by_one : (r : Result Reply VolumeFault) → FindsOne s.volumes name d s.pool c start e q steps r → (new : Session) (result : Result Reply Fault) → Replied e r now new result → Looks d s c e new result
+    by_one (Ok reply) of new result is = as_is new result (Ok reply) now is.1 is.0 (looks_done d e laws s q reads fresh stands c reply of.asks.cause
+        (answered_by d s long of.slot of.state of.there c (λ reply. reply) reply closed of.asks.asked))
+    by_one (Err (volume.Refused r)) of new result is = as_is new result (Ok (Refused r)) now is.1 is.0 (looks_done d e laws s q reads fresh stands c (Refused r) of.asks.cause
+        (refused_by d s long of.slot of.state of.there c (λ reply. reply) r of.asks.asked))
+    by_one (Err volume.DiskFault) of new result b = as_is new result (Err DiskFault) (record now { failed = new.failed }) b.1.1.1.same (b.1.0 ∙ ap (λ (g : Fault). Err g) b.1.1.0)
+        (looks_broken d e laws s q reads fresh stands c new.failed (rose_by _ _ _ e.faults of.asks.cause) b.1.1.1.written b.1.1.1.unwritten)
+    by_one (Err (volume.Damaged at want found)) of new result b = as_is new result (Err (Damaged at want found)) now b.1.1.1 (b.1.0 ∙ ap (λ (g : Fault). Err g) b.1.1.0)
+        (looks_damaged d e laws s q reads fresh stands c at want found (calm_damage _ _ _ e.faults at want found of.asks.cause)
+        (inr (inr (record { fresh = fresh; slot = of.slot; there = subst IsSome (sym of.there) refl })))
+        (λ tells last m held.
+        let here = one d s.pool s.volumes long last held.held of.slot of.state of.there in
+        no_damage d s.pool of.state here.stands here.well 0 e.faults at want found of.asks.cause))
+    by_one (Err volume.Memory) of new result b = as_is new result (Err Memory) now b.1.1.1 (b.1.0 ∙ ap (λ (g : Fault). Err g) b.1.1.0)
+        (looks_wanting d e laws s q reads fresh stands c (calm_memory _ _ _ e.faults of.asks.cause))
+
+  pub looks_by : (r : Result Reply VolumeFault) → AsksVolume d s.pool s.volumes name c start e q steps r → (new : Session) (result : Result Reply Fault) → Replied e r now new result → Looks d s c e new result
+  looks_by r (asks) new result is = by asks.which
+    where
+      by : FindsNone s.volumes name d s.pool start e q steps r ⊎ FindsOne s.volumes name d s.pool c start e q steps r → Looks d s c e new result
+      by (inl none) = by_none asks.reads r none new result is
+      by (inr of) = by_one asks.reads r of new result is
+
+  -- no step was made
+  pub known_by : (r : Result Reply VolumeFault) → AsksVolume d s.pool s.volumes name c start e q steps r → (new : Session) (result : Result Reply Fault) → Replied e r now new result
+      → (last m : Machine) → StandsFor d s last m → OnOk result (steps ≡ start)
+  known_by r asks new result is last m held = by asks.which
+    where
+      fault_in : (g : VolumeFault) → Faults e g now new result → OnOk result (steps ≡ start)
+      fault_in g b = subst (λ (z : Result Reply Fault). OnOk z (steps ≡ start)) (sym b.1.0) tt
+
+      in_ok : (y : Reply) → result ≡ Ok y → steps ≡ start → OnOk result (steps ≡ start)
+      in_ok y is same = subst (λ (z : Result Reply Fault). OnOk z (steps ≡ start)) (sym is) same
+
+      moved : (z : Result Reply VolumeFault) → r ≡ z → Replied e z now new result → FindsOne s.volumes name d s.pool c start e q steps z → OnOk result (steps ≡ start)
+      moved (Ok reply) at is of =
+          let here = one d s.pool s.volumes long last held.held of.slot of.state of.there in
+          in_ok reply is.0 (of.asks.known here.stands here.well m (has_volume d s long of.slot of.state of.there last m held))
+      moved (Err (volume.Refused r)) at is of = in_ok (Refused r) is.0 (of.asks.unmoved r refl)
+      moved (Err volume.DiskFault) at is of = fault_in volume.DiskFault is
+      moved (Err (volume.Damaged a w f)) at is of = fault_in (volume.Damaged a w f) is
+      moved (Err volume.Memory) at is of = fault_in volume.Memory is
+
+      unmoved : (z : Result Reply Fault) → steps ≡ start → OnOk z (steps ≡ start)
+      unmoved (Ok y) same = same
+      unmoved (Err f) same = tt
+
+      by : FindsNone s.volumes name d s.pool start e q steps r ⊎ FindsOne s.volumes name d s.pool c start e q steps r → OnOk result (steps ≡ start)
+      by (inl none) = unmoved result none.unmoved
+      by (inr of) = moved r refl is of
+
+-- ---- the volume that is found by its name
+
+pub named_asked : (o : Option VolumeState) (name : List ℕ) (c : Command) → is_named o name ≡ true → asked_by c ≡ Some name → IfSome o (λ x. asked_by c ≡ Some x.name)
+named_asked None name c is asks = tt
+named_asked (Some x) name c is asks = asks ∙ ap (λ (n : List ℕ). Some n) (sym (same_name x.name name is))
+
+module _ (d e : Shown) (p q : Pool) (states : States) (name : List ℕ) (c : Command) (start steps : ℕ) (r : Result Reply VolumeFault) where
+  pub found_asks : (slot : ℕ) (o : Option VolumeState) → state_at states slot ≡ o → is_named o name ≡ true → AsksSlot d p o c start e q steps r → AsksVolume d p states name c start e q steps r
+  found_asks slot None there is asks = absurd asks
+  found_asks slot (Some x) there is asks = record {
+    reads = asks.reads;
+    which = inr (record { slot = slot; state = x; there = there; named = same_name x.name name is; asks = asks });
+  }

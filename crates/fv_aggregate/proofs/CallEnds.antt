@@ -1,0 +1,221 @@
+-- How a call of a session ends that only read the disk, whatever it changed in memory, and one that goes on from another.
+use Rattle.std.proofs.Common.{◌≡◌, ◌<◌, ◌+◌, ◌⊎◌, ℕ, List, Option, Some, None, Result, Ok, Err, refl, sym, ap, subst, ◌∙◌, inl, inr, ⊎_elim, arith}
+use Rattle.std.specs.Prelude.{IsNone}
+use Rattle.fv_disk.specs.Shown.{Image, Shown, IsDisk, Rose}
+use Rattle.fv_disk.specs.Crash.{Leaves}
+use Rattle.fv_disk.specs.DiskCalls.{OnlyReads}
+use Rattle.fv_disk.proofs.Moments.{goes_on, then, weaken}
+use Rattle.fv_model.specs.Machines.{Machine}
+use Rattle.fv_image.specs.WholeMachine.{machine_of}
+use Rattle.fv_aggregate.specs.declared.fault.Fault.{Fault}
+use Rattle.fv_aggregate.specs.declared.fault.Fault.TheVariants.{DiskFault, Damaged, Memory, Failed}
+use Rattle.fv_aggregate.specs.declared.session.Session.{Session}
+use Rattle.fv_aggregate.specs.Calls.{Goes, GoesFor, HasDamage, HasFault, IsNoDamage, SameCounts}
+use Rattle.fv_aggregate.specs.Causes.{KeepsEnds}
+use Rattle.fv_aggregate.specs.Commands.{dirty_limit}
+use Rattle.fv_aggregate.specs.Standing.{OneOf, Stands, StandsAfter, StandsFor}
+use Rattle.fv_aggregate.proofs.Standing.{earlier_moments, rests_for_last, stands_for_last, stays_for}
+
+-- ---- the disk was only read
+
+module _ (d e : Shown) (laws : IsDisk d) (s left : Session) (room : ℕ) (reads : OnlyReads d e) (fresh : IsNone s.failed) (still : IsNone left.failed) (stands : Stands e left) where
+  ends : KeepsEnds d e
+  ends = record { tells = reads.stays.tells; given = reads.given; ends = reads.ends }
+
+  pub goes_done : {T : Type 0} (x : T) → e.faults ≡ d.faults → Goes room d s e left (Ok x)
+  goes_done x calm = record {
+    ends = ends;
+    stands = λ none. stands;
+    done = record { was = fresh; goes_on = still; counts = record { faults = calm; write_faults = reads.write_faults } };
+    fault = tt;
+  }
+
+  pub goes_wanting : {T : Type 0} → e.faults ≡ d.faults → Goes {T = T} room d s e left (Err Memory)
+  goes_wanting calm = record {
+    ends = ends;
+    stands = λ none. stands;
+    done = tt;
+    fault = record { reason = fresh; counts = record { faults = calm; write_faults = reads.write_faults }; session = still; disk = inl reads };
+  }
+
+  pub goes_damaged : {T : Type 0} (at want found : ℕ) → e.faults ≡ d.faults → HasDamage d s left at want found → Goes {T = T} room d s e left (Err (Damaged at want found))
+  goes_damaged at want found calm damage = record {
+    ends = ends;
+    stands = λ none. stands;
+    done = tt;
+    fault = record { reason = damage; counts = record { faults = calm; write_faults = reads.write_faults }; session = still; disk = inl reads };
+  }
+
+  -- what a crash leaves at each moment of it
+  moments : (last m next : Machine) → StandsFor d s last m → Leaves d e (λ c g. OneOf last m next c × (g ≡ d.given))
+  moments last m next is = goes_on d d e (λ c g. OneOf last m next c × (g ≡ d.given)) (rests_for_last d s last m next laws is) reads.time
+      (λ c now. (inl (stands_for_last d s.pool s.volumes last is.held c (reads.stays.no_more c now)), reads.given))
+
+  pub goes_for_done : {T : Type 0} (x : T) (last m next : Machine) → StandsFor d s last m → StandsFor e left last next → GoesFor d last m next e left (Ok x)
+  goes_for_done x last m next was is = record {
+    any_moment = moments last m next was;
+    done = record { point = last; one = inl refl; stands = is };
+    still = λ none. tt;
+    whole = tt;
+  }
+
+  pub goes_for_fault : {T : Type 0} (fault : Fault) (last m next : Machine) → IsNoDamage fault → StandsFor d s last m → StandsFor e left last m → GoesFor {T = T} d last m next e left (Err fault)
+  goes_for_fault fault last m next whole was is = record {
+    any_moment = moments last m next was;
+    done = tt;
+    still = λ none. stays_for e left last m is;
+    whole = whole;
+  }
+
+  -- a read failed: the session goes on, but where the count of failed writes stands at its greatest value
+  module _ (o : Option ℕ) where
+    abbrev pub broken : Session
+    broken = record left { failed = o }
+
+    same_none : (a b : Option ℕ) → IsNone a → IsNone b → a ≡ b
+    same_none None None x y = refl
+    same_none None (Some n) x y = cc
+    same_none (Some n) b x y = cc
+
+    as_left : IsNone o → left ≡ broken
+    as_left none = ap (λ (f : Option ℕ). record left { failed = f }) (same_none left.failed o still none)
+
+    pub goes_broken : {T : Type 0} → Rose d.faults e.faults → (Rose e.write_faults e.write_faults → o ≡ Some e.faults) → (¬ Rose e.write_faults e.write_faults → IsNone o) → Goes {T = T} room d s e broken (Err DiskFault)
+    goes_broken rose written unwritten = record {
+      ends = ends;
+      stands = λ none. subst (Stands e) (as_left none) stands;
+      done = tt;
+      fault = record {
+        reason = fresh;
+        counts = record { faults = rose; write_faults = λ calm. reads.write_faults };
+        session = record {
+          by_write = λ is. written (subst (λ (n : ℕ). Rose n e.write_faults) (sym reads.write_faults) is);
+          by_read = λ isnt. unwritten (λ is. isnt (subst (λ (n : ℕ). Rose n e.write_faults) reads.write_faults is));
+        };
+        disk = tt;
+      };
+    }
+
+    pub goes_for_broken : {T : Type 0} (last m next : Machine) → StandsFor d s last m → StandsFor e left last m → GoesFor {T = T} d last m next e broken (Err DiskFault)
+    goes_for_broken last m next was is = record {
+      any_moment = moments last m next was;
+      done = tt;
+      still = λ none. subst (λ (x : Session). StandsAfter e x last m m) (as_left none) (stays_for e left last m is);
+      whole = tt;
+    }
+
+-- ---- one call after another
+
+-- a call may add more
+wider : (room : ℕ) (d : Shown) (s : Session) (e : Shown) (n : Session) (f : Fault) → HasFault 0 d s e n f → HasFault room d s e n f
+wider room d s e n DiskFault row = row
+wider room d s e n (Damaged at want found) row = record {
+  reason = row.reason;
+  counts = row.counts;
+  session = row.session;
+  disk = ⊎_elim (λ read. inl read) (λ past. inr (omega (arith, past))) row.disk;
+}
+wider room d s e n Memory row = record {
+  reason = row.reason;
+  counts = row.counts;
+  session = row.session;
+  disk = ⊎_elim (λ read. inl read) (λ past. inr (omega (arith, past))) row.disk;
+}
+wider room d s e n (Failed faults) row = row
+
+pub goes_wider : {T U : Type 0} (room : ℕ) (d : Shown) (s : Session) (e : Shown) (n : Session) (f : Fault) → Goes {T = T} 0 d s e n (Err f) → Goes {T = U} room d s e n (Err f)
+goes_wider room d s e n f goes = record { ends = goes.ends; stands = goes.stands; done = tt; fault = wider room d s e n f goes.fault }
+
+pub replies_wider : {T U : Type 0} (x : T) (y : U) (room : ℕ) (d : Shown) (s : Session) (e : Shown) (n : Session) → Goes 0 d s e n (Ok x) → Goes room d s e n (Ok y)
+replies_wider x y room d s e n goes = record { ends = goes.ends; stands = goes.stands; done = goes.done; fault = tt }
+
+module _ {T : Type 0} (x : T) (first second : ℕ) (d : Shown) (s : Session) (e : Shown) (n : Session) (goes : Goes first d s e n (Ok x)) where
+  counts_on : (g : Shown) → SameCounts e g → SameCounts d g
+  counts_on g counts = record { faults = counts.faults ∙ goes.done.counts.faults; write_faults = counts.write_faults ∙ goes.done.counts.write_faults }
+
+  faults_on : (g : Shown) (new : Session) (f : Fault) → dirty_limit < s.pending + second → ((at want found : ℕ) → HasDamage d s new at want found) → HasFault second e n g new f → HasFault second d s g new f
+  faults_on g new DiskFault past damage row =
+      let same = goes.done.counts in
+      record {
+        reason = goes.done.was;
+        counts = record {
+          faults = subst (λ (k : ℕ). Rose k g.faults) same.faults row.counts.faults;
+          write_faults = λ calm. row.counts.write_faults (λ rose. calm (subst (λ (k : ℕ). Rose k g.write_faults) same.write_faults rose)) ∙ same.write_faults;
+        };
+        session = record {
+          by_write = λ rose. row.session.by_write (subst (λ (k : ℕ). Rose k g.write_faults) (sym same.write_faults) rose);
+          by_read = λ calm. row.session.by_read (λ rose. calm (subst (λ (k : ℕ). Rose k g.write_faults) same.write_faults rose));
+        };
+        disk = tt;
+      }
+  faults_on g new (Damaged at want found) past damage row = record { reason = damage at want found; counts = counts_on g row.counts; session = row.session; disk = inr past }
+  faults_on g new Memory past damage row = record { reason = goes.done.was; counts = counts_on g row.counts; session = row.session; disk = inr past }
+  faults_on g new (Failed faults) past damage row = absurd (both n.failed goes.done.goes_on row.reason)
+    where
+      both : (o : Option ℕ) → IsNone o → o ≡ Some faults → ⊥
+      both o none some = cc
+
+  ends_on : (g : Shown) → KeepsEnds e g → KeepsEnds d g
+  ends_on g ends = record { tells = ends.tells ∙ goes.ends.tells; given = ends.given ∙ goes.ends.given; ends = ends.ends ∙ goes.ends.ends }
+
+  -- A call that comes after one with room that passes the dirty limit. What was damaged in it is damaged for both.
+  pub goes_after : {U : Type 0} (g : Shown) (new : Session) (r : Result U Fault) → dirty_limit < s.pending + second → ((at want found : ℕ) → HasDamage d s new at want found) → Goes second e n g new r → Goes second d s g new r
+  goes_after g new (Ok y) past damage next = record {
+    ends = ends_on g next.ends;
+    stands = next.stands;
+    done = record { was = goes.done.was; goes_on = next.done.goes_on; counts = counts_on g next.done.counts };
+    fault = tt;
+  }
+  goes_after g new (Err f) past damage next = record {
+    ends = ends_on g next.ends;
+    stands = next.stands;
+    done = tt;
+    fault = faults_on g new f past damage next.fault;
+  }
+
+-- ---- for the machines that the session stands for
+
+pub fails_early : {T U : Type 0} (d : Shown) (last m next : Machine) (e : Shown) (n : Session) (f : Fault) → GoesFor {T = T} d last m m e n (Err f) → GoesFor {T = U} d last m next e n (Err f)
+fails_early d last m next e n f goes = record {
+  any_moment = earlier_moments d e last m next d.given goes.any_moment;
+  done = tt;
+  still = goes.still;
+  whole = goes.whole;
+}
+
+-- a call after one that left the machine, from the point that this one left
+module _ {T : Type 0} (x : T) (d e g : Shown) (n new : Session) (last m next : Machine) (first : GoesFor d last m m e n (Ok x)) (given : e.given ≡ d.given) where
+  abbrev point : Machine
+  point = first.done.point
+
+  later : (c : Image) (b : List ℕ) → OneOf point m next c × (b ≡ e.given) → OneOf last m next c × (b ≡ d.given)
+  later c b one = (⊎_elim (λ old. at_point first.done.one old) (λ rest. inr rest) one.0, one.1 ∙ given)
+    where
+      at_point : (point ≡ last) ⊎ (point ≡ m) → machine_of c ≡ Some point → OneOf last m next c
+      at_point (inl same) is = inl (is ∙ ap (λ (k : Machine). Some k) same)
+      at_point (inr same) is = inr (inl (is ∙ ap (λ (k : Machine). Some k) same))
+
+  both_moments : Leaves e g (λ c b. OneOf point m next c × (b ≡ e.given)) → Leaves d g (λ c b. OneOf last m next c × (b ≡ d.given))
+  both_moments second = then d e g (λ c b. OneOf last m next c × (b ≡ d.given)) (earlier_moments d e last m next d.given first.any_moment)
+      (weaken e g (λ c b. OneOf point m next c × (b ≡ e.given)) (λ c b. OneOf last m next c × (b ≡ d.given)) later second)
+
+  after_both : (now : Machine) → StandsAfter g new point m now → StandsAfter g new last m now
+  after_both now is = record { point = is.point; one = ⊎_elim (λ same. at same first.done.one) (λ same. inr same) is.one; stands = is.stands }
+    where
+      at : is.point ≡ point → (point ≡ last) ⊎ (point ≡ m) → (is.point ≡ last) ⊎ (is.point ≡ m)
+      at same (inl old) = inl (same ∙ old)
+      at same (inr now) = inr (same ∙ now)
+
+  pub goes_for_after : {U : Type 0} (r : Result U Fault) → GoesFor e point m next g new r → GoesFor d last m next g new r
+  goes_for_after (Ok y) second = record {
+    any_moment = both_moments second.any_moment;
+    done = after_both next second.done;
+    still = λ none. tt;
+    whole = tt;
+  }
+  goes_for_after (Err f) second = record {
+    any_moment = both_moments second.any_moment;
+    done = tt;
+    still = λ none. after_both m (second.still none);
+    whole = second.whole;
+  }

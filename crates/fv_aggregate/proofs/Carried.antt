@@ -1,0 +1,212 @@
+-- A session that judged a command on files, or carried one out, by the call of the volume of a slot.
+use Rattle.std.proofs.Common.{◌≡◌, ◌<◌, ◌≤◌, ◌+◌, ◌-◌, ◌^◌, ℕ, true, List, Option, Some, None, Result, Ok, Err, length, true≢false, inr, refl, sym, ap, subst, ◌∙◌, arith, get_or-set_same}
+use Rattle.std.specs.Prelude.{IsNone, IsSome, min}
+use Rattle.std.specs.FinMap as fin
+use Rattle.std.proofs.lemmas.List.{set-get_or}
+use Rattle.fv_disk.specs.Shown.{Shown, IsDisk}
+use Rattle.fv_model.specs.declared.answers.Refusal.{Refusal}
+use Rattle.fv_model.specs.declared.answers.Refusal.TheVariants.{NoVolume}
+use Rattle.fv_model.specs.declared.answers.Reply.{Reply}
+use Rattle.fv_model.specs.declared.answers.Reply.TheVariants.{Done, Refused}
+use Rattle.fv_model.specs.declared.commands.Command.{Command}
+use Rattle.fv_model.specs.Machines.{Machine}
+use Rattle.fv_model.specs.Refusals.{next, refusal}
+use Rattle.fv_laws.proofs.Changes.{same_name}
+use Rattle.fv_volume.specs.declared.fault.VolumeFault.{VolumeFault}
+use Rattle.fv_volume.specs.declared.fault.VolumeFault.TheVariants as volume
+use Rattle.fv_volume.specs.declared.pool.Pool.{Pool}
+use Rattle.fv_volume.specs.declared.state.VolumeState.{VolumeState}
+use Rattle.fv_volume.specs.Changing.{IsChangeOf}
+use Rattle.fv_volume.specs.Placing.{pending_of}
+use Rattle.fv_volume.specs.Slots.{is_named, NoneHasName}
+use Rattle.fv_volume.specs.States.{States, state_at, with_state}
+use Rattle.fv_volume.proofs.Undamaged.{no_damage}
+use Rattle.fv_volume.proofs.Told.{is_inside}
+use Rattle.fv_cp.specs.Held.{IsHeldIn}
+use Rattle.fv_cp.specs.Placing.{pending_by}
+use Rattle.fv_aggregate.specs.declared.fault.Fault.{Fault}
+use Rattle.fv_aggregate.specs.declared.fault.Fault.TheVariants.{DiskFault, Damaged, Memory}
+use Rattle.fv_aggregate.specs.declared.session.Session.{Session}
+use Rattle.fv_aggregate.specs.Calls.{GoesFor, HasDamage}
+use Rattle.fv_aggregate.specs.Commands.{changed_by, has_range}
+use Rattle.fv_aggregate.specs.Looking.{done_as, ChangesSlot, ChangesState, HasJudged, IsSlotChanged, JudgesSlot, JudgesState, IsAimed, Makes, Replied}
+use Rattle.fv_aggregate.specs.Standing.{Stands, StandsFor}
+use Rattle.fv_aggregate.proofs.Asked.{calm_damage, calm_memory, rose_by}
+use Rattle.fv_aggregate.proofs.CallEnds.{goes_broken, goes_damaged, goes_done, goes_for_broken, goes_for_done, goes_for_fault, goes_wanting}
+use Rattle.fv_aggregate.proofs.Changed.{accepted, beside, counted, has_within, held_done, held_left, machine_done, machine_left, mine, stands_changed, stands_for_changed}
+use Rattle.fv_aggregate.proofs.Calls.{reads_itself}
+use Rattle.fv_aggregate.proofs.Changing.{change_allows, change_of_volume}
+use Rattle.fv_aggregate.proofs.HeldMachine.{not_there}
+use Rattle.fv_aggregate.proofs.Looked.{stands_for_read, stands_read, was_read}
+use Rattle.fv_aggregate.proofs.Missing.{no_change, refused_allows, refused_next}
+
+-- the session's volume is damaged, if one is
+pub damaged_at : (d : Shown) (s : Session) (slot : ℕ) (x : VolumeState) → state_at s.volumes slot ≡ Some x → IsNone s.failed → (new : Session) (at want found : ℕ) → HasDamage d s new at want found
+damaged_at d s slot x there fresh new at want found = inr (inr (record { fresh = fresh; slot = slot; there = subst IsSome (sym there) refl }))
+
+-- ---- judged
+
+module _ (d e : Shown) (laws : IsDisk d) (s : Session) (q : Pool) (c : Command) (slot : ℕ) (x : VolumeState) (there : state_at s.volumes slot ≡ Some x) (long : length s.volumes ≡ 64) (fresh : IsNone s.failed) (stands : Stands d s) where
+  abbrev now : Session
+  now = record s { pool = q }
+
+  its : (last m : Machine) → StandsFor d s last m → IsHeldIn d s.pool slot x
+  its last m is = mine d s.pool s.volumes long last is.held slot x there
+
+  judged_as : (new : Session) (result wanted : Result Reply Fault) (was : Session) → new ≡ was → result ≡ wanted → HasJudged d s c e was wanted → HasJudged d s c e new result
+  judged_as new result wanted was same is judged = subst (λ (r : Result Reply Fault). HasJudged d s c e new r) (sym is) (subst (λ (n : Session). HasJudged d s c e n wanted) (sym same) judged)
+
+  pub judged_by : (r : Result Unit VolumeFault) → JudgesState d s.pool x (beside s.volumes slot) c e q r → (new : Session) (result : Result Reply Fault) → Replied e (done_as r) now new result → HasJudged d s c e new result
+  judged_by (Ok u) did new result is = judged_as new result (Ok Done) now is.1 is.0 (record {
+    goes = goes_done d e laws s now 0 did.reads.only_reads fresh fresh (stands_read d e s q did.reads stands) Done did.cause;
+    goes_for = λ tells last m is. goes_for_done d e laws s now 0 did.reads.only_reads fresh fresh (stands_read d e s q did.reads stands) Done last m m is (stands_for_read d e s q did.reads last m is);
+    judges = λ tells last m is. ap (λ (k : Machine). refusal k c) (sym is.machine) ∙ did.agrees (its last m is).stands _ (has_within d s.pool s.volumes long last is.held slot x there);
+    only_reads = did.reads.only_reads;
+    read = was_read d e s q did.reads;
+  })
+  judged_by (Err (volume.Refused r)) did new result is = judged_as new result (Ok (Refused r)) now is.1 is.0 (record {
+    goes = goes_done d e laws s now 0 did.reads.only_reads fresh fresh (stands_read d e s q did.reads stands) (Refused r) did.cause;
+    goes_for = λ tells last m is. goes_for_done d e laws s now 0 did.reads.only_reads fresh fresh (stands_read d e s q did.reads stands) (Refused r) last m m is (stands_for_read d e s q did.reads last m is);
+    judges = λ tells last m is. ap (λ (k : Machine). refusal k c) (sym is.machine) ∙ did.agrees (its last m is).stands _ (has_within d s.pool s.volumes long last is.held slot x there);
+    only_reads = did.reads.only_reads;
+    read = was_read d e s q did.reads;
+  })
+  judged_by (Err volume.DiskFault) did new result b = judged_as new result (Err DiskFault) (record now { failed = new.failed }) b.1.1.1.same (b.1.0 ∙ ap (λ (g : Fault). Err g) b.1.1.0) (record {
+    goes = goes_broken d e laws s now 0 did.reads.only_reads fresh fresh (stands_read d e s q did.reads stands) new.failed (rose_by _ _ _ e.faults did.cause) b.1.1.1.written b.1.1.1.unwritten;
+    goes_for = λ tells last m is. goes_for_broken d e laws s now 0 did.reads.only_reads fresh fresh (stands_read d e s q did.reads stands) new.failed last m m is (stands_for_read d e s q did.reads last m is);
+    judges = λ tells last m is. tt;
+    only_reads = did.reads.only_reads;
+    read = tt;
+  })
+  judged_by (Err (volume.Damaged at want found)) did new result b = judged_as new result (Err (Damaged at want found)) now b.1.1.1 (b.1.0 ∙ ap (λ (g : Fault). Err g) b.1.1.0) (record {
+    goes = goes_damaged d e laws s now 0 did.reads.only_reads fresh fresh (stands_read d e s q did.reads stands) at want found (calm_damage _ _ _ e.faults at want found did.cause) (damaged_at d s slot x there fresh now at want found);
+    goes_for = λ tells last m is. absurd (no_damage d s.pool x (its last m is).stands (its last m is).well 0 e.faults at want found did.cause);
+    judges = λ tells last m is. tt;
+    only_reads = did.reads.only_reads;
+    read = tt;
+  })
+  judged_by (Err volume.Memory) did new result b = judged_as new result (Err Memory) now b.1.1.1 (b.1.0 ∙ ap (λ (g : Fault). Err g) b.1.1.0) (record {
+    goes = goes_wanting d e laws s now 0 did.reads.only_reads fresh fresh (stands_read d e s q did.reads stands) (calm_memory _ _ _ e.faults did.cause);
+    goes_for = λ tells last m is. goes_for_fault d e laws s now 0 did.reads.only_reads fresh fresh (stands_read d e s q did.reads stands) Memory last m m tt is (stands_for_read d e s q did.reads last m is);
+    judges = λ tells last m is. tt;
+    only_reads = did.reads.only_reads;
+    read = tt;
+  })
+
+  -- ---- carried out
+
+  module _ (y : VolumeState) (more : ℕ) (more_is : more ≡ counted (pending_of x.files) (pending_of y.files)) (few : s.pending + 16 ≤ 256) (change : IsChangeOf x.name c) where
+    abbrev after : Session
+    after = record s { volumes = with_state s.volumes slot (Some y); pool = q; pending = s.pending + more }
+
+    makes_as : (new : Session) (result wanted : Result Reply Fault) (was : Session) → new ≡ was → result ≡ wanted → Makes d s c e was wanted → Makes d s c e new result
+    makes_as new result wanted was same is makes = subst (λ (r : Result Reply Fault). Makes d s c e new r) (sym is) (subst (λ (n : Session). Makes d s c e n wanted) (sym same) makes)
+
+    stand : (r : Result Unit VolumeFault) → ChangesState d s.pool x (beside s.volumes slot) c e q y r → Stands e after
+    stand r did = stands_changed d e s q slot x y there (beside s.volumes slot) c r did long more more_is stands
+
+    -- it stands for the machine after the command
+    for_done : (u : Unit {0}) → ChangesState d s.pool x (beside s.volumes slot) c e q y (Ok u) → (last m : Machine) → StandsFor d s last m → StandsFor e after last (next m c)
+    for_done u did last m is = stands_for_changed d e s q slot x y there (beside s.volumes slot) c (Ok u) did long more more_is last m (next m c) is few (did.table (its last m is).stands).room
+        (held_done d s.pool s.volumes long last is.held slot x there e q c y u did)
+        (machine_done d s.pool s.volumes long last is.held slot x there e q c y u did ∙ ap (λ (k : Machine). next k c) is.machine)
+
+    -- after a fault it stands for the one before
+    for_left : (f : VolumeFault) → ChangesState d s.pool x (beside s.volumes slot) c e q y (Err f) → (last m : Machine) → StandsFor d s last m → StandsFor e after last m
+    for_left f did last m is = stands_for_changed d e s q slot x y there (beside s.volumes slot) c (Err f) did long more more_is last m m is few (did.table (its last m is).stands).room
+        (held_left d s.pool s.volumes long last is.held slot x there e q c y f did)
+        (machine_left d s.pool s.volumes long last is.held slot x there e q c y f did ∙ is.machine)
+
+    is_accepted : (u : Unit {0}) → ChangesState d s.pool x (beside s.volumes slot) c e q y (Ok u) → (last m : Machine) → StandsFor d s last m → refusal m c ≡ None
+    is_accepted u did last m is = ap (λ (k : Machine). refusal k c) (sym is.machine) ∙ accepted d s.pool s.volumes long last is.held slot x there e q c y u did
+
+    is_refused : (r : Refusal) → ChangesState d s.pool x (beside s.volumes slot) c e q y (Err (volume.Refused r)) → (last m : Machine) → StandsFor d s last m → refusal m c ≡ Some r
+    is_refused r did last m is = ap (λ (k : Machine). refusal k c) (sym is.machine) ∙ (did.changes (its last m is).stands).agrees _ (has_within d s.pool s.volumes long last is.held slot x there)
+
+    -- a refused one leaves all but the cache
+    as_read : y ≡ x → after ≡ now
+    as_read same =
+        let states : with_state s.volumes slot (Some y) ≡ s.volumes = ap (λ (z : VolumeState). with_state s.volumes slot (Some z)) same ∙ ap (λ (o : Option VolumeState). with_state s.volumes slot o) (sym there) ∙ set-get_or s.volumes slot None in
+        let none : more ≡ counted (pending_of x.files) (pending_of x.files) = more_is ∙ ap (λ (z : VolumeState). counted (pending_of x.files) (pending_of z.files)) same in
+        let nothing : s.pending + more ≡ s.pending = omega (arith, none) in
+        λ j. record s { volumes = states j; pool = q; pending = nothing j }
+
+    pub makes_by : (r : Result Unit VolumeFault) → ChangesState d s.pool x (beside s.volumes slot) c e q y r → (new : Session) (result : Result Reply Fault) → Replied e (done_as r) after new result → Makes d s c e new result
+    makes_by (Ok u) did new result is = makes_as new result (Ok Done) after is.1 is.0 (record {
+      goes = goes_done d e laws s after 16 did.reads.only_reads fresh fresh (stand (Ok u) did) Done did.cause;
+      goes_for = λ tells last m is. goes_for_done d e laws s after 16 did.reads.only_reads fresh fresh (stand (Ok u) did) Done last m (next m c) is (for_done u did last m is);
+      reply = λ tells last m is. change_allows x.name c change m (is_accepted u did last m is);
+      refused = λ tells last m is refused. absurd (true≢false (sym refused));
+      calm = λ low. did.reads.only_reads;
+    })
+    makes_by (Err (volume.Refused r)) did new result is = makes_as new result (Ok (Refused r)) now (is.1 ∙ as_read (did.head.refused r refl)) is.0 (record {
+      goes = goes_done d e laws s now 16 did.reads.only_reads fresh fresh (stands_read d e s q did.reads stands) (Refused r) did.cause;
+      goes_for = λ tells last m is. subst (λ (n : Machine). GoesFor d last m n e now (Ok (Refused r))) (sym (refused_next m c r (is_refused r did last m is)))
+          (goes_for_done d e laws s now 16 did.reads.only_reads fresh fresh (stands_read d e s q did.reads stands) (Refused r) last m m is (stands_for_read d e s q did.reads last m is));
+      reply = λ tells last m is. refused_allows m c r (is_refused r did last m is);
+      refused = λ tells last m is refused. was_read d e s q did.reads;
+      calm = λ low. did.reads.only_reads;
+    })
+    makes_by (Err volume.DiskFault) did new result b = makes_as new result (Err DiskFault) (record after { failed = new.failed }) b.1.1.1.same (b.1.0 ∙ ap (λ (g : Fault). Err g) b.1.1.0) (record {
+      goes = goes_broken d e laws s after 16 did.reads.only_reads fresh fresh (stand (Err volume.DiskFault) did) new.failed (rose_by _ _ _ e.faults did.cause) b.1.1.1.written b.1.1.1.unwritten;
+      goes_for = λ tells last m is. goes_for_broken d e laws s after 16 did.reads.only_reads fresh fresh (stand (Err volume.DiskFault) did) new.failed last m (next m c) is (for_left volume.DiskFault did last m is);
+      reply = λ tells last m is. tt;
+      refused = λ tells last m is. tt;
+      calm = λ low. did.reads.only_reads;
+    })
+    makes_by (Err (volume.Damaged at want found)) did new result b = makes_as new result (Err (Damaged at want found)) after b.1.1.1 (b.1.0 ∙ ap (λ (g : Fault). Err g) b.1.1.0) (record {
+      goes = goes_damaged d e laws s after 16 did.reads.only_reads fresh fresh (stand (Err (volume.Damaged at want found)) did) at want found (calm_damage _ _ _ e.faults at want found did.cause) (damaged_at d s slot x there fresh after at want found);
+      goes_for = λ tells last m is. absurd (no_damage d s.pool x (its last m is).stands (its last m is).well 0 e.faults at want found did.cause);
+      reply = λ tells last m is. tt;
+      refused = λ tells last m is. tt;
+      calm = λ low. did.reads.only_reads;
+    })
+    makes_by (Err volume.Memory) did new result b = makes_as new result (Err Memory) after b.1.1.1 (b.1.0 ∙ ap (λ (g : Fault). Err g) b.1.1.0) (record {
+      goes = goes_wanting d e laws s after 16 did.reads.only_reads fresh fresh (stand (Err volume.Memory) did) (calm_memory _ _ _ e.faults did.cause);
+      goes_for = λ tells last m is. goes_for_fault d e laws s after 16 did.reads.only_reads fresh fresh (stand (Err volume.Memory) did) Memory last m (next m c) tt is (for_left volume.Memory did last m is);
+      reply = λ tells last m is. tt;
+      refused = λ tells last m is. tt;
+      calm = λ low. did.reads.only_reads;
+    })
+
+-- ---- the volume of the slot
+
+module _ (d : Shown) (p : Pool) (states : States) (slot : ℕ) (x : VolumeState) (there : state_at states slot ≡ Some x) (others : ℕ) (others_are : others ≡ beside states slot) (c : Command) (e : Shown) (q : Pool) (r : Result Unit VolumeFault) where
+  pub slot_judged : JudgesSlot d p (state_at states slot) others c e q r → JudgesState d p x (beside states slot) c e q r
+  slot_judged is = subst (λ (n : ℕ). JudgesState d p x n c e q r) others_are (subst (λ (o : Option VolumeState). JudgesSlot d p o others c e q r) there is)
+
+  pub slot_changed : (stay : States) → ChangesSlot d p states slot (state_at states slot) others c e q stay r → IsSlotChanged d p states slot x (beside states slot) c e q stay r
+  slot_changed stay is = subst (λ (n : ℕ). IsSlotChanged d p states slot x n c e q stay r) others_are (subst (λ (o : Option VolumeState). ChangesSlot d p states slot o others c e q stay r) there is)
+
+-- the blocks that were added, by what is pending of the slot's volume before it and after it
+pub counted_as : (states stay : States) (slot : ℕ) (x y : VolumeState) → length states ≡ 64 → state_at states slot ≡ Some x → stay ≡ with_state states slot (Some y) → (before after more : ℕ)
+    → before ≡ min (pending_by (state_at states slot)) (2 ^ 64 - 1) → after ≡ min (pending_by (state_at stay slot)) (2 ^ 64 - 1) → more ≡ min (after - before) 16 → more ≡ counted (pending_of x.files) (pending_of y.files)
+counted_as states stay slot x y long there row before after more before_is after_is more_is =
+    let here : state_at stay slot ≡ Some y = ap (λ (xs : States). state_at xs slot) row ∙ get_or-set_same states slot (Some y) None (let low = is_inside states slot x long there in omega (arith, low, long)) in
+    let was : before ≡ min (pending_of x.files) (2 ^ 64 - 1) = before_is ∙ ap (λ (o : Option VolumeState). min (pending_by o) (2 ^ 64 - 1)) there in
+    let now : after ≡ min (pending_of y.files) (2 ^ 64 - 1) = after_is ∙ ap (λ (o : Option VolumeState). min (pending_by o) (2 ^ 64 - 1)) here in
+    more_is ∙ (λ j. min (now j - was j) 16)
+
+-- ---- before a volume is asked
+
+-- what the machine refuses is refused at once
+pub refused_at_once : (d : Shown) → IsDisk d → (s : Session) → IsNone s.failed → Stands d s → (c : Command) (r : Refusal) → ((last m : Machine) → StandsFor d s last m → refusal m c ≡ Some r) → Makes d s c d s (Ok (Refused r))
+refused_at_once d laws s fresh stands c r why = record {
+  goes = goes_done d d laws s s 16 (reads_itself d) fresh fresh stands (Refused r) refl;
+  goes_for = λ tells last m is. subst (λ (n : Machine). GoesFor d last m n d s (Ok (Refused r))) (sym (refused_next m c r (why last m is)))
+      (goes_for_done d d laws s s 16 (reads_itself d) fresh fresh stands (Refused r) last m m is is);
+  reply = λ tells last m is. refused_allows m c r (why last m is);
+  refused = λ tells last m is refused. record { only_reads = reads_itself d; pool = record { map = refl; containers = refl; kept = refl; found = refl }; same = refl };
+  calm = λ low. reads_itself d;
+}
+
+pub refused_missing : (d : Shown) (s : Session) → length s.volumes ≡ 64 → (name : List ℕ) (c : Command) → NoneHasName s.volumes name → changed_by c ≡ Some name → has_range c ≡ true → (last m : Machine) → StandsFor d s last m → refusal m c ≡ Some NoVolume
+refused_missing d s long name c none change near last m is = no_change m name (subst (λ (k : Machine). fin.get k.volumes name ≡ None) is.machine (not_there d s.pool s.volumes long name none)) c change near
+
+-- the command changes a file of the volume that its name finds
+pub aimed_at : (states : States) (slot : ℕ) (name : List ℕ) (c : Command) → slot < 64 → is_named (state_at states slot) name ≡ true → changed_by c ≡ Some name → IsAimed states slot c
+aimed_at states slot name c within named change = by (state_at states slot) refl named
+  where
+    by : (o : Option VolumeState) → state_at states slot ≡ o → is_named o name ≡ true → IsAimed states slot c
+    by None at named = absurd cc
+    by (Some x) at named = record { within = within; state = x; there = at; change = subst (λ (n : List ℕ). IsChangeOf n c) (sym (same_name x.name name named)) (change_of_volume name c change) }

@@ -1,0 +1,152 @@
+-- What a session stands for once blocks were read for it.
+use Rattle.std.proofs.Common.{◌≡◌, ℕ, ◌≤◌, [], ◌∷◌, Option, Some, None, refl, sym, ap, subst, ◌∙◌, arith}
+use Rattle.std.specs.Prelude.{IfSome, IsTrue, flat_map}
+use Rattle.std.specs.FinMap as fin
+use Rattle.fv_disk.specs.Shown.{Image, Shown, IsSettled}
+use Rattle.fv_store.specs.Held.{StandsOn}
+use Rattle.fv_disk.specs.DiskCalls.{OnlyReads}
+use Rattle.fv_model.specs.Machines.{Machine, capacity}
+use Rattle.fv_model.specs.Spelling.{name_cmp}
+use Rattle.fv_image.specs.Held.{layout_at, view_at, AllKeep}
+use Rattle.fv_image.specs.Sound.{overheads}
+use Rattle.fv_image.specs.Views.{slots}
+use Rattle.fv_image.specs.WholeMachine.{Tells}
+use Rattle.fv_root.specs.declared.find.Found.{Found}
+use Rattle.fv_root.specs.Finding.{IsFound, IsInRange, root_found}
+use Rattle.fv_root.specs.Commits.{IsFoundOn}
+use Rattle.fv_aggmap.specs.Space.{Space, blocks_of}
+use Rattle.fv_container.specs.Chains.{Slots, container_at}
+use Rattle.fv_volume.specs.declared.pool.Pool.{Pool}
+use Rattle.fv_volume.specs.declared.state.VolumeState.{VolumeState}
+use Rattle.fv_volume.specs.Calls.{Reads}
+use Rattle.fv_volume.specs.Housed.{AreHoused}
+use Rattle.fv_volume.specs.Keeping.{Blocks, IsUnkept}
+use Rattle.fv_volume.specs.Slots.{sum_of}
+use Rattle.fv_volume.specs.Writing.{IsTaken, on_disk}
+use Rattle.fv_volume.specs.States.{States, state_at}
+use Rattle.fv_volume.specs.Stored.{AreSpacedIn}
+use Rattle.fv_volume.specs.UnderRoot.{IsLentAt, IsMapOf}
+use Rattle.fv_volume.proofs.OneVolumes.{still_ready, still_volume}
+use Rattle.fv_cp.specs.Held.{machine_held, named_held, IsHeld, IsHeldIn}
+use Rattle.fv_cp.specs.Lent.{FitTogether}
+use Rattle.fv_cp.specs.Placing.{AreReady, IsReadyIn}
+use Rattle.fv_aggregate.specs.declared.session.Session.{Session}
+use Rattle.fv_aggregate.specs.Calls.{KeepsAsking, WasRead}
+use Rattle.fv_aggregate.specs.Standing.{clear_blocks, placed_in, Stands, StandsFor}
+use Rattle.fv_aggregate.proofs.Called.{held_in_read}
+
+module _ (d e : Shown) (p q : Pool) (reads : Reads d p e q) where
+  -- ---- volumes
+
+  -- what is said of a slot with a volume
+  over_slot : (A B : VolumeState → Type 0) → ((x : VolumeState) → A x → B x) → (o : Option VolumeState) → IfSome o A → IfSome o B
+  over_slot A B to None is = tt
+  over_slot A B to (Some x) is = to x is
+
+  pub held_read : (states : States) (before : Machine) → IsHeld d p states before → IsHeld e q states before
+  held_read states before is =
+      let same = reads.only_reads.stays.reads in
+      let found = reads.leaves.found in
+      record {
+        found = subst (IsFoundOn e) (sym found) (record {
+          reads = subst (λ (i : Image). IsFound i p.found) (sym same) is.found.reads;
+          images = λ c now. is.found.images c (reads.only_reads.stays.no_more c now);
+        });
+        tells = subst (λ (f : Found). Tells (layout_at (root_found f) e.reads) before) (sym found) (subst (λ (i : Image). Tells (layout_at (root_found p.found) i) before) (sym same) is.tells);
+        keeps = subst (λ (f : Found). AllKeep (root_found f) e.reads e) (sym found) (subst (λ (i : Image). AllKeep (root_found p.found) i e) (sym same) (λ c now. is.keeps c (reads.only_reads.stays.no_more c now)));
+        map = subst (λ (m : Space). IsMapOf e.reads q.found m) (sym reads.leaves.map) (subst (λ (f : Found). IsMapOf e.reads f p.map) (sym found) (subst (λ (i : Image). IsMapOf i p.found p.map) (sym same) is.map));
+        slots = λ s low. subst (λ (c : Slots). IsLentAt e.reads q.found s (state_at states s) (container_at c s)) (sym reads.leaves.containers)
+            (subst (λ (f : Found). IsLentAt e.reads f s (state_at states s) (container_at p.containers s)) (sym found) (subst (λ (i : Image). IsLentAt i p.found s (state_at states s) (container_at p.containers s)) (sym same) (is.slots s low)));
+        spaced = subst (λ (c : Slots). AreSpacedIn q.found.blocks q.map.next (state_at states) (container_at c)) (sym reads.leaves.containers)
+            (subst (λ (m : Space). AreSpacedIn q.found.blocks m.next (state_at states) (container_at p.containers)) (sym reads.leaves.map) (subst (λ (f : Found). AreSpacedIn f.blocks p.map.next (state_at states) (container_at p.containers)) (sym found) is.spaced));
+        names = is.names;
+        each = λ s. over_slot (IsHeldIn d p s) (IsHeldIn e q s) (held_in_read d e p q reads s) (state_at states s) (is.each s);
+        commits = subst (λ (f : Found). sum_of states ≤ capacity f.blocks) (sym found) is.commits;
+      }
+
+  pub machine_read : (states : States) → machine_held e q states ≡ machine_held d p states
+  unfolding machine_held
+  machine_read states = λ j. record {
+    blocks = (reads.leaves.found j).blocks;
+    version = (reads.leaves.found j).root.version;
+    volumes = fin.from_entries {R = name_cmp} (flat_map (λ s. named s (state_at states s) j) slots);
+  }
+    where
+      named : (s : ℕ) (o : Option VolumeState) → named_held e q o ≡ named_held d p o
+      named s None = refl
+      named s (Some x) = λ j. (x.name, still_volume d e p q reads x j) ∷ []
+
+  pub ready_read : (states : States) → AreReady d p states → AreReady e q states
+  ready_read states ready s = over_slot (IsReadyIn d p s) (IsReadyIn e q s) (λ x is. record { slot = is.slot; ready = still_ready d e p q reads x is.ready }) (state_at states s) (ready s)
+
+  pub fit_read : (states : States) → FitTogether p states → FitTogether q states
+  fit_read states fit = record {
+    range = subst IsInRange (sym reads.leaves.found) fit.range;
+    size = ap blocks_of reads.leaves.map ∙ fit.size ∙ sym (ap (λ (f : Found). f.blocks) reads.leaves.found);
+    housed = subst (λ (c : Slots). AreHoused c states) (sym reads.leaves.containers) fit.housed;
+    kept = λ b taken. subst (λ (k : Blocks). IsUnkept k b) (sym reads.leaves.kept) (fit.kept b (subst (λ (m : Space). IsTaken (on_disk m) b) reads.leaves.map taken));
+  }
+
+-- ---- a session
+
+module _ (d e : Shown) (s : Session) (q : Pool) (reads : Reads d s.pool e q) where
+  abbrev pub left : Session
+  left = record s { pool = q }
+
+  pub stands_read : Stands d s → Stands e left
+  stands_read is =
+      let same = reads.only_reads.stays.reads in
+      record {
+        found = λ tells.
+            let was = is.found (subst IsTrue reads.only_reads.stays.tells tells) in
+            subst (IsFoundOn e) (sym reads.leaves.found) (record {
+              reads = subst (λ (i : Image). IsFound i s.pool.found) (sym same) was.reads;
+              images = λ c now. was.images c (reads.only_reads.stays.no_more c now);
+            });
+        map = λ tells. subst (λ (m : Space). IsMapOf e.reads q.found m) (sym reads.leaves.map) (subst (λ (f : Found). IsMapOf e.reads f s.pool.map) (sym reads.leaves.found)
+            (subst (λ (i : Image). IsMapOf i s.pool.found s.pool.map) (sym same) (is.map (subst IsTrue reads.only_reads.stays.tells tells))));
+        cache = reads.stands;
+        ready = ready_read d e s.pool q reads s.volumes is.ready;
+      }
+
+  -- the root on the disk names what it named
+  pub last_overheads : overheads (view_at (root_found q.found) e.reads) ≡ overheads (view_at (root_found s.pool.found) d.reads)
+  last_overheads = λ j. overheads (view_at (root_found (reads.leaves.found j)) (reads.only_reads.stays.reads j))
+
+  pub settled_read : IsSettled d → IsSettled e
+  settled_read is = λ c now a. is c (reads.only_reads.stays.no_more c now) a ∙ ap (λ (i : Image). i a) (sym reads.only_reads.stays.reads)
+
+  pub clear_read : clear_blocks q.map ≡ clear_blocks s.pool.map
+  clear_read = ap clear_blocks reads.leaves.map
+
+  pub placed_read : placed_in q.map ≡ placed_in s.pool.map
+  placed_read = ap placed_in reads.leaves.map
+
+  pub asks_read : KeepsAsking 0 d s e left
+  asks_read = λ tells kept asks none. let same = last_overheads in record { asked = omega (arith, asks.asked, same); pending = omega (arith, asks.pending) }
+
+  pub stands_for_read : (last m : Machine) → StandsFor d s last m → StandsFor e left last m
+  stands_for_read last m is =
+      let was = last_overheads in
+      let placed = placed_read in
+      let clear = clear_read in
+      record {
+        held = held_read d e s.pool q reads s.volumes last is.held;
+        machine = machine_read d e s.pool q reads s.volumes ∙ is.machine;
+        settled = settled_read is.settled;
+        pending = omega (arith, is.pending, was, placed);
+        files = omega (arith, is.files, placed);
+        few = omega (arith, is.few, placed);
+        room = omega (arith, is.room, was, clear);
+      }
+
+  pub was_read : WasRead d s e left
+  was_read = record { only_reads = reads.only_reads; pool = reads.leaves; same = refl }
+
+-- over a disk that was only read the pool is as it was read
+pub reads_alone : (d e : Shown) (pool : Pool) → OnlyReads d e → StandsOn d pool.store.pairs → Reads d pool e pool
+reads_alone d e pool reads held = record {
+  leaves = record { map = refl; containers = refl; kept = refl; found = refl };
+  only_reads = reads;
+  stands = record { same = λ tells pvbn block has. held.same (subst IsTrue reads.stays.tells tells) pvbn block has ∙ ap (λ (i : Image). i pvbn) (sym reads.stays.reads) };
+}

@@ -1,0 +1,67 @@
+use Rattle.std.proofs.Common.{◌≡◌, Ok, rules, refl, ap, sym, subst, ◌∙◌, option_copied}
+use Rattle.std.specs.Prelude.{ℕ}
+use Rattle.fv_model.specs.declared.answers.Reply.TheVariants.{Content, Number, Names}
+use Rattle.fv_model.specs.declared.commands.Command.TheVariants.{Get, Len, Ls}
+use Rattle.fv_volume.proofs.KnownSteps.{known_get}
+use Rattle.fv_aggregate.specs.Looking.{AsksState}
+use Rattle.fv_aggregate.proofs.Asked.{of_get, of_len, of_ls, state_answered, state_failed}
+use Rattle.fv_aggregate.proofs.Missing.{not_get}
+use Rattle.fv_aggregate.proofs.reading.ask_state.Goals as goal
+
+pub returns-in-Ok-clause-asks : goal.returns-in-Ok-clause-asks
+returns-in-Ok-clause-asks g c =
+    let d = g.D.Disk.shown c.args.disk.now in
+    let x = c.args.state.now in
+    let snapshot = option_copied c.as_ref.result in
+    let of = of_get c.args.command.now x.name c.in-Get.volume snapshot c.in-Get.file c.in-Get.index (c.in-Get.is ∙ ap (λ s. Get c.in-Get.volume s c.in-Get.file c.in-Get.index) (sym c.as_ref.ensures.value)) c.requires.asks in
+    state_answered d (g.D.Disk.shown c.get.new.disk) c.args.pool.now c.get.new.pool x c.get.ensures.reads (Get x.name snapshot c.in-Get.file c.in-Get.index) c.args.command.now of c.args.steps.now c.get.new.steps
+    (λ _. Content c.get.new.into) c.in-Ok.field-0 c.in-Ok.ensures.asked c.in-Ok.ensures.cause
+    (λ is well m there accepted. known_get d c.args.pool.now x is well m there snapshot c.in-Get.file c.in-Get.index c.args.steps.now c.get.new.steps accepted (c.in-Ok.ensures.steps is))
+
+pub returns-in-Err-clause-asks : goal.returns-in-Err-clause-asks
+returns-in-Err-clause-asks g c =
+    let x = c.args.state.now in
+    let snapshot = option_copied c.as_ref.result in
+    let of = of_get c.args.command.now x.name c.in-Get.volume snapshot c.in-Get.file c.in-Get.index (c.in-Get.is ∙ ap (λ s. Get c.in-Get.volume s c.in-Get.file c.in-Get.index) (sym c.as_ref.ensures.value)) c.requires.asks in
+    state_failed (g.D.Disk.shown c.args.disk.now) (g.D.Disk.shown c.get.new.disk) c.args.pool.now c.get.new.pool x c.get.ensures.reads (Get x.name snapshot c.in-Get.file c.in-Get.index) c.args.command.now of c.args.steps.now c.get.new.steps
+    (Unit {0}) (λ _. Content c.get.new.into) c.in-Err.fault c.in-Err.ensures.asked c.in-Err.ensures.cause c.in-Err.ensures.unmoved
+
+pub returns-in-Ok-length-clause-asks : goal.returns-in-Ok-length-clause-asks
+returns-in-Ok-length-clause-asks g c =
+    let x = c.args.state.now in
+    let snapshot = option_copied c.as_ref-in-Len.result in
+    let of = of_len c.args.command.now x.name c.in-Len.volume snapshot c.in-Len.file (c.in-Len.is ∙ ap (λ s. Len c.in-Len.volume s c.in-Len.file) (sym c.as_ref-in-Len.ensures.value)) c.requires.asks in
+    let same : c.from.result ≡ c.in-Ok-length.length = search rules in
+    subst (λ (n : ℕ). AsksState (g.D.Disk.shown c.args.disk.now) c.args.pool.now x c.args.command.now c.args.steps.now (g.D.Disk.shown c.length.new.disk) c.length.new.pool c.args.steps.now (Ok (Number n))) (sym same)
+    (state_answered (g.D.Disk.shown c.args.disk.now) (g.D.Disk.shown c.length.new.disk) c.args.pool.now c.length.new.pool x c.length.ensures.reads (Len x.name snapshot c.in-Len.file) c.args.command.now of c.args.steps.now c.args.steps.now
+    (λ n. Number n) c.in-Ok-length.length c.in-Ok-length.ensures.asked c.in-Ok-length.ensures.cause (λ is well m there accepted. refl))
+
+pub returns-in-Err-length-clause-asks : goal.returns-in-Err-length-clause-asks
+returns-in-Err-length-clause-asks g c =
+    let x = c.args.state.now in
+    let snapshot = option_copied c.as_ref-in-Len.result in
+    let of = of_len c.args.command.now x.name c.in-Len.volume snapshot c.in-Len.file (c.in-Len.is ∙ ap (λ s. Len c.in-Len.volume s c.in-Len.file) (sym c.as_ref-in-Len.ensures.value)) c.requires.asks in
+    state_failed (g.D.Disk.shown c.args.disk.now) (g.D.Disk.shown c.length.new.disk) c.args.pool.now c.length.new.pool x c.length.ensures.reads (Len x.name snapshot c.in-Len.file) c.args.command.now of c.args.steps.now c.args.steps.now
+    ℕ (λ n. Number n) c.in-Err-length.fault c.in-Err-length.ensures.asked c.in-Err-length.ensures.cause (λ r is. refl)
+
+pub returns-in-Ok-list-clause-asks : goal.returns-in-Ok-list-clause-asks
+returns-in-Ok-list-clause-asks g c =
+    let x = c.args.state.now in
+    let snapshot = option_copied c.as_ref-in-Ls.result in
+    let of = of_ls c.args.command.now x.name c.in-Ls.volume snapshot (c.in-Ls.is ∙ ap (λ s. Ls c.in-Ls.volume s) (sym c.as_ref-in-Ls.ensures.value)) c.requires.asks in
+    state_answered (g.D.Disk.shown c.args.disk.now) (g.D.Disk.shown c.list.new.disk) c.args.pool.now c.list.new.pool x c.list.ensures.reads (Ls x.name snapshot) c.args.command.now of c.args.steps.now c.args.steps.now
+    (λ names. Names names) c.in-Ok-list.names c.in-Ok-list.ensures.asked c.in-Ok-list.ensures.cause (λ is well m there accepted. refl)
+
+pub returns-in-Err-list-clause-asks : goal.returns-in-Err-list-clause-asks
+returns-in-Err-list-clause-asks g c =
+    let x = c.args.state.now in
+    let snapshot = option_copied c.as_ref-in-Ls.result in
+    let of = of_ls c.args.command.now x.name c.in-Ls.volume snapshot (c.in-Ls.is ∙ ap (λ s. Ls c.in-Ls.volume s) (sym c.as_ref-in-Ls.ensures.value)) c.requires.asks in
+    state_failed (g.D.Disk.shown c.args.disk.now) (g.D.Disk.shown c.list.new.disk) c.args.pool.now c.list.new.pool x c.list.ensures.reads (Ls x.name snapshot) c.args.command.now of c.args.steps.now c.args.steps.now
+    _ (λ names. Names names) c.in-Err-list.fault c.in-Err-list.ensures.asked c.in-Err-list.ensures.cause (λ r is. refl)
+
+pub returns-in-Ok-clause-steps : goal.returns-in-Ok-clause-steps
+returns-in-Ok-clause-steps g c = λ none. absurd (not_get c.args.command.now c.in-Get.volume (option_copied c.as_ref.result) c.in-Get.file c.in-Get.index (c.in-Get.is ∙ ap (λ s. Get c.in-Get.volume s c.in-Get.file c.in-Get.index) (sym c.as_ref.ensures.value)) none)
+
+pub returns-in-Err-clause-steps : goal.returns-in-Err-clause-steps
+returns-in-Err-clause-steps g c = λ none. absurd (not_get c.args.command.now c.in-Get.volume (option_copied c.as_ref.result) c.in-Get.file c.in-Get.index (c.in-Get.is ∙ ap (λ s. Get c.in-Get.volume s c.in-Get.file c.in-Get.index) (sym c.as_ref.ensures.value)) none)

@@ -1,0 +1,179 @@
+-- What commands on files do in a session: those that ask, and those that change.
+use Rattle.std.specs.Prelude.{◌≡◌, ◌<◌, ◌≤◌, ◌+◌, ◌⊎◌, ℕ, List, Option, Some, None, IsTrue, IsNone, Result, Ok, Err, OnOk, IfOk, IfErr}
+use Rattle.fv_disk.specs.Shown.{Shown, Rose}
+use Rattle.fv_disk.specs.DiskCalls.{OnlyReads}
+use Rattle.fv_container.specs.Chains.{slot_count}
+use Rattle.fv_model.specs.declared.answers.Refusal.{Refusal}
+use Rattle.fv_model.specs.declared.answers.Refusal.TheVariants.{NoVolume}
+use Rattle.fv_model.specs.declared.answers.Reply.{Reply}
+use Rattle.fv_model.specs.declared.answers.Reply.TheVariants.{Done, Refused}
+use Rattle.fv_model.specs.declared.commands.Command.{Command}
+use Rattle.fv_model.specs.Machines.{Machine}
+use Rattle.fv_model.specs.Refusals.{next, refusal}
+use Rattle.fv_model.specs.Replies.{Allows}
+use Rattle.fv_volume.specs.declared.state.VolumeState.{VolumeState}
+use Rattle.fv_volume.specs.declared.pool.Pool.{Pool}
+use Rattle.fv_volume.specs.Calls.{Agrees, Asks, CallCause, Changes, Has, HasWithin, KeepsHead, Reads}
+use Rattle.fv_volume.specs.Changing.{IsChangeOf, KeepsTable}
+use Rattle.fv_volume.specs.Lending.{lent_for}
+use Rattle.fv_volume.specs.OneVolume.{home_in, standing_for, volume_for, IsReady, IsStanding}
+use Rattle.fv_volume.specs.Placing.{IsStoredWell}
+use Rattle.fv_volume.specs.Slots.{NoneHasName}
+use Rattle.fv_volume.specs.States.{States, state_at, with_state}
+use Rattle.fv_volume.specs.declared.fault.VolumeFault.{VolumeFault}
+use Rattle.fv_volume.specs.declared.fault.VolumeFault.TheVariants as volume
+use Rattle.fv_aggregate.specs.declared.fault.Fault.{Fault}
+use Rattle.fv_aggregate.specs.declared.fault.Fault.TheVariants.{DiskFault, Damaged, Memory}
+use Rattle.fv_aggregate.specs.declared.session.Session.{Session}
+use Rattle.fv_aggregate.specs.Calls.{Goes, GoesFor, KeepsAsking, WasRead}
+use Rattle.fv_aggregate.specs.Commands.{dirty_limit, file_room, is_refusal}
+use Rattle.fv_aggregate.specs.Standing.{StandsFor}
+
+-- A command that asks was answered as the machine answers it, and nothing changed but the cache. After a fault the session stands for what it
+-- stood for.
+pub record Looks (before : Shown) (old : Session) (command : Command) (after : Shown) (new : Session) (result : Result Reply Fault) : Type 0 where
+  pub goes : Goes 0 before old after new result
+  pub asks : KeepsAsking 0 before old after new
+  pub goes_for : IsTrue before.tells → (last m : Machine) → StandsFor before old last m → GoesFor before last m m after new result
+  pub reply : IsTrue before.tells → (last m : Machine) → StandsFor before old last m → IfOk result (Allows m command)
+  pub only_reads : OnlyReads before after
+  pub read : OnOk result (WasRead before old after new)
+
+-- A command that changes a file was carried out as the machine carries it out. One with room below the dirty limit wrote nothing. A refused one
+-- changed nothing but the cache, where the session stands for a machine.
+pub record Makes (before : Shown) (old : Session) (command : Command) (after : Shown) (new : Session) (result : Result Reply Fault) : Type 0 where
+  pub goes : Goes file_room before old after new result
+  pub goes_for : IsTrue before.tells → (last m : Machine) → StandsFor before old last m → GoesFor before last m (next m command) after new result
+  pub reply : IsTrue before.tells → (last m : Machine) → StandsFor before old last m → IfOk result (Allows m command)
+  pub refused : IsTrue before.tells → (last m : Machine) → StandsFor before old last m → IfOk result (λ reply. IsTrue (is_refusal reply) → WasRead before old after new)
+  pub calm : old.pending + file_room ≤ dirty_limit → OnlyReads before after
+
+-- ---- a volume that is asked
+
+-- A volume was asked, and answers as in each machine that has it. Nothing changed but the cache. Where it stands, and its blocks are as its
+-- pointers say, no step was made.
+pub record AsksState (before : Shown) (pool : Pool) (x : VolumeState) (command : Command) (start : ℕ) (after : Shown) (left : Pool) (steps : ℕ) (result : Result Reply VolumeFault) : Type 0 where
+  pub reads : Reads before pool after left
+  pub asked : IsStanding before pool x → Asks (Has x.name (volume_for before pool x)) command (λ reply. reply) result
+  pub cause : CallCause (IsStanding before pool x) (standing_for before pool x) (lent_for pool x.map before 0 (home_in x) 0) after.faults result
+  pub known : IsStanding before pool x → IsStoredWell before pool x → OnOk result ((m : Machine) → Has x.name (volume_for before pool x) m → steps ≡ start)
+  pub unmoved : IfErr result (λ e. (r : Refusal) → e ≡ volume.Refused r → steps ≡ start)
+
+-- so it is of the volume of a slot
+abbrev pub AsksSlot : Shown → Pool → Option VolumeState → Command → ℕ → Shown → Pool → ℕ → Result Reply VolumeFault → Type 0
+AsksSlot before pool None command start after left steps result = ⊥
+AsksSlot before pool (Some x) command start after left steps result = AsksState before pool x command start after left steps result
+
+-- no volume has the name, and nothing was read
+pub record FindsNone (states : States) (name : List ℕ) (before : Shown) (pool : Pool) (start : ℕ) (after : Shown) (left : Pool) (steps : ℕ) (result : Result Reply VolumeFault) : Type 0 where
+  pub none : NoneHasName states name
+  pub calm : after.faults ≡ before.faults
+  pub unmoved : steps ≡ start
+  pub refused : result ≡ Err (volume.Refused NoVolume)
+
+-- the volume of a slot has it, and was asked
+pub record FindsOne (states : States) (name : List ℕ) (before : Shown) (pool : Pool) (command : Command) (start : ℕ) (after : Shown) (left : Pool) (steps : ℕ) (result : Result Reply VolumeFault) : Type 0 where
+  pub slot : ℕ
+  pub state : VolumeState
+  pub there : state_at states slot ≡ Some state
+  pub named : state.name ≡ name
+  pub asks : AsksState before pool state command start after left steps result
+
+-- The volume of a name was asked, if there is one.
+pub record AsksVolume (before : Shown) (pool : Pool) (states : States) (name : List ℕ) (command : Command) (start : ℕ) (after : Shown) (left : Pool) (steps : ℕ) (result : Result Reply VolumeFault) : Type 0 where
+  pub reads : Reads before pool after left
+  pub which : FindsNone states name before pool start after left steps result ⊎ FindsOne states name before pool command start after left steps result
+
+-- ---- a volume that is judged or changed
+
+-- A volume was judged beside others that commit so much, and is as it was: where it stands, a command is refused as in each machine that has it
+-- within its aggregate. Nothing changed but the cache.
+pub record JudgesState (before : Shown) (pool : Pool) (x : VolumeState) (others : ℕ) (command : Command) (after : Shown) (left : Pool) (result : Result Unit VolumeFault) : Type 0 where
+  pub reads : Reads before pool after left
+  pub agrees : IsStanding before pool x → (m : Machine) → HasWithin x.name (volume_for before pool x) others pool.found.blocks m → Agrees m command result
+  pub cause : CallCause (IsStanding before pool x) (standing_for before pool x) (lent_for pool x.map before 0 (home_in x) 0) after.faults result
+
+-- so it is of the volume of a slot
+abbrev pub JudgesSlot : Shown → Pool → Option VolumeState → ℕ → Command → Shown → Pool → Result Unit VolumeFault → Type 0
+JudgesSlot before pool None others command after left result = ⊥
+JudgesSlot before pool (Some x) others command after left result = JudgesState before pool x others command after left result
+
+-- The files of a volume were changed in memory, beside others that commit so much. Calls can be made on it still. Where it stood it stands, for the
+-- volume that the command makes of it in each machine that has it, or after a fault for what it stood for. Of the pool only the cache changed.
+pub record ChangesState (before : Shown) (pool : Pool) (x : VolumeState) (others : ℕ) (command : Command) (after : Shown) (left : Pool) (y : VolumeState) (result : Result Unit VolumeFault) : Type 0 where
+  pub reads : Reads before pool after left
+  pub changes : IsStanding before pool x → Changes (HasWithin x.name (volume_for before pool x) others pool.found.blocks) command x.name (volume_for before pool x) (volume_for after left y) result
+  pub standing : IsStanding before pool x → IsStanding after left y
+  pub table : IsStanding before pool x → KeepsTable before pool x after left y
+  pub ready : IsReady after left y
+  pub head : KeepsHead x y result
+  pub cause : CallCause (IsStanding before pool x) (standing_for before pool x) (lent_for pool x.map before 0 (home_in x) 0) after.faults result
+
+-- so it is of the volume of a slot, and the other volumes are as they were
+pub record IsSlotChanged (before : Shown) (pool : Pool) (states : States) (slot : ℕ) (x : VolumeState) (others : ℕ) (command : Command) (after : Shown) (left : Pool) (stay : States) (result : Result Unit VolumeFault) : Type 0 where
+  pub now : VolumeState
+  pub row : stay ≡ with_state states slot (Some now)
+  pub changes : ChangesState before pool x others command after left now result
+
+abbrev pub ChangesSlot : Shown → Pool → States → ℕ → Option VolumeState → ℕ → Command → Shown → Pool → States → Result Unit VolumeFault → Type 0
+ChangesSlot before pool states slot None others command after left stay result = ⊥
+ChangesSlot before pool states slot (Some x) others command after left stay result = IsSlotChanged before pool states slot x others command after left stay result
+
+-- the refusal that a reply is, if it is one
+abbrev pub refusal_in : Reply → Option Refusal
+refusal_in (Refused r) = Some r
+refusal_in reply = None
+
+-- what a volume that did a command answers for it
+abbrev pub done_as : Result Unit VolumeFault → Result Reply VolumeFault
+done_as (Ok x) = Ok Done
+done_as (Err fault) = Err fault
+
+-- ---- in parts
+
+-- a command changes a file of the volume of a slot
+pub record IsAimed (states : States) (slot : ℕ) (command : Command) : Type 0 where
+  pub within : slot < slot_count
+  pub state : VolumeState
+  pub there : state_at states slot ≡ Some state
+  pub change : IsChangeOf state.name command
+
+-- what the machine says of a command that is judged: a refusal, or that it is accepted
+abbrev pub Judges : Machine → Command → Reply → Type 0
+Judges m command (Refused r) = refusal m command ≡ Some r
+Judges m command reply = refusal m command ≡ None
+
+-- A command was judged. Nothing changed but the cache.
+pub record HasJudged (before : Shown) (old : Session) (command : Command) (after : Shown) (new : Session) (result : Result Reply Fault) : Type 0 where
+  pub goes : Goes 0 before old after new result
+  pub goes_for : IsTrue before.tells → (last m : Machine) → StandsFor before old last m → GoesFor before last m m after new result
+  pub judges : IsTrue before.tells → (last m : Machine) → StandsFor before old last m → IfOk result (Judges m command)
+  pub only_reads : OnlyReads before after
+  pub read : OnOk result (WasRead before old after new)
+
+-- ---- faults
+
+-- A read failed: the session goes on, but where the count of failed writes stands at its greatest value.
+pub record HasFailed (disk : Shown) (old new : Session) : Type 0 where
+  pub same : new ≡ record old { failed = new.failed }
+  pub written : Rose disk.write_faults disk.write_faults → new.failed ≡ Some disk.faults
+  pub unwritten : ¬ Rose disk.write_faults disk.write_faults → IsNone new.failed
+
+-- what a session makes of a fault of a call on a volume
+abbrev pub Breaks : Shown → VolumeFault → Session → Session → Fault → Type 0
+Breaks disk (volume.Refused r) old new fault = (fault ≡ DiskFault) × HasFailed disk old new
+Breaks disk volume.DiskFault old new fault = (fault ≡ DiskFault) × HasFailed disk old new
+Breaks disk (volume.Damaged at want found) old new fault = (fault ≡ Damaged at want found) × (new ≡ old)
+Breaks disk volume.Memory old new fault = (fault ≡ Memory) × (new ≡ old)
+
+-- a session answers with a fault
+abbrev pub Faults : Shown → VolumeFault → Session → Session → Result Reply Fault → Type 0
+Faults disk fault old new result = (e : Fault) × ((result ≡ Err e) × Breaks disk fault old new e)
+
+-- what a session answers for a volume that only read
+abbrev pub Replied : Shown → Result Reply VolumeFault → Session → Session → Result Reply Fault → Type 0
+Replied disk (Ok reply) old new result = (result ≡ Ok reply) × (new ≡ old)
+Replied disk (Err (volume.Refused r)) old new result = (result ≡ Ok (Refused r)) × (new ≡ old)
+Replied disk (Err volume.DiskFault) old new result = Faults disk volume.DiskFault old new result
+Replied disk (Err (volume.Damaged at want found)) old new result = Faults disk (volume.Damaged at want found) old new result
+Replied disk (Err volume.Memory) old new result = Faults disk volume.Memory old new result

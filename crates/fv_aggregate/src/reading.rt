@@ -1,0 +1,186 @@
+//! The commands that ask for files. None of them changes a volume.
+
+ghost use Rattle.std.specs.Prelude.{◌≡◌, ◌<◌, false, true, is_some, Some, IsTrue, IsNone, IfSome, OnOk};
+ghost use Rattle.fv_container.specs.Chains.{slot_count};
+ghost use Rattle.fv_cp.specs.Placing.{AreReady, IsReadyIn};
+ghost use Rattle.fv_model.specs.Machines.{Machine};
+ghost use Rattle.fv_store.specs.Held.{StandsOn};
+ghost use Rattle.fv_volume.specs.OneVolume.{IsReady};
+ghost use Rattle.fv_volume.specs.States.{state_at};
+ghost use Rattle.fv_aggregate.specs.Commands.{asked_by, is_get};
+ghost use Rattle.fv_aggregate.specs.Looking.{AsksSlot, AsksState, AsksVolume, Breaks, Looks, Replied};
+ghost use Rattle.fv_aggregate.specs.Standing.{Stands, StandsFor};
+
+use crate::fault::Fault;
+use crate::files::is_in_range;
+use crate::points::failure;
+use crate::session::Session;
+use fv_container::Steps;
+use fv_disk::{Block, Disk};
+use fv_model::{Command, Name, Refusal, Reply};
+use fv_volume::{Pool, VolumeFault, VolumeState, Volumes};
+use std::alloc::Global;
+use std::sync::ledger::Ledger;
+
+impl Session {
+    /// Answers a command that asks for files of a volume: `get`, `len` or `ls`.
+    pub(crate) fn look<D: Disk, L: Ledger>(
+        &mut self,
+        disk: &mut D,
+        volume: &Name,
+        command: &Command,
+        steps: &mut Steps<L>,
+    ) -> Result<Reply, Fault>
+        requires fresh { IsNone self.old.failed }
+        requires stands { Stands (D.shown disk.old) self.old }
+        requires asks { asked_by command.now ≡ Some volume.now }
+        ensures looks { Looks (D.shown disk.old) self.old command.now (D.shown disk.new) self.new result }
+        ensures steps { is_get command.now ≡ false → steps.new ≡ steps.old }
+        ensures known { IsTrue (D.shown disk.old).tells → (last m : Machine) → StandsFor (D.shown disk.old) self.old last m → OnOk result (steps.new ≡ steps.old) }
+    {
+        if !is_in_range(command) {
+            return Ok(Reply::Refused(Refusal::Range));
+        }
+        let asked = ask(
+            self.alloc,
+            &mut self.volumes,
+            &mut self.pool,
+            disk,
+            volume,
+            command,
+            steps,
+        );
+        self.replied(disk, asked)
+    }
+
+    /// What a session answers for a volume that only read: a refusal is a reply, too.
+    pub(crate) fn replied<D: Disk>(
+        &mut self,
+        disk: &D,
+        asked: Result<Reply, VolumeFault>,
+    ) -> Result<Reply, Fault>
+        requires fresh { IsNone self.old.failed }
+        ensures { Replied (D.shown disk.now) asked self.old self.new result }
+    {
+        match asked {
+            Ok(reply) => Ok(reply),
+            Err(VolumeFault::Refused(refusal)) => Ok(Reply::Refused(refusal)),
+            Err(fault) => Err(self.fault_of(disk, fault)),
+        }
+    }
+
+    /// What a session makes of a fault of a call on a volume that only read. After a read that failed it goes on.
+    fn fault_of<D: Disk>(&mut self, disk: &D, fault: VolumeFault) -> Fault
+        requires fresh { IsNone self.old.failed }
+        ensures { Breaks (D.shown disk.now) fault self.old self.new result }
+    {
+        match fault {
+            VolumeFault::Damaged { at, want, found } => Fault::Damaged { at, want, found },
+            VolumeFault::Memory => Fault::Memory,
+            VolumeFault::DiskFault | VolumeFault::Refused(_) => {
+                self.failed = failure(disk, disk.write_faults());
+                Fault::DiskFault
+            }
+        }
+    }
+}
+
+/// Asks the volume of a name, if there is one.
+fn ask<D: Disk, L: Ledger>(
+    alloc: Global,
+    volumes: &mut Volumes,
+    pool: &mut Pool,
+    disk: &mut D,
+    volume: &Name,
+    command: &Command,
+    steps: &mut Steps<L>,
+) -> Result<Reply, VolumeFault>
+    requires ready { AreReady (D.shown disk.old) pool.old volumes.old }
+    requires stands { StandsOn (D.shown disk.old) pool.old.store.pairs }
+    requires asks { asked_by command.now ≡ Some volume.now }
+    ensures asks { AsksVolume (D.shown disk.old) pool.old volumes.old volume.now command.now steps.old (D.shown disk.new) pool.new steps.new result }
+    ensures same { volumes.new ≡ volumes.old }
+    ensures steps { is_get command.now ≡ false → steps.new ≡ steps.old }
+{
+    match volumes.find(volume) {
+        Some(slot) => ask_slot(alloc, volumes, pool, disk, slot, command, steps),
+        None => Err(VolumeFault::Refused(Refusal::NoVolume)),
+    }
+}
+
+/// Asks the volume of a slot.
+fn ask_slot<D: Disk, L: Ledger>(
+    alloc: Global,
+    volumes: &mut Volumes,
+    pool: &mut Pool,
+    disk: &mut D,
+    slot: u8,
+    command: &Command,
+    steps: &mut Steps<L>,
+) -> Result<Reply, VolumeFault>
+    requires slot { slot < slot_count }
+    requires there { is_some (state_at volumes.old slot) ≡ true }
+    requires ready { IfSome (state_at volumes.old slot) (IsReadyIn (D.shown disk.old) pool.old slot) }
+    requires asks { IfSome (state_at volumes.old slot) (λ x. asked_by command.now ≡ Some x.name) }
+    ensures asks { AsksSlot (D.shown disk.old) pool.old (state_at volumes.old slot) command.now steps.old (D.shown disk.new) pool.new steps.new result }
+    ensures same { volumes.new ≡ volumes.old }
+    ensures steps { is_get command.now ≡ false → steps.new ≡ steps.old }
+{
+    match volumes.get_mut(slot) {
+        Some(state) => ask_state(state, alloc, pool, disk, command, steps),
+        None => Err(VolumeFault::Refused(Refusal::NoVolume)),
+    }
+}
+
+/// Asks a volume.
+fn ask_state<D: Disk, L: Ledger>(
+    state: &mut VolumeState,
+    alloc: Global,
+    pool: &mut Pool,
+    disk: &mut D,
+    command: &Command,
+    steps: &mut Steps<L>,
+) -> Result<Reply, VolumeFault>
+    requires ready { IsReady (D.shown disk.old) pool.old state.old }
+    requires asks { asked_by command.now ≡ Some state.old.name }
+    ensures asks { AsksState (D.shown disk.old) pool.old state.old command.now steps.old (D.shown disk.new) pool.new steps.new result }
+    ensures same { state.new ≡ state.old }
+    ensures steps { is_get command.now ≡ false → steps.new ≡ steps.old }
+{
+    match command {
+        Command::Get {
+            snapshot,
+            file,
+            index,
+            ..
+        } => {
+            let mut block: Block = [0; 4096];
+            match state.get(
+                alloc,
+                pool,
+                disk,
+                snapshot.as_ref(),
+                file,
+                *index,
+                &mut block,
+                steps,
+            ) {
+                Ok(()) => Ok(Reply::Content(block)),
+                Err(fault) => Err(fault),
+            }
+        }
+        Command::Len { snapshot, file, .. } => {
+            match state.length(alloc, pool, disk, snapshot.as_ref(), file) {
+                Ok(length) => Ok(Reply::Number(u64::from(length))),
+                Err(fault) => Err(fault),
+            }
+        }
+        Command::Ls { snapshot, .. } => {
+            match state.list(alloc, pool, disk, snapshot.as_ref()) {
+                Ok(names) => Ok(Reply::Names(names)),
+                Err(fault) => Err(fault),
+            }
+        }
+        _ => Err(VolumeFault::Refused(Refusal::Syntax)),
+    }
+}

@@ -1,0 +1,138 @@
+-- A read of a volume that stands, and whose blocks are as its pointers say, finds no damage.
+use Rattle.std.proofs.Common.{◌≡◌, ◌≢◌, ℕ, zero, suc, Option, Some, None, Result, Ok, Err, is_some, true≢false, inl, inr, refl, sym, ap, subst, ◌∙◌, arith}
+use Rattle.std.specs.Option.{option_map}
+use Rattle.fv_disk.specs.Shown.{Shown as Disk}
+use Rattle.fv_disk.specs.declared.fault.BlockFault.{BlockFault}
+use Rattle.fv_disk.specs.declared.fault.BlockFault.TheVariants as block
+use Rattle.fv_codec.specs.declared.inode.InodeRecord.{InodeRecord}
+use Rattle.fv_codec.specs.Blocks.{greatest_word, inodes_at, node_at}
+use Rattle.fv_tables.specs.Spelled.{Rooted, Under, pointer_at, stored}
+use Rattle.fv_tables.specs.Told.{file_at, tree_of, tree_or}
+use Rattle.fv_tree.specs.declared.kept.Tree.{Tree}
+use Rattle.fv_tree.specs.Sources.{Shown, Use}
+use Rattle.fv_tree.specs.Standing.{standing, under, IsNodeDamage, IsUnread, LacksBlock}
+use Rattle.fv_tree.specs.Flushing.{Leads, Loaded, loaded_over, IsSound}
+use Rattle.fv_tree.specs.Beside.{unread, IsLaid}
+use Rattle.fv_tree.specs.Stored.{IsStoredWell as IsTreeStoredWell}
+use Rattle.fv_tree.proofs.Beside.{tree_laid, unread_laid, unread_sound}
+use Rattle.fv_inode.specs.Files.{NamesIndexes}
+use Rattle.fv_files.specs.declared.files.Files.{Files}
+use Rattle.fv_files.specs.Apart.{StandsIn, StoredIn}
+use Rattle.fv_files.specs.Tables.{file_loaded, tree_in}
+use Rattle.fv_volume.specs.declared.pool.Pool.{Pool}
+use Rattle.fv_volume.specs.declared.state.VolumeState.{VolumeState}
+use Rattle.fv_volume.specs.Calls.{FileFails, IsBadInodes, TableFails}
+use Rattle.fv_volume.specs.Lending.{Lent, ReadFails, lent_for, shown_over}
+use Rattle.fv_volume.specs.OneVolume.{home_in, shows, standing_by, standing_for, AreSoundBy, IsStanding}
+use Rattle.fv_volume.specs.Placing.{AreStoredBy, IsStoredWell}
+
+-- ---- one tree
+
+-- what is in a block, and what isn't, can't be both
+not_two : {X : Type 0} (o : Option X) (x y : X) → o ≡ Some x → o ≡ Some y → x ≡ y
+not_two o x y one other = let both : Some x ≡ Some y = sym one ∙ other in cc
+
+not_err : {X E : Type 0} (r : Result X E) (x : X) (e : E) → r ≡ Ok x → r ≡ Err e → ⊥
+not_err r x e good bad = let both : Ok x ≡ Err e = sym good ∙ bad in cc
+
+-- A tree that stands on blocks, with what isn't in memory in the block to which its pointer leads, as the pointer says.
+pub record HoldsWell (blocks : Under) (taken : ℕ → Option Use) (t : Rooted) : Type 0 where
+  pub loaded : Loaded
+  pub tree : loaded.tree ≡ t
+  pub on : loaded.tree.under ≡ blocks
+  pub sound : IsSound taken loaded
+  pub laid : IsLaid loaded
+  pub well : IsTreeStoredWell loaded
+
+-- so its pointer leads to it
+pub led_by : (s : Loaded) → IsLaid s → (level place : ℕ) → (pointer_at s.tree level place).stamp ≢ 0 → IsUnread s.tree level place → Leads s level place (pointer_at s.tree level place).vvbn
+led_by s laid zero place some none = record { some = some; placed = laid.cells place none; vvbn = refl }
+led_by s laid (suc level) place some none = record { some = some; placed = laid.nodes (suc level) place (omega arith) none; vvbn = refl }
+
+module _ (blocks : Under) (taken : ℕ → Option Use) (t : Rooted) (good : HoldsWell blocks taken t) where
+  abbrev s : Loaded
+  s = good.loaded
+
+  -- each block that is loaded is held
+  lacks_none : LacksBlock s.tree → ⊥
+  lacks_none lacks =
+      let held = good.sound.held lacks.level lacks.place (pointer_at s.tree lacks.level lacks.place).vvbn (led_by s good.laid lacks.level lacks.place lacks.away.0 lacks.unread) in
+      true≢false (sym held ∙ ap is_some lacks.away.1)
+
+  -- and that of a node has its shape
+  has_shape : (old new : Shown) (at want found : ℕ) → under old ≡ blocks → IsNodeDamage s.tree old new at want found → ⊥
+  has_shape old new at want found same n =
+      let v = (pointer_at s.tree n.level n.place).vvbn in
+      let node = good.well.nodes n.level n.place v n.low (led_by s good.laid n.level n.place n.damage.some n.unread) in
+      let its = not_two (blocks v) node.block n.damage.block (ap (λ (u : Under). u v) (sym good.on) ∙ node.lies) (ap (λ (u : Under). u v) (sym same) ∙ n.damage.lies) in
+      not_err (node_at node.block) _ _ node.spells (ap node_at its ∙ n.damage.fault)
+
+  pub no_read_damage : (told : Type 0) (old : Lent) (faults at want found : ℕ) → told → under (shown_over old) ≡ blocks → ReadFails told t old faults (block.Damaged at want found) → ⊥
+  no_read_damage told old faults at want found tells same (calm, inl hole) = lacks_none (subst LacksBlock (sym good.tree) (hole.1 tells))
+  no_read_damage told old faults at want found tells same (calm, inr node) =
+      has_shape (shown_over old) (shown_over old) at want found same (subst (λ (u : Rooted). IsNodeDamage u (shown_over old) (shown_over old) at want found) (sym good.tree) (node tells))
+
+-- ---- the trees of a volume
+
+module _ (d : Disk) (p : Pool) (x : VolumeState) where
+  abbrev blocks : Under
+  blocks = under (shows d p x)
+
+  abbrev taken : ℕ → Option Use
+  taken = (shows d p x).used
+
+  holds_unread : (t : Rooted) → ((level place : ℕ) → t.nodes level place ≡ None) → t.under ≡ blocks → IsSound taken (unread t) → IsTreeStoredWell (unread t) → HoldsWell blocks taken t
+  holds_unread t none on sound well = record { loaded = unread t; tree = refl; on = on; sound = sound; laid = unread_laid t; well = well }
+
+  holds_kept : (t : Tree) → IsSound taken (loaded_over blocks t) → IsTreeStoredWell (loaded_over blocks t) → HoldsWell blocks taken (standing blocks t)
+  holds_kept t sound well = record { loaded = loaded_over blocks t; tree = refl; on = refl; sound = sound; laid = tree_laid blocks t; well = well }
+
+  inode_by : (o : Option Files) → AreSoundBy blocks taken x.active o → AreStoredBy blocks x.active o → HoldsWell blocks taken (standing_by blocks x.active o).inode
+  inode_by None sound well = let t = stored blocks greatest_word x.active.levels x.active.root in holds_unread t (λ level place. refl) refl (unread_sound taken t (λ level place. refl) sound.inode) (well.trees None)
+  inode_by (Some f) sound well = holds_kept f.inode.tree (sound.trees None) (well.trees None)
+
+  file_tree : (n : ℕ) (r : InodeRecord) (o : Option Tree) → IsSound taken (file_loaded blocks n r o) → IsTreeStoredWell (file_loaded blocks n r o)
+      → HoldsWell blocks taken (tree_or (option_map (standing blocks) o) (stored blocks n r.levels r.root))
+  file_tree n r None sound well = holds_unread (stored blocks n r.levels r.root) (λ level place. refl) refl sound well
+  file_tree n r (Some t) sound well = holds_kept t sound well
+
+  file_by : (o : Option Files) → AreSoundBy blocks taken x.active o → AreStoredBy blocks x.active o → (n : ℕ) (r : InodeRecord) → file_at (standing_by blocks x.active o).inode n ≡ Some r
+      → HoldsWell blocks taken (tree_of (standing_by blocks x.active o) n r)
+  file_by None sound well n r there =
+      let t = stored blocks n r.levels r.root in
+      file_tree n r None (unread_sound taken t (λ level place. refl) (sound.files n r there))
+      (subst (λ (o : Option InodeRecord). StoredIn (option_map (λ r. unread (stored blocks n r.levels r.root)) o)) there (well.trees (Some n)))
+  file_by (Some f) sound well n r there =
+      file_tree n r (tree_in f n)
+      (subst (λ (o : Option InodeRecord). StandsIn taken (option_map (λ r. file_loaded blocks n r (tree_in f n)) o)) there (sound.trees (Some n)))
+      (subst (λ (o : Option InodeRecord). StoredIn (option_map (λ r. file_loaded blocks n r (tree_in f n)) o)) there (well.trees (Some n)))
+
+  names_by : (o : Option Files) → AreStoredBy blocks x.active o → NamesIndexes (standing_by blocks x.active o).inode
+  names_by None well = well.inodes
+  names_by (Some f) well = well.inodes
+
+  module _ (is : IsStanding d p x) (well : IsStoredWell d p x) where
+    pub inode_holds : HoldsWell blocks taken (standing_for d p x).inode
+    inode_holds = inode_by x.files is.trees well
+
+    pub file_holds : (n : ℕ) (r : InodeRecord) → file_at (standing_for d p x).inode n ≡ Some r → HoldsWell blocks taken (tree_of (standing_for d p x) n r)
+    file_holds n r there = file_by x.files is.trees well n r there
+
+    abbrev its : ℕ → Lent
+    its steps = lent_for p x.map d steps (home_in x) 0
+
+    inodes_shaped : (steps faults : ℕ) (e : BlockFault) → IsBadInodes (IsStanding d p x) (standing_for d p x).inode (its steps) faults e → ⊥
+    inodes_shaped steps faults e bad =
+        let spelled = names_by x.files well bad.damage.cell bad.damage.block (bad.damage.lies is) in
+        not_err (inodes_at bad.damage.block) _ _ spelled.spells bad.damage.fault
+
+    file_whole : (steps faults at want found : ℕ) → FileFails (IsStanding d p x) (standing_for d p x) (its steps) faults (block.Damaged at want found) → ⊥
+    file_whole steps faults at want found fails =
+        let of = fails.of_file is in
+        no_read_damage blocks taken fails.tree (subst (HoldsWell blocks taken) (sym of.tree) (file_holds of.number of.file of.there)) (IsStanding d p x) (its steps) faults at want found is refl fails.fails
+
+    -- no load for its table answers damage
+    pub no_damage : (steps faults at want found : ℕ) → TableFails (IsStanding d p x) (standing_for d p x) (its steps) faults (block.Damaged at want found) → ⊥
+    no_damage steps faults at want found (inl fails) = no_read_damage blocks taken (standing_for d p x).inode inode_holds (IsStanding d p x) (its steps) faults at want found is refl fails
+    no_damage steps faults at want found (inr (inl bad)) = inodes_shaped steps faults (block.Damaged at want found) bad
+    no_damage steps faults at want found (inr (inr fails)) = file_whole steps faults at want found fails

@@ -1,0 +1,221 @@
+//! Scripts that are drawn by lot.
+
+use crate::lines::lines_in;
+use std::alloc::{AllocError, Global};
+
+/// A sequence of numbers that looks random.
+#[derive(Clone, Copy)]
+pub struct Lot {
+    state: u64,
+}
+
+/// The sequence that begins with a seed.
+pub fn lot_of(seed: u64) -> Lot {
+    Lot { state: seed }
+}
+
+impl Lot {
+    /// The next number below a bound, which is below 2^32; 0 where the bound is 0. The multiplier is that of Knuth's MMIX.
+    pub fn below(&mut self, bound: u64) -> u64 {
+        self.state = self
+            .state
+            .wrapping_mul(6_364_136_223_846_793_005)
+            .wrapping_add(1_442_695_040_888_963_407);
+        (self.state >> 32).wrapping_mul(bound) >> 32
+    }
+
+    fn one_of(&mut self, numbers: &[u64]) -> u64 {
+        let at = self.below(numbers.len() as u64);
+        match numbers.get(at as usize) {
+            Some(number) => *number,
+            None => 0,
+        }
+    }
+}
+
+/// A script over two to four volumes, with its aggregate's blocks and the lines that ask for what these volumes hold.
+#[derive(Drop)]
+pub struct Drawn {
+    pub blocks: u64,
+    pub script: Vec<u8>,
+    pub looks: Vec<u8>,
+}
+
+/// Both sides of what each level of a file reaches and of a few powers of two, the last index and one past it. Small ones come more often.
+const INDEXES: [u64; 20] = [
+    0, 0, 0, 0, 1, 1, 1, 2, 3, 127, 128, 128, 129, 511, 512, 16_383, 16_384, 16_385, 2_097_151,
+    2_097_152,
+];
+
+/// To what a file is cut: mostly to little or nothing.
+const CUTS: [u64; 12] = [0, 0, 0, 1, 1, 2, 4, 128, 129, 16_384, 2_097_151, 2_097_152];
+
+/// A few files, so that a name is taken and gone in turn.
+const FILES: [u64; 8] = [0, 0, 0, 0, 1, 1, 1, 2];
+
+/// Lines that are refused, or make a volume.
+const OTHERS: [&str; 10] = [
+    "vol create v1 5 none\n",
+    "vol create w 2 none\n",
+    "vol create x 1 file\n",
+    "vol create y 0 volume\n",
+    "vol create y 500001 none\n",
+    "vol create y 1 thin\n",
+    "put v0 f0 0 1\n",
+    "cut v1 f0 2097153\n",
+    "get v1 f0\n",
+    "\n",
+];
+
+/// The script of a seed, with so many lines.
+pub fn draw(alloc: Global, seed: u64, lines: u64) -> Result<Drawn, AllocError> {
+    let mut lot = lot_of(seed);
+    let wide = lot.below(4) == 0;
+    let volumes = if wide {
+        3
+    } else {
+        lot.below(3).saturating_add(1)
+    };
+    let mut script = Vec::new(alloc);
+    let capacity = if wide { 761 } else { 249 };
+    add_volumes(alloc, &mut lot, capacity, volumes, &mut script)?;
+    for _ in lines_in(script.as_slice())..lines {
+        add_command(alloc, &mut lot, volumes, &mut script)?;
+    }
+    Ok(Drawn {
+        blocks: if wide { 1024 } else { 512 },
+        script,
+        looks: looks_at(alloc, volumes)?,
+    })
+}
+
+fn add(into: &mut Vec<u8>, line: &str) -> Result<(), AllocError> {
+    into.extend_from_slice(line.as_bytes())
+}
+
+/// Volumes, each with two files. `v0` leaves them fewer than 24 blocks of what can be committed. In an aggregate of 1024 blocks `v1` has
+/// overheads of 165 blocks, so that a point comes between two lines.
+fn add_volumes(
+    alloc: Global,
+    lot: &mut Lot,
+    capacity: u64,
+    volumes: u64,
+    script: &mut Vec<u8>,
+) -> Result<(), AllocError> {
+    let mut left: u64 = capacity;
+    for volume in 1..=volumes {
+        let (size, kind, commit) = if capacity > 249 && volume == 1 {
+            (20_000, "none", 330)
+        } else {
+            shape(lot)
+        };
+        left = left.saturating_sub(commit);
+        add(
+            script,
+            format!(in alloc; "vol create v{volume} {size} {kind}\n")?.as_str(),
+        )?;
+    }
+    let size = left.saturating_sub(lot.below(24)).saturating_sub(40).max(1);
+    add(
+        script,
+        format!(in alloc; "vol create v0 {size} volume\n")?.as_str(),
+    )?;
+    for volume in 0..=volumes {
+        for file in 0..2 {
+            add(
+                script,
+                format!(in alloc; "new v{volume} f{file}\n")?.as_str(),
+            )?;
+        }
+    }
+    Ok(())
+}
+
+/// The size and kind of a volume, and what it commits while it has no file.
+fn shape(lot: &mut Lot) -> (u64, &'static str, u64) {
+    let size = lot.below(10).saturating_add(3);
+    match lot.below(6) {
+        0 | 1 => (size, "volume", size.saturating_add(40)),
+        2 => (size, "file", 40),
+        3 => (size, "none", 40),
+        _ => (300, "none", 40),
+    }
+}
+
+/// The block of a `put`: zeros as a hole has them, zeros, or two bytes.
+fn add_content(alloc: Global, lot: &mut Lot, script: &mut Vec<u8>) -> Result<(), AllocError> {
+    match lot.below(5) {
+        0 => add(script, " -\n"),
+        1 => add(script, " 00\n"),
+        _ => {
+            let digits = lot.below(9000).saturating_add(1000);
+            add(script, format!(in alloc; " {digits}\n")?.as_str())
+        }
+    }
+}
+
+/// A line on a file, on names, or another one. Some name a volume that isn't there.
+fn add_command(
+    alloc: Global,
+    lot: &mut Lot,
+    volumes: u64,
+    script: &mut Vec<u8>,
+) -> Result<(), AllocError> {
+    let volume = if lot.below(40) == 0 {
+        9
+    } else {
+        lot.below(volumes.saturating_add(1))
+    };
+    let file = lot.one_of(&FILES);
+    let index = lot.one_of(&INDEXES);
+    let length = lot.one_of(&CUTS);
+    let line = match lot.below(24) {
+        0..=9 => format!(in alloc; "put v{volume} f{file} {index}")?,
+        10..=13 => format!(in alloc; "get v{volume} f{file} {index}\n")?,
+        14..=15 => format!(in alloc; "cut v{volume} f{file} {length}\n")?,
+        16 => format!(in alloc; "rm v{volume} f{file}\n")?,
+        17..=18 => format!(in alloc; "new v{volume} f{file}\n")?,
+        19 => format!(in alloc; "len v{volume} f{file}\n")?,
+        20 => format!(in alloc; "ls v{volume}\n")?,
+        21..=22 => format!(in alloc; "cp\n")?,
+        _ => String::from_str(alloc, other(lot))?,
+    };
+    add(script, line.as_str())?;
+    if line.as_str().ends_with('\n') {
+        Ok(())
+    } else {
+        add_content(alloc, lot, script)
+    }
+}
+
+fn other(lot: &mut Lot) -> &'static str {
+    let at = lot.below(OTHERS.len() as u64);
+    match OTHERS.get(at as usize) {
+        Some(line) => line,
+        None => "vol list\n",
+    }
+}
+
+/// What is asked of a disk: the volumes, their files, and of two files of each the lengths and three blocks.
+fn looks_at(alloc: Global, volumes: u64) -> Result<Vec<u8>, AllocError> {
+    let mut looks = Vec::new(alloc);
+    add(&mut looks, "vol list\n")?;
+    for volume in 0..=volumes {
+        add(&mut looks, format!(in alloc; "ls v{volume}\n")?.as_str())?;
+        for file in 0..2 {
+            add(
+                &mut looks,
+                format!(in alloc; "len v{volume} f{file}\n")?.as_str(),
+            )?;
+            add(
+                &mut looks,
+                format!(in alloc; "get v{volume} f{file} 0\n")?.as_str(),
+            )?;
+        }
+        add(
+            &mut looks,
+            format!(in alloc; "get v{volume} f0 128\n")?.as_str(),
+        )?;
+    }
+    Ok(looks)
+}
