@@ -8,8 +8,14 @@ program=$top/crates/measure/out/measure
 command -v valgrind >/dev/null || { echo "blocks: valgrind is not on the path; skipped" >&2; exit 0; }
 [ -x "$program" ] || (cd "$top/crates/measure" && rt run >/dev/null)
 
+# Valgrind counts each byte of the processor's string moves and fills as an instruction. So the C library is told to do without them: it
+# then copies and fills by vectors, which are counted as they are.
+counting() { # COMMAND WORDS
+    GLIBC_TUNABLES=glibc.cpu.x86_rep_movsb_threshold=1000000000:glibc.cpu.x86_rep_stosb_threshold=1000000000 "$@"
+}
+
 instructions() { # WORK TIMES
-    valgrind --tool=callgrind --callgrind-out-file=/dev/null "$program" "$1" "$2" 2>&1 >/dev/null \
+    counting valgrind --tool=callgrind --callgrind-out-file=/dev/null "$program" "$1" "$2" 2>&1 >/dev/null \
         | sed -n 's/.*Collected : //p'
 }
 

@@ -134,12 +134,13 @@ refused_for disk session last m name size kind r laws stands is = rests_for (Ref
 
 module _ (before : Shown) (old : Session) (mid : Shown) (session : Session) (name : List ℕ) (size : ℕ) (kind : Kind) (room : ℕ) where
   -- it was added
-  pub added_goes : Goes {T = Unit {0}} room before old mid session (Ok tt) → session.pending + room ≤ max 256 room → (new : Session) → IsAdded session name size kind room new → new.pending ≡ session.pending + room → Goes room before old mid new (Ok Done)
-  added_goes goes few new added pending = record {
+  pub added_goes : Goes {T = Unit {0}} room before old mid session (Ok tt) → session.pending ≤ old.pending → session.pending + room ≤ max 256 room → (new : Session) → IsAdded session name size kind room new → new.pending ≡ session.pending + room → Goes room before old mid new (Ok Done)
+  added_goes goes less few new added pending = record {
     ends = goes.ends;
     stands = λ fresh. stands_added session name size kind room new added mid (goes.stands goes.done.goes_on);
     done = record { was = goes.done.was; goes_on = subst IsNone (sym added.failed) goes.done.goes_on; counts = goes.done.counts };
     fault = tt;
+    pending = omega (arith, pending, less);
   }
 
   pub added_asks : Goes {T = Unit {0}} room before old mid session (Ok tt) → KeepsAsking room before old mid session → session.pending + room ≤ max 256 room → (new : Session) → IsAdded session name size kind room new → new.pending ≡ session.pending + room → KeepsAsking room before old mid new

@@ -1,5 +1,5 @@
 -- The commands as `apply` has them.
-use Rattle.std.proofs.Common.{◌≡◌, ◌≢◌, ◌==◌, ℕ, Bool, true, false, List, Option, Some, None, Result, Ok, Err, refl, sym, ap, subst, ◌∙◌, arith}
+use Rattle.std.proofs.Common.{◌≡◌, ◌≢◌, ◌==◌, ℕ, Bool, true, false, List, Option, Some, None, Result, Ok, Err, true≢false, refl, sym, ap, subst, ◌∙◌, arith}
 use Rattle.std.specs.Prelude.{IfOk, if◌then◌else◌}
 use Rattle.std.specs.FinMap as fin
 use Rattle.fv_disk.specs.Shown.{Shown, IsDisk}
@@ -15,9 +15,10 @@ use Rattle.fv_model.specs.Refusals.{conditions, next}
 use Rattle.fv_model.specs.Replies.{Allows, answer}
 use Rattle.fv_model.specs.Space.{overhead, span_of}
 use Rattle.fv_aggregate.specs.declared.fault.Fault.{Fault}
+use Rattle.fv_aggregate.specs.declared.fault.Fault.TheVariants.{Memory}
 use Rattle.fv_aggregate.specs.declared.session.Session.{Session}
-use Rattle.fv_aggregate.specs.Calls.{Goes, GoesFor, IsNoDamage, KeepsAsking}
-use Rattle.fv_aggregate.specs.Commands.{Replies, RepliesBy, asked_by, changed_by, is_built, machine_after, room_of}
+use Rattle.fv_aggregate.specs.Calls.{Goes, GoesFor, IsNoDamage, IsPlain, KeepsAsking}
+use Rattle.fv_aggregate.specs.Commands.{Replies, RepliesBy, volume_asked, changed_by, is_built, machine_after, reads_files, room_of}
 use Rattle.fv_aggregate.specs.Standing.{StandsAfter, StandsFor}
 use Rattle.fv_aggregate.specs.Telling.{names_from}
 use Rattle.fv_aggregate.proofs.Standing.{rests_for_last, stays_for}
@@ -60,10 +61,24 @@ module _ (command : Command) (name : List ℕ) (size : ℕ) (kind : Kind) (is : 
   unfolding room_of
   create_asks before old after new asks = subst (λ (c : Command). KeepsAsking (room_of c) before old after new) (sym is) asks
 
+  pub create_built : (X : Type 0) → is_built command ≡ false → X
+  unfolding is_built
+  create_built X none = absurd (true≢false (ap is_built (sym is) ∙ none))
+
+  pub create_no_files : (X : Type 0) → reads_files command ≡ true → X
+  unfolding reads_files
+  create_no_files X files = absurd (true≢false (sym files ∙ ap reads_files is))
+
   pub create_no_point : (X : Type 0) → command ≡ Cp → X
   create_no_point X cp = absurd (apart (sym is ∙ cp))
     where
       apart : VolCreate name size kind ≡ Cp → ⊥
+      apart e = cc
+
+  pub create_no_list : (X : Type 0) → command ≡ VolList → X
+  create_no_list X list = absurd (apart (sym is ∙ list))
+    where
+      apart : VolCreate name size kind ≡ VolList → ⊥
       apart e = cc
 
   pub create_room : room_of command ≡ overhead (span_of size 0 0)
@@ -88,7 +103,52 @@ list_replies command is disk session last m stands names listed =
     let told : names ≡ fin.keys m.volumes = listed ∙ names_are disk session.pool session.volumes ∙ ap (λ (x : Machine). fin.keys x.volumes) stands.machine in
     subst (λ (c : Command). Replies m c (Names names)) (sym is) (ap Names told)
 
+list_built : (X : Type 0) (command : Command) → command ≡ VolList → is_built command ≡ false → X
+unfolding is_built
+list_built X command is none = absurd (true≢false (ap is_built (sym is) ∙ none))
+
+list_no_point : (X : Type 0) (command : Command) → command ≡ VolList → command ≡ Cp → X
+list_no_point X command is cp = absurd (apart (sym is ∙ cp))
+  where
+    apart : VolList ≡ Cp → ⊥
+    apart e = cc
+
+pub list_fails : {D : Type 0} (command : Command) → command ≡ VolList → (shown : Shown) (disk : D) (session : Session) → IsPlain command shown disk session shown disk session (Err Memory)
+list_fails command is shown disk session = record {
+  refused = tt;
+  calm = λ other few. refl;
+  wanting = λ other few same. refl;
+  damage = tt;
+  unbuilt = λ fresh none. list_built _ command is none;
+  listed = λ list. tt;
+  pointed = λ cp. tt;
+  memory = λ cp. list_no_point _ command is cp;
+}
+
+pub list_done : {D : Type 0} (command : Command) → command ≡ VolList → (shown : Shown) (disk : D) (session : Session) (names : List (List ℕ)) → names ≡ names_from session.volumes 0 64 → IsPlain command shown disk session shown disk session (Ok (Names names))
+list_done command is shown disk session names told = record {
+  refused = λ refused. (refl, refl);
+  calm = λ other few. refl;
+  wanting = λ other few. tt;
+  damage = tt;
+  unbuilt = λ fresh none. list_built _ command is none;
+  listed = λ list. ap Names told;
+  pointed = λ cp. list_no_point _ command is cp;
+  memory = λ cp none. tt;
+}
+
 -- ---- cp
+
+pub cp_built : (X : Type 0) (command : Command) → command ≡ Cp → is_built command ≡ false → X
+unfolding is_built
+cp_built X command is none = absurd (true≢false (ap is_built (sym is) ∙ none))
+
+pub cp_no_list : (X : Type 0) (command : Command) → command ≡ Cp → command ≡ VolList → X
+cp_no_list X command is list = list_no_point X command list is
+
+pub cp_no_files : (X : Type 0) (command : Command) → command ≡ Cp → reads_files command ≡ true → X
+unfolding reads_files
+cp_no_files X command is files = absurd (true≢false (sym files ∙ ap reads_files is))
 
 pub cp_goes : (command : Command) → command ≡ Cp → (before : Shown) (old : Session) (after : Shown) (new : Session) (result : Result Reply Fault) → Goes 0 before old after new result → Goes (room_of command) before old after new result
 unfolding room_of
@@ -116,7 +176,7 @@ none_if : (t : Bool) (v : List ℕ) → (if t then Some v else None) ≡ None �
 none_if true v none = absurd (some_none v none)
 none_if false v none = refl
 
-pub unbuilt : (command : Command) → ((name : List ℕ) (size : ℕ) (kind : Kind) → command ≢ VolCreate name size kind) → command ≢ VolList → command ≢ Cp → asked_by command ≡ None → changed_by command ≡ None → is_built command ≡ false
+pub unbuilt : (command : Command) → ((name : List ℕ) (size : ℕ) (kind : Kind) → command ≢ VolCreate name size kind) → command ≢ VolList → command ≢ Cp → volume_asked command ≡ None → changed_by command ≡ None → is_built command ≡ false
 unfolding is_built
 unbuilt (VolCreate v size kind) a b c asked changed = absurd (a v size kind refl)
 unbuilt (VolDestroy v) a b c asked changed = refl
@@ -145,7 +205,7 @@ unbuilt (Work n) a b c asked changed = refl
 unbuilt Cp a b c asked changed = absurd (c refl)
 
 -- a command that is none of `get`, `len` and `ls` asks for no files
-pub asks_none : (command : Command) → ((v : List ℕ) (s : Option (List ℕ)) (f : List ℕ) (i : ℕ) → command ≢ Get v s f i) → ((v : List ℕ) (s : Option (List ℕ)) (f : List ℕ) → command ≢ Len v s f) → ((v : List ℕ) (s : Option (List ℕ)) → command ≢ Ls v s) → asked_by command ≡ None
+pub asks_none : (command : Command) → ((v : List ℕ) (s : Option (List ℕ)) (f : List ℕ) (i : ℕ) → command ≢ Get v s f i) → ((v : List ℕ) (s : Option (List ℕ)) (f : List ℕ) → command ≢ Len v s f) → ((v : List ℕ) (s : Option (List ℕ)) → command ≢ Ls v s) → volume_asked command ≡ None
 asks_none (VolCreate v size kind) get len ls = refl
 asks_none (VolDestroy v) get len ls = refl
 asks_none (VolResize v size) get len ls = refl
@@ -171,6 +231,35 @@ asks_none (Clean v) get len ls = refl
 asks_none (Probe v f i) get len ls = refl
 asks_none (Work n) get len ls = refl
 asks_none Cp get len ls = refl
+
+-- a command that neither asks for files nor changes one reads none
+pub no_files : (command : Command) → volume_asked command ≡ None → changed_by command ≡ None → reads_files command ≡ false
+unfolding reads_files
+no_files (VolCreate v size kind) asked changed = refl
+no_files (VolDestroy v) asked changed = refl
+no_files (VolResize v size) asked changed = refl
+no_files (VolGuarantee v kind) asked changed = refl
+no_files VolList asked changed = refl
+no_files (VolStat v) asked changed = refl
+no_files (New v f reserve) asked changed = none_if (reserve == 0) v changed
+no_files (Put v f i block) asked changed = absurd (some_none v changed)
+no_files (Get v s f i) asked changed = absurd (some_none v asked)
+no_files (Len v s f) asked changed = absurd (some_none v asked)
+no_files (Cut v f length) asked changed = absurd (some_none v changed)
+no_files (Remove v f) asked changed = absurd (some_none v changed)
+no_files (Ls v s) asked changed = absurd (some_none v asked)
+no_files (SnapCreate v s) asked changed = refl
+no_files (SnapDelete v s) asked changed = refl
+no_files (SnapRestore v s) asked changed = refl
+no_files (SnapList v) asked changed = refl
+no_files (CloneCreate x v s size kind) asked changed = refl
+no_files (SplitStart x) asked changed = refl
+no_files (SplitFinish x) asked changed = refl
+no_files (Mirror v s w size kind) asked changed = refl
+no_files (Clean v) asked changed = refl
+no_files (Probe v f i) asked changed = refl
+no_files (Work n) asked changed = refl
+no_files Cp asked changed = refl
 
 pub unbuilt_after : (m : Machine) (command : Command) → is_built command ≡ false → machine_after m command ≡ m
 unfolding machine_after

@@ -5,7 +5,7 @@ use Rattle.fv_disk.specs.Shown.{Shown}
 use Rattle.fv_disk.specs.DiskCalls.{OnlyReads}
 use Rattle.fv_model.specs.declared.answers.Reply.{Reply}
 use Rattle.fv_model.specs.declared.commands.Command.{Command}
-use Rattle.fv_model.specs.declared.commands.Command.TheVariants.{Cp}
+use Rattle.fv_model.specs.declared.commands.Command.TheVariants.{VolCreate, VolDestroy, VolResize, VolGuarantee, VolList, VolStat, New, Put, Get, Len, Cut, Remove, Ls, SnapCreate, SnapDelete, SnapRestore, SnapList, CloneCreate, SplitStart, SplitFinish, Mirror, Clean, Probe, Work, Cp}
 use Rattle.fv_model.specs.Machines.{Machine}
 use Rattle.fv_aggmap.specs.Space.{Space}
 use Rattle.fv_volume.specs.Changing.{IsChangeOf}
@@ -13,23 +13,19 @@ use Rattle.fv_cp.specs.Placing.{HaveNoFiles}
 use Rattle.fv_aggregate.specs.declared.fault.Fault.{Fault}
 use Rattle.fv_aggregate.specs.declared.session.Session.{Session}
 use Rattle.fv_aggregate.specs.Calls.{Goes, GoesFor, KeepsAsking, WasRead}
-use Rattle.fv_aggregate.specs.Commands.{asked_by, changed_by, dirty_limit, is_refusal, machine_after, room_of, Replies}
+use Rattle.fv_aggregate.specs.Commands.{volume_asked, changed_by, dirty_limit, is_refusal, machine_after, room_of, Replies}
 use Rattle.fv_aggregate.specs.Looking.{Looks, Makes}
 use Rattle.fv_aggregate.specs.Standing.{IsWithoutFiles, StandsFor}
 use Rattle.fv_aggregate.proofs.Calls.{reads_itself}
 use Rattle.fv_aggregate.proofs.Changing.{change_after, change_of_volume, change_replies, change_room, look_after, look_replies, look_room}
 
-none_some : (o : Option ℕ) → IsNone o → IsSome o → ⊥
+none_some : {A : Type 0} (o : Option A) → IsNone o → IsSome o → ⊥
 none_some None none some = cc
 none_some (Some n) none some = cc
 
 -- a session that hasn't failed isn't dead
 pub not_dead : (X : Type 0) (s : Session) → IsNone s.failed → IsSome s.failed → X
 not_dead X s fresh failed = absurd (none_some s.failed fresh failed)
-
--- what is left as it was was read
-pub untouched_read : (d : Shown) (s : Session) → WasRead d s d s
-untouched_read d s = record { only_reads = reads_itself d; pool = record { map = refl; containers = refl; kept = refl; found = refl }; same = refl }
 
 -- a point asks for what it asked for
 pub asks_still : (room : ℕ) (d : Shown) (s : Session) → KeepsAsking room d s d s
@@ -39,24 +35,51 @@ if_ok : {T : Type 0} {P Q : T → Type 0} → ((x : T) → P x → Q x) → (r :
 if_ok to (Ok x) is = to x is
 if_ok to (Err f) is = tt
 
-pub untouched_as : {D : Type 0} (shown : D → Shown) (a b : D) (s n : Session) → b ≡ a → n ≡ s → WasRead (shown a) s (shown b) n
-untouched_as shown a b s n disk session = subst (λ d. WasRead (shown a) s (shown d) n) (sym disk) (subst (λ (k : Session). WasRead (shown a) s (shown a) k) (sym session) (untouched_read (shown a) s))
-
 pub rests_as : {D : Type 0} (shown : D → Shown) (a b : D) → b ≡ a → OnlyReads (shown a) (shown b)
 rests_as shown a b disk = subst (λ d. OnlyReads (shown a) (shown d)) (sym disk) (reads_itself (shown a))
-
--- a refusal that leaves all as it was only read
-pub refused_as : {D : Type 0} (shown : D → Shown) (a b : D) (s n : Session) (r : Result Reply Fault) → IfOk r (λ reply. IsTrue (is_refusal reply) → (b ≡ a) × (n ≡ s)) → IfOk r (λ reply. IsTrue (is_refusal reply) → WasRead (shown a) s (shown b) n)
-refused_as shown a b s n r is = if_ok (λ y same refused. untouched_as shown a b s n (same refused).0 (same refused).1) r is
 
 -- no step was made
 pub no_step : (r : Result Reply Fault) (steps : ℕ) → OnOk r (steps ≡ steps)
 no_step (Ok y) steps = refl
 no_step (Err f) steps = tt
 
+some_none : (v : List ℕ) → ◌≡◌ {A = Option (List ℕ)} None (Some v) → ⊥
+some_none v e = cc
+
+-- a command that changes a file asks for none
+unasked : (c : Command) (name : List ℕ) → changed_by c ≡ Some name → volume_asked c ≡ None
+unasked (Get v s f i) name change = absurd (some_none name change)
+unasked (Len v s f) name change = absurd (some_none name change)
+unasked (Ls v s) name change = absurd (some_none name change)
+unasked (VolCreate v size kind) name change = refl
+unasked (VolDestroy v) name change = refl
+unasked (VolResize v size) name change = refl
+unasked (VolGuarantee v kind) name change = refl
+unasked VolList name change = refl
+unasked (VolStat v) name change = refl
+unasked (New v f reserve) name change = refl
+unasked (Put v f i block) name change = refl
+unasked (Cut v f length) name change = refl
+unasked (Remove v f) name change = refl
+unasked (SnapCreate v s) name change = refl
+unasked (SnapDelete v s) name change = refl
+unasked (SnapRestore v s) name change = refl
+unasked (SnapList v) name change = refl
+unasked (CloneCreate x v s size kind) name change = refl
+unasked (SplitStart x) name change = refl
+unasked (SplitFinish x) name change = refl
+unasked (Mirror v s w size kind) name change = refl
+unasked (Clean v) name change = refl
+unasked (Probe v f i) name change = refl
+unasked (Work n) name change = refl
+unasked Cp name change = refl
+
+same_volume : (a b : List ℕ) → ◌≡◌ {A = Option (List ℕ)} (Some a) (Some b) → a ≡ b
+same_volume a b e = cc
+
 -- ---- a command that asks
 
-module _ (c : Command) (name : List ℕ) (asks : asked_by c ≡ Some name) (d : Shown) (s : Session) (e : Shown) (n : Session) (r : Result Reply Fault) (looks : Looks d s c e n r) where
+module _ (c : Command) (name : List ℕ) (asks : volume_asked c ≡ Some name) (d : Shown) (s : Session) (e : Shown) (n : Session) (r : Result Reply Fault) (looks : Looks d s c e n r) where
   pub look_goes : Goes (room_of c) d s e n r
   look_goes = subst (λ (k : ℕ). Goes k d s e n r) (sym (look_room c name asks)) looks.goes
 
@@ -76,6 +99,10 @@ module _ (c : Command) (name : List ℕ) (asks : asked_by c ≡ Some name) (d : 
       by (Ok y) read = λ refused. read
       by (Err f) read = tt
 
+  pub look_name : (other : List ℕ) → (changed_by c ≡ Some other) ⊎ (volume_asked c ≡ Some other) → other ≡ name
+  look_name other (inl change) = absurd (some_none name (sym (unasked c other change) ∙ asks))
+  look_name other (inr also) = same_volume other name (sym also ∙ asks)
+
   -- no file comes into memory
   pub look_files : IsWithoutFiles s → OnOk r (IsWithoutFiles n)
   look_files without = by r looks.read
@@ -88,7 +115,7 @@ module _ (c : Command) (name : List ℕ) (asks : asked_by c ≡ Some name) (d : 
       by (Err f) read = tt
 
   pub look_no_point : (X : Type 0) → c ≡ Cp → X
-  look_no_point X cp = absurd (nothing (sym (ap asked_by cp) ∙ asks))
+  look_no_point X cp = absurd (nothing (sym (ap volume_asked cp) ∙ asks))
     where
       nothing : ◌≡◌ {A = Option (List ℕ)} None (Some name) → ⊥
       nothing e = cc
@@ -113,6 +140,13 @@ module _ (c : Command) (name : List ℕ) (of : changed_by c ≡ Some name) (d : 
 
   pub make_reply : IsTrue d.tells → (last m : Machine) → StandsFor d s last m → IfOk r (Replies m c)
   make_reply tells last m is = if_ok (λ y allowed. change_replies name c change m y allowed) r (makes.reply tells last m is)
+
+  pub make_name : (other : List ℕ) → (changed_by c ≡ Some other) ⊎ (volume_asked c ≡ Some other) → other ≡ name
+  make_name other (inl also) = same_volume other name (sym also ∙ of)
+  make_name other (inr asked) = absurd (some_none other (sym (unasked c name of) ∙ asked))
+
+  pub make_unasked : (X : Type 0) → IsSome (volume_asked c) → X
+  make_unasked X asked = absurd (none_some {A = List ℕ} None refl (subst IsSome (unasked c name of) asked))
 
   pub make_calm : (room_of c ≡ 0) ⊎ (s.pending + room_of c ≤ dirty_limit) → OnlyReads d e
   make_calm (inl nothing) = absurd (let some = change_room name c change in omega (arith, nothing, some))

@@ -1,28 +1,30 @@
 -- What a session answers to a command that asks for files, by the call of a volume.
-use Rattle.std.proofs.Common.{◌≡◌, ◌⊎◌, ℕ, Bool, true, false, List, Option, Some, None, Result, Ok, Err, inl, inr, refl, sym, ap, subst, ◌∙◌, length}
+use Rattle.std.proofs.Common.{◌≡◌, ◌⊎◌, ℕ, Bool, true, false, List, Option, Some, None, Result, Ok, Err, inl, inr, refl, sym, ap, subst, ◌∙◌, length, true≢false, arith}
 use Rattle.std.specs.Prelude.{IfSome, IsNone, IsSome, IsTrue, OnOk}
 use Rattle.std.specs.FinMap as fin
 use Rattle.fv_disk.specs.Shown.{Shown, IsDisk, Rose}
 use Rattle.fv_disk.specs.declared.fault.BlockFault.TheVariants as block
 use Rattle.fv_model.specs.declared.answers.Refusal.{Refusal}
 use Rattle.fv_model.specs.declared.answers.Refusal.TheVariants.{NoVolume}
+use Rattle.fv_model.specs.Spelling.{is_same_name}
 use Rattle.fv_model.specs.declared.answers.Reply.{Reply}
 use Rattle.fv_model.specs.declared.answers.Reply.TheVariants.{Refused}
 use Rattle.fv_model.specs.declared.commands.Command.{Command}
 use Rattle.fv_model.specs.declared.commands.Command.TheVariants.{Get, Len, Ls}
 use Rattle.fv_model.specs.Machines.{Machine}
 use Rattle.fv_model.specs.Refusals.{refusal}
-use Rattle.fv_laws.proofs.Changes.{same_name}
+use Rattle.fv_laws.proofs.Changes.{itself, same_name}
 use Rattle.fv_model.specs.Replies.{answer, is_open, Allows, AllowsBy, IsAnswer}
 use Rattle.fv_volume.specs.declared.fault.VolumeFault.{VolumeFault}
 use Rattle.fv_volume.specs.declared.fault.VolumeFault.TheVariants as volume
+use Rattle.fv_volume.proofs.Told.{is_inside}
 use Rattle.fv_volume.specs.declared.pool.Pool.{Pool}
 use Rattle.fv_volume.specs.declared.state.VolumeState.{VolumeState}
 use Rattle.fv_volume.specs.Calls.{Agrees, Asks, CallCause, Has, Reads, TableFails}
 use Rattle.fv_volume.specs.Lending.{Lent, lent_for}
 use Rattle.fv_volume.specs.OneVolume.{home_in, standing_for, volume_for, IsStanding}
 use Rattle.fv_volume.specs.Placing.{IsStoredWell}
-use Rattle.fv_volume.specs.Slots.{is_named}
+use Rattle.fv_volume.specs.Slots.{is_named, NoneHasName}
 use Rattle.fv_volume.specs.States.{States, state_at}
 use Rattle.fv_volume.proofs.Undamaged.{no_damage}
 use Rattle.fv_tables.specs.Told.{Standing}
@@ -30,7 +32,7 @@ use Rattle.fv_aggregate.specs.declared.fault.Fault.{Fault}
 use Rattle.fv_aggregate.specs.declared.fault.Fault.TheVariants.{DiskFault, Damaged, Memory}
 use Rattle.fv_aggregate.specs.declared.session.Session.{Session}
 use Rattle.fv_aggregate.specs.Calls.{HasDamage}
-use Rattle.fv_aggregate.specs.Commands.{asked_by}
+use Rattle.fv_aggregate.specs.Commands.{volume_asked}
 use Rattle.fv_aggregate.specs.Looking.{AsksSlot, AsksState, AsksVolume, Faults, FindsNone, FindsOne, Looks, Replied}
 use Rattle.fv_aggregate.specs.Standing.{Stands, StandsFor}
 use Rattle.fv_aggregate.proofs.HeldMachine.{is_there, not_there, one}
@@ -82,14 +84,14 @@ module _ (d e : Shown) (p q : Pool) (x : VolumeState) (reads : Reads d p e q) (c
 some_name : (a b : List ℕ) → ◌≡◌ {A = Option (List ℕ)} (Some a) (Some b) → a ≡ b
 some_name a b e = cc
 
-pub of_get : (c : Command) (name v : List ℕ) (s : Option (List ℕ)) (f : List ℕ) (i : ℕ) → c ≡ Get v s f i → asked_by c ≡ Some name → Get name s f i ≡ c
-of_get c name v s f i is asks = let of : v ≡ name = some_name v name (sym (ap asked_by is) ∙ asks) in ap (λ (n : List ℕ). Get n s f i) (sym of) ∙ sym is
+pub of_get : (c : Command) (name v : List ℕ) (s : Option (List ℕ)) (f : List ℕ) (i : ℕ) → c ≡ Get v s f i → volume_asked c ≡ Some name → Get name s f i ≡ c
+of_get c name v s f i is asks = let of : v ≡ name = some_name v name (sym (ap volume_asked is) ∙ asks) in ap (λ (n : List ℕ). Get n s f i) (sym of) ∙ sym is
 
-pub of_len : (c : Command) (name v : List ℕ) (s : Option (List ℕ)) (f : List ℕ) → c ≡ Len v s f → asked_by c ≡ Some name → Len name s f ≡ c
-of_len c name v s f is asks = let of : v ≡ name = some_name v name (sym (ap asked_by is) ∙ asks) in ap (λ (n : List ℕ). Len n s f) (sym of) ∙ sym is
+pub of_len : (c : Command) (name v : List ℕ) (s : Option (List ℕ)) (f : List ℕ) → c ≡ Len v s f → volume_asked c ≡ Some name → Len name s f ≡ c
+of_len c name v s f is asks = let of : v ≡ name = some_name v name (sym (ap volume_asked is) ∙ asks) in ap (λ (n : List ℕ). Len n s f) (sym of) ∙ sym is
 
-pub of_ls : (c : Command) (name v : List ℕ) (s : Option (List ℕ)) → c ≡ Ls v s → asked_by c ≡ Some name → Ls name s ≡ c
-of_ls c name v s is asks = let of : v ≡ name = some_name v name (sym (ap asked_by is) ∙ asks) in ap (λ (n : List ℕ). Ls n s) (sym of) ∙ sym is
+pub of_ls : (c : Command) (name v : List ℕ) (s : Option (List ℕ)) → c ≡ Ls v s → volume_asked c ≡ Some name → Ls name s ≡ c
+of_ls c name v s is asks = let of : v ≡ name = some_name v name (sym (ap volume_asked is) ∙ asks) in ap (λ (n : List ℕ). Ls n s) (sym of) ∙ sym is
 
 -- ---- a session, by what it read
 
@@ -103,7 +105,7 @@ module _ (d e : Shown) (laws : IsDisk d) (s : Session) (q : Pool) (reads : Reads
   -- an answer that the machine has in each machine that the session may stand for
   pub looks_done : (reply : Reply) → e.faults ≡ d.faults → ((last m : Machine) → StandsFor d s last m → Allows m c reply) → Looks d s c e (left d e s q reads) (Ok reply)
   looks_done reply calm allowed = record {
-    goes = goes_done d e laws s (left d e s q reads) 0 reads.only_reads fresh fresh still reply calm;
+    goes = goes_done d e laws s (left d e s q reads) 0 reads.only_reads fresh fresh still reply calm (omega arith);
     asks = asks_read d e s q reads;
     goes_for = λ tells last m is. goes_for_done d e laws s (left d e s q reads) 0 reads.only_reads fresh fresh still reply last m m is (for_left last m is);
     reply = λ tells last m is. allowed last m is;
@@ -113,7 +115,7 @@ module _ (d e : Shown) (laws : IsDisk d) (s : Session) (q : Pool) (reads : Reads
 
   pub looks_broken : (o : Option ℕ) → Rose d.faults e.faults → (Rose e.write_faults e.write_faults → o ≡ Some e.faults) → (¬ Rose e.write_faults e.write_faults → IsNone o) → Looks d s c e (record s { pool = q; failed = o }) (Err DiskFault)
   looks_broken o rose written unwritten = record {
-    goes = goes_broken d e laws s (left d e s q reads) 0 reads.only_reads fresh fresh still o rose written unwritten;
+    goes = goes_broken d e laws s (left d e s q reads) 0 reads.only_reads fresh fresh still o rose written unwritten (omega arith);
     asks = λ tells kept asks none. let is = asks_read d e s q reads tells kept asks fresh in record { asked = is.asked; pending = is.pending };
     goes_for = λ tells last m is. goes_for_broken d e laws s (left d e s q reads) 0 reads.only_reads fresh fresh still o last m m is (for_left last m is);
     reply = λ tells last m is. tt;
@@ -123,7 +125,7 @@ module _ (d e : Shown) (laws : IsDisk d) (s : Session) (q : Pool) (reads : Reads
 
   pub looks_wanting : e.faults ≡ d.faults → Looks d s c e (left d e s q reads) (Err Memory)
   looks_wanting calm = record {
-    goes = goes_wanting d e laws s (left d e s q reads) 0 reads.only_reads fresh fresh still calm;
+    goes = goes_wanting d e laws s (left d e s q reads) 0 reads.only_reads fresh fresh still calm (omega arith);
     asks = asks_read d e s q reads;
     goes_for = λ tells last m is. goes_for_fault d e laws s (left d e s q reads) 0 reads.only_reads fresh fresh still Memory last m m tt is (for_left last m is);
     reply = λ tells last m is. tt;
@@ -134,7 +136,7 @@ module _ (d e : Shown) (laws : IsDisk d) (s : Session) (q : Pool) (reads : Reads
   pub looks_damaged : (at want found : ℕ) → e.faults ≡ d.faults → HasDamage d s (left d e s q reads) at want found → (IsTrue d.tells → (last m : Machine) → StandsFor d s last m → ⊥)
       → Looks d s c e (left d e s q reads) (Err (Damaged at want found))
   looks_damaged at want found calm damage whole = record {
-    goes = goes_damaged d e laws s (left d e s q reads) 0 reads.only_reads fresh fresh still at want found calm damage;
+    goes = goes_damaged d e laws s (left d e s q reads) 0 reads.only_reads fresh fresh still at want found calm damage (omega arith);
     asks = asks_read d e s q reads;
     goes_for = λ tells last m is. absurd (whole tells last m is);
     reply = λ tells last m is. tt;
@@ -278,7 +280,7 @@ module _ (d e : Shown) (laws : IsDisk d) (s : Session) (q : Pool) (c : Command) 
 
 -- ---- the volume that is found by its name
 
-pub named_asked : (o : Option VolumeState) (name : List ℕ) (c : Command) → is_named o name ≡ true → asked_by c ≡ Some name → IfSome o (λ x. asked_by c ≡ Some x.name)
+pub named_asked : (o : Option VolumeState) (name : List ℕ) (c : Command) → is_named o name ≡ true → volume_asked c ≡ Some name → IfSome o (λ x. volume_asked c ≡ Some x.name)
 named_asked None name c is asks = tt
 named_asked (Some x) name c is asks = asks ∙ ap (λ (n : List ℕ). Some n) (sym (same_name x.name name is))
 
@@ -289,3 +291,19 @@ module _ (d e : Shown) (p q : Pool) (states : States) (name : List ℕ) (c : Com
     reads = asks.reads;
     which = inr (record { slot = slot; state = x; there = there; named = same_name x.name name is; asks = asks });
   }
+
+-- ---- no volume has the name
+
+pub not_none : (X : Type 0) (states : States) (slot : ℕ) (x : VolumeState) (name : List ℕ) → length states ≡ 64 → state_at states slot ≡ Some x → x.name ≡ name → NoneHasName states name → X
+not_none X states slot x name long there named none =
+    let low = is_inside states slot x long there in
+    let is : is_named (state_at states slot) name ≡ true = ap (λ (o : Option VolumeState). is_named o name) there ∙ ap (λ (n : List ℕ). is_same_name n name) named ∙ itself name in
+    absurd (true≢false (sym is ∙ none.none slot low))
+
+pub missing_by : (d e : Shown) (p q : Pool) (states : States) (name : List ℕ) (c : Command) (start steps : ℕ) (r : Result Reply VolumeFault) → AsksVolume d p states name c start e q steps r → length states ≡ 64 → NoneHasName states name
+    → (now new : Session) (result : Result Reply Fault) → Replied e r now new result → result ≡ Ok (Refused NoVolume)
+missing_by d e p q states name c start steps r asks long none now new result is = by asks.which
+  where
+    by : FindsNone states name d p start e q steps r ⊎ FindsOne states name d p c start e q steps r → result ≡ Ok (Refused NoVolume)
+    by (inl n) = (subst (λ (z : Result Reply VolumeFault). Replied e z now new result) n.refused is).0
+    by (inr of) = not_none _ states of.slot of.state name long of.there of.named none

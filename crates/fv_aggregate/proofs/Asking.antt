@@ -25,7 +25,7 @@ use Rattle.fv_cp.specs.Lent.{asked_by, blocks_asked}
 use Rattle.fv_cp.specs.Placing.{pending_by, pending_files}
 use Rattle.fv_aggregate.specs.declared.session.Session.{Session}
 use Rattle.fv_aggregate.specs.Asking.{AsksWithin, IsShort}
-use Rattle.fv_aggregate.specs.Standing.{overhead_by, overheads_in, placed_in, Stands}
+use Rattle.fv_aggregate.specs.Standing.{overhead_by, overheads_in, taken_since, Stands}
 use Rattle.fv_aggregate.proofs.Clear.{clear_is, clear_stays, free_and_placed}
 use Rattle.fv_aggregate.proofs.Sums.{asked_within, over_slots, overheads_are, overheads_in_with, pending_with}
 
@@ -33,7 +33,7 @@ use Rattle.fv_aggregate.proofs.Sums.{asked_within, over_slots, overheads_are, ov
 
 -- where a point lacks blocks in the session's map, the image lacks them
 pub short_is : (disk : Shown) (session : Session) (left : Pool) (room at want found : ℕ) → IsTrue disk.tells → Stands disk session → AsksWithin disk session room → left.map.committed ≡ session.pool.map.committed
-    → at ≡ root_place session.pool.found.slot → want ≡ blocks_asked session.volumes → found ≡ free_blocks left.map → found < want → IsShort disk.reads room (placed_in left.map) at want found
+    → at ≡ root_place session.pool.found.slot → want ≡ blocks_asked session.volumes → found ≡ free_blocks left.map → found < want → IsShort disk.reads room (taken_since left.map) at want found
 short_is disk session left room at want found tells stands asks same place asked free short = record {
   root = root_found session.pool.found;
   counts = (stands.found tells).reads.root;

@@ -1,5 +1,5 @@
 -- How a call of a session ends that only read the disk, whatever it changed in memory, and one that goes on from another.
-use Rattle.std.proofs.Common.{◌≡◌, ◌<◌, ◌+◌, ◌⊎◌, ℕ, List, Option, Some, None, Result, Ok, Err, refl, sym, ap, subst, ◌∙◌, inl, inr, ⊎_elim, arith}
+use Rattle.std.proofs.Common.{◌≡◌, ◌<◌, ◌≤◌, ◌+◌, ◌⊎◌, ℕ, List, Option, Some, None, Result, Ok, Err, refl, sym, ap, subst, ◌∙◌, inl, inr, ⊎_elim, arith}
 use Rattle.std.specs.Prelude.{IsNone}
 use Rattle.fv_disk.specs.Shown.{Image, Shown, IsDisk, Rose}
 use Rattle.fv_disk.specs.Crash.{Leaves}
@@ -22,28 +22,31 @@ module _ (d e : Shown) (laws : IsDisk d) (s left : Session) (room : ℕ) (reads 
   ends : KeepsEnds d e
   ends = record { tells = reads.stays.tells; given = reads.given; ends = reads.ends }
 
-  pub goes_done : {T : Type 0} (x : T) → e.faults ≡ d.faults → Goes room d s e left (Ok x)
-  goes_done x calm = record {
+  pub goes_done : {T : Type 0} (x : T) → e.faults ≡ d.faults → left.pending ≤ s.pending + room → Goes room d s e left (Ok x)
+  goes_done x calm few = record {
     ends = ends;
     stands = λ none. stands;
     done = record { was = fresh; goes_on = still; counts = record { faults = calm; write_faults = reads.write_faults } };
     fault = tt;
+    pending = few;
   }
 
-  pub goes_wanting : {T : Type 0} → e.faults ≡ d.faults → Goes {T = T} room d s e left (Err Memory)
-  goes_wanting calm = record {
+  pub goes_wanting : {T : Type 0} → e.faults ≡ d.faults → left.pending ≤ s.pending + room → Goes {T = T} room d s e left (Err Memory)
+  goes_wanting calm few = record {
     ends = ends;
     stands = λ none. stands;
     done = tt;
     fault = record { reason = fresh; counts = record { faults = calm; write_faults = reads.write_faults }; session = still; disk = inl reads };
+    pending = few;
   }
 
-  pub goes_damaged : {T : Type 0} (at want found : ℕ) → e.faults ≡ d.faults → HasDamage d s left at want found → Goes {T = T} room d s e left (Err (Damaged at want found))
-  goes_damaged at want found calm damage = record {
+  pub goes_damaged : {T : Type 0} (at want found : ℕ) → e.faults ≡ d.faults → HasDamage d s left at want found → left.pending ≤ s.pending + room → Goes {T = T} room d s e left (Err (Damaged at want found))
+  goes_damaged at want found calm damage few = record {
     ends = ends;
     stands = λ none. stands;
     done = tt;
     fault = record { reason = damage; counts = record { faults = calm; write_faults = reads.write_faults }; session = still; disk = inl reads };
+    pending = few;
   }
 
   -- what a crash leaves at each moment of it
@@ -80,8 +83,8 @@ module _ (d e : Shown) (laws : IsDisk d) (s left : Session) (room : ℕ) (reads 
     as_left : IsNone o → left ≡ broken
     as_left none = ap (λ (f : Option ℕ). record left { failed = f }) (same_none left.failed o still none)
 
-    pub goes_broken : {T : Type 0} → Rose d.faults e.faults → (Rose e.write_faults e.write_faults → o ≡ Some e.faults) → (¬ Rose e.write_faults e.write_faults → IsNone o) → Goes {T = T} room d s e broken (Err DiskFault)
-    goes_broken rose written unwritten = record {
+    pub goes_broken : {T : Type 0} → Rose d.faults e.faults → (Rose e.write_faults e.write_faults → o ≡ Some e.faults) → (¬ Rose e.write_faults e.write_faults → IsNone o) → left.pending ≤ s.pending + room → Goes {T = T} room d s e broken (Err DiskFault)
+    goes_broken rose written unwritten few = record {
       ends = ends;
       stands = λ none. subst (Stands e) (as_left none) stands;
       done = tt;
@@ -94,6 +97,7 @@ module _ (d e : Shown) (laws : IsDisk d) (s left : Session) (room : ℕ) (reads 
         };
         disk = tt;
       };
+      pending = few;
     }
 
     pub goes_for_broken : {T : Type 0} (last m next : Machine) → StandsFor d s last m → StandsFor e left last m → GoesFor {T = T} d last m next e broken (Err DiskFault)
@@ -124,12 +128,12 @@ wider room d s e n Memory row = record {
 wider room d s e n (Failed faults) row = row
 
 pub goes_wider : {T U : Type 0} (room : ℕ) (d : Shown) (s : Session) (e : Shown) (n : Session) (f : Fault) → Goes {T = T} 0 d s e n (Err f) → Goes {T = U} room d s e n (Err f)
-goes_wider room d s e n f goes = record { ends = goes.ends; stands = goes.stands; done = tt; fault = wider room d s e n f goes.fault }
+goes_wider room d s e n f goes = record { ends = goes.ends; stands = goes.stands; done = tt; fault = wider room d s e n f goes.fault; pending = omega (arith, goes.pending) }
 
 pub replies_wider : {T U : Type 0} (x : T) (y : U) (room : ℕ) (d : Shown) (s : Session) (e : Shown) (n : Session) → Goes 0 d s e n (Ok x) → Goes room d s e n (Ok y)
-replies_wider x y room d s e n goes = record { ends = goes.ends; stands = goes.stands; done = goes.done; fault = tt }
+replies_wider x y room d s e n goes = record { ends = goes.ends; stands = goes.stands; done = goes.done; fault = tt; pending = omega (arith, goes.pending) }
 
-module _ {T : Type 0} (x : T) (first second : ℕ) (d : Shown) (s : Session) (e : Shown) (n : Session) (goes : Goes first d s e n (Ok x)) where
+module _ {T : Type 0} (x : T) (first second : ℕ) (d : Shown) (s : Session) (e : Shown) (n : Session) (goes : Goes first d s e n (Ok x)) (less : n.pending ≤ s.pending) where
   counts_on : (g : Shown) → SameCounts e g → SameCounts d g
   counts_on g counts = record { faults = counts.faults ∙ goes.done.counts.faults; write_faults = counts.write_faults ∙ goes.done.counts.write_faults }
 
@@ -158,19 +162,21 @@ module _ {T : Type 0} (x : T) (first second : ℕ) (d : Shown) (s : Session) (e 
   ends_on : (g : Shown) → KeepsEnds e g → KeepsEnds d g
   ends_on g ends = record { tells = ends.tells ∙ goes.ends.tells; given = ends.given ∙ goes.ends.given; ends = ends.ends ∙ goes.ends.ends }
 
-  -- A call that comes after one with room that passes the dirty limit. What was damaged in it is damaged for both.
+  -- A call that comes after one that added nothing, with room that passes the dirty limit. What was damaged in it is damaged for both.
   pub goes_after : {U : Type 0} (g : Shown) (new : Session) (r : Result U Fault) → dirty_limit < s.pending + second → ((at want found : ℕ) → HasDamage d s new at want found) → Goes second e n g new r → Goes second d s g new r
   goes_after g new (Ok y) past damage next = record {
     ends = ends_on g next.ends;
     stands = next.stands;
     done = record { was = goes.done.was; goes_on = next.done.goes_on; counts = counts_on g next.done.counts };
     fault = tt;
+    pending = omega (arith, less, next.pending);
   }
   goes_after g new (Err f) past damage next = record {
     ends = ends_on g next.ends;
     stands = next.stands;
     done = tt;
     fault = faults_on g new f past damage next.fault;
+    pending = omega (arith, less, next.pending);
   }
 
 -- ---- for the machines that the session stands for

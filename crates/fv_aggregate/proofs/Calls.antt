@@ -37,6 +37,7 @@ rests_done x room disk session fresh stands = record {
   stands = λ none. stands;
   done = record { was = fresh; goes_on = fresh; counts = same_counts disk };
   fault = tt;
+  pending = omega arith;
 }
 
 pub rests_wanting : {T : Type 0} (room : ℕ) (disk : Shown) (session : Session) → IsNone session.failed → Stands disk session → Goes {T = T} room disk session disk session (Err Memory)
@@ -45,6 +46,7 @@ rests_wanting room disk session fresh stands = record {
   stands = λ none. stands;
   done = tt;
   fault = record { reason = fresh; counts = same_counts disk; session = fresh; disk = inl (reads_itself disk) };
+  pending = omega arith;
 }
 
 pub rests_asks : (room : ℕ) (disk : Shown) (session : Session) → KeepsAsking room disk session disk session
@@ -57,6 +59,7 @@ stays_failed faults room disk session failed = record {
   stands = λ none. absurd (both session.failed none failed);
   done = tt;
   fault = record { reason = failed; counts = same_counts disk; session = refl; disk = reads_itself disk };
+  pending = omega arith;
 }
   where
     both : (o : Option ℕ) → IsNone o → o ≡ Some faults → ⊥
@@ -94,12 +97,14 @@ goes_as least room le before old after new (Ok x) (Ok y) same goes = record {
   stands = goes.stands;
   done = goes.done;
   fault = tt;
+  pending = omega (arith, le, goes.pending);
 }
 goes_as least room le before old after new (Err e) (Err f) same goes = record {
   ends = goes.ends;
   stands = goes.stands;
   done = tt;
   fault = subst (HasFault room before old after new) (sym same) (more_room least room le before old after new e goes.fault);
+  pending = omega (arith, le, goes.pending);
 }
 goes_as least room le before old after new (Ok x) (Err f) same goes = absurd same
 goes_as least room le before old after new (Err e) (Ok y) same goes = absurd same

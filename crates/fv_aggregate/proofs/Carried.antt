@@ -58,35 +58,35 @@ module _ (d e : Shown) (laws : IsDisk d) (s : Session) (q : Pool) (c : Command) 
 
   pub judged_by : (r : Result Unit VolumeFault) → JudgesState d s.pool x (beside s.volumes slot) c e q r → (new : Session) (result : Result Reply Fault) → Replied e (done_as r) now new result → HasJudged d s c e new result
   judged_by (Ok u) did new result is = judged_as new result (Ok Done) now is.1 is.0 (record {
-    goes = goes_done d e laws s now 0 did.reads.only_reads fresh fresh (stands_read d e s q did.reads stands) Done did.cause;
+    goes = goes_done d e laws s now 0 did.reads.only_reads fresh fresh (stands_read d e s q did.reads stands) Done did.cause (omega arith);
     goes_for = λ tells last m is. goes_for_done d e laws s now 0 did.reads.only_reads fresh fresh (stands_read d e s q did.reads stands) Done last m m is (stands_for_read d e s q did.reads last m is);
     judges = λ tells last m is. ap (λ (k : Machine). refusal k c) (sym is.machine) ∙ did.agrees (its last m is).stands _ (has_within d s.pool s.volumes long last is.held slot x there);
     only_reads = did.reads.only_reads;
     read = was_read d e s q did.reads;
   })
   judged_by (Err (volume.Refused r)) did new result is = judged_as new result (Ok (Refused r)) now is.1 is.0 (record {
-    goes = goes_done d e laws s now 0 did.reads.only_reads fresh fresh (stands_read d e s q did.reads stands) (Refused r) did.cause;
+    goes = goes_done d e laws s now 0 did.reads.only_reads fresh fresh (stands_read d e s q did.reads stands) (Refused r) did.cause (omega arith);
     goes_for = λ tells last m is. goes_for_done d e laws s now 0 did.reads.only_reads fresh fresh (stands_read d e s q did.reads stands) (Refused r) last m m is (stands_for_read d e s q did.reads last m is);
     judges = λ tells last m is. ap (λ (k : Machine). refusal k c) (sym is.machine) ∙ did.agrees (its last m is).stands _ (has_within d s.pool s.volumes long last is.held slot x there);
     only_reads = did.reads.only_reads;
     read = was_read d e s q did.reads;
   })
   judged_by (Err volume.DiskFault) did new result b = judged_as new result (Err DiskFault) (record now { failed = new.failed }) b.1.1.1.same (b.1.0 ∙ ap (λ (g : Fault). Err g) b.1.1.0) (record {
-    goes = goes_broken d e laws s now 0 did.reads.only_reads fresh fresh (stands_read d e s q did.reads stands) new.failed (rose_by _ _ _ e.faults did.cause) b.1.1.1.written b.1.1.1.unwritten;
+    goes = goes_broken d e laws s now 0 did.reads.only_reads fresh fresh (stands_read d e s q did.reads stands) new.failed (rose_by _ _ _ e.faults did.cause) b.1.1.1.written b.1.1.1.unwritten (omega arith);
     goes_for = λ tells last m is. goes_for_broken d e laws s now 0 did.reads.only_reads fresh fresh (stands_read d e s q did.reads stands) new.failed last m m is (stands_for_read d e s q did.reads last m is);
     judges = λ tells last m is. tt;
     only_reads = did.reads.only_reads;
     read = tt;
   })
   judged_by (Err (volume.Damaged at want found)) did new result b = judged_as new result (Err (Damaged at want found)) now b.1.1.1 (b.1.0 ∙ ap (λ (g : Fault). Err g) b.1.1.0) (record {
-    goes = goes_damaged d e laws s now 0 did.reads.only_reads fresh fresh (stands_read d e s q did.reads stands) at want found (calm_damage _ _ _ e.faults at want found did.cause) (damaged_at d s slot x there fresh now at want found);
+    goes = goes_damaged d e laws s now 0 did.reads.only_reads fresh fresh (stands_read d e s q did.reads stands) at want found (calm_damage _ _ _ e.faults at want found did.cause) (damaged_at d s slot x there fresh now at want found) (omega arith);
     goes_for = λ tells last m is. absurd (no_damage d s.pool x (its last m is).stands (its last m is).well 0 e.faults at want found did.cause);
     judges = λ tells last m is. tt;
     only_reads = did.reads.only_reads;
     read = tt;
   })
   judged_by (Err volume.Memory) did new result b = judged_as new result (Err Memory) now b.1.1.1 (b.1.0 ∙ ap (λ (g : Fault). Err g) b.1.1.0) (record {
-    goes = goes_wanting d e laws s now 0 did.reads.only_reads fresh fresh (stands_read d e s q did.reads stands) (calm_memory _ _ _ e.faults did.cause);
+    goes = goes_wanting d e laws s now 0 did.reads.only_reads fresh fresh (stands_read d e s q did.reads stands) (calm_memory _ _ _ e.faults did.cause) (omega arith);
     goes_for = λ tells last m is. goes_for_fault d e laws s now 0 did.reads.only_reads fresh fresh (stands_read d e s q did.reads stands) Memory last m m tt is (stands_for_read d e s q did.reads last m is);
     judges = λ tells last m is. tt;
     only_reads = did.reads.only_reads;
@@ -101,6 +101,9 @@ module _ (d e : Shown) (laws : IsDisk d) (s : Session) (q : Pool) (c : Command) 
 
     makes_as : (new : Session) (result wanted : Result Reply Fault) (was : Session) → new ≡ was → result ≡ wanted → Makes d s c e was wanted → Makes d s c e new result
     makes_as new result wanted was same is makes = subst (λ (r : Result Reply Fault). Makes d s c e new r) (sym is) (subst (λ (n : Session). Makes d s c e n wanted) (sym same) makes)
+
+    few_added : s.pending + more ≤ s.pending + 16
+    few_added = omega (arith, more_is)
 
     stand : (r : Result Unit VolumeFault) → ChangesState d s.pool x (beside s.volumes slot) c e q y r → Stands e after
     stand r did = stands_changed d e s q slot x y there (beside s.volumes slot) c r did long more more_is stands
@@ -133,14 +136,14 @@ module _ (d e : Shown) (laws : IsDisk d) (s : Session) (q : Pool) (c : Command) 
 
     pub makes_by : (r : Result Unit VolumeFault) → ChangesState d s.pool x (beside s.volumes slot) c e q y r → (new : Session) (result : Result Reply Fault) → Replied e (done_as r) after new result → Makes d s c e new result
     makes_by (Ok u) did new result is = makes_as new result (Ok Done) after is.1 is.0 (record {
-      goes = goes_done d e laws s after 16 did.reads.only_reads fresh fresh (stand (Ok u) did) Done did.cause;
+      goes = goes_done d e laws s after 16 did.reads.only_reads fresh fresh (stand (Ok u) did) Done did.cause few_added;
       goes_for = λ tells last m is. goes_for_done d e laws s after 16 did.reads.only_reads fresh fresh (stand (Ok u) did) Done last m (next m c) is (for_done u did last m is);
       reply = λ tells last m is. change_allows x.name c change m (is_accepted u did last m is);
       refused = λ tells last m is refused. absurd (true≢false (sym refused));
       calm = λ low. did.reads.only_reads;
     })
     makes_by (Err (volume.Refused r)) did new result is = makes_as new result (Ok (Refused r)) now (is.1 ∙ as_read (did.head.refused r refl)) is.0 (record {
-      goes = goes_done d e laws s now 16 did.reads.only_reads fresh fresh (stands_read d e s q did.reads stands) (Refused r) did.cause;
+      goes = goes_done d e laws s now 16 did.reads.only_reads fresh fresh (stands_read d e s q did.reads stands) (Refused r) did.cause (omega arith);
       goes_for = λ tells last m is. subst (λ (n : Machine). GoesFor d last m n e now (Ok (Refused r))) (sym (refused_next m c r (is_refused r did last m is)))
           (goes_for_done d e laws s now 16 did.reads.only_reads fresh fresh (stands_read d e s q did.reads stands) (Refused r) last m m is (stands_for_read d e s q did.reads last m is));
       reply = λ tells last m is. refused_allows m c r (is_refused r did last m is);
@@ -148,21 +151,21 @@ module _ (d e : Shown) (laws : IsDisk d) (s : Session) (q : Pool) (c : Command) 
       calm = λ low. did.reads.only_reads;
     })
     makes_by (Err volume.DiskFault) did new result b = makes_as new result (Err DiskFault) (record after { failed = new.failed }) b.1.1.1.same (b.1.0 ∙ ap (λ (g : Fault). Err g) b.1.1.0) (record {
-      goes = goes_broken d e laws s after 16 did.reads.only_reads fresh fresh (stand (Err volume.DiskFault) did) new.failed (rose_by _ _ _ e.faults did.cause) b.1.1.1.written b.1.1.1.unwritten;
+      goes = goes_broken d e laws s after 16 did.reads.only_reads fresh fresh (stand (Err volume.DiskFault) did) new.failed (rose_by _ _ _ e.faults did.cause) b.1.1.1.written b.1.1.1.unwritten few_added;
       goes_for = λ tells last m is. goes_for_broken d e laws s after 16 did.reads.only_reads fresh fresh (stand (Err volume.DiskFault) did) new.failed last m (next m c) is (for_left volume.DiskFault did last m is);
       reply = λ tells last m is. tt;
       refused = λ tells last m is. tt;
       calm = λ low. did.reads.only_reads;
     })
     makes_by (Err (volume.Damaged at want found)) did new result b = makes_as new result (Err (Damaged at want found)) after b.1.1.1 (b.1.0 ∙ ap (λ (g : Fault). Err g) b.1.1.0) (record {
-      goes = goes_damaged d e laws s after 16 did.reads.only_reads fresh fresh (stand (Err (volume.Damaged at want found)) did) at want found (calm_damage _ _ _ e.faults at want found did.cause) (damaged_at d s slot x there fresh after at want found);
+      goes = goes_damaged d e laws s after 16 did.reads.only_reads fresh fresh (stand (Err (volume.Damaged at want found)) did) at want found (calm_damage _ _ _ e.faults at want found did.cause) (damaged_at d s slot x there fresh after at want found) few_added;
       goes_for = λ tells last m is. absurd (no_damage d s.pool x (its last m is).stands (its last m is).well 0 e.faults at want found did.cause);
       reply = λ tells last m is. tt;
       refused = λ tells last m is. tt;
       calm = λ low. did.reads.only_reads;
     })
     makes_by (Err volume.Memory) did new result b = makes_as new result (Err Memory) after b.1.1.1 (b.1.0 ∙ ap (λ (g : Fault). Err g) b.1.1.0) (record {
-      goes = goes_wanting d e laws s after 16 did.reads.only_reads fresh fresh (stand (Err volume.Memory) did) (calm_memory _ _ _ e.faults did.cause);
+      goes = goes_wanting d e laws s after 16 did.reads.only_reads fresh fresh (stand (Err volume.Memory) did) (calm_memory _ _ _ e.faults did.cause) few_added;
       goes_for = λ tells last m is. goes_for_fault d e laws s after 16 did.reads.only_reads fresh fresh (stand (Err volume.Memory) did) Memory last m (next m c) tt is (for_left volume.Memory did last m is);
       reply = λ tells last m is. tt;
       refused = λ tells last m is. tt;
@@ -192,7 +195,7 @@ counted_as states stay slot x y long there row before after more before_is after
 -- what the machine refuses is refused at once
 pub refused_at_once : (d : Shown) → IsDisk d → (s : Session) → IsNone s.failed → Stands d s → (c : Command) (r : Refusal) → ((last m : Machine) → StandsFor d s last m → refusal m c ≡ Some r) → Makes d s c d s (Ok (Refused r))
 refused_at_once d laws s fresh stands c r why = record {
-  goes = goes_done d d laws s s 16 (reads_itself d) fresh fresh stands (Refused r) refl;
+  goes = goes_done d d laws s s 16 (reads_itself d) fresh fresh stands (Refused r) refl (omega arith);
   goes_for = λ tells last m is. subst (λ (n : Machine). GoesFor d last m n d s (Ok (Refused r))) (sym (refused_next m c r (why last m is)))
       (goes_for_done d d laws s s 16 (reads_itself d) fresh fresh stands (Refused r) last m m is is);
   reply = λ tells last m is. refused_allows m c r (why last m is);

@@ -41,7 +41,7 @@ use Rattle.fv_cp.specs.Lent.{FitTogether}
 use Rattle.fv_cp.specs.Placing.{pending_by, pending_files, AreReady, IsReadyIn}
 use Rattle.fv_aggregate.specs.declared.session.Session.{Session}
 use Rattle.fv_aggregate.specs.Looking.{ChangesState}
-use Rattle.fv_aggregate.specs.Standing.{clear_blocks, overhead_by, overheads_in, placed_in, Stands, StandsFor}
+use Rattle.fv_aggregate.specs.Standing.{clear_blocks, overhead_by, overheads_in, taken_since, Stands, StandsFor}
 use Rattle.fv_aggregate.proofs.Becoming.{machine_becomes, machine_stays}
 use Rattle.fv_aggregate.proofs.Called.{called_held, IsCalled}
 use Rattle.fv_aggregate.proofs.HeldMachine.{blocks_are, commits_are, is_admitted, is_there, one}
@@ -281,15 +281,15 @@ module _ (d e : Shown) (s : Session) (q : Pool) (slot : ℕ) (x y : VolumeState)
   pub stands_for_changed : (last m n : Machine) → StandsFor d s last m → s.pending + 16 ≤ 256 → pending_of y.files ≤ pending_of x.files + 14
       → IsHeld e q (with_state s.volumes slot (Some y)) last → machine_held e q (with_state s.volumes slot (Some y)) ≡ n → StandsFor e changed_session last n
   stands_for_changed last m n is few room held machine =
-      let files : pending_files s.volumes + placed_in s.pool.map ≤ s.pending = is.files in
-      let pending : pending_files s.volumes + placed_in s.pool.map + overheads_in s.volumes ≤ overheads (view_at (root_found s.pool.found) d.reads) + s.pending = is.pending in
+      let files : pending_files s.volumes + taken_since s.pool.map ≤ s.pending = is.files in
+      let pending : pending_files s.volumes + taken_since s.pool.map + overheads_in s.volumes ≤ overheads (view_at (root_found s.pool.found) d.reads) + s.pending = is.pending in
       let fits : overheads (view_at (root_found s.pool.found) d.reads) + max 256 s.pending ≤ clear_blocks s.pool.map = is.room in
       let own = own_pending d e s.pool q s.volumes slot x y there others c result did long in
       let now = pending_within d e s.pool q s.volumes slot x y there others c result did long room in
       let count : more ≡ pending_of y.files - pending_of x.files = more_is ∙ counts_all (pending_of x.files) (pending_of y.files) (omega (arith, files, own, few)) room in
       let same = same_overheads d e s.pool q s.volumes slot x y there others c result did long in
       let over = last_overheads d e s q did.reads in
-      let placed : placed_in q.map ≡ placed_in s.pool.map = placed_read d e s q did.reads in
+      let placed : taken_since q.map ≡ taken_since s.pool.map = placed_read d e s q did.reads in
       let clear : clear_blocks q.map ≡ clear_blocks s.pool.map = clear_read d e s q did.reads in
       record {
         held = held;

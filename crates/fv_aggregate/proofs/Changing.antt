@@ -13,7 +13,7 @@ use Rattle.fv_model.specs.Effects.{change_of}
 use Rattle.fv_model.specs.Refusals.{next, refusal}
 use Rattle.fv_model.specs.Replies.{answer, is_open, Allows, AllowsBy, IsAnswer}
 use Rattle.fv_volume.specs.Changing.{IsChangeOf}
-use Rattle.fv_aggregate.specs.Commands.{asked_by, changed_by, is_built, machine_after, reads_files, room_of, Replies, RepliesBy}
+use Rattle.fv_aggregate.specs.Commands.{volume_asked, changed_by, is_built, machine_after, reads_files, room_of, Replies, RepliesBy}
 use Rattle.fv_aggregate.specs.Looking.{refusal_in, Judges}
 use Rattle.fv_aggregate.proofs.Asked.{answer_allows}
 use Rattle.fv_aggregate.proofs.Missing.{asked_cases}
@@ -92,7 +92,7 @@ either : (m : Machine) (b : Bool) → cond b m m ≡ m
 either m true = refl
 either m false = refl
 
-module _ (c : Command) (name : List ℕ) (asks : asked_by c ≡ Some name) where
+module _ (c : Command) (name : List ℕ) (asks : volume_asked c ≡ Some name) where
   pub look_room : room_of c ≡ 0
   unfolding room_of
   look_room = asked_cases (λ (k : Command). room_of k ≡ 0) name (λ s f i. refl) (λ s f. refl) (λ s. refl) c asks

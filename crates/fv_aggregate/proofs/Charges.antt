@@ -23,7 +23,8 @@ use Rattle.fv_volume.specs.Files.{AreNamed, AreStates, IsState}
 use Rattle.fv_volume.specs.States.{States, head_in, state_at, view_over}
 use Rattle.fv_volume.specs.Trees.{Trees, active_in, machine_in}
 use Rattle.fv_volume.proofs.Made.{to_pair}
-use Rattle.fv_aggregate.specs.Standing.{charged_in}
+use Rattle.fv_aggregate.specs.declared.session.Session.{Session}
+use Rattle.fv_aggregate.specs.Standing.{charged_in, StandsFor}
 use Rattle.fv_aggregate.specs.Telling.{charged_by, charged_from}
 use Rattle.fv_volume.specs.OneVolume.{volume_for}
 use Rattle.fv_cp.specs.Held.{machine_held, named_held, IsHeld, IsHeldIn}
@@ -84,9 +85,13 @@ charges_are pool states trees i are =
     sym (charges_from (λ s o. named_with w (active_in w trees) s (option_map head_in o)) (λ s x. volume_with w s (head_in x) (active_in w trees s)) (record { none = λ s. refl; some = λ s x. refl }) states are.names
     (λ s x there. (subst (λ (o : Option VolumeState). IfSome o (IsState w trees s)) there (are.each s)).ledger) 0 64)
 
--- So they are as that which the session stands for.
-pub charges_held : (disk : Shown) (pool : Pool) (states : States) (before : Machine) → IsHeld disk pool states before → charged_from states 0 64 ≡ charged_in (machine_held disk pool states)
+-- So they are by the ledgers of volumes with files in memory, too.
+charges_held : (disk : Shown) (pool : Pool) (states : States) (before : Machine) → IsHeld disk pool states before → charged_from states 0 64 ≡ charged_in (machine_held disk pool states)
 unfolding machine_held slots
 charges_held disk pool states before held =
     sym (charges_from (λ s o. named_held disk pool o) (λ s x. volume_for disk pool x) (record { none = λ s. refl; some = λ s x. refl }) states held.names
     (λ s x there. (subst (λ (o : Option VolumeState). IfSome o (IsHeldIn disk pool s)) there (held.each s)).stands.ledger) 0 64)
+
+-- A session's ledgers say what the volumes of the machine are charged for that it stands for.
+pub charges_for : (disk : Shown) (session : Session) (last m : Machine) → StandsFor disk session last m → charged_from session.volumes 0 64 ≡ charged_in m
+charges_for disk session last m stands = charges_held disk session.pool session.volumes last stands.held ∙ ap charged_in stands.machine

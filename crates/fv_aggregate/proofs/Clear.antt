@@ -12,7 +12,7 @@ use Rattle.fv_root.specs.Finding.{root_found}
 use Rattle.fv_aggmap.specs.Space.{Space, blocks_of, free_blocks, free_from, is_held}
 use Rattle.fv_volume.specs.UnderRoot.{IsMapOf}
 use Rattle.fv_aggregate.specs.Asking.{free_under}
-use Rattle.fv_aggregate.specs.Standing.{clear_blocks, placed_in}
+use Rattle.fv_aggregate.specs.Standing.{clear_blocks, taken_since}
 
 -- what is free in memory is so under the root on the disk
 pub free_within : (map : Space) → free_blocks map ≤ clear_blocks map
@@ -25,14 +25,14 @@ free_within map = sum_by-le-sum_by (λ b. cond (not (is_held map.committed map.n
     by false true = omega arith
     by false false = omega arith
 
-pub free_and_placed : (map : Space) → free_blocks map + placed_in map ≡ clear_blocks map
+pub free_and_placed : (map : Space) → free_blocks map + taken_since map ≡ clear_blocks map
 free_and_placed map = omega (arith, free_within map)
 
 -- a map whose next root holds what the root on the disk does has nothing placed
 pub clear_is_free : (map : Space) → map.next ≡ map.committed → clear_blocks map ≡ free_blocks map
 clear_is_free map same = ap (λ (next : List Bool). free_from map.committed next (first_block (blocks_of map))) (sym same)
 
-pub none_placed : (map : Space) → map.next ≡ map.committed → placed_in map ≡ 0
+pub none_placed : (map : Space) → map.next ≡ map.committed → taken_since map ≡ 0
 none_placed map same = omega (arith, clear_is_free map same)
 
 -- the root on the disk leaves as many blocks free while it stays

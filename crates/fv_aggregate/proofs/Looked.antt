@@ -32,7 +32,7 @@ use Rattle.fv_cp.specs.Lent.{FitTogether}
 use Rattle.fv_cp.specs.Placing.{AreReady, IsReadyIn}
 use Rattle.fv_aggregate.specs.declared.session.Session.{Session}
 use Rattle.fv_aggregate.specs.Calls.{KeepsAsking, WasRead}
-use Rattle.fv_aggregate.specs.Standing.{clear_blocks, placed_in, Stands, StandsFor}
+use Rattle.fv_aggregate.specs.Standing.{clear_blocks, taken_since, Stands, StandsFor}
 use Rattle.fv_aggregate.proofs.Called.{held_in_read}
 
 module _ (d e : Shown) (p q : Pool) (reads : Reads d p e q) where
@@ -119,8 +119,8 @@ module _ (d e : Shown) (s : Session) (q : Pool) (reads : Reads d s.pool e q) whe
   pub clear_read : clear_blocks q.map ≡ clear_blocks s.pool.map
   clear_read = ap clear_blocks reads.leaves.map
 
-  pub placed_read : placed_in q.map ≡ placed_in s.pool.map
-  placed_read = ap placed_in reads.leaves.map
+  pub placed_read : taken_since q.map ≡ taken_since s.pool.map
+  placed_read = ap taken_since reads.leaves.map
 
   pub asks_read : KeepsAsking 0 d s e left
   asks_read = λ tells kept asks none. let same = last_overheads in record { asked = omega (arith, asks.asked, same); pending = omega (arith, asks.pending) }

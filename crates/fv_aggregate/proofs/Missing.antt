@@ -16,7 +16,7 @@ use Rattle.fv_model.specs.Effects.{effect}
 use Rattle.fv_model.specs.Replies.{is_open, Allows, AllowsBy}
 use Rattle.fv_model.specs.Space.{is_file_kind}
 use Rattle.fv_model.specs.Volumes.{Volume}
-use Rattle.fv_aggregate.specs.Commands.{asked_by, changed_by, has_range, is_get}
+use Rattle.fv_aggregate.specs.Commands.{volume_asked, changed_by, has_range, is_get}
 
 -- a refusal is the reply that the machine allows, and leaves it
 pub refused_allows : (m : Machine) (c : Command) (r : Refusal) → refusal m c ≡ Some r → Allows m c (Refused r)
@@ -149,7 +149,7 @@ module _ (m : Machine) (home : List ℕ) where
 
 -- what holds of `get`, `len` and `ls` of a volume holds of each command that asks for its files
 pub asked_cases : (P : Command → Type 0) (name : List ℕ) → ((s : Option (List ℕ)) (f : List ℕ) (i : ℕ) → P (Get name s f i)) → ((s : Option (List ℕ)) (f : List ℕ) → P (Len name s f)) → ((s : Option (List ℕ)) → P (Ls name s))
-    → (c : Command) → asked_by c ≡ Some name → P c
+    → (c : Command) → volume_asked c ≡ Some name → P c
 asked_cases P name get len ls (Get v s f i) is = subst (λ (n : List ℕ). P (Get n s f i)) (sym (same_some v name is)) (get s f i)
 asked_cases P name get len ls (Len v s f) is = subst (λ (n : List ℕ). P (Len n s f)) (sym (same_some v name is)) (len s f)
 asked_cases P name get len ls (Ls v s) is = subst (λ (n : List ℕ). P (Ls n s)) (sym (same_some v name is)) (ls s)
@@ -176,7 +176,7 @@ asked_cases P name get len ls (Probe v f i) is = absurd (nothing is)
 asked_cases P name get len ls (Work n) is = absurd (nothing is)
 asked_cases P name get len ls Cp is = absurd (nothing is)
 
-module _ (c : Command) (name : List ℕ) (asks : asked_by c ≡ Some name) where
+module _ (c : Command) (name : List ℕ) (asks : volume_asked c ≡ Some name) where
   -- each has one answer
   pub asked_closed : (m : Machine) → is_open m c ≡ false
   asked_closed = asked_cases (λ (k : Command). (m : Machine) → is_open m k ≡ false) name (λ s f i m. refl) (λ s f m. refl) (λ s m. refl) c asks

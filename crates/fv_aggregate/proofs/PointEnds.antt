@@ -51,8 +51,8 @@ use Rattle.fv_volume.proofs.StillLoaded.{none_loaded}
 use Rattle.fv_aggregate.specs.declared.session.Session.{Session}
 use Rattle.fv_aggregate.specs.declared.fault.Fault.TheVariants.{DiskFault, Damaged, Memory}
 use Rattle.fv_aggregate.specs.Adding.{HasRoom, IsPointed, StillAdmits}
-use Rattle.fv_aggregate.specs.Calls.{FailsByWrite, Goes, GoesFor, IsForWant, KeepsAsking}
-use Rattle.fv_aggregate.specs.Standing.{clear_blocks, overheads_in, placed_in, unwritten, OneOf, Stands, StandsFor}
+use Rattle.fv_aggregate.specs.Calls.{Goes, GoesFor, IsForWant, KeepsAsking}
+use Rattle.fv_aggregate.specs.Standing.{clear_blocks, overheads_in, taken_since, unwritten, OneOf, Stands, StandsFor}
 use Rattle.fv_aggregate.proofs.Asking.{asked_unchanged, asks_more, asks_still, short_is}
 use Rattle.fv_aggregate.proofs.Clear.{clear_is_free, clear_stays, free_and_placed, none_placed}
 use Rattle.fv_aggregate.proofs.Standing.{settled_after_reads}
@@ -89,9 +89,9 @@ point_moments old new session last m stands pool states same_pool same_states le
 pub both : (o : Option ℕ) (n : ℕ) → IsNone o → o ≡ Some n → ⊥
 both o n none some = cc
 
-pub point_done : (before : Shown) (old : Session) (after : Shown) (new : Session) → IsNone old.failed → IsNone new.failed → WholeCounts before after (Ok tt) → (pool : Pool) (states : States)
+pub point_done : (before : Shown) (old : Session) (after : Shown) (new : Session) → IsNone old.failed → IsNone new.failed → new.pending ≡ 0 → WholeCounts before after (Ok tt) → (pool : Pool) (states : States)
     → GoesOnWhole before pool states after new.pool new.volumes → Goes {T = Unit {0}} 0 before old after new (Ok tt)
-point_done before old after new was now counts pool states goes = record {
+point_done before old after new was now none counts pool states goes = record {
   ends = record { tells = counts.tells; given = counts.given; ends = counts.ends };
   stands = λ fresh. record {
     found = λ tells. goes.found (subst IsTrue counts.tells tells);
@@ -101,21 +101,12 @@ point_done before old after new was now counts pool states goes = record {
   };
   done = record { was = was; goes_on = now; counts = record { faults = counts.cause.0; write_faults = counts.cause.1 } };
   fault = tt;
+  pending = omega (arith, none);
 }
 
 -- after a point nothing is asked for
 pub done_asks : (before : Shown) (old : Session) (after : Shown) (new : Session) (pool : Pool) (states : States) → new.pending ≡ 0 → GoesOnWhole before pool states after new.pool new.volumes → KeepsAsking 0 before old after new
 done_asks before old after new pool states none goes = λ tells kept asks fresh. record { asked = omega (arith, asked_unchanged new.volumes goes.fit.housed.long goes.unchanged); pending = omega (arith, none) }
-
-pub point_failed : (before : Shown) (old : Session) (after : Shown) (new : Session) → IsNone old.failed → WholeCounts before after (Err cp.DiskFault) → FailsByWrite before after new → Goes {T = Unit {0}} 0 before old after new (Err DiskFault)
-point_failed before old after new was counts fails =
-    let failed : new.failed ≡ Some after.faults = fails.by_write counts.cause.1 in
-    record {
-      ends = record { tells = counts.tells; given = counts.given; ends = counts.ends };
-      stands = λ fresh. absurd (both new.failed after.faults fresh failed);
-      done = tt;
-      fault = record { reason = was; counts = record { faults = counts.cause.0; write_faults = λ calm. absurd (calm counts.cause.1) }; session = fails; disk = tt };
-    }
 
 pub failed_asks : (before : Shown) (old : Session) (after : Shown) (new : Session) (faults : ℕ) → new.failed ≡ Some faults → KeepsAsking 0 before old after new
 failed_asks before old after new faults failed = λ tells kept asks fresh. absurd (both new.failed faults fresh failed)
@@ -189,6 +180,7 @@ module _ (before : Shown) (old : Session) (after : Shown) (new : Session) (still
       session = subst IsNone (sym failed_same) was;
       disk = inl reads;
     };
+    pending = omega (arith, pending_same);
   }
 
   pub point_wanting : IsNone old.failed → Stands before old → WholeCounts before after (Err cp.Memory) → Goes {T = Unit {0}} 0 before old after new (Err Memory)
@@ -202,6 +194,7 @@ module _ (before : Shown) (old : Session) (after : Shown) (new : Session) (still
       session = subst IsNone (sym failed_same) was;
       disk = inl reads;
     };
+    pending = omega (arith, pending_same);
   }
 
   -- it stands for the machine that it stood for: no more blocks were taken than there are fewer pending
@@ -314,7 +307,7 @@ module _ (old : Shown) (pool : Pool) (states : States) (new : Shown) (left : Poo
 
     pub pointed : length stay ≡ 64 → HaveNoFiles stay → (after : Session) → after.pool ≡ left → after.volumes ≡ stay → after.pending ≡ 0 → StandsFor new after m m
     pointed long bare after new_pool new_states none =
-        let placed : placed_in after.pool.map ≡ 0 = ap (λ (p : Pool). placed_in p.map) new_pool ∙ none_placed left.map loaded.same in
+        let placed : taken_since after.pool.map ≡ 0 = ap (λ (p : Pool). taken_since p.map) new_pool ∙ none_placed left.map loaded.same in
         let pending : pending_files after.volumes ≡ 0 = ap pending_files new_states ∙ none_pending stay long bare in
         let over : overheads_in after.volumes ≡ overheads (view_at (root_found left.found) new.reads) = ap overheads_in new_states ∙ overheads_are left stay new.reads long ∙ overheads_stay in
         let same : overheads (view_at (root_found after.pool.found) new.reads) ≡ overheads (view_at (root_found left.found) new.reads) = ap (λ (p : Pool). overheads (view_at (root_found p.found) new.reads)) new_pool in

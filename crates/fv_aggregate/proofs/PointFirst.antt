@@ -1,5 +1,5 @@
 -- A command that changes a file, with the point that its room asks for: it is judged, room is made, and it is carried out.
-use Rattle.std.proofs.Common.{◌≡◌, ◌<◌, ◌+◌, ℕ, List, [], Option, Some, None, Result, Ok, Err, true≢false, refl, sym, ap, subst, ◌∙◌, arith}
+use Rattle.std.proofs.Common.{◌≡◌, ◌<◌, ◌≤◌, ◌+◌, ℕ, List, [], Option, Some, None, Result, Ok, Err, true≢false, refl, sym, ap, subst, ◌∙◌, arith}
 use Rattle.std.specs.Prelude.{IfOk, IsTrue}
 use Rattle.std.specs.Option.{option_map}
 use Rattle.fv_disk.specs.Shown.{Shown}
@@ -49,12 +49,15 @@ module _ (d : Shown) (s : Session) (c : Command) (e : Shown) (n : Session) where
 
 module _ (d : Shown) (s : Session) (c : Command) (past : dirty_limit < s.pending + 16) (damage : (new : Session) (at want found : ℕ) → HasDamage d s new at want found)
     (e : Shown) (n : Session) (reply : Reply) (judged : HasJudged d s c e n (Ok reply)) (g : Shown) (p : Session) where
+  none_added : n.pending ≤ s.pending
+  none_added = omega (arith, judged.goes.pending)
+
   told : IsTrue d.tells → IsTrue e.tells
   told tells = subst IsTrue (sym judged.goes.ends.tells) tells
 
   pub room_failed : (f : Fault) → Goes {T = Unit {0}} 16 e n g p (Err f) → (IsTrue e.tells → (last m : Machine) → StandsFor e n last m → GoesFor {T = Unit {0}} e last m m g p (Err f)) → Makes d s c g p (Err f)
   room_failed f goes goes_for = record {
-    goes = goes_after reply 16 16 d s e n (replies_wider reply reply 16 d s e n judged.goes) g p (Err f) past (damage p) (fails_as goes);
+    goes = goes_after reply 16 16 d s e n (replies_wider reply reply 16 d s e n judged.goes) none_added g p (Err f) past (damage p) (fails_as goes);
     goes_for = λ tells last m is.
         let first = judged.goes_for tells last m is in
         fails_early d last m (next m c) g p f (goes_for_after reply d e g n p last m m first judged.goes.ends.given (Err f) (goes_for (told tells) first.done.point m first.done.stands));
@@ -64,12 +67,12 @@ module _ (d : Shown) (s : Session) (c : Command) (past : dirty_limit < s.pending
   }
     where
       fails_as : Goes {T = Unit {0}} 16 e n g p (Err f) → Goes {T = Reply} 16 e n g p (Err f)
-      fails_as goes = record { ends = goes.ends; stands = goes.stands; done = tt; fault = goes.fault }
+      fails_as goes = record { ends = goes.ends; stands = goes.stands; done = tt; fault = goes.fault; pending = goes.pending }
 
-  module _ (name : List ℕ) (change : IsChangeOf name c) (other : refusal_in reply ≡ None) (u : Unit {0}) (goes : Goes 16 e n g p (Ok u))
+  module _ (name : List ℕ) (change : IsChangeOf name c) (other : refusal_in reply ≡ None) (u : Unit {0}) (goes : Goes 16 e n g p (Ok u)) (less : p.pending ≤ n.pending)
       (goes_for : IsTrue e.tells → (last m : Machine) → StandsFor e n last m → GoesFor e last m m g p (Ok u)) (h : Shown) (new : Session) where
     both : Goes 16 d s g p (Ok u)
-    both = goes_after reply 16 16 d s e n (replies_wider reply reply 16 d s e n judged.goes) g p (Ok u) past (damage p) goes
+    both = goes_after reply 16 16 d s e n (replies_wider reply reply 16 d s e n judged.goes) none_added g p (Ok u) past (damage p) goes
 
     both_for : IsTrue d.tells → (last m : Machine) → StandsFor d s last m → GoesFor d last m m g p (Ok u)
     both_for tells last m is =
@@ -86,7 +89,7 @@ module _ (d : Shown) (s : Session) (c : Command) (past : dirty_limit < s.pending
 
     pub made_after : (result : Result Reply Fault) → Makes g p c h new result → Makes d s c h new result
     made_after result makes = record {
-      goes = goes_after u 16 16 d s g p both h new result past (damage new) makes.goes;
+      goes = goes_after u 16 16 d s g p both (omega (arith, less, none_added)) h new result past (damage new) makes.goes;
       goes_for = λ tells last m is.
           let first = both_for tells last m is in
           goes_for_after u d g h p new last m (next m c) first both.ends.given result (makes.goes_for (told_then tells) first.done.point m first.done.stands);

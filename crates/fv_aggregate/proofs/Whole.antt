@@ -51,7 +51,7 @@ use Rattle.fv_volume.specs.Loading.{IsActiveFault, IsLabelFault, IsTreeFault, fi
 use Rattle.fv_aggregate.specs.declared.fault.OpenFault.{OpenFault}
 use Rattle.fv_aggregate.specs.declared.fault.OpenFault.TheVariants.{DiskFault, NotAggregate, Damaged, Memory}
 use Rattle.fv_aggregate.specs.declared.session.Session.{Session}
-use Rattle.fv_aggregate.specs.Causes.{IsOpenFault}
+use Rattle.fv_aggregate.specs.Causes.{IsOpenFault, OpenFails}
 use Rattle.fv_aggregate.proofs.Opened.{found_tells}
 
 -- ---- the root
@@ -299,3 +299,7 @@ whole i m long is (Damaged at want number) (inr under) =
 pub whole_result : (i : Image) (m : Machine) (result : Result Session OpenFault) → ((b : ℕ) → length (i b) ≡ 4096) → machine_of i ≡ Some m → IfErr result (IsOpenFault i) → IfErr result (λ fault. (fault ≡ DiskFault) ⊎ (fault ≡ Memory))
 whole_result i m (Ok session) long is fault = tt
 whole_result i m (Err e) long is fault = whole i m long is e fault
+
+pub fails_result : (i : Image) (result : Result Session OpenFault) → IfErr result (IsOpenFault i) → ((m : Machine) → machine_of i ≡ Some m → IfErr result (λ fault. (fault ≡ DiskFault) ⊎ (fault ≡ Memory))) → IfErr result (OpenFails i)
+fails_result i (Ok session) reason whole = tt
+fails_result i (Err e) reason whole = record { reason = reason; whole = whole }

@@ -15,7 +15,7 @@ use Rattle.fv_cp.specs.Placing.{pending_files, KeepCores}
 use Rattle.fv_aggregate.specs.declared.session.Session.{Session}
 use Rattle.fv_aggregate.specs.Standing.{clear_blocks, overheads_in, IsWithoutFiles}
 
--- Beside the overheads of the last point there is room for what is pending, and for so many blocks more.
+-- Beside the overheads of the last point there is room for what is pending and for so many blocks more, and for 256 blocks at least.
 abbrev pub HasRoom : Shown → Session → ℕ → Type 0
 HasRoom disk session room = overheads (view_at (root_found session.pool.found) disk.reads) + max 256 (session.pending + room) ≤ clear_blocks session.pool.map
 

@@ -1,25 +1,31 @@
 -- What every call of a session does: to the disk and to the session, and to the machines that the two stand for.
-use Rattle.std.specs.Prelude.{◌≡◌, ◌≢◌, ◌<◌, ◌≤◌, ◌+◌, ◌⊎◌, ℕ, max, IsTrue, IsNone, IsSome, Some, Result, OnOk, OnErr, IfOk, IfErr}
+use Rattle.std.specs.Prelude.{◌≡◌, ◌≢◌, ◌<◌, ◌≤◌, ◌+◌, ◌⊎◌, ℕ, max, IsTrue, IsNone, IsSome, Some, Result, Ok, OnOk, OnErr, IfOk, IfErr, List, false, true}
 use Rattle.fv_disk.specs.Shown.{Shown, Rose}
 use Rattle.fv_disk.specs.Crash.{Leaves}
 use Rattle.fv_disk.specs.DiskCalls.{OnlyReads}
+use Rattle.fv_model.specs.declared.answers.Refusal.TheVariants.{NoVolume, Range, Syntax}
 use Rattle.fv_model.specs.declared.answers.Reply.{Reply}
+use Rattle.fv_model.specs.declared.answers.Reply.TheVariants.{Names, Refused}
 use Rattle.fv_model.specs.declared.commands.Command.{Command}
-use Rattle.fv_model.specs.declared.commands.Command.TheVariants.{Cp}
+use Rattle.fv_model.specs.declared.commands.Command.TheVariants.{Cp, VolList}
 use Rattle.fv_model.specs.Machines.{Machine}
 use Rattle.fv_image.specs.Layout.{root_place}
 use Rattle.fv_aggmap.specs.Space.{free_blocks}
+use Rattle.fv_container.specs.Chains.{slot_count}
 use Rattle.fv_volume.specs.BlocksOver.{LeavesPool}
+use Rattle.fv_volume.specs.Slots.{NoneHasName}
 use Rattle.fv_volume.specs.States.{state_at}
 use Rattle.fv_cp.specs.Lent.{blocks_asked}
 use Rattle.fv_cp.specs.Placing.{HaveNoFiles}
 use Rattle.fv_aggregate.specs.declared.fault.Fault.{Fault}
 use Rattle.fv_aggregate.specs.declared.fault.Fault.TheVariants.{DiskFault, Damaged, Memory, Failed}
 use Rattle.fv_aggregate.specs.declared.session.Session.{Session}
+use Rattle.fv_aggregate.specs.Adding.{IsPointed}
 use Rattle.fv_aggregate.specs.Asking.{AsksWithin, IsShort}
 use Rattle.fv_aggregate.specs.Causes.{KeepsEnds}
-use Rattle.fv_aggregate.specs.Commands.{dirty_limit, is_refusal, room_of}
-use Rattle.fv_aggregate.specs.Standing.{placed_in, OneOf, Stands, StandsAfter}
+use Rattle.fv_aggregate.specs.Commands.{changed_by, dirty_limit, has_range, is_built, is_get, is_refusal, room_of, volume_asked}
+use Rattle.fv_aggregate.specs.Standing.{taken_since, OneOf, Stands, StandsAfter, StandsFor}
+use Rattle.fv_aggregate.specs.Telling.{names_from}
 
 -- ---- faults
 
@@ -47,24 +53,24 @@ pub record LacksBlocks (before : Shown) (old new : Session) (at want found : ℕ
   pub asked : want ≡ blocks_asked old.volumes
   pub free : found ≡ free_blocks new.pool.map
   pub short : found < want
-  pub image : IsTrue before.tells → (room : ℕ) → AsksWithin before old room → IsShort before.reads room (placed_in new.pool.map) at want found
+  pub image : IsTrue before.tells → (room : ℕ) → AsksWithin before old room → IsShort before.reads room (taken_since new.pool.map) at want found
   pub same : HaveNoFiles old.volumes → new ≡ old
 
--- While files were placed no number of a volume was free, or no block.
-pub record LacksPlace (old : Session) : Type 0 where
+-- There was a file to be placed. Such damage comes where no number of its volume is free for it, or no block; that isn't said here.
+pub record HasFilesToPlace (old : Session) : Type 0 where
   pub fresh : IsNone old.failed
   pub files : HaveNoFiles old.volumes → ⊥
 
--- A block of a volume's table that was read in the call isn't as it has to be, or a pointer of the table leads nowhere. The calls of `fv_volume`
--- say no more of it where the volume doesn't stand for one of a machine, and where it does this never comes.
-pub record IsDamage (old : Session) : Type 0 where
+-- There is a volume. Such damage comes of a block of its table that isn't as it has to be, or of a pointer that leads nowhere; that isn't said here,
+-- since the calls of `fv_volume` say it only of a volume that stands for one of a machine, where it never comes.
+pub record HasVolume (old : Session) : Type 0 where
   pub fresh : IsNone old.failed
   pub slot : ℕ
   pub there : IsSome (state_at old.volumes slot)
 
--- fewer blocks or numbers are free than a point asks for, or a block of a table isn't as it has to be
+-- fewer blocks are free than a point asks for, or there was a file to be placed, or there is a volume whose table may be damaged
 abbrev pub HasDamage : Shown → Session → Session → ℕ → ℕ → ℕ → Type 0
-HasDamage before old new at want found = LacksBlocks before old new at want found ⊎ (LacksPlace old ⊎ IsDamage old)
+HasDamage before old new at want found = LacksBlocks before old new at want found ⊎ (HasFilesToPlace old ⊎ HasVolume old)
 
 -- a row of the table of faults
 pub record Row (Reason Counts Kept Written : Type 0) : Type 0 where
@@ -101,12 +107,13 @@ pub record IsDone (before : Shown) (old : Session) (after : Shown) (new : Sessio
   pub goes_on : IsNone new.failed
   pub counts : SameCounts before after
 
--- What a call does that may add `room` blocks, whatever the disk tells.
+-- What a call does that may add `room` blocks, whatever the disk tells. So many it counts at most as pending, whether it was done or not.
 pub record Goes {T : Type 0} (room : ℕ) (before : Shown) (old : Session) (after : Shown) (new : Session) (result : Result T Fault) : Type 0 where
   pub ends : KeepsEnds before after
   pub stands : IsNone new.failed → Stands after new
   pub done : OnOk result (IsDone before old after new)
   pub fault : IfErr result (HasFault room before old after new)
+  pub pending : new.pending ≤ old.pending + room
 
 -- Where a point of the session asked for no more than the space rule keeps, it does so after a call that may add `room` blocks. A change of
 -- a file alone doesn't keep that: over an image that stands for no machine the root may name fewer overheads than the session's volumes have.
@@ -133,15 +140,36 @@ pub record WasRead (before : Shown) (old : Session) (after : Shown) (new : Sessi
 abbrev pub IsUntouched : {D : Type 0} → D → Session → D → Session → Type 0
 IsUntouched before old after new = (after ≡ before) × (new ≡ old)
 
--- damage for want of blocks or of numbers alone, with nothing written
+-- damage for want of blocks, or where a file was to be placed, with nothing written
 abbrev pub IsForWant : Shown → Session → Shown → Session → Fault → Type 0
-IsForWant before old after new (Damaged at want found) = OnlyReads before after × (LacksBlocks before old new at want found ⊎ LacksPlace old)
+IsForWant before old after new (Damaged at want found) = OnlyReads before after × (LacksBlocks before old new at want found ⊎ HasFilesToPlace old)
 IsForWant before old after new fault = Unit {0}
 
--- What a command that reads no file does beside. Refused it leaves all as it was. Without room, or with room below the dirty limit, it doesn't
--- reach the disk, but for a `cp`; and then it leaves the session where memory ran out. Damage comes for want of blocks alone.
+-- What a command that reads no file does beside, whatever the disk holds. Refused it leaves all as it was, and one that isn't built is refused as
+-- no command. Without room, or with room within the dirty limit, it doesn't reach the disk, but for a `cp`; and then it leaves the session where
+-- memory ran out. `vol list` answers the names of the session's volumes. A `cp` that is done leaves nothing pending and no file in memory; where
+-- none was there it has no want of memory. Damage comes for want of blocks alone.
 pub record IsPlain {D : Type 0} (command : Command) (shown : Shown) (before : D) (old : Session) (shown_after : Shown) (after : D) (new : Session) (result : Result Reply Fault) : Type 0 where
   pub refused : IfOk result (λ reply. IsTrue (is_refusal reply) → IsUntouched before old after new)
   pub calm : command ≢ Cp → (room_of command ≡ 0) ⊎ (old.pending + room_of command ≤ dirty_limit) → after ≡ before
   pub wanting : command ≢ Cp → (room_of command ≡ 0) ⊎ (old.pending + room_of command ≤ dirty_limit) → IfErr result (λ e. e ≡ Memory → new ≡ old)
   pub damage : IfErr result (IsForWant shown old shown_after new)
+  pub unbuilt : IsNone old.failed → is_built command ≡ false → result ≡ Ok (Refused Syntax)
+  pub listed : command ≡ VolList → IfOk result (λ reply. reply ≡ Names (names_from old.volumes 0 slot_count))
+  pub pointed : command ≡ Cp → OnOk result (IsPointed shown old new)
+  pub memory : command ≡ Cp → HaveNoFiles old.volumes → IfErr result (λ e. e ≢ Memory)
+
+-- What a command on files does beside. Whatever the disk holds, out of range it is refused as that and leaves all as it was, without its volume it is
+-- refused for want of it, and one that asks leaves all but the cache where it is answered. So does a change that is refused, where the session
+-- stands for a machine.
+pub record IsOnFiles {D : Type 0} (command : Command) (shown : Shown) (before : D) (old : Session) (shown_after : Shown) (after : D) (new : Session) (result : Result Reply Fault) : Type 0 where
+  pub range : IsNone old.failed → has_range command ≡ false → (result ≡ Ok (Refused Range)) × IsUntouched before old after new
+  pub missing : IsNone old.failed → has_range command ≡ true → (name : List ℕ) → (changed_by command ≡ Some name) ⊎ (volume_asked command ≡ Some name) → NoneHasName old.volumes name → result ≡ Ok (Refused NoVolume)
+  pub asked : IsSome (volume_asked command) → OnOk result (WasRead shown old shown_after new)
+  pub refused : IsTrue shown.tells → (last m : Machine) → StandsFor shown old last m → IfOk result (λ reply. IsTrue (is_refusal reply) → WasRead shown old shown_after new)
+
+-- No steps are counted but for a `get`, and none where the session stands for a machine, or has failed.
+pub record CountsSteps (command : Command) (before : Shown) (old : Session) (start steps : ℕ) (result : Result Reply Fault) : Type 0 where
+  pub other : is_get command ≡ false → steps ≡ start
+  pub known : IsTrue before.tells → (last m : Machine) → StandsFor before old last m → OnOk result (steps ≡ start)
+  pub dead : IsSome old.failed → steps ≡ start

@@ -1,6 +1,8 @@
 -- Why a session isn't opened, and what stays where nothing is written.
-use Rattle.std.specs.Prelude.{◌≡◌, ◌⊎◌, ℕ, Result, Ok, Err}
+use Rattle.std.specs.Prelude.{◌≡◌, ◌⊎◌, ℕ, Some, Result, Ok, Err}
 use Rattle.fv_disk.specs.Shown.{Image, Shown, Rose, Elapses}
+use Rattle.fv_model.specs.Machines.{Machine}
+use Rattle.fv_image.specs.WholeMachine.{machine_of}
 use Rattle.fv_root.specs.declared.find.Found.{Found}
 use Rattle.fv_root.specs.Finding.{IsFound, IsNoAggregate, IsDamaged}
 use Rattle.fv_aggmap.specs.Loading.{IsPastMap}
@@ -39,6 +41,11 @@ IsOpenFault i opening.DiskFault = Unit {0}
 IsOpenFault i opening.NotAggregate = IsNoAggregate i
 IsOpenFault i (opening.Damaged at want number) = IsDamaged i at want number ⊎ IsUnder i at want number
 IsOpenFault i opening.Memory = Unit {0}
+
+-- Why a session isn't opened: a fault has its reason in the image, and where that stands for a machine it is one of the disk, or want of memory.
+pub record OpenFails (i : Image) (fault : OpenFault) : Type 0 where
+  pub reason : IsOpenFault i fault
+  pub whole : (m : Machine) → machine_of i ≡ Some m → (fault ≡ opening.DiskFault) ⊎ (fault ≡ opening.Memory)
 
 -- the count of faults rose in a call that answers a fault of the disk, and stays in each other call
 abbrev pub HasOpenCause : {T : Type 0} → ℕ → ℕ → Result T OpenFault → Type 0

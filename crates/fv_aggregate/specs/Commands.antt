@@ -67,11 +67,11 @@ changed_by (Remove volume file) = Some volume
 changed_by command = None
 
 -- the volume that a command asks for files
-abbrev pub asked_by : Command → Option (List ℕ)
-asked_by (Get volume snapshot file index) = Some volume
-asked_by (Len volume snapshot file) = Some volume
-asked_by (Ls volume snapshot) = Some volume
-asked_by command = None
+abbrev pub volume_asked : Command → Option (List ℕ)
+volume_asked (Get volume snapshot file index) = Some volume
+volume_asked (Len volume snapshot file) = Some volume
+volume_asked (Ls volume snapshot) = Some volume
+volume_asked command = None
 
 -- whether the number of a command on files is in its range
 abbrev pub has_range : Command → Bool

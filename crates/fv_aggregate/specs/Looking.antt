@@ -39,7 +39,7 @@ pub record Looks (before : Shown) (old : Session) (command : Command) (after : S
   pub only_reads : OnlyReads before after
   pub read : OnOk result (WasRead before old after new)
 
--- A command that changes a file was carried out as the machine carries it out. One with room below the dirty limit wrote nothing. A refused one
+-- A command that changes a file was carried out as the machine carries it out. One with room within the dirty limit wrote nothing. A refused one
 -- changed nothing but the cache, where the session stands for a machine.
 pub record Makes (before : Shown) (old : Session) (command : Command) (after : Shown) (new : Session) (result : Result Reply Fault) : Type 0 where
   pub goes : Goes file_room before old after new result
@@ -170,7 +170,7 @@ Breaks disk volume.Memory old new fault = (fault ≡ Memory) × (new ≡ old)
 abbrev pub Faults : Shown → VolumeFault → Session → Session → Result Reply Fault → Type 0
 Faults disk fault old new result = (e : Fault) × ((result ≡ Err e) × Breaks disk fault old new e)
 
--- what a session answers for a volume that only read
+-- what a session answers for a call on a volume
 abbrev pub Replied : Shown → Result Reply VolumeFault → Session → Session → Result Reply Fault → Type 0
 Replied disk (Ok reply) old new result = (result ≡ Ok reply) × (new ≡ old)
 Replied disk (Err (volume.Refused r)) old new result = (result ≡ Ok (Refused r)) × (new ≡ old)

@@ -18,6 +18,7 @@ use Rattle.fv_volume.specs.UnderRoot.{IsMapOf}
 use Rattle.fv_cp.specs.Held.{machine_held, IsHeld}
 use Rattle.fv_cp.specs.Placing.{pending_files, AreReady, HaveNoFiles}
 use Rattle.fv_aggregate.specs.declared.session.Session.{Session}
+use Rattle.fv_aggregate.specs.Commands.{dirty_limit}
 
 -- A session stands on a disk: its root is what `find_root` would answer, over what reads give and over each image that a crash now
 -- may leave, with the blocks whose bits are set in that root's map area; each block in its cache is what the disk reads there; and calls
@@ -32,13 +33,13 @@ pub record Stands (disk : Shown) (session : Session) : Type 0 where
 abbrev pub clear_blocks : Space → ℕ
 clear_blocks space = free_from space.committed space.committed (first_block (blocks_of space))
 
--- how many of those the next root will hold: the blocks that were taken since the last point
-abbrev pub placed_in : Space → ℕ
-placed_in space = clear_blocks space - free_blocks space
+-- how many of those were taken since the last point: the next root will hold them
+abbrev pub taken_since : Space → ℕ
+taken_since space = clear_blocks space - free_blocks space
 
 -- The blocks of files that the disk hasn't: those that a flush places at most, and those that have their places already.
 abbrev pub unwritten : Session → ℕ
-unwritten session = pending_files session.volumes + placed_in session.pool.map
+unwritten session = pending_files session.volumes + taken_since session.pool.map
 
 -- no file is in memory, and no block was taken for one since the last point
 pub record IsWithoutFiles (session : Session) : Type 0 where
@@ -63,8 +64,8 @@ pub record StandsFor (disk : Shown) (session : Session) (last now : Machine) : T
   pub pending : unwritten session + overheads_in session.volumes ≤ overheads (view_at (root_found session.pool.found) disk.reads) + session.pending
   pub files : unwritten session ≤ session.pending
   -- and the dirty limit bounds those of files
-  pub few : unwritten session < 256
-  -- beside the overheads of the last point there is room for 256 blocks, and for what is pending
+  pub few : unwritten session < dirty_limit
+  -- beside the overheads of the last point there is room for what is pending, and for 256 blocks at least
   pub room : overheads (view_at (root_found session.pool.found) disk.reads) + max 256 session.pending ≤ clear_blocks session.pool.map
 
 -- an image stands for the machine of the last point, for the machine before a command, or for the one after it

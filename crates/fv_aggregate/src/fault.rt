@@ -76,14 +76,16 @@ pub enum Fault {
     /// A read, a write or a barrier failed in this call.
     #[error("DiskFault")]
     DiskFault,
-    /// Fewer blocks are free than a consistency point asks for, or a block of a volume's files isn't as it has to be.
+    /// Fewer blocks are free than a consistency point asks for; or no number or block is free for a file that it places; or a block of a
+    /// volume's files isn't as it has to be. Over an image that stands for a machine it never comes.
     #[error("Damaged")]
     Damaged {
-        /// The place of the root that counts, of the volume's label, or of the block.
+        /// The place of the root that counts, where blocks are lacking: contracts say that of a session without files in memory, and of
+        /// commands that read none. Else the place of the root, of the volume's label, or of the block.
         at: u64,
-        /// How many blocks are asked for, or what had to stand in the block's first field that isn't as said.
+        /// How many blocks are asked for; else 1, or what had to stand in the block's first field that isn't as said.
         want: u64,
-        /// How many are free, or what stands there.
+        /// How many are free; else 0, or what stands there.
         found: u64,
     },
     /// Memory ran out.

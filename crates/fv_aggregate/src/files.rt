@@ -1,14 +1,17 @@
 //! The commands that change files.
 
-ghost use Rattle.std.specs.Prelude.{◌≡◌, ◌≤◌, ◌<◌, ◌+◌, ◌-◌, ◌^◌, ℕ, max, min, is_some, true, Some, None, IsTrue, IsNone, IfOk, IfSome, if◌then◌else◌, option_copied};
+ghost use Rattle.std.specs.Prelude.{◌≡◌, ◌≤◌, ◌<◌, ◌+◌, ◌-◌, ◌^◌, ℕ, max, min, is_some, false, true, Some, None, Ok, IsTrue, IsNone, IfOk, IfSome, if◌then◌else◌, option_copied};
 ghost use Rattle.fv_container.specs.Chains.{slot_count};
 ghost use Rattle.fv_cp.specs.Placing.{pending_by, IsReadyIn};
 ghost use Rattle.fv_disk.specs.DiskCalls.{OnlyReads};
+ghost use Rattle.fv_model.specs.declared.answers.Refusal.TheVariants.{NoVolume, Range};
+ghost use Rattle.fv_model.specs.declared.answers.Reply.TheVariants.{Refused};
 ghost use Rattle.fv_volume.specs.Changing.{IsChangeOf};
 ghost use Rattle.fv_volume.specs.Files.{IsLabelled};
 ghost use Rattle.fv_volume.specs.OneVolume.{IsReady};
-ghost use Rattle.fv_volume.specs.Slots.{committed_by, sum_of};
+ghost use Rattle.fv_volume.specs.Slots.{committed_by, sum_of, NoneHasName};
 ghost use Rattle.fv_volume.specs.States.{state_at};
+ghost use Rattle.fv_aggregate.specs.Calls.{IsUntouched};
 ghost use Rattle.fv_aggregate.specs.Commands.{changed_by, dirty_limit, file_room, has_range};
 ghost use Rattle.fv_aggregate.specs.Looking.{ChangesSlot, ChangesState, HasJudged, IsAimed, JudgesSlot, JudgesState, Makes, done_as, refusal_in};
 ghost use Rattle.fv_aggregate.specs.Standing.{Stands};
@@ -70,7 +73,9 @@ impl Session {
         requires fresh { IsNone self.old.failed }
         requires stands { Stands (D.shown disk.old) self.old }
         requires change { changed_by command.now ≡ Some volume.now }
-        ensures { Makes (D.shown disk.old) self.old command.now (D.shown disk.new) self.new result }
+        ensures makes { Makes (D.shown disk.old) self.old command.now (D.shown disk.new) self.new result }
+        ensures range { has_range command.now ≡ false → (result ≡ Ok (Refused Range)) × IsUntouched disk.old self.old disk.new self.new }
+        ensures missing { has_range command.now ≡ true → NoneHasName self.old.volumes volume.now → result ≡ Ok (Refused NoVolume) }
     {
         if !is_in_range(command) {
             return Ok(Reply::Refused(Refusal::Range));

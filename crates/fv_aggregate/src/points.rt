@@ -35,6 +35,7 @@ impl Session {
             → GoesFor (D.shown disk.old) last m m (D.shown disk.new) self.new result }
         ensures room { IsTrue (D.shown disk.old).tells → (last m : Machine) → StandsFor (D.shown disk.old) self.old last m
             → commits m + 2 * room ≤ capacity m.blocks → OnOk result (HasRoom (D.shown disk.new) self.new room) }
+        ensures pending { self.new.pending ≤ self.old.pending }
         ensures few { OnOk result (self.new.pending + room ≤ max dirty_limit room) }
         ensures admits { OnOk result (StillAdmits self.old self.new) }
         ensures cores { OnOk result (KeepCores self.old.volumes self.new.volumes) }
@@ -67,6 +68,7 @@ impl Session {
             → GoesFor (D.shown disk.old) last m m (D.shown disk.new) self.new result }
         ensures done { IsTrue (D.shown disk.old).tells → (last m : Machine) → StandsFor (D.shown disk.old) self.old last m
             → OnOk result (StandsFor (D.shown disk.new) self.new m m) }
+        ensures left { OnOk result (IsPointed (D.shown disk.old) self.old self.new) }
         ensures reply { IfOk result (λ reply. reply ≡ Done) }
         ensures files { IsTrue (D.shown disk.old).tells → OnOk result (IsWithoutFiles self.new) }
     {

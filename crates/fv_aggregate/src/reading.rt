@@ -1,13 +1,17 @@
 //! The commands that ask for files. None of them changes a volume.
 
-ghost use Rattle.std.specs.Prelude.{◌≡◌, ◌<◌, false, true, is_some, Some, IsTrue, IsNone, IfSome, OnOk};
+ghost use Rattle.std.specs.Prelude.{◌≡◌, ◌<◌, false, true, is_some, Some, Ok, IsTrue, IsNone, IfSome, OnOk};
 ghost use Rattle.fv_container.specs.Chains.{slot_count};
 ghost use Rattle.fv_cp.specs.Placing.{AreReady, IsReadyIn};
+ghost use Rattle.fv_model.specs.declared.answers.Refusal.TheVariants.{NoVolume, Range};
+ghost use Rattle.fv_model.specs.declared.answers.Reply.TheVariants.{Refused};
 ghost use Rattle.fv_model.specs.Machines.{Machine};
 ghost use Rattle.fv_store.specs.Held.{StandsOn};
 ghost use Rattle.fv_volume.specs.OneVolume.{IsReady};
+ghost use Rattle.fv_volume.specs.Slots.{NoneHasName};
 ghost use Rattle.fv_volume.specs.States.{state_at};
-ghost use Rattle.fv_aggregate.specs.Commands.{asked_by, is_get};
+ghost use Rattle.fv_aggregate.specs.Calls.{IsUntouched};
+ghost use Rattle.fv_aggregate.specs.Commands.{has_range, is_get, volume_asked};
 ghost use Rattle.fv_aggregate.specs.Looking.{AsksSlot, AsksState, AsksVolume, Breaks, Looks, Replied};
 ghost use Rattle.fv_aggregate.specs.Standing.{Stands, StandsFor};
 
@@ -33,8 +37,10 @@ impl Session {
     ) -> Result<Reply, Fault>
         requires fresh { IsNone self.old.failed }
         requires stands { Stands (D.shown disk.old) self.old }
-        requires asks { asked_by command.now ≡ Some volume.now }
+        requires asks { volume_asked command.now ≡ Some volume.now }
         ensures looks { Looks (D.shown disk.old) self.old command.now (D.shown disk.new) self.new result }
+        ensures range { has_range command.now ≡ false → (result ≡ Ok (Refused Range)) × IsUntouched disk.old self.old disk.new self.new }
+        ensures missing { has_range command.now ≡ true → NoneHasName self.old.volumes volume.now → result ≡ Ok (Refused NoVolume) }
         ensures steps { is_get command.now ≡ false → steps.new ≡ steps.old }
         ensures known { IsTrue (D.shown disk.old).tells → (last m : Machine) → StandsFor (D.shown disk.old) self.old last m → OnOk result (steps.new ≡ steps.old) }
     {
@@ -53,7 +59,7 @@ impl Session {
         self.replied(disk, asked)
     }
 
-    /// What a session answers for a volume that only read: a refusal is a reply, too.
+    /// What a session answers for a call on a volume: a refusal is a reply, too.
     pub(crate) fn replied<D: Disk>(
         &mut self,
         disk: &D,
@@ -69,7 +75,7 @@ impl Session {
         }
     }
 
-    /// What a session makes of a fault of a call on a volume that only read. After a read that failed it goes on.
+    /// What a session makes of a fault of a call on a volume. After a read that failed it goes on.
     fn fault_of<D: Disk>(&mut self, disk: &D, fault: VolumeFault) -> Fault
         requires fresh { IsNone self.old.failed }
         ensures { Breaks (D.shown disk.now) fault self.old self.new result }
@@ -97,7 +103,7 @@ fn ask<D: Disk, L: Ledger>(
 ) -> Result<Reply, VolumeFault>
     requires ready { AreReady (D.shown disk.old) pool.old volumes.old }
     requires stands { StandsOn (D.shown disk.old) pool.old.store.pairs }
-    requires asks { asked_by command.now ≡ Some volume.now }
+    requires asks { volume_asked command.now ≡ Some volume.now }
     ensures asks { AsksVolume (D.shown disk.old) pool.old volumes.old volume.now command.now steps.old (D.shown disk.new) pool.new steps.new result }
     ensures same { volumes.new ≡ volumes.old }
     ensures steps { is_get command.now ≡ false → steps.new ≡ steps.old }
@@ -121,7 +127,7 @@ fn ask_slot<D: Disk, L: Ledger>(
     requires slot { slot < slot_count }
     requires there { is_some (state_at volumes.old slot) ≡ true }
     requires ready { IfSome (state_at volumes.old slot) (IsReadyIn (D.shown disk.old) pool.old slot) }
-    requires asks { IfSome (state_at volumes.old slot) (λ x. asked_by command.now ≡ Some x.name) }
+    requires asks { IfSome (state_at volumes.old slot) (λ x. volume_asked command.now ≡ Some x.name) }
     ensures asks { AsksSlot (D.shown disk.old) pool.old (state_at volumes.old slot) command.now steps.old (D.shown disk.new) pool.new steps.new result }
     ensures same { volumes.new ≡ volumes.old }
     ensures steps { is_get command.now ≡ false → steps.new ≡ steps.old }
@@ -142,7 +148,7 @@ fn ask_state<D: Disk, L: Ledger>(
     steps: &mut Steps<L>,
 ) -> Result<Reply, VolumeFault>
     requires ready { IsReady (D.shown disk.old) pool.old state.old }
-    requires asks { asked_by command.now ≡ Some state.old.name }
+    requires asks { volume_asked command.now ≡ Some state.old.name }
     ensures asks { AsksState (D.shown disk.old) pool.old state.old command.now steps.old (D.shown disk.new) pool.new steps.new result }
     ensures same { state.new ≡ state.old }
     ensures steps { is_get command.now ≡ false → steps.new ≡ steps.old }

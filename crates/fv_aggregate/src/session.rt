@@ -1,6 +1,6 @@
 //! A session.
 
-ghost use Rattle.std.specs.Prelude.{◌≡◌, ◌≢◌, ◌≤◌, ◌+◌, ◌⊎◌, ℕ, false, IsTrue, IsNone, IsSome, IfOk, IfErr, OnErr, OnOk, Some};
+ghost use Rattle.std.specs.Prelude.{◌≡◌, ◌≢◌, ◌≤◌, ◌+◌, ◌⊎◌, ℕ, false, true, IsTrue, IsNone, IsSome, IfOk, IfErr, OnErr, OnOk, Some};
 ghost use Rattle.fv_disk.specs.Shown.{IsSettled, Rose};
 ghost use Rattle.fv_container.specs.Chains.{slot_count};
 ghost use Rattle.fv_model.specs.Machines.{Machine};
@@ -10,12 +10,13 @@ ghost use Rattle.fv_volume.specs.Trees.{Trees};
 ghost use Rattle.fv_volume.specs.Files.{Over};
 ghost use Rattle.fv_cp.specs.Placing.{HaveNoFiles};
 ghost use Rattle.fv_aggregate.specs.declared.fault.Fault.TheVariants.{Memory};
+ghost use Rattle.fv_aggregate.specs.Adding.{IsPointed};
 ghost use Rattle.fv_aggregate.specs.Asking.{AsksWithin};
 ghost use Rattle.fv_disk.specs.DiskCalls.{OnlyReads};
-ghost use Rattle.fv_aggregate.specs.Calls.{Goes, GoesFor, IsForWant, IsPlain, KeepsAsking, SameCounts, WasRead};
-ghost use Rattle.fv_aggregate.specs.Causes.{HasOpenCause, IsOpenFault, IsUnwritten};
-ghost use Rattle.fv_aggregate.specs.Commands.{Replies, changed_by, dirty_limit, is_get, is_refusal, machine_after, reads_files, room_of};
-ghost use Rattle.fv_aggregate.specs.Opening.{IsOpened};
+ghost use Rattle.fv_aggregate.specs.Calls.{CountsSteps, Goes, GoesFor, IsForWant, IsOnFiles, IsPlain, KeepsAsking, SameCounts};
+ghost use Rattle.fv_aggregate.specs.Causes.{HasOpenCause, IsUnwritten, OpenFails};
+ghost use Rattle.fv_aggregate.specs.Commands.{Replies, changed_by, dirty_limit, machine_after, reads_files, room_of};
+ghost use Rattle.fv_aggregate.specs.Opening.{IsFresh, IsOpened};
 ghost use Rattle.fv_aggregate.specs.Standing.{IsWithoutFiles, Stands, StandsFor, charged_in};
 ghost use Rattle.fv_aggregate.specs.Telling.{charged_from};
 
@@ -72,7 +73,7 @@ impl Session {
     /// each VVBN of each volume. `docs/FORMAT.md` has what it reads.
     pub fn open<D: Disk>(alloc: Global, disk: &mut D) -> Result<Session, OpenFault>
         ensures stands { IfOk result (Stands (D.shown disk.new)) }
-        ensures fresh { IfOk result (λ session. IsNone session.failed) }
+        ensures fresh { IfOk result IsFresh }
         ensures asks { IsTrue (D.shown disk.old).tells → IfOk result (λ session. AsksWithin (D.shown disk.new) session 0) }
         ensures none { IsTrue (D.shown disk.old).tells → IfOk result IsWithoutFiles }
         ensures settled { IsTrue (D.shown disk.old).tells → OnOk result (IsSettled (D.shown disk.new)) }
@@ -81,9 +82,7 @@ impl Session {
         ensures loaded { IsTrue (D.shown disk.old).tells → IfOk result (IsOpened (D.shown disk.old).reads) }
         ensures machine { IsTrue (D.shown disk.old).tells → (m : Machine) → machine_of (D.shown disk.old).reads ≡ Some m
             → IfOk result (λ session. StandsFor (D.shown disk.new) session m m) }
-        ensures whole { IsTrue (D.shown disk.old).tells → (m : Machine) → machine_of (D.shown disk.old).reads ≡ Some m
-            → IfErr result (λ fault. (fault ≡ OpenFault.DiskFault) ⊎ (fault ≡ OpenFault.Memory)) }
-        ensures fault { IsTrue (D.shown disk.old).tells → IfErr result (IsOpenFault (D.shown disk.old).reads) }
+        ensures fault { IsTrue (D.shown disk.old).tells → IfErr result (OpenFails (D.shown disk.old).reads) }
         ensures unwritten { IsUnwritten (D.shown disk.old) (D.shown disk.new) }
         ensures cause { HasOpenCause (D.shown disk.old).faults (D.shown disk.new).faults result }
         ensures counts { OnOk result (SameCounts (D.shown disk.old) (D.shown disk.new)) }
@@ -93,18 +92,19 @@ impl Session {
     }
 
     /// Applies a command, and answers the machine's reply, refusals included. A command whose room, in blocks, would pass the dirty
-    /// limit of 256 together with the blocks pending is preceded by a consistency point; one that is refused changes nothing, not
-    /// even that. So far `vol create`, `vol list`, `cp`, `new` without a reserve, `put`, `get`, `len`, `cut`, `rm` and `ls` are built, and
-    /// every other command is refused as none.
+    /// limit of 256 together with the blocks pending is preceded by a consistency point; one that is refused is refused before that, and
+    /// changes nothing but the cache. So far `vol create`, `vol list`, `cp`, `new` without a reserve, `put`, `get`, `len`, `cut`, `rm` and
+    /// `ls` are built, and every other command is refused as none.
     ///
     /// `steps` counts the unknown pointers that a `get` passes; there are none in what a session stands for yet.
     ///
     /// # Errors
     /// `DiskFault` comes only where a read, a write or a barrier failed in this call. Where it was a write or a barrier the session
     /// has failed: it answers `Failed`, with the disk's count of faults of that moment, to every call from then on, and reaches the
-    /// disk no more. `Memory` comes where memory ran out, and `Damaged` only where fewer blocks or numbers are free than a consistency
-    /// point asks for, or a block of a volume's files isn't as it has to be, which no aggregate leads to that stands for a machine. After
-    /// these, and after a read that failed, the session goes on and stands for the machine of before.
+    /// disk no more. `Memory` comes where memory ran out: contracts rule it out for a `cp` without files in memory alone. `Damaged` comes
+    /// where fewer blocks or numbers are free than a consistency point asks for, or a block of a volume's files isn't as it has to be. Over an
+    /// image that stands for a machine it never comes; over another one contracts tell its reason for commands that read no files, and
+    /// without a file in memory. After these, and after a read that failed, the session goes on and stands for the machine of before.
     ///
     /// Costs a step for each slot, and memory for the names in `vol list`. A command on files costs what the call of `VolumeState` does, and
     /// one that changes them a step for each node in memory, too; the search for a file reads the inode blocks before its own. Where room has
@@ -124,15 +124,13 @@ impl Session {
             → GoesFor (D.shown disk.old) last m (machine_after m command.now) (D.shown disk.new) self.new result }
         ensures reply { IsTrue (D.shown disk.old).tells → (last m : Machine) → StandsFor (D.shown disk.old) self.old last m
             → IfOk result (Replies m command.now) }
-        ensures refused { IsTrue (D.shown disk.old).tells → (last m : Machine) → StandsFor (D.shown disk.old) self.old last m
-            → IfOk result (λ reply. IsTrue (is_refusal reply) → WasRead (D.shown disk.old) self.old (D.shown disk.new) self.new) }
         ensures plain { reads_files command.now ≡ false → IsPlain command.now (D.shown disk.old) disk.old self.old (D.shown disk.new) disk.new self.new result }
+        ensures on_files { reads_files command.now ≡ true → IsOnFiles command.now (D.shown disk.old) disk.old self.old (D.shown disk.new) disk.new self.new result }
         ensures point { IsTrue (D.shown disk.old).tells → (last m : Machine) → StandsFor (D.shown disk.old) self.old last m → command.now ≡ Cp
             → OnOk result (StandsFor (D.shown disk.new) self.new m m) }
         ensures calm { command.now ≢ Cp → (room_of command.now ≡ 0) ⊎ (self.old.pending + room_of command.now ≤ dirty_limit) → OnlyReads (D.shown disk.old) (D.shown disk.new) }
         ensures files { IsTrue (D.shown disk.old).tells → changed_by command.now ≡ None → IsWithoutFiles self.old → OnOk result (IsWithoutFiles self.new) }
-        ensures steps { is_get command.now ≡ false → steps.new ≡ steps.old }
-        ensures known { IsTrue (D.shown disk.old).tells → (last m : Machine) → StandsFor (D.shown disk.old) self.old last m → OnOk result (steps.new ≡ steps.old) }
+        ensures steps { CountsSteps command.now (D.shown disk.old) self.old steps.old steps.new result }
         ensures dead { IsSome self.old.failed → disk.new ≡ disk.old }
     {
         if let Some(faults) = self.failed {
@@ -171,6 +169,7 @@ impl Session {
             → GoesFor (D.shown disk.old) last m m (D.shown disk.new) self.new result }
         ensures point { IsTrue (D.shown disk.old).tells → (last m : Machine) → StandsFor (D.shown disk.old) self.old last m
             → OnOk result (StandsFor (D.shown disk.new) self.new m m) }
+        ensures left { OnOk result (IsPointed (D.shown disk.old) self.old self.new) }
         ensures kept { IsTrue (D.shown disk.old).tells → (last m : Machine) → StandsFor (D.shown disk.old) self.old last m
             → IsNone self.new.failed → OnErr result (StandsFor (D.shown disk.new) self.new last m) }
         ensures dead { IsSome self.old.failed → disk.new ≡ disk.old }
@@ -181,7 +180,7 @@ impl Session {
         }
     }
 
-    /// The sum of the charges of all volumes, in blocks. Costs a step for each slot.
+    /// The sum of the charges of all volumes, in blocks: what the machine's are that the session stands for. Costs a step for each slot.
     pub fn charged(&self) -> u64
         ensures over { (trees : Trees) → Over self.now.pool self.now.volumes trees (λ m. result ≡ charged_in m) }
         ensures slots { result ≡ charged_from self.now.volumes 0 slot_count }

@@ -1,5 +1,5 @@
 -- Lines are answered, one after another.
-use Rattle.std.proofs.Common.{◌≡◌, inl, false, ℕ, ◌+◌, ◌<◌, ◌++◌, List, [], ◌∷◌, length, take, refl, sym, ap, subst, ◌∙◌, arith, append_assoc, append-nil}
+use Rattle.std.proofs.Common.{◌≡◌, inl, false, ℕ, ◌+◌, ◌<◌, ◌≤◌, ◌++◌, List, [], ◌∷◌, length, take, refl, sym, ap, subst, ◌∙◌, arith, append_assoc, append-nil}
 use Rattle.std.specs.Prelude.{flat_map, Some, IsTrue, Result, Err}
 use Rattle.fv_disk.specs.Shown.{Image, Shown, IsDisk}
 use Rattle.fv_disk.specs.HostCalls.{Rests}
@@ -17,11 +17,12 @@ use Rattle.fv_aggregate.specs.declared.session.Session.{Session}
 use Rattle.fv_aggregate.specs.Standing.{OneOf, StandsAfter, StandsFor}
 use Rattle.fv_run.specs.declared.ending.Fault.{Fault}
 use Rattle.fv_run.specs.declared.ending.Fault.TheVariants.{Sink}
-use Rattle.fv_run.specs.Running.{asks_point, begun, HasFollowed, IsAfterSome, IsAtRest, Survives}
-use Rattle.fv_run.specs.Answering.{HasAnswered, IsLine, StandsOnward}
+use Rattle.fv_run.specs.Running.{asks_point, begun, left_by, pending_behind, HasFollowed, IsAfterSome, IsAtRest, Survives}
+use Rattle.fv_run.specs.Answering.{BeginsFor, HasAnswered, IsLine, StandsOnward}
 use Rattle.fv_run.proofs.Acked.{up_to_take}
-use Rattle.fv_run.proofs.Following.{follows_first, follows_part, one_more, one_text, taken_next, left_next, left_below}
+use Rattle.fv_run.proofs.Following.{follows_first, follows_part, one_more, one_text, taken_next, left_next, left_below, line_behind}
 use Rattle.fv_run.proofs.Lines.{no_end}
+use Rattle.fv_run.proofs.Rooms.{behind_more, behind_none}
 use Rattle.fv_run.proofs.Sessions.{images_stand, point_stays, rests_standing_for}
 use Rattle.fv_run.proofs.Surviving.{after_some, asked_for, rested, rested_after, which_point, IsOnward, onward, one_of, one_told}
 
@@ -30,7 +31,7 @@ pub survives : (m : Machine) (lines : List Line) (before : List ℕ) (c : Image)
 survives m lines before c g output is some = (output, is, some)
 
 -- before the first line
-pub none_answered : (m : Machine) (lines : List Line) (old : Shown) (session : Session) → IsDisk old → StandsFor old session m m → HasAnswered m lines lines old session old 0
+pub none_answered : (m : Machine) (lines : List Line) (old : Shown) (session : Session) → IsDisk old → BeginsFor old session m → HasAnswered m lines lines old session old 0
 none_answered m lines old session laws stands = record {
   replies = [];
   allowed = tt;
@@ -42,10 +43,11 @@ none_answered m lines old session laws stands = record {
   least = up_to_take 0 lines (omega arith);
   most = omega arith;
   asked = inl (omega (arith, up_to_take 0 lines (omega arith)));
-  stands = stands;
+  pending = omega (arith, stands.pending, behind_none lines);
+  stands = stands.stands;
   crash = started old (Survives m lines old.given) laws
       (λ c now. survives m lines old.given c old.given [] (sym (append-nil old.given))
-      (after_some m lines 0 0 [] c refl (omega arith) (up_to_take 0 lines (omega arith)) (omega arith) (omega arith) (images_stand old session m m stands c now)));
+      (after_some m lines 0 0 [] c refl (omega arith) (up_to_take 0 lines (omega arith)) (omega arith) (omega arith) (images_stand old session m m stands.stands c now)));
 }
 
 module _ (m : Machine) (lines left : List Line) (old : Shown) (session : Session) (now : Shown) (count : ℕ) (so_far : HasAnswered m lines left old session now count) where
@@ -82,6 +84,7 @@ module _ (m : Machine) (lines left : List Line) (old : Shown) (session : Session
     least = so_far.least;
     most = so_far.most;
     asked = so_far.asked;
+    pending = so_far.pending;
     stands = rests_standing_for now mid session (after m lines so_far.point) (after m lines count) rests so_far.stands;
     crash = crash_asked mid still;
   }
@@ -92,7 +95,7 @@ left_as m lines left others old session now count is so_far = subst (λ (l : Lis
 
 -- the next line is applied, and then answered
 module _ (m : Machine) (lines : List Line) (line : Line) (rest : List Line) (old : Shown) (session : Session) (mid : Shown) (count : ℕ) (so_far : HasAnswered m lines (line ∷ rest) old session mid count)
-    (next_session : Session) (end : Shown) (meanwhile : Leaves mid end (λ c g. OneOf (after m lines so_far.point) (after m lines count) (after_line (after m lines count) line) c × (g ≡ mid.given))) (calm : asks_point line ≡ false → end.reads ≡ mid.reads) where
+    (next_session : Session) (end : Shown) (meanwhile : Leaves mid end (λ c g. OneOf (after m lines so_far.point) (after m lines count) (after_line (after m lines count) line) c × (g ≡ mid.given))) (calm : asks_point (pending_behind lines count) line ≡ false → end.reads ≡ mid.reads) where
   abbrev given_so_far : List ℕ
   given_so_far = flat_map text so_far.replies
 
@@ -104,7 +107,7 @@ module _ (m : Machine) (lines : List Line) (line : Line) (rest : List Line) (old
       (one_of m lines rest line count so_far.left_over so_far.point given_so_far c so_far.answered so_far.least so_far.most one.0)) meanwhile)
 
   -- the last point stays where the line asks for none
-  stays : (now : Machine) (stands : StandsAfter end next_session (after m lines so_far.point) (after m lines count) now) → asks_point line ≡ false → stands.point ≡ after m lines so_far.point
+  stays : (now : Machine) (stands : StandsAfter end next_session (after m lines so_far.point) (after m lines count) now) → asks_point (pending_behind lines count) line ≡ false → stands.point ≡ after m lines so_far.point
   stays now stands none = point_stays mid end session next_session (after m lines so_far.point) (after m lines count) (after m lines count) now (calm none) so_far.stands stands
 
   -- it wasn't applied
@@ -155,8 +158,8 @@ module _ (m : Machine) (lines : List Line) (line : Line) (rest : List Line) (old
     more_text = ap whole (one_text so_far.replies reply) ∙ whole_append given_so_far (text reply) ∙ rw (so_far.answered, one) refl
 
     -- all of it was given
-    pub answered_one : Rests end new → new.given ≡ end.given ++ text reply → HasAnswered m lines rest old next_session new (count + 1)
-    answered_one rests given = record {
+    pub answered_one : Rests end new → new.given ≡ end.given ++ text reply → next_session.pending ≤ left_by session.pending line → HasAnswered m lines rest old next_session new (count + 1)
+    answered_one rests given more = record {
       replies = so_far.replies ++ reply ∷ [];
       allowed = all_allowed;
       given = given ∙ ap (λ (l : List ℕ). l ++ text reply) (same ∙ so_far.given) ∙ append_assoc old.given given_so_far (text reply) ∙ ap (λ (l : List ℕ). old.given ++ l) (sym (one_text so_far.replies reply));
@@ -167,6 +170,7 @@ module _ (m : Machine) (lines : List Line) (line : Line) (rest : List Line) (old
       least = next.least;
       most = next.most;
       asked = next.asked;
+      pending = behind_more lines count line (line_behind count lines rest line so_far.left_over) session.pending next_session.pending so_far.pending more;
       stands = rests_standing_for end new next_session (after m lines next.point) (after m lines (count + 1)) rests next.stands;
       crash = crash_told;
     }

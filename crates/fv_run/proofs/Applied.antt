@@ -1,8 +1,8 @@
 -- A line is applied.
-use Rattle.std.proofs.Common.{◌≡◌, ◌≢◌, ℕ, inl, inr, Bool, true, false, cond, List, [], ◌∷◌, refl, sym, subst, ap, ◌∙◌, arith}
+use Rattle.std.proofs.Common.{◌≡◌, ◌≢◌, ◌⊎◌, ◌≤◌, ◌+◌, ℕ, inl, inr, ⊎_elim, Bool, true, false, cond, List, [], ◌∷◌, refl, sym, subst, ap, ◌∙◌, arith}
 use Rattle.std.proofs.lemmas.Bool.{both_ways}
 use Rattle.std.proofs.lemmas.Bool.Decides.{nat_tests}
-use Rattle.std.specs.Prelude.{◌||◌, is_some, nat_lt, Option, Some, None, Ok, Err, IsTrue, IsNone}
+use Rattle.std.specs.Prelude.{◌||◌, ◌&&◌, is_some, nat_lt, if◌then◌else◌, Option, Some, None, Ok, Err, IsTrue, IsNone}
 use Rattle.fv_disk.specs.Shown.{Shown, IsDisk, Ends, Rose}
 use Rattle.fv_disk.specs.Crash.{Leaves}
 use Rattle.fv_disk.proofs.Moments.{started}
@@ -24,14 +24,15 @@ use Rattle.fv_aggregate.specs.declared.fault.Fault.TheVariants as session_fault
 use Rattle.fv_aggregate.specs.declared.session.Session.{Session}
 use Rattle.fv_aggregate.specs.Calls.{Goes, GoesFor, KeepsAsking}
 use Rattle.fv_aggregate.specs.Calls as calls
-use Rattle.fv_aggregate.specs.Commands.{changed_by, is_built, machine_after, reads_files, Replies, RepliesBy, room_of}
+use Rattle.fv_aggregate.specs.Commands.{changed_by, dirty_limit, is_built, machine_after, reads_files, Replies, RepliesBy, room_of}
 use Rattle.fv_aggregate.specs.Standing.{IsWithoutFiles, OneOf, StandsAfter, StandsFor}
 use Rattle.fv_run.specs.declared.ending.Fault.{Fault}
 use Rattle.fv_run.specs.declared.ending.Fault.TheVariants.{Disk, Memory, Damaged}
 use Rattle.fv_run.specs.Endings.{count_of, of_session, IsWholeFault}
 use Rattle.fv_run.specs.Built.{built}
-use Rattle.fv_run.specs.Running.{asks_point, changes_files, IsRoomIn, reads_blocks}
+use Rattle.fv_run.specs.Running.{asks_point, changes_files, left_by, room_in, IsRoomIn, reads_blocks}
 use Rattle.fv_run.specs.Answering.{Applies, IsReady, IsSessionFault}
+use Rattle.fv_run.proofs.Rooms.{left_other}
 use Rattle.fv_run.proofs.Sessions.{images_stand, lacks, never_failed}
 
 -- ---- a command, built or not
@@ -129,16 +130,33 @@ room_said c = so (is_built c) refl
     so true e = inr (c, (0, omega arith, refl), refl)
     so false e = inl (unbuilt_room c e)
 
--- a line that asks for no point says no `cp`, and no command with room
-quiet : (c : Command) → asks_point (built (Says c)) ≡ false → (c ≢ Cp) × (room_of c ≡ 0)
-quiet c none = so (is_built c) refl none
+-- a line has the room of its command
+room_built : (c : Command) → room_in (built (Says c)) ≡ room_of c
+room_built c = so (is_built c) refl
+  where
+    so : (is : Bool) → is_built c ≡ is → room_in (cond is (Says c) NoCommand) ≡ room_of c
+    so true e = refl
+    so false e = sym (unbuilt_room c e)
+
+pub cp_reads_none : (c : Command) → c ≡ Cp → reads_files c ≡ false
+unfolding reads_files
+cp_reads_none c is = ap reads_files is
+
+-- a line that asks for no point says no `cp`, and no command whose room passes the dirty limit
+quiet : (c : Command) (pending : ℕ) → asks_point pending (built (Says c)) ≡ false → (c ≢ Cp) × ((room_of c ≡ 0) ⊎ (pending + room_of c ≤ dirty_limit))
+quiet c pending none = so (is_built c) refl none
   where
     neither : (a b : Bool) → (a || b) ≡ false → (a ≡ false) × (b ≡ false)
     neither true b e = absurd cc
     neither false b e = (refl, e)
 
-    nothing : (n : ℕ) → nat_lt 0 n ≡ false → n ≡ 0
-    nothing n e = grind (arith, nat_tests)
+    nothing : (n : ℕ) → (nat_lt 0 n && nat_lt dirty_limit (pending + n)) ≡ false → (n ≡ 0) ⊎ (pending + n ≤ dirty_limit)
+    nothing n e = by (nat_lt 0 n) (nat_lt dirty_limit (pending + n)) refl refl e
+      where
+        by : (a b : Bool) → nat_lt 0 n ≡ a → nat_lt dirty_limit (pending + n) ≡ b → (a && b) ≡ false → (n ≡ 0) ⊎ (pending + n ≤ dirty_limit)
+        by false b x y e = inl (grind (arith, nat_tests, x))
+        by true false x y e = inr (grind (arith, nat_tests, y))
+        by true true x y e = absurd cc
 
     is_point : c ≡ Cp → is_cp (Says c) ≡ true
     is_point e = ap (λ (c : Command). is_cp (Says c)) e
@@ -146,11 +164,11 @@ quiet c none = so (is_built c) refl none
     built_point : c ≡ Cp → is_built c ≡ true
     built_point e = ap is_built e ∙ cp_built
 
-    so : (is : Bool) → is_built c ≡ is → asks_point (cond is (Says c) NoCommand) ≡ false → (c ≢ Cp) × (room_of c ≡ 0)
+    so : (is : Bool) → is_built c ≡ is → asks_point pending (cond is (Says c) NoCommand) ≡ false → (c ≢ Cp) × ((room_of c ≡ 0) ⊎ (pending + room_of c ≤ dirty_limit))
     so true e none =
-        let parts = neither (is_cp (Says c)) (nat_lt 0 (room_of c)) none in
+        let parts = neither (is_cp (Says c)) (nat_lt 0 (room_of c) && nat_lt dirty_limit (pending + room_of c)) none in
         (λ is. both_ways _ parts.0 (is_point is), nothing (room_of c) parts.1)
-    so false e none = (λ is. both_ways _ e (built_point is), unbuilt_room c e)
+    so false e none = (λ is. both_ways _ e (built_point is), inl (unbuilt_room c e))
 
 -- a line reads files where its command does, and changes them where its command does
 reads_said : (c : Command) → reads_files c ≡ true → reads_blocks (built (Says c)) ≡ true
@@ -210,7 +228,8 @@ no_change session line reply host laws ready no_point allowed stays = record {
   left = refl;
   counts = counts_none host;
   writes = refl;
-  calm = λ none. refl;
+  calm = λ pending few none. refl;
+  pending = left_other line session.pending no_point;
 }
   where
     never : is_cp line ≡ false → is_cp line ≡ true → ⊥
@@ -231,21 +250,37 @@ module _ (session new_session : Session) (line : Line) (command : Command) (old 
   after_is : (m : Machine) → machine_after m command ≡ after_line m (built line)
   after_is m = after_built m command ∙ ap (λ (l : Line). after_line m (built l)) (sym says)
 
-  calm_by : (command ≢ Cp → room_of command ≡ 0 → new.reads ≡ old.reads) → asks_point (built line) ≡ false → new.reads ≡ old.reads
-  calm_by calm none = let is = quiet command (subst (λ (l : Line). asks_point (built l) ≡ false) says none) in calm is.0 is.1
+  calm_by : (command ≢ Cp → (room_of command ≡ 0) ⊎ (session.pending + room_of command ≤ dirty_limit) → new.reads ≡ old.reads) → (pending : ℕ) → session.pending ≤ pending → asks_point pending (built line) ≡ false → new.reads ≡ old.reads
+  calm_by calm pending few none =
+      let is = quiet command pending (subst (λ (l : Line). asks_point pending (built l) ≡ false) says none) in
+      calm is.0 (⊎_elim (λ (nothing : room_of command ≡ 0). inl nothing) (λ (low : pending + room_of command ≤ dirty_limit). inr (omega (arith, low, few))) is.1)
+
+  -- a point leaves nothing pending, and each other command adds its room at most
+  pending_by : (command ≡ Cp → new_session.pending ≡ 0) → new_session.pending ≤ session.pending + room_of command → new_session.pending ≤ left_by session.pending (built line)
+  pending_by pointed most = by (is_cp (built line)) refl
+    where
+      by : (cp : Bool) → is_cp (built line) ≡ cp → new_session.pending ≤ left_by session.pending (built line)
+      by true e =
+          let none : new_session.pending ≡ 0 = pointed (cp_by (is_built command) command (subst (λ (l : Line). is_cp (built l) ≡ true) says e)) in
+          omega (arith, none)
+      by false e =
+          let room : room_in (built line) ≡ room_of command = ap (λ (l : Line). room_in (built l)) says ∙ room_built command in
+          let left : left_by session.pending (built line) ≡ session.pending + room_in (built line) = ap (λ (cp : Bool). if cp then 0 else session.pending + room_in (built line)) e in
+          omega (arith, left, room, most)
 
   same_by : changes_files (built line) ≡ false → changed_by command ≡ None
   same_by none = changes_said command (subst (λ (l : Line). changes_files (built l) ≡ false) says none)
 
   -- the command was carried out, or refused
-  pub applied : (reply : Reply) → (command ≢ Cp → room_of command ≡ 0 → new.reads ≡ old.reads) → Goes (room_of command) old session new new_session (Ok reply)
+  pub applied : (reply : Reply) → (command ≢ Cp → (room_of command ≡ 0) ⊎ (session.pending + room_of command ≤ dirty_limit) → new.reads ≡ old.reads) → Goes (room_of command) old session new new_session (Ok reply)
       → (changed_by command ≡ None → KeepsAsking (room_of command) old session new new_session)
       → (IsTrue old.tells → changed_by command ≡ None → IsWithoutFiles session → IsWithoutFiles new_session)
       → (IsTrue old.tells → (last m : Machine) → StandsFor old session last m → GoesFor {T = Reply} old last m (machine_after m command) new new_session (Ok reply))
       → (IsTrue old.tells → (last m : Machine) → StandsFor old session last m → Replies m command reply)
       → (IsTrue old.tells → (last m : Machine) → StandsFor old session last m → command ≡ Cp → StandsFor new new_session m m)
+      → (command ≡ Cp → new_session.pending ≡ 0)
       → Applies session (built line) old new_session new (Ok reply)
-  applied reply calm goes keeps files goes_for replies point = record {
+  applied reply calm goes keeps files goes_for replies point pointed = record {
     done = λ tells last m so_far. (
       subst (λ (l : Line). AllowsAt m (built l) reply) (sym says) (allowed_built m command reply (replies tells last m so_far)),
       record {
@@ -265,13 +300,14 @@ module _ (session new_session : Session) (line : Line) (command : Command) (old 
     counts = record { tells = goes.ends.tells; source = ap (λ (e : Ends). e.source_faults) goes.ends.ends; sink = ap (λ (e : Ends). e.sink_faults) goes.ends.ends; disk = goes.done.counts.faults };
     writes = goes.done.counts.write_faults;
     calm = calm_by calm;
+    pending = pending_by pointed goes.pending;
   }
     where
       at_point : (m : Machine) → command ≡ Cp → (command ≡ Cp → StandsFor new new_session m m) → StandsFor new new_session (after_line m (built line)) (after_line m (built line))
       at_point m is stands = subst (λ (x : Machine). StandsFor new new_session x x) (sym (ap (machine_after m) is ∙ after_cp m) ∙ after_is m) (stands is)
 
   -- it wasn't
-  module _ (calm : command ≢ Cp → room_of command ≡ 0 → new.reads ≡ old.reads) (fault : SessionFault) (goes : Goes {T = Reply} (room_of command) old session new new_session (Err fault))
+  module _ (calm : command ≢ Cp → (room_of command ≡ 0) ⊎ (session.pending + room_of command ≤ dirty_limit) → new.reads ≡ old.reads) (fault : SessionFault) (goes : Goes {T = Reply} (room_of command) old session new new_session (Err fault))
       (goes_for : IsTrue old.tells → (last m : Machine) → StandsFor old session last m → GoesFor {T = Reply} old last m (machine_after m command) new new_session (Err fault)) where
     stopped_by : (end : Fault) → Counts old new (count_of end) → (¬ Rose old.write_faults new.write_faults → IsNone new_session.failed)
         → (IsTrue old.tells → (last m : Machine) → StandsFor old session last m → IsWholeFault end) → IsSessionFault (built line) old session new end → Applies session (built line) old new_session new (Err end)
@@ -289,6 +325,7 @@ module _ (session new_session : Session) (line : Line) (command : Command) (old 
       counts = counts;
       writes = tt;
       calm = calm_by calm;
+      pending = tt;
     }
 
     no_count : new.faults ≡ old.faults → Counts old new None
@@ -302,7 +339,7 @@ module _ (session new_session : Session) (line : Line) (command : Command) (old 
       so true e = inl (ap (λ (l : Line). reads_blocks (built l)) says ∙ reads_said command e)
       so false e = inr (lacks old new session new_session at want found (plain e))
 
-  pub unapplied : (command ≢ Cp → room_of command ≡ 0 → new.reads ≡ old.reads) → (fault : SessionFault) → Goes {T = Reply} (room_of command) old session new new_session (Err fault)
+  pub unapplied : (command ≢ Cp → (room_of command ≡ 0) ⊎ (session.pending + room_of command ≤ dirty_limit) → new.reads ≡ old.reads) → (fault : SessionFault) → Goes {T = Reply} (room_of command) old session new new_session (Err fault)
       → (reads_files command ≡ false → calls.IsForWant old session new new_session fault)
       → (IsTrue old.tells → (last m : Machine) → StandsFor old session last m → GoesFor {T = Reply} old last m (machine_after m command) new new_session (Err fault))
       → Applies session (built line) old new_session new (Err (of_session fault))

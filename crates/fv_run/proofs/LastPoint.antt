@@ -1,5 +1,5 @@
 -- All lines are answered; then come the last consistency point and the line of `done`.
-use Rattle.std.proofs.Common.{◌≡◌, ◌⊎◌, inl, inr, ⊎_elim, ℕ, ◌+◌, ◌≤◌, ◌++◌, List, [], length, map, take, drop, sym, ap, subst, ◌∙◌, arith, append_assoc}
+use Rattle.std.proofs.Common.{◌≡◌, ◌⊎◌, inl, inr, ⊎_elim, ℕ, ◌+◌, ◌≤◌, ◌++◌, List, [], length, map, take, drop, sym, ap, subst, ◌∙◌, arith, append_assoc, append-nil}
 use Rattle.std.specs.Prelude.{flat_map, Some, None, Result, Ok, Err, IsNone, IsTrue}
 use Rattle.std.proofs.lemmas.List.{length-drop}
 use Rattle.fv_disk.specs.Shown.{Ends, Image, Shown, Rose}
@@ -28,11 +28,11 @@ use Rattle.fv_run.specs.declared.ending.Fault.{Fault}
 use Rattle.fv_run.specs.declared.ending.Fault.TheVariants.{Disk, Memory, Damaged}
 use Rattle.fv_run.specs.Built.{built, lines_built}
 use Rattle.fv_run.specs.Endings.{count_of, IsWholeFault, of_session}
-use Rattle.fv_run.specs.Running.{HasChanged, IsAtRest, IsOverLimit, Survives}
-use Rattle.fv_run.specs.Answering.{AsksFor, HasAnswered, IsAtEnd, IsEndOf, LacksSpace, IsLine, TellsLine}
+use Rattle.fv_run.specs.Running.{HasChanged, IsAtRest, IsOverLimit, Survives, IsQuiet}
+use Rattle.fv_run.specs.Answering.{AsksFor, HasAnswered, IsAtEnd, IsEndOf, LacksSpace, IsLine, TellsLine, BeginsFor}
 use Rattle.fv_run.proofs.Acked.{acked_all, acked_whole, up_to_take}
 use Rattle.fv_run.proofs.Following.{follows_part, follows_whole, full}
-use Rattle.fv_run.proofs.Limits.{all_read}
+use Rattle.fv_run.proofs.Limits.{all_read, same_behind}
 use Rattle.fv_run.proofs.Lines.{no_end, one_end}
 use Rattle.fv_run.proofs.Sessions.{images_stand, lacks, never_failed, reads_stand, rests_standing_for}
 use Rattle.fv_run.proofs.Surviving.{after_some, after_all, asked_for, part_of_one, rested}
@@ -49,11 +49,22 @@ module _ (limit : ℕ) (session : Session) (mid : Shown) (last : Session) (end :
   end_told : IsTrue mid.tells → IsTrue end.tells
   end_told tells = rw at_end.stands.counts.tells tells
 
-  answers : IsTrue mid.tells → (m : Machine) → StandsFor mid session m m → HasAnswered m (lines_built mid.ends.left) (lines_built (unread at_end.held end)) mid last end count
+  answers : IsTrue mid.tells → (m : Machine) → BeginsFor mid session m → HasAnswered m (lines_built mid.ends.left) (lines_built (unread at_end.held end)) mid last end count
   answers tells m stands = at_end.stands.answers tells m stands
 
-  all_answered : (tells : IsTrue mid.tells) (m : Machine) → StandsFor mid session m m → length (lines_built mid.ends.left) ≤ count
+  all_answered : (tells : IsTrue mid.tells) (m : Machine) → BeginsFor mid session m → length (lines_built mid.ends.left) ≤ count
   all_answered tells m stands = none_left (lines_built mid.ends.left) count (sym (ap lines_built (at_end.none tells) ∙ no_lines) ∙ (answers tells m stands).left_over)
+
+  -- no line is left
+  all_lines : IsTrue mid.tells → length (lines_built mid.ends.left) ≤ count
+  all_lines tells = none_left (lines_built mid.ends.left) count (sym (ap lines_built (at_end.none tells) ∙ no_lines) ∙ at_end.stands.behind tells)
+
+  never_quiet : (new : Shown) → IsTrue mid.tells → (more : List ℕ) → new.given ≡ end.given ++ more → IsQuiet (lines_built mid.ends.left) mid new
+  never_quiet new tells more since output given asks =
+      let read = at_end.stands.reads tells in
+      let all : new.given ≡ mid.given ++ (read.output ++ more) = since ∙ ap (λ (l : List ℕ). l ++ more) read.given ∙ append_assoc mid.given read.output more in
+      let answered : whole output ≡ count + whole more = ap whole (same_behind mid.given output (read.output ++ more) (sym given ∙ all)) ∙ whole_append read.output more ∙ ap (λ (n : ℕ). n + whole more) read.answered in
+      absurd (omega (arith, answered, all_lines tells, asks.more))
 
   never_past : (new : Shown) → IsTrue mid.tells → IsOverLimit limit mid new → ⊥
   never_past new tells past =
@@ -65,7 +76,7 @@ module _ (limit : ℕ) (session : Session) (mid : Shown) (last : Session) (end :
 
   -- the consistency point
   module _ (next : Session) (point : Shown) (meanwhile : IsTrue end.tells → (before m : Machine) → StandsFor end last before m → Leaves end point (λ c g. OneOf before m m c × (g ≡ end.given))) (keeps : KeepsEnds end point) where
-    point_image : (tells : IsTrue mid.tells) (m : Machine) (stands : StandsFor mid session m m) (c : Image) (g : List ℕ)
+    point_image : (tells : IsTrue mid.tells) (m : Machine) (stands : BeginsFor mid session m) (c : Image) (g : List ℕ)
         → OneOf (after m (lines_built mid.ends.left) (answers tells m stands).point) (after m (lines_built mid.ends.left) count) (after m (lines_built mid.ends.left) count) c × (g ≡ end.given) → Survives m (lines_built mid.ends.left) mid.given c g
     point_image tells m stands c g one =
         let L : List Line = lines_built mid.ends.left in
@@ -78,7 +89,7 @@ module _ (limit : ℕ) (session : Session) (mid : Shown) (last : Session) (end :
         (λ (others : (machine_of c ≡ Some (after m L count)) ⊎ (machine_of c ≡ Some (after m L count))). ⊎_elim now now others)
         one.0
 
-    crash_point : (tells : IsTrue mid.tells) (m : Machine) → StandsFor mid session m m → Leaves mid point (Survives m (lines_built mid.ends.left) mid.given)
+    crash_point : (tells : IsTrue mid.tells) (m : Machine) → BeginsFor mid session m → Leaves mid point (Survives m (lines_built mid.ends.left) mid.given)
     crash_point tells m stands =
         let L : List Line = lines_built mid.ends.left in
         let a = answers tells m stands in
@@ -87,7 +98,7 @@ module _ (limit : ℕ) (session : Session) (mid : Shown) (last : Session) (end :
         (meanwhile (end_told tells) (after m L a.point) (after m L count) a.stands))
 
     point_stopped : (fault : Fault) → Counts end point (count_of fault) → (IsTrue end.tells → (before m : Machine) → StandsFor end last before m → ¬ Rose end.write_faults point.write_faults → StandsFor point next before m)
-        → (IsTrue mid.tells → (m : Machine) → StandsFor mid session m m → IsWholeFault fault) → IsEndOf limit session mid point fault → RanOpen limit session mid point (Err fault)
+        → (IsTrue mid.tells → (m : Machine) → BeginsFor mid session m → IsWholeFault fault) → IsEndOf limit session mid point fault → RanOpen limit session mid point (Err fault)
     point_stopped fault counts still no_damage reason = record {
       holds = λ tells m stands.
           let L : List Line = lines_built mid.ends.left in
@@ -103,6 +114,7 @@ module _ (limit : ℕ) (session : Session) (mid : Shown) (last : Session) (end :
       counts = counts_then mid end point (count_of fault) at_end.stands.counts counts;
       reason = reason;
       cut_off = λ tells past. absurd (never_past point tells past);
+      quiet = λ tells none. never_quiet point tells [] (keeps.given ∙ sym (append-nil end.given));
     }
 
     -- it was done, and the last line was given, or not
@@ -110,21 +122,21 @@ module _ (limit : ℕ) (session : Session) (mid : Shown) (last : Session) (end :
       point_told : IsTrue mid.tells → IsTrue point.tells
       point_told tells = rw keeps.tells (end_told tells)
 
-      stands_point : (tells : IsTrue mid.tells) (m : Machine) → StandsFor mid session m m → StandsFor point next (after m (lines_built mid.ends.left) count) (after m (lines_built mid.ends.left) count)
+      stands_point : (tells : IsTrue mid.tells) (m : Machine) → BeginsFor mid session m → StandsFor point next (after m (lines_built mid.ends.left) count) (after m (lines_built mid.ends.left) count)
       stands_point tells m stands = let a = answers tells m stands in done (end_told tells) (after m (lines_built mid.ends.left) a.point) (after m (lines_built mid.ends.left) count) a.stands
 
-      all_is : (tells : IsTrue mid.tells) (m : Machine) → StandsFor mid session m m → count ≡ length (lines_built mid.ends.left)
+      all_is : (tells : IsTrue mid.tells) (m : Machine) → BeginsFor mid session m → count ≡ length (lines_built mid.ends.left)
       all_is tells m stands = let within = (answers tells m stands).within in omega (arith, within, all_answered tells m stands)
 
       point_counts : Counts mid point None
       point_counts = counts_then mid end point None at_end.stands.counts
           (record { tells = keeps.tells; source = ap (λ (e : Ends). e.source_faults) keeps.ends; sink = ap (λ (e : Ends). e.sink_faults) keeps.ends; disk = calm })
 
-      given_at : (tells : IsTrue mid.tells) (m : Machine) (stands : StandsFor mid session m m) (g bytes : List ℕ) → g ≡ point.given ++ bytes → g ≡ mid.given ++ (flat_map text (answers tells m stands).replies ++ bytes)
+      given_at : (tells : IsTrue mid.tells) (m : Machine) (stands : BeginsFor mid session m) (g bytes : List ℕ) → g ≡ point.given ++ bytes → g ≡ mid.given ++ (flat_map text (answers tells m stands).replies ++ bytes)
       given_at tells m stands g bytes is = let a = answers tells m stands in
           is ∙ ap (λ (l : List ℕ). l ++ bytes) (keeps.given ∙ a.given) ∙ append_assoc mid.given (flat_map text a.replies) bytes
 
-      told_image : (tells : IsTrue mid.tells) (m : Machine) (stands : StandsFor mid session m m) (one : whole (done_text count) ≡ 1) (c : Image) (g : List ℕ) → PartlyGiven point (done_text count) c g → Survives m (lines_built mid.ends.left) mid.given c g
+      told_image : (tells : IsTrue mid.tells) (m : Machine) (stands : BeginsFor mid session m) (one : whole (done_text count) ≡ 1) (c : Image) (g : List ℕ) → PartlyGiven point (done_text count) c g → Survives m (lines_built mid.ends.left) mid.given c g
       told_image tells m stands one c g part =
           let L : List Line = lines_built mid.ends.left in
           let a = answers tells m stands in
@@ -138,24 +150,24 @@ module _ (limit : ℕ) (session : Session) (mid : Shown) (last : Session) (end :
           (λ (some : whole bytes ≡ count + 1). after_all m L bytes c (omega (arith, some, all)) (omega (arith, some, all)) stand)
           (part_of_one (flat_map text a.replies) (done_text count) k.0 count a.answered one))
 
-      crash_done : (tells : IsTrue mid.tells) (m : Machine) → StandsFor mid session m m → whole (done_text count) ≡ 1 → Leaves point new (PartlyGiven point (done_text count)) → Leaves mid new (Survives m (lines_built mid.ends.left) mid.given)
+      crash_done : (tells : IsTrue mid.tells) (m : Machine) → BeginsFor mid session m → whole (done_text count) ≡ 1 → Leaves point new (PartlyGiven point (done_text count)) → Leaves mid new (Survives m (lines_built mid.ends.left) mid.given)
       crash_done tells m stands one part = then mid point new (Survives m (lines_built mid.ends.left) mid.given) (crash_point tells m stands)
           (weaken point new (PartlyGiven point (done_text count)) (Survives m (lines_built mid.ends.left) mid.given) (told_image tells m stands one) part)
 
-      full_output : (tells : IsTrue mid.tells) (m : Machine) (stands : StandsFor mid session m m) → Full m (lines_built mid.ends.left) (flat_map text (answers tells m stands).replies ++ done_text count)
+      full_output : (tells : IsTrue mid.tells) (m : Machine) (stands : BeginsFor mid session m) → Full m (lines_built mid.ends.left) (flat_map text (answers tells m stands).replies ++ done_text count)
       full_output tells m stands =
           let L : List Line = lines_built mid.ends.left in
           let a = answers tells m stands in
           subst (λ (n : ℕ). Full m L (flat_map text a.replies ++ done_text n)) (sym (all_is tells m stands)) (full m L count a.replies (all_answered tells m stands) a.allowed)
 
-      done_whole : (tells : IsTrue mid.tells) (m : Machine) (stands : StandsFor mid session m m) → IsLine (done_text count) → whole (flat_map text (answers tells m stands).replies ++ done_text count) ≡ length (lines_built mid.ends.left) + 1
+      done_whole : (tells : IsTrue mid.tells) (m : Machine) (stands : BeginsFor mid session m) → IsLine (done_text count) → whole (flat_map text (answers tells m stands).replies ++ done_text count) ≡ length (lines_built mid.ends.left) + 1
       done_whole tells m stands line =
           let a = answers tells m stands in
           let all = all_is tells m stands in
           whole_append (flat_map text a.replies) (done_text count) ∙ rw (a.answered, one_end (done_text count) line) (omega (arith, all))
 
       -- it was given whole
-      rested_whole : (tells : IsTrue mid.tells) (m : Machine) (stands : StandsFor mid session m m) → TellsLine point (done_text count) new (Ok tt) → IsAtRest m (lines_built mid.ends.left) (Ok tt) mid new
+      rested_whole : (tells : IsTrue mid.tells) (m : Machine) (stands : BeginsFor mid session m) → TellsLine point (done_text count) new (Ok tt) → IsAtRest m (lines_built mid.ends.left) (Ok tt) mid new
       rested_whole tells m stands told =
           let L : List Line = lines_built mid.ends.left in
           let output : List ℕ = flat_map text (answers tells m stands).replies ++ done_text count in
@@ -174,7 +186,7 @@ module _ (limit : ℕ) (session : Session) (mid : Shown) (last : Session) (end :
           }
 
       -- a part of it was given
-      rested_part : (tells : IsTrue mid.tells) (m : Machine) (stands : StandsFor mid session m m) (fault : Fault) → TellsLine point (done_text count) new (Err fault) → IsAtRest m (lines_built mid.ends.left) (Err fault) mid new
+      rested_part : (tells : IsTrue mid.tells) (m : Machine) (stands : BeginsFor mid session m) (fault : Fault) → TellsLine point (done_text count) new (Err fault) → IsAtRest m (lines_built mid.ends.left) (Err fault) mid new
       rested_part tells m stands fault told =
           let L : List Line = lines_built mid.ends.left in
           let a = answers tells m stands in
@@ -208,6 +220,7 @@ module _ (limit : ℕ) (session : Session) (mid : Shown) (last : Session) (end :
         counts = counts_then mid point new None point_counts (counting.told point new (done_text count) told.tells);
         reason = tt;
         cut_off = λ tells past. absurd (never_past new tells past);
+        quiet = λ tells none. never_quiet new tells (done_text count) (told.tells.gives.all (point_told tells) ∙ ap (λ (l : List ℕ). l ++ done_text count) keeps.given);
       }
       told_whole (Err fault) told = record {
         holds = λ tells m stands.
@@ -227,6 +240,7 @@ module _ (limit : ℕ) (session : Session) (mid : Shown) (last : Session) (end :
         counts = counts_then mid point new (count_of fault) point_counts (subst (λ (f : Fault). Counts point new (count_of f)) (sym told.sink) (counting.untold point new (done_text count) (record {}) told.tells));
         reason = subst (λ (f : Fault). IsEndOf limit session mid new f) (sym told.sink) tt;
         cut_off = λ tells past. absurd (never_past new tells past);
+        quiet = λ tells none. let part = told.tells.gives.part (point_told tells) in never_quiet new tells (take part.0 (done_text count)) (part.2 ∙ ap (λ (l : List ℕ). l ++ take part.0 (done_text count)) keeps.given);
       }
 
   -- the point was made, and the last line was given, or not

@@ -1,5 +1,5 @@
 -- A run up to its opened session, and a run that isn't opened.
-use Rattle.std.proofs.Common.{◌≡◌, ◌⊎◌, inl, ⊎_elim, ℕ, List, [], length, sym, ap, ◌∙◌, refl, arith, append-nil}
+use Rattle.std.proofs.Common.{◌≡◌, ◌⊎◌, inl, inr, ⊎_elim, ℕ, List, [], length, sym, ap, ◌∙◌, refl, arith, append-nil}
 use Rattle.std.specs.Prelude.{Some, None, Result, Err, IsTrue}
 use Rattle.fv_disk.specs.Shown.{Ends, Image, Shown, IsDisk, IsSettled, Rose}
 use Rattle.fv_disk.specs.Crash.{Leaves}
@@ -78,6 +78,8 @@ module _ (limit : ℕ) (old mid : Shown) (laws : IsDisk old) (unwritten : IsUnwr
       counts = counts;
       reason = reason;
       unopened = how;
+      quiet = λ tells output given asks. unwritten.reads;
+      opened = λ tells. inr (refl, unwritten);
       cut_off = λ tells past. absurd (none_taken past);
     }
 

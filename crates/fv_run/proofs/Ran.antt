@@ -12,6 +12,7 @@ use Rattle.fv_lines.proofs.Counting.{counts_then}
 use Rattle.fv_aggregate.specs.declared.session.Session.{Session}
 use Rattle.fv_aggregate.specs.Asking.{AsksWithin}
 use Rattle.fv_aggregate.specs.Calls.{SameCounts}
+use Rattle.fv_aggregate.specs.Opening.{IsOpened}
 use Rattle.fv_aggregate.specs.Causes.{IsUnwritten}
 use Rattle.fv_aggregate.specs.Standing.{IsWithoutFiles, Stands, StandsFor}
 use Rattle.fv_run.specs.declared.ending.Fault.{Fault}
@@ -19,8 +20,8 @@ use Rattle.fv_run.specs.declared.ending.Fault.TheVariants.{Usage, NotAggregate, 
 use Rattle.fv_run.specs.Built.{lines_built}
 use Rattle.fv_run.specs.Endings.{IsWholeFault, raised_by}
 use Rattle.fv_run.specs.Promises.{line_at}
-use Rattle.fv_run.specs.Running.{HasAnsweredAll, HasChanged, HasFollowed, HasReason, Holds, IsAskedFor, IsAtRest, IsFileDamage, IsLacking, IsOverLimit, IsPastLimit, IsSessionDamage, Ran, reads_blocks, Survives, SurvivesFrom}
-use Rattle.fv_run.specs.Answering.{IsEndOf, Stopped}
+use Rattle.fv_run.specs.Running.{HasAnsweredAll, HasChanged, HasFollowed, HasReason, Holds, IsAskedFor, IsAtRest, IsFileDamage, IsLacking, IsOverLimit, IsPastLimit, IsSessionDamage, Ran, reads_blocks, Survives, SurvivesFrom, AsksNone, IsQuiet}
+use Rattle.fv_run.specs.Answering.{IsEndOf, Stopped, BeginsFor}
 use Rattle.fv_run.proofs.Admitted.{image_is_admitted}
 use Rattle.fv_run.proofs.Sessions.{not_opened}
 use Rattle.fv_run.proofs.Opening.{crash_opened, crash_unsettled}
@@ -28,12 +29,13 @@ use Rattle.fv_run.proofs.Promises.{are_guaranteed, are_isolated}
 
 -- of a session that was opened at `mid`
 pub record RanOpen (limit : ℕ) (session : Session) (mid new : Shown) (result : Result Unit Fault) : Type 0 where
-  pub holds : IsTrue mid.tells → (m : Machine) → StandsFor mid session m m → Holds m result mid new
-  pub done : IsTrue mid.tells → (m : Machine) → StandsFor mid session m m → OnOk result (HasAnsweredAll m (lines_built mid.ends.left) mid new)
-  pub no_damage : IsTrue mid.tells → (m : Machine) → StandsFor mid session m m → IfErr result IsWholeFault
+  pub holds : IsTrue mid.tells → (m : Machine) → BeginsFor mid session m → Holds m result mid new
+  pub done : IsTrue mid.tells → (m : Machine) → BeginsFor mid session m → OnOk result (HasAnsweredAll m (lines_built mid.ends.left) mid new)
+  pub no_damage : IsTrue mid.tells → (m : Machine) → BeginsFor mid session m → IfErr result IsWholeFault
   pub counts : Counts mid new (raised_by result)
   pub reason : IfErr result (IsEndOf limit session mid new)
   pub cut_off : IsTrue mid.tells → IsOverLimit limit mid new → result ≡ Err Limit
+  pub quiet : IsTrue mid.tells → session.pending ≡ 0 → IsQuiet (lines_built mid.ends.left) mid new
 
 pub stopped_open : (limit : ℕ) (session : Session) (mid new : Shown) (fault : Fault) → Stopped limit session mid new fault → RanOpen limit session mid new (Err fault)
 stopped_open limit session mid new fault stopped = record {
@@ -43,10 +45,14 @@ stopped_open limit session mid new fault stopped = record {
   counts = stopped.counts;
   reason = stopped.reason;
   cut_off = λ tells past. ap Err (stopped.cut_off tells past);
+  quiet = stopped.quiet;
 }
 
 module _ (limit : ℕ) (session : Session) (old mid new : Shown) (laws : IsDisk old) (unwritten : IsUnwritten old mid) (stands : Stands mid session)
-    (machine : IsTrue old.tells → (m : Machine) → machine_of old.reads ≡ Some m → StandsFor mid session m m) (within : IsTrue old.tells → AsksWithin mid session 0) (none : IsTrue old.tells → IsWithoutFiles session) (calm : SameCounts old mid) where
+    (stood : IsTrue old.tells → (m : Machine) → machine_of old.reads ≡ Some m → StandsFor mid session m m) (within : IsTrue old.tells → AsksWithin mid session 0) (none : IsTrue old.tells → IsWithoutFiles session) (calm : SameCounts old mid) (loaded : IsTrue old.tells → IsOpened old.reads session) (begins : session.pending ≡ 0) where
+  machine : IsTrue old.tells → (m : Machine) → machine_of old.reads ≡ Some m → BeginsFor mid session m
+  machine tells m is = record { stands = stood tells m is; pending = begins }
+
   mid_told : IsTrue old.tells → IsTrue mid.tells
   mid_told tells = rw unwritten.kept.tells tells
 
@@ -154,5 +160,8 @@ module _ (limit : ℕ) (session : Session) (old mid new : Shown) (laws : IsDisk 
     counts = counts_then old mid new (raised_by result) open_counts r.counts;
     reason = reasons_since result r.reason;
     unopened = λ tells none. absurd (not_opened mid session (mid_told tells) stands (rw unwritten.reads none));
+    quiet = λ tells output given asks.
+        r.quiet (mid_told tells) begins output (given ∙ ap (λ (l : List ℕ). l ++ output) (sym unwritten.kept.given)) (subst (λ (l : List ℕ). AsksNone (lines_built l) output) (sym same_left) asks) ∙ unwritten.reads;
+    opened = λ tells. inl (session, loaded tells);
     cut_off = λ tells past. r.cut_off (mid_told tells) (past_before past);
   }

@@ -1,11 +1,12 @@
 -- The rooms that the lines of a script ask for.
-use Rattle.std.proofs.Common.{◌≡◌, ◌<◌, ◌≤◌, inl, inr, ⊎_elim, ℕ, max, suc, zero, List, [], ◌∷◌, refl, sym, subst, arith}
-use Rattle.std.specs.Prelude.{Contains}
+use Rattle.std.proofs.Common.{◌≡◌, ◌<◌, ◌≤◌, inl, inr, ⊎_elim, ℕ, ◌+◌, max, suc, zero, Bool, true, false, List, [], ◌∷◌, refl, sym, ap, subst, ◌∙◌, arith}
+use Rattle.std.specs.Prelude.{Contains, if◌then◌else◌}
 use Rattle.std.proofs.lemmas.Bool.{cases_lt}
 use Rattle.fv_model.specs.declared.commands.Command.{Command}
-use Rattle.fv_model.specs.Runs.{Line, Says}
+use Rattle.fv_model.specs.Runs.{Line, Says, is_cp}
 use Rattle.fv_aggregate.specs.Commands.{room_of}
-use Rattle.fv_run.specs.Running.{IsRoomIn}
+use Rattle.fv_run.specs.Running.{left_by, pending_behind, room_in, IsRoomIn}
+use Rattle.fv_run.specs.Promises.{line_at}
 
 -- ---- lines
 
@@ -33,3 +34,29 @@ greater_room lines a b first second = ⊎_elim
     (λ (below : a < b). let is : max a b ≡ b = omega (arith, below) in subst (IsRoomIn lines) (sym is) second)
     (λ (least : b ≤ a). let is : max a b ≡ a = omega (arith, least) in subst (IsRoomIn lines) (sym is) first)
     (cases_lt a b)
+
+-- ---- what may be pending
+
+pub behind_none : (lines : List Line) → pending_behind lines 0 ≡ 0
+unfolding pending_behind
+behind_none lines = refl
+
+left_more : (line : Line) (least most : ℕ) → least ≤ most → left_by least line ≤ left_by most line
+left_more line least most le = by (is_cp line)
+  where
+    by : (cp : Bool) → (if cp then 0 else least + room_in line) ≤ (if cp then 0 else most + room_in line)
+    by true = omega arith
+    by false = omega (arith, le)
+
+-- after one line more
+pub behind_more : (lines : List Line) (count : ℕ) (line : Line) → line_at lines count ≡ line → (old new : ℕ) → old ≤ pending_behind lines count → new ≤ left_by old line → new ≤ pending_behind lines (count + 1)
+unfolding pending_behind
+behind_more lines count line is old new before after =
+    let more : count + 1 ≡ suc count = omega arith in
+    let next : pending_behind lines (count + 1) ≡ left_by (pending_behind lines count) line = ap (pending_behind lines) more ∙ ap (left_by (pending_behind lines count)) is in
+    let wider = left_more line old (pending_behind lines count) before in
+    omega (arith, next, wider, after)
+
+-- a line that is no `cp` leaves what was pending
+pub left_other : (line : Line) (n : ℕ) → is_cp line ≡ false → n ≤ left_by n line
+left_other line n other = subst (λ (cp : Bool). n ≤ (if cp then 0 else n + room_in line)) (sym other) (omega arith)

@@ -20,9 +20,9 @@ use Rattle.fv_root.specs.Finding.{IsDamaged, IsFound, IsNoAggregate, root_found}
 use Rattle.fv_aggregate.specs.declared.fault.OpenFault.TheVariants.{Damaged}
 use Rattle.fv_aggregate.specs.declared.session.Session.{Session}
 use Rattle.fv_aggregate.specs.declared.fault.Fault.TheVariants as session_fault
-use Rattle.fv_aggregate.specs.Standing.{placed_in, IsWithoutFiles, Stands, StandsAfter, StandsFor}
+use Rattle.fv_aggregate.specs.Standing.{taken_since, Stands, StandsAfter, StandsFor}
 use Rattle.fv_aggregate.specs.Asking.{AsksWithin, IsShort}
-use Rattle.fv_aggregate.specs.Calls.{LacksBlocks, LacksPlace}
+use Rattle.fv_aggregate.specs.Calls.{LacksBlocks, HasFilesToPlace}
 use Rattle.fv_aggregate.specs.Calls as calls
 use Rattle.fv_aggregate.specs.Causes.{IsOpenFault, IsUnder}
 use Rattle.fv_aggregate.proofs.Clear.{none_placed}
@@ -150,7 +150,7 @@ not_damaged i at want number none fault = ⊎_elim
 pub lacks : (old new : Shown) (session new_session : Session) (at want found : ℕ) → calls.IsForWant old session new new_session (session_fault.Damaged at want found) → LacksSpace old session new
 lacks old new session new_session at want found is tells none room asks = ⊎_elim
     (λ (short : LacksBlocks old session new_session at want found).
-    let same : placed_in new_session.pool.map ≡ 0 = ap (λ (s : Session). placed_in s.pool.map) (short.same none.none) ∙ none_placed session.pool.map none.same in
+    let same : taken_since new_session.pool.map ≡ 0 = ap (λ (s : Session). taken_since s.pool.map) (short.same none.none) ∙ none_placed session.pool.map none.same in
     (at, want, found, subst (λ (i : Image). IsShort i room 0 at want found) (sym is.0.stays.reads) (subst (λ (n : ℕ). IsShort old.reads room n at want found) same (short.image tells room asks))))
-    (λ (place : LacksPlace session). absurd (place.files none.none))
+    (λ (place : HasFilesToPlace session). absurd (place.files none.none))
     is.1

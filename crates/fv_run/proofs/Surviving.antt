@@ -10,7 +10,7 @@ use Rattle.fv_aggregate.specs.declared.session.Session.{Session}
 use Rattle.fv_aggregate.specs.Standing.{OneOf, StandsAfter, StandsFor}
 use Rattle.fv_run.specs.declared.ending.Fault.{Fault}
 use Rattle.fv_run.specs.declared.ending.Fault.TheVariants.{Usage, NotAggregate, Source, Sink, Disk, Memory, Damaged, Limit}
-use Rattle.fv_run.specs.Running.{asks_behind, asks_point, begun, IsAfterSome, IsAskedFor, IsAtRest}
+use Rattle.fv_run.specs.Running.{asks_behind, asks_point, begun, pending_behind, IsAfterSome, IsAskedFor, IsAtRest}
 use Rattle.fv_run.specs.Answering.{IsLastPoint, StandsOnward}
 use Rattle.fv_run.proofs.Acked.{acked_part, acked_all, up_to_here, up_to_take, up_to_next}
 use Rattle.fv_run.proofs.Following.{after_next, left_below, line_at, line_behind}
@@ -159,17 +159,17 @@ module _ (m : Machine) (lines rest : List Line) (line : Line) (count : ℕ) (is 
       stayed e = at_old disk session n other least most (one_more other n asked) (subst (λ (x : Machine). StandsFor disk session x (after m lines (count + 1))) e stands)
 
   -- a point over the first `count` lines is one that the next line asks for
-  pub which_point : (point last : Machine) → (asks_point line ≡ false → point ≡ last) → (asks_behind lines count ≡ true) ⊎ (point ≡ last)
+  pub which_point : (point last : Machine) → (asks_point (pending_behind lines count) line ≡ false → point ≡ last) → (asks_behind lines count ≡ true) ⊎ (point ≡ last)
   which_point point last calm = ⊎_elim
-      (λ (asks : asks_point line ≡ true). inl (ap asks_point (line_behind count lines rest line is) ∙ asks))
-      (λ (none : asks_point line ≡ false). inr (calm none))
-      (yes_or_no (asks_point line))
+      (λ (asks : asks_point (pending_behind lines count) line ≡ true). inl (ap (asks_point (pending_behind lines count)) (line_behind count lines rest line is) ∙ asks))
+      (λ (none : asks_point (pending_behind lines count) line ≡ false). inr (calm none))
+      (yes_or_no (asks_point (pending_behind lines count) line))
     where
       yes_or_no : (b : Bool) → (b ≡ true) ⊎ (b ≡ false)
       yes_or_no true = inl refl
       yes_or_no false = inr refl
 
-  pub onward : (disk : Shown) (session : Session) (n : ℕ) → up_to_cp (take count lines) ≤ n → n ≤ count → IsLastPoint lines count n → (stands : StandsOnward disk session (after m lines n) (after m lines count) line) → (asks_point line ≡ false → stands.after.point ≡ after m lines n) → IsOnward disk session
+  pub onward : (disk : Shown) (session : Session) (n : ℕ) → up_to_cp (take count lines) ≤ n → n ≤ count → IsLastPoint lines count n → (stands : StandsOnward disk session (after m lines n) (after m lines count) line) → (asks_point (pending_behind lines count) line ≡ false → stands.after.point ≡ after m lines n) → IsOnward disk session
   onward disk session n least most asked stands calm = ⊎_elim
       (λ (cp : is_cp line ≡ true). at_next disk session cp (subst (λ (x : Machine). StandsFor disk session x x) (sym next_is) (stands.point cp)))
       (λ (other : is_cp line ≡ false). one_point disk session n stands.after.point other least most asked stands.after.one (which_point stands.after.point (after m lines n) calm) (subst (λ (x : Machine). StandsFor disk session stands.after.point x) (sym next_is) stands.after.stands))

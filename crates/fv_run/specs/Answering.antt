@@ -17,7 +17,7 @@ use Rattle.fv_run.specs.declared.ending.Fault.{Fault}
 use Rattle.fv_run.specs.declared.ending.Fault.TheVariants.{Source, Sink, Disk, Memory, Damaged, Limit}
 use Rattle.fv_run.specs.Endings.{IsWholeFault, count_of, raised_by}
 use Rattle.fv_run.specs.Built.{lines_built}
-use Rattle.fv_run.specs.Running.{asks_behind, asks_point, changes_files, HasChanged, Holds, IsOverLimit, IsPastLimit, IsRoomIn, IsSessionDamage, reads_blocks, Survives}
+use Rattle.fv_run.specs.Running.{asks_behind, asks_point, changes_files, HasChanged, Holds, IsOverLimit, IsPastLimit, IsRoomIn, IsSessionDamage, reads_blocks, Survives, left_by, pending_behind, IsQuiet}
 
 -- ---- lines and their replies
 
@@ -68,6 +68,11 @@ pub record AsksFor (lines : List Line) (disk : Shown) (session : Session) : Type
   pub line : IsRoomIn lines room
   pub asks : AsksWithin disk session room
 
+-- a session begins for a machine: it stands for it, and so does its last point, with nothing pending
+pub record BeginsFor (disk : Shown) (session : Session) (m : Machine) : Type 0 where
+  pub stands : StandsFor disk session m m
+  pub pending : session.pending ≡ 0
+
 -- A line is applied, and nothing is given.
 pub record Applies (session : Session) (line : Line) (old : Shown) (new_session : Session) (new : Shown) (result : Result Reply Fault) : Type 0 where
   pub done : IsTrue old.tells → (last m : Machine) → StandsFor old session last m → IfOk result (λ reply. AllowsAt m line reply × StandsOnward new new_session last m line)
@@ -83,7 +88,8 @@ pub record Applies (session : Session) (line : Line) (old : Shown) (new_session 
   pub left : new.ends.left ≡ old.ends.left
   pub counts : Counts old new (raised_by result)
   pub writes : OnOk result (new.write_faults ≡ old.write_faults)
-  pub calm : asks_point line ≡ false → new.reads ≡ old.reads
+  pub calm : (pending : ℕ) → session.pending ≤ pending → asks_point pending line ≡ false → new.reads ≡ old.reads
+  pub pending : OnOk result (new_session.pending ≤ left_by session.pending line)
 
 -- ---- all lines
 
@@ -115,6 +121,7 @@ pub record HasAnswered (m : Machine) (lines left : List Line) (old : Shown) (ses
   pub least : up_to_cp (take count lines) ≤ point
   pub most : point ≤ count
   pub asked : IsLastPoint lines count point
+  pub pending : session.pending ≤ pending_behind lines count
   pub stands : StandsFor now session (after m lines point) (after m lines count)
   pub crash : Leaves old now (Survives m lines old.given)
 
@@ -127,9 +134,12 @@ pub record StandsAt (limit : ℕ) (first : Session) (old : Shown) (held : Held) 
   pub reads : IsTrue old.tells → HasRead limit old held now count
   pub lines : IsTrue old.tells → (line : Line) → Contains (lines_built (unread held now)) line → Contains (lines_built old.ends.left) line
   pub behind : IsTrue old.tells → lines_built (unread held now) ≡ drop count (lines_built old.ends.left)
+  -- over any disk
+  pub pending : IsTrue old.tells → first.pending ≡ 0 → session.pending ≤ pending_behind (lines_built old.ends.left) count
+  pub quiet : IsTrue old.tells → first.pending ≡ 0 → ((line : ℕ) → line < count → asks_behind (lines_built old.ends.left) line ≡ false) → now.reads ≡ old.reads
   -- until a line has changed files
   pub asks : IsTrue old.tells → AsksWithin old first 0 → IsWithoutFiles first → AsksFor (lines_built old.ends.left) now session ⊎ HasChanged (lines_built old.ends.left) count
-  pub answers : IsTrue old.tells → (m : Machine) → StandsFor old first m m → HasAnswered m (lines_built old.ends.left) (lines_built (unread held now)) old session now count
+  pub answers : IsTrue old.tells → (m : Machine) → BeginsFor old first m → HasAnswered m (lines_built old.ends.left) (lines_built (unread held now)) old session now count
 
 -- All lines are answered, and so many there are.
 pub record IsAtEnd (limit : ℕ) (first : Session) (old : Shown) (session : Session) (now : Shown) (count : ℕ) : Type 0 where
@@ -149,10 +159,11 @@ IsEndOf limit first old new fault = ⊥
 
 -- A run that ended before all was done.
 pub record Stopped (limit : ℕ) (first : Session) (old new : Shown) (fault : Fault) : Type 0 where
-  pub holds : IsTrue old.tells → (m : Machine) → StandsFor old first m m → Holds m (Err fault) old new × IsWholeFault fault
+  pub holds : IsTrue old.tells → (m : Machine) → BeginsFor old first m → Holds m (Err fault) old new × IsWholeFault fault
   pub counts : Counts old new (count_of fault)
   pub reason : IsEndOf limit first old new fault
   pub cut_off : IsTrue old.tells → IsOverLimit limit old new → fault ≡ Limit
+  pub quiet : IsTrue old.tells → first.pending ≡ 0 → IsQuiet (lines_built old.ends.left) old new
 
 abbrev pub AnswersLines : ℕ → Session → Shown → Session → Shown → Result ℕ Fault → Type 0
 AnswersLines limit first old session new (Ok count) = IsAtEnd limit first old session new count

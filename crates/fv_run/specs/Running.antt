@@ -1,5 +1,5 @@
 -- Running a script on an aggregate: the headline, clause by clause.
-use Rattle.std.specs.Prelude.{◌≡◌, ◌⊎◌, ◌<◌, ◌≤◌, ◌+◌, ◌||◌, ℕ, nat_lt, is_some, Bool, true, false, List, ◌++◌, length, take, get_or, Some, Contains, IsTrue, Result, Err, IfErr, OnOk}
+use Rattle.std.specs.Prelude.{◌≡◌, ◌⊎◌, ◌<◌, ◌≤◌, ◌+◌, ◌||◌, ◌&&◌, ℕ, zero, suc, nat_lt, if◌then◌else◌, is_some, Bool, true, false, List, ◌++◌, length, take, get_or, Some, Contains, IsTrue, Result, Err, IsErr, IfErr, OnOk}
 use Rattle.fv_disk.specs.Shown.{Image, Shown, IsSettled, Rose}
 use Rattle.fv_disk.specs.Crash.{Leaves}
 use Rattle.fv_lines.specs.Counts.{Counts}
@@ -9,9 +9,11 @@ use Rattle.fv_model.specs.Runs.{Line, Says, NoCommand, OutOfRange, after, Full, 
 use Rattle.fv_image.specs.MachineOf.{machine_of}
 use Rattle.fv_root.specs.Finding.{IsNoAggregate}
 use Rattle.fv_aggregate.specs.declared.fault.OpenFault.TheVariants as opening
+use Rattle.fv_aggregate.specs.declared.session.Session.{Session}
 use Rattle.fv_aggregate.specs.Asking.{IsShort}
 use Rattle.fv_aggregate.specs.Causes.{IsOpenFault, IsUnwritten}
-use Rattle.fv_aggregate.specs.Commands.{changed_by, reads_files, room_of}
+use Rattle.fv_aggregate.specs.Commands.{changed_by, dirty_limit, reads_files, room_of}
+use Rattle.fv_aggregate.specs.Opening.{IsOpened}
 use Rattle.fv_run.specs.declared.ending.Fault.{Fault}
 use Rattle.fv_run.specs.declared.ending.Fault.TheVariants.{Usage, NotAggregate, Source, Sink, Disk, Memory, Damaged, Limit}
 use Rattle.fv_run.specs.Endings.{EndsWith, IsWholeFault, raised_by}
@@ -55,15 +57,40 @@ SurvivesFrom m lines old c g = (old.images c × (g ≡ old.given)) ⊎ Survives 
 
 -- ---- consistency points
 
--- whether a line asks for a consistency point: a `cp` does, and so does a command with room, before which a point makes room for it
-abbrev pub asks_point : Line → Bool
-asks_point (Says command) = is_cp (Says command) || nat_lt 0 (room_of command)
-asks_point NoCommand = false
-asks_point OutOfRange = false
+-- whether a line asks for a consistency point where so many blocks may be pending: a `cp` does, and so does a command with room that would pass the
+-- dirty limit with them, before which a point makes room for it
+abbrev pub asks_point : ℕ → Line → Bool
+asks_point pending (Says command) = is_cp (Says command) || (nat_lt 0 (room_of command) && nat_lt dirty_limit (pending + room_of command))
+asks_point pending NoCommand = false
+asks_point pending OutOfRange = false
+
+-- the room of a line
+abbrev pub room_in : Line → ℕ
+room_in (Says command) = room_of command
+room_in NoCommand = 0
+room_in OutOfRange = 0
+
+-- how many blocks may be pending once a line is answered: none after a `cp`
+abbrev pub left_by : ℕ → Line → ℕ
+left_by pending line = if is_cp line then 0 else pending + room_in line
+
+-- how many may be once the first `count` lines are: the rooms of those behind the last `cp`
+unfoldable pub pending_behind : List Line → ℕ → ℕ
+pending_behind lines zero = 0
+pending_behind lines (suc count) = left_by (pending_behind lines count) (line_at lines count)
 
 -- whether the line behind the first `count` does
 abbrev pub asks_behind : List Line → ℕ → Bool
-asks_behind lines count = asks_point (get_or lines count NoCommand)
+asks_behind lines count = asks_point (pending_behind lines count) (get_or lines count NoCommand)
+
+-- There is a line behind those that an output answers, and neither it nor one of those asks for a point.
+pub record AsksNone (lines : List Line) (output : List ℕ) : Type 0 where
+  pub more : whole output < length lines
+  pub none : (line : ℕ) → line ≤ whole output → asks_behind lines line ≡ false
+
+-- a run that ended so wrote nothing
+abbrev pub IsQuiet : List Line → Shown → Shown → Type 0
+IsQuiet lines old new = (output : List ℕ) → new.given ≡ old.given ++ output → AsksNone lines output → new.reads ≡ old.reads
 
 -- the sink failed in the last line, which comes after the point that the end of the script asks for
 pub record IsUntold (lines : List Line) (output : List ℕ) (result : Result Unit Fault) (count : ℕ) : Type 0 where
@@ -79,7 +106,8 @@ begun (Err Limit) output = whole output
 begun result output = whole output + 1
 
 -- The first `count` lines are those before a point that was asked for: all that the output acknowledges, or those before a line that was begun
--- and asks for a point. No fault asks for one.
+-- and asks for a point, done or not: a `cp`, or a command whose room passes the dirty limit with the rooms of the lines behind the `cp` before it.
+-- No fault asks for one but in such a line.
 abbrev pub IsAskedFor : List Line → List ℕ → Result Unit Fault → ℕ → Type 0
 IsAskedFor lines output result count = (count ≡ acked lines output) ⊎ (((count < begun result output) × (asks_behind lines count ≡ true)) ⊎ IsUntold lines output result count)
 
@@ -136,7 +164,7 @@ pub record HasChanged (lines : List Line) (count : ℕ) : Type 0 where
   pub changes : changes_files (line_at lines line) ≡ true
 
 -- A consistency point lacks blocks: the root at `at`, which counts, leaves `found` of them free, and `want`, which is more, is at most the
--- right side of the space rule.
+-- overheads of its volumes and what may be pending with an event of that room.
 pub record IsLacking (lines : List Line) (i : Image) : Type 0 where
   pub room : ℕ
   pub asks : IsRoomIn lines room
@@ -145,8 +173,8 @@ pub record IsLacking (lines : List Line) (i : Image) : Type 0 where
   pub found : ℕ
   pub short : IsShort i room 0 at want found
 
--- The files of a volume are damaged, or have no place: the line behind those that are answered reads blocks of files, and one of them isn't as
--- it has to be; or a line that is answered changes files, and a consistency point lacked blocks or numbers, for them or beside them.
+-- The script came to files: the line behind those that are answered reads blocks of files, or a line that is answered changes files. Such damage
+-- comes of a block of theirs that isn't as it has to be, or of a point that lacks blocks or numbers for them or beside them; that isn't said here.
 pub record IsFileDamage (lines : List Line) (old end : Shown) : Type 0 where
   pub output : List ℕ
   pub given : end.given ≡ old.given ++ output
@@ -180,6 +208,10 @@ HasReason limit old new Damaged = IsTrue old.tells → IsDamage old new
 -- 9
 HasReason limit old new Limit = IsTrue old.tells → IsPastLimit limit old new
 
+-- an image opens as a session, which has its root, its map and its volumes, all of them of their shapes
+abbrev pub Opens : Image → Type 0
+Opens i = (session : Session) × IsOpened i session
+
 -- how a run may end that isn't opened
 abbrev pub IsUnopened : Result Unit Fault → Type 0
 IsUnopened (Err NotAggregate) = Unit {0}
@@ -203,8 +235,8 @@ pub record Ran (limit : ℕ) (old new : Shown) (result : Result Unit Fault) : Ty
   pub crash : IsTrue old.tells → (m : Machine) → machine_of old.reads ≡ Some m → IsSettled old → Leaves old new (Survives m (lines_built old.ends.left) old.given)
   -- the same where writes are in flight when it begins
   pub crash_from : IsTrue old.tells → (m : Machine) → machine_of old.reads ≡ Some m → Leaves old new (SurvivesFrom m (lines_built old.ends.left) old)
-  -- Where no write and no barrier failed, the disk is settled, and has the image of the last point that the lines or their end asked for:
-  -- after the first fault no further one was made.
+  -- Where no write and no barrier failed, the disk is settled, and has the image of the last point that the lines or their end asked for. So
+  -- after a fault between lines, or in a line that asks for no point, no further one was made.
   pub at_rest : IsTrue old.tells → (m : Machine) → machine_of old.reads ≡ Some m → ¬ Rose old.write_faults new.write_faults → IsAtRest m (lines_built old.ends.left) result old new
   pub no_damage : IsTrue old.tells → (m : Machine) → machine_of old.reads ≡ Some m → IfErr result IsWholeFault
   -- Its lines are isolated by their homes, and in a volume of kind `volume` the size is guaranteed.
@@ -214,6 +246,10 @@ pub record Ran (limit : ℕ) (old new : Shown) (result : Result Unit Fault) : Ty
   pub counts : Counts old new (raised_by result)
   pub reason : IfErr result (HasReason limit old new)
   pub unopened : IsTrue old.tells → IsNoAggregate old.reads → IsUnopened result
+  -- what opens stays as it is while no line asks for a point, whatever it stands for
+  pub quiet : IsTrue old.tells → IsQuiet (lines_built old.ends.left) old new
+  -- what doesn't open stays as it is, whatever the fault, and nothing is given
+  pub opened : IsTrue old.tells → Opens old.reads ⊎ (IsErr result × IsUnwritten old new)
   pub cut_off : IsTrue old.tells → IsOverLimit limit old new → result ≡ Err Limit
 
 -- a run, with the status that tells how it ended

@@ -36,21 +36,19 @@ fn zeros_behind(bytes: &[u8]) -> usize
     bytes.iter().rev().take_while(|b| **b == 0).count()
 }
 
-/// Two digits for each byte. They go into an array by index, so that no byte asks for room.
+/// Two digits for each byte.
 #[tactic(auto, using(crate::proofs::Hexes::begins, crate::proofs::Hexes::turn, crate::proofs::Hexes::ended))]
 fn digits(bytes: &[u8]) -> ArrayVec<u8, 8194>
     requires { length bytes.now ≤ 4096 }
     ensures spelled { result.items ≡ flat_map hex bytes.now }
     ensures long { length result.items ≤ 8192 }
 {
-    let mut digits = [0; 8194];
-    for i in 0..bytes.len() {
-        digits[2 * i] = digit(bytes[i] / 16);
-        digits[2 * i + 1] = digit(bytes[i] % 16);
+    let mut digits = ArrayVec::new();
+    for byte in bytes {
+        digits.push(digit(*byte / 16));
+        digits.push(digit(*byte % 16));
     }
-    let mut line = ArrayVec::from(digits);
-    line.truncate(2 * bytes.len());
-    line
+    digits
 }
 
 fn digit(value: u8) -> u8

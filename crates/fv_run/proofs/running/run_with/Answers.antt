@@ -13,14 +13,14 @@ returns-in_err-session g c =
     let failed : c.from_residual.result ≡ Err (of_opening c.in_err-session.field-0.0) = search rules in
     let opened = c.in_err-session.ensures in
     subst (λ (r : Result Unit Fault). Ran c.args.limit (g.H.Disk.shown c.args.host.now) (g.H.Disk.shown c.«open».new.disk) r) (sym failed)
-    (not_open c.args.limit _ _ (g.met.H.Disk.laws c.args.host.now) opened.unwritten opened.at_rest _ opened.whole opened.fault opened.cause)
+    (not_open c.args.limit _ _ (g.met.H.Disk.laws c.args.host.now) opened.unwritten opened.at_rest _ (λ tells. (opened.fault tells).whole) (λ tells. (opened.fault tells).reason) opened.cause)
 
 pub returns-in_err-count : goal.returns-in_err-count
 returns-in_err-count g c =
     let failed : c.from_residual-in_err-count.result ≡ Err c.in_err-count.field-0.0 = search rules in
     let opened = c.in_ok-session.ensures in
     subst (λ (r : Result Unit Fault). Ran c.args.limit (g.H.Disk.shown c.args.host.now) (g.H.Disk.shown c.answer_lines.new.host) r) (sym failed)
-    (ran c.args.limit c.in_ok-session.session _ _ _ (g.met.H.Disk.laws c.args.host.now) opened.unwritten opened.stands opened.machine opened.asks opened.none opened.counts _
+    (ran c.args.limit c.in_ok-session.session _ _ _ (g.met.H.Disk.laws c.args.host.now) opened.unwritten opened.stands opened.machine opened.asks opened.none opened.counts opened.loaded opened.fresh.pending _
     (stopped_open c.args.limit c.in_ok-session.session _ _ _ c.in_err-count.ensures))
 
 pub returns-in_err-consistency_point : goal.returns-in_err-consistency_point
@@ -29,12 +29,12 @@ returns-in_err-consistency_point g c =
     let opened = c.in_ok-session.ensures in
     let point = c.in_err-consistency_point.ensures in
     subst (λ (r : Result Unit Fault). Ran c.args.limit (g.H.Disk.shown c.args.host.now) (g.H.Disk.shown c.consistency_point.new.disk) r) (sym failed)
-    (ran c.args.limit c.in_ok-session.session _ _ _ (g.met.H.Disk.laws c.args.host.now) opened.unwritten opened.stands opened.machine opened.asks opened.none opened.counts _
+    (ran c.args.limit c.in_ok-session.session _ _ _ (g.met.H.Disk.laws c.args.host.now) opened.unwritten opened.stands opened.machine opened.asks opened.none opened.counts opened.loaded opened.fresh.pending _
     (point_failed c.args.limit c.in_ok-session.session _ _ _ _ c.in_ok-count.ensures c.consistency_point.new.self _ _ point.goes point.goes_for point.kept point.damage))
 
 pub returns : goal.returns
 returns g c =
     let opened = c.in_ok-session.ensures in
     let point = c.in_ok-consistency_point.ensures in
-    ran c.args.limit c.in_ok-session.session _ _ _ (g.met.H.Disk.laws c.args.host.now) opened.unwritten opened.stands opened.machine opened.asks opened.none opened.counts _
+    ran c.args.limit c.in_ok-session.session _ _ _ (g.met.H.Disk.laws c.args.host.now) opened.unwritten opened.stands opened.machine opened.asks opened.none opened.counts opened.loaded opened.fresh.pending _
     (ran_whole c.args.limit c.in_ok-session.session _ _ _ _ c.in_ok-count.ensures c.consistency_point.new.self _ point.goes point.goes_for point.point _ _ c.tell_count.ensures)

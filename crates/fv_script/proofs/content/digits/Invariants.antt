@@ -1,5 +1,5 @@
 use Rattle.fv_script.proofs.Hexes.{Spelled}
 use Rattle.fv_script.proofs.content.digits.Given as goal
 
-abbrev pub invariant-loop-i : goal.invariant-loop-i
-invariant-loop-i l = Spelled l.digits l.bytes l.i
+abbrev pub invariant-loop-byte : goal.invariant-loop-byte
+invariant-loop-byte l = Spelled l.digits.items l.bytes l.byte-index

@@ -1,17 +1,19 @@
 use Rattle.std.proofs.Common.{◌≡◌, ◌≤◌, ◌+◌, ◌⊎◌, ℕ, rules, Err, Some, true≢false, refl, sym, ap, subst, ◌∙◌, ⊎_elim}
-use Rattle.std.specs.Prelude.{IsNone}
+use Rattle.std.specs.Prelude.{IsNone, Result}
 use Rattle.fv_model.specs.Space.{overhead, span_of}
+use Rattle.fv_volume.specs.Slots.{NoneHasName}
 use Rattle.fv_aggregate.specs.Telling.{names_from}
 use Rattle.fv_aggregate.specs.declared.session.Session.{Session}
 use Rattle.fv_model.specs.declared.answers.Reply.{Reply}
 use Rattle.fv_model.specs.declared.answers.Reply.TheVariants.{Names, Refused}
 use Rattle.fv_model.specs.declared.answers.Refusal.TheVariants.{Syntax}
+use Rattle.fv_aggregate.specs.declared.fault.Fault.{Fault}
 use Rattle.fv_aggregate.specs.declared.fault.Fault.TheVariants.{Failed, Memory}
-use Rattle.fv_aggregate.specs.Calls.{GoesFor}
-use Rattle.fv_aggregate.specs.Commands.{asked_by, changed_by, dirty_limit, machine_after, room_of}
+use Rattle.fv_aggregate.specs.Calls.{GoesFor, IsPlain}
+use Rattle.fv_aggregate.specs.Commands.{volume_asked, changed_by, dirty_limit, machine_after, room_of}
 use Rattle.fv_aggregate.proofs.Added.{not_refused}
-use Rattle.fv_aggregate.proofs.Applied.{asks_none, cp_asks, cp_goes, cp_goes_for, cp_replies, create_asks, create_goes, create_goes_for, create_no_point, create_replies, create_room, list_after, list_replies, some_room, rests_for, rests_for_fault, unbuilt, unbuilt_after, unbuilt_replies}
-use Rattle.fv_aggregate.proofs.Applying.{asks_still, look_asks, look_files, look_goes, look_goes_for, look_no_point, look_refused, look_reply, make_asks, make_calm, make_files, make_goes, make_goes_for, make_no_point, make_reply, no_step, not_dead, refused_as, rests_as, untouched_read}
+use Rattle.fv_aggregate.proofs.Applied.{asks_none, cp_asks, cp_built, cp_goes, cp_goes_for, cp_no_files, cp_no_list, cp_replies, create_asks, create_built, create_goes, create_goes_for, create_no_files, create_no_list, create_no_point, create_replies, create_room, list_after, list_done, list_fails, list_replies, no_files, some_room, rests_for, rests_for_fault, unbuilt, unbuilt_after, unbuilt_replies}
+use Rattle.fv_aggregate.proofs.Applying.{asks_still, look_asks, look_files, look_goes, look_goes_for, look_name, look_no_point, look_refused, look_reply, make_asks, make_calm, make_files, make_goes, make_goes_for, make_name, make_no_point, make_reply, make_unasked, no_step, not_dead, rests_as}
 use Rattle.fv_aggregate.proofs.Calls.{reads_itself, rests_done}
 use Rattle.fv_aggregate.proofs.Changing.{change_of_volume, change_reads, look_reads}
 use Rattle.fv_aggregate.proofs.session.Session.apply.Goals as goal
@@ -37,18 +39,21 @@ returns-in-VolCreate g c =
       asks = λ none. create_asks command _ _ _ c.in-VolCreate.is d s e n c.create.ensures.asks;
       goes_for = λ tells last m stands. create_goes_for command _ _ _ c.in-VolCreate.is d last m e n c.create.result (c.create.ensures.goes_for tells last m stands);
       reply = λ tells last m stands. create_replies command _ _ _ c.in-VolCreate.is m c.create.result (c.create.ensures.reply tells last m stands);
-      refused = λ tells last m stands. refused_as g.D.Disk.shown c.args.disk.now c.create.new.disk s n c.create.result c.create.ensures.refused;
       plain = λ plain. record {
         refused = c.create.ensures.refused;
         calm = λ other few. c.create.ensures.calm (low few);
         wanting = λ other few. c.create.ensures.wanting (low few);
         damage = c.create.ensures.damage;
+        unbuilt = λ fresh none. create_built command _ _ _ c.in-VolCreate.is _ none;
+        listed = λ list. create_no_list command _ _ _ c.in-VolCreate.is _ list;
+        pointed = λ cp. create_no_point command _ _ _ c.in-VolCreate.is _ cp;
+        memory = λ cp. create_no_point command _ _ _ c.in-VolCreate.is _ cp;
       };
+      on_files = λ files. create_no_files command _ _ _ c.in-VolCreate.is _ files;
       point = λ tells last m stands cp. create_no_point command _ _ _ c.in-VolCreate.is _ cp;
       calm = λ other few. rests_as g.D.Disk.shown c.args.disk.now c.create.new.disk (c.create.ensures.calm (low few));
       files = λ tells none without. c.create.ensures.files tells without;
-      steps = λ none. refl;
-      known = λ tells last m stands. no_step c.create.result c.args.steps.now;
+      steps = record { other = λ none. refl; known = λ tells last m stands. no_step c.create.result c.args.steps.now; dead = λ failed. refl };
       dead = λ failed. not_dead _ s fresh failed;
     }
 
@@ -65,18 +70,21 @@ returns-in-Cp g c =
       asks = λ none. cp_asks command c.in-Cp.is d s e n c.reclaim.ensures.asks;
       goes_for = λ tells last m stands. cp_goes_for command c.in-Cp.is d last m e n c.reclaim.result (c.reclaim.ensures.goes_for tells last m stands);
       reply = λ tells last m stands. cp_replies command c.in-Cp.is m c.reclaim.result c.reclaim.ensures.reply;
-      refused = λ tells last m stands. not_refused _ c.reclaim.result c.reclaim.ensures.reply;
       plain = λ plain. record {
         refused = not_refused _ c.reclaim.result c.reclaim.ensures.reply;
         calm = λ other. absurd (other c.in-Cp.is);
         wanting = λ other. absurd (other c.in-Cp.is);
         damage = c.reclaim.ensures.damage;
+        unbuilt = λ fresh none. cp_built _ command c.in-Cp.is none;
+        listed = λ list. cp_no_list _ command c.in-Cp.is list;
+        pointed = λ cp. c.reclaim.ensures.left;
+        memory = λ cp. c.reclaim.ensures.memory;
       };
+      on_files = λ files. cp_no_files _ command c.in-Cp.is files;
       point = λ tells last m stands cp. c.reclaim.ensures.done tells last m stands;
       calm = λ other. absurd (other c.in-Cp.is);
       files = λ tells none without. c.reclaim.ensures.files tells;
-      steps = λ none. refl;
-      known = λ tells last m stands. no_step c.reclaim.result c.args.steps.now;
+      steps = record { other = λ none. refl; known = λ tells last m stands. no_step c.reclaim.result c.args.steps.now; dead = λ failed. refl };
       dead = λ failed. not_dead _ s fresh failed;
     }
 
@@ -88,7 +96,7 @@ returns-in-Get g c =
     let n = c.look.new.self in
     let command = c.args.command.now in
     let name = c.in-Get.volume in
-    let asks = ap asked_by c.in-Get.is in
+    let asks = ap volume_asked c.in-Get.is in
     let looks = c.look.ensures.looks in
     let fresh : IsNone s.failed = subst (λ (k : Session). IsNone k.failed) c.self.view_is (subst IsNone (sym c.in_default.is) refl) in
     record {
@@ -96,13 +104,17 @@ returns-in-Get g c =
       asks = λ none. look_asks command name asks d s e n c.look.result looks;
       goes_for = look_goes_for command name asks d s e n c.look.result looks;
       reply = look_reply command name asks d s e n c.look.result looks;
-      refused = λ tells last m stands. look_refused command name asks d s e n c.look.result looks;
       plain = λ plain. absurd (true≢false (sym (look_reads command name asks) ∙ plain));
+      on_files = λ files. record {
+        range = λ fresh far. c.look.ensures.range far;
+        missing = λ fresh near other of none. c.look.ensures.missing near (subst (NoneHasName s.volumes) (look_name command name asks d s e n c.look.result looks other of) none);
+        asked = λ of. looks.read;
+        refused = λ tells last m stands. look_refused command name asks d s e n c.look.result looks;
+      };
       point = λ tells last m stands cp. look_no_point command name asks d s e n c.look.result looks _ cp;
       calm = λ other few. looks.only_reads;
       files = λ tells none without. look_files command name asks d s e n c.look.result looks without;
-      steps = c.look.ensures.steps;
-      known = c.look.ensures.known;
+      steps = record { other = c.look.ensures.steps; known = c.look.ensures.known; dead = λ failed. not_dead _ s fresh failed };
       dead = λ failed. not_dead _ s fresh failed;
     }
 
@@ -114,7 +126,7 @@ returns-in-Len g c =
     let n = c.look-in-Len.new.self in
     let command = c.args.command.now in
     let name = c.in-Len.volume in
-    let asks = ap asked_by c.in-Len.is in
+    let asks = ap volume_asked c.in-Len.is in
     let looks = c.look-in-Len.ensures.looks in
     let fresh : IsNone s.failed = subst (λ (k : Session). IsNone k.failed) c.self.view_is (subst IsNone (sym c.in_default.is) refl) in
     record {
@@ -122,13 +134,17 @@ returns-in-Len g c =
       asks = λ none. look_asks command name asks d s e n c.look-in-Len.result looks;
       goes_for = look_goes_for command name asks d s e n c.look-in-Len.result looks;
       reply = look_reply command name asks d s e n c.look-in-Len.result looks;
-      refused = λ tells last m stands. look_refused command name asks d s e n c.look-in-Len.result looks;
       plain = λ plain. absurd (true≢false (sym (look_reads command name asks) ∙ plain));
+      on_files = λ files. record {
+        range = λ fresh far. c.look-in-Len.ensures.range far;
+        missing = λ fresh near other of none. c.look-in-Len.ensures.missing near (subst (NoneHasName s.volumes) (look_name command name asks d s e n c.look-in-Len.result looks other of) none);
+        asked = λ of. looks.read;
+        refused = λ tells last m stands. look_refused command name asks d s e n c.look-in-Len.result looks;
+      };
       point = λ tells last m stands cp. look_no_point command name asks d s e n c.look-in-Len.result looks _ cp;
       calm = λ other few. looks.only_reads;
       files = λ tells none without. look_files command name asks d s e n c.look-in-Len.result looks without;
-      steps = c.look-in-Len.ensures.steps;
-      known = c.look-in-Len.ensures.known;
+      steps = record { other = c.look-in-Len.ensures.steps; known = c.look-in-Len.ensures.known; dead = λ failed. not_dead _ s fresh failed };
       dead = λ failed. not_dead _ s fresh failed;
     }
 
@@ -140,7 +156,7 @@ returns-in-Ls g c =
     let n = c.look-in-Ls.new.self in
     let command = c.args.command.now in
     let name = c.in-Ls.volume in
-    let asks = ap asked_by c.in-Ls.is in
+    let asks = ap volume_asked c.in-Ls.is in
     let looks = c.look-in-Ls.ensures.looks in
     let fresh : IsNone s.failed = subst (λ (k : Session). IsNone k.failed) c.self.view_is (subst IsNone (sym c.in_default.is) refl) in
     record {
@@ -148,13 +164,17 @@ returns-in-Ls g c =
       asks = λ none. look_asks command name asks d s e n c.look-in-Ls.result looks;
       goes_for = look_goes_for command name asks d s e n c.look-in-Ls.result looks;
       reply = look_reply command name asks d s e n c.look-in-Ls.result looks;
-      refused = λ tells last m stands. look_refused command name asks d s e n c.look-in-Ls.result looks;
       plain = λ plain. absurd (true≢false (sym (look_reads command name asks) ∙ plain));
+      on_files = λ files. record {
+        range = λ fresh far. c.look-in-Ls.ensures.range far;
+        missing = λ fresh near other of none. c.look-in-Ls.ensures.missing near (subst (NoneHasName s.volumes) (look_name command name asks d s e n c.look-in-Ls.result looks other of) none);
+        asked = λ of. looks.read;
+        refused = λ tells last m stands. look_refused command name asks d s e n c.look-in-Ls.result looks;
+      };
       point = λ tells last m stands cp. look_no_point command name asks d s e n c.look-in-Ls.result looks _ cp;
       calm = λ other few. looks.only_reads;
       files = λ tells none without. look_files command name asks d s e n c.look-in-Ls.result looks without;
-      steps = c.look-in-Ls.ensures.steps;
-      known = c.look-in-Ls.ensures.known;
+      steps = record { other = c.look-in-Ls.ensures.steps; known = c.look-in-Ls.ensures.known; dead = λ failed. not_dead _ s fresh failed };
       dead = λ failed. not_dead _ s fresh failed;
     }
 
@@ -167,20 +187,24 @@ returns-in-Some-changed_volume g c =
     let command = c.args.command.now in
     let name = c.in-Some-changed_volume.volume.now in
     let of : changed_by command ≡ Some name = sym c.in-Some-changed_volume.ensures in
-    let makes = c.change.ensures in
+    let makes = c.change.ensures.makes in
     let fresh : IsNone s.failed = subst (λ (k : Session). IsNone k.failed) c.self.view_is (subst IsNone (sym c.in_default.is) refl) in
     record {
       goes = make_goes command name of d s e n c.change.result makes;
       asks = make_asks command name of d s e n c.change.result makes;
       goes_for = make_goes_for command name of d s e n c.change.result makes;
       reply = make_reply command name of d s e n c.change.result makes;
-      refused = makes.refused;
       plain = λ plain. absurd (true≢false (sym (change_reads name command (change_of_volume name command of)) ∙ plain));
+      on_files = λ files. record {
+        range = λ fresh far. c.change.ensures.range far;
+        missing = λ fresh near other named none. c.change.ensures.missing near (subst (NoneHasName s.volumes) (make_name command name of d s e n c.change.result makes other named) none);
+        asked = λ asked. make_unasked command name of d s e n c.change.result makes _ asked;
+        refused = makes.refused;
+      };
       point = λ tells last m stands cp. make_no_point command name of d s e n c.change.result makes _ cp;
       calm = λ other few. make_calm command name of d s e n c.change.result makes few;
       files = λ tells isnt without. make_files command name of d s e n c.change.result makes _ isnt;
-      steps = λ none. refl;
-      known = λ tells last m stands. no_step c.change.result c.args.steps.now;
+      steps = record { other = λ none. refl; known = λ tells last m stands. no_step c.change.result c.args.steps.now; dead = λ failed. refl };
       dead = λ failed. not_dead _ s fresh failed;
     }
 
@@ -197,13 +221,12 @@ returns-in-None g c =
       asks = λ none. asks_still (room_of command) disk session;
       goes_for = λ tells last m stands. rests_for (Refused Syntax) disk session last m (machine_after m command) (g.met.D.Disk.laws c.args.disk.now) (unbuilt_after m command other) stands;
       reply = λ tells last m stands. unbuilt_replies m command other;
-      refused = λ tells last m stands refused. untouched_read disk session;
-      plain = λ plain. record { refused = λ refused. (refl, refl); calm = λ not few. refl; wanting = λ not few. tt; damage = tt };
+      plain = λ plain. record { refused = λ refused. (refl, refl); calm = λ not few. refl; wanting = λ not few. tt; damage = tt; unbuilt = λ fresh none. refl; listed = λ list. absurd (at.not-VolList list); pointed = λ cp. absurd (at.not-Cp cp); memory = λ cp. absurd (at.not-Cp cp) };
+      on_files = λ files. absurd (true≢false (sym files ∙ no_files command (asks_none command at.not-Get at.not-Len at.not-Ls) (sym c.in-None.ensures)));
       point = λ tells last m stands cp. absurd (at.not-Cp cp);
       calm = λ not few. reads_itself disk;
       files = λ tells none without. without;
-      steps = λ none. refl;
-      known = λ tells last m stands. refl;
+      steps = record { other = λ none. refl; known = λ tells last m stands. refl; dead = λ failed. refl };
       dead = λ failed. refl;
     }
 
@@ -223,3 +246,17 @@ returns-in_ok-names_of-in-VolList-clause-reply g c = λ tells last m stands.
     let names = c.in_ok-names_of-in-VolList.field-0 in
     let listed = subst (λ (s : Session). names ≡ names_from s.volumes 0 64) c.self.view_is c.in_ok-names_of-in-VolList.ensures in
     list_replies c.args.command.now c.in-VolList.is (g.D.Disk.shown c.args.disk.now) c.args.self.now last m stands names listed
+
+pub returns-in_err-names_of-in-VolList-clause-plain : goal.returns-in_err-names_of-in-VolList-clause-plain
+returns-in_err-names_of-in-VolList-clause-plain g c = λ plain.
+    let d = g.D.Disk.shown c.args.disk.now in
+    let s = c.args.self.now in
+    let command = c.args.command.now in
+    let failed : c.from_residual.result ≡ Err Memory = search rules in
+    subst (λ (r : Result Reply Fault). IsPlain command d c.args.disk.now s d c.args.disk.now s r) (sym failed)
+    (list_fails command c.in-VolList.is d c.args.disk.now s)
+
+pub returns-in_ok-names_of-in-VolList-clause-plain : goal.returns-in_ok-names_of-in-VolList-clause-plain
+returns-in_ok-names_of-in-VolList-clause-plain g c = λ plain.
+    list_done c.args.command.now c.in-VolList.is (g.D.Disk.shown c.args.disk.now) c.args.disk.now c.args.self.now c.in_ok-names_of-in-VolList.field-0
+    (subst (λ (s : Session). c.in_ok-names_of-in-VolList.field-0 ≡ names_from s.volumes 0 64) c.self.view_is c.in_ok-names_of-in-VolList.ensures)

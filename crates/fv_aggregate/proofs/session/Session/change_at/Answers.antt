@@ -53,4 +53,4 @@ returns-in_ok-make_room-in-None g c =
     let aimed = c.requires.aimed in
     let past : dirty_limit < s.pending + 16 = (let full : nat_le (s.pending + 16) 256 ≡ _ = sym c.has_room.ensures ∙ c.if-has_room.false in grind (arith, nat_tests, full)) in
     made_after d s c.args.command.now past (damaged_at d s c.args.slot aimed.state aimed.there c.requires.fresh) e c.judge.new.self c.in_ok-judged.judged c.in_ok-judged.ensures h c.make_room.new.self
-    aimed.state.name aimed.change (sym c.in-None.ensures) tt c.in_ok-make_room-in-None.ensures.goes c.in_ok-make_room-in-None.ensures.goes_for k c.carry_out-in-None.new.self c.carry_out-in-None.result c.carry_out-in-None.ensures.makes
+    aimed.state.name aimed.change (sym c.in-None.ensures) tt c.in_ok-make_room-in-None.ensures.goes c.in_ok-make_room-in-None.ensures.pending c.in_ok-make_room-in-None.ensures.goes_for k c.carry_out-in-None.new.self c.carry_out-in-None.result c.carry_out-in-None.ensures.makes

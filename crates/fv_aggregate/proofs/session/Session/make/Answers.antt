@@ -40,7 +40,7 @@ returns-clause-goes g c =
     let made = c.in_ok-make_room.ensures in
     let room : c.from-room.result ≡ overhead c.args.admitted.span = search rules in
     subst (λ (n : ℕ). Goes n old c.args.self.now mid c.add.new.self (Ok Done)) room
-    (added_goes old c.args.self.now mid c.make_room.new.self c.args.name.now c.args.size c.args.kind c.from-room.result made.goes made.few c.add.new.self c.in_ok-add.ensures.added c.in_ok-add.ensures.pending)
+    (added_goes old c.args.self.now mid c.make_room.new.self c.args.name.now c.args.size c.args.kind c.from-room.result made.goes made.pending made.few c.add.new.self c.in_ok-add.ensures.added c.in_ok-add.ensures.pending)
 
 pub returns-clause-asks : goal.returns-clause-asks
 returns-clause-asks g c =

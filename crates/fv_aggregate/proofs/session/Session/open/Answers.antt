@@ -1,9 +1,11 @@
 use Rattle.std.proofs.Common.{◌∙◌, sym, ap, subst}
-use Rattle.std.specs.Prelude.{IsTrue}
+use Rattle.std.specs.Prelude.{IfErr, IsTrue}
+use Rattle.fv_disk.specs.Shown.{Image}
 use Rattle.fv_image.specs.WholeMachine.{machine_of}
+use Rattle.fv_aggregate.specs.Causes.{OpenFails}
 use Rattle.fv_aggregate.proofs.Opened.{asks_result, opened_result, stands_result, without_files}
 use Rattle.fv_aggregate.proofs.Standing.{reads_whole}
-use Rattle.fv_aggregate.proofs.Whole.{whole_result}
+use Rattle.fv_aggregate.proofs.Whole.{fails_result, whole_result}
 use Rattle.fv_aggregate.proofs.session.Session.open.Goals as goal
 
 pub returns-clause-machine : goal.returns-clause-machine
@@ -12,11 +14,12 @@ returns-clause-machine g c = λ tells m is.
     let told = subst IsTrue (sym c.barrier.ensures.tells) tells in
     opened_result mid (g.D.Disk.shown c.load.new.disk) m c.load.result (c.in_ok-barrier.ensures.durable tells) told (reads_whole mid (g.met.D.Disk.laws c.barrier.new.self) told) c.load.ensures.only_reads (c.load.ensures.loaded told) c.load.ensures.each c.load.ensures.fresh (ap machine_of c.barrier.ensures.reads ∙ is)
 
-pub returns-clause-whole : goal.returns-clause-whole
-returns-clause-whole g c = λ tells m is.
+pub returns-clause-fault : goal.returns-clause-fault
+returns-clause-fault g c = λ tells.
     let mid = g.D.Disk.shown c.barrier.new.self in
     let told = subst IsTrue (sym c.barrier.ensures.tells) tells in
-    whole_result mid.reads m c.load.result (reads_whole mid (g.met.D.Disk.laws c.barrier.new.self) told) (ap machine_of c.barrier.ensures.reads ∙ is) (c.load.ensures.fault told)
+    subst (λ (i : Image). IfErr c.load.result (OpenFails i)) c.barrier.ensures.reads
+    (fails_result mid.reads c.load.result (c.load.ensures.fault told) (λ m is. whole_result mid.reads m c.load.result (reads_whole mid (g.met.D.Disk.laws c.barrier.new.self) told) is (c.load.ensures.fault told)))
 
 pub returns-clause-stands : goal.returns-clause-stands
 returns-clause-stands g c =

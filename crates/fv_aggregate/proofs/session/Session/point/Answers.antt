@@ -15,7 +15,7 @@ pub returns-in-Ok-clause-goes : goal.returns-in-Ok-clause-goes
 returns-in-Ok-clause-goes g c =
     let e = c.in-Ok.ensures in
     point_done (g.D.Disk.shown c.args.disk.now) c.args.self.now (g.D.Disk.shown c.full_point.new.disk) _ c.requires.fresh (subst (λ (s : Session). IsNone s.failed) (sym c.self.view_is) c.requires.fresh)
-    e.counts c.self.inside.pool c.self.inside.volumes e.goes_on
+    refl e.counts c.self.inside.pool c.self.inside.volumes e.goes_on
 
 pub returns-in-Ok-clause-asks : goal.returns-in-Ok-clause-asks
 returns-in-Ok-clause-asks g c =
