@@ -93,3 +93,8 @@ pub mod Undamaged
 pub mod KnownSteps
 pub mod FreeNumbers
 pub mod Waiting
+pub mod Promised
+pub mod PromisedOne
+pub mod Destroyed
+pub mod DestroyedOthers
+pub mod Emptied

@@ -29,3 +29,5 @@ pub mod Calls
 pub mod Changing
 pub mod Placing
 pub mod Held
+pub mod Promising
+pub mod Destroying
