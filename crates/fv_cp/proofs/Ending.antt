@@ -48,7 +48,7 @@ use Rattle.fv_volume.proofs.StoredTold.{entry_stays, stays_in, undelayed, past_c
 use Rattle.fv_volume.proofs.Told.{head_at, is_inside}
 use Rattle.fv_volume.proofs.Viewed.{entry_of}
 use Rattle.fv_volume.proofs.Waiting.{none_waits}
-use Rattle.fv_cp.specs.Course.{HasCome, IsOnCourse, as_lent, found_with, renewed, IsCourse, StaysFrom}
+use Rattle.fv_cp.specs.Course.{HasCome, IsOnCourse, as_lent, found_with, label_lent, renewed, IsCourse, StaysFrom}
 use Rattle.fv_cp.specs.Lent.{FitTogether, IsLent, IsLentAt}
 use Rattle.fv_cp.specs.Points.{GoesOn, IsPoint, IsSwitched, OldOrLent, machine_lent}
 use Rattle.fv_volume.proofs.RootFound.{found_still, map_now, next_in_range, fixed_taken}
@@ -56,6 +56,7 @@ use Rattle.std.proofs.lemmas.Option.{same_Some}
 use Rattle.fv_image.specs.Reclaimed.{IsAllocatable}
 use Rattle.fv_volume.specs.Files.{IsLabelled}
 use Rattle.fv_volume.specs.UnderRoot.{AllStandUnder, StandsUnder}
+use Rattle.fv_volume.proofs.Emptied.{none_stands}
 use Rattle.fv_volume.proofs.Staying.{entry_kept, kept_stands, place_is}
 use Rattle.fv_volume.proofs.StoredSlot.{stored_stands}
 use Rattle.fv_disk.specs.declared.Failed.{Failed}
@@ -182,6 +183,13 @@ module _ (disk : Shown) (pool : Pool) (states : States) (before : Machine) (lent
   stands : (s : ℕ) → s < 64 → StandsUnder mid.reads f s (settled_at labels states s) (container_at left.containers s)
   stands s inside = subst (λ (o : Option VolumeState). StandsUnder mid.reads f s o (container_at left.containers s)) (sym (settled_is s inside)) (by (is.each s inside))
     where
+      as_it_was : (o : Option VolumeState) (c : Option Mapped) → get_or labels s 0 ≡ label_lent o (get_or pool.found.root.labels s 0) → IsLentAt disk.reads pool.found s o c → IfSome o (λ x. x.changed ≡ false) → StandsUnder mid.reads f s o c
+      as_it_was None None named slot unchanged = none_stands f mid.reads s (place_is f s inside ∙ named)
+      as_it_was None (Some map) named slot unchanged = absurd slot
+      as_it_was (Some x) None named slot unchanged = absurd slot
+      as_it_was (Some x) (Some map) named slot unchanged =
+          still_stands pool.found f disk.reads mid.reads s inside (place_is f s inside ∙ named ∙ sym (place_is pool.found s inside)) agrees lent.tells.sound refl (Some x) (Some map) (slot.unchanged unchanged)
+
       by : IsOnCourse pool states (seen pool.kept disk.reads) 64 s (is.now s) (get_or labels s 0) (container_at left.containers s) mid.reads → StandsUnder mid.reads f s (is.now s) (container_at left.containers s)
       by (renewed x low there changed now r) =
           let lies : (b : ℕ) → is_of x (get_or labels s 0) r.new b ≡ true → IsAllocatable u.blocks b = λ b of. (is.spaced.held s b inside ((λ k. has_block (now k) (r.now k) b) ∙ of)).1 in
@@ -190,8 +198,7 @@ module _ (disk : Shown) (pool : Pool) (states : States) (before : Machine) (lent
           (past_clear pool states disk.reads fit.housed lent.tables lent.reach s x inside there) lies))
       by (as_lent waits at) =
           subst (λ (o : Option VolumeState). StandsUnder mid.reads f s o (container_at left.containers s)) (sym at.state) (subst (λ (c : Option Mapped). StandsUnder mid.reads f s (state_at states s) c) (sym at.lies)
-          (still_stands pool.found f disk.reads mid.reads s inside (place_is f s inside ∙ at.named ∙ sym (place_is pool.found s inside)) agrees lent.tells.sound refl (state_at states s) (container_at pool.containers s)
-          (loaded_from_lent disk.reads pool.found s (state_at states s) (container_at pool.containers s) (lent.slots s inside) (none_waits (state_at states s) s inside waits))))
+          (as_it_was (state_at states s) (container_at pool.containers s) at.named (lent.slots s inside) (none_waits (state_at states s) s inside waits)))
 
   -- an entry that stays has its block
   block_kept : (s v : ℕ) (x : VolumeState) → s < 64 → state_at states s ≡ Some x → stays x v ≡ true → placed_in fin.empty mid.reads (own_entry (container_at left.containers s) v) ≡ placed_in pool.kept disk.reads (own_entry (container_at pool.containers s) v)
@@ -310,7 +317,10 @@ module _ (disk : Shown) (pool : Pool) (states : States) (before : Machine) (lent
     places_stay = of_each states fit.housed.volumes (λ s o. IfSome o (λ x. x.changed ≡ false → label_place u s ≡ label_place (root_found pool.found) s)) (λ s. tt) (λ x there unchanged.
         let inside = is_inside states x.slot x fit.housed.long there in
         let same : IfSome (state_at states x.slot) (λ y. y.changed ≡ false) = subst (λ (o : Option VolumeState). IfSome o (λ y. y.changed ≡ false)) (sym there) unchanged in
-        sym (loaded_then x.slot inside).label ∙ ap label_in_state (settled_same (state_at states x.slot) (get_or labels x.slot 0) same) ∙ (loaded_from_lent disk.reads pool.found x.slot (state_at states x.slot) (container_at pool.containers x.slot) (lent.slots x.slot inside) same).label)
+        sym (loaded_then x.slot inside).label ∙ ap label_in_state (settled_same (state_at states x.slot) (get_or labels x.slot 0) same) ∙ (loaded_from_lent disk.reads pool.found x.slot (state_at states x.slot) (container_at pool.containers x.slot) (lent.slots x.slot inside) same (λ none. absurd (nowhere x (sym none ∙ there)))).label)
+      where
+        nowhere : (x : VolumeState) → ◌≡◌ {A = Option VolumeState} None (Some x) → ⊥
+        nowhere x e = cc
 
     pub point : IsPoint disk pool states new last stay
     point = record {
@@ -320,6 +330,7 @@ module _ (disk : Shown) (pool : Pool) (states : States) (before : Machine) (lent
       heads = heads_stay states stay labels settled;
       machine = same_told w (view_over last stay new.reads) stays_now lent.tables.bases lent.tables.rests;
       unchanged = unchanged_stay states stay labels settled;
+      free = λ s inside none. subst (λ (x : Found). label_place (root_found x) s ≡ 0) (sym found) (sym (loaded_then s inside).label ∙ ap label_in_state (sym (settled s) ∙ none));
       reclaimed = subst (λ (x : Found). delayed (view_at (root_found x) new.reads) ≡ 0) (sym found) (ap delayed same_now
           ∙ undelayed pool states disk.reads fit.housed lent.tables lent.reach f labels left.map.next (container_at left.containers) mid.reads refl refl all_stand);
       blocks = ap (λ (x : Found). x.blocks) found;

@@ -24,7 +24,7 @@ use Rattle.fv_volume.proofs.Spacing.{LeavesSpaced, written_leaves}
 use Rattle.fv_volume.proofs.Stored.{stored, stored_still}
 use Rattle.fv_volume.proofs.Waiting.{waits_first, waits_on}
 use Rattle.fv_cp.specs.Lent.{IsLent, IsLentSlot, asked_by, blocks_asked}
-use Rattle.fv_cp.specs.Course.{HasCome, IsAsLent, IsCourse, IsOnCourse, IsSlotWritten, as_lent, renewed, GoesPast, IsPassed, asked_from}
+use Rattle.fv_cp.specs.Course.{AreNamedFor, HasCome, IsAsLent, IsCourse, IsOnCourse, IsSlotWritten, as_lent, renewed, GoesPast, IsPassed, asked_from}
 use Rattle.fv_volume.proofs.LentSlots.{lent_slot, own_blocks}
 use Rattle.std.specs.FinMap as fin
 use Rattle.std.proofs.lemmas.List.Elements.{All-set}
@@ -40,11 +40,11 @@ use Rattle.std.proofs.lemmas.List.Sums.{sum_by-cons}
 
 -- ---- the start
 
-pub course_begins : (disk : Shown) (pool : Pool) (states : States) (before : Machine) → IsLent disk pool states before → (first i : Image) → ((b : ℕ) → i b ≡ first b) → IsCourse pool states first 0 pool.found.root.labels pool.map.next pool.containers i
-course_begins disk pool states before lent first i reads = record {
+pub course_begins : (disk : Shown) (pool : Pool) (states : States) (before : Machine) → IsLent disk pool states before → (labels : List ℕ) → AreNamedFor states pool.found.root.labels labels → (first i : Image) → ((b : ℕ) → i b ≡ first b) → IsCourse pool states first 0 labels pool.map.next pool.containers i
+course_begins disk pool states before lent labels named first i reads = record {
   now = state_at states;
   spaced = lent.spaced;
-  each = λ s inside. as_lent (waits_first s (state_at states s)) (record { state = refl; lies = refl; named = refl; stay = λ x map there lies v on some. reads (place_at map v) });
+  each = λ s inside. as_lent (waits_first s (state_at states s)) (record { state = refl; lies = refl; named = named.each s inside; stay = λ x map there lies v on some. reads (place_at map v) });
 }
 
 -- the course under other names of the same
@@ -198,12 +198,12 @@ asked_none states s past = ap (λ (xs : States). sum_by asked_by xs) (drop_of_le
 
 -- ---- the start
 
-pub come_first : (disk mid : Shown) (pool left : Pool) (states : States) (labels : List ℕ) → length labels ≡ 64 → labels ≡ pool.found.root.labels → IsInRange pool.found → StandsOn mid left.store.pairs → AreHoused pool.containers states → blocks_asked states ≤ free_blocks pool.map
+pub come_first : (disk mid : Shown) (pool left : Pool) (states : States) (labels : List ℕ) → AreNamedFor states pool.found.root.labels labels → StandsOn mid left.store.pairs → AreHoused pool.containers states → blocks_asked states ≤ free_blocks pool.map
     → left.map ≡ pool.map → left.containers ≡ pool.containers → left.found ≡ pool.found → left.kept ≡ fin.empty → Spares (IsTaken (on_disk pool.map)) disk mid (Ok tt)
     → (IsTrue disk.tells → (b : ℕ) → mid.reads b ≡ seen pool.kept disk.reads b) → HasCome disk pool states 0 labels left mid
-come_first disk mid pool left states labels long same range stands housed room map containers found kept spares reads = record {
-  long = long;
-  places = subst (λ (xs : List ℕ). All (λ place. place ≤ last_place) xs) (sym same) range.root.labels;
+come_first disk mid pool left states labels are stands housed room map containers found kept spares reads = record {
+  long = are.long;
+  places = are.places;
   stands = stands;
   housed = subst (λ (c : Slots). AreHoused c states) (sym containers) housed;
   room = subst (λ (m : Space). blocks_asked states ≤ free_blocks m) (sym map) room;
@@ -211,8 +211,8 @@ come_first disk mid pool left states labels long same range stands housed room m
   found = found;
   kept = kept;
   spares = spares;
-  written = λ tells before lent. same_course pool states (seen pool.kept disk.reads) 0 pool.found.root.labels labels pool.map.next left.map.next pool.containers left.containers mid.reads mid.reads same (ap (λ (m : Space). m.next) map) containers refl
-      (course_begins disk pool states before lent (seen pool.kept disk.reads) mid.reads (reads tells));
+  written = λ tells before lent. same_course pool states (seen pool.kept disk.reads) 0 labels labels pool.map.next left.map.next pool.containers left.containers mid.reads mid.reads refl (ap (λ (m : Space). m.next) map) containers refl
+      (course_begins disk pool states before lent labels are (seen pool.kept disk.reads) mid.reads (reads tells));
 }
 
 -- ---- a slot more

@@ -102,7 +102,7 @@ module _ (disk : Shown) (pool : Pool) (states : States) (mid : Shown) (held : Po
           let point = did before (lent_mid before was) in
           let told_mid : IsTrue mid.tells = subst IsTrue (sym placed.only_reads.stays.tells) told in
           let same = machine_mid before was in
-          let now : IsHeld new left stay (machine_lent mid held between) = past_held new left stay (machine_lent mid held between) point.lent goes.fit point.unchanged goes.unkept few (goes.loaded told_mid) (subst IsTrue (sym tells) told_mid) long none_now
+          let now : IsHeld new left stay (machine_lent mid held between) = past_held new left stay (machine_lent mid held between) point.lent goes.fit point.unchanged point.free goes.unkept few (goes.loaded told_mid) (subst IsTrue (sym tells) told_mid) long none_now
           (λ s. ready_of new left s (state_at stay s) (ready_now s)) in
           record {
             settled = point.settled;
@@ -111,6 +111,7 @@ module _ (disk : Shown) (pool : Pool) (states : States) (mid : Shown) (held : Po
             machine = held_machine new left stay (machine_lent mid held between) now goes.fit none_now whole_now ∙ point.machine ∙ same;
             unchanged = point.unchanged;
             reclaimed = point.reclaimed;
+            free = point.free;
           }
 
   -- ---- it wasn't done
