@@ -9,7 +9,6 @@ use Rattle.fv_model.specs.declared.commands.Command.TheVariants.{VolCreate, VolD
 use Rattle.fv_model.specs.Machines.{Machine}
 use Rattle.fv_aggmap.specs.Space.{Space}
 use Rattle.fv_volume.specs.Changing.{IsChangeOf}
-use Rattle.fv_cp.specs.Placing.{HaveNoFiles}
 use Rattle.fv_aggregate.specs.declared.fault.Fault.{Fault}
 use Rattle.fv_aggregate.specs.declared.session.Session.{Session}
 use Rattle.fv_aggregate.specs.Calls.{Goes, GoesFor, KeepsAsking, WasRead}
@@ -18,6 +17,7 @@ use Rattle.fv_aggregate.specs.Looking.{Looks, Makes}
 use Rattle.fv_aggregate.specs.Standing.{IsWithoutFiles, StandsFor}
 use Rattle.fv_aggregate.proofs.Calls.{reads_itself}
 use Rattle.fv_aggregate.proofs.Changing.{change_after, change_of_volume, change_replies, change_room, look_after, look_replies, look_room}
+use Rattle.fv_aggregate.proofs.Numbered.{no_files_read}
 
 none_some : {A : Type 0} (o : Option A) → IsNone o → IsSome o → ⊥
 none_some None none some = cc
@@ -109,7 +109,7 @@ module _ (c : Command) (name : List ℕ) (asks : volume_asked c ≡ Some name) (
     where
       by : (r : Result Reply Fault) → OnOk r (WasRead d s e n) → OnOk r (IsWithoutFiles n)
       by (Ok y) read = record {
-        none = subst (λ (k : Session). HaveNoFiles k.volumes) (sym read.same) without.none;
+        none = no_files_read s.volumes n.volumes read.volumes without.none;
         same = ap (λ (m : Space). m.next) read.pool.map ∙ without.same ∙ sym (ap (λ (m : Space). m.committed) read.pool.map);
       }
       by (Err f) read = tt

@@ -1,23 +1,21 @@
 -- What a session answers to a command that asks for files, by the call of a volume.
-use Rattle.std.proofs.Common.{◌≡◌, ◌⊎◌, ℕ, Bool, true, false, List, Option, Some, None, Result, Ok, Err, inl, inr, refl, sym, ap, subst, ◌∙◌, length, true≢false, arith}
-use Rattle.std.specs.Prelude.{IfSome, IsNone, IsSome, IsTrue, OnOk}
+use Rattle.std.proofs.Common.{◌≡◌, ◌<◌, ℕ, Bool, true, false, List, Option, Some, None, Result, Ok, Err, inl, inr, refl, sym, ap, subst, ◌∙◌, length, arith}
+use Rattle.std.specs.Prelude.{IsNone, IsSome, IsTrue, OnOk}
 use Rattle.std.specs.FinMap as fin
 use Rattle.fv_disk.specs.Shown.{Shown, IsDisk, Rose}
 use Rattle.fv_disk.specs.declared.fault.BlockFault.TheVariants as block
 use Rattle.fv_model.specs.declared.answers.Refusal.{Refusal}
 use Rattle.fv_model.specs.declared.answers.Refusal.TheVariants.{NoVolume}
-use Rattle.fv_model.specs.Spelling.{is_same_name}
 use Rattle.fv_model.specs.declared.answers.Reply.{Reply}
 use Rattle.fv_model.specs.declared.answers.Reply.TheVariants.{Refused}
 use Rattle.fv_model.specs.declared.commands.Command.{Command}
 use Rattle.fv_model.specs.declared.commands.Command.TheVariants.{Get, Len, Ls}
 use Rattle.fv_model.specs.Machines.{Machine}
 use Rattle.fv_model.specs.Refusals.{refusal}
-use Rattle.fv_laws.proofs.Changes.{itself, same_name}
+use Rattle.fv_laws.proofs.Changes.{same_name}
 use Rattle.fv_model.specs.Replies.{answer, is_open, Allows, AllowsBy, IsAnswer}
 use Rattle.fv_volume.specs.declared.fault.VolumeFault.{VolumeFault}
 use Rattle.fv_volume.specs.declared.fault.VolumeFault.TheVariants as volume
-use Rattle.fv_volume.proofs.Told.{is_inside}
 use Rattle.fv_volume.specs.declared.pool.Pool.{Pool}
 use Rattle.fv_volume.specs.declared.state.VolumeState.{VolumeState}
 use Rattle.fv_volume.specs.Calls.{Agrees, Asks, CallCause, Has, Reads, TableFails}
@@ -28,17 +26,20 @@ use Rattle.fv_volume.specs.Slots.{is_named, NoneHasName}
 use Rattle.fv_volume.specs.States.{States, state_at}
 use Rattle.fv_volume.proofs.Undamaged.{no_damage}
 use Rattle.fv_tables.specs.Told.{Standing}
+use Rattle.fv_cp.specs.Held.{IsHeldIn}
 use Rattle.fv_aggregate.specs.declared.fault.Fault.{Fault}
 use Rattle.fv_aggregate.specs.declared.fault.Fault.TheVariants.{DiskFault, Damaged, Memory}
 use Rattle.fv_aggregate.specs.declared.session.Session.{Session}
-use Rattle.fv_aggregate.specs.Calls.{HasDamage}
-use Rattle.fv_aggregate.specs.Commands.{volume_asked}
-use Rattle.fv_aggregate.specs.Looking.{AsksSlot, AsksState, AsksVolume, Faults, FindsNone, FindsOne, Looks, Replied}
+use Rattle.fv_aggregate.specs.Calls.{HasDamage, WasRead}
+use Rattle.fv_aggregate.specs.Commands.{has_range, volume_asked}
+use Rattle.fv_aggregate.specs.Looking.{AsksSlot, AsksState, Faults, IsAsked, Looks, Replied}
 use Rattle.fv_aggregate.specs.Standing.{Stands, StandsFor}
 use Rattle.fv_aggregate.proofs.HeldMachine.{is_there, not_there, one}
 use Rattle.fv_aggregate.proofs.CallEnds.{goes_broken, goes_damaged, goes_done, goes_for_broken, goes_for_done, goes_for_fault, goes_wanting}
-use Rattle.fv_aggregate.proofs.Looked.{asks_read, left, stands_for_read, stands_read, was_read}
-use Rattle.fv_aggregate.proofs.Missing.{refused_allows}
+use Rattle.fv_aggregate.proofs.Calls.{reads_itself}
+use Rattle.fv_aggregate.proofs.Looked.{asks_read, left, reads_alone, stands_for_read, stands_read, was_read}
+use Rattle.fv_aggregate.proofs.Missing.{asked_missing, refused_allows}
+use Rattle.fv_aggregate.proofs.Numbered.{still_there}
 
 -- an answer is the reply that the machine allows
 pub answer_allows : (m : Machine) (c : Command) (reply : Reply) → refusal m c ≡ None → is_open m c ≡ false → reply ≡ answer m c → Allows m c reply
@@ -164,25 +165,7 @@ module _ (d : Shown) (s : Session) (long : length s.volumes ≡ 64) (slot : ℕ)
         let has = has_volume last m is in
         answer_allows m c (says y) (of.agrees m has) (closed m) (of.reply m has)
 
--- ---- by the volume of a name
-
-ok_or : {X E : Type 0} (x : X) (e : E) → ◌≡◌ {A = Result X E} (Ok x) (Err e) → ⊥
-ok_or x e same = cc
-
-same_err : {X : Type 0} (a b : VolumeFault) → ◌≡◌ {A = Result X VolumeFault} (Err a) (Err b) → a ≡ b
-same_err a b e = cc
-
-same_refusal : (a b : Refusal) → volume.Refused a ≡ volume.Refused b → a ≡ b
-same_refusal a b e = cc
-
-not_disk : (a : Refusal) → volume.DiskFault ≡ volume.Refused a → ⊥
-not_disk a e = cc
-
-not_damage : (at want found : ℕ) (a : Refusal) → volume.Damaged at want found ≡ volume.Refused a → ⊥
-not_damage at want found a e = cc
-
-not_memory : (a : Refusal) → volume.Memory ≡ volume.Refused a → ⊥
-not_memory a e = cc
+-- ---- by what the volume answered
 
 disk_damage : (at want found : ℕ) → block.DiskFault ≡ block.Damaged at want found → ⊥
 disk_damage at want found e = cc
@@ -206,54 +189,38 @@ calm_damage told x old faults at want found (inl fails) = fails.0
 calm_damage told x old faults at want found (inr (inl bad)) = bad.calm
 calm_damage told x old faults at want found (inr (inr fails)) = fails.fails.0
 
-module _ (d e : Shown) (laws : IsDisk d) (s : Session) (q : Pool) (c : Command) (name : List ℕ) (start steps : ℕ) (fresh : IsNone s.failed) (stands : Stands d s)
-    (long : length s.volumes ≡ 64) (closed : (m : Machine) → is_open m c ≡ false) (missing : (m : Machine) → fin.get m.volumes name ≡ None → refusal m c ≡ Some NoVolume) where
+-- the session's volume is damaged, if one is
+pub damaged_at : (d : Shown) (s : Session) (slot : ℕ) (x : VolumeState) → state_at s.volumes slot ≡ Some x → IsNone s.failed → (new : Session) (at want found : ℕ) → HasDamage d s new at want found
+damaged_at d s slot x there fresh new at want found = inr (inr (record { fresh = fresh; slot = slot; there = subst IsSome (sym there) refl }))
+
+module _ (d e : Shown) (laws : IsDisk d) (s : Session) (q : Pool) (c : Command) (slot : ℕ) (x : VolumeState) (there : state_at s.volumes slot ≡ Some x) (start steps : ℕ) (fresh : IsNone s.failed) (stands : Stands d s)
+    (long : length s.volumes ≡ 64) (closed : (m : Machine) → is_open m c ≡ false) where
   abbrev now : Session
   now = record s { pool = q }
+
+  mine : (last m : Machine) → StandsFor d s last m → IsHeldIn d s.pool slot x
+  mine last m is = one d s.pool s.volumes long last is.held slot x there
 
   as_is : (new : Session) (result wanted : Result Reply Fault) (was : Session) → new ≡ was → result ≡ wanted → Looks d s c e was wanted → Looks d s c e new result
   as_is new result wanted was same is looks = subst (λ (r : Result Reply Fault). Looks d s c e new r) (sym is) (subst (λ (n : Session). Looks d s c e n wanted) (sym same) looks)
 
-  module _ (reads : Reads d s.pool e q) where
-    -- no volume has the name
-    by_none : (r : Result Reply VolumeFault) → FindsNone s.volumes name d s.pool start e q steps r → (new : Session) (result : Result Reply Fault) → Replied e r now new result → Looks d s c e new result
-    by_none (Ok reply) none new result is = absurd (ok_or reply (volume.Refused NoVolume) none.refused)
-    by_none (Err volume.DiskFault) none new result is = absurd (not_disk NoVolume (same_err {X = Reply} volume.DiskFault (volume.Refused NoVolume) none.refused))
-    by_none (Err (volume.Damaged at want found)) none new result is = absurd (not_damage at want found NoVolume (same_err {X = Reply} (volume.Damaged at want found) (volume.Refused NoVolume) none.refused))
-    by_none (Err volume.Memory) none new result is = absurd (not_memory NoVolume (same_err {X = Reply} volume.Memory (volume.Refused NoVolume) none.refused))
-    by_none (Err (volume.Refused r)) none new result is =
-        let which : r ≡ NoVolume = same_refusal r NoVolume (same_err {X = Reply} (volume.Refused r) (volume.Refused NoVolume) none.refused) in
-        as_is new result (Ok (Refused r)) now is.1 is.0 (looks_done d e laws s q reads fresh stands c (Refused r) none.calm (λ last m held.
-        refused_allows m c r (missing m (subst (λ (k : Machine). fin.get k.volumes name ≡ None) held.machine (not_there d s.pool s.volumes long name none.none)) ∙ ap (λ (a : Refusal). Some a) (sym which))))
-
-    -- the volume of a slot has it
-    by_one : (r : Result Reply VolumeFault) → FindsOne s.volumes name d s.pool c start e q steps r → (new : Session) (result : Result Reply Fault) → Replied e r now new result → Looks d s c e new result
-    by_one (Ok reply) of new result is = as_is new result (Ok reply) now is.1 is.0 (looks_done d e laws s q reads fresh stands c reply of.asks.cause
-        (answered_by d s long of.slot of.state of.there c (λ reply. reply) reply closed of.asks.asked))
-    by_one (Err (volume.Refused r)) of new result is = as_is new result (Ok (Refused r)) now is.1 is.0 (looks_done d e laws s q reads fresh stands c (Refused r) of.asks.cause
-        (refused_by d s long of.slot of.state of.there c (λ reply. reply) r of.asks.asked))
-    by_one (Err volume.DiskFault) of new result b = as_is new result (Err DiskFault) (record now { failed = new.failed }) b.1.1.1.same (b.1.0 ∙ ap (λ (g : Fault). Err g) b.1.1.0)
-        (looks_broken d e laws s q reads fresh stands c new.failed (rose_by _ _ _ e.faults of.asks.cause) b.1.1.1.written b.1.1.1.unwritten)
-    by_one (Err (volume.Damaged at want found)) of new result b = as_is new result (Err (Damaged at want found)) now b.1.1.1 (b.1.0 ∙ ap (λ (g : Fault). Err g) b.1.1.0)
-        (looks_damaged d e laws s q reads fresh stands c at want found (calm_damage _ _ _ e.faults at want found of.asks.cause)
-        (inr (inr (record { fresh = fresh; slot = of.slot; there = subst IsSome (sym of.there) refl })))
-        (λ tells last m held.
-        let here = one d s.pool s.volumes long last held.held of.slot of.state of.there in
-        no_damage d s.pool of.state here.stands here.well 0 e.faults at want found of.asks.cause))
-    by_one (Err volume.Memory) of new result b = as_is new result (Err Memory) now b.1.1.1 (b.1.0 ∙ ap (λ (g : Fault). Err g) b.1.1.0)
-        (looks_wanting d e laws s q reads fresh stands c (calm_memory _ _ _ e.faults of.asks.cause))
-
-  pub looks_by : (r : Result Reply VolumeFault) → AsksVolume d s.pool s.volumes name c start e q steps r → (new : Session) (result : Result Reply Fault) → Replied e r now new result → Looks d s c e new result
-  looks_by r (asks) new result is = by asks.which
-    where
-      by : FindsNone s.volumes name d s.pool start e q steps r ⊎ FindsOne s.volumes name d s.pool c start e q steps r → Looks d s c e new result
-      by (inl none) = by_none asks.reads r none new result is
-      by (inr of) = by_one asks.reads r of new result is
+  pub looks_by : (r : Result Reply VolumeFault) → AsksState d s.pool x c start e q steps r → (new : Session) (result : Result Reply Fault) → Replied e r now new result → Looks d s c e new result
+  looks_by (Ok reply) asks new result is = as_is new result (Ok reply) now is.1 is.0 (looks_done d e laws s q asks.reads fresh stands c reply asks.cause
+      (answered_by d s long slot x there c (λ reply. reply) reply closed asks.asked))
+  looks_by (Err (volume.Refused r)) asks new result is = as_is new result (Ok (Refused r)) now is.1 is.0 (looks_done d e laws s q asks.reads fresh stands c (Refused r) asks.cause
+      (refused_by d s long slot x there c (λ reply. reply) r asks.asked))
+  looks_by (Err volume.DiskFault) asks new result b = as_is new result (Err DiskFault) (record now { failed = new.failed }) b.1.1.1.same (b.1.0 ∙ ap (λ (g : Fault). Err g) b.1.1.0)
+      (looks_broken d e laws s q asks.reads fresh stands c new.failed (rose_by _ _ _ e.faults asks.cause) b.1.1.1.written b.1.1.1.unwritten)
+  looks_by (Err (volume.Damaged at want found)) asks new result b = as_is new result (Err (Damaged at want found)) now b.1.1.1 (b.1.0 ∙ ap (λ (g : Fault). Err g) b.1.1.0)
+      (looks_damaged d e laws s q asks.reads fresh stands c at want found (calm_damage _ _ _ e.faults at want found asks.cause) (damaged_at d s slot x there fresh now at want found)
+      (λ tells last m is. no_damage d s.pool x (mine last m is).stands (mine last m is).well 0 e.faults at want found asks.cause))
+  looks_by (Err volume.Memory) asks new result b = as_is new result (Err Memory) now b.1.1.1 (b.1.0 ∙ ap (λ (g : Fault). Err g) b.1.1.0)
+      (looks_wanting d e laws s q asks.reads fresh stands c (calm_memory _ _ _ e.faults asks.cause))
 
   -- no step was made
-  pub known_by : (r : Result Reply VolumeFault) → AsksVolume d s.pool s.volumes name c start e q steps r → (new : Session) (result : Result Reply Fault) → Replied e r now new result
+  pub known_by : (r : Result Reply VolumeFault) → AsksState d s.pool x c start e q steps r → (new : Session) (result : Result Reply Fault) → Replied e r now new result
       → (last m : Machine) → StandsFor d s last m → OnOk result (steps ≡ start)
-  known_by r asks new result is last m held = by asks.which
+  known_by r asks new result is last m held = by r is asks
     where
       fault_in : (g : VolumeFault) → Faults e g now new result → OnOk result (steps ≡ start)
       fault_in g b = subst (λ (z : Result Reply Fault). OnOk z (steps ≡ start)) (sym b.1.0) tt
@@ -261,49 +228,35 @@ module _ (d e : Shown) (laws : IsDisk d) (s : Session) (q : Pool) (c : Command) 
       in_ok : (y : Reply) → result ≡ Ok y → steps ≡ start → OnOk result (steps ≡ start)
       in_ok y is same = subst (λ (z : Result Reply Fault). OnOk z (steps ≡ start)) (sym is) same
 
-      moved : (z : Result Reply VolumeFault) → r ≡ z → Replied e z now new result → FindsOne s.volumes name d s.pool c start e q steps z → OnOk result (steps ≡ start)
-      moved (Ok reply) at is of =
-          let here = one d s.pool s.volumes long last held.held of.slot of.state of.there in
-          in_ok reply is.0 (of.asks.known here.stands here.well m (has_volume d s long of.slot of.state of.there last m held))
-      moved (Err (volume.Refused r)) at is of = in_ok (Refused r) is.0 (of.asks.unmoved r refl)
-      moved (Err volume.DiskFault) at is of = fault_in volume.DiskFault is
-      moved (Err (volume.Damaged a w f)) at is of = fault_in (volume.Damaged a w f) is
-      moved (Err volume.Memory) at is of = fault_in volume.Memory is
+      by : (z : Result Reply VolumeFault) → Replied e z now new result → AsksState d s.pool x c start e q steps z → OnOk result (steps ≡ start)
+      by (Ok reply) is asks = in_ok reply is.0 (asks.known (mine last m held).stands (mine last m held).well m (has_volume d s long slot x there last m held))
+      by (Err (volume.Refused r)) is asks = in_ok (Refused r) is.0 (asks.unmoved r refl)
+      by (Err volume.DiskFault) is asks = fault_in volume.DiskFault is
+      by (Err (volume.Damaged a w f)) is asks = fault_in (volume.Damaged a w f) is
+      by (Err volume.Memory) is asks = fault_in volume.Memory is
 
-      unmoved : (z : Result Reply Fault) → steps ≡ start → OnOk z (steps ≡ start)
-      unmoved (Ok y) same = same
-      unmoved (Err f) same = tt
+-- ---- the volume of a slot
 
-      by : FindsNone s.volumes name d s.pool start e q steps r ⊎ FindsOne s.volumes name d s.pool c start e q steps r → OnOk result (steps ≡ start)
-      by (inl none) = unmoved result none.unmoved
-      by (inr of) = moved r refl is of
+pub slot_asked : (d e : Shown) (p q : Pool) (states : States) (slot : ℕ) (x : VolumeState) → state_at states slot ≡ Some x → (c : Command) (start steps : ℕ) (r : Result Reply VolumeFault)
+    → AsksSlot d p (state_at states slot) c start e q steps r → AsksState d p x c start e q steps r
+slot_asked d e p q states slot x there c start steps r is = subst (λ (o : Option VolumeState). AsksSlot d p o c start e q steps r) there is
 
--- ---- the volume that is found by its name
-
-pub named_asked : (o : Option VolumeState) (name : List ℕ) (c : Command) → is_named o name ≡ true → volume_asked c ≡ Some name → IfSome o (λ x. volume_asked c ≡ Some x.name)
-named_asked None name c is asks = tt
-named_asked (Some x) name c is asks = asks ∙ ap (λ (n : List ℕ). Some n) (sym (same_name x.name name is))
-
-module _ (d e : Shown) (p q : Pool) (states : States) (name : List ℕ) (c : Command) (start steps : ℕ) (r : Result Reply VolumeFault) where
-  pub found_asks : (slot : ℕ) (o : Option VolumeState) → state_at states slot ≡ o → is_named o name ≡ true → AsksSlot d p o c start e q steps r → AsksVolume d p states name c start e q steps r
-  found_asks slot None there is asks = absurd asks
-  found_asks slot (Some x) there is asks = record {
-    reads = asks.reads;
-    which = inr (record { slot = slot; state = x; there = there; named = same_name x.name name is; asks = asks });
-  }
-
--- ---- no volume has the name
-
-pub not_none : (X : Type 0) (states : States) (slot : ℕ) (x : VolumeState) (name : List ℕ) → length states ≡ 64 → state_at states slot ≡ Some x → x.name ≡ name → NoneHasName states name → X
-not_none X states slot x name long there named none =
-    let low = is_inside states slot x long there in
-    let is : is_named (state_at states slot) name ≡ true = ap (λ (o : Option VolumeState). is_named o name) there ∙ ap (λ (n : List ℕ). is_same_name n name) named ∙ itself name in
-    absurd (true≢false (sym is ∙ none.none slot low))
-
-pub missing_by : (d e : Shown) (p q : Pool) (states : States) (name : List ℕ) (c : Command) (start steps : ℕ) (r : Result Reply VolumeFault) → AsksVolume d p states name c start e q steps r → length states ≡ 64 → NoneHasName states name
-    → (now new : Session) (result : Result Reply Fault) → Replied e r now new result → result ≡ Ok (Refused NoVolume)
-missing_by d e p q states name c start steps r asks long none now new result is = by asks.which
+-- the command asks for files of the volume that its name finds
+pub asked_at : (states : States) (slot : ℕ) (name : List ℕ) (c : Command) → slot < 64 → is_named (state_at states slot) name ≡ true → volume_asked c ≡ Some name → IsAsked states slot c
+asked_at states slot name c within named asks = by (state_at states slot) refl named
   where
-    by : FindsNone states name d p start e q steps r ⊎ FindsOne states name d p c start e q steps r → result ≡ Ok (Refused NoVolume)
-    by (inl n) = (subst (λ (z : Result Reply VolumeFault). Replied e z now new result) n.refused is).0
-    by (inr of) = not_none _ states of.slot of.state name long of.there of.named none
+    by : (o : Option VolumeState) → state_at states slot ≡ o → is_named o name ≡ true → IsAsked states slot c
+    by None at named = absurd cc
+    by (Some x) at named = record { within = within; state = x; there = at; asks = asks ∙ ap (λ (n : List ℕ). Some n) (sym (same_name x.name name named)) }
+
+-- a volume that isn't there is refused at once
+pub looks_missing : (d : Shown) → IsDisk d → (s : Session) → IsNone s.failed → Stands d s → length s.volumes ≡ 64 → (name : List ℕ) (c : Command) → volume_asked c ≡ Some name → has_range c ≡ true → NoneHasName s.volumes name
+    → Looks d s c d s (Ok (Refused NoVolume))
+looks_missing d laws s fresh stands long name c asks near none = looks_done d d laws s s.pool (reads_alone d d s.pool (reads_itself d) stands.cache) fresh stands c (Refused NoVolume) refl
+    (λ last m held. refused_allows m c NoVolume (asked_missing c name asks near m (subst (λ (k : Machine). fin.get k.volumes name ≡ None) held.machine (not_there d s.pool s.volumes long name none))))
+
+-- a session of which blocks were read is asked as before
+pub asked_read : (d : Shown) (s : Session) (e : Shown) (n : Session) (slot : ℕ) (c : Command) → WasRead d s e n → IsAsked s.volumes slot c → IsAsked n.volumes slot c
+asked_read d s e n slot c read asked =
+    let one = still_there s.volumes n.volumes read.volumes slot asked.state asked.there in
+    record { within = asked.within; state = one.0; there = one.1.0; asks = asked.asks ∙ ap (λ (n : List ℕ). Some n) one.1.1 }

@@ -229,7 +229,7 @@ module _ (disk : Shown) (pool : Pool) (states : States) (slot : ℕ) (name : Lis
     held_new = record {
       slot = here.slot_is;
       ready = ready_new stands;
-      stands = made_standing disk after x size kind head_own is.ledger is.files (entry_count x.span) tells (ap (container_at after.containers) here.slot_is ∙ is.holes) (alone_now slot x here.slot_is here is.state_is);
+      stands = made_standing disk after x size kind head_own is.ledger is.files is.numbers (entry_count x.span) tells (ap (container_at after.containers) here.slot_is ∙ is.holes) (alone_now slot x here.slot_is here is.state_is);
       led = led_new;
       well = made_well disk after x size kind head_own is.ledger is.files;
       wide = subst (λ (h : Head). h.most + 256 ≤ h.span) (sym is.head) (omega arith);

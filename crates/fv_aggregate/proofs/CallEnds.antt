@@ -5,6 +5,7 @@ use Rattle.fv_disk.specs.Shown.{Image, Shown, IsDisk, Rose}
 use Rattle.fv_disk.specs.Crash.{Leaves}
 use Rattle.fv_disk.specs.DiskCalls.{OnlyReads}
 use Rattle.fv_disk.proofs.Moments.{goes_on, then, weaken}
+use Rattle.fv_disk.proofs.Resting.{reads_then}
 use Rattle.fv_model.specs.Machines.{Machine}
 use Rattle.fv_image.specs.WholeMachine.{machine_of}
 use Rattle.fv_aggregate.specs.declared.fault.Fault.{Fault}
@@ -137,8 +138,12 @@ module _ {T : Type 0} (x : T) (first second : ℕ) (d : Shown) (s : Session) (e 
   counts_on : (g : Shown) → SameCounts e g → SameCounts d g
   counts_on g counts = record { faults = counts.faults ∙ goes.done.counts.faults; write_faults = counts.write_faults ∙ goes.done.counts.write_faults }
 
-  faults_on : (g : Shown) (new : Session) (f : Fault) → dirty_limit < s.pending + second → ((at want found : ℕ) → HasDamage d s new at want found) → HasFault second e n g new f → HasFault second d s g new f
-  faults_on g new DiskFault past damage row =
+  -- nothing was written in either, or room was made
+  abbrev CanWrite : Shown → Session → Shown → Type 0
+  CanWrite before old after = OnlyReads before after ⊎ (dirty_limit < old.pending + second)
+
+  faults_on : (g : Shown) (new : Session) (f : Fault) → (CanWrite e n g → CanWrite d s g) → ((at want found : ℕ) → HasDamage d s new at want found) → HasFault second e n g new f → HasFault second d s g new f
+  faults_on g new DiskFault written damage row =
       let same = goes.done.counts in
       record {
         reason = goes.done.was;
@@ -152,9 +157,9 @@ module _ {T : Type 0} (x : T) (first second : ℕ) (d : Shown) (s : Session) (e 
         };
         disk = tt;
       }
-  faults_on g new (Damaged at want found) past damage row = record { reason = damage at want found; counts = counts_on g row.counts; session = row.session; disk = inr past }
-  faults_on g new Memory past damage row = record { reason = goes.done.was; counts = counts_on g row.counts; session = row.session; disk = inr past }
-  faults_on g new (Failed faults) past damage row = absurd (both n.failed goes.done.goes_on row.reason)
+  faults_on g new (Damaged at want found) written damage row = record { reason = damage at want found; counts = counts_on g row.counts; session = row.session; disk = written row.disk }
+  faults_on g new Memory written damage row = record { reason = goes.done.was; counts = counts_on g row.counts; session = row.session; disk = written row.disk }
+  faults_on g new (Failed faults) written damage row = absurd (both n.failed goes.done.goes_on row.reason)
     where
       both : (o : Option ℕ) → IsNone o → o ≡ Some faults → ⊥
       both o none some = cc
@@ -162,22 +167,30 @@ module _ {T : Type 0} (x : T) (first second : ℕ) (d : Shown) (s : Session) (e 
   ends_on : (g : Shown) → KeepsEnds e g → KeepsEnds d g
   ends_on g ends = record { tells = ends.tells ∙ goes.ends.tells; given = ends.given ∙ goes.ends.given; ends = ends.ends ∙ goes.ends.ends }
 
-  -- A call that comes after one that added nothing, with room that passes the dirty limit. What was damaged in it is damaged for both.
-  pub goes_after : {U : Type 0} (g : Shown) (new : Session) (r : Result U Fault) → dirty_limit < s.pending + second → ((at want found : ℕ) → HasDamage d s new at want found) → Goes second e n g new r → Goes second d s g new r
-  goes_after g new (Ok y) past damage next = record {
+  -- A call that comes after one that added nothing. What was damaged in it is damaged for both.
+  goes_both : {U : Type 0} (g : Shown) (new : Session) (r : Result U Fault) → (CanWrite e n g → CanWrite d s g) → ((at want found : ℕ) → HasDamage d s new at want found) → Goes second e n g new r → Goes second d s g new r
+  goes_both g new (Ok y) written damage next = record {
     ends = ends_on g next.ends;
     stands = next.stands;
     done = record { was = goes.done.was; goes_on = next.done.goes_on; counts = counts_on g next.done.counts };
     fault = tt;
     pending = omega (arith, less, next.pending);
   }
-  goes_after g new (Err f) past damage next = record {
+  goes_both g new (Err f) written damage next = record {
     ends = ends_on g next.ends;
     stands = next.stands;
     done = tt;
-    fault = faults_on g new f past damage next.fault;
+    fault = faults_on g new f written damage next.fault;
     pending = omega (arith, less, next.pending);
   }
+
+  -- so it is with room that passes the dirty limit
+  pub goes_after : {U : Type 0} (g : Shown) (new : Session) (r : Result U Fault) → dirty_limit < s.pending + second → ((at want found : ℕ) → HasDamage d s new at want found) → Goes second e n g new r → Goes second d s g new r
+  goes_after g new r past damage next = goes_both g new r (λ _. inr past) damage next
+
+  -- and after one that only read
+  pub goes_on_read : {U : Type 0} (g : Shown) (new : Session) (r : Result U Fault) → OnlyReads d e → n.pending ≡ s.pending → ((at want found : ℕ) → HasDamage d s new at want found) → Goes second e n g new r → Goes second d s g new r
+  goes_on_read g new r reads same damage next = goes_both g new r (λ w. ⊎_elim (λ (read : OnlyReads e g). inl (reads_then d e g reads read)) (λ past. inr (omega (arith, past, same))) w) damage next
 
 -- ---- for the machines that the session stands for
 

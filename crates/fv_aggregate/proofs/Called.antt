@@ -12,6 +12,7 @@ use Rattle.fv_root.specs.Finding.{IsFound, root_found}
 use Rattle.fv_aggmap.specs.Space.{Space}
 use Rattle.fv_container.specs.Chains.{Slots, container_at}
 use Rattle.fv_container.specs.Mapped.{Mapped}
+use Rattle.fv_files.specs.declared.numbers.FileNumbers.{FileNumbers}
 use Rattle.fv_volume.specs.declared.pool.Pool.{Pool}
 use Rattle.fv_volume.specs.declared.state.VolumeState.{VolumeState}
 use Rattle.fv_volume.specs.Calls.{Reads}
@@ -29,15 +30,19 @@ use Rattle.fv_volume.proofs.Standings.{still_led, still_well}
 use Rattle.fv_volume.proofs.Told.{is_inside}
 use Rattle.fv_cp.specs.Held.{IsHeld, IsHeldIn}
 
--- What a call that changes a volume's files in memory leaves of it. Unmarked it is as it was.
+-- What a call that changes a volume's files in memory leaves of it. Unmarked it is as it was, but for the numbers of its files.
 pub record IsCalled (disk : Shown) (pool : Pool) (x y : VolumeState) : Type 0 where
-  pub same : y ≡ record x { now = y.now; map = y.map; files = y.files; ledger = y.ledger; changed = y.changed }
-  pub unchanged : y.changed ≡ false → y ≡ x
+  pub same : y ≡ record x { now = y.now; map = y.map; files = y.files; numbers = y.numbers; ledger = y.ledger; changed = y.changed }
+  pub unchanged : y.changed ≡ false → y ≡ record x { numbers = y.numbers }
   pub ready : IsReady disk pool y
   pub stands : IsStanding disk pool y
   pub led : IsLedTo disk pool y
   pub well : IsStoredWell disk pool y
   pub within : y.ledger.charge ≤ y.size
+
+-- the same volume is the same but for the numbers of its files
+pub but_for_numbers : (x y : VolumeState) → y ≡ x → y ≡ record x { numbers = y.numbers }
+but_for_numbers x y same = same ∙ ap (λ (n : Option FileNumbers). record x { numbers = n }) (ap (λ (z : VolumeState). z.numbers) (sym same))
 
 module _ (d e : Shown) (p q : Pool) (reads : Reads d p e q) where
   -- blocks were read: a volume is what it was
@@ -92,13 +97,16 @@ module _ (d e : Shown) (p q : Pool) (reads : Reads d p e q) where
 
     -- ---- its blocks
 
+    loaded_with : (map : Mapped) (n : Option FileNumbers) → IsLoaded d.reads p.found s (Some x) (Some map) → IsLoaded d.reads p.found s (Some (record x { numbers = n })) (Some map)
+    loaded_with map n is = record { head = is.head; tree = is.tree; label = is.label; bits = is.bits; changed = is.changed }
+
     slot_of : (c : Option Mapped) → IsLentAt d.reads p.found s (Some x) c → IsLentAt d.reads p.found s (Some y) c
     slot_of None never = never
     slot_of (Some map) l = record {
       label = ap (λ (z : VolumeState). z.label) called.same ∙ l.label;
       nodes = l.nodes;
       apart = subst (λ (z : VolumeState). AreApartIn z map) (sym called.same) (record { some = l.apart.some; entries = l.apart.entries; nodes = l.apart.nodes; label = l.apart.label });
-      unchanged = λ un. subst (λ (z : VolumeState). IsLoaded d.reads p.found s (Some z) (Some map)) (sym (called.unchanged un)) (l.unchanged (sym (ap (λ (z : VolumeState). z.changed) (called.unchanged un)) ∙ un));
+      unchanged = λ un. subst (λ (z : VolumeState). IsLoaded d.reads p.found s (Some z) (Some map)) (sym (called.unchanged un)) (loaded_with map y.numbers (l.unchanged (sym (ap (λ (z : VolumeState). z.changed) (called.unchanged un)) ∙ un)));
     }
 
     slots_there : (k : ℕ) → k < 64 → IsLentAt d.reads p.found k (state_at stay k) (container_at p.containers k)

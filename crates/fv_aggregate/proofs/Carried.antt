@@ -1,6 +1,6 @@
 -- A session that judged a command on files, or carried one out, by the call of the volume of a slot.
-use Rattle.std.proofs.Common.{◌≡◌, ◌<◌, ◌≤◌, ◌+◌, ◌-◌, ◌^◌, ℕ, true, List, Option, Some, None, Result, Ok, Err, length, true≢false, inr, refl, sym, ap, subst, ◌∙◌, arith, get_or-set_same}
-use Rattle.std.specs.Prelude.{IsNone, IsSome, min}
+use Rattle.std.proofs.Common.{◌≡◌, ◌<◌, ◌≤◌, ◌+◌, ◌-◌, ◌^◌, ℕ, true, List, Option, Some, None, Result, Ok, Err, length, true≢false, refl, sym, ap, subst, ◌∙◌, arith, get_or-set_same}
+use Rattle.std.specs.Prelude.{IsNone, min}
 use Rattle.std.specs.FinMap as fin
 use Rattle.std.proofs.lemmas.List.{set-get_or}
 use Rattle.fv_disk.specs.Shown.{Shown, IsDisk}
@@ -27,11 +27,11 @@ use Rattle.fv_cp.specs.Placing.{pending_by}
 use Rattle.fv_aggregate.specs.declared.fault.Fault.{Fault}
 use Rattle.fv_aggregate.specs.declared.fault.Fault.TheVariants.{DiskFault, Damaged, Memory}
 use Rattle.fv_aggregate.specs.declared.session.Session.{Session}
-use Rattle.fv_aggregate.specs.Calls.{GoesFor, HasDamage}
+use Rattle.fv_aggregate.specs.Calls.{GoesFor}
 use Rattle.fv_aggregate.specs.Commands.{changed_by, has_range}
 use Rattle.fv_aggregate.specs.Looking.{done_as, ChangesSlot, ChangesState, HasJudged, IsSlotChanged, JudgesSlot, JudgesState, IsAimed, Makes, Replied}
 use Rattle.fv_aggregate.specs.Standing.{Stands, StandsFor}
-use Rattle.fv_aggregate.proofs.Asked.{calm_damage, calm_memory, rose_by}
+use Rattle.fv_aggregate.proofs.Asked.{calm_damage, calm_memory, damaged_at, rose_by}
 use Rattle.fv_aggregate.proofs.CallEnds.{goes_broken, goes_damaged, goes_done, goes_for_broken, goes_for_done, goes_for_fault, goes_wanting}
 use Rattle.fv_aggregate.proofs.Changed.{accepted, beside, counted, has_within, held_done, held_left, machine_done, machine_left, mine, stands_changed, stands_for_changed}
 use Rattle.fv_aggregate.proofs.Calls.{reads_itself}
@@ -39,10 +39,6 @@ use Rattle.fv_aggregate.proofs.Changing.{change_allows, change_of_volume}
 use Rattle.fv_aggregate.proofs.HeldMachine.{not_there}
 use Rattle.fv_aggregate.proofs.Looked.{stands_for_read, stands_read, was_read}
 use Rattle.fv_aggregate.proofs.Missing.{no_change, refused_allows, refused_next}
-
--- the session's volume is damaged, if one is
-pub damaged_at : (d : Shown) (s : Session) (slot : ℕ) (x : VolumeState) → state_at s.volumes slot ≡ Some x → IsNone s.failed → (new : Session) (at want found : ℕ) → HasDamage d s new at want found
-damaged_at d s slot x there fresh new at want found = inr (inr (record { fresh = fresh; slot = slot; there = subst IsSome (sym there) refl }))
 
 -- ---- judged
 
@@ -199,7 +195,7 @@ refused_at_once d laws s fresh stands c r why = record {
   goes_for = λ tells last m is. subst (λ (n : Machine). GoesFor d last m n d s (Ok (Refused r))) (sym (refused_next m c r (why last m is)))
       (goes_for_done d d laws s s 16 (reads_itself d) fresh fresh stands (Refused r) last m m is is);
   reply = λ tells last m is. refused_allows m c r (why last m is);
-  refused = λ tells last m is refused. record { only_reads = reads_itself d; pool = record { map = refl; containers = refl; kept = refl; found = refl }; same = refl };
+  refused = λ tells last m is refused. record { only_reads = reads_itself d; pool = record { map = refl; containers = refl; kept = refl; found = refl }; volumes = λ k. refl; same = refl };
   calm = λ low. reads_itself d;
 }
 

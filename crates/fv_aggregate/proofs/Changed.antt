@@ -1,5 +1,5 @@
 -- What volumes and a session stand for once the files of one volume were changed in memory.
-use Rattle.std.proofs.Common.{◌≡◌, ◌≢◌, ◌<◌, ◌≤◌, ◌+◌, ◌-◌, ◌^◌, ℕ, cond, length, Option, Some, None, Result, Ok, Err, refl, sym, ap, subst, ◌∙◌, ⊎_elim, arith, length-set, get_or-set_other, get_or-set_same}
+use Rattle.std.proofs.Common.{◌≡◌, ◌≢◌, ◌<◌, ◌≤◌, ◌+◌, ◌-◌, ◌^◌, ℕ, cond, length, Option, Some, None, Result, Ok, Err, sym, ap, subst, ◌∙◌, ⊎_elim, arith, length-set, get_or-set_other, get_or-set_same}
 use Rattle.std.specs.Prelude.{IfSome, max, min}
 use Rattle.std.specs.Option.{is_some}
 use Rattle.std.proofs.lemmas.Bool.{cases_eq}
@@ -25,12 +25,12 @@ use Rattle.fv_container.specs.Mapped.{Mapped}
 use Rattle.fv_volume.specs.declared.fault.VolumeFault.{VolumeFault}
 use Rattle.fv_volume.specs.declared.pool.Pool.{Pool}
 use Rattle.fv_volume.specs.declared.state.VolumeState.{VolumeState}
-use Rattle.fv_volume.specs.Calls.{Changes, Has, HasWithin}
+use Rattle.fv_volume.specs.Calls.{Changes, Has, HasWithin, Reads}
 use Rattle.fv_volume.specs.Files.{IsLabelled}
 use Rattle.fv_volume.specs.Housed.{AreHoused}
 use Rattle.fv_volume.specs.Keeping.{Blocks, IsUnkept}
 use Rattle.fv_volume.specs.Loading.{Houses}
-use Rattle.fv_volume.specs.OneVolume.{volume_for, IsStanding}
+use Rattle.fv_volume.specs.OneVolume.{volume_for, IsReady, IsStanding}
 use Rattle.fv_volume.specs.Placing.{pending_of}
 use Rattle.fv_volume.specs.Slots.{committed_by, sum_of}
 use Rattle.fv_volume.specs.States.{States, parent_in, state_at, with_state}
@@ -43,14 +43,14 @@ use Rattle.fv_aggregate.specs.declared.session.Session.{Session}
 use Rattle.fv_aggregate.specs.Looking.{ChangesState}
 use Rattle.fv_aggregate.specs.Standing.{clear_blocks, overhead_by, overheads_in, taken_since, Stands, StandsFor}
 use Rattle.fv_aggregate.proofs.Becoming.{machine_becomes, machine_stays}
-use Rattle.fv_aggregate.proofs.Called.{called_held, IsCalled}
+use Rattle.fv_aggregate.proofs.Called.{but_for_numbers, called_held, IsCalled}
 use Rattle.fv_aggregate.proofs.HeldMachine.{blocks_are, commits_are, is_admitted, is_there, one}
 use Rattle.fv_aggregate.proofs.Looked.{clear_read, last_overheads, placed_read, ready_read, settled_read, stands_read}
 
 -- ---- the volumes, whatever the disk tells
 
-module _ (d e : Shown) (p q : Pool) (states : States) (s : ℕ) (x y : VolumeState) (there : state_at states s ≡ Some x) (others : ℕ) (c : Command) (result : Result Unit VolumeFault)
-    (did : ChangesState d p x others c e q y result) (long : length states ≡ 64) where
+module _ (d e : Shown) (p q : Pool) (states : States) (s : ℕ) (x y : VolumeState) (there : state_at states s ≡ Some x) (reads : Reads d p e q)
+    (same : y ≡ record x { now = y.now; map = y.map; files = y.files; numbers = y.numbers; ledger = y.ledger; changed = y.changed }) (ready : IsReady e q y) (long : length states ≡ 64) where
   abbrev stay : States
   stay = with_state states s (Some y)
 
@@ -64,28 +64,28 @@ module _ (d e : Shown) (p q : Pool) (states : States) (s : ℕ) (x y : VolumeSta
   other k differ = get_or-set_other states s k (Some y) None differ
 
   pub named : y.name ≡ x.name
-  named = ap (λ (z : VolumeState). z.name) did.head.same
+  named = ap (λ (z : VolumeState). z.name) same
 
   pub ready_changed : AreReady d p states → AreReady e q stay
-  ready_changed ready k = ⊎_elim
+  ready_changed were k = ⊎_elim
       (λ (at : k ≡ s). subst (λ (n : ℕ). IfSome (state_at stay n) (IsReadyIn e q n)) (sym at) (subst (λ (o : Option VolumeState). IfSome o (IsReadyIn e q s)) (sym here)
-      (record { slot = ap (λ (z : VolumeState). z.slot) did.head.same ∙ own.slot; ready = did.ready })))
-      (λ (differ : k ≢ s). subst (λ (o : Option VolumeState). IfSome o (IsReadyIn e q k)) (sym (other k differ)) (ready_read d e p q did.reads states ready k))
+      (record { slot = ap (λ (z : VolumeState). z.slot) same ∙ own.slot; ready = ready })))
+      (λ (differ : k ≢ s). subst (λ (o : Option VolumeState). IfSome o (IsReadyIn e q k)) (sym (other k differ)) (ready_read d e p q reads states were k))
       (cases_eq k s)
     where
       own : IsReadyIn d p s x
-      own = subst (λ (o : Option VolumeState). IfSome o (IsReadyIn d p s)) there (ready s)
+      own = subst (λ (o : Option VolumeState). IfSome o (IsReadyIn d p s)) there (were s)
 
   houses : (c : Option Mapped) → Houses (Some x) c → Houses (Some y) c
   houses None never = never
-  houses (Some map) count = count ∙ ap (λ (z : VolumeState). entry_count z.span) (sym did.head.same)
+  houses (Some map) count = count ∙ ap (λ (z : VolumeState). entry_count z.span) (sym same)
 
   housed : AreHoused p.containers states → AreHoused p.containers stay
   housed was = record {
     long = length-set states s (Some y) ∙ long;
     volumes = λ k. ⊎_elim
         (λ (at : k ≡ s). subst (λ (n : ℕ). IfSome (state_at stay n) (IsLabelled n)) (sym at) (subst (λ (o : Option VolumeState). IfSome o (IsLabelled s)) (sym here)
-        (subst (λ (n : ℕ). IsLabelled n y) (ap (λ (z : VolumeState). z.slot) did.head.same ∙ (subst (λ (o : Option VolumeState). IfSome o (IsLabelled s)) there (was.volumes s)).slot_is) did.ready.labelled)))
+        (subst (λ (n : ℕ). IsLabelled n y) (ap (λ (z : VolumeState). z.slot) same ∙ (subst (λ (o : Option VolumeState). IfSome o (IsLabelled s)) there (was.volumes s)).slot_is) ready.labelled)))
         (λ (differ : k ≢ s). subst (λ (o : Option VolumeState). IfSome o (IsLabelled k)) (sym (other k differ)) (was.volumes k))
         (cases_eq k s);
     each = λ k. ⊎_elim
@@ -94,7 +94,7 @@ module _ (d e : Shown) (p q : Pool) (states : States) (s : ℕ) (x y : VolumeSta
         (λ (differ : k ≢ s). subst (λ (o : Option VolumeState). Houses o (container_at p.containers k)) (sym (other k differ)) (was.each k))
         (cases_eq k s);
     parents = λ k. was.parents k ∙ ⊎_elim
-        (λ (at : k ≡ s). ap (λ (n : ℕ). parent_in (state_at states n)) at ∙ ap parent_in there ∙ ap (λ (z : VolumeState). parent_in (Some z)) (sym did.head.same) ∙ sym (ap parent_in here) ∙ sym (ap (λ (n : ℕ). parent_in (state_at stay n)) at))
+        (λ (at : k ≡ s). ap (λ (n : ℕ). parent_in (state_at states n)) at ∙ ap parent_in there ∙ ap (λ (z : VolumeState). parent_in (Some z)) (sym same) ∙ sym (ap parent_in here) ∙ sym (ap (λ (n : ℕ). parent_in (state_at stay n)) at))
         (λ (differ : k ≢ s). ap parent_in (sym (other k differ)))
         (cases_eq k s);
   }
@@ -102,17 +102,17 @@ module _ (d e : Shown) (p q : Pool) (states : States) (s : ℕ) (x y : VolumeSta
   -- the session's parts fit together
   pub fit_changed : FitTogether p states → FitTogether q stay
   fit_changed fit = record {
-    range = subst IsInRange (sym did.reads.leaves.found) fit.range;
-    size = ap blocks_of did.reads.leaves.map ∙ fit.size ∙ sym (ap (λ (f : Found). f.blocks) did.reads.leaves.found);
-    housed = subst (λ (c : Slots). AreHoused c stay) (sym did.reads.leaves.containers) (housed fit.housed);
-    kept = λ b taken. subst (λ (k : Blocks). IsUnkept k b) (sym did.reads.leaves.kept) (fit.kept b (subst (λ (m : Space). IsTaken (on_disk m) b) did.reads.leaves.map taken));
+    range = subst IsInRange (sym reads.leaves.found) fit.range;
+    size = ap blocks_of reads.leaves.map ∙ fit.size ∙ sym (ap (λ (f : Found). f.blocks) reads.leaves.found);
+    housed = subst (λ (c : Slots). AreHoused c stay) (sym reads.leaves.containers) (housed fit.housed);
+    kept = λ b taken. subst (λ (k : Blocks). IsUnkept k b) (sym reads.leaves.kept) (fit.kept b (subst (λ (m : Space). IsTaken (on_disk m) b) reads.leaves.map taken));
   }
 
   -- the overheads stay
   pub same_overheads : overheads_in stay ≡ overheads_in states
   same_overheads =
       let sum = sum_by-set overhead_by states s (Some y) None inside in
-      let own : overhead_by (state_at states s) ≡ overhead_by (Some y) = ap overhead_by there ∙ sym (ap (λ (z : VolumeState). overhead_by (Some z)) did.head.same) in
+      let own : overhead_by (state_at states s) ≡ overhead_by (Some y) = ap overhead_by there ∙ sym (ap (λ (z : VolumeState). overhead_by (Some z)) same) in
       omega (arith, sum, own)
 
   -- so many blocks more are pending at most
@@ -209,7 +209,7 @@ module _ (d : Shown) (p : Pool) (states : States) (long : length states ≡ 64) 
       called_done : IsCalled e q x y
       called_done = record {
         same = did.head.same;
-        unchanged = did.head.idle;
+        unchanged = λ un. but_for_numbers x y (did.head.idle un);
         ready = did.ready;
         stands = stand;
         led = (did.table mine.stands).led mine.led;
@@ -240,7 +240,7 @@ module _ (d : Shown) (p : Pool) (states : States) (long : length states ≡ 64) 
       called_left : IsCalled e q x y
       called_left = record {
         same = did.head.same;
-        unchanged = did.head.idle;
+        unchanged = λ un. but_for_numbers x y (did.head.idle un);
         ready = did.ready;
         stands = left_stand;
         led = (did.table mine.stands).led mine.led;
@@ -275,7 +275,7 @@ module _ (d e : Shown) (s : Session) (q : Pool) (slot : ℕ) (x y : VolumeState)
         found = was.found;
         map = was.map;
         cache = was.cache;
-        ready = ready_changed d e s.pool q s.volumes slot x y there others c result did long is.ready;
+        ready = ready_changed d e s.pool q s.volumes slot x y there did.reads did.head.same did.ready long is.ready;
       }
 
   pub stands_for_changed : (last m n : Machine) → StandsFor d s last m → s.pending + 16 ≤ 256 → pending_of y.files ≤ pending_of x.files + 14
@@ -284,10 +284,10 @@ module _ (d e : Shown) (s : Session) (q : Pool) (slot : ℕ) (x y : VolumeState)
       let files : pending_files s.volumes + taken_since s.pool.map ≤ s.pending = is.files in
       let pending : pending_files s.volumes + taken_since s.pool.map + overheads_in s.volumes ≤ overheads (view_at (root_found s.pool.found) d.reads) + s.pending = is.pending in
       let fits : overheads (view_at (root_found s.pool.found) d.reads) + max 256 s.pending ≤ clear_blocks s.pool.map = is.room in
-      let own = own_pending d e s.pool q s.volumes slot x y there others c result did long in
-      let now = pending_within d e s.pool q s.volumes slot x y there others c result did long room in
+      let own = own_pending d e s.pool q s.volumes slot x y there did.reads did.head.same did.ready long in
+      let now = pending_within d e s.pool q s.volumes slot x y there did.reads did.head.same did.ready long room in
       let count : more ≡ pending_of y.files - pending_of x.files = more_is ∙ counts_all (pending_of x.files) (pending_of y.files) (omega (arith, files, own, few)) room in
-      let same = same_overheads d e s.pool q s.volumes slot x y there others c result did long in
+      let same = same_overheads d e s.pool q s.volumes slot x y there did.reads did.head.same did.ready long in
       let over = last_overheads d e s q did.reads in
       let placed : taken_since q.map ≡ taken_since s.pool.map = placed_read d e s q did.reads in
       let clear : clear_blocks q.map ≡ clear_blocks s.pool.map = clear_read d e s q did.reads in

@@ -18,9 +18,11 @@ mod Missing
 mod Called
 mod Looked
 mod CallEnds
+mod Numbered
 mod Asked
 mod Becoming
 mod Changed
+mod NumbersRead
 mod Changing
 mod Carried
 mod PointFirst

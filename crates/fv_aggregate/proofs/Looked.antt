@@ -141,7 +141,7 @@ module _ (d e : Shown) (s : Session) (q : Pool) (reads : Reads d s.pool e q) whe
       }
 
   pub was_read : WasRead d s e left
-  was_read = record { only_reads = reads.only_reads; pool = reads.leaves; same = refl }
+  was_read = record { only_reads = reads.only_reads; pool = reads.leaves; volumes = λ k. refl; same = refl }
 
 -- over a disk that was only read the pool is as it was read
 pub reads_alone : (d e : Shown) (pool : Pool) → OnlyReads d e → StandsOn d pool.store.pairs → Reads d pool e pool

@@ -23,6 +23,7 @@ use Rattle.fv_aggregate.specs.Standing.{StandsFor}
 use Rattle.fv_aggregate.proofs.CallEnds.{fails_early, goes_after, goes_for_after, goes_wider, replies_wider}
 use Rattle.fv_aggregate.proofs.Changing.{change_done, judged_accepted}
 use Rattle.fv_aggregate.proofs.Missing.{refused_allows, refused_next}
+use Rattle.fv_aggregate.proofs.Numbered.{still_there}
 
 -- ---- it ends where it was judged
 
@@ -122,4 +123,6 @@ still_aimed states stay slot c cores aimed = by (state_at stay slot) refl (cores
 
 -- a session of which blocks were read is aimed at as before
 pub aimed_read : (d : Shown) (s : Session) (e : Shown) (n : Session) (slot : ℕ) (c : Command) → WasRead d s e n → IsAimed s.volumes slot c → IsAimed n.volumes slot c
-aimed_read d s e n slot c read aimed = subst (λ (xs : States). IsAimed xs slot c) (sym (ap (λ (k : Session). k.volumes) read.same)) aimed
+aimed_read d s e n slot c read aimed =
+    let one = still_there s.volumes n.volumes read.volumes slot aimed.state aimed.there in
+    record { within = aimed.within; state = one.0; there = one.1.0; change = subst (λ (v : List ℕ). IsChangeOf v c) one.1.1 aimed.change }

@@ -1,5 +1,6 @@
 -- What every call of a session does: to the disk and to the session, and to the machines that the two stand for.
-use Rattle.std.specs.Prelude.{◌≡◌, ◌≢◌, ◌<◌, ◌≤◌, ◌+◌, ◌⊎◌, ℕ, max, IsTrue, IsNone, IsSome, Some, Result, Ok, OnOk, OnErr, IfOk, IfErr, List, false, true}
+use Rattle.std.specs.Prelude.{◌≡◌, ◌≢◌, ◌<◌, ◌≤◌, ◌+◌, ◌⊎◌, ℕ, max, IsTrue, IsNone, IsSome, Some, None, Result, Ok, OnOk, OnErr, IfOk, IfErr, List, false, true}
+use Rattle.std.specs.Option.{option_map}
 use Rattle.fv_disk.specs.Shown.{Shown, Rose}
 use Rattle.fv_disk.specs.Crash.{Leaves}
 use Rattle.fv_disk.specs.DiskCalls.{OnlyReads}
@@ -13,8 +14,9 @@ use Rattle.fv_image.specs.Layout.{root_place}
 use Rattle.fv_aggmap.specs.Space.{free_blocks}
 use Rattle.fv_container.specs.Chains.{slot_count}
 use Rattle.fv_volume.specs.BlocksOver.{LeavesPool}
+use Rattle.fv_volume.specs.declared.state.VolumeState.{VolumeState}
 use Rattle.fv_volume.specs.Slots.{NoneHasName}
-use Rattle.fv_volume.specs.States.{state_at}
+use Rattle.fv_volume.specs.States.{States, state_at}
 use Rattle.fv_cp.specs.Lent.{blocks_asked}
 use Rattle.fv_cp.specs.Placing.{HaveNoFiles}
 use Rattle.fv_aggregate.specs.declared.fault.Fault.{Fault}
@@ -130,11 +132,21 @@ pub record GoesFor {T : Type 0} (before : Shown) (last m next : Machine) (after 
 
 -- ---- commands
 
--- Blocks were read for a session. Of the disk only the time and the count of faults changed, and of the session only its cache.
+-- a volume without the numbers of its files in memory
+abbrev pub but_numbers : VolumeState → VolumeState
+but_numbers x = record x { numbers = None }
+
+-- Of the volumes nothing changed but the numbers of files in memory.
+abbrev pub SameButNumbers : States → States → Type 0
+SameButNumbers old new = (s : ℕ) → option_map but_numbers (state_at new s) ≡ option_map but_numbers (state_at old s)
+
+-- Blocks were read for a session. Of the disk only the time and the count of faults changed, and of the session only its cache and the numbers
+-- of files in memory.
 pub record WasRead (before : Shown) (old : Session) (after : Shown) (new : Session) : Type 0 where
   pub only_reads : OnlyReads before after
   pub pool : LeavesPool old.pool new.pool
-  pub same : new ≡ record old { pool = new.pool }
+  pub volumes : SameButNumbers old.volumes new.volumes
+  pub same : new ≡ record old { volumes = new.volumes; pool = new.pool }
 
 -- the disk and the session are as they were
 abbrev pub IsUntouched : {D : Type 0} → D → Session → D → Session → Type 0
@@ -160,8 +172,8 @@ pub record IsPlain {D : Type 0} (command : Command) (shown : Shown) (before : D)
   pub memory : command ≡ Cp → HaveNoFiles old.volumes → IfErr result (λ e. e ≢ Memory)
 
 -- What a command on files does beside. Whatever the disk holds, out of range it is refused as that and leaves all as it was, without its volume it is
--- refused for want of it, and one that asks leaves all but the cache where it is answered. So does a change that is refused, where the session
--- stands for a machine.
+-- refused for want of it, and one that asks leaves all but the cache and the numbers of files in memory where it is answered. So does a change
+-- that is refused, where the session stands for a machine.
 pub record IsOnFiles {D : Type 0} (command : Command) (shown : Shown) (before : D) (old : Session) (shown_after : Shown) (after : D) (new : Session) (result : Result Reply Fault) : Type 0 where
   pub range : IsNone old.failed → has_range command ≡ false → (result ≡ Ok (Refused Range)) × IsUntouched before old after new
   pub missing : IsNone old.failed → has_range command ≡ true → (name : List ℕ) → (changed_by command ≡ Some name) ⊎ (volume_asked command ≡ Some name) → NoneHasName old.volumes name → result ≡ Ok (Refused NoVolume)

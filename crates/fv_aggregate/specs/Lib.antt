@@ -5,6 +5,7 @@ pub mod Commands
 pub mod Causes
 pub mod Calls
 pub mod Looking
+pub mod Numbering
 pub mod Opening
 pub mod Adding
 pub mod Telling

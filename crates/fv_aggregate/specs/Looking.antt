@@ -1,10 +1,9 @@
 -- What commands on files do in a session: those that ask, and those that change.
-use Rattle.std.specs.Prelude.{◌≡◌, ◌<◌, ◌≤◌, ◌+◌, ◌⊎◌, ℕ, List, Option, Some, None, IsTrue, IsNone, Result, Ok, Err, OnOk, IfOk, IfErr}
+use Rattle.std.specs.Prelude.{◌≡◌, ◌<◌, ◌≤◌, ◌+◌, ℕ, Option, Some, None, IsTrue, IsNone, Result, Ok, Err, OnOk, IfOk, IfErr}
 use Rattle.fv_disk.specs.Shown.{Shown, Rose}
 use Rattle.fv_disk.specs.DiskCalls.{OnlyReads}
 use Rattle.fv_container.specs.Chains.{slot_count}
 use Rattle.fv_model.specs.declared.answers.Refusal.{Refusal}
-use Rattle.fv_model.specs.declared.answers.Refusal.TheVariants.{NoVolume}
 use Rattle.fv_model.specs.declared.answers.Reply.{Reply}
 use Rattle.fv_model.specs.declared.answers.Reply.TheVariants.{Done, Refused}
 use Rattle.fv_model.specs.declared.commands.Command.{Command}
@@ -18,7 +17,6 @@ use Rattle.fv_volume.specs.Changing.{IsChangeOf, KeepsTable}
 use Rattle.fv_volume.specs.Lending.{lent_for}
 use Rattle.fv_volume.specs.OneVolume.{home_in, standing_for, volume_for, IsReady, IsStanding}
 use Rattle.fv_volume.specs.Placing.{IsStoredWell}
-use Rattle.fv_volume.specs.Slots.{NoneHasName}
 use Rattle.fv_volume.specs.States.{States, state_at, with_state}
 use Rattle.fv_volume.specs.declared.fault.VolumeFault.{VolumeFault}
 use Rattle.fv_volume.specs.declared.fault.VolumeFault.TheVariants as volume
@@ -26,10 +24,10 @@ use Rattle.fv_aggregate.specs.declared.fault.Fault.{Fault}
 use Rattle.fv_aggregate.specs.declared.fault.Fault.TheVariants.{DiskFault, Damaged, Memory}
 use Rattle.fv_aggregate.specs.declared.session.Session.{Session}
 use Rattle.fv_aggregate.specs.Calls.{Goes, GoesFor, KeepsAsking, WasRead}
-use Rattle.fv_aggregate.specs.Commands.{dirty_limit, file_room, is_refusal}
+use Rattle.fv_aggregate.specs.Commands.{dirty_limit, file_room, is_refusal, volume_asked}
 use Rattle.fv_aggregate.specs.Standing.{StandsFor}
 
--- A command that asks was answered as the machine answers it, and nothing changed but the cache. After a fault the session stands for what it
+-- A command that asks was answered as the machine answers it, and nothing changed but the cache and the numbers of files in memory. After a fault the session stands for what it
 -- stood for.
 pub record Looks (before : Shown) (old : Session) (command : Command) (after : Shown) (new : Session) (result : Result Reply Fault) : Type 0 where
   pub goes : Goes 0 before old after new result
@@ -40,7 +38,7 @@ pub record Looks (before : Shown) (old : Session) (command : Command) (after : S
   pub read : OnOk result (WasRead before old after new)
 
 -- A command that changes a file was carried out as the machine carries it out. One with room within the dirty limit wrote nothing. A refused one
--- changed nothing but the cache, where the session stands for a machine.
+-- changed nothing but the cache and the numbers of files in memory, where the session stands for a machine.
 pub record Makes (before : Shown) (old : Session) (command : Command) (after : Shown) (new : Session) (result : Result Reply Fault) : Type 0 where
   pub goes : Goes file_room before old after new result
   pub goes_for : IsTrue before.tells → (last m : Machine) → StandsFor before old last m → GoesFor before last m (next m command) after new result
@@ -63,26 +61,6 @@ pub record AsksState (before : Shown) (pool : Pool) (x : VolumeState) (command :
 abbrev pub AsksSlot : Shown → Pool → Option VolumeState → Command → ℕ → Shown → Pool → ℕ → Result Reply VolumeFault → Type 0
 AsksSlot before pool None command start after left steps result = ⊥
 AsksSlot before pool (Some x) command start after left steps result = AsksState before pool x command start after left steps result
-
--- no volume has the name, and nothing was read
-pub record FindsNone (states : States) (name : List ℕ) (before : Shown) (pool : Pool) (start : ℕ) (after : Shown) (left : Pool) (steps : ℕ) (result : Result Reply VolumeFault) : Type 0 where
-  pub none : NoneHasName states name
-  pub calm : after.faults ≡ before.faults
-  pub unmoved : steps ≡ start
-  pub refused : result ≡ Err (volume.Refused NoVolume)
-
--- the volume of a slot has it, and was asked
-pub record FindsOne (states : States) (name : List ℕ) (before : Shown) (pool : Pool) (command : Command) (start : ℕ) (after : Shown) (left : Pool) (steps : ℕ) (result : Result Reply VolumeFault) : Type 0 where
-  pub slot : ℕ
-  pub state : VolumeState
-  pub there : state_at states slot ≡ Some state
-  pub named : state.name ≡ name
-  pub asks : AsksState before pool state command start after left steps result
-
--- The volume of a name was asked, if there is one.
-pub record AsksVolume (before : Shown) (pool : Pool) (states : States) (name : List ℕ) (command : Command) (start : ℕ) (after : Shown) (left : Pool) (steps : ℕ) (result : Result Reply VolumeFault) : Type 0 where
-  pub reads : Reads before pool after left
-  pub which : FindsNone states name before pool start after left steps result ⊎ FindsOne states name before pool command start after left steps result
 
 -- ---- a volume that is judged or changed
 
@@ -137,6 +115,13 @@ pub record IsAimed (states : States) (slot : ℕ) (command : Command) : Type 0 w
   pub state : VolumeState
   pub there : state_at states slot ≡ Some state
   pub change : IsChangeOf state.name command
+
+-- a command asks for files of the volume of a slot
+pub record IsAsked (states : States) (slot : ℕ) (command : Command) : Type 0 where
+  pub within : slot < slot_count
+  pub state : VolumeState
+  pub there : state_at states slot ≡ Some state
+  pub asks : volume_asked command ≡ Some state.name
 
 -- what the machine says of a command that is judged: a refusal, or that it is accepted
 abbrev pub Judges : Machine → Command → Reply → Type 0

@@ -86,14 +86,25 @@ impl Session {
         }
     }
 
-    /// Carries out a command that changes a file of the volume of a slot. It is decided before the point that its room would ask for, so
-    /// that what is refused is refused before it.
+    /// Carries out a command that changes a file of the volume of a slot, with the numbers of its files in memory.
     fn change_at<D: Disk>(
         &mut self,
         disk: &mut D,
         slot: u8,
         command: &Command,
     ) -> Result<Reply, Fault>
+        requires fresh { IsNone self.old.failed }
+        requires stands { Stands (D.shown disk.old) self.old }
+        requires aimed { IsAimed self.old.volumes slot command.now }
+        ensures { Makes (D.shown disk.old) self.old command.now (D.shown disk.new) self.new result }
+    {
+        self.read_numbers(disk, slot)?;
+        self.decide(disk, slot, command)
+    }
+
+    /// Carries out a command that changes a file of the volume of a slot. It is decided before the point that its room would ask for, so
+    /// that what is refused is refused before it.
+    fn decide<D: Disk>(&mut self, disk: &mut D, slot: u8, command: &Command) -> Result<Reply, Fault>
         requires fresh { IsNone self.old.failed }
         requires stands { Stands (D.shown disk.old) self.old }
         requires aimed { IsAimed self.old.volumes slot command.now }

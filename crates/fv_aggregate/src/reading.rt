@@ -2,17 +2,16 @@
 
 ghost use Rattle.std.specs.Prelude.{◌≡◌, ◌<◌, false, true, is_some, Some, Ok, IsTrue, IsNone, IfSome, OnOk};
 ghost use Rattle.fv_container.specs.Chains.{slot_count};
-ghost use Rattle.fv_cp.specs.Placing.{AreReady, IsReadyIn};
+ghost use Rattle.fv_cp.specs.Placing.{IsReadyIn};
 ghost use Rattle.fv_model.specs.declared.answers.Refusal.TheVariants.{NoVolume, Range};
 ghost use Rattle.fv_model.specs.declared.answers.Reply.TheVariants.{Refused};
 ghost use Rattle.fv_model.specs.Machines.{Machine};
-ghost use Rattle.fv_store.specs.Held.{StandsOn};
 ghost use Rattle.fv_volume.specs.OneVolume.{IsReady};
 ghost use Rattle.fv_volume.specs.Slots.{NoneHasName};
 ghost use Rattle.fv_volume.specs.States.{state_at};
 ghost use Rattle.fv_aggregate.specs.Calls.{IsUntouched};
 ghost use Rattle.fv_aggregate.specs.Commands.{has_range, is_get, volume_asked};
-ghost use Rattle.fv_aggregate.specs.Looking.{AsksSlot, AsksState, AsksVolume, Breaks, Looks, Replied};
+ghost use Rattle.fv_aggregate.specs.Looking.{AsksSlot, AsksState, Breaks, IsAsked, Looks, Replied};
 ghost use Rattle.fv_aggregate.specs.Standing.{Stands, StandsFor};
 
 use crate::fault::Fault;
@@ -47,12 +46,58 @@ impl Session {
         if !is_in_range(command) {
             return Ok(Reply::Refused(Refusal::Range));
         }
-        let asked = ask(
+        match self.volumes.find(volume) {
+            Some(slot) => self.look_at(disk, slot, command, steps),
+            None => Ok(Reply::Refused(Refusal::NoVolume)),
+        }
+    }
+
+    /// Answers a command that asks for files of the volume of a slot. `get` and `len` have the numbers of its files in memory; `ls` reads all
+    /// names itself.
+    fn look_at<D: Disk, L: Ledger>(
+        &mut self,
+        disk: &mut D,
+        slot: u8,
+        command: &Command,
+        steps: &mut Steps<L>,
+    ) -> Result<Reply, Fault>
+        requires fresh { IsNone self.old.failed }
+        requires stands { Stands (D.shown disk.old) self.old }
+        requires asked { IsAsked self.old.volumes slot command.now }
+        ensures looks { Looks (D.shown disk.old) self.old command.now (D.shown disk.new) self.new result }
+        ensures steps { is_get command.now ≡ false → steps.new ≡ steps.old }
+        ensures known { IsTrue (D.shown disk.old).tells → (last m : Machine) → StandsFor (D.shown disk.old) self.old last m → OnOk result (steps.new ≡ steps.old) }
+    {
+        match command {
+            Command::Ls { .. } => self.ask(disk, slot, command, steps),
+            _ => {
+                self.read_numbers(disk, slot)?;
+                self.ask(disk, slot, command, steps)
+            }
+        }
+    }
+
+    /// Asks the volume of a slot.
+    fn ask<D: Disk, L: Ledger>(
+        &mut self,
+        disk: &mut D,
+        slot: u8,
+        command: &Command,
+        steps: &mut Steps<L>,
+    ) -> Result<Reply, Fault>
+        requires fresh { IsNone self.old.failed }
+        requires stands { Stands (D.shown disk.old) self.old }
+        requires asked { IsAsked self.old.volumes slot command.now }
+        ensures looks { Looks (D.shown disk.old) self.old command.now (D.shown disk.new) self.new result }
+        ensures steps { is_get command.now ≡ false → steps.new ≡ steps.old }
+        ensures known { IsTrue (D.shown disk.old).tells → (last m : Machine) → StandsFor (D.shown disk.old) self.old last m → OnOk result (steps.new ≡ steps.old) }
+    {
+        let asked = ask_slot(
             self.alloc,
             &mut self.volumes,
             &mut self.pool,
             disk,
-            volume,
+            slot,
             command,
             steps,
         );
@@ -76,7 +121,7 @@ impl Session {
     }
 
     /// What a session makes of a fault of a call on a volume. After a read that failed it goes on.
-    fn fault_of<D: Disk>(&mut self, disk: &D, fault: VolumeFault) -> Fault
+    pub(crate) fn fault_of<D: Disk>(&mut self, disk: &D, fault: VolumeFault) -> Fault
         requires fresh { IsNone self.old.failed }
         ensures { Breaks (D.shown disk.now) fault self.old self.new result }
     {
@@ -88,29 +133,6 @@ impl Session {
                 Fault::DiskFault
             }
         }
-    }
-}
-
-/// Asks the volume of a name, if there is one.
-fn ask<D: Disk, L: Ledger>(
-    alloc: Global,
-    volumes: &mut Volumes,
-    pool: &mut Pool,
-    disk: &mut D,
-    volume: &Name,
-    command: &Command,
-    steps: &mut Steps<L>,
-) -> Result<Reply, VolumeFault>
-    requires ready { AreReady (D.shown disk.old) pool.old volumes.old }
-    requires stands { StandsOn (D.shown disk.old) pool.old.store.pairs }
-    requires asks { volume_asked command.now ≡ Some volume.now }
-    ensures asks { AsksVolume (D.shown disk.old) pool.old volumes.old volume.now command.now steps.old (D.shown disk.new) pool.new steps.new result }
-    ensures same { volumes.new ≡ volumes.old }
-    ensures steps { is_get command.now ≡ false → steps.new ≡ steps.old }
-{
-    match volumes.find(volume) {
-        Some(slot) => ask_slot(alloc, volumes, pool, disk, slot, command, steps),
-        None => Err(VolumeFault::Refused(Refusal::NoVolume)),
     }
 }
 

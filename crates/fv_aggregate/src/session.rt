@@ -93,8 +93,8 @@ impl Session {
 
     /// Applies a command, and answers the machine's reply, refusals included. A command whose room, in blocks, would pass the dirty
     /// limit of 256 together with the blocks pending is preceded by a consistency point; one that is refused is refused before that, and
-    /// changes nothing but the cache. So far `vol create`, `vol list`, `cp`, `new` without a reserve, `put`, `get`, `len`, `cut`, `rm` and
-    /// `ls` are built, and every other command is refused as none.
+    /// changes nothing but the cache and the numbers of files in memory. So far `vol create`, `vol list`, `cp`, `new` without a reserve,
+    /// `put`, `get`, `len`, `cut`, `rm` and `ls` are built, and every other command is refused as none.
     ///
     /// `steps` counts the unknown pointers that a `get` passes; there are none in what a session stands for yet.
     ///
@@ -107,10 +107,12 @@ impl Session {
     /// without a file in memory. After these, and after a read that failed, the session goes on and stands for the machine of before.
     ///
     /// Costs a step for each slot, and memory for the names in `vol list`. A command on files costs what the call of `VolumeState` does, and
-    /// one that changes them a step for each node in memory, too; the search for a file reads the inode blocks before its own. Where room has
-    /// to be made the command is judged first, which costs the search twice. `vol create` costs a step for each VVBN of the new
-    /// volume, and holds an entry for each. Where a consistency point runs it costs what `consistency_point` does. `docs/SPACE.md`
-    /// has the dirty limit, and `docs/MACHINE.md` the commands.
+    /// one that changes them a step for each node in memory, too. The first one that names a file of a volume costs a block for each inode
+    /// block and each node over them, and the session then holds each name with its number, and each free number below the greatest that
+    /// is taken; a later one finds its file by these, and costs nothing for the others, unless memory lacked when a file was made or removed.
+    /// Where room has to be made the command is judged first, which costs its reads twice, from the cache where they fit there. `vol create`
+    /// costs a step for each VVBN of the new volume, and holds an entry for each. Where a consistency point runs it costs what
+    /// `consistency_point` does. `docs/SPACE.md` has the dirty limit, and `docs/MACHINE.md` the commands.
     pub fn apply<D: Disk, L: Ledger>(
         &mut self,
         disk: &mut D,

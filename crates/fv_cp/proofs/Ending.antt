@@ -1,8 +1,7 @@
 -- What a consistency point leaves at a crash, and what it ends with: once all slots are passed the volumes stand under the labels of the new
 -- root, and then that counts.
-use Rattle.std.proofs.Common.{◌≡◌, ℕ, ◌<◌, ◌≤◌, false, List, length, get_or, refl, sym, ap, subst, ◌∙◌, arith, ⊎_elim, Ok, Bool, true, inl}
+use Rattle.std.proofs.Common.{◌≡◌, ℕ, ◌<◌, false, List, length, get_or, refl, sym, ap, subst, ◌∙◌, Ok, Bool, true, inl}
 use Rattle.std.specs.Prelude.{Option, Some, None, IfSome, IsTrue, Result}
-use Rattle.std.specs.Option.{option_map}
 use Rattle.std.specs.FinMap as fin
 use Rattle.std.specs.Ordering.{nat_cmp}
 use Rattle.fv_disk.specs.Shown.{Image, Shown, IsDisk}
@@ -35,14 +34,15 @@ use Rattle.fv_volume.specs.declared.state.VolumeState.{VolumeState}
 use Rattle.fv_volume.specs.Housed.{AreHoused, as_written, settled_at}
 use Rattle.fv_volume.specs.Keeping.{Blocks, seen as block_seen, seen}
 use Rattle.fv_volume.specs.Loading.{IsLoaded, label_of}
-use Rattle.fv_volume.specs.States.{States, head_in, label_in_state, placed_in, state_at, view_over}
+use Rattle.fv_volume.specs.States.{States, label_in_state, placed_in, state_at, view_over}
+use Rattle.fv_volume.specs.Trees.{active_in, no_trees}
 use Rattle.fv_volume.specs.Stored.{AreApartIn, AreSpacedIn, has_block, is_of, stays}
 use Rattle.fv_volume.specs.Writing.{on_disk, IsTaken}
 use Rattle.fv_volume.proofs.HeldAlone.{of_each}
 use Rattle.fv_volume.proofs.LentSlots.{lent_apart, lent_from_loaded, loaded_from_lent, lent_slot, area_taken, held_taken}
 use Rattle.fv_volume.proofs.Settled.{heads_stay, housed_after, same_stay, settled_same, unchanged_stay, settled_written}
 use Rattle.fv_volume.proofs.Spacing.{spaced_same}
-use Rattle.fv_volume.proofs.StaysStates.{reach_stays, states_stay}
+use Rattle.fv_volume.proofs.StaysStates.{active_same, reach_stays, states_stay}
 use Rattle.fv_volume.proofs.StillLoaded.{still_loaded, still_stands}
 use Rattle.fv_volume.proofs.StoredTold.{entry_stays, stays_in, undelayed, past_clear, stands_for}
 use Rattle.fv_volume.proofs.Told.{head_at, is_inside}
@@ -312,6 +312,10 @@ module _ (disk : Shown) (pool : Pool) (states : States) (before : Machine) (lent
         let same : IfSome (state_at states x.slot) (λ y. y.changed ≡ false) = subst (λ (o : Option VolumeState). IfSome o (λ y. y.changed ≡ false)) (sym there) unchanged in
         sym (loaded_then x.slot inside).label ∙ ap label_in_state (settled_same (state_at states x.slot) (get_or labels x.slot 0) same) ∙ (loaded_from_lent disk.reads pool.found x.slot (state_at states x.slot) (container_at pool.containers x.slot) (lent.slots x.slot inside) same).label)
 
+    -- each volume's table is told as before
+    tables_stay : (s : ℕ) → IfSome (state_at states s) (λ x. active_in (view_over last stay new.reads) no_trees s ≡ active_in w no_trees s)
+    tables_stay = of_each states fit.housed.volumes (λ s o. IfSome o (λ x. active_in (view_over last stay new.reads) no_trees s ≡ active_in w no_trees s)) (λ s. tt) (λ x there. active_same w (view_over last stay new.reads) states fit.housed.long (head_at pool states disk.reads) stays_now lent.tables x.slot x there)
+
     pub point : IsPoint disk pool states new last stay
     point = record {
       settled = done.settled;
@@ -319,6 +323,7 @@ module _ (disk : Shown) (pool : Pool) (states : States) (before : Machine) (lent
       lent = lent_now;
       heads = heads_stay states stay labels settled;
       machine = same_told w (view_over last stay new.reads) stays_now lent.tables.bases lent.tables.rests;
+      tables = tables_stay;
       unchanged = unchanged_stay states stay labels settled;
       reclaimed = subst (λ (x : Found). delayed (view_at (root_found x) new.reads) ≡ 0) (sym found) (ap delayed same_now
           ∙ undelayed pool states disk.reads fit.housed lent.tables lent.reach f labels left.map.next (container_at left.containers) mid.reads refl refl all_stand);

@@ -1,10 +1,10 @@
 -- Volumes that are held, with no file in memory and stored well, can be lent to a point, and volumes that could be lent are held.
-use Rattle.std.proofs.Common.{◌≡◌, ℕ, ◌≤◌, Bool, true, not, ◌||◌, List, Option, Some, None, refl, ap, subst, arith, length, false}
+use Rattle.std.proofs.Common.{◌≡◌, ℕ, Bool, true, not, ◌||◌, List, Option, Some, None, refl, ap, subst, arith, length, false}
 use Rattle.std.specs.Prelude.{IfSome, map, ◌==◌, IsTrue}
 use Rattle.std.specs.List.{list_all}
 use Rattle.std.specs.Option.{option_map, option_map_or}
 use Rattle.std.specs.FinMap as fin
-use Rattle.std.proofs.lemmas.Bool.{le-leb, leb-true, and_from}
+use Rattle.std.proofs.lemmas.Bool.{le-leb, and_from}
 use Rattle.fv_disk.specs.Shown.{Shown}
 use Rattle.fv_codec.specs.declared.inode.InodeRecord.{InodeRecord}
 use Rattle.fv_codec.specs.declared.pointer.Pointer.{Pointer}
@@ -36,10 +36,10 @@ use Rattle.fv_bits.specs.Members.{is_member}
 use Rattle.fv_volume.proofs.Ruled as rule
 use Rattle.fv_volume.proofs.Ruled.{AreRuled, lone}
 use Rattle.fv_volume.proofs.HeldAlone as alone
-use Rattle.fv_volume.proofs.HeldAlone.{all_seen, commits_in_view, of_each, seen_wide, seen_within}
+use Rattle.fv_volume.proofs.HeldAlone.{all_seen, commits_fit, commits_in_view, each_held, of_each}
+use Rattle.fv_volume.specs.Numbering.{AreNumbersSeen}
 use Rattle.fv_volume.specs.OneVolume.{IsReady, IsStanding}
 use Rattle.fv_volume.specs.Placing.{IsLedTo, IsStoredWell}
-use Rattle.fv_volume.specs.Slots.{sum_of}
 use Rattle.fv_aggmap.specs.Loading.{IsLoaded as IsMapLoaded}
 use Rattle.fv_container.specs.Chains.{container_at, slot_count}
 use Rattle.fv_volume.specs.Loading.{LoadedTo}
@@ -122,6 +122,10 @@ module _ (disk : Shown) (pool : Pool) (states : States) (before : Machine) (held
       (all_of_range (λ s. option_map_or has_form (w.head s) true) 0 64 (λ s low high. of_each states fit.housed.volumes (λ s o. option_map_or has_form (option_map head_in o) true ≡ true) (λ s. refl) form s))
       (all_held (λ s y. list_all (λ (r : Root). list_all (λ (f : ℕ × InodeRecord). f.1.reserve == 0) r.files) y.roots) (λ x e. alone.reserve_rule disk pool states fit.housed held.slots held.spaced x e (one x e) (no_files x e) (whole x e)))
 
+  -- The numbers of their files in memory are those of the tables that the view tells.
+  pub numbers_held : (s : ℕ) → AreNumbersSeen w s (state_at states s)
+  numbers_held = of_each states fit.housed.volumes (AreNumbersSeen w) (λ s. tt) (λ x e. alone.numbers_seen disk pool states fit.housed held.slots held.spaced x e (one x e) (no_files x e) (whole x e))
+
   -- They can be lent to a point.
   pub held_lent : IsLent disk pool states before
   held_lent = record {
@@ -150,13 +154,6 @@ module _ (disk : Shown) (pool : Pool) (states : States) (before : Machine) (held
 -- ---- what could be lent is held
 
 module _ (disk : Shown) (pool : Pool) (states : States) (before : Machine) (lent : IsLent disk pool states before) (long : length states ≡ 64) where
-  abbrev lent_view : View
-  lent_view = view_over pool states disk.reads
-
-  commits_fit : sum_of states ≤ capacity pool.found.blocks
-  unfolding has_commits_in_capacity seen view_over
-  commits_fit = let fits = leb-true (commits_seen (seen lent_view)) (capacity pool.found.blocks) lent.tables.commits in let same = commits_in_view pool states disk.reads long lent.states in omega (arith, fits, same)
-
   -- Where calls can be made on each, and each stands for one of the machine, they are what they are between points.
   pub lent_held : ((s : ℕ) → IfSome (state_at states s) (IsReady disk pool)) → ((s : ℕ) → IfSome (state_at states s) (IsStanding disk pool)) → ((s : ℕ) → IfSome (state_at states s) (IsLedTo disk pool)) → ((s : ℕ) → IfSome (state_at states s) (IsStoredWell disk pool)) → IsHeld disk pool states before
   lent_held ready stands led well = record {
@@ -167,15 +164,9 @@ module _ (disk : Shown) (pool : Pool) (states : States) (before : Machine) (lent
     slots = lent.slots;
     spaced = lent.spaced;
     names = lent.states.names;
-    each = λ s. by s (state_at states s) refl (ready s) (stands s) (led s) (well s);
-    commits = commits_fit;
+    each = λ s. each_held pool states disk.reads long lent.tables lent.states disk s (ready s) (stands s) (led s) (well s);
+    commits = commits_fit pool states disk.reads long lent.tables lent.states;
   }
-    where
-      by : (s : ℕ) (o : Option VolumeState) → state_at states s ≡ o → IfSome o (IsReady disk pool) → IfSome o (IsStanding disk pool) → IfSome o (IsLedTo disk pool) → IfSome o (IsStoredWell disk pool) → IfSome o (IsHeldIn disk pool s)
-      by s None there a b c d = tt
-      by s (Some x) there a b c d =
-          let state : IsState lent_view no_trees s x = subst (λ (o : Option VolumeState). IfSome o (IsState lent_view no_trees s)) there (lent.states.each s) in
-          record { slot = state.labelled.slot_is; ready = a; stands = b; led = c; well = d; wide = seen_wide pool states disk.reads long lent.tables s x there state; within = seen_within pool states disk.reads long lent.tables s x there state }
 
 -- ---- nothing is in memory that isn't on the disk
 
@@ -188,8 +179,9 @@ module _ (disk : Shown) (pool : Pool) (states : States) (m : Machine) (lent : Is
   of_loaded P some s = of_each states fit.housed.volumes (λ s o. HasNoFiles o → IfSome o P) (λ s no_files. tt) some s (none s)
 
   -- So they are after a point that was done, and after opening.
-  pub past_held : ((s : ℕ) → IfSome (state_at states s) (IsReady disk pool)) → IsHeld disk pool states m
-  past_held ready = lent_held disk pool states m lent fit.housed.long ready
-      (of_loaded (IsStanding disk pool) (λ x there no_files. loaded_alone.standing disk pool states fit.housed loaded unkept few whole m lent.tells x there no_files lent.states map tells))
+  pub past_held : ((s : ℕ) → IfSome (state_at states s) (IsReady disk pool)) → ((s : ℕ) → AreNumbersSeen (view_over pool states disk.reads) s (state_at states s)) → IsHeld disk pool states m
+  past_held ready numbered = lent_held disk pool states m lent fit.housed.long ready
+      (of_loaded (IsStanding disk pool) (λ x there no_files. loaded_alone.standing disk pool states fit.housed loaded unkept few whole m lent.tells x there no_files lent.states map tells
+      (subst (AreNumbersSeen (view_over pool states disk.reads) x.slot) there (numbered x.slot))))
       (of_loaded (IsLedTo disk pool) (λ x there no_files. loaded_alone.led disk pool states fit.housed loaded unkept few whole m lent.tells x there no_files))
       (of_loaded (IsStoredWell disk pool) (λ x there no_files. loaded_alone.well disk pool states fit.housed loaded unkept few whole m lent.tells x there no_files))

@@ -21,15 +21,16 @@ use Rattle.fv_volume.specs.declared.state.VolumeState.{VolumeState}
 use Rattle.fv_volume.specs.Causes.{of_block}
 use Rattle.fv_volume.specs.Files.{IsLabelled}
 use Rattle.fv_volume.specs.Loading.{Houses}
-use Rattle.fv_volume.specs.States.{States, parent_in, state_at}
+use Rattle.fv_volume.specs.Numbering.{AreNumbersSeen}
+use Rattle.fv_volume.specs.States.{States, parent_in, state_at, view_over}
 use Rattle.fv_volume.proofs.Staying.{kept_stands}
-use Rattle.fv_volume.proofs.HeldSettled.{core_parent, ready_of, settled_core, settled_no_files, settled_ready, settled_unchanged, settled_whole}
+use Rattle.fv_volume.proofs.HeldSettled.{core_parent, ready_of, settled_core, settled_no_files, settled_numbers, settled_ready, settled_unchanged, settled_whole}
 use Rattle.fv_cp.specs.Held.{machine_held, IsHeld}
 use Rattle.fv_cp.specs.Lent.{FitTogether, IsLent}
 use Rattle.fv_cp.specs.Placing.{core_of, ArePlaced, AreReady, HasNoFiles, HasWholeMap, HaveNoFiles, HaveRoom, IsPlaceFault, IsReadyIn}
 use Rattle.fv_cp.specs.Points.{machine_lent, Counts, GoesOn, IsCalm, IsPoint, LacksRoom, LeavesAll, OldOrLent}
 use Rattle.fv_cp.specs.Settling.{GoesOnWhole, HasWholeCause, HaveFullRoom, IsHeldPoint, IsNoDamage, IsStill, OldOrHeld, StillHeld, WholeCounts, WholeFails}
-use Rattle.fv_cp.proofs.Lendable.{held_lent, held_machine, past_held}
+use Rattle.fv_cp.proofs.Lendable.{held_lent, held_machine, numbers_held, past_held}
 use Rattle.fv_volume.proofs.PlacedIn.{found_read}
 
 -- where there is room for all, there is room for what is pending
@@ -95,6 +96,11 @@ module _ (disk : Shown) (pool : Pool) (states : States) (mid : Shown) (held : Po
         blocks = goes.blocks ∙ ap (λ (f : Found). f.blocks) placed.found;
       }
 
+      -- the numbers of each volume's files are those of its table
+      numbered_now : (before : Machine) → IsHeld disk pool states before → IsPoint mid held between new left stay → (s : ℕ) → AreNumbersSeen (view_over left stay new.reads) s (state_at stay s)
+      numbered_now before was point s = subst (AreNumbersSeen (view_over left stay new.reads) s) (sym (goes.settled s).1)
+          (settled_numbers (view_over held between mid.reads) (view_over left stay new.reads) s (state_at between s) (goes.settled s).0 (point.tables s) (numbers_held mid held between before (placed.held before was) placed.fit none whole s))
+
       -- Over a disk.
       pub point_held : (before : Machine) → IsHeld disk pool states before → (few : length left.containers.containers ≡ 64) → IsTrue disk.tells → new.tells ≡ mid.tells → ((b : ℕ) → length (new.reads b) ≡ 4096)
           → ((before : Machine) → IsLent mid held between before → IsPoint mid held between new left stay) → IsHeldPoint disk pool states new left stay
@@ -103,7 +109,7 @@ module _ (disk : Shown) (pool : Pool) (states : States) (mid : Shown) (held : Po
           let told_mid : IsTrue mid.tells = subst IsTrue (sym placed.only_reads.stays.tells) told in
           let same = machine_mid before was in
           let now : IsHeld new left stay (machine_lent mid held between) = past_held new left stay (machine_lent mid held between) point.lent goes.fit point.unchanged goes.unkept few (goes.loaded told_mid) (subst IsTrue (sym tells) told_mid) long none_now
-          (λ s. ready_of new left s (state_at stay s) (ready_now s)) in
+          (λ s. ready_of new left s (state_at stay s) (ready_now s)) (numbered_now before was point) in
           record {
             settled = point.settled;
             stands = point.stands ∙ ap (λ (m : Machine). Some m) same;

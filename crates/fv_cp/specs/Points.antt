@@ -20,6 +20,7 @@ use Rattle.fv_aggmap.specs.Loading.{IsLoaded as IsMapLoaded}
 use Rattle.fv_aggmap.specs.Space.{blocks_of, free_blocks}
 use Rattle.fv_volume.specs.declared.pool.Pool.{Pool}
 use Rattle.fv_volume.specs.States.{States, state_at, head_in, view_over}
+use Rattle.fv_volume.specs.Trees.{active_in, no_trees}
 use Rattle.fv_disk.specs.declared.fault.BlockFault.{BlockFault}
 use Rattle.fv_disk.specs.declared.fault.BlockFault.TheVariants.{DiskFault, Damaged, Memory}
 use Rattle.fv_cp.specs.Lent.{FitTogether, IsLent, blocks_asked}
@@ -41,6 +42,7 @@ pub record IsPoint (old : Shown) (pool : Pool) (states : States) (new : Shown) (
   pub lent : IsLent new left stay (machine_lent old pool states)
   pub heads : (s : ℕ) → option_map head_in (state_at stay s) ≡ option_map head_in (state_at states s)
   pub machine : machine_lent new left stay ≡ machine_lent old pool states
+  pub tables : (s : ℕ) → IfSome (state_at states s) (λ x. active_in (view_over left stay new.reads) no_trees s ≡ active_in (view_over pool states old.reads) no_trees s)
   pub unchanged : (s : ℕ) → IfSome (state_at stay s) (λ x. x.changed ≡ false)
   pub reclaimed : delayed (view_at (root_found left.found) new.reads) ≡ 0
   pub blocks : left.found.blocks ≡ pool.found.blocks

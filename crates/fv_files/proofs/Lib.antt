@@ -16,3 +16,4 @@ pub mod Flushed
 pub mod Ended
 pub mod Adding
 pub mod Counted
+pub mod Numbering

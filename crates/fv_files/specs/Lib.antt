@@ -5,3 +5,4 @@ pub mod Failing
 pub mod Pending
 pub mod Calls
 pub mod Flushing
+pub mod Numbering

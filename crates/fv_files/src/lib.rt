@@ -11,9 +11,12 @@ mod files;
 mod flush;
 mod hold;
 mod list;
+mod numbers;
 mod pending;
 mod read;
 mod remove;
+mod taken;
 mod write;
 
 pub use files::{Files, FilesFault};
+pub use numbers::FileNumbers;

@@ -5,7 +5,6 @@ use Rattle.std.specs.List.{list_all}
 use Rattle.std.proofs.lemmas.Bool.{cases_lt, and_parts}
 use Rattle.std.proofs.lemmas.Bool.Decides.{nat_tests}
 use Rattle.std.proofs.lemmas.List.{length-append, length-replicate}
-use Rattle.std.proofs.Math.Nat.{pow-le-pow_right}
 use Rattle.std.proofs.Math.Seq.{take-append_seam, drop-append_seam}
 use Rattle.fv_codec.specs.declared.inode.InodeRecord.{InodeRecord}
 use Rattle.fv_codec.specs.Fields.{Verdict, is_name_byte, all_name, all_zero, name_filled, up_to, ◌then◌}
@@ -55,15 +54,6 @@ least_searched t count few all least = record {
   least = least;
   free = λ small. let whole = all (omega (arith, small)) in no_file t (16 * count) (omega (arith, whole));
 }
-
--- where a number is free, the first one is
-pub least_free : (t : Rooted) (n : ℕ) → IsFirstFree t n → (k : ℕ) × (k < most_files) × (file_at t k ≡ None) → (n < most_files) × IsLeastFree t n
-least_free t n is free =
-    let small : n < most_files = ⊎_elim
-    (λ (lt : n < most_files). lt)
-    (λ high. absurd (none_some (file_at t free.0) free.2 (is.least free.0 (let low = free.1 in omega (arith, high, low)))))
-    (cases_lt n most_files) in
-    (small, record { free = is.free small; least = is.least })
 
 -- the first number, where it is one of a file
 pub free_within : (t : Rooted) (n : ℕ) (o : Option ℕ) → IsFirstFree t n → (n < most_files → o ≡ Some n) → (most_files ≤ n → o ≡ None) → IsFreeNumber t o
@@ -138,11 +128,3 @@ makes t u name reserve s n r is told least rewrites = record {
   told = ap (info_of n) told;
   rewrites = subst (Rewrites t u n s) (new_is name reserve r is told) rewrites;
 }
-
--- ---- room
-
--- a number is free in an inode file of one level at most
-pub has_room : (t : Rooted) → t.levels ≤ 1 → (n : ℕ) × (n < 262144) × (file_at t n ≡ None)
-has_room t few =
-    let wide : fan ^ t.levels ≤ fan ^ 1 = pow-le-pow_right (omega arith) few in
-    (16 * fan ^ t.levels, omega (arith, wide), no_file t (16 * fan ^ t.levels) (omega arith))

@@ -11,7 +11,7 @@ ghost use Rattle.fv_tables.specs.Told.{records_each, free_record, used_record, f
 ghost use Rattle.fv_tree.specs.Standing.{standing, under};
 ghost use Rattle.fv_tree.specs.Counting.{added_at};
 ghost use Rattle.fv_tree.specs.Costs.{pending};
-ghost use Rattle.fv_inode.specs.Files.{rooted, AreRecords, IsFirstFree, IsFreeNumber, IsInfo, IsNumberIf, new_record};
+ghost use Rattle.fv_inode.specs.Files.{rooted, IsFirstFree, IsFreeNumber, IsInfo, IsLeastFree, IsNumberIf, new_record};
 ghost use Rattle.fv_inode.specs.Failing.{Alters, Looks};
 ghost use Rattle.fv_inode.specs.Changing.{Makes};
 
@@ -30,12 +30,11 @@ const MOST_FILES: u32 = 262_144;
 const MOST_CELLS: u32 = 16_384;
 
 impl InodeFile {
-    /// Makes a file of a name under the least free number, without a cell and with the levels with which its reserve
-    /// begins, of at most 2,097,152 blocks; answers what is known of it. Its inode cell, the marks over that and those
-    /// that a growth makes get the stamp, which is at least 1. A number below 262,144 is free. That no file has the
-    /// name is the caller's to see to. It reads the inode blocks up to the first with a free record, each once, with at
-    /// most a node for each level before it; the nodes over that one are loaded once more for the write. After a fault
-    /// the inode file is seen as before.
+    /// Makes a file of a name under a number below 262,144, the least that is free, without a cell and with the levels with
+    /// which its reserve begins, of at most 2,097,152 blocks; answers what is known of it. Its inode cell, the marks over that
+    /// and those that a growth makes get the stamp, which is at least 1. That no file has the name is the caller's to see to.
+    /// It reads the file's inode block with the nodes over it; these are loaded once more for the write. After a fault the
+    /// inode file is seen as before.
     ///
     /// # Errors
     ///
@@ -43,28 +42,30 @@ impl InodeFile {
     pub fn create<B: Blocks>(
         &mut self,
         blocks: &mut B,
+        number: u32,
         name: &Name,
         reserve: u32,
         stamp: u64,
     ) -> Result<Info, InodeFault>
+        requires number { number < most_files }
+        requires free { B.told → IsLeastFree (rooted (B.shown blocks.old) self.old) number }
         requires stamp { 1 ≤ stamp }
         requires reserve { reserve ≤ most_cells }
-        requires free { B.told → (n : ℕ) × (n < 262144) × (file_at (rooted (B.shown blocks.old) self.old) n ≡ None) }
         ensures made { B.told → IfOk result (Makes (rooted (B.shown blocks.old) self.old) (rooted (B.shown blocks.new) self.new) name.now reserve stamp) }
         ensures range { IfOk result IsInfo }
         ensures alters { Alters B.told (B.shown blocks.old) (B.shown blocks.new) self.old.tree self.new.tree result }
         ensures pending { pending self.new.tree ≤ pending self.old.tree + 6 }
         ensures reads { B.reads blocks.old blocks.new }
     {
-        let (number, mut files) = find_free(&self.tree, blocks)?;
+        let mut files = read_files(&self.tree, blocks, number / EACH)?;
         let file = new_record(name, reserve);
         files[(number % EACH) as usize] = file;
         write_files(&mut self.tree, blocks, number / EACH, &files, stamp)?;
         Ok(info_of(number, &file))
     }
 
-    /// The least free number, which a `create` takes, below 262,144; `None` exactly where none is free. It reads as
-    /// `create` does and keeps nothing in memory.
+    /// The least free number, below 262,144; `None` exactly where none is free. It reads the inode blocks up to the first with
+    /// a free record, each once, with at most a node for each level before it, and keeps nothing in memory.
     ///
     /// # Errors
     ///
@@ -75,7 +76,7 @@ impl InodeFile {
         ensures looks { Looks B.told (rooted (B.shown blocks.old) self.now) (B.shown blocks.old) (B.shown blocks.new) result }
         ensures reads { B.reads blocks.old blocks.new }
     {
-        let (number, _) = find_free(&self.tree, blocks)?;
+        let number = find_free(&self.tree, blocks)?;
         Ok(within(number))
     }
 
@@ -109,13 +110,10 @@ fn within(number: u32) -> Option<u32>
     }
 }
 
-/// The first number that is free, or 262,144 where none below is, and the records of its inode block.
-fn find_free<B: Blocks>(tree: &Tree, blocks: &mut B) -> Result<(u32, [InodeRecord; 16]), InodeFault>
-    ensures number { B.told → IfOk result (λ found. IsFirstFree (standing (under (B.shown blocks.old)) tree.now) found.0) }
-    ensures files { B.told → IfOk result (λ found. found.0 < most_files → AreRecords (standing (under (B.shown blocks.old)) tree.now) (found.0 / records_each) found.1) }
-    ensures range { IfOk result (λ found. All IsInodeRecord found.1) }
-    ensures long { IfOk result (λ found. length found.1 ≡ 16) }
-    ensures bound { IfOk result (λ found. found.0 ≤ most_files) }
+/// The first number that is free, or 262,144 where none below is.
+fn find_free<B: Blocks>(tree: &Tree, blocks: &mut B) -> Result<u32, InodeFault>
+    ensures number { B.told → IfOk result (IsFirstFree (standing (under (B.shown blocks.old)) tree.now)) }
+    ensures bound { IfOk result (λ number. number ≤ most_files) }
     ensures looks { Looks B.told (standing (under (B.shown blocks.old)) tree.now) (B.shown blocks.old) (B.shown blocks.new) result }
     ensures reads { B.reads blocks.old blocks.new }
 {
@@ -123,10 +121,10 @@ fn find_free<B: Blocks>(tree: &Tree, blocks: &mut B) -> Result<(u32, [InodeRecor
     for cell in 0..count {
         let files = read_files(tree, blocks, cell)?;
         if let Some(slot) = first_free(&files) {
-            return Ok((EACH * cell + slot, files));
+            return Ok(EACH * cell + slot);
         }
     }
-    Ok((EACH * count, free_files()))
+    Ok(EACH * count)
 }
 
 /// How many cells of a tree have numbers below 262,144.

@@ -38,6 +38,20 @@ impl InodeFile {
     {
         list_names(self.alloc, &self.tree, blocks)
     }
+
+    /// The numbers of all files by their names; of two files of one name that with the lesser number counts. It costs what `list` does, and
+    /// memory for each name once.
+    ///
+    /// # Errors
+    ///
+    /// As `list`.
+    pub fn index<B: Blocks>(&self, blocks: &mut B) -> Result<BTreeMap<Name, u32>, InodeFault>
+        ensures numbers { B.told → IfOk result (λ numbers. numbers_in numbers ≡ names_told (rooted (B.shown blocks.old) self.now)) }
+        ensures looks { Looks B.told (rooted (B.shown blocks.old) self.now) (B.shown blocks.old) (B.shown blocks.new) result }
+        ensures reads { B.reads blocks.old blocks.new }
+    {
+        numbers_by_name(self.alloc, &self.tree, blocks)
+    }
 }
 
 /// The names of all files, in byte order.

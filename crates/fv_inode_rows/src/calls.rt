@@ -13,11 +13,11 @@ const MOST_CELLS: u32 = 2_097_152;
 /// The last VVBN and the last PVBN that there can be.
 const LAST_PLACE: u64 = 1_048_575;
 
-/// Makes a file, where the inode file has at most one level, so that a number is free; `None` where it doesn't.
+/// Makes a file under the least free number; `None` where none is free.
 ///
 /// # Errors
 ///
-/// As `InodeFile::create`.
+/// As `InodeFile::free_number` and `InodeFile::create`.
 pub fn create<B: Blocks>(
     file: &mut InodeFile,
     blocks: &mut B,
@@ -25,11 +25,16 @@ pub fn create<B: Blocks>(
     reserve: u32,
     stamp: u64,
 ) -> Result<Option<Info>, InodeFault> {
-    if stamp == 0 || reserve > MOST_CELLS || file.levels() > 1 {
+    if stamp == 0 || reserve > MOST_CELLS {
         return Ok(None);
     }
-    let info = file.create(blocks, name, reserve, stamp)?;
-    Ok(Some(info))
+    match file.free_number(blocks)? {
+        None => Ok(None),
+        Some(number) => {
+            let info = file.create(blocks, number, name, reserve, stamp)?;
+            Ok(Some(info))
+        }
+    }
 }
 
 /// Gives the file of a name a length; false where there is none.

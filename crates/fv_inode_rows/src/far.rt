@@ -220,7 +220,7 @@ fn failed(
 #[test]
 fn failing_changes(rt: HostRuntime) -> Result<(), Fail> {
     let rows = [
-        (Call::Create, 5, 16, Some((16, 0))),
+        (Call::Create, 7, 16, Some((16, 0))),
         (Call::Change, 8, 31, Some((31, 5))),
         (Call::Remove, 8, 31, None),
         (Call::SetRoot, 7, 31, Some((31, 0))),

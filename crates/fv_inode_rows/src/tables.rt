@@ -7,11 +7,11 @@ use fv_tree::Blocks;
 /// The most cells that a file has.
 const MOST_CELLS: u32 = 2_097_152;
 
-/// Makes a file, where the inode file has at most one level, so that a number is free; false where it doesn't.
+/// Makes a file under the least free number; false where none is free.
 ///
 /// # Errors
 ///
-/// As `Files::create`.
+/// As `Files::free_number` and `Files::create`.
 pub fn make<B: Blocks>(
     table: &mut Files,
     blocks: &mut B,
@@ -19,11 +19,16 @@ pub fn make<B: Blocks>(
     reserve: u32,
     stamp: u64,
 ) -> Result<bool, FilesFault> {
-    if stamp == 0 || reserve > MOST_CELLS || table.levels() > 1 {
+    if stamp == 0 || reserve > MOST_CELLS {
         return Ok(false);
     }
-    table.create(blocks, name, reserve, stamp)?;
-    Ok(true)
+    match table.free_number(blocks)? {
+        None => Ok(false),
+        Some(number) => {
+            table.create(blocks, number, name, reserve, stamp)?;
+            Ok(true)
+        }
+    }
 }
 
 /// Writes a block of a file; false where there is no such file.

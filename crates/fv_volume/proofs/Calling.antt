@@ -1,5 +1,5 @@
 -- What a change of a volume's files leaves that was refused, or failed while it was made.
-use Rattle.std.proofs.Common.{◌≡◌, ◌≢◌, ℕ, ◌+◌, ◌<◌, ◌≤◌, true, refl, sym, ap, subst, ◌∙◌, arith}
+use Rattle.std.proofs.Common.{Option, ◌≡◌, ◌≢◌, ℕ, ◌+◌, ◌<◌, ◌≤◌, true, refl, sym, ap, subst, ◌∙◌, arith}
 use Rattle.std.specs.Prelude.{Result, Ok, Err, OnOk, IfOk}
 use Rattle.std.proofs.lemmas.Bool.{both_ways}
 use Rattle.fv_disk.specs.Shown.{Shown as Disk}
@@ -9,6 +9,7 @@ use Rattle.fv_model.specs.declared.commands.Command.{Command}
 use Rattle.fv_model.specs.Machines.{Machine}
 use Rattle.fv_model.specs.Numbers.{most_changes}
 use Rattle.fv_tree.specs.Standing.{under}
+use Rattle.fv_files.specs.declared.numbers.FileNumbers.{FileNumbers}
 use Rattle.fv_charge.specs.declared.delta.Delta.{Delta}
 use Rattle.fv_charge.specs.Changes.{IsChanged, IsDeltaOf}
 use Rattle.fv_charge.specs.Ledgers.{IsLedgerOf}
@@ -111,7 +112,7 @@ module _ (d e f : Disk) (p q r : Pool) (first : Reads d p e q) (x v w : VolumeSt
   pub left_ready : IsReady d p x → IsReady f r w
   left_ready ready = subst (λ (z : VolumeState). IsReady f r z) (sym alters.same)
       (still_ready e f q r alters.reads left
-      (ready_again e q x x.now w.map w.files x.ledger (still_ready d e p q first x ready) (few_changes d p x ready) alters.maps.span alters.maps.snapshots
+      (ready_again e q x x.now w.map w.files x.ledger x.numbers (still_ready d e p q first x ready) (few_changes d p x ready) alters.maps.span alters.maps.snapshots
       (let booked = ready.booked in record { size = booked.size; kind = booked.kind; span = booked.span; need = booked.need; charge = booked.charge })))
 
   pub left_table : IsStanding d p x → KeepsTable d p x f r w
@@ -177,7 +178,14 @@ module _ (d e f : Disk) (p q r : Pool) (first : Reads d p e q) (x v y : VolumeSt
 
 -- ---- where it was made, and counted
 
-pub counted_table : (d : Disk) (p : Pool) (x : VolumeState) (f : Disk) (r : Pool) (w y : VolumeState) → y ≡ record w { now = y.now; ledger = y.ledger; changed = true } → KeepsTable d p x f r w → KeepsTable d p x f r y
+-- its numbers stay, or become others
+pub counted_all : (w y : VolumeState) → y ≡ record w { now = y.now; ledger = y.ledger; changed = true } → y ≡ record w { now = y.now; ledger = y.ledger; numbers = y.numbers; changed = true }
+counted_all w y is = is ∙ sym (ap (λ (n : Option FileNumbers). record w { now = y.now; ledger = y.ledger; numbers = n; changed = true }) (ap (λ (z : VolumeState). z.numbers) is))
+
+pub renumbered : (w z : VolumeState) (n : Option FileNumbers) → z ≡ record w { now = z.now; ledger = z.ledger; changed = true } → record z { numbers = n } ≡ record w { now = z.now; ledger = z.ledger; numbers = n; changed = true }
+renumbered w z n is = ap (λ (v : VolumeState). record v { numbers = n }) is
+
+pub counted_table : (d : Disk) (p : Pool) (x : VolumeState) (f : Disk) (r : Pool) (w y : VolumeState) → y ≡ record w { now = y.now; ledger = y.ledger; numbers = y.numbers; changed = true } → KeepsTable d p x f r w → KeepsTable d p x f r y
 counted_table d p x f r w y counted kept = subst (λ (z : VolumeState). KeepsTable d p x f r z) (sym counted) (record { led = kept.led; well = kept.well; room = kept.room })
 
 -- The parts of a change, one after another: it was judged, the table was changed, and it was counted.
@@ -185,13 +193,13 @@ pub record Parts {T : Type 0} (d e f : Disk) (p q r : Pool) (x v w y : VolumeSta
   pub first : Reads d p e q
   pub same : v ≡ x
   pub alters : AltersTable e q f r v w result
-  pub counted : y ≡ record w { now = y.now; ledger = y.ledger; changed = true }
+  pub counted : y ≡ record w { now = y.now; ledger = y.ledger; numbers = y.numbers; changed = true }
   pub next : y.now ≡ w.now + 1
   pub moved : IsChanged w.ledger by y.ledger
   pub moves : (a b : Volume) → IsLedgerOf a w.ledger → IsDeltaOf a b by → IsLedgerOf b y.ledger
 
 pub parts_of : {T : Type 0} {d e f : Disk} {p q r : Pool} {x v w y : VolumeState} {result : Result T BlockFault} {by : Delta} → Reads d p e q → v ≡ x → AltersTable e q f r v w result
-    → y ≡ record w { now = y.now; ledger = y.ledger; changed = true } → y.now ≡ w.now + 1 → IsChanged w.ledger by y.ledger
+    → y ≡ record w { now = y.now; ledger = y.ledger; numbers = y.numbers; changed = true } → y.now ≡ w.now + 1 → IsChanged w.ledger by y.ledger
     → ((a b : Volume) → IsLedgerOf a w.ledger → IsDeltaOf a b by → IsLedgerOf b y.ledger) → Parts d e f p q r x v w y result by
 parts_of first same alters counted next moved moves = record { first = first; same = same; alters = alters; counted = counted; next = next; moved = moved; moves = moves }
 
@@ -201,13 +209,17 @@ module _ {T : Type 0} (d e f : Disk) (p q r : Pool) (x v w y : VolumeState) (res
   left_so = record x { map = w.map; files = w.files; changed = true }
 
   abbrev pub done_so : VolumeState
-  done_so = record x { map = w.map; files = w.files; now = y.now; ledger = y.ledger; changed = true }
+  done_so = record x { map = w.map; files = w.files; now = y.now; ledger = y.ledger; numbers = y.numbers; changed = true }
 
   pub is_left : w ≡ left_so
   is_left = parts.alters.same ∙ ap (λ (z : VolumeState). record z { map = w.map; files = w.files; changed = true }) parts.same
 
   pub is_done : y ≡ done_so
-  is_done = parts.counted ∙ ap (λ (z : VolumeState). record z { now = y.now; ledger = y.ledger; changed = true }) is_left
+  is_done = parts.counted ∙ ap (λ (z : VolumeState). record z { now = y.now; ledger = y.ledger; numbers = y.numbers; changed = true }) is_left
+
+  -- its numbers were left
+  pub left_numbers : w.numbers ≡ x.numbers
+  left_numbers = ap (λ (z : VolumeState). z.numbers) is_left
 
   pub done_next : y.now ≡ x.now + 1
   done_next = parts.next ∙ ap (λ (z : VolumeState). z.now + 1) is_left
@@ -232,12 +244,12 @@ module _ {T : Type 0} (d e f : Disk) (p q r : Pool) (x v w y : VolumeState) (res
       let n = done_next in
       subst (λ (z : VolumeState). IsReady f r z) (sym is_done)
       (still_ready e f q r parts.alters.reads done_so
-      (ready_again e q x y.now w.map w.files y.ledger (still_ready d e p q parts.first x ready) (omega (arith, more, n)) left_span left_slots
+      (ready_again e q x y.now w.map w.files y.ledger y.numbers (still_ready d e p q parts.first x ready) (omega (arith, more, n)) left_span left_slots
       (record { size = booked.size; kind = booked.kind; span = booked.span; need = booked.need; charge = booked.charge })))
 
   pub done_head : KeepsHead {T = Unit {0}} x y (Ok tt)
   done_head = record {
-    same = is_done ∙ sym (ap (λ (z : VolumeState). record x { now = z.now; map = z.map; files = z.files; ledger = z.ledger; changed = z.changed }) is_done);
+    same = is_done ∙ sym (ap (λ (z : VolumeState). record x { now = z.now; map = z.map; files = z.files; numbers = z.numbers; ledger = z.ledger; changed = z.changed }) is_done);
     maps = subst (λ (z : VolumeState). GivesUp x.map z.map) (sym is_done) (subst (λ (z : VolumeState). GivesUp z.map w.map) parts.same parts.alters.maps);
     later = (let n = done_next in omega (arith, n));
     counted = done_next;

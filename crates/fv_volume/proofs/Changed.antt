@@ -18,6 +18,8 @@ use Rattle.fv_tables.specs.Spelled.{Under}
 use Rattle.fv_tree.specs.Sources.{Use}
 use Rattle.fv_tree.specs.Standing.{under}
 use Rattle.fv_files.specs.declared.files.Files.{Files}
+use Rattle.fv_files.specs.declared.numbers.FileNumbers.{FileNumbers}
+use Rattle.fv_files.specs.Numbering.{AreNumbersIf}
 use Rattle.fv_volmap.specs.Slots.{Volume as Maps}
 use Rattle.fv_charge.specs.declared.delta.Delta.{Delta}
 use Rattle.fv_charge.specs.declared.ledger.Ledger.{Ledger}
@@ -102,21 +104,23 @@ module _ (d e f : Disk) (p q r : Pool) (first : Reads d p e q) (second : Reads e
             reserves = subst HasNoReserve (sym table) is.reserves;
             ledger = subst (λ v. IsLedgerOf v x.ledger) (sym failed_volume) is.ledger;
             trees = sound_now;
+            numbers = subst (AreNumbersIf x.numbers) (sym table) is.numbers;
           }
 
     -- a change that was made, and counted
-    module _ (now : ℕ) (ledger : Ledger) (table : ℕ → Table) (next : now ≡ x.now + 1) (made : its_table ≡ table (x.now + 1)) where
+    module _ (now : ℕ) (ledger : Ledger) (numbers : Option FileNumbers) (table : ℕ → Table) (next : now ≡ x.now + 1) (made : its_table ≡ table (x.now + 1)) where
       abbrev counted : VolumeState
-      counted = record x { map = map; files = files; now = now; ledger = ledger; changed = true }
+      counted = record x { map = map; files = files; now = now; ledger = ledger; numbers = numbers; changed = true }
 
       pub made_volume : volume_for f r counted ≡ stamped (volume_for d p x) table
       made_volume = λ j. record (volume_for d p x) { now = next j; active = (table_now ∙ made) j }
 
-      pub made_standing : IsWellTable (x.now + 1) (table (x.now + 1)) → HasNoReserve (table (x.now + 1)) → IsLedgerOf (stamped (volume_for d p x) table) ledger → IsStanding f r counted
-      made_standing well unreserved is_ledger = record {
+      pub made_standing : IsWellTable (x.now + 1) (table (x.now + 1)) → HasNoReserve (table (x.now + 1)) → IsLedgerOf (stamped (volume_for d p x) table) ledger → AreNumbersIf numbers (table (x.now + 1)) → IsStanding f r counted
+      made_standing well unreserved is_ledger numbered = record {
         told = told;
         table = subst (λ n. IsWellTable n (table_for f r counted)) (sym next) (subst (IsWellTable (x.now + 1)) (sym (table_now ∙ made)) well);
         reserves = subst HasNoReserve (sym (table_now ∙ made)) unreserved;
         ledger = subst (λ v. IsLedgerOf v ledger) (sym made_volume) is_ledger;
         trees = sound_now;
+        numbers = subst (AreNumbersIf numbers) (sym (table_now ∙ made)) numbered;
       }

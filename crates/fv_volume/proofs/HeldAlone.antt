@@ -11,7 +11,7 @@ use Rattle.fv_disk.specs.Shown.{Shown}
 use Rattle.fv_codec.specs.declared.inode.InodeRecord.{InodeRecord}
 use Rattle.fv_codec.specs.declared.pointer.Pointer.{Pointer}
 use Rattle.fv_codec.specs.Blocks.{greatest_word}
-use Rattle.fv_model.specs.Machines.{first_block}
+use Rattle.fv_model.specs.Machines.{capacity, first_block}
 use Rattle.fv_model.specs.Places.{id_cmp}
 use Rattle.fv_model.specs.Space.{base_ids, commits, use_of}
 use Rattle.fv_model.specs.Tables.{empty_table}
@@ -23,6 +23,7 @@ use Rattle.fv_tables.proofs.Lists.{all_of_range}
 use Rattle.fv_tables.proofs.Tables.{kept_records}
 use Rattle.fv_tree.specs.Standing.{under as blocks_of}
 use Rattle.fv_files.specs.declared.files.Files.{Files}
+use Rattle.fv_files.specs.Numbering.{AreNumbersIf}
 use Rattle.fv_files.specs.Tables.{IsStoredUnder}
 use Rattle.fv_laws.specs.WellFormed.{IsWellTable}
 use Rattle.fv_image.specs.Chains.{under}
@@ -31,7 +32,7 @@ use Rattle.fv_image.specs.ReachRules.{all_volumes, are_distinct}
 use Rattle.fv_image.specs.Seen.{Reached, Root, VolumeSeen, reached_at, seen, volume_seen}
 use Rattle.fv_image.specs.Soundness.{AreTables}
 use Rattle.fv_image.specs.TableRules.{are_levels, is_cell_of}
-use Rattle.fv_image.specs.VolumeRules.{comes_to_end, commits_seen, has_use_in_size, has_wide_spans}
+use Rattle.fv_image.specs.VolumeRules.{comes_to_end, commits_seen, has_commits_in_capacity, has_use_in_size, has_wide_spans}
 use Rattle.fv_image.specs.Views.{Footing, Head, View, slots}
 use Rattle.fv_image.specs.Volumes.{active_at, named_with, standing_of, table_at, volume_told, volume_with}
 use Rattle.fv_image.proofs.Committed.{commits_told}
@@ -44,8 +45,9 @@ use Rattle.fv_volmap.specs.Slots.{active_of}
 use Rattle.fv_volume.specs.declared.pool.Pool.{Pool}
 use Rattle.fv_volume.specs.declared.state.VolumeState.{VolumeState}
 use Rattle.fv_volume.specs.Files.{AreStates, IsState, has_form}
-use Rattle.fv_volume.specs.OneVolume.{shows, standing_by, volume_as, volume_for}
-use Rattle.fv_volume.specs.Placing.{AreStoredBy}
+use Rattle.fv_volume.specs.Numbering.{AreNumbersSeen}
+use Rattle.fv_volume.specs.OneVolume.{shows, standing_by, table_for, volume_as, volume_for, IsReady, IsStanding}
+use Rattle.fv_volume.specs.Placing.{AreStoredBy, IsLedTo, IsStoredWell}
 use Rattle.fv_volume.specs.Slots.{sum_of}
 use Rattle.fv_volume.specs.States.{States, head_in, parent_in, state_at, table_in, view_over}
 use Rattle.fv_volume.specs.Trees.{active_in, no_trees}
@@ -231,7 +233,15 @@ module _ (disk : Shown) (pool : Pool) (states : States) (housed : AreHoused pool
       (file_there x.now (blocks_of (shows disk pool x)) x.active.levels x.active.root told_table n r found) in
       grind (arith, nat_tests, none)))
 
-  -- the view tells it as it is,
+  -- the view tells its table
+  pub table_seen : active_in w no_trees s ≡ table_for disk pool x
+  table_seen = standing_table disk pool states x one.stands no_files there alone form
+
+  -- which has the numbers of its files in memory,
+  pub numbers_seen : AreNumbersSeen w s (Some x)
+  numbers_seen = subst (AreNumbersIf x.numbers) (sym table_seen) one.stands.numbers
+
+  -- and it as it is,
   pub state_is : IsState w no_trees s x
   state_is = standing_state disk pool states x one.stands no_files there alone form one.ready.labelled
 
@@ -261,7 +271,7 @@ module _ (pool : Pool) (states : States) (i : Image) (long : length states ≡ 6
   stands = head_there pool states i s x there
 
   -- its span is wide enough for all that it may grow to
-  pub seen_wide : x.most + 256 ≤ x.span
+  seen_wide : x.most + 256 ≤ x.span
   unfolding has_wide_spans
   seen_wide = by (set.len (base_ids (volume_told seen_by s head).base))
       (subst (λ (y : VolumeSeen). nat_le (y.head.most + (set.len (base_ids y.volume.base) + 256)) y.head.span ≡ true) (seen_lone seen_by s head (form_snapshots head state.labelled.form) (form_base head state.labelled.form))
@@ -271,7 +281,7 @@ module _ (pool : Pool) (states : States) (i : Image) (long : length states ≡ 6
       by n test = let enough = at_least (x.most + (n + 256)) x.span test in omega (arith, enough)
 
   -- and it uses at most its size
-  pub seen_within : x.ledger.charge ≤ x.size
+  seen_within : x.ledger.charge ≤ x.size
   unfolding has_use_in_size
   seen_within =
       let fits = at_least (use_of (volume_told seen_by s head)) x.size (subst (λ (y : VolumeSeen). nat_le (use_of y.volume) y.head.size ≡ true) (seen_lone seen_by s head (form_snapshots head state.labelled.form) (form_base head state.labelled.form))
@@ -279,3 +289,27 @@ module _ (pool : Pool) (states : States) (i : Image) (long : length states ≡ 6
       let table : active_in seen_by no_trees s ≡ table_at seen_by s head.active = ap (λ (o : Option Head). option_map_or (λ h. table_at seen_by s h.active) o empty_table) stands in
       let charged : x.ledger.charge ≡ charge (volume_told seen_by s head) = state.ledger.charged ∙ ap (λ (t : Table). charge (volume_with seen_by s head t)) table in
       omega (arith, fits, charged)
+
+  -- So it is what it is between points, where calls can be made on it and it stands for one of the machine.
+  seen_held : (disk : Shown) → IsReady disk pool x → IsStanding disk pool x → IsLedTo disk pool x → IsStoredWell disk pool x → IsHeldIn disk pool s x
+  seen_held disk ready stood leads stored_so = record { slot = state.labelled.slot_is; ready = ready; stands = stood; led = leads; well = stored_so; wide = seen_wide; within = seen_within }
+
+-- ---- all that a sound view tells
+
+module _ (pool : Pool) (states : States) (i : Image) (long : length states ≡ 64) (tables : AreTables (seen (view_over pool states i))) (are : AreStates (view_over pool states i) no_trees states) where
+  -- so is each of them,
+  pub each_held : (disk : Shown) (s : ℕ) → IfSome (state_at states s) (IsReady disk pool) → IfSome (state_at states s) (IsStanding disk pool) → IfSome (state_at states s) (IsLedTo disk pool) → IfSome (state_at states s) (IsStoredWell disk pool)
+      → IfSome (state_at states s) (IsHeldIn disk pool s)
+  each_held disk s = by (state_at states s) refl
+    where
+      by : (o : Option VolumeState) → state_at states s ≡ o → IfSome o (IsReady disk pool) → IfSome o (IsStanding disk pool) → IfSome o (IsLedTo disk pool) → IfSome o (IsStoredWell disk pool) → IfSome o (IsHeldIn disk pool s)
+      by None there a b c d = tt
+      by (Some x) there a b c d = seen_held pool states i long tables s x there (subst (λ (o : Option VolumeState). IfSome o (IsState (view_over pool states i) no_trees s)) there (are.each s)) disk a b c d
+
+  -- and what they commit fits
+  pub commits_fit : sum_of states ≤ capacity pool.found.blocks
+  unfolding has_commits_in_capacity seen view_over
+  commits_fit =
+      let fits = at_least (commits_seen (seen (view_over pool states i))) (capacity pool.found.blocks) tables.commits in
+      let same = commits_in_view pool states i long are in
+      omega (arith, fits, same)

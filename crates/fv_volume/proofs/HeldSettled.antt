@@ -3,10 +3,13 @@ use Rattle.std.proofs.Common.{◌≡◌, ℕ, ◌<◌, ◌≤◌, false, Option,
 use Rattle.std.specs.Prelude.{IfSome}
 use Rattle.std.specs.Option.{option_map}
 use Rattle.fv_disk.specs.Shown.{Shown}
+use Rattle.fv_image.specs.Views.{View}
 use Rattle.fv_root.specs.Formatted.{IsSize}
 use Rattle.fv_store.specs.Held.{StandsOn}
 use Rattle.fv_container.specs.Chains.{container_at}
 use Rattle.fv_volmap.specs.Slots.{active_of}
+use Rattle.fv_files.specs.declared.numbers.FileNumbers.{FileNumbers}
+use Rattle.fv_files.specs.Numbering.{AreNumbersIf}
 use Rattle.fv_volume.specs.declared.pool.Pool.{Pool}
 use Rattle.fv_volume.specs.declared.state.VolumeState.{VolumeState}
 use Rattle.fv_volume.specs.BlocksOver.{entries_in}
@@ -14,8 +17,10 @@ use Rattle.fv_volume.specs.Files.{IsLabelled}
 use Rattle.fv_volume.specs.Held.{core_of, HasNoFiles, HasWholeMap, IsReadyIn}
 use Rattle.fv_volume.specs.Housed.{as_written, settled_as}
 use Rattle.fv_volume.specs.Loading.{Houses}
+use Rattle.fv_volume.specs.Numbering.{AreNumbersSeen}
 use Rattle.fv_volume.specs.OneVolume.{IsBooked, IsReady}
 use Rattle.fv_volume.specs.States.{parent_in}
+use Rattle.fv_volume.specs.Trees.{active_in, no_trees}
 use Rattle.fv_volume.proofs.PlacedIn.{housed_count}
 use Rattle.fv_volume.proofs.Settled.{settled_has, settled_keeps}
 
@@ -36,6 +41,12 @@ settled_whole (Some x) label is = settled_has (λ (y : VolumeState). length (act
 pub settled_core : (o : Option VolumeState) (label : ℕ) → option_map core_of (option_map (settled_as label) o) ≡ option_map core_of o
 settled_core None label = refl
 settled_core (Some x) label = ap (λ (y : VolumeState). Some y) (settled_keeps core_of x label refl)
+
+-- the numbers of its files are those that a view tells that has its table as before
+pub settled_numbers : (w u : View) (s : ℕ) (o : Option VolumeState) (label : ℕ) → IfSome o (λ x. active_in u no_trees s ≡ active_in w no_trees s) → AreNumbersSeen w s o → AreNumbersSeen u s (option_map (settled_as label) o)
+settled_numbers w u s None label same are = tt
+settled_numbers w u s (Some x) label same are =
+    subst (λ (n : Option FileNumbers). AreNumbersIf n (active_in u no_trees s)) (sym (settled_keeps (λ (y : VolumeState). y.numbers) x label refl)) (subst (AreNumbersIf x.numbers) (sym same) are)
 
 -- its core has its parent
 pub core_parent : (o : Option VolumeState) → parent_in o ≡ parent_in (option_map core_of o)

@@ -122,12 +122,12 @@ module _ (d : Disk) (p : Pool) (x : VolumeState) (others : ℕ) where
             new_full (Damaged at want got) says m has = tt
             new_full Memory says m has = tt
 
-            pub new_accepted : Says (Ok tt) → AcceptsNew d p x others f reserve by
+            pub new_accepted : Says (Ok tt) → AcceptsNew d p x others f reserve n by
             new_accepted says = record {
               near = near;
               none = missing;
               few = few;
-              free = (n, (low, free.free));
+              free = free;
               adds = count_is;
               accepted = λ m has. new_space m x.name (volume_for d p x) has.there f reserve near missing fits few more ∙ said (Ok tt) says m has;
             }

@@ -53,6 +53,7 @@ pub mod StoredTold
 pub mod Lookups
 pub mod Answered
 pub mod OneVolumes
+pub mod Numbered
 pub mod Asked
 mod CallCauses
 mod Followed

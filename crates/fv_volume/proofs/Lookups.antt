@@ -35,7 +35,8 @@ module _ {X : Type 0} (test : X → Bool) where
     | false ↦ λ d h. found_passes x ys h
   ] refl e
 
-  none_passes : (x : X) (xs : List X) → find test xs ≡ None → In x xs → test x ≡ false
+  -- where nothing was found nothing passes
+  pub none_passes : (x : X) (xs : List X) → find test xs ≡ None → In x xs → test x ≡ false
   none_passes x [] e there = absurd there
   none_passes x (y ∷ ys) e there = elim (test y) as (λ b. test y ≡ b → cond b (Some y) (find test ys) ≡ None → (y ≡ x) ⊎ In x ys → test x ≡ false) [
     | true ↦ λ d h there. let no : Some y ≡ None = h in absurd cc

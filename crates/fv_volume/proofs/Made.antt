@@ -464,8 +464,8 @@ module _ (pool : Pool) (states : States) (slot : ℕ) (name : List ℕ) (size : 
 
 -- the new volume as it lies in its slot
 pub is_new : (states : States) (slot : ℕ) (y : VolumeState) (container : Option Mapped) (name : List ℕ) (size : ℕ) (kind : Kind) (span : ℕ) → slot < length states → span ≡ span_of size 0 0 → head_in y ≡ empty_head name size kind span
-    → y.map ≡ no_numbers span → y.ledger ≡ ledger_of_empty size kind span → y.label ≡ 0 → y.changed ≡ true → y.files ≡ None → container ≡ Some (empty_map (entry_count span)) → IsNew (state_at (with_state states slot (Some y)) slot) container name size kind
-is_new states slot y container name size kind span within is head map ledger label changed files holes =
+    → y.map ≡ no_numbers span → y.ledger ≡ ledger_of_empty size kind span → y.label ≡ 0 → y.changed ≡ true → y.files ≡ None → y.numbers ≡ None → container ≡ Some (empty_map (entry_count span)) → IsNew (state_at (with_state states slot (Some y)) slot) container name size kind
+is_new states slot y container name size kind span within is head map ledger label changed files numbers holes =
     let span_is : y.span ≡ span = ap (λ h. h.span) head in
     record {
       volume = y;
@@ -476,5 +476,6 @@ is_new states slot y container name size kind span within is head map ledger lab
       label = label;
       changed = changed;
       files = files;
+      numbers = numbers;
       holes = holes ∙ ap (λ (n : ℕ). Some (empty_map (entry_count n))) (sym span_is);
     }

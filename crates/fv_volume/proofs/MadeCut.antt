@@ -1,10 +1,10 @@
 -- A cut that was made is the machine's.
-use Rattle.std.proofs.Common.{◌≡◌, ℕ, ◌+◌, ◌≤◌, true, List, Option, Some, sym, ap, subst, ◌∙◌, arith, pos, ◌+ℤ◌}
+use Rattle.std.proofs.Common.{◌≡◌, ℕ, ◌+◌, ◌≤◌, true, List, Option, Some, refl, sym, ap, subst, ◌∙◌, arith, pos, ◌+ℤ◌}
 use Rattle.std.specs.Prelude.{Ok}
 use Rattle.std.specs.FinMap as fin
 use Rattle.fv_disk.specs.Shown.{Shown as Disk}
 use Rattle.fv_model.specs.declared.commands.Command.TheVariants.{Cut}
-use Rattle.fv_model.specs.Tables.{File, Table, file_named, cut}
+use Rattle.fv_model.specs.Tables.{File, Table, file_cut, file_named, cut}
 use Rattle.fv_model.specs.Volumes.{Volume}
 use Rattle.fv_model.specs.Effects.{Becomes, stamped}
 use Rattle.fv_laws.specs.WellFormed.{IsWellTable}
@@ -17,6 +17,8 @@ use Rattle.fv_tables.proofs.Tables.{files_told}
 use Rattle.fv_tree.specs.Standing.{under}
 use Rattle.fv_inode.specs.declared.info.Info.{Info}
 use Rattle.fv_files.specs.declared.files.Files.{Files}
+use Rattle.fv_files.specs.declared.numbers.FileNumbers.{FileNumbers}
+use Rattle.fv_files.specs.Numbering.{AreNumbersIf}
 use Rattle.fv_files.specs.Calls.{CutsFile, TakesByCut}
 use Rattle.fv_charge.specs.declared.delta.Delta.{Delta}
 use Rattle.fv_charge.specs.declared.ledger.Ledger.{Ledger}
@@ -30,9 +32,10 @@ use Rattle.fv_volume.specs.Changing.{AcceptsCut}
 use Rattle.fv_volume.specs.Lending.{IsTold}
 use Rattle.fv_volume.specs.OneVolume.{shows, standing_by, standing_for, volume_for, AreSoundBy, IsReady, IsStanding}
 use Rattle.fv_volume.proofs.Asked.{file, file_there, found}
-use Rattle.fv_volume.proofs.Calling.{done_moves, done_next, done_says, done_told, done_trees, is_done, Parts}
+use Rattle.fv_volume.proofs.Calling.{done_moves, done_next, done_says, done_told, done_trees, is_done, Parts, left_numbers}
 use Rattle.fv_volume.proofs.Changed.{made_standing, made_volume}
 use Rattle.fv_volume.proofs.Charging.{cut_change, cut_delta}
+use Rattle.fv_volume.proofs.Numbered.{cut_files, still_numbered}
 use Rattle.fv_volume.proofs.OneVolumes.{is_alone, still_table}
 
 module _ (d e f : Disk) (p q r : Pool) (first : Reads d p e q) (second : Reads e q f r) (x : VolumeState) (is : IsStanding d p x) (ready : IsReady d p x) (others : ℕ) (name : List ℕ) (most : ℕ) (info : Info)
@@ -82,18 +85,23 @@ module _ (d e f : Disk) (p q r : Pool) (first : Reads d p e q) (second : Reads e
     kind = kind ∙ ready.booked.kind;
   })
 
-  module _ (now : ℕ) (ledger : Ledger) (next : now ≡ x.now + 1) where
+  module _ (now : ℕ) (ledger : Ledger) (numbers : Option FileNumbers) (same : numbers ≡ x.numbers) (next : now ≡ x.now + 1) where
     abbrev done : VolumeState
-    done = record x { map = map; files = files; now = now; ledger = ledger; changed = true }
+    done = record x { map = map; files = files; now = now; ledger = ledger; numbers = numbers; changed = true }
+
+    -- each file has its name and its number still
+    numbered : AreNumbersIf numbers (table (x.now + 1))
+    numbered = subst (λ (o : Option FileNumbers). AreNumbersIf o (table (x.now + 1))) (sym same) (still_numbered (table_told (standing_for d p x)) (table (x.now + 1)) info.number its (file_cut its most (x.now + 1)) in_table refl (cut_files (table_told (standing_for d p x)) info.number its most (x.now + 1)) x.numbers is.numbers)
 
     pub cut_volume : volume_for f r done ≡ stamped (volume_for d p x) table
-    cut_volume = made_volume d e f p q r first second x is map files told trees now ledger table next made
+    cut_volume = made_volume d e f p q r first second x is map files told trees now ledger numbers table next made
 
     pub cut_standing : ((v w : Volume) → IsLedgerOf v x.ledger → IsDeltaOf v w by → IsLedgerOf w ledger) → IsStanding f r done
-    cut_standing moves = made_standing d e f p q r first second x is map files told trees now ledger table next made
+    cut_standing moves = made_standing d e f p q r first second x is map files told trees now ledger numbers table next made
         (cut_well x.now (x.now + 1) (table_told (standing_for d p x)) info.number its most accepts.near (omega arith) is.table in_table)
         (cut_unreserved (table_told (standing_for d p x)) is.reserves info.number its most (x.now + 1) in_table)
         (moves (volume_for d p x) (stamped (volume_for d p x) table) is.ledger its_delta)
+        numbered
 
     pub cut_changes : Changes (HasWithin x.name (volume_for d p x) others p.found.blocks) (Cut x.name name most) x.name (volume_for d p x) (volume_for f r done) (Ok tt)
     cut_changes = record {
@@ -105,7 +113,10 @@ module _ (d e f : Disk) (p q r : Pool) (first : Reads d p e q) (second : Reads e
 -- the parts of a cut
 module _ (d e f : Disk) (p q r : Pool) (x v w y : VolumeState) (by : Delta) (count : ℕ) (parts : Parts {T = ℕ} d e f p q r x v w y (Ok count) by) (is : IsStanding d p x) (ready : IsReady d p x) (others : ℕ) (name : List ℕ) (most : ℕ) (info : Info)
     (accepts : AcceptsCut d p x name most info) (cuts : IsStanding e q v → CutsFile (standing_for e q v) (standing_for e q w) info.number most (v.now + 1)) (takes : IsStanding e q v → TakesByCut (standing_for e q v) info.number most (v.now + 1) count)
-    (falls : count ≤ x.ledger.charge → (by.charge +ℤ pos count) ≡ pos 0) (need : by.need ≡ pos 0) (size : by.size ≡ x.ledger.size) (kind : by.kind ≡ x.ledger.kind) where
+    (falls : count ≤ x.ledger.charge → (by.charge +ℤ pos count) ≡ pos 0) (need : by.need ≡ pos 0) (size : by.size ≡ x.ledger.size) (kind : by.kind ≡ x.ledger.kind) (kept : y.numbers ≡ w.numbers) where
+  same_numbers : y.numbers ≡ x.numbers
+  same_numbers = kept ∙ left_numbers d e f p q r x v w y (Ok count) by parts
+
   is_told : IsTold f r w.map x.slot
   is_told = done_told d e f p q r x v w y (Ok count) by parts is
 
@@ -123,9 +134,9 @@ module _ (d e f : Disk) (p q r : Pool) (x v w y : VolumeState) (by : Delta) (cou
 
   pub cut_stands : IsStanding f r y
   cut_stands = subst (λ (z : VolumeState). IsStanding f r z) (sym (is_done d e f p q r x v w y (Ok count) by parts))
-      (cut_standing d e f p q r parts.first parts.alters.reads x is ready others name most info accepts w.map w.files is_told its_trees shorter count fewer by falls need size kind y.now y.ledger its_next
+      (cut_standing d e f p q r parts.first parts.alters.reads x is ready others name most info accepts w.map w.files is_told its_trees shorter count fewer by falls need size kind y.now y.ledger y.numbers same_numbers its_next
       (done_moves d e f p q r x v w y (Ok count) by parts))
 
   pub cut_is : Changes (HasWithin x.name (volume_for d p x) others p.found.blocks) (Cut x.name name most) x.name (volume_for d p x) (volume_for f r y) (Ok tt)
   cut_is = subst (λ (z : VolumeState). Changes (HasWithin x.name (volume_for d p x) others p.found.blocks) (Cut x.name name most) x.name (volume_for d p x) (volume_for f r z) (Ok tt)) (sym (is_done d e f p q r x v w y (Ok count) by parts))
-      (cut_changes d e f p q r parts.first parts.alters.reads x is ready others name most info accepts w.map w.files is_told its_trees shorter count fewer by falls need size kind y.now y.ledger its_next)
+      (cut_changes d e f p q r parts.first parts.alters.reads x is ready others name most info accepts w.map w.files is_told its_trees shorter count fewer by falls need size kind y.now y.ledger y.numbers same_numbers its_next)

@@ -12,6 +12,8 @@ use Rattle.fv_laws.proofs.Tables.{new_well}
 use Rattle.fv_tables.specs.Told.{Standing, table_told}
 use Rattle.fv_tree.specs.Standing.{under}
 use Rattle.fv_files.specs.declared.files.Files.{Files}
+use Rattle.fv_files.specs.declared.numbers.FileNumbers.{FileNumbers}
+use Rattle.fv_files.specs.Numbering.{AreNumbersIf}
 use Rattle.fv_charge.specs.declared.delta.Delta.{Delta}
 use Rattle.fv_charge.specs.declared.ledger.Ledger.{Ledger}
 use Rattle.fv_charge.specs.Changes.{IsDeltaOf}
@@ -22,14 +24,16 @@ use Rattle.fv_volume.specs.declared.state.VolumeState.{VolumeState}
 use Rattle.fv_volume.specs.Calls.{Changes, HasBeside, Reads}
 use Rattle.fv_volume.specs.Changing.{AcceptsNew}
 use Rattle.fv_volume.specs.Lending.{IsTold}
-use Rattle.fv_volume.specs.OneVolume.{shows, standing_by, table_for, volume_for, AreSoundBy, IsStanding}
-use Rattle.fv_volume.proofs.Calling.{done_moves, done_next, done_says, done_told, done_trees, is_done, Parts}
+use Rattle.fv_volume.specs.Numbering.{TellsFile}
+use Rattle.fv_volume.specs.OneVolume.{shows, standing_by, standing_for, table_for, volume_for, AreSoundBy, IsStanding}
+use Rattle.fv_volume.proofs.Calling.{done_moves, done_next, done_says, done_told, done_trees, is_done, Parts, left_numbers}
 use Rattle.fv_volume.proofs.Changed.{made_standing, made_volume}
 use Rattle.fv_volume.proofs.Charging.{new_change, new_delta}
+use Rattle.fv_volume.proofs.Numbered.{made_numbered}
 use Rattle.fv_volume.proofs.OneVolumes.{is_alone, still_table}
 
-module _ (d e f : Disk) (p q r : Pool) (first : Reads d p e q) (second : Reads e q f r) (x : VolumeState) (is : IsStanding d p x) (others : ℕ) (name : List ℕ) (reserve : ℕ) (none : reserve ≡ 0) (by : Delta)
-    (accepts : AcceptsNew d p x others name reserve by) (map : Maps) (files : Option Files) (told : IsTold f r map x.slot)
+module _ (d e f : Disk) (p q r : Pool) (first : Reads d p e q) (second : Reads e q f r) (x : VolumeState) (is : IsStanding d p x) (others : ℕ) (name : List ℕ) (reserve number : ℕ) (none : reserve ≡ 0) (by : Delta)
+    (accepts : AcceptsNew d p x others name reserve number by) (map : Maps) (files : Option Files) (told : IsTold f r map x.slot)
     (trees : AreSoundBy (under (shows e q (record x { map = map }))) (shows e q (record x { map = map })).used x.active files)
     (written : table_told (standing_by (under (shows e q (record x { map = map }))) x.active files) ≡ new (table_for e q x) name reserve (x.now + 1)) where
   abbrev table : ℕ → Table
@@ -42,18 +46,23 @@ module _ (d e f : Disk) (p q r : Pool) (first : Reads d p e q) (second : Reads e
   its_delta = subst (λ k. IsDeltaOf (volume_for d p x) (stamped (volume_for d p x) (new (table_for d p x) name k)) by) (sym none)
       (new_delta (volume_for d p x) (is_alone d p x) is.table is.reserves by name accepts.adds)
 
-  module _ (now : ℕ) (ledger : Ledger) (next : now ≡ x.now + 1) where
+  module _ (now : ℕ) (ledger : Ledger) (numbers : Option FileNumbers) (tells : TellsFile x.numbers numbers name number) (next : now ≡ x.now + 1) where
     abbrev done : VolumeState
-    done = record x { map = map; files = files; now = now; ledger = ledger; changed = true }
+    done = record x { map = map; files = files; now = now; ledger = ledger; numbers = numbers; changed = true }
+
+    -- the new file has the name, and its number is taken
+    numbered : AreNumbersIf numbers (table (x.now + 1))
+    numbered = made_numbered (standing_for d p x) name reserve (x.now + 1) number accepts.free accepts.none x.numbers numbers is.numbers tells
 
     pub new_volume : volume_for f r done ≡ stamped (volume_for d p x) table
-    new_volume = made_volume d e f p q r first second x is map files told trees now ledger table next made
+    new_volume = made_volume d e f p q r first second x is map files told trees now ledger numbers table next made
 
     pub new_standing : ((v w : Volume) → IsLedgerOf v x.ledger → IsDeltaOf v w by → IsLedgerOf w ledger) → IsStanding f r done
-    new_standing moves = made_standing d e f p q r first second x is map files told trees now ledger table next made
+    new_standing moves = made_standing d e f p q r first second x is map files told trees now ledger numbers table next made
         (new_well x.now (x.now + 1) (table_for d p x) name reserve accepts.near (omega arith) is.table accepts.none accepts.few)
         (subst (λ k. HasNoReserve (new (table_for d p x) name k (x.now + 1))) (sym none) (new_unreserved (table_for d p x) is.reserves name (x.now + 1)))
         (moves (volume_for d p x) (stamped (volume_for d p x) table) is.ledger its_delta)
+        numbered
 
     pub new_changes : Changes (HasBeside x.name (volume_for d p x) others p.found.blocks) (New x.name name reserve) x.name (volume_for d p x) (volume_for f r done) (Ok tt)
     new_changes = record {
@@ -63,8 +72,11 @@ module _ (d e f : Disk) (p q r : Pool) (first : Reads d p e q) (second : Reads e
     }
 
 -- the parts of a new file
-module _ (d e f : Disk) (p q r : Pool) (x v w y : VolumeState) (by : Delta) (parts : Parts {T = Unit {0}} d e f p q r x v w y (Ok tt) by) (is : IsStanding d p x) (others : ℕ) (name : List ℕ) (reserve : ℕ) (none : reserve ≡ 0)
-    (accepts : AcceptsNew d p x others name reserve by) (written : IsStanding e q v → table_for e q w ≡ new (table_for e q v) name reserve (v.now + 1)) where
+module _ (d e f : Disk) (p q r : Pool) (x v w y : VolumeState) (by : Delta) (parts : Parts {T = Unit {0}} d e f p q r x v w y (Ok tt) by) (is : IsStanding d p x) (others : ℕ) (name : List ℕ) (reserve number : ℕ) (none : reserve ≡ 0)
+    (accepts : AcceptsNew d p x others name reserve number by) (written : IsStanding e q v → table_for e q w ≡ new (table_for e q v) name reserve (v.now + 1)) (tells : TellsFile w.numbers y.numbers name number) where
+  tells_now : TellsFile x.numbers y.numbers name number
+  tells_now = subst (λ (o : Option FileNumbers). TellsFile o y.numbers name number) (left_numbers d e f p q r x v w y (Ok tt) by parts) tells
+
   told : IsTold f r w.map x.slot
   told = done_told d e f p q r x v w y (Ok tt) by parts is
 
@@ -79,8 +91,8 @@ module _ (d e f : Disk) (p q r : Pool) (x v w y : VolumeState) (by : Delta) (par
 
   pub new_stands : IsStanding f r y
   new_stands = subst (λ (z : VolumeState). IsStanding f r z) (sym (is_done d e f p q r x v w y (Ok tt) by parts))
-      (new_standing d e f p q r parts.first parts.alters.reads x is others name reserve none by accepts w.map w.files told trees its_table y.now y.ledger next (done_moves d e f p q r x v w y (Ok tt) by parts))
+      (new_standing d e f p q r parts.first parts.alters.reads x is others name reserve number none by accepts w.map w.files told trees its_table y.now y.ledger y.numbers tells_now next (done_moves d e f p q r x v w y (Ok tt) by parts))
 
   pub new_is : Changes (HasBeside x.name (volume_for d p x) others p.found.blocks) (New x.name name reserve) x.name (volume_for d p x) (volume_for f r y) (Ok tt)
   new_is = subst (λ (z : VolumeState). Changes (HasBeside x.name (volume_for d p x) others p.found.blocks) (New x.name name reserve) x.name (volume_for d p x) (volume_for f r z) (Ok tt)) (sym (is_done d e f p q r x v w y (Ok tt) by parts))
-      (new_changes d e f p q r parts.first parts.alters.reads x is others name reserve none by accepts w.map w.files told trees its_table y.now y.ledger next)
+      (new_changes d e f p q r parts.first parts.alters.reads x is others name reserve number none by accepts w.map w.files told trees its_table y.now y.ledger y.numbers tells_now next)

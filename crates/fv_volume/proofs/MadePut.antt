@@ -1,10 +1,10 @@
 -- A write that was made is the machine's.
-use Rattle.std.proofs.Common.{◌≡◌, ℕ, ◌+◌, true, List, Option, Some, sym, ap, subst, ◌∙◌, arith}
+use Rattle.std.proofs.Common.{◌≡◌, ℕ, ◌+◌, true, List, Option, Some, refl, sym, ap, subst, ◌∙◌, arith}
 use Rattle.std.specs.Prelude.{Ok}
 use Rattle.std.specs.FinMap as fin
 use Rattle.fv_disk.specs.Shown.{Shown as Disk}
 use Rattle.fv_model.specs.declared.commands.Command.TheVariants.{Put}
-use Rattle.fv_model.specs.Tables.{File, Table, file_named, put}
+use Rattle.fv_model.specs.Tables.{File, Table, file_named, file_put, put}
 use Rattle.fv_model.specs.Volumes.{Volume}
 use Rattle.fv_model.specs.Effects.{Becomes, stamped}
 use Rattle.fv_laws.proofs.PathCharges.{put_unreserved}
@@ -14,6 +14,8 @@ use Rattle.fv_tables.proofs.Tables.{files_told}
 use Rattle.fv_tree.specs.Standing.{under}
 use Rattle.fv_inode.specs.declared.info.Info.{Info}
 use Rattle.fv_files.specs.declared.files.Files.{Files}
+use Rattle.fv_files.specs.declared.numbers.FileNumbers.{FileNumbers}
+use Rattle.fv_files.specs.Numbering.{AreNumbersIf}
 use Rattle.fv_files.specs.Calls.{WritesCell}
 use Rattle.fv_charge.specs.declared.delta.Delta.{Delta}
 use Rattle.fv_charge.specs.declared.ledger.Ledger.{Ledger}
@@ -27,9 +29,10 @@ use Rattle.fv_volume.specs.Changing.{AcceptsPut}
 use Rattle.fv_volume.specs.Lending.{IsTold}
 use Rattle.fv_volume.specs.OneVolume.{shows, standing_by, standing_for, volume_for, AreSoundBy, IsStanding}
 use Rattle.fv_volume.proofs.Asked.{file, file_there, found}
-use Rattle.fv_volume.proofs.Calling.{done_moves, done_next, done_says, done_told, done_trees, is_done, Parts}
+use Rattle.fv_volume.proofs.Calling.{done_moves, done_next, done_says, done_told, done_trees, is_done, left_numbers, Parts}
 use Rattle.fv_volume.proofs.Changed.{made_standing, made_volume}
 use Rattle.fv_volume.proofs.Charging.{put_change, put_delta}
+use Rattle.fv_volume.proofs.Numbered.{put_files, still_numbered}
 use Rattle.fv_volume.proofs.OneVolumes.{is_alone, still_table}
 
 module _ (d e f : Disk) (p q r : Pool) (first : Reads d p e q) (second : Reads e q f r) (x : VolumeState) (is : IsStanding d p x) (others : ℕ) (name : List ℕ) (i : ℕ) (content : List ℕ) (info : Info) (by : Delta)
@@ -59,18 +62,23 @@ module _ (d e f : Disk) (p q r : Pool) (first : Reads d p e q) (second : Reads e
   its_delta : IsDeltaOf (volume_for d p x) (stamped (volume_for d p x) table) by
   its_delta = put_delta (volume_for d p x) (is_alone d p x) is.table is.reserves by info.number its i content in_table (accepts.adds its its_there)
 
-  module _ (now : ℕ) (ledger : Ledger) (next : now ≡ x.now + 1) where
+  module _ (now : ℕ) (ledger : Ledger) (numbers : Option FileNumbers) (same : numbers ≡ x.numbers) (next : now ≡ x.now + 1) where
     abbrev done : VolumeState
-    done = record x { map = map; files = files; now = now; ledger = ledger; changed = true }
+    done = record x { map = map; files = files; now = now; ledger = ledger; numbers = numbers; changed = true }
+
+    -- each file has its name and its number still
+    numbered : AreNumbersIf numbers (table (x.now + 1))
+    numbered = subst (λ (o : Option FileNumbers). AreNumbersIf o (table (x.now + 1))) (sym same) (still_numbered (table_told (standing_for d p x)) (table (x.now + 1)) info.number its (file_put its i content (x.now + 1)) in_table refl (put_files (table_told (standing_for d p x)) info.number its i content (x.now + 1)) x.numbers is.numbers)
 
     pub put_volume : volume_for f r done ≡ stamped (volume_for d p x) table
-    put_volume = made_volume d e f p q r first second x is map files told trees now ledger table next made
+    put_volume = made_volume d e f p q r first second x is map files told trees now ledger numbers table next made
 
     pub put_standing : ((v w : Volume) → IsLedgerOf v x.ledger → IsDeltaOf v w by → IsLedgerOf w ledger) → IsStanding f r done
-    put_standing moves = made_standing d e f p q r first second x is map files told trees now ledger table next made
+    put_standing moves = made_standing d e f p q r first second x is map files told trees now ledger numbers table next made
         (put_well x.now (x.now + 1) (table_told (standing_for d p x)) info.number its i content accepts.near (omega arith) is.table in_table)
         (put_unreserved (table_told (standing_for d p x)) is.reserves info.number its i content (x.now + 1) in_table)
         (moves (volume_for d p x) (stamped (volume_for d p x) table) is.ledger its_delta)
+        numbered
 
     pub put_changes : Changes (HasBeside x.name (volume_for d p x) others p.found.blocks) (Put x.name name i content) x.name (volume_for d p x) (volume_for f r done) (Ok tt)
     put_changes = record {
@@ -81,7 +89,10 @@ module _ (d e f : Disk) (p q r : Pool) (first : Reads d p e q) (second : Reads e
 
 -- the parts of a write
 module _ (d e f : Disk) (p q r : Pool) (x v w y : VolumeState) (by : Delta) (parts : Parts {T = Unit {0}} d e f p q r x v w y (Ok tt) by) (is : IsStanding d p x) (others : ℕ) (name : List ℕ) (i : ℕ) (content : List ℕ) (info : Info)
-    (accepts : AcceptsPut d p x others name i info by) (written : IsStanding e q v → WritesCell (standing_for e q v) (standing_for e q w) info.number i (v.now + 1) content) where
+    (accepts : AcceptsPut d p x others name i info by) (written : IsStanding e q v → WritesCell (standing_for e q v) (standing_for e q w) info.number i (v.now + 1) content) (kept : y.numbers ≡ w.numbers) where
+  same_numbers : y.numbers ≡ x.numbers
+  same_numbers = kept ∙ left_numbers d e f p q r x v w y (Ok tt) by parts
+
   told : IsTold f r w.map x.slot
   told = done_told d e f p q r x v w y (Ok tt) by parts is
 
@@ -96,8 +107,8 @@ module _ (d e f : Disk) (p q r : Pool) (x v w y : VolumeState) (by : Delta) (par
 
   pub put_stands : IsStanding f r y
   put_stands = subst (λ (z : VolumeState). IsStanding f r z) (sym (is_done d e f p q r x v w y (Ok tt) by parts))
-      (put_standing d e f p q r parts.first parts.alters.reads x is others name i content info by accepts w.map w.files told trees cell y.now y.ledger next (done_moves d e f p q r x v w y (Ok tt) by parts))
+      (put_standing d e f p q r parts.first parts.alters.reads x is others name i content info by accepts w.map w.files told trees cell y.now y.ledger y.numbers same_numbers next (done_moves d e f p q r x v w y (Ok tt) by parts))
 
   pub put_is : Changes (HasBeside x.name (volume_for d p x) others p.found.blocks) (Put x.name name i content) x.name (volume_for d p x) (volume_for f r y) (Ok tt)
   put_is = subst (λ (z : VolumeState). Changes (HasBeside x.name (volume_for d p x) others p.found.blocks) (Put x.name name i content) x.name (volume_for d p x) (volume_for f r z) (Ok tt)) (sym (is_done d e f p q r x v w y (Ok tt) by parts))
-      (put_changes d e f p q r parts.first parts.alters.reads x is others name i content info by accepts w.map w.files told trees cell y.now y.ledger next)
+      (put_changes d e f p q r parts.first parts.alters.reads x is others name i content info by accepts w.map w.files told trees cell y.now y.ledger y.numbers same_numbers next)

@@ -17,6 +17,8 @@ use Rattle.fv_tables.proofs.Tables.{files_told}
 use Rattle.fv_tree.specs.Standing.{under}
 use Rattle.fv_inode.specs.declared.info.Info.{Info}
 use Rattle.fv_files.specs.declared.files.Files.{Files}
+use Rattle.fv_files.specs.declared.numbers.FileNumbers.{FileNumbers}
+use Rattle.fv_files.specs.Numbering.{AreNumbersIf}
 use Rattle.fv_files.specs.Calls.{RemovesFile, TakesByRemoval}
 use Rattle.fv_charge.specs.declared.delta.Delta.{Delta}
 use Rattle.fv_charge.specs.declared.ledger.Ledger.{Ledger}
@@ -28,11 +30,13 @@ use Rattle.fv_volume.specs.declared.state.VolumeState.{VolumeState}
 use Rattle.fv_volume.specs.Calls.{Changes, HasWithin, Reads}
 use Rattle.fv_volume.specs.Changing.{AcceptsRemoval}
 use Rattle.fv_volume.specs.Lending.{IsTold}
+use Rattle.fv_volume.specs.Numbering.{LacksFile}
 use Rattle.fv_volume.specs.OneVolume.{shows, standing_by, standing_for, volume_for, AreSoundBy, IsReady, IsStanding}
 use Rattle.fv_volume.proofs.Asked.{file, file_there, found}
-use Rattle.fv_volume.proofs.Calling.{done_moves, done_next, done_says, done_told, done_trees, is_done, Parts}
+use Rattle.fv_volume.proofs.Calling.{done_moves, done_next, done_says, done_told, done_trees, is_done, Parts, left_numbers}
 use Rattle.fv_volume.proofs.Changed.{made_standing, made_volume}
 use Rattle.fv_volume.proofs.Charging.{rm_change, rm_delta}
+use Rattle.fv_volume.proofs.Numbered.{first_named, removed_numbered, rm_files}
 use Rattle.fv_volume.proofs.OneVolumes.{is_alone, still_table}
 
 module _ (d e f : Disk) (p q r : Pool) (first : Reads d p e q) (second : Reads e q f r) (x : VolumeState) (is : IsStanding d p x) (ready : IsReady d p x) (others : ℕ) (name : List ℕ) (info : Info)
@@ -45,6 +49,9 @@ module _ (d e f : Disk) (p q r : Pool) (first : Reads d p e q) (second : Reads e
 
   its_name : file_named (table_told (standing_for d p x)) name ≡ Some (info.number, its)
   its_name = found d p x is name info accepts.first
+
+  its_named : its.name ≡ name
+  its_named = first_named (standing_for d p x) name info accepts.first
 
   its_there : file_in (standing_for d p x) info.number ≡ Some its
   its_there = file_there d p x is name info accepts.first
@@ -82,18 +89,23 @@ module _ (d e f : Disk) (p q r : Pool) (first : Reads d p e q) (second : Reads e
     kind = kind ∙ ready.booked.kind;
   })
 
-  module _ (now : ℕ) (ledger : Ledger) (next : now ≡ x.now + 1) where
+  module _ (now : ℕ) (ledger : Ledger) (numbers : Option FileNumbers) (lacks : LacksFile x.numbers numbers name info.number) (next : now ≡ x.now + 1) where
     abbrev done : VolumeState
-    done = record x { map = map; files = files; now = now; ledger = ledger; changed = true }
+    done = record x { map = map; files = files; now = now; ledger = ledger; numbers = numbers; changed = true }
+
+    -- no file has the name any more, and its number is free
+    numbered : AreNumbersIf numbers (table (x.now + 1))
+    numbered = removed_numbered (table_told (standing_for d p x)) (table (x.now + 1)) info.number its in_table (rm_files (table_told (standing_for d p x)) info.number (x.now + 1)) x.numbers numbers is.numbers (subst (λ (n : List ℕ). LacksFile x.numbers numbers n info.number) (sym its_named) lacks)
 
     pub rm_volume : volume_for f r done ≡ stamped (volume_for d p x) table
-    rm_volume = made_volume d e f p q r first second x is map files told trees now ledger table next made
+    rm_volume = made_volume d e f p q r first second x is map files told trees now ledger numbers table next made
 
     pub rm_standing : ((v w : Volume) → IsLedgerOf v x.ledger → IsDeltaOf v w by → IsLedgerOf w ledger) → IsStanding f r done
-    rm_standing moves = made_standing d e f p q r first second x is map files told trees now ledger table next made
+    rm_standing moves = made_standing d e f p q r first second x is map files told trees now ledger numbers table next made
         (rm_well x.now (x.now + 1) (table_told (standing_for d p x)) info.number (omega arith) is.table)
         (rm_unreserved (table_told (standing_for d p x)) is.reserves info.number (x.now + 1))
         (moves (volume_for d p x) (stamped (volume_for d p x) table) is.ledger its_delta)
+        numbered
 
     pub rm_changes : Changes (HasWithin x.name (volume_for d p x) others p.found.blocks) (Remove x.name name) x.name (volume_for d p x) (volume_for f r done) (Ok tt)
     rm_changes = record {
@@ -105,7 +117,10 @@ module _ (d e f : Disk) (p q r : Pool) (first : Reads d p e q) (second : Reads e
 -- the parts of a removal
 module _ (d e f : Disk) (p q r : Pool) (x v w y : VolumeState) (by : Delta) (count : ℕ) (parts : Parts {T = ℕ} d e f p q r x v w y (Ok count) by) (is : IsStanding d p x) (ready : IsReady d p x) (others : ℕ) (name : List ℕ) (info : Info)
     (accepts : AcceptsRemoval d p x name info) (removes : IsStanding e q v → RemovesFile (standing_for e q v) (standing_for e q w) info.number (v.now + 1)) (takes : IsStanding e q v → TakesByRemoval (standing_for e q v) info.number (v.now + 1) count)
-    (falls : count ≤ x.ledger.charge → (by.charge +ℤ pos count) ≡ pos 0) (need : by.need ≡ pos 0) (size : by.size ≡ x.ledger.size) (kind : by.kind ≡ x.ledger.kind) where
+    (falls : count ≤ x.ledger.charge → (by.charge +ℤ pos count) ≡ pos 0) (need : by.need ≡ pos 0) (size : by.size ≡ x.ledger.size) (kind : by.kind ≡ x.ledger.kind) (lacks : LacksFile w.numbers y.numbers name info.number) where
+  lacks_now : LacksFile x.numbers y.numbers name info.number
+  lacks_now = subst (λ (o : Option FileNumbers). LacksFile o y.numbers name info.number) (left_numbers d e f p q r x v w y (Ok count) by parts) lacks
+
   is_told : IsTold f r w.map x.slot
   is_told = done_told d e f p q r x v w y (Ok count) by parts is
 
@@ -123,9 +138,9 @@ module _ (d e f : Disk) (p q r : Pool) (x v w y : VolumeState) (by : Delta) (cou
 
   pub rm_stands : IsStanding f r y
   rm_stands = subst (λ (z : VolumeState). IsStanding f r z) (sym (is_done d e f p q r x v w y (Ok count) by parts))
-      (rm_standing d e f p q r parts.first parts.alters.reads x is ready others name info accepts w.map w.files is_told its_trees gone count fewer by falls need size kind y.now y.ledger its_next
+      (rm_standing d e f p q r parts.first parts.alters.reads x is ready others name info accepts w.map w.files is_told its_trees gone count fewer by falls need size kind y.now y.ledger y.numbers lacks_now its_next
       (done_moves d e f p q r x v w y (Ok count) by parts))
 
   pub rm_is : Changes (HasWithin x.name (volume_for d p x) others p.found.blocks) (Remove x.name name) x.name (volume_for d p x) (volume_for f r y) (Ok tt)
   rm_is = subst (λ (z : VolumeState). Changes (HasWithin x.name (volume_for d p x) others p.found.blocks) (Remove x.name name) x.name (volume_for d p x) (volume_for f r z) (Ok tt)) (sym (is_done d e f p q r x v w y (Ok count) by parts))
-      (rm_changes d e f p q r parts.first parts.alters.reads x is ready others name info accepts w.map w.files is_told its_trees gone count fewer by falls need size kind y.now y.ledger its_next)
+      (rm_changes d e f p q r parts.first parts.alters.reads x is ready others name info accepts w.map w.files is_told its_trees gone count fewer by falls need size kind y.now y.ledger y.numbers lacks_now its_next)

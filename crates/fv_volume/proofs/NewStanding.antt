@@ -32,6 +32,8 @@ use Rattle.fv_charge.specs.Ledgers.{IsLedgerOf}
 use Rattle.fv_container.specs.declared.entry.Entry.{Entry}
 use Rattle.fv_container.specs.Mapped.{Mapped, empty_map}
 use Rattle.fv_container.specs.Chains.{container_at, own_entry, parent_at}
+use Rattle.fv_files.specs.declared.numbers.FileNumbers.{FileNumbers}
+use Rattle.fv_files.specs.Numbering.{AreNumbersIf}
 use Rattle.fv_volume.specs.declared.pool.Pool.{Pool}
 use Rattle.fv_volume.specs.declared.state.VolumeState.{VolumeState}
 use Rattle.fv_volume.specs.OneVolume.{shows, standing_by, table_for, volume_as, volume_for, AreSoundBy, IsStanding}
@@ -114,13 +116,14 @@ module _ (disk : Disk) (pool : Pool) (x : VolumeState) (size : ℕ) (kind : Kind
       }
 
   -- So calls can be made on it.
-  pub made_standing : (entries : ℕ) → IsTrue disk.tells → container_at pool.containers x.slot ≡ Some (empty_map entries) → parent_at pool.containers x.slot ≡ None → IsStanding disk pool x
-  made_standing entries tells holes alone = record {
+  pub made_standing : x.numbers ≡ None → (entries : ℕ) → IsTrue disk.tells → container_at pool.containers x.slot ≡ Some (empty_map entries) → parent_at pool.containers x.slot ≡ None → IsStanding disk pool x
+  made_standing unnumbered entries tells holes alone = record {
     told = (tells, apart_alone pool x.map x.slot alone (λ v e is. absurd (no_entry v e is)) (λ v w other e is f there. absurd (no_entry v e is)));
     table = subst (IsWellTable x.now) (sym made_table) (empty_well x.now);
     reserves = subst HasNoReserve (sym made_table) no_reserve;
     ledger = subst (λ v. IsLedgerOf v x.ledger) (sym made_volume) (subst (IsLedgerOf (empty_volume size kind)) (sym ledger) (ledger_new size kind));
     trees = subst (AreSoundBy (under (shows disk pool x)) (shows disk pool x).used x.active) (sym none) (bare_reached (under (shows disk pool x)) (shows disk pool x).used x.active.levels x.active.root bare);
+    numbers = subst (λ (o : Option FileNumbers). AreNumbersIf o (table_for disk pool x)) (sym unnumbered) tt;
   }
     where
       no_entry : (v : ℕ) (e : Entry) → own_entry (container_at pool.containers x.slot) v ≡ Some e → ⊥

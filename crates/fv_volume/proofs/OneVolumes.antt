@@ -17,6 +17,7 @@ use Rattle.fv_tables.specs.Told.{Standing, table_told}
 use Rattle.fv_tree.specs.Sources.{Use}
 use Rattle.fv_tree.specs.Standing.{under}
 use Rattle.fv_files.specs.declared.files.Files.{Files}
+use Rattle.fv_files.specs.Numbering.{AreNumbersIf}
 use Rattle.fv_charge.specs.Ledgers.{IsLedgerOf}
 use Rattle.fv_volmap.specs.Slots.{Volume}
 use Rattle.fv_volume.specs.declared.pool.Pool.{Pool}
@@ -91,6 +92,7 @@ module _ (d e : Disk) (p q : Pool) (x : VolumeState) (spaces : q.map ≡ p.map) 
     ledger = subst (λ (s : Standing). IsLedgerOf (volume_as x (table_told s)) x.ledger) (sym same_standing_for) is.ledger;
     trees = subst (λ (u : ℕ → Option Use). AreSoundBy (under (shows e q x)) u x.active x.files) (sym same_used)
         (subst (λ (u : Under). AreSoundBy u (shows d p x).used x.active x.files) (sym same_under) is.trees);
+    numbers = subst (λ (s : Standing). AreNumbersIf x.numbers (table_told s)) (sym same_standing_for) is.numbers;
   }
 
 module _ (d e : Disk) (p q : Pool) (reads : Reads d p e q) (x : VolumeState) where

@@ -14,13 +14,15 @@ use Rattle.fv_charge.specs.declared.ledger.Ledger.{Ledger}
 use Rattle.fv_container.specs.Chains.{container_at, slot_count}
 use Rattle.fv_container.specs.Mapped.{Mapped}
 use Rattle.fv_store.specs.Held.{StandsOn}
+use Rattle.fv_files.specs.declared.numbers.FileNumbers.{FileNumbers}
+use Rattle.fv_files.specs.Numbering.{AreNumbersIf}
 use Rattle.fv_volume.specs.declared.pool.Pool.{Pool}
 use Rattle.fv_volume.specs.declared.state.VolumeState.{VolumeState}
 use Rattle.fv_volume.specs.BlocksOver.{entries_in}
 use Rattle.fv_volume.specs.Calls.{Reads}
 use Rattle.fv_volume.specs.Files.{IsLabelled, IsState}
 use Rattle.fv_volume.specs.Loading.{Houses, IsCounted, KeptTo, LoadedTo}
-use Rattle.fv_volume.specs.OneVolume.{IsReady, IsStanding}
+use Rattle.fv_volume.specs.OneVolume.{table_for, IsReady, IsStanding}
 use Rattle.fv_volume.specs.Placing.{IsLedTo, IsStoredWell}
 use Rattle.fv_volume.specs.States.{States, state_at, view_over}
 use Rattle.fv_volume.specs.Trees.{no_trees}
@@ -83,6 +85,7 @@ module _ (pool : Pool) (states : States) (kept : KeptTo slot_count states pool.c
       counted.none tells
       (loaded_apart pool disk.reads states is.sound map kept loaded x.map x.slot)
       (subst (λ (o : Option VolumeState). IfSome o (IsState (view_over pool states disk.reads) no_trees x.slot)) here ((loaded_states pool disk.reads states kept loaded none m is whole).each x.slot))
+      (subst (λ (o : Option FileNumbers). AreNumbersIf o (table_for disk pool x)) (sym counted.numbers) tt)
 
   -- What is in use of it is led to.
   pub loaded_led : (disk : Disk) → IsTrue disk.tells → ((b : ℕ) → length (disk.reads b) ≡ 4096) → LoadedTo disk.reads pool.found slot_count states pool.containers → pool.kept ≡ fin.empty

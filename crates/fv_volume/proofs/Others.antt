@@ -16,6 +16,7 @@ use Rattle.fv_container.specs.declared.entry.Entry.{Entry}
 use Rattle.fv_container.specs.Mapped.{Mapped}
 use Rattle.fv_container.specs.Chains.{Slots, container_at, own_entry, parent_at}
 use Rattle.fv_volmap.specs.Slots.{Volume as Maps, active_of}
+use Rattle.fv_files.specs.Numbering.{AreNumbersIf}
 use Rattle.fv_volume.specs.declared.pool.Pool.{Pool}
 use Rattle.fv_volume.specs.declared.state.VolumeState.{VolumeState}
 use Rattle.fv_volume.specs.BlocksOver.{block_of, held_block, held_entry}
@@ -64,6 +65,7 @@ module _ (d e : Disk) (p q : Pool) (y : VolumeState) (alone : parent_at p.contai
     ledger = subst (λ (s : Standing). IsLedgerOf (volume_as y (table_told s)) y.ledger) (sym same_standing) is.ledger;
     trees = subst (λ (u : ℕ → Option Use). AreSoundBy (under (shows e q y)) u y.active y.files) (sym same_used)
         (subst (λ (u : Under). AreSoundBy u (shows d p y).used y.active y.files) (sym same_under) is.trees);
+    numbers = subst (λ (s : Standing). AreNumbersIf y.numbers (table_told s)) (sym same_standing) is.numbers;
   }
 
   pub entries_led : IsLedTo d p y → IsLedTo e q y

@@ -18,6 +18,7 @@ use Rattle.fv_tables.proofs.Tables.{placed_table}
 use Rattle.fv_tree.specs.Sources.{Shown}
 use Rattle.fv_tree.specs.Standing.{under}
 use Rattle.fv_files.specs.declared.files.Files.{Files}
+use Rattle.fv_files.specs.Numbering.{AreNumbersIf}
 use Rattle.fv_files.specs.Pending.{pending_in}
 use Rattle.fv_files.specs.Tables.{table_in, AreReached, AreStanding, IsLed, IsStored, IsStoredUnder}
 use Rattle.fv_files.specs.Apart.{AreLed, stored_trees}
@@ -142,6 +143,7 @@ module _ (d : Disk) (p : Pool) (x : VolumeState) (f : Files) (held : x.files ≡
       reserves = subst HasNoReserve (sym left_table) is.reserves;
       ledger = subst (λ v. IsLedgerOf v x.ledger) (sym left_volume) is.ledger;
       trees = trees;
+      numbers = subst (AreNumbersIf x.numbers) (sym left_table) is.numbers;
     }
 
 -- Once it was placed whole the root that is answered tells it, and nothing of it is in memory.

@@ -8,6 +8,7 @@ use Rattle.fv_laws.specs.Positions.{HasNoReserve}
 use Rattle.fv_tree.specs.Standing.{under}
 use Rattle.fv_charge.specs.Ledgers.{IsLedgerOf}
 use Rattle.fv_store.specs.Held.{StandsOn}
+use Rattle.fv_files.specs.Numbering.{AreNumbersIf}
 use Rattle.fv_volume.specs.declared.pool.Pool.{Pool}
 use Rattle.fv_volume.specs.declared.state.VolumeState.{VolumeState}
 use Rattle.fv_volume.specs.Held.{named_held, IsHeldIn, IsReadyIn}
@@ -38,6 +39,7 @@ module _ (d e : Shown) (stays : Stays d e) (pool : Pool) where
     reserves = subst (λ (i : Image). HasNoReserve (table_for (over i) pool x)) (sym stays.reads) is.reserves;
     ledger = subst (λ (i : Image). IsLedgerOf (volume_for (over i) pool x) x.ledger) (sym stays.reads) is.ledger;
     trees = subst (λ (i : Image). AreSoundBy (under (shows (over i) pool x)) (shows d pool x).used x.active x.files) (sym stays.reads) is.trees;
+    numbers = subst (λ (i : Image). AreNumbersIf x.numbers (table_for (over i) pool x)) (sym stays.reads) is.numbers;
   }
 
   led_still : (x : VolumeState) → IsLedTo d pool x → IsLedTo e pool x

@@ -14,19 +14,21 @@ use Rattle.fv_root.specs.Finding.{root_found}
 use Rattle.fv_aggmap.specs.Loading.{IsLoaded as IsMapLoaded}
 use Rattle.fv_container.specs.Chains.{slot_count}
 use Rattle.fv_volmap.specs.Slots.{active_of}
+use Rattle.fv_files.specs.Numbering.{AreNumbersIf}
 use Rattle.fv_volume.specs.declared.pool.Pool.{Pool}
 use Rattle.fv_volume.specs.declared.state.VolumeState.{VolumeState}
 use Rattle.fv_volume.specs.BlocksOver.{AreApart}
 use Rattle.fv_volume.specs.Files.{IsLabelled, IsState}
 use Rattle.fv_volume.specs.Loading.{LoadedTo}
-use Rattle.fv_volume.specs.OneVolume.{IsStanding}
+use Rattle.fv_volume.specs.Numbering.{AreNumbersSeen}
+use Rattle.fv_volume.specs.OneVolume.{table_for, IsStanding}
 use Rattle.fv_volume.specs.Placing.{IsLedTo, IsStoredWell}
 use Rattle.fv_volume.specs.States.{States, head_in, parent_in, state_at, view_over}
-use Rattle.fv_volume.specs.Trees.{no_trees}
+use Rattle.fv_volume.specs.Trees.{active_in, no_trees}
 use Rattle.fv_volume.proofs.Apart.{entries_apart, sound_holds}
 use Rattle.fv_volume.proofs.LoadedStored.{seen_well}
 use Rattle.fv_volume.proofs.LoadedTables.{StandsInView}
-use Rattle.fv_volume.proofs.Standings.{seen_led, seen_standing}
+use Rattle.fv_volume.proofs.Standings.{active_is, seen_led, seen_standing, seen_table}
 use Rattle.fv_volume.proofs.Told.{head_there, is_inside}
 use Rattle.fv_volume.proofs.Viewed.{viewed}
 use Rattle.fv_volume.proofs.PlacedIn.{alone_by}
@@ -68,6 +70,10 @@ module _ (disk : Shown) (pool : Pool) (states : States) (housed : AreHoused pool
       at_slot : ℕ
       at_slot = x.slot
 
+  -- its table is told as by the view
+  told_as : table_for disk pool x ≡ active_in w no_trees x.slot
+  told_as = seen_table disk pool states x in_view no_files ∙ sym (active_is w x.slot (head_in x) (head_there pool states disk.reads x.slot x there))
+
   pub led : IsLedTo disk pool x
   led = seen_led disk pool states x in_view no_files
 
@@ -79,5 +85,5 @@ module _ (disk : Shown) (pool : Pool) (states : States) (housed : AreHoused pool
     apart = entries_apart (root_found pool.found) disk.reads pool (sound_holds (layout_at (root_found pool.found) disk.reads) told.sound) (record { few = few; each = λ s inside. (loaded.each s inside).tree })
         (λ b bit. ap (λ (set : List Bool). is_member set b) map.same ∙ (map.bits b ∙ bit)) x.map x.slot
 
-    pub standing : IsStanding disk pool x
-    standing = seen_standing disk pool states x in_view no_files tells apart (subst (λ (o : Option VolumeState). IfSome o (IsState w no_trees x.slot)) there (are.each x.slot))
+    pub standing : AreNumbersSeen w x.slot (Some x) → IsStanding disk pool x
+    standing numbered = seen_standing disk pool states x in_view no_files tells apart (subst (λ (o : Option VolumeState). IfSome o (IsState w no_trees x.slot)) there (are.each x.slot)) (subst (AreNumbersIf x.numbers) (sym told_as) numbered)

@@ -31,6 +31,7 @@ use Rattle.fv_charge.specs.Ledgers.{IsLedgerOf}
 use Rattle.fv_container.specs.declared.entry.Entry.{Entry}
 use Rattle.fv_container.specs.Chains.{Slots, chain_entry, container_at, own_entry, parent_at}
 use Rattle.fv_volmap.specs.Slots.{Volume as Maps, active_of, taken_in}
+use Rattle.fv_files.specs.Numbering.{AreNumbersIf}
 use Rattle.fv_volume.specs.declared.pool.Pool.{Pool}
 use Rattle.fv_volume.specs.declared.state.VolumeState.{VolumeState}
 use Rattle.fv_volume.specs.BlocksOver.{AreApart, IsKeptBack, OtherPlace, block_of, held_entry}
@@ -95,7 +96,7 @@ seen_volume w s x table form =
     }
 
 -- its table is that of its head's root
-active_is : (w : View) (s : ℕ) (h : Head) → w.head s ≡ Some h → active_in w no_trees s ≡ table_at w s h.active
+pub active_is : (w : View) (s : ℕ) (h : Head) → w.head s ≡ Some h → active_in w no_trees s ≡ table_at w s h.active
 active_is w s h there = ap (λ (o : Option Head). option_map_or (λ h. table_at w s h.active) o empty_table) there
 
 -- ---- from the view
@@ -189,8 +190,8 @@ module _ (disk : Disk) (pool : Pool) (states : States) (x : VolumeState) (is : S
           absurd (nobody tree.0 tree.1)
 
   -- The volume stands for the one of the view.
-  pub seen_standing : IsTrue disk.tells → AreApart pool x.map x.slot → IsState w no_trees x.slot x → IsStanding disk pool x
-  seen_standing tells apart state =
+  pub seen_standing : IsTrue disk.tells → AreApart pool x.map x.slot → IsState w no_trees x.slot x → AreNumbersIf x.numbers (table_for disk pool x) → IsStanding disk pool x
+  seen_standing tells apart state numbered =
       let active : active_in w no_trees x.slot ≡ table_for disk pool x = active_is w x.slot (head_in x) (head_there pool states disk.reads x.slot x is.there) ∙ sym seen_table in
       record {
         told = (tells, apart);
@@ -198,6 +199,7 @@ module _ (disk : Disk) (pool : Pool) (states : States) (x : VolumeState) (is : S
         reserves = subst HasNoReserve active state.reserves;
         ledger = subst (λ v. IsLedgerOf v x.ledger) (seen_volume w x.slot x (active_in w no_trees x.slot) is.form ∙ ap (volume_as x) active) state.ledger;
         trees = subst (AreSoundBy (blocks_of source) source.used x.active) (sym none) seen_reached;
+        numbers = numbered;
       }
 
 -- ---- to the view

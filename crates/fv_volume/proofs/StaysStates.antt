@@ -39,7 +39,8 @@ module _ (w u : View) (states : States) (long : length states ≡ 64) (heads : (
     active_of_head : (z : View) → z.head s ≡ Some (head_in x) → active_at z s ≡ table_at z s (table_in x.active)
     active_of_head z e = ap (λ (o : Option Head). option_map_or (λ h. table_at z s h.active) o empty_table) e
 
-    active_same : active_at u s ≡ active_at w s
+    -- it has the same active table
+    pub active_same : active_at u s ≡ active_at w s
     active_same = active_of_head u (stays.heads s ∙ head_there) ∙ same_table w u stays tables.bases tables.rests s (head_in x) (table_in x.active) inside head_there listed ∙ sym (active_of_head w head_there)
 
     volume_same : volume_now u no_trees s (head_in x) ≡ volume_now w no_trees s (head_in x)

@@ -106,12 +106,12 @@ pub record GivesUp (old new : Maps) : Type 0 where
   pub snapshots : (s : ℕ) → s ≢ 0 → slot_at new s ≡ slot_at old s
   pub numbers : free_numbers old ≤ free_numbers new
 
--- Nothing of a volume changed but its changes and the trees in memory, with their ledger and the numbers in use. A change that was made is
--- counted, and the next point has the volume to write. One that failed isn't counted, neither in the changes nor in the ledger, and what a
--- point had to write before it still has. A refused one leaves all as it was, and so does each call after which the next point hasn't the volume
--- to write.
+-- Nothing of a volume changed but its changes and the trees in memory, with their ledger, the numbers in use and those of its files. A change
+-- that was made is counted, and the next point has the volume to write. One that failed isn't counted, neither in the changes nor in the ledger,
+-- and what a point had to write before it still has. A refused one leaves all as it was, and so does each call after which the next point hasn't
+-- the volume to write.
 pub record KeepsHead {T : Type 0} (old new : VolumeState) (result : Result T VolumeFault) : Type 0 where
-  pub same : new ≡ record old { now = new.now; map = new.map; files = new.files; ledger = new.ledger; changed = new.changed }
+  pub same : new ≡ record old { now = new.now; map = new.map; files = new.files; numbers = new.numbers; ledger = new.ledger; changed = new.changed }
   pub maps : GivesUp old.map new.map
   pub later : old.now ≤ new.now
   pub counted : OnOk result (new.now ≡ old.now + 1)

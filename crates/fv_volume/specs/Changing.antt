@@ -10,9 +10,9 @@ use Rattle.fv_model.specs.Numbers.{is_index, is_reserve, most_changes, most_file
 use Rattle.fv_model.specs.Tables.{File, file_named, free_number, inode_cell}
 use Rattle.fv_model.specs.Refusals.{first_of, refusal, space}
 use Rattle.fv_laws.specs.Positions.{added_by}
-use Rattle.fv_tables.specs.Told.{file_at, file_in, Standing}
+use Rattle.fv_tables.specs.Told.{file_in, Standing}
 use Rattle.fv_tree.specs.Standing.{under}
-use Rattle.fv_inode.specs.Files.{HasNone, IsFirst, IsFreeNumber}
+use Rattle.fv_inode.specs.Files.{HasNone, IsFirst, IsFreeNumber, IsLeastFree}
 use Rattle.fv_inode.specs.declared.info.Info.{Info}
 use Rattle.fv_charge.specs.declared.delta.Delta.{Delta}
 use Rattle.fv_charge.specs.declared.ledger.Ledger.{Ledger}
@@ -58,12 +58,12 @@ pub record NamesNew (x : Standing) (name : List ℕ) (reserve number : ℕ) : Ty
   pub none : HasNone x.inode name
   pub free : IsFreeNumber x.inode (Some number)
 
--- A new file of a name is accepted, and so the ledger changes.
-pub record AcceptsNew (disk : Disk) (pool : Pool) (x : VolumeState) (others : ℕ) (name : List ℕ) (reserve : ℕ) (d : Delta) : Type 0 where
+-- A new file of a name is accepted under this number, the least that is free, and so the ledger changes.
+pub record AcceptsNew (disk : Disk) (pool : Pool) (x : VolumeState) (others : ℕ) (name : List ℕ) (reserve number : ℕ) (d : Delta) : Type 0 where
   pub near : is_reserve reserve ≡ true
   pub none : file_named (table_for disk pool x) name ≡ None
   pub few : fin.len (table_for disk pool x).files < most_files
-  pub free : (n : ℕ) × ((n < 262144) × (file_at (standing_for disk pool x).inode n ≡ None))
+  pub free : IsLeastFree (standing_for disk pool x).inode number
   pub adds : AddsBlocks (volume_for disk pool x) (added_by (table_for disk pool x).inode (inode_cell (free_number (table_for disk pool x)))) d
   pub accepted : (m : Machine) → HasBeside x.name (volume_for disk pool x) others pool.found.blocks m → refusal m (New x.name name reserve) ≡ None
 

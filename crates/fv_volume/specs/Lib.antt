@@ -26,6 +26,7 @@ pub mod UnderRoot
 pub mod OneVolume
 pub mod Paths
 pub mod Calls
+pub mod Numbering
 pub mod Changing
 pub mod Placing
 pub mod Held

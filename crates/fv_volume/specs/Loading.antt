@@ -148,6 +148,7 @@ pub record IsCounted (x : VolumeState) : Type 0 where
   pub ledger : x.ledger ≡ ledger_by x
   pub long : length (active_of x.map) ≡ x.map.span
   pub none : x.files ≡ None
+  pub numbers : x.numbers ≡ None
 
 -- A slot's volume has the head that its label says, with the place of that label, and its container is the one that the label names.
 -- Its active map has the bits of its blocks. It is as the root on the disk has it, and has changed where an entry is delayed.

@@ -15,6 +15,7 @@ use Rattle.fv_tables.specs.Told.{Standing, standing_at, table_told}
 use Rattle.fv_tree.specs.Sources.{Shown, Use}
 use Rattle.fv_tree.specs.Standing.{under}
 use Rattle.fv_files.specs.declared.files.Files.{Files}
+use Rattle.fv_files.specs.Numbering.{AreNumbersIf}
 use Rattle.fv_files.specs.Tables.{changed, AreReached, AreSound}
 use Rattle.fv_files.specs.Trees.{standing_in}
 use Rattle.fv_charge.specs.Ledgers.{IsLedgerOf, committed}
@@ -99,13 +100,14 @@ pub record IsReady (disk : Disk) (pool : Pool) (x : VolumeState) : Type 0 where
   pub changed : x.changed ≡ false → x.files ≡ None
 
 -- Where content is told, the volume stands for one of the machine: its table is well-formed after the changes that it counts, no file has
--- a reserve, its ledger is right, and each of its trees stands on its blocks.
+-- a reserve, its ledger is right, each of its trees stands on its blocks, and the numbers of its files in memory are those of its table.
 pub record IsStanding (disk : Disk) (pool : Pool) (x : VolumeState) : Type 0 where
   pub told : IsTold disk pool x.map x.slot
   pub table : IsWellTable x.now (table_for disk pool x)
   pub reserves : HasNoReserve (table_for disk pool x)
   pub ledger : IsLedgerOf (volume_for disk pool x) x.ledger
   pub trees : AreSoundBy (under (shows disk pool x)) (shows disk pool x).used x.active x.files
+  pub numbers : AreNumbersIf x.numbers (table_for disk pool x)
 
 -- The volume uses at most its size, and it and the others, which commit so much, commit at most what the aggregate has room for.
 pub record IsWithin (pool : Pool) (x : VolumeState) (others : ℕ) : Type 0 where

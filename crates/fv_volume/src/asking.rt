@@ -41,8 +41,8 @@ impl VolumeState {
     /// `Refused` as the machine refuses `len`: a snapshot that isn't there, and there is none; no file has the name. `DiskFault`
     /// only where a read failed in this call. `Damaged` for a pointer to a VVBN that isn't held, at the place of the volume's
     /// label with 1 and 0, and for a node or an inode block without its shape: its place, and its first field that isn't as said.
-    /// `Memory` where memory ran out. Costs a block for each inode block before the file's and for each node over them.
-    /// `docs/MACHINE.md` has the command.
+    /// `Memory` where memory ran out. By the numbers of files in memory (`read_numbers`) it costs a block for the file's inode block and
+    /// for each node over it, and without them one for each inode block before the file's, too. `docs/MACHINE.md` has the command.
     pub fn length<D: Disk>(
         &mut self,
         alloc: Global,
@@ -191,6 +191,7 @@ pub(crate) fn find_file<D: Disk>(
         &mut volume.map,
         &home,
         Blank::new(1),
+        &volume.numbers,
         name,
     );
     volume.files = kept_table(held, files);

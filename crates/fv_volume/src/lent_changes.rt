@@ -1,10 +1,11 @@
 //! Changes of the table of one volume over what a session lends. They load blocks and place none.
 
-ghost use Rattle.std.specs.Prelude.{◌≡◌, ◌≤◌, ◌<◌, ℕ, None, IfOk, OnOk};
+ghost use Rattle.std.specs.Prelude.{◌≡◌, ◌≤◌, ◌<◌, IfOk, OnOk};
 ghost use Rattle.fv_codec.specs.Blocks.{most_cells};
+ghost use Rattle.fv_model.specs.Numbers.{most_files};
 ghost use Rattle.fv_model.specs.Tables.{new};
-ghost use Rattle.fv_tables.specs.Told.{file_at, table_told};
-ghost use Rattle.fv_inode.specs.Files.{rooted, IsFreeNumber, IsInfo, IsNumberIf};
+ghost use Rattle.fv_tables.specs.Told.{table_told};
+ghost use Rattle.fv_inode.specs.Files.{rooted, IsFreeNumber, IsInfo, IsLeastFree, IsNumberIf};
 ghost use Rattle.fv_files.specs.Calls.{AddsCell, AddsFile, WritesCell};
 ghost use Rattle.fv_files.specs.Tables.{table_in, AreStanding, IsInfoOf};
 ghost use Rattle.fv_volume.specs.Calls.{BlockCause, LeavesTable, Reads};
@@ -177,7 +178,7 @@ pub(crate) fn room_told<K: Guard, D: Disk, L: Ledger>(
     files.added_by_new(&mut blocks, number)
 }
 
-/// Makes a file of a name under the least free number.
+/// Makes a file of a name under a number, the least that is free.
 #[tactic(auto, using(crate::proofs::CallCauses::lent_reads, crate::proofs::CallCauses::lent_map))]
 pub(crate) fn create_told<K: Guard, D: Disk, L: Ledger>(
     files: &mut Files,
@@ -186,6 +187,7 @@ pub(crate) fn create_told<K: Guard, D: Disk, L: Ledger>(
     map: &mut VolMap,
     home: &Home,
     blank: Blank,
+    number: u32,
     name: &Name,
     reserve: u32,
     stamp: u64,
@@ -195,7 +197,8 @@ pub(crate) fn create_told<K: Guard, D: Disk, L: Ledger>(
     requires told { K.told → IsTold (D.shown disk.old) pool.old map.old home.now.slot }
     requires stamp { 1 ≤ stamp }
     requires reserve { reserve ≤ most_cells }
-    requires free { K.told → (n : ℕ) × (n < 262144) × (file_at (rooted (sees pool.old map.old (D.shown disk.old) home.now) files.old.inode) n ≡ None) }
+    requires number { number < most_files }
+    requires free { K.told → IsLeastFree (rooted (sees pool.old map.old (D.shown disk.old) home.now) files.old.inode) number }
     ensures made { K.told → OnOk result (AreStanding (sees pool.old map.old (D.shown disk.old) home.now) files.old → table_told (table_in (sees pool.old map.new (D.shown disk.old) home.now) files.new) ≡ new (table_told (table_in (sees pool.old map.old (D.shown disk.old) home.now) files.old)) name.now reserve stamp) }
     ensures leaves { LeavesTable K.told (sees pool.old map.old (D.shown disk.old) home.now) (sees pool.old map.new (D.shown disk.old) home.now) files.old files.new result }
     ensures map { map.new ≡ map.old }
@@ -214,5 +217,5 @@ pub(crate) fn create_told<K: Guard, D: Disk, L: Ledger>(
         noted: Noted::NONE,
         of: PhantomData,
     };
-    files.create(&mut blocks, name, reserve, stamp)
+    files.create(&mut blocks, number, name, reserve, stamp)
 }

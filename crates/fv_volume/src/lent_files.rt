@@ -3,14 +3,16 @@
 ghost use Rattle.std.specs.Prelude.{◌≡◌, ◌≤◌, ◌+◌, ◌/◌, ℕ, cond, IfOk, OnOk, IfSome, Option, Some, None};
 ghost use Rattle.std.specs.FinMap as fin;
 ghost use Rattle.fv_codec.specs.Blocks.{IsPointer};
+ghost use Rattle.fv_laws.specs.WellFormed.{IsWellTable};
 ghost use Rattle.fv_tables.specs.Spelled.{Under};
-ghost use Rattle.fv_tables.specs.Told.{records_each};
+ghost use Rattle.fv_tables.specs.Told.{records_each, table_told};
 ghost use Rattle.fv_tree.specs.Costs.{way_cost};
 ghost use Rattle.fv_tree.specs.Sources.{Use};
 ghost use Rattle.fv_inode.specs.Files.{rooted, Finds, IsInfo, IsInfoIf};
 ghost use Rattle.fv_inode.specs.Listing.{names_told};
 ghost use Rattle.fv_files.specs.Calls.{GivesCell};
 ghost use Rattle.fv_files.specs.Apart.{AreLed};
+ghost use Rattle.fv_files.specs.Numbering.{AreNumbersIf, AreNumbersOf};
 ghost use Rattle.fv_files.specs.Pending.{pending_in};
 ghost use Rattle.fv_files.specs.Tables.{changed, loaded_trees, table_in, tree_known, AreSound, IsInfoOf, IsStoredOn};
 ghost use Rattle.fv_files.specs.Trees.{standing_in};
@@ -26,7 +28,7 @@ use crate::state::Rooted;
 use crate::volume_blocks::{Guard, VolumeBlocks};
 use fv_container::Steps;
 use fv_disk::{Block, BlockFault, Disk};
-use fv_files::Files;
+use fv_files::{FileNumbers, Files};
 use fv_inode::Info;
 use fv_model::{Name, Names};
 use fv_volmap::VolMap;
@@ -59,7 +61,7 @@ pub(crate) fn kept_table(held: bool, files: Files) -> Option<Files>
     if held { Some(files) } else { None }
 }
 
-/// What is known of the file of a name; `None` exactly where no file has it.
+/// What is known of the file of a name, by the numbers of files where these are in memory; `None` exactly where no file has it.
 #[tactic(auto, using(crate::proofs::CallCauses::lent_reads, crate::proofs::CallCauses::lent_map))]
 pub(crate) fn find_told<K: Guard, D: Disk, L: Ledger>(
     files: &mut Files,
@@ -68,11 +70,13 @@ pub(crate) fn find_told<K: Guard, D: Disk, L: Ledger>(
     map: &mut VolMap,
     home: &Home,
     blank: Blank,
+    numbers: &Option<FileNumbers>,
     name: &Name,
 ) -> Result<Option<Info>, BlockFault>
     requires blank { IsLedger blank.name blank.parts L.name L.parts }
     requires lent { CanLend pool.old map.old (D.shown disk.old) home.now.slot }
     requires told { K.told → IsTold (D.shown disk.old) pool.old map.old home.now.slot }
+    requires numbers { K.told → AreNumbersIf numbers.now (table_told (table_in (sees pool.old map.old (D.shown disk.old) home.now) files.old)) }
     ensures found { K.told → IfOk result (Finds (rooted (sees pool.old map.old (D.shown disk.old) home.now) files.old.inode) name.now) }
     ensures range { IfOk result IsInfoIf }
     ensures files { files.new ≡ files.old }
@@ -92,7 +96,45 @@ pub(crate) fn find_told<K: Guard, D: Disk, L: Ledger>(
         noted: Noted::NONE,
         of: PhantomData,
     };
-    files.find(&mut blocks, name)
+    match numbers {
+        Some(numbers) => files.find_by(&mut blocks, numbers, name),
+        None => files.find(&mut blocks, name),
+    }
+}
+
+/// The numbers of all files by their names.
+#[tactic(auto, using(crate::proofs::CallCauses::lent_reads, crate::proofs::CallCauses::lent_map))]
+pub(crate) fn numbers_told<K: Guard, D: Disk, L: Ledger>(
+    files: &mut Files,
+    pool: &mut Pool,
+    disk: &mut D,
+    map: &mut VolMap,
+    home: &Home,
+    blank: Blank,
+) -> Result<FileNumbers, BlockFault>
+    requires blank { IsLedger blank.name blank.parts L.name L.parts }
+    requires lent { CanLend pool.old map.old (D.shown disk.old) home.now.slot }
+    requires told { K.told → IsTold (D.shown disk.old) pool.old map.old home.now.slot }
+    ensures numbers { K.told → IfOk result (λ m. (now : ℕ) → IsWellTable now (table_told (table_in (sees pool.old map.old (D.shown disk.old) home.now) files.old))
+        → AreNumbersOf m (table_told (table_in (sees pool.old map.old (D.shown disk.old) home.now) files.old))) }
+    ensures files { files.new ≡ files.old }
+    ensures map { map.new ≡ map.old }
+    ensures reads { Reads (D.shown disk.old) pool.old (D.shown disk.new) pool.new }
+    ensures cause { BlockCause K.told (table_in (sees pool.old map.old (D.shown disk.old) home.now) files.old) (lent_for pool.old map.old (D.shown disk.old) 0 home.now 0) (D.shown disk.new).faults result }
+{
+    let mut steps: Steps<L> = Steps::open(blank);
+    let mut blocks: VolumeBlocks<'_, '_, '_, '_, K, D, L> = VolumeBlocks {
+        pool,
+        disk,
+        map,
+        steps: &mut steps,
+        home: *home,
+        room: 0,
+        strays: 0,
+        noted: Noted::NONE,
+        of: PhantomData,
+    };
+    files.numbers(&mut blocks)
 }
 
 /// The names of all files, in byte order.

@@ -18,6 +18,7 @@ mod lent_removals;
 mod load;
 mod making;
 mod noted;
+mod numbering;
 mod placing;
 mod pool;
 mod removing;

@@ -7,8 +7,7 @@ ghost use Rattle.fv_model.specs.Numbers.{most_changes};
 ghost use Rattle.fv_model.specs.Tables.{new};
 ghost use Rattle.fv_model.specs.declared.commands.Command.TheVariants.{New};
 ghost use Rattle.fv_model.specs.declared.commands.Kind.TheVariants as kinds;
-ghost use Rattle.fv_inode.specs.Files.{IsFreeNumber, IsNumberIf};
-ghost use Rattle.fv_tables.specs.Told.{file_at};
+ghost use Rattle.fv_inode.specs.Files.{IsFreeNumber, IsLeastFree, IsNumberIf};
 ghost use Rattle.fv_files.specs.Calls.{AddsFile};
 ghost use Rattle.fv_volume.specs.Calls.{BlockCause, CallCause, Changes, HasBeside, KeepsHead, Reads};
 ghost use Rattle.fv_volume.specs.Changing.{AcceptsNew, AltersTable, FitsLedger, KeepsTable, NamesNew, RefusedIn};
@@ -17,10 +16,11 @@ ghost use Rattle.fv_volume.specs.OneVolume.{home_in, standing_for, table_for, vo
 
 use crate::asking::find_file;
 use crate::blocks::Home;
-use crate::changing::{MOST_CHANGES, admit_change, count_change, more_blocks};
+use crate::changing::{MOST_CHANGES, admit_change, more_blocks};
 use crate::fault::VolumeFault;
 use crate::lent_changes::{create_told, number_told, room_told};
 use crate::lent_files::{kept_table, take_table};
+use crate::numbering::count_made;
 use crate::pool::Pool;
 use crate::state::VolumeState;
 use fv_charge::Delta;
@@ -29,6 +29,15 @@ use fv_model::{Name, Refusal, in_reserve};
 use std::alloc::Global;
 use std::marker::Brand;
 use std::sync::ledger::Blank;
+
+/// A new file that was admitted: its number, and how the ledger of the volume changes by it.
+#[derive(Clone, Copy, Debug, PartialEq, Eq)]
+pub(crate) struct Making {
+    /// Its number.
+    pub(crate) number: u32,
+    /// The change of the ledger.
+    pub(crate) delta: Delta,
+}
 
 impl VolumeState {
     /// Makes a file of length 0 with a name and a reserve, in blocks. The volume counts one change more, whose number is the stamp.
@@ -44,7 +53,8 @@ impl VolumeState {
     /// than its size; all volumes would commit more than the aggregate's capacity. The other errors as `put`. After each of them
     /// the volume stands for what it stood for.
     ///
-    /// Costs a block for each inode block and each node over them. `docs/MACHINE.md` has the command.
+    /// Costs what `length` does, then a block for the file's inode block and for each node over it, as far as they aren't in memory,
+    /// and where the numbers aren't in memory a block for each inode block and each node over them. `docs/MACHINE.md` has the command.
     pub fn new_file<D: Disk>(
         &mut self,
         alloc: Global,
@@ -69,14 +79,14 @@ impl VolumeState {
         ensures cause { CallCause (IsStanding (D.shown disk.old) pool.old self.old) (standing_for (D.shown disk.old) pool.old self.old)
             (lent_for pool.old self.old.map (D.shown disk.old) 0 (home_in self.old) 0) (D.shown disk.new).faults result }
     {
-        let delta = judge_new(self, alloc, pool, disk, others, file, reserve)?;
-        create_file(self, alloc, pool, disk, file, reserve)?;
-        count_change(self, &delta);
+        let making = judge_new(self, alloc, pool, disk, others, file, reserve)?;
+        create_file(self, alloc, pool, disk, making.number, file, reserve)?;
+        count_made(self, &making, file);
         Ok(())
     }
 }
 
-/// Whether a new file is accepted, and how the ledger changes by it.
+/// Whether a new file is accepted, under which number, and how the ledger changes by it.
 pub(crate) fn judge_new<D: Disk>(
     volume: &mut VolumeState,
     alloc: Global,
@@ -85,15 +95,16 @@ pub(crate) fn judge_new<D: Disk>(
     others: u64,
     file: &Name,
     reserve: u32,
-) -> Result<Delta, VolumeFault>
+) -> Result<Making, VolumeFault>
     requires ready { IsReady (D.shown disk.old) pool.old volume.old }
     requires others { others ≤ 2 ^ 62 }
     requires form { volume.old.kind ≡ kinds.File → reserve ≡ 0 }
     ensures refused { IsStanding (D.shown disk.old) pool.old volume.old
         → IfErr result (RefusedIn (HasBeside volume.old.name (volume_for (D.shown disk.old) pool.old volume.old) others pool.old.found.blocks) (New volume.old.name file.now reserve)) }
-    ensures accepted { IsStanding (D.shown disk.old) pool.old volume.old → IfOk result (AcceptsNew (D.shown disk.old) pool.old volume.old others file.now reserve) }
+    ensures accepted { IsStanding (D.shown disk.old) pool.old volume.old → IfOk result (λ a. AcceptsNew (D.shown disk.old) pool.old volume.old others file.now reserve a.number a.delta) }
+    ensures low { IfOk result (λ a. a.number < 262144) }
     ensures none { OnOk result (reserve ≡ 0) }
-    ensures fits { IfOk result (FitsLedger volume.old) }
+    ensures fits { IfOk result (λ a. FitsLedger volume.old a.delta) }
     ensures same { volume.new ≡ volume.old }
     ensures reads { Reads (D.shown disk.old) pool.old (D.shown disk.new) pool.new }
     ensures cause { CallCause (IsStanding (D.shown disk.old) pool.old volume.old) (standing_for (D.shown disk.old) pool.old volume.old)
@@ -103,7 +114,7 @@ pub(crate) fn judge_new<D: Disk>(
     let count = count_room(volume, alloc, pool, disk, number)?;
     let delta = more_blocks(&volume.ledger, count);
     admit_change(&volume.ledger, &delta, others, pool.found.blocks)?;
-    Ok(delta)
+    Ok(Making { number, delta })
 }
 
 /// Whether a new file is accepted but for its space, and which number it gets.
@@ -147,9 +158,30 @@ fn judge_name<D: Disk>(
     Ok(number)
 }
 
-/// The least number that no file has; `None` where all below 262,144 are taken.
-#[tactic(auto, using(crate::proofs::OneVolumes::root_fits, crate::proofs::OneVolumes::levels_fit))]
+/// The least number that no file has, by the numbers of files where these are in memory; `None` where all below 262,144 are taken.
 fn find_number<D: Disk>(
+    volume: &mut VolumeState,
+    alloc: Global,
+    pool: &mut Pool,
+    disk: &mut D,
+) -> Result<Option<u32>, BlockFault>
+    requires ready { IsReady (D.shown disk.old) pool.old volume.old }
+    ensures number { IsStanding (D.shown disk.old) pool.old volume.old → IfOk result (IsFreeNumber (standing_for (D.shown disk.old) pool.old volume.old).inode) }
+    ensures range { IfOk result IsNumberIf }
+    ensures same { volume.new ≡ volume.old }
+    ensures reads { Reads (D.shown disk.old) pool.old (D.shown disk.new) pool.new }
+    ensures cause { BlockCause (IsStanding (D.shown disk.old) pool.old volume.old) (standing_for (D.shown disk.old) pool.old volume.old)
+        (lent_for pool.old volume.old.map (D.shown disk.old) 0 (home_in volume.old) 0) (D.shown disk.new).faults result }
+{
+    match &volume.numbers {
+        Some(numbers) => Ok(numbers.free_number()),
+        None => seek_number(volume, alloc, pool, disk),
+    }
+}
+
+/// The least number that no file has, by the records of all files; `None` where all below 262,144 are taken.
+#[tactic(auto, using(crate::proofs::OneVolumes::root_fits, crate::proofs::OneVolumes::levels_fit))]
+fn seek_number<D: Disk>(
     volume: &mut VolumeState,
     alloc: Global,
     pool: &mut Pool,
@@ -225,13 +257,15 @@ fn create_file<D: Disk>(
     alloc: Global,
     pool: &mut Pool,
     disk: &mut D,
+    number: u32,
     file: &Name,
     reserve: u32,
 ) -> Result<(), BlockFault>
     requires ready { IsReady (D.shown disk.old) pool.old volume.old }
     requires more { volume.old.now < most_changes }
     requires reserve { reserve ≤ most_cells }
-    requires free { IsStanding (D.shown disk.old) pool.old volume.old → (n : ℕ) × ((n < 262144) × (file_at (standing_for (D.shown disk.old) pool.old volume.old).inode n ≡ None)) }
+    requires number { number < 262144 }
+    requires free { IsStanding (D.shown disk.old) pool.old volume.old → IsLeastFree (standing_for (D.shown disk.old) pool.old volume.old).inode number }
     ensures made { IsStanding (D.shown disk.old) pool.old volume.old
         → OnOk result (table_for (D.shown disk.old) pool.old volume.new ≡ new (table_for (D.shown disk.old) pool.old volume.old) file.now reserve (volume.old.now + 1)) }
     ensures map { volume.new.map ≡ volume.old.map }
@@ -252,6 +286,7 @@ fn create_file<D: Disk>(
         &mut volume.map,
         &home,
         Blank::new(1),
+        number,
         file,
         reserve,
         stamp,

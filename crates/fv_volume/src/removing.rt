@@ -18,6 +18,7 @@ use crate::changing::{MOST_CHANGES, count_change};
 use crate::fault::VolumeFault;
 use crate::lent_files::take_table;
 use crate::lent_removals::{cut_told, remove_told};
+use crate::numbering::count_removed;
 use crate::pool::Pool;
 use crate::state::VolumeState;
 use fv_charge::{Delta, Ledger};
@@ -112,7 +113,7 @@ impl VolumeState {
         let info = judge_removal(self, alloc, pool, disk, file)?;
         let count = drop_file(self, alloc, pool, disk, &info)?;
         let delta = fewer_blocks(&self.ledger, count);
-        count_change(self, &delta);
+        count_removed(self, &delta, file, info.number);
         Ok(())
     }
 }

@@ -14,7 +14,7 @@ ghost use Rattle.fv_volume.specs.States.{empty_head, head_in, ledger_of_empty, I
 use crate::label::{FREE, HOLE, kind_number, kind_of, name_field, name_of};
 use fv_charge::Ledger;
 use fv_codec::{Label, Pointer};
-use fv_files::Files;
+use fv_files::{FileNumbers, Files};
 use fv_model::{Kind, Name};
 use fv_volmap::VolMap;
 use std::alloc::{AllocError, Global};
@@ -116,6 +116,8 @@ pub struct VolumeState {
     /// The trees of the active table that are in memory. Where there are none, `active` spells the table; else its root is that of
     /// the last flush.
     pub(crate) files: Option<Files>,
+    /// The numbers of the files by their names, once they were read; they are those of the active table.
+    pub(crate) numbers: Option<FileNumbers>,
     /// Where the label lies that the root on the disk names; 0 where there is none yet.
     pub(crate) label: u32,
     /// Whether the next consistency point has something to write.
@@ -141,6 +143,7 @@ impl VolumeState {
         ensures changed { IfOk result (λ state. state.changed ≡ true) }
         ensures base { IfOk result (λ state. state.base ≡ None) }
         ensures files { IfOk result (λ state. state.files ≡ None) }
+        ensures numbers { IfOk result (λ state. state.numbers ≡ None) }
         ensures named { is_name name.now ≡ true }
     {
         // What the bytes are known to be is what a label needs of them.
@@ -163,6 +166,7 @@ impl VolumeState {
             map: VolMap::new(alloc, span)?,
             ledger: new_ledger(size, kind, span),
             files: None,
+            numbers: None,
             label: 0,
             changed: true,
         })
@@ -186,6 +190,7 @@ impl VolumeState {
         ensures span { result.span ≡ label.entry.now.span }
         ensures base { result.base ≡ None }
         ensures files { result.files ≡ None }
+        ensures numbers { result.numbers ≡ None }
         ensures named { is_name result.name ≡ true }
         ensures counted { IsCounted result }
         ensures ledger { result.ledger.span ≡ label.entry.now.span }
@@ -210,6 +215,7 @@ impl VolumeState {
             map,
             ledger,
             files: None,
+            numbers: None,
             label: place,
             changed,
         }

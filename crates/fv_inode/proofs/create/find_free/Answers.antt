@@ -1,12 +1,8 @@
-use Rattle.std.proofs.Common.{Err, ◌*◌, ◌/◌, refl, sym, subst, arith}
-use Rattle.std.specs.List.{All}
+use Rattle.std.proofs.Common.{Err, refl, arith}
 use Rattle.std.proofs.lemmas.Result.{err_from_is_err_and}
-use Rattle.std.proofs.lemmas.List.Elements.{All-replicate}
-use Rattle.fv_codec.specs.Blocks.{IsInodeRecord}
 use Rattle.fv_tree.specs.Standing.{standing, under}
-use Rattle.fv_inode.specs.Files.{AreRecords, blank_record}
+use Rattle.fv_inode.specs.Files.{AreRecords}
 use Rattle.fv_inode.proofs.Looked.{earlier, looks_then, looks_failed, looks_done}
-use Rattle.fv_inode.proofs.Slots.{cell_of, none_are, no_cell, blank_fits}
 use Rattle.fv_inode.proofs.Numbered.{used_below, least_in, least_searched}
 use Rattle.fv_inode.proofs.create.find_free.Goals as goal
 
@@ -32,14 +28,6 @@ returns-in-Some-clause-number g c = λ told.
     let found = c.in-Some.ensures.some c.in-Some.slot refl in
     least_in (standing (under old) c.args.tree.now) c.loop-cell.cell c.in_ok-files.files c.in-Some.slot (earlier (λ t. AreRecords t c.loop-cell.cell c.in_ok-files.files) c.args.tree.now old mid was.looks.untouched.held (c.in_ok-files.ensures.files told)) found.0 (was.least told) found.1 found.2
 
-pub returns-in-Some-clause-files : goal.returns-in-Some-clause-files
-returns-in-Some-clause-files g c = λ told small.
-    let old = g.B.Blocks.shown c.args.blocks.now in
-    let mid = g.B.Blocks.shown c.loop-cell.blocks in
-    let was = c.loop-cell.invariant in
-    let found = c.in-Some.ensures.some c.in-Some.slot refl in
-    subst (λ cell. AreRecords (standing (under old) c.args.tree.now) cell c.in_ok-files.files) (sym (cell_of c.loop-cell.cell c.in-Some.slot found.0)) (earlier (λ t. AreRecords t c.loop-cell.cell c.in_ok-files.files) c.args.tree.now old mid was.looks.untouched.held (c.in_ok-files.ensures.files told))
-
 pub loop-cell-preserved : goal.loop-cell-preserved
 loop-cell-preserved g c =
     let old = g.B.Blocks.shown c.args.blocks.now in
@@ -59,12 +47,3 @@ pub returns-clause-number : goal.returns-clause-number
 returns-clause-number g c = λ told.
     let count = c.numbered_cells-count.ensures in
     least_searched (standing (under (g.B.Blocks.shown c.args.blocks.now)) c.args.tree.now) c.numbered_cells-count.result count.few count.all (λ k lt. c.loop-cell.invariant.least told k (omega (arith, lt, c.loop-cell-test.false)))
-
-pub returns-clause-files : goal.returns-clause-files
-returns-clause-files g c = λ told small.
-    let t = standing (under (g.B.Blocks.shown c.args.blocks.now)) c.args.tree.now in
-    let whole = c.numbered_cells-count.ensures.all (omega (arith, small)) in
-    none_are t (16 * c.numbered_cells-count.result / 16) c.free_files.result (no_cell t (16 * c.numbered_cells-count.result / 16) (omega (arith, whole))) c.free_files.ensures
-
-pub returns-clause-range : goal.returns-clause-range
-returns-clause-range g c = subst (All IsInodeRecord) (sym c.free_files.ensures) (All-replicate IsInodeRecord 16 blank_record blank_fits)

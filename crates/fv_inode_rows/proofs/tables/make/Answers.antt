@@ -1,8 +1,10 @@
-use Rattle.std.proofs.Common.{arith}
-use Rattle.fv_tree.specs.Standing.{standing, under}
-use Rattle.fv_inode.proofs.Numbered.{has_room}
+use Rattle.std.proofs.Common.{Option, ℕ, sym, subst}
+use Rattle.fv_inode.specs.Files.{rooted, IsFreeNumber, IsLeastFree}
+use Rattle.fv_inode.proofs.Looked.{earlier}
 use Rattle.fv_inode_rows.proofs.tables.make.Goals as goal
 
 pub create-requires-clause-free : goal.create-requires-clause-free
 create-requires-clause-free g c = λ told.
-    has_room (standing (under (g.B.Blocks.shown c.args.blocks.now)) c.args.table.now.inode.tree) (omega (arith, c.levels.ensures, c.if-levels-gt1.false))
+    let old = g.B.Blocks.shown c.args.blocks.now in
+    earlier (λ t. IsLeastFree t c.in-Some.number) c.args.table.now.inode.tree (g.B.Blocks.shown c.free_number.new.blocks) old (sym c.free_number.ensures.looks.untouched.held)
+    (subst (λ (o : Option ℕ). IsFreeNumber (rooted old c.args.table.now.inode) o) c.in-Some.is (c.in_ok-free_number.ensures.number told))

@@ -1,11 +1,11 @@
-use Rattle.std.proofs.Common.{◌≡◌, ◌+◌, ◌<◌, ℕ, None, OnErr, OnOk, refl, sym, subst, arith}
-use Rattle.fv_tables.specs.Told.{Standing, file_at, table_told}
+use Rattle.std.proofs.Common.{◌≡◌, ◌+◌, OnErr, OnOk, refl, sym, subst, arith}
+use Rattle.fv_tables.specs.Told.{Standing, table_told}
 use Rattle.fv_tree.specs.Standing.{under}
 use Rattle.fv_model.specs.Tables.{new}
 use Rattle.fv_volmap.specs.Slots.{Volume}
 use Rattle.fv_files.specs.Tables.{changed}
 use Rattle.fv_files.specs.Trees.{standing_in}
-use Rattle.fv_inode.specs.Files.{rooted}
+use Rattle.fv_inode.specs.Files.{rooted, IsLeastFree}
 use Rattle.fv_volume.specs.Lending.{IsTold, lent_for, sees}
 use Rattle.fv_volume.specs.OneVolume.{home_in, shows, standing_for, IsStanding}
 use Rattle.fv_volume.proofs.CallCauses.{cause_for}
@@ -25,7 +25,7 @@ returns-clause-made g c = λ is.
     let f = c.take_table-files.result in
     let table = c.take_table-files.ensures.table (under source) in
     let sound = c.take_table-files.ensures.trees (under source) source.used is.trees in
-    subst (λ (s : Standing). OnOk c.create_told-made.result (table_told (standing_in (under (sees pool c.create_told-made.new.map disk (home_in x))) (changed c.create_told-made.new.files)) ≡ new (table_told s) c.args.file.now c.args.reserve (x.now + 1))) table (onok_with _ c.create_told-made.result sound (c.create_told-made.ensures.made (is.told, subst (λ (s : Standing). (n : ℕ) × ((n < 262144) × (file_at s.inode n ≡ None))) (sym table) (c.requires.free is))))
+    subst (λ (s : Standing). OnOk c.create_told-made.result (table_told (standing_in (under (sees pool c.create_told-made.new.map disk (home_in x))) (changed c.create_told-made.new.files)) ≡ new (table_told s) c.args.file.now c.args.reserve (x.now + 1))) table (onok_with _ c.create_told-made.result sound (c.create_told-made.ensures.made (is.told, subst (λ (s : Standing). IsLeastFree s.inode c.args.number) (sym table) (c.requires.free is))))
 
 pub returns-clause-alters : goal.returns-clause-alters
 returns-clause-alters g c =
@@ -35,7 +35,7 @@ returns-clause-alters g c =
     let source = shows disk pool x in
     let f = c.take_table-files.result in
     let table = c.take_table-files.ensures.table (under source) in
-    let given : IsStanding disk pool x → IsTold disk pool x.map x.slot × ((n : ℕ) × ((n < 262144) × (file_at (rooted source f.inode) n ≡ None))) = λ is. (is.told, subst (λ (s : Standing). (n : ℕ) × ((n < 262144) × (file_at s.inode n ≡ None))) (sym table) (c.requires.free is)) in
+    let given : IsStanding disk pool x → IsTold disk pool x.map x.slot × IsLeastFree (rooted source f.inode) c.args.number = λ is. (is.told, subst (λ (s : Standing). IsLeastFree s.inode c.args.number) (sym table) (c.requires.free is)) in
     record {
       same = refl;
       maps = same_maps x.map c.create_told-made.new.map c.create_told-made.ensures.map;
@@ -59,7 +59,7 @@ returns-clause-cause g c =
     let source = shows disk pool x in
     let f = c.take_table-files.result in
     let table = c.take_table-files.ensures.table (under source) in
-    cause_for (IsStanding disk pool x) (IsTold disk pool x.map x.slot × ((n : ℕ) × ((n < 262144) × (file_at (rooted source f.inode) n ≡ None))))
-    (λ is. (is.told, subst (λ (s : Standing). (n : ℕ) × ((n < 262144) × (file_at s.inode n ≡ None))) (sym table) (c.requires.free is)))
+    cause_for (IsStanding disk pool x) (IsTold disk pool x.map x.slot × IsLeastFree (rooted source f.inode) c.args.number)
+    (λ is. (is.told, subst (λ (s : Standing). IsLeastFree s.inode c.args.number) (sym table) (c.requires.free is)))
     (lent_for pool x.map disk 0 (home_in x) 0) (g.D.Disk.shown c.create_told-made.new.disk).faults
     (standing_in (under source) (changed f)) (standing_for disk pool x) c.create_told-made.result table c.create_told-made.ensures.cause

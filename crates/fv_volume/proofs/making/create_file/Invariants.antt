@@ -1,13 +1,11 @@
-use Rattle.std.specs.Prelude.{◌≡◌, ◌<◌, ℕ, None}
-use Rattle.fv_tables.specs.Told.{file_at}
-use Rattle.fv_inode.specs.Files.{rooted}
+use Rattle.fv_inode.specs.Files.{rooted, IsLeastFree}
 use Rattle.fv_volume.specs.Lending.{IsTold, sees}
 use Rattle.fv_volume.proofs.making.create_file.Given as goal
 
 abbrev pub ghosts-create_told-K-Guard : goal.ghosts-create_told-K-Guard
 ghosts-create_told-K-Guard g a = record {
   told = IsTold (g.D.Disk.shown a.disk.now) a.pool.now a.map.now a.home.now.slot
-      × ((n : ℕ) × ((n < 262144) × (file_at (rooted (sees a.pool.now a.map.now (g.D.Disk.shown a.disk.now) a.home.now) a.files.now.inode) n ≡ None)));
+      × IsLeastFree (rooted (sees a.pool.now a.map.now (g.D.Disk.shown a.disk.now) a.home.now) a.files.now.inode) a.number;
 }
 
 abbrev pub ghosts-create_told-L-Ledger : goal.ghosts-create_told-L-Ledger

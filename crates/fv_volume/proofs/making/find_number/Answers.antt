@@ -1,24 +1,10 @@
-use Rattle.fv_tree.specs.Standing.{under}
-use Rattle.fv_files.specs.Tables.{changed}
-use Rattle.fv_files.specs.Trees.{standing_in}
-use Rattle.fv_volume.specs.Lending.{IsTold, lent_for}
-use Rattle.fv_volume.specs.OneVolume.{home_in, shows, standing_for, IsStanding}
-use Rattle.fv_volume.proofs.CallCauses.{cause_for}
-use Rattle.fv_volume.proofs.OneVolumes.{root_fits}
+use Rattle.std.proofs.Common.{Option, subst}
+use Rattle.fv_files.specs.declared.numbers.FileNumbers.{FileNumbers}
+use Rattle.fv_files.specs.Numbering.{AreNumbersIf}
+use Rattle.fv_volume.specs.OneVolume.{standing_for, table_for}
 use Rattle.fv_volume.proofs.making.find_number.Goals as goal
 
-pub take_table-files-requires-clause-root : goal.take_table-files-requires-clause-root
-take_table-files-requires-clause-root g c = root_fits (g.D.Disk.shown c.args.disk.now) c.args.pool.now c.args.volume.now c.requires.ready
-
-pub returns-clause-cause : goal.returns-clause-cause
-returns-clause-cause g c =
-    let disk = g.D.Disk.shown c.args.disk.now in
-    let pool = c.args.pool.now in
-    let x = c.args.volume.now in
-    let source = shows disk pool x in
-    let f = c.take_table-files.result in
-    let table = c.take_table-files.ensures.table (under source) in
-    cause_for (IsStanding disk pool x) (IsTold disk pool x.map x.slot)
-    (λ is. is.told)
-    (lent_for pool x.map disk 0 (home_in x) 0) (g.D.Disk.shown c.number_told-number.new.disk).faults
-    (standing_in (under source) (changed f)) (standing_for disk pool x) c.number_told-number.result table c.number_told-number.ensures.cause
+pub returns-in-Some-clause-number : goal.returns-in-Some-clause-number
+returns-in-Some-clause-number g c = λ is.
+    let d = g.D.Disk.shown c.args.disk.now in
+    c.free_number.ensures.number (standing_for d c.args.pool.now c.args.volume.now) (subst (λ (o : Option FileNumbers). AreNumbersIf o (table_for d c.args.pool.now c.args.volume.now)) c.in-Some.is is.numbers)

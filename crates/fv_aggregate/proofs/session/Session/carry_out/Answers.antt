@@ -18,7 +18,7 @@ invariant_of-self g c = λ none.
     let did = slot_changed d c.self.inside.pool c.self.inside.volumes c.args.slot x there c.commits_beside-others.result c.commits_beside-others.ensures.sum c.args.command.now e c.change_slot-made.new.pool c.change_slot-made.result c.change_slot-made.new.volumes c.change_slot-made.ensures in
     let fit = c.self.invariant none in
     subst (FitTogether c.change_slot-made.new.pool) (sym did.row)
-    (fit_changed d e c.self.inside.pool c.change_slot-made.new.pool c.self.inside.volumes c.args.slot x did.now there (beside c.self.inside.volumes c.args.slot) c.args.command.now c.change_slot-made.result did.changes fit.housed.long fit)
+    (fit_changed d e c.self.inside.pool c.change_slot-made.new.pool c.self.inside.volumes c.args.slot x did.now there did.changes.reads did.changes.head.same did.changes.ready fit.housed.long fit)
 
 pub returns-clause-makes : goal.returns-clause-makes
 returns-clause-makes g c =

@@ -8,55 +8,54 @@ use Rattle.fv_inode.specs.Changing.{WritesFiles, Makes}
 use Rattle.fv_inode.proofs.Looked.{earlier, looks_failed, alters_none, alters_then, alters_failed, alters_done}
 use Rattle.fv_inode.proofs.Slots.{put_used}
 use Rattle.fv_inode.proofs.Rewritten.{rewrites}
-use Rattle.fv_inode.proofs.Numbered.{new_is, least_free, makes}
+use Rattle.fv_inode.proofs.Numbered.{new_is, makes}
 use Rattle.fv_inode.proofs.file.InodeFile.create.Goals as goal
 
-pub returns-in_err-number-clause-alters : goal.returns-in_err-number-clause-alters
-returns-in_err-number-clause-alters g c =
+pub returns-in_err-files-clause-alters : goal.returns-in_err-files-clause-alters
+returns-in_err-files-clause-alters g c =
     let old = g.B.Blocks.shown c.args.blocks.now in
-    let new = g.B.Blocks.shown c.find_free.new.blocks in
+    let new = g.B.Blocks.shown c.read_files.new.blocks in
     let p = err_from_is_err_and c.from_residual.result c.from_residual.ensures.1 in
-    rw (p.1, p.2) (alters_none g.B.Blocks.told c.args.self.now.tree old new _ (looks_failed g.B.Blocks.told (standing (under old) c.args.self.now.tree) old new c.in_err-number.field-0.0 c.in_err-number.ensures.looks))
+    rw (p.1, p.2) (alters_none g.B.Blocks.told c.args.self.now.tree old new _ (looks_failed g.B.Blocks.told (standing (under old) c.args.self.now.tree) old new c.in_err-files.field-0.0 c.in_err-files.ensures.looks))
 
 pub write_files-requires-clause-range : goal.write_files-requires-clause-range
 write_files-requires-clause-range g c =
-    All-set IsInodeRecord c.in_ok-number.files (c.in_ok-number.number % 16) c.new_record-file.result c.new_record-file.ensures.range c.in_ok-number.ensures.range
+    All-set IsInodeRecord c.in_ok-files.files (c.args.number % 16) c.new_record-file.result c.new_record-file.ensures.range c.in_ok-files.ensures.range
 
 pub write_files-requires-clause-some : goal.write_files-requires-clause-some
 write_files-requires-clause-some g c =
     let made = c.new_record-file.ensures in
-    put_used c.in_ok-number.files (c.in_ok-number.number % 16) c.new_record-file.result (omega (arith, c.in_ok-number.ensures.long)) (ap is_some (new_is c.args.name.now c.args.reserve c.new_record-file.result made.form made.«record»))
+    put_used c.in_ok-files.files (c.args.number % 16) c.new_record-file.result (omega (arith, c.in_ok-files.ensures.long)) (ap is_some (new_is c.args.name.now c.args.reserve c.new_record-file.result made.form made.«record»))
 
 pub returns-in_err-write_files-clause-alters : goal.returns-in_err-write_files-clause-alters
 returns-in_err-write_files-clause-alters g c =
     let old = g.B.Blocks.shown c.args.blocks.now in
-    let mid = g.B.Blocks.shown c.find_free.new.blocks in
+    let mid = g.B.Blocks.shown c.read_files.new.blocks in
     let new = g.B.Blocks.shown c.write_files.new.blocks in
     let p = err_from_is_err_and c.from_residual-in_err-write_files.result c.from_residual-in_err-write_files.ensures.1 in
     rw (p.1, p.2) (alters_failed g.B.Blocks.told c.args.self.now.tree c.write_files.new.tree old new c.in_err-write_files.field-0.0
-    (alters_then g.B.Blocks.told c.args.self.now.tree c.write_files.new.tree old mid new _ _ c.in_ok-number.ensures.looks c.in_err-write_files.ensures.alters))
+    (alters_then g.B.Blocks.told c.args.self.now.tree c.write_files.new.tree old mid new _ _ c.in_ok-files.ensures.looks c.in_err-write_files.ensures.alters))
 
 pub returns-clause-made : goal.returns-clause-made
 returns-clause-made g c = λ told.
     let old = g.B.Blocks.shown c.args.blocks.now in
-    let mid = g.B.Blocks.shown c.find_free.new.blocks in
+    let mid = g.B.Blocks.shown c.read_files.new.blocks in
     let t = standing (under old) c.args.self.now.tree in
     let u = standing (under (g.B.Blocks.shown c.write_files.new.blocks)) c.write_files.new.tree in
-    let n = c.in_ok-number.number in
-    let files = c.in_ok-number.files in
+    let n = c.args.number in
+    let files = c.in_ok-files.files in
     let file = c.new_record-file.result in
-    let was = c.in_ok-number.ensures in
+    let was = c.in_ok-files.ensures in
     let made = c.new_record-file.ensures in
-    let first = least_free t n (was.number told) (c.requires.free told) in
     let wrote : WritesFiles t u (n / 16) c.args.stamp (slice_set files (n % 16) file) =
     earlier (λ v. WritesFiles v u (n / 16) c.args.stamp (slice_set files (n % 16) file)) c.args.self.now.tree old mid was.looks.untouched.held (c.in_ok-write_files.ensures.written told) in
     subst (Makes t u c.args.name.now c.args.reserve c.args.stamp) (sym c.info_of.ensures)
-    (makes t u c.args.name.now c.args.reserve c.args.stamp n file made.form made.«record» first.1 (rewrites t u n c.args.stamp files file was.long (was.files told first.0) wrote))
+    (makes t u c.args.name.now c.args.reserve c.args.stamp n file made.form made.«record» (c.requires.free told) (rewrites t u n c.args.stamp files file was.long (was.files told) wrote))
 
 pub returns-clause-alters : goal.returns-clause-alters
 returns-clause-alters g c =
     let old = g.B.Blocks.shown c.args.blocks.now in
-    let mid = g.B.Blocks.shown c.find_free.new.blocks in
+    let mid = g.B.Blocks.shown c.read_files.new.blocks in
     let new = g.B.Blocks.shown c.write_files.new.blocks in
     alters_done g.B.Blocks.told c.args.self.now.tree c.write_files.new.tree old new (tt {0}) _
-    (alters_then g.B.Blocks.told c.args.self.now.tree c.write_files.new.tree old mid new _ _ c.in_ok-number.ensures.looks c.in_ok-write_files.ensures.alters)
+    (alters_then g.B.Blocks.told c.args.self.now.tree c.write_files.new.tree old mid new _ _ c.in_ok-files.ensures.looks c.in_ok-write_files.ensures.alters)

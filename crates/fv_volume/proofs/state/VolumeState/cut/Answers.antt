@@ -4,12 +4,13 @@ use Rattle.fv_tables.specs.Told.{Standing}
 use Rattle.fv_files.specs.Tables.{IsInfoOf}
 use Rattle.fv_model.specs.declared.commands.Command.TheVariants.{Cut}
 use Rattle.fv_charge.specs.declared.ledger.Ledger.{Ledger}
+use Rattle.fv_volume.specs.declared.state.VolumeState.{VolumeState}
 use Rattle.fv_volume.specs.Calls.{HasWithin}
 use Rattle.fv_volume.specs.Causes.{of_block}
 use Rattle.fv_volume.specs.OneVolume.{standing_for, volume_for}
 use Rattle.fv_volume.proofs.Asked.{first_info}
 use Rattle.fv_volume.proofs.CallCauses.{failed_change_cause}
-use Rattle.fv_volume.proofs.Calling.{counted_table, left_table, refused_table, left_ledger, left_more, failed_changes, no_refusal, failed_head, failed_stands, left_ready, refused_changes, refused_head, refused_ready, refused_standing, done_head, done_ready, parts_of, Parts}
+use Rattle.fv_volume.proofs.Calling.{counted_all, counted_table, left_table, refused_table, left_ledger, left_more, failed_changes, no_refusal, failed_head, failed_stands, left_ready, refused_changes, refused_head, refused_ready, refused_standing, done_head, done_ready, parts_of, Parts}
 use Rattle.fv_volume.proofs.JudgedCut.{fewer_fits, fewer_of}
 use Rattle.fv_volume.proofs.OneVolumes.{reads_then, said_after}
 use Rattle.fv_volume.proofs.MadeCut.{cut_is, cut_stands}
@@ -24,7 +25,7 @@ pub returns-in_err-count-clause-table : goal.returns-in_err-count-clause-table
 returns-in_err-count-clause-table g c = λ is. left_table (g.D.Disk.shown c.args.disk.now) (g.D.Disk.shown c.judge_cut.new.disk) (g.D.Disk.shown c.cut_blocks.new.disk) c.args.pool.now c.judge_cut.new.pool c.cut_blocks.new.pool c.judge_cut.ensures.reads c.args.self.now c.judge_cut.new.volume c.cut_blocks.new.volume c.judge_cut.ensures.same _ c.in_err-count.ensures.alters is
 
 pub returns-clause-table : goal.returns-clause-table
-returns-clause-table g c = λ is. counted_table (g.D.Disk.shown c.args.disk.now) c.args.pool.now c.args.self.now (g.D.Disk.shown c.cut_blocks.new.disk) c.cut_blocks.new.pool c.cut_blocks.new.volume c.count_change.new.volume c.count_change.ensures.others (left_table (g.D.Disk.shown c.args.disk.now) (g.D.Disk.shown c.judge_cut.new.disk) (g.D.Disk.shown c.cut_blocks.new.disk) c.args.pool.now c.judge_cut.new.pool c.cut_blocks.new.pool c.judge_cut.ensures.reads c.args.self.now c.judge_cut.new.volume c.cut_blocks.new.volume c.judge_cut.ensures.same (Ok c.in_ok-count.count) c.in_ok-count.ensures.alters is)
+returns-clause-table g c = λ is. counted_table (g.D.Disk.shown c.args.disk.now) c.args.pool.now c.args.self.now (g.D.Disk.shown c.cut_blocks.new.disk) c.cut_blocks.new.pool c.cut_blocks.new.volume c.count_change.new.volume (counted_all c.cut_blocks.new.volume c.count_change.new.volume c.count_change.ensures.others) (left_table (g.D.Disk.shown c.args.disk.now) (g.D.Disk.shown c.judge_cut.new.disk) (g.D.Disk.shown c.cut_blocks.new.disk) c.args.pool.now c.judge_cut.new.pool c.cut_blocks.new.pool c.judge_cut.ensures.reads c.args.self.now c.judge_cut.new.volume c.cut_blocks.new.volume c.judge_cut.ensures.same (Ok c.in_ok-count.count) c.in_ok-count.ensures.alters is)
 
 -- ---- refused
 
@@ -88,25 +89,25 @@ count_change-requires g c = record { fits = fewer_fits (g.D.Disk.shown c.cut_blo
 
 pub returns-clause-changes : goal.returns-clause-changes
 returns-clause-changes g c = λ is.
-    let parts : Parts {T = ℕ} (g.D.Disk.shown c.args.disk.now) (g.D.Disk.shown c.judge_cut.new.disk) (g.D.Disk.shown c.cut_blocks.new.disk) c.args.pool.now c.judge_cut.new.pool c.cut_blocks.new.pool c.args.self.now c.judge_cut.new.volume c.cut_blocks.new.volume c.count_change.new.volume (Ok c.in_ok-count.count) c.fewer_blocks-delta.result = parts_of c.judge_cut.ensures.reads c.judge_cut.ensures.same c.in_ok-count.ensures.alters c.count_change.ensures.others c.count_change.ensures.now c.count_change.ensures.ledger c.count_change.ensures.machine in
+    let parts : Parts {T = ℕ} (g.D.Disk.shown c.args.disk.now) (g.D.Disk.shown c.judge_cut.new.disk) (g.D.Disk.shown c.cut_blocks.new.disk) c.args.pool.now c.judge_cut.new.pool c.cut_blocks.new.pool c.args.self.now c.judge_cut.new.volume c.cut_blocks.new.volume c.count_change.new.volume (Ok c.in_ok-count.count) c.fewer_blocks-delta.result = parts_of c.judge_cut.ensures.reads c.judge_cut.ensures.same c.in_ok-count.ensures.alters (counted_all c.cut_blocks.new.volume c.count_change.new.volume c.count_change.ensures.others) c.count_change.ensures.now c.count_change.ensures.ledger c.count_change.ensures.machine in
     cut_is (g.D.Disk.shown c.args.disk.now) (g.D.Disk.shown c.judge_cut.new.disk) (g.D.Disk.shown c.cut_blocks.new.disk) c.args.pool.now c.judge_cut.new.pool c.cut_blocks.new.pool c.args.self.now c.judge_cut.new.volume c.cut_blocks.new.volume c.count_change.new.volume c.fewer_blocks-delta.result c.in_ok-count.count parts is c.requires.ready c.args.others c.args.file.now c.args.length c.in_ok-info.info (c.in_ok-info.ensures.accepted is) c.in_ok-count.ensures.cut c.in_ok-count.ensures.counted
-    (fewer_of (left_ledger c.args.self.now c.judge_cut.new.volume c.cut_blocks.new.volume c.judge_cut.ensures.same c.in_ok-count.ensures.alters.same) c.fewer_blocks-delta.result c.in_ok-count.count c.fewer_blocks-delta.ensures.charge) c.fewer_blocks-delta.ensures.need (c.fewer_blocks-delta.ensures.size ∙ ap (λ (l : Ledger). l.size) (left_ledger c.args.self.now c.judge_cut.new.volume c.cut_blocks.new.volume c.judge_cut.ensures.same c.in_ok-count.ensures.alters.same)) (c.fewer_blocks-delta.ensures.kind ∙ ap (λ (l : Ledger). l.kind) (left_ledger c.args.self.now c.judge_cut.new.volume c.cut_blocks.new.volume c.judge_cut.ensures.same c.in_ok-count.ensures.alters.same))
+    (fewer_of (left_ledger c.args.self.now c.judge_cut.new.volume c.cut_blocks.new.volume c.judge_cut.ensures.same c.in_ok-count.ensures.alters.same) c.fewer_blocks-delta.result c.in_ok-count.count c.fewer_blocks-delta.ensures.charge) c.fewer_blocks-delta.ensures.need (c.fewer_blocks-delta.ensures.size ∙ ap (λ (l : Ledger). l.size) (left_ledger c.args.self.now c.judge_cut.new.volume c.cut_blocks.new.volume c.judge_cut.ensures.same c.in_ok-count.ensures.alters.same)) (c.fewer_blocks-delta.ensures.kind ∙ ap (λ (l : Ledger). l.kind) (left_ledger c.args.self.now c.judge_cut.new.volume c.cut_blocks.new.volume c.judge_cut.ensures.same c.in_ok-count.ensures.alters.same)) (ap (λ (z : VolumeState). z.numbers) c.count_change.ensures.others)
 
 pub returns-clause-standing : goal.returns-clause-standing
 returns-clause-standing g c = λ is.
-    let parts : Parts {T = ℕ} (g.D.Disk.shown c.args.disk.now) (g.D.Disk.shown c.judge_cut.new.disk) (g.D.Disk.shown c.cut_blocks.new.disk) c.args.pool.now c.judge_cut.new.pool c.cut_blocks.new.pool c.args.self.now c.judge_cut.new.volume c.cut_blocks.new.volume c.count_change.new.volume (Ok c.in_ok-count.count) c.fewer_blocks-delta.result = parts_of c.judge_cut.ensures.reads c.judge_cut.ensures.same c.in_ok-count.ensures.alters c.count_change.ensures.others c.count_change.ensures.now c.count_change.ensures.ledger c.count_change.ensures.machine in
+    let parts : Parts {T = ℕ} (g.D.Disk.shown c.args.disk.now) (g.D.Disk.shown c.judge_cut.new.disk) (g.D.Disk.shown c.cut_blocks.new.disk) c.args.pool.now c.judge_cut.new.pool c.cut_blocks.new.pool c.args.self.now c.judge_cut.new.volume c.cut_blocks.new.volume c.count_change.new.volume (Ok c.in_ok-count.count) c.fewer_blocks-delta.result = parts_of c.judge_cut.ensures.reads c.judge_cut.ensures.same c.in_ok-count.ensures.alters (counted_all c.cut_blocks.new.volume c.count_change.new.volume c.count_change.ensures.others) c.count_change.ensures.now c.count_change.ensures.ledger c.count_change.ensures.machine in
     cut_stands (g.D.Disk.shown c.args.disk.now) (g.D.Disk.shown c.judge_cut.new.disk) (g.D.Disk.shown c.cut_blocks.new.disk) c.args.pool.now c.judge_cut.new.pool c.cut_blocks.new.pool c.args.self.now c.judge_cut.new.volume c.cut_blocks.new.volume c.count_change.new.volume c.fewer_blocks-delta.result c.in_ok-count.count parts is c.requires.ready c.args.others c.args.file.now c.args.length c.in_ok-info.info (c.in_ok-info.ensures.accepted is) c.in_ok-count.ensures.cut c.in_ok-count.ensures.counted
-    (fewer_of (left_ledger c.args.self.now c.judge_cut.new.volume c.cut_blocks.new.volume c.judge_cut.ensures.same c.in_ok-count.ensures.alters.same) c.fewer_blocks-delta.result c.in_ok-count.count c.fewer_blocks-delta.ensures.charge) c.fewer_blocks-delta.ensures.need (c.fewer_blocks-delta.ensures.size ∙ ap (λ (l : Ledger). l.size) (left_ledger c.args.self.now c.judge_cut.new.volume c.cut_blocks.new.volume c.judge_cut.ensures.same c.in_ok-count.ensures.alters.same)) (c.fewer_blocks-delta.ensures.kind ∙ ap (λ (l : Ledger). l.kind) (left_ledger c.args.self.now c.judge_cut.new.volume c.cut_blocks.new.volume c.judge_cut.ensures.same c.in_ok-count.ensures.alters.same))
+    (fewer_of (left_ledger c.args.self.now c.judge_cut.new.volume c.cut_blocks.new.volume c.judge_cut.ensures.same c.in_ok-count.ensures.alters.same) c.fewer_blocks-delta.result c.in_ok-count.count c.fewer_blocks-delta.ensures.charge) c.fewer_blocks-delta.ensures.need (c.fewer_blocks-delta.ensures.size ∙ ap (λ (l : Ledger). l.size) (left_ledger c.args.self.now c.judge_cut.new.volume c.cut_blocks.new.volume c.judge_cut.ensures.same c.in_ok-count.ensures.alters.same)) (c.fewer_blocks-delta.ensures.kind ∙ ap (λ (l : Ledger). l.kind) (left_ledger c.args.self.now c.judge_cut.new.volume c.cut_blocks.new.volume c.judge_cut.ensures.same c.in_ok-count.ensures.alters.same)) (ap (λ (z : VolumeState). z.numbers) c.count_change.ensures.others)
 
 pub returns-clause-ready : goal.returns-clause-ready
 returns-clause-ready g c =
-    let parts : Parts {T = ℕ} (g.D.Disk.shown c.args.disk.now) (g.D.Disk.shown c.judge_cut.new.disk) (g.D.Disk.shown c.cut_blocks.new.disk) c.args.pool.now c.judge_cut.new.pool c.cut_blocks.new.pool c.args.self.now c.judge_cut.new.volume c.cut_blocks.new.volume c.count_change.new.volume (Ok c.in_ok-count.count) c.fewer_blocks-delta.result = parts_of c.judge_cut.ensures.reads c.judge_cut.ensures.same c.in_ok-count.ensures.alters c.count_change.ensures.others c.count_change.ensures.now c.count_change.ensures.ledger c.count_change.ensures.machine in
+    let parts : Parts {T = ℕ} (g.D.Disk.shown c.args.disk.now) (g.D.Disk.shown c.judge_cut.new.disk) (g.D.Disk.shown c.cut_blocks.new.disk) c.args.pool.now c.judge_cut.new.pool c.cut_blocks.new.pool c.args.self.now c.judge_cut.new.volume c.cut_blocks.new.volume c.count_change.new.volume (Ok c.in_ok-count.count) c.fewer_blocks-delta.result = parts_of c.judge_cut.ensures.reads c.judge_cut.ensures.same c.in_ok-count.ensures.alters (counted_all c.cut_blocks.new.volume c.count_change.new.volume c.count_change.ensures.others) c.count_change.ensures.now c.count_change.ensures.ledger c.count_change.ensures.machine in
     done_ready (g.D.Disk.shown c.args.disk.now) (g.D.Disk.shown c.judge_cut.new.disk) (g.D.Disk.shown c.cut_blocks.new.disk) c.args.pool.now c.judge_cut.new.pool c.cut_blocks.new.pool c.args.self.now c.judge_cut.new.volume c.cut_blocks.new.volume c.count_change.new.volume (Ok c.in_ok-count.count) c.fewer_blocks-delta.result parts c.requires.ready (fewer_fits (g.D.Disk.shown c.cut_blocks.new.disk) c.cut_blocks.new.pool c.cut_blocks.new.volume c.fewer_blocks-delta.result (left_ready (g.D.Disk.shown c.args.disk.now) (g.D.Disk.shown c.judge_cut.new.disk) (g.D.Disk.shown c.cut_blocks.new.disk) c.args.pool.now c.judge_cut.new.pool c.cut_blocks.new.pool c.judge_cut.ensures.reads c.args.self.now c.judge_cut.new.volume c.cut_blocks.new.volume c.judge_cut.ensures.same (Ok c.in_ok-count.count) c.in_ok-count.ensures.alters c.requires.ready)
     (left_more c.args.self.now c.judge_cut.new.volume c.cut_blocks.new.volume c.judge_cut.ensures.same c.in_ok-count.ensures.alters.same c.in_ok-info.ensures.more) c.fewer_blocks-delta.ensures.fits c.fewer_blocks-delta.ensures.less c.fewer_blocks-delta.ensures.need c.fewer_blocks-delta.ensures.size c.fewer_blocks-delta.ensures.kind)
 
 pub returns-clause-head : goal.returns-clause-head
 returns-clause-head g c =
-    let parts : Parts {T = ℕ} (g.D.Disk.shown c.args.disk.now) (g.D.Disk.shown c.judge_cut.new.disk) (g.D.Disk.shown c.cut_blocks.new.disk) c.args.pool.now c.judge_cut.new.pool c.cut_blocks.new.pool c.args.self.now c.judge_cut.new.volume c.cut_blocks.new.volume c.count_change.new.volume (Ok c.in_ok-count.count) c.fewer_blocks-delta.result = parts_of c.judge_cut.ensures.reads c.judge_cut.ensures.same c.in_ok-count.ensures.alters c.count_change.ensures.others c.count_change.ensures.now c.count_change.ensures.ledger c.count_change.ensures.machine in
+    let parts : Parts {T = ℕ} (g.D.Disk.shown c.args.disk.now) (g.D.Disk.shown c.judge_cut.new.disk) (g.D.Disk.shown c.cut_blocks.new.disk) c.args.pool.now c.judge_cut.new.pool c.cut_blocks.new.pool c.args.self.now c.judge_cut.new.volume c.cut_blocks.new.volume c.count_change.new.volume (Ok c.in_ok-count.count) c.fewer_blocks-delta.result = parts_of c.judge_cut.ensures.reads c.judge_cut.ensures.same c.in_ok-count.ensures.alters (counted_all c.cut_blocks.new.volume c.count_change.new.volume c.count_change.ensures.others) c.count_change.ensures.now c.count_change.ensures.ledger c.count_change.ensures.machine in
     done_head (g.D.Disk.shown c.args.disk.now) (g.D.Disk.shown c.judge_cut.new.disk) (g.D.Disk.shown c.cut_blocks.new.disk) c.args.pool.now c.judge_cut.new.pool c.cut_blocks.new.pool c.args.self.now c.judge_cut.new.volume c.cut_blocks.new.volume c.count_change.new.volume (Ok c.in_ok-count.count) c.fewer_blocks-delta.result parts
 
 pub returns-clause-reads : goal.returns-clause-reads

@@ -1,6 +1,6 @@
-use Rattle.std.proofs.Common.{◌≡◌, ℕ, Ok, Err, rules, subst}
-use Rattle.std.specs.Prelude.{◌<◌, None}
-use Rattle.fv_tables.specs.Told.{file_at, Standing}
+use Rattle.std.proofs.Common.{◌≡◌, Ok, Err, rules, subst}
+use Rattle.fv_tables.specs.Told.{Standing}
+use Rattle.fv_inode.specs.Files.{IsLeastFree}
 use Rattle.fv_model.specs.declared.commands.Command.TheVariants.{New}
 use Rattle.fv_volume.specs.declared.state.VolumeState.{VolumeState}
 use Rattle.fv_volume.specs.Calls.{BlockCause, HasBeside}
@@ -15,21 +15,21 @@ use Rattle.fv_volume.proofs.state.VolumeState.new_file.Goals as goal
 
 -- ---- refused
 
-pub returns-in_err-delta-clause-changes : goal.returns-in_err-delta-clause-changes
-returns-in_err-delta-clause-changes g c = λ is.
-    let failed : c.from_residual.result ≡ Err c.in_err-delta.field-0.0 = search rules in
-    refused_changes (g.D.Disk.shown c.args.disk.now) (g.D.Disk.shown c.judge_new.new.disk) c.args.pool.now c.judge_new.new.pool c.judge_new.ensures.reads c.args.self.now c.judge_new.new.volume c.judge_new.ensures.same (HasBeside c.args.self.now.name (volume_for (g.D.Disk.shown c.args.disk.now) c.args.pool.now c.args.self.now) c.args.others c.args.pool.now.found.blocks) (New c.args.self.now.name c.args.file.now c.args.reserve) c.from_residual.result c.in_err-delta.field-0.0 failed (c.in_err-delta.ensures.refused is)
+pub returns-in_err-making-clause-changes : goal.returns-in_err-making-clause-changes
+returns-in_err-making-clause-changes g c = λ is.
+    let failed : c.from_residual.result ≡ Err c.in_err-making.field-0.0 = search rules in
+    refused_changes (g.D.Disk.shown c.args.disk.now) (g.D.Disk.shown c.judge_new.new.disk) c.args.pool.now c.judge_new.new.pool c.judge_new.ensures.reads c.args.self.now c.judge_new.new.volume c.judge_new.ensures.same (HasBeside c.args.self.now.name (volume_for (g.D.Disk.shown c.args.disk.now) c.args.pool.now c.args.self.now) c.args.others c.args.pool.now.found.blocks) (New c.args.self.now.name c.args.file.now c.args.reserve) c.from_residual.result c.in_err-making.field-0.0 failed (c.in_err-making.ensures.refused is)
 
-pub returns-in_err-delta-clause-standing : goal.returns-in_err-delta-clause-standing
-returns-in_err-delta-clause-standing g c = λ is. refused_standing (g.D.Disk.shown c.args.disk.now) (g.D.Disk.shown c.judge_new.new.disk) c.args.pool.now c.judge_new.new.pool c.judge_new.ensures.reads c.args.self.now c.judge_new.new.volume c.judge_new.ensures.same is
+pub returns-in_err-making-clause-standing : goal.returns-in_err-making-clause-standing
+returns-in_err-making-clause-standing g c = λ is. refused_standing (g.D.Disk.shown c.args.disk.now) (g.D.Disk.shown c.judge_new.new.disk) c.args.pool.now c.judge_new.new.pool c.judge_new.ensures.reads c.args.self.now c.judge_new.new.volume c.judge_new.ensures.same is
 
-pub returns-in_err-delta-clause-ready : goal.returns-in_err-delta-clause-ready
-returns-in_err-delta-clause-ready g c = refused_ready (g.D.Disk.shown c.args.disk.now) (g.D.Disk.shown c.judge_new.new.disk) c.args.pool.now c.judge_new.new.pool c.judge_new.ensures.reads c.args.self.now c.judge_new.new.volume c.judge_new.ensures.same c.requires.ready
+pub returns-in_err-making-clause-ready : goal.returns-in_err-making-clause-ready
+returns-in_err-making-clause-ready g c = refused_ready (g.D.Disk.shown c.args.disk.now) (g.D.Disk.shown c.judge_new.new.disk) c.args.pool.now c.judge_new.new.pool c.judge_new.ensures.reads c.args.self.now c.judge_new.new.volume c.judge_new.ensures.same c.requires.ready
 
-pub returns-in_err-delta-clause-head : goal.returns-in_err-delta-clause-head
-returns-in_err-delta-clause-head g c =
-    let failed : c.from_residual.result ≡ Err c.in_err-delta.field-0.0 = search rules in
-    refused_head (g.D.Disk.shown c.args.disk.now) (g.D.Disk.shown c.judge_new.new.disk) c.args.pool.now c.judge_new.new.pool c.judge_new.ensures.reads c.args.self.now c.judge_new.new.volume c.judge_new.ensures.same c.from_residual.result c.in_err-delta.field-0.0 failed
+pub returns-in_err-making-clause-head : goal.returns-in_err-making-clause-head
+returns-in_err-making-clause-head g c =
+    let failed : c.from_residual.result ≡ Err c.in_err-making.field-0.0 = search rules in
+    refused_head (g.D.Disk.shown c.args.disk.now) (g.D.Disk.shown c.judge_new.new.disk) c.args.pool.now c.judge_new.new.pool c.judge_new.ensures.reads c.args.self.now c.judge_new.new.volume c.judge_new.ensures.same c.from_residual.result c.in_err-making.field-0.0 failed
 
 -- ---- failed
 
@@ -61,80 +61,80 @@ returns-in_err-create_file-clause-cause g c =
     let failed : c.from_residual-in_err-create_file.result ≡ Err (of_block e) = search rules in
     let later = subst (λ (z : VolumeState). BlockCause {T = Unit {0}} (IsStanding (g.D.Disk.shown c.judge_new.new.disk) c.judge_new.new.pool z) (standing_for (g.D.Disk.shown c.judge_new.new.disk) c.judge_new.new.pool z) (lent_for c.judge_new.new.pool z.map (g.D.Disk.shown c.judge_new.new.disk) 0 (home_in z) 0) (g.D.Disk.shown c.create_file.new.disk).faults (Err e)) c.judge_new.ensures.same c.in_err-create_file.ensures.cause in
     failed_cause (IsStanding (g.D.Disk.shown c.args.disk.now) c.args.pool.now c.args.self.now) (standing_for (g.D.Disk.shown c.args.disk.now) c.args.pool.now c.args.self.now) (lent_for c.args.pool.now c.args.self.now.map (g.D.Disk.shown c.args.disk.now) 0 (home_in c.args.self.now) 0) (g.D.Disk.shown c.create_file.new.disk).faults e c.from_residual-in_err-create_file.result failed
-    (fails_later (g.D.Disk.shown c.args.disk.now) (g.D.Disk.shown c.judge_new.new.disk) c.args.pool.now c.judge_new.new.pool c.judge_new.ensures.reads c.args.self.now c.in_ok-delta.ensures.cause 0 {T = Unit {0}} (g.D.Disk.shown c.create_file.new.disk).faults (Err e) later)
+    (fails_later (g.D.Disk.shown c.args.disk.now) (g.D.Disk.shown c.judge_new.new.disk) c.args.pool.now c.judge_new.new.pool c.judge_new.ensures.reads c.args.self.now c.in_ok-making.ensures.cause 0 {T = Unit {0}} (g.D.Disk.shown c.create_file.new.disk).faults (Err e) later)
 
 -- ---- done
 
-pub count_change-requires : goal.count_change-requires
-count_change-requires g c = record { fits = left_fits (g.D.Disk.shown c.args.disk.now) (g.D.Disk.shown c.judge_new.new.disk) (g.D.Disk.shown c.create_file.new.disk) c.args.pool.now c.judge_new.new.pool c.create_file.new.pool c.judge_new.ensures.reads c.args.self.now c.judge_new.new.volume c.create_file.new.volume c.judge_new.ensures.same (Ok tt) c.in_ok-create_file.ensures.alters c.in_ok-delta.delta c.in_ok-delta.ensures.fits }
+pub count_made-requires : goal.count_made-requires
+count_made-requires g c = record { fits = left_fits (g.D.Disk.shown c.args.disk.now) (g.D.Disk.shown c.judge_new.new.disk) (g.D.Disk.shown c.create_file.new.disk) c.args.pool.now c.judge_new.new.pool c.create_file.new.pool c.judge_new.ensures.reads c.args.self.now c.judge_new.new.volume c.create_file.new.volume c.judge_new.ensures.same (Ok tt) c.in_ok-create_file.ensures.alters c.in_ok-making.making.delta c.in_ok-making.ensures.fits }
 
 pub returns-clause-changes : goal.returns-clause-changes
 returns-clause-changes g c = λ is.
-    let parts : Parts {T = Unit {0}} (g.D.Disk.shown c.args.disk.now) (g.D.Disk.shown c.judge_new.new.disk) (g.D.Disk.shown c.create_file.new.disk) c.args.pool.now c.judge_new.new.pool c.create_file.new.pool c.args.self.now c.judge_new.new.volume c.create_file.new.volume c.count_change.new.volume (Ok tt) c.in_ok-delta.delta = record {
+    let parts : Parts {T = Unit {0}} (g.D.Disk.shown c.args.disk.now) (g.D.Disk.shown c.judge_new.new.disk) (g.D.Disk.shown c.create_file.new.disk) c.args.pool.now c.judge_new.new.pool c.create_file.new.pool c.args.self.now c.judge_new.new.volume c.create_file.new.volume c.count_made.new.volume (Ok tt) c.in_ok-making.making.delta = record {
       first = c.judge_new.ensures.reads;
       same = c.judge_new.ensures.same;
       alters = c.in_ok-create_file.ensures.alters;
-      counted = c.count_change.ensures.others;
-      next = c.count_change.ensures.now;
-      moved = c.count_change.ensures.ledger;
-      moves = c.count_change.ensures.machine;
+      counted = c.count_made.ensures.others;
+      next = c.count_made.ensures.now;
+      moved = c.count_made.ensures.ledger;
+      moves = c.count_made.ensures.machine;
     } in
-    new_is (g.D.Disk.shown c.args.disk.now) (g.D.Disk.shown c.judge_new.new.disk) (g.D.Disk.shown c.create_file.new.disk) c.args.pool.now c.judge_new.new.pool c.create_file.new.pool c.args.self.now c.judge_new.new.volume c.create_file.new.volume c.count_change.new.volume c.in_ok-delta.delta parts is c.args.others c.args.file.now c.args.reserve c.in_ok-delta.ensures.none (c.in_ok-delta.ensures.accepted is) c.in_ok-create_file.ensures.made
+    new_is (g.D.Disk.shown c.args.disk.now) (g.D.Disk.shown c.judge_new.new.disk) (g.D.Disk.shown c.create_file.new.disk) c.args.pool.now c.judge_new.new.pool c.create_file.new.pool c.args.self.now c.judge_new.new.volume c.create_file.new.volume c.count_made.new.volume c.in_ok-making.making.delta parts is c.args.others c.args.file.now c.args.reserve c.in_ok-making.making.number c.in_ok-making.ensures.none (c.in_ok-making.ensures.accepted is) c.in_ok-create_file.ensures.made c.count_made.ensures.tells
 
 pub returns-clause-standing : goal.returns-clause-standing
 returns-clause-standing g c = λ is.
-    let parts : Parts {T = Unit {0}} (g.D.Disk.shown c.args.disk.now) (g.D.Disk.shown c.judge_new.new.disk) (g.D.Disk.shown c.create_file.new.disk) c.args.pool.now c.judge_new.new.pool c.create_file.new.pool c.args.self.now c.judge_new.new.volume c.create_file.new.volume c.count_change.new.volume (Ok tt) c.in_ok-delta.delta = record {
+    let parts : Parts {T = Unit {0}} (g.D.Disk.shown c.args.disk.now) (g.D.Disk.shown c.judge_new.new.disk) (g.D.Disk.shown c.create_file.new.disk) c.args.pool.now c.judge_new.new.pool c.create_file.new.pool c.args.self.now c.judge_new.new.volume c.create_file.new.volume c.count_made.new.volume (Ok tt) c.in_ok-making.making.delta = record {
       first = c.judge_new.ensures.reads;
       same = c.judge_new.ensures.same;
       alters = c.in_ok-create_file.ensures.alters;
-      counted = c.count_change.ensures.others;
-      next = c.count_change.ensures.now;
-      moved = c.count_change.ensures.ledger;
-      moves = c.count_change.ensures.machine;
+      counted = c.count_made.ensures.others;
+      next = c.count_made.ensures.now;
+      moved = c.count_made.ensures.ledger;
+      moves = c.count_made.ensures.machine;
     } in
-    new_stands (g.D.Disk.shown c.args.disk.now) (g.D.Disk.shown c.judge_new.new.disk) (g.D.Disk.shown c.create_file.new.disk) c.args.pool.now c.judge_new.new.pool c.create_file.new.pool c.args.self.now c.judge_new.new.volume c.create_file.new.volume c.count_change.new.volume c.in_ok-delta.delta parts is c.args.others c.args.file.now c.args.reserve c.in_ok-delta.ensures.none (c.in_ok-delta.ensures.accepted is) c.in_ok-create_file.ensures.made
+    new_stands (g.D.Disk.shown c.args.disk.now) (g.D.Disk.shown c.judge_new.new.disk) (g.D.Disk.shown c.create_file.new.disk) c.args.pool.now c.judge_new.new.pool c.create_file.new.pool c.args.self.now c.judge_new.new.volume c.create_file.new.volume c.count_made.new.volume c.in_ok-making.making.delta parts is c.args.others c.args.file.now c.args.reserve c.in_ok-making.making.number c.in_ok-making.ensures.none (c.in_ok-making.ensures.accepted is) c.in_ok-create_file.ensures.made c.count_made.ensures.tells
 
 pub returns-clause-ready : goal.returns-clause-ready
 returns-clause-ready g c =
-    let parts : Parts {T = Unit {0}} (g.D.Disk.shown c.args.disk.now) (g.D.Disk.shown c.judge_new.new.disk) (g.D.Disk.shown c.create_file.new.disk) c.args.pool.now c.judge_new.new.pool c.create_file.new.pool c.args.self.now c.judge_new.new.volume c.create_file.new.volume c.count_change.new.volume (Ok tt) c.in_ok-delta.delta = record {
+    let parts : Parts {T = Unit {0}} (g.D.Disk.shown c.args.disk.now) (g.D.Disk.shown c.judge_new.new.disk) (g.D.Disk.shown c.create_file.new.disk) c.args.pool.now c.judge_new.new.pool c.create_file.new.pool c.args.self.now c.judge_new.new.volume c.create_file.new.volume c.count_made.new.volume (Ok tt) c.in_ok-making.making.delta = record {
       first = c.judge_new.ensures.reads;
       same = c.judge_new.ensures.same;
       alters = c.in_ok-create_file.ensures.alters;
-      counted = c.count_change.ensures.others;
-      next = c.count_change.ensures.now;
-      moved = c.count_change.ensures.ledger;
-      moves = c.count_change.ensures.machine;
+      counted = c.count_made.ensures.others;
+      next = c.count_made.ensures.now;
+      moved = c.count_made.ensures.ledger;
+      moves = c.count_made.ensures.machine;
     } in
-    done_ready (g.D.Disk.shown c.args.disk.now) (g.D.Disk.shown c.judge_new.new.disk) (g.D.Disk.shown c.create_file.new.disk) c.args.pool.now c.judge_new.new.pool c.create_file.new.pool c.args.self.now c.judge_new.new.volume c.create_file.new.volume c.count_change.new.volume (Ok tt) c.in_ok-delta.delta parts c.requires.ready (left_fits (g.D.Disk.shown c.args.disk.now) (g.D.Disk.shown c.judge_new.new.disk) (g.D.Disk.shown c.create_file.new.disk) c.args.pool.now c.judge_new.new.pool c.create_file.new.pool c.judge_new.ensures.reads c.args.self.now c.judge_new.new.volume c.create_file.new.volume c.judge_new.ensures.same (Ok tt) c.in_ok-create_file.ensures.alters c.in_ok-delta.delta c.in_ok-delta.ensures.fits)
+    done_ready (g.D.Disk.shown c.args.disk.now) (g.D.Disk.shown c.judge_new.new.disk) (g.D.Disk.shown c.create_file.new.disk) c.args.pool.now c.judge_new.new.pool c.create_file.new.pool c.args.self.now c.judge_new.new.volume c.create_file.new.volume c.count_made.new.volume (Ok tt) c.in_ok-making.making.delta parts c.requires.ready (left_fits (g.D.Disk.shown c.args.disk.now) (g.D.Disk.shown c.judge_new.new.disk) (g.D.Disk.shown c.create_file.new.disk) c.args.pool.now c.judge_new.new.pool c.create_file.new.pool c.judge_new.ensures.reads c.args.self.now c.judge_new.new.volume c.create_file.new.volume c.judge_new.ensures.same (Ok tt) c.in_ok-create_file.ensures.alters c.in_ok-making.making.delta c.in_ok-making.ensures.fits)
 
 pub returns-clause-head : goal.returns-clause-head
 returns-clause-head g c =
-    let parts : Parts {T = Unit {0}} (g.D.Disk.shown c.args.disk.now) (g.D.Disk.shown c.judge_new.new.disk) (g.D.Disk.shown c.create_file.new.disk) c.args.pool.now c.judge_new.new.pool c.create_file.new.pool c.args.self.now c.judge_new.new.volume c.create_file.new.volume c.count_change.new.volume (Ok tt) c.in_ok-delta.delta = record {
+    let parts : Parts {T = Unit {0}} (g.D.Disk.shown c.args.disk.now) (g.D.Disk.shown c.judge_new.new.disk) (g.D.Disk.shown c.create_file.new.disk) c.args.pool.now c.judge_new.new.pool c.create_file.new.pool c.args.self.now c.judge_new.new.volume c.create_file.new.volume c.count_made.new.volume (Ok tt) c.in_ok-making.making.delta = record {
       first = c.judge_new.ensures.reads;
       same = c.judge_new.ensures.same;
       alters = c.in_ok-create_file.ensures.alters;
-      counted = c.count_change.ensures.others;
-      next = c.count_change.ensures.now;
-      moved = c.count_change.ensures.ledger;
-      moves = c.count_change.ensures.machine;
+      counted = c.count_made.ensures.others;
+      next = c.count_made.ensures.now;
+      moved = c.count_made.ensures.ledger;
+      moves = c.count_made.ensures.machine;
     } in
-    done_head (g.D.Disk.shown c.args.disk.now) (g.D.Disk.shown c.judge_new.new.disk) (g.D.Disk.shown c.create_file.new.disk) c.args.pool.now c.judge_new.new.pool c.create_file.new.pool c.args.self.now c.judge_new.new.volume c.create_file.new.volume c.count_change.new.volume (Ok tt) c.in_ok-delta.delta parts
+    done_head (g.D.Disk.shown c.args.disk.now) (g.D.Disk.shown c.judge_new.new.disk) (g.D.Disk.shown c.create_file.new.disk) c.args.pool.now c.judge_new.new.pool c.create_file.new.pool c.args.self.now c.judge_new.new.volume c.create_file.new.volume c.count_made.new.volume (Ok tt) c.in_ok-making.making.delta parts
 
 pub returns-clause-reads : goal.returns-clause-reads
 returns-clause-reads g c = reads_then (g.D.Disk.shown c.args.disk.now) (g.D.Disk.shown c.judge_new.new.disk) (g.D.Disk.shown c.create_file.new.disk) c.args.pool.now c.judge_new.new.pool c.create_file.new.pool c.judge_new.ensures.reads c.in_ok-create_file.ensures.alters.reads
 
 pub create_file-requires-clause-free : goal.create_file-requires-clause-free
 create_file-requires-clause-free g c = said_after (g.D.Disk.shown c.args.disk.now) (g.D.Disk.shown c.judge_new.new.disk) c.args.pool.now c.judge_new.new.pool c.judge_new.ensures.reads c.args.self.now c.judge_new.new.volume c.judge_new.ensures.same
-    (λ (s : Standing). (n : ℕ) × ((n < 262144) × (file_at s.inode n ≡ None)))
-    (λ is. (c.in_ok-delta.ensures.accepted is).free)
+    (λ (s : Standing). IsLeastFree s.inode c.in_ok-making.making.number)
+    (λ is. (c.in_ok-making.ensures.accepted is).free)
 
 -- ---- its table
 
-pub returns-in_err-delta-clause-table : goal.returns-in_err-delta-clause-table
-returns-in_err-delta-clause-table g c = λ is. refused_table (g.D.Disk.shown c.args.disk.now) (g.D.Disk.shown c.judge_new.new.disk) c.args.pool.now c.judge_new.new.pool c.judge_new.ensures.reads c.args.self.now c.judge_new.new.volume c.judge_new.ensures.same
+pub returns-in_err-making-clause-table : goal.returns-in_err-making-clause-table
+returns-in_err-making-clause-table g c = λ is. refused_table (g.D.Disk.shown c.args.disk.now) (g.D.Disk.shown c.judge_new.new.disk) c.args.pool.now c.judge_new.new.pool c.judge_new.ensures.reads c.args.self.now c.judge_new.new.volume c.judge_new.ensures.same
 
 pub returns-in_err-create_file-clause-table : goal.returns-in_err-create_file-clause-table
 returns-in_err-create_file-clause-table g c = λ is. left_table (g.D.Disk.shown c.args.disk.now) (g.D.Disk.shown c.judge_new.new.disk) (g.D.Disk.shown c.create_file.new.disk) c.args.pool.now c.judge_new.new.pool c.create_file.new.pool c.judge_new.ensures.reads c.args.self.now c.judge_new.new.volume c.create_file.new.volume c.judge_new.ensures.same _ c.in_err-create_file.ensures.alters is
 
 pub returns-clause-table : goal.returns-clause-table
-returns-clause-table g c = λ is. counted_table (g.D.Disk.shown c.args.disk.now) c.args.pool.now c.args.self.now (g.D.Disk.shown c.create_file.new.disk) c.create_file.new.pool c.create_file.new.volume c.count_change.new.volume c.count_change.ensures.others (left_table (g.D.Disk.shown c.args.disk.now) (g.D.Disk.shown c.judge_new.new.disk) (g.D.Disk.shown c.create_file.new.disk) c.args.pool.now c.judge_new.new.pool c.create_file.new.pool c.judge_new.ensures.reads c.args.self.now c.judge_new.new.volume c.create_file.new.volume c.judge_new.ensures.same (Ok tt) c.in_ok-create_file.ensures.alters is)
+returns-clause-table g c = λ is. counted_table (g.D.Disk.shown c.args.disk.now) c.args.pool.now c.args.self.now (g.D.Disk.shown c.create_file.new.disk) c.create_file.new.pool c.create_file.new.volume c.count_made.new.volume c.count_made.ensures.others (left_table (g.D.Disk.shown c.args.disk.now) (g.D.Disk.shown c.judge_new.new.disk) (g.D.Disk.shown c.create_file.new.disk) c.args.pool.now c.judge_new.new.pool c.create_file.new.pool c.judge_new.ensures.reads c.args.self.now c.judge_new.new.volume c.create_file.new.volume c.judge_new.ensures.same (Ok tt) c.in_ok-create_file.ensures.alters is)

@@ -15,4 +15,5 @@ returns-clause-counted c = record {
   ledger = c.counted-ledger.ensures ∙ ap (λ (m : List Bool). record { charge = charge_counted m None 0 c.args.label.now.span; need = 0; size = c.args.label.now.size; kind = c.kind_of-kind.result; span = c.args.label.now.span }) c.active.ensures.active;
   long = active_long c.args.map c.active.ensures.valid;
   none = refl;
+  numbers = refl;
 }

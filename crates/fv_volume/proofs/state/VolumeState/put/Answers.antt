@@ -1,4 +1,4 @@
-use Rattle.std.proofs.Common.{◌≡◌, Ok, Err, rules, subst}
+use Rattle.std.proofs.Common.{◌≡◌, Ok, Err, rules, ap, subst}
 use Rattle.fv_tables.specs.Told.{Standing}
 use Rattle.fv_files.specs.Tables.{IsInfoOf}
 use Rattle.fv_model.specs.declared.commands.Command.TheVariants.{Put}
@@ -9,7 +9,7 @@ use Rattle.fv_volume.specs.Lending.{lent_for}
 use Rattle.fv_volume.specs.OneVolume.{home_in, standing_for, volume_for, IsStanding}
 use Rattle.fv_volume.proofs.Asked.{first_info}
 use Rattle.fv_volume.proofs.CallCauses.{fails_later, failed_cause}
-use Rattle.fv_volume.proofs.Calling.{counted_table, left_table, refused_table, left_fits, failed_changes, failed_head, failed_stands, left_ready, refused_changes, refused_head, refused_ready, refused_standing, done_head, done_ready, Parts}
+use Rattle.fv_volume.proofs.Calling.{counted_all, counted_table, left_table, refused_table, left_fits, failed_changes, failed_head, failed_stands, left_ready, refused_changes, refused_head, refused_ready, refused_standing, done_head, done_ready, Parts}
 use Rattle.fv_volume.proofs.OneVolumes.{reads_then, said_after}
 use Rattle.fv_volume.proofs.MadePut.{put_is, put_stands}
 use Rattle.fv_volume.proofs.state.VolumeState.put.Goals as goal
@@ -75,12 +75,12 @@ returns-clause-changes g c = λ is.
       first = c.judge_put.ensures.reads;
       same = c.judge_put.ensures.same;
       alters = c.in_ok-write_block.ensures.alters;
-      counted = c.count_change.ensures.others;
+      counted = (counted_all c.write_block.new.volume c.count_change.new.volume c.count_change.ensures.others);
       next = c.count_change.ensures.now;
       moved = c.count_change.ensures.ledger;
       moves = c.count_change.ensures.machine;
     } in
-    put_is (g.D.Disk.shown c.args.disk.now) (g.D.Disk.shown c.judge_put.new.disk) (g.D.Disk.shown c.write_block.new.disk) c.args.pool.now c.judge_put.new.pool c.write_block.new.pool c.args.self.now c.judge_put.new.volume c.write_block.new.volume c.count_change.new.volume c.in_ok-admission.admission.delta parts is c.args.others c.args.file.now c.args.index c.args.block.now c.in_ok-admission.admission.info (c.in_ok-admission.ensures.accepted is) c.in_ok-write_block.ensures.written
+    put_is (g.D.Disk.shown c.args.disk.now) (g.D.Disk.shown c.judge_put.new.disk) (g.D.Disk.shown c.write_block.new.disk) c.args.pool.now c.judge_put.new.pool c.write_block.new.pool c.args.self.now c.judge_put.new.volume c.write_block.new.volume c.count_change.new.volume c.in_ok-admission.admission.delta parts is c.args.others c.args.file.now c.args.index c.args.block.now c.in_ok-admission.admission.info (c.in_ok-admission.ensures.accepted is) c.in_ok-write_block.ensures.written (ap (λ (z : VolumeState). z.numbers) c.count_change.ensures.others)
 
 pub returns-clause-standing : goal.returns-clause-standing
 returns-clause-standing g c = λ is.
@@ -88,12 +88,12 @@ returns-clause-standing g c = λ is.
       first = c.judge_put.ensures.reads;
       same = c.judge_put.ensures.same;
       alters = c.in_ok-write_block.ensures.alters;
-      counted = c.count_change.ensures.others;
+      counted = (counted_all c.write_block.new.volume c.count_change.new.volume c.count_change.ensures.others);
       next = c.count_change.ensures.now;
       moved = c.count_change.ensures.ledger;
       moves = c.count_change.ensures.machine;
     } in
-    put_stands (g.D.Disk.shown c.args.disk.now) (g.D.Disk.shown c.judge_put.new.disk) (g.D.Disk.shown c.write_block.new.disk) c.args.pool.now c.judge_put.new.pool c.write_block.new.pool c.args.self.now c.judge_put.new.volume c.write_block.new.volume c.count_change.new.volume c.in_ok-admission.admission.delta parts is c.args.others c.args.file.now c.args.index c.args.block.now c.in_ok-admission.admission.info (c.in_ok-admission.ensures.accepted is) c.in_ok-write_block.ensures.written
+    put_stands (g.D.Disk.shown c.args.disk.now) (g.D.Disk.shown c.judge_put.new.disk) (g.D.Disk.shown c.write_block.new.disk) c.args.pool.now c.judge_put.new.pool c.write_block.new.pool c.args.self.now c.judge_put.new.volume c.write_block.new.volume c.count_change.new.volume c.in_ok-admission.admission.delta parts is c.args.others c.args.file.now c.args.index c.args.block.now c.in_ok-admission.admission.info (c.in_ok-admission.ensures.accepted is) c.in_ok-write_block.ensures.written (ap (λ (z : VolumeState). z.numbers) c.count_change.ensures.others)
 
 pub returns-clause-ready : goal.returns-clause-ready
 returns-clause-ready g c =
@@ -101,7 +101,7 @@ returns-clause-ready g c =
       first = c.judge_put.ensures.reads;
       same = c.judge_put.ensures.same;
       alters = c.in_ok-write_block.ensures.alters;
-      counted = c.count_change.ensures.others;
+      counted = (counted_all c.write_block.new.volume c.count_change.new.volume c.count_change.ensures.others);
       next = c.count_change.ensures.now;
       moved = c.count_change.ensures.ledger;
       moves = c.count_change.ensures.machine;
@@ -114,7 +114,7 @@ returns-clause-head g c =
       first = c.judge_put.ensures.reads;
       same = c.judge_put.ensures.same;
       alters = c.in_ok-write_block.ensures.alters;
-      counted = c.count_change.ensures.others;
+      counted = (counted_all c.write_block.new.volume c.count_change.new.volume c.count_change.ensures.others);
       next = c.count_change.ensures.now;
       moved = c.count_change.ensures.ledger;
       moves = c.count_change.ensures.machine;
@@ -138,4 +138,4 @@ pub returns-in_err-write_block-clause-table : goal.returns-in_err-write_block-cl
 returns-in_err-write_block-clause-table g c = λ is. left_table (g.D.Disk.shown c.args.disk.now) (g.D.Disk.shown c.judge_put.new.disk) (g.D.Disk.shown c.write_block.new.disk) c.args.pool.now c.judge_put.new.pool c.write_block.new.pool c.judge_put.ensures.reads c.args.self.now c.judge_put.new.volume c.write_block.new.volume c.judge_put.ensures.same _ c.in_err-write_block.ensures.alters is
 
 pub returns-clause-table : goal.returns-clause-table
-returns-clause-table g c = λ is. counted_table (g.D.Disk.shown c.args.disk.now) c.args.pool.now c.args.self.now (g.D.Disk.shown c.write_block.new.disk) c.write_block.new.pool c.write_block.new.volume c.count_change.new.volume c.count_change.ensures.others (left_table (g.D.Disk.shown c.args.disk.now) (g.D.Disk.shown c.judge_put.new.disk) (g.D.Disk.shown c.write_block.new.disk) c.args.pool.now c.judge_put.new.pool c.write_block.new.pool c.judge_put.ensures.reads c.args.self.now c.judge_put.new.volume c.write_block.new.volume c.judge_put.ensures.same (Ok tt) c.in_ok-write_block.ensures.alters is)
+returns-clause-table g c = λ is. counted_table (g.D.Disk.shown c.args.disk.now) c.args.pool.now c.args.self.now (g.D.Disk.shown c.write_block.new.disk) c.write_block.new.pool c.write_block.new.volume c.count_change.new.volume (counted_all c.write_block.new.volume c.count_change.new.volume c.count_change.ensures.others) (left_table (g.D.Disk.shown c.args.disk.now) (g.D.Disk.shown c.judge_put.new.disk) (g.D.Disk.shown c.write_block.new.disk) c.args.pool.now c.judge_put.new.pool c.write_block.new.pool c.judge_put.ensures.reads c.args.self.now c.judge_put.new.volume c.write_block.new.volume c.judge_put.ensures.same (Ok tt) c.in_ok-write_block.ensures.alters is)

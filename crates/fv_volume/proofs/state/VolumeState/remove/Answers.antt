@@ -24,7 +24,7 @@ pub returns-in_err-count-clause-table : goal.returns-in_err-count-clause-table
 returns-in_err-count-clause-table g c = λ is. left_table (g.D.Disk.shown c.args.disk.now) (g.D.Disk.shown c.judge_removal.new.disk) (g.D.Disk.shown c.drop_file.new.disk) c.args.pool.now c.judge_removal.new.pool c.drop_file.new.pool c.judge_removal.ensures.reads c.args.self.now c.judge_removal.new.volume c.drop_file.new.volume c.judge_removal.ensures.same _ c.in_err-count.ensures.alters is
 
 pub returns-clause-table : goal.returns-clause-table
-returns-clause-table g c = λ is. counted_table (g.D.Disk.shown c.args.disk.now) c.args.pool.now c.args.self.now (g.D.Disk.shown c.drop_file.new.disk) c.drop_file.new.pool c.drop_file.new.volume c.count_change.new.volume c.count_change.ensures.others (left_table (g.D.Disk.shown c.args.disk.now) (g.D.Disk.shown c.judge_removal.new.disk) (g.D.Disk.shown c.drop_file.new.disk) c.args.pool.now c.judge_removal.new.pool c.drop_file.new.pool c.judge_removal.ensures.reads c.args.self.now c.judge_removal.new.volume c.drop_file.new.volume c.judge_removal.ensures.same (Ok c.in_ok-count.count) c.in_ok-count.ensures.alters is)
+returns-clause-table g c = λ is. counted_table (g.D.Disk.shown c.args.disk.now) c.args.pool.now c.args.self.now (g.D.Disk.shown c.drop_file.new.disk) c.drop_file.new.pool c.drop_file.new.volume c.count_removed.new.volume c.count_removed.ensures.others (left_table (g.D.Disk.shown c.args.disk.now) (g.D.Disk.shown c.judge_removal.new.disk) (g.D.Disk.shown c.drop_file.new.disk) c.args.pool.now c.judge_removal.new.pool c.drop_file.new.pool c.judge_removal.ensures.reads c.args.self.now c.judge_removal.new.volume c.drop_file.new.volume c.judge_removal.ensures.same (Ok c.in_ok-count.count) c.in_ok-count.ensures.alters is)
 
 -- ---- refused
 
@@ -83,31 +83,31 @@ returns-in_err-count-clause-cause g c =
 
 -- ---- done
 
-pub count_change-requires : goal.count_change-requires
-count_change-requires g c = record { fits = fewer_fits (g.D.Disk.shown c.drop_file.new.disk) c.drop_file.new.pool c.drop_file.new.volume c.fewer_blocks-delta.result (left_ready (g.D.Disk.shown c.args.disk.now) (g.D.Disk.shown c.judge_removal.new.disk) (g.D.Disk.shown c.drop_file.new.disk) c.args.pool.now c.judge_removal.new.pool c.drop_file.new.pool c.judge_removal.ensures.reads c.args.self.now c.judge_removal.new.volume c.drop_file.new.volume c.judge_removal.ensures.same (Ok c.in_ok-count.count) c.in_ok-count.ensures.alters c.requires.ready) (left_more c.args.self.now c.judge_removal.new.volume c.drop_file.new.volume c.judge_removal.ensures.same c.in_ok-count.ensures.alters.same c.in_ok-info.ensures.more) c.fewer_blocks-delta.ensures.fits c.fewer_blocks-delta.ensures.less c.fewer_blocks-delta.ensures.need c.fewer_blocks-delta.ensures.size c.fewer_blocks-delta.ensures.kind }
+pub count_removed-requires : goal.count_removed-requires
+count_removed-requires g c = record { fits = fewer_fits (g.D.Disk.shown c.drop_file.new.disk) c.drop_file.new.pool c.drop_file.new.volume c.fewer_blocks-delta.result (left_ready (g.D.Disk.shown c.args.disk.now) (g.D.Disk.shown c.judge_removal.new.disk) (g.D.Disk.shown c.drop_file.new.disk) c.args.pool.now c.judge_removal.new.pool c.drop_file.new.pool c.judge_removal.ensures.reads c.args.self.now c.judge_removal.new.volume c.drop_file.new.volume c.judge_removal.ensures.same (Ok c.in_ok-count.count) c.in_ok-count.ensures.alters c.requires.ready) (left_more c.args.self.now c.judge_removal.new.volume c.drop_file.new.volume c.judge_removal.ensures.same c.in_ok-count.ensures.alters.same c.in_ok-info.ensures.more) c.fewer_blocks-delta.ensures.fits c.fewer_blocks-delta.ensures.less c.fewer_blocks-delta.ensures.need c.fewer_blocks-delta.ensures.size c.fewer_blocks-delta.ensures.kind }
 
 pub returns-clause-changes : goal.returns-clause-changes
 returns-clause-changes g c = λ is.
-    let parts : Parts {T = ℕ} (g.D.Disk.shown c.args.disk.now) (g.D.Disk.shown c.judge_removal.new.disk) (g.D.Disk.shown c.drop_file.new.disk) c.args.pool.now c.judge_removal.new.pool c.drop_file.new.pool c.args.self.now c.judge_removal.new.volume c.drop_file.new.volume c.count_change.new.volume (Ok c.in_ok-count.count) c.fewer_blocks-delta.result = parts_of c.judge_removal.ensures.reads c.judge_removal.ensures.same c.in_ok-count.ensures.alters c.count_change.ensures.others c.count_change.ensures.now c.count_change.ensures.ledger c.count_change.ensures.machine in
-    rm_is (g.D.Disk.shown c.args.disk.now) (g.D.Disk.shown c.judge_removal.new.disk) (g.D.Disk.shown c.drop_file.new.disk) c.args.pool.now c.judge_removal.new.pool c.drop_file.new.pool c.args.self.now c.judge_removal.new.volume c.drop_file.new.volume c.count_change.new.volume c.fewer_blocks-delta.result c.in_ok-count.count parts is c.requires.ready c.args.others c.args.file.now c.in_ok-info.info (c.in_ok-info.ensures.accepted is) c.in_ok-count.ensures.removed c.in_ok-count.ensures.counted
-    (fewer_of (left_ledger c.args.self.now c.judge_removal.new.volume c.drop_file.new.volume c.judge_removal.ensures.same c.in_ok-count.ensures.alters.same) c.fewer_blocks-delta.result c.in_ok-count.count c.fewer_blocks-delta.ensures.charge) c.fewer_blocks-delta.ensures.need (c.fewer_blocks-delta.ensures.size ∙ ap (λ (l : Ledger). l.size) (left_ledger c.args.self.now c.judge_removal.new.volume c.drop_file.new.volume c.judge_removal.ensures.same c.in_ok-count.ensures.alters.same)) (c.fewer_blocks-delta.ensures.kind ∙ ap (λ (l : Ledger). l.kind) (left_ledger c.args.self.now c.judge_removal.new.volume c.drop_file.new.volume c.judge_removal.ensures.same c.in_ok-count.ensures.alters.same))
+    let parts : Parts {T = ℕ} (g.D.Disk.shown c.args.disk.now) (g.D.Disk.shown c.judge_removal.new.disk) (g.D.Disk.shown c.drop_file.new.disk) c.args.pool.now c.judge_removal.new.pool c.drop_file.new.pool c.args.self.now c.judge_removal.new.volume c.drop_file.new.volume c.count_removed.new.volume (Ok c.in_ok-count.count) c.fewer_blocks-delta.result = parts_of c.judge_removal.ensures.reads c.judge_removal.ensures.same c.in_ok-count.ensures.alters c.count_removed.ensures.others c.count_removed.ensures.now c.count_removed.ensures.ledger c.count_removed.ensures.machine in
+    rm_is (g.D.Disk.shown c.args.disk.now) (g.D.Disk.shown c.judge_removal.new.disk) (g.D.Disk.shown c.drop_file.new.disk) c.args.pool.now c.judge_removal.new.pool c.drop_file.new.pool c.args.self.now c.judge_removal.new.volume c.drop_file.new.volume c.count_removed.new.volume c.fewer_blocks-delta.result c.in_ok-count.count parts is c.requires.ready c.args.others c.args.file.now c.in_ok-info.info (c.in_ok-info.ensures.accepted is) c.in_ok-count.ensures.removed c.in_ok-count.ensures.counted
+    (fewer_of (left_ledger c.args.self.now c.judge_removal.new.volume c.drop_file.new.volume c.judge_removal.ensures.same c.in_ok-count.ensures.alters.same) c.fewer_blocks-delta.result c.in_ok-count.count c.fewer_blocks-delta.ensures.charge) c.fewer_blocks-delta.ensures.need (c.fewer_blocks-delta.ensures.size ∙ ap (λ (l : Ledger). l.size) (left_ledger c.args.self.now c.judge_removal.new.volume c.drop_file.new.volume c.judge_removal.ensures.same c.in_ok-count.ensures.alters.same)) (c.fewer_blocks-delta.ensures.kind ∙ ap (λ (l : Ledger). l.kind) (left_ledger c.args.self.now c.judge_removal.new.volume c.drop_file.new.volume c.judge_removal.ensures.same c.in_ok-count.ensures.alters.same)) c.count_removed.ensures.lacks
 
 pub returns-clause-standing : goal.returns-clause-standing
 returns-clause-standing g c = λ is.
-    let parts : Parts {T = ℕ} (g.D.Disk.shown c.args.disk.now) (g.D.Disk.shown c.judge_removal.new.disk) (g.D.Disk.shown c.drop_file.new.disk) c.args.pool.now c.judge_removal.new.pool c.drop_file.new.pool c.args.self.now c.judge_removal.new.volume c.drop_file.new.volume c.count_change.new.volume (Ok c.in_ok-count.count) c.fewer_blocks-delta.result = parts_of c.judge_removal.ensures.reads c.judge_removal.ensures.same c.in_ok-count.ensures.alters c.count_change.ensures.others c.count_change.ensures.now c.count_change.ensures.ledger c.count_change.ensures.machine in
-    rm_stands (g.D.Disk.shown c.args.disk.now) (g.D.Disk.shown c.judge_removal.new.disk) (g.D.Disk.shown c.drop_file.new.disk) c.args.pool.now c.judge_removal.new.pool c.drop_file.new.pool c.args.self.now c.judge_removal.new.volume c.drop_file.new.volume c.count_change.new.volume c.fewer_blocks-delta.result c.in_ok-count.count parts is c.requires.ready c.args.others c.args.file.now c.in_ok-info.info (c.in_ok-info.ensures.accepted is) c.in_ok-count.ensures.removed c.in_ok-count.ensures.counted
-    (fewer_of (left_ledger c.args.self.now c.judge_removal.new.volume c.drop_file.new.volume c.judge_removal.ensures.same c.in_ok-count.ensures.alters.same) c.fewer_blocks-delta.result c.in_ok-count.count c.fewer_blocks-delta.ensures.charge) c.fewer_blocks-delta.ensures.need (c.fewer_blocks-delta.ensures.size ∙ ap (λ (l : Ledger). l.size) (left_ledger c.args.self.now c.judge_removal.new.volume c.drop_file.new.volume c.judge_removal.ensures.same c.in_ok-count.ensures.alters.same)) (c.fewer_blocks-delta.ensures.kind ∙ ap (λ (l : Ledger). l.kind) (left_ledger c.args.self.now c.judge_removal.new.volume c.drop_file.new.volume c.judge_removal.ensures.same c.in_ok-count.ensures.alters.same))
+    let parts : Parts {T = ℕ} (g.D.Disk.shown c.args.disk.now) (g.D.Disk.shown c.judge_removal.new.disk) (g.D.Disk.shown c.drop_file.new.disk) c.args.pool.now c.judge_removal.new.pool c.drop_file.new.pool c.args.self.now c.judge_removal.new.volume c.drop_file.new.volume c.count_removed.new.volume (Ok c.in_ok-count.count) c.fewer_blocks-delta.result = parts_of c.judge_removal.ensures.reads c.judge_removal.ensures.same c.in_ok-count.ensures.alters c.count_removed.ensures.others c.count_removed.ensures.now c.count_removed.ensures.ledger c.count_removed.ensures.machine in
+    rm_stands (g.D.Disk.shown c.args.disk.now) (g.D.Disk.shown c.judge_removal.new.disk) (g.D.Disk.shown c.drop_file.new.disk) c.args.pool.now c.judge_removal.new.pool c.drop_file.new.pool c.args.self.now c.judge_removal.new.volume c.drop_file.new.volume c.count_removed.new.volume c.fewer_blocks-delta.result c.in_ok-count.count parts is c.requires.ready c.args.others c.args.file.now c.in_ok-info.info (c.in_ok-info.ensures.accepted is) c.in_ok-count.ensures.removed c.in_ok-count.ensures.counted
+    (fewer_of (left_ledger c.args.self.now c.judge_removal.new.volume c.drop_file.new.volume c.judge_removal.ensures.same c.in_ok-count.ensures.alters.same) c.fewer_blocks-delta.result c.in_ok-count.count c.fewer_blocks-delta.ensures.charge) c.fewer_blocks-delta.ensures.need (c.fewer_blocks-delta.ensures.size ∙ ap (λ (l : Ledger). l.size) (left_ledger c.args.self.now c.judge_removal.new.volume c.drop_file.new.volume c.judge_removal.ensures.same c.in_ok-count.ensures.alters.same)) (c.fewer_blocks-delta.ensures.kind ∙ ap (λ (l : Ledger). l.kind) (left_ledger c.args.self.now c.judge_removal.new.volume c.drop_file.new.volume c.judge_removal.ensures.same c.in_ok-count.ensures.alters.same)) c.count_removed.ensures.lacks
 
 pub returns-clause-ready : goal.returns-clause-ready
 returns-clause-ready g c =
-    let parts : Parts {T = ℕ} (g.D.Disk.shown c.args.disk.now) (g.D.Disk.shown c.judge_removal.new.disk) (g.D.Disk.shown c.drop_file.new.disk) c.args.pool.now c.judge_removal.new.pool c.drop_file.new.pool c.args.self.now c.judge_removal.new.volume c.drop_file.new.volume c.count_change.new.volume (Ok c.in_ok-count.count) c.fewer_blocks-delta.result = parts_of c.judge_removal.ensures.reads c.judge_removal.ensures.same c.in_ok-count.ensures.alters c.count_change.ensures.others c.count_change.ensures.now c.count_change.ensures.ledger c.count_change.ensures.machine in
-    done_ready (g.D.Disk.shown c.args.disk.now) (g.D.Disk.shown c.judge_removal.new.disk) (g.D.Disk.shown c.drop_file.new.disk) c.args.pool.now c.judge_removal.new.pool c.drop_file.new.pool c.args.self.now c.judge_removal.new.volume c.drop_file.new.volume c.count_change.new.volume (Ok c.in_ok-count.count) c.fewer_blocks-delta.result parts c.requires.ready (fewer_fits (g.D.Disk.shown c.drop_file.new.disk) c.drop_file.new.pool c.drop_file.new.volume c.fewer_blocks-delta.result (left_ready (g.D.Disk.shown c.args.disk.now) (g.D.Disk.shown c.judge_removal.new.disk) (g.D.Disk.shown c.drop_file.new.disk) c.args.pool.now c.judge_removal.new.pool c.drop_file.new.pool c.judge_removal.ensures.reads c.args.self.now c.judge_removal.new.volume c.drop_file.new.volume c.judge_removal.ensures.same (Ok c.in_ok-count.count) c.in_ok-count.ensures.alters c.requires.ready)
+    let parts : Parts {T = ℕ} (g.D.Disk.shown c.args.disk.now) (g.D.Disk.shown c.judge_removal.new.disk) (g.D.Disk.shown c.drop_file.new.disk) c.args.pool.now c.judge_removal.new.pool c.drop_file.new.pool c.args.self.now c.judge_removal.new.volume c.drop_file.new.volume c.count_removed.new.volume (Ok c.in_ok-count.count) c.fewer_blocks-delta.result = parts_of c.judge_removal.ensures.reads c.judge_removal.ensures.same c.in_ok-count.ensures.alters c.count_removed.ensures.others c.count_removed.ensures.now c.count_removed.ensures.ledger c.count_removed.ensures.machine in
+    done_ready (g.D.Disk.shown c.args.disk.now) (g.D.Disk.shown c.judge_removal.new.disk) (g.D.Disk.shown c.drop_file.new.disk) c.args.pool.now c.judge_removal.new.pool c.drop_file.new.pool c.args.self.now c.judge_removal.new.volume c.drop_file.new.volume c.count_removed.new.volume (Ok c.in_ok-count.count) c.fewer_blocks-delta.result parts c.requires.ready (fewer_fits (g.D.Disk.shown c.drop_file.new.disk) c.drop_file.new.pool c.drop_file.new.volume c.fewer_blocks-delta.result (left_ready (g.D.Disk.shown c.args.disk.now) (g.D.Disk.shown c.judge_removal.new.disk) (g.D.Disk.shown c.drop_file.new.disk) c.args.pool.now c.judge_removal.new.pool c.drop_file.new.pool c.judge_removal.ensures.reads c.args.self.now c.judge_removal.new.volume c.drop_file.new.volume c.judge_removal.ensures.same (Ok c.in_ok-count.count) c.in_ok-count.ensures.alters c.requires.ready)
     (left_more c.args.self.now c.judge_removal.new.volume c.drop_file.new.volume c.judge_removal.ensures.same c.in_ok-count.ensures.alters.same c.in_ok-info.ensures.more) c.fewer_blocks-delta.ensures.fits c.fewer_blocks-delta.ensures.less c.fewer_blocks-delta.ensures.need c.fewer_blocks-delta.ensures.size c.fewer_blocks-delta.ensures.kind)
 
 pub returns-clause-head : goal.returns-clause-head
 returns-clause-head g c =
-    let parts : Parts {T = ℕ} (g.D.Disk.shown c.args.disk.now) (g.D.Disk.shown c.judge_removal.new.disk) (g.D.Disk.shown c.drop_file.new.disk) c.args.pool.now c.judge_removal.new.pool c.drop_file.new.pool c.args.self.now c.judge_removal.new.volume c.drop_file.new.volume c.count_change.new.volume (Ok c.in_ok-count.count) c.fewer_blocks-delta.result = parts_of c.judge_removal.ensures.reads c.judge_removal.ensures.same c.in_ok-count.ensures.alters c.count_change.ensures.others c.count_change.ensures.now c.count_change.ensures.ledger c.count_change.ensures.machine in
-    done_head (g.D.Disk.shown c.args.disk.now) (g.D.Disk.shown c.judge_removal.new.disk) (g.D.Disk.shown c.drop_file.new.disk) c.args.pool.now c.judge_removal.new.pool c.drop_file.new.pool c.args.self.now c.judge_removal.new.volume c.drop_file.new.volume c.count_change.new.volume (Ok c.in_ok-count.count) c.fewer_blocks-delta.result parts
+    let parts : Parts {T = ℕ} (g.D.Disk.shown c.args.disk.now) (g.D.Disk.shown c.judge_removal.new.disk) (g.D.Disk.shown c.drop_file.new.disk) c.args.pool.now c.judge_removal.new.pool c.drop_file.new.pool c.args.self.now c.judge_removal.new.volume c.drop_file.new.volume c.count_removed.new.volume (Ok c.in_ok-count.count) c.fewer_blocks-delta.result = parts_of c.judge_removal.ensures.reads c.judge_removal.ensures.same c.in_ok-count.ensures.alters c.count_removed.ensures.others c.count_removed.ensures.now c.count_removed.ensures.ledger c.count_removed.ensures.machine in
+    done_head (g.D.Disk.shown c.args.disk.now) (g.D.Disk.shown c.judge_removal.new.disk) (g.D.Disk.shown c.drop_file.new.disk) c.args.pool.now c.judge_removal.new.pool c.drop_file.new.pool c.args.self.now c.judge_removal.new.volume c.drop_file.new.volume c.count_removed.new.volume (Ok c.in_ok-count.count) c.fewer_blocks-delta.result parts
 
 pub returns-clause-reads : goal.returns-clause-reads
 returns-clause-reads g c = reads_then (g.D.Disk.shown c.args.disk.now) (g.D.Disk.shown c.judge_removal.new.disk) (g.D.Disk.shown c.drop_file.new.disk) c.args.pool.now c.judge_removal.new.pool c.drop_file.new.pool c.judge_removal.ensures.reads c.in_ok-count.ensures.alters.reads

@@ -47,7 +47,7 @@ returns-clause-new c =
     let items : States = c.self.inside.states.items in
     let is : Admits items c.args.pool.now.found.blocks c.args.name.now c.args.size c.args.kind c.args.admitted.slot c.args.admitted.span =
     subst (λ (s : States). Admits s c.args.pool.now.found.blocks c.args.name.now c.args.size c.args.kind c.args.admitted.slot c.args.admitted.span) (sym c.self.view_is) c.requires.admitted in
-    is_new items c.args.admitted.slot c.in_ok-state.state _ c.args.name.now c.args.size c.args.kind c.args.admitted.span (omega (arith, is.free.within, c.self.invariant)) is.span_is c.in_ok-state.ensures.head c.in_ok-state.ensures.map c.in_ok-state.ensures.ledger c.in_ok-state.ensures.label c.in_ok-state.ensures.changed c.in_ok-state.ensures.files
+    is_new items c.args.admitted.slot c.in_ok-state.state _ c.args.name.now c.args.size c.args.kind c.args.admitted.span (omega (arith, is.free.within, c.self.invariant)) is.span_is c.in_ok-state.ensures.head c.in_ok-state.ensures.map c.in_ok-state.ensures.ledger c.in_ok-state.ensures.label c.in_ok-state.ensures.changed c.in_ok-state.ensures.files c.in_ok-state.ensures.numbers
     (c.put.ensures.there ∙ ap Some (c.in_ok-container.ensures.empty ∙ ap empty_map c.entry_count.ensures.value))
 
 pub returns-clause-each : goal.returns-clause-each

@@ -1,5 +1,5 @@
 use Rattle.fv_volume.specs.Lending.{IsTold}
-use Rattle.fv_volume.proofs.making.find_number.Given as goal
+use Rattle.fv_volume.proofs.making.seek_number.Given as goal
 
 abbrev pub ghosts-number_told-K-Guard : goal.ghosts-number_told-K-Guard
 ghosts-number_told-K-Guard g a = record { told = IsTold (g.D.Disk.shown a.disk.now) a.pool.now a.map.now a.home.now.slot }

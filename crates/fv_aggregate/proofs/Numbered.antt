@@ -1,0 +1,140 @@
+-- A session that read the numbers of a volume's files into memory, and a command on its files that comes then.
+use Rattle.std.proofs.Common.{◌≡◌, ◌≤◌, ℕ, Option, Some, None, Result, Ok, Err, refl, sym, ap, subst, ◌∙◌, arith}
+use Rattle.std.specs.Prelude.{IfOk, IsTrue, OnOk}
+use Rattle.std.specs.Option.{option_map}
+use Rattle.fv_disk.specs.Shown.{Shown}
+use Rattle.fv_disk.proofs.Resting.{reads_then}
+use Rattle.fv_model.specs.declared.answers.Reply.{Reply}
+use Rattle.fv_model.specs.declared.commands.Command.{Command}
+use Rattle.fv_model.specs.Machines.{Machine}
+use Rattle.fv_model.specs.Refusals.{next}
+use Rattle.fv_model.specs.Replies.{Allows}
+use Rattle.fv_volume.specs.declared.state.VolumeState.{VolumeState}
+use Rattle.fv_volume.specs.States.{States, state_at}
+use Rattle.fv_cp.specs.Placing.{HasNoFiles, HaveNoFiles}
+use Rattle.fv_aggregate.specs.declared.fault.Fault.{Fault}
+use Rattle.fv_aggregate.specs.declared.session.Session.{Session}
+use Rattle.fv_aggregate.specs.Calls.{but_numbers, GoesFor, HasDamage, KeepsAsking, SameButNumbers, WasRead}
+use Rattle.fv_aggregate.specs.Commands.{is_refusal}
+use Rattle.fv_aggregate.specs.Looking.{Looks, Makes}
+use Rattle.fv_aggregate.specs.Numbering.{HasNumbered}
+use Rattle.fv_aggregate.specs.Standing.{StandsFor}
+use Rattle.fv_aggregate.proofs.CallEnds.{fails_early, goes_for_after, goes_on_read, goes_wider}
+
+-- ---- volumes that are the same but for those numbers
+
+none_some : (x : VolumeState) → ◌≡◌ {A = Option VolumeState} None (Some x) → ⊥
+none_some x e = cc
+
+same_some : (x y : VolumeState) → ◌≡◌ {A = Option VolumeState} (Some x) (Some y) → x ≡ y
+same_some x y e = cc
+
+no_files_in : (o p : Option VolumeState) → option_map but_numbers p ≡ option_map but_numbers o → HasNoFiles o → HasNoFiles p
+no_files_in o None same none = tt
+no_files_in None (Some y) same none = absurd (none_some (but_numbers y) (sym same))
+no_files_in (Some x) (Some y) same none = ap (λ (z : VolumeState). z.files) (same_some (but_numbers y) (but_numbers x) same) ∙ none
+
+pub no_files_read : (old new : States) → SameButNumbers old new → HaveNoFiles old → HaveNoFiles new
+no_files_read old new same none s = no_files_in (state_at old s) (state_at new s) (same s) (none s)
+
+-- a volume is there as before, by the same name
+pub still_there : (old new : States) → SameButNumbers old new → (slot : ℕ) (x : VolumeState) → state_at old slot ≡ Some x → (y : VolumeState) × ((state_at new slot ≡ Some y) × (x.name ≡ y.name))
+still_there old new same slot x there = by (state_at new slot) refl (same slot ∙ ap (option_map but_numbers) there)
+  where
+    by : (o : Option VolumeState) → state_at new slot ≡ o → option_map but_numbers o ≡ Some (but_numbers x) → (y : VolumeState) × ((state_at new slot ≡ Some y) × (x.name ≡ y.name))
+    by None at is = absurd (none_some (but_numbers x) is)
+    by (Some y) at is = (y, (at, sym (ap (λ (z : VolumeState). z.name) (same_some (but_numbers y) (but_numbers x) is))))
+
+-- ---- blocks were read, and then again
+
+pub read_then : (d : Shown) (s : Session) (e : Shown) (n : Session) (g : Shown) (p : Session) → WasRead d s e n → WasRead e n g p → WasRead d s g p
+read_then d s e n g p first second = record {
+  only_reads = reads_then d e g first.only_reads second.only_reads;
+  pool = record {
+    map = second.pool.map ∙ first.pool.map;
+    containers = second.pool.containers ∙ first.pool.containers;
+    kept = second.pool.kept ∙ first.pool.kept;
+    found = second.pool.found ∙ first.pool.found;
+  };
+  volumes = λ k. second.volumes k ∙ first.volumes k;
+  same = second.same ∙ ap (λ (k : Session). record k { volumes = p.volumes; pool = p.pool }) first.same;
+}
+
+-- ---- the numbers couldn't be read
+
+module _ (d : Shown) (s : Session) (c : Command) (e : Shown) (n : Session) (f : Fault) (failed : HasNumbered d s e n (Err f)) where
+  pub look_unnumbered : Looks d s c e n (Err f)
+  look_unnumbered = record {
+    goes = goes_wider 0 d s e n f failed.goes;
+    asks = failed.asks;
+    goes_for = λ tells last m is. fails_early d last m m e n f (failed.goes_for tells last m is);
+    reply = λ tells last m is. tt;
+    only_reads = failed.only_reads;
+    read = tt;
+  }
+
+  pub make_unnumbered : Makes d s c e n (Err f)
+  make_unnumbered = record {
+    goes = goes_wider 16 d s e n f failed.goes;
+    goes_for = λ tells last m is. fails_early d last m (next m c) e n f (failed.goes_for tells last m is);
+    reply = λ tells last m is. tt;
+    refused = λ tells last m is. tt;
+    calm = λ low. failed.only_reads;
+  }
+
+-- ---- they were read, and then a command was carried out
+
+module _ (d : Shown) (s : Session) (c : Command) (damage : (new : Session) (at want found : ℕ) → HasDamage d s new at want found) (e : Shown) (n : Session) (u : Unit {0}) (read : HasNumbered d s e n (Ok u))
+    (g : Shown) (new : Session) (r : Result Reply Fault) where
+  told : IsTrue d.tells → IsTrue e.tells
+  told tells = subst IsTrue (sym read.goes.ends.tells) tells
+
+  for_then : (after : Machine → Machine) → (IsTrue e.tells → (last m : Machine) → StandsFor e n last m → GoesFor e last m (after m) g new r) → IsTrue d.tells → (last m : Machine) → StandsFor d s last m → GoesFor d last m (after m) g new r
+  for_then after goes_for tells last m is =
+      let first = read.goes_for tells last m is in
+      goes_for_after u d e g n new last m (after m) first read.goes.ends.given r (goes_for (told tells) first.done.point m first.done.stands)
+
+  holds_then : (P : Machine → Type 0) → (IsTrue e.tells → (last m : Machine) → StandsFor e n last m → P m) → IsTrue d.tells → (last m : Machine) → StandsFor d s last m → P m
+  holds_then P holds tells last m is = let first = read.goes_for tells last m is in holds (told tells) first.done.point m first.done.stands
+
+  asks_then : KeepsAsking 0 e n g new → KeepsAsking 0 d s g new
+  asks_then keeps tells kept asks none =
+      let is = keeps (told tells) kept (let first = read.asks tells kept asks read.goes.done.goes_on in record { asked = first.asked; pending = omega (arith, first.pending) }) none in
+      record { asked = is.asked; pending = is.pending }
+
+  same_pending : n.pending ≡ s.pending
+  same_pending = ap (λ (k : Session). k.pending) read.read.same
+
+  none_added : n.pending ≤ s.pending
+  none_added = let same = same_pending in omega (arith, same)
+
+  read_both : (r : Result Reply Fault) → OnOk r (WasRead e n g new) → OnOk r (WasRead d s g new)
+  read_both (Ok y) second = read_then d s e n g new read.read second
+  read_both (Err f) second = tt
+
+  refused_both : (r : Result Reply Fault) → IfOk r (λ reply. IsTrue (is_refusal reply) → WasRead e n g new) → IfOk r (λ reply. IsTrue (is_refusal reply) → WasRead d s g new)
+  refused_both (Ok y) second = λ refused. read_then d s e n g new read.read (second refused)
+  refused_both (Err f) second = tt
+
+  pub look_numbered : Looks e n c g new r → Looks d s c g new r
+  look_numbered looks = record {
+    goes = goes_on_read u 0 0 d s e n read.goes none_added g new r read.only_reads same_pending (damage new) looks.goes;
+    asks = asks_then looks.asks;
+    goes_for = for_then (λ m. m) looks.goes_for;
+    reply = holds_then (λ m. IfOk r (Allows m c)) looks.reply;
+    only_reads = reads_then d e g read.only_reads looks.only_reads;
+    read = read_both r looks.read;
+  }
+
+  pub make_numbered : Makes e n c g new r → Makes d s c g new r
+  make_numbered makes = record {
+    goes = goes_on_read u 0 16 d s e n read.goes none_added g new r read.only_reads same_pending (damage new) makes.goes;
+    goes_for = for_then (λ m. next m c) makes.goes_for;
+    reply = holds_then (λ m. IfOk r (Allows m c)) makes.reply;
+    refused = λ tells last m is. let first = read.goes_for tells last m is in refused_both r (makes.refused (told tells) first.done.point m first.done.stands);
+    calm = λ low. reads_then d e g read.only_reads (makes.calm (let same = same_pending in omega (arith, low, same)));
+  }
+
+  -- what the steps are after it
+  pub known_numbered : (start steps : ℕ) → (IsTrue e.tells → (last m : Machine) → StandsFor e n last m → OnOk r (steps ≡ start)) → IsTrue d.tells → (last m : Machine) → StandsFor d s last m → OnOk r (steps ≡ start)
+  known_numbered start steps known = holds_then (λ m. OnOk r (steps ≡ start)) known

@@ -1,0 +1,207 @@
+-- What a session stands for once the numbers of a volume's files were read into memory.
+use Rattle.std.proofs.Common.{◌≡◌, ◌≢◌, ◌<◌, ◌≤◌, ◌+◌, ◌-◌, ℕ, true, length, Option, Some, None, Result, Ok, Err, refl, sym, ap, subst, ◌∙◌, ⊎_elim, arith, get_or-set_other, get_or-set_same}
+use Rattle.std.specs.Prelude.{max, IsNone}
+use Rattle.std.specs.Option.{is_some, option_map}
+use Rattle.std.proofs.lemmas.Bool.{cases_eq}
+use Rattle.std.proofs.lemmas.List.Sums.{sum_by-set}
+use Rattle.fv_disk.specs.Shown.{Shown, IsDisk}
+use Rattle.fv_disk.specs.declared.fault.BlockFault.{BlockFault}
+use Rattle.fv_disk.specs.declared.fault.BlockFault.TheVariants as block
+use Rattle.fv_model.specs.Machines.{Machine, capacity}
+use Rattle.fv_image.specs.Held.{view_at}
+use Rattle.fv_image.specs.Sound.{overheads}
+use Rattle.fv_root.specs.Finding.{root_found}
+use Rattle.fv_charge.specs.Ledgers.{committed}
+use Rattle.fv_volume.specs.declared.pool.Pool.{Pool}
+use Rattle.fv_volume.specs.declared.state.VolumeState.{VolumeState}
+use Rattle.fv_volume.specs.Calls.{Reads}
+use Rattle.fv_volume.specs.Causes.{of_block}
+use Rattle.fv_volume.specs.OneVolume.{volume_for, IsReady, IsStanding}
+use Rattle.fv_volume.specs.Placing.{pending_of, IsLedTo, IsStoredWell}
+use Rattle.fv_volume.specs.Slots.{committed_by, sum_of}
+use Rattle.fv_volume.specs.States.{States, state_at, with_state}
+use Rattle.fv_volume.proofs.OneVolumes.{still_volume}
+use Rattle.fv_volume.proofs.Standings.{still_led, still_well}
+use Rattle.fv_volume.proofs.Told.{is_inside}
+use Rattle.fv_volume.proofs.Undamaged.{no_damage}
+use Rattle.fv_cp.specs.Held.{machine_held, IsHeld, IsHeldIn}
+use Rattle.fv_cp.specs.Lent.{asked_by, blocks_asked}
+use Rattle.fv_cp.specs.Placing.{pending_files}
+use Rattle.fv_aggregate.specs.declared.fault.Fault.{Fault}
+use Rattle.fv_aggregate.specs.declared.fault.Fault.TheVariants.{DiskFault, Damaged, Memory}
+use Rattle.fv_aggregate.specs.declared.session.Session.{Session}
+use Rattle.fv_aggregate.specs.Calls.{but_numbers, KeepsAsking, SameButNumbers, WasRead}
+use Rattle.fv_aggregate.specs.Looking.{Breaks}
+use Rattle.fv_aggregate.specs.Numbering.{HasNumbered, IsSlotNumbered, KnowsNumbers, NumbersSlot, NumbersState}
+use Rattle.fv_aggregate.specs.Standing.{clear_blocks, overheads_in, taken_since, Stands, StandsFor}
+use Rattle.fv_aggregate.proofs.Asked.{calm_damage, calm_memory, damaged_at, rose_by}
+use Rattle.fv_aggregate.proofs.Becoming.{machine_stays}
+use Rattle.fv_aggregate.proofs.CallEnds.{goes_broken, goes_damaged, goes_done, goes_for_broken, goes_for_done, goes_for_fault, goes_wanting}
+use Rattle.fv_aggregate.proofs.Called.{called_held, IsCalled}
+use Rattle.fv_aggregate.proofs.Changed.{mine, pending_within, ready_changed, same_overheads}
+use Rattle.fv_aggregate.proofs.Looked.{clear_read, last_overheads, placed_read, settled_read, stands_read}
+
+-- a volume that is the same but for those numbers is left as a change leaves it, too
+pub as_left : (x y : VolumeState) → y ≡ record x { numbers = y.numbers } → y ≡ record x { now = y.now; map = y.map; files = y.files; numbers = y.numbers; ledger = y.ledger; changed = y.changed }
+as_left x y same = let is = sym same in same ∙ (λ j. record x { now = (is j).now; map = (is j).map; files = (is j).files; numbers = y.numbers; ledger = (is j).ledger; changed = (is j).changed })
+
+module _ (d e : Shown) (s : Session) (q : Pool) (slot : ℕ) (x y : VolumeState) (there : state_at s.volumes slot ≡ Some x) (long : length s.volumes ≡ 64) (reads : Reads d s.pool e q)
+    (same : y ≡ record x { numbers = y.numbers }) (ready : IsReady e q y) where
+  abbrev stay : States
+  stay = with_state s.volumes slot (Some y)
+
+  abbrev pub numbered : Session
+  numbered = record s { volumes = stay; pool = q }
+
+  abbrev as_changed : y ≡ record x { now = y.now; map = y.map; files = y.files; numbers = y.numbers; ledger = y.ledger; changed = y.changed }
+  as_changed = as_left x y same
+
+  inside : slot < length s.volumes
+  inside = let low = is_inside s.volumes slot x long there in omega (arith, low, long)
+
+  here : state_at stay slot ≡ Some y
+  here = get_or-set_same s.volumes slot (Some y) None inside
+
+  pub stands_numbered : Stands d s → Stands e numbered
+  stands_numbered is =
+      let was = stands_read d e s q reads is in
+      record { found = was.found; map = was.map; cache = was.cache; ready = ready_changed d e s.pool q s.volumes slot x y there reads as_changed ready long is.ready }
+
+  but_those : SameButNumbers s.volumes stay
+  but_those k = ⊎_elim
+      (λ (at : k ≡ slot). ap (λ (n : ℕ). option_map but_numbers (state_at stay n)) at ∙ ap (option_map but_numbers) here ∙ ap (λ (z : VolumeState). Some (but_numbers z)) same
+      ∙ sym (ap (option_map but_numbers) there) ∙ ap (λ (n : ℕ). option_map but_numbers (state_at s.volumes n)) (sym at))
+      (λ (differ : k ≢ slot). ap (option_map but_numbers) (get_or-set_other s.volumes slot k (Some y) None differ))
+      (cases_eq k slot)
+
+  pub read_numbered : WasRead d s e numbered
+  read_numbered = record { only_reads = reads.only_reads; pool = reads.leaves; volumes = but_those; same = refl }
+
+  -- they are in memory
+  pub knows_numbered : is_some y.numbers ≡ true → KnowsNumbers (state_at stay slot)
+  knows_numbered there = subst KnowsNumbers (sym here) there
+
+  -- a point asks for what it asked for
+  same_asked : blocks_asked stay ≡ blocks_asked s.volumes
+  same_asked =
+      let sum = sum_by-set asked_by s.volumes slot (Some y) None inside in
+      let own : asked_by (state_at s.volumes slot) ≡ asked_by (Some y) = ap asked_by there ∙ sym (ap (λ (z : VolumeState). asked_by (Some z)) same) in
+      omega (arith, sum, own)
+
+  pub asks_numbered : KeepsAsking 0 d s e numbered
+  asks_numbered = λ tells kept asks none. let over = last_overheads d e s q reads in let asked = same_asked in record { asked = omega (arith, asks.asked, over, asked); pending = omega (arith, asks.pending) }
+
+  -- ---- where it stands for a machine
+
+  module _ (standing : IsStanding d s.pool x → IsStanding e q y) (last m : Machine) (is : StandsFor d s last m) where
+    abbrev its : IsHeldIn d s.pool slot x
+    its = mine d s.pool s.volumes long last is.held slot x there
+
+    called : IsCalled e q x y
+    called = record {
+      same = as_changed;
+      unchanged = λ un. same;
+      ready = ready;
+      stands = standing its.stands;
+      led = subst (IsLedTo e q) (sym same) (still_led d e s.pool q reads x its.led);
+      well = subst (IsStoredWell e q) (sym same) (still_well d e s.pool q reads x its.well);
+      within = subst (λ (z : VolumeState). z.ledger.charge ≤ z.size) (sym same) its.within;
+    }
+
+    total : sum_of stay ≤ capacity s.pool.found.blocks
+    total =
+        let sum = sum_by-set committed_by s.volumes slot (Some y) None inside in
+        let own : committed_by (state_at s.volumes slot) ≡ committed x.ledger = ap committed_by there in
+        let still : committed y.ledger ≡ committed x.ledger = ap (λ (z : VolumeState). committed z.ledger) same in
+        let fits = is.held.commits in
+        omega (arith, sum, own, still, fits)
+
+    held : IsHeld e q stay last
+    held = called_held d e s.pool q reads s.volumes last is.held long slot x y there called total
+
+    machine : machine_held e q stay ≡ m
+    machine = machine_stays d e s.pool q reads s.volumes long last is.held slot x y there (ap (λ (z : VolumeState). z.name) same) held (ap (volume_for e q) same ∙ still_volume d e s.pool q reads x) ∙ is.machine
+
+    pub stands_for_numbered : StandsFor e numbered last m
+    stands_for_numbered =
+        let no_more : pending_of y.files ≡ pending_of x.files = ap (λ (z : VolumeState). pending_of z.files) same in
+        let now : pending_files stay ≤ pending_files s.volumes + (pending_of y.files - pending_of x.files) = pending_within d e s.pool q s.volumes slot x y there reads as_changed ready long (omega (arith, no_more)) in
+        let all = same_overheads d e s.pool q s.volumes slot x y there reads as_changed ready long in
+        let over = last_overheads d e s q reads in
+        let placed : taken_since q.map ≡ taken_since s.pool.map = placed_read d e s q reads in
+        let clear : clear_blocks q.map ≡ clear_blocks s.pool.map = clear_read d e s q reads in
+        let pending : pending_files s.volumes + taken_since s.pool.map + overheads_in s.volumes ≤ overheads (view_at (root_found s.pool.found) d.reads) + s.pending = is.pending in
+        let files : pending_files s.volumes + taken_since s.pool.map ≤ s.pending = is.files in
+        let few : pending_files s.volumes + taken_since s.pool.map < 256 = is.few in
+        let fits : overheads (view_at (root_found s.pool.found) d.reads) + max 256 s.pending ≤ clear_blocks s.pool.map = is.room in
+        record {
+          held = held;
+          machine = machine;
+          settled = settled_read d e s q reads is.settled;
+          pending = omega (arith, pending, now, no_more, all, over, placed);
+          files = omega (arith, files, now, no_more, placed);
+          few = omega (arith, few, now, no_more, placed);
+          room = omega (arith, fits, over, clear);
+        }
+
+-- ---- by what the volume answered
+
+module _ (d e : Shown) (laws : IsDisk d) (s : Session) (q : Pool) (slot : ℕ) (x y : VolumeState) (there : state_at s.volumes slot ≡ Some x) (long : length s.volumes ≡ 64) (fresh : IsNone s.failed) (stands : Stands d s) where
+  abbrev now : Session
+  now = record s { volumes = with_state s.volumes slot (Some y); pool = q }
+
+  stand : (r : Result Unit BlockFault) → NumbersState d s.pool x e q y r → Stands e now
+  stand r did = stands_numbered d e s q slot x y there long did.reads did.same did.ready stands
+
+  for_it : (r : Result Unit BlockFault) → NumbersState d s.pool x e q y r → (last m : Machine) → StandsFor d s last m → StandsFor e now last m
+  for_it r did last m is = stands_for_numbered d e s q slot x y there long did.reads did.same did.ready did.standing last m is
+
+  asks_it : (r : Result Unit BlockFault) → NumbersState d s.pool x e q y r → KeepsAsking 0 d s e now
+  asks_it r did = asks_numbered d e s q slot x y there long did.reads did.same did.ready
+
+  pub numbered_done : (u : Unit {0}) → NumbersState d s.pool x e q y (Ok u) → HasNumbered d s e now (Ok u)
+  numbered_done u did = record {
+    goes = goes_done d e laws s now 0 did.reads.only_reads fresh fresh (stand (Ok u) did) u did.cause (omega arith);
+    asks = asks_it (Ok u) did;
+    goes_for = λ tells last m is. goes_for_done d e laws s now 0 did.reads.only_reads fresh fresh (stand (Ok u) did) u last m m is (for_it (Ok u) did last m is);
+    only_reads = did.reads.only_reads;
+    read = read_numbered d e s q slot x y there long did.reads did.same did.ready;
+  }
+
+  failed_as : (new : Session) (f wanted : Fault) (was : Session) → new ≡ was → f ≡ wanted → HasNumbered d s e was (Err wanted) → HasNumbered d s e new (Err f)
+  failed_as new f wanted was same is read = subst (λ (g : Fault). HasNumbered d s e new (Err g)) (sym is) (subst (λ (n : Session). HasNumbered d s e n (Err wanted)) (sym same) read)
+
+  pub numbered_failed : (b : BlockFault) → NumbersState d s.pool x e q y (Err b) → (new : Session) (f : Fault) → Breaks e (of_block b) now new f → HasNumbered d s e new (Err f)
+  numbered_failed block.DiskFault did new f b = failed_as new f DiskFault (record now { failed = new.failed }) b.1.same b.0 (record {
+    goes = goes_broken d e laws s now 0 did.reads.only_reads fresh fresh (stand (Err block.DiskFault) did) new.failed (rose_by _ _ _ e.faults did.cause) b.1.written b.1.unwritten (omega arith);
+    asks = λ tells kept asks none. let is = asks_it (Err block.DiskFault) did tells kept asks fresh in record { asked = is.asked; pending = is.pending };
+    goes_for = λ tells last m is. goes_for_broken d e laws s now 0 did.reads.only_reads fresh fresh (stand (Err block.DiskFault) did) new.failed last m m is (for_it (Err block.DiskFault) did last m is);
+    only_reads = did.reads.only_reads;
+    read = tt;
+  })
+  numbered_failed (block.Damaged at want found) did new f b = failed_as new f (Damaged at want found) now b.1 b.0 (record {
+    goes = goes_damaged d e laws s now 0 did.reads.only_reads fresh fresh (stand (Err (block.Damaged at want found)) did) at want found (calm_damage _ _ _ e.faults at want found did.cause) (damaged_at d s slot x there fresh now at want found) (omega arith);
+    asks = asks_it (Err (block.Damaged at want found)) did;
+    goes_for = λ tells last m is.
+        let its = mine d s.pool s.volumes long last is.held slot x there in
+        absurd (no_damage d s.pool x its.stands its.well 0 e.faults at want found did.cause);
+    only_reads = did.reads.only_reads;
+    read = tt;
+  })
+  numbered_failed block.Memory did new f b = failed_as new f Memory now b.1 b.0 (record {
+    goes = goes_wanting d e laws s now 0 did.reads.only_reads fresh fresh (stand (Err block.Memory) did) (calm_memory _ _ _ e.faults did.cause) (omega arith);
+    asks = asks_it (Err block.Memory) did;
+    goes_for = λ tells last m is. goes_for_fault d e laws s now 0 did.reads.only_reads fresh fresh (stand (Err block.Memory) did) Memory last m m tt is (for_it (Err block.Memory) did last m is);
+    only_reads = did.reads.only_reads;
+    read = tt;
+  })
+
+-- ---- the volume of the slot
+
+pub some_there : (o : Option VolumeState) → is_some o ≡ true → (x : VolumeState) × (o ≡ Some x)
+some_there None some = cc
+some_there (Some x) some = (x, refl)
+
+pub slot_numbered : (d e : Shown) (p q : Pool) (states stay : States) (slot : ℕ) (x : VolumeState) → state_at states slot ≡ Some x → (r : Result Unit BlockFault)
+    → NumbersSlot d p states slot (state_at states slot) e q stay r → IsSlotNumbered d p states slot x e q stay r
+slot_numbered d e p q states stay slot x there r is = subst (λ (o : Option VolumeState). NumbersSlot d p states slot o e q stay r) there is

@@ -1,0 +1,50 @@
+use Rattle.std.proofs.Common.{◌≡◌, length, sym, ap, subst, ◌∙◌}
+use Rattle.std.specs.Prelude.{IsNone}
+use Rattle.fv_volume.specs.States.{state_at}
+use Rattle.fv_aggregate.specs.declared.session.Session.{Session}
+use Rattle.fv_aggregate.specs.Looking.{AsksSlot, Replied}
+use Rattle.fv_aggregate.proofs.Asked.{known_by, looks_by, slot_asked}
+use Rattle.fv_aggregate.proofs.Missing.{asked_closed}
+use Rattle.fv_aggregate.proofs.session.Session.ask.Goals as goal
+
+pub returns-clause-looks : goal.returns-clause-looks
+returns-clause-looks g c =
+    let d = g.D.Disk.shown c.args.disk.now in
+    let e = g.D.Disk.shown c.ask_slot-asked.new.disk in
+    let s = c.args.self.now in
+    let q = c.ask_slot-asked.new.pool in
+    let command = c.args.command.now in
+    let slot = c.args.slot in
+    let of = c.requires.asked in
+    let steps = c.ask_slot-asked.new.steps in
+    let r = c.ask_slot-asked.result in
+    let fresh = subst (λ (n : Session). IsNone n.failed) (sym c.self.view_is) c.requires.fresh in
+    let long = subst (λ (n : Session). length n.volumes ≡ 64) c.self.view_is (c.self.invariant fresh).housed.long in
+    let said = subst (λ (n : Session). AsksSlot d n.pool (state_at n.volumes slot) command c.args.steps.now e q steps r) c.self.view_is c.ask_slot-asked.ensures.asks in
+    let asks = slot_asked d e s.pool q s.volumes slot of.state of.there command c.args.steps.now steps r said in
+    let was : ◌≡◌ {A = Session} (record { volumes = c.ask_slot-asked.new.volumes; pool = q; pending = c.self.inside.pending; failed = c.self.inside.failed }) (record s { pool = q }) =
+    λ j. record { volumes = (c.ask_slot-asked.ensures.same ∙ ap (λ (n : Session). n.volumes) c.self.view_is) j; pool = q; pending = (c.self.view_is j).pending; failed = (c.self.view_is j).failed } in
+    let replied = subst (λ (n : Session). Replied e r n c.replied.new.self c.replied.result) was c.replied.ensures in
+    looks_by d e (g.met.D.Disk.laws c.args.disk.now) s q command slot of.state of.there c.args.steps.now steps c.requires.fresh c.requires.stands long
+    (asked_closed command of.state.name of.asks) r asks c.replied.new.self c.replied.result replied
+
+pub returns-clause-known : goal.returns-clause-known
+returns-clause-known g c = λ tells last m held.
+    let d = g.D.Disk.shown c.args.disk.now in
+    let e = g.D.Disk.shown c.ask_slot-asked.new.disk in
+    let s = c.args.self.now in
+    let q = c.ask_slot-asked.new.pool in
+    let command = c.args.command.now in
+    let slot = c.args.slot in
+    let of = c.requires.asked in
+    let steps = c.ask_slot-asked.new.steps in
+    let r = c.ask_slot-asked.result in
+    let fresh = subst (λ (n : Session). IsNone n.failed) (sym c.self.view_is) c.requires.fresh in
+    let long = subst (λ (n : Session). length n.volumes ≡ 64) c.self.view_is (c.self.invariant fresh).housed.long in
+    let said = subst (λ (n : Session). AsksSlot d n.pool (state_at n.volumes slot) command c.args.steps.now e q steps r) c.self.view_is c.ask_slot-asked.ensures.asks in
+    let asks = slot_asked d e s.pool q s.volumes slot of.state of.there command c.args.steps.now steps r said in
+    let was : ◌≡◌ {A = Session} (record { volumes = c.ask_slot-asked.new.volumes; pool = q; pending = c.self.inside.pending; failed = c.self.inside.failed }) (record s { pool = q }) =
+    λ j. record { volumes = (c.ask_slot-asked.ensures.same ∙ ap (λ (n : Session). n.volumes) c.self.view_is) j; pool = q; pending = (c.self.view_is j).pending; failed = (c.self.view_is j).failed } in
+    let replied = subst (λ (n : Session). Replied e r n c.replied.new.self c.replied.result) was c.replied.ensures in
+    known_by d e (g.met.D.Disk.laws c.args.disk.now) s q command slot of.state of.there c.args.steps.now steps c.requires.fresh c.requires.stands long
+    (asked_closed command of.state.name of.asks) r asks c.replied.new.self c.replied.result replied last m held

@@ -1,0 +1,50 @@
+-- What is done before a command on a volume's files: their numbers are read into memory.
+use Rattle.std.specs.Prelude.{◌≡◌, ℕ, true, Option, Some, None, IfSome, IsTrue, Result, OnOk}
+use Rattle.std.specs.Option.{is_some}
+use Rattle.fv_disk.specs.Shown.{Shown}
+use Rattle.fv_disk.specs.DiskCalls.{OnlyReads}
+use Rattle.fv_disk.specs.declared.fault.BlockFault.{BlockFault}
+use Rattle.fv_model.specs.Machines.{Machine}
+use Rattle.fv_volume.specs.declared.pool.Pool.{Pool}
+use Rattle.fv_volume.specs.declared.state.VolumeState.{VolumeState}
+use Rattle.fv_volume.specs.Calls.{BlockCause, Reads}
+use Rattle.fv_volume.specs.Lending.{lent_for}
+use Rattle.fv_volume.specs.OneVolume.{home_in, standing_for, IsReady, IsStanding}
+use Rattle.fv_volume.specs.States.{States, with_state}
+use Rattle.fv_aggregate.specs.declared.fault.Fault.{Fault}
+use Rattle.fv_aggregate.specs.declared.session.Session.{Session}
+use Rattle.fv_aggregate.specs.Calls.{Goes, GoesFor, KeepsAsking, WasRead}
+use Rattle.fv_aggregate.specs.Standing.{StandsFor}
+
+-- the numbers of the files of a slot's volume are in memory
+abbrev pub KnowsNumbers : Option VolumeState → Type 0
+KnowsNumbers state = IfSome state (λ x. is_some x.numbers ≡ true)
+
+-- The numbers of the files of a volume were read into memory. Nothing changed but these and the cache. After a fault the session stands for what it
+-- stood for.
+pub record HasNumbered (before : Shown) (old : Session) (after : Shown) (new : Session) (result : Result Unit Fault) : Type 0 where
+  pub goes : Goes 0 before old after new result
+  pub asks : KeepsAsking 0 before old after new
+  pub goes_for : IsTrue before.tells → (last m : Machine) → StandsFor before old last m → GoesFor before last m m after new result
+  pub only_reads : OnlyReads before after
+  pub read : OnOk result (WasRead before old after new)
+
+-- The numbers of the files of a volume are in memory. Nothing else of it changed, and calls can be made on it still. Where it stood it stands. Of the pool only
+-- the cache changed.
+pub record NumbersState (before : Shown) (pool : Pool) (x : VolumeState) (after : Shown) (left : Pool) (y : VolumeState) (result : Result Unit BlockFault) : Type 0 where
+  pub reads : Reads before pool after left
+  pub there : OnOk result (is_some y.numbers ≡ true)
+  pub same : y ≡ record x { numbers = y.numbers }
+  pub standing : IsStanding before pool x → IsStanding after left y
+  pub ready : IsReady after left y
+  pub cause : BlockCause (IsStanding before pool x) (standing_for before pool x) (lent_for pool x.map before 0 (home_in x) 0) after.faults result
+
+-- so it is of the volume of a slot, and the other volumes are as they were
+pub record IsSlotNumbered (before : Shown) (pool : Pool) (states : States) (slot : ℕ) (x : VolumeState) (after : Shown) (left : Pool) (stay : States) (result : Result Unit BlockFault) : Type 0 where
+  pub now : VolumeState
+  pub row : stay ≡ with_state states slot (Some now)
+  pub numbers : NumbersState before pool x after left now result
+
+abbrev pub NumbersSlot : Shown → Pool → States → ℕ → Option VolumeState → Shown → Pool → States → Result Unit BlockFault → Type 0
+NumbersSlot before pool states slot None after left stay result = ⊥
+NumbersSlot before pool states slot (Some x) after left stay result = IsSlotNumbered before pool states slot x after left stay result

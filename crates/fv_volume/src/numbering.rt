@@ -1,0 +1,145 @@
+//! The numbers of a volume's files in memory: reading them, and keeping them.
+
+ghost use Rattle.std.specs.Prelude.{◌≡◌, ◌+◌, true, is_some, IfOk, OnOk, OnErr};
+ghost use Rattle.fv_charge.specs.Changes.{IsChanged, IsDeltaOf};
+ghost use Rattle.fv_charge.specs.Ledgers.{IsLedgerOf};
+ghost use Rattle.fv_model.specs.Volumes.{Volume};
+ghost use Rattle.fv_files.specs.Numbering.{AreNumbersOf};
+ghost use Rattle.fv_volume.specs.Calls.{BlockCause, Reads};
+ghost use Rattle.fv_volume.specs.Changing.{FitsLedger};
+ghost use Rattle.fv_volume.specs.Lending.{lent_for};
+ghost use Rattle.fv_volume.specs.Numbering.{LacksFile, TellsFile};
+ghost use Rattle.fv_volume.specs.OneVolume.{home_in, standing_for, table_for, IsReady, IsStanding};
+
+use crate::blocks::Home;
+use crate::changing::count_change;
+use crate::lent_files::{kept_table, numbers_told, take_table};
+use crate::making::Making;
+use crate::pool::Pool;
+use crate::state::VolumeState;
+use fv_charge::Delta;
+use fv_disk::{BlockFault, Disk};
+use fv_files::FileNumbers;
+use fv_model::Name;
+use std::alloc::Global;
+use std::marker::Brand;
+use std::sync::ledger::Blank;
+
+impl VolumeState {
+    /// Reads the numbers of all files by their names into memory, where they aren't there. From then on no call looks through the inode
+    /// blocks for a name or for a free number, until memory lacks for the numbers of a file that is made or removed. Nothing else of the
+    /// volume changes, and of the pool nothing but its cache.
+    ///
+    /// # Errors
+    ///
+    /// `DiskFault` only where a read failed in this call. `Damaged` for a pointer to a VVBN that isn't held, at the place of the volume's
+    /// label with 1 and 0, and for a node or an inode block without its shape: its place, and its first field that isn't as said.
+    /// `Memory` where memory ran out. Nothing changes then.
+    ///
+    /// Costs one step where the numbers are in memory, and else a block for each inode block and each node over them, and memory for each
+    /// name and for each free number below the greatest that is taken.
+    pub fn read_numbers<D: Disk>(
+        &mut self,
+        alloc: Global,
+        pool: &mut Pool,
+        disk: &mut D,
+    ) -> Result<(), BlockFault>
+        requires ready { IsReady (D.shown disk.old) pool.old self.old }
+        ensures there { OnOk result (is_some self.new.numbers ≡ true) }
+        ensures same { self.new ≡ record self.old { numbers = self.new.numbers } }
+        ensures kept { OnErr result (self.new ≡ self.old) }
+        ensures standing { IsStanding (D.shown disk.old) pool.old self.old → IsStanding (D.shown disk.new) pool.new self.new }
+        ensures ready { IsReady (D.shown disk.new) pool.new self.new }
+        ensures reads { Reads (D.shown disk.old) pool.old (D.shown disk.new) pool.new }
+        ensures cause { BlockCause (IsStanding (D.shown disk.old) pool.old self.old) (standing_for (D.shown disk.old) pool.old self.old)
+            (lent_for pool.old self.old.map (D.shown disk.old) 0 (home_in self.old) 0) (D.shown disk.new).faults result }
+    {
+        if self.numbers.is_some() {
+            return Ok(());
+        }
+        let numbers = count_files(self, alloc, pool, disk)?;
+        self.numbers = Some(numbers);
+        Ok(())
+    }
+}
+
+/// The numbers of all files by their names.
+#[tactic(auto, using(crate::proofs::OneVolumes::root_fits, crate::proofs::OneVolumes::levels_fit))]
+fn count_files<D: Disk>(
+    volume: &mut VolumeState,
+    alloc: Global,
+    pool: &mut Pool,
+    disk: &mut D,
+) -> Result<FileNumbers, BlockFault>
+    requires ready { IsReady (D.shown disk.old) pool.old volume.old }
+    ensures numbers { IsStanding (D.shown disk.old) pool.old volume.old → IfOk result (λ m. AreNumbersOf m (table_for (D.shown disk.old) pool.old volume.old)) }
+    ensures same { volume.new ≡ volume.old }
+    ensures reads { Reads (D.shown disk.old) pool.old (D.shown disk.new) pool.new }
+    ensures cause { BlockCause (IsStanding (D.shown disk.old) pool.old volume.old) (standing_for (D.shown disk.old) pool.old volume.old)
+        (lent_for pool.old volume.old.map (D.shown disk.old) 0 (home_in volume.old) 0) (D.shown disk.new).faults result }
+{
+    let held = volume.files.is_some();
+    let home = Home {
+        slot: volume.slot,
+        label: volume.label,
+    };
+    let mut files = take_table(&mut volume.files, &volume.active, alloc);
+    let numbers = numbers_told::<Brand, D, Brand>(
+        &mut files,
+        pool,
+        disk,
+        &mut volume.map,
+        &home,
+        Blank::new(1),
+    );
+    volume.files = kept_table(held, files);
+    numbers
+}
+
+/// Counts a new file of a volume, changes its ledger by it, and keeps the numbers.
+pub(crate) fn count_made(volume: &mut VolumeState, making: &Making, file: &Name)
+    requires fits { FitsLedger volume.old making.now.delta }
+    ensures now { volume.new.now ≡ volume.old.now + 1 }
+    ensures ledger { IsChanged volume.old.ledger making.now.delta volume.new.ledger }
+    ensures machine { (x y : Volume) → IsLedgerOf x volume.old.ledger → IsDeltaOf x y making.now.delta → IsLedgerOf y volume.new.ledger }
+    ensures tells { TellsFile volume.old.numbers volume.new.numbers file.now making.now.number }
+    ensures others { volume.new ≡ record volume.old { now = volume.new.now; ledger = volume.new.ledger; numbers = volume.new.numbers; changed = true } }
+{
+    count_change(volume, &making.delta);
+    volume.numbers = with_file(volume.numbers.take(), file, making.number);
+}
+
+/// Counts the removal of a file of a volume, changes its ledger by it, and keeps the numbers.
+pub(crate) fn count_removed(volume: &mut VolumeState, delta: &Delta, file: &Name, number: u32)
+    requires fits { FitsLedger volume.old delta.now }
+    ensures now { volume.new.now ≡ volume.old.now + 1 }
+    ensures ledger { IsChanged volume.old.ledger delta.now volume.new.ledger }
+    ensures machine { (x y : Volume) → IsLedgerOf x volume.old.ledger → IsDeltaOf x y delta.now → IsLedgerOf y volume.new.ledger }
+    ensures lacks { LacksFile volume.old.numbers volume.new.numbers file.now number }
+    ensures others { volume.new ≡ record volume.old { now = volume.new.now; ledger = volume.new.ledger; numbers = volume.new.numbers; changed = true } }
+{
+    count_change(volume, delta);
+    volume.numbers = without_file(volume.numbers.take(), file, number);
+}
+
+/// The numbers once a file has a name and a number; `None` where there are none or memory lacks.
+fn with_file(numbers: Option<FileNumbers>, name: &Name, number: u32) -> Option<FileNumbers>
+    ensures { TellsFile numbers result name.now number }
+{
+    let mut numbers = numbers?;
+    match numbers.add(name, number) {
+        Ok(()) => Some(numbers),
+        Err(_) => None,
+    }
+}
+
+/// The numbers once no file has a name and its number; `None` where there are none or memory lacks.
+fn without_file(numbers: Option<FileNumbers>, name: &Name, number: u32) -> Option<FileNumbers>
+    ensures { LacksFile numbers result name.now number }
+{
+    let mut numbers = numbers?;
+    match numbers.remove(name, number) {
+        Ok(()) => Some(numbers),
+        Err(_) => None,
+    }
+}
