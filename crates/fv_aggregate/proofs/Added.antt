@@ -73,7 +73,7 @@ module _ (session : Session) (name : List ℕ) (size : ℕ) (kind : Kind) (room 
   pub made_files : (disk : Shown) → IsWithoutFiles session → IsWithoutFiles new
   made_files disk none = subst (λ (p : Pool). IsWithoutFiles (record new { pool = p })) (sym added.holes) (record {
     none = none_beside disk session.pool session.volumes added.slot name size kind new.volumes added.fit added.free added.made new_slot added.each none.none;
-    same = none.same;
+    taken = none.taken;
   })
 
   module _ (disk : Shown) (last m : Machine) (stands : StandsFor disk session last m) where

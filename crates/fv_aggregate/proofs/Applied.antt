@@ -1,6 +1,7 @@
 -- The commands as `apply` has them.
-use Rattle.std.proofs.Common.{◌≡◌, ◌≢◌, ◌==◌, ℕ, Bool, true, false, List, Option, Some, None, Result, Ok, Err, true≢false, refl, sym, ap, subst, ◌∙◌, arith}
+use Rattle.std.proofs.Common.{◌≡◌, ◌≢◌, ◌==◌, ◌⊎◌, inl, inr, ℕ, Bool, true, false, List, Option, Some, None, Result, Ok, Err, true≢false, refl, sym, ap, subst, ◌∙◌, arith}
 use Rattle.std.specs.Prelude.{IfOk, if◌then◌else◌}
+use Rattle.std.specs.Option.{is_some}
 use Rattle.std.specs.FinMap as fin
 use Rattle.fv_disk.specs.Shown.{Shown, IsDisk}
 use Rattle.fv_model.specs.declared.answers.Refusal.TheVariants.{Syntax}
@@ -18,11 +19,14 @@ use Rattle.fv_aggregate.specs.declared.fault.Fault.{Fault}
 use Rattle.fv_aggregate.specs.declared.fault.Fault.TheVariants.{Memory}
 use Rattle.fv_aggregate.specs.declared.session.Session.{Session}
 use Rattle.fv_aggregate.specs.Calls.{Goes, GoesFor, IsNoDamage, IsPlain, KeepsAsking}
-use Rattle.fv_aggregate.specs.Commands.{Replies, RepliesBy, volume_asked, changed_by, is_built, machine_after, reads_files, room_of}
+use Rattle.fv_aggregate.specs.Commands.{Replies, RepliesBy, volume_asked, changed_by, is_built, machine_after, managed_by, reads_files, room_of}
 use Rattle.fv_aggregate.specs.Standing.{StandsAfter, StandsFor}
 use Rattle.fv_aggregate.specs.Telling.{names_from}
 use Rattle.fv_aggregate.proofs.Standing.{rests_for_last, stays_for}
 use Rattle.fv_aggregate.proofs.Telling.{names_are}
+
+some_none : (v : List ℕ) → Some v ≡ None → ⊥
+some_none v e = cc
 
 -- ---- a call that leaves the disk and the session
 
@@ -81,6 +85,9 @@ module _ (command : Command) (name : List ℕ) (size : ℕ) (kind : Kind) (is : 
       apart : VolCreate name size kind ≡ VolList → ⊥
       apart e = cc
 
+  pub create_no_whole : (X : Type 0) (other : List ℕ) → managed_by command ≡ Some other → X
+  create_no_whole X other of = absurd (some_none other (sym of ∙ ap managed_by is))
+
   pub create_room : room_of command ≡ overhead (span_of size 0 0)
   unfolding room_of
   create_room = ap room_of is
@@ -113,6 +120,9 @@ list_no_point X command is cp = absurd (apart (sym is ∙ cp))
     apart : VolList ≡ Cp → ⊥
     apart e = cc
 
+list_no_whole : (X : Type 0) (command : Command) → command ≡ VolList → (name : List ℕ) → managed_by command ≡ Some name → X
+list_no_whole X command is name of = absurd (some_none name (sym of ∙ ap managed_by is))
+
 pub list_fails : {D : Type 0} (command : Command) → command ≡ VolList → (shown : Shown) (disk : D) (session : Session) → IsPlain command shown disk session shown disk session (Err Memory)
 list_fails command is shown disk session = record {
   refused = tt;
@@ -123,6 +133,7 @@ list_fails command is shown disk session = record {
   listed = λ list. tt;
   pointed = λ cp. tt;
   memory = λ cp. list_no_point _ command is cp;
+  managed = λ fresh name of. list_no_whole _ command is name of;
 }
 
 pub list_done : {D : Type 0} (command : Command) → command ≡ VolList → (shown : Shown) (disk : D) (session : Session) (names : List (List ℕ)) → names ≡ names_from session.volumes 0 64 → IsPlain command shown disk session shown disk session (Ok (Names names))
@@ -135,6 +146,7 @@ list_done command is shown disk session names told = record {
   listed = λ list. ap Names told;
   pointed = λ cp. list_no_point _ command is cp;
   memory = λ cp none. tt;
+  managed = λ fresh name of. list_no_whole _ command is name of;
 }
 
 -- ---- cp
@@ -145,6 +157,9 @@ cp_built X command is none = absurd (true≢false (ap is_built (sym is) ∙ none
 
 pub cp_no_list : (X : Type 0) (command : Command) → command ≡ Cp → command ≡ VolList → X
 cp_no_list X command is list = list_no_point X command list is
+
+pub cp_no_whole : (X : Type 0) (command : Command) → command ≡ Cp → (name : List ℕ) → managed_by command ≡ Some name → X
+cp_no_whole X command is name of = absurd (some_none name (sym of ∙ ap managed_by is))
 
 pub cp_no_files : (X : Type 0) (command : Command) → command ≡ Cp → reads_files command ≡ true → X
 unfolding reads_files
@@ -169,40 +184,38 @@ cp_replies command is m (Ok reply) done = subst (λ (c : Command). Replies m c r
 
 -- ---- the others
 
-some_none : (v : List ℕ) → Some v ≡ None → ⊥
-some_none v e = cc
-
 none_if : (t : Bool) (v : List ℕ) → (if t then Some v else None) ≡ None → t ≡ false
 none_if true v none = absurd (some_none v none)
 none_if false v none = refl
 
-pub unbuilt : (command : Command) → ((name : List ℕ) (size : ℕ) (kind : Kind) → command ≢ VolCreate name size kind) → command ≢ VolList → command ≢ Cp → volume_asked command ≡ None → changed_by command ≡ None → is_built command ≡ false
+-- a command that is about a whole volume, or isn't built
+pub managed_or_unbuilt : (command : Command) → ((name : List ℕ) (size : ℕ) (kind : Kind) → command ≢ VolCreate name size kind) → command ≢ VolList → command ≢ Cp → volume_asked command ≡ None → changed_by command ≡ None → (is_some (managed_by command) ≡ true) ⊎ (is_built command ≡ false)
 unfolding is_built
-unbuilt (VolCreate v size kind) a b c asked changed = absurd (a v size kind refl)
-unbuilt (VolDestroy v) a b c asked changed = refl
-unbuilt (VolResize v size) a b c asked changed = refl
-unbuilt (VolGuarantee v kind) a b c asked changed = refl
-unbuilt VolList a b c asked changed = absurd (b refl)
-unbuilt (VolStat v) a b c asked changed = refl
-unbuilt (New v f reserve) a b c asked changed = none_if (reserve == 0) v changed
-unbuilt (Put v f i block) a b c asked changed = absurd (some_none v changed)
-unbuilt (Get v s f i) a b c asked changed = absurd (some_none v asked)
-unbuilt (Len v s f) a b c asked changed = absurd (some_none v asked)
-unbuilt (Cut v f length) a b c asked changed = absurd (some_none v changed)
-unbuilt (Remove v f) a b c asked changed = absurd (some_none v changed)
-unbuilt (Ls v s) a b c asked changed = absurd (some_none v asked)
-unbuilt (SnapCreate v s) a b c asked changed = refl
-unbuilt (SnapDelete v s) a b c asked changed = refl
-unbuilt (SnapRestore v s) a b c asked changed = refl
-unbuilt (SnapList v) a b c asked changed = refl
-unbuilt (CloneCreate x v s size kind) a b c asked changed = refl
-unbuilt (SplitStart x) a b c asked changed = refl
-unbuilt (SplitFinish x) a b c asked changed = refl
-unbuilt (Mirror v s w size kind) a b c asked changed = refl
-unbuilt (Clean v) a b c asked changed = refl
-unbuilt (Probe v f i) a b c asked changed = refl
-unbuilt (Work n) a b c asked changed = refl
-unbuilt Cp a b c asked changed = absurd (c refl)
+managed_or_unbuilt (VolCreate v size kind) a b c asked changed = absurd (a v size kind refl)
+managed_or_unbuilt (VolDestroy v) a b c asked changed = inl refl
+managed_or_unbuilt (VolResize v size) a b c asked changed = inl refl
+managed_or_unbuilt (VolGuarantee v kind) a b c asked changed = inl refl
+managed_or_unbuilt VolList a b c asked changed = absurd (b refl)
+managed_or_unbuilt (VolStat v) a b c asked changed = inl refl
+managed_or_unbuilt (New v f reserve) a b c asked changed = inr (none_if (reserve == 0) v changed)
+managed_or_unbuilt (Put v f i block) a b c asked changed = absurd (some_none v changed)
+managed_or_unbuilt (Get v s f i) a b c asked changed = absurd (some_none v asked)
+managed_or_unbuilt (Len v s f) a b c asked changed = absurd (some_none v asked)
+managed_or_unbuilt (Cut v f length) a b c asked changed = absurd (some_none v changed)
+managed_or_unbuilt (Remove v f) a b c asked changed = absurd (some_none v changed)
+managed_or_unbuilt (Ls v s) a b c asked changed = absurd (some_none v asked)
+managed_or_unbuilt (SnapCreate v s) a b c asked changed = inr refl
+managed_or_unbuilt (SnapDelete v s) a b c asked changed = inr refl
+managed_or_unbuilt (SnapRestore v s) a b c asked changed = inr refl
+managed_or_unbuilt (SnapList v) a b c asked changed = inr refl
+managed_or_unbuilt (CloneCreate x v s size kind) a b c asked changed = inr refl
+managed_or_unbuilt (SplitStart x) a b c asked changed = inr refl
+managed_or_unbuilt (SplitFinish x) a b c asked changed = inr refl
+managed_or_unbuilt (Mirror v s w size kind) a b c asked changed = inr refl
+managed_or_unbuilt (Clean v) a b c asked changed = inr refl
+managed_or_unbuilt (Probe v f i) a b c asked changed = inr refl
+managed_or_unbuilt (Work n) a b c asked changed = inr refl
+managed_or_unbuilt Cp a b c asked changed = absurd (c refl)
 
 -- a command that is none of `get`, `len` and `ls` asks for no files
 pub asks_none : (command : Command) → ((v : List ℕ) (s : Option (List ℕ)) (f : List ℕ) (i : ℕ) → command ≢ Get v s f i) → ((v : List ℕ) (s : Option (List ℕ)) (f : List ℕ) → command ≢ Len v s f) → ((v : List ℕ) (s : Option (List ℕ)) → command ≢ Ls v s) → volume_asked command ≡ None

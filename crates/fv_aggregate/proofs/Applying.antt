@@ -1,22 +1,27 @@
 -- The commands on files as `apply` has them.
-use Rattle.std.proofs.Common.{◌≡◌, ◌≤◌, ◌+◌, ◌⊎◌, ℕ, List, Option, Some, None, Result, Ok, Err, refl, sym, ap, subst, ◌∙◌, inl, inr, arith}
-use Rattle.std.specs.Prelude.{IfOk, IsNone, IsSome, IsTrue, OnOk}
+use Rattle.std.proofs.Common.{◌≡◌, ◌≤◌, ◌+◌, ◌⊎◌, ℕ, List, Option, Some, None, Result, Ok, Err, false, true, true≢false, refl, sym, ap, subst, ◌∙◌, inl, inr, arith}
+use Rattle.std.specs.Prelude.{IfOk, IfSome, IsNone, IsSome, IsTrue, OnOk}
 use Rattle.fv_disk.specs.Shown.{Shown}
 use Rattle.fv_disk.specs.DiskCalls.{OnlyReads}
 use Rattle.fv_model.specs.declared.answers.Reply.{Reply}
 use Rattle.fv_model.specs.declared.commands.Command.{Command}
 use Rattle.fv_model.specs.declared.commands.Command.TheVariants.{VolCreate, VolDestroy, VolResize, VolGuarantee, VolList, VolStat, New, Put, Get, Len, Cut, Remove, Ls, SnapCreate, SnapDelete, SnapRestore, SnapList, CloneCreate, SplitStart, SplitFinish, Mirror, Clean, Probe, Work, Cp}
+use Rattle.fv_bits.specs.Members.{is_member}
 use Rattle.fv_model.specs.Machines.{Machine}
 use Rattle.fv_aggmap.specs.Space.{Space}
+use Rattle.fv_volume.specs.declared.state.VolumeState.{VolumeState}
 use Rattle.fv_volume.specs.Changing.{IsChangeOf}
+use Rattle.fv_volume.specs.Held.{IsReadyIn}
+use Rattle.fv_volume.specs.OneVolume.{IsBooked}
+use Rattle.fv_volume.specs.States.{state_at}
 use Rattle.fv_aggregate.specs.declared.fault.Fault.{Fault}
 use Rattle.fv_aggregate.specs.declared.session.Session.{Session}
 use Rattle.fv_aggregate.specs.Calls.{Goes, GoesFor, KeepsAsking, WasRead}
-use Rattle.fv_aggregate.specs.Commands.{volume_asked, changed_by, dirty_limit, is_refusal, machine_after, room_of, Replies}
+use Rattle.fv_aggregate.specs.Commands.{volume_asked, changed_by, changes_volume, dirty_limit, is_refusal, machine_after, room_of, Replies}
 use Rattle.fv_aggregate.specs.Looking.{Looks, Makes}
-use Rattle.fv_aggregate.specs.Standing.{IsWithoutFiles, StandsFor}
+use Rattle.fv_aggregate.specs.Standing.{IsWithoutFiles, Stands, StandsFor}
 use Rattle.fv_aggregate.proofs.Calls.{reads_itself}
-use Rattle.fv_aggregate.proofs.Changing.{change_after, change_of_volume, change_replies, change_room, look_after, look_replies, look_room}
+use Rattle.fv_aggregate.proofs.Changing.{change_after, change_cases, change_of_volume, change_replies, change_room, look_after, look_replies, look_room}
 use Rattle.fv_aggregate.proofs.Numbered.{no_files_read}
 
 none_some : {A : Type 0} (o : Option A) → IsNone o → IsSome o → ⊥
@@ -27,9 +32,13 @@ none_some (Some n) none some = cc
 pub not_dead : (X : Type 0) (s : Session) → IsNone s.failed → IsSome s.failed → X
 not_dead X s fresh failed = absurd (none_some s.failed fresh failed)
 
--- a point asks for what it asked for
-pub asks_still : (room : ℕ) (d : Shown) (s : Session) → KeepsAsking room d s d s
-asks_still room d s = λ tells kept asks none. record { asked = asks.asked; pending = omega (arith, asks.pending) }
+-- the ledger of each volume has its numbers
+pub booked_each : (d : Shown) (s : Session) → Stands d s → (slot : ℕ) → IfSome (state_at s.volumes slot) IsBooked
+booked_each d s stands slot = by (state_at s.volumes slot) (stands.ready slot)
+  where
+    by : (o : Option VolumeState) → IfSome o (IsReadyIn d s.pool slot) → IfSome o IsBooked
+    by None is = tt
+    by (Some x) is = is.ready.booked
 
 if_ok : {T : Type 0} {P Q : T → Type 0} → ((x : T) → P x → Q x) → (r : Result T Fault) → IfOk r P → IfOk r Q
 if_ok to (Ok x) is = to x is
@@ -110,7 +119,7 @@ module _ (c : Command) (name : List ℕ) (asks : volume_asked c ≡ Some name) (
       by : (r : Result Reply Fault) → OnOk r (WasRead d s e n) → OnOk r (IsWithoutFiles n)
       by (Ok y) read = record {
         none = no_files_read s.volumes n.volumes read.volumes without.none;
-        same = ap (λ (m : Space). m.next) read.pool.map ∙ without.same ∙ sym (ap (λ (m : Space). m.committed) read.pool.map);
+        taken = λ b held. ap (λ (m : Space). is_member m.committed b) read.pool.map ∙ without.taken b (sym (ap (λ (m : Space). is_member m.next b) read.pool.map) ∙ held);
       }
       by (Err f) read = tt
 
@@ -132,8 +141,8 @@ module _ (c : Command) (name : List ℕ) (of : changed_by c ≡ Some name) (d : 
   pub make_goes : Goes (room_of c) d s e n r
   make_goes = subst (λ (k : ℕ). Goes k d s e n r) (sym (change_room name c change)) makes.goes
 
-  pub make_asks : changed_by c ≡ None → KeepsAsking (room_of c) d s e n
-  make_asks isnt = absurd (none (sym isnt ∙ of))
+  pub make_asks : changes_volume c ≡ false → KeepsAsking (room_of c) d s e n
+  make_asks calm = absurd (true≢false (sym (change_cases (λ (k : Command). changes_volume k ≡ true) (λ v f. refl) (λ v f i block. refl) (λ v f length. refl) (λ v f. refl) name c change) ∙ calm))
 
   pub make_goes_for : IsTrue d.tells → (last m : Machine) → StandsFor d s last m → GoesFor d last m (machine_after m c) e n r
   make_goes_for tells last m is = subst (λ (k : Machine). GoesFor d last m k e n r) (sym (change_after name c change m)) (makes.goes_for tells last m is)

@@ -25,9 +25,7 @@ use Rattle.fv_laws.proofs.Orders.{name_total, name_ties}
 use Rattle.fv_tree.specs.Sources.{Use}
 use Rattle.fv_tree.specs.Standing.{under}
 use Rattle.fv_image.specs.Views.{Head, entry_count}
-use Rattle.fv_image.specs.Held.{label_place}
 use Rattle.fv_image.proofs.LoneTables.{form_base}
-use Rattle.fv_root.specs.Finding.{root_found}
 use Rattle.fv_charge.specs.declared.ledger.Ledger.{Ledger}
 use Rattle.fv_charge.specs.Ledgers.{committed}
 use Rattle.fv_container.specs.Mapped.{Mapped, empty_map, entry_under, node_count}
@@ -277,9 +275,9 @@ module _ (disk : Shown) (pool : Pool) (states : States) (slot : ℕ) (name : Lis
 
     -- ---- the blocks
 
-    slot_new : label_place (root_found pool.found) slot ≡ 0 → IsLentSlot disk.reads pool.found slot x (empty_map (entry_count x.span))
-    slot_new nowhere = record {
-      label = is.label ∙ sym nowhere;
+    slot_new : IsLentSlot disk.reads pool.found slot x (empty_map (entry_count x.span))
+    slot_new = record {
+      label = λ some. absurd (some is.label);
       nodes = λ b named. absurd (both_ways (names (empty_map (entry_count x.span)).tree b) (none_named (node_count (entry_count x.span)) b) named);
       apart = record {
         some = λ v. subst (λ o. IfSome o (λ e. 1 ≤ e.pvbn)) (sym (no_entry (entry_count x.span) v)) tt;
@@ -290,18 +288,11 @@ module _ (disk : Shown) (pool : Pool) (states : States) (slot : ℕ) (name : Lis
       unchanged = λ e. absurd (not_changed e);
     }
 
-    was_free : label_place (root_found pool.found) slot ≡ 0
-    was_free = by (container_at pool.containers slot) (subst (λ (o : Option VolumeState). IsLentAt disk.reads pool.found slot o (container_at pool.containers slot)) free.free (held.slots slot free.within))
-      where
-        by : (c : Option Mapped) → IsLentAt disk.reads pool.found slot None c → label_place (root_found pool.found) slot ≡ 0
-        by None nowhere = nowhere
-        by (Some map) never = absurd never
-
     pub slots_now : (s : ℕ) → s < 64 → IsLentAt disk.reads pool.found s (state_at new s) (container_at after.containers s)
     slots_now s inside = ⊎_elim
         (λ (here : s ≡ slot). subst (λ (k : ℕ). IsLentAt disk.reads pool.found k (state_at new k) (container_at after.containers k)) (sym here)
         (subst (λ (o : Option VolumeState). IsLentAt disk.reads pool.found slot o (container_at after.containers slot)) (sym is.state_is)
-        (subst (λ (c : Option Mapped). IsLentAt disk.reads pool.found slot (Some x) c) (sym is.holes) (slot_new was_free))))
+        (subst (λ (c : Option Mapped). IsLentAt disk.reads pool.found slot (Some x) c) (sym is.holes) slot_new)))
         (λ (other : s ≢ slot). subst (λ (o : Option VolumeState). IsLentAt disk.reads pool.found s o (container_at after.containers s)) (sym (elsewhere s other))
         (subst (λ (c : Option Mapped). IsLentAt disk.reads pool.found s (state_at states s) c) (sym (container_elsewhere s other)) (held.slots s inside)))
         (cases_eq s slot)

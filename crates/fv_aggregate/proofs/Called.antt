@@ -103,7 +103,7 @@ module _ (d e : Shown) (p q : Pool) (reads : Reads d p e q) where
     slot_of : (c : Option Mapped) → IsLentAt d.reads p.found s (Some x) c → IsLentAt d.reads p.found s (Some y) c
     slot_of None never = never
     slot_of (Some map) l = record {
-      label = ap (λ (z : VolumeState). z.label) called.same ∙ l.label;
+      label = λ some. ap (λ (z : VolumeState). z.label) called.same ∙ l.label (λ none. some (ap (λ (z : VolumeState). z.label) called.same ∙ none));
       nodes = l.nodes;
       apart = subst (λ (z : VolumeState). AreApartIn z map) (sym called.same) (record { some = l.apart.some; entries = l.apart.entries; nodes = l.apart.nodes; label = l.apart.label });
       unchanged = λ un. subst (λ (z : VolumeState). IsLoaded d.reads p.found s (Some z) (Some map)) (sym (called.unchanged un)) (loaded_with map y.numbers (l.unchanged (sym (ap (λ (z : VolumeState). z.changed) (called.unchanged un)) ∙ un)));

@@ -15,10 +15,10 @@ use Rattle.fv_aggregate.proofs.Asking.{asks_more}
 
 -- ---- a call that leaves the disk and the session
 
-same_ends : (disk : Shown) → KeepsEnds disk disk
+pub same_ends : (disk : Shown) → KeepsEnds disk disk
 same_ends disk = record { tells = refl; given = refl; ends = refl }
 
-same_counts : (disk : Shown) → SameCounts disk disk
+pub same_counts : (disk : Shown) → SameCounts disk disk
 same_counts disk = record { faults = refl; write_faults = refl }
 
 pub reads_itself : (disk : Shown) → OnlyReads disk disk

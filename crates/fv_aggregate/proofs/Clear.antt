@@ -1,5 +1,5 @@
 -- The blocks that the root on the disk leaves free, and those of them that were taken since the last point.
-use Rattle.std.proofs.Common.{◌≡◌, ◌≤◌, ◌+◌, ◌-◌, ℕ, Bool, true, false, not, ◌||◌, cond, List, length, refl, sym, ap, ◌∙◌, arith}
+use Rattle.std.proofs.Common.{◌≡◌, ◌≤◌, ◌+◌, ◌-◌, ℕ, Bool, true, false, not, ◌||◌, cond, List, length, true≢false, refl, sym, ap, ◌∙◌, arith}
 use Rattle.std.specs.Prelude.{count_by}
 use Rattle.std.specs.List.{range_with_len}
 use Rattle.std.proofs.lemmas.List.Sums.{sum_by-le-sum_by}
@@ -34,6 +34,25 @@ clear_is_free map same = ap (λ (next : List Bool). free_from map.committed next
 
 pub none_placed : (map : Space) → map.next ≡ map.committed → taken_since map ≡ 0
 none_placed map same = omega (arith, clear_is_free map same)
+
+-- so it is where the next root holds no block that the root on the disk doesn't
+pub none_taken : (map : Space) → ((b : ℕ) → is_member map.next b ≡ true → is_member map.committed b ≡ true) → taken_since map ≡ 0
+unfolding free_from
+none_taken map within =
+    let same : free_blocks map ≡ clear_blocks map = λ j. count_by (λ b. not (held b j)) (range_with_len (first_block (blocks_of map)) (blocks_of map - first_block (blocks_of map))) in
+    omega (arith, same)
+  where
+    by : (c n : Bool) → (n ≡ true → c ≡ true) → (c || n) ≡ (c || c)
+    by true n is = refl
+    by false true is = absurd (true≢false (sym (is refl)))
+    by false false is = refl
+
+    held : (b : ℕ) → is_held map.committed map.next b ≡ is_held map.committed map.committed b
+    held b = by (is_member map.committed b) (is_member map.next b) (within b)
+
+-- it holds no other block
+pub none_held : (map : Space) → map.next ≡ map.committed → (b : ℕ) → is_member map.next b ≡ true → is_member map.committed b ≡ true
+none_held map same b held = sym (ap (λ (next : List Bool). is_member next b) same) ∙ held
 
 -- the root on the disk leaves as many blocks free while it stays
 pub clear_stays : (old new : Space) → new.committed ≡ old.committed → clear_blocks new ≡ clear_blocks old

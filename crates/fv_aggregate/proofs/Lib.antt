@@ -27,3 +27,9 @@ mod Changing
 mod Carried
 mod PointFirst
 mod Applying
+mod Having
+mod Resized
+mod Removing
+mod Managed
+mod ManagedCalls
+mod Keeping

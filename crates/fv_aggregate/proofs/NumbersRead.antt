@@ -32,7 +32,9 @@ use Rattle.fv_aggregate.specs.declared.fault.Fault.TheVariants.{DiskFault, Damag
 use Rattle.fv_aggregate.specs.declared.session.Session.{Session}
 use Rattle.fv_aggregate.specs.Calls.{but_numbers, KeepsAsking, SameButNumbers, WasRead}
 use Rattle.fv_aggregate.specs.Looking.{Breaks}
-use Rattle.fv_aggregate.specs.Numbering.{HasNumbered, IsSlotNumbered, KnowsNumbers, NumbersSlot, NumbersState}
+use Rattle.fv_aggregate.specs.Numbering.{HasNumbered, IsSlotNumbered, NumbersSlot, NumbersState}
+use Rattle.fv_aggregate.specs.Known.{KeepsNumbers, KnowsNumbers}
+use Rattle.fv_aggregate.proofs.Keeping.{keeps_none, keeps_with}
 use Rattle.fv_aggregate.specs.Standing.{clear_blocks, overheads_in, taken_since, Stands, StandsFor}
 use Rattle.fv_aggregate.proofs.Asked.{calm_damage, calm_memory, damaged_at, rose_by}
 use Rattle.fv_aggregate.proofs.Becoming.{machine_stays}
@@ -80,6 +82,11 @@ module _ (d e : Shown) (s : Session) (q : Pool) (slot : ℕ) (x y : VolumeState)
   -- they are in memory
   pub knows_numbered : is_some y.numbers ≡ true → KnowsNumbers (state_at stay slot)
   knows_numbered there = subst KnowsNumbers (sym here) there
+
+  -- no volume loses its numbers
+  pub kept_numbered : (is_some x.numbers ≡ true → y ≡ x) → KeepsNumbers s.volumes stay
+  kept_numbered idle = keeps_none s.volumes stay (keeps_with (λ k. ⊥) s.volumes slot (Some y) inside
+      (λ known stays. let had : is_some x.numbers ≡ true = subst KnowsNumbers there known in subst (λ (z : VolumeState). is_some z.numbers ≡ true) (sym (idle had)) had))
 
   -- a point asks for what it asked for
   same_asked : blocks_asked stay ≡ blocks_asked s.volumes
@@ -156,6 +163,9 @@ module _ (d e : Shown) (laws : IsDisk d) (s : Session) (q : Pool) (slot : ℕ) (
   for_it : (r : Result Unit BlockFault) → NumbersState d s.pool x e q y r → (last m : Machine) → StandsFor d s last m → StandsFor e now last m
   for_it r did last m is = stands_for_numbered d e s q slot x y there long did.reads did.same did.ready did.standing last m is
 
+  kept_it : (r : Result Unit BlockFault) → NumbersState d s.pool x e q y r → KeepsNumbers s.volumes now.volumes
+  kept_it r did = kept_numbered d e s q slot x y there long did.reads did.same did.ready did.idle
+
   asks_it : (r : Result Unit BlockFault) → NumbersState d s.pool x e q y r → KeepsAsking 0 d s e now
   asks_it r did = asks_numbered d e s q slot x y there long did.reads did.same did.ready
 
@@ -166,6 +176,7 @@ module _ (d e : Shown) (laws : IsDisk d) (s : Session) (q : Pool) (slot : ℕ) (
     goes_for = λ tells last m is. goes_for_done d e laws s now 0 did.reads.only_reads fresh fresh (stand (Ok u) did) u last m m is (for_it (Ok u) did last m is);
     only_reads = did.reads.only_reads;
     read = read_numbered d e s q slot x y there long did.reads did.same did.ready;
+    kept = kept_it (Ok u) did;
   }
 
   failed_as : (new : Session) (f wanted : Fault) (was : Session) → new ≡ was → f ≡ wanted → HasNumbered d s e was (Err wanted) → HasNumbered d s e new (Err f)
@@ -178,6 +189,7 @@ module _ (d e : Shown) (laws : IsDisk d) (s : Session) (q : Pool) (slot : ℕ) (
     goes_for = λ tells last m is. goes_for_broken d e laws s now 0 did.reads.only_reads fresh fresh (stand (Err block.DiskFault) did) new.failed last m m is (for_it (Err block.DiskFault) did last m is);
     only_reads = did.reads.only_reads;
     read = tt;
+    kept = kept_it (Err block.DiskFault) did;
   })
   numbered_failed (block.Damaged at want found) did new f b = failed_as new f (Damaged at want found) now b.1 b.0 (record {
     goes = goes_damaged d e laws s now 0 did.reads.only_reads fresh fresh (stand (Err (block.Damaged at want found)) did) at want found (calm_damage _ _ _ e.faults at want found did.cause) (damaged_at d s slot x there fresh now at want found) (omega arith);
@@ -187,6 +199,7 @@ module _ (d e : Shown) (laws : IsDisk d) (s : Session) (q : Pool) (slot : ℕ) (
         absurd (no_damage d s.pool x its.stands its.well 0 e.faults at want found did.cause);
     only_reads = did.reads.only_reads;
     read = tt;
+    kept = kept_it (Err (block.Damaged at want found)) did;
   })
   numbered_failed block.Memory did new f b = failed_as new f Memory now b.1 b.0 (record {
     goes = goes_wanting d e laws s now 0 did.reads.only_reads fresh fresh (stand (Err block.Memory) did) (calm_memory _ _ _ e.faults did.cause) (omega arith);
@@ -194,6 +207,7 @@ module _ (d e : Shown) (laws : IsDisk d) (s : Session) (q : Pool) (slot : ℕ) (
     goes_for = λ tells last m is. goes_for_fault d e laws s now 0 did.reads.only_reads fresh fresh (stand (Err block.Memory) did) Memory last m m tt is (for_it (Err block.Memory) did last m is);
     only_reads = did.reads.only_reads;
     read = tt;
+    kept = kept_it (Err block.Memory) did;
   })
 
 -- ---- the volume of the slot

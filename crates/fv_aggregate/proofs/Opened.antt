@@ -47,7 +47,7 @@ use Rattle.fv_aggregate.specs.Standing.{IsWithoutFiles, Stands, StandsFor}
 use Rattle.fv_aggregate.specs.Asking.{AsksWithin}
 use Rattle.fv_volume.specs.UnderRoot.{IsMapOf}
 use Rattle.fv_aggregate.proofs.Asking.{asks_after_reads}
-use Rattle.fv_aggregate.proofs.Clear.{clear_is_free, none_placed}
+use Rattle.fv_aggregate.proofs.Clear.{clear_is_free, none_held, none_placed}
 use Rattle.fv_aggregate.proofs.Standing.{settled_after_reads}
 use Rattle.fv_aggregate.proofs.Sums.{none_pending, overheads_are}
 use Rattle.fv_aggregate.proofs.Lent.{reach_opened, slots_opened, spaced_opened}
@@ -167,7 +167,7 @@ module _ (mid new : Shown) (settled : IsTrue mid.tells → IsSettled mid) (reads
   stands_result (Err fault) opened cache each = tt
 
   pub without_files : (result : Result Session OpenFault) → IfOk result (IsOpened mid.reads) → IfOk result (AreOpened new mid.reads) → IfOk result IsWithoutFiles
-  without_files (Ok session) opened each = record { none = each.none; same = opened.map.same }
+  without_files (Ok session) opened each = record { none = each.none; taken = none_held session.pool.map opened.map.same }
   without_files (Err fault) opened each = tt
 
   -- what a point of it asks for is what the volumes that were read have

@@ -15,7 +15,7 @@ use Rattle.fv_model.specs.Space.{commits}
 use Rattle.fv_image.specs.Layout.{root_place}
 use Rattle.fv_image.specs.Maps.{map_bit}
 use Rattle.fv_image.specs.Views.{View, delayed, own}
-use Rattle.fv_image.specs.Held.{layout_at, view_at}
+use Rattle.fv_image.specs.Held.{label_place, layout_at, view_at}
 use Rattle.fv_image.specs.Volumes.{told_with}
 use Rattle.fv_image.specs.Sound.{leaves_room, overheads}
 use Rattle.fv_image.specs.Seen.{seen}
@@ -54,7 +54,7 @@ use Rattle.fv_aggregate.specs.Adding.{HasRoom, IsPointed, StillAdmits}
 use Rattle.fv_aggregate.specs.Calls.{Goes, GoesFor, IsForWant, KeepsAsking}
 use Rattle.fv_aggregate.specs.Standing.{clear_blocks, overheads_in, taken_since, unwritten, OneOf, Stands, StandsFor}
 use Rattle.fv_aggregate.proofs.Asking.{asked_unchanged, asks_more, asks_still, short_is}
-use Rattle.fv_aggregate.proofs.Clear.{clear_is_free, clear_stays, free_and_placed, none_placed}
+use Rattle.fv_aggregate.proofs.Clear.{clear_is_free, clear_stays, free_and_placed, none_held, none_placed}
 use Rattle.fv_aggregate.proofs.Standing.{settled_after_reads}
 use Rattle.fv_aggregate.proofs.Sums.{asked_within, none_pending, one_pending, over_slots, overheads_are, overheads_kept, same_overheads}
 
@@ -270,7 +270,8 @@ pointed_left before old after new pool states none same_pool same_states long go
     let cores : KeepCores old.volumes new.volumes = subst (λ (xs : States). KeepCores xs new.volumes) same_states goes.cores in
     record {
       pending = none;
-      files = λ tells. record { none = goes.none; same = (goes.loaded tells).same };
+      files = λ tells. record { none = goes.none; taken = none_held new.pool.map (goes.loaded tells).same };
+      same = λ tells. (goes.loaded tells).same;
       cores = cores;
       admits = admits_still old new long goes.fit.housed.long cores (goes.blocks ∙ ap (λ (p : Pool). p.found.blocks) same_pool);
     }
@@ -286,13 +287,13 @@ large w rule =
 module _ (old : Shown) (pool : Pool) (states : States) (new : Shown) (left : Pool) (stay : States) (is : IsHeldPoint old pool states new left stay) (loaded : IsMapLoaded new.reads left.found left.map) where
   -- each slot is as the new root has it
   all_loaded : (s : ℕ) → s < 64 → IsLoaded new.reads left.found s (state_at stay s) (container_at left.containers s)
-  all_loaded s inside = by (state_at stay s) (container_at left.containers s) (is.held.slots s inside) (is.unchanged s)
+  all_loaded s inside = by (state_at stay s) (container_at left.containers s) (is.held.slots s inside) (is.unchanged s) (is.free s inside)
     where
-      by : (o : Option VolumeState) (c : Option Mapped) → IsLentAt new.reads left.found s o c → IfSome o (λ x. x.changed ≡ false) → IsLoaded new.reads left.found s o c
-      by None None nowhere unchanged = none_loaded left.found new.reads s nowhere
-      by None (Some map) never unchanged = absurd never
-      by (Some x) None never unchanged = absurd never
-      by (Some x) (Some map) slot unchanged = slot.unchanged unchanged
+      by : (o : Option VolumeState) (c : Option Mapped) → IsLentAt new.reads left.found s o c → IfSome o (λ x. x.changed ≡ false) → (o ≡ None → label_place (root_found left.found) s ≡ 0) → IsLoaded new.reads left.found s o c
+      by None None slot unchanged none = none_loaded left.found new.reads s (none refl)
+      by None (Some map) never unchanged none = absurd never
+      by (Some x) None never unchanged none = absurd never
+      by (Some x) (Some map) slot unchanged none = slot.unchanged unchanged
 
   pub overheads_stay : overheads (view_over left stay new.reads) ≡ overheads (view_at (root_found left.found) new.reads)
   unfolding view_over view_at

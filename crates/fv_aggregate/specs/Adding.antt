@@ -24,10 +24,11 @@ abbrev pub StillAdmits : Session → Session → Type 0
 StillAdmits old new = (name : List ℕ) (size : ℕ) (kind : Kind) (slot span : ℕ) → Admits old.volumes old.pool.found.blocks name size kind slot span → Admits new.volumes new.pool.found.blocks name size kind slot span
 
 -- What a consistency point that was done leaves of a session, also over an image that stands for no machine: nothing is pending, no file is in
--- memory, and of the volumes stays what placing and points keep.
+-- memory, the next root would hold what the new one does, and of the volumes stays what placing and points keep.
 pub record IsPointed (before : Shown) (old new : Session) : Type 0 where
   pub pending : new.pending ≡ 0
   pub files : IsTrue before.tells → IsWithoutFiles new
+  pub same : IsTrue before.tells → new.pool.map.next ≡ new.pool.map.committed
   pub cores : KeepCores old.volumes new.volumes
   pub admits : StillAdmits old new
 

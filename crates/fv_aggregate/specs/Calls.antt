@@ -25,7 +25,9 @@ use Rattle.fv_aggregate.specs.declared.session.Session.{Session}
 use Rattle.fv_aggregate.specs.Adding.{IsPointed}
 use Rattle.fv_aggregate.specs.Asking.{AsksWithin, IsShort}
 use Rattle.fv_aggregate.specs.Causes.{KeepsEnds}
-use Rattle.fv_aggregate.specs.Commands.{changed_by, dirty_limit, has_range, is_built, is_get, is_refusal, room_of, volume_asked}
+use Rattle.fv_aggregate.specs.Commands.{changed_by, dirty_limit, finds_file, has_range, is_built, is_get, is_refusal, managed_by, room_of, volume_asked}
+use Rattle.fv_aggregate.specs.Known.{KnowsNamed}
+use Rattle.fv_aggregate.specs.Managing.{IsManaged}
 use Rattle.fv_aggregate.specs.Standing.{taken_since, OneOf, Stands, StandsAfter, StandsFor}
 use Rattle.fv_aggregate.specs.Telling.{names_from}
 
@@ -118,7 +120,7 @@ pub record Goes {T : Type 0} (room : ℕ) (before : Shown) (old : Session) (afte
   pub pending : new.pending ≤ old.pending + room
 
 -- Where a point of the session asked for no more than the space rule keeps, it does so after a call that may add `room` blocks. A change of
--- a file alone doesn't keep that: over an image that stands for no machine the root may name fewer overheads than the session's volumes have.
+-- a volume that stays alone doesn't keep that: over an image that stands for no machine the root may name fewer overheads than the session's volumes have.
 abbrev pub KeepsAsking : ℕ → Shown → Session → Shown → Session → Type 0
 KeepsAsking room before old after new = IsTrue before.tells → (kept : ℕ) → AsksWithin before old kept → IsNone new.failed → AsksWithin after new (max kept room)
 
@@ -157,10 +159,16 @@ abbrev pub IsForWant : Shown → Session → Shown → Session → Fault → Typ
 IsForWant before old after new (Damaged at want found) = OnlyReads before after × (LacksBlocks before old new at want found ⊎ HasFilesToPlace old)
 IsForWant before old after new fault = Unit {0}
 
+-- a command on a whole volume is always answered
+pub record IsAnswered (old : Session) (command : Command) (name : List ℕ) (new : Session) (result : Result Reply Fault) : Type 0 where
+  pub reply : Reply
+  pub is : result ≡ Ok reply
+  pub managed : IsManaged old command name new reply
+
 -- What a command that reads no file does beside, whatever the disk holds. Refused it leaves all as it was, and one that isn't built is refused as
 -- no command. Without room, or with room within the dirty limit, it doesn't reach the disk, but for a `cp`; and then it leaves the session where
 -- memory ran out. `vol list` answers the names of the session's volumes. A `cp` that is done leaves nothing pending and no file in memory; where
--- none was there it has no want of memory. Damage comes for want of blocks alone.
+-- none was there it has no want of memory. Damage comes for want of blocks alone. A command on a whole volume is answered, without a fault.
 pub record IsPlain {D : Type 0} (command : Command) (shown : Shown) (before : D) (old : Session) (shown_after : Shown) (after : D) (new : Session) (result : Result Reply Fault) : Type 0 where
   pub refused : IfOk result (λ reply. IsTrue (is_refusal reply) → IsUntouched before old after new)
   pub calm : command ≢ Cp → (room_of command ≡ 0) ⊎ (old.pending + room_of command ≤ dirty_limit) → after ≡ before
@@ -170,15 +178,18 @@ pub record IsPlain {D : Type 0} (command : Command) (shown : Shown) (before : D)
   pub listed : command ≡ VolList → IfOk result (λ reply. reply ≡ Names (names_from old.volumes 0 slot_count))
   pub pointed : command ≡ Cp → OnOk result (IsPointed shown old new)
   pub memory : command ≡ Cp → HaveNoFiles old.volumes → IfErr result (λ e. e ≢ Memory)
+  pub managed : IsNone old.failed → (name : List ℕ) → managed_by command ≡ Some name → IsAnswered old command name new result
 
 -- What a command on files does beside. Whatever the disk holds, out of range it is refused as that and leaves all as it was, without its volume it is
 -- refused for want of it, and one that asks leaves all but the cache and the numbers of files in memory where it is answered. So does a change
--- that is refused, where the session stands for a machine.
+-- that is refused, where the session stands for a machine. Once a command that finds a file of a volume by its name is answered, refused or not, the
+-- numbers of the volume's files are in memory.
 pub record IsOnFiles {D : Type 0} (command : Command) (shown : Shown) (before : D) (old : Session) (shown_after : Shown) (after : D) (new : Session) (result : Result Reply Fault) : Type 0 where
   pub range : IsNone old.failed → has_range command ≡ false → (result ≡ Ok (Refused Range)) × IsUntouched before old after new
   pub missing : IsNone old.failed → has_range command ≡ true → (name : List ℕ) → (changed_by command ≡ Some name) ⊎ (volume_asked command ≡ Some name) → NoneHasName old.volumes name → result ≡ Ok (Refused NoVolume)
   pub asked : IsSome (volume_asked command) → OnOk result (WasRead shown old shown_after new)
   pub refused : IsTrue shown.tells → (last m : Machine) → StandsFor shown old last m → IfOk result (λ reply. IsTrue (is_refusal reply) → WasRead shown old shown_after new)
+  pub known : finds_file command ≡ true → has_range command ≡ true → (name : List ℕ) → (changed_by command ≡ Some name) ⊎ (volume_asked command ≡ Some name) → OnOk result (KnowsNamed old.volumes name new.volumes)
 
 -- No steps are counted but for a `get`, and none where the session stands for a machine, or has failed.
 pub record CountsSteps (command : Command) (before : Shown) (old : Session) (start steps : ℕ) (result : Result Reply Fault) : Type 0 where

@@ -1,12 +1,13 @@
 -- Which commands are carried out so far, what a session answers to each, and how many blocks it may add.
 use Rattle.std.specs.Prelude.{◌≡◌, ℕ, ◌==◌, List, Option, Some, None, Bool, true, false, if◌then◌else◌}
+use Rattle.std.specs.Option.{is_none, is_some}
 use Rattle.fv_model.specs.declared.answers.Refusal.TheVariants.{Syntax}
 use Rattle.fv_model.specs.declared.answers.Reply.{Reply}
 use Rattle.fv_model.specs.declared.answers.Reply.TheVariants.{Refused}
 use Rattle.fv_model.specs.declared.commands.Command.{Command}
-use Rattle.fv_model.specs.declared.commands.Command.TheVariants.{VolCreate, VolList, New, Put, Get, Len, Cut, Remove, Ls, Cp}
+use Rattle.fv_model.specs.declared.commands.Command.TheVariants.{VolCreate, VolDestroy, VolResize, VolGuarantee, VolList, VolStat, New, Put, Get, Len, Cut, Remove, Ls, Cp}
 use Rattle.fv_model.specs.Machines.{Machine}
-use Rattle.fv_model.specs.Numbers.{is_index, is_reserve}
+use Rattle.fv_model.specs.Numbers.{is_index, is_reserve, is_size}
 use Rattle.fv_model.specs.Refusals.{next}
 use Rattle.fv_model.specs.Replies.{Allows}
 use Rattle.fv_model.specs.Space.{overhead, span_of}
@@ -14,7 +15,11 @@ use Rattle.fv_model.specs.Space.{overhead, span_of}
 -- the commands that are built; the others are refused as no command, until they are. A file with a reserve is one of those.
 unfoldable pub is_built : Command → Bool
 is_built (VolCreate volume size kind) = true
+is_built (VolDestroy volume) = true
+is_built (VolResize volume size) = true
+is_built (VolGuarantee volume kind) = true
 is_built VolList = true
+is_built (VolStat volume) = true
 is_built (New volume file reserve) = reserve == 0
 is_built (Put volume file index block) = true
 is_built (Get volume snapshot file index) = true
@@ -66,6 +71,20 @@ changed_by (Cut volume file length) = Some volume
 changed_by (Remove volume file) = Some volume
 changed_by command = None
 
+-- the volume that a command is about as a whole: it tells of it, gives it another size or kind of guarantee, or removes it
+abbrev pub managed_by : Command → Option (List ℕ)
+managed_by (VolDestroy volume) = Some volume
+managed_by (VolResize volume size) = Some volume
+managed_by (VolGuarantee volume kind) = Some volume
+managed_by (VolStat volume) = Some volume
+managed_by command = None
+
+-- whether a command changes a volume that was there before it and is there after it, so that the next consistency point writes that volume
+abbrev pub changes_volume : Command → Bool
+changes_volume (VolResize volume size) = true
+changes_volume (VolGuarantee volume kind) = true
+changes_volume command = is_some (changed_by command)
+
 -- the volume that a command asks for files
 abbrev pub volume_asked : Command → Option (List ℕ)
 volume_asked (Get volume snapshot file index) = Some volume
@@ -73,8 +92,24 @@ volume_asked (Len volume snapshot file) = Some volume
 volume_asked (Ls volume snapshot) = Some volume
 volume_asked command = None
 
--- whether the number of a command on files is in its range
+-- whether a command finds a file of a volume by its name, and leaves the names of all files: afterwards their numbers are in memory
+abbrev pub finds_file : Command → Bool
+finds_file (Put volume file index block) = true
+finds_file (Get volume snapshot file index) = is_none snapshot
+finds_file (Len volume snapshot file) = is_none snapshot
+finds_file (Cut volume file length) = true
+finds_file command = false
+
+-- the volume that may lose the numbers of its files: a file of it is made or removed, for which memory can lack, or it is removed itself
+abbrev pub loses_numbers : Command → Option (List ℕ)
+loses_numbers (New volume file reserve) = Some volume
+loses_numbers (Remove volume file) = Some volume
+loses_numbers (VolDestroy volume) = Some volume
+loses_numbers command = None
+
+-- whether the number of a command on a volume that is there is in its range
 abbrev pub has_range : Command → Bool
+has_range (VolResize volume size) = is_size size
 has_range (Put volume file index block) = is_index index
 has_range (Get volume snapshot file index) = is_index index
 has_range (Cut volume file length) = is_reserve length

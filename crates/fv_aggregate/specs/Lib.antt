@@ -2,9 +2,11 @@ pub mod Parts
 pub mod Standing
 pub mod Asking
 pub mod Commands
+pub mod Known
 pub mod Causes
 pub mod Calls
 pub mod Looking
+pub mod Managing
 pub mod Numbering
 pub mod Opening
 pub mod Adding

@@ -1,5 +1,5 @@
 -- What commands on files do in a session: those that ask, and those that change.
-use Rattle.std.specs.Prelude.{◌≡◌, ◌<◌, ◌≤◌, ◌+◌, ℕ, Option, Some, None, IsTrue, IsNone, Result, Ok, Err, OnOk, IfOk, IfErr}
+use Rattle.std.specs.Prelude.{◌≡◌, ◌<◌, ◌≤◌, ◌+◌, ℕ, Option, Some, None, true, IsTrue, IsNone, Result, Ok, Err, OnOk, IfOk, IfErr}
 use Rattle.fv_disk.specs.Shown.{Shown, Rose}
 use Rattle.fv_disk.specs.DiskCalls.{OnlyReads}
 use Rattle.fv_container.specs.Chains.{slot_count}
@@ -13,7 +13,7 @@ use Rattle.fv_model.specs.Replies.{Allows}
 use Rattle.fv_volume.specs.declared.state.VolumeState.{VolumeState}
 use Rattle.fv_volume.specs.declared.pool.Pool.{Pool}
 use Rattle.fv_volume.specs.Calls.{Agrees, Asks, CallCause, Changes, Has, HasWithin, KeepsHead, Reads}
-use Rattle.fv_volume.specs.Changing.{IsChangeOf, KeepsTable}
+use Rattle.fv_volume.specs.Changing.{keeps_numbers, IsChangeOf, KeepsTable}
 use Rattle.fv_volume.specs.Lending.{lent_for}
 use Rattle.fv_volume.specs.OneVolume.{home_in, standing_for, volume_for, IsReady, IsStanding}
 use Rattle.fv_volume.specs.Placing.{IsStoredWell}
@@ -77,7 +77,8 @@ JudgesSlot before pool None others command after left result = ⊥
 JudgesSlot before pool (Some x) others command after left result = JudgesState before pool x others command after left result
 
 -- The files of a volume were changed in memory, beside others that commit so much. Calls can be made on it still. Where it stood it stands, for the
--- volume that the command makes of it in each machine that has it, or after a fault for what it stood for. Of the pool only the cache changed.
+-- volume that the command makes of it in each machine that has it, or after a fault for what it stood for. Of the pool only the cache changed. The
+-- numbers of its files stay, unless one is made or removed.
 pub record ChangesState (before : Shown) (pool : Pool) (x : VolumeState) (others : ℕ) (command : Command) (after : Shown) (left : Pool) (y : VolumeState) (result : Result Unit VolumeFault) : Type 0 where
   pub reads : Reads before pool after left
   pub changes : IsStanding before pool x → Changes (HasWithin x.name (volume_for before pool x) others pool.found.blocks) command x.name (volume_for before pool x) (volume_for after left y) result
@@ -85,6 +86,7 @@ pub record ChangesState (before : Shown) (pool : Pool) (x : VolumeState) (others
   pub table : IsStanding before pool x → KeepsTable before pool x after left y
   pub ready : IsReady after left y
   pub head : KeepsHead x y result
+  pub numbers : keeps_numbers command ≡ true → y.numbers ≡ x.numbers
   pub cause : CallCause (IsStanding before pool x) (standing_for before pool x) (lent_for pool x.map before 0 (home_in x) 0) after.faults result
 
 -- so it is of the volume of a slot, and the other volumes are as they were

@@ -1,7 +1,8 @@
 -- Where a session stands: on a disk, and for the machines that the two stand for together.
-use Rattle.std.specs.Prelude.{◌≡◌, ◌≤◌, ◌<◌, ◌+◌, ◌-◌, ◌⊎◌, ℕ, max, IsTrue, Option, Some, None}
+use Rattle.std.specs.Prelude.{◌≡◌, ◌≤◌, ◌<◌, ◌+◌, ◌-◌, ◌⊎◌, ℕ, max, true, IsTrue, Option, Some, None}
 use Rattle.std.specs.List.{sum_by}
 use Rattle.std.specs.FinMap as fin
+use Rattle.fv_bits.specs.Members.{is_member}
 use Rattle.fv_model.specs.Space.{charge, overhead}
 use Rattle.fv_disk.specs.Shown.{Image, Shown, IsSettled}
 use Rattle.fv_store.specs.Held.{StandsOn}
@@ -44,7 +45,7 @@ unwritten session = pending_files session.volumes + taken_since session.pool.map
 -- no file is in memory, and no block was taken for one since the last point
 pub record IsWithoutFiles (session : Session) : Type 0 where
   pub none : HaveNoFiles session.volumes
-  pub same : session.pool.map.next ≡ session.pool.map.committed
+  pub taken : (b : ℕ) → is_member session.pool.map.next b ≡ true → is_member session.pool.map.committed b ≡ true
 
 -- the overheads of all volumes of a session, whether they changed or not
 abbrev pub overhead_by : Option VolumeState → ℕ

@@ -13,6 +13,7 @@ ghost use Rattle.fv_aggregate.specs.declared.fault.Fault.TheVariants.{Memory};
 ghost use Rattle.fv_aggregate.specs.Adding.{IsAdded};
 ghost use Rattle.fv_aggregate.specs.Calls.{Goes, GoesFor, IsForWant, KeepsAsking};
 ghost use Rattle.fv_aggregate.specs.Commands.{dirty_limit, is_refusal};
+ghost use Rattle.fv_aggregate.specs.Known.{KeepsNumbers};
 ghost use Rattle.fv_aggregate.specs.Standing.{IsWithoutFiles, Stands, StandsFor};
 
 use crate::fault::Fault;
@@ -45,6 +46,7 @@ impl Session {
         ensures calm { self.old.pending + overhead (span_of size 0 0) ≤ dirty_limit → disk.new ≡ disk.old }
         ensures files { IsTrue (D.shown disk.old).tells → IsWithoutFiles self.old → OnOk result (IsWithoutFiles self.new) }
         ensures wanting { self.old.pending + overhead (span_of size 0 0) ≤ dirty_limit → IfErr result (λ e. e ≡ Memory → self.new ≡ self.old) }
+        ensures numbers { IsNone self.new.failed → KeepsNumbers self.old.volumes self.new.volumes }
     {
         match self.volumes.admit(self.pool.found.blocks, name, size, kind) {
             Ok(admitted) => self.make(disk, name, size, kind, admitted),
@@ -74,6 +76,7 @@ impl Session {
         ensures calm { self.old.pending + overhead admitted.span ≤ dirty_limit → disk.new ≡ disk.old }
         ensures files { IsTrue (D.shown disk.old).tells → IsWithoutFiles self.old → OnOk result (IsWithoutFiles self.new) }
         ensures wanting { self.old.pending + overhead admitted.span ≤ dirty_limit → IfErr result (λ e. e ≡ Memory → self.new ≡ self.old) }
+        ensures numbers { IsNone self.new.failed → KeepsNumbers self.old.volumes self.new.volumes }
     {
         let room = u64::from(overhead(admitted.span()));
         self.make_room(disk, room)?;

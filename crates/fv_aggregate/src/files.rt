@@ -1,25 +1,26 @@
 //! The commands that change files.
 
-ghost use Rattle.std.specs.Prelude.{◌≡◌, ◌≤◌, ◌<◌, ◌+◌, ◌-◌, ◌^◌, ℕ, max, min, is_some, false, true, Some, None, Ok, IsTrue, IsNone, IfOk, IfSome, if◌then◌else◌, option_copied};
+ghost use Rattle.std.specs.Prelude.{◌≡◌, ◌≤◌, ◌<◌, ◌+◌, ◌-◌, ◌^◌, ℕ, max, min, is_some, false, true, Some, None, Ok, IsTrue, IsNone, IfOk, IfSome, OnOk, if◌then◌else◌, option_copied};
 ghost use Rattle.fv_container.specs.Chains.{slot_count};
 ghost use Rattle.fv_cp.specs.Placing.{pending_by, IsReadyIn};
 ghost use Rattle.fv_disk.specs.DiskCalls.{OnlyReads};
 ghost use Rattle.fv_model.specs.declared.answers.Refusal.TheVariants.{NoVolume, Range};
 ghost use Rattle.fv_model.specs.declared.answers.Reply.TheVariants.{Refused};
-ghost use Rattle.fv_volume.specs.Changing.{IsChangeOf};
+ghost use Rattle.fv_volume.specs.Changing.{keeps_numbers, IsChangeOf};
 ghost use Rattle.fv_volume.specs.Files.{IsLabelled};
 ghost use Rattle.fv_volume.specs.OneVolume.{IsReady};
 ghost use Rattle.fv_volume.specs.Slots.{committed_by, sum_of, NoneHasName};
 ghost use Rattle.fv_volume.specs.States.{state_at};
 ghost use Rattle.fv_aggregate.specs.Calls.{IsUntouched};
-ghost use Rattle.fv_aggregate.specs.Commands.{changed_by, dirty_limit, file_room, has_range};
+ghost use Rattle.fv_aggregate.specs.Commands.{changed_by, dirty_limit, file_room, finds_file, has_range};
+ghost use Rattle.fv_aggregate.specs.Known.{KeepsNumbersBut, KnowsNamed, KnowsNumbers, MayLose};
 ghost use Rattle.fv_aggregate.specs.Looking.{ChangesSlot, ChangesState, HasJudged, IsAimed, JudgesSlot, JudgesState, Makes, done_as, refusal_in};
 ghost use Rattle.fv_aggregate.specs.Standing.{Stands};
 
 use crate::fault::Fault;
 use crate::session::Session;
 use fv_disk::Disk;
-use fv_model::{Command, Name, Refusal, Reply, in_index, in_reserve};
+use fv_model::{Command, Name, Refusal, Reply, in_index, in_reserve, in_size};
 use fv_volume::{Pool, VolumeFault, VolumeState, Volumes};
 use std::alloc::Global;
 
@@ -50,11 +51,12 @@ fn volume_if(is: bool, volume: &Name) -> Option<&Name>
     if is { Some(volume) } else { None }
 }
 
-/// Whether the number of a command on files is in its range.
+/// Whether the number of a command on a volume that is there is in its range.
 pub(crate) fn is_in_range(command: &Command) -> bool
     ensures { result ≡ has_range command.now }
 {
     match command {
+        Command::VolResize { size, .. } => in_size(u64::from(*size)),
         Command::Put { index, .. } => in_index(u64::from(*index)),
         Command::Get { index, .. } => in_index(u64::from(*index)),
         Command::Cut { length, .. } => in_reserve(u64::from(*length)),
@@ -76,6 +78,8 @@ impl Session {
         ensures makes { Makes (D.shown disk.old) self.old command.now (D.shown disk.new) self.new result }
         ensures range { has_range command.now ≡ false → (result ≡ Ok (Refused Range)) × IsUntouched disk.old self.old disk.new self.new }
         ensures missing { has_range command.now ≡ true → NoneHasName self.old.volumes volume.now → result ≡ Ok (Refused NoVolume) }
+        ensures kept { IsNone self.new.failed → KeepsNumbersBut (MayLose command.now self.old.volumes) self.old.volumes self.new.volumes }
+        ensures finds { finds_file command.now ≡ true → has_range command.now ≡ true → OnOk result (KnowsNamed self.old.volumes volume.now self.new.volumes) }
     {
         if !is_in_range(command) {
             return Ok(Reply::Refused(Refusal::Range));
@@ -96,7 +100,9 @@ impl Session {
         requires fresh { IsNone self.old.failed }
         requires stands { Stands (D.shown disk.old) self.old }
         requires aimed { IsAimed self.old.volumes slot command.now }
-        ensures { Makes (D.shown disk.old) self.old command.now (D.shown disk.new) self.new result }
+        ensures makes { Makes (D.shown disk.old) self.old command.now (D.shown disk.new) self.new result }
+        ensures kept { IsNone self.new.failed → KeepsNumbersBut (λ s. (s ≡ slot) × (keeps_numbers command.now ≡ false)) self.old.volumes self.new.volumes }
+        ensures finds { finds_file command.now ≡ true → OnOk result (KnowsNumbers (state_at self.new.volumes slot)) }
     {
         self.read_numbers(disk, slot)?;
         self.decide(disk, slot, command)
@@ -108,7 +114,8 @@ impl Session {
         requires fresh { IsNone self.old.failed }
         requires stands { Stands (D.shown disk.old) self.old }
         requires aimed { IsAimed self.old.volumes slot command.now }
-        ensures { Makes (D.shown disk.old) self.old command.now (D.shown disk.new) self.new result }
+        ensures makes { Makes (D.shown disk.old) self.old command.now (D.shown disk.new) self.new result }
+        ensures kept { IsNone self.new.failed → KeepsNumbersBut (λ s. (s ≡ slot) × (keeps_numbers command.now ≡ false)) self.old.volumes self.new.volumes }
     {
         if self.has_room(FILE_ROOM) {
             return self.carry_out(disk, slot, command);
@@ -128,9 +135,10 @@ impl Session {
         requires fresh { IsNone self.old.failed }
         requires stands { Stands (D.shown disk.old) self.old }
         requires aimed { IsAimed self.old.volumes slot command.now }
-        ensures { HasJudged (D.shown disk.old) self.old command.now (D.shown disk.new) self.new result }
+        ensures judged { HasJudged (D.shown disk.old) self.old command.now (D.shown disk.new) self.new result }
+        ensures volumes { self.new.volumes ≡ self.old.volumes }
     {
-        let others = commits_beside(&self.volumes, slot);
+        let others = self.volumes.commits_beside(slot);
         let judged = judge_slot(
             self.alloc,
             &mut self.volumes,
@@ -156,8 +164,9 @@ impl Session {
         requires aimed { IsAimed self.old.volumes slot command.now }
         ensures makes { Makes (D.shown disk.old) self.old command.now (D.shown disk.new) self.new result }
         ensures reads { OnlyReads (D.shown disk.old) (D.shown disk.new) }
+        ensures kept { KeepsNumbersBut (λ s. (s ≡ slot) × (keeps_numbers command.now ≡ false)) self.old.volumes self.new.volumes }
     {
-        let others = commits_beside(&self.volumes, slot);
+        let others = self.volumes.commits_beside(slot);
         let before = pending_at(&self.volumes, slot);
         let made = change_slot(
             self.alloc,
@@ -274,20 +283,6 @@ fn change_state<D: Disk>(
     ensures { ChangesState (D.shown disk.old) pool.old state.old others command.now (D.shown disk.new) pool.new state.new result }
 {
     state.change(alloc, pool, disk, others, command)
-}
-
-/// What all volumes but that of a slot commit together, in blocks.
-fn commits_beside(volumes: &Volumes, slot: u8) -> u64
-    requires slot { slot < slot_count }
-    requires each { (s : ℕ) → IfSome (state_at volumes.now s) (IsLabelled s) }
-    ensures sum { result ≡ sum_of volumes.now - committed_by (state_at volumes.now slot) }
-    ensures most { result ≤ 2 ^ 62 }
-{
-    let own = match volumes.get(slot) {
-        Some(state) => state.ledger.commit(),
-        None => 0,
-    };
-    volumes.commits().saturating_sub(own)
 }
 
 /// How many blocks a flush of the volume of a slot places at most.

@@ -4,6 +4,7 @@
 mod adding;
 mod fault;
 mod files;
+mod managing;
 mod numbers;
 mod opening;
 mod points;

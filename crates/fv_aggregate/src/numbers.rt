@@ -5,7 +5,8 @@ ghost use Rattle.fv_container.specs.Chains.{slot_count};
 ghost use Rattle.fv_cp.specs.Placing.{IsReadyIn};
 ghost use Rattle.fv_volume.specs.OneVolume.{IsReady};
 ghost use Rattle.fv_volume.specs.States.{state_at};
-ghost use Rattle.fv_aggregate.specs.Numbering.{HasNumbered, KnowsNumbers, NumbersSlot, NumbersState};
+ghost use Rattle.fv_aggregate.specs.Known.{KnowsNumbers};
+ghost use Rattle.fv_aggregate.specs.Numbering.{HasNumbered, NumbersSlot, NumbersState};
 ghost use Rattle.fv_aggregate.specs.Standing.{Stands};
 
 use crate::fault::Fault;
@@ -23,6 +24,8 @@ impl Session {
         requires slot { slot < slot_count }
         requires there { is_some (state_at self.old.volumes slot) ≡ true }
         ensures there { OnOk result (KnowsNumbers (state_at self.new.volumes slot)) }
+        ensures idle { KnowsNumbers (state_at self.old.volumes slot)
+            → (disk.new ≡ disk.old) × ((self.new.pool ≡ self.old.pool) × (self.new.volumes ≡ self.old.volumes)) }
         ensures numbered { HasNumbered (D.shown disk.old) self.old (D.shown disk.new) self.new result }
     {
         let read = read_slot(self.alloc, &mut self.volumes, &mut self.pool, disk, slot);
@@ -44,7 +47,8 @@ fn read_slot<D: Disk>(
     requires slot { slot < slot_count }
     requires there { is_some (state_at volumes.old slot) ≡ true }
     requires ready { IfSome (state_at volumes.old slot) (IsReadyIn (D.shown disk.old) pool.old slot) }
-    ensures { NumbersSlot (D.shown disk.old) pool.old volumes.old slot (state_at volumes.old slot) (D.shown disk.new) pool.new volumes.new result }
+    ensures read { NumbersSlot (D.shown disk.old) pool.old volumes.old slot (state_at volumes.old slot) (D.shown disk.new) pool.new volumes.new result }
+    ensures idle { KnowsNumbers (state_at volumes.old slot) → (disk.new ≡ disk.old) × ((pool.new ≡ pool.old) × (volumes.new ≡ volumes.old)) }
 {
     match volumes.get_mut(slot) {
         Some(state) => read_state(state, alloc, pool, disk),
@@ -60,7 +64,8 @@ fn read_state<D: Disk>(
     disk: &mut D,
 ) -> Result<(), BlockFault>
     requires ready { IsReady (D.shown disk.old) pool.old state.old }
-    ensures { NumbersState (D.shown disk.old) pool.old state.old (D.shown disk.new) pool.new state.new result }
+    ensures read { NumbersState (D.shown disk.old) pool.old state.old (D.shown disk.new) pool.new state.new result }
+    ensures idle { is_some state.old.numbers ≡ true → (disk.new ≡ disk.old) × ((pool.new ≡ pool.old) × (state.new ≡ state.old)) }
 {
     state.read_numbers(alloc, pool, disk)
 }

@@ -10,6 +10,7 @@ ghost use Rattle.fv_aggregate.specs.declared.fault.Fault.TheVariants.{Memory};
 ghost use Rattle.fv_aggregate.specs.Adding.{HasRoom, IsPointed, StillAdmits};
 ghost use Rattle.fv_aggregate.specs.Calls.{Goes, GoesFor, IsForWant, KeepsAsking};
 ghost use Rattle.fv_aggregate.specs.Commands.{dirty_limit};
+ghost use Rattle.fv_aggregate.specs.Known.{KeepsNumbers};
 ghost use Rattle.fv_aggregate.specs.Standing.{IsWithoutFiles, Stands, StandsFor};
 
 use crate::fault::Fault;
@@ -41,6 +42,7 @@ impl Session {
         ensures cores { OnOk result (KeepCores self.old.volumes self.new.volumes) }
         ensures calm { self.old.pending + room ≤ dirty_limit → (disk.new ≡ disk.old) × (self.new ≡ self.old) }
         ensures files { IsTrue (D.shown disk.old).tells → IsWithoutFiles self.old → OnOk result (IsWithoutFiles self.new) }
+        ensures numbers { IsNone self.new.failed → KeepsNumbers self.old.volumes self.new.volumes }
     {
         if self.has_room(room) {
             Ok(())
@@ -71,6 +73,7 @@ impl Session {
         ensures left { OnOk result (IsPointed (D.shown disk.old) self.old self.new) }
         ensures reply { IfOk result (λ reply. reply ≡ Done) }
         ensures files { IsTrue (D.shown disk.old).tells → OnOk result (IsWithoutFiles self.new) }
+        ensures numbers { IsNone self.new.failed → KeepsNumbers self.old.volumes self.new.volumes }
     {
         self.point(disk, 0)?;
         Ok(Reply::Done)
@@ -93,6 +96,7 @@ impl Session {
         ensures room { IsTrue (D.shown disk.old).tells → (last m : Machine) → StandsFor (D.shown disk.old) self.old last m
             → (room : ℕ) → commits m + 2 * room ≤ capacity m.blocks → OnOk result (HasRoom (D.shown disk.new) self.new room) }
         ensures left { OnOk result (IsPointed (D.shown disk.old) self.old self.new) }
+        ensures numbers { IsNone self.new.failed → KeepsNumbers self.old.volumes self.new.volumes }
     {
         let before = disk.write_faults();
         match full_point(&mut self.volumes, &mut self.pool, disk, want) {

@@ -10,7 +10,8 @@ ghost use Rattle.fv_volume.specs.OneVolume.{IsReady};
 ghost use Rattle.fv_volume.specs.Slots.{NoneHasName};
 ghost use Rattle.fv_volume.specs.States.{state_at};
 ghost use Rattle.fv_aggregate.specs.Calls.{IsUntouched};
-ghost use Rattle.fv_aggregate.specs.Commands.{has_range, is_get, volume_asked};
+ghost use Rattle.fv_aggregate.specs.Commands.{finds_file, has_range, is_get, volume_asked};
+ghost use Rattle.fv_aggregate.specs.Known.{KeepsNumbers, KnowsNamed, KnowsNumbers};
 ghost use Rattle.fv_aggregate.specs.Looking.{AsksSlot, AsksState, Breaks, IsAsked, Looks, Replied};
 ghost use Rattle.fv_aggregate.specs.Standing.{Stands, StandsFor};
 
@@ -42,6 +43,8 @@ impl Session {
         ensures missing { has_range command.now ≡ true → NoneHasName self.old.volumes volume.now → result ≡ Ok (Refused NoVolume) }
         ensures steps { is_get command.now ≡ false → steps.new ≡ steps.old }
         ensures known { IsTrue (D.shown disk.old).tells → (last m : Machine) → StandsFor (D.shown disk.old) self.old last m → OnOk result (steps.new ≡ steps.old) }
+        ensures kept { KeepsNumbers self.old.volumes self.new.volumes }
+        ensures finds { finds_file command.now ≡ true → has_range command.now ≡ true → OnOk result (KnowsNamed self.old.volumes volume.now self.new.volumes) }
     {
         if !is_in_range(command) {
             return Ok(Reply::Refused(Refusal::Range));
@@ -53,7 +56,7 @@ impl Session {
     }
 
     /// Answers a command that asks for files of the volume of a slot. `get` and `len` have the numbers of its files in memory; `ls` reads all
-    /// names itself.
+    /// names itself, and so would a snapshot's.
     fn look_at<D: Disk, L: Ledger>(
         &mut self,
         disk: &mut D,
@@ -67,14 +70,14 @@ impl Session {
         ensures looks { Looks (D.shown disk.old) self.old command.now (D.shown disk.new) self.new result }
         ensures steps { is_get command.now ≡ false → steps.new ≡ steps.old }
         ensures known { IsTrue (D.shown disk.old).tells → (last m : Machine) → StandsFor (D.shown disk.old) self.old last m → OnOk result (steps.new ≡ steps.old) }
+        ensures kept { KeepsNumbers self.old.volumes self.new.volumes }
+        ensures finds { finds_file command.now ≡ true → OnOk result (KnowsNumbers (state_at self.new.volumes slot)) }
     {
-        match command {
-            Command::Ls { .. } => self.ask(disk, slot, command, steps),
-            _ => {
-                self.read_numbers(disk, slot)?;
-                self.ask(disk, slot, command, steps)
-            }
+        if !finds(command) {
+            return self.ask(disk, slot, command, steps);
         }
+        self.read_numbers(disk, slot)?;
+        self.ask(disk, slot, command, steps)
     }
 
     /// Asks the volume of a slot.
@@ -91,6 +94,7 @@ impl Session {
         ensures looks { Looks (D.shown disk.old) self.old command.now (D.shown disk.new) self.new result }
         ensures steps { is_get command.now ≡ false → steps.new ≡ steps.old }
         ensures known { IsTrue (D.shown disk.old).tells → (last m : Machine) → StandsFor (D.shown disk.old) self.old last m → OnOk result (steps.new ≡ steps.old) }
+        ensures volumes { self.new.volumes ≡ self.old.volumes }
     {
         let asked = ask_slot(
             self.alloc,
@@ -133,6 +137,19 @@ impl Session {
                 Fault::DiskFault
             }
         }
+    }
+}
+
+/// Whether a command finds a file of a volume by its name, and leaves the names of all files; in a snapshot it finds none.
+fn finds(command: &Command) -> bool
+    ensures { result ≡ finds_file command.now }
+{
+    match command {
+        Command::Put { .. } => true,
+        Command::Cut { .. } => true,
+        Command::Get { snapshot, .. } => snapshot.is_none(),
+        Command::Len { snapshot, .. } => snapshot.is_none(),
+        _ => false,
     }
 }
 

@@ -15,8 +15,9 @@ ghost use Rattle.fv_aggregate.specs.Asking.{AsksWithin};
 ghost use Rattle.fv_disk.specs.DiskCalls.{OnlyReads};
 ghost use Rattle.fv_aggregate.specs.Calls.{CountsSteps, Goes, GoesFor, IsForWant, IsOnFiles, IsPlain, KeepsAsking, SameCounts};
 ghost use Rattle.fv_aggregate.specs.Causes.{HasOpenCause, IsUnwritten, OpenFails};
-ghost use Rattle.fv_aggregate.specs.Commands.{Replies, changed_by, dirty_limit, machine_after, reads_files, room_of};
+ghost use Rattle.fv_aggregate.specs.Commands.{Replies, changed_by, changes_volume, dirty_limit, machine_after, reads_files, room_of};
 ghost use Rattle.fv_aggregate.specs.Opening.{IsFresh, IsOpened};
+ghost use Rattle.fv_aggregate.specs.Known.{KeepsNumbers, KeepsNumbersBut, MayLose};
 ghost use Rattle.fv_aggregate.specs.Standing.{IsWithoutFiles, Stands, StandsFor, charged_in};
 ghost use Rattle.fv_aggregate.specs.Telling.{charged_from};
 
@@ -93,8 +94,8 @@ impl Session {
 
     /// Applies a command, and answers the machine's reply, refusals included. A command whose room, in blocks, would pass the dirty
     /// limit of 256 together with the blocks pending is preceded by a consistency point; one that is refused is refused before that, and
-    /// changes nothing but the cache and the numbers of files in memory. So far `vol create`, `vol list`, `cp`, `new` without a reserve,
-    /// `put`, `get`, `len`, `cut`, `rm` and `ls` are built, and every other command is refused as none.
+    /// changes nothing but the cache and the numbers of files in memory. So far the commands that begin with `vol`, `cp`, `new` without a
+    /// reserve, `put`, `get`, `len`, `cut`, `rm` and `ls` are built, and every other command is refused as none.
     ///
     /// `steps` counts the unknown pointers that a `get` passes; there are none in what a session stands for yet.
     ///
@@ -111,8 +112,10 @@ impl Session {
     /// block and each node over them, and the session then holds each name with its number, and each free number below the greatest that
     /// is taken; a later one finds its file by these, and costs nothing for the others, unless memory lacked when a file was made or removed.
     /// Where room has to be made the command is judged first, which costs its reads twice, from the cache where they fit there. `vol create`
-    /// costs a step for each VVBN of the new volume, and holds an entry for each. Where a consistency point runs it costs what
-    /// `consistency_point` does. `docs/SPACE.md` has the dirty limit, and `docs/MACHINE.md` the commands.
+    /// costs a step for each VVBN of the new volume, and holds an entry for each. `vol stat`, `vol resize` and `vol guarantee` take no memory
+    /// and walk nothing but the slots; `vol destroy` takes none, either, and costs a step for each entry and each node of the volume's
+    /// container. Where a consistency point runs it costs what `consistency_point` does. `docs/SPACE.md` has the dirty limit, and
+    /// `docs/MACHINE.md` the commands.
     pub fn apply<D: Disk, L: Ledger>(
         &mut self,
         disk: &mut D,
@@ -121,7 +124,7 @@ impl Session {
     ) -> Result<Reply, Fault>
         requires stands { IsNone self.old.failed → Stands (D.shown disk.old) self.old }
         ensures goes { Goes (room_of command.now) (D.shown disk.old) self.old (D.shown disk.new) self.new result }
-        ensures asks { changed_by command.now ≡ None → KeepsAsking (room_of command.now) (D.shown disk.old) self.old (D.shown disk.new) self.new }
+        ensures asks { changes_volume command.now ≡ false → KeepsAsking (room_of command.now) (D.shown disk.old) self.old (D.shown disk.new) self.new }
         ensures goes_for { IsTrue (D.shown disk.old).tells → (last m : Machine) → StandsFor (D.shown disk.old) self.old last m
             → GoesFor (D.shown disk.old) last m (machine_after m command.now) (D.shown disk.new) self.new result }
         ensures reply { IsTrue (D.shown disk.old).tells → (last m : Machine) → StandsFor (D.shown disk.old) self.old last m
@@ -133,6 +136,7 @@ impl Session {
         ensures calm { command.now ≢ Cp → (room_of command.now ≡ 0) ⊎ (self.old.pending + room_of command.now ≤ dirty_limit) → OnlyReads (D.shown disk.old) (D.shown disk.new) }
         ensures files { IsTrue (D.shown disk.old).tells → changed_by command.now ≡ None → IsWithoutFiles self.old → OnOk result (IsWithoutFiles self.new) }
         ensures steps { CountsSteps command.now (D.shown disk.old) self.old steps.old steps.new result }
+        ensures numbers { IsNone self.new.failed → KeepsNumbersBut (MayLose command.now self.old.volumes) self.old.volumes self.new.volumes }
         ensures dead { IsSome self.old.failed → disk.new ≡ disk.old }
     {
         if let Some(faults) = self.failed {
@@ -147,7 +151,7 @@ impl Session {
             Command::Ls { volume, .. } => self.look(disk, volume, command, steps),
             _ => match changed_volume(command) {
                 Some(volume) => self.change(disk, volume, command),
-                None => Ok(Reply::Refused(Refusal::Syntax)),
+                None => Ok(self.manage(command)),
             },
         }
     }
@@ -174,6 +178,7 @@ impl Session {
         ensures left { OnOk result (IsPointed (D.shown disk.old) self.old self.new) }
         ensures kept { IsTrue (D.shown disk.old).tells → (last m : Machine) → StandsFor (D.shown disk.old) self.old last m
             → IsNone self.new.failed → OnErr result (StandsFor (D.shown disk.new) self.new last m) }
+        ensures numbers { IsNone self.new.failed → KeepsNumbers self.old.volumes self.new.volumes }
         ensures dead { IsSome self.old.failed → disk.new ≡ disk.old }
     {
         match self.failed {

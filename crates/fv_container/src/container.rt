@@ -4,7 +4,7 @@ ghost use Rattle.std.specs.Prelude.{◌≡◌, ◌<◌, ◌≤◌, ◌+◌, ℕ,
 ghost use Rattle.std.specs.FinSet as set;
 ghost use Rattle.fv_codec.specs.Blocks.{last_place};
 ghost use Rattle.fv_disk.specs.Sparing.{Spares};
-ghost use Rattle.fv_container.specs.Written.{blocks_needed};
+ghost use Rattle.fv_container.specs.Written.{HasReleased, blocks_needed};
 ghost use Rattle.fv_container.specs.Flushed.{IsApart, IsFlushed, IsMoved, Loses, WasTaken, without_value};
 ghost use Rattle.fv_disk.specs.Shown.{Shown};
 ghost use Rattle.fv_image.specs.Containers.{height_of, level_width, most_entries};
@@ -20,7 +20,7 @@ use crate::flush::flush_tree;
 use crate::free::Free;
 use crate::layout::{filled, node_count};
 use crate::load::read_tree;
-use crate::places::root_number;
+use crate::places::{release_places, root_number};
 use crate::steps::Steps;
 use fv_disk::{Disk, Failed};
 use fv_store::Store;
@@ -214,6 +214,14 @@ impl Container {
         flush_tree(store, disk, map, &self.entries, &self.tree, &mut self.next)?;
         std::mem::swap(&mut self.tree, &mut self.next);
         Ok(self.tree[root_number(self.entries.len())])
+    }
+
+    /// Gives the blocks of the tree back that the disk has, for a container that no root will name any more. It stays as it is. Costs a
+    /// step for each node of the tree.
+    pub fn release_tree<F: Free>(&self, map: &mut F)
+        ensures { HasReleased (F.room map.old) self.now.tree (length self.now.tree) (F.room map.new) }
+    {
+        release_places(map, &self.tree);
     }
 
     /// The entry of a VVBN, where the container has it.

@@ -3,6 +3,7 @@
 use Rattle.std.proofs.Common.{◌≡◌, ℕ, ◌<◌, false, List, length, get_or, refl, sym, ap, subst, ◌∙◌, Ok, Bool, true, inl}
 use Rattle.std.specs.Prelude.{Option, Some, None, IfSome, IsTrue, Result}
 use Rattle.std.specs.FinMap as fin
+use Rattle.std.specs.Option.{option_map}
 use Rattle.std.specs.Ordering.{nat_cmp}
 use Rattle.fv_disk.specs.Shown.{Image, Shown, IsDisk}
 use Rattle.fv_disk.specs.Crash.{Leaves}
@@ -31,7 +32,7 @@ use Rattle.fv_store.specs.Held.{StandsOn}
 use Rattle.fv_aggmap.specs.Space.{Space}
 use Rattle.fv_volume.specs.declared.pool.Pool.{Pool}
 use Rattle.fv_volume.specs.declared.state.VolumeState.{VolumeState}
-use Rattle.fv_volume.specs.Housed.{AreHoused, as_written, settled_at}
+use Rattle.fv_volume.specs.Housed.{AreHoused, as_written, settled_as, settled_at}
 use Rattle.fv_volume.specs.Keeping.{Blocks, seen as block_seen, seen}
 use Rattle.fv_volume.specs.Loading.{IsLoaded, label_of}
 use Rattle.fv_volume.specs.States.{States, label_in_state, placed_in, state_at, view_over}
@@ -48,14 +49,15 @@ use Rattle.fv_volume.proofs.StoredTold.{entry_stays, stays_in, undelayed, past_c
 use Rattle.fv_volume.proofs.Told.{head_at, is_inside}
 use Rattle.fv_volume.proofs.Viewed.{entry_of}
 use Rattle.fv_volume.proofs.Waiting.{none_waits}
-use Rattle.fv_cp.specs.Course.{HasCome, IsOnCourse, as_lent, found_with, renewed, IsCourse, StaysFrom}
+use Rattle.fv_cp.specs.Course.{HasCome, IsOnCourse, as_lent, found_with, label_lent, renewed, IsCourse, StaysFrom}
 use Rattle.fv_cp.specs.Lent.{FitTogether, IsLent, IsLentAt}
 use Rattle.fv_cp.specs.Points.{GoesOn, IsPoint, IsSwitched, OldOrLent, machine_lent}
 use Rattle.fv_volume.proofs.RootFound.{found_still, map_now, next_in_range, fixed_taken}
-use Rattle.std.proofs.lemmas.Option.{same_Some}
+use Rattle.std.proofs.lemmas.Option.{none-some, same_Some}
 use Rattle.fv_image.specs.Reclaimed.{IsAllocatable}
 use Rattle.fv_volume.specs.Files.{IsLabelled}
 use Rattle.fv_volume.specs.UnderRoot.{AllStandUnder, StandsUnder}
+use Rattle.fv_volume.proofs.Emptied.{none_stands}
 use Rattle.fv_volume.proofs.Staying.{entry_kept, kept_stands, place_is}
 use Rattle.fv_volume.proofs.StoredSlot.{stored_stands}
 use Rattle.fv_disk.specs.declared.Failed.{Failed}
@@ -135,12 +137,17 @@ module _ (disk : Shown) (pool : Pool) (states : States) (fit : FitTogether pool 
       };
       unkept = kept ∙ come.kept;
       settled = λ s. (get_or labels s 0, settled s);
+      free = λ s inside none. ap (λ (x : Found). label_place (root_found x) s) found_last ∙ place_is (found_with pool.found labels) s inside ∙ come.free s inside (was (state_at states s) (get_or labels s 0) (sym (settled s) ∙ none));
       parents = λ s. ap (λ (x : Slots). parent_at x s) containers ∙ come.housed.parents s ∙ sym (fit.housed.parents s);
       blocks = ap (λ (x : Found). x.blocks) found_last;
     }
       where
         done : IsTrue disk.tells → IsCommitted mid left.found (root_with pool labels) left.map.next new
         done tells = committed (subst IsTrue (sym come.spares.counted.tells) tells)
+
+        was : (o : Option VolumeState) (label : ℕ) → ◌≡◌ {A = Option VolumeState} (option_map (settled_as label) o) None → o ≡ None
+        was None label e = refl
+        was (Some x) label e = cc
 
 -- ---- over a disk
 
@@ -182,6 +189,13 @@ module _ (disk : Shown) (pool : Pool) (states : States) (before : Machine) (lent
   stands : (s : ℕ) → s < 64 → StandsUnder mid.reads f s (settled_at labels states s) (container_at left.containers s)
   stands s inside = subst (λ (o : Option VolumeState). StandsUnder mid.reads f s o (container_at left.containers s)) (sym (settled_is s inside)) (by (is.each s inside))
     where
+      as_it_was : (o : Option VolumeState) (c : Option Mapped) → get_or labels s 0 ≡ label_lent o (get_or pool.found.root.labels s 0) → IsLentAt disk.reads pool.found s o c → IfSome o (λ x. x.changed ≡ false) → StandsUnder mid.reads f s o c
+      as_it_was None None named slot unchanged = none_stands f mid.reads s (place_is f s inside ∙ named)
+      as_it_was None (Some map) named slot unchanged = absurd slot
+      as_it_was (Some x) None named slot unchanged = absurd slot
+      as_it_was (Some x) (Some map) named slot unchanged =
+          still_stands pool.found f disk.reads mid.reads s inside (place_is f s inside ∙ named ∙ sym (place_is pool.found s inside)) agrees lent.tells.sound refl (Some x) (Some map) (slot.unchanged unchanged)
+
       by : IsOnCourse pool states (seen pool.kept disk.reads) 64 s (is.now s) (get_or labels s 0) (container_at left.containers s) mid.reads → StandsUnder mid.reads f s (is.now s) (container_at left.containers s)
       by (renewed x low there changed now r) =
           let lies : (b : ℕ) → is_of x (get_or labels s 0) r.new b ≡ true → IsAllocatable u.blocks b = λ b of. (is.spaced.held s b inside ((λ k. has_block (now k) (r.now k) b) ∙ of)).1 in
@@ -190,8 +204,7 @@ module _ (disk : Shown) (pool : Pool) (states : States) (before : Machine) (lent
           (past_clear pool states disk.reads fit.housed lent.tables lent.reach s x inside there) lies))
       by (as_lent waits at) =
           subst (λ (o : Option VolumeState). StandsUnder mid.reads f s o (container_at left.containers s)) (sym at.state) (subst (λ (c : Option Mapped). StandsUnder mid.reads f s (state_at states s) c) (sym at.lies)
-          (still_stands pool.found f disk.reads mid.reads s inside (place_is f s inside ∙ at.named ∙ sym (place_is pool.found s inside)) agrees lent.tells.sound refl (state_at states s) (container_at pool.containers s)
-          (loaded_from_lent disk.reads pool.found s (state_at states s) (container_at pool.containers s) (lent.slots s inside) (none_waits (state_at states s) s inside waits))))
+          (as_it_was (state_at states s) (container_at pool.containers s) at.named (lent.slots s inside) (none_waits (state_at states s) s inside waits)))
 
   -- an entry that stays has its block
   block_kept : (s v : ℕ) (x : VolumeState) → s < 64 → state_at states s ≡ Some x → stays x v ≡ true → placed_in fin.empty mid.reads (own_entry (container_at left.containers s) v) ≡ placed_in pool.kept disk.reads (own_entry (container_at pool.containers s) v)
@@ -310,7 +323,7 @@ module _ (disk : Shown) (pool : Pool) (states : States) (before : Machine) (lent
     places_stay = of_each states fit.housed.volumes (λ s o. IfSome o (λ x. x.changed ≡ false → label_place u s ≡ label_place (root_found pool.found) s)) (λ s. tt) (λ x there unchanged.
         let inside = is_inside states x.slot x fit.housed.long there in
         let same : IfSome (state_at states x.slot) (λ y. y.changed ≡ false) = subst (λ (o : Option VolumeState). IfSome o (λ y. y.changed ≡ false)) (sym there) unchanged in
-        sym (loaded_then x.slot inside).label ∙ ap label_in_state (settled_same (state_at states x.slot) (get_or labels x.slot 0) same) ∙ (loaded_from_lent disk.reads pool.found x.slot (state_at states x.slot) (container_at pool.containers x.slot) (lent.slots x.slot inside) same).label)
+        sym (loaded_then x.slot inside).label ∙ ap label_in_state (settled_same (state_at states x.slot) (get_or labels x.slot 0) same) ∙ (loaded_from_lent disk.reads pool.found x.slot (state_at states x.slot) (container_at pool.containers x.slot) (lent.slots x.slot inside) same (λ none. absurd (none-some x (sym none ∙ there)))).label)
 
     -- each volume's table is told as before
     tables_stay : (s : ℕ) → IfSome (state_at states s) (λ x. active_in (view_over last stay new.reads) no_trees s ≡ active_in w no_trees s)

@@ -1,5 +1,5 @@
 -- Volumes that are held, with no file in memory and stored well, can be lent to a point, and volumes that could be lent are held.
-use Rattle.std.proofs.Common.{◌≡◌, ℕ, Bool, true, not, ◌||◌, List, Option, Some, None, refl, ap, subst, arith, length, false}
+use Rattle.std.proofs.Common.{◌≡◌, ℕ, ◌<◌, Bool, true, not, ◌||◌, List, Option, Some, None, refl, ap, subst, arith, length, false}
 use Rattle.std.specs.Prelude.{IfSome, map, ◌==◌, IsTrue}
 use Rattle.std.specs.List.{list_all}
 use Rattle.std.specs.Option.{option_map, option_map_or}
@@ -45,6 +45,8 @@ use Rattle.fv_container.specs.Chains.{container_at, slot_count}
 use Rattle.fv_volume.specs.Loading.{LoadedTo}
 use Rattle.fv_volume.proofs.LentSlots.{loaded_from_lent}
 use Rattle.fv_volume.proofs.SeenAlone as loaded_alone
+use Rattle.fv_image.specs.Held.{label_place}
+use Rattle.fv_root.specs.Finding.{root_found}
 
 -- ---- what is held can be lent
 
@@ -170,10 +172,10 @@ module _ (disk : Shown) (pool : Pool) (states : States) (before : Machine) (lent
 
 -- ---- nothing is in memory that isn't on the disk
 
-module _ (disk : Shown) (pool : Pool) (states : States) (m : Machine) (lent : IsLent disk pool states m) (fit : FitTogether pool states) (unchanged : (s : ℕ) → IfSome (state_at states s) (λ x. x.changed ≡ false)) (unkept : pool.kept ≡ fin.empty)
+module _ (disk : Shown) (pool : Pool) (states : States) (m : Machine) (lent : IsLent disk pool states m) (fit : FitTogether pool states) (unchanged : (s : ℕ) → IfSome (state_at states s) (λ x. x.changed ≡ false)) (free : (s : ℕ) → s < slot_count → state_at states s ≡ None → label_place (root_found pool.found) s ≡ 0) (unkept : pool.kept ≡ fin.empty)
     (few : length pool.containers.containers ≡ 64) (map : IsMapLoaded disk.reads pool.found pool.map) (tells : IsTrue disk.tells) (whole : (b : ℕ) → length (disk.reads b) ≡ 4096) (none : (s : ℕ) → HasNoFiles (state_at states s)) where
   loaded : LoadedTo disk.reads pool.found slot_count states pool.containers
-  loaded = record { each = λ s inside. loaded_from_lent disk.reads pool.found s (state_at states s) (container_at pool.containers s) (lent.slots s inside) (unchanged s) }
+  loaded = record { each = λ s inside. loaded_from_lent disk.reads pool.found s (state_at states s) (container_at pool.containers s) (lent.slots s inside) (unchanged s) (free s inside) }
 
   of_loaded : (P : VolumeState → Type 0) → ((x : VolumeState) → state_at states x.slot ≡ Some x → x.files ≡ None → P x) → (s : ℕ) → IfSome (state_at states s) P
   of_loaded P some s = of_each states fit.housed.volumes (λ s o. HasNoFiles o → IfSome o P) (λ s no_files. tt) some s (none s)

@@ -3,3 +3,4 @@ pub mod Ending
 pub mod Flushing
 pub mod Lendable
 pub mod Whole
+mod Clearing

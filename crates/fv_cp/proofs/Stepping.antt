@@ -4,6 +4,7 @@ use Rattle.std.specs.Prelude.{Option, Some, None, IfSome, IsTrue, sum_by}
 use Rattle.std.proofs.lemmas.Bool.{cases_eq, or_right}
 use Rattle.std.proofs.lemmas.Bool.Decides.{nat_tests}
 use Rattle.std.proofs.lemmas.List.{get_or-set_same, get_or-set_other}
+use Rattle.std.proofs.lemmas.Option.{none-some}
 use Rattle.fv_disk.specs.Shown.{Image, Shown}
 use Rattle.fv_model.specs.Machines.{Machine}
 use Rattle.fv_image.specs.Views.{entry_count}
@@ -24,7 +25,7 @@ use Rattle.fv_volume.proofs.Spacing.{LeavesSpaced, written_leaves}
 use Rattle.fv_volume.proofs.Stored.{stored, stored_still}
 use Rattle.fv_volume.proofs.Waiting.{waits_first, waits_on}
 use Rattle.fv_cp.specs.Lent.{IsLent, IsLentSlot, asked_by, blocks_asked}
-use Rattle.fv_cp.specs.Course.{HasCome, IsAsLent, IsCourse, IsOnCourse, IsSlotWritten, as_lent, renewed, GoesPast, IsPassed, asked_from}
+use Rattle.fv_cp.specs.Course.{AreNamedFor, HasCome, IsAsLent, IsCourse, IsOnCourse, IsSlotWritten, as_lent, label_lent, renewed, GoesPast, IsPassed, asked_from}
 use Rattle.fv_volume.proofs.LentSlots.{lent_slot, own_blocks}
 use Rattle.std.specs.FinMap as fin
 use Rattle.std.proofs.lemmas.List.Elements.{All-set}
@@ -40,11 +41,11 @@ use Rattle.std.proofs.lemmas.List.Sums.{sum_by-cons}
 
 -- ---- the start
 
-pub course_begins : (disk : Shown) (pool : Pool) (states : States) (before : Machine) → IsLent disk pool states before → (first i : Image) → ((b : ℕ) → i b ≡ first b) → IsCourse pool states first 0 pool.found.root.labels pool.map.next pool.containers i
-course_begins disk pool states before lent first i reads = record {
+pub course_begins : (disk : Shown) (pool : Pool) (states : States) (before : Machine) → IsLent disk pool states before → (labels : List ℕ) → AreNamedFor states pool.found.root.labels labels → (first i : Image) → ((b : ℕ) → i b ≡ first b) → IsCourse pool states first 0 labels pool.map.next pool.containers i
+course_begins disk pool states before lent labels named first i reads = record {
   now = state_at states;
   spaced = lent.spaced;
-  each = λ s inside. as_lent (waits_first s (state_at states s)) (record { state = refl; lies = refl; named = refl; stay = λ x map there lies v on some. reads (place_at map v) });
+  each = λ s inside. as_lent (waits_first s (state_at states s)) (record { state = refl; lies = refl; named = named.each s inside; stay = λ x map there lies v on some. reads (place_at map v) });
 }
 
 -- the course under other names of the same
@@ -198,12 +199,13 @@ asked_none states s past = ap (λ (xs : States). sum_by asked_by xs) (drop_of_le
 
 -- ---- the start
 
-pub come_first : (disk mid : Shown) (pool left : Pool) (states : States) (labels : List ℕ) → length labels ≡ 64 → labels ≡ pool.found.root.labels → IsInRange pool.found → StandsOn mid left.store.pairs → AreHoused pool.containers states → blocks_asked states ≤ free_blocks pool.map
+pub come_first : (disk mid : Shown) (pool left : Pool) (states : States) (labels : List ℕ) → AreNamedFor states pool.found.root.labels labels → StandsOn mid left.store.pairs → AreHoused pool.containers states → blocks_asked states ≤ free_blocks pool.map
     → left.map ≡ pool.map → left.containers ≡ pool.containers → left.found ≡ pool.found → left.kept ≡ fin.empty → Spares (IsTaken (on_disk pool.map)) disk mid (Ok tt)
     → (IsTrue disk.tells → (b : ℕ) → mid.reads b ≡ seen pool.kept disk.reads b) → HasCome disk pool states 0 labels left mid
-come_first disk mid pool left states labels long same range stands housed room map containers found kept spares reads = record {
-  long = long;
-  places = subst (λ (xs : List ℕ). All (λ place. place ≤ last_place) xs) (sym same) range.root.labels;
+come_first disk mid pool left states labels are stands housed room map containers found kept spares reads = record {
+  long = are.long;
+  places = are.places;
+  free = λ s low none. are.each s low ∙ ap (λ (o : Option VolumeState). label_lent o (get_or pool.found.root.labels s 0)) none;
   stands = stands;
   housed = subst (λ (c : Slots). AreHoused c states) (sym containers) housed;
   room = subst (λ (m : Space). blocks_asked states ≤ free_blocks m) (sym map) room;
@@ -211,8 +213,8 @@ come_first disk mid pool left states labels long same range stands housed room m
   found = found;
   kept = kept;
   spares = spares;
-  written = λ tells before lent. same_course pool states (seen pool.kept disk.reads) 0 pool.found.root.labels labels pool.map.next left.map.next pool.containers left.containers mid.reads mid.reads same (ap (λ (m : Space). m.next) map) containers refl
-      (course_begins disk pool states before lent (seen pool.kept disk.reads) mid.reads (reads tells));
+  written = λ tells before lent. same_course pool states (seen pool.kept disk.reads) 0 labels labels pool.map.next left.map.next pool.containers left.containers mid.reads mid.reads refl (ap (λ (m : Space). m.next) map) containers refl
+      (course_begins disk pool states before lent labels are (seen pool.kept disk.reads) mid.reads (reads tells));
 }
 
 -- ---- a slot more
@@ -234,6 +236,7 @@ module _ (disk : Shown) (pool : Pool) (states : States) (s : ℕ) (inside : s < 
   record Leaves : Type 0 where
     pub long : length now ≡ 64
     pub places : All (λ place. place ≤ last_place) now
+    pub free : (k : ℕ) → k < 64 → state_at states k ≡ None → get_or now k 0 ≡ 0
     pub housed : AreHoused after.containers states
     pub written : IsTrue disk.tells → (before : Machine) → IsLent disk pool states before → IsCourse pool states (seen pool.kept disk.reads) (suc s) now after.map.next after.containers new.reads
 
@@ -241,6 +244,7 @@ module _ (disk : Shown) (pool : Pool) (states : States) (s : ℕ) (inside : s < 
   passes unchanged is = record {
     long = ap (λ (xs : List ℕ). length xs) is.named ∙ come.long;
     places = subst (λ (xs : List ℕ). All (λ place. place ≤ last_place) xs) (sym is.named) come.places;
+    free = λ k low none. ap (λ (xs : List ℕ). get_or xs k 0) is.named ∙ come.free k low none;
     housed = subst (λ (c : Slots). AreHoused c states) (sym is.containers) come.housed;
     written = λ tells before lent. same_course pool states (seen pool.kept disk.reads) (suc s) labels now left.map.next after.map.next left.containers after.containers mid.reads new.reads is.named (ap (λ (m : Space). m.next) is.map) is.containers is.reads
         (course_passes pool states (seen pool.kept disk.reads) s labels left.map.next left.containers mid.reads unchanged (come.written tells before lent));
@@ -253,6 +257,10 @@ module _ (disk : Shown) (pool : Pool) (states : States) (s : ℕ) (inside : s < 
   writes x there changed is = record {
     long = ap (λ (xs : List ℕ). length xs) is.named ∙ length-set labels s is.label ∙ come.long;
     places = subst (λ (xs : List ℕ). All (λ place. place ≤ last_place) xs) (sym is.named) (All-set (λ place. place ≤ last_place) labels s is.label (omega (arith, is.within, size_now, range.size.greatest)) come.places);
+    free = λ k low none. ⊎_elim
+        (λ (here : k ≡ s). absurd (none-some x (sym none ∙ ap (state_at states) here ∙ there)))
+        (λ (differ : k ≢ s). ap (λ (xs : List ℕ). get_or xs k 0) is.named ∙ get_or-set_other labels s k is.label 0 differ ∙ come.free k low none)
+        (cases_eq k s);
     housed = subst (λ (c : Slots). AreHoused c states) (sym is.containers) (housed_put left.containers states s x is.new (omega (arith, inside, is.few)) there is.long come.housed);
     written = λ tells before lent. course_goes_on disk pool states before lent tells s inside labels left mid come size_now x there changed now after new is;
   }
@@ -275,6 +283,7 @@ module _ (disk : Shown) (pool : Pool) (states : States) (s : ℕ) (inside : s < 
       let l = step_leaves (state_at states s) refl past in record {
         long = l.long;
         places = l.places;
+        free = l.free;
         stands = stands;
         housed = l.housed;
         room = more_room count;

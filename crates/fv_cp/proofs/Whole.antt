@@ -91,6 +91,7 @@ module _ (disk : Shown) (pool : Pool) (states : States) (mid : Shown) (held : Po
         none = none_now;
         unchanged = λ s. subst (λ (o : Option VolumeState). IfSome o (λ x. x.changed ≡ false)) (sym (goes.settled s).1) (settled_unchanged (state_at between s) (goes.settled s).0);
         unkept = goes.unkept;
+        free = goes.free;
         cores = λ s. ap (option_map core_of) (goes.settled s).1 ∙ settled_core (state_at between s) (goes.settled s).0 ∙ placed.cores s;
         parents = parents_now;
         blocks = goes.blocks ∙ ap (λ (f : Found). f.blocks) placed.found;
@@ -108,7 +109,7 @@ module _ (disk : Shown) (pool : Pool) (states : States) (mid : Shown) (held : Po
           let point = did before (lent_mid before was) in
           let told_mid : IsTrue mid.tells = subst IsTrue (sym placed.only_reads.stays.tells) told in
           let same = machine_mid before was in
-          let now : IsHeld new left stay (machine_lent mid held between) = past_held new left stay (machine_lent mid held between) point.lent goes.fit point.unchanged goes.unkept few (goes.loaded told_mid) (subst IsTrue (sym tells) told_mid) long none_now
+          let now : IsHeld new left stay (machine_lent mid held between) = past_held new left stay (machine_lent mid held between) point.lent goes.fit point.unchanged goes.free goes.unkept few (goes.loaded told_mid) (subst IsTrue (sym tells) told_mid) long none_now
           (λ s. ready_of new left s (state_at stay s) (ready_now s)) (numbered_now before was point) in
           record {
             settled = point.settled;
@@ -117,6 +118,7 @@ module _ (disk : Shown) (pool : Pool) (states : States) (mid : Shown) (held : Po
             machine = held_machine new left stay (machine_lent mid held between) now goes.fit none_now whole_now ∙ point.machine ∙ same;
             unchanged = point.unchanged;
             reclaimed = point.reclaimed;
+            free = goes.free;
           }
 
   -- ---- it wasn't done

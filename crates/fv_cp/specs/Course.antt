@@ -70,11 +70,29 @@ pub record IsRenewed (pool : Pool) (first : Image) (s : ℕ) (x : VolumeState) (
   pub stored : IsStored x old label new i
   pub stay : StaysFrom x old first i
 
+-- the place of a label that the new root names before a point writes anything: that of the root on the disk, and none for a slot without a volume
+abbrev pub label_lent : Option VolumeState → ℕ → ℕ
+label_lent None place = 0
+label_lent (Some x) place = place
+
+-- so it names all
+pub record AreNamedFor (states : States) (before now : List ℕ) : Type 0 where
+  pub long : length now ≡ 64
+  pub places : All (λ place. place ≤ last_place) now
+  pub each : (s : ℕ) → s < 64 → get_or now s 0 ≡ label_lent (state_at states s) (get_or before s 0)
+
+-- so it names those of the first slots, and the others as before
+pub record ClearedTo (states : States) (before now : List ℕ) (count : ℕ) : Type 0 where
+  pub long : length now ≡ 64
+  pub places : All (λ place. place ≤ last_place) now
+  pub done : (s : ℕ) → s < count → get_or now s 0 ≡ label_lent (state_at states s) (get_or before s 0)
+  pub rest : (s : ℕ) → count ≤ s → get_or now s 0 ≡ get_or before s 0
+
 -- the slot is as it was lent, and the entries that stay have the blocks that they had in the first image
 pub record IsAsLent (pool : Pool) (states : States) (first : Image) (s : ℕ) (now : Option VolumeState) (label : ℕ) (container : Option Mapped) (i : Image) : Type 0 where
   pub state : now ≡ state_at states s
   pub lies : container ≡ container_at pool.containers s
-  pub named : label ≡ get_or pool.found.root.labels s 0
+  pub named : label ≡ label_lent (state_at states s) (get_or pool.found.root.labels s 0)
   pub stay : (x : VolumeState) (map : Mapped) → state_at states s ≡ Some x → container_at pool.containers s ≡ Some map → StaysFrom x map first i
 
 -- What a slot is in the course, by its volume, the place of its label and its container: its volume was written, if it is one of the first
@@ -97,6 +115,7 @@ asked_from slot states = sum_by asked_by (drop slot states)
 pub record HasCome (disk : Shown) (pool : Pool) (states : States) (count : ℕ) (labels : List ℕ) (left : Pool) (now : Shown) : Type 0 where
   pub long : length labels ≡ 64
   pub places : All (λ place. place ≤ last_place) labels
+  pub free : (s : ℕ) → s < 64 → state_at states s ≡ None → get_or labels s 0 ≡ 0
   pub stands : StandsOn now left.store.pairs
   pub housed : AreHoused left.containers states
   pub room : asked_from count states ≤ free_blocks left.map

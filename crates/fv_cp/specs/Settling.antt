@@ -1,15 +1,15 @@
 -- What a consistency point does in front of which the files of all volumes are placed.
-use Rattle.std.specs.Prelude.{◌≡◌, ◌≤◌, ◌<◌, ◌+◌, ◌⊎◌, ℕ, false, List, Some, Result, Ok, Err, IfSome, IsTrue}
+use Rattle.std.specs.Prelude.{◌≡◌, ◌≤◌, ◌<◌, ◌+◌, ◌⊎◌, ℕ, false, List, Some, None, Result, Ok, Err, IfSome, IsTrue}
 use Rattle.std.specs.FinMap as fin
 use Rattle.fv_disk.specs.Shown.{Image, IsSettled, Rose, Shown}
 use Rattle.fv_model.specs.Machines.{Machine}
-use Rattle.fv_image.specs.Held.{view_at}
+use Rattle.fv_image.specs.Held.{label_place, view_at}
 use Rattle.fv_image.specs.Views.{delayed}
 use Rattle.fv_image.specs.WholeMachine.{machine_of}
 use Rattle.fv_root.specs.Finding.{root_found}
 use Rattle.fv_root.specs.Commits.{IsFoundOn}
 use Rattle.fv_store.specs.Held.{StandsOn}
-use Rattle.fv_container.specs.Chains.{parent_at}
+use Rattle.fv_container.specs.Chains.{parent_at, slot_count}
 use Rattle.fv_aggmap.specs.Loading.{IsLoaded as IsMapLoaded}
 use Rattle.fv_aggmap.specs.Space.{free_blocks}
 use Rattle.fv_volume.specs.declared.fault.VolumeFault.{VolumeFault}
@@ -35,6 +35,8 @@ pub record IsHeldPoint (old : Shown) (pool : Pool) (states : States) (new : Show
   pub machine : machine_held new left stay ≡ machine_held old pool states
   pub unchanged : (s : ℕ) → IfSome (state_at stay s) (λ x. x.changed ≡ false)
   pub reclaimed : delayed (view_at (root_found left.found) new.reads) ≡ 0
+  -- the new root names no label for a slot without a volume
+  pub free : (s : ℕ) → s < slot_count → state_at stay s ≡ None → label_place (root_found left.found) s ≡ 0
 
 -- What it leaves of any disk, and of any volumes: the cache tells what the disk reads, the root and the map in memory are those of the new root,
 -- all fits together as the next point needs it, no file is in memory and nothing of a volume waits to be written, calls can be made on each
@@ -48,6 +50,8 @@ pub record GoesOnWhole (old : Shown) (pool : Pool) (states : States) (new : Show
   pub none : HaveNoFiles stay
   pub unchanged : (s : ℕ) → IfSome (state_at stay s) (λ x. x.changed ≡ false)
   pub unkept : left.kept ≡ fin.empty
+  -- the new root names no label for a slot without a volume
+  pub free : (s : ℕ) → s < slot_count → state_at stay s ≡ None → label_place (root_found left.found) s ≡ 0
   pub cores : KeepCores states stay
   pub parents : (s : ℕ) → parent_at left.containers s ≡ parent_at pool.containers s
   pub blocks : left.found.blocks ≡ pool.found.blocks

@@ -1,6 +1,6 @@
 //! The whole of a consistency point.
 
-ghost use Rattle.std.specs.Prelude.{◌≡◌, ◌≤◌, ◌<◌, ◌+◌, ℕ, IsTrue, OnOk, IfErr, IfSome, option_copied, length};
+ghost use Rattle.std.specs.Prelude.{All, ◌≡◌, ◌≤◌, ◌<◌, ◌+◌, ℕ, IsTrue, OnOk, IfErr, IfSome, option_copied, length};
 ghost use Rattle.std.specs.Option.{option_map};
 ghost use Rattle.fv_disk.specs.Crash.{Leaves};
 ghost use Rattle.fv_disk.specs.DiskCalls.{Counted};
@@ -19,7 +19,8 @@ ghost use Rattle.fv_volume.specs.Housed.{AreHoused, settled_as, settled_at};
 ghost use Rattle.fv_cp.specs.Lent.{AreKept, FitTogether, IsLent, asked_by, blocks_asked};
 ghost use Rattle.fv_cp.specs.Points.{Counts, GoesOn, IsCalm, IsPoint, IsSwitched, LacksRoom, LeavesAll, OldOrLent};
 ghost use Rattle.fv_volume.specs.Writing.{IsTaken, on_disk};
-ghost use Rattle.fv_cp.specs.Course.{GoesPast, HasCome};
+ghost use Rattle.fv_codec.specs.Blocks.{last_place};
+ghost use Rattle.fv_cp.specs.Course.{AreNamedFor, GoesPast, HasCome, label_lent};
 
 use crate::fault::CpFault;
 use fv_charge::overhead;
@@ -76,6 +77,7 @@ pub fn consistency_point<D: Disk>(
         });
     }
     let mut root = pool.found.root;
+    clear_free(volumes, &mut root.labels);
     write_volumes(volumes, pool, disk, &mut root.labels)?;
     switch(pool, disk, &root)?;
     settle(volumes, &root.labels);
@@ -107,6 +109,26 @@ fn asked_by(state: Option<&VolumeState>) -> u64
     }
 }
 
+/// Names no label for a slot without a volume, whatever the root on the disk names there: its volume was removed since.
+fn clear_free(volumes: &Volumes, labels: &mut [u32; 64])
+    requires places { All (λ place. place ≤ last_place) labels.old }
+    ensures { AreNamedFor volumes.now labels.old labels.new }
+{
+    for slot in 0..SLOTS {
+        labels[slot as usize] = label_lent(volumes.get(slot), labels[slot as usize]);
+    }
+}
+
+/// The place of a volume's label; a slot without a volume has none, 0.
+fn label_lent(state: Option<&VolumeState>, place: u32) -> u32
+    ensures { result ≡ label_lent (option_copied state.entry) place }
+{
+    match state {
+        Some(_) => place,
+        None => 0,
+    }
+}
+
 /// Writes the kept blocks and each volume that changed, and names it by the labels of the new root.
 fn write_volumes<D: Disk>(
     volumes: &Volumes,
@@ -114,7 +136,7 @@ fn write_volumes<D: Disk>(
     disk: &mut D,
     labels: &mut [u32; 64],
 ) -> Result<(), Failed>
-    requires labels { labels.old ≡ pool.old.found.root.labels }
+    requires labels { AreNamedFor volumes.now pool.old.found.root.labels labels.old }
     requires range { IsInRange pool.old.found }
     requires stands { StandsOn (D.shown disk.old) pool.old.store.pairs }
     requires housed { AreHoused pool.old.containers volumes.now }

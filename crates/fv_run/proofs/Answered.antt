@@ -14,7 +14,7 @@ use Rattle.fv_image.specs.MachineOf.{machine_of}
 use Rattle.fv_lines.specs.Reading.{IsStill}
 use Rattle.fv_lines.proofs.Ends.{whole_append}
 use Rattle.fv_aggregate.specs.declared.session.Session.{Session}
-use Rattle.fv_aggregate.specs.Standing.{OneOf, StandsAfter, StandsFor}
+use Rattle.fv_aggregate.specs.Standing.{OneOf, StandsAfter}
 use Rattle.fv_run.specs.declared.ending.Fault.{Fault}
 use Rattle.fv_run.specs.declared.ending.Fault.TheVariants.{Sink}
 use Rattle.fv_run.specs.Running.{asks_point, begun, left_by, pending_behind, HasFollowed, IsAfterSome, IsAtRest, Survives}

@@ -24,13 +24,13 @@ use Rattle.fv_aggregate.specs.declared.fault.Fault.TheVariants as session_fault
 use Rattle.fv_aggregate.specs.declared.session.Session.{Session}
 use Rattle.fv_aggregate.specs.Calls.{Goes, GoesFor, KeepsAsking}
 use Rattle.fv_aggregate.specs.Calls as calls
-use Rattle.fv_aggregate.specs.Commands.{changed_by, dirty_limit, is_built, machine_after, reads_files, Replies, RepliesBy, room_of}
+use Rattle.fv_aggregate.specs.Commands.{changed_by, changes_volume, dirty_limit, is_built, machine_after, reads_files, Replies, RepliesBy, room_of}
 use Rattle.fv_aggregate.specs.Standing.{IsWithoutFiles, OneOf, StandsAfter, StandsFor}
 use Rattle.fv_run.specs.declared.ending.Fault.{Fault}
 use Rattle.fv_run.specs.declared.ending.Fault.TheVariants.{Disk, Memory, Damaged}
 use Rattle.fv_run.specs.Endings.{count_of, of_session, IsWholeFault}
 use Rattle.fv_run.specs.Built.{built}
-use Rattle.fv_run.specs.Running.{asks_point, changes_files, left_by, room_in, IsRoomIn, reads_blocks}
+use Rattle.fv_run.specs.Running.{asks_point, changes_volumes, left_by, room_in, IsRoomIn, reads_blocks}
 use Rattle.fv_run.specs.Answering.{Applies, IsReady, IsSessionFault}
 use Rattle.fv_run.proofs.Rooms.{left_other}
 use Rattle.fv_run.proofs.Sessions.{images_stand, lacks, never_failed}
@@ -88,7 +88,7 @@ after_cp : (m : Machine) → machine_after m Cp ≡ m
 unfolding machine_after is_built conditions change_of
 after_cp m = refl
 
--- what isn't built adds no block and changes no file
+-- what isn't built adds no block and changes no volume
 unbuilt_room : (c : Command) → is_built c ≡ false → room_of c ≡ 0
 unfolding is_built room_of
 unbuilt_room (VolCreate v size kind) e = absurd cc
@@ -98,8 +98,10 @@ unbuilt_room (Cut v f length) e = absurd cc
 unbuilt_room (Remove v f) e = absurd cc
 unbuilt_room c e = refl
 
-unbuilt_change : (c : Command) → is_built c ≡ false → changed_by c ≡ None
+unbuilt_change : (c : Command) → is_built c ≡ false → changes_volume c ≡ false
 unfolding is_built
+unbuilt_change (VolResize v size) e = absurd cc
+unbuilt_change (VolGuarantee v kind) e = absurd cc
 unbuilt_change (New v f reserve) e = rw e refl
 unbuilt_change (Put v f i block) e = absurd cc
 unbuilt_change (Cut v f length) e = absurd cc
@@ -170,20 +172,26 @@ quiet c pending none = so (is_built c) refl none
         (λ is. both_ways _ parts.0 (is_point is), nothing (room_of c) parts.1)
     so false e none = (λ is. both_ways _ e (built_point is), inl (unbuilt_room c e))
 
--- a line reads files where its command does, and changes them where its command does
+-- a line reads files where its command does, and changes a volume that stays where its command does
 reads_said : (c : Command) → reads_files c ≡ true → reads_blocks (built (Says c)) ≡ true
 reads_said c e = ap (λ (is : Bool). reads_blocks (cond is (Says c) NoCommand)) (built_reads c e) ∙ e
 
-changes_said : (c : Command) → changes_files (built (Says c)) ≡ false → changed_by c ≡ None
+changes_said : (c : Command) → changes_volumes (built (Says c)) ≡ false → changes_volume c ≡ false
 changes_said c none = so (is_built c) refl none
   where
-    no_volume : (volume : Option (List ℕ)) → is_some volume ≡ false → volume ≡ None
-    no_volume None e = refl
-    no_volume (Some v) e = absurd cc
-
-    so : (is : Bool) → is_built c ≡ is → changes_files (cond is (Says c) NoCommand) ≡ false → changed_by c ≡ None
-    so true e none = no_volume (changed_by c) none
+    so : (is : Bool) → is_built c ≡ is → changes_volumes (cond is (Says c) NoCommand) ≡ false → changes_volume c ≡ false
+    so true e none = none
     so false e none = unbuilt_change c e
+
+-- what changes no volume that stays changes no files
+changes_none : (c : Command) → changes_volume c ≡ false → changed_by c ≡ None
+changes_none (VolResize v size) none = refl
+changes_none (VolGuarantee v kind) none = refl
+changes_none c none = so (changed_by c) none
+  where
+    so : (volume : Option (List ℕ)) → is_some volume ≡ false → volume ≡ None
+    so None e = refl
+    so (Some v) e = absurd cc
 
 -- ---- what a line says
 
@@ -268,12 +276,12 @@ module _ (session new_session : Session) (line : Line) (command : Command) (old 
           let left : left_by session.pending (built line) ≡ session.pending + room_in (built line) = ap (λ (cp : Bool). if cp then 0 else session.pending + room_in (built line)) e in
           omega (arith, left, room, most)
 
-  same_by : changes_files (built line) ≡ false → changed_by command ≡ None
-  same_by none = changes_said command (subst (λ (l : Line). changes_files (built l) ≡ false) says none)
+  same_by : changes_volumes (built line) ≡ false → changes_volume command ≡ false
+  same_by none = changes_said command (subst (λ (l : Line). changes_volumes (built l) ≡ false) says none)
 
   -- the command was carried out, or refused
   pub applied : (reply : Reply) → (command ≢ Cp → (room_of command ≡ 0) ⊎ (session.pending + room_of command ≤ dirty_limit) → new.reads ≡ old.reads) → Goes (room_of command) old session new new_session (Ok reply)
-      → (changed_by command ≡ None → KeepsAsking (room_of command) old session new new_session)
+      → (changes_volume command ≡ false → KeepsAsking (room_of command) old session new new_session)
       → (IsTrue old.tells → changed_by command ≡ None → IsWithoutFiles session → IsWithoutFiles new_session)
       → (IsTrue old.tells → (last m : Machine) → StandsFor old session last m → GoesFor {T = Reply} old last m (machine_after m command) new new_session (Ok reply))
       → (IsTrue old.tells → (last m : Machine) → StandsFor old session last m → Replies m command reply)
@@ -293,7 +301,7 @@ module _ (session new_session : Session) (line : Line) (command : Command) (old 
     no_damage = λ tells last m so_far. tt;
     ready = record { unfailed = goes.done.goes_on; stands = goes.stands goes.done.goes_on };
     ends = tt;
-    files = λ tells same none. files tells (same_by same) none;
+    files = λ tells same none. files tells (changes_none command (same_by same)) none;
     asks = λ tells same room asks. (room_of command, subst (λ (l : Line). IsRoomIn (built l ∷ []) (room_of command)) (sym says) (room_said command), keeps (same_by same) tells room asks goes.done.goes_on);
     given = goes.ends.given;
     left = ap (λ (e : Ends). e.left) goes.ends.ends;

@@ -25,7 +25,7 @@ use Rattle.fv_aggregate.specs.Asking.{AsksWithin, IsShort}
 use Rattle.fv_aggregate.specs.Calls.{LacksBlocks, HasFilesToPlace}
 use Rattle.fv_aggregate.specs.Calls as calls
 use Rattle.fv_aggregate.specs.Causes.{IsOpenFault, IsUnder}
-use Rattle.fv_aggregate.proofs.Clear.{none_placed}
+use Rattle.fv_aggregate.proofs.Clear.{none_taken}
 use Rattle.fv_run.specs.Answering.{LacksSpace}
 
 abbrev nothing_behind : Option (Result Root Shape)
@@ -150,7 +150,7 @@ not_damaged i at want number none fault = ⊎_elim
 pub lacks : (old new : Shown) (session new_session : Session) (at want found : ℕ) → calls.IsForWant old session new new_session (session_fault.Damaged at want found) → LacksSpace old session new
 lacks old new session new_session at want found is tells none room asks = ⊎_elim
     (λ (short : LacksBlocks old session new_session at want found).
-    let same : taken_since new_session.pool.map ≡ 0 = ap (λ (s : Session). taken_since s.pool.map) (short.same none.none) ∙ none_placed session.pool.map none.same in
+    let same : taken_since new_session.pool.map ≡ 0 = ap (λ (s : Session). taken_since s.pool.map) (short.same none.none) ∙ none_taken session.pool.map none.taken in
     (at, want, found, subst (λ (i : Image). IsShort i room 0 at want found) (sym is.0.stays.reads) (subst (λ (n : ℕ). IsShort old.reads room n at want found) same (short.image tells room asks))))
     (λ (place : HasFilesToPlace session). absurd (place.files none.none))
     is.1

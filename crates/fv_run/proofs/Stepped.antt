@@ -20,13 +20,13 @@ use Rattle.fv_lines.proofs.Counting as counting
 use Rattle.fv_lines.proofs.Ends.{whole_append}
 use Rattle.fv_aggregate.specs.declared.session.Session.{Session}
 use Rattle.fv_aggregate.specs.Asking.{AsksWithin}
-use Rattle.fv_aggregate.specs.Standing.{IsWithoutFiles, StandsFor}
+use Rattle.fv_aggregate.specs.Standing.{IsWithoutFiles}
 use Rattle.fv_run.specs.declared.ending.Fault.{Fault}
 use Rattle.fv_run.specs.declared.ending.Fault.TheVariants.{Usage, NotAggregate, Source, Sink, Disk, Memory, Damaged, Limit}
 use Rattle.fv_run.specs.Built.{built, lines_built}
 use Rattle.fv_run.specs.Endings.{count_of, IsWholeFault}
 use Rattle.fv_run.specs.Promises.{line_at}
-use Rattle.fv_run.specs.Running.{begun, changes_files, HasChanged, Holds, IsOverLimit, IsPastLimit, IsSessionDamage, reads_blocks, Survives, asks_behind, asks_point, pending_behind, AsksNone}
+use Rattle.fv_run.specs.Running.{begun, changes_volumes, HasChanged, Holds, IsOverLimit, IsPastLimit, IsSessionDamage, reads_blocks, Survives, asks_behind, asks_point, pending_behind, AsksNone}
 use Rattle.fv_run.specs.Answering.{Applies, AsksFor, BeginsFor, HasAnswered, HasRead, IsAtEnd, IsEndOf, LacksSpace, IsReady, IsSessionFault, StandsAt, Stopped, TellsLine}
 use Rattle.fv_run.proofs.Following.{left_next, line_behind}
 use Rattle.fv_run.proofs.Lines.{no_end, one_end}
@@ -398,12 +398,12 @@ module _ (limit : ℕ) (first : Session) (old : Shown) (held : Held) (session : 
 
         asks_next : TellsLine end (text reply) new (Ok tt) → IsTrue old.tells → AsksWithin old first 0 → IsWithoutFiles first → AsksFor script new next_session ⊎ HasChanged script (count + 1)
         asks_next tells_it tells within none = ⊎_elim
-            (λ (asks : AsksFor script mid session). so asks (changes_files (built (line_of bytes))) refl)
+            (λ (asks : AsksFor script mid session). so asks (changes_volumes (built (line_of bytes))) refl)
             (λ (changed : HasChanged script count). let before = changed.before in inr (record { line = changed.line; before = omega (arith, before); changes = changed.changes }))
             (mid_asks tells within none)
           where
-            so : AsksFor script mid session → (changes : Bool) → changes_files (built (line_of bytes)) ≡ changes → AsksFor script new next_session ⊎ HasChanged script (count + 1)
-            so asks true e = inr (record { line = count; before = omega arith; changes = ap changes_files (line_is tells) ∙ e })
+            so : AsksFor script mid session → (changes : Bool) → changes_volumes (built (line_of bytes)) ≡ changes → AsksFor script new next_session ⊎ HasChanged script (count + 1)
+            so asks true e = inr (record { line = count; before = omega arith; changes = ap changes_volumes (line_is tells) ∙ e })
             so asks false e =
                 let line : Line = built (line_of bytes) in
                 let next = applies.asks (mid_told tells) e asks.room asks.asks in

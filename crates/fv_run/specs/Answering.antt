@@ -17,7 +17,7 @@ use Rattle.fv_run.specs.declared.ending.Fault.{Fault}
 use Rattle.fv_run.specs.declared.ending.Fault.TheVariants.{Source, Sink, Disk, Memory, Damaged, Limit}
 use Rattle.fv_run.specs.Endings.{IsWholeFault, count_of, raised_by}
 use Rattle.fv_run.specs.Built.{lines_built}
-use Rattle.fv_run.specs.Running.{asks_behind, asks_point, changes_files, HasChanged, Holds, IsOverLimit, IsPastLimit, IsRoomIn, IsSessionDamage, reads_blocks, Survives, left_by, pending_behind, IsQuiet}
+use Rattle.fv_run.specs.Running.{asks_behind, asks_point, changes_volumes, HasChanged, Holds, IsOverLimit, IsPastLimit, IsRoomIn, IsSessionDamage, reads_blocks, Survives, left_by, pending_behind, IsQuiet}
 
 -- ---- lines and their replies
 
@@ -81,9 +81,9 @@ pub record Applies (session : Session) (line : Line) (old : Shown) (new_session 
   pub no_damage : IsTrue old.tells → (last m : Machine) → StandsFor old session last m → IfErr result IsWholeFault
   pub ready : OnOk result (IsReady new new_session)
   pub ends : IfErr result (IsSessionFault line old session new)
-  -- a line that changes no files
-  pub files : IsTrue old.tells → changes_files line ≡ false → IsWithoutFiles session → OnOk result (IsWithoutFiles new_session)
-  pub asks : IsTrue old.tells → changes_files line ≡ false → (room : ℕ) → AsksWithin old session room → OnOk result ((more : ℕ) × IsRoomIn (line ∷ []) more × AsksWithin new new_session (max room more))
+  -- a line that changes no volume that stays
+  pub files : IsTrue old.tells → changes_volumes line ≡ false → IsWithoutFiles session → OnOk result (IsWithoutFiles new_session)
+  pub asks : IsTrue old.tells → changes_volumes line ≡ false → (room : ℕ) → AsksWithin old session room → OnOk result ((more : ℕ) × IsRoomIn (line ∷ []) more × AsksWithin new new_session (max room more))
   pub given : new.given ≡ old.given
   pub left : new.ends.left ≡ old.ends.left
   pub counts : Counts old new (raised_by result)
@@ -137,7 +137,7 @@ pub record StandsAt (limit : ℕ) (first : Session) (old : Shown) (held : Held) 
   -- over any disk
   pub pending : IsTrue old.tells → first.pending ≡ 0 → session.pending ≤ pending_behind (lines_built old.ends.left) count
   pub quiet : IsTrue old.tells → first.pending ≡ 0 → ((line : ℕ) → line < count → asks_behind (lines_built old.ends.left) line ≡ false) → now.reads ≡ old.reads
-  -- until a line has changed files
+  -- until a line has changed a volume that stays
   pub asks : IsTrue old.tells → AsksWithin old first 0 → IsWithoutFiles first → AsksFor (lines_built old.ends.left) now session ⊎ HasChanged (lines_built old.ends.left) count
   pub answers : IsTrue old.tells → (m : Machine) → BeginsFor old first m → HasAnswered m (lines_built old.ends.left) (lines_built (unread held now)) old session now count
 

@@ -1,5 +1,5 @@
 -- Running a script on an aggregate: the headline, clause by clause.
-use Rattle.std.specs.Prelude.{◌≡◌, ◌⊎◌, ◌<◌, ◌≤◌, ◌+◌, ◌||◌, ◌&&◌, ℕ, zero, suc, nat_lt, if◌then◌else◌, is_some, Bool, true, false, List, ◌++◌, length, take, get_or, Some, Contains, IsTrue, Result, Err, IsErr, IfErr, OnOk}
+use Rattle.std.specs.Prelude.{◌≡◌, ◌⊎◌, ◌<◌, ◌≤◌, ◌+◌, ◌||◌, ◌&&◌, ℕ, zero, suc, nat_lt, if◌then◌else◌, Bool, true, false, List, ◌++◌, length, take, get_or, Some, Contains, IsTrue, Result, Err, IsErr, IfErr, OnOk}
 use Rattle.fv_disk.specs.Shown.{Image, Shown, IsSettled, Rose}
 use Rattle.fv_disk.specs.Crash.{Leaves}
 use Rattle.fv_lines.specs.Counts.{Counts}
@@ -12,7 +12,7 @@ use Rattle.fv_aggregate.specs.declared.fault.OpenFault.TheVariants as opening
 use Rattle.fv_aggregate.specs.declared.session.Session.{Session}
 use Rattle.fv_aggregate.specs.Asking.{IsShort}
 use Rattle.fv_aggregate.specs.Causes.{IsOpenFault, IsUnwritten}
-use Rattle.fv_aggregate.specs.Commands.{changed_by, dirty_limit, reads_files, room_of}
+use Rattle.fv_aggregate.specs.Commands.{changes_volume, dirty_limit, reads_files, room_of}
 use Rattle.fv_aggregate.specs.Opening.{IsOpened}
 use Rattle.fv_run.specs.declared.ending.Fault.{Fault}
 use Rattle.fv_run.specs.declared.ending.Fault.TheVariants.{Usage, NotAggregate, Source, Sink, Disk, Memory, Damaged, Limit}
@@ -145,11 +145,11 @@ pub record IsOverLimit (limit : ℕ) (old new : Shown) : Type 0 where
 abbrev pub IsRoomIn : List Line → ℕ → Type 0
 IsRoomIn lines room = (room ≡ 0) ⊎ ((command : Command) × Contains lines (Says command) × (room ≡ room_of command))
 
--- whether a line changes files of a volume
-abbrev pub changes_files : Line → Bool
-changes_files (Says command) = is_some (changed_by command)
-changes_files NoCommand = false
-changes_files OutOfRange = false
+-- whether a line changes a volume that was there before it and is there after it: its files, its size or its kind of guarantee
+abbrev pub changes_volumes : Line → Bool
+changes_volumes (Says command) = changes_volume command
+changes_volumes NoCommand = false
+changes_volumes OutOfRange = false
 
 -- whether a line reads blocks of the files of a volume; one that changes them does
 abbrev pub reads_blocks : Line → Bool
@@ -157,11 +157,11 @@ reads_blocks (Says command) = reads_files command
 reads_blocks NoCommand = false
 reads_blocks OutOfRange = false
 
--- one of the first `count` lines changes files
+-- one of the first `count` lines changes a volume that stays
 pub record HasChanged (lines : List Line) (count : ℕ) : Type 0 where
   pub line : ℕ
   pub before : line < count
-  pub changes : changes_files (line_at lines line) ≡ true
+  pub changes : changes_volumes (line_at lines line) ≡ true
 
 -- A consistency point lacks blocks: the root at `at`, which counts, leaves `found` of them free, and `want`, which is more, is at most the
 -- overheads of its volumes and what may be pending with an event of that room.
@@ -173,14 +173,15 @@ pub record IsLacking (lines : List Line) (i : Image) : Type 0 where
   pub found : ℕ
   pub short : IsShort i room 0 at want found
 
--- The script came to files: the line behind those that are answered reads blocks of files, or a line that is answered changes files. Such damage
--- comes of a block of theirs that isn't as it has to be, or of a point that lacks blocks or numbers for them or beside them; that isn't said here.
+-- The script came to what volumes hold: the line behind those that are answered reads blocks of files, or a line that is answered changes the files
+-- of a volume, its size or its kind of guarantee. Such damage comes of a block of files that isn't as it has to be, or of a point that lacks blocks
+-- or numbers for what changed or beside it; that isn't said here.
 pub record IsFileDamage (lines : List Line) (old end : Shown) : Type 0 where
   pub output : List ℕ
   pub given : end.given ≡ old.given ++ output
   pub line : (reads_blocks (line_at lines (whole output)) ≡ true) ⊎ HasChanged lines (whole output)
 
--- what a session is damaged by: at the end a point lacks blocks, or its lines came to files
+-- what a session is damaged by: at the end a point lacks blocks, or its lines came to what volumes hold
 abbrev pub IsSessionDamage : List Line → Shown → Shown → Type 0
 IsSessionDamage lines old end = IsLacking lines end.reads ⊎ IsFileDamage lines old end
 

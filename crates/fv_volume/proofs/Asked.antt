@@ -8,7 +8,6 @@ use Rattle.fv_codec.specs.declared.inode.InodeRecord.{InodeRecord}
 use Rattle.fv_model.specs.declared.answers.Refusal.TheVariants.{NoFile, NoSnapshot, Range}
 use Rattle.fv_model.specs.declared.answers.Reply.{Reply}
 use Rattle.fv_model.specs.declared.answers.Reply.TheVariants.{Content, Number, Names}
-use Rattle.fv_model.specs.declared.answers.Stat.{Stat}
 use Rattle.fv_model.specs.declared.commands.Command.{Command}
 use Rattle.fv_model.specs.declared.commands.Command.TheVariants.{Get, Len, Ls}
 use Rattle.fv_model.specs.Machines.{Machine}
@@ -22,13 +21,14 @@ use Rattle.fv_inode.specs.Listing.{names_told}
 use Rattle.fv_files.specs.Calls.{GivesCell, or_zeros}
 use Rattle.fv_files.specs.Tables.{IsInfoOf}
 use Rattle.fv_tables.specs.Spelled.{Rooted}
-use Rattle.fv_charge.specs.Ledgers.{IsLedgerOf, committed}
+use Rattle.fv_charge.specs.Ledgers.{IsLedgerOf}
 use Rattle.fv_charge.proofs.Admissions.{commit_is}
 use Rattle.fv_volume.specs.declared.fault.VolumeFault.{VolumeFault}
 use Rattle.fv_volume.specs.declared.fault.VolumeFault.TheVariants.{Refused}
 use Rattle.fv_volume.specs.declared.pool.Pool.{Pool}
 use Rattle.fv_volume.specs.declared.state.VolumeState.{VolumeState}
 use Rattle.fv_volume.specs.Calls.{Agrees, Asks, Has, Reads}
+use Rattle.fv_volume.specs.Promising.{told_by}
 use Rattle.fv_volume.specs.OneVolume.{standing_for, volume_as, volume_for, IsStanding}
 use Rattle.fv_volume.proofs.Answered.{get_accepted, get_answer, get_far, get_none, get_past, get_snapshot, len_accepted, len_answer, len_none, len_snapshot, ls_accepted, ls_answer, ls_snapshot}
 use Rattle.fv_volume.proofs.Lookups.{named_first, named_none, names_are}
@@ -118,7 +118,7 @@ module _ (d : Disk) (p : Pool) (x : VolumeState) where
 -- ---- its numbers
 
 pub stat_is : (x : VolumeState) (table : Table) → IsLedgerOf (volume_as x table) x.ledger
-    → ◌≡◌ {A = Stat} (record { size = x.size; used = x.ledger.charge; need = x.ledger.need; commit = committed x.ledger; kind = x.kind; clean = x.known }) (stat_of (volume_as x table))
+    → told_by x ≡ stat_of (volume_as x table)
 stat_is x table is = λ i. record { size = x.size; used = is.charged i; need = is.needed i; commit = commit_is (volume_as x table) x.ledger is i; kind = x.kind; clean = x.known }
 
 -- ---- after a look-up

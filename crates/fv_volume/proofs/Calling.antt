@@ -96,6 +96,10 @@ few_changes d p x ready = (ready.labelled.label 0 1 (omega arith) (omega arith) 
 pub left_ledger : (x v w : VolumeState) → v ≡ x → KeepsButTable v w → w.ledger ≡ x.ledger
 left_ledger x v w same kept = ap (λ (z : VolumeState). z.ledger) (kept ∙ ap (λ (z : VolumeState). record z { map = w.map; files = w.files; changed = true }) same)
 
+-- nor are the numbers of its files touched
+pub kept_numbers : (x v w : VolumeState) → v ≡ x → KeepsButTable v w → w.numbers ≡ x.numbers
+kept_numbers x v w same kept = ap (λ (z : VolumeState). z.numbers) (kept ∙ ap (λ (z : VolumeState). record z { map = w.map; files = w.files; changed = true }) same)
+
 pub left_more : (x v w : VolumeState) → v ≡ x → KeepsButTable v w → x.now < most_changes → w.now < most_changes
 left_more x v w same kept more =
     let now : w.now ≡ x.now = ap (λ (z : VolumeState). z.now) (kept ∙ ap (λ (z : VolumeState). record z { map = w.map; files = w.files; changed = true }) same) in
@@ -219,7 +223,7 @@ module _ {T : Type 0} (d e f : Disk) (p q r : Pool) (x v w y : VolumeState) (res
 
   -- its numbers were left
   pub left_numbers : w.numbers ≡ x.numbers
-  left_numbers = ap (λ (z : VolumeState). z.numbers) is_left
+  left_numbers = kept_numbers x v w parts.same parts.alters.same
 
   pub done_next : y.now ≡ x.now + 1
   done_next = parts.next ∙ ap (λ (z : VolumeState). z.now + 1) is_left

@@ -113,11 +113,11 @@ maps_at map span (suc n) k b within is some =
     (λ (before : k ≢ n). or_left (has_maps_at map span n b) (is_at b (place_at map (span + n))) (maps_at map span n k b (omega (arith, within, before)) is some))
     (cases_eq k n)
 
-leads_none : (map : Mapped) (b : ℕ) → leads map 0 b ≡ false
+pub leads_none : (map : Mapped) (b : ℕ) → leads map 0 b ≡ false
 unfolding leads
 leads_none map b = refl
 
-leads_more : (map : Mapped) (n b : ℕ) → leads map (n + 1) b ≡ (leads map n b || is_at b (place_at map n))
+pub leads_more : (map : Mapped) (n b : ℕ) → leads map (n + 1) b ≡ (leads map n b || is_at b (place_at map n))
 unfolding leads
 leads_more map n b =
     let e : n + 1 ≡ suc n = omega arith in

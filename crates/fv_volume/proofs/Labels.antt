@@ -64,7 +64,7 @@ free_in_range = record {
   root = record { vvbn = omega arith; pvbn = omega arith; stamp = omega arith };
 }
 
-kind_least : (k : Kind) → kind_number k ≤ 2
+pub kind_least : (k : Kind) → kind_number k ≤ 2
 kind_least Whole = omega arith
 kind_least ByFile = omega arith
 kind_least Thin = omega arith

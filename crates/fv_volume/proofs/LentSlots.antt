@@ -1,8 +1,8 @@
 -- Volumes that can be lent to a consistency point, and the blocks that the root on the disk holds.
-use Rattle.std.proofs.Common.{◌≡◌, ℕ, ◌<◌, Bool, true, false, List, sym, ap, subst, ◌∙◌, refl, arith}
+use Rattle.std.proofs.Common.{◌≡◌, ℕ, ◌<◌, ◌≢◌, Bool, true, false, List, [], ◌∷◌, ⊎_elim, sym, ap, subst, ◌∙◌, refl, arith}
 use Rattle.std.specs.Prelude.{◌||◌, Option, Some, None, IfSome}
 use Rattle.std.specs.Option.{option_map}
-use Rattle.std.proofs.lemmas.Bool.{both_ways}
+use Rattle.std.proofs.lemmas.Bool.{both_ways, or_cases}
 use Rattle.std.proofs.lemmas.Option.{none-some}
 use Rattle.fv_disk.specs.Shown.{Image}
 use Rattle.fv_bits.specs.Members.{is_member}
@@ -19,7 +19,7 @@ use Rattle.fv_image.proofs.Named.{label_held, node_held}
 use Rattle.fv_image.proofs.Room.{bit_is_held}
 use Rattle.fv_image.proofs.SoundSlots.{held_lies}
 use Rattle.fv_container.specs.Mapped.{Mapped}
-use Rattle.fv_container.specs.Spelled.{names}
+use Rattle.fv_container.specs.Spelled.{is_at, names}
 use Rattle.fv_root.specs.declared.find.Found.{Found}
 use Rattle.fv_root.specs.Finding.{root_found}
 use Rattle.fv_aggmap.specs.Space.{Space, blocks_of}
@@ -29,7 +29,7 @@ use Rattle.fv_volume.specs.States.{head_in}
 use Rattle.fv_volume.specs.Stored.{AreApartIn, is_of}
 use Rattle.fv_volume.specs.UnderRoot.{IsLentAt, IsLentSlot, IsMapOf}
 use Rattle.fv_volume.specs.Writing.{HasOwnBlocks, IsTaken, on_disk}
-use Rattle.fv_volume.proofs.Drawing.{not_so}
+use Rattle.fv_volume.proofs.Drawing.{at_means, not_so}
 use Rattle.fv_volume.proofs.StillLoaded.{none_loaded, sound_spaced}
 
 nodes_of : (i : Image) (found : Found) (s : ℕ) (o : Option Label) (map : Mapped) → label_of found i s ≡ o → IsContainerOf i o (Some map) → (b : ℕ) → names map.tree b ≡ true → (l : Label) × (label_of found i s ≡ Some l) × IsNodePlace i l.container l.height (entry_count l.span) b
@@ -46,9 +46,14 @@ lent_apart i found s None c at = tt
 lent_apart i found s (Some x) None at = tt
 lent_apart i found s (Some x) (Some map) at = at.apart
 
+-- a place that is named isn't 0
+named_some : (places : List ℕ) (b : ℕ) → names places b ≡ true → b ≢ 0
+named_some [] b is = absurd cc
+named_some (p ∷ ps) b is = ⊎_elim (λ (here : is_at b p ≡ true). (at_means b p here).1) (λ (rest : names ps b ≡ true). named_some ps b rest) (or_cases (is_at b p) (names ps b) is)
+
 -- A loaded volume whose blocks are apart can be lent.
 pub lent_from_loaded : (i : Image) (found : Found) (s : ℕ) (o : Option VolumeState) (c : Option Mapped) → IsLoaded i found s o c → IfSome o (λ x. IfSome c (AreApartIn x)) → IsLentAt i found s o c
-lent_from_loaded i found s None None is apart = sym is.label
+lent_from_loaded i found s None None is apart = tt
 lent_from_loaded i found s None (Some map) is apart = by (label_of found i s) refl
   where
     by : (l : Option Label) → label_of found i s ≡ l → ⊥
@@ -60,18 +65,18 @@ lent_from_loaded i found s (Some x) None is apart = by (label_of found i s) refl
     by None there = none-some (head_in x) (sym (both_or_none i found s (Some x) None None there is).1)
     by (Some l) there = (both_or_none i found s (Some x) None (Some l) there is).0
 lent_from_loaded i found s (Some x) (Some map) is apart = record {
-  label = is.label;
+  label = λ some. is.label;
   nodes = nodes_of i found s (label_of found i s) map refl is.tree;
   apart = apart;
   unchanged = λ unchanged. is;
 }
 
--- A volume that is lent without a change is loaded.
-pub loaded_from_lent : (i : Image) (found : Found) (s : ℕ) (o : Option VolumeState) (c : Option Mapped) → IsLentAt i found s o c → IfSome o (λ x. x.changed ≡ false) → IsLoaded i found s o c
-loaded_from_lent i found s None None none unchanged = none_loaded found i s none
-loaded_from_lent i found s None (Some map) is unchanged = absurd is
-loaded_from_lent i found s (Some x) None is unchanged = absurd is
-loaded_from_lent i found s (Some x) (Some map) is unchanged = is.unchanged unchanged
+-- A volume that is lent without a change is loaded. A slot without one is where the root names no label for it.
+pub loaded_from_lent : (i : Image) (found : Found) (s : ℕ) (o : Option VolumeState) (c : Option Mapped) → IsLentAt i found s o c → IfSome o (λ x. x.changed ≡ false) → (o ≡ None → label_place (root_found found) s ≡ 0) → IsLoaded i found s o c
+loaded_from_lent i found s None None is unchanged none = none_loaded found i s (none refl)
+loaded_from_lent i found s None (Some map) is unchanged none = absurd is
+loaded_from_lent i found s (Some x) None is unchanged none = absurd is
+loaded_from_lent i found s (Some x) (Some map) is unchanged none = is.unchanged unchanged
 
 -- a slot with a volume and its container
 pub lent_slot : (i : Image) (found : Found) (s : ℕ) (o : Option VolumeState) (c : Option Mapped) (x : VolumeState) (map : Mapped) → o ≡ Some x → c ≡ Some map → IsLentAt i found s o c → IsLentSlot i found s x map
@@ -110,8 +115,8 @@ module _ (i : Image) (found : Found) (space : Space) (sound : IsSound (layout_at
     label = is.apart.label;
     alone = not_so (names map.tree x.label) (λ named.
         let node = is.nodes x.label named in
-        (different_when_once (root_found found) i s node.0 node.1 (λ b. (sound_spaced (layout_at (root_found found) i) sound).each s b inside)).label_node (subst (λ (p : ℕ). IsNodePlace i node.0.container node.0.height (entry_count node.0.span) p) is.label node.2));
+        (different_when_once (root_found found) i s node.0 node.1 (λ b. (sound_spaced (layout_at (root_found found) i) sound).each s b inside)).label_node (subst (λ (p : ℕ). IsNodePlace i node.0.container node.0.height (entry_count node.0.span) p) (is.label (named_some map.tree x.label named)) node.2));
     old_nodes = λ b named. let node = is.nodes b named in ap (λ (c : List Bool). is_member c b) same ∙ held_committed b (node_held (root_found found) i s b node.0 inside node.1 node.2);
-    old_label = λ some. ap (λ (c : List Bool). is_member c x.label) same ∙ subst (λ (p : ℕ). is_member space.committed p ≡ true) (sym is.label) (held_committed (label_place (root_found found) s) (label_held (root_found found) i s (λ none. some (is.label ∙ none))));
+    old_label = λ some. ap (λ (c : List Bool). is_member c x.label) same ∙ subst (λ (p : ℕ). is_member space.committed p ≡ true) (sym (is.label some)) (held_committed (label_place (root_found found) s) (label_held (root_found found) i s (λ none. some (is.label some ∙ none))));
     held = held;
   }

@@ -94,3 +94,10 @@ pub mod Undamaged
 pub mod KnownSteps
 pub mod FreeNumbers
 pub mod Waiting
+pub mod Promised
+pub mod PromisedOne
+pub mod PromisedAll
+pub mod Destroyed
+pub mod Removed
+pub mod DestroyedOthers
+pub mod Emptied

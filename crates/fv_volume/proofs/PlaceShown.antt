@@ -1,5 +1,5 @@
 -- What placing a block and giving one up show to a tree, whether the disk is asked or not.
-use Rattle.std.proofs.Common.{rules, ◌≤◌, ◌+◌, ◌≡◌, ℕ, Bool, false, true, List, Some, Ok, Err, slice_set, refl, sym, ap, subst, ◌∙◌, ⊎_elim, arith}
+use Rattle.std.proofs.Common.{rules, ◌≤◌, ◌+◌, ◌≡◌, ℕ, false, true, List, Some, Ok, Err, slice_set, refl, sym, ap, subst, ◌∙◌, ⊎_elim, arith}
 use Rattle.fv_disk.specs.Shown.{Rose, Shown as Disk}
 use Rattle.fv_disk.specs.declared.fault.BlockFault.{BlockFault}
 use Rattle.fv_disk.specs.declared.fault.BlockFault.TheVariants.{DiskFault, Damaged, Memory}

@@ -297,7 +297,7 @@ module _ (disk after : Shown) (pool left : Pool) (states stay : States) (x y : V
 
     slot_here : IsLentAt disk.reads pool.found s (state_at stay s) (container_at left.containers s)
     slot_here = subst (λ (o : Option VolumeState). IsLentAt disk.reads pool.found s o (container_at left.containers s)) (sym here) (subst (λ (c : Option Mapped). IsLentAt disk.reads pool.found s (Some y) c) (sym is.is) (record {
-      label = ap (λ (v : VolumeState). v.label) placed.keeps ∙ lent.label;
+      label = λ some. let same = ap (λ (v : VolumeState). v.label) placed.keeps in same ∙ lent.label (λ none. some (same ∙ none));
       nodes = λ b node. lent.nodes b (subst (λ (t : List ℕ). names t b ≡ true)
           (tree_same disk after pool left x y.active y.map y.files y.changed room less placed.goes.steps placed.goes.goes.strays placed.goes.goes.noted over was.map is.map was.is is.is long lent.apart pool.found.blocks size of_held told) node);
       apart = subst (λ (v : VolumeState). AreApartIn v is.map) (sym placed.keeps)

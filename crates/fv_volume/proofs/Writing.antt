@@ -113,6 +113,10 @@ module _ {X : Type 0} where
   view_insert m n k x updates = fin.same_map nat_cmp_total fin.nat_cmp-IsAntisymmetric (fin.from_entries n.entries) (fin.insert (fin.from_entries m.entries) k x)
       (λ q. view_get n q ∙ updates.0 q ∙ sym (fin.get-insert nat_cmp_total (fin.from_entries m.entries) k x q ∙ ap (λ r. cond (eq_by_cmp nat_cmp q k) (Some x) r) (view_get m q) ∙ ap (λ b. cond b (Some x) (tree.get nat_cmp m q)) (turned q k)))
 
+  pub view_remove : (m n : tree.BTreeMap ℕ X) (k : ℕ) → tree.Updates nat_cmp m n k None → fin.from_entries {R = nat_cmp} n.entries ≡ fin.remove (fin.from_entries m.entries) k
+  view_remove m n k updates = fin.same_map nat_cmp_total fin.nat_cmp-IsAntisymmetric (fin.from_entries n.entries) (fin.remove (fin.from_entries m.entries) k)
+      (λ q. view_get n q ∙ updates.0 q ∙ sym (fin.get-remove nat_cmp_total (fin.from_entries m.entries) k q ∙ ap (λ r. cond (eq_by_cmp nat_cmp q k) None r) (view_get m q) ∙ ap (λ b. cond b None (tree.get nat_cmp m q)) (turned q k)))
+
 -- a write in front of others
 pub wrote : (rest : List (ℕ × List ℕ)) (old : Shown) (at : ℕ) (block : List ℕ) (new : Shown) (b : ℕ) → IsTrue old.tells → Writes old at block new (Ok tt) → written rest new.reads b ≡ written ((at, block) ∷ rest) old.reads b
 unfolding written

@@ -1,5 +1,5 @@
 -- How a change of a volume's files is judged before it is made, and what making it leaves.
-use Rattle.std.specs.Prelude.{◌≡◌, ◌<◌, ◌≤◌, ◌+◌, ℕ, true, List, Some, None, Result, Ok, Err, OnErr}
+use Rattle.std.specs.Prelude.{◌≡◌, ◌<◌, ◌≤◌, ◌+◌, ℕ, Bool, true, false, List, Some, None, Result, Ok, Err, OnErr}
 use Rattle.std.specs.FinMap as fin
 use Rattle.fv_disk.specs.Shown.{Shown as Disk}
 use Rattle.fv_disk.specs.declared.fault.BlockFault.{BlockFault}
@@ -112,3 +112,9 @@ IsChangeOf name (Put v f i block) = v ≡ name
 IsChangeOf name (Cut v f length) = v ≡ name
 IsChangeOf name (Remove v f) = v ≡ name
 IsChangeOf name command = ⊥
+
+-- a command leaves the names and the numbers of all files: each but `new` and `rm`
+abbrev pub keeps_numbers : Command → Bool
+keeps_numbers (New v f reserve) = false
+keeps_numbers (Remove v f) = false
+keeps_numbers command = true

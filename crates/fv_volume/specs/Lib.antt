@@ -30,3 +30,5 @@ pub mod Numbering
 pub mod Changing
 pub mod Placing
 pub mod Held
+pub mod Promising
+pub mod Destroying

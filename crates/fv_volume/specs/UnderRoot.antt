@@ -1,5 +1,5 @@
 -- Volumes in memory beside what a root on the disk names.
-use Rattle.std.specs.Prelude.{◌≡◌, ◌≤◌, ◌<◌, ℕ, Bool, true, false, List, length, Option, Some, None}
+use Rattle.std.specs.Prelude.{◌≡◌, ◌≢◌, ◌≤◌, ◌<◌, ℕ, Bool, true, false, List, length, Option, Some, None}
 use Rattle.std.specs.FinMap as fin
 use Rattle.fv_disk.specs.Shown.{Image}
 use Rattle.fv_bits.specs.Members.{is_member}
@@ -28,17 +28,17 @@ pub record IsMapOf (i : Image) (found : Found) (space : Space) : Type 0 where
   pub len : length space.committed ≡ found.blocks
   pub bits : (b : ℕ) → is_member space.committed b ≡ map_bit (root_found found) i b
 
--- A volume that is lent: its label and the nodes of its container are those that the root on the disk names, a new one has none. Its blocks
--- are apart. Without a change it is as that root has it.
+-- A volume that is lent: its label, if it has one, and the nodes of its container are those that the root on the disk names. A new one has neither,
+-- also where that root still names a volume of its slot that was removed. Its blocks are apart. Without a change it is as that root has it.
 pub record IsLentSlot (i : Image) (found : Found) (s : ℕ) (x : VolumeState) (map : Mapped) : Type 0 where
-  pub label : x.label ≡ label_place (root_found found) s
+  pub label : x.label ≢ 0 → x.label ≡ label_place (root_found found) s
   pub nodes : (b : ℕ) → names map.tree b ≡ true → (l : Label) × (label_of found i s ≡ Some l) × IsNodePlace i l.container l.height (entry_count l.span) b
   pub apart : AreApartIn x map
   pub unchanged : x.changed ≡ false → IsLoaded i found s (Some x) (Some map)
 
--- a slot, with or without a volume; without one the root on the disk has none either
+-- a slot, with or without a volume; without one the root on the disk may still have the one that was removed
 abbrev pub IsLentAt : Image → Found → ℕ → Option VolumeState → Option Mapped → Type 0
-IsLentAt i found s None None = label_place (root_found found) s ≡ 0
+IsLentAt i found s None None = Unit {0}
 IsLentAt i found s None (Some map) = ⊥
 IsLentAt i found s (Some x) None = ⊥
 IsLentAt i found s (Some x) (Some map) = IsLentSlot i found s x map

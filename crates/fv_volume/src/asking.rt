@@ -16,6 +16,7 @@ ghost use Rattle.fv_charge.specs.Ledgers.{IsLedgerOf};
 ghost use Rattle.fv_model.specs.Tables.{Table};
 ghost use Rattle.fv_volume.specs.Calls.{Asks, BlockCause, CallCause, Has, Reads};
 ghost use Rattle.fv_volume.specs.Lending.{lent_for};
+ghost use Rattle.fv_volume.specs.Promising.{told_by};
 ghost use Rattle.fv_volume.specs.Paths.{unknown_over, unknown_to, StepsTo};
 ghost use Rattle.fv_volume.specs.declared.fault.VolumeFault.TheVariants.{Refused};
 ghost use Rattle.fv_volume.specs.OneVolume.{home_in, standing_for, volume_as, volume_for, IsReady, IsStanding};
@@ -148,7 +149,8 @@ impl VolumeState {
     #[tactic(auto, using(crate::proofs::Asked::stat_is))]
     pub fn stat(&self) -> Stat
         requires { self.now.ledger.span ≤ greatest_span }
-        ensures { (table : Table) → IsLedgerOf (volume_as self.entry.now table) self.entry.now.ledger → result ≡ stat_of (volume_as self.entry.now table) }
+        ensures told { result ≡ told_by self.entry.now }
+        ensures right { (table : Table) → IsLedgerOf (volume_as self.entry.now table) self.entry.now.ledger → result ≡ stat_of (volume_as self.entry.now table) }
     {
         Stat {
             size: self.size,

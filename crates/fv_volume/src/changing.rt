@@ -83,6 +83,7 @@ impl VolumeState {
         ensures table { IsStanding (D.shown disk.old) pool.old self.old → KeepsTable (D.shown disk.old) pool.old self.old (D.shown disk.new) pool.new self.new }
         ensures ready { IsReady (D.shown disk.new) pool.new self.new }
         ensures map { self.new.map ≡ self.old.map }
+        ensures numbers { self.new.numbers ≡ self.old.numbers }
         ensures head { KeepsHead self.old self.new result }
         ensures reads { Reads (D.shown disk.old) pool.old (D.shown disk.new) pool.new }
         ensures cause { CallCause (IsStanding (D.shown disk.old) pool.old self.old) (standing_for (D.shown disk.old) pool.old self.old)

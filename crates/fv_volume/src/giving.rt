@@ -22,7 +22,7 @@ pub(crate) fn give_back_block(map: &mut AggMap, place: u32)
 }
 
 /// The place of an entry; a hole has none, 0.
-fn place_in(entry: Option<Entry>) -> u32
+pub(crate) fn place_in(entry: Option<Entry>) -> u32
     ensures { result ≡ place_in entry }
 {
     match entry {

@@ -1,9 +1,9 @@
 //! The commands that change the files of a volume: whether one is accepted, and making it.
 
-ghost use Rattle.std.specs.Prelude.{◌≡◌, ◌≤◌, ◌-◌, ◌^◌, min};
+ghost use Rattle.std.specs.Prelude.{◌≡◌, ◌≤◌, ◌-◌, ◌^◌, min, true};
 ghost use Rattle.fv_model.specs.Machines.{Machine};
 ghost use Rattle.fv_volume.specs.Calls.{Agrees, CallCause, Changes, HasWithin, KeepsHead, Reads};
-ghost use Rattle.fv_volume.specs.Changing.{IsChangeOf, KeepsTable};
+ghost use Rattle.fv_volume.specs.Changing.{IsChangeOf, KeepsTable, keeps_numbers};
 ghost use Rattle.fv_volume.specs.Lending.{lent_for};
 ghost use Rattle.fv_volume.specs.Placing.{pending_of};
 ghost use Rattle.fv_volume.specs.OneVolume.{home_in, standing_for, volume_for, IsReady, IsStanding};
@@ -97,6 +97,7 @@ impl VolumeState {
         ensures standing { IsStanding (D.shown disk.old) pool.old self.old → IsStanding (D.shown disk.new) pool.new self.new }
         ensures table { IsStanding (D.shown disk.old) pool.old self.old → KeepsTable (D.shown disk.old) pool.old self.old (D.shown disk.new) pool.new self.new }
         ensures ready { IsReady (D.shown disk.new) pool.new self.new }
+        ensures numbers { keeps_numbers command.now ≡ true → self.new.numbers ≡ self.old.numbers }
         ensures head { KeepsHead self.old self.new result }
         ensures reads { Reads (D.shown disk.old) pool.old (D.shown disk.new) pool.new }
         ensures cause { CallCause (IsStanding (D.shown disk.old) pool.old self.old) (standing_for (D.shown disk.old) pool.old self.old)

@@ -61,6 +61,14 @@ impl Kept {
         Ok(())
     }
 
+    /// Keeps the block of a PVBN no more, if one is kept there. It takes no memory. Costs a step for each level of a balanced tree of the
+    /// kept blocks.
+    pub fn forget(&mut self, pvbn: u32)
+        ensures { self.new ≡ fin.remove self.old pvbn }
+    {
+        let _ = self.blocks.remove(&pvbn);
+    }
+
     /// Keeps no block any more. It takes no memory.
     pub fn clear(&mut self)
         ensures { self.new ≡ fin.empty }

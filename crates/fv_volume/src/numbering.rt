@@ -36,8 +36,8 @@ impl VolumeState {
     /// label with 1 and 0, and for a node or an inode block without its shape: its place, and its first field that isn't as said.
     /// `Memory` where memory ran out. Nothing changes then.
     ///
-    /// Costs one step where the numbers are in memory, and else a block for each inode block and each node over them, and memory for each
-    /// name and for each free number below the greatest that is taken.
+    /// Costs one step where the numbers are in memory, without a call of the disk and with no change of the pool. Else it costs a block for each
+    /// inode block and each node over them, and memory for each name and for each free number below the greatest that is taken.
     pub fn read_numbers<D: Disk>(
         &mut self,
         alloc: Global,
@@ -48,6 +48,7 @@ impl VolumeState {
         ensures there { OnOk result (is_some self.new.numbers ≡ true) }
         ensures same { self.new ≡ record self.old { numbers = self.new.numbers } }
         ensures kept { OnErr result (self.new ≡ self.old) }
+        ensures idle { is_some self.old.numbers ≡ true → (disk.new ≡ disk.old) × ((pool.new ≡ pool.old) × (self.new ≡ self.old)) }
         ensures standing { IsStanding (D.shown disk.old) pool.old self.old → IsStanding (D.shown disk.new) pool.new self.new }
         ensures ready { IsReady (D.shown disk.new) pool.new self.new }
         ensures reads { Reads (D.shown disk.old) pool.old (D.shown disk.new) pool.new }

@@ -120,6 +120,14 @@ impl Volumes {
         self.states[slot as usize].as_mut()
     }
 
+    /// Frees a slot below 64. Costs a step for what was kept of its volume.
+    pub(crate) fn clear(&mut self, slot: u8)
+        requires { slot < slot_count }
+        ensures { self.new ≡ with_state self.old slot None }
+    {
+        self.states[slot as usize] = None;
+    }
+
     /// The first slot whose volume has this name, `None` exactly for an unused name. Costs a comparison for
     /// each volume.
     pub fn find(&self, name: &Name) -> Option<u8>

@@ -33,7 +33,7 @@ impl Lot {
     }
 }
 
-/// A script over two to four volumes, with its aggregate's blocks and the lines that ask for what these volumes hold.
+/// A script over a few volumes, with its aggregate's blocks and the lines that ask for what these volumes hold.
 #[derive(Drop)]
 pub struct Drawn {
     pub blocks: u64,
@@ -50,28 +50,38 @@ const INDEXES: [u64; 20] = [
 /// To what a file is cut: mostly to little or nothing.
 const CUTS: [u64; 12] = [0, 0, 0, 1, 1, 2, 4, 128, 129, 16_384, 2_097_151, 2_097_152];
 
+/// What a volume is given as another size: mostly one near to what a small volume has or may have, or to twice 300.
+const SIZES: [u64; 20] = [
+    0, 1, 2, 3, 4, 5, 6, 7, 8, 10, 12, 16, 20, 24, 25, 300, 600, 601, 500_000, 500_001,
+];
+
 /// A few files, so that a name is taken and gone in turn.
 const FILES: [u64; 8] = [0, 0, 0, 0, 1, 1, 1, 2];
 
-/// Lines that are refused, or make a volume.
-const OTHERS: [&str; 10] = [
+/// Lines that are refused, or make or remove a volume.
+const OTHERS: [&str; 13] = [
     "vol create v1 5 none\n",
     "vol create w 2 none\n",
     "vol create x 1 file\n",
     "vol create y 0 volume\n",
     "vol create y 500001 none\n",
     "vol create y 1 thin\n",
+    "vol destroy w\n",
+    "vol guarantee v0 thin\n",
+    "vol stat x\n",
     "put v0 f0 0 1\n",
     "cut v1 f0 2097153\n",
     "get v1 f0\n",
     "\n",
 ];
 
-/// The script of a seed, with so many lines.
-pub fn draw(alloc: Global, seed: u64, lines: u64) -> Result<Drawn, AllocError> {
+/// The script of a seed, with so many lines, over so many volumes; over two to four where `over` is 0.
+pub fn draw(alloc: Global, seed: u64, lines: u64, over: u64) -> Result<Drawn, AllocError> {
     let mut lot = lot_of(seed);
-    let wide = lot.below(4) == 0;
-    let volumes = if wide {
+    let wide = over > 4 || lot.below(4) == 0;
+    let volumes = if over != 0 {
+        over.saturating_sub(1)
+    } else if wide {
         3
     } else {
         lot.below(3).saturating_add(1)
@@ -154,7 +164,7 @@ fn add_content(alloc: Global, lot: &mut Lot, script: &mut Vec<u8>) -> Result<(),
     }
 }
 
-/// A line on a file, on names, or another one. Some name a volume that isn't there.
+/// A line on a file, on names, on a volume, or another one. Some name a volume that isn't there.
 fn add_command(
     alloc: Global,
     lot: &mut Lot,
@@ -166,6 +176,41 @@ fn add_command(
     } else {
         lot.below(volumes.saturating_add(1))
     };
+    let line = if lot.below(4) == 0 {
+        volume_line(alloc, lot, volume)?
+    } else {
+        file_line(alloc, lot, volume)?
+    };
+    add(script, line.as_str())?;
+    if line.as_str().ends_with('\n') {
+        Ok(())
+    } else {
+        add_content(alloc, lot, script)
+    }
+}
+
+/// A line on a volume as a whole. One is made more often than removed, so that most are there.
+fn volume_line(alloc: Global, lot: &mut Lot, volume: u64) -> Result<String, AllocError> {
+    match lot.below(12) {
+        0..=3 => {
+            let (size, kind, _) = shape(lot);
+            format!(in alloc; "vol create v{volume} {size} {kind}\n")
+        }
+        4 => format!(in alloc; "vol destroy v{volume}\n"),
+        5..=6 => format!(in alloc; "vol stat v{volume}\n"),
+        7..=9 => {
+            let size = lot.one_of(&SIZES);
+            format!(in alloc; "vol resize v{volume} {size}\n")
+        }
+        _ => {
+            let (_, kind, _) = shape(lot);
+            format!(in alloc; "vol guarantee v{volume} {kind}\n")
+        }
+    }
+}
+
+/// A line on a file or on names, or another one; a `put` without its content.
+fn file_line(alloc: Global, lot: &mut Lot, volume: u64) -> Result<String, AllocError> {
     let file = lot.one_of(&FILES);
     let index = lot.one_of(&INDEXES);
     let length = lot.one_of(&CUTS);
@@ -180,12 +225,7 @@ fn add_command(
         21..=22 => format!(in alloc; "cp\n")?,
         _ => String::from_str(alloc, other(lot))?,
     };
-    add(script, line.as_str())?;
-    if line.as_str().ends_with('\n') {
-        Ok(())
-    } else {
-        add_content(alloc, lot, script)
-    }
+    Ok(line)
 }
 
 fn other(lot: &mut Lot) -> &'static str {
@@ -196,12 +236,15 @@ fn other(lot: &mut Lot) -> &'static str {
     }
 }
 
-/// What is asked of a disk: the volumes, their files, and of two files of each the lengths and three blocks.
+/// What is asked of a disk: the volumes, what each tells of itself, its files, and of two files the lengths and three blocks.
 fn looks_at(alloc: Global, volumes: u64) -> Result<Vec<u8>, AllocError> {
     let mut looks = Vec::new(alloc);
     add(&mut looks, "vol list\n")?;
     for volume in 0..=volumes {
-        add(&mut looks, format!(in alloc; "ls v{volume}\n")?.as_str())?;
+        add(
+            &mut looks,
+            format!(in alloc; "vol stat v{volume}\nls v{volume}\n")?.as_str(),
+        )?;
         for file in 0..2 {
             add(
                 &mut looks,

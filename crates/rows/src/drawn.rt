@@ -11,40 +11,59 @@ use std::alloc::AllocError;
 /// How many tears are drawn from.
 const TEARS: u64 = 12;
 
-/// Plays the script of each seed of a range, each on a new aggregate. The row says how many lines each has, at how many moments by lot it
-/// is stopped, and which refusals have to come among all replies.
+/// Plays the script of each seed of a range, each on a new aggregate. The row says how many lines each has, perhaps over how many volumes, at
+/// how many moments by lot it is stopped, and which refusals have to come among all replies.
 pub fn play_drawn(bench: &mut Bench, text: &str) -> Result<(), Cause> {
     let words: Vec<&str> = text.split(' ').collect(bench.alloc)?;
     match words.as_slice() {
-        [
-            first,
-            "to",
-            last,
-            "lines",
-            lines,
-            "stopped",
-            stops,
-            "refused",
-            wanted @ ..,
-        ] => {
-            let mut seen = [false; 17];
-            let lines = number(lines)?;
-            let stops = number(stops)?;
-            for seed in number(first)?..=number(last)? {
-                play_seed(bench, seed, lines, stops).map_err(|cause| because(
-                    cause.what, seed, cause.at,
-                ))?;
-                mark_refusals(bench.host.given(), &mut seen);
-            }
-            all_came(wanted, &seen)
+        [first, "to", last, "lines", lines, "over", over, rest @ ..] => play_seeds(
+            bench,
+            number(first)?,
+            number(last)?,
+            number(lines)?,
+            number(over)?,
+            rest,
+        ),
+        [first, "to", last, "lines", lines, rest @ ..] => {
+            play_seeds(
+                bench,
+                number(first)?,
+                number(last)?,
+                number(lines)?,
+                0,
+                rest,
+            )
         }
         _ => Err(unread()),
     }
 }
 
+/// Plays the scripts of these seeds over so many volumes, two to four where `over` is 0. The words are the rest of the row.
+fn play_seeds(
+    bench: &mut Bench,
+    first: u64,
+    last: u64,
+    lines: u64,
+    over: u64,
+    words: &[&str],
+) -> Result<(), Cause> {
+    let ["stopped", stops, "refused", wanted @ ..] = words else {
+        return Err(unread());
+    };
+    let stops = number(stops)?;
+    let mut seen = [false; 17];
+    for seed in first..=last {
+        play_seed(bench, seed, lines, over, stops).map_err(|cause| because(
+            cause.what, seed, cause.at,
+        ))?;
+        mark_refusals(bench.host.given(), &mut seen);
+    }
+    all_came(wanted, &seen)
+}
+
 /// Plays the script of a seed: its replies are those of the plain machine, and so is what the disk then stands for.
-fn play_seed(bench: &mut Bench, seed: u64, lines: u64, stops: u64) -> Result<(), Cause> {
-    let drawn = draw(bench.alloc, seed, lines)?;
+fn play_seed(bench: &mut Bench, seed: u64, lines: u64, over: u64, stops: u64) -> Result<(), Cause> {
+    let drawn = draw(bench.alloc, seed, lines, over)?;
     aggregate(bench, format!(in bench.alloc; "{}", drawn.blocks)?.as_str())?;
     begin_run(bench, Program::Flexvol, "run")?;
     bench.run.script = drawn.script;

@@ -8,5 +8,6 @@ returns g c = record {
   table = c.change.ensures.table;
   ready = c.change.ensures.ready;
   head = c.change.ensures.head;
+  numbers = c.change.ensures.numbers;
   cause = c.change.ensures.cause;
 }

@@ -13,7 +13,7 @@ loop-slot-init g c =
     let pool = c.args.pool.now in
     let mid = g.D.Disk.shown c.write_kept.new.disk in
     let kept = c.in_ok-write_kept.ensures in
-    come_first disk mid pool c.write_kept.new.self c.args.volumes.now c.args.labels.now c.told-labels c.requires.labels c.requires.range kept.stands c.requires.housed c.requires.room
+    come_first disk mid pool c.write_kept.new.self c.args.volumes.now c.args.labels.now c.requires.labels kept.stands c.requires.housed c.requires.room
     kept.map kept.containers kept.found kept.empty (spares_fewer (IsUnkept pool.kept) (IsTaken (on_disk pool.map)) disk mid (Ok tt) c.requires.kept kept.writes) kept.written
 
 pub returns-in_err-write_kept-clause-spares : goal.returns-in_err-write_kept-clause-spares

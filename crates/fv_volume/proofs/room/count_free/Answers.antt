@@ -1,5 +1,5 @@
-use Rattle.std.proofs.Common.{◌≡◌, ℕ, ◌+◌, Bool, ap, ◌∙◌, sym, arith}
-use Rattle.std.specs.Prelude.{min, not, cond}
+use Rattle.std.proofs.Common.{◌≡◌, ℕ, ◌+◌, Bool, ap, arith}
+use Rattle.std.specs.Prelude.{not, cond}
 use Rattle.fv_bits.proofs.Counts.{passing, passing-add, passing-suc}
 use Rattle.fv_volmap.specs.Slots.{taken_in}
 use Rattle.fv_volume.proofs.room.count_free.Goals as goal

@@ -2,20 +2,23 @@ use Rattle.std.proofs.Common.{◌≡◌, ◌≤◌, ◌+◌, ◌⊎◌, ℕ, rul
 use Rattle.std.specs.Prelude.{IsNone, Result}
 use Rattle.fv_model.specs.Space.{overhead, span_of}
 use Rattle.fv_volume.specs.Slots.{NoneHasName}
+use Rattle.fv_cp.specs.Lent.{FitTogether}
 use Rattle.fv_aggregate.specs.Telling.{names_from}
 use Rattle.fv_aggregate.specs.declared.session.Session.{Session}
 use Rattle.fv_model.specs.declared.answers.Reply.{Reply}
-use Rattle.fv_model.specs.declared.answers.Reply.TheVariants.{Names, Refused}
-use Rattle.fv_model.specs.declared.answers.Refusal.TheVariants.{Syntax}
+use Rattle.fv_model.specs.declared.answers.Reply.TheVariants.{Names}
 use Rattle.fv_aggregate.specs.declared.fault.Fault.{Fault}
 use Rattle.fv_aggregate.specs.declared.fault.Fault.TheVariants.{Failed, Memory}
 use Rattle.fv_aggregate.specs.Calls.{GoesFor, IsPlain}
 use Rattle.fv_aggregate.specs.Commands.{volume_asked, changed_by, dirty_limit, machine_after, room_of}
 use Rattle.fv_aggregate.proofs.Added.{not_refused}
-use Rattle.fv_aggregate.proofs.Applied.{asks_none, cp_asks, cp_built, cp_goes, cp_goes_for, cp_no_files, cp_no_list, cp_replies, create_asks, create_built, create_goes, create_goes_for, create_no_files, create_no_list, create_no_point, create_replies, create_room, list_after, list_done, list_fails, list_replies, no_files, some_room, rests_for, rests_for_fault, unbuilt, unbuilt_after, unbuilt_replies}
-use Rattle.fv_aggregate.proofs.Applying.{asks_still, look_asks, look_files, look_goes, look_goes_for, look_name, look_no_point, look_refused, look_reply, make_asks, make_calm, make_files, make_goes, make_goes_for, make_name, make_no_point, make_reply, make_unasked, no_step, not_dead, rests_as}
-use Rattle.fv_aggregate.proofs.Calls.{reads_itself, rests_done}
+use Rattle.fv_aggregate.proofs.Applied.{asks_none, cp_asks, cp_built, cp_goes, cp_goes_for, cp_no_files, cp_no_list, cp_no_whole, cp_replies, create_asks, create_built, create_goes, create_goes_for, create_no_files, create_no_list, create_no_point, create_no_whole, create_replies, create_room, list_after, list_done, list_fails, list_replies, no_files, some_room, managed_or_unbuilt, rests_for, rests_for_fault}
+use Rattle.fv_aggregate.proofs.Applying.{booked_each, look_asks, look_files, look_goes, look_goes_for, look_name, look_no_point, look_refused, look_reply, make_asks, make_calm, make_files, make_goes, make_goes_for, make_name, make_no_point, make_reply, make_unasked, no_step, not_dead, rests_as}
+use Rattle.fv_aggregate.proofs.Calls.{reads_itself}
 use Rattle.fv_aggregate.proofs.Changing.{change_of_volume, change_reads, look_reads}
+use Rattle.fv_aggregate.proofs.Keeping.{keeps_but, keeps_managed, named_as}
+use Rattle.fv_aggregate.proofs.Managed.{manages_over}
+use Rattle.fv_aggregate.proofs.ManagedCalls.{managed_asks, managed_for, managed_goes, managed_plain}
 use Rattle.fv_aggregate.proofs.session.Session.apply.Goals as goal
 
 pub returns-in-Some-clause-goes_for : goal.returns-in-Some-clause-goes_for
@@ -48,12 +51,14 @@ returns-in-VolCreate g c =
         listed = λ list. create_no_list command _ _ _ c.in-VolCreate.is _ list;
         pointed = λ cp. create_no_point command _ _ _ c.in-VolCreate.is _ cp;
         memory = λ cp. create_no_point command _ _ _ c.in-VolCreate.is _ cp;
+        managed = λ fresh name of. create_no_whole command _ _ _ c.in-VolCreate.is _ name of;
       };
       on_files = λ files. create_no_files command _ _ _ c.in-VolCreate.is _ files;
       point = λ tells last m stands cp. create_no_point command _ _ _ c.in-VolCreate.is _ cp;
       calm = λ other few. rests_as g.D.Disk.shown c.args.disk.now c.create.new.disk (c.create.ensures.calm (low few));
       files = λ tells none without. c.create.ensures.files tells without;
       steps = record { other = λ none. refl; known = λ tells last m stands. no_step c.create.result c.args.steps.now; dead = λ failed. refl };
+      numbers = λ alive. keeps_but _ s.volumes n.volumes (c.create.ensures.numbers alive);
       dead = λ failed. not_dead _ s fresh failed;
     }
 
@@ -79,12 +84,14 @@ returns-in-Cp g c =
         listed = λ list. cp_no_list _ command c.in-Cp.is list;
         pointed = λ cp. c.reclaim.ensures.left;
         memory = λ cp. c.reclaim.ensures.memory;
+        managed = λ fresh name of. cp_no_whole _ command c.in-Cp.is name of;
       };
       on_files = λ files. cp_no_files _ command c.in-Cp.is files;
       point = λ tells last m stands cp. c.reclaim.ensures.done tells last m stands;
       calm = λ other. absurd (other c.in-Cp.is);
       files = λ tells none without. c.reclaim.ensures.files tells;
       steps = record { other = λ none. refl; known = λ tells last m stands. no_step c.reclaim.result c.args.steps.now; dead = λ failed. refl };
+      numbers = λ alive. keeps_but _ s.volumes n.volumes (c.reclaim.ensures.numbers alive);
       dead = λ failed. not_dead _ s fresh failed;
     }
 
@@ -110,11 +117,13 @@ returns-in-Get g c =
         missing = λ fresh near other of none. c.look.ensures.missing near (subst (NoneHasName s.volumes) (look_name command name asks d s e n c.look.result looks other of) none);
         asked = λ of. looks.read;
         refused = λ tells last m stands. look_refused command name asks d s e n c.look.result looks;
+        known = λ finds near other of. named_as s.volumes n.volumes c.look.result other name (look_name command name asks d s e n c.look.result looks other of) (c.look.ensures.finds finds near);
       };
       point = λ tells last m stands cp. look_no_point command name asks d s e n c.look.result looks _ cp;
       calm = λ other few. looks.only_reads;
       files = λ tells none without. look_files command name asks d s e n c.look.result looks without;
       steps = record { other = c.look.ensures.steps; known = c.look.ensures.known; dead = λ failed. not_dead _ s fresh failed };
+      numbers = λ alive. keeps_but _ s.volumes n.volumes c.look.ensures.kept;
       dead = λ failed. not_dead _ s fresh failed;
     }
 
@@ -140,11 +149,13 @@ returns-in-Len g c =
         missing = λ fresh near other of none. c.look-in-Len.ensures.missing near (subst (NoneHasName s.volumes) (look_name command name asks d s e n c.look-in-Len.result looks other of) none);
         asked = λ of. looks.read;
         refused = λ tells last m stands. look_refused command name asks d s e n c.look-in-Len.result looks;
+        known = λ finds near other of. named_as s.volumes n.volumes c.look-in-Len.result other name (look_name command name asks d s e n c.look-in-Len.result looks other of) (c.look-in-Len.ensures.finds finds near);
       };
       point = λ tells last m stands cp. look_no_point command name asks d s e n c.look-in-Len.result looks _ cp;
       calm = λ other few. looks.only_reads;
       files = λ tells none without. look_files command name asks d s e n c.look-in-Len.result looks without;
       steps = record { other = c.look-in-Len.ensures.steps; known = c.look-in-Len.ensures.known; dead = λ failed. not_dead _ s fresh failed };
+      numbers = λ alive. keeps_but _ s.volumes n.volumes c.look-in-Len.ensures.kept;
       dead = λ failed. not_dead _ s fresh failed;
     }
 
@@ -170,11 +181,13 @@ returns-in-Ls g c =
         missing = λ fresh near other of none. c.look-in-Ls.ensures.missing near (subst (NoneHasName s.volumes) (look_name command name asks d s e n c.look-in-Ls.result looks other of) none);
         asked = λ of. looks.read;
         refused = λ tells last m stands. look_refused command name asks d s e n c.look-in-Ls.result looks;
+        known = λ finds near other of. named_as s.volumes n.volumes c.look-in-Ls.result other name (look_name command name asks d s e n c.look-in-Ls.result looks other of) (c.look-in-Ls.ensures.finds finds near);
       };
       point = λ tells last m stands cp. look_no_point command name asks d s e n c.look-in-Ls.result looks _ cp;
       calm = λ other few. looks.only_reads;
       files = λ tells none without. look_files command name asks d s e n c.look-in-Ls.result looks without;
       steps = record { other = c.look-in-Ls.ensures.steps; known = c.look-in-Ls.ensures.known; dead = λ failed. not_dead _ s fresh failed };
+      numbers = λ alive. keeps_but _ s.volumes n.volumes c.look-in-Ls.ensures.kept;
       dead = λ failed. not_dead _ s fresh failed;
     }
 
@@ -200,33 +213,48 @@ returns-in-Some-changed_volume g c =
         missing = λ fresh near other named none. c.change.ensures.missing near (subst (NoneHasName s.volumes) (make_name command name of d s e n c.change.result makes other named) none);
         asked = λ asked. make_unasked command name of d s e n c.change.result makes _ asked;
         refused = makes.refused;
+        known = λ finds near other named. named_as s.volumes n.volumes c.change.result other name (make_name command name of d s e n c.change.result makes other named) (c.change.ensures.finds finds near);
       };
       point = λ tells last m stands cp. make_no_point command name of d s e n c.change.result makes _ cp;
       calm = λ other few. make_calm command name of d s e n c.change.result makes few;
       files = λ tells isnt without. make_files command name of d s e n c.change.result makes _ isnt;
       steps = record { other = λ none. refl; known = λ tells last m stands. no_step c.change.result c.args.steps.now; dead = λ failed. refl };
+      numbers = c.change.ensures.kept;
       dead = λ failed. not_dead _ s fresh failed;
     }
+
+pub manage-requires-clause-booked : goal.manage-requires-clause-booked
+manage-requires-clause-booked g c =
+    let fresh : IsNone c.args.self.now.failed = subst (λ (s : Session). IsNone s.failed) c.self.view_is (subst IsNone (sym c.in_default.is) refl) in
+    booked_each (g.D.Disk.shown c.args.disk.now) c.args.self.now (c.requires.stands fresh)
 
 pub returns-in-None : goal.returns-in-None
 returns-in-None g c =
     let disk = g.D.Disk.shown c.args.disk.now in
-    let session = c.args.self.now in
+    let old = c.args.self.now in
+    let new = c.manage.new.self in
+    let reply = c.manage.result in
     let command = c.args.command.now in
     let at = c.in_default-command in
-    let other = unbuilt command at.not-VolCreate at.not-VolList at.not-Cp (asks_none command at.not-Get at.not-Len at.not-Ls) (sym c.in-None.ensures) in
-    let fresh : IsNone session.failed = subst (λ (s : Session). IsNone s.failed) c.self.view_is (subst IsNone (sym c.in_default.is) refl) in
+    let asks = asks_none command at.not-Get at.not-Len at.not-Ls in
+    let changes = sym c.in-None.ensures in
+    let kind = managed_or_unbuilt command at.not-VolCreate at.not-VolList at.not-Cp asks changes in
+    let inside : IsNone c.self.inside.failed = subst IsNone (sym c.in_default.is) refl in
+    let fresh : IsNone old.failed = subst (λ (s : Session). IsNone s.failed) c.self.view_is inside in
+    let fit = subst (λ (s : Session). FitTogether s.pool s.volumes) c.self.view_is (c.self.invariant inside) in
+    let over = manages_over disk old fit command kind new reply c.manage.ensures in
     record {
-      goes = rests_done (Refused Syntax) (room_of command) disk session fresh (c.requires.stands fresh);
-      asks = λ none. asks_still (room_of command) disk session;
-      goes_for = λ tells last m stands. rests_for (Refused Syntax) disk session last m (machine_after m command) (g.met.D.Disk.laws c.args.disk.now) (unbuilt_after m command other) stands;
-      reply = λ tells last m stands. unbuilt_replies m command other;
-      plain = λ plain. record { refused = λ refused. (refl, refl); calm = λ not few. refl; wanting = λ not few. tt; damage = tt; unbuilt = λ fresh none. refl; listed = λ list. absurd (at.not-VolList list); pointed = λ cp. absurd (at.not-Cp cp); memory = λ cp. absurd (at.not-Cp cp) };
-      on_files = λ files. absurd (true≢false (sym files ∙ no_files command (asks_none command at.not-Get at.not-Len at.not-Ls) (sym c.in-None.ensures)));
+      goes = managed_goes disk old command new reply over (room_of command) fresh (c.requires.stands fresh);
+      asks = managed_asks disk old command new reply over (room_of command);
+      goes_for = λ tells last m stands. managed_for disk old command new reply over (g.met.D.Disk.laws c.args.disk.now) (c.requires.stands fresh) last m stands;
+      reply = λ tells last m stands. over.replies last m stands;
+      plain = λ plain. managed_plain disk old command new reply over c.args.disk.now at.not-VolList at.not-Cp;
+      on_files = λ files. absurd (true≢false (sym files ∙ no_files command asks changes));
       point = λ tells last m stands cp. absurd (at.not-Cp cp);
-      calm = λ not few. reads_itself disk;
-      files = λ tells none without. without;
+      calm = λ other few. reads_itself disk;
+      files = λ tells none without. over.files without;
       steps = record { other = λ none. refl; known = λ tells last m stands. refl; dead = λ failed. refl };
+      numbers = λ alive. keeps_managed old command new reply fit.housed.long c.manage.ensures;
       dead = λ failed. refl;
     }
 

@@ -5,6 +5,7 @@ use Rattle.fv_aggregate.specs.declared.session.Session.{Session}
 use Rattle.fv_aggregate.specs.Looking.{AsksSlot, Replied}
 use Rattle.fv_aggregate.proofs.Asked.{known_by, looks_by, slot_asked}
 use Rattle.fv_aggregate.proofs.Missing.{asked_closed}
+use Rattle.fv_aggregate.proofs.Keeping.{replied_volumes}
 use Rattle.fv_aggregate.proofs.session.Session.ask.Goals as goal
 
 pub returns-clause-looks : goal.returns-clause-looks
@@ -48,3 +49,8 @@ returns-clause-known g c = λ tells last m held.
     let replied = subst (λ (n : Session). Replied e r n c.replied.new.self c.replied.result) was c.replied.ensures in
     known_by d e (g.met.D.Disk.laws c.args.disk.now) s q command slot of.state of.there c.args.steps.now steps c.requires.fresh c.requires.stands long
     (asked_closed command of.state.name of.asks) r asks c.replied.new.self c.replied.result replied last m held
+
+-- it leaves the volumes
+pub returns-clause-volumes : goal.returns-clause-volumes
+returns-clause-volumes g c =
+    replied_volumes (g.D.Disk.shown c.ask_slot-asked.new.disk) c.ask_slot-asked.result _ c.replied.new.self c.replied.result c.replied.ensures ∙ c.ask_slot-asked.ensures.same ∙ ap (λ (n : Session). n.volumes) c.self.view_is

@@ -5,8 +5,8 @@ use Rattle.fv_aggregate.proofs.Numbered.{make_numbered, make_unnumbered}
 use Rattle.fv_aggregate.proofs.PointFirst.{aimed_read}
 use Rattle.fv_aggregate.proofs.session.Session.change_at.Goals as goal
 
-pub returns-in_err-read_numbers : goal.returns-in_err-read_numbers
-returns-in_err-read_numbers g c =
+pub returns-in_err-read_numbers-clause-makes : goal.returns-in_err-read_numbers-clause-makes
+returns-in_err-read_numbers-clause-makes g c =
     let d = g.D.Disk.shown c.args.disk.now in
     let e = g.D.Disk.shown c.read_numbers.new.disk in
     let failed : c.from_residual.result ≡ Err c.in_err-read_numbers.field-0.0 = search rules in
@@ -17,10 +17,10 @@ pub decide-requires-clause-aimed : goal.decide-requires-clause-aimed
 decide-requires-clause-aimed g c =
     aimed_read (g.D.Disk.shown c.args.disk.now) c.args.self.now (g.D.Disk.shown c.read_numbers.new.disk) c.read_numbers.new.self c.args.slot c.args.command.now c.in_ok-read_numbers.ensures.numbered.read c.requires.aimed
 
-pub returns : goal.returns
-returns g c =
+pub returns-clause-makes : goal.returns-clause-makes
+returns-clause-makes g c =
     let d = g.D.Disk.shown c.args.disk.now in
     let e = g.D.Disk.shown c.read_numbers.new.disk in
     let of = c.requires.aimed in
     make_numbered d c.args.self.now c.args.command.now (damaged_at d c.args.self.now c.args.slot of.state of.there c.requires.fresh) e c.read_numbers.new.self tt c.in_ok-read_numbers.ensures.numbered
-    (g.D.Disk.shown c.decide.new.disk) c.decide.new.self c.decide.result c.decide.ensures
+    (g.D.Disk.shown c.decide.new.disk) c.decide.new.self c.decide.result c.decide.ensures.makes

@@ -7,6 +7,7 @@ use Rattle.fv_aggregate.specs.Looking.{done_as, JudgesSlot, Replied}
 use Rattle.fv_aggregate.proofs.Carried.{judged_by, slot_judged}
 use Rattle.fv_aggregate.proofs.Changed.{beside}
 use Rattle.fv_aggregate.proofs.Looked.{fit_read}
+use Rattle.fv_aggregate.proofs.Keeping.{replied_volumes}
 use Rattle.fv_aggregate.proofs.session.Session.judge.Goals as goal
 
 pub invariant_of-self : goal.invariant_of-self
@@ -19,8 +20,8 @@ invariant_of-self g c = λ none.
     subst (FitTogether c.judge_slot-judged.new.pool) (sym c.judge_slot-judged.ensures.same)
     (fit_read d e c.self.inside.pool c.judge_slot-judged.new.pool did.reads c.self.inside.volumes (c.self.invariant none))
 
-pub returns : goal.returns
-returns g c =
+pub returns-clause-judged : goal.returns-clause-judged
+returns-clause-judged g c =
     let d = g.D.Disk.shown c.args.disk.now in
     let e = g.D.Disk.shown c.judge_slot-judged.new.disk in
     let s = c.args.self.now in
@@ -39,3 +40,8 @@ returns g c =
     let asked = subst (λ a. Replied e a (record { volumes = c.judge_slot-judged.new.volumes; pool = q; pending = c.self.inside.pending; failed = c.self.inside.failed }) c.replied.new.self c.replied.result) c.done.ensures c.replied.ensures in
     let replied = subst (λ (n : Session). Replied e (done_as r) n c.replied.new.self c.replied.result) was asked in
     judged_by d e (g.met.D.Disk.laws c.args.disk.now) s q command slot aimed.state aimed.there long c.requires.fresh c.requires.stands r did c.replied.new.self c.replied.result replied
+
+-- it leaves the volumes
+pub returns-clause-volumes : goal.returns-clause-volumes
+returns-clause-volumes g c =
+    replied_volumes (g.D.Disk.shown c.judge_slot-judged.new.disk) c.done.result _ c.replied.new.self c.replied.result c.replied.ensures ∙ c.judge_slot-judged.ensures.same ∙ ap (λ (n : Session). n.volumes) c.self.view_is

@@ -4,30 +4,30 @@ use Rattle.fv_aggregate.proofs.Asked.{asked_read, damaged_at}
 use Rattle.fv_aggregate.proofs.Numbered.{known_numbered, look_numbered, look_unnumbered}
 use Rattle.fv_aggregate.proofs.session.Session.look_at.Goals as goal
 
-pub returns-in_err-read_numbers-in_default-clause-looks : goal.returns-in_err-read_numbers-in_default-clause-looks
-returns-in_err-read_numbers-in_default-clause-looks g c =
+pub returns-in_err-read_numbers-clause-looks : goal.returns-in_err-read_numbers-clause-looks
+returns-in_err-read_numbers-clause-looks g c =
     let d = g.D.Disk.shown c.args.disk.now in
     let e = g.D.Disk.shown c.read_numbers.new.disk in
-    let failed : c.from_residual.result ≡ Err c.in_err-read_numbers-in_default.field-0.0 = search rules in
+    let failed : c.from_residual.result ≡ Err c.in_err-read_numbers.field-0.0 = search rules in
     subst (Looks d c.args.self.now c.args.command.now e c.read_numbers.new.self) (sym failed)
-    (look_unnumbered d c.args.self.now c.args.command.now e c.read_numbers.new.self c.in_err-read_numbers-in_default.field-0.0 c.in_err-read_numbers-in_default.ensures.numbered)
+    (look_unnumbered d c.args.self.now c.args.command.now e c.read_numbers.new.self c.in_err-read_numbers.field-0.0 c.in_err-read_numbers.ensures.numbered)
 
-pub ask-requires-in_default-clause-asked : goal.ask-requires-in_default-clause-asked
-ask-requires-in_default-clause-asked g c =
-    asked_read (g.D.Disk.shown c.args.disk.now) c.args.self.now (g.D.Disk.shown c.read_numbers.new.disk) c.read_numbers.new.self c.args.slot c.args.command.now c.in_ok-read_numbers-in_default.ensures.numbered.read c.requires.asked
+pub ask-requires-2-clause-asked : goal.ask-requires-2-clause-asked
+ask-requires-2-clause-asked g c =
+    asked_read (g.D.Disk.shown c.args.disk.now) c.args.self.now (g.D.Disk.shown c.read_numbers.new.disk) c.read_numbers.new.self c.args.slot c.args.command.now c.in_ok-read_numbers.ensures.numbered.read c.requires.asked
 
-pub returns-in_ok-read_numbers-in_default-clause-looks : goal.returns-in_ok-read_numbers-in_default-clause-looks
-returns-in_ok-read_numbers-in_default-clause-looks g c =
+pub returns-clause-looks : goal.returns-clause-looks
+returns-clause-looks g c =
     let d = g.D.Disk.shown c.args.disk.now in
     let e = g.D.Disk.shown c.read_numbers.new.disk in
     let of = c.requires.asked in
-    look_numbered d c.args.self.now c.args.command.now (damaged_at d c.args.self.now c.args.slot of.state of.there c.requires.fresh) e c.read_numbers.new.self tt c.in_ok-read_numbers-in_default.ensures.numbered
-    (g.D.Disk.shown c.ask-in_default.new.disk) c.ask-in_default.new.self c.ask-in_default.result c.ask-in_default.ensures.looks
+    look_numbered d c.args.self.now c.args.command.now (damaged_at d c.args.self.now c.args.slot of.state of.there c.requires.fresh) e c.read_numbers.new.self tt c.in_ok-read_numbers.ensures.numbered
+    (g.D.Disk.shown c.ask-2.new.disk) c.ask-2.new.self c.ask-2.result c.ask-2.ensures.looks
 
-pub returns-in_ok-read_numbers-in_default-clause-known : goal.returns-in_ok-read_numbers-in_default-clause-known
-returns-in_ok-read_numbers-in_default-clause-known g c =
+pub returns-clause-known : goal.returns-clause-known
+returns-clause-known g c =
     let d = g.D.Disk.shown c.args.disk.now in
     let e = g.D.Disk.shown c.read_numbers.new.disk in
     let of = c.requires.asked in
-    known_numbered d c.args.self.now c.args.command.now (damaged_at d c.args.self.now c.args.slot of.state of.there c.requires.fresh) e c.read_numbers.new.self tt c.in_ok-read_numbers-in_default.ensures.numbered
-    (g.D.Disk.shown c.ask-in_default.new.disk) c.ask-in_default.new.self c.ask-in_default.result c.args.steps.now c.ask-in_default.new.steps c.ask-in_default.ensures.known
+    known_numbered d c.args.self.now c.args.command.now (damaged_at d c.args.self.now c.args.slot of.state of.there c.requires.fresh) e c.read_numbers.new.self tt c.in_ok-read_numbers.ensures.numbered
+    (g.D.Disk.shown c.ask-2.new.disk) c.ask-2.new.self c.ask-2.result c.args.steps.now c.ask-2.new.steps c.ask-2.ensures.known

@@ -6,8 +6,9 @@ use Rattle.fv_volume.specs.Causes.{of_block}
 use Rattle.fv_volume.specs.States.{States, state_at}
 use Rattle.fv_cp.specs.Lent.{FitTogether}
 use Rattle.fv_aggregate.specs.declared.session.Session.{Session}
+use Rattle.fv_aggregate.specs.Known.{KnowsNumbers}
 use Rattle.fv_aggregate.specs.Looking.{Breaks}
-use Rattle.fv_aggregate.specs.Numbering.{HasNumbered, KnowsNumbers, NumbersSlot}
+use Rattle.fv_aggregate.specs.Numbering.{HasNumbered, NumbersSlot}
 use Rattle.fv_aggregate.proofs.Changed.{fit_changed}
 use Rattle.fv_aggregate.proofs.NumbersRead.{as_left, knows_numbered, numbered_done, numbered_failed, slot_numbered, some_there}
 use Rattle.fv_aggregate.proofs.session.Session.read_numbers.Goals as goal
@@ -19,7 +20,7 @@ invariant_of-self g c = λ none.
     let states = c.self.inside.volumes in
     let q = c.read_slot-read.new.pool in
     let one = some_there (state_at states c.args.slot) (subst (λ (n : Session). is_some (state_at n.volumes c.args.slot) ≡ true) (sym c.self.view_is) c.requires.there) in
-    let did = slot_numbered d e c.self.inside.pool q states c.read_slot-read.new.volumes c.args.slot one.0 one.1 c.read_slot-read.result c.read_slot-read.ensures in
+    let did = slot_numbered d e c.self.inside.pool q states c.read_slot-read.new.volumes c.args.slot one.0 one.1 c.read_slot-read.result c.read_slot-read.ensures.read in
     let fit = c.self.invariant none in
     let n = did.numbers in
     subst (FitTogether q) (sym did.row) (fit_changed d e c.self.inside.pool q states c.args.slot one.0 did.now one.1 n.reads (as_left one.0 did.now n.same) n.ready fit.housed.long fit)
@@ -31,7 +32,7 @@ invariant_of-self-in-Err g c = λ none.
     let states = c.self.inside.volumes in
     let q = c.read_slot-read.new.pool in
     let one = some_there (state_at states c.args.slot) (subst (λ (n : Session). is_some (state_at n.volumes c.args.slot) ≡ true) (sym c.self.view_is) c.requires.there) in
-    let did = slot_numbered d e c.self.inside.pool q states c.read_slot-read.new.volumes c.args.slot one.0 one.1 c.read_slot-read.result c.read_slot-read.ensures in
+    let did = slot_numbered d e c.self.inside.pool q states c.read_slot-read.new.volumes c.args.slot one.0 one.1 c.read_slot-read.result c.read_slot-read.ensures.read in
     let fit = c.self.invariant none in
     let n = did.numbers in
     subst (FitTogether q) (sym did.row) (fit_changed d e c.self.inside.pool q states c.args.slot one.0 did.now one.1 n.reads (as_left one.0 did.now n.same) n.ready fit.housed.long fit)
@@ -47,7 +48,7 @@ returns-in-Ok-clause-numbered g c =
     let one = some_there (state_at s.volumes slot) c.requires.there in
     let fresh = subst (λ (n : Session). IsNone n.failed) (sym c.self.view_is) c.requires.fresh in
     let long = subst (λ (n : Session). length n.volumes ≡ 64) c.self.view_is (c.self.invariant fresh).housed.long in
-    let said = subst (λ (n : Session). NumbersSlot d n.pool n.volumes slot (state_at n.volumes slot) e q stay (Ok tt)) c.self.view_is c.in-Ok.ensures in
+    let said = subst (λ (n : Session). NumbersSlot d n.pool n.volumes slot (state_at n.volumes slot) e q stay (Ok tt)) c.self.view_is c.in-Ok.ensures.read in
     let did = slot_numbered d e s.pool q s.volumes stay slot one.0 one.1 (Ok tt) said in
     let was : ◌≡◌ {A = Session} (record { volumes = stay; pool = q; pending = c.self.inside.pending; failed = c.self.inside.failed }) (record s { volumes = stay; pool = q }) =
     λ j. record { volumes = stay; pool = q; pending = (c.self.view_is j).pending; failed = (c.self.view_is j).failed } in
@@ -67,7 +68,7 @@ returns-in-Err-clause-numbered g c =
     let one = some_there (state_at s.volumes slot) c.requires.there in
     let fresh = subst (λ (n : Session). IsNone n.failed) (sym c.self.view_is) c.requires.fresh in
     let long = subst (λ (n : Session). length n.volumes ≡ 64) c.self.view_is (c.self.invariant fresh).housed.long in
-    let said = subst (λ (n : Session). NumbersSlot d n.pool n.volumes slot (state_at n.volumes slot) e q stay (Err b)) c.self.view_is c.in-Err.ensures in
+    let said = subst (λ (n : Session). NumbersSlot d n.pool n.volumes slot (state_at n.volumes slot) e q stay (Err b)) c.self.view_is c.in-Err.ensures.read in
     let did = slot_numbered d e s.pool q s.volumes stay slot one.0 one.1 (Err b) said in
     let was : ◌≡◌ {A = Session} (record { volumes = stay; pool = q; pending = c.self.inside.pending; failed = c.self.inside.failed }) (record s { volumes = stay; pool = q }) =
     λ j. record { volumes = stay; pool = q; pending = (c.self.view_is j).pending; failed = (c.self.view_is j).failed } in
@@ -87,6 +88,6 @@ returns-in-Ok-clause-there g c =
     let one = some_there (state_at s.volumes slot) c.requires.there in
     let fresh = subst (λ (n : Session). IsNone n.failed) (sym c.self.view_is) c.requires.fresh in
     let long = subst (λ (n : Session). length n.volumes ≡ 64) c.self.view_is (c.self.invariant fresh).housed.long in
-    let said = subst (λ (n : Session). NumbersSlot d n.pool n.volumes slot (state_at n.volumes slot) e q stay (Ok tt)) c.self.view_is c.in-Ok.ensures in
+    let said = subst (λ (n : Session). NumbersSlot d n.pool n.volumes slot (state_at n.volumes slot) e q stay (Ok tt)) c.self.view_is c.in-Ok.ensures.read in
     let did = slot_numbered d e s.pool q s.volumes stay slot one.0 one.1 (Ok tt) said in
     subst (λ (xs : States). KnowsNumbers (state_at xs slot)) (sym did.row) (knows_numbered d e s q slot one.0 did.now one.1 long did.numbers.reads did.numbers.same did.numbers.ready did.numbers.there)

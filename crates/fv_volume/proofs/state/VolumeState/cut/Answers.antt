@@ -10,7 +10,7 @@ use Rattle.fv_volume.specs.Causes.{of_block}
 use Rattle.fv_volume.specs.OneVolume.{standing_for, volume_for}
 use Rattle.fv_volume.proofs.Asked.{first_info}
 use Rattle.fv_volume.proofs.CallCauses.{failed_change_cause}
-use Rattle.fv_volume.proofs.Calling.{counted_all, counted_table, left_table, refused_table, left_ledger, left_more, failed_changes, no_refusal, failed_head, failed_stands, left_ready, refused_changes, refused_head, refused_ready, refused_standing, done_head, done_ready, parts_of, Parts}
+use Rattle.fv_volume.proofs.Calling.{counted_all, counted_table, kept_numbers, left_table, refused_table, left_ledger, left_more, failed_changes, no_refusal, failed_head, failed_stands, left_ready, refused_changes, refused_head, refused_ready, refused_standing, done_head, done_ready, parts_of, Parts}
 use Rattle.fv_volume.proofs.JudgedCut.{fewer_fits, fewer_of}
 use Rattle.fv_volume.proofs.OneVolumes.{reads_then, said_after}
 use Rattle.fv_volume.proofs.MadeCut.{cut_is, cut_stands}
@@ -117,3 +117,11 @@ pub cut_blocks-requires-clause-there : goal.cut_blocks-requires-clause-there
 cut_blocks-requires-clause-there g c = said_after (g.D.Disk.shown c.args.disk.now) (g.D.Disk.shown c.judge_cut.new.disk) c.args.pool.now c.judge_cut.new.pool c.judge_cut.ensures.reads c.args.self.now c.judge_cut.new.volume c.judge_cut.ensures.same
     (λ (s : Standing). IsInfoOf s.inode c.in_ok-info.info)
     (λ is. first_info (standing_for (g.D.Disk.shown c.args.disk.now) c.args.pool.now c.args.self.now).inode c.args.file.now c.in_ok-info.info (c.in_ok-info.ensures.accepted is).first)
+
+-- ---- the numbers of its files
+
+pub returns-in_err-count-clause-numbers : goal.returns-in_err-count-clause-numbers
+returns-in_err-count-clause-numbers g c = kept_numbers c.args.self.now c.judge_cut.new.volume c.cut_blocks.new.volume c.judge_cut.ensures.same c.in_err-count.ensures.alters.same
+
+pub returns-clause-numbers : goal.returns-clause-numbers
+returns-clause-numbers g c = ap (λ (z : VolumeState). z.numbers) c.count_change.ensures.others ∙ kept_numbers c.args.self.now c.judge_cut.new.volume c.cut_blocks.new.volume c.judge_cut.ensures.same c.in_ok-count.ensures.alters.same

@@ -1,4 +1,4 @@
-use Rattle.std.proofs.Common.{◌≡◌, Ok, Err, rules, ap, subst}
+use Rattle.std.proofs.Common.{◌≡◌, Ok, Err, rules, ap, subst, ◌∙◌}
 use Rattle.fv_tables.specs.Told.{Standing}
 use Rattle.fv_files.specs.Tables.{IsInfoOf}
 use Rattle.fv_model.specs.declared.commands.Command.TheVariants.{Put}
@@ -9,7 +9,7 @@ use Rattle.fv_volume.specs.Lending.{lent_for}
 use Rattle.fv_volume.specs.OneVolume.{home_in, standing_for, volume_for, IsStanding}
 use Rattle.fv_volume.proofs.Asked.{first_info}
 use Rattle.fv_volume.proofs.CallCauses.{fails_later, failed_cause}
-use Rattle.fv_volume.proofs.Calling.{counted_all, counted_table, left_table, refused_table, left_fits, failed_changes, failed_head, failed_stands, left_ready, refused_changes, refused_head, refused_ready, refused_standing, done_head, done_ready, Parts}
+use Rattle.fv_volume.proofs.Calling.{counted_all, counted_table, kept_numbers, left_table, refused_table, left_fits, failed_changes, failed_head, failed_stands, left_ready, refused_changes, refused_head, refused_ready, refused_standing, done_head, done_ready, Parts}
 use Rattle.fv_volume.proofs.OneVolumes.{reads_then, said_after}
 use Rattle.fv_volume.proofs.MadePut.{put_is, put_stands}
 use Rattle.fv_volume.proofs.state.VolumeState.put.Goals as goal
@@ -139,3 +139,11 @@ returns-in_err-write_block-clause-table g c = λ is. left_table (g.D.Disk.shown 
 
 pub returns-clause-table : goal.returns-clause-table
 returns-clause-table g c = λ is. counted_table (g.D.Disk.shown c.args.disk.now) c.args.pool.now c.args.self.now (g.D.Disk.shown c.write_block.new.disk) c.write_block.new.pool c.write_block.new.volume c.count_change.new.volume (counted_all c.write_block.new.volume c.count_change.new.volume c.count_change.ensures.others) (left_table (g.D.Disk.shown c.args.disk.now) (g.D.Disk.shown c.judge_put.new.disk) (g.D.Disk.shown c.write_block.new.disk) c.args.pool.now c.judge_put.new.pool c.write_block.new.pool c.judge_put.ensures.reads c.args.self.now c.judge_put.new.volume c.write_block.new.volume c.judge_put.ensures.same (Ok tt) c.in_ok-write_block.ensures.alters is)
+
+-- ---- the numbers of its files
+
+pub returns-in_err-write_block-clause-numbers : goal.returns-in_err-write_block-clause-numbers
+returns-in_err-write_block-clause-numbers g c = kept_numbers c.args.self.now c.judge_put.new.volume c.write_block.new.volume c.judge_put.ensures.same c.in_err-write_block.ensures.alters.same
+
+pub returns-clause-numbers : goal.returns-clause-numbers
+returns-clause-numbers g c = ap (λ (z : VolumeState). z.numbers) c.count_change.ensures.others ∙ kept_numbers c.args.self.now c.judge_put.new.volume c.write_block.new.volume c.judge_put.ensures.same c.in_ok-write_block.ensures.alters.same

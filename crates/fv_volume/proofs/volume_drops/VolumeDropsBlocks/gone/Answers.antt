@@ -3,7 +3,7 @@ use Rattle.fv_volmap.specs.Slots.{Volume, active_of, slot_at}
 use Rattle.fv_volume.specs.DroppingLaws.{drops_itself}
 use Rattle.fv_volume.specs.Lending.{lent_by}
 use Rattle.fv_volume.proofs.PlaceShown.{gone_shown}
-use Rattle.fv_volume.proofs.Shows.{apart_gone, numbers_gone, unused_member, use_gone, used_member}
+use Rattle.fv_volume.proofs.Shows.{apart_gone, numbers_gone}
 use Rattle.fv_volume.proofs.volume_drops.VolumeDropsBlocks.gone.Goals as goal
 
 pub invariant_of-self-clause-few : goal.invariant_of-self-clause-few

@@ -1,4 +1,4 @@
-use Rattle.std.proofs.Common.{Err, ◌<◌, ◌≤◌, ◌+◌, ◌≡◌, ◌⊎◌, refl, sym, ap, subst, ◌∙◌, inl, inr, ⊎_elim, arith}
+use Rattle.std.proofs.Common.{Err, ◌<◌, ◌≤◌, ◌+◌, ◌≡◌, ◌⊎◌, refl, sym, subst, inl, inr, ⊎_elim, arith}
 use Rattle.fv_image.specs.Layout.{root_place}
 use Rattle.fv_volume.specs.Lending.{IsOutOfRoom, lent_by, shown_over}
 use Rattle.fv_volume.specs.Putting.{PutsOver, unasked}

@@ -1,0 +1,383 @@
+-- Commands on a whole volume: what is answered, and where the session stands after them.
+use Rattle.std.proofs.Common.{◌≡◌, ◌≤◌, ◌⊎◌, inl, inr, ⊎_elim, ℕ, Bool, true, false, cond, List, [], ◌∷◌, Option, Some, None, Result, Ok, Err, true≢false, refl, sym, ap, subst, ◌∙◌, arith}
+use Rattle.std.specs.Prelude.{if◌then◌else◌, IsTrue}
+use Rattle.std.specs.Option.{is_none, is_some, option_map_or}
+use Rattle.std.specs.FinMap as fin
+use Rattle.fv_disk.specs.Shown.{Shown}
+use Rattle.fv_model.specs.declared.answers.Refusal.{Refusal}
+use Rattle.fv_model.specs.declared.answers.Refusal.TheVariants.{NoVolume, Syntax}
+use Rattle.fv_model.specs.declared.answers.Reply.{Reply}
+use Rattle.fv_model.specs.declared.answers.Reply.TheVariants.{Done, Refused, Stat as Numbers}
+use Rattle.fv_model.specs.declared.commands.Command.{Command}
+use Rattle.fv_model.specs.declared.commands.Command.TheVariants.{VolCreate, VolDestroy, VolResize, VolGuarantee, VolList, VolStat, New, Put, Get, Len, Cut, Remove, Ls, SnapCreate, SnapDelete, SnapRestore, SnapList, CloneCreate, SplitStart, SplitFinish, Mirror, Clean, Probe, Work, Cp}
+use Rattle.fv_model.specs.declared.commands.Kind.{Kind}
+use Rattle.fv_model.specs.Machines.{Machine}
+use Rattle.fv_model.specs.Effects.{change_of, effect}
+use Rattle.fv_model.specs.Refusals.{conditions, first_of, next, refusal}
+use Rattle.fv_model.specs.Replies.{answer, is_open, stat_of, Allows}
+use Rattle.fv_model.specs.Volumes.{Volume}
+use Rattle.fv_volume.specs.declared.pool.Pool.{Pool}
+use Rattle.fv_volume.specs.declared.state.VolumeState.{VolumeState}
+use Rattle.fv_volume.specs.Destroying.{Destroys}
+use Rattle.fv_volume.specs.OneVolume.{table_for, volume_for}
+use Rattle.fv_volume.specs.Promising.{has_size, refusal_of, told_by, IsPromised, PromisesOne}
+use Rattle.fv_volume.specs.Slots.{is_named, NoneHasName}
+use Rattle.fv_volume.specs.States.{States}
+use Rattle.fv_volume.proofs.Asked.{stat_is}
+use Rattle.fv_laws.proofs.Changes.{same_name}
+use Rattle.fv_cp.specs.Held.{machine_held}
+use Rattle.fv_cp.specs.Lent.{blocks_asked, FitTogether}
+use Rattle.fv_aggregate.specs.declared.session.Session.{Session}
+use Rattle.fv_aggregate.specs.Commands.{changes_volume, has_range, is_built, is_refusal, machine_after, managed_by, Replies, RepliesBy}
+use Rattle.fv_aggregate.specs.Managing.{told_as, IsCarriedOut, IsManaged, IsTold, Manages}
+use Rattle.fv_aggregate.specs.Standing.{IsWithoutFiles, Stands, StandsFor}
+use Rattle.fv_aggregate.proofs.Applied.{unbuilt_after, unbuilt_replies}
+use Rattle.fv_aggregate.proofs.Asked.{answer_allows}
+use Rattle.fv_aggregate.proofs.Having.{can_have_all, has_volumes, tables}
+use Rattle.fv_aggregate.proofs.HeldMachine.{is_there, not_there, one}
+use Rattle.fv_aggregate.proofs.Missing.{refused_allows, refused_next}
+use Rattle.fv_aggregate.proofs.Removing.{asked_without, files_without, stands_for_without, stands_without}
+use Rattle.fv_aggregate.proofs.Resized.{files_promised, stands_for_promised, stands_promised}
+
+-- What is so of a session after a command that reaches no disk, over a disk.
+pub record IsManagedOver (disk : Shown) (old : Session) (c : Command) (new : Session) (reply : Reply) : Type 0 where
+  pub managed : (name : List ℕ) → managed_by c ≡ Some name → IsManaged old c name new reply
+  pub unbuilt : is_built c ≡ false → reply ≡ Refused Syntax
+  pub refused : IsTrue (is_refusal reply) → new ≡ old
+  pub stands : Stands disk old → Stands disk new
+  pub stands_for : Stands disk old → (last m : Machine) → StandsFor disk old last m → StandsFor disk new last (machine_after m c)
+  pub replies : (last m : Machine) → StandsFor disk old last m → Replies m c reply
+  -- unless a volume that stays changes, the next point asks for no more than before
+  pub asked : changes_volume c ≡ false → blocks_asked new.volumes ≤ blocks_asked old.volumes
+  pub files : IsWithoutFiles old → IsWithoutFiles new
+  pub found : new.pool.found ≡ old.pool.found
+  pub pending : new.pending ≡ old.pending
+  pub failed : new.failed ≡ old.failed
+
+-- ---- replies
+
+after_built : (m : Machine) (c : Command) → is_built c ≡ true → machine_after m c ≡ next m c
+unfolding machine_after
+after_built m c built = ap (λ (b : Bool). if b then next m c else m) built
+
+replies_built : (m : Machine) (c : Command) (reply : Reply) → is_built c ≡ true → Allows m c reply → Replies m c reply
+replies_built m c reply built allowed = subst (λ (b : Bool). RepliesBy b m c reply) (sym built) allowed
+
+refused_done : (r : Refusal) → Refused r ≡ Done → ⊥
+refused_done r e = cc
+
+ok_err : (u : Unit {0}) (r : Refusal) → ◌≡◌ {A = Result Unit Refusal} (Ok u) (Err r) → ⊥
+ok_err u r e = cc
+
+same_refusal : (r q : Refusal) → ◌≡◌ {A = Result Unit Refusal} (Err r) (Err q) → Refused r ≡ Refused q
+same_refusal r q e = ap told_as e
+
+some_same : (a b : List ℕ) → ◌≡◌ {A = Option (List ℕ)} (Some a) (Some b) → a ≡ b
+some_same a b e = cc
+
+module _ (disk : Shown) (session : Session) where
+  -- ---- a session that stays
+
+  -- a command that isn't built
+  unbuilt_over : (c : Command) → is_built c ≡ false → managed_by c ≡ None → IsManagedOver disk session c session (Refused Syntax)
+  unbuilt_over c none nothing = record {
+    managed = λ name is. absurd (apart name (sym nothing ∙ is));
+    unbuilt = λ isnt. refl;
+    refused = λ refused. refl;
+    stands = λ stands. stands;
+    stands_for = λ there last m stands. subst (λ (k : Machine). StandsFor disk session last k) (sym (unbuilt_after m c none)) stands;
+    replies = λ last m stands. unbuilt_replies m c none;
+    asked = λ calm. omega arith;
+    files = λ without. without;
+    found = refl;
+    pending = refl;
+    failed = refl;
+  }
+    where
+      apart : (v : List ℕ) → ◌≡◌ {A = Option (List ℕ)} None (Some v) → ⊥
+      apart v e = cc
+
+  -- a command that is refused, as by the machine
+  refused_over : (c : Command) (r : Refusal) → is_built c ≡ true → ((name : List ℕ) → managed_by c ≡ Some name → IsManaged session c name session (Refused r))
+      → ((last m : Machine) → StandsFor disk session last m → refusal m c ≡ Some r) → IsManagedOver disk session c session (Refused r)
+  refused_over c r built managed refused = record {
+    managed = managed;
+    unbuilt = λ isnt. absurd (true≢false (sym built ∙ isnt));
+    refused = λ is. refl;
+    stands = λ stands. stands;
+    stands_for = λ there last m stands. subst (λ (k : Machine). StandsFor disk session last k) (sym (after_built m c built ∙ refused_next m c r (refused last m stands))) stands;
+    replies = λ last m stands. replies_built m c (Refused r) built (refused_allows m c r (refused last m stands));
+    asked = λ calm. omega arith;
+    files = λ without. without;
+    found = refl;
+    pending = refl;
+    failed = refl;
+  }
+
+  module _ (fit : FitTogether session.pool session.volumes) where
+    -- ---- another size or kind
+
+    module _ (c : Command) (name : List ℕ) (size : VolumeState → ℕ) (kind : VolumeState → Kind) (new : States) (built : is_built c ≡ true) (of : managed_by c ≡ Some name) (changes : changes_volume c ≡ true)
+        (range : has_range c ≡ has_size c) (no_stat : c ≡ VolStat name → ⊥) (no_removal : c ≡ VolDestroy name → ⊥) (done : (m : Machine) → refusal m c ≡ None → Allows m c Done)
+        (carried : IsPromised session.volumes session.pool.found.blocks c name size kind new → IsCarriedOut session c (record session { volumes = new })) where
+      abbrev now : Session
+      now = record session { volumes = new }
+
+      -- what it is refused for is what the machine refuses it for
+      refused_as : (r : Result Unit Refusal) → PromisesOne session.volumes session.pool.found.blocks c name size kind new r → (last m : Machine) → StandsFor disk session last m → refusal m c ≡ refusal_of r
+      refused_as r did last m stands =
+          ap (λ (k : Machine). refusal k c) (sym stands.machine)
+          ∙ did.agrees (tables disk session.pool session.volumes fit.housed.long last stands.held) (machine_held disk session.pool session.volumes)
+          (can_have_all disk session.pool session.volumes fit.housed.long last stands.held) (has_volumes disk session.pool session.volumes fit.housed.long last stands.held)
+
+      by_name : (after : Session) (reply : Reply) → IsManaged session c name after reply → (n : List ℕ) → managed_by c ≡ Some n → IsManaged session c n after reply
+      by_name after reply managed n is = subst (λ (k : List ℕ). IsManaged session c k after reply) (some_same name n (sym of ∙ is)) managed
+
+      promise_over : (r : Result Unit Refusal) → PromisesOne session.volumes session.pool.found.blocks c name size kind new r → IsManagedOver disk session c now (told_as r)
+      promise_over (Ok u) did = record {
+        managed = by_name now Done (record {
+          far = λ out. absurd (ok_err u _ (did.far (sym range ∙ out)));
+          missing = λ near none. absurd (ok_err u _ (did.missing (sym range ∙ near) none));
+          told = λ is. absurd (no_stat is);
+          removed = λ is. absurd (no_removal is);
+          answered = λ other. inl refl;
+          done = λ is. carried did.done;
+        });
+        unbuilt = λ isnt. absurd (true≢false (sym built ∙ isnt));
+        refused = λ is. absurd (true≢false (sym is));
+        stands = stands_promised session c name size kind new did.done disk;
+        stands_for = λ there last m stands. subst (λ (k : Machine). StandsFor disk now last k) (sym (after_built m c built))
+            (stands_for_promised session c name size kind new did.done disk fit there last m stands (refused_as (Ok u) did last m stands));
+        replies = λ last m stands. replies_built m c Done built (done m (refused_as (Ok u) did last m stands));
+        asked = λ calm. absurd (true≢false (sym changes ∙ calm));
+        files = files_promised session c name size kind new did.done;
+        found = refl;
+        pending = refl;
+        failed = refl;
+      }
+      promise_over (Err r) did = subst (λ (s : States). IsManagedOver disk session c (record session { volumes = s }) (Refused r)) (sym did.stays)
+          (refused_over c r built (by_name session (Refused r) (record {
+            far = λ out. same_refusal r _ (did.far (sym range ∙ out));
+            missing = λ near none. same_refusal r _ (did.missing (sym range ∙ near) none);
+            told = λ is. absurd (no_stat is);
+            removed = λ is. absurd (no_removal is);
+            answered = λ other. inr refl;
+            done = λ is. absurd (refused_done r is);
+          })) (refused_as (Err r) did))
+
+    done_allowed : (m : Machine) (c : Command) → is_open m c ≡ false → answer m c ≡ Done → refusal m c ≡ None → Allows m c Done
+    done_allowed m c closed same accepted = answer_allows m c Done accepted closed (sym same)
+
+    resize_over : (name : List ℕ) (size : ℕ) (new : States) (r : Result Unit Refusal) → PromisesOne session.volumes session.pool.found.blocks (VolResize name size) name (λ x. size) (λ x. x.kind) new r
+        → IsManagedOver disk session (VolResize name size) (record session { volumes = new }) (told_as r)
+    unfolding is_built answer
+    resize_over name size new r = promise_over (VolResize name size) name (λ x. size) (λ x. x.kind) new refl refl refl refl (λ e. no_stat e) (λ e. no_removal e)
+        (λ m. done_allowed m (VolResize name size) refl refl) (λ done. (refl, done)) r
+      where
+        no_stat : VolResize name size ≡ VolStat name → ⊥
+        no_stat e = cc
+
+        no_removal : VolResize name size ≡ VolDestroy name → ⊥
+        no_removal e = cc
+
+    guarantee_over : (name : List ℕ) (kind : Kind) (new : States) (r : Result Unit Refusal) → PromisesOne session.volumes session.pool.found.blocks (VolGuarantee name kind) name (λ x. x.size) (λ x. kind) new r
+        → IsManagedOver disk session (VolGuarantee name kind) (record session { volumes = new }) (told_as r)
+    unfolding is_built answer
+    guarantee_over name kind new r = promise_over (VolGuarantee name kind) name (λ x. x.size) (λ x. kind) new refl refl refl refl (λ e. no_stat e) (λ e. no_removal e)
+        (λ m. done_allowed m (VolGuarantee name kind) refl refl) (λ done. (refl, done)) r
+      where
+        no_stat : VolGuarantee name kind ≡ VolStat name → ⊥
+        no_stat e = cc
+
+        no_removal : VolGuarantee name kind ≡ VolDestroy name → ⊥
+        no_removal e = cc
+
+    -- ---- a removal
+
+    module _ (name : List ℕ) (new : States) (left : Pool) where
+      abbrev removal : Command
+      removal = VolDestroy name
+
+      abbrev after : Session
+      after = record session { volumes = new; pool = left }
+
+      destroyed_as : (r : Result Unit Refusal) → Destroys session.volumes session.pool name new left r → (last m : Machine) → StandsFor disk session last m → refusal m removal ≡ refusal_of r
+      destroyed_as r did last m stands =
+          ap (λ (k : Machine). refusal k removal) (sym stands.machine)
+          ∙ did.agrees (tables disk session.pool session.volumes fit.housed.long last stands.held) session.pool.found.blocks (machine_held disk session.pool session.volumes)
+          (has_volumes disk session.pool session.volumes fit.housed.long last stands.held)
+
+      by_its_name : (after : Session) (reply : Reply) → IsManaged session removal name after reply → (n : List ℕ) → managed_by removal ≡ Some n → IsManaged session removal n after reply
+      by_its_name after reply managed n is = subst (λ (k : List ℕ). IsManaged session removal k after reply) (some_same name n is) managed
+
+      other : removal ≡ VolStat name → ⊥
+      other e = cc
+
+      destroy_over : (r : Result Unit Refusal) → Destroys session.volumes session.pool name new left r → IsManagedOver disk session removal after (told_as r)
+      unfolding is_built answer change_of
+      destroy_over (Ok u) did = record {
+        managed = by_its_name after Done (record {
+          far = λ out. absurd (true≢false out);
+          missing = λ near none. absurd (ok_err u _ (did.missing none));
+          told = λ is. absurd (other is);
+          removed = λ is slot small has. refl;
+          answered = λ other. inl refl;
+          done = λ is. did.done;
+        });
+        unbuilt = λ isnt. absurd (true≢false isnt);
+        refused = λ is. absurd (true≢false (sym is));
+        stands = stands_without session fit name new left did.done disk;
+        stands_for = λ there last m stands. subst (λ (k : Machine). StandsFor disk after last k)
+            (sym (after_built m removal refl ∙ ap (λ (o : Option Refusal). cond (is_some o) m (effect m removal)) (destroyed_as (Ok u) did last m stands)))
+            (stands_for_without session fit name new left did.done disk last m stands);
+        replies = λ last m stands. replies_built m removal Done refl (answer_allows m removal Done (destroyed_as (Ok u) did last m stands) refl refl);
+        asked = λ calm. asked_without session fit name new left did.done;
+        files = files_without session fit name new left did.done;
+        found = did.done.gone.found;
+        pending = refl;
+        failed = refl;
+      }
+      destroy_over (Err r) did = subst (λ (s : States). IsManagedOver disk session removal (record session { volumes = s; pool = left }) (Refused r)) (sym did.stays.0)
+          (subst (λ (p : Pool). IsManagedOver disk session removal (record session { pool = p }) (Refused r)) (sym did.stays.1)
+          (refused_over removal r refl (by_its_name session (Refused r) (record {
+            far = λ out. absurd (true≢false out);
+            missing = λ near none. same_refusal r _ (did.missing none);
+            told = λ is. absurd (other is);
+            removed = λ is slot small has. absurd (ok_err tt r (sym (did.there slot small has)));
+            answered = λ other. inr refl;
+            done = λ is. absurd (refused_done r is);
+          })) (destroyed_as (Err r) did)))
+
+    -- ---- what is told
+
+    module _ (name : List ℕ) where
+      abbrev asks : Command
+      asks = VolStat name
+
+      by_the_name : (reply : Reply) → IsManaged session asks name session reply → (n : List ℕ) → managed_by asks ≡ Some n → IsManaged session asks n session reply
+      by_the_name reply managed n is = subst (λ (k : List ℕ). IsManaged session asks k session reply) (some_same name n is) managed
+
+      no_removal : asks ≡ VolDestroy name → ⊥
+      no_removal e = cc
+
+      stat_by : (m : Machine) (o : Option Volume) → fin.get m.volumes name ≡ o → refusal m asks ≡ cond (is_none o) (Some NoVolume) None
+      unfolding conditions
+      stat_by m o is = ap (λ (v : Option Volume). first_of ((NoVolume, is_none v) ∷ [])) is
+
+      stat_after : (m : Machine) → machine_after m asks ≡ m
+      unfolding is_built machine_after change_of
+      stat_after m = by (is_some (refusal m asks))
+        where
+          by : (b : Bool) → cond b m m ≡ m
+          by true = refl
+          by false = refl
+
+      stat_missing : NoneHasName session.volumes name → IsManagedOver disk session asks session (Refused NoVolume)
+      unfolding is_built
+      stat_missing none = refused_over asks NoVolume refl (by_the_name (Refused NoVolume) (record {
+        far = λ out. absurd (true≢false out);
+        missing = λ near nowhere. refl;
+        told = λ is slot small has. absurd (true≢false (sym has.named ∙ none.none slot small));
+        removed = λ is. absurd (no_removal is);
+        answered = λ other. absurd (other refl);
+        done = λ is. absurd (refused_done NoVolume is);
+      })) (λ last m stands. ap (λ (k : Machine). refusal k asks) (sym stands.machine)
+          ∙ stat_by (machine_held disk session.pool session.volumes) None (not_there disk session.pool session.volumes fit.housed.long name none))
+
+      module _ (reply : Reply) (is : IsTold session name reply) where
+        abbrev x : VolumeState
+        x = is.state
+
+        named : x.name ≡ name
+        named = same_name x.name name (sym (ap (λ (o : Option VolumeState). is_named o name) is.there) ∙ is.named.named)
+
+        abbrev about : Option Volume → Reply
+        about o = option_map_or (λ (w : Volume). Numbers (stat_of w)) o Done
+
+        answered : (last m : Machine) → StandsFor disk session last m → Allows m asks reply
+        unfolding answer
+        answered last m stands = subst (λ (k : Machine). Allows k asks reply) stands.machine
+            (answer_allows k asks reply (stat_by k (Some v) its) refl
+            (is.told ∙ ap Numbers (stat_is x (table_for disk session.pool x) (one disk session.pool session.volumes fit.housed.long last stands.held is.slot x is.there).stands.ledger) ∙ sym (ap about its)))
+          where
+            k : Machine
+            k = machine_held disk session.pool session.volumes
+
+            v : Volume
+            v = volume_for disk session.pool x
+
+            its : fin.get k.volumes name ≡ Some v
+            its = subst (λ (n : List ℕ). fin.get k.volumes n ≡ Some v) named (is_there disk session.pool session.volumes fit.housed.long last stands.held is.slot x is.there)
+
+        stat_told : IsManagedOver disk session asks session reply
+        unfolding is_built
+        stat_told = record {
+          managed = by_the_name reply (record {
+            far = λ out. absurd (true≢false out);
+            missing = λ near none. absurd (true≢false (sym is.named.named ∙ none.none is.slot is.within));
+            told = λ asked slot small has. is;
+            removed = λ other. absurd (no_removal other);
+            answered = λ other. absurd (other refl);
+            done = λ done. absurd (not_done (sym is.told ∙ done));
+          });
+          unbuilt = λ isnt. absurd (true≢false isnt);
+          refused = λ refused. refl;
+          stands = λ stands. stands;
+          stands_for = λ here last m stands. subst (λ (k : Machine). StandsFor disk session last k) (sym (stat_after m)) stands;
+          replies = λ last m stands. replies_built m asks reply refl (answered last m stands);
+          asked = λ calm. omega arith;
+          files = λ without. without;
+          found = refl;
+          pending = refl;
+          failed = refl;
+        }
+          where
+            not_done : Numbers (told_by x) ≡ Done → ⊥
+            not_done e = cc
+
+    -- ---- each of them
+
+    left_as : (c : Command) (new : Session) (reply reply_now : Reply) → new ≡ session → reply ≡ reply_now → IsManagedOver disk session c session reply_now → IsManagedOver disk session c new reply
+    left_as c new reply reply_now same told over = subst (λ (n : Session). IsManagedOver disk session c n reply) (sym same) (subst (λ (y : Reply). IsManagedOver disk session c session y) (sym told) over)
+
+    others : (c : Command) → managed_by c ≡ None → (is_some (managed_by c) ≡ true) ⊎ (is_built c ≡ false) → (new : Session) (reply : Reply) → (new ≡ session) × (reply ≡ Refused Syntax) → IsManagedOver disk session c new reply
+    others c none either new reply is = left_as c new reply (Refused Syntax) is.0 is.1 (unbuilt_over c (⊎_elim
+        (λ (some : is_some (managed_by c) ≡ true). absurd (true≢false (sym some ∙ ap is_some none)))
+        (λ (isnt : is_built c ≡ false). isnt)
+        either) none)
+
+    by_volumes : (c : Command) (new : Session) (reply : Reply) (r : Result Unit Refusal) → reply ≡ told_as r → new ≡ record session { volumes = new.volumes; pool = new.pool }
+        → IsManagedOver disk session c (record session { volumes = new.volumes; pool = new.pool }) (told_as r) → IsManagedOver disk session c new reply
+    by_volumes c new reply r told rest over = subst (λ (n : Session). IsManagedOver disk session c n reply) (sym rest) (subst (λ (y : Reply). IsManagedOver disk session c (record session { volumes = new.volumes; pool = new.pool }) y) (sym told) over)
+
+    pub manages_over : (c : Command) → (is_some (managed_by c) ≡ true) ⊎ (is_built c ≡ false) → (new : Session) (reply : Reply) → Manages session c new reply → IsManagedOver disk session c new reply
+    manages_over (VolDestroy v) either new reply is = by_volumes (VolDestroy v) new reply is.result is.reply_is is.rest (destroy_over v new.volumes new.pool is.result is.answers)
+    manages_over (VolResize v size) either new reply is = by_volumes (VolResize v size) new reply is.result is.reply_is is.rest
+        (subst (λ (p : Pool). IsManagedOver disk session (VolResize v size) (record session { volumes = new.volumes; pool = p }) (told_as is.result)) (sym is.answers.0) (resize_over v size new.volumes is.result is.answers.1))
+    manages_over (VolGuarantee v kind) either new reply is = by_volumes (VolGuarantee v kind) new reply is.result is.reply_is is.rest
+        (subst (λ (p : Pool). IsManagedOver disk session (VolGuarantee v kind) (record session { volumes = new.volumes; pool = p }) (told_as is.result)) (sym is.answers.0) (guarantee_over v kind new.volumes is.result is.answers.1))
+    manages_over (VolStat v) either new reply is = ⊎_elim
+        (λ (none : NoneHasName session.volumes v × (reply ≡ Refused NoVolume)). left_as (VolStat v) new reply (Refused NoVolume) is.0 none.1 (stat_missing v none.0))
+        (λ (told : IsTold session v reply). left_as (VolStat v) new reply reply is.0 refl (stat_told v reply told))
+        is.1
+    manages_over (VolCreate v size kind) either new reply is = others _ refl either new reply is
+    manages_over VolList either new reply is = others _ refl either new reply is
+    manages_over (New v f reserve) either new reply is = others _ refl either new reply is
+    manages_over (Put v f i block) either new reply is = others _ refl either new reply is
+    manages_over (Get v s f i) either new reply is = others _ refl either new reply is
+    manages_over (Len v s f) either new reply is = others _ refl either new reply is
+    manages_over (Cut v f length) either new reply is = others _ refl either new reply is
+    manages_over (Remove v f) either new reply is = others _ refl either new reply is
+    manages_over (Ls v s) either new reply is = others _ refl either new reply is
+    manages_over (SnapCreate v s) either new reply is = others _ refl either new reply is
+    manages_over (SnapDelete v s) either new reply is = others _ refl either new reply is
+    manages_over (SnapRestore v s) either new reply is = others _ refl either new reply is
+    manages_over (SnapList v) either new reply is = others _ refl either new reply is
+    manages_over (CloneCreate x v s size kind) either new reply is = others _ refl either new reply is
+    manages_over (SplitStart x) either new reply is = others _ refl either new reply is
+    manages_over (SplitFinish x) either new reply is = others _ refl either new reply is
+    manages_over (Mirror v s w size kind) either new reply is = others _ refl either new reply is
+    manages_over (Clean v) either new reply is = others _ refl either new reply is
+    manages_over (Probe v f i) either new reply is = others _ refl either new reply is
+    manages_over (Work n) either new reply is = others _ refl either new reply is
+    manages_over Cp either new reply is = others _ refl either new reply is

@@ -1,0 +1,57 @@
+-- A command on a whole volume as `apply` has it: it reaches no disk, and the session's last point stays.
+use Rattle.std.proofs.Common.{◌≡◌, ◌≢◌, ℕ, Ok, false, inl, refl, sym, ap, subst, arith}
+use Rattle.std.specs.Prelude.{IsNone}
+use Rattle.fv_disk.specs.Shown.{IsDisk, Shown}
+use Rattle.fv_model.specs.declared.answers.Reply.{Reply}
+use Rattle.fv_model.specs.declared.commands.Command.{Command}
+use Rattle.fv_model.specs.declared.commands.Command.TheVariants.{Cp, VolList}
+use Rattle.fv_model.specs.Machines.{Machine}
+use Rattle.fv_image.specs.Held.{view_at}
+use Rattle.fv_image.specs.Sound.{overheads}
+use Rattle.fv_root.specs.declared.find.Found.{Found}
+use Rattle.fv_root.specs.Finding.{root_found}
+use Rattle.fv_aggregate.specs.declared.session.Session.{Session}
+use Rattle.fv_aggregate.specs.Calls.{Goes, GoesFor, IsPlain, KeepsAsking}
+use Rattle.fv_aggregate.specs.Commands.{changes_volume, machine_after}
+use Rattle.fv_aggregate.specs.Standing.{Stands, StandsFor}
+use Rattle.fv_aggregate.proofs.Calls.{same_counts, same_ends}
+use Rattle.fv_aggregate.proofs.Managed.{IsManagedOver}
+use Rattle.fv_aggregate.proofs.Standing.{rests_for_last}
+
+module _ (disk : Shown) (old : Session) (c : Command) (new : Session) (reply : Reply) (over : IsManagedOver disk old c new reply) where
+  pub managed_goes : (room : ℕ) → IsNone old.failed → Stands disk old → Goes room disk old disk new (Ok reply)
+  managed_goes room fresh stands = record {
+    ends = same_ends disk;
+    stands = λ none. over.stands stands;
+    done = record { was = fresh; goes_on = subst IsNone (sym over.failed) fresh; counts = same_counts disk };
+    fault = tt;
+    pending = (let same = over.pending in omega (arith, same));
+  }
+
+  pub managed_asks : (room : ℕ) → changes_volume c ≡ false → KeepsAsking room disk old disk new
+  managed_asks room calm tells kept asks none =
+      let fewer = over.asked calm in
+      let pending = over.pending in
+      let held : overheads (view_at (root_found new.pool.found) disk.reads) ≡ overheads (view_at (root_found old.pool.found) disk.reads) = ap (λ (f : Found). overheads (view_at (root_found f) disk.reads)) over.found in
+      record { asked = omega (arith, fewer, pending, held, asks.asked); pending = omega (arith, pending, asks.pending) }
+
+  pub managed_for : IsDisk disk → Stands disk old → (last m : Machine) → StandsFor disk old last m → GoesFor disk last m (machine_after m c) disk new (Ok reply)
+  managed_for laws there last m stands = record {
+    any_moment = rests_for_last disk old last m (machine_after m c) laws stands;
+    done = record { point = last; one = inl refl; stands = over.stands_for there last m stands };
+    still = λ none. tt;
+    whole = tt;
+  }
+
+  pub managed_plain : {D : Type 0} (at : D) → c ≢ VolList → c ≢ Cp → IsPlain c disk at old disk at new (Ok reply)
+  managed_plain at no_list no_point = record {
+    refused = λ refused. (refl, over.refused refused);
+    calm = λ other few. refl;
+    wanting = λ other few. tt;
+    damage = tt;
+    unbuilt = λ fresh none. ap Ok (over.unbuilt none);
+    listed = λ list. absurd (no_list list);
+    pointed = λ cp. absurd (no_point cp);
+    memory = λ cp. absurd (no_point cp);
+    managed = λ fresh name of. record { reply = reply; is = refl; managed = over.managed name of };
+  }

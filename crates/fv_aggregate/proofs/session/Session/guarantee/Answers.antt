@@ -1,0 +1,16 @@
+use Rattle.std.proofs.Common.{ap, subst}
+use Rattle.fv_model.specs.declared.commands.Command.TheVariants.{VolGuarantee}
+use Rattle.fv_volume.specs.Promising.{PromisesOne}
+use Rattle.fv_aggregate.specs.declared.session.Session.{Session}
+use Rattle.fv_aggregate.proofs.session.Session.guarantee.Goals as goal
+
+pub returns : goal.returns
+returns c = record {
+  result = c.guarantee.result;
+  reply_is = c.told.ensures;
+  answers = (
+    ap (λ (s : Session). s.pool) c.self.view_is,
+    subst (λ (s : Session). PromisesOne s.volumes s.pool.found.blocks (VolGuarantee c.args.volume.now c.args.kind) c.args.volume.now (λ x. x.size) (λ x. c.args.kind) c.guarantee.new.self c.guarantee.result) c.self.view_is c.guarantee.ensures,
+  );
+  rest = λ j. record { volumes = c.guarantee.new.self; pool = c.self.inside.pool; pending = (c.self.view_is j).pending; failed = (c.self.view_is j).failed };
+}
