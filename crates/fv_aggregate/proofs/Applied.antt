@@ -1,5 +1,5 @@
 -- The commands as `apply` has them.
-use Rattle.std.proofs.Common.{◌≡◌, ◌≢◌, ◌==◌, ◌⊎◌, inl, inr, ℕ, Bool, true, false, List, Option, Some, None, Result, Ok, Err, true≢false, refl, sym, ap, subst, ◌∙◌, arith}
+use Rattle.std.proofs.Common.{◌≡◌, ◌≢◌, ◌==◌, ◌⊎◌, inl, inr, ℕ, Bool, true, false, List, Some, None, Result, Ok, Err, true≢false, refl, sym, ap, subst, ◌∙◌, arith}
 use Rattle.std.specs.Prelude.{IfOk, if◌then◌else◌}
 use Rattle.std.specs.Option.{is_some}
 use Rattle.std.specs.FinMap as fin
@@ -216,34 +216,6 @@ managed_or_unbuilt (Clean v) a b c asked changed = inr refl
 managed_or_unbuilt (Probe v f i) a b c asked changed = inr refl
 managed_or_unbuilt (Work n) a b c asked changed = inr refl
 managed_or_unbuilt Cp a b c asked changed = absurd (c refl)
-
--- a command that is none of `get`, `len` and `ls` asks for no files
-pub asks_none : (command : Command) → ((v : List ℕ) (s : Option (List ℕ)) (f : List ℕ) (i : ℕ) → command ≢ Get v s f i) → ((v : List ℕ) (s : Option (List ℕ)) (f : List ℕ) → command ≢ Len v s f) → ((v : List ℕ) (s : Option (List ℕ)) → command ≢ Ls v s) → volume_asked command ≡ None
-asks_none (VolCreate v size kind) get len ls = refl
-asks_none (VolDestroy v) get len ls = refl
-asks_none (VolResize v size) get len ls = refl
-asks_none (VolGuarantee v kind) get len ls = refl
-asks_none VolList get len ls = refl
-asks_none (VolStat v) get len ls = refl
-asks_none (New v f reserve) get len ls = refl
-asks_none (Put v f i block) get len ls = refl
-asks_none (Get v s f i) get len ls = absurd (get v s f i refl)
-asks_none (Len v s f) get len ls = absurd (len v s f refl)
-asks_none (Cut v f length) get len ls = refl
-asks_none (Remove v f) get len ls = refl
-asks_none (Ls v s) get len ls = absurd (ls v s refl)
-asks_none (SnapCreate v s) get len ls = refl
-asks_none (SnapDelete v s) get len ls = refl
-asks_none (SnapRestore v s) get len ls = refl
-asks_none (SnapList v) get len ls = refl
-asks_none (CloneCreate x v s size kind) get len ls = refl
-asks_none (SplitStart x) get len ls = refl
-asks_none (SplitFinish x) get len ls = refl
-asks_none (Mirror v s w size kind) get len ls = refl
-asks_none (Clean v) get len ls = refl
-asks_none (Probe v f i) get len ls = refl
-asks_none (Work n) get len ls = refl
-asks_none Cp get len ls = refl
 
 -- a command that neither asks for files nor changes one reads none
 pub no_files : (command : Command) → volume_asked command ≡ None → changed_by command ≡ None → reads_files command ≡ false

@@ -142,6 +142,8 @@ module _ (disk : Shown) (session : Session) where
           removed = λ is. absurd (no_removal is);
           answered = λ other. inl refl;
           done = λ is. carried did.done;
+          stays = λ is. absurd (no_stat is);
+          rest = refl;
         });
         unbuilt = λ isnt. absurd (true≢false (sym built ∙ isnt));
         refused = λ is. absurd (true≢false (sym is));
@@ -163,6 +165,8 @@ module _ (disk : Shown) (session : Session) where
             removed = λ is. absurd (no_removal is);
             answered = λ other. inr refl;
             done = λ is. absurd (refused_done r is);
+            stays = λ is. absurd (no_stat is);
+            rest = refl;
           })) (refused_as (Err r) did))
 
     done_allowed : (m : Machine) (c : Command) → is_open m c ≡ false → answer m c ≡ Done → refusal m c ≡ None → Allows m c Done
@@ -223,6 +227,8 @@ module _ (disk : Shown) (session : Session) where
           removed = λ is slot small has. refl;
           answered = λ other. inl refl;
           done = λ is. did.done;
+          stays = λ is. absurd (other is);
+          rest = refl;
         });
         unbuilt = λ isnt. absurd (true≢false isnt);
         refused = λ is. absurd (true≢false (sym is));
@@ -246,6 +252,8 @@ module _ (disk : Shown) (session : Session) where
             removed = λ is slot small has. absurd (ok_err tt r (sym (did.there slot small has)));
             answered = λ other. inr refl;
             done = λ is. absurd (refused_done r is);
+            stays = λ is. absurd (other is);
+            rest = refl;
           })) (destroyed_as (Err r) did)))
 
     -- ---- what is told
@@ -281,6 +289,8 @@ module _ (disk : Shown) (session : Session) where
         removed = λ is. absurd (no_removal is);
         answered = λ other. absurd (other refl);
         done = λ is. absurd (refused_done NoVolume is);
+        stays = λ is. refl;
+        rest = refl;
       })) (λ last m stands. ap (λ (k : Machine). refusal k asks) (sym stands.machine)
           ∙ stat_by (machine_held disk session.pool session.volumes) None (not_there disk session.pool session.volumes fit.housed.long name none))
 
@@ -319,6 +329,8 @@ module _ (disk : Shown) (session : Session) where
             removed = λ other. absurd (no_removal other);
             answered = λ other. absurd (other refl);
             done = λ done. absurd (not_done (sym is.told ∙ done));
+            stays = λ is. refl;
+            rest = refl;
           });
           unbuilt = λ isnt. absurd (true≢false isnt);
           refused = λ refused. refl;

@@ -35,7 +35,8 @@ IsCarriedOut old (VolDestroy name) new = IsGone old.volumes old.pool name new.vo
 IsCarriedOut old command new = Unit {0}
 
 -- A command on the volume of a name as a whole was answered. Out of range it is refused as that, and without its volume for want of it. A volume that
--- is there is told, and removed. What tells of no volume is done or refused.
+-- is there is told, which changes nothing, and removed. What tells of no volume is done or refused. What the session has beside its volumes and what
+-- they share stays.
 pub record IsManaged (old : Session) (command : Command) (name : List ℕ) (new : Session) (reply : Reply) : Type 0 where
   pub far : has_range command ≡ false → reply ≡ Refused Range
   pub missing : has_range command ≡ true → NoneHasName old.volumes name → reply ≡ Refused NoVolume
@@ -43,6 +44,8 @@ pub record IsManaged (old : Session) (command : Command) (name : List ℕ) (new 
   pub removed : command ≡ VolDestroy name → (slot : ℕ) → slot < slot_count → HasName old.volumes slot name → reply ≡ Done
   pub answered : command ≢ VolStat name → (reply ≡ Done) ⊎ IsTrue (is_refusal reply)
   pub done : reply ≡ Done → IsCarriedOut old command new
+  pub stays : command ≡ VolStat name → new ≡ old
+  pub rest : new ≡ record old { volumes = new.volumes; pool = new.pool }
 
 -- ---- by the calls on volumes
 

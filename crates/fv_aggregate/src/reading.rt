@@ -1,6 +1,6 @@
 //! The commands that ask for files. None of them changes a volume.
 
-ghost use Rattle.std.specs.Prelude.{◌≡◌, ◌<◌, false, true, is_some, Some, Ok, IsTrue, IsNone, IfSome, OnOk};
+ghost use Rattle.std.specs.Prelude.{◌≡◌, ◌<◌, option_copied, false, true, is_some, Some, Ok, IsTrue, IsNone, IfSome, OnOk};
 ghost use Rattle.fv_container.specs.Chains.{slot_count};
 ghost use Rattle.fv_cp.specs.Placing.{IsReadyIn};
 ghost use Rattle.fv_model.specs.declared.answers.Refusal.TheVariants.{NoVolume, Range};
@@ -25,6 +25,18 @@ use fv_model::{Command, Name, Refusal, Reply};
 use fv_volume::{Pool, VolumeFault, VolumeState, Volumes};
 use std::alloc::Global;
 use std::sync::ledger::Ledger;
+
+/// The volume that a command asks for files: `get`, `len` and `ls`.
+pub(crate) fn asked_volume(command: &Command) -> Option<&Name>
+    ensures { option_copied result ≡ volume_asked command.now }
+{
+    match command {
+        Command::Get { volume, .. } => Some(volume),
+        Command::Len { volume, .. } => Some(volume),
+        Command::Ls { volume, .. } => Some(volume),
+        _ => None,
+    }
+}
 
 impl Session {
     /// Answers a command that asks for files of a volume: `get`, `len` or `ls`.

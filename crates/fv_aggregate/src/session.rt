@@ -24,6 +24,7 @@ ghost use Rattle.fv_aggregate.specs.Telling.{charged_from};
 use crate::fault::{Fault, OpenFault};
 use crate::files::changed_volume;
 use crate::opening::load;
+use crate::reading::asked_volume;
 use crate::volumes::{names_of, sum_charges};
 use fv_container::Steps;
 use fv_disk::Disk;
@@ -146,12 +147,12 @@ impl Session {
             Command::VolCreate { volume, size, kind } => self.create(disk, volume, *size, *kind),
             Command::VolList => Ok(Reply::Names(names_of(self.alloc, &self.volumes)?)),
             Command::Cp => self.reclaim(disk),
-            Command::Get { volume, .. } => self.look(disk, volume, command, steps),
-            Command::Len { volume, .. } => self.look(disk, volume, command, steps),
-            Command::Ls { volume, .. } => self.look(disk, volume, command, steps),
-            _ => match changed_volume(command) {
-                Some(volume) => self.change(disk, volume, command),
-                None => Ok(self.manage(command)),
+            _ => match asked_volume(command) {
+                Some(volume) => self.look(disk, volume, command, steps),
+                None => match changed_volume(command) {
+                    Some(volume) => self.change(disk, volume, command),
+                    None => Ok(self.manage(command)),
+                },
             },
         }
     }

@@ -1,8 +1,10 @@
-//! Tests of maps, containers, trees and sessions over a host in memory: rows worked out by hand, calls that fail, and texts.
+//! Tests of maps, containers, delayed frees, trees and sessions over a host in memory: rows worked out by hand, calls that fail, and texts.
 #![tactic(auto)]
 
 #[cfg(test)]
 mod containers;
+#[cfg(test)]
+mod delayed;
 #[cfg(test)]
 mod failed;
 #[cfg(test)]

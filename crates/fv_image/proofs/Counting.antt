@@ -1,42 +1,15 @@
 -- Counts of numbers against sets and intervals.
-use Rattle.std.proofs.Common.{◌≡◌, ℕ, zero, suc, ◌+◌, ◌-◌, ◌*◌, ◌/◌, ◌<◌, ◌≤◌, Bool, true, false, cond, not, List, [], ◌∷◌, length, refl, sym, ap, subst, ◌∙◌, arith, ⊎_elim}
+use Rattle.std.proofs.Common.{◌≡◌, ℕ, zero, suc, ◌+◌, ◌-◌, ◌*◌, ◌/◌, ◌<◌, ◌≤◌, Bool, true, false, cond, List, [], ◌∷◌, length, refl, sym, ap, subst, ◌∙◌, arith, ⊎_elim}
 use Rattle.std.specs.Prelude.{◌&&◌, ◌||◌, ◌==◌, nat_lt, nat_le}
 use Rattle.std.specs.List.{list_any}
 use Rattle.std.specs.declared.cmp.Ordering.{Ordering}
-use Rattle.std.specs.Ordering.{eq_by_cmp}
 use Rattle.std.specs.Cmp.{IsTotalOrder}
 use Rattle.std.specs.FinMap as fin
-use Rattle.std.specs.FinSet as set
-use Rattle.std.proofs.lemmas.Bool.{cases_eq, cases_lt, both_ways, and_left, and_right, and_from}
+use Rattle.std.proofs.lemmas.Bool.{cases_lt, and_left, and_right, and_from}
 use Rattle.std.proofs.lemmas.Bool.Decides.{nat_tests}
 use Rattle.std.proofs.lemmas.Nat.{le-div, div_below, div-mul-add}
 use Rattle.fv_bits.proofs.Counts.{passing, passing-suc, passing_same}
 use Rattle.fv_image.proofs.Counts.{within_two, none_between, one_or_none}
-
--- ---- numbers with different elements of a set
-
-module _ {K : Type 0} {R : K → K → Ordering} (o : IsTotalOrder R) (p : ℕ → Bool) (f : ℕ → K) (apart : (v k : ℕ) → p v ≡ true → p k ≡ true → v < k → eq_by_cmp R (f k) (f v) ≡ false) where
-  some_len : (s : set.FinSet R) (q : K) → set.contains s q ≡ true → 1 ≤ set.len s
-  some_len s q there = ⊎_elim
-      (λ (none : set.len s ≡ 0). absurd (both_ways (set.contains s q) (ap (λ (t : set.FinSet R). set.contains t q) (set.empty_of_len s none) ∙ set.contains-empty R q) there))
-      (λ some. omega arith)
-      (cases_eq (set.len s) 0)
-
-  -- Numbers that have different elements of a set are at most as many as the set has.
-  pub count_within : (a n : ℕ) (s : set.FinSet R) → ((v : ℕ) → a ≤ v → v < a + n → p v ≡ true → set.contains s (f v) ≡ true) → passing p a n ≤ set.len s
-  count_within a zero s each = omega arith
-  count_within a (suc n) s each = so (p a) refl (λ t more. count_within (a + 1) n t more)
-    where
-      so : (b : Bool) → p a ≡ b → ((t : set.FinSet R) → ((v : ℕ) → a + 1 ≤ v → v < a + 1 + n → p v ≡ true → set.contains t (f v) ≡ true) → passing p (a + 1) n ≤ set.len t) → passing p a (suc n) ≤ set.len s
-      so false e rest =
-          let more = rest s (λ v low high is. each v (omega (arith, low)) (omega (arith, high)) is) in
-          omega (arith, passing-suc p a n, ap {B = ℕ} (λ t. cond t 1 0) e, more)
-      so true e rest =
-          let here : set.contains s (f a) ≡ true = each a (omega arith) (omega arith) e in
-          let more = rest (set.remove s (f a)) (λ v low high is. set.contains-remove o s (f a) (f v)
-          ∙ (λ i. not (apart a v e is (omega (arith, low)) i) && each v (omega (arith, low)) (omega (arith, high)) is i)) in
-          let len : set.len (set.remove s (f a)) ≡ set.len s - 1 = set.len-remove o s (f a) ∙ ap (λ (b : Bool). cond b (set.len s - 1) (set.len s)) here in
-          omega (arith, passing-suc p a n, ap {B = ℕ} (λ t. cond t 1 0) e, more, len, some_len s (f a) here)
 
 -- ---- numbers by their slots
 

@@ -68,3 +68,11 @@ pub mod Reaching
 pub mod Beside
 pub mod Committed
 pub mod Different
+pub mod CountedCharge
+pub mod TurnedViews
+pub mod SnapCommands
+pub mod MapSteps
+pub mod TurnedSound
+pub mod RootTables
+pub mod SnapLists
+pub mod LabelSlots

@@ -14,9 +14,12 @@ use Rattle.fv_laws.specs.Positions.{HasNoReserve}
 use Rattle.fv_model.specs.Places.{Owner, InodeFile, OfFile}
 use Rattle.fv_tables.specs.Told.{Standing, file_at, tree_of, file_told, file_in, records}
 use Rattle.fv_tables.specs.Spelled.{hole, pointer_at}
+use Rattle.fv_tables.specs.Ids.{owner_of}
+use Rattle.fv_tables.proofs.Listed.{picked, picked_all, picked_is}
 use Rattle.fv_tables.specs.Reached.{Item, items, is_listed}
 use Rattle.fv_tables.proofs.Tables.{files_told}
 use Rattle.fv_tables.proofs.Items.{from_trees}
+use Rattle.fv_tables.proofs.TablePlaces.{pointer_in, number, at_place, listed_place, owner_is}
 use Rattle.fv_image.specs.Chains.{along, parent_in, span_at, place, under}
 use Rattle.fv_image.specs.Views.{Placed, Footing, Head, View, slots, volume_bit}
 use Rattle.fv_image.specs.Told.{has_none}
@@ -31,9 +34,8 @@ use Rattle.fv_image.proofs.SoundFacts.{of_slot}
 use Rattle.fv_image.proofs.WellRoots.{of_records}
 use Rattle.fv_image.proofs.SameSeen.{of_volume}
 use Rattle.fv_image.proofs.EmptyVolumes.{no_snaps}
-use Rattle.fv_image.proofs.OwnIds.{owner_of, picked, picked_all, picked_is}
 use Rattle.fv_image.proofs.OwnUses.{HasLabelNumbers}
-use Rattle.fv_image.proofs.ChargeBits.{pointer_in, number, at_place, listed_place, owner_is, led_once, of_active, weaker, below, once, reach}
+use Rattle.fv_image.proofs.ChargeBits.{led_once, of_active, weaker, below, once, reach}
 
 -- ---- where a volume stands on no other
 

@@ -20,7 +20,9 @@ use Rattle.fv_tables.specs.Spelled.{hole, pointer_at, stamp_in}
 use Rattle.fv_tables.specs.Told.{Standing, records_each, file_at, file_told, file_in, tree_of, table_told}
 use Rattle.fv_tables.specs.Reached.{Item, item_of, items, is_listed}
 use Rattle.fv_tables.proofs.Tables.{stamps_told, files_told}
+use Rattle.fv_tables.specs.Ids.{id_of}
 use Rattle.fv_tables.proofs.Items.{at_inode, at_file}
+use Rattle.fv_tables.proofs.Listed.{picked, picked_all, picked_is}
 use Rattle.fv_model.specs.Volumes.{Base}
 use Rattle.fv_model.specs.Space.{ids_left_out, use_of}
 use Rattle.fv_image.specs.Views.{Footing, Head, View, Rooted as Root, vvbns, is_own}
@@ -33,7 +35,6 @@ use Rattle.fv_image.specs.Soundness.{AreTables, AreMaps}
 use Rattle.fv_image.specs.Staying.{own_items}
 use Rattle.fv_image.proofs.SameSeen.{of_volume, Stands, stands}
 use Rattle.fv_image.proofs.Points.{UsesOwn}
-use Rattle.fv_image.proofs.OwnIds.{id_of, picked, picked_all, picked_is}
 use Rattle.fv_image.proofs.OwnUses.{HasLabelNumbers, seen_items, own_within}
 
 -- ---- an id of a table is that of a pointer

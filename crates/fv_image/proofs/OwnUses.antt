@@ -21,8 +21,11 @@ use Rattle.fv_model.specs.Space.{map_blocks, ids_in_any, ids_left_out, charge, n
 use Rattle.std.proofs.lemmas.Cmp.{eq_by_cmp_equiv}
 use Rattle.fv_laws.proofs.Orders.{id_total, name_total, name_ties}
 use Rattle.fv_laws.proofs.Release.{in_any}
+use Rattle.fv_laws.proofs.Exact.{count_within}
 use Rattle.fv_tables.specs.Reached.{Item, items, is_listed}
+use Rattle.fv_tables.specs.Ids.{id_of}
 use Rattle.fv_tables.proofs.Lists.{tied, all_in_range}
+use Rattle.fv_tables.proofs.Listed.{picked, picked_all, picked_is}
 use Rattle.fv_image.specs.Layout.{block_bits}
 use Rattle.fv_image.specs.Views.{Rooted, Snap, Head, View, vvbns, volume_bit, used_slots, is_held_in, is_active_map, is_own}
 use Rattle.fv_image.specs.Sound.{agree}
@@ -36,8 +39,8 @@ use Rattle.fv_image.specs.Staying.{items_of, own_items}
 use Rattle.fv_image.proofs.SoundFacts.{of_slot}
 use Rattle.fv_image.proofs.SameSeen.{of_volume}
 use Rattle.fv_image.proofs.Counts.{within_two, none_between}
-use Rattle.fv_image.proofs.Counting.{count_within, in_slots}
-use Rattle.fv_image.proofs.OwnIds.{id_of, all_ids, picked, picked_all, picked_is, apart_ids}
+use Rattle.fv_image.proofs.Counting.{in_slots}
+use Rattle.fv_image.proofs.OwnIds.{all_ids, apart_ids}
 
 -- ---- what one root after another reaches
 
@@ -76,7 +79,7 @@ no_other w s name (p ∷ ps) none = so (no_other w s name ps) (is_same_name name
     so rest false e none = rw e (rest none)
 
 -- as many snapshots are told as there are, where no two have one name
-snap_count : (w : View) (s : ℕ) (ps : List Snap) → are_distinct (map (λ p. p.name) ps) ≡ true → fin.len (fin.from_entries {R = name_cmp} (map (snap_told w s) ps)) ≡ length ps
+pub snap_count : (w : View) (s : ℕ) (ps : List Snap) → are_distinct (map (λ p. p.name) ps) ≡ true → fin.len (fin.from_entries {R = name_cmp} (map (snap_told w s) ps)) ≡ length ps
 snap_count w s [] distinct = fin.len-empty name_cmp Table
 snap_count w s (p ∷ ps) distinct =
     let parts = and_parts (not (list_any (is_same_name p.name) (map (λ p. p.name) ps))) _ distinct in
@@ -118,7 +121,7 @@ named w s test (p ∷ ps) distinct there =
         absurd (differ t (sym (ap (λ (n : List ℕ). find name_cmp n (map (snap_told w s) ps)) same ∙ no_other w s p.name ps none) ∙ found))
 
 -- the table of each snapshot is among those that are told
-snap_found : (w : View) (s : ℕ) (ps : List Snap) (test : Table → Bool) → are_distinct (map (λ p. p.name) ps) ≡ true → list_any (λ p. test (table_at w s p.table)) ps ≡ true
+pub snap_found : (w : View) (s : ℕ) (ps : List Snap) (test : Table → Bool) → are_distinct (map (λ p. p.name) ps) ≡ true → list_any (λ p. test (table_at w s p.table)) ps ≡ true
     → list_any test (fin.values (fin.from_entries {R = name_cmp} (map (snap_told w s) ps))) ≡ true
 snap_found w s ps test distinct there =
     let m = fin.from_entries {R = name_cmp} (map (snap_told w s) ps) in

@@ -82,7 +82,7 @@ based_is w s (Some b) v = so (base_root w b)
     so (Some r) = any_mapped (λ (b : Based). b.item.pointer.vvbn == v) (based_at w s b.splitting) (items (standing_of w b.parent r))
 
 -- a snapshot that is found is one of the roots
-snap_listed : (w : View) (s v slot : ℕ) (ps : List Snap) (p : Snap) → find (λ p. p.slot == slot) ps ≡ Some p → is_listed (items (standing_of w s p.table)) v ≡ true → is_listed (items_of w s (map (λ p. (p.slot, p.table)) ps)) v ≡ true
+pub snap_listed : (w : View) (s v slot : ℕ) (ps : List Snap) (p : Snap) → find (λ p. p.slot == slot) ps ≡ Some p → is_listed (items (standing_of w s p.table)) v ≡ true → is_listed (items_of w s (map (λ p. (p.slot, p.table)) ps)) v ≡ true
 snap_listed w s v slot [] p e there = absurd cc
 snap_listed w s v slot (q ∷ qs) p e there = so (λ f. snap_listed w s v slot qs p f there) (q.slot == slot) e
   where

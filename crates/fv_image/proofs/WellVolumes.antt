@@ -56,7 +56,7 @@ found_in test (q ∷ qs) p e = so (test q) (λ f. found_in test qs p f) e
     so false rest e = inr (rest e)
 
 -- a table that is found under a name is that of a snapshot
-named_snap : (w : View) (s : ℕ) (ps : List Snap) (name : List ℕ) (t : Table) → fin.find name_cmp name (map (snap_told w s) ps) ≡ Some t → (p : Snap) × (In p ps × (table_at w s p.table ≡ t))
+pub named_snap : (w : View) (s : ℕ) (ps : List Snap) (name : List ℕ) (t : Table) → fin.find name_cmp name (map (snap_told w s) ps) ≡ Some t → (p : Snap) × (In p ps × (table_at w s p.table ≡ t))
 named_snap w s [] name t e = absurd cc
 named_snap w s (q ∷ qs) name t e = so (eq_by_cmp name_cmp name q.name) (λ f. named_snap w s qs name t f) e
   where

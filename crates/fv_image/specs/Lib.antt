@@ -24,3 +24,6 @@ pub mod Places
 pub mod Staying
 pub mod WellMachines
 pub mod SoundSlots
+pub mod Charged
+pub mod Turned
+pub mod Mapped

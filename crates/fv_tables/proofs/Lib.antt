@@ -4,3 +4,6 @@ pub mod Tables
 pub mod Items
 pub mod Bare
 pub mod Changes
+pub mod Listed
+pub mod TablePlaces
+pub mod IdsTold

@@ -2,3 +2,4 @@ pub mod Spelled
 pub mod Told
 pub mod Reached
 pub mod Kept
+pub mod Ids

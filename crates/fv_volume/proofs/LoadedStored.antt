@@ -30,7 +30,8 @@ use Rattle.fv_image.specs.Sound.{is_fine, is_unknown}
 use Rattle.fv_image.specs.Told.{has_none}
 use Rattle.fv_image.specs.Views.{Head, Placed, View}
 use Rattle.fv_image.specs.Volumes.{standing_of}
-use Rattle.fv_image.proofs.ChargeBits.{at_place, number, of_active}
+use Rattle.fv_tables.proofs.TablePlaces.{at_place, number}
+use Rattle.fv_image.proofs.ChargeBits.{of_active}
 use Rattle.fv_image.proofs.LoneTables.{lone_entry, no_parent, place_own}
 use Rattle.fv_image.proofs.SameSeen.{of_volume}
 use Rattle.fv_volume.specs.declared.pool.Pool.{Pool}

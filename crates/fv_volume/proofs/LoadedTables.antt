@@ -25,7 +25,8 @@ use Rattle.fv_image.specs.Volumes.{table_at}
 use Rattle.fv_image.specs.Seen.{seen}
 use Rattle.fv_image.specs.Soundness.{AreTables, AreMaps}
 use Rattle.fv_image.proofs.OwnUses.{HasLabelNumbers}
-use Rattle.fv_image.proofs.ChargeBits.{pointer_in, number, reach}
+use Rattle.fv_tables.proofs.TablePlaces.{pointer_in, number}
+use Rattle.fv_image.proofs.ChargeBits.{reach}
 use Rattle.fv_image.proofs.LoneTables.{form_snapshots, form_base, place_own, no_parent, kind_led, IsLedEntry, lone_once, lone_below, lone_bit, lone_led, lone_entry}
 use Rattle.fv_container.specs.declared.entry.Entry.{Entry}
 use Rattle.fv_container.specs.Chains.{Slots, along, chain_entry, container_at, or_else, own_entry, parent_at, slot_count}

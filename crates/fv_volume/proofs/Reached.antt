@@ -20,7 +20,7 @@ use Rattle.fv_tree.specs.Standing.{under as blocks_of}
 use Rattle.fv_files.specs.Apart.{LeadsFrom, LeadsIn, stored_trees}
 use Rattle.fv_image.specs.Chains.{under}
 use Rattle.fv_image.specs.Volumes.{standing_of}
-use Rattle.fv_image.proofs.OwnIds.{picked_all, picked_is}
+use Rattle.fv_tables.proofs.Listed.{picked_all, picked_is}
 use Rattle.fv_container.specs.Chains.{parent_at}
 use Rattle.fv_volmap.specs.Slots.{active_of}
 use Rattle.fv_volume.specs.declared.pool.Pool.{Pool}

@@ -1,4 +1,4 @@
-use Rattle.std.proofs.Common.{◌≡◌, ◌≤◌, ◌+◌, ◌⊎◌, ℕ, rules, Err, Some, true≢false, refl, sym, ap, subst, ◌∙◌, ⊎_elim}
+use Rattle.std.proofs.Common.{◌≡◌, ◌≤◌, ◌+◌, ◌⊎◌, ℕ, rules, Err, Some, true≢false, refl, sym, subst, ◌∙◌, ⊎_elim}
 use Rattle.std.specs.Prelude.{IsNone, Result}
 use Rattle.fv_model.specs.Space.{overhead, span_of}
 use Rattle.fv_volume.specs.Slots.{NoneHasName}
@@ -12,7 +12,7 @@ use Rattle.fv_aggregate.specs.declared.fault.Fault.TheVariants.{Failed, Memory}
 use Rattle.fv_aggregate.specs.Calls.{GoesFor, IsPlain}
 use Rattle.fv_aggregate.specs.Commands.{volume_asked, changed_by, dirty_limit, machine_after, room_of}
 use Rattle.fv_aggregate.proofs.Added.{not_refused}
-use Rattle.fv_aggregate.proofs.Applied.{asks_none, cp_asks, cp_built, cp_goes, cp_goes_for, cp_no_files, cp_no_list, cp_no_whole, cp_replies, create_asks, create_built, create_goes, create_goes_for, create_no_files, create_no_list, create_no_point, create_no_whole, create_replies, create_room, list_after, list_done, list_fails, list_replies, no_files, some_room, managed_or_unbuilt, rests_for, rests_for_fault}
+use Rattle.fv_aggregate.proofs.Applied.{cp_asks, cp_built, cp_goes, cp_goes_for, cp_no_files, cp_no_list, cp_no_whole, cp_replies, create_asks, create_built, create_goes, create_goes_for, create_no_files, create_no_list, create_no_point, create_no_whole, create_replies, create_room, list_after, list_done, list_fails, list_replies, no_files, some_room, managed_or_unbuilt, rests_for, rests_for_fault}
 use Rattle.fv_aggregate.proofs.Applying.{booked_each, look_asks, look_files, look_goes, look_goes_for, look_name, look_no_point, look_refused, look_reply, make_asks, make_calm, make_files, make_goes, make_goes_for, make_name, make_no_point, make_reply, make_unasked, no_step, not_dead, rests_as}
 use Rattle.fv_aggregate.proofs.Calls.{reads_itself}
 use Rattle.fv_aggregate.proofs.Changing.{change_of_volume, change_reads, look_reads}
@@ -95,15 +95,15 @@ returns-in-Cp g c =
       dead = λ failed. not_dead _ s fresh failed;
     }
 
-pub returns-in-Get : goal.returns-in-Get
-returns-in-Get g c =
+pub returns-in-Some-asked_volume : goal.returns-in-Some-asked_volume
+returns-in-Some-asked_volume g c =
     let d = g.D.Disk.shown c.args.disk.now in
     let e = g.D.Disk.shown c.look.new.disk in
     let s = c.args.self.now in
     let n = c.look.new.self in
     let command = c.args.command.now in
-    let name = c.in-Get.volume in
-    let asks = ap volume_asked c.in-Get.is in
+    let name = c.in-Some-asked_volume.volume.now in
+    let asks : volume_asked command ≡ Some name = sym c.in-Some-asked_volume.ensures in
     let looks = c.look.ensures.looks in
     let fresh : IsNone s.failed = subst (λ (k : Session). IsNone k.failed) c.self.view_is (subst IsNone (sym c.in_default.is) refl) in
     record {
@@ -124,70 +124,6 @@ returns-in-Get g c =
       files = λ tells none without. look_files command name asks d s e n c.look.result looks without;
       steps = record { other = c.look.ensures.steps; known = c.look.ensures.known; dead = λ failed. not_dead _ s fresh failed };
       numbers = λ alive. keeps_but _ s.volumes n.volumes c.look.ensures.kept;
-      dead = λ failed. not_dead _ s fresh failed;
-    }
-
-pub returns-in-Len : goal.returns-in-Len
-returns-in-Len g c =
-    let d = g.D.Disk.shown c.args.disk.now in
-    let e = g.D.Disk.shown c.look-in-Len.new.disk in
-    let s = c.args.self.now in
-    let n = c.look-in-Len.new.self in
-    let command = c.args.command.now in
-    let name = c.in-Len.volume in
-    let asks = ap volume_asked c.in-Len.is in
-    let looks = c.look-in-Len.ensures.looks in
-    let fresh : IsNone s.failed = subst (λ (k : Session). IsNone k.failed) c.self.view_is (subst IsNone (sym c.in_default.is) refl) in
-    record {
-      goes = look_goes command name asks d s e n c.look-in-Len.result looks;
-      asks = λ none. look_asks command name asks d s e n c.look-in-Len.result looks;
-      goes_for = look_goes_for command name asks d s e n c.look-in-Len.result looks;
-      reply = look_reply command name asks d s e n c.look-in-Len.result looks;
-      plain = λ plain. absurd (true≢false (sym (look_reads command name asks) ∙ plain));
-      on_files = λ files. record {
-        range = λ fresh far. c.look-in-Len.ensures.range far;
-        missing = λ fresh near other of none. c.look-in-Len.ensures.missing near (subst (NoneHasName s.volumes) (look_name command name asks d s e n c.look-in-Len.result looks other of) none);
-        asked = λ of. looks.read;
-        refused = λ tells last m stands. look_refused command name asks d s e n c.look-in-Len.result looks;
-        known = λ finds near other of. named_as s.volumes n.volumes c.look-in-Len.result other name (look_name command name asks d s e n c.look-in-Len.result looks other of) (c.look-in-Len.ensures.finds finds near);
-      };
-      point = λ tells last m stands cp. look_no_point command name asks d s e n c.look-in-Len.result looks _ cp;
-      calm = λ other few. looks.only_reads;
-      files = λ tells none without. look_files command name asks d s e n c.look-in-Len.result looks without;
-      steps = record { other = c.look-in-Len.ensures.steps; known = c.look-in-Len.ensures.known; dead = λ failed. not_dead _ s fresh failed };
-      numbers = λ alive. keeps_but _ s.volumes n.volumes c.look-in-Len.ensures.kept;
-      dead = λ failed. not_dead _ s fresh failed;
-    }
-
-pub returns-in-Ls : goal.returns-in-Ls
-returns-in-Ls g c =
-    let d = g.D.Disk.shown c.args.disk.now in
-    let e = g.D.Disk.shown c.look-in-Ls.new.disk in
-    let s = c.args.self.now in
-    let n = c.look-in-Ls.new.self in
-    let command = c.args.command.now in
-    let name = c.in-Ls.volume in
-    let asks = ap volume_asked c.in-Ls.is in
-    let looks = c.look-in-Ls.ensures.looks in
-    let fresh : IsNone s.failed = subst (λ (k : Session). IsNone k.failed) c.self.view_is (subst IsNone (sym c.in_default.is) refl) in
-    record {
-      goes = look_goes command name asks d s e n c.look-in-Ls.result looks;
-      asks = λ none. look_asks command name asks d s e n c.look-in-Ls.result looks;
-      goes_for = look_goes_for command name asks d s e n c.look-in-Ls.result looks;
-      reply = look_reply command name asks d s e n c.look-in-Ls.result looks;
-      plain = λ plain. absurd (true≢false (sym (look_reads command name asks) ∙ plain));
-      on_files = λ files. record {
-        range = λ fresh far. c.look-in-Ls.ensures.range far;
-        missing = λ fresh near other of none. c.look-in-Ls.ensures.missing near (subst (NoneHasName s.volumes) (look_name command name asks d s e n c.look-in-Ls.result looks other of) none);
-        asked = λ of. looks.read;
-        refused = λ tells last m stands. look_refused command name asks d s e n c.look-in-Ls.result looks;
-        known = λ finds near other of. named_as s.volumes n.volumes c.look-in-Ls.result other name (look_name command name asks d s e n c.look-in-Ls.result looks other of) (c.look-in-Ls.ensures.finds finds near);
-      };
-      point = λ tells last m stands cp. look_no_point command name asks d s e n c.look-in-Ls.result looks _ cp;
-      calm = λ other few. looks.only_reads;
-      files = λ tells none without. look_files command name asks d s e n c.look-in-Ls.result looks without;
-      steps = record { other = c.look-in-Ls.ensures.steps; known = c.look-in-Ls.ensures.known; dead = λ failed. not_dead _ s fresh failed };
-      numbers = λ alive. keeps_but _ s.volumes n.volumes c.look-in-Ls.ensures.kept;
       dead = λ failed. not_dead _ s fresh failed;
     }
 
@@ -228,16 +164,16 @@ manage-requires-clause-booked g c =
     let fresh : IsNone c.args.self.now.failed = subst (λ (s : Session). IsNone s.failed) c.self.view_is (subst IsNone (sym c.in_default.is) refl) in
     booked_each (g.D.Disk.shown c.args.disk.now) c.args.self.now (c.requires.stands fresh)
 
-pub returns-in-None : goal.returns-in-None
-returns-in-None g c =
+pub returns-in-None-changed_volume : goal.returns-in-None-changed_volume
+returns-in-None-changed_volume g c =
     let disk = g.D.Disk.shown c.args.disk.now in
     let old = c.args.self.now in
     let new = c.manage.new.self in
     let reply = c.manage.result in
     let command = c.args.command.now in
     let at = c.in_default-command in
-    let asks = asks_none command at.not-Get at.not-Len at.not-Ls in
-    let changes = sym c.in-None.ensures in
+    let asks = sym c.in-None.ensures in
+    let changes = sym c.in-None-changed_volume.ensures in
     let kind = managed_or_unbuilt command at.not-VolCreate at.not-VolList at.not-Cp asks changes in
     let inside : IsNone c.self.inside.failed = subst IsNone (sym c.in_default.is) refl in
     let fresh : IsNone old.failed = subst (λ (s : Session). IsNone s.failed) c.self.view_is inside in

@@ -1,0 +1,59 @@
+-- What a volume's maps hold, as the code asks for it and as an image shows it.
+use Rattle.std.proofs.Common.{◌≡◌, ◌<◌, ◌≤◌, ◌-◌, ◌/◌, ℕ, Bool, true, false, not, ◌&&◌, length, take, None, refl, subst, ap, ◌∙◌, arith}
+use Rattle.std.specs.Prelude.{◌==◌, IfSome, nat_lt, if◌then◌else◌}
+use Rattle.std.specs.Int.{div_ceil}
+use Rattle.std.specs.List.{list_any}
+use Rattle.std.specs.Option.{is_some}
+use Rattle.std.proofs.lemmas.Bool.Decides.{nat_tests}
+use Rattle.fv_model.specs.Space.{map_blocks}
+use Rattle.fv_image.specs.Views.{Head, View, is_held_in, used_slots, volume_bit}
+use Rattle.fv_image.specs.Views as views
+use Rattle.fv_container.specs.Mapped.{Mapped, entry_under}
+use Rattle.fv_volmap.specs.Slots.{IsVolume, Slot, Volume, active_of, stored_count, taken_in}
+use Rattle.fv_delay.specs.Delay.{is_delayed, is_held, is_used}
+
+-- the active map has a bit for each number of the span
+pub active_long : (map : Volume) → IsVolume map → length (active_of map) ≡ map.span
+active_long map is = subst (λ (s : Slot). IfSome s (λ bits. length bits ≡ map.span)) is.active (is.long 0 None (omega (arith, is.count)))
+
+-- a number of the span, and one behind it
+pub held_below : (map : Volume) (v : ℕ) → v < map.span → is_held map v ≡ taken_in (take stored_count map.slots) v
+unfolding is_held
+held_below map v lt =
+    let test : nat_lt v map.span ≡ true = grind (arith, nat_tests, lt) in
+    ap (λ (t : Bool). if t then taken_in (take stored_count map.slots) v else is_used map ((v - map.span) / map_blocks map.span)) test
+
+pub held_behind : (map : Volume) (v : ℕ) → map.span ≤ v → is_held map v ≡ is_used map ((v - map.span) / map_blocks map.span)
+unfolding is_held
+held_behind map v le =
+    let test : nat_lt v map.span ≡ false = grind (arith, nat_tests, le) in
+    ap (λ (t : Bool). if t then taken_in (take stored_count map.slots) v else is_used map ((v - map.span) / map_blocks map.span)) test
+
+pub blocks_are : (span : ℕ) → div_ceil span 32768 ≡ map_blocks span
+blocks_are span = omega arith
+
+-- ---- an image's volume
+
+-- the maps in memory are those of a volume that an image shows: the same slots are in use, and below the span each number is in some map of
+-- the one where it is in some map of the other
+pub record AreMapsOf (w : View) (s : ℕ) (h : Head) (map : Volume) : Type 0 where
+  pub span : map.span ≡ h.span
+  pub used : (slot : ℕ) → is_used map slot ≡ list_any (λ k. k == slot) (used_slots h)
+  pub bits : (v : ℕ) → v < h.span → taken_in (take stored_count map.slots) v ≡ list_any (λ slot. volume_bit w s h.span slot v) (used_slots h)
+
+-- so they hold what the image says that the volume holds
+pub held_seen : (w : View) (s : ℕ) (h : Head) (map : Volume) → AreMapsOf w s h map → (v : ℕ) → is_held map v ≡ is_held_in w s h v
+unfolding is_held is_held_in
+held_seen w s h map maps v =
+    ap (λ (n : ℕ). if nat_lt v n then taken_in (take stored_count map.slots) v else is_used map ((v - n) / map_blocks n)) maps.span
+    ∙ so (nat_lt v h.span) refl
+  where
+    so : (t : Bool) → nat_lt v h.span ≡ t
+        → (if t then taken_in (take stored_count map.slots) v else is_used map ((v - h.span) / map_blocks h.span))
+        ≡ (if t then list_any (λ slot. volume_bit w s h.span slot v) (used_slots h) else list_any (λ slot. slot == (v - h.span) / map_blocks h.span) (used_slots h))
+    so true e = maps.bits v (let lt : v < h.span = grind (arith, nat_tests, e) in lt)
+    so false e = maps.used ((v - h.span) / map_blocks h.span)
+
+-- and where the container has an entry just where the image has one, the same entries are delayed
+pub delayed_seen : (w : View) (s : ℕ) (h : Head) (map : Volume) (container : Mapped) → AreMapsOf w s h map → (v : ℕ) → is_some (entry_under container v) ≡ is_some (w.entry s v) → is_delayed map container v ≡ views.is_delayed w s h v
+delayed_seen w s h map container maps v entry = λ i. entry i && not (held_seen w s h map maps v i)

@@ -1,0 +1,95 @@
+//! Which entries of a container are delayed.
+
+ghost use Rattle.std.specs.Prelude.{◌≡◌, ◌<◌, ◌≤◌, ◌*◌, ◌+◌, ◌-◌, length, min};
+ghost use Rattle.fv_image.specs.Containers.{fan, most_entries};
+ghost use Rattle.fv_image.specs.Views.{entry_count};
+ghost use Rattle.fv_model.specs.Numbers.{greatest_span};
+ghost use Rattle.fv_delay.specs.Delay.{delayed_in, is_delayed, is_held, is_used};
+
+use fv_container::Container;
+use fv_volmap::VolMap;
+
+/// The slots whose maps stand on the disk: the active one and 24 for snapshots.
+const STORED: u32 = 25;
+
+/// How many entries of a region of a volume's container are delayed: they aren't holes, and their VVBNs are held neither by the active map nor
+/// by a snapshot's. The VVBN of a block of a map is held exactly while its slot is in use. The container has an entry for each VVBN
+/// of the map's span and for each block of 25 maps. From its last region on none is delayed.
+///
+/// Costs a step for each of the at most 256 entries and each slot. It takes no memory.
+pub fn delayed_by_region(container: &Container, map: &VolMap, region: u32) -> u32
+    requires span { map.now.span ≤ greatest_span }
+    requires entries { length container.now.entries ≡ entry_count map.now.span }
+    ensures { result ≡ delayed_in map.now container.now region }
+{
+    let entries = entry_count(map);
+    let first = first_of(region, entries);
+    let end = end_of(first, entries);
+    let mut count = 0;
+    for vvbn in first..end {
+        count += u32::from(is_delayed(container, map, vvbn));
+    }
+    count
+}
+
+/// Whether the entry of a VVBN is delayed.
+fn is_delayed(container: &Container, map: &VolMap, vvbn: u32) -> bool
+    requires within { vvbn < length container.now.entries }
+    requires entries { length container.now.entries ≡ entry_count map.now.span }
+    ensures { result ≡ is_delayed map.now container.now vvbn }
+{
+    container.entry_at(vvbn).is_some() && !is_held(map, vvbn)
+}
+
+/// Whether a VVBN is held.
+pub(crate) fn is_held(map: &VolMap, vvbn: u32) -> bool
+    requires { vvbn < entry_count map.now.span }
+    ensures { result ≡ is_held map.now vvbn }
+{
+    let span = span_of(map);
+    if vvbn < span {
+        map.held(vvbn)
+    } else {
+        is_used(map, (vvbn - span) / span.div_ceil(32_768))
+    }
+}
+
+/// Whether a slot is in use whose map stands on the disk.
+fn is_used(map: &VolMap, slot: u32) -> bool
+    ensures { result ≡ is_used map.now slot }
+{
+    slot < STORED && map.snapshot(slot as u8).is_some()
+}
+
+/// The span of a volume's maps.
+#[tactic(auto, using(crate::proofs::Held::active_long))]
+fn span_of(map: &VolMap) -> u32
+    ensures { result ≡ map.now.span }
+{
+    map.active().len()
+}
+
+/// The entries of a volume's container: one for each VVBN of its span and for each block of 25 maps.
+pub(crate) fn entry_count(map: &VolMap) -> u32
+    requires { map.now.span ≤ greatest_span }
+    ensures value { result ≡ entry_count map.now.span }
+    ensures most { result ≤ most_entries }
+{
+    let span = span_of(map);
+    span + STORED * span.div_ceil(32_768)
+}
+
+/// The first VVBN of a region, or the number of entries where the region lies behind them.
+pub(crate) fn first_of(region: u32, entries: u32) -> u32
+    ensures { result ≡ min (fan * region) entries }
+{
+    region.saturating_mul(256).min(entries)
+}
+
+/// The end of a region with this first VVBN.
+pub(crate) fn end_of(first: u32, entries: u32) -> u32
+    requires { first ≤ entries }
+    ensures { result ≡ first + min (entries - first) fan }
+{
+    first + (entries - first).min(256)
+}

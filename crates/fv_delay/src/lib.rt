@@ -1,0 +1,18 @@
+//! Delayed frees: which regions of the containers a consistency point reclaims, and the reclaim of one.
+//!
+//! A block that is freed in its volume stays in the container and in the aggregate map until its region is
+//! reclaimed. `specs/Delay.antt` says which entries wait so, `specs/Choice.antt` which regions are chosen,
+//! and `specs/Reclaims.antt` what a reclaim makes of them.
+#![tactic(auto)]
+
+mod choosing;
+mod counts;
+mod delayed;
+mod reclaiming;
+mod regions;
+
+pub use choosing::choose_regions;
+pub use counts::{Count, Counts};
+pub use delayed::delayed_by_region;
+pub use reclaiming::reclaim;
+pub use regions::{Region, Regions};
