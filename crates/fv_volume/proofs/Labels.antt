@@ -41,10 +41,10 @@ unfolding all_zero
 zeros zero = refl
 zeros (suc n) = zeros n
 
-parts : (w : List ℕ) → is_name w ≡ true → (1 ≤ length w) × ((length w ≤ 64) × (list_all is_letter w ≡ true))
+pub parts : (w : List ℕ) → is_name w ≡ true → (1 ≤ length w) × ((length w ≤ 64) × (list_all is_letter w ≡ true))
 parts w is = grind (arith, nat_tests, is)
 
-filled : (w : List ℕ) → is_name w ≡ true → name_filled (length w) (w ++ replicate (64 - length w) 0) ≡ Ok tt
+pub filled : (w : List ℕ) → is_name w ≡ true → name_filled (length w) (w ++ replicate (64 - length w) 0) ≡ Ok tt
 unfolding name_filled
 filled w is =
     let field = w ++ replicate (64 - length w) 0 in
@@ -54,7 +54,7 @@ filled w is =
 
 -- ---- the fields
 
-free_in_range : IsSnapRecord free_record
+pub free_in_range : IsSnapRecord free_record
 unfolding name_filled all_name
 free_in_range = record {
   name_length = omega arith;

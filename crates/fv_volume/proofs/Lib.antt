@@ -101,3 +101,5 @@ pub mod Destroyed
 pub mod Removed
 pub mod DestroyedOthers
 pub mod Emptied
+pub mod CountedMaps
+pub mod SnapRecords

@@ -32,3 +32,5 @@ pub mod Placing
 pub mod Held
 pub mod Promising
 pub mod Destroying
+pub mod Mapped
+pub mod SnapRecords
