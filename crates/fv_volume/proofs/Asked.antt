@@ -12,7 +12,7 @@ use Rattle.fv_model.specs.declared.commands.Command.{Command}
 use Rattle.fv_model.specs.declared.commands.Command.TheVariants.{Get, Len, Ls}
 use Rattle.fv_model.specs.Machines.{Machine}
 use Rattle.fv_model.specs.Numbers.{is_index}
-use Rattle.fv_model.specs.Tables.{File, Table, file_named}
+use Rattle.fv_model.specs.Tables.{File, file_named}
 use Rattle.fv_model.specs.Replies.{answer, stat_of}
 use Rattle.fv_tables.specs.Told.{Standing, file_in, file_told, tree_of, table_told}
 use Rattle.fv_inode.specs.declared.info.Info.{Info}
@@ -29,10 +29,11 @@ use Rattle.fv_volume.specs.declared.pool.Pool.{Pool}
 use Rattle.fv_volume.specs.declared.state.VolumeState.{VolumeState}
 use Rattle.fv_volume.specs.Calls.{Agrees, Asks, Has, Reads}
 use Rattle.fv_volume.specs.Promising.{told_by}
-use Rattle.fv_volume.specs.OneVolume.{standing_for, volume_as, volume_for, IsStanding}
+use Rattle.fv_volume.specs.OneVolume.{standing_for, volume_as, volume_for, Content as Holding, IsReady, IsStanding}
 use Rattle.fv_volume.proofs.Answered.{get_accepted, get_answer, get_far, get_none, get_past, get_snapshot, len_accepted, len_answer, len_none, len_snapshot, ls_accepted, ls_answer, ls_snapshot}
+use Rattle.fv_volume.proofs.KeptTables.{ready_alone}
 use Rattle.fv_volume.proofs.Lookups.{named_first, named_none, names_are}
-use Rattle.fv_volume.proofs.OneVolumes.{is_alone, still_table, stood_before}
+use Rattle.fv_volume.proofs.OneVolumes.{still_table, stood_before}
 
 -- a block, or zeros where there is none
 same_block : (o : Option (List ℕ)) → or_zeros o ≡ unwrap_or o (replicate 4096 0)
@@ -57,14 +58,14 @@ module _ (d : Disk) (p : Pool) (x : VolumeState) where
 
   -- ---- a snapshot
 
-  pub len_of_snapshot : (s f : List ℕ) → Asks here (Len x.name (Some s) f) (λ n. Number n) (Err (Refused NoSnapshot))
-  len_of_snapshot s f = refuses here _ _ _ (λ m there. len_snapshot m x.name (volume_for d p x) there (is_alone d p x) s f)
+  pub len_of_snapshot : IsReady d p x → (s f : List ℕ) → Asks here (Len x.name (Some s) f) (λ n. Number n) (Err (Refused NoSnapshot))
+  len_of_snapshot ready s f = refuses here _ _ _ (λ m there. len_snapshot m x.name (volume_for d p x) there (ready_alone d p x ready) s f)
 
-  pub ls_of_snapshot : (s : List ℕ) → Asks here (Ls x.name (Some s)) (λ names. Names names) (Err (Refused NoSnapshot))
-  ls_of_snapshot s = refuses here _ _ _ (λ m there. ls_snapshot m x.name (volume_for d p x) there (is_alone d p x) s)
+  pub ls_of_snapshot : IsReady d p x → (s : List ℕ) → Asks here (Ls x.name (Some s)) (λ names. Names names) (Err (Refused NoSnapshot))
+  ls_of_snapshot ready s = refuses here _ _ _ (λ m there. ls_snapshot m x.name (volume_for d p x) there (ready_alone d p x ready) s)
 
-  pub get_of_snapshot : (s f : List ℕ) (i : ℕ) (into : List ℕ) → is_index i ≡ true → Asks here (Get x.name (Some s) f i) (λ (u : Unit {0}). Content into) (Err (Refused NoSnapshot))
-  get_of_snapshot s f i into near = refuses here _ _ _ (λ m there. get_snapshot m x.name (volume_for d p x) there (is_alone d p x) s f i near)
+  pub get_of_snapshot : IsReady d p x → (s f : List ℕ) (i : ℕ) (into : List ℕ) → is_index i ≡ true → Asks here (Get x.name (Some s) f i) (λ (u : Unit {0}). Content into) (Err (Refused NoSnapshot))
+  get_of_snapshot ready s f i into near = refuses here _ _ _ (λ m there. get_snapshot m x.name (volume_for d p x) there (ready_alone d p x ready) s f i near)
 
   pub get_too_far : (s : Option (List ℕ)) (f : List ℕ) (i : ℕ) (into : List ℕ) → is_index i ≡ false → Asks here (Get x.name s f i) (λ (u : Unit {0}). Content into) (Err (Refused Range))
   get_too_far s f i into far = refuses here _ _ _ (λ m there. get_far m x.name (volume_for d p x) there s f i far)
@@ -117,9 +118,9 @@ module _ (d : Disk) (p : Pool) (x : VolumeState) where
 
 -- ---- its numbers
 
-pub stat_is : (x : VolumeState) (table : Table) → IsLedgerOf (volume_as x table) x.ledger
-    → told_by x ≡ stat_of (volume_as x table)
-stat_is x table is = λ i. record { size = x.size; used = is.charged i; need = is.needed i; commit = commit_is (volume_as x table) x.ledger is i; kind = x.kind; clean = x.known }
+pub stat_is : (x : VolumeState) (content : Holding) → IsLedgerOf (volume_as x content) x.ledger
+    → told_by x ≡ stat_of (volume_as x content)
+stat_is x content is = λ i. record { size = x.size; used = is.charged i; need = is.needed i; commit = commit_is (volume_as x content) x.ledger is i; kind = x.kind; clean = x.known }
 
 -- ---- after a look-up
 
@@ -148,27 +149,27 @@ module _ (d : Disk) (p : Pool) (x : VolumeState) (s : Option (List ℕ)) where
   abbrev at_hand : Machine → Type 0
   at_hand = Has x.name (volume_for d p x)
 
-  module _ (some : is_some s ≡ true) where
+  module _ (ready : IsReady d p x) (some : is_some s ≡ true) where
     pub len_asked_snapshot : (f : List ℕ) → Asks at_hand (Len x.name s f) (λ n. Number n) (Err (Refused NoSnapshot))
     len_asked_snapshot f = by s some
       where
         by : (o : Option (List ℕ)) → is_some o ≡ true → Asks {T = ℕ} (Has x.name (volume_for d p x)) (Len x.name o f) (λ n. Number n) (Err (Refused NoSnapshot))
         by None is = absurd cc
-        by (Some name) is = len_of_snapshot d p x name f
+        by (Some name) is = len_of_snapshot d p x ready name f
 
     pub ls_asked_snapshot : Asks at_hand (Ls x.name s) (λ names. Names names) (Err (Refused NoSnapshot))
     ls_asked_snapshot = by s some
       where
         by : (o : Option (List ℕ)) → is_some o ≡ true → Asks {T = List (List ℕ)} (Has x.name (volume_for d p x)) (Ls x.name o) (λ names. Names names) (Err (Refused NoSnapshot))
         by None is = absurd cc
-        by (Some name) is = ls_of_snapshot d p x name
+        by (Some name) is = ls_of_snapshot d p x ready name
 
     pub get_asked_snapshot : (f : List ℕ) (i : ℕ) (into : List ℕ) → is_index i ≡ true → Asks at_hand (Get x.name s f i) (λ (u : Unit {0}). Content into) (Err (Refused NoSnapshot))
     get_asked_snapshot f i into near = by s some
       where
         by : (o : Option (List ℕ)) → is_some o ≡ true → Asks {T = Unit {0}} (Has x.name (volume_for d p x)) (Get x.name o f i) (λ u. Content into) (Err (Refused NoSnapshot))
         by None is = absurd cc
-        by (Some name) is = get_of_snapshot d p x name f i into near
+        by (Some name) is = get_of_snapshot d p x ready name f i into near
 
   module _ (none : s ≡ None) where
     pub len_asked_missing : (f : List ℕ) → HasNone (standing_for d p x).inode f → Asks at_hand (Len x.name s f) (λ n. Number n) (Err (Refused NoFile))

@@ -52,6 +52,7 @@ pub mod Settling
 pub mod StoredTold
 pub mod Lookups
 pub mod Answered
+pub mod KeptTables
 pub mod OneVolumes
 pub mod Numbered
 pub mod Asked

@@ -37,10 +37,11 @@ use Rattle.fv_volume.specs.declared.state.VolumeState.{VolumeState}
 use Rattle.fv_volume.specs.BlocksOver.{AreApart, IsKeptBack, OtherPlace, block_of, held_entry}
 use Rattle.fv_volume.specs.Calls.{Reads}
 use Rattle.fv_volume.specs.Files.{has_form, IsLabelled, IsState}
-use Rattle.fv_volume.specs.OneVolume.{shows, standing_by, table_for, volume_as, AreSoundBy, IsStanding}
+use Rattle.fv_volume.specs.OneVolume.{blocks_in, content_for, shows, standing_by, table_for, volume_as, volume_for, AreSoundBy, Content, IsKeptTable, IsStanding}
 use Rattle.fv_volume.specs.Placing.{AreLedBy, AreStoredBy, IsLedTo, IsStoredWell}
 use Rattle.fv_volume.specs.States.{States, head_in, placed_in, state_at, view_over}
 use Rattle.fv_volume.specs.Trees.{active_in, no_trees}
+use Rattle.fv_volume.proofs.KeptTables.{no_snaps, none_kept, none_told}
 use Rattle.fv_volume.proofs.LoadedTables.{StandsInView, chain_own, led, stands_file, stands_inode, stands_led, stands_once, stands_told}
 use Rattle.fv_volume.proofs.OneVolumes.{still_under, still_used}
 use Rattle.fv_volume.proofs.Shows.{get_held, use_none}
@@ -78,9 +79,9 @@ apart_alone pool map slot alone kept apart = record {
 -- ---- the volume of a head
 
 -- A volume without snapshots and base is told as its view tells it.
-pub seen_volume : (w : View) (s : ℕ) (x : VolumeState) (table : Table) → has_form (head_in x) ≡ true → volume_with w s (head_in x) table ≡ volume_as x table
+pub seen_volume : (w : View) (s : ℕ) (x : VolumeState) (content : Content) → has_form (head_in x) ≡ true → content.snapshots ≡ fin.empty → volume_with w s (head_in x) content.active ≡ volume_as x content
 unfolding volume_with
-seen_volume w s x table form =
+seen_volume w s x content form nothing =
     let snaps = form_snapshots (head_in x) form in
     let base = form_base (head_in x) form in
     λ i. record {
@@ -89,11 +90,16 @@ seen_volume w s x table form =
       most = x.most;
       span = x.span;
       now = x.now;
-      active = table;
-      snapshots = ap (λ (ps : List Snap). fin.from_entries {R = name_cmp} (map (snap_told w s) ps)) snaps i;
+      active = content.active;
+      snapshots = (ap (λ (ps : List Snap). fin.from_entries {R = name_cmp} (map (snap_told w s) ps)) snaps ∙ sym nothing) i;
       base = ap (base_from w) base i;
       known = x.known;
     }
+
+-- so is the volume that it stands for, where the view tells its active table
+pub seen_for : (w : View) (s : ℕ) (disk : Disk) (pool : Pool) (x : VolumeState) (table : Table) → has_form (head_in x) ≡ true → table ≡ table_for disk pool x → volume_with w s (head_in x) table ≡ volume_for disk pool x
+seen_for w s disk pool x table form same =
+    ap (volume_with w s (head_in x)) same ∙ seen_volume w s x (content_for disk pool x) form (none_told (blocks_in disk pool x) x.snapshots (no_snaps x form))
 
 -- its table is that of its head's root
 pub active_is : (w : View) (s : ℕ) (h : Head) → w.head s ≡ Some h → active_in w no_trees s ≡ table_at w s h.active
@@ -197,7 +203,8 @@ module _ (disk : Disk) (pool : Pool) (states : States) (x : VolumeState) (is : S
         told = (tells, apart);
         table = subst (IsWellTable x.now) active state.table;
         reserves = subst HasNoReserve active state.reserves;
-        ledger = subst (λ v. IsLedgerOf v x.ledger) (seen_volume w x.slot x (active_in w no_trees x.slot) is.form ∙ ap (volume_as x) active) state.ledger;
+        kept = none_kept (IsKeptTable disk pool x) x.snapshots (no_snaps x is.form);
+        ledger = subst (λ v. IsLedgerOf v x.ledger) (seen_for w x.slot disk pool x (active_in w no_trees x.slot) is.form active) state.ledger;
         trees = subst (AreSoundBy (blocks_of source) source.used x.active) (sym none) seen_reached;
         numbers = numbered;
       }
@@ -256,7 +263,7 @@ module _ (disk : Disk) (pool : Pool) (states : States) (x : VolumeState) (is : I
     labelled = labelled;
     table = subst (IsWellTable x.now) (sym standing_table) is.table;
     reserves = subst HasNoReserve (sym standing_table) is.reserves;
-    ledger = subst (λ v. IsLedgerOf v x.ledger) (sym (seen_volume u x.slot x (active_in u no_trees x.slot) form ∙ ap (volume_as x) standing_table)) is.ledger;
+    ledger = subst (λ v. IsLedgerOf v x.ledger) (sym (seen_for u x.slot disk pool x (active_in u no_trees x.slot) form standing_table)) is.ledger;
   }
 
 -- After reads what is in use is led to still.

@@ -28,7 +28,7 @@ pub returns-then-is_some-clause-asked : goal.returns-then-is_some-clause-asked
 returns-then-is_some-clause-asked g c = λ is.
     let near : is_index c.args.index ≡ true = search rules in
     let some : is_some c.args.snapshot ≡ true = search rules in
-    get_asked_snapshot (g.D.Disk.shown c.args.disk.now) c.args.pool.now c.args.self.now (option_copied c.args.snapshot) (copied_some c.args.snapshot some) c.args.file.now c.args.index _ near
+    get_asked_snapshot (g.D.Disk.shown c.args.disk.now) c.args.pool.now c.args.self.now (option_copied c.args.snapshot) c.requires.ready (copied_some c.args.snapshot some) c.args.file.now c.args.index _ near
 
 pub returns-in_err-find_file-clause-cause : goal.returns-in_err-find_file-clause-cause
 returns-in_err-find_file-clause-cause g c =

@@ -10,7 +10,7 @@ use Rattle.fv_volume.proofs.state.VolumeState.length.Goals as goal
 pub returns-then-is_some-clause-asked : goal.returns-then-is_some-clause-asked
 returns-then-is_some-clause-asked g c = λ is.
     let some : is_some c.args.snapshot ≡ true = search rules in
-    len_asked_snapshot (g.D.Disk.shown c.args.disk.now) c.args.pool.now c.args.self.now (option_copied c.args.snapshot) (copied_some c.args.snapshot some) c.args.file.now
+    len_asked_snapshot (g.D.Disk.shown c.args.disk.now) c.args.pool.now c.args.self.now (option_copied c.args.snapshot) c.requires.ready (copied_some c.args.snapshot some) c.args.file.now
 
 pub returns-in_err-find_file-clause-cause : goal.returns-in_err-find_file-clause-cause
 returns-in_err-find_file-clause-cause g c =
