@@ -20,7 +20,7 @@ use Rattle.fv_volume.specs.Trees.{no_trees}
 use Rattle.fv_volume.specs.Files.{AreStates}
 pub use Rattle.fv_volume.specs.Loading.{Houses}
 use Rattle.fv_volume.specs.Writing.{IsTaken, on_disk}
-pub use Rattle.fv_volume.specs.Housed.{AreHoused, HaveReach}
+pub use Rattle.fv_volume.specs.Housed.{AreHoused, HaveReaches}
 pub use Rattle.fv_volume.specs.Stored.{AreApartIn, AreSpacedIn, has_block}
 pub use Rattle.fv_volume.specs.UnderRoot.{IsLentAt, IsLentSlot, IsMapOf}
 
@@ -52,7 +52,7 @@ pub record IsLent (disk : Shown) (pool : Pool) (lent : States) (before : Machine
   pub states : AreStates (view_over pool lent disk.reads) no_trees lent
   pub built : is_built (view_over pool lent disk.reads) ≡ true
   pub tables : AreTables (seen (view_over pool lent disk.reads))
-  pub reach : HaveReach (view_over pool lent disk.reads) lent
+  pub reach : HaveReaches (view_over pool lent disk.reads) lent
 
 -- ---- room
 

@@ -42,6 +42,7 @@ pub mod Delaying
 pub mod LoadedBlocks
 pub mod Spacing
 pub mod Settled
+pub mod Reaches
 pub mod StaysStates
 pub mod Distinct
 pub mod Housing

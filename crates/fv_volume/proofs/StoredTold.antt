@@ -47,7 +47,7 @@ use Rattle.fv_volmap.specs.Slots.{active_of}
 use Rattle.fv_volume.specs.declared.pool.Pool.{Pool}
 use Rattle.fv_volume.specs.declared.state.VolumeState.{VolumeState}
 use Rattle.fv_volume.specs.Files.{AreNamed, IsLabelled, has_form}
-use Rattle.fv_volume.specs.Housed.{AreHoused, HaveReach, settled_as, settled_at}
+use Rattle.fv_volume.specs.Housed.{AreHoused, HaveReaches, ReachesAll, settled_as, settled_at}
 use Rattle.fv_volume.specs.Labels.{label_said}
 use Rattle.fv_volume.specs.Loading.{label_of}
 use Rattle.fv_volume.specs.States.{States, head_in, state_at, table_in, view_over}
@@ -56,11 +56,12 @@ use Rattle.fv_volume.specs.UnderRoot.{AllStandUnder}
 use Rattle.fv_volume.proofs.Delaying.{loaded_undelayed}
 use Rattle.fv_volume.proofs.Distinct.{same_names}
 use Rattle.fv_volume.proofs.Labels.{label_head}
+use Rattle.fv_volume.proofs.Reaches.{active_reaches}
 use Rattle.fv_volume.proofs.Settled.{is_settled, same_head, settled_back}
 use Rattle.fv_volume.proofs.Told.{is_inside}
 use Rattle.fv_volume.proofs.Viewed.{entry_of}
 
-module _ (pool : Pool) (states : States) (before : Image) (housed : AreHoused pool.containers states) (tables : AreTables (seen (view_over pool states before))) (reach : HaveReach (view_over pool states before) states) where
+module _ (pool : Pool) (states : States) (before : Image) (housed : AreHoused pool.containers states) (tables : AreTables (seen (view_over pool states before))) (reach : HaveReaches (view_over pool states before) states) where
   abbrev w : View
   w = view_over pool states before
 
@@ -72,7 +73,7 @@ module _ (pool : Pool) (states : States) (before : Image) (housed : AreHoused po
   labelled s x there = subst (λ (o : Option VolumeState). IfSome o (IsLabelled s)) there (housed.volumes s)
 
   reaches : (s : ℕ) (x : VolumeState) → s < 64 → state_at states s ≡ Some x → (v : ℕ) → is_member (active_of x.map) v ≡ is_listed (items (standing_of w s (table_in x.active))) v
-  reaches s x inside there = subst (λ (o : Option VolumeState). IfSome o (λ x. (v : ℕ) → is_member (active_of x.map) v ≡ is_listed (items (standing_of w s (table_in x.active))) v)) there (reach s inside)
+  reaches s x inside there = active_reaches w s x (subst (λ (o : Option VolumeState). IfSome o (ReachesAll w s)) there (reach s inside))
 
   -- no number past the span is in the active map
   pub past_clear : (s : ℕ) (x : VolumeState) → s < 64 → state_at states s ≡ Some x → (v : ℕ) → x.span ≤ v → is_member (active_of x.map) v ≡ false

@@ -1,16 +1,16 @@
 -- Volumes in memory that are in order, whatever the disk tells, and what they are once a consistency point wrote those that changed.
-use Rattle.std.specs.Prelude.{◌≡◌, ◌<◌, ◌≤◌, ℕ, false, List, Option, IfSome, length, get_or, cond}
+use Rattle.std.specs.Prelude.{◌≡◌, ◌<◌, ◌≤◌, ℕ, false, List, Option, Some, IfSome, length, get_or, cond}
 use Rattle.std.specs.Option.{option_map}
-use Rattle.fv_bits.specs.Members.{is_member}
 use Rattle.fv_tables.specs.Reached.{items, is_listed}
-use Rattle.fv_image.specs.Views.{View}
+use Rattle.fv_image.specs.Mapped.{root_at}
+use Rattle.fv_image.specs.Views.{Rooted, View}
 use Rattle.fv_image.specs.Volumes.{standing_of}
 use Rattle.fv_container.specs.Chains.{Slots, slot_count, container_at, parent_at}
-use Rattle.fv_volmap.specs.Slots.{active_of}
+use Rattle.fv_volmap.specs.Slots.{has, slot_at}
 use Rattle.fv_volume.specs.declared.state.VolumeState.{VolumeState}
 use Rattle.fv_volume.specs.Files.{IsLabelled}
 use Rattle.fv_volume.specs.Loading.{Houses}
-use Rattle.fv_volume.specs.States.{States, parent_in, state_at, table_in}
+use Rattle.fv_volume.specs.States.{States, head_in, parent_in, state_at}
 
 -- The volumes are in order, whatever the disk tells: each in its slot has a label that can be written, has its container with an entry for
 -- each of its VVBNs, and in the chain of containers the parent that it stands on.
@@ -20,9 +20,14 @@ pub record AreHoused (containers : Slots) (states : States) : Type 0 where
   pub each : (s : ℕ) → Houses (state_at states s) (container_at containers s)
   pub parents : (s : ℕ) → parent_at containers s ≡ parent_in (state_at states s)
 
--- the active map of each volume has the numbers that its active table reaches
-abbrev pub HaveReach : View → States → Type 0
-HaveReach w states = (s : ℕ) → s < slot_count → IfSome (state_at states s) (λ x. (v : ℕ) → is_member (active_of x.map) v ≡ is_listed (items (standing_of w s (table_in x.active))) v)
+-- Each slot of a volume's maps that has a root has the numbers that this reaches: slot 0 those of the active table, and the slot of a snapshot
+-- those of the snapshot's.
+abbrev pub ReachesAll : View → ℕ → VolumeState → Type 0
+ReachesAll w s x = (k : ℕ) (r : Rooted) → root_at (head_in x) k ≡ Some r → (v : ℕ) → has v (slot_at x.map k) ≡ is_listed (items (standing_of w s r)) v
+
+-- so it is with each volume
+abbrev pub HaveReaches : View → States → Type 0
+HaveReaches w states = (s : ℕ) → s < slot_count → IfSome (state_at states s) (ReachesAll w s)
 
 -- a volume after it was written, with its label at this place
 abbrev pub as_written : VolumeState → ℕ → VolumeState
