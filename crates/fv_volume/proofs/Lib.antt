@@ -56,6 +56,7 @@ pub mod Answered
 pub mod KeptTables
 pub mod OneVolumes
 pub mod Numbered
+pub mod SnapReads
 pub mod Asked
 mod CallCauses
 mod Followed

@@ -7,6 +7,7 @@ pub mod Rows
 pub mod Creating
 pub mod Loading
 pub mod Opening
+pub mod Asking
 pub mod BlocksOver
 pub mod Trees
 pub mod Files
