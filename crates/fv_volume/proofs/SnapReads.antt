@@ -11,7 +11,6 @@ use Rattle.fv_model.specs.Spelling.{is_same_name, name_cmp}
 use Rattle.fv_model.specs.Tables.{Table}
 use Rattle.fv_laws.specs.WellFormed.{IsWellTable}
 use Rattle.fv_laws.proofs.Orders.{name_total}
-use Rattle.fv_tables.specs.Kept.{AgreeOnTable}
 use Rattle.fv_tables.specs.Spelled.{Under, pointer_at, stored}
 use Rattle.fv_tables.specs.Told.{Standing, standing_at, table_told}
 use Rattle.fv_tables.proofs.Tables.{kept_table}
@@ -30,7 +29,7 @@ module _ (d : Disk) (p : Pool) (x : VolumeState) where
   blocks = under (shows d p x)
 
   -- what a slot holds the volume holds
-  slot_held : (k v : ℕ) → is_some (blocks_in d p x k v) ≡ true → blocks v ≡ blocks_in d p x k v
+  pub slot_held : (k v : ℕ) → is_some (blocks_in d p x k v) ≡ true → blocks v ≡ blocks_in d p x k v
   slot_held k v some = get_held x.map p x.slot d.reads v ∙ by (has v (slot_at x.map k)) some
     where
       by : (b : Bool) → is_some (cond b (held_block x.map p x.slot d.reads v) None) ≡ true → held_block x.map p x.slot d.reads v ≡ cond b (held_block x.map p x.slot d.reads v) None
@@ -38,15 +37,16 @@ module _ (d : Disk) (p : Pool) (x : VolumeState) where
       by false some = absurd cc
 
   module _ (q : Snap) (is : IsKeptTable d p x q) where
-    agree : AgreeOnTable (blocks_in d p x q.slot) blocks q.table.levels q.table.root
-    agree = record {
-      inode = λ level place some. slot_held q.slot (pointer_at (stored (blocks_in d p x q.slot) greatest_word q.table.levels q.table.root) level place).vvbn (is.1.trees.inode.held level place some);
-      files = λ number r found level place some. slot_held q.slot (pointer_at (stored (blocks_in d p x q.slot) number r.levels r.root) level place).vvbn ((is.1.trees.files number r found).held level place some);
-    }
+    -- The table of a snapshot is told alike by all blocks that have what its slot holds,
+    pub kept_by : (n : Under) → ((v : ℕ) → is_some (blocks_in d p x q.slot v) ≡ true → n v ≡ blocks_in d p x q.slot v) → table_told (standing_at n q.table.levels q.table.root) ≡ table_told (standing_kept (blocks_in d p x) q)
+    kept_by n same = kept_table (blocks_in d p x q.slot) n q.table.levels q.table.root (record {
+      inode = λ level place some. same (pointer_at (stored (blocks_in d p x q.slot) greatest_word q.table.levels q.table.root) level place).vvbn (is.1.trees.inode.held level place some);
+      files = λ number r found level place some. same (pointer_at (stored (blocks_in d p x q.slot) number r.levels r.root) level place).vvbn ((is.1.trees.files number r found).held level place some);
+    })
 
-    -- So its table is told alike.
+    -- and so by those that the volume holds.
     pub kept_told : table_told (standing_at blocks q.table.levels q.table.root) ≡ table_told (standing_kept (blocks_in d p x) q)
-    kept_told = kept_table (blocks_in d p x q.slot) blocks q.table.levels q.table.root agree
+    kept_told = kept_by blocks (slot_held q.slot)
 
     pub kept_well : IsWellTable x.now (table_told (standing_at blocks q.table.levels q.table.root))
     kept_well = subst (IsWellTable x.now) (sym kept_told) is.1.table
