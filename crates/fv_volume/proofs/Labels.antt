@@ -1,7 +1,7 @@
 -- The label of a volume without snapshots and base: its fields are in range, and it says what the volume is.
-use Rattle.std.proofs.Common.{◌≡◌, ℕ, zero, suc, ◌-◌, ◌≤◌, Bool, true, false, List, [], ◌∷◌, ◌++◌, length, take, drop, replicate, Option, Some, None, refl, sym, ap, subst, ◌∙◌, arith}
-use Rattle.std.specs.Prelude.{◌&&◌, ◌%◌, if◌then◌else◌, min, Ok}
-use Rattle.std.specs.List.{list_all}
+use Rattle.std.proofs.Common.{◌≡◌, ℕ, zero, suc, ◌-◌, ◌≤◌, Bool, true, false, List, [], ◌∷◌, ◌++◌, length, get_or, take, drop, replicate, Option, Some, None, refl, sym, ap, subst, ◌∙◌, arith}
+use Rattle.std.specs.Prelude.{◌&&◌, ◌%◌, ◌==◌, if◌then◌else◌, min, Ok}
+use Rattle.std.specs.List.{list_all, list_any}
 use Rattle.std.specs.Option.{is_none}
 use Rattle.std.proofs.Math.Seq.{drop-append_seam, take-append_seam}
 use Rattle.std.proofs.lemmas.Bool.{true≢false}
@@ -175,8 +175,8 @@ same_label x y head container height = (λ i. record {
 })
 
 -- what holds of a volume's numbers and name holds of one with its head, its map and its ledger
-pub same_labelled : (slot : ℕ) (x y : VolumeState) → head_in y ≡ head_in x → y.slot ≡ x.slot → y.map ≡ x.map → y.ledger ≡ x.ledger → IsLabelled slot x → IsLabelled slot y
-same_labelled slot x y head at map ledger is =
+pub same_labelled : (slot : ℕ) (x y : VolumeState) → head_in y ≡ head_in x → y.slot ≡ x.slot → y.map ≡ x.map → y.ledger ≡ x.ledger → y.fresh ≡ x.fresh → IsLabelled slot x → IsLabelled slot y
+same_labelled slot x y head at map ledger fresh is =
     let span : y.span ≡ x.span = ap (λ (h : Head). h.span) head in
     record {
       slot_is = at ∙ is.slot_is;
@@ -184,6 +184,7 @@ same_labelled slot x y head at map ledger is =
       span = subst (λ (n : ℕ). n ≤ greatest_span) (sym span) is.span;
       map = ap (λ (m : MapSlots). m.span) map ∙ is.map ∙ sym span;
       one = subst IsOneMap (sym map) is.one;
+      waits = λ k on. subst (λ (h : Head). list_any (λ p. p.slot == k) h.snapshots ≡ true) (sym head) (is.waits k (sym (ap (λ (f : List Bool). get_or f k false) fresh) ∙ on));
       counts = ap (λ (l : Ledger). l.span) ledger ∙ is.counts ∙ sym span;
       levels = subst (λ (h : Head). h.active.levels ≤ 2) (sym head) is.levels;
       named = ap (λ (h : Head). is_name h.name) head ∙ is.named;

@@ -28,6 +28,7 @@ pub mod LoadedTables
 pub mod LoadedStored
 mod Counting
 pub mod Drawing
+pub mod StayingMaps
 mod Gone
 mod MapBlocks
 pub mod SlotBlocks

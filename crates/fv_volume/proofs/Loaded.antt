@@ -1,6 +1,6 @@
 -- What is loaded from a label, as a volume.
 use Rattle.std.proofs.Common.{◌≡◌, ℕ, Bool, nat_eq, map, subst, true, false, List, [], ◌∷◌, Some, None, refl, sym, ap, ◌∙◌, arith}
-use Rattle.std.specs.Prelude.{not, ◌==◌, ◌+◌, ◌-◌, ◌&&◌, find, take, if◌then◌else◌}
+use Rattle.std.specs.Prelude.{not, ◌==◌, ◌+◌, ◌-◌, ◌&&◌, find, take, replicate, if◌then◌else◌}
 use Rattle.std.specs.Option.{is_none, option_map}
 use Rattle.fv_model.specs.declared.commands.Kind.{Kind}
 use Rattle.fv_model.specs.Spelling.{is_name}
@@ -8,7 +8,9 @@ use Rattle.fv_image.specs.Told.{has_none}
 use Rattle.fv_codec.proofs.Numbers.{up_to-le}
 use Rattle.fv_volume.specs.declared.state.Snap.{Snap as StateSnap}
 use Rattle.fv_volume.specs.declared.state.VolumeState.{VolumeState}
+use Rattle.fv_volmap.specs.Slots.{stored_count}
 use Rattle.fv_volume.specs.Files.{IsLabelled, has_form, IsOneMap}
+use Rattle.fv_volume.proofs.StayingMaps.{no_waits}
 use Rattle.fv_volume.specs.States.{head_in, snap_in}
 use Rattle.std.proofs.lemmas.Bool.Decides.{nat_tests}
 use Rattle.fv_codec.specs.declared.label.Label.{Label}
@@ -119,9 +121,9 @@ sayable l range y head named =
     }
 
 -- a volume with the head of such a label has its numbers and its name
-pub labelled_from : (l : Label) → IsLabel l → form_in l ≡ None → (y : VolumeState) (slot : ℕ) → y.slot ≡ slot → head_in y ≡ head_of l → y.ledger.span ≡ l.span → is_name y.name ≡ true → y.map.span ≡ y.span → IsOneMap y.map → IsLabelled slot y
+pub labelled_from : (l : Label) → IsLabel l → form_in l ≡ None → (y : VolumeState) (slot : ℕ) → y.slot ≡ slot → head_in y ≡ head_of l → y.ledger.span ≡ l.span → is_name y.name ≡ true → y.map.span ≡ y.span → IsOneMap y.map → y.fresh ≡ replicate stored_count false → IsLabelled slot y
 unfolding head_of
-labelled_from l range none y slot at head ledger named map one =
+labelled_from l range none y slot at head ledger named map one settled =
     let same : y.span ≡ l.span = ap (λ h. h.span) head in
     let levels : y.active.levels ≡ l.levels = ap (λ h. h.active.levels) head in
     record {
@@ -130,6 +132,7 @@ labelled_from l range none y slot at head ledger named map one =
       span = omega (arith, same, range.span_greatest);
       map = map;
       one = one;
+      waits = no_waits y settled;
       counts = ledger ∙ sym same;
       levels = omega (arith, levels, range.levels);
       named = named;

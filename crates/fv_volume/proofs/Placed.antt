@@ -72,6 +72,7 @@ module _ (x : VolumeState) (active : Rooted) (few : active.levels ≤ 2) (fits :
     span = is.span;
     map = span ∙ is.map;
     one = λ k other. slots k other ∙ is.one k other;
+    waits = is.waits;
     counts = is.counts;
     levels = few;
     named = is.named;

@@ -196,6 +196,7 @@ module _ (x : VolumeState) (size : ℕ) (kind : Kind) where
     span = is.span;
     map = is.map;
     one = is.one;
+    waits = is.waits;
     counts = is.counts;
     levels = is.levels;
     named = is.named;

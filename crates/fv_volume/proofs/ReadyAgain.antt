@@ -53,6 +53,7 @@ module _ (x : VolumeState) (now : ℕ) (few : now ≤ most_changes) where
     span = is.span;
     map = span ∙ is.map;
     one = λ k other. slots k other ∙ is.one k other;
+    waits = is.waits;
     counts = counts ∙ is.counts;
     levels = is.levels;
     named = is.named;

@@ -1,9 +1,8 @@
 -- A volume that was written: what went is given back, and what is new was free.
 use Rattle.std.proofs.Common.{◌≡◌, ◌≢◌, ℕ, zero, suc, ◌+◌, ◌-◌, ◌<◌, ◌≤◌, List, length, Bool, true, false, not, ◌&&◌, ◌||◌, refl, sym, ap, ap₂, subst, ◌∙◌, arith, ⊎_elim, inl, inr, ◌⊎◌}
-use Rattle.std.specs.Prelude.{None, nat_lt}
+use Rattle.std.specs.Prelude.{None}
 use Rattle.std.specs.List.{list_any, range_with_len}
 use Rattle.std.proofs.lemmas.Bool.{and_parts, and_from, cases_eq, cases_lt, not-true, or_cases, or_left, or_right, true≢false}
-use Rattle.std.proofs.lemmas.Bool.Decides.{nat_tests}
 use Rattle.fv_bits.specs.Members.{is_member}
 use Rattle.fv_disk.specs.Shown.{Image}
 use Rattle.fv_model.specs.Machines.{first_block}
@@ -17,6 +16,7 @@ use Rattle.fv_volume.specs.declared.state.VolumeState.{VolumeState}
 use Rattle.fv_volume.specs.Writing.{AreTaken, HasDrawn, HasGiven, HasLabel, HasOwnBlocks, IsTaken, IsTakenOther, IsWritten, has_maps_at, leads_away, on_disk}
 use Rattle.fv_volume.specs.Stored.{leads, place_at, place_in, stays}
 use Rattle.fv_volume.proofs.SlotBlocks.{any_in_range, range_has}
+use Rattle.fv_volume.proofs.StayingMaps.{stays_out}
 use Rattle.fv_volume.proofs.Drawing.{LeadsAt, at_itself, at_means, free_before, leads_at, leads_where, maps_at, maps_where, not_so, or_neither}
 
 -- a block that is free in a space is free where the next root holds no other than the one on the disk
@@ -153,9 +153,6 @@ away_place x map n b is =
     let one = any_in_range (λ v. not (stays x v) && is_at b (place_at map v)) 0 n is in
     (at_means b (place_at map one.0) (and_parts (not (stays x one.0)) (is_at b (place_at map one.0)) one.3).1).1
 
-pub low_of : (x : VolumeState) (v : ℕ) → stays x v ≡ true → v < x.span
-low_of x v on = let low = (and_parts (nat_lt v x.span) _ on).0 in grind (arith, nat_tests, low)
-
 module _ (x : VolumeState) (old new : Mapped) (blocks : ℕ) (few : blocks ≤ map_blocks x.span)
     (kept : (v : ℕ) → stays x v ≡ true → entry_under new v ≡ entry_under old v) (holes : (v : ℕ) → stays x v ≡ false → (v < x.span) ⊎ (x.span + blocks ≤ v) → entry_under new v ≡ None) where
   -- The new entries are those that stay and those of the active map's blocks.
@@ -195,7 +192,7 @@ module _ (x : VolumeState) (before after : Image) (space given_back drawn stored
     (others : (b : ℕ) → IsTakenOther drawn label b → after b ≡ before b)
   where
     kept_now : (v : ℕ) → stays x v ≡ true → entry_under new v ≡ entry_under old v
-    kept_now v on = has.blocks.map.others v (inl (low_of x v on)) ∙ kept v on
+    kept_now v on = has.blocks.map.others v (stays_out x v on) ∙ kept v on
 
     holes_now : (v : ℕ) → stays x v ≡ false → (v < x.span) ⊎ (x.span + map_blocks x.span ≤ v) → entry_under new v ≡ None
     holes_now v off out = has.blocks.map.others v out ∙ holes v off

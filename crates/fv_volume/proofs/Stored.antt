@@ -18,8 +18,9 @@ use Rattle.fv_volume.specs.declared.state.VolumeState.{VolumeState}
 use Rattle.fv_volume.specs.Writing.{HasOwnBlocks, IsTaken, IsWritten, leads_away}
 use Rattle.fv_volume.specs.Stored.{IsStored, is_of, leads, place_at, place_in, stays}
 use Rattle.fv_volume.proofs.Drawing.{LeadsAt, at_itself, at_means, leads_at, leads_where, not_so, or_neither}
-use Rattle.fv_volume.proofs.Renewing.{away_place, away_where, low_of}
+use Rattle.fv_volume.proofs.Renewing.{away_place, away_where}
 use Rattle.fv_volume.proofs.Spelling.{flushed_still}
+use Rattle.fv_volume.proofs.StayingMaps.{stays_within}
 
 -- which entry of a written volume leads to a block: one that stayed, or one of the active map's
 data Led (x : VolumeState) (old new : Mapped) (v : ℕ) : Type 0 where
@@ -46,8 +47,8 @@ module _ (x : VolumeState) (old : Mapped) (before : Image) (space : Space) (labe
   -- a block that stays isn't free once the others were given back
   pub stay_taken : (v : ℕ) → stays x v ≡ true → place_at old v ≢ 0 → IsTaken is.given (place_at old v)
   stay_taken v on some free =
-      let low = low_of x v on in
-      let led : leads old (entry_count x.span) (place_at old v) ≡ true = leads_at old (entry_count x.span) v (place_at old v) (omega (arith, low)) refl some in
+      let low = stays_within x v on in
+      let led : leads old (entry_count x.span) (place_at old v) ≡ true = leads_at old (entry_count x.span) v (place_at old v) low refl some in
       let held : is_member space.next (place_at old v) ≡ true = own.held (place_at old v) (or_right (is_at (place_at old v) x.label) _ (or_right (names old.tree (place_at old v)) _ led)) in
       let none = or_neither (is_member is.given.committed (place_at old v)) (is_member is.given.next (place_at old v)) free.free in
       let gone : leads_away x old (entry_count x.span) (place_at old v) ≡ true = by (is_member space.next (place_at old v)) (leads_away x old (entry_count x.span) (place_at old v)) held (sym (is.gave.held (place_at old v)) ∙ none.1) in
@@ -59,12 +60,12 @@ module _ (x : VolumeState) (old : Mapped) (before : Image) (space : Space) (labe
       by true false e f = sym f
       by false a e f = absurd (true≢false (sym e))
 
-      two : ((w : ℕ) × (w < entry_count x.span) × (stays x w ≡ false) × (place_at old w ≡ place_at old v)) → v < x.span → ⊥
+      two : ((w : ℕ) × (w < entry_count x.span) × (stays x w ≡ false) × (place_at old w ≡ place_at old v)) → v < entry_count x.span → ⊥
       two w low = ⊎_elim
           (λ (same : v ≡ w.0). true≢false (sym on ∙ ap (stays x) same ∙ w.2))
           (λ (other : v ≢ w.0). ⊎_elim
           (λ (less : v < w.0). own.entries v w.0 less w.1 some (sym w.3))
-          (λ (more : w.0 ≤ v). own.entries w.0 v (omega (arith, more, other)) (omega (arith, low)) (λ none. some (sym w.3 ∙ none)) w.3)
+          (λ (more : w.0 ≤ v). own.entries w.0 v (omega (arith, more, other)) low (λ none. some (sym w.3 ∙ none)) w.3)
           (cases_lt v w.0))
           (cases_eq v w.0)
 

@@ -42,6 +42,7 @@ use Rattle.fv_volume.proofs.SlotBlocks.{HasKinds, entry_kinds, entry_leads, held
 use Rattle.fv_image.proofs.LoneTables.{form_snapshots}
 use Rattle.fv_volume.proofs.Labels.{label_head}
 use Rattle.fv_volume.proofs.Delayed.{none_delayed}
+use Rattle.fv_volume.proofs.StayingMaps.{stays_alone}
 
 -- past the blocks of the active map no bit of it is set
 pub clear_past : (t : Taken) (i : Image) (s span v : ℕ) → block_bits * map_blocks span ≤ v → volume_bit (view_at t i) s span 0 v ≡ false
@@ -132,8 +133,8 @@ module _ (found : Found) (i : Image) (s : ℕ) (x : VolumeState) (old : Mapped) 
 
       gone : (v : ℕ) → is_kept_vvbn (active_of x.map) x.span v ≡ false → entry_under new v ≡ None
       gone v off = ⊎_elim
-          (λ (low : v < x.span). is.holes v (and_right (nat_lt v x.span) _ (sym (chosen v true (lower v x.span low)) ∙ off)) (inl low))
-          (λ (past : x.span ≤ v). is.holes v (and_left (nat_lt v x.span) _ (not_lower v x.span past)) (inr (at_least v (x.span + map_blocks x.span) (sym (chosen v false (not_lower v x.span past)) ∙ off))))
+          (λ (low : v < x.span). is.holes v (stays_alone x state.one v ∙ and_right (nat_lt v x.span) _ (sym (chosen v true (lower v x.span low)) ∙ off)) (inl low))
+          (λ (past : x.span ≤ v). is.holes v (stays_alone x state.one v ∙ and_left (nat_lt v x.span) _ (not_lower v x.span past)) (inr (at_least v (x.span + map_blocks x.span) (sym (chosen v false (not_lower v x.span past)) ∙ off))))
           (cases_lt v x.span)
 
       so : (v : ℕ) (t : Bool) → is_kept_vvbn (active_of x.map) x.span v ≡ t → is_delayed_entry (active_of x.map) new x.span v ≡ false

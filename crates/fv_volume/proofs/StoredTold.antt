@@ -57,6 +57,7 @@ use Rattle.fv_volume.proofs.Delaying.{loaded_undelayed}
 use Rattle.fv_volume.proofs.Distinct.{same_names}
 use Rattle.fv_volume.proofs.Labels.{label_head}
 use Rattle.fv_volume.proofs.Settled.{is_settled, same_head, settled_back}
+use Rattle.fv_volume.proofs.StayingMaps.{active_stays}
 use Rattle.fv_volume.proofs.Told.{is_inside}
 use Rattle.fv_volume.proofs.Viewed.{entry_of}
 
@@ -96,7 +97,7 @@ module _ (pool : Pool) (states : States) (before : Image) (housed : AreHoused po
       let active = alone_listed (items (standing_of w s (table_in x.active))) v
       (subst (λ (ps : List Snap). is_listed (items_of w s ((0, table_in x.active) ∷ map (λ p. (p.slot, p.table)) ps)) v ≡ true) (form_snapshots (head_in x) (labelled s x there).form) listed) in
       let low = reached_below w s (head_in x) v tables.ranges inside (head_there s x there) active in
-      and_from (nat_lt v x.span) _ (grind (arith, nat_tests, low)) (reaches s x inside there v ∙ active)
+      active_stays x v low (reaches s x inside there v ∙ active)
 
   -- no volume stands on another
   no_footing : (s : ℕ) (h : Head) (b : Footing) → w.head s ≡ Some h → h.base ≡ Some b → ⊥

@@ -1,5 +1,6 @@
 -- When volumes are volumes of the machine that they stand for.
-use Rattle.std.specs.Prelude.{◌≡◌, ◌≢◌, ◌≤◌, ℕ, true, None, IfSome}
+use Rattle.std.specs.Prelude.{◌≡◌, ◌≢◌, ◌≤◌, ◌==◌, ℕ, true, false, None, IfSome, get_or}
+use Rattle.std.specs.List.{list_any}
 use Rattle.fv_disk.specs.Shown.{Image}
 use Rattle.fv_codec.specs.Blocks.{IsLabel, last_place}
 use Rattle.fv_model.specs.Numbers.{greatest_span}
@@ -22,13 +23,15 @@ pub use Rattle.fv_image.specs.WholeMachine.{has_form}
 abbrev pub IsOneMap : Maps → Type 0
 IsOneMap maps = (k : ℕ) → k ≢ 0 → slot_at maps k ≡ None
 
--- What a volume's label and its commit rest on, whatever its table holds: its numbers, its name, and that it has one map. It looks at no image.
+-- What a volume's label and its commit rest on, whatever its table holds: its numbers, its name, that it has one map, and that no map waits but
+-- a snapshot's. It looks at no image.
 pub record IsLabelled (slot : ℕ) (x : VolumeState) : Type 0 where
   pub slot_is : x.slot ≡ slot
   pub form : has_form (head_in x) ≡ true
   pub span : x.span ≤ greatest_span
   pub map : x.map.span ≡ x.span
   pub one : IsOneMap x.map
+  pub waits : (k : ℕ) → get_or x.fresh k false ≡ true → list_any (λ p. p.slot == k) (head_in x).snapshots ≡ true
   pub counts : x.ledger.span ≡ x.span
   pub levels : x.active.levels ≤ 2
   pub named : is_name x.name ≡ true

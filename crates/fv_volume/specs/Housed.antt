@@ -1,12 +1,12 @@
 -- Volumes in memory that are in order, whatever the disk tells, and what they are once a consistency point wrote those that changed.
-use Rattle.std.specs.Prelude.{◌≡◌, ◌<◌, ◌≤◌, ℕ, false, List, Option, IfSome, length, get_or, cond}
+use Rattle.std.specs.Prelude.{◌≡◌, ◌<◌, ◌≤◌, ℕ, false, List, Option, IfSome, length, get_or, cond, replicate}
 use Rattle.std.specs.Option.{option_map}
 use Rattle.fv_bits.specs.Members.{is_member}
 use Rattle.fv_tables.specs.Reached.{items, is_listed}
 use Rattle.fv_image.specs.Views.{View}
 use Rattle.fv_image.specs.Volumes.{standing_of}
 use Rattle.fv_container.specs.Chains.{Slots, slot_count, container_at, parent_at}
-use Rattle.fv_volmap.specs.Slots.{active_of}
+use Rattle.fv_volmap.specs.Slots.{active_of, stored_count}
 use Rattle.fv_volume.specs.declared.state.VolumeState.{VolumeState}
 use Rattle.fv_volume.specs.Files.{IsLabelled}
 use Rattle.fv_volume.specs.Loading.{Houses}
@@ -24,9 +24,9 @@ pub record AreHoused (containers : Slots) (states : States) : Type 0 where
 abbrev pub HaveReach : View → States → Type 0
 HaveReach w states = (s : ℕ) → s < slot_count → IfSome (state_at states s) (λ x. (v : ℕ) → is_member (active_of x.map) v ≡ is_listed (items (standing_of w s (table_in x.active))) v)
 
--- a volume after it was written, with its label at this place
+-- a volume after it was written, with its label at this place: no map waits
 abbrev pub as_written : VolumeState → ℕ → VolumeState
-as_written x label = record x { label = label; changed = false }
+as_written x label = record x { label = label; changed = false; fresh = replicate stored_count false }
 
 -- a volume after the point that writes it, if it changed
 abbrev pub settled_as : ℕ → VolumeState → VolumeState

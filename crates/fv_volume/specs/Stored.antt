@@ -1,5 +1,5 @@
 -- The stored form of a volume: the blocks that it has, and how it stands in an image.
-use Rattle.std.specs.Prelude.{◌≡◌, ◌≢◌, ◌≤◌, ◌<◌, ◌+◌, ◌⊎◌, ℕ, Bool, ◌||◌, ◌&&◌, true, false, List, Option, Some, None, Ok, IfSome, length, nat_lt}
+use Rattle.std.specs.Prelude.{◌≡◌, ◌≢◌, ◌≤◌, ◌<◌, ◌+◌, ◌-◌, ◌/◌, ◌⊎◌, ◌==◌, ℕ, Bool, not, ◌||◌, ◌&&◌, true, false, List, Option, Some, None, Ok, IfSome, length, nat_lt, get_or, is_some, replicate, take, if◌then◌else◌}
 use Rattle.std.specs.List.{list_any, range_with_len}
 use Rattle.fv_disk.specs.Shown.{Image}
 use Rattle.fv_codec.specs.Blocks.{label_at, last_place}
@@ -12,7 +12,7 @@ use Rattle.fv_container.specs.Mapped.{Mapped, entry_under}
 use Rattle.fv_container.specs.Spelled.{names, is_at}
 use Rattle.fv_container.specs.Flushed.{IsFlushed}
 use Rattle.fv_container.specs.declared.entry.Entry.{Entry}
-use Rattle.fv_volmap.specs.Slots.{active_of}
+use Rattle.fv_volmap.specs.Slots.{active_of, slot_at, stored_count, taken_in}
 use Rattle.fv_volume.specs.declared.state.VolumeState.{VolumeState}
 use Rattle.fv_volume.specs.Labels.{label_said}
 
@@ -29,9 +29,22 @@ place_at map v = place_in (entry_under map v)
 unfoldable pub leads : Mapped → ℕ → ℕ → Bool
 leads map entries b = list_any (λ v. is_at b (place_in (entry_under map v))) (range_with_len 0 entries)
 
--- whether the block under a VVBN stays where the volume is written: one of the span that its active map has
+-- whether a consistency point writes the map of a slot: that of the active table, and one that was kept since the last point
+abbrev pub is_rewritten : VolumeState → ℕ → Bool
+is_rewritten x k = (k == 0) || get_or x.fresh k false
+
+-- whether the map of a slot stands on the disk, and a consistency point leaves it there
+abbrev pub has_stored_map : VolumeState → ℕ → Bool
+has_stored_map x k = nat_lt k stored_count && (is_some (slot_at x.map k) && not (is_rewritten x k))
+
+-- the slot that has the map block under a VVBN; behind the span lie the blocks of the maps, slot by slot
+abbrev pub map_slot : ℕ → ℕ → ℕ
+map_slot span v = (v - span) / map_blocks span
+
+-- whether the block under a VVBN stays where the volume is written: of the span one that some map has, and behind it one of a map that
+-- isn't written
 abbrev pub stays : VolumeState → ℕ → Bool
-stays x v = nat_lt v x.span && is_member (active_of x.map) v
+stays x v = if nat_lt v x.span then taken_in (take stored_count x.map.slots) v else has_stored_map x (map_slot x.span v)
 
 -- whether a block is the volume's by its label's place and its container: the label, a node, or what an entry leads to
 abbrev pub is_of : VolumeState → ℕ → Mapped → ℕ → Bool
@@ -73,4 +86,4 @@ pub record IsStored (x : VolumeState) (old : Mapped) (label : ℕ) (new : Mapped
   pub holes : (v : ℕ) → stays x v ≡ false → (v < x.span) ⊎ (x.span + map_blocks x.span ≤ v) → entry_under new v ≡ None
   pub bits : (k : ℕ) → k < map_blocks x.span → IsBlockOf (active_of x.map) k (i (place_at new (x.span + k)))
   pub alone : names new.tree label ≡ false
-  pub apart : AreApartIn (record x { label = label; changed = false }) new
+  pub apart : AreApartIn (record x { label = label; changed = false; fresh = replicate stored_count false }) new

@@ -1,15 +1,16 @@
 //! One volume, as it is kept in memory.
 
-ghost use Rattle.std.specs.Prelude.{◌≡◌, ◌≤◌, ◌*◌, ◌∷◌, [], Bool, false, true, None, IfOk};
+ghost use Rattle.std.specs.Prelude.{◌≡◌, ◌≤◌, ◌<◌, ◌*◌, ◌∷◌, [], Bool, false, true, None, IfOk, replicate};
 ghost use Rattle.fv_model.specs.Numbers.{greatest_span};
 ghost use Rattle.fv_codec.specs.Blocks.{IsLabel};
 ghost use Rattle.fv_image.specs.Views.{head_of};
 ghost use Rattle.fv_model.specs.Spelling.{is_name};
-ghost use Rattle.fv_volmap.specs.Slots.{empty_volume};
+ghost use Rattle.fv_volmap.specs.Slots.{empty_volume, stored_count};
 ghost use Rattle.fv_volume.specs.Labels.{label_said};
 ghost use Rattle.fv_volume.specs.Files.{has_form};
 ghost use Rattle.fv_volume.specs.Loading.{IsCounted, form_in};
 ghost use Rattle.fv_volume.specs.States.{empty_head, head_in, ledger_of_empty, IsLaid};
+ghost use Rattle.fv_volume.specs.Stored.{is_rewritten};
 
 use crate::label::{FREE, HOLE, kind_number, kind_of, name_field, name_of};
 use fv_charge::Ledger;
@@ -122,6 +123,8 @@ pub struct VolumeState {
     pub(crate) label: u32,
     /// Whether the next consistency point has something to write.
     pub(crate) changed: bool,
+    /// Whether the map of each slot waits to be written: a snapshot's that was kept since the last consistency point.
+    pub(crate) fresh: [bool; 25],
 }
 
 impl VolumeState {
@@ -144,6 +147,7 @@ impl VolumeState {
         ensures base { IfOk result (λ state. state.base ≡ None) }
         ensures files { IfOk result (λ state. state.files ≡ None) }
         ensures numbers { IfOk result (λ state. state.numbers ≡ None) }
+        ensures fresh { IfOk result (λ state. state.fresh ≡ replicate stored_count false) }
         ensures named { is_name name.now ≡ true }
     {
         // What the bytes are known to be is what a label needs of them.
@@ -169,6 +173,7 @@ impl VolumeState {
             numbers: None,
             label: 0,
             changed: true,
+            fresh: [false; 25],
         })
     }
 
@@ -191,6 +196,7 @@ impl VolumeState {
         ensures base { result.base ≡ None }
         ensures files { result.files ≡ None }
         ensures numbers { result.numbers ≡ None }
+        ensures fresh { result.fresh ≡ replicate stored_count false }
         ensures named { is_name result.name ≡ true }
         ensures counted { IsCounted result }
         ensures ledger { result.ledger.span ≡ label.entry.now.span }
@@ -218,6 +224,7 @@ impl VolumeState {
             numbers: None,
             label: place,
             changed,
+            fresh: [false; 25],
         }
     }
 
@@ -234,6 +241,15 @@ impl VolumeState {
         ensures { result ≡ self.entry.now.changed }
     {
         self.changed
+    }
+
+    /// Whether the next consistency point writes the map of a slot: that of the active table, and one that was kept since the last
+    /// point.
+    pub(crate) fn is_rewritten(&self, slot: u8) -> bool
+        requires { slot < stored_count }
+        ensures { result ≡ is_rewritten self.entry.now slot }
+    {
+        slot == 0 || self.fresh[slot as usize]
     }
 
     /// The label that says this volume, with the place of its container's root, 0 where that is all holes, and
@@ -274,10 +290,11 @@ impl VolumeState {
         ensures slot { self.new.slot ≡ self.old.slot }
         ensures label { self.new.label ≡ label }
         ensures changed { self.new.changed ≡ false }
-        ensures others { self.new ≡ record self.old { label = label; changed = false } }
+        ensures others { self.new ≡ record self.old { label = label; changed = false; fresh = replicate stored_count false } }
     {
         self.label = label;
         self.changed = false;
+        self.fresh = [false; 25];
     }
 }
 

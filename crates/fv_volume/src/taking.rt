@@ -12,15 +12,13 @@ ghost use Rattle.fv_aggmap.specs.Space.{IsFree, blocks_of, free_blocks};
 ghost use Rattle.fv_container.specs.Spelled.{is_at};
 ghost use Rattle.fv_volume.specs.Writing.{HasDrawn, HasEntries, HasMap, IsOther, IsTaken, StandBits, has_maps_at};
 
+use crate::sizes::map_blocks;
 use crate::state::VolumeState;
 use fv_aggmap::AggMap;
 use fv_bits::BitMap;
 use fv_container::{Container, Entry};
 use fv_disk::{Disk, Failed, ZERO};
 use fv_store::Store;
-
-/// How many bits of a map a block has.
-const BLOCK_BITS: u32 = 32768;
 
 /// The kind of a block of the active map.
 const ACTIVE_MAP: u8 = 8;
@@ -36,13 +34,6 @@ pub(crate) fn take_block(map: &mut AggMap) -> u32
     ensures size { IsSize (blocks_of map.old) }
 {
     map.take_free().unwrap()
-}
-
-/// How many blocks a map of a span has.
-fn map_blocks(span: u32) -> u32
-    ensures { result ≡ map_blocks span }
-{
-    span.div_ceil(BLOCK_BITS)
 }
 
 /// Writes block `index` of a map to a place.

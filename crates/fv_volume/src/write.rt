@@ -132,7 +132,7 @@ pub fn write_volume<D: Disk>(
     ensures count { OnOk result (free_blocks map.old ≤ free_blocks map.new + overhead state.entry.now.span) }
     ensures stands { StandsOn (D.shown disk.new) store.new.pairs }
 {
-    give_back(state, container, map, entry_count(state.span));
+    give_back(state, container, map);
     let label = take_block(map);
     write_anew(state, container, store, map, disk, label)?;
     give_back_block(map, state.label_place());

@@ -78,7 +78,7 @@ returns-clause-loaded g c = λ tells empty.
 
 pub returns-clause-filled : goal.returns-clause-filled
 returns-clause-filled g c = record {
-  state = labelled_from c.in_ok-label.label c.in_ok-label.ensures.range c.in_ok-label.ensures.form c.of_label.result c.args.slot c.of_label.ensures.laid.slot c.of_label.ensures.head c.of_label.ensures.ledger c.of_label.ensures.named (ap (λ (x : Volume). x.span) c.of_label.ensures.laid.map ∙ c.in_ok-map.ensures.map ∙ sym c.of_label.ensures.span) (subst IsOneMap (sym c.of_label.ensures.laid.map) c.in_ok-map.ensures.one);
+  state = labelled_from c.in_ok-label.label c.in_ok-label.ensures.range c.in_ok-label.ensures.form c.of_label.result c.args.slot c.of_label.ensures.laid.slot c.of_label.ensures.head c.of_label.ensures.ledger c.of_label.ensures.named (ap (λ (x : Volume). x.span) c.of_label.ensures.laid.map ∙ c.in_ok-map.ensures.map ∙ sym c.of_label.ensures.span) (subst IsOneMap (sym c.of_label.ensures.laid.map) c.in_ok-map.ensures.one) c.of_label.ensures.fresh;
   counted = c.of_label.ensures.counted;
   housed = has_container c.in_ok-label.label c.of_label.result c.in_ok-container.container _ c.of_label.ensures.head c.in_ok-container.ensures.size c.put.ensures.there;
   parent = search rules;
