@@ -8,7 +8,7 @@ use Rattle.fv_volume.proofs.Sparing.{failed_value, spares_fewer}
 use Rattle.fv_volume.proofs.write.write_volume.Goals as goal
 
 pub take_block-label-requires : goal.take_block-label-requires
-take_block-label-requires g c = room_for_label c.args.state.now.span _ (omega (arith, c.requires.room, c.give_back.ensures.given.count))
+take_block-label-requires g c = room_for_label c.args.state.now _ (omega (arith, c.requires.room, c.give_back.ensures.given.count))
 
 pub returns-in_err-write_anew-clause-spares : goal.returns-in_err-write_anew-clause-spares
 returns-in_err-write_anew-clause-spares g c =
