@@ -45,6 +45,8 @@ use Rattle.fv_volume.specs.declared.state.VolumeState.{VolumeState}
 use Rattle.fv_volume.specs.Creating.{Admits}
 use Rattle.fv_volume.specs.Loading.{IsLoaded}
 use Rattle.fv_volume.specs.Slots.{committed_by, is_named, sum_of}
+use Rattle.fv_volume.specs.Files.{IsLabelled}
+use Rattle.fv_volume.specs.Held.{IsHeldIn}
 use Rattle.fv_volume.specs.States.{States, state_at, view_over}
 use Rattle.fv_volume.proofs.FreeNumbers.{has_numbers}
 use Rattle.fv_volume.proofs.StillLoaded.{none_loaded}
@@ -60,6 +62,10 @@ use Rattle.fv_aggregate.proofs.Sums.{asked_within, none_pending, one_pending, ov
 
 -- ---- before a point
 
+held_labelled : (disk : Shown) (pool : Pool) (s : ℕ) (o : Option VolumeState) → IfSome o (IsHeldIn disk pool s) → IfSome o (IsLabelled s)
+held_labelled disk pool s None is = tt
+held_labelled disk pool s (Some x) is = subst (λ (n : ℕ). IsLabelled n x) is.slot is.ready.labelled
+
 -- a session that stands for a machine has the numbers and the blocks that a point asks for
 pub has_full_room : (disk : Shown) (session : Session) (last m : Machine) → StandsFor disk session last m → HaveFullRoom session.pool session.volumes
 has_full_room disk session last m stands =
@@ -67,7 +73,7 @@ has_full_room disk session last m stands =
     record {
       numbers = λ s. has_numbers disk session.pool s (state_at session.volumes s) (stands.held.each s) (omega (arith, one_pending session.volumes s, stands.few));
       free = omega (arith, all, stands.few, stands.room);
-      blocks = omega (arith, all, asked_within session.volumes, stands.pending, stands.room);
+      blocks = omega (arith, all, asked_within session.volumes (λ s. held_labelled disk session.pool s (state_at session.volumes s) (stands.held.each s)), stands.pending, stands.room);
     }
 
 -- what the session stands for, by its parts

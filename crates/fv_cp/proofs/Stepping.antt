@@ -7,7 +7,6 @@ use Rattle.std.proofs.lemmas.List.{get_or-set_same, get_or-set_other}
 use Rattle.std.proofs.lemmas.Option.{none-some}
 use Rattle.fv_disk.specs.Shown.{Image, Shown}
 use Rattle.fv_model.specs.Machines.{Machine}
-use Rattle.fv_model.specs.Space.{overhead}
 use Rattle.fv_image.specs.Views.{entry_count}
 use Rattle.fv_container.specs.Mapped.{Mapped}
 use Rattle.fv_container.specs.Spelled.{is_at, names}
@@ -19,11 +18,10 @@ use Rattle.fv_volume.specs.Housed.{as_written, AreHoused}
 use Rattle.fv_volume.specs.Keeping.{seen}
 use Rattle.fv_volume.specs.States.{States, state_at}
 use Rattle.fv_volume.specs.Stored.{IsStored, has_block, place_at, place_in}
-use Rattle.fv_volume.specs.Files.{IsLabelled}
-use Rattle.fv_volume.specs.Writing.{HasOwnBlocks, IsWritten, IsTaken, asked, on_disk}
+use Rattle.fv_volume.specs.Writing.{HasOwnBlocks, IsWritten, IsTaken, on_disk}
 use Rattle.fv_volume.proofs.Drawing.{leads_at}
 use Rattle.fv_volume.proofs.Spacing.{LeavesSpaced, written_leaves}
-use Rattle.fv_volume.proofs.StayingMaps.{asked_alone, stays_within}
+use Rattle.fv_volume.proofs.StayingMaps.{stays_within}
 use Rattle.fv_volume.proofs.Stored.{stored, stored_still}
 use Rattle.fv_volume.proofs.Waiting.{waits_first, waits_on}
 use Rattle.fv_cp.specs.Lent.{IsLent, IsLentSlot, asked_by, blocks_asked}
@@ -189,11 +187,6 @@ module _ (disk : Shown) (pool : Pool) (states : States) (before : Machine) (lent
 -- ---- as the code goes it
 
 -- ---- what is asked for
-
--- a volume that changed asks for what its writing asks for
-pub asked_written : (o : Option VolumeState) (x : VolumeState) (s : ℕ) → o ≡ Some x → x.changed ≡ true → IfSome o (IsLabelled s) → asked_by o ≡ asked x
-asked_written o x s there changed is =
-    ap asked_by there ∙ ap (λ (t : Bool). cond t (overhead x.span) 0) changed ∙ sym (asked_alone s x (subst (λ (o : Option VolumeState). IfSome o (IsLabelled s)) there is))
 
 pub asked_on : (states : States) (s : ℕ) → s < length states → asked_from s states ≡ asked_by (state_at states s) + asked_from (s + 1) states
 asked_on states s lt = ap (λ (xs : States). sum_by asked_by xs) (drop-cons states s None lt) ∙ sum_by-cons asked_by (get_or states s None) (drop (suc s) states) ∙ ap (λ (n : ℕ). asked_by (state_at states s) + sum_by asked_by (drop n states)) next

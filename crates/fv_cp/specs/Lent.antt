@@ -3,7 +3,6 @@ use Rattle.std.specs.Prelude.{◌≡◌, ◌<◌, ℕ, true, Option, Some, None,
 use Rattle.std.specs.List.{sum_by}
 use Rattle.fv_disk.specs.Shown.{Shown}
 use Rattle.fv_model.specs.Machines.{Machine}
-use Rattle.fv_model.specs.Space.{overhead}
 use Rattle.fv_image.specs.Held.{layout_at, AllKeep}
 use Rattle.fv_image.specs.Seen.{seen}
 use Rattle.fv_image.specs.Soundness.{AreTables}
@@ -19,7 +18,7 @@ use Rattle.fv_volume.specs.States.{States, state_at, view_over}
 use Rattle.fv_volume.specs.Trees.{no_trees}
 use Rattle.fv_volume.specs.Files.{AreStates}
 pub use Rattle.fv_volume.specs.Loading.{Houses}
-use Rattle.fv_volume.specs.Writing.{IsTaken, on_disk}
+use Rattle.fv_volume.specs.Writing.{IsTaken, asked, on_disk}
 pub use Rattle.fv_volume.specs.Housed.{AreHoused, HaveReach}
 pub use Rattle.fv_volume.specs.Stored.{AreApartIn, AreSpacedIn, has_block}
 pub use Rattle.fv_volume.specs.UnderRoot.{IsLentAt, IsLentSlot, IsMapOf}
@@ -56,10 +55,10 @@ pub record IsLent (disk : Shown) (pool : Pool) (lent : States) (before : Machine
 
 -- ---- room
 
--- the blocks that a volume asks for where it changed: its overhead
+-- the blocks that a volume asks for where it changed: its overhead, and those of the snapshots' maps that wait
 abbrev pub asked_by : Option VolumeState → ℕ
 asked_by None = 0
-asked_by (Some x) = cond x.changed (overhead x.span) 0
+asked_by (Some x) = cond x.changed (asked x) 0
 
 -- the blocks that a consistency point asks for
 abbrev pub blocks_asked : States → ℕ

@@ -29,6 +29,7 @@ pub mod LoadedStored
 mod Counting
 pub mod Drawing
 pub mod StayingMaps
+pub mod MapCounts
 mod Gone
 mod MapBlocks
 pub mod SlotBlocks

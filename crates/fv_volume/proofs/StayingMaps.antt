@@ -8,8 +8,8 @@ use Rattle.std.proofs.lemmas.Bool.{and_from, and_parts, cases_eq, cases_lt, true
 use Rattle.std.proofs.lemmas.Bool.Decides.{nat_tests}
 use Rattle.fv_bits.specs.Members.{is_member}
 use Rattle.fv_bits.proofs.Laws.{is_member-replicate}
-use Rattle.fv_bits.proofs.Counts.{none_pass, passing, passing-add, passing-suc, passing_le, passing_same}
-use Rattle.fv_model.specs.Space.{map_blocks, overhead}
+use Rattle.fv_bits.proofs.Counts.{none_pass, passing, passing-add, passing-suc, passing_same}
+use Rattle.fv_model.specs.Space.{map_blocks}
 use Rattle.fv_image.specs.Views.{Snap, entry_count, map_vvbn}
 use Rattle.fv_image.proofs.LoneTables.{form_snapshots}
 use Rattle.fv_volmap.specs.Slots.{Slot, Volume as Maps, active_of, has, map_or_empty, slot_at, stored_count, taken_in}
@@ -17,7 +17,7 @@ use Rattle.fv_volume.specs.declared.state.VolumeState.{VolumeState}
 use Rattle.fv_volume.specs.Files.{IsLabelled, IsOneMap}
 use Rattle.fv_volume.specs.States.{head_in}
 use Rattle.fv_volume.specs.Stored.{has_stored_map, is_map_written, is_rewritten, map_index, map_slot, stays}
-use Rattle.fv_volume.specs.Writing.{asked, map_writes}
+use Rattle.fv_volume.specs.Writing.{map_writes}
 
 -- ---- maps that wait
 
@@ -244,19 +244,3 @@ unwritten_past slot x is v past = so (is_map_written x v) refl
         let inside = parts.1.0 in
         let later : 1 ≤ map_slot x.span v = le-div 1 (v - x.span) (map_blocks x.span) (omega (arith, inside, past)) (omega (arith, past)) in
         absurd (true≢false (sym parts.1.1 ∙ rewritten_first slot x is (map_slot x.span v) (omega (arith, later))))
-
--- and its blocks are all that is written
-pub writes_alone : (slot : ℕ) (x : VolumeState) → IsLabelled slot x → map_writes x (entry_count x.span) ≤ map_blocks x.span
-unfolding map_writes
-writes_alone slot x is =
-    let p : ℕ → Bool = is_map_written x in
-    let split : x.span + (map_blocks x.span + 24 * map_blocks x.span) ≡ entry_count x.span = omega arith in
-    let parts : passing p 0 (entry_count x.span) ≡ passing p 0 x.span + passing p (0 + x.span) (map_blocks x.span + 24 * map_blocks x.span) = ap (passing p 0) (sym split) ∙ passing-add p 0 x.span (map_blocks x.span + 24 * map_blocks x.span) in
-    let more : passing p (0 + x.span) (map_blocks x.span + 24 * map_blocks x.span) ≡ passing p (0 + x.span) (map_blocks x.span) + passing p ((0 + x.span) + map_blocks x.span) (24 * map_blocks x.span) = passing-add p (0 + x.span) (map_blocks x.span) (24 * map_blocks x.span) in
-    let low : passing p 0 x.span ≡ 0 = writes_none x in
-    let high : passing p ((0 + x.span) + map_blocks x.span) (24 * map_blocks x.span) ≡ 0 = none_pass p ((0 + x.span) + map_blocks x.span) (24 * map_blocks x.span) (λ v from. unwritten_past slot x is v (omega (arith, from))) in
-    omega (arith, parts, more, low, high, passing_le p (0 + x.span) (map_blocks x.span))
-
--- so the volume asks for its overhead
-pub asked_alone : (slot : ℕ) (x : VolumeState) → IsLabelled slot x → asked x ≡ overhead x.span
-asked_alone slot x is = omega (arith, writes_alone slot x is)

@@ -1,5 +1,5 @@
 -- The writing of one volume: what it does to the disk and to the map of free blocks, and the steps by which it is done.
-use Rattle.std.specs.Prelude.{◌≡◌, ◌≢◌, ◌≤◌, ◌<◌, ◌+◌, ◌-◌, ◌⊎◌, ℕ, Bool, not, ◌||◌, ◌&&◌, true, false, List, Some, None, Ok, length, count_by}
+use Rattle.std.specs.Prelude.{◌≡◌, ◌≢◌, ◌≤◌, ◌<◌, ◌+◌, ◌-◌, ◌*◌, ◌⊎◌, ◌==◌, ℕ, Bool, not, ◌||◌, ◌&&◌, true, false, List, Some, None, Ok, length, get_or, count_by}
 use Rattle.std.specs.List.{list_any, range_with_len}
 use Rattle.std.specs.FinSet as set
 use Rattle.fv_disk.specs.Shown.{Image}
@@ -15,6 +15,7 @@ use Rattle.fv_container.specs.Flushed.{IsApart, IsFlushed}
 use Rattle.fv_container.specs.Freeing.{Room}
 use Rattle.fv_root.specs.Formatted.{IsSize}
 use Rattle.fv_aggmap.specs.Space.{Space, IsFree, blocks_of, free_blocks}
+use Rattle.fv_volmap.specs.Slots.{stored_count}
 use Rattle.fv_volume.specs.declared.state.VolumeState.{VolumeState}
 use Rattle.fv_volume.specs.Labels.{label_said}
 use Rattle.fv_volume.specs.Stored.{is_map_written, is_of, leads, map_entry, map_index, map_slot, place_at, place_in, slot_map, stays}
@@ -102,9 +103,13 @@ pub record HasEntries (x : VolumeState) (map : Mapped) : Type 0 where
 unfoldable pub map_writes : VolumeState → ℕ → ℕ
 map_writes x count = count_by (is_map_written x) (range_with_len 0 count)
 
+-- how many maps are written, by which wait
+unfoldable pub map_count : List Bool → ℕ
+map_count fresh = count_by (λ k. (k == 0) || get_or fresh k false) (range_with_len 0 stored_count)
+
 -- the blocks that a volume asks for: its overhead, which counts the active map, and the other maps that are written
 abbrev pub asked : VolumeState → ℕ
-asked x = overhead x.span + (map_writes x (entry_count x.span) - map_blocks x.span)
+asked x = overhead x.span + (map_count x.fresh - 1) * map_blocks x.span
 
 -- As many blocks are free as a volume asks for beside its label.
 pub record HasRoomFor (x : VolumeState) (space : Space) : Type 0 where

@@ -1,6 +1,6 @@
 //! One volume, as it is kept in memory.
 
-ghost use Rattle.std.specs.Prelude.{◌≡◌, ◌≤◌, ◌<◌, ◌*◌, ◌∷◌, [], Bool, false, true, None, IfOk, replicate};
+ghost use Rattle.std.specs.Prelude.{◌≡◌, ◌≤◌, ◌<◌, ◌*◌, ◌-◌, ◌∷◌, [], Bool, false, true, None, IfOk, replicate};
 ghost use Rattle.fv_model.specs.Numbers.{greatest_span};
 ghost use Rattle.fv_codec.specs.Blocks.{IsLabel};
 ghost use Rattle.fv_image.specs.Views.{head_of};
@@ -11,9 +11,11 @@ ghost use Rattle.fv_volume.specs.Files.{has_form};
 ghost use Rattle.fv_volume.specs.Loading.{IsCounted, form_in};
 ghost use Rattle.fv_volume.specs.States.{empty_head, head_in, ledger_of_empty, IsLaid};
 ghost use Rattle.fv_volume.specs.Stored.{is_rewritten};
+ghost use Rattle.fv_volume.specs.Writing.{asked, map_count};
 
 use crate::label::{FREE, HOLE, kind_number, kind_of, name_field, name_of};
-use fv_charge::Ledger;
+use crate::sizes::map_blocks;
+use fv_charge::{Ledger, overhead};
 use fv_codec::{Label, Pointer};
 use fv_files::{FileNumbers, Files};
 use fv_model::{Kind, Name};
@@ -250,6 +252,31 @@ impl VolumeState {
         ensures { result ≡ is_rewritten self.entry.now slot }
     {
         slot == 0 || self.fresh[slot as usize]
+    }
+
+    /// How many maps wait to be written beside the active one.
+    fn waiting_maps(&self) -> u32
+        ensures value { result ≡ map_count self.entry.now.fresh - 1 }
+        ensures most { result ≤ 24 }
+    {
+        let mut count = 0;
+        for slot in 1..25 {
+            if self.fresh[slot] {
+                count += 1;
+            }
+        }
+        count
+    }
+
+    /// The blocks that a consistency point asks for to write the volume: its overhead, and those of the snapshots' maps that wait; of the
+    /// greatest span, 1,048,576, 4151 and 32 for each of at most 24 maps. Costs a step for each slot.
+    #[tactic(auto, using(crate::proofs::MapCounts::few_blocks))]
+    pub fn asked(&self) -> u64
+        requires { self.now.span ≤ greatest_span }
+        ensures value { result ≡ asked self.entry.now }
+        ensures most { result ≤ 4919 }
+    {
+        u64::from(overhead(self.span) + self.waiting_maps() * map_blocks(self.span))
     }
 
     /// The label that says this volume, with the place of its container's root, 0 where that is all holes, and

@@ -1,5 +1,5 @@
-use Rattle.std.proofs.Common.{refl, sym, ◌∙◌, arith}
-use Rattle.fv_cp.proofs.Stepping.{asked_written, past_written}
+use Rattle.std.proofs.Common.{refl, sym, ◌∙◌}
+use Rattle.fv_cp.proofs.Stepping.{past_written}
 use Rattle.fv_cp.proofs.point.write_slot.Goals as goal
 
 pub returns-clause-past : goal.returns-clause-past
@@ -18,11 +18,3 @@ returns-clause-past g c =
       containers = refl;
       written = wrote.written;
     })
-
-pub write_volume-requires-clause-room : goal.write_volume-requires-clause-room
-write_volume-requires-clause-room g c =
-    omega (arith, asked_written _ c.in-Some.state.now c.args.slot (sym c.in-Some.ensures) (sym c.is_changed.ensures ∙ c.if-not-is_changed.false) (c.requires.housed.volumes c.args.slot), c.requires.room)
-
-pub returns-clause-count : goal.returns-clause-count
-returns-clause-count g c =
-    omega (arith, asked_written _ c.in-Some.state.now c.args.slot (sym c.in-Some.ensures) (sym c.is_changed.ensures ∙ c.if-not-is_changed.false) (c.requires.housed.volumes c.args.slot), c.in_ok-label.ensures.count)
