@@ -1,10 +1,10 @@
 -- Which entries stay where a volume is written.
-use Rattle.std.proofs.Common.{◌≡◌, ◌≢◌, ◌⊎◌, ℕ, zero, suc, ◌+◌, ◌-◌, ◌*◌, ◌/◌, ◌%◌, ◌<◌, ◌≤◌, Bool, true, false, not, ◌&&◌, ◌||◌, List, [], ◌∷◌, ◌==◌, cond, take, replicate, get_or, if◌then◌else◌, inl, inr, refl, sym, ap, ◌∙◌, ⊎_elim, arith}
+use Rattle.std.proofs.Common.{◌≡◌, ◌≢◌, ℕ, zero, suc, ◌+◌, ◌-◌, ◌*◌, ◌/◌, ◌%◌, ◌<◌, ◌≤◌, Bool, true, false, not, ◌&&◌, ◌||◌, List, [], ◌∷◌, ◌==◌, cond, take, replicate, get_or, if◌then◌else◌, refl, sym, ap, ◌∙◌, ⊎_elim, arith}
 use Rattle.std.specs.Prelude.{Some, None, is_some, nat_le, nat_lt, slice_index_or}
 use Rattle.std.specs.List.{list_any}
-use Rattle.std.proofs.Math.Nat.{div-eq_of_lt, div-lt_iff_lt-mul, div-zero, mod-lt}
+use Rattle.std.proofs.Math.Nat.{div-lt_iff_lt-mul, div-zero, mod-lt}
 use Rattle.std.proofs.lemmas.Nat.{div-mul-add, le-div, mod-mul-add}
-use Rattle.std.proofs.lemmas.Bool.{and_from, and_parts, cases_eq, cases_lt, true≢false}
+use Rattle.std.proofs.lemmas.Bool.{and_from, and_parts, cases_eq, true≢false}
 use Rattle.std.proofs.lemmas.Bool.Decides.{nat_tests}
 use Rattle.fv_bits.specs.Members.{is_member}
 use Rattle.fv_bits.proofs.Laws.{is_member-replicate}
@@ -39,10 +39,6 @@ or_false : (b : Bool) → (b || false) ≡ b
 or_false true = refl
 or_false false = refl
 
--- the first blocks behind the span are those of the active map
-pub active_slot : (span v : ℕ) → span ≤ v → v < span + map_blocks span → map_slot span v ≡ 0
-active_slot span v past inside = div-eq_of_lt {n = v - span} {m = map_blocks span} (omega (arith, past, inside))
-
 -- the active map is always written
 pub active_moves : (x : VolumeState) → has_stored_map x 0 ≡ false
 active_moves x = and_false (is_some (slot_at x.map 0))
@@ -66,19 +62,6 @@ stays_within x v is = by (nat_lt v x.span) refl is
     by : (t : Bool) → nat_lt v x.span ≡ t → (if t then taken_in (take stored_count x.map.slots) v else has_stored_map x (map_slot x.span v)) ≡ true → v < entry_count x.span
     by true e has = let low : v < x.span = grind (arith, nat_tests, e) in omega (arith, low)
     by false e has = later has
-
--- and is no block of the active map
-pub stays_out : (x : VolumeState) (v : ℕ) → stays x v ≡ true → (v < x.span) ⊎ (x.span + map_blocks x.span ≤ v)
-stays_out x v is = by (nat_lt v x.span) refl is
-  where
-    by : (t : Bool) → nat_lt v x.span ≡ t → (if t then taken_in (take stored_count x.map.slots) v else has_stored_map x (map_slot x.span v)) ≡ true → (v < x.span) ⊎ (x.span + map_blocks x.span ≤ v)
-    by true e has = inl (grind (arith, nat_tests, e))
-    by false e has = ⊎_elim
-        (λ (inside : v < x.span + map_blocks x.span).
-        let past : x.span ≤ v = grind (arith, nat_tests, e) in
-        absurd (true≢false (sym has ∙ ap (has_stored_map x) (active_slot x.span v past inside) ∙ active_moves x)))
-        (λ (over : x.span + map_blocks x.span ≤ v). inr over)
-        (cases_lt v (x.span + map_blocks x.span))
 
 -- a number that the active map has stays
 pub active_stays : (x : VolumeState) (v : ℕ) → v < x.span → is_member (active_of x.map) v ≡ true → stays x v ≡ true
