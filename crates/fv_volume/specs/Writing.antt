@@ -103,7 +103,7 @@ pub record HasEntries (x : VolumeState) (map : Mapped) : Type 0 where
 unfoldable pub map_writes : VolumeState → ℕ → ℕ
 map_writes x count = count_by (is_map_written x) (range_with_len 0 count)
 
--- how many maps are written, by which wait
+-- how many maps are written, by which of them wait: the active one, and each that waits
 unfoldable pub map_count : List Bool → ℕ
 map_count fresh = count_by (λ k. (k == 0) || get_or fresh k false) (range_with_len 0 stored_count)
 
