@@ -19,6 +19,10 @@ slot_count = 26
 abbrev pub stored_count : ℕ
 stored_count = 25
 
+-- the slot of the base
+abbrev pub slot_of_base : ℕ
+slot_of_base = 25
+
 abbrev pub slot_at : Volume → ℕ → Slot
 slot_at volume slot = slice_index_or volume.slots slot None
 

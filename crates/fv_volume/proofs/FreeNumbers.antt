@@ -43,6 +43,7 @@ use Rattle.fv_volume.specs.BlocksOver.{free_numbers}
 use Rattle.fv_volume.specs.Files.{IsOneMap}
 use Rattle.fv_volume.specs.Held.{pending_by, HasNumbers, IsHeldIn}
 use Rattle.fv_volume.specs.Labels.{label_said}
+use Rattle.fv_volume.proofs.MapSlots.{one_labelled}
 use Rattle.fv_volume.specs.OneVolume.{shows, standing_by, standing_for, volume_for, IsStanding}
 use Rattle.fv_volume.specs.Placing.{AreLedBy, IsLedTo}
 use Rattle.fv_volume.proofs.OneVolumes.{is_alone}
@@ -197,7 +198,7 @@ unfolding free_numbers label_said
 free_enough disk pool s x held =
     let labelled = held.ready.labelled in
     let size : x.size ≤ min 500000 x.most = (labelled.label 0 1 (omega arith) (omega arith) (omega arith)).size_greatest in
-    omega (arith, size, others (taken_in x.map.slots) 0 x.map.span, taken_within disk pool x held.stands held.led labelled.one, labelled.map, held.wide, held.within)
+    omega (arith, size, others (taken_in x.map.slots) 0 x.map.span, taken_within disk pool x held.stands held.led (one_labelled x.slot x labelled), labelled.map, held.wide, held.within)
 
 -- So it has more than are pending, where fewer than 256 are.
 pub has_numbers : (disk : Disk) (pool : Pool) (s : ℕ) (o : Option VolumeState) → IfSome o (IsHeldIn disk pool s) → pending_by o < 256 → HasNumbers o

@@ -1,4 +1,6 @@
 mod Naming
+pub mod MapSlots
+mod Positions
 pub mod Labels
 pub mod Overheads
 pub mod Loaded

@@ -7,6 +7,7 @@ use Rattle.std.specs.Ordering.{nat_cmp, eq_by_cmp}
 use Rattle.std.specs.FinMap.{find}
 use Rattle.std.proofs.lemmas.Bool.{cases_eq}
 use Rattle.std.proofs.lemmas.Bool.Decides.{nat_tests}
+use Rattle.std.proofs.lemmas.List.Elements.{All-nil}
 use Rattle.std.proofs.lemmas.List.{get_or-set_same, get_or-set_other}
 use Rattle.fv_disk.specs.Shown.{Image}
 use Rattle.fv_model.specs.declared.answers.Refusal.{Refusal}
@@ -43,10 +44,11 @@ use Rattle.fv_volmap.specs.Slots.{Volume as MapSlots, empty_volume as no_numbers
 use Rattle.fv_volume.specs.declared.pool.Pool.{Pool}
 use Rattle.fv_volume.specs.declared.state.VolumeState.{VolumeState}
 use Rattle.fv_volume.specs.Creating.{Admits, IsNew, Refuses, new_ledger_of}
-use Rattle.fv_volume.specs.Labels.{hole}
+use Rattle.fv_volume.specs.SnapRecords.{hole, AreSayable, IsSayableSnap}
 use Rattle.fv_volume.proofs.Labels.{IsSayable, label_range}
 use Rattle.fv_volume.specs.Slots.{is_named, HasName, HaveSpans, HasSpan, IsFirstFree, IsFull, NoneHasName, sum_of}
-use Rattle.fv_volume.specs.Files.{AreNamed, AreStates, IsLabelled, IsState, has_form, IsOneMap}
+use Rattle.fv_volume.specs.Files.{AreNamed, AreStates, HasSlotsOf, IsLabelled, IsState, has_form}
+use Rattle.fv_volume.proofs.MapSlots.{slots_of_one}
 use Rattle.fv_volume.specs.States.{States, empty_head, head_in, ledger_of_empty, placed_in, state_at, view_over, with_state}
 use Rattle.fv_volume.specs.Trees.{Trees, active_by, active_in, machine_in}
 use Rattle.fv_volume.proofs.Told.{Named, AreDistinct, named_from, volume_by, all_named, counted, distinct_from, fewer_named, find_set, head_there, is_inside, ledger_commit, none_named, none_some, same_named, some_named, summed, summed_states, volumes_are}
@@ -217,6 +219,9 @@ module _ (pool : Pool) (states : States) (trees : Trees) (i : Image) (long : len
 form_new : (name : List ℕ) (size : ℕ) (kind : Kind) (span : ℕ) → has_form (empty_head name size kind span) ≡ true
 form_new name size kind span = refl
 
+new_sayable : (name : List ℕ) (size : ℕ) (kind : Kind) (span : ℕ) → AreSayable (empty_head name size kind span)
+new_sayable name size kind span = record { slots = record { within = refl; rising = refl }; each = All-nil IsSayableSnap }
+
 -- a label can say it
 sayable_new : (y : VolumeState) (name : List ℕ) (size : ℕ) (kind : Kind) (span : ℕ) → span ≤ greatest_span → span ≡ span_of size 0 0 → head_in y ≡ empty_head name size kind span → is_size size ≡ true → is_name name ≡ true → IsSayable y
 sayable_new y name size kind span fits is head sized named =
@@ -240,6 +245,7 @@ sayable_new y name size kind span fits is head sized named =
       now = rw now_is (omega arith);
       levels = omega (arith, levels_are);
       root = subst IsPointer (sym root_is) (record { vvbn = omega arith; pvbn = omega arith; stamp = omega arith });
+      snapshots = subst AreSayable (sym head) (new_sayable name size kind span);
     }
 
 -- a new volume in its slot
@@ -253,7 +259,8 @@ new_labelled y slot name size kind span fits is at head ledger sized named map =
       form = ap has_form head ∙ form_new name size kind span;
       span = omega (arith, span_is, fits);
       map = ap (λ (x : MapSlots). x.span) map ∙ sym span_is;
-      one = subst IsOneMap (sym map) (one_empty span);
+      snapshots = subst AreSayable (sym head) (new_sayable name size kind span);
+      slots = subst (λ (h : Head). HasSlotsOf h y.map) (sym head) (subst (HasSlotsOf (empty_head name size kind span)) (sym map) (slots_of_one (empty_head name size kind span) (no_numbers span) refl (one_empty span)));
       counts = ap (λ (l : Ledger). l.span) ledger ∙ sym span_is;
       levels = omega (arith, levels);
       named = ap is_name (ap (λ h. h.name) head) ∙ named;

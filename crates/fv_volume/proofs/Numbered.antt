@@ -30,7 +30,7 @@ module _ (d : Disk) (p : Pool) (x : VolumeState) (n : Option FileNumbers) where
 
   labelled_with : IsLabelled x.slot x → IsLabelled x.slot (record x { numbers = n })
   unfolding label_said
-  labelled_with is = record { slot_is = is.slot_is; form = is.form; span = is.span; map = is.map; counts = is.counts; levels = is.levels; named = is.named; one = is.one; label = is.label }
+  labelled_with is = record { slot_is = is.slot_is; form = is.form; span = is.span; map = is.map; counts = is.counts; levels = is.levels; named = is.named; snapshots = is.snapshots; slots = is.slots; label = is.label }
 
   pub ready_with : IsReady d p x → IsReady d p (record x { numbers = n })
   ready_with is =

@@ -28,6 +28,8 @@ use Rattle.fv_volume.specs.declared.pool.Pool.{Pool}
 use Rattle.fv_volume.specs.declared.state.Rooted.{Rooted}
 use Rattle.fv_volume.specs.declared.state.VolumeState.{VolumeState}
 use Rattle.fv_volume.specs.Files.{IsLabelled}
+use Rattle.fv_volume.specs.States.{head_in}
+use Rattle.fv_volume.proofs.MapSlots.{same_sayable, same_slots, slots_kept}
 use Rattle.fv_volume.specs.Labels.{label_said}
 use Rattle.fv_volume.specs.Lending.{IsTold, lent_for, sees}
 use Rattle.fv_volume.specs.OneVolume.{home_in, shows, standing_by, standing_for, table_for, volume_for, AreSoundBy, IsReady, IsStanding}
@@ -71,7 +73,8 @@ module _ (x : VolumeState) (active : Rooted) (few : active.levels ≤ 2) (fits :
     form = is.form;
     span = is.span;
     map = span ∙ is.map;
-    one = λ k other. slots k other ∙ is.one k other;
+    snapshots = same_sayable _ (head_in x) refl is.snapshots;
+    slots = same_slots _ (head_in x) map refl (slots_kept (head_in x) x.map map slots is.slots);
     counts = is.counts;
     levels = few;
     named = is.named;

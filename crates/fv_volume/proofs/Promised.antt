@@ -31,6 +31,8 @@ use Rattle.fv_volume.specs.Calls.{Has, HasBeside}
 use Rattle.fv_volume.specs.Files.{IsLabelled}
 use Rattle.fv_volume.specs.Held.{IsHeldIn}
 use Rattle.fv_volume.specs.Labels.{label_said}
+use Rattle.fv_volume.specs.States.{head_in}
+use Rattle.fv_volume.proofs.MapSlots.{same_sayable, same_slots}
 use Rattle.fv_volume.specs.OneVolume.{table_for, volume_as, IsReady, IsStanding}
 use Rattle.fv_volume.specs.Promising.{CanHave, FitsBeside, Promises, promised, promised_ledger, refusal_of}
 use Rattle.fv_volume.proofs.Changed.{within_size}
@@ -195,7 +197,8 @@ module _ (x : VolumeState) (size : ℕ) (kind : Kind) where
     form = is.form;
     span = is.span;
     map = is.map;
-    one = is.one;
+    snapshots = same_sayable _ (head_in x) refl is.snapshots;
+    slots = same_slots _ (head_in x) x.map refl is.slots;
     counts = is.counts;
     levels = is.levels;
     named = is.named;

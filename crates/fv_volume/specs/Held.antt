@@ -7,7 +7,7 @@ use Rattle.fv_aggmap.specs.Space.{free_blocks}
 use Rattle.fv_volume.specs.declared.pool.Pool.{Pool}
 use Rattle.fv_volume.specs.declared.state.VolumeState.{VolumeState}
 use Rattle.fv_volume.specs.BlocksOver.{free_numbers}
-use Rattle.fv_volume.specs.Labels.{hole}
+use Rattle.fv_volume.specs.SnapRecords.{hole}
 use Rattle.fv_volume.specs.Lending.{lent_for}
 use Rattle.fv_volume.specs.OneVolume.{home_in, volume_for, IsReady, IsStanding}
 use Rattle.fv_volume.specs.Placing.{pending_of, Goes, IsLedTo, IsStoredWell, KeepsPlaced, LeavesOthers}

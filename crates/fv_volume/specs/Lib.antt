@@ -2,6 +2,7 @@ pub mod Causes
 pub mod Keeping
 pub mod Labels
 pub mod States
+pub mod Snapshots
 pub mod Slots
 pub mod Rows
 pub mod Creating
