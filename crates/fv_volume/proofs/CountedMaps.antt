@@ -29,7 +29,7 @@ any_later : (g : ℕ → Bool) (from n : ℕ) → list_any g (range_with_len (fr
 any_later g from zero = refl
 any_later g from (suc n) = ap₂ (λ (a b : Bool). a || b) (ap g (let next : from + 1 ≡ suc from = omega arith in next)) (any_later g (from + 1) n)
 
-any_taken : {X : Type 0} (f : X → Bool) (d : X) (xs : List X) (n : ℕ) → n ≤ length xs → list_any f (take n xs) ≡ list_any (λ k. f (get_or xs k d)) (range_with_len 0 n)
+pub any_taken : {X : Type 0} (f : X → Bool) (d : X) (xs : List X) (n : ℕ) → n ≤ length xs → list_any f (take n xs) ≡ list_any (λ k. f (get_or xs k d)) (range_with_len 0 n)
 any_taken f d xs zero within = refl
 any_taken f d [] (suc n) within = absurd (omega (arith, within))
 any_taken f d (x ∷ xs) (suc n) within = ap (λ (b : Bool). f x || b) (any_taken f d xs n (omega (arith, within)) ∙ sym (any_later (λ k. f (get_or (x ∷ xs) k d)) 0 n))

@@ -105,3 +105,6 @@ pub mod DestroyedOthers
 pub mod Emptied
 pub mod CountedMaps
 pub mod SnapRecords
+pub mod SnapSlots
+pub mod SlotReads
+pub mod KeptSlots

@@ -1,5 +1,5 @@
 -- The first place of a row that passes a test, or else its length.
-use Rattle.std.proofs.Common.{◌≡◌, ◌≤◌, ℕ, Bool, true, false, cond, not, Option, Some, None, List, length, refl, ap, ◌∙◌, arith}
+use Rattle.std.proofs.Common.{◌≡◌, ◌<◌, ◌≤◌, ℕ, Bool, true, false, cond, not, Option, Some, None, List, length, refl, ap, ◌∙◌, arith}
 use Rattle.std.specs.Prelude.{nat_lt, position}
 use Rattle.std.specs.List.{position_or_len}
 use Rattle.std.proofs.lemmas.Bool.Decides.{nat_tests}
@@ -21,3 +21,10 @@ first_of p xs k is = place_in (nat_lt (position_or_len p xs) (length xs)) (posit
 
 pub last_of : {X : Type 0} (p : X → Bool) (xs : List X) → None ≡ position p xs → length xs ≡ position_or_len p xs
 last_of p xs is = place_in (nat_lt (position_or_len p xs) (length xs)) (position_or_len p xs) (length xs) refl (place_fits p xs) None is
+
+within_if : (b : Bool) (n len k : ℕ) → nat_lt n len ≡ b → Some k ≡ cond b (Some n) None → k < len
+within_if true n len k is e = let same : k ≡ n = cc in grind (arith, nat_tests, is, same)
+within_if false n len k is e = absurd cc
+
+pub first_within : {X : Type 0} (p : X → Bool) (xs : List X) (k : ℕ) → Some k ≡ position p xs → k < length xs
+first_within p xs k is = within_if (nat_lt (position_or_len p xs) (length xs)) (position_or_len p xs) (length xs) k refl is

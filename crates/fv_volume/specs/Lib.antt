@@ -35,3 +35,4 @@ pub mod Promising
 pub mod Destroying
 pub mod Mapped
 pub mod SnapRecords
+pub mod SlotReads
