@@ -38,3 +38,4 @@ pub mod Tests
 pub mod Exact
 pub mod Snapshots
 pub mod Settled
+pub mod SettledFiles

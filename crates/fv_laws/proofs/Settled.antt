@@ -1,5 +1,5 @@
 -- What of a path stays charged, or wasn't charged, is counted place by place: over the cell of the file, and over its cell of the inode file.
-use Rattle.std.proofs.Common.{◌≡◌, ◌⊎◌, ◌≢◌, ℕ, ◌+◌, ◌-◌, ◌/◌, ◌^◌, ◌<◌, ◌≤◌, Bool, true, false, cond, not, ◌&&◌, ◌||◌, List, [], ◌∷◌, ◌++◌, map, filter, flat_map, Option, Some, None, inl, inr, refl, sym, ap, subst, ◌∙◌, arith, ⊎_elim, is_some}
+use Rattle.std.proofs.Common.{◌≡◌, ◌≢◌, ℕ, ◌+◌, ◌-◌, ◌/◌, ◌^◌, ◌<◌, ◌≤◌, Bool, true, false, not, ◌&&◌, ◌||◌, List, ◌++◌, map, filter, flat_map, Option, Some, None, refl, sym, ap, subst, ◌∙◌, arith, ⊎_elim, is_some}
 use Rattle.std.specs.Prelude.{nat_lt, nat_le, count_by}
 use Rattle.std.specs.List.{range_with_len}
 use Rattle.std.specs.Option.{option_map_or}
@@ -11,7 +11,7 @@ use Rattle.std.proofs.lemmas.Bool.{and_parts, or_cases, or_left, or_right, false
 use Rattle.std.proofs.lemmas.Bool.Decides.{nat_tests}
 use Rattle.std.proofs.lemmas.Cmp.{eq_by_cmp_equiv}
 use Rattle.fv_model.specs.Trees.{fan, Spot, Tree, levels_with, spots_over, spots_grown, written_spots, holds_one}
-use Rattle.fv_model.specs.Tables.{File, Table, inode_cell, free_number}
+use Rattle.fv_model.specs.Tables.{File, inode_cell, free_number}
 use Rattle.fv_model.specs.Places.{Owner, InodeFile, OfFile, placed, Place, Id, id_cmp, Ids, stamps_of}
 use Rattle.fv_model.specs.Volumes.{Volume}
 use Rattle.fv_laws.specs.WellFormed.{IsTree, IsWellTable}
@@ -28,27 +28,27 @@ use Rattle.fv_laws.proofs.Charges.{in_id, id_in}
 use Rattle.fv_laws.proofs.Tests.{iff}
 
 module _ (x : Volume) where
-  abbrev S : Ids
+  abbrev pub S : Ids
   S = settled_ids x
 
-  abbrev stamp_at : Place → Option ℕ
+  abbrev pub stamp_at : Place → Option ℕ
   stamp_at p = fin.get (stamps_of x.active) p
 
   -- the ids of a path that are settled
-  abbrev kept : List Place → List Id
+  abbrev pub kept : List Place → List Id
   kept path = filter (set.contains S) (flat_map (id_at x.active) path)
 
-  abbrev St : List Place → Ids
+  abbrev pub St : List Place → Ids
   St path = set.from_list {R = id_cmp} (kept path)
 
-  from_st : (path : List Place) (q : Id) → set.contains (St path) q ≡ true → In q.0 path × ((stamp_at q.0 ≡ Some q.1) × (set.contains S q ≡ true))
+  pub from_st : (path : List Place) (q : Id) → set.contains (St path) q ≡ true → In q.0 path × ((stamp_at q.0 ≡ Some q.1) × (set.contains S q ≡ true))
   from_st path q there =
       let one = from_filter (set.contains S) q (flat_map (id_at x.active) path) (any_in id_ties q (kept path) (sym (set.contains-from_list id_total (kept path) q) ∙ there)) in
       let place = from_flat_map (id_at x.active) q path one.0 in
       let id = in_id x.active place.0 q place.2 in
       (subst (λ (p : Place). In p path) id.0 place.1, (id.1, one.1))
 
-  in_st : (path : List Place) (q : Id) → In q.0 path → stamp_at q.0 ≡ Some q.1 → set.contains S q ≡ true → set.contains (St path) q ≡ true
+  pub in_st : (path : List Place) (q : Id) → In q.0 path → stamp_at q.0 ≡ Some q.1 → set.contains S q ≡ true → set.contains (St path) q ≡ true
   in_st path q one stood settled = set.contains-from_list id_total (kept path) q
       ∙ in_any id_total q (kept path) (in_filter (set.contains S) q (flat_map (id_at x.active) path) (in_flat_map (id_at x.active) q.0 q path one (id_in x.active q stood)) settled)
 
@@ -181,7 +181,7 @@ module _ (x : Volume) where
 
   -- ---- the changes of a table
 
-  tree_within : (now start : ℕ) (cells : List ℕ) (t : Tree) → IsTree now start cells t → (p : Spot) → is_some (fin.get t.stamps p) ≡ true → p.0 ≤ t.levels
+  pub tree_within : (now start : ℕ) (cells : List ℕ) (t : Tree) → IsTree now start cells t → (p : Spot) → is_some (fin.get t.stamps p) ≡ true → p.0 ≤ t.levels
   tree_within now start cells t well p some = let test = (and_parts (nat_le p.0 t.levels) (holds_one cells p) (sym (well.exact p) ∙ some)).0 in grind (arith, nat_tests, test)
 
   module _ (now : ℕ) (well : IsWellTable now x.active) where
@@ -192,7 +192,7 @@ module _ (x : Volume) where
     file_staying : (n : ℕ) (f : File) → fin.get x.active.files n ≡ Some f → (i : ℕ) → staying x (map (placed (OfFile n)) (written_spots f.tree i)) ≡ settled_over x (OfFile n) f.tree.levels i
     file_staying n f there i = written_staying (OfFile n) f.tree (λ p. get-stamps_of x.active (OfFile n) p ∙ ap (stamp_in p) there) (tree_within now _ _ f.tree (well.files n f there).tree) i
 
-    not_both : (n : ℕ) (p q : List Spot) (d : Place) → In d (map (placed (OfFile n)) p) → In d (map (placed InodeFile) q) → ⊥
+    pub not_both : (n : ℕ) (p q : List Spot) (d : Place) → In d (map (placed (OfFile n)) p) → In d (map (placed InodeFile) q) → ⊥
     not_both n p q d one two =
         let a = from_map (placed (OfFile n)) d p one in
         let b = from_map (placed InodeFile) d q two in
