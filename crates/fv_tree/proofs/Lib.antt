@@ -57,3 +57,4 @@ pub mod Differing
 pub mod Tally
 pub mod Bordered
 pub mod Stays
+pub mod Spans
