@@ -8,7 +8,7 @@ use Rattle.fv_model.specs.Places.{Owner, InodeFile, OfFile, placed}
 use Rattle.fv_model.specs.Volumes.{Volume}
 use Rattle.fv_laws.specs.Settled.{is_settled}
 use Rattle.fv_tree.specs.Flushing.{Loaded}
-use Rattle.fv_tree.specs.Counting.{is_staying, staying_at}
+use Rattle.fv_tree.specs.Counting.{is_staying, staying_all, staying_at}
 use Rattle.fv_files.specs.Apart.{Trees}
 
 -- those over a cell of a tree, where there is one
@@ -19,6 +19,15 @@ staying_in (Some s) shared i = staying_at s shared i
 -- by a write of block i of file n: over the file's block, and over its cell of the inode file
 abbrev pub staying_by_put : Trees → (ℕ → Bool) → ℕ → ℕ → ℕ
 staying_by_put x shared n i = staying_in (x (Some n)) shared i + staying_in (x None) shared (inode_cell n)
+
+-- those of a whole tree, where there is one
+abbrev pub staying_of : Option Loaded → (ℕ → Bool) → ℕ
+staying_of None shared = 0
+staying_of (Some s) shared = staying_all s shared
+
+-- by the removal of file n: all of its tree, and over its cell of the inode file
+abbrev pub staying_by_removal : Trees → (ℕ → Bool) → ℕ → ℕ
+staying_by_removal x shared n = staying_of (x (Some n)) shared + staying_in (x None) shared (inode_cell n)
 
 -- by a new file under the number n: over its cell of the inode file
 abbrev pub staying_by_new : Trees → (ℕ → Bool) → ℕ → ℕ
