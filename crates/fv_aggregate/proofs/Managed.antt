@@ -28,7 +28,7 @@ use Rattle.fv_laws.proofs.Changes.{same_name}
 use Rattle.fv_cp.specs.Held.{machine_held}
 use Rattle.fv_cp.specs.Lent.{blocks_asked, FitTogether}
 use Rattle.fv_aggregate.specs.declared.session.Session.{Session}
-use Rattle.fv_aggregate.specs.Commands.{changes_volume, has_range, is_built, is_refusal, machine_after, managed_by, Replies, RepliesBy}
+use Rattle.fv_aggregate.specs.Commands.{changes_volume, has_range, is_built, is_refusal, machine_after, managed_by, removes_volume, Replies, RepliesBy}
 use Rattle.fv_aggregate.specs.Managing.{told_as, IsCarriedOut, IsManaged, IsTold, Manages}
 use Rattle.fv_aggregate.specs.Standing.{IsWithoutFiles, Stands, StandsFor}
 use Rattle.fv_aggregate.proofs.Applied.{unbuilt_after, unbuilt_replies}
@@ -50,6 +50,7 @@ pub record IsManagedOver (disk : Shown) (old : Session) (c : Command) (new : Ses
   -- unless a volume that stays changes, the next point asks for no more than before
   pub asked : changes_volume c ≡ false → blocks_asked new.volumes ≤ blocks_asked old.volumes
   pub files : IsWithoutFiles old → IsWithoutFiles new
+  pub map : removes_volume c ≡ false → new.pool.map ≡ old.pool.map
   pub found : new.pool.found ≡ old.pool.found
   pub pending : new.pending ≡ old.pending
   pub failed : new.failed ≡ old.failed
@@ -89,6 +90,7 @@ module _ (disk : Shown) (session : Session) where
     replies = λ last m stands. unbuilt_replies m c none;
     asked = λ calm. omega arith;
     files = λ without. without;
+    map = λ stays. refl;
     found = refl;
     pending = refl;
     failed = refl;
@@ -109,6 +111,7 @@ module _ (disk : Shown) (session : Session) where
     replies = λ last m stands. replies_built m c (Refused r) built (refused_allows m c r (refused last m stands));
     asked = λ calm. omega arith;
     files = λ without. without;
+    map = λ stays. refl;
     found = refl;
     pending = refl;
     failed = refl;
@@ -153,6 +156,7 @@ module _ (disk : Shown) (session : Session) where
         replies = λ last m stands. replies_built m c Done built (done m (refused_as (Ok u) did last m stands));
         asked = λ calm. absurd (true≢false (sym changes ∙ calm));
         files = files_promised session c name size kind new did.done;
+        map = λ stays. refl;
         found = refl;
         pending = refl;
         failed = refl;
@@ -239,6 +243,7 @@ module _ (disk : Shown) (session : Session) where
         replies = λ last m stands. replies_built m removal Done refl (answer_allows m removal Done (destroyed_as (Ok u) did last m stands) refl refl);
         asked = λ calm. asked_without session fit name new left did.done;
         files = files_without session fit name new left did.done;
+        map = λ stays. absurd (true≢false stays);
         found = did.done.gone.found;
         pending = refl;
         failed = refl;
@@ -339,6 +344,7 @@ module _ (disk : Shown) (session : Session) where
           replies = λ last m stands. replies_built m asks reply refl (answered last m stands);
           asked = λ calm. omega arith;
           files = λ without. without;
+          map = λ stays. refl;
           found = refl;
           pending = refl;
           failed = refl;

@@ -37,8 +37,9 @@ use Rattle.fv_cp.specs.Held.{machine_held, IsHeld}
 use Rattle.fv_cp.specs.Lent.{blocks_asked, IsLentAt}
 use Rattle.fv_cp.specs.Placing.{pending_files, core_of, HaveNoFiles, KeepCores}
 use Rattle.fv_cp.specs.Points.{LacksRoom}
-use Rattle.fv_cp.specs.Settling.{GoesOnWhole, HaveFullRoom, IsHeldPoint, OldOrHeld, StillHeld, WholeCounts, WholeFails}
+use Rattle.fv_cp.specs.Settling.{GoesOnWhole, HaveFullRoom, IsHeldPoint, IsStill, OldOrHeld, StillHeld, WholeCounts, WholeFails}
 use Rattle.fv_disk.specs.declared.fault.BlockFault.TheVariants as block
+use Rattle.fv_volume.specs.declared.fault.VolumeFault.{VolumeFault}
 use Rattle.fv_volume.specs.declared.fault.VolumeFault.TheVariants as cp
 use Rattle.fv_volume.specs.declared.pool.Pool.{Pool}
 use Rattle.fv_volume.specs.declared.state.VolumeState.{VolumeState}
@@ -57,6 +58,16 @@ use Rattle.fv_aggregate.proofs.Asking.{asked_unchanged, asks_more, asks_still, s
 use Rattle.fv_aggregate.proofs.Clear.{clear_is_free, clear_stays, free_and_placed, none_held, none_placed}
 use Rattle.fv_aggregate.proofs.Standing.{settled_after_reads}
 use Rattle.fv_aggregate.proofs.Sums.{asked_within, none_pending, one_pending, over_slots, overheads_are, overheads_kept, same_overheads}
+
+-- what a point that was not done says, for the fault that it answered
+pub still_as : (old : Shown) (pool : Pool) (states : States) (new : Shown) (left : Pool) (stay : States) (said fault : VolumeFault) → said ≡ fault → IsStill old pool states new left stay said → IsStill old pool states new left stay fault
+still_as old pool states new left stay said fault is still = subst (IsStill old pool states new left stay) is still
+
+-- so it is of a session
+pub still_said : (old : Shown) (before session : Session) → before ≡ session → (new : Shown) (left : Pool) (stay : States) (said fault : VolumeFault) → said ≡ fault
+    → IsStill old before.pool before.volumes new left stay said → IsStill old session.pool session.volumes new left stay fault
+still_said old before session same new left stay said fault is still =
+    subst (λ (s : Session). IsStill old s.pool s.volumes new left stay fault) same (still_as old before.pool before.volumes new left stay said fault is still)
 
 -- ---- before a point
 

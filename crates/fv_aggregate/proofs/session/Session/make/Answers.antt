@@ -9,7 +9,8 @@ use Rattle.fv_model.specs.Space.{commits, overhead}
 use Rattle.fv_aggregate.specs.declared.fault.Fault.TheVariants.{Memory}
 use Rattle.fv_aggregate.specs.declared.session.Session.{Session}
 use Rattle.fv_aggregate.specs.Calls.{Goes, GoesFor, KeepsAsking}
-use Rattle.fv_aggregate.proofs.Added.{added_asks, added_for, added_goes, made_files, room_for, unmade_for, wanting_for}
+use Rattle.fv_aggregate.proofs.Added.{added_asks, added_for, added_goes, made_files, made_map, room_for, unmade_for, wanting_for}
+use Rattle.fv_aggregate.proofs.Applying.{same_map}
 use Rattle.fv_aggregate.proofs.session.Session.make.Goals as goal
 
 pub returns-in_err-make_room-clause-goes_for : goal.returns-in_err-make_room-clause-goes_for
@@ -54,6 +55,16 @@ returns-clause-asks g c =
 pub returns-clause-files : goal.returns-clause-files
 returns-clause-files g c = λ tells none.
     made_files c.make_room.new.self c.args.name.now c.args.size c.args.kind c.from-room.result c.add.new.self c.in_ok-add.ensures.added (g.D.Disk.shown c.make_room.new.disk) (c.in_ok-make_room.ensures.files tells none)
+
+pub returns-clause-same : goal.returns-clause-same
+returns-clause-same g c = λ tells same.
+    same_map c.make_room.new.self c.add.new.self (made_map c.make_room.new.self c.args.name.now c.args.size c.args.kind c.from-room.result c.add.new.self c.in_ok-add.ensures.added) (c.in_ok-make_room.ensures.same tells same)
+
+pub returns-clause-map : goal.returns-clause-map
+returns-clause-map g c = λ few.
+    let room : c.from-room.result ≡ overhead c.args.admitted.span = search rules in
+    made_map c.make_room.new.self c.args.name.now c.args.size c.args.kind c.from-room.result c.add.new.self c.in_ok-add.ensures.added
+    ∙ ap (λ (s : Session). s.pool.map) (c.in_ok-make_room.ensures.calm (subst (λ (n : ℕ). c.args.self.now.pending + n ≤ 256) (sym room) few)).1
 
 pub returns-clause-goes_for : goal.returns-clause-goes_for
 returns-clause-goes_for g c = λ tells last m stands.
