@@ -1,5 +1,5 @@
 -- What commands on files do in a session: those that ask, and those that change.
-use Rattle.std.specs.Prelude.{◌≡◌, ◌<◌, ◌≤◌, ◌+◌, ℕ, Option, Some, None, true, IsTrue, IsNone, Result, Ok, Err, OnOk, IfOk, IfErr}
+use Rattle.std.specs.Prelude.{◌≡◌, ◌<◌, ◌≤◌, ◌+◌, ℕ, List, Option, Some, None, true, IsTrue, IsNone, Result, Ok, Err, OnOk, IfOk, IfErr}
 use Rattle.fv_disk.specs.Shown.{Shown, Rose}
 use Rattle.fv_disk.specs.DiskCalls.{OnlyReads}
 use Rattle.fv_container.specs.Chains.{slot_count}
@@ -7,11 +7,13 @@ use Rattle.fv_model.specs.declared.answers.Refusal.{Refusal}
 use Rattle.fv_model.specs.declared.answers.Reply.{Reply}
 use Rattle.fv_model.specs.declared.answers.Reply.TheVariants.{Done, Refused}
 use Rattle.fv_model.specs.declared.commands.Command.{Command}
+use Rattle.fv_model.specs.declared.commands.Command.TheVariants.{Get, Len, Ls}
 use Rattle.fv_model.specs.Machines.{Machine}
 use Rattle.fv_model.specs.Refusals.{next, refusal}
 use Rattle.fv_model.specs.Replies.{Allows}
 use Rattle.fv_volume.specs.declared.state.VolumeState.{VolumeState}
 use Rattle.fv_volume.specs.declared.pool.Pool.{Pool}
+use Rattle.fv_volume.specs.Asking.{standing_read}
 use Rattle.fv_volume.specs.Calls.{Agrees, Asks, CallCause, Changes, Has, HasWithin, KeepsHead, Reads}
 use Rattle.fv_volume.specs.Changing.{keeps_numbers, IsChangeOf, KeepsTable}
 use Rattle.fv_volume.specs.Lending.{lent_for}
@@ -48,12 +50,19 @@ pub record Makes (before : Shown) (old : Session) (command : Command) (after : S
 
 -- ---- a volume that is asked
 
+-- the snapshot of which a command asks for files
+abbrev pub snapshot_asked : Command → Option (List ℕ)
+snapshot_asked (Get volume snapshot file index) = snapshot
+snapshot_asked (Len volume snapshot file) = snapshot
+snapshot_asked (Ls volume snapshot) = snapshot
+snapshot_asked command = None
+
 -- A volume was asked, and answers as in each machine that has it. Nothing changed but the cache. Where it stands, and its blocks are as its
 -- pointers say, no step was made.
 pub record AsksState (before : Shown) (pool : Pool) (x : VolumeState) (command : Command) (start : ℕ) (after : Shown) (left : Pool) (steps : ℕ) (result : Result Reply VolumeFault) : Type 0 where
   pub reads : Reads before pool after left
   pub asked : IsStanding before pool x → Asks (Has x.name (volume_for before pool x)) command (λ reply. reply) result
-  pub cause : CallCause (IsStanding before pool x) (standing_for before pool x) (lent_for pool x.map before 0 (home_in x) 0) after.faults result
+  pub cause : CallCause (IsStanding before pool x) (standing_read before pool x (snapshot_asked command)) (lent_for pool x.map before 0 (home_in x) 0) after.faults result
   pub known : IsStanding before pool x → IsStoredWell before pool x → OnOk result ((m : Machine) → Has x.name (volume_for before pool x) m → steps ≡ start)
   pub unmoved : IfErr result (λ e. (r : Refusal) → e ≡ volume.Refused r → steps ≡ start)
 

@@ -1,12 +1,13 @@
 //! One volume, as it is kept in memory.
 
-ghost use Rattle.std.specs.Prelude.{◌≡◌, ◌<◌, ◌≤◌, ◌+◌, ◌*◌, ◌-◌, ◌∷◌, ◌++◌, [], Bool, false, true, nat_lt, length, position, take, drop, All, None, IfSome, IfNone, IfOk, OnOk, OnErr, replicate};
+ghost use Rattle.std.specs.Prelude.{◌≡◌, ◌<◌, ◌≤◌, ◌+◌, ◌*◌, ◌-◌, ◌∷◌, ◌++◌, [], Bool, false, true, nat_lt, length, position, take, drop, All, None, IfSome, IfNone, IfOk, OnOk, OnErr, option_copied, replicate};
 ghost use Rattle.std.specs.List.{position_or_len};
 ghost use Rattle.fv_model.specs.Numbers.{greatest_span};
 ghost use Rattle.fv_codec.specs.Blocks.{IsLabel, IsSnapRecord};
 ghost use Rattle.fv_image.specs.Views.{head_of, snaps_from};
 ghost use Rattle.fv_model.specs.Spelling.{is_name};
 ghost use Rattle.fv_volmap.specs.Slots.{empty_volume, stored_count};
+ghost use Rattle.fv_volume.specs.Asking.{snap_named};
 ghost use Rattle.fv_volume.specs.Labels.{label_said};
 ghost use Rattle.fv_volume.specs.Files.{has_form};
 ghost use Rattle.fv_volume.specs.Snapshots.{FindsSnap, IsLeastFree, AreSlotsFull, has_slot, added};
@@ -141,6 +142,14 @@ impl Snapshots {
         ensures { FindsSnap self.now name.now result }
     {
         self.snaps.iter().position(|snap| snap.name == *name)
+    }
+
+    /// The first snapshot of a name in the order of their slots; `None` exactly where none has it. Costs a step for
+    /// each snapshot.
+    pub fn named(&self, name: &Name) -> Option<&Snap>
+        ensures { option_copied result ≡ snap_named self.entry.now name.now }
+    {
+        self.snaps.iter().find(|snap| *name == snap.name)
     }
 
     /// Whether a snapshot has this slot.
