@@ -37,18 +37,17 @@ pub block_read : (t : Rooted) (i : ℕ) → (pointer_at t 0 i).stamp ≢ 0 → t
 unfolding block_at
 block_read t i some none = let test : ((pointer_at t 0 i).stamp == 0) ≡ false = grind (arith, nat_tests) in rw (test, none) refl
 
--- what is said to have changed, and not to lead to its block, is in memory
+-- what is said not to lead to its block is in memory
 pub record IsMemory (s : Loaded) : Type 0 where
   pub nodes : (level place : ℕ) → 1 ≤ level → s.tree.nodes level place ≡ None → s.placed level place ≡ true
   pub cells : (place : ℕ) → s.tree.cells place ≡ None → s.placed 0 place ≡ true
-  pub cell : (place : ℕ) (block : List ℕ) → s.tree.cells place ≡ Some block → s.changed 0 place ≡ true
 
 -- what didn't change and is led to has its block
 pub unchanged_placed : (s : Loaded) (used : ℕ → Option Use) → IsSound used s → IsMemory s → (j c : ℕ) → s.changed j c ≡ false → (pointer_at s.tree j c).stamp ≢ 0 → s.placed j c ≡ true
 unchanged_placed s used sound memory j c same some = elim (cases_eq j 0) [
   | inl e ↦ (λ i. s.placed (e i) c) ∙ elim (there (s.tree.cells c)) [
     | inl absent ↦ memory.cells c absent
-    | inr held ↦ false_is_true (s.changed 0 c) (sym (λ i. s.changed (e i) c) ∙ same) (memory.cell c held.0 held.1)
+    | inr held ↦ (sound.cells c held.0 held.1 (sym (λ i. s.changed (e i) c) ∙ same) (λ none. some ((λ i. (pointer_at s.tree (e i) c).stamp) ∙ none))).1
   ]
   | inr low ↦ elim (there (s.tree.nodes j c)) [
     | inl absent ↦ memory.nodes j c (omega arith) absent
@@ -369,6 +368,26 @@ module _ (s : Loaded) (used : ℕ → Option Use) (u : Loaded) (uses : ℕ → O
     ]
   ]
 
+  cells_other : (index : ℕ) (block : List ℕ) → u.tree.cells index ≡ Some block → u.changed 0 index ≡ false → (pointer_at u.tree 0 index).stamp ≢ 0 → (0 ≢ k) ⊎ (index ≢ q)
+      → (u.tree.under (pointer_at u.tree 0 index).vvbn ≡ Some block) × (u.placed 0 index ≡ true)
+  cells_other index block cell changed reached other =
+      let pointer : pointer_at u.tree 0 index ≡ pointer_at s.tree 0 index = pointer_there 0 index other in
+      let some_old : (pointer_at s.tree 0 index).stamp ≢ 0 = λ e. reached (same_stamps 0 index ∙ e) in
+      let apart : (k ≢ 0) ⊎ (index ≢ q) = elim other [
+        | inl level ↦ inl (λ e. level (sym e))
+        | inr place ↦ inr place
+      ] in
+      let was = sound.cells index block (sym (is.cells index apart) ∙ cell) (sym (is.changed_others 0 index other) ∙ changed) some_old in
+      let leads : Leads s 0 index (pointer_at s.tree 0 index).vvbn = record { some = some_old; placed = was.1; vvbn = refl } in
+      ((λ i. u.tree.under (pointer i).vvbn) ∙ (stays_under 0 index (pointer_at s.tree 0 index).vvbn leads other).0 ∙ was.0, is.placed_others 0 index other ∙ was.1)
+
+  in_cells : (index : ℕ) (block : List ℕ) → u.tree.cells index ≡ Some block → u.changed 0 index ≡ false → (pointer_at u.tree 0 index).stamp ≢ 0
+      → (u.tree.under (pointer_at u.tree 0 index).vvbn ≡ Some block) × (u.placed 0 index ≡ true)
+  in_cells index block cell changed reached = elim (spot_is 0 index k q) [
+    | inl at ↦ some_none (u.tree.cells index) block (ap u.tree.cells at.1 ∙ is.own_cell (sym at.0)) cell
+    | inr other ↦ cells_other index block cell changed reached other
+  ]
+
   empty_other : (j c : ℕ) → 1 ≤ j → (pointer_at u.tree j c).stamp ≡ 0 → (j ≤ u.tree.levels) ⊎ ((c ≢ 0) ⊎ (u.tree.root.stamp ≡ 0)) → (j ≢ k) ⊎ (c ≢ q) → (j ≢ k + 1) ⊎ (c ≢ q / fan) → IsEmptyNode u.tree j c
   empty_other j c low none where_ other beside xs node = sound.empty j c low (sym (same_stamps j c) ∙ none) (elim where_ [
     | inl le ↦ inl (omega (arith, le, is.levels))
@@ -409,6 +428,7 @@ module _ (s : Loaded) (used : ℕ → Option Use) (u : Loaded) (uses : ℕ → O
     used = in_use;
     over = over;
     same = same;
+    cells = in_cells;
     empty = empty;
   }
 

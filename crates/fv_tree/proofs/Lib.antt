@@ -46,6 +46,7 @@ pub mod StoredFlush
 pub mod Within
 pub mod Grows
 pub mod Rewritten
+pub mod HeldCells
 pub mod Refilled
 pub mod Ungrown
 pub mod ReadyPast
@@ -53,6 +54,7 @@ pub mod Flushes
 pub mod Seeking
 pub mod Beside
 pub mod Costly
+pub mod MapMarks
 pub mod Differing
 pub mod Tally
 pub mod Bordered

@@ -29,11 +29,13 @@ pub struct KeptNode {
     ghost some: { changed ≡ true → all_holes children ≡ false },
 }
 
-/// A cell in memory, which differs from its block.
+/// A cell in memory.
 #[derive(Clone, Copy)]
 pub struct KeptCell {
     /// Its content.
     pub block: [u8; 4096],
+    /// Whether it differs from its block.
+    pub changed: bool,
     /// Whether the pointer to it leads to a block that it replaces.
     pub placed: bool,
 }

@@ -120,7 +120,7 @@ module _ (d : Disk) (p : Pool) (x : VolumeState) where
   kept_way t sound i = steps_way x.map p.containers x.slot (loaded_over blocks t) sound (tree_laid blocks t) i
 
   inode_by : (o : Option Files) → AreSoundBy blocks taken x.active o → (i : ℕ) → way_cost cost (standing_by blocks x.active o).inode i ≡ unknown_to (standing_by blocks x.active o).inode i
-  inode_by None sound i = let t = stored blocks greatest_word x.active.levels x.active.root in unread_way t (unread_sound taken t (λ level place. refl) sound.inode) i
+  inode_by None sound i = let t = stored blocks greatest_word x.active.levels x.active.root in unread_way t (unread_sound taken t (λ level place. refl) (λ index. refl) sound.inode) i
   inode_by (Some f) sound i = kept_way f.inode.tree (sound.trees None) i
 
   -- the tree of a file, in memory or not
@@ -139,7 +139,7 @@ module _ (d : Disk) (p : Pool) (x : VolumeState) where
       → way_cost cost (tree_known (standing_by blocks x.active o) info) i ≡ unknown_to (tree_known (standing_by blocks x.active o) info) i
   file_by None sound info known i =
       let t = stored blocks info.number known.file.levels known.file.root in
-      file_tree info known.file known.told i None (unread_sound taken t (λ level place. refl) (sound.files info.number known.file known.there))
+      file_tree info known.file known.told i None (unread_sound taken t (λ level place. refl) (λ index. refl) (sound.files info.number known.file known.there))
   file_by (Some f) sound info known i =
       file_tree info known.file known.told i (tree_in f info.number)
       (subst (λ (o : Option InodeRecord). StandsIn taken (option_map (λ r. file_loaded blocks info.number r (tree_in f info.number)) o)) known.there (sound.trees (Some info.number)))

@@ -88,7 +88,7 @@ module _ (d : Disk) (p : Pool) (x : VolumeState) where
   holds_kept t sound well = record { loaded = loaded_over blocks t; tree = refl; on = refl; sound = sound; laid = tree_laid blocks t; well = well }
 
   inode_by : (o : Option Files) → AreSoundBy blocks taken x.active o → AreStoredBy blocks x.active o → HoldsWell blocks taken (standing_by blocks x.active o).inode
-  inode_by None sound well = let t = stored blocks greatest_word x.active.levels x.active.root in holds_unread t (λ level place. refl) refl (unread_sound taken t (λ level place. refl) sound.inode) (well.trees None)
+  inode_by None sound well = let t = stored blocks greatest_word x.active.levels x.active.root in holds_unread t (λ level place. refl) refl (unread_sound taken t (λ level place. refl) (λ index. refl) sound.inode) (well.trees None)
   inode_by (Some f) sound well = holds_kept f.inode.tree (sound.trees None) (well.trees None)
 
   file_tree : (n : ℕ) (r : InodeRecord) (o : Option Tree) → IsSound taken (file_loaded blocks n r o) → IsTreeStoredWell (file_loaded blocks n r o)
@@ -100,7 +100,7 @@ module _ (d : Disk) (p : Pool) (x : VolumeState) where
       → HoldsWell blocks taken (tree_of (standing_by blocks x.active o) n r)
   file_by None sound well n r there =
       let t = stored blocks n r.levels r.root in
-      file_tree n r None (unread_sound taken t (λ level place. refl) (sound.files n r there))
+      file_tree n r None (unread_sound taken t (λ level place. refl) (λ index. refl) (sound.files n r there))
       (subst (λ (o : Option InodeRecord). StoredIn (option_map (λ r. unread (stored blocks n r.levels r.root)) o)) there (well.trees (Some n)))
   file_by (Some f) sound well n r there =
       file_tree n r (tree_in f n)
