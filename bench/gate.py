@@ -1,8 +1,9 @@
 #!/usr/bin/env python3
 """What a gate costs: runs `rt ci` with the words given and tells the processor seconds of each crate.
 
-    bench/gate.py            the whole gate; what earlier runs kept is not done again
-    bench/gate.py --anew     the whole gate from nothing, as the budget in docs/LAYERS.md counts it
+    bench/gate.py            the whole gate, as the budget in docs/LAYERS.md counts it: it must run from nothing
+
+Words are handed on to `rt ci`, where a kit's has some.
 
 It prints the table of docs/LAYERS.md: for each crate the seconds of its own proof and compiling, of its tests, of its must-fail edits
 and of the runs of its program. Processor seconds are user and system time, sampled ten times a second from /proc; what ends between two

@@ -76,6 +76,10 @@ module _ (session : Session) (name : List ℕ) (size : ℕ) (kind : Kind) (room 
     taken = none.taken;
   })
 
+  -- no block is taken for it in memory
+  pub made_map : new.pool.map ≡ session.pool.map
+  made_map = ap (λ (p : Pool). p.map) added.holes
+
   module _ (disk : Shown) (last m : Machine) (stands : StandsFor disk session last m) where
     pub made_stands : IsTrue disk.tells → StandsOn disk session.pool.store.pairs → new.pending ≡ session.pending + room → room ≡ overhead (span_of size 0 0) → HasRoom disk session room → StandsFor disk new last (next m (VolCreate name size kind))
     made_stands tells cache pending room_is enough =

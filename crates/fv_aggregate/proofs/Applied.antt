@@ -127,10 +127,12 @@ pub list_fails : {D : Type 0} (command : Command) → command ≡ VolList → (s
 list_fails command is shown disk session = record {
   refused = tt;
   calm = λ other few. refl;
+  map = λ other stays few. refl;
   wanting = λ other few same. refl;
   damage = tt;
   unbuilt = λ fresh none. list_built _ command is none;
   listed = λ list. tt;
+  untouched = λ list. (refl, refl);
   pointed = λ cp. tt;
   memory = λ cp. list_no_point _ command is cp;
   managed = λ fresh name of. list_no_whole _ command is name of;
@@ -140,10 +142,12 @@ pub list_done : {D : Type 0} (command : Command) → command ≡ VolList → (sh
 list_done command is shown disk session names told = record {
   refused = λ refused. (refl, refl);
   calm = λ other few. refl;
+  map = λ other stays few. refl;
   wanting = λ other few. tt;
   damage = tt;
   unbuilt = λ fresh none. list_built _ command is none;
   listed = λ list. ap Names told;
+  untouched = λ list. (refl, refl);
   pointed = λ cp. list_no_point _ command is cp;
   memory = λ cp none. tt;
   managed = λ fresh name of. list_no_whole _ command is name of;

@@ -16,10 +16,11 @@ use Rattle.fv_volume.specs.OneVolume.{IsBooked}
 use Rattle.fv_volume.specs.States.{state_at}
 use Rattle.fv_aggregate.specs.declared.fault.Fault.{Fault}
 use Rattle.fv_aggregate.specs.declared.session.Session.{Session}
+use Rattle.fv_aggregate.specs.Adding.{IsPointed}
 use Rattle.fv_aggregate.specs.Calls.{Goes, GoesFor, KeepsAsking, WasRead}
 use Rattle.fv_aggregate.specs.Commands.{volume_asked, changed_by, changes_volume, dirty_limit, is_refusal, machine_after, room_of, Replies}
 use Rattle.fv_aggregate.specs.Looking.{Looks, Makes}
-use Rattle.fv_aggregate.specs.Standing.{IsWithoutFiles, Stands, StandsFor}
+use Rattle.fv_aggregate.specs.Standing.{HoldsAsCommitted, IsWithoutFiles, Stands, StandsFor}
 use Rattle.fv_aggregate.proofs.Calls.{reads_itself}
 use Rattle.fv_aggregate.proofs.Changing.{change_after, change_cases, change_of_volume, change_replies, change_room, look_after, look_replies, look_room}
 use Rattle.fv_aggregate.proofs.Numbered.{no_files_read}
@@ -46,6 +47,15 @@ if_ok to (Err f) is = tt
 
 pub rests_as : {D : Type 0} (shown : D → Shown) (a b : D) → b ≡ a → OnlyReads (shown a) (shown b)
 rests_as shown a b disk = subst (λ d. OnlyReads (shown a) (shown d)) (sym disk) (reads_itself (shown a))
+
+-- where the map stays it holds as committed still
+pub same_map : (old new : Session) → new.pool.map ≡ old.pool.map → HoldsAsCommitted old → HoldsAsCommitted new
+same_map old new map same = ap (λ (m : Space). m.next) map ∙ same ∙ sym (ap (λ (m : Space). m.committed) map)
+
+-- so it does after a point
+pub pointed_same : {T : Type 0} (disk : Shown) (old new : Session) (r : Result T Fault) → OnOk r (IsPointed disk old new) → IsTrue disk.tells → OnOk r (HoldsAsCommitted new)
+pointed_same disk old new (Ok x) left tells = left.same tells
+pointed_same disk old new (Err f) left tells = tt
 
 -- no step was made
 pub no_step : (r : Result Reply Fault) (steps : ℕ) → OnOk r (steps ≡ steps)
@@ -123,6 +133,14 @@ module _ (c : Command) (name : List ℕ) (asks : volume_asked c ≡ Some name) (
       }
       by (Err f) read = tt
 
+  -- nor is a block taken or given back
+  pub look_same : HoldsAsCommitted s → OnOk r (HoldsAsCommitted n)
+  look_same same = by r looks.read
+    where
+      by : (r : Result Reply Fault) → OnOk r (WasRead d s e n) → OnOk r (HoldsAsCommitted n)
+      by (Ok y) read = same_map s n read.pool.map same
+      by (Err f) read = tt
+
   pub look_no_point : (X : Type 0) → c ≡ Cp → X
   look_no_point X cp = absurd (nothing (sym (ap volume_asked cp) ∙ asks))
     where
@@ -161,8 +179,8 @@ module _ (c : Command) (name : List ℕ) (of : changed_by c ≡ Some name) (d : 
   make_calm (inl nothing) = absurd (let some = change_room name c change in omega (arith, nothing, some))
   make_calm (inr few) = makes.calm (let some = change_room name c change in omega (arith, few, some))
 
-  pub make_files : (X : Type 0) → changed_by c ≡ None → X
-  make_files X isnt = absurd (none (sym isnt ∙ of))
+  pub make_unchanged : (X : Type 0) → changed_by c ≡ None → X
+  make_unchanged X isnt = absurd (none (sym isnt ∙ of))
 
   pub make_no_point : (X : Type 0) → c ≡ Cp → X
   make_no_point X cp = absurd (none (sym (ap changed_by cp) ∙ of))

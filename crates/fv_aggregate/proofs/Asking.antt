@@ -19,8 +19,11 @@ use Rattle.fv_container.specs.Mapped.{Mapped}
 use Rattle.fv_volume.specs.declared.pool.Pool.{Pool}
 use Rattle.fv_volume.specs.declared.state.VolumeState.{VolumeState}
 use Rattle.fv_volume.specs.Creating.{IsMade, IsNew}
+use Rattle.fv_volume.specs.Files.{IsLabelled}
 use Rattle.fv_volume.specs.Slots.{IsFirstFree}
 use Rattle.fv_volume.specs.States.{States, state_at, view_over}
+use Rattle.fv_volume.specs.Writing.{asked}
+use Rattle.fv_volume.proofs.MapCounts.{asked_alone}
 use Rattle.fv_cp.specs.Lent.{asked_by, blocks_asked}
 use Rattle.fv_cp.specs.Placing.{pending_by, pending_files}
 use Rattle.fv_aggregate.specs.declared.session.Session.{Session}
@@ -66,8 +69,8 @@ asks_still old new session after room reads found asked pending asks =
     }
 
 -- volumes that were just read
-pub asked_opened : (pool : Pool) (states : States) (i : Image) → length states ≡ 64 → view_over pool states i ≡ view_at (root_found pool.found) i → blocks_asked states ≤ overheads (view_at (root_found pool.found) i)
-asked_opened pool states i long seen = omega (arith, asked_within states, overheads_are pool states i long, ap overheads seen)
+pub asked_opened : (pool : Pool) (states : States) (i : Image) → length states ≡ 64 → ((s : ℕ) → IfSome (state_at states s) (IsLabelled s)) → view_over pool states i ≡ view_at (root_found pool.found) i → blocks_asked states ≤ overheads (view_at (root_found pool.found) i)
+asked_opened pool states i long labelled seen = omega (arith, asked_within states labelled, overheads_are pool states i long, ap overheads seen)
 
 -- volumes without changes ask for nothing, as after a point
 pub asked_unchanged : (states : States) → length states ≡ 64 → ((s : ℕ) → IfSome (state_at states s) (λ x. x.changed ≡ false)) → blocks_asked states ≡ 0
@@ -75,17 +78,20 @@ asked_unchanged states long unchanged = over_slots asked_by states long ∙ none
   where
     by : (o : Option VolumeState) → IfSome o (λ x. x.changed ≡ false) → asked_by o ≡ 0
     by None is = refl
-    by (Some x) is = ap {B = ℕ} (λ (b : Bool). cond b (overhead x.span) 0) is
+    by (Some x) is = ap {B = ℕ} (λ (b : Bool). cond b (asked x) 0) is
 
 -- a new volume asks for its overhead
 pub asked_made : (states : States) (slot : ℕ) (name : List ℕ) (size : ℕ) (kind : Kind) (now : States) → length states ≡ 64 → IsFirstFree states slot → IsMade states slot name size kind now
-    → blocks_asked now ≤ blocks_asked states + overhead (span_of size 0 0)
-asked_made states slot name size kind now long free made =
+    → ((s : ℕ) → IfSome (state_at now s) (IsLabelled s)) → blocks_asked now ≤ blocks_asked states + overhead (span_of size 0 0)
+asked_made states slot name size kind now long free made labelled =
+    let inside : slot < length states = omega (arith, long, free.within) in
+    let there : state_at now slot ≡ Some made.state = ap (λ (xs : States). state_at xs slot) made.states ∙ get_or-set_same states slot (Some made.state) None inside in
+    let alone = asked_alone slot made.state (subst (λ (o : Option VolumeState). IfSome o (IsLabelled slot)) there (labelled slot)) in
     let sum : blocks_asked now + asked_by (state_at states slot) ≡ blocks_asked states + asked_by (Some made.state) =
-    ap (λ (xs : States). blocks_asked xs + asked_by (state_at states slot)) made.states ∙ sum_by-set asked_by states slot (Some made.state) None (omega (arith, long, free.within)) in
+    ap (λ (xs : States). blocks_asked xs + asked_by (state_at states slot)) made.states ∙ sum_by-set asked_by states slot (Some made.state) None inside in
     let nothing : asked_by (state_at states slot) ≡ 0 = ap asked_by free.free in
     let span : made.state.span ≡ span_of size 0 0 = ap (λ (h : Head). h.span) made.head in
-    omega (arith, sum, nothing, ap overhead span, chosen made.state.changed (overhead made.state.span))
+    omega (arith, sum, nothing, ap overhead span, alone, chosen made.state.changed (asked made.state))
   where
     chosen : (b : Bool) (n : ℕ) → cond b n 0 ≤ n
     chosen true n = omega arith

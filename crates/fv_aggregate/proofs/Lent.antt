@@ -41,9 +41,10 @@ use Rattle.fv_volume.specs.declared.state.VolumeState.{VolumeState}
 use Rattle.fv_volume.specs.Loading.{IsContainerOf, IsLoaded, LoadedTo, label_of}
 use Rattle.fv_volume.specs.States.{States, head_in, state_at, table_in}
 use Rattle.fv_volume.specs.Stored.{AreApartIn, AreSpacedIn, has_block, leads, place_at, place_in}
-use Rattle.fv_volume.specs.Housed.{HaveReach}
+use Rattle.fv_volume.specs.Housed.{HaveReaches, ReachesAll}
 use Rattle.fv_cp.specs.Lent.{IsLentAt}
 use Rattle.fv_volume.proofs.LentSlots.{lent_from_loaded}
+use Rattle.fv_volume.proofs.Reaches.{reaches_alone}
 use Rattle.fv_volume.proofs.LoadedBlocks.{loaded_holds, span_of}
 use Rattle.fv_volume.proofs.SlotBlocks.{HasKinds, any_in_range, at_is, entry_kinds}
 
@@ -178,14 +179,14 @@ module _ (i : Image) (found : Found) (m : Machine) (tells : Tells (layout_at (ro
   pub slots_opened : (s : ℕ) → s < 64 → IsLentAt i found s (state_at states s) (container_at containers s)
   slots_opened s inside = lent_from_loaded i found s (state_at states s) (container_at containers s) (loaded.each s inside) (apart_opened s inside (state_at states s) (container_at containers s) (loaded.each s inside))
 
-  pub reach_opened : ((b : ℕ) → length (i b) ≡ 4096) → HaveReach (view_at t i) states
+  pub reach_opened : ((b : ℕ) → length (i b) ≡ 4096) → HaveReaches (view_at t i) states
   unfolding layout_at view_at
   reach_opened whole s inside = so (state_at states s) refl (loaded.each s inside).bits
     where
       so : (o : Option VolumeState) → state_at states s ≡ o → IfSome o (λ x. (v : ℕ) → is_member (active_of x.map) v ≡ volume_bit (view_at t i) s x.span 0 v)
-          → IfSome o (λ x. (v : ℕ) → is_member (active_of x.map) v ≡ is_listed (items (standing_of (view_at t i) s (table_in x.active))) v)
+          → IfSome o (ReachesAll (view_at t i) s)
       so None there bits = tt
-      so (Some x) there bits = λ v.
+      so (Some x) there bits =
           let here : (view_at t i).head s ≡ Some (head_in x) = sym (loaded.each s inside).head ∙ ap (option_map head_in) there in
           let form = built_forms (view_at t i) tells.built s (head_in x) inside here in
-          bits v ∙ reach (view_at t i) s (head_in x) inside here tells.sound.tables tells.sound.maps (numbers_at t i whole s (head_in x) here) (form_snapshots (head_in x) form) (form_base (head_in x) form) v
+          reaches_alone (view_at t i) s x form (λ v. bits v ∙ reach (view_at t i) s (head_in x) inside here tells.sound.tables tells.sound.maps (numbers_at t i whole s (head_in x) here) (form_snapshots (head_in x) form) (form_base (head_in x) form) v)

@@ -19,7 +19,7 @@ use Rattle.fv_model.specs.Volumes.{Volume}
 use Rattle.fv_volume.specs.declared.pool.Pool.{Pool}
 use Rattle.fv_volume.specs.declared.state.VolumeState.{VolumeState}
 use Rattle.fv_volume.specs.Destroying.{Destroys}
-use Rattle.fv_volume.specs.OneVolume.{table_for, volume_for}
+use Rattle.fv_volume.specs.OneVolume.{content_for, volume_for}
 use Rattle.fv_volume.specs.Promising.{has_size, refusal_of, told_by, IsPromised, PromisesOne}
 use Rattle.fv_volume.specs.Slots.{is_named, NoneHasName}
 use Rattle.fv_volume.specs.States.{States}
@@ -28,12 +28,12 @@ use Rattle.fv_laws.proofs.Changes.{same_name}
 use Rattle.fv_cp.specs.Held.{machine_held}
 use Rattle.fv_cp.specs.Lent.{blocks_asked, FitTogether}
 use Rattle.fv_aggregate.specs.declared.session.Session.{Session}
-use Rattle.fv_aggregate.specs.Commands.{changes_volume, has_range, is_built, is_refusal, machine_after, managed_by, Replies, RepliesBy}
+use Rattle.fv_aggregate.specs.Commands.{changes_volume, has_range, is_built, is_refusal, machine_after, managed_by, removes_volume, Replies, RepliesBy}
 use Rattle.fv_aggregate.specs.Managing.{told_as, IsCarriedOut, IsManaged, IsTold, Manages}
 use Rattle.fv_aggregate.specs.Standing.{IsWithoutFiles, Stands, StandsFor}
 use Rattle.fv_aggregate.proofs.Applied.{unbuilt_after, unbuilt_replies}
 use Rattle.fv_aggregate.proofs.Asked.{answer_allows}
-use Rattle.fv_aggregate.proofs.Having.{can_have_all, has_volumes, tables}
+use Rattle.fv_aggregate.proofs.Having.{can_have_all, contents, has_volumes}
 use Rattle.fv_aggregate.proofs.HeldMachine.{is_there, not_there, one}
 use Rattle.fv_aggregate.proofs.Missing.{refused_allows, refused_next}
 use Rattle.fv_aggregate.proofs.Removing.{asked_without, files_without, stands_for_without, stands_without}
@@ -50,6 +50,7 @@ pub record IsManagedOver (disk : Shown) (old : Session) (c : Command) (new : Ses
   -- unless a volume that stays changes, the next point asks for no more than before
   pub asked : changes_volume c ≡ false → blocks_asked new.volumes ≤ blocks_asked old.volumes
   pub files : IsWithoutFiles old → IsWithoutFiles new
+  pub map : removes_volume c ≡ false → new.pool.map ≡ old.pool.map
   pub found : new.pool.found ≡ old.pool.found
   pub pending : new.pending ≡ old.pending
   pub failed : new.failed ≡ old.failed
@@ -89,6 +90,7 @@ module _ (disk : Shown) (session : Session) where
     replies = λ last m stands. unbuilt_replies m c none;
     asked = λ calm. omega arith;
     files = λ without. without;
+    map = λ stays. refl;
     found = refl;
     pending = refl;
     failed = refl;
@@ -109,6 +111,7 @@ module _ (disk : Shown) (session : Session) where
     replies = λ last m stands. replies_built m c (Refused r) built (refused_allows m c r (refused last m stands));
     asked = λ calm. omega arith;
     files = λ without. without;
+    map = λ stays. refl;
     found = refl;
     pending = refl;
     failed = refl;
@@ -127,7 +130,7 @@ module _ (disk : Shown) (session : Session) where
       refused_as : (r : Result Unit Refusal) → PromisesOne session.volumes session.pool.found.blocks c name size kind new r → (last m : Machine) → StandsFor disk session last m → refusal m c ≡ refusal_of r
       refused_as r did last m stands =
           ap (λ (k : Machine). refusal k c) (sym stands.machine)
-          ∙ did.agrees (tables disk session.pool session.volumes fit.housed.long last stands.held) (machine_held disk session.pool session.volumes)
+          ∙ did.agrees (contents disk session.pool session.volumes fit.housed.long last stands.held) (machine_held disk session.pool session.volumes)
           (can_have_all disk session.pool session.volumes fit.housed.long last stands.held) (has_volumes disk session.pool session.volumes fit.housed.long last stands.held)
 
       by_name : (after : Session) (reply : Reply) → IsManaged session c name after reply → (n : List ℕ) → managed_by c ≡ Some n → IsManaged session c n after reply
@@ -153,6 +156,7 @@ module _ (disk : Shown) (session : Session) where
         replies = λ last m stands. replies_built m c Done built (done m (refused_as (Ok u) did last m stands));
         asked = λ calm. absurd (true≢false (sym changes ∙ calm));
         files = files_promised session c name size kind new did.done;
+        map = λ stays. refl;
         found = refl;
         pending = refl;
         failed = refl;
@@ -208,7 +212,7 @@ module _ (disk : Shown) (session : Session) where
       destroyed_as : (r : Result Unit Refusal) → Destroys session.volumes session.pool name new left r → (last m : Machine) → StandsFor disk session last m → refusal m removal ≡ refusal_of r
       destroyed_as r did last m stands =
           ap (λ (k : Machine). refusal k removal) (sym stands.machine)
-          ∙ did.agrees (tables disk session.pool session.volumes fit.housed.long last stands.held) session.pool.found.blocks (machine_held disk session.pool session.volumes)
+          ∙ did.agrees (contents disk session.pool session.volumes fit.housed.long last stands.held) session.pool.found.blocks (machine_held disk session.pool session.volumes)
           (has_volumes disk session.pool session.volumes fit.housed.long last stands.held)
 
       by_its_name : (after : Session) (reply : Reply) → IsManaged session removal name after reply → (n : List ℕ) → managed_by removal ≡ Some n → IsManaged session removal n after reply
@@ -239,6 +243,7 @@ module _ (disk : Shown) (session : Session) where
         replies = λ last m stands. replies_built m removal Done refl (answer_allows m removal Done (destroyed_as (Ok u) did last m stands) refl refl);
         asked = λ calm. asked_without session fit name new left did.done;
         files = files_without session fit name new left did.done;
+        map = λ stays. absurd (true≢false stays);
         found = did.done.gone.found;
         pending = refl;
         failed = refl;
@@ -308,7 +313,7 @@ module _ (disk : Shown) (session : Session) where
         unfolding answer
         answered last m stands = subst (λ (k : Machine). Allows k asks reply) stands.machine
             (answer_allows k asks reply (stat_by k (Some v) its) refl
-            (is.told ∙ ap Numbers (stat_is x (table_for disk session.pool x) (one disk session.pool session.volumes fit.housed.long last stands.held is.slot x is.there).stands.ledger) ∙ sym (ap about its)))
+            (is.told ∙ ap Numbers (stat_is x (content_for disk session.pool x) (one disk session.pool session.volumes fit.housed.long last stands.held is.slot x is.there).stands.ledger) ∙ sym (ap about its)))
           where
             k : Machine
             k = machine_held disk session.pool session.volumes
@@ -339,6 +344,7 @@ module _ (disk : Shown) (session : Session) where
           replies = λ last m stands. replies_built m asks reply refl (answered last m stands);
           asked = λ calm. omega arith;
           files = λ without. without;
+          map = λ stays. refl;
           found = refl;
           pending = refl;
           failed = refl;

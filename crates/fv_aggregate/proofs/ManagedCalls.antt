@@ -47,10 +47,12 @@ module _ (disk : Shown) (old : Session) (c : Command) (new : Session) (reply : R
   managed_plain at no_list no_point = record {
     refused = λ refused. (refl, over.refused refused);
     calm = λ other few. refl;
+    map = λ other stays few. over.map stays;
     wanting = λ other few. tt;
     damage = tt;
     unbuilt = λ fresh none. ap Ok (over.unbuilt none);
     listed = λ list. absurd (no_list list);
+    untouched = λ list. absurd (no_list list);
     pointed = λ cp. absurd (no_point cp);
     memory = λ cp. absurd (no_point cp);
     managed = λ fresh name of. record { reply = reply; is = refl; managed = over.managed name of };

@@ -25,7 +25,7 @@ use Rattle.fv_volume.proofs.Standings.{still_led, still_well}
 use Rattle.fv_volume.proofs.Told.{is_inside}
 use Rattle.fv_volume.proofs.Undamaged.{no_damage}
 use Rattle.fv_cp.specs.Held.{machine_held, IsHeld, IsHeldIn}
-use Rattle.fv_cp.specs.Lent.{asked_by, blocks_asked}
+use Rattle.fv_cp.specs.Lent.{asked_by, blocks_asked, FitTogether}
 use Rattle.fv_cp.specs.Placing.{pending_files}
 use Rattle.fv_aggregate.specs.declared.fault.Fault.{Fault}
 use Rattle.fv_aggregate.specs.declared.fault.Fault.TheVariants.{DiskFault, Damaged, Memory}
@@ -40,11 +40,11 @@ use Rattle.fv_aggregate.proofs.Asked.{calm_damage, calm_memory, damaged_at, rose
 use Rattle.fv_aggregate.proofs.Becoming.{machine_stays}
 use Rattle.fv_aggregate.proofs.CallEnds.{goes_broken, goes_damaged, goes_done, goes_for_broken, goes_for_done, goes_for_fault, goes_wanting}
 use Rattle.fv_aggregate.proofs.Called.{called_held, IsCalled}
-use Rattle.fv_aggregate.proofs.Changed.{mine, pending_within, ready_changed, same_overheads}
+use Rattle.fv_aggregate.proofs.Changed.{fit_changed, mine, pending_within, ready_changed, same_overheads}
 use Rattle.fv_aggregate.proofs.Looked.{clear_read, last_overheads, placed_read, settled_read, stands_read}
 
 -- a volume that is the same but for those numbers is left as a change leaves it, too
-pub as_left : (x y : VolumeState) → y ≡ record x { numbers = y.numbers } → y ≡ record x { now = y.now; map = y.map; files = y.files; numbers = y.numbers; ledger = y.ledger; changed = y.changed }
+as_left : (x y : VolumeState) → y ≡ record x { numbers = y.numbers } → y ≡ record x { now = y.now; map = y.map; files = y.files; numbers = y.numbers; ledger = y.ledger; changed = y.changed }
 as_left x y same = let is = sym same in same ∙ (λ j. record x { now = (is j).now; map = (is j).map; files = (is j).files; numbers = y.numbers; ledger = (is j).ledger; changed = (is j).changed })
 
 module _ (d e : Shown) (s : Session) (q : Pool) (slot : ℕ) (x y : VolumeState) (there : state_at s.volumes slot ≡ Some x) (long : length s.volumes ≡ 64) (reads : Reads d s.pool e q)
@@ -212,10 +212,26 @@ module _ (d e : Shown) (laws : IsDisk d) (s : Session) (q : Pool) (slot : ℕ) (
 
 -- ---- the volume of the slot
 
-pub some_there : (o : Option VolumeState) → is_some o ≡ true → (x : VolumeState) × (o ≡ Some x)
+some_there : (o : Option VolumeState) → is_some o ≡ true → (x : VolumeState) × (o ≡ Some x)
 some_there None some = cc
 some_there (Some x) some = (x, refl)
 
-pub slot_numbered : (d e : Shown) (p q : Pool) (states stay : States) (slot : ℕ) (x : VolumeState) → state_at states slot ≡ Some x → (r : Result Unit BlockFault)
-    → NumbersSlot d p states slot (state_at states slot) e q stay r → IsSlotNumbered d p states slot x e q stay r
-slot_numbered d e p q states stay slot x there r is = subst (λ (o : Option VolumeState). NumbersSlot d p states slot o e q stay r) there is
+-- the volume of a slot, of which the numbers were read
+pub record IsNumberedAt (d e : Shown) (p q : Pool) (states stay : States) (slot : ℕ) (r : Result Unit BlockFault) : Type 0 where
+  pub was : VolumeState
+  pub there : state_at states slot ≡ Some was
+  pub done : IsSlotNumbered d p states slot was e q stay r
+
+-- so it is of a session whose slot has a volume
+pub slot_numbered : (d e : Shown) (before s : Session) → before ≡ s → (q : Pool) (stay : States) (slot : ℕ) → is_some (state_at s.volumes slot) ≡ true → (r : Result Unit BlockFault)
+    → NumbersSlot d before.pool before.volumes slot (state_at before.volumes slot) e q stay r → IsNumberedAt d e s.pool q s.volumes stay slot r
+slot_numbered d e before s same q stay slot some r is =
+    let one = some_there (state_at s.volumes slot) some in
+    let said = subst (λ (n : Session). NumbersSlot d n.pool n.volumes slot (state_at n.volumes slot) e q stay r) same is in
+    record { was = one.0; there = one.1; done = subst (λ (o : Option VolumeState). NumbersSlot d s.pool s.volumes slot o e q stay r) one.1 said }
+
+-- its volumes fit together still
+pub fit_numbered : (d e : Shown) (p q : Pool) (states left : States) (slot : ℕ) (r : Result Unit BlockFault) → IsNumberedAt d e p q states left slot r → FitTogether p states → FitTogether q left
+fit_numbered d e p q states left slot r is fit =
+    let n = is.done.numbers in
+    subst (FitTogether q) (sym is.done.row) (fit_changed d e p q states slot is.was is.done.now is.there n.reads (as_left is.was is.done.now n.same) n.ready fit.housed.long fit)

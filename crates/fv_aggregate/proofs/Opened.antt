@@ -25,7 +25,7 @@ use Rattle.fv_cp.specs.Held.{IsHeld}
 use Rattle.fv_cp.specs.Lent.{FitTogether, IsLent, blocks_asked}
 use Rattle.fv_cp.specs.Placing.{AreReady, IsReadyIn}
 use Rattle.fv_cp.proofs.Lendable.{held_machine, lent_held}
-use Rattle.fv_volume.specs.Housed.{HaveReach}
+use Rattle.fv_volume.specs.Housed.{HaveReaches}
 use Rattle.fv_aggmap.specs.Space.{blocks_of}
 use Rattle.fv_aggmap.proofs.Room.{room_when_sound}
 use Rattle.fv_disk.specs.declared.fault.BlockFault.{BlockFault}
@@ -112,7 +112,7 @@ lent_opened disk session m settled whole opened machine =
       states = opened.states m tells;
       built = subst (λ (w : View). is_built w ≡ true) (sym alike) tells.built;
       tables = subst (λ (w : View). AreTables (seen w)) (sym alike) tells.sound.tables;
-      reach = subst (λ (w : View). HaveReach w session.volumes) (sym alike) (reach_opened disk.reads found m tells session.volumes session.pool.containers opened.slots whole);
+      reach = subst (λ (w : View). HaveReaches w session.volumes) (sym alike) (reach_opened disk.reads found m tells session.volumes session.pool.containers opened.slots whole);
     }
 
 pub opened_for : (disk : Shown) (session : Session) (m : Machine) → IsSettled disk → IsTrue disk.tells → ((b : ℕ) → length (disk.reads b) ≡ 4096) → IsOpened disk.reads session → AreOpened disk disk.reads session → IsFresh session → machine_of disk.reads ≡ Some m → StandsFor disk session m m

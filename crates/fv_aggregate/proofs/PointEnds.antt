@@ -37,14 +37,17 @@ use Rattle.fv_cp.specs.Held.{machine_held, IsHeld}
 use Rattle.fv_cp.specs.Lent.{blocks_asked, IsLentAt}
 use Rattle.fv_cp.specs.Placing.{pending_files, core_of, HaveNoFiles, KeepCores}
 use Rattle.fv_cp.specs.Points.{LacksRoom}
-use Rattle.fv_cp.specs.Settling.{GoesOnWhole, HaveFullRoom, IsHeldPoint, OldOrHeld, StillHeld, WholeCounts, WholeFails}
+use Rattle.fv_cp.specs.Settling.{GoesOnWhole, HaveFullRoom, IsHeldPoint, IsStill, OldOrHeld, StillHeld, WholeCounts, WholeFails}
 use Rattle.fv_disk.specs.declared.fault.BlockFault.TheVariants as block
+use Rattle.fv_volume.specs.declared.fault.VolumeFault.{VolumeFault}
 use Rattle.fv_volume.specs.declared.fault.VolumeFault.TheVariants as cp
 use Rattle.fv_volume.specs.declared.pool.Pool.{Pool}
 use Rattle.fv_volume.specs.declared.state.VolumeState.{VolumeState}
 use Rattle.fv_volume.specs.Creating.{Admits}
 use Rattle.fv_volume.specs.Loading.{IsLoaded}
 use Rattle.fv_volume.specs.Slots.{committed_by, is_named, sum_of}
+use Rattle.fv_volume.specs.Files.{IsLabelled}
+use Rattle.fv_volume.specs.Held.{IsHeldIn}
 use Rattle.fv_volume.specs.States.{States, state_at, view_over}
 use Rattle.fv_volume.proofs.FreeNumbers.{has_numbers}
 use Rattle.fv_volume.proofs.StillLoaded.{none_loaded}
@@ -58,7 +61,21 @@ use Rattle.fv_aggregate.proofs.Clear.{clear_is_free, clear_stays, free_and_place
 use Rattle.fv_aggregate.proofs.Standing.{settled_after_reads}
 use Rattle.fv_aggregate.proofs.Sums.{asked_within, none_pending, one_pending, over_slots, overheads_are, overheads_kept, same_overheads}
 
+-- what a point that was not done says, for the fault that it answered
+pub still_as : (old : Shown) (pool : Pool) (states : States) (new : Shown) (left : Pool) (stay : States) (said fault : VolumeFault) → said ≡ fault → IsStill old pool states new left stay said → IsStill old pool states new left stay fault
+still_as old pool states new left stay said fault is still = subst (IsStill old pool states new left stay) is still
+
+-- so it is of a session
+pub still_said : (old : Shown) (before session : Session) → before ≡ session → (new : Shown) (left : Pool) (stay : States) (said fault : VolumeFault) → said ≡ fault
+    → IsStill old before.pool before.volumes new left stay said → IsStill old session.pool session.volumes new left stay fault
+still_said old before session same new left stay said fault is still =
+    subst (λ (s : Session). IsStill old s.pool s.volumes new left stay fault) same (still_as old before.pool before.volumes new left stay said fault is still)
+
 -- ---- before a point
+
+held_labelled : (disk : Shown) (pool : Pool) (s : ℕ) (o : Option VolumeState) → IfSome o (IsHeldIn disk pool s) → IfSome o (IsLabelled s)
+held_labelled disk pool s None is = tt
+held_labelled disk pool s (Some x) is = subst (λ (n : ℕ). IsLabelled n x) is.slot is.ready.labelled
 
 -- a session that stands for a machine has the numbers and the blocks that a point asks for
 pub has_full_room : (disk : Shown) (session : Session) (last m : Machine) → StandsFor disk session last m → HaveFullRoom session.pool session.volumes
@@ -67,7 +84,7 @@ has_full_room disk session last m stands =
     record {
       numbers = λ s. has_numbers disk session.pool s (state_at session.volumes s) (stands.held.each s) (omega (arith, one_pending session.volumes s, stands.few));
       free = omega (arith, all, stands.few, stands.room);
-      blocks = omega (arith, all, asked_within session.volumes, stands.pending, stands.room);
+      blocks = omega (arith, all, asked_within session.volumes (λ s. held_labelled disk session.pool s (state_at session.volumes s) (stands.held.each s)), stands.pending, stands.room);
     }
 
 -- what the session stands for, by its parts

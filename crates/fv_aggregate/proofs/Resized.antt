@@ -13,7 +13,7 @@ use Rattle.fv_container.specs.Chains.{container_at}
 use Rattle.fv_volume.specs.declared.pool.Pool.{Pool}
 use Rattle.fv_volume.specs.declared.state.VolumeState.{VolumeState}
 use Rattle.fv_volume.specs.Calls.{Has}
-use Rattle.fv_volume.specs.OneVolume.{table_for, volume_for}
+use Rattle.fv_volume.specs.OneVolume.{content_for, volume_for}
 use Rattle.fv_volume.specs.Promising.{promised, IsPromised, PromisesOne}
 use Rattle.fv_volume.specs.States.{States}
 use Rattle.fv_volume.proofs.PromisedAll.{each_promised, held_promised, housed_promised, lent_promised, names_promised, ready_promised, spaced_promised, sum_promised}
@@ -98,7 +98,7 @@ module _ (session : Session) (c : Command) (name : List ℕ) (size : VolumeState
 
     -- so it is the machine after the command, where that is accepted
     machine_promised : refusal m c ≡ None → machine_held disk pool new ≡ next m c
-    machine_promised accepted = becomes ∙ sym (ap (λ (o : Option Refusal). cond (is_some o) m (effect m c)) accepted ∙ ap (changed m) (is.becomes (table_for disk pool x) m has))
+    machine_promised accepted = becomes ∙ sym (ap (λ (o : Option Refusal). cond (is_some o) m (effect m c)) accepted ∙ ap (changed m) (is.becomes (content_for disk pool x) m has))
 
   pub stands_for_promised : (disk : Shown) → FitTogether pool states → Stands disk session → (last m : Machine) → StandsFor disk session last m → refusal m c ≡ None → StandsFor disk now last (next m c)
   stands_for_promised disk fit there last m stands accepted =

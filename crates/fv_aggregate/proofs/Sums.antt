@@ -1,10 +1,11 @@
 -- What the volumes of a session sum up to, by slot and by view.
 use Rattle.std.proofs.Common.{◌≡◌, ◌<◌, ◌≤◌, ◌+◌, ℕ, suc, Bool, true, false, cond, [], ◌∷◌, length, Option, Some, None, sum_by, refl, sym, ap, ◌∙◌, ⊎_elim, arith}
+use Rattle.std.specs.Prelude.{IfSome}
 use Rattle.std.specs.List.{range_with_len}
 use Rattle.std.specs.Option.{option_map, option_map_or}
 use Rattle.std.proofs.lemmas.Bool.{cases_lt}
 use Rattle.std.proofs.lemmas.List.{get_or_past}
-use Rattle.std.proofs.lemmas.List.Sums.{get_or-le-sum_by, sum_by-cons, sum_by-le-sum_by, sum_by-set}
+use Rattle.std.proofs.lemmas.List.Sums.{get_or-le-sum_by, sum_by-cons, sum_by-set}
 use Rattle.fv_disk.specs.Shown.{Image}
 use Rattle.fv_model.specs.Space.{overhead}
 use Rattle.fv_image.specs.Views.{Head, View, slots}
@@ -14,7 +15,10 @@ use Rattle.fv_cp.specs.Lent.{asked_by, blocks_asked}
 use Rattle.fv_cp.specs.Placing.{core_of, pending_by, pending_files, HaveNoFiles, HasNoFiles, KeepCores}
 use Rattle.fv_volume.specs.declared.pool.Pool.{Pool}
 use Rattle.fv_volume.specs.declared.state.VolumeState.{VolumeState}
+use Rattle.fv_volume.specs.Files.{IsLabelled}
 use Rattle.fv_volume.specs.States.{States, head_in, state_at, view_over, with_state}
+use Rattle.fv_volume.specs.Writing.{asked}
+use Rattle.fv_volume.proofs.MapCounts.{asked_alone}
 use Rattle.fv_aggregate.specs.Standing.{overhead_by, overheads_in}
 
 by_slot : (f : Option VolumeState → ℕ) (g : ℕ → Option VolumeState) (xs : States) (from : ℕ) → ((k : ℕ) → k < length xs → g (from + k) ≡ state_at xs k) → sum_by f xs ≡ sum_by (λ s. f (g s)) (range_with_len from (length xs))
@@ -32,17 +36,21 @@ over_slots f states long =
 
 -- ---- overheads
 
--- the blocks that a consistency point asks for are overheads
-pub asked_within : (states : States) → blocks_asked states ≤ overheads_in states
-asked_within states = sum_by-le-sum_by asked_by overhead_by states so
+-- the blocks that a consistency point asks for are overheads, since no volume has a snapshot
+pub asked_within : (states : States) → ((s : ℕ) → IfSome (state_at states s) (IsLabelled s)) → blocks_asked states ≤ overheads_in states
+asked_within states labelled = row states (λ s. so s (state_at states s) (labelled s))
   where
     chosen : (b : Bool) (n : ℕ) → cond b n 0 ≤ n
     chosen true n = omega arith
     chosen false n = omega arith
 
-    so : (x : Option VolumeState) → asked_by x ≤ overhead_by x
-    so None = omega arith
-    so (Some x) = chosen x.changed (overhead x.span)
+    so : (s : ℕ) (x : Option VolumeState) → IfSome x (IsLabelled s) → asked_by x ≤ overhead_by x
+    so s None is = omega arith
+    so s (Some x) is = omega (arith, chosen x.changed (asked x), asked_alone s x is)
+
+    row : (xs : States) → ((k : ℕ) → asked_by (state_at xs k) ≤ overhead_by (state_at xs k)) → sum_by asked_by xs ≤ sum_by overhead_by xs
+    row [] each = omega arith
+    row (x ∷ xs) each = omega (arith, each 0, row xs (λ k. each (suc k)), sum_by-cons asked_by x xs, sum_by-cons overhead_by x xs)
 
 -- the overheads of the volumes are those of what they show
 pub overheads_are : (pool : Pool) (states : States) (i : Image) → length states ≡ 64 → overheads_in states ≡ overheads (view_over pool states i)

@@ -25,7 +25,7 @@ use Rattle.fv_aggregate.specs.declared.session.Session.{Session}
 use Rattle.fv_aggregate.specs.Adding.{IsPointed}
 use Rattle.fv_aggregate.specs.Asking.{AsksWithin, IsShort}
 use Rattle.fv_aggregate.specs.Causes.{KeepsEnds}
-use Rattle.fv_aggregate.specs.Commands.{changed_by, dirty_limit, finds_file, has_range, is_built, is_get, is_refusal, managed_by, room_of, volume_asked}
+use Rattle.fv_aggregate.specs.Commands.{changed_by, dirty_limit, finds_file, has_range, is_built, is_get, is_refusal, managed_by, removes_volume, room_of, volume_asked}
 use Rattle.fv_aggregate.specs.Known.{KnowsNamed}
 use Rattle.fv_aggregate.specs.Managing.{IsManaged}
 use Rattle.fv_aggregate.specs.Standing.{taken_since, OneOf, Stands, StandsAfter, StandsFor}
@@ -165,17 +165,24 @@ pub record IsAnswered (old : Session) (command : Command) (name : List ℕ) (new
   pub is : result ≡ Ok reply
   pub managed : IsManaged old command name new reply
 
+-- the room of a command, with what is pending, stays within the dirty limit, so that no consistency point comes before it
+abbrev pub IsWithinLimit : Session → Command → Type 0
+IsWithinLimit session command = (room_of command ≡ 0) ⊎ (session.pending + room_of command ≤ dirty_limit)
+
 -- What a command that reads no file does beside, whatever the disk holds. Refused it leaves all as it was, and one that isn't built is refused as
 -- no command. Without room, or with room within the dirty limit, it doesn't reach the disk, but for a `cp`; and then it leaves the session where
--- memory ran out. `vol list` answers the names of the session's volumes. A `cp` that is done leaves nothing pending and no file in memory; where
+-- memory ran out, and takes no block and gives none back, but for a removal. `vol list` answers the names of the session's volumes and leaves all as it
+-- was. A `cp` that is done leaves nothing pending and no file in memory; where
 -- none was there it has no want of memory. Damage comes for want of blocks alone. A command on a whole volume is answered, without a fault.
 pub record IsPlain {D : Type 0} (command : Command) (shown : Shown) (before : D) (old : Session) (shown_after : Shown) (after : D) (new : Session) (result : Result Reply Fault) : Type 0 where
   pub refused : IfOk result (λ reply. IsTrue (is_refusal reply) → IsUntouched before old after new)
-  pub calm : command ≢ Cp → (room_of command ≡ 0) ⊎ (old.pending + room_of command ≤ dirty_limit) → after ≡ before
-  pub wanting : command ≢ Cp → (room_of command ≡ 0) ⊎ (old.pending + room_of command ≤ dirty_limit) → IfErr result (λ e. e ≡ Memory → new ≡ old)
+  pub calm : command ≢ Cp → IsWithinLimit old command → after ≡ before
+  pub map : command ≢ Cp → removes_volume command ≡ false → IsWithinLimit old command → new.pool.map ≡ old.pool.map
+  pub wanting : command ≢ Cp → IsWithinLimit old command → IfErr result (λ e. e ≡ Memory → new ≡ old)
   pub damage : IfErr result (IsForWant shown old shown_after new)
   pub unbuilt : IsNone old.failed → is_built command ≡ false → result ≡ Ok (Refused Syntax)
   pub listed : command ≡ VolList → IfOk result (λ reply. reply ≡ Names (names_from old.volumes 0 slot_count))
+  pub untouched : command ≡ VolList → IsUntouched before old after new
   pub pointed : command ≡ Cp → OnOk result (IsPointed shown old new)
   pub memory : command ≡ Cp → HaveNoFiles old.volumes → IfErr result (λ e. e ≢ Memory)
   pub managed : IsNone old.failed → (name : List ℕ) → managed_by command ≡ Some name → IsAnswered old command name new result

@@ -85,6 +85,11 @@ changes_volume (VolResize volume size) = true
 changes_volume (VolGuarantee volume kind) = true
 changes_volume command = is_some (changed_by command)
 
+-- whether a command removes a volume, which gives all its blocks back in memory
+abbrev pub removes_volume : Command → Bool
+removes_volume (VolDestroy volume) = true
+removes_volume command = false
+
 -- the volume that a command asks for files
 abbrev pub volume_asked : Command → Option (List ℕ)
 volume_asked (Get volume snapshot file index) = Some volume

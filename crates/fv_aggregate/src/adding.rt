@@ -14,7 +14,7 @@ ghost use Rattle.fv_aggregate.specs.Adding.{IsAdded};
 ghost use Rattle.fv_aggregate.specs.Calls.{Goes, GoesFor, IsForWant, KeepsAsking};
 ghost use Rattle.fv_aggregate.specs.Commands.{dirty_limit, is_refusal};
 ghost use Rattle.fv_aggregate.specs.Known.{KeepsNumbers};
-ghost use Rattle.fv_aggregate.specs.Standing.{IsWithoutFiles, Stands, StandsFor};
+ghost use Rattle.fv_aggregate.specs.Standing.{HoldsAsCommitted, IsWithoutFiles, Stands, StandsFor};
 
 use crate::fault::Fault;
 use crate::session::Session;
@@ -44,7 +44,9 @@ impl Session {
             → IfOk result (Allows m (VolCreate name.now size kind)) }
         ensures refused { IfOk result (λ reply. IsTrue (is_refusal reply) → (disk.new ≡ disk.old) × (self.new ≡ self.old)) }
         ensures calm { self.old.pending + overhead (span_of size 0 0) ≤ dirty_limit → disk.new ≡ disk.old }
+        ensures map { self.old.pending + overhead (span_of size 0 0) ≤ dirty_limit → self.new.pool.map ≡ self.old.pool.map }
         ensures files { IsTrue (D.shown disk.old).tells → IsWithoutFiles self.old → OnOk result (IsWithoutFiles self.new) }
+        ensures same { IsTrue (D.shown disk.old).tells → HoldsAsCommitted self.old → OnOk result (HoldsAsCommitted self.new) }
         ensures wanting { self.old.pending + overhead (span_of size 0 0) ≤ dirty_limit → IfErr result (λ e. e ≡ Memory → self.new ≡ self.old) }
         ensures numbers { IsNone self.new.failed → KeepsNumbers self.old.volumes self.new.volumes }
     {
@@ -74,7 +76,9 @@ impl Session {
             → GoesFor (D.shown disk.old) last m (next m (VolCreate name.now size kind)) (D.shown disk.new) self.new result }
         ensures reply { IfOk result (λ reply. reply ≡ Done) }
         ensures calm { self.old.pending + overhead admitted.span ≤ dirty_limit → disk.new ≡ disk.old }
+        ensures map { self.old.pending + overhead admitted.span ≤ dirty_limit → self.new.pool.map ≡ self.old.pool.map }
         ensures files { IsTrue (D.shown disk.old).tells → IsWithoutFiles self.old → OnOk result (IsWithoutFiles self.new) }
+        ensures same { IsTrue (D.shown disk.old).tells → HoldsAsCommitted self.old → OnOk result (HoldsAsCommitted self.new) }
         ensures wanting { self.old.pending + overhead admitted.span ≤ dirty_limit → IfErr result (λ e. e ≡ Memory → self.new ≡ self.old) }
         ensures numbers { IsNone self.new.failed → KeepsNumbers self.old.volumes self.new.volumes }
     {

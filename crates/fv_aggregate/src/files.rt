@@ -212,36 +212,16 @@ fn judge_slot<D: Disk>(
     others: u64,
     command: &Command,
 ) -> Result<(), VolumeFault>
-    requires slot { slot < slot_count }
-    requires there { is_some (state_at volumes.old slot) ≡ true }
+    requires aimed { IsAimed volumes.old slot command.now }
     requires ready { IfSome (state_at volumes.old slot) (IsReadyIn (D.shown disk.old) pool.old slot) }
     requires others { others ≤ 2 ^ 62 }
-    requires change { IfSome (state_at volumes.old slot) (λ x. IsChangeOf x.name command.now) }
     ensures judges { JudgesSlot (D.shown disk.old) pool.old (state_at volumes.old slot) others command.now (D.shown disk.new) pool.new result }
     ensures same { volumes.new ≡ volumes.old }
 {
     match volumes.get_mut(slot) {
-        Some(state) => judge_state(state, alloc, pool, disk, others, command),
+        Some(state) => state.judge(alloc, pool, disk, others, command),
         None => Err(VolumeFault::Refused(Refusal::NoVolume)),
     }
-}
-
-/// Judges a command on a volume.
-fn judge_state<D: Disk>(
-    state: &mut VolumeState,
-    alloc: Global,
-    pool: &mut Pool,
-    disk: &mut D,
-    others: u64,
-    command: &Command,
-) -> Result<(), VolumeFault>
-    requires ready { IsReady (D.shown disk.old) pool.old state.old }
-    requires others { others ≤ 2 ^ 62 }
-    requires change { IsChangeOf state.old.name command.now }
-    ensures judges { JudgesState (D.shown disk.old) pool.old state.old others command.now (D.shown disk.new) pool.new result }
-    ensures same { state.new ≡ state.old }
-{
-    state.judge(alloc, pool, disk, others, command)
 }
 
 /// Makes the change of a command on the volume of a slot, beside which the other volumes commit so many blocks.
@@ -254,35 +234,16 @@ fn change_slot<D: Disk>(
     others: u64,
     command: &Command,
 ) -> Result<(), VolumeFault>
-    requires slot { slot < slot_count }
-    requires there { is_some (state_at volumes.old slot) ≡ true }
+    requires aimed { IsAimed volumes.old slot command.now }
     requires ready { IfSome (state_at volumes.old slot) (IsReadyIn (D.shown disk.old) pool.old slot) }
     requires others { others ≤ 2 ^ 62 }
-    requires change { IfSome (state_at volumes.old slot) (λ x. IsChangeOf x.name command.now) }
     ensures { ChangesSlot (D.shown disk.old) pool.old volumes.old slot (state_at volumes.old slot) others command.now
         (D.shown disk.new) pool.new volumes.new result }
 {
     match volumes.get_mut(slot) {
-        Some(state) => change_state(state, alloc, pool, disk, others, command),
+        Some(state) => state.change(alloc, pool, disk, others, command),
         None => Err(VolumeFault::Refused(Refusal::NoVolume)),
     }
-}
-
-/// Makes the change of a command on a volume.
-fn change_state<D: Disk>(
-    state: &mut VolumeState,
-    alloc: Global,
-    pool: &mut Pool,
-    disk: &mut D,
-    others: u64,
-    command: &Command,
-) -> Result<(), VolumeFault>
-    requires ready { IsReady (D.shown disk.old) pool.old state.old }
-    requires others { others ≤ 2 ^ 62 }
-    requires change { IsChangeOf state.old.name command.now }
-    ensures { ChangesState (D.shown disk.old) pool.old state.old others command.now (D.shown disk.new) pool.new state.new result }
-{
-    state.change(alloc, pool, disk, others, command)
 }
 
 /// How many blocks a flush of the volume of a slot places at most.

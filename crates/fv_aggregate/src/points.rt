@@ -11,7 +11,7 @@ ghost use Rattle.fv_aggregate.specs.Adding.{HasRoom, IsPointed, StillAdmits};
 ghost use Rattle.fv_aggregate.specs.Calls.{Goes, GoesFor, IsForWant, KeepsAsking};
 ghost use Rattle.fv_aggregate.specs.Commands.{dirty_limit};
 ghost use Rattle.fv_aggregate.specs.Known.{KeepsNumbers};
-ghost use Rattle.fv_aggregate.specs.Standing.{IsWithoutFiles, Stands, StandsFor};
+ghost use Rattle.fv_aggregate.specs.Standing.{HoldsAsCommitted, IsWithoutFiles, Stands, StandsFor};
 
 use crate::fault::Fault;
 use crate::session::Session;
@@ -42,6 +42,7 @@ impl Session {
         ensures cores { OnOk result (KeepCores self.old.volumes self.new.volumes) }
         ensures calm { self.old.pending + room ≤ dirty_limit → (disk.new ≡ disk.old) × (self.new ≡ self.old) }
         ensures files { IsTrue (D.shown disk.old).tells → IsWithoutFiles self.old → OnOk result (IsWithoutFiles self.new) }
+        ensures same { IsTrue (D.shown disk.old).tells → HoldsAsCommitted self.old → OnOk result (HoldsAsCommitted self.new) }
         ensures numbers { IsNone self.new.failed → KeepsNumbers self.old.volumes self.new.volumes }
     {
         if self.has_room(room) {

@@ -13,12 +13,12 @@ ghost use Rattle.fv_aggregate.specs.declared.fault.Fault.TheVariants.{Memory};
 ghost use Rattle.fv_aggregate.specs.Adding.{IsPointed};
 ghost use Rattle.fv_aggregate.specs.Asking.{AsksWithin};
 ghost use Rattle.fv_disk.specs.DiskCalls.{OnlyReads};
-ghost use Rattle.fv_aggregate.specs.Calls.{CountsSteps, Goes, GoesFor, IsForWant, IsOnFiles, IsPlain, KeepsAsking, SameCounts};
+ghost use Rattle.fv_aggregate.specs.Calls.{CountsSteps, Goes, GoesFor, IsForWant, IsOnFiles, IsPlain, IsWithinLimit, KeepsAsking, SameCounts};
 ghost use Rattle.fv_aggregate.specs.Causes.{HasOpenCause, IsUnwritten, OpenFails};
-ghost use Rattle.fv_aggregate.specs.Commands.{Replies, changed_by, changes_volume, dirty_limit, machine_after, reads_files, room_of};
+ghost use Rattle.fv_aggregate.specs.Commands.{Replies, changed_by, changes_volume, machine_after, reads_files, removes_volume, room_of};
 ghost use Rattle.fv_aggregate.specs.Opening.{IsFresh, IsOpened};
 ghost use Rattle.fv_aggregate.specs.Known.{KeepsNumbers, KeepsNumbersBut, MayLose};
-ghost use Rattle.fv_aggregate.specs.Standing.{IsWithoutFiles, Stands, StandsFor, charged_in};
+ghost use Rattle.fv_aggregate.specs.Standing.{HoldsAsCommitted, IsWithoutFiles, Stands, StandsFor, charged_in};
 ghost use Rattle.fv_aggregate.specs.Telling.{charged_from};
 
 use crate::fault::{Fault, OpenFault};
@@ -134,8 +134,10 @@ impl Session {
         ensures on_files { reads_files command.now ≡ true → IsOnFiles command.now (D.shown disk.old) disk.old self.old (D.shown disk.new) disk.new self.new result }
         ensures point { IsTrue (D.shown disk.old).tells → (last m : Machine) → StandsFor (D.shown disk.old) self.old last m → command.now ≡ Cp
             → OnOk result (StandsFor (D.shown disk.new) self.new m m) }
-        ensures calm { command.now ≢ Cp → (room_of command.now ≡ 0) ⊎ (self.old.pending + room_of command.now ≤ dirty_limit) → OnlyReads (D.shown disk.old) (D.shown disk.new) }
+        ensures calm { command.now ≢ Cp → IsWithinLimit self.old command.now → OnlyReads (D.shown disk.old) (D.shown disk.new) }
         ensures files { IsTrue (D.shown disk.old).tells → changed_by command.now ≡ None → IsWithoutFiles self.old → OnOk result (IsWithoutFiles self.new) }
+        ensures same { IsTrue (D.shown disk.old).tells → changed_by command.now ≡ None → removes_volume command.now ≡ false → HoldsAsCommitted self.old
+            → OnOk result (HoldsAsCommitted self.new) }
         ensures steps { CountsSteps command.now (D.shown disk.old) self.old steps.old steps.new result }
         ensures numbers { IsNone self.new.failed → KeepsNumbersBut (MayLose command.now self.old.volumes) self.old.volumes self.new.volumes }
         ensures dead { IsSome self.old.failed → disk.new ≡ disk.old }

@@ -7,7 +7,6 @@ use Rattle.std.proofs.lemmas.List.Sums.{sum_by-set}
 use Rattle.fv_disk.specs.Shown.{Image, Shown}
 use Rattle.fv_model.specs.Spelling.{name_cmp}
 use Rattle.fv_model.specs.Machines.{Machine, capacity}
-use Rattle.fv_model.specs.Space.{overhead}
 use Rattle.fv_tables.proofs.Lists.{same_parts}
 use Rattle.fv_image.specs.Held.{AllKeep, layout_at}
 use Rattle.fv_image.specs.Views.{slots}
@@ -23,6 +22,7 @@ use Rattle.fv_volume.specs.Placing.{pending_of}
 use Rattle.fv_volume.specs.Slots.{sum_of}
 use Rattle.fv_volume.specs.States.{States, state_at, with_state}
 use Rattle.fv_volume.specs.Stored.{AreSpacedIn}
+use Rattle.fv_volume.specs.Writing.{asked}
 use Rattle.fv_volume.proofs.PlacedIn as one
 use Rattle.fv_volume.proofs.Told.{is_inside}
 use Rattle.fv_volume.proofs.Spending.{spent_one}
@@ -56,7 +56,7 @@ module _ (disk after : Shown) (pool left : Pool) (states stay : States) (x y : V
   asked_still ready =
       let sum = sum_by-set asked_by states x.slot (Some y) None in_list in
       let changed = one.changed_still disk after pool left states stay x y there now fit.housed placed ready in
-      let same : asked_by (Some y) ≡ asked_by (state_at states x.slot) = ap (λ (z : VolumeState). cond y.changed (overhead z.span) 0) placed.keeps ∙ ap (λ (t : Bool). cond t (overhead x.span) 0) changed ∙ sym (ap asked_by there) in
+      let same : asked_by (Some y) ≡ asked_by (state_at states x.slot) = ap (λ (z : VolumeState). cond y.changed (asked z) 0) placed.keeps ∙ ap (λ (t : Bool). cond t (asked x) 0) changed ∙ sym (ap asked_by there) in
       let all : blocks_asked stay ≡ blocks_asked (with_state states x.slot (Some y)) = ap blocks_asked now in
       omega (arith, sum, same, all)
 

@@ -10,7 +10,6 @@ use Rattle.fv_codec.specs.declared.inode.InodeRecord.{InodeRecord}
 use Rattle.fv_codec.specs.declared.pointer.Pointer.{Pointer}
 use Rattle.fv_model.specs.Machines.{Machine, capacity}
 use Rattle.fv_model.specs.Spelling.{name_cmp}
-use Rattle.fv_tables.specs.Reached.{is_listed, items}
 use Rattle.fv_tables.proofs.Lists.{all_of_range, same_parts}
 use Rattle.fv_image.specs.HintRules.{has_known_places, has_split_places, has_true_hints, is_based, is_copied, is_in_label, is_known, leads_unknown, leaves_base, rests_on_base}
 use Rattle.fv_image.specs.ReachRules.{all_volumes, are_distinct, has_distinct_files, has_pointers_in_range, has_reached_kinds, has_reached_positions, has_reached_shapes, reaches_once}
@@ -19,20 +18,21 @@ use Rattle.fv_image.specs.Soundness.{AreTables}
 use Rattle.fv_image.specs.TableRules.{has_cells_within, has_levels, has_marks_over, has_one_to_one, has_stamps_past}
 use Rattle.fv_image.specs.VolumeRules.{comes_to_end, commits_seen, has_bases, has_commits_in_capacity, has_distinct_snapshots, has_footing, has_use_in_size, has_wide_spans}
 use Rattle.fv_image.specs.Views.{Footing, Snap, View, slots}
-use Rattle.fv_image.specs.Volumes.{active_at, named_with, standing_of, told_with, volumes_with}
+use Rattle.fv_image.specs.Volumes.{active_at, named_with, told_with, volumes_with}
 use Rattle.fv_image.specs.WholeMachine.{has_no_reserves, is_built}
 use Rattle.fv_image.proofs.LoneTables.{form_base, form_snapshots}
 use Rattle.fv_volmap.specs.Slots.{active_of}
 use Rattle.fv_volume.specs.declared.pool.Pool.{Pool}
 use Rattle.fv_volume.specs.declared.state.VolumeState.{VolumeState}
 use Rattle.fv_volume.specs.Files.{AreStates, IsState, has_form}
-use Rattle.fv_volume.specs.States.{States, head_in, state_at, table_in, view_over}
+use Rattle.fv_volume.specs.Housed.{ReachesAll}
+use Rattle.fv_volume.specs.States.{States, head_in, state_at, view_over}
 use Rattle.fv_volume.specs.Trees.{no_trees}
 use Rattle.fv_cp.specs.Held.{machine_held, named_held, IsHeld, IsHeldIn}
 use Rattle.fv_cp.specs.Lent.{FitTogether, IsLent}
 use Rattle.fv_cp.specs.Placing.{HasNoFiles, HasWholeMap}
 use Rattle.fv_cp.specs.Points.{machine_lent}
-use Rattle.fv_bits.specs.Members.{is_member}
+use Rattle.fv_volume.proofs.Reaches.{reaches_alone}
 use Rattle.fv_volume.proofs.Ruled as rule
 use Rattle.fv_volume.proofs.Ruled.{AreRuled, lone}
 use Rattle.fv_volume.proofs.HeldAlone as alone
@@ -140,7 +140,8 @@ module _ (disk : Shown) (pool : Pool) (states : States) (before : Machine) (held
     states = each_state;
     built = built;
     tables = tables;
-    reach = λ s low. of_each states fit.housed.volumes (λ s o. IfSome o (λ x. (v : ℕ) → is_member (active_of x.map) v ≡ is_listed (items (standing_of w s (table_in x.active))) v)) (λ s. tt) (λ x e. alone.reach_is disk pool states fit.housed held.slots held.spaced x e (one x e) (no_files x e) (whole x e)) s;
+    reach = λ s low. of_each states fit.housed.volumes (λ s o. IfSome o (ReachesAll w s)) (λ s. tt)
+        (λ x e. reaches_alone w x.slot x (one x e).ready.labelled.form (alone.reach_is disk pool states fit.housed held.slots held.spaced x e (one x e) (no_files x e) (whole x e))) s;
   }
 
   -- The machine that they are lent for is the one that they stand for.

@@ -20,8 +20,8 @@ use Rattle.fv_volume.specs.States.{States, state_at}
 use Rattle.fv_volume.specs.Stored.{IsStored, has_block, place_at, place_in}
 use Rattle.fv_volume.specs.Writing.{HasOwnBlocks, IsWritten, IsTaken, on_disk}
 use Rattle.fv_volume.proofs.Drawing.{leads_at}
-use Rattle.fv_volume.proofs.Renewing.{low_of}
 use Rattle.fv_volume.proofs.Spacing.{LeavesSpaced, written_leaves}
+use Rattle.fv_volume.proofs.StayingMaps.{stays_within}
 use Rattle.fv_volume.proofs.Stored.{stored, stored_still}
 use Rattle.fv_volume.proofs.Waiting.{waits_first, waits_on}
 use Rattle.fv_cp.specs.Lent.{IsLent, IsLentSlot, asked_by, blocks_asked}
@@ -137,15 +137,15 @@ module _ (disk : Shown) (pool : Pool) (states : States) (before : Machine) (lent
   still : (k : ℕ) → k < 64 → k ≢ s → IsOnCourse pool states first s k (is.now k) (get_or labels k 0) (container_at left.containers k) i → IsOnCourse pool states first s k (is.now k) (get_or labels k 0) (container_at left.containers k) j
   still k small other on = by on
     where
-      same_at : (y : VolumeState) (map : Mapped) (b v : ℕ) → is.now k ≡ Some y → container_at left.containers k ≡ Some map → v < y.span → place_at map v ≡ b → b ≢ 0 → j b ≡ i b
-      same_at y map b v at lies low place some = leaves.others k b small other ((λ l. has_block (at l) (lies l) b) ∙ or_right (is_at b y.label) _ (or_right (names map.tree b) _ (leads_at map (entry_count y.span) v b (omega (arith, low)) place some)))
+      same_at : (y : VolumeState) (map : Mapped) (b v : ℕ) → is.now k ≡ Some y → container_at left.containers k ≡ Some map → v < entry_count y.span → place_at map v ≡ b → b ≢ 0 → j b ≡ i b
+      same_at y map b v at lies low place some = leaves.others k b small other ((λ l. has_block (at l) (lies l) b) ∙ or_right (is_at b y.label) _ (or_right (names map.tree b) _ (leads_at map (entry_count y.span) v b low place some)))
 
       by : IsOnCourse pool states first s k (is.now k) (get_or labels k 0) (container_at left.containers k) i → IsOnCourse pool states first s k (is.now k) (get_or labels k 0) (container_at left.containers k) j
       by (as_lent waits at) = as_lent waits (record {
         state = at.state;
         lies = at.lies;
         named = at.named;
-        stay = λ y map here lies v on some. same_at y map (place_at map v) v (at.state ∙ here) (at.lies ∙ lies) (low_of y v on) refl some ∙ at.stay y map here lies v on some;
+        stay = λ y map here lies v on some. same_at y map (place_at map v) v (at.state ∙ here) (at.lies ∙ lies) (stays_within y v on) refl some ∙ at.stay y map here lies v on some;
       })
       by (renewed y low at differs same r) = renewed y low at differs same (record {
         old = r.old;
@@ -154,7 +154,7 @@ module _ (disk : Shown) (pool : Pool) (states : States) (before : Machine) (lent
         now = r.now;
         valid = r.valid;
         stored = stored_still y r.old (get_or labels k 0) r.new i j r.stored (λ b of. leaves.others k b small other ((λ l. has_block (same l) (r.now l) b) ∙ of));
-        stay = λ v on some. same_at (as_written y (get_or labels k 0)) r.new (place_at r.old v) v same r.now (low_of y v on) (ap place_in (r.stored.kept v on)) some ∙ r.stay v on some;
+        stay = λ v on some. same_at (as_written y (get_or labels k 0)) r.new (place_at r.old v) v same r.now (stays_within y v on) (ap place_in (r.stored.kept v on)) some ∙ r.stay v on some;
       })
 
   other_on_course : (k : ℕ) → k < 64 → k ≢ s → IsOnCourse pool states first (suc s) k (then_at k) (get_or now k 0) (container_at after.containers k) j

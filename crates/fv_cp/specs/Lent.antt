@@ -3,7 +3,6 @@ use Rattle.std.specs.Prelude.{◌≡◌, ◌<◌, ℕ, true, Option, Some, None,
 use Rattle.std.specs.List.{sum_by}
 use Rattle.fv_disk.specs.Shown.{Shown}
 use Rattle.fv_model.specs.Machines.{Machine}
-use Rattle.fv_model.specs.Space.{overhead}
 use Rattle.fv_image.specs.Held.{layout_at, AllKeep}
 use Rattle.fv_image.specs.Seen.{seen}
 use Rattle.fv_image.specs.Soundness.{AreTables}
@@ -19,8 +18,8 @@ use Rattle.fv_volume.specs.States.{States, state_at, view_over}
 use Rattle.fv_volume.specs.Trees.{no_trees}
 use Rattle.fv_volume.specs.Files.{AreStates}
 pub use Rattle.fv_volume.specs.Loading.{Houses}
-use Rattle.fv_volume.specs.Writing.{IsTaken, on_disk}
-pub use Rattle.fv_volume.specs.Housed.{AreHoused, HaveReach}
+use Rattle.fv_volume.specs.Writing.{IsTaken, asked, on_disk}
+pub use Rattle.fv_volume.specs.Housed.{AreHoused, HaveReaches}
 pub use Rattle.fv_volume.specs.Stored.{AreApartIn, AreSpacedIn, has_block}
 pub use Rattle.fv_volume.specs.UnderRoot.{IsLentAt, IsLentSlot, IsMapOf}
 
@@ -52,14 +51,14 @@ pub record IsLent (disk : Shown) (pool : Pool) (lent : States) (before : Machine
   pub states : AreStates (view_over pool lent disk.reads) no_trees lent
   pub built : is_built (view_over pool lent disk.reads) ≡ true
   pub tables : AreTables (seen (view_over pool lent disk.reads))
-  pub reach : HaveReach (view_over pool lent disk.reads) lent
+  pub reach : HaveReaches (view_over pool lent disk.reads) lent
 
 -- ---- room
 
--- the blocks that a volume asks for where it changed: its overhead
+-- the blocks that a volume asks for where it changed: its overhead, and those of the snapshots' maps that wait
 abbrev pub asked_by : Option VolumeState → ℕ
 asked_by None = 0
-asked_by (Some x) = cond x.changed (overhead x.span) 0
+asked_by (Some x) = cond x.changed (asked x) 0
 
 -- the blocks that a consistency point asks for
 abbrev pub blocks_asked : States → ℕ

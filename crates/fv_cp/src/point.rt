@@ -23,7 +23,6 @@ ghost use Rattle.fv_codec.specs.Blocks.{last_place};
 ghost use Rattle.fv_cp.specs.Course.{AreNamedFor, GoesPast, HasCome, label_lent};
 
 use crate::fault::CpFault;
-use fv_charge::overhead;
 use fv_codec::Root;
 use fv_disk::{Disk, Failed};
 use fv_root::{commit, first_block, next_found, root_place};
@@ -42,12 +41,12 @@ const SLOTS: u8 = 64;
 /// latter, on a settled disk. Each slot keeps its parent in the chain of containers. It takes no memory and reads nothing.
 ///
 /// # Errors
-/// `Damaged` comes only where fewer blocks are free than the overheads of the volumes that changed: at the place of the root that
+/// `Damaged` comes only where fewer blocks are free than the volumes that changed ask for: at the place of the root that
 /// counts, with both numbers. Nothing changes then. `DiskFault` comes only where a write or a barrier failed in this call; of what is
 /// in memory nothing is said then, of images as above. `Memory` doesn't come.
 ///
-/// Costs a write for each kept block; for each volume that changed, a step for each entry and a write for each of at most `overhead`
-/// blocks; beside that a commit, a step for each fixed block, and one for each 64 blocks.
+/// Costs a write for each kept block; for each volume that changed, a step for each entry and a write for each of at most as many
+/// blocks as it asks for; beside that a commit, a step for each fixed block, and one for each 64 blocks.
 pub fn consistency_point<D: Disk>(
     volumes: &mut Volumes,
     pool: &mut Pool,
@@ -84,7 +83,7 @@ pub fn consistency_point<D: Disk>(
     Ok(())
 }
 
-/// The blocks that the volumes ask for: the overhead of each that changed.
+/// The blocks that the volumes ask for that changed.
 fn blocks_asked(volumes: &Volumes) -> u64
     requires long { length volumes.now ≡ slot_count }
     requires volumes { (s : ℕ) → IfSome (state_at volumes.now s) (IsLabelled s) }
@@ -97,14 +96,14 @@ fn blocks_asked(volumes: &Volumes) -> u64
     asked
 }
 
-/// The blocks that the volume of a slot asks for; the greatest span, 1,048,576, has an overhead of 4151.
+/// The blocks that the volume of a slot asks for: its overhead, and those of its snapshots' maps that wait.
 fn asked_by(state: Option<&VolumeState>) -> u64
     requires { IfSome (option_copied state) (λ x. x.span ≤ greatest_span) }
     ensures value { result ≡ asked_by (option_copied state.entry) }
-    ensures most { result ≤ 4151 }
+    ensures most { result ≤ 4919 }
 {
     match state {
-        Some(state) if state.is_changed() => u64::from(overhead(state.span)),
+        Some(state) if state.is_changed() => state.asked(),
         _ => 0,
     }
 }

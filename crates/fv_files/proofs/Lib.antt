@@ -17,3 +17,5 @@ pub mod Ended
 pub mod Adding
 pub mod Counted
 pub mod Numbering
+pub mod Stays
+pub mod Settled

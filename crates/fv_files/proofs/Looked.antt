@@ -9,7 +9,7 @@ use Rattle.fv_disk.specs.declared.fault.BlockFault.TheVariants.{Memory}
 use Rattle.fv_tables.specs.Told.{Standing}
 use Rattle.fv_tree.specs.Sources.{Shown, Counts, IsCalm, IsUntouched}
 use Rattle.fv_tree.specs.Standing.{Fails}
-use Rattle.fv_tree.proofs.Causes.{calm_then, fails_later}
+use Rattle.fv_tree.proofs.Causes.{calm_then, counts_then, fails_later, untouched_then}
 use Rattle.fv_inode.specs.declared.info.Info.{Info}
 use Rattle.fv_inode.specs.Failing as inodes
 use Rattle.fv_files.specs.declared.files.Files.{Files}
@@ -54,6 +54,14 @@ counts_failed old new r e is = record { faults = is.faults; damages = is.damages
 
 pub counts_done : {S T : Type 0} (old new : Shown) (x : S) (y : T) → Counts {E = BlockFault} old new (Ok x) → Counts {E = BlockFault} old new (Ok y)
 counts_done old new x y is = record { faults = is.faults; damages = is.damages; spent = is.spent; calm = is.calm }
+
+-- a call that reads, after another that only read
+pub looks_then : {S T : Type 0} (told : Type 0) (f : Files) (old mid new : Shown) (x : S) (r : Result T BlockFault) → Looks told (table_in old f) old mid (Ok x) → Looks told (table_in mid f) mid new r → Looks told (table_in old f) old new r
+looks_then told f old mid new x r first second = record {
+  untouched = untouched_then old mid new first.untouched second.untouched;
+  counts = counts_then old mid new r first.counts.calm second.counts;
+  cause = IfErr-weaker r _ _ (λ e h. fails_after told (table_in old f) old mid new e first.counts.calm first.untouched.held (earlier (λ y. FilesFail told y mid new e) f old mid first.untouched.held h)) second.cause;
+}
 
 -- there is no memory
 pub looks_memory : {S T : Type 0} (told : Type 0) (x : Standing) (old new : Shown) (y : S) (e : BlockFault) → IsUntouched old new → Counts {E = BlockFault} old new (Ok y) → e ≡ Memory → Looks {T = T} told x old new (Err e)

@@ -6,3 +6,4 @@ pub mod Pending
 pub mod Calls
 pub mod Flushing
 pub mod Numbering
+pub mod Sharing

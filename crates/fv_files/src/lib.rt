@@ -15,6 +15,7 @@ mod numbers;
 mod pending;
 mod read;
 mod remove;
+mod staying;
 mod taken;
 mod write;
 

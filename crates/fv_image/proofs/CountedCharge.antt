@@ -73,14 +73,14 @@ HasParentNumbers w base = (b : Footing) (g : Head) → base ≡ Some b → w.hea
 
 module _ (w : View) where
   -- a table of few levels has the ids of what it reaches
-  root_ids : (s : ℕ) (r : Rooted) → r.levels ≤ 2 → ids_of (table_at w s r) ≡ ids_in (items (standing_of w s r))
+  pub root_ids : (s : ℕ) (r : Rooted) → r.levels ≤ 2 → ids_of (table_at w s r) ≡ ids_in (items (standing_of w s r))
   root_ids s r few = ids_told (under w s) r.levels r.root few
 
-  snap_few : (h : Head) → HasLabelNumbers h → (p : Snap) → In p h.snapshots → p.table.levels ≤ 2
+  pub snap_few : (h : Head) → HasLabelNumbers h → (p : Snap) → In p h.snapshots → p.table.levels ≤ 2
   snap_few h numbers p one = let test : nat_le p.table.levels 2 ≡ true = from_all (λ (p : Snap). nat_le p.table.levels 2) h.snapshots numbers.snapshots p one in grind (arith, nat_tests, test)
 
   -- the ids that a volume isn't charged for are those of its base table
-  out_ids : (base : Option Footing) → HasParentNumbers w base → ids_left_out (base_from w base) ≡ ids_in (out_items w base)
+  pub out_ids : (base : Option Footing) → HasParentNumbers w base → ids_left_out (base_from w base) ≡ ids_in (out_items w base)
   unfolding snap_at
   out_ids None numbers = refl
   out_ids (Some b) numbers = of_parent (w.head b.parent) refl
@@ -106,17 +106,17 @@ module _ (w : View) where
 
   module _ (s : ℕ) (h : Head) (small : s < 64) (there : w.head s ≡ Some h) (numbers : HasLabelNumbers h) (parents : HasParentNumbers w h.base)
       (names : has_distinct_snapshots (seen w) ≡ true) (ids : has_one_to_one (seen w) ≡ true) (ranges : has_pointers_in_range (seen w) ≡ true) where
-    abbrev told : fin.FinMap name_cmp Table
+    abbrev pub told : fin.FinMap name_cmp Table
     told = fin.from_entries {R = name_cmp} (map (snap_told w s) h.snapshots)
 
     -- the tables of snapshots, whose ids are kept
-    kept_snap : (t : Table) → In t (fin.values told) → (p : Snap) × (In p h.snapshots × (table_at w s p.table ≡ t))
+    pub kept_snap : (t : Table) → In t (fin.values told) → (p : Snap) × (In p h.snapshots × (table_at w s p.table ≡ t))
     kept_snap t one =
         let e = from_map (λ (e : List ℕ × Table). e.1) t (fin.entries told) one in
         let found = named_snap w s h.snapshots e.0.0 e.0.1 (sym (fin.get-from_entries name_total (map (snap_told w s) h.snapshots) e.0.0) ∙ entry_there name_total told e.0 e.1) in
         (found.0, (found.1.0, found.1.1 ∙ e.2))
 
-    distinct : are_distinct (map (λ p. p.name) h.snapshots) ≡ true
+    pub distinct : are_distinct (map (λ p. p.name) h.snapshots) ≡ true
     unfolding has_distinct_snapshots volume_seen
     distinct = of_volume w (λ s x. are_distinct (map (λ p. p.name) x.head.snapshots)) s h names small there
 
@@ -178,7 +178,7 @@ module _ (w : View) where
         let whole : list_all (λ a. list_all (λ b. agree (has_same_id a b) (a.pointer.vvbn == b.pointer.vvbn)) xs) xs ≡ true = subst (λ (xs : List Item). list_all (λ a. list_all (λ b. agree (has_same_id a b) (a.pointer.vvbn == b.pointer.vvbn)) xs) xs ≡ true) all_are all in
         from_all (λ b. agree (has_same_id a b) (a.pointer.vvbn == b.pointer.vvbn)) xs (from_all (λ a. list_all (λ b. agree (has_same_id a b) (a.pointer.vvbn == b.pointer.vvbn)) xs) xs whole a one) b other
 
-    one_to_one : IsOneToOne (own_items w s h ++ out_items w h.base)
+    pub one_to_one : IsOneToOne (own_items w s h ++ out_items w h.base)
     one_to_one = record {
       ids = λ a b one other same. one_id a b (agreed a b (within a one) (within b other)) same;
       vvbns = λ a b one other same. one_vvbn a b (agreed a b (within a one) (within b other)) same;

@@ -76,3 +76,4 @@ pub mod TurnedSound
 pub mod RootTables
 pub mod SnapLists
 pub mod LabelSlots
+pub mod SettledItems

@@ -9,7 +9,8 @@ ghost use Rattle.fv_model.specs.Trees.{fan, least_levels};
 ghost use Rattle.fv_tables.specs.Spelled.{Rooted};
 ghost use Rattle.fv_tables.specs.Told.{records_each, free_record, used_record, file_at};
 ghost use Rattle.fv_tree.specs.Standing.{standing, under};
-ghost use Rattle.fv_tree.specs.Counting.{added_at};
+ghost use Rattle.fv_tree.specs.Counting.{added_at, staying_at};
+ghost use Rattle.fv_tree.specs.Flushing.{loaded};
 ghost use Rattle.fv_tree.specs.Costs.{pending};
 ghost use Rattle.fv_inode.specs.Files.{rooted, IsFirstFree, IsFreeNumber, IsInfo, IsLeastFree, IsNumberIf, new_record};
 ghost use Rattle.fv_inode.specs.Failing.{Alters, Looks};
@@ -21,7 +22,7 @@ use crate::info::{Info, InodeFault};
 use crate::records::{EACH, HOLE, cells, free_files, read_files, write_files};
 use fv_codec::InodeRecord;
 use fv_model::Name;
-use fv_tree::{Blocks, Tree};
+use fv_tree::{Blocks, Sharing, Tree};
 
 /// How many numbers of files there are.
 const MOST_FILES: u32 = 262_144;
@@ -94,6 +95,21 @@ impl InodeFile {
         ensures reads { B.reads blocks.old blocks.new }
     {
         self.tree.added(blocks, number / EACH)
+    }
+
+    /// How many of the inode block of a number and the nodes over it are shared, as `Tree::staying` counts them: at most 4.
+    /// It loads at most the nodes over the file's inode block.
+    ///
+    /// # Errors
+    ///
+    /// As `find`.
+    pub fn staying<B: Sharing>(&self, blocks: &mut B, number: u32) -> Result<u32, InodeFault>
+        ensures staying { B.told → IfOk result (λ count. count ≡ staying_at (loaded (B.shown blocks.old) self.now.tree) (B.shared blocks.old) (number / records_each)) }
+        ensures few { IfOk result (λ count. count ≤ 4) }
+        ensures looks { Looks B.told (rooted (B.shown blocks.old) self.now) (B.shown blocks.old) (B.shown blocks.new) result }
+        ensures reads { B.reads blocks.old blocks.new }
+    {
+        self.tree.staying(blocks, number / EACH)
     }
 }
 

@@ -133,7 +133,7 @@ none_both true true h = absurd (h refl refl)
 none_both true false h = refl
 none_both false k h = refl
 
-in_id : (t : Table) (p : Place) (q : Id) → In q (id_at t p) → (p ≡ q.0) × (fin.get (stamps_of t) q.0 ≡ Some q.1)
+pub in_id : (t : Table) (p : Place) (q : Id) → In q (id_at t p) → (p ≡ q.0) × (fin.get (stamps_of t) q.0 ≡ Some q.1)
 in_id t p q h = so (fin.get (stamps_of t) p) refl h
   where
     so : (o : Option ℕ) → fin.get (stamps_of t) p ≡ o → In q (option_map_or (λ s. (p, s) ∷ []) o []) → (p ≡ q.0) × (fin.get (stamps_of t) q.0 ≡ Some q.1)
@@ -141,7 +141,7 @@ in_id t p q h = so (fin.get (stamps_of t) p) refl h
     so (Some s) e (inl same) = let place : p ≡ q.0 = ap (λ (i : Id). i.0) same in (place, ap (fin.get (stamps_of t)) (sym place) ∙ e ∙ ap (λ (i : Id). Some i.1) same)
     so (Some s) e (inr h) = absurd h
 
-id_in : (t : Table) (q : Id) → fin.get (stamps_of t) q.0 ≡ Some q.1 → In q (id_at t q.0)
+pub id_in : (t : Table) (q : Id) → fin.get (stamps_of t) q.0 ≡ Some q.1 → In q (id_at t q.0)
 id_in t q e = subst (λ (o : Option ℕ). In q (option_map_or (λ s. (q.0, s) ∷ []) o [])) (sym e) (inl refl)
 
 module _ (x : Volume) (table : ℕ → Table) (path : List Place) (along : IsAlong (x.now + 1) path x.active (table (x.now + 1))) (new : IsNextNew x) where

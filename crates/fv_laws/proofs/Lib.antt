@@ -37,3 +37,5 @@ pub mod Neighbors
 pub mod Tests
 pub mod Exact
 pub mod Snapshots
+pub mod Settled
+pub mod SettledFiles

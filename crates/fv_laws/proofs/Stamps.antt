@@ -85,7 +85,7 @@ or_none : {X : Type 0} (o p : Option X) → p ≡ None → or_else o p ≡ o
 or_none None p e = e
 or_none (Some x) p e = refl
 
-abbrev stamp_in : Spot → Option File → Option ℕ
+abbrev pub stamp_in : Spot → Option File → Option ℕ
 stamp_in p file = option_and_then (λ f. fin.get f.tree.stamps p) file
 
 in_files : (n : ℕ) (p : Spot) (es : List (ℕ × File)) → T (is_sorted nat_cmp es) → find place_cmp (placed (OfFile n) p) (files_entries es) ≡ stamp_in p (find nat_cmp n es)

@@ -7,3 +7,4 @@ pub mod WellFormed
 pub mod Releases
 pub mod Paths
 pub mod Positions
+pub mod Settled

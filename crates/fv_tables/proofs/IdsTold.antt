@@ -38,7 +38,7 @@ module _ (u : Under) (levels : ℕ) (root : Pointer) (few : levels ≤ 2) where
   es = items (standing_at u levels root)
 
   -- the number of an owner of what is reached names that owner
-  owner_back : (o : Owner) (level place : ℕ) → (pointer_in u levels root o level place).stamp ≢ 0 → owner_of (number u levels root o) ≡ o
+  pub owner_back : (o : Owner) (level place : ℕ) → (pointer_in u levels root o level place).stamp ≢ 0 → owner_of (number u levels root o) ≡ o
   owner_back InodeFile level place some = ap (λ (b : Bool). if b then InodeFile else OfFile greatest_word) (itself greatest_word)
     where
       itself : (n : ℕ) → (n == n) ≡ true

@@ -72,7 +72,7 @@ pub record IsOneToOne (es : List Item) : Type 0 where
 
 module _ (es out : List Item) (one : IsOneToOne (es ++ out)) where
   -- a VVBN of both has the id of both, and an id of both its VVBN
-  out_has : (e : Item) → In e es → is_listed out e.pointer.vvbn ≡ set.contains (ids_in out) (id_of e)
+  pub out_has : (e : Item) → In e es → is_listed out e.pointer.vvbn ≡ set.contains (ids_in out) (id_of e)
   out_has e there = iff (is_listed out e.pointer.vvbn) (set.contains (ids_in out) (id_of e))
       (λ listed. let found = picked_in out e.pointer.vvbn listed in
       subst (λ (q : Id). set.contains (ids_in out) q ≡ true) (one.ids (picked out e.pointer.vvbn) e (in_right _ es out found.0) (in_left e es out there) found.1) (in_ids out (picked out e.pointer.vvbn) found.0))

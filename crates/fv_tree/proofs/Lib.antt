@@ -56,3 +56,5 @@ pub mod Costly
 pub mod Differing
 pub mod Tally
 pub mod Bordered
+pub mod Stays
+pub mod Spans

@@ -19,10 +19,13 @@ mod read;
 mod refill;
 mod remove;
 mod rewrite;
+mod sharing;
 mod sizes;
+mod staying;
 mod tree;
 mod way;
 mod write;
 
 pub use blocks::{Blocks, Placed, TreeFault};
 pub use kept::Tree;
+pub use sharing::Sharing;

@@ -113,7 +113,7 @@ fn first_child<B: Blocks>(
 }
 
 /// The pointers of the node of a position, to which a pointer leads.
-fn children_of<B: Blocks>(
+pub fn children_of<B: Blocks>(
     tree: &Tree,
     blocks: &mut B,
     level: u8,

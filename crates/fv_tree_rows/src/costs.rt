@@ -231,6 +231,58 @@ fn another_content_keeps_the_stamps(rt: HostRuntime) -> Result<(), Fail> {
     Ok(())
 }
 
+/// How many blocks over a cell are shared in a stored tree with the cells 0, 1 and 128 after all its blocks were, before and
+/// after a write of another cell, and how many blocks that looks for.
+fn staying(alloc: Global, index: u32, other: u32) -> Result<(u32, u32, u64), TreeFault> {
+    let (mut tree, mut blocks) = small(alloc)?;
+    blocks.share();
+    let before = tree.staying(&mut blocks, index)?;
+    put(&mut tree, &mut blocks, other, 9)?;
+    let start = blocks.calls();
+    let after = tree.staying(&mut blocks, index)?;
+    Ok((before, after, blocks.calls().saturating_sub(start)))
+}
+
+#[test]
+fn blocks_that_stay_charged(rt: HostRuntime) -> Result<(), Fail> {
+    let rows = [
+        (0, 0, (3, 0, 0)),
+        (0, 1, (3, 1, 0)),
+        (0, 128, (3, 2, 1)),
+        (2, 0, (2, 0, 0)),
+        (256, 0, (1, 0, 0)),
+        (16_384, 0, (0, 0, 0)),
+    ];
+    for (index, other, want) in rows {
+        assert_eq!(rt; staying(rt.alloc(), index, other), Ok(want));
+    }
+    Ok(())
+}
+
+/// How many of all blocks are shared in that tree, before and after such a write, and how many blocks each look loads.
+fn staying_all(alloc: Global, other: u32) -> Result<[(u32, u64); 2], TreeFault> {
+    let (mut tree, mut blocks) = small(alloc)?;
+    blocks.share();
+    let start = blocks.calls();
+    let before = tree.staying_all(&mut blocks)?;
+    let looked = blocks.calls();
+    put(&mut tree, &mut blocks, other, 9)?;
+    let changed = blocks.calls();
+    let after = tree.staying_all(&mut blocks)?;
+    Ok([
+        (before, looked.saturating_sub(start)),
+        (after, blocks.calls().saturating_sub(changed)),
+    ])
+}
+
+#[test]
+fn all_blocks_that_stay_charged(rt: HostRuntime) -> Result<(), Fail> {
+    assert_eq!(rt; staying_all(rt.alloc(), 0), Ok([(6, 3), (3, 1)]));
+    assert_eq!(rt; staying_all(rt.alloc(), 128), Ok([(6, 3), (3, 1)]));
+    assert_eq!(rt; staying_all(rt.alloc(), 2), Ok([(6, 3), (4, 1)]));
+    Ok(())
+}
+
 /// The answer of a call on a tree of one level over a block that stands in place of its node.
 fn answer(alloc: Global, root: &[u8; 4096], call: Call) -> Result<(), TreeFault> {
     let (mut tree, mut blocks) = wrong(alloc, root)?;

@@ -1,13 +1,13 @@
 //! Blocks in memory, for tests of trees.
 
-ghost use Rattle.std.specs.Prelude.{◌≡◌, ◌≤◌, IfOk, true, false, refl};
-ghost use Rattle.std.proofs.Common.{◌∙◌};
+ghost use Rattle.std.specs.Prelude.{◌≡◌, ◌≤◌, IfOk, true, false, nat_lt, refl};
+ghost use Rattle.std.proofs.Common.{ap, ◌∙◌};
 ghost use Rattle.fv_disk.specs.Shown.{Rose};
 ghost use Rattle.fv_disk.specs.declared.fault.BlockFault.TheVariants.{DiskFault};
 ghost use Rattle.fv_tree_rows.specs.InMemory.{shown_in_memory, in_memory_is_source};
 
 use fv_codec::Pointer;
-use fv_tree::{Blocks, Placed, TreeFault};
+use fv_tree::{Blocks, Placed, Sharing, TreeFault};
 use std::alloc::{AllocError, Global};
 use std::collections::BTreeMap;
 
@@ -15,7 +15,8 @@ use std::collections::BTreeMap;
 const MOST: u32 = 1_000_000;
 
 /// A map of blocks in memory that counts its calls. The block under VVBN `v` reads at PVBN `v + 1`, and each load
-/// is one look-up. With each block it keeps the PVBN that `place` answered, and its kind. No call of a tree changes which VVBN is hidden.
+/// is one look-up. With each block it keeps the PVBN that `place` answered, and its kind. No call of a tree changes
+/// which VVBN is hidden, and no load which ones are shared.
 #[derive(Drop)]
 pub struct MemBlocks {
     blocks: BTreeMap<u32, ([u8; 4096], u32, u8)>,
@@ -28,6 +29,7 @@ pub struct MemBlocks {
     dropped: u64,
     strays: u64,
     unknown: Option<u32>,
+    shared: u32,
 }
 
 impl MemBlocks {
@@ -44,6 +46,7 @@ impl MemBlocks {
             dropped: 0,
             strays: 0,
             unknown: None,
+            shared: 0,
         }
     }
 
@@ -80,6 +83,11 @@ impl MemBlocks {
         self.unknown = Some(vvbn);
     }
 
+    /// Lets each block that was placed be shared, as a snapshot does.
+    pub fn share(&mut self) {
+        self.shared = self.next;
+    }
+
     /// How many blocks of a kind were placed.
     pub fn placed(&self, kind: u8) -> u64 {
         if kind < 8 {
@@ -102,6 +110,7 @@ impl MemBlocks {
         ensures loads { self.new.loads ≡ self.old.loads }
         ensures strays { self.new.strays ≡ self.old.strays }
         ensures unknown { self.new.unknown ≡ self.old.unknown }
+        ensures shared { self.new.shared ≡ self.old.shared }
     {
         let fails = self.calls == self.fails_in;
         self.calls = self.calls.saturating_add(1);
@@ -130,6 +139,7 @@ impl MemBlocks {
         ensures loads { self.new.loads ≡ self.old.loads }
         ensures strays { self.new.strays ≡ self.old.strays }
         ensures unknown { self.new.unknown ≡ self.old.unknown }
+        ensures shared { self.new.shared ≡ self.old.shared }
     {
         self.faults = self.faults.saturating_add(1);
         TreeFault::DiskFault
@@ -163,17 +173,17 @@ impl Blocks for MemBlocks {
 
     ghost known = { ⊥ };
 
-    ghost reads = { λ a b. b.unknown ≡ a.unknown };
+    ghost reads = { λ a b. (b.unknown ≡ a.unknown) × (b.shared ≡ a.shared) };
 
     ghost goes = { λ a b. b.unknown ≡ a.unknown };
 
     ghost laws = { λ b. in_memory_is_source b.blocks b.next b.loads b.strays b.faults };
 
-    ghost reads_nothing = { λ b. refl };
+    ghost reads_nothing = { λ b. (refl, refl) };
 
-    ghost reads_on = { λ a b c first second. second ∙ first };
+    ghost reads_on = { λ a b c first second. (second.0 ∙ first.0, second.1 ∙ first.1) };
 
-    ghost reads_go = { λ a b is. is };
+    ghost reads_go = { λ a b is. is.0 };
 
     ghost goes_nothing = { λ b. refl };
 
@@ -217,4 +227,14 @@ impl Blocks for MemBlocks {
         let found = self.blocks.remove(&vvbn).is_some();
         count_gone(&mut self.dropped, &mut self.strays, found);
     }
+}
+
+impl Sharing for MemBlocks {
+    ghost shared = { λ b v. nat_lt v b.shared };
+
+    fn is_shared(&self, vvbn: u64) -> bool {
+        vvbn < u64::from(self.shared)
+    }
+
+    ghost reads_share = { λ a b is v. ap (nat_lt v) is.1 };
 }

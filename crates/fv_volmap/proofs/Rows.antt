@@ -1,9 +1,8 @@
 -- Slots in a row.
-use Rattle.std.proofs.Common.{◌≡◌, ℕ, zero, suc, ◌+◌, ◌-◌, ◌<◌, ◌≤◌, ◌⊎◌, Bool, true, false, ◌||◌, List, [], ◌∷◌, ◌++◌, length, take, get_or, set, replicate, Option, Some, None, All, refl, sym, ap, subst, ◌∙◌, inl, inr, ⊎_elim, ◌==◌, cond, arith, length-set}
-use Rattle.std.specs.List.{list_any}
+use Rattle.std.proofs.Common.{◌≡◌, ℕ, zero, suc, ◌+◌, ◌-◌, ◌<◌, Bool, true, false, ◌||◌, List, [], ◌∷◌, ◌++◌, length, take, drop, get_or, set, Some, None, All, refl, sym, ap, ◌∙◌, ◌==◌, cond, arith, length-set}
 use Rattle.std.proofs.lemmas.Bool.Decides.{nat_tests}
-use Rattle.std.proofs.lemmas.List.Folds.{list_any_more, list_any_at}
-use Rattle.std.proofs.lemmas.List.{length-take-le}
+use Rattle.std.proofs.lemmas.List.Folds.{list_any_more, list_any_at, list_any-append}
+use Rattle.std.proofs.lemmas.List.{length-take-le, set_split}
 use Rattle.std.proofs.lemmas.List.Elements.{All-set}
 use Rattle.fv_bits.specs.Members.{is_member}
 use Rattle.fv_bits.proofs.Laws.{is_member-set}
@@ -27,6 +26,12 @@ one_more slots at v t inside = ap (λ s. t || s) (list_any_more (has v) slots at
 
 pub taken_here : (slots : List Slot) (at v : ℕ) → at < length slots → has v (get_or slots at None) ≡ true → taken_in slots v ≡ true
 taken_here slots at v inside here = list_any_at (has v) slots at None inside here
+
+-- the slots beside one
+pub taken_beside : (slots : List Slot) (at v : ℕ) → at < length slots → taken_in (set slots at None) v ≡ (taken_in (take at slots) v || taken_in (drop (at + 1) slots) v)
+taken_beside slots at v inside =
+    ap (λ (s : List Slot). taken_in s v) (set_split slots at None inside ∙ (let next : suc at ≡ at + 1 = omega arith in ap (λ (n : ℕ). take at slots ++ None ∷ drop n slots) next))
+    ∙ list_any-append (has v) (take at slots) (None ∷ drop (at + 1) slots)
 
 -- a free slot takes a map
 taken_set : (slots : List Slot) (at v : ℕ) (map : List Bool) → at < length slots → get_or slots at None ≡ None → taken_in (set slots at (Some map)) v ≡ (is_member map v || taken_in slots v)

@@ -1,6 +1,6 @@
 -- The slots of a volume, each free or with a set of numbers below the span, and what the calls make of them.
-use Rattle.std.specs.Prelude.{◌≡◌, ℕ, ◌<◌, Bool, false, true, List, ◌∷◌, length, take, replicate, slice_set, slice_index_or, Option, Some, None, All, IfSome}
-use Rattle.std.specs.List.{list_any}
+use Rattle.std.specs.Prelude.{◌≡◌, ℕ, ◌<◌, Bool, false, true, not, ◌&&◌, count_by, List, ◌∷◌, length, replicate, slice_set, slice_index_or, Option, Some, None, All, IfSome}
+use Rattle.std.specs.List.{list_any, range_with_len}
 use Rattle.fv_bits.specs.Members.{is_member, TakesBlock}
 
 -- a free slot, or the members of a used one
@@ -18,6 +18,10 @@ slot_count = 26
 -- the slots that stand on the disk: all but the base's
 abbrev pub stored_count : ℕ
 stored_count = 25
+
+-- the slot of the base
+abbrev pub slot_of_base : ℕ
+slot_of_base = 25
 
 abbrev pub slot_at : Volume → ℕ → Slot
 slot_at volume slot = slice_index_or volume.slots slot None
@@ -39,6 +43,14 @@ has v (Some map) = is_member map v
 abbrev pub taken_in : List Slot → ℕ → Bool
 taken_in slots v = list_any (has v) slots
 
+-- whether a slot has a number that no other slot has
+abbrev pub has_alone : List Slot → ℕ → ℕ → Bool
+has_alone slots slot v = has v (slice_index_or slots slot None) && not (taken_in (slice_set slots slot None) v)
+
+-- how many numbers a slot has that no other slot has
+unfoldable pub alone_in : Volume → ℕ → ℕ
+alone_in volume slot = count_by (has_alone volume.slots slot) (range_with_len 0 volume.span)
+
 -- the volume with another slot
 abbrev pub with_slot : Volume → ℕ → Slot → Volume
 with_slot volume slot map = record { span = volume.span; slots = slice_set volume.slots slot map }
@@ -58,6 +70,11 @@ pub record Loads (old : Volume) (slot index : ℕ) (block : List ℕ) (new : Vol
   pub map : List Bool
   pub volume : new ≡ with_slot old slot (Some map)
   pub taken : TakesBlock (map_or_empty old.span (slot_at old slot)) map index block
+
+-- a map has the members of all slots, the base's among them
+pub record AreUnited (volume : Volume) (map : List Bool) : Type 0 where
+  pub len : length map ≡ volume.span
+  pub members : (v : ℕ) → is_member map v ≡ taken_in volume.slots v
 
 -- v is a number below the span that no slot had, and the active slot has it now
 pub record Allocates (old : Volume) (v : ℕ) (new : Volume) : Type 0 where

@@ -3,7 +3,7 @@
 ghost use Rattle.std.specs.Prelude.{◌≡◌, ℕ, ◌*◌, ◌<◌, ◌≤◌, false, true, length, take, slice_set, Some, None, IsSome, IfSome, IfNone, IfOk, OnOk, OnErr, OnSome, option_copied};
 ghost use Rattle.fv_bits.specs.Bits.{block_bits};
 ghost use Rattle.fv_bits.specs.Members.{IsFirstPast};
-ghost use Rattle.fv_volmap.specs.Slots.{Volume, slot_count, stored_count, slot_at, active_of, taken_in, with_slot, empty_volume, IsVolume, Loads, Allocates};
+ghost use Rattle.fv_volmap.specs.Slots.{Volume, slot_count, stored_count, slot_at, active_of, taken_in, with_slot, empty_volume, IsVolume, Loads, AreUnited, Allocates, alone_in};
 
 use crate::slots;
 use fv_bits::BitMap;
@@ -42,6 +42,9 @@ impl Model for VolMap {
 }
 
 impl VolMap {
+    ghost use Rattle.std.specs.Borrow.{sem};
+    ghost use Rattle.fv_volmap.specs.Lending.{StaysLent};
+
     /// The maps of a volume with this span: all slots but the active one are free, and it is empty. The
     /// one error is want of memory. Costs a step for each word of 64 numbers.
     pub fn new(alloc: Global, span: u32) -> Result<VolMap, AllocError>
@@ -146,6 +149,34 @@ impl VolMap {
         if slot > 0 {
             slots::copy_slot(&mut self.active, &self.others[slot as usize - 1]);
         }
+    }
+
+    /// The union of all slots, the base's among them. It takes no memory. Costs a step for each word of each
+    /// used slot where slots were loaded, forgotten or restored since the last call of this or `allocate`,
+    /// and else one step.
+    pub fn united(&mut self) -> &BitMap
+        ensures* same { sem 𝓛 (StaysLent self.entry) }
+        ensures union { AreUnited self.old result.now }
+        ensures valid { IsVolume self.old }
+    {
+        slots::refresh(&mut self.union, self.united, &self.active, &self.others);
+        self.united = true;
+        &self.union
+    }
+
+    /// How many numbers a snapshot's slot has that no other slot has, the base's among the others; none for a
+    /// free slot. Costs a step for each number below the span, and for each that the slot has one for each
+    /// slot.
+    #[tactic(auto, unfolding(crate::specs::Slots::alone_in))]
+    pub fn count_alone(&self, slot: u8) -> u32
+        requires above { 0 < slot }
+        requires slot { slot < stored_count }
+        ensures { result ≡ alone_in self.now slot }
+    {
+        let at = slot as usize - 1;
+        (0..self.span)
+            .filter(|v| slots::has_alone(&self.active, &self.others, at, *v))
+            .count() as u32
     }
 
     /// Adds to the active set a number below the span that no slot has, the base's slot among them, and

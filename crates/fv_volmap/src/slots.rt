@@ -1,9 +1,9 @@
 //! Slots in a row, each free or with a map.
 
-ghost use Rattle.std.specs.Prelude.{◌≡◌, ℕ, ◌*◌, ◌<◌, ◌≤◌, ◌||◌, false, true, cond, length, replicate, All, Some, None, IsSome, IfSome, IfNone, IfOk, OnErr, OnSome};
+ghost use Rattle.std.specs.Prelude.{◌≡◌, ℕ, ◌*◌, ◌<◌, ◌≤◌, ◌||◌, ◌∷◌, suc, false, true, cond, length, replicate, slice_set, All, Some, None, IsSome, IfSome, IfNone, IfOk, OnErr, OnSome};
 ghost use Rattle.fv_bits.specs.Bits.{block_bits};
 ghost use Rattle.fv_bits.specs.Members.{is_member, IsFullFrom, IsFirstPast};
-ghost use Rattle.fv_volmap.specs.Slots.{has, taken_in};
+ghost use Rattle.fv_volmap.specs.Slots.{has, taken_in, has_alone};
 ghost use Rattle.fv_volmap.specs.Kept.{IsLong, Unites, TakesInto};
 
 use fv_bits::BitMap;
@@ -39,6 +39,23 @@ pub(crate) fn any_has(slots: &[Option<BitMap>], v: u32) -> bool
         }
     }
     false
+}
+
+/// Whether some slot but this one has this number.
+#[tactic(auto, using(crate::proofs::Rows::taken_beside))]
+fn any_other_has(slots: &[Option<BitMap>], at: usize, v: u32) -> bool
+    requires { at < length slots.now }
+    ensures { result ≡ taken_in (slice_set slots.now at None) v }
+{
+    any_has(&slots[..at], v) || any_has(&slots[at + 1..], v)
+}
+
+/// Whether one of the slots after the active one has this number, and no other slot and not the active one has it.
+pub(crate) fn has_alone(active: &BitMap, others: &[Option<BitMap>], at: usize, v: u32) -> bool
+    requires { at < length others.now }
+    ensures { result ≡ has_alone (Some active.now ∷ others.now) (suc at) v }
+{
+    has(&others[at], v) && !has_member(active, v) && !any_other_has(others, at, v)
 }
 
 /// Adds the members of a slot.

@@ -8,14 +8,12 @@ use Rattle.fv_model.specs.declared.answers.Refusal.TheVariants.{NoVolume, NoFile
 use Rattle.fv_model.specs.declared.answers.Reply.TheVariants.{Done, Content, Number, Names, Stat as Numbers}
 use Rattle.fv_model.specs.declared.commands.Command.TheVariants.{New, Put, Get, Len, Cut, Remove, Ls, VolStat}
 use Rattle.fv_model.specs.Numbers.{is_index, is_reserve, most_changes, most_files}
-use Rattle.fv_model.specs.Spelling.{name_cmp}
 use Rattle.fv_model.specs.Tables.{File, Table, file_named}
 use Rattle.fv_model.specs.Volumes.{Volume}
 use Rattle.fv_model.specs.Machines.{Machine}
 use Rattle.fv_model.specs.Space.{is_file_kind}
 use Rattle.fv_model.specs.Refusals.{conditions, first_of, refusal, space, table_asked}
 use Rattle.fv_model.specs.Replies.{answer, content, file_names, stat_of}
-use Rattle.fv_laws.specs.Positions.{IsAlone}
 
 -- ---- tests
 
@@ -98,60 +96,71 @@ module _ (m : Machine) (v : List ℕ) (x : Volume) (there : fin.get m.volumes v 
   unfolding answer
   stat_answer = ap (λ (o : Option Volume). option_map_or (λ (y : Volume). Numbers (stat_of y)) o Done) there
 
-  -- a volume without snapshots has none of any name
-  no_snapshot : IsAlone x → (s : List ℕ) → is_none (table_asked x (Some s)) ≡ true
-  no_snapshot alone s = ap (λ (snapshots : fin.FinMap name_cmp Table). is_none (fin.get snapshots s)) alone.snapshots ∙ ap is_none (fin.get-empty name_cmp s)
-
   pub get_far : (s : Option (List ℕ)) (f : List ℕ) (i : ℕ) → is_index i ≡ false → refusal m (Get v s f i) ≡ Some Range
   get_far s f i far = get_by s f i ∙ comes _ _ (is far)
 
-  pub get_snapshot : IsAlone x → (s f : List ℕ) (i : ℕ) → is_index i ≡ true → refusal m (Get v (Some s) f i) ≡ Some NoSnapshot
-  get_snapshot alone s f i near = get_by (Some s) f i ∙ passes _ _ (isnt near) ∙ comes _ _ (no_snapshot alone s)
+  -- a snapshot is asked that isn't there
+  module _ (s : Option (List ℕ)) (lost : table_asked x s ≡ None) where
+    pub get_lost : (f : List ℕ) (i : ℕ) → is_index i ≡ true → refusal m (Get v s f i) ≡ Some NoSnapshot
+    get_lost f i near = get_by s f i ∙ passes _ _ (isnt near) ∙ comes _ _ (ap is_none lost)
 
-  pub len_snapshot : IsAlone x → (s f : List ℕ) → refusal m (Len v (Some s) f) ≡ Some NoSnapshot
-  len_snapshot alone s f = len_by (Some s) f ∙ comes _ _ (no_snapshot alone s)
+    pub len_lost : (f : List ℕ) → refusal m (Len v s f) ≡ Some NoSnapshot
+    len_lost f = len_by s f ∙ comes _ _ (ap is_none lost)
 
-  pub ls_snapshot : IsAlone x → (s : List ℕ) → refusal m (Ls v (Some s)) ≡ Some NoSnapshot
-  ls_snapshot alone s = ls_by (Some s) ∙ comes _ _ (no_snapshot alone s)
+    pub ls_lost : refusal m (Ls v s) ≡ Some NoSnapshot
+    ls_lost = ls_by s ∙ comes _ _ (ap is_none lost)
 
-  pub ls_accepted : refusal m (Ls v None) ≡ None
-  ls_accepted = ls_by None
+  -- a table is asked that is there
+  module _ (s : Option (List ℕ)) (t : Table) (asked : table_asked x s ≡ Some t) where
+    pub ls_accepted : refusal m (Ls v s) ≡ None
+    ls_accepted = ls_by s ∙ passes _ _ (ap is_none asked)
 
-  pub ls_answer : answer m (Ls v None) ≡ Names (file_names x.active)
-  unfolding answer
-  ls_answer = ap (λ (o : Option Volume). option_map_or (λ (y : Volume). option_map_or (λ (t : Table). Names (file_names t)) (table_asked y None) Done) o Done) there
+    pub ls_answer : answer m (Ls v s) ≡ Names (file_names t)
+    unfolding answer
+    ls_answer =
+        ap (λ (o : Option Volume). option_map_or (λ (y : Volume). option_map_or (λ (t : Table). Names (file_names t)) (table_asked y s) Done) o Done) there
+        ∙ ap (λ (o : Option Table). option_map_or (λ (t : Table). Names (file_names t)) o Done) asked
 
-  module _ (f : List ℕ) where
-    pub get_none : (i : ℕ) → is_index i ≡ true → found f ≡ None → refusal m (Get v None f i) ≡ Some NoFile
-    get_none i near none = get_by None f i ∙ passes _ _ (isnt near) ∙ comes _ _ (ap lacks none)
+    module _ (f : List ℕ) where
+      get_asked : (i : ℕ) → is_index i ≡ true → refusal m (Get v s f i) ≡ first (lacks (file_named t f)) NoFile (first (of_found (λ file. nat_le file.length i) (file_named t f)) Range None)
+      get_asked i near = get_by s f i ∙ passes _ _ (isnt near) ∙ passes _ _ (ap is_none asked)
+          ∙ ap (λ (o : Option Table). first (of_asked (λ t. lacks (file_named t f)) o) NoFile (first (of_asked (λ t. of_found (λ file. nat_le file.length i) (file_named t f)) o) Range None)) asked
 
-    pub len_none : found f ≡ None → refusal m (Len v None f) ≡ Some NoFile
-    len_none none = len_by None f ∙ comes _ _ (ap lacks none)
+      len_asked : refusal m (Len v s f) ≡ first (lacks (file_named t f)) NoFile None
+      len_asked = len_by s f ∙ passes _ _ (ap is_none asked) ∙ ap (λ (o : Option Table). first (of_asked (λ t. lacks (file_named t f)) o) NoFile None) asked
 
-    module _ (n : ℕ) (file : File) (named : found f ≡ Some (n, file)) where
-      get_named : (i : ℕ) → is_index i ≡ true → refusal m (Get v None f i) ≡ first (nat_le file.length i) Range None
-      get_named i near = get_by None f i ∙ passes _ _ (isnt near) ∙ passes _ _ (ap lacks named) ∙ ap (λ (o : Option (ℕ × File)). first (of_found (λ file. nat_le file.length i) o) Range None) named
+      pub get_none : (i : ℕ) → is_index i ≡ true → file_named t f ≡ None → refusal m (Get v s f i) ≡ Some NoFile
+      get_none i near none = get_asked i near ∙ comes _ _ (ap lacks none)
 
-      pub get_past : (i : ℕ) → is_index i ≡ true → file.length ≤ i → refusal m (Get v None f i) ≡ Some Range
-      get_past i near past = get_named i near ∙ comes _ _ (above file.length i past)
+      pub len_none : file_named t f ≡ None → refusal m (Len v s f) ≡ Some NoFile
+      len_none none = len_asked ∙ comes _ _ (ap lacks none)
 
-      pub get_accepted : (i : ℕ) → is_index i ≡ true → i < file.length → refusal m (Get v None f i) ≡ None
-      get_accepted i near within = get_named i near ∙ passes _ _ (under file.length i within)
+      module _ (n : ℕ) (file : File) (named : file_named t f ≡ Some (n, file)) where
+        get_named : (i : ℕ) → is_index i ≡ true → refusal m (Get v s f i) ≡ first (nat_le file.length i) Range None
+        get_named i near = get_asked i near ∙ passes _ _ (ap lacks named) ∙ ap (λ (o : Option (ℕ × File)). first (of_found (λ file. nat_le file.length i) o) Range None) named
 
-      pub get_answer : (i : ℕ) → answer m (Get v None f i) ≡ Content (content file i)
-      unfolding answer
-      get_answer i =
-          ap (λ (o : Option Volume). option_map_or (λ (y : Volume). option_map_or (λ (t : Table). option_map_or (λ (e : ℕ × File). Content (content e.1 i)) (file_named t f) Done) (table_asked y None) Done) o Done) there
-          ∙ ap (λ (o : Option (ℕ × File)). option_map_or (λ (e : ℕ × File). Content (content e.1 i)) o Done) named
+        pub get_past : (i : ℕ) → is_index i ≡ true → file.length ≤ i → refusal m (Get v s f i) ≡ Some Range
+        get_past i near past = get_named i near ∙ comes _ _ (above file.length i past)
 
-      pub len_accepted : refusal m (Len v None f) ≡ None
-      len_accepted = len_by None f ∙ passes _ _ (ap lacks named)
+        pub get_accepted : (i : ℕ) → is_index i ≡ true → i < file.length → refusal m (Get v s f i) ≡ None
+        get_accepted i near within = get_named i near ∙ passes _ _ (under file.length i within)
 
-      pub len_answer : answer m (Len v None f) ≡ Number file.length
-      unfolding answer
-      len_answer =
-          ap (λ (o : Option Volume). option_map_or (λ (y : Volume). option_map_or (λ (t : Table). option_map_or (λ (e : ℕ × File). Number e.1.length) (file_named t f) Done) (table_asked y None) Done) o Done) there
-          ∙ ap (λ (o : Option (ℕ × File)). option_map_or (λ (e : ℕ × File). Number e.1.length) o Done) named
+        pub get_answer : (i : ℕ) → answer m (Get v s f i) ≡ Content (content file i)
+        unfolding answer
+        get_answer i =
+            ap (λ (o : Option Volume). option_map_or (λ (y : Volume). option_map_or (λ (t : Table). option_map_or (λ (e : ℕ × File). Content (content e.1 i)) (file_named t f) Done) (table_asked y s) Done) o Done) there
+            ∙ ap (λ (o : Option Table). option_map_or (λ (t : Table). option_map_or (λ (e : ℕ × File). Content (content e.1 i)) (file_named t f) Done) o Done) asked
+            ∙ ap (λ (o : Option (ℕ × File)). option_map_or (λ (e : ℕ × File). Content (content e.1 i)) o Done) named
+
+        pub len_accepted : refusal m (Len v s f) ≡ None
+        len_accepted = len_asked ∙ passes _ _ (ap lacks named)
+
+        pub len_answer : answer m (Len v s f) ≡ Number file.length
+        unfolding answer
+        len_answer =
+            ap (λ (o : Option Volume). option_map_or (λ (y : Volume). option_map_or (λ (t : Table). option_map_or (λ (e : ℕ × File). Number e.1.length) (file_named t f) Done) (table_asked y s) Done) o Done) there
+            ∙ ap (λ (o : Option Table). option_map_or (λ (t : Table). option_map_or (λ (e : ℕ × File). Number e.1.length) (file_named t f) Done) o Done) asked
+            ∙ ap (λ (o : Option (ℕ × File)). option_map_or (λ (e : ℕ × File). Number e.1.length) o Done) named
 
   -- ---- commands that change
 

@@ -170,14 +170,14 @@ module _ (d e f : Disk) (p q r : Pool) (first : Reads d p e q) (x v y : VolumeSt
     its_table = subst (λ (z : VolumeState). table_for e q z ≡ table_for e q x) its_alters.same (its_alters.failed now_standing)
 
     pub failed_stands : IsStanding f r y
-    failed_stands = subst (λ (z : VolumeState). IsStanding f r z) (sym its_alters.same) (failed_standing d e f p q r first its_alters.reads x is y.map y.files its_told its_trees its_table)
+    failed_stands = subst (λ (z : VolumeState). IsStanding f r z) (sym its_alters.same) (failed_standing d e f p q r first its_alters.reads x is y.map its_alters.maps.snapshots y.files its_told its_trees its_table)
 
     pub failed_changes : (has : Machine → Type 0) (c : Command) (res : Result Unit VolumeFault) → res ≡ Err (of_block b) → Changes has c x.name (volume_for d p x) (volume_for f r y) res
     failed_changes has c res failed = subst (λ (z : VolumeState). Changes has c x.name (volume_for d p x) (volume_for f r z) res) (sym its_alters.same)
         (subst (Changes has c x.name (volume_for d p x) (volume_for f r its_left)) (sym failed) (record {
           agrees = λ m there. no_refusal Unit m c b;
           becomes = tt;
-          stays = failed_volume d e f p q r first its_alters.reads x is y.map y.files its_told its_trees its_table;
+          stays = failed_volume d e f p q r first its_alters.reads x is y.map its_alters.maps.snapshots y.files its_told its_trees its_table;
         }))
 
 -- ---- where it was made, and counted
@@ -237,7 +237,7 @@ module _ {T : Type 0} (d e f : Disk) (p q r : Pool) (x v w y : VolumeState) (res
   left_span : w.map.span ≡ x.map.span
   left_span = parts.alters.maps.span ∙ ap (λ (z : VolumeState). z.map.span) parts.same
 
-  left_slots : (k : ℕ) → k ≢ 0 → slot_at w.map k ≡ slot_at x.map k
+  pub left_slots : (k : ℕ) → k ≢ 0 → slot_at w.map k ≡ slot_at x.map k
   left_slots k other = parts.alters.maps.snapshots k other ∙ ap (λ (z : VolumeState). slot_at z.map k) parts.same
 
   pub done_ready : IsReady d p x → FitsLedger w by → IsReady f r y

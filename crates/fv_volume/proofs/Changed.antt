@@ -1,5 +1,5 @@
 -- What a volume is once a change of its files was made, and what the machine says of the space for it.
-use Rattle.std.proofs.Common.{◌≡◌, ℕ, ◌+◌, ◌<◌, ◌≤◌, ⊎_elim, Bool, true, cond, nat_lt, Option, Some, None, refl, sym, ap, subst, ◌∙◌, arith}
+use Rattle.std.proofs.Common.{◌≡◌, ◌≢◌, ℕ, ◌+◌, ◌<◌, ◌≤◌, ⊎_elim, Bool, true, cond, nat_lt, Option, Some, None, refl, sym, ap, subst, ◌∙◌, arith}
 use Rattle.std.specs.Prelude.{Result, Ok, Err}
 use Rattle.std.proofs.lemmas.Bool.{cases_lt}
 use Rattle.std.proofs.lemmas.Bool.Decides.{nat_tests}
@@ -20,7 +20,8 @@ use Rattle.fv_tree.specs.Standing.{under}
 use Rattle.fv_files.specs.declared.files.Files.{Files}
 use Rattle.fv_files.specs.declared.numbers.FileNumbers.{FileNumbers}
 use Rattle.fv_files.specs.Numbering.{AreNumbersIf}
-use Rattle.fv_volmap.specs.Slots.{Volume as Maps}
+use Rattle.fv_container.specs.Chains.{Slots}
+use Rattle.fv_volmap.specs.Slots.{Volume as Maps, has, slot_at}
 use Rattle.fv_charge.specs.declared.delta.Delta.{Delta}
 use Rattle.fv_charge.specs.declared.ledger.Ledger.{Ledger}
 use Rattle.fv_charge.specs.Changes.{IsChanged, IsDeltaOf, IsLeft, admission, answer_of}
@@ -28,11 +29,14 @@ use Rattle.fv_charge.specs.Ledgers.{IsLedgerOf, committed}
 use Rattle.fv_charge.proofs.Admissions.{changed_ledger}
 use Rattle.fv_volume.specs.declared.pool.Pool.{Pool}
 use Rattle.fv_volume.specs.declared.state.VolumeState.{VolumeState}
+use Rattle.fv_volume.specs.BlocksOver.{block_of, held_block, held_entry}
 use Rattle.fv_volume.specs.Calls.{HasBeside, Reads}
 use Rattle.fv_volume.specs.Lending.{IsTold}
 use Rattle.fv_volume.specs.OneVolume.{shows, standing_by, table_for, volume_as, volume_for, AreSoundBy, IsStanding}
 use Rattle.fv_volume.proofs.Charging.{left_by}
-use Rattle.fv_volume.proofs.OneVolumes.{still_table, still_under, still_used, still_volume}
+use Rattle.fv_volume.proofs.Holding.{same_entry}
+use Rattle.fv_volume.proofs.KeptTables.{kept_snaps, kept_tables}
+use Rattle.fv_volume.proofs.OneVolumes.{still_table, still_under, still_used}
 
 -- ---- what is said of the space
 
@@ -69,13 +73,25 @@ module _ (d : Disk) (p : Pool) (x : VolumeState) (is : IsStanding d p x) (others
 -- ---- a change that places nothing
 
 -- The volume's maps and its table may be others, and blocks were read before and meanwhile.
-module _ (d e f : Disk) (p q r : Pool) (first : Reads d p e q) (second : Reads e q f r) (x : VolumeState) (is : IsStanding d p x) (map : Maps) (files : Option Files) where
+module _ (d e f : Disk) (p q r : Pool) (first : Reads d p e q) (second : Reads e q f r) (x : VolumeState) (is : IsStanding d p x) (map : Maps) (slots : (k : ℕ) → k ≢ 0 → slot_at map k ≡ slot_at x.map k) (files : Option Files) where
   abbrev with_map : VolumeState
   with_map = record x { map = map }
 
   -- the volume with another table
   abbrev with_files : VolumeState
   with_files = record x { map = map; files = files; changed = true }
+
+  -- a snapshot's numbers have the entries that they had
+  kept_entries : (k v : ℕ) → k ≢ 0 → has v (slot_at x.map k) ≡ true → held_entry map r.containers x.slot v ≡ held_entry x.map p.containers x.slot v
+  kept_entries k v other here =
+      same_entry x.map map r.containers x.slot k v (slots k other) here ∙ ap (λ (c : Slots). held_entry x.map c x.slot v) (second.leaves.containers ∙ first.leaves.containers)
+
+  -- and the blocks under these
+  kept_blocks : (k v : ℕ) → k ≢ 0 → has v (slot_at x.map k) ≡ true → held_block map r x.slot f.reads v ≡ held_block x.map p x.slot d.reads v
+  kept_blocks k v other here =
+      let kept = second.leaves.kept ∙ first.leaves.kept in
+      let reads = second.only_reads.stays.reads ∙ first.only_reads.stays.reads in
+      λ i. block_of (kept i) (reads i) (kept_entries k v other here i)
 
   -- the table over what was read before the change
   abbrev its_table : Table
@@ -93,7 +109,7 @@ module _ (d e f : Disk) (p q r : Pool) (first : Reads d p e q) (second : Reads e
     -- a change that failed
     module _ (same : its_table ≡ table_for e q x) where
       pub failed_volume : volume_for f r with_files ≡ volume_for d p x
-      failed_volume = ap (λ t. volume_as x t) (table_now ∙ same) ∙ still_volume d e p q first x
+      failed_volume = λ i. volume_as x (record { active = (table_now ∙ same ∙ ap table_told (still_table d e p q first x)) i; snapshots = kept_snaps d f p r x with_files (omega arith) slots kept_entries kept_blocks x.snapshots is.kept i })
 
       pub failed_standing : IsStanding f r with_files
       failed_standing =
@@ -102,6 +118,7 @@ module _ (d e f : Disk) (p q r : Pool) (first : Reads d p e q) (second : Reads e
             told = told;
             table = subst (IsWellTable x.now) (sym table) is.table;
             reserves = subst HasNoReserve (sym table) is.reserves;
+            kept = kept_tables d f p r x with_files (omega arith) slots kept_entries kept_blocks x.snapshots is.kept;
             ledger = subst (λ v. IsLedgerOf v x.ledger) (sym failed_volume) is.ledger;
             trees = sound_now;
             numbers = subst (AreNumbersIf x.numbers) (sym table) is.numbers;
@@ -112,14 +129,18 @@ module _ (d e f : Disk) (p q r : Pool) (first : Reads d p e q) (second : Reads e
       abbrev counted : VolumeState
       counted = record x { map = map; files = files; now = now; ledger = ledger; numbers = numbers; changed = true }
 
+      later : x.now ≤ now
+      later = omega (arith, next)
+
       pub made_volume : volume_for f r counted ≡ stamped (volume_for d p x) table
-      made_volume = λ j. record (volume_for d p x) { now = next j; active = (table_now ∙ made) j }
+      made_volume = λ j. record (volume_for d p x) { now = next j; active = (table_now ∙ made) j; snapshots = kept_snaps d f p r x counted later slots kept_entries kept_blocks x.snapshots is.kept j }
 
       pub made_standing : IsWellTable (x.now + 1) (table (x.now + 1)) → HasNoReserve (table (x.now + 1)) → IsLedgerOf (stamped (volume_for d p x) table) ledger → AreNumbersIf numbers (table (x.now + 1)) → IsStanding f r counted
       made_standing well unreserved is_ledger numbered = record {
         told = told;
         table = subst (λ n. IsWellTable n (table_for f r counted)) (sym next) (subst (IsWellTable (x.now + 1)) (sym (table_now ∙ made)) well);
         reserves = subst HasNoReserve (sym (table_now ∙ made)) unreserved;
+        kept = kept_tables d f p r x counted later slots kept_entries kept_blocks x.snapshots is.kept;
         ledger = subst (λ v. IsLedgerOf v ledger) (sym made_volume) is_ledger;
         trees = sound_now;
         numbers = subst (AreNumbersIf numbers) (sym (table_now ∙ made)) numbered;

@@ -15,7 +15,6 @@ use Rattle.fv_model.specs.declared.commands.Command.TheVariants.{VolDestroy}
 use Rattle.fv_model.specs.Machines.{Machine}
 use Rattle.fv_model.specs.Refusals.{conditions, first_of, is_parent, refusal}
 use Rattle.fv_model.specs.Spelling.{is_same_name}
-use Rattle.fv_model.specs.Tables.{Table}
 use Rattle.fv_model.specs.Volumes.{Base, Volume}
 use Rattle.fv_laws.proofs.Changes.{same_name}
 use Rattle.fv_laws.proofs.Lists.{In}
@@ -37,7 +36,7 @@ use Rattle.fv_volume.specs.Destroying.{Destroys, EmptiesAt, GivesBackAt, HasForg
 use Rattle.fv_volume.specs.Housed.{AreHoused}
 use Rattle.fv_volume.specs.Keeping.{Blocks}
 use Rattle.fv_volume.specs.Loading.{Houses}
-use Rattle.fv_volume.specs.OneVolume.{volume_as}
+use Rattle.fv_volume.specs.OneVolume.{volume_as, Content}
 use Rattle.fv_volume.specs.Promising.{HasVolumes}
 use Rattle.fv_volume.specs.Slots.{is_named, HasName, NoneHasName}
 use Rattle.fv_volume.specs.States.{States, state_at, with_state}
@@ -134,7 +133,7 @@ emptied old pool slot (Some x) (Some map) mid new containers gives row removed =
 -- ---- what the machine says
 
 -- no volume is the parent of another, since none has a base
-module _ (old : States) (tables : ℕ → Table) (blocks : ℕ) (m : Machine) (has : HasVolumes old tables blocks m) where
+module _ (old : States) (contents : ℕ → Content) (blocks : ℕ) (m : Machine) (has : HasVolumes old contents blocks m) where
   -- the first slots have no volume of a name, or one of them has
   by_slot : (name : List ℕ) (count : ℕ) → ((s : ℕ) → s < count → is_named (state_at old s) name ≡ false) ⊎ ((s : ℕ) × (is_named (state_at old s) name ≡ true))
   by_slot name zero = inl (λ s low. absurd (omega (arith, low)))
@@ -162,11 +161,11 @@ module _ (old : States) (tables : ℕ → Table) (blocks : ℕ) (m : Machine) (h
       same : (a b : Volume) → ◌≡◌ {A = Option Volume} (Some a) (Some b) → a ≡ b
       same a b e = cc
 
-      by : (s : ℕ) (o : Option VolumeState) → is_named o name ≡ true → IfSome o (λ x. Has x.name (volume_as x (tables s)) m) → v.base ≡ None
+      by : (s : ℕ) (o : Option VolumeState) → is_named o name ≡ true → IfSome o (λ x. Has x.name (volume_as x (contents s)) m) → v.base ≡ None
       by s None named its = absurd (true≢false (sym named))
       by s (Some x) named its =
-          let found : fin.get m.volumes name ≡ Some (volume_as x (tables s)) = ap (fin.get m.volumes) (sym (same_name x.name name named)) ∙ its in
-          ap (λ (w : Volume). w.base) (same v (volume_as x (tables s)) (sym at ∙ found))
+          let found : fin.get m.volumes name ≡ Some (volume_as x (contents s)) = ap (fin.get m.volumes) (sym (same_name x.name name named)) ∙ its in
+          ap (λ (w : Volume). w.base) (same v (volume_as x (contents s)) (sym at ∙ found))
 
   no_parent : (name : List ℕ) → is_parent m name ≡ false
   no_parent name = none_of (fin.entries m.volumes) (λ e inside. inside)
@@ -187,7 +186,7 @@ module _ (old : States) (tables : ℕ → Table) (blocks : ℕ) (m : Machine) (h
 module _ (old : States) (pool : Pool) (name : List ℕ) where
   pub destroy_missing : NoneHasName old name → Destroys old pool name old pool (Err NoVolume)
   destroy_missing none = record {
-    agrees = λ tables blocks m has. destroy_by old tables blocks m has name None (has.none name none);
+    agrees = λ contents blocks m has. destroy_by old contents blocks m has name None (has.none name none);
     missing = λ nowhere. refl;
     there = λ slot small has. absurd (true≢false (sym has.named ∙ none.none slot small));
     done = tt;
@@ -204,8 +203,8 @@ module _ (old : States) (pool : Pool) (name : List ℕ) where
       by (Some x) (Some map) there lies named houses empties =
           let called : x.name ≡ name = same_name x.name name named in
           record {
-            agrees = λ tables blocks m its. destroy_by old tables blocks m its name (Some (volume_as x (tables slot)))
-                (ap (fin.get m.volumes) (sym called) ∙ subst (λ (o : Option VolumeState). IfSome o (λ x. Has x.name (volume_as x (tables slot)) m)) there (its.there slot));
+            agrees = λ contents blocks m its. destroy_by old contents blocks m its name (Some (volume_as x (contents slot)))
+                (ap (fin.get m.volumes) (sym called) ∙ subst (λ (o : Option VolumeState). IfSome o (λ x. Has x.name (volume_as x (contents slot)) m)) there (its.there slot));
             missing = λ none. absurd (true≢false (sym has.named ∙ none.none slot small));
             there = λ s low its. refl;
             done = record { slot = slot; within = small; state = x; there = there; named = called; map = map; lies = lies; gone = empties };

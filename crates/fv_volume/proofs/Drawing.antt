@@ -2,18 +2,20 @@
 use Rattle.std.proofs.Common.{◌≡◌, ◌≢◌, ℕ, zero, suc, ◌+◌, ◌<◌, ◌≤◌, List, length, Bool, true, false, not, ◌&&◌, ◌||◌, ◌==◌, cond, nat_eq, refl, sym, ap, ◌∙◌, arith, ⊎_elim, Option, Some, None}
 use Rattle.std.specs.Prelude.{slice_set, IfSome, IfNone, IsSome}
 use Rattle.std.specs.List.{list_any, range_with_len}
-use Rattle.std.proofs.lemmas.Bool.{cases_Bool, cases_eq, or_cases, or_left, or_right, true≢false}
+use Rattle.std.proofs.lemmas.Bool.{and_from, and_parts, cases_Bool, cases_eq, or_cases, or_left, or_right, true≢false}
 use Rattle.std.proofs.lemmas.Bool.Decides.{nat_tests}
 use Rattle.fv_bits.specs.Members.{is_member}
 use Rattle.fv_bits.proofs.Laws.{is_member-set, is_member_past}
-use Rattle.fv_container.specs.Mapped.{Mapped}
+use Rattle.fv_container.specs.declared.entry.Entry.{Entry}
+use Rattle.fv_container.specs.Mapped.{Mapped, entry_under}
 use Rattle.fv_container.specs.Spelled.{is_at}
 use Rattle.fv_model.specs.Machines.{first_block}
 use Rattle.fv_aggmap.specs.Space.{Space, IsFree, IsFull, blocks_of, free_blocks}
 use Rattle.fv_aggmap.proofs.Room.{no_fewer, one_is_found, one_less}
 use Rattle.fv_volume.specs.declared.state.VolumeState.{VolumeState}
 use Rattle.fv_volume.specs.Writing.{HasDrawn, HasGiven, has_maps_at, leads_away}
-use Rattle.fv_volume.specs.Stored.{leads, place_at, stays}
+use Rattle.fv_volume.specs.Stored.{is_map_written, leads, place_at, place_in, stays}
+use Rattle.fv_volume.proofs.StayingMaps.{written_low}
 
 -- ---- tests
 
@@ -70,48 +72,60 @@ away_more x map n b =
     let first : 0 + n ≡ n = omega arith in
     rw e (any_more (λ v. not (stays x v) && is_at b (place_at map v)) 0 n ∙ ap (λ (k : ℕ). list_any (λ v. not (stays x v) && is_at b (place_at map v)) (range_with_len 0 n) || (not (stays x k) && is_at b (place_at map k))) first)
 
--- of the active map's blocks, none stands anywhere yet
-pub maps_none : (map : Mapped) (span b : ℕ) → has_maps_at map span 0 b ≡ false
+pub maps_more : (x : VolumeState) (old new : Mapped) (n b : ℕ) → ((v : ℕ) → v < n → place_at new v ≡ place_at old v) → has_maps_at x new (n + 1) b ≡ (has_maps_at x old n b || (is_map_written x n && is_at b (place_at new n)))
 unfolding has_maps_at
-maps_none map span b = refl
-
-pub maps_more : (old new : Mapped) (span n b : ℕ) → ((k : ℕ) → k < n → place_at new (span + k) ≡ place_at old (span + k)) → has_maps_at new span (n + 1) b ≡ (has_maps_at old span n b || is_at b (place_at new (span + n)))
-unfolding has_maps_at
-maps_more old new span n b same =
+maps_more x old new n b same =
     let e : n + 1 ≡ suc n = omega arith in
     let first : 0 + n ≡ n = omega arith in
-    rw e (any_more (λ k. is_at b (place_at new (span + k))) 0 n
-    ∙ ap (λ (t : Bool). t || is_at b (place_at new (span + (0 + n)))) (same_any (λ k. is_at b (place_at new (span + k))) (λ k. is_at b (place_at old (span + k))) 0 n (λ k low high. ap (is_at b) (same k (omega (arith, high)))))
-    ∙ ap (λ (k : ℕ). list_any (λ k. is_at b (place_at old (span + k))) (range_with_len 0 n) || is_at b (place_at new (span + k))) first)
+    rw e (any_more (λ v. is_map_written x v && is_at b (place_at new v)) 0 n
+    ∙ ap (λ (t : Bool). t || (is_map_written x (0 + n) && is_at b (place_at new (0 + n)))) (same_any (λ v. is_map_written x v && is_at b (place_at new v)) (λ v. is_map_written x v && is_at b (place_at old v)) 0 n (λ v low high. ap (λ (p : ℕ). is_map_written x v && is_at b p) (same v (omega (arith, high)))))
+    ∙ ap (λ (k : ℕ). list_any (λ v. is_map_written x v && is_at b (place_at old v)) (range_with_len 0 n) || (is_map_written x k && is_at b (place_at new k))) first)
 
-pub maps_same : (old new : Mapped) (span n b : ℕ) → ((k : ℕ) → k < n → place_at new (span + k) ≡ place_at old (span + k)) → has_maps_at new span n b ≡ has_maps_at old span n b
+pub maps_same : (x : VolumeState) (old new : Mapped) (n b : ℕ) → ((v : ℕ) → place_at new v ≡ place_at old v) → has_maps_at x new n b ≡ has_maps_at x old n b
 unfolding has_maps_at
-maps_same old new span n b same = same_any (λ k. is_at b (place_at new (span + k))) (λ k. is_at b (place_at old (span + k))) 0 n (λ k low high. ap (is_at b) (same k (omega (arith, high))))
+maps_same x old new n b same = same_any (λ v. is_map_written x v && is_at b (place_at new v)) (λ v. is_map_written x v && is_at b (place_at old v)) 0 n (λ v low high. ap (λ (p : ℕ). is_map_written x v && is_at b p) (same v))
 
--- a block of the active map stands on the block
-pub record StandsAt (map : Mapped) (span n b : ℕ) : Type 0 where
-  pub index : ℕ
-  pub within : index < n
-  pub place : place_at map (span + index) ≡ b
+-- of the blocks of maps, none stands anywhere yet
+pub maps_none : (x : VolumeState) (map : Mapped) (b : ℕ) → has_maps_at x map x.span b ≡ false
+unfolding has_maps_at
+maps_none x map b = low x.span (omega arith)
+  where
+    low : (n : ℕ) → n ≤ x.span → has_maps_at x map n b ≡ false
+    low zero within = refl
+    low (suc n) within =
+        let e : n + 1 ≡ suc n = omega arith in
+        ap (λ (k : ℕ). has_maps_at x map k b) (sym e) ∙ maps_more x map map n b (λ v lt. refl)
+        ∙ ap (λ (t : Bool). has_maps_at x map n b || (t && is_at b (place_at map n))) (written_low x n (omega (arith, within))) ∙ or_false (has_maps_at x map n b) ∙ low n (omega (arith, within))
+
+-- a block of a map that is written stands on the block
+pub record StandsAt (x : VolumeState) (map : Mapped) (n b : ℕ) : Type 0 where
+  pub vvbn : ℕ
+  pub within : vvbn < n
+  pub on : is_map_written x vvbn ≡ true
+  pub place : place_at map vvbn ≡ b
   pub some : b ≢ 0
 
-pub maps_where : (map : Mapped) (span n b : ℕ) → has_maps_at map span n b ≡ true → StandsAt map span n b
-maps_where map span zero b is = absurd (true≢false (sym is ∙ maps_none map span b))
-maps_where map span (suc n) b is =
+pub maps_where : (x : VolumeState) (map : Mapped) (n b : ℕ) → has_maps_at x map n b ≡ true → StandsAt x map n b
+unfolding has_maps_at
+maps_where x map zero b is = absurd (true≢false (sym is))
+maps_where x map (suc n) b is =
     let e : n + 1 ≡ suc n = omega arith in
     ⊎_elim
-    (λ (before : has_maps_at map span n b ≡ true). let at = maps_where map span n b before in record { index = at.index; within = omega (arith, at.within); place = at.place; some = at.some })
-    (λ (here : is_at b (place_at map (span + n)) ≡ true). let means = at_means b (place_at map (span + n)) here in record { index = n; within = omega arith; place = means.0; some = means.1 })
-    (or_cases (has_maps_at map span n b) (is_at b (place_at map (span + n))) (sym (maps_more map map span n b (λ k lt. refl)) ∙ ap (λ (k : ℕ). has_maps_at map span k b) e ∙ is))
+    (λ (before : has_maps_at x map n b ≡ true). let at = maps_where x map n b before in record { vvbn = at.vvbn; within = omega (arith, at.within); on = at.on; place = at.place; some = at.some })
+    (λ (here : (is_map_written x n && is_at b (place_at map n)) ≡ true).
+    let parts = and_parts (is_map_written x n) (is_at b (place_at map n)) here in
+    let means = at_means b (place_at map n) parts.1 in
+    record { vvbn = n; within = omega arith; on = parts.0; place = means.0; some = means.1 })
+    (or_cases (has_maps_at x map n b) (is_map_written x n && is_at b (place_at map n)) (sym (maps_more x map map n b (λ v lt. refl)) ∙ ap (λ (k : ℕ). has_maps_at x map k b) e ∙ is))
 
-pub maps_at : (map : Mapped) (span n k b : ℕ) → k < n → place_at map (span + k) ≡ b → b ≢ 0 → has_maps_at map span n b ≡ true
-maps_at map span zero k b within is some = absurd (omega (arith, within))
-maps_at map span (suc n) k b within is some =
+pub maps_at : (x : VolumeState) (map : Mapped) (n v b : ℕ) → v < n → is_map_written x v ≡ true → place_at map v ≡ b → b ≢ 0 → has_maps_at x map n b ≡ true
+maps_at x map zero v b within on is some = absurd (omega (arith, within))
+maps_at x map (suc n) v b within on is some =
     let e : n + 1 ≡ suc n = omega arith in
-    ap (λ (k : ℕ). has_maps_at map span k b) (sym e) ∙ maps_more map map span n b (λ k lt. refl) ∙ ⊎_elim
-    (λ (here : k ≡ n). or_right (has_maps_at map span n b) (is_at b (place_at map (span + n))) (ap (is_at b) (ap (λ (m : ℕ). place_at map (span + m)) (sym here) ∙ is) ∙ at_itself b some))
-    (λ (before : k ≢ n). or_left (has_maps_at map span n b) (is_at b (place_at map (span + n))) (maps_at map span n k b (omega (arith, within, before)) is some))
-    (cases_eq k n)
+    ap (λ (k : ℕ). has_maps_at x map k b) (sym e) ∙ maps_more x map map n b (λ v lt. refl) ∙ ⊎_elim
+    (λ (here : v ≡ n). or_right (has_maps_at x map n b) _ (ap (λ (k : ℕ). is_map_written x k && is_at b (place_at map k)) (sym here) ∙ and_from (is_map_written x v) (is_at b (place_at map v)) on (ap (is_at b) is ∙ at_itself b some)))
+    (λ (before : v ≢ n). or_left (has_maps_at x map n b) _ (maps_at x map n v b (omega (arith, within, before)) on is some))
+    (cases_eq v n)
 
 pub leads_none : (map : Mapped) (b : ℕ) → leads map 0 b ≡ false
 unfolding leads
@@ -175,6 +189,14 @@ given_then old mid new f g both same first second = record {
     joined false s t = refl
 
 -- one entry more: it stays, or it is given back
+-- a hole has no block that could be given back
+pub hole_given : (space : Space) (map : Mapped) (v : ℕ) → entry_under map v ≡ None → HasGiven space (λ b. is_at b (place_at map v)) space
+hole_given space map v none = given_none space (λ b. is_at b (place_at map v)) (λ b. ap (λ (o : Option Entry). is_at b (place_in o)) none ∙ nowhere (nat_eq b 0))
+  where
+    nowhere : (t : Bool) → (t && false) ≡ false
+    nowhere true = refl
+    nowhere false = refl
+
 pub given_more : (x : VolumeState) (map : Mapped) (n : ℕ) (old mid new : Space) → HasGiven old (leads_away x map n) mid → (stays x n ≡ true → new ≡ mid) → (stays x n ≡ false → HasGiven mid (λ b. is_at b (place_at map n)) new)
     → HasGiven old (leads_away x map (n + 1)) new
 given_more x map n old mid new before same gave = so (stays x n) refl

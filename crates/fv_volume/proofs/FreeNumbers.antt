@@ -43,9 +43,10 @@ use Rattle.fv_volume.specs.BlocksOver.{free_numbers}
 use Rattle.fv_volume.specs.Files.{IsOneMap}
 use Rattle.fv_volume.specs.Held.{pending_by, HasNumbers, IsHeldIn}
 use Rattle.fv_volume.specs.Labels.{label_said}
+use Rattle.fv_volume.proofs.MapSlots.{one_labelled}
 use Rattle.fv_volume.specs.OneVolume.{shows, standing_by, standing_for, volume_for, IsStanding}
 use Rattle.fv_volume.specs.Placing.{AreLedBy, IsLedTo}
-use Rattle.fv_volume.proofs.OneVolumes.{is_alone}
+use Rattle.fv_volume.proofs.KeptTables.{is_alone, ready_snaps}
 use Rattle.fv_volume.proofs.Shows.{unused_member}
 
 -- ---- what the places of a table lead to
@@ -168,7 +169,7 @@ active_taken maps one v = first maps.slots one
         (λ later. absurd (both_ways (taken_in ss v) (none ss (λ k. free (suc k) (omega arith))) later))
         (or_cases (is_member a v) (taken_in ss v) there)
 
-module _ (disk : Disk) (pool : Pool) (x : VolumeState) (stands : IsStanding disk pool x) (leads : IsLedTo disk pool x) (one : IsOneMap x.map) where
+module _ (disk : Disk) (pool : Pool) (x : VolumeState) (stands : IsStanding disk pool x) (leads : IsLedTo disk pool x) (lone : x.snapshots ≡ []) (one : IsOneMap x.map) where
   -- a number that is taken is one to which the table leads
   taken_led : (v : ℕ) → taken_in x.map.slots v ≡ true → is_led (standing_for disk pool x) v ≡ true
   taken_led v taken = ⊎_elim
@@ -185,7 +186,7 @@ module _ (disk : Disk) (pool : Pool) (x : VolumeState) (stands : IsStanding disk
       let each : (v : ℕ) → cond {A = ℕ} (taken_in x.map.slots v) 1 0 ≤ cond (is_led t v) 1 0 + cond false 1 0 = λ v. weaker (taken_in x.map.slots v) (is_led t v) (taken_led v) in
       let two = within_two (taken_in x.map.slots) (is_led t) (λ v. false) 0 x.map.span each in
       let none = none_between (λ v. false) 0 x.map.span (λ v low high. refl) in
-      omega (arith, two, none, listed_within (all_led t) 0 x.map.span, count_led t, positions_are (table_told t), charge_by_positions (volume_for disk pool x) (is_alone disk pool x), stands.ledger.charged)
+      omega (arith, two, none, listed_within (all_led t) 0 x.map.span, count_led t, positions_are (table_told t), charge_by_positions (volume_for disk pool x) (is_alone disk pool x lone), stands.ledger.charged)
     where
       weaker : (a b : Bool) → (a ≡ true → b ≡ true) → cond {A = ℕ} a 1 0 ≤ cond b 1 0 + cond false 1 0
       weaker false b is = omega arith
@@ -197,7 +198,7 @@ unfolding free_numbers label_said
 free_enough disk pool s x held =
     let labelled = held.ready.labelled in
     let size : x.size ≤ min 500000 x.most = (labelled.label 0 1 (omega arith) (omega arith) (omega arith)).size_greatest in
-    omega (arith, size, others (taken_in x.map.slots) 0 x.map.span, taken_within disk pool x held.stands held.led labelled.one, labelled.map, held.wide, held.within)
+    omega (arith, size, others (taken_in x.map.slots) 0 x.map.span, taken_within disk pool x held.stands held.led (ready_snaps disk pool x held.ready) (one_labelled x.slot x labelled), labelled.map, held.wide, held.within)
 
 -- So it has more than are pending, where fewer than 256 are.
 pub has_numbers : (disk : Disk) (pool : Pool) (s : ℕ) (o : Option VolumeState) → IfSome o (IsHeldIn disk pool s) → pending_by o < 256 → HasNumbers o

@@ -17,15 +17,15 @@ use Rattle.fv_container.specs.Chains.{Slots, container_at, own_entry, with_conta
 use Rattle.fv_container.specs.Mapped.{Mapped, with_entry}
 use Rattle.fv_tree.specs.declared.blocks.Placed.{Placed}
 use Rattle.fv_tree.specs.Sources.{IsDamaged}
-use Rattle.fv_volmap.specs.Slots.{IsVolume, Volume, active_of, slot_at, with_slot}
+use Rattle.fv_volmap.specs.Slots.{IsVolume, Volume, active_of, has, slot_at, taken_in, with_slot}
 use Rattle.fv_volume.specs.declared.blocks.Home.{Home}
 use Rattle.fv_volume.specs.declared.noted.Noted.{Noted}
 use Rattle.fv_volume.specs.declared.pool.Pool.{Pool}
-use Rattle.fv_volume.specs.BlocksOver.{LacksPlace, LeavesRoom, PlacesBlock, entries_in, free_numbers, given_back}
-use Rattle.fv_volume.specs.Lending.{GoesOver, HasShapeOf, IsNewEntry, IsOutOfRoom, IsOwn, MayTake, Notes, WasHole, WasLack, lent_by, tree_in}
+use Rattle.fv_volume.specs.BlocksOver.{AreApart, HoldsMore, LacksPlace, LeavesRoom, PlacesBlock, block_of, entries_in, free_numbers, given_back}
+use Rattle.fv_volume.specs.Lending.{GoesOver, HasShapeOf, IsNewEntry, IsOutOfRoom, IsOwn, KeepsSlots, MayTake, Notes, WasHole, WasLack, lent_by, tree_in}
 use Rattle.fv_volume.specs.LendingLaws.{goes_itself}
-use Rattle.fv_volume.proofs.Holding.{own_new, own_other}
-use Rattle.fv_volume.proofs.Shows.{member_cleared, member_set, none_free, numbers_gone}
+use Rattle.fv_volume.proofs.Holding.{has_taken, own_new, own_other, same_entry}
+use Rattle.fv_volume.proofs.Shows.{apart_gone, member_cleared, member_set, none_free, numbers_gone}
 
 -- ---- faults
 
@@ -81,6 +81,7 @@ goes_failed pool map disk steps home room strays noted after cause =
       parents = refl;
       span = refl;
       snapshots = λ s other. refl;
+      keeps = λ apart. record { apart = apart; entries = λ k v other here. refl; blocks = λ k v other here i. refl };
     }
 
 -- ---- a number was given up
@@ -106,8 +107,16 @@ goes_dropped pool map after disk steps home room strays less noted v is released
       others = λ s other. refl;
       parents = refl;
       span = ap (λ (m : Volume). m.span) released;
-      snapshots = λ s other. ap (λ (m : Volume). slot_at m s) released ∙ get_or-set_other map.slots 0 s (Some (slice_set (active_of map) v false)) None other;
+      snapshots = slots;
+      keeps = λ apart. record {
+        apart = apart_gone map after v is released pool home.slot apart;
+        entries = λ k w other here. same_entry map after pool.containers home.slot k w (slots k other) here;
+        blocks = λ k w other here i. ap (block_of pool.kept i) (same_entry map after pool.containers home.slot k w (slots k other) here);
+      };
     }
+  where
+    slots : (s : ℕ) → s ≢ 0 → slot_at after s ≡ slot_at map s
+    slots s other = ap (λ (m : Volume). slot_at m s) released ∙ get_or-set_other map.slots 0 s (Some (slice_set (active_of map) v false)) None other
 
 -- ---- a block was placed
 
@@ -236,8 +245,9 @@ module _ (pool new : Pool) (map after : Volume) (slot kind : ℕ) (block : List 
       same (Some d) = refl
 
   pub goes_with : (disk : Disk) (steps : ℕ) (home : Home) (room less strays : ℕ) (noted : Noted) → home.slot ≡ slot → less ≤ room → (0 < less → less + 1 ≤ room) → LeavesRoom pool.map map new.map after
+      → (AreApart pool map home.slot → KeepsSlots home.slot (lent_by pool map disk steps home room strays noted) (lent_by new after disk steps home less strays noted))
       → GoesOver (lent_by pool map disk steps home room strays noted) (lent_by new after disk steps home less strays noted)
-  goes_with disk steps home room less strays noted at fewer one leaves =
+  goes_with disk steps home room less strays noted at fewer one leaves keeps =
       let itself = goes_itself (lent_by pool map disk steps home room strays noted) in
       record {
         home = refl;
@@ -259,16 +269,30 @@ module _ (pool new : Pool) (map after : Volume) (slot kind : ℕ) (block : List 
         parents = ap (λ (slots : Slots). slots.parents) put;
         span = ap (λ (m : Volume). m.span) places.takes.number.volume;
         snapshots = λ s other. ap (λ (m : Volume). slot_at m s) places.takes.number.volume ∙ get_or-set_other map.slots 0 s (Some (slice_set (active_of map) v true)) None other;
+        keeps = keeps;
       }
 
 module _ (pool new : Pool) (map after : Volume) (kind : ℕ) (block : List ℕ) (placed : Placed) (disk : Disk) (steps : ℕ) (home : Home) (room less strays : ℕ) (noted : Noted)
-    (places : PlacesBlock pool map home.slot kind block new after placed) (fewer : less ≤ room) (one : 0 < less → less + 1 ≤ room) (leaves : LeavesRoom pool.map map new.map after) where
+    (places : PlacesBlock pool map home.slot kind block new after placed) (holds : HoldsMore pool map home.slot kind block new after placed)
+    (fewer : less ≤ room) (one : 0 < less → less + 1 ≤ room) (leaves : LeavesRoom pool.map map new.map after) where
   abbrev Goes : Type 0
   Goes = GoesOver (lent_by pool map disk steps home room strays noted) (lent_by new after disk steps home less strays noted)
 
+  -- it is under a number that no slot had
+  other_number : (k v : ℕ) → has v (slot_at map k) ≡ true → v ≢ placed.vvbn
+  other_number k v here same =
+      let wrong : true ≡ false = sym (has_taken map.slots k v here) ∙ ap (taken_in map.slots) same ∙ places.takes.number.free in cc
+
+  keeps_placed : AreApart pool map home.slot → KeepsSlots home.slot (lent_by pool map disk steps home room strays noted) (lent_by new after disk steps home less strays noted)
+  keeps_placed apart = record {
+    apart = holds.apart apart;
+    entries = λ k v other here. holds.others v (other_number k v here);
+    blocks = λ k v other here i. holds.contents apart i v (other_number k v here);
+  }
+
   with_container_there : (o : Option Mapped) → container_at pool.containers home.slot ≡ o → map.span ≤ length (entries_in o) → Goes
   with_container_there None there room_is = absurd (omega (arith, room_is, places.takes.number.within))
-  with_container_there (Some c) there room_is = goes_with pool new map after home.slot kind block placed places c there (omega (arith, room_is, places.takes.number.within)) disk steps home room less strays noted refl fewer one leaves
+  with_container_there (Some c) there room_is = goes_with pool new map after home.slot kind block placed places c there (omega (arith, room_is, places.takes.number.within)) disk steps home room less strays noted refl fewer one leaves keeps_placed
 
   pub goes_placed : map.span ≤ length (entries_in (container_at pool.containers home.slot)) → Goes
   goes_placed room_is = with_container_there (container_at pool.containers home.slot) refl room_is

@@ -1,7 +1,7 @@
 -- Entries that go, one after another.
-use Rattle.std.proofs.Common.{◌≡◌, ◌≢◌, ℕ, ◌+◌, ◌<◌, ◌≤◌, Bool, true, false, length, None, refl, sym, ap, subst, ◌∙◌, arith, ⊎_elim, length-set}
+use Rattle.std.proofs.Common.{◌≡◌, ◌≢◌, ℕ, ◌+◌, ◌<◌, ◌≤◌, Bool, true, false, length, None, refl, sym, ap, subst, ◌∙◌, arith, ⊎_elim, length-set, set}
 use Rattle.std.proofs.lemmas.Bool.{both_ways, cases_eq, cases_lt}
-use Rattle.std.proofs.lemmas.List.{get_or_past, get_or-set_same, get_or-set_other}
+use Rattle.std.proofs.lemmas.List.{get_or_past, get_or-set_same, get_or-set_other, set-get_or}
 use Rattle.fv_container.specs.Mapped.{Mapped, entry_under, with_entry}
 use Rattle.fv_volume.specs.declared.state.VolumeState.{VolumeState}
 use Rattle.fv_volume.specs.Stored.{place_at, place_in, stays}
@@ -15,6 +15,10 @@ none_gone x map = record {
   holes = λ v lt off. absurd (omega (arith, lt));
   rest = λ v le. refl;
 }
+
+-- a hole is one already
+pub hole_already : (map : Mapped) (v : ℕ) → entry_under map v ≡ None → map ≡ with_entry map v None
+hole_already map v none = ap (λ es. record map { entries = es }) (sym (set-get_or map.entries v None) ∙ ap (set map.entries v) none)
 
 -- one entry more
 pub gone_more : (x : VolumeState) (old mid new : Mapped) (n : ℕ) → n < length mid.entries → HasGone x old n mid → (stays x n ≡ true → new ≡ mid) → (stays x n ≡ false → new ≡ with_entry mid n None) → HasGone x old (n + 1) new

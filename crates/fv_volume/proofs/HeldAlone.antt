@@ -46,7 +46,7 @@ use Rattle.fv_volume.specs.declared.pool.Pool.{Pool}
 use Rattle.fv_volume.specs.declared.state.VolumeState.{VolumeState}
 use Rattle.fv_volume.specs.Files.{AreStates, IsState, has_form}
 use Rattle.fv_volume.specs.Numbering.{AreNumbersSeen}
-use Rattle.fv_volume.specs.OneVolume.{shows, standing_by, table_for, volume_as, volume_for, IsReady, IsStanding}
+use Rattle.fv_volume.specs.OneVolume.{shows, standing_by, table_for, volume_for, IsReady, IsStanding}
 use Rattle.fv_volume.specs.Placing.{AreStoredBy, IsLedTo, IsStoredWell}
 use Rattle.fv_volume.specs.Slots.{sum_of}
 use Rattle.fv_volume.specs.States.{States, head_in, parent_in, state_at, table_in, view_over}
@@ -54,7 +54,7 @@ use Rattle.fv_volume.specs.Trees.{active_in, no_trees}
 use Rattle.fv_volume.proofs.Distinct.{same_names}
 use Rattle.fv_volume.proofs.Made.{commits_are}
 use Rattle.fv_volume.proofs.Reached.{standing_reach}
-use Rattle.fv_volume.proofs.Standings.{agree, seen_volume, standing_reached, standing_state, standing_table}
+use Rattle.fv_volume.proofs.Standings.{agree, standing_reached, standing_state, standing_table, standing_volume}
 use Rattle.fv_volume.proofs.Told.{head_there, is_inside}
 use Rattle.fv_volume.proofs.Trees.{unchanged_machine}
 use Rattle.fv_volume.proofs.Facts.{are_ruled, led_by}
@@ -204,7 +204,7 @@ module _ (disk : Shown) (pool : Pool) (states : States) (housed : AreHoused pool
   table_is = ap (λ (o : Option Head). option_map_or (λ h. table_at w s h.active) o empty_table) here
 
   volume_is : volume_told w s h ≡ volume_for disk pool x
-  volume_is = ap (volume_with w s h) (sym table_is) ∙ seen_volume w s x (active_in w no_trees s) form ∙ ap (volume_as x) (standing_table disk pool states x one.stands no_files there alone form)
+  volume_is = ap (volume_with w s h) (sym table_is) ∙ standing_volume disk pool states x one.stands no_files there alone form
 
   pub wide_rule : nat_le (h.most + (set.len (base_ids (volume_told w s h).base) + 256)) h.span ≡ true
   wide_rule =

@@ -14,7 +14,7 @@ use Rattle.fv_bits.specs.Members.{is_member}
 use Rattle.fv_container.specs.declared.entry.Entry.{Entry}
 use Rattle.fv_container.specs.Chains.{IsSlots, Slots, along, chain_entry, container_at, or_else, own_entry, parent_at, with_container}
 use Rattle.fv_container.specs.Mapped.{Mapped, with_entry}
-use Rattle.fv_volmap.specs.Slots.{Allocates, IsVolume, Slot, Volume, active_of, map_or_empty, taken_in}
+use Rattle.fv_volmap.specs.Slots.{Allocates, IsVolume, Slot, Volume, active_of, has, map_or_empty, slot_at, taken_in}
 use Rattle.fv_tree.specs.declared.blocks.Placed.{Placed}
 use Rattle.fv_volume.specs.declared.pool.Pool.{Pool}
 use Rattle.fv_volume.specs.Keeping.{Blocks, kept_or, seen}
@@ -81,6 +81,24 @@ module _ (map after : Volume) (v : ℕ) (is : IsVolume map) (number : Allocates 
   own_taken = ap (λ (m : Volume). taken_in m.slots v) number.volume ∙ taken_first map.span map.slots v is.active active_long
 
 -- ---- what VVBNs lead to
+
+-- a number that a slot has is taken
+pub has_taken : (slots : List Slot) (k v : ℕ) → has v (slice_index_or slots k None) ≡ true → taken_in slots v ≡ true
+has_taken [] k v is = absurd cc
+has_taken (s ∷ ss) zero v is = ap (λ (b : Bool). b || taken_in ss v) is
+has_taken (s ∷ ss) (suc k) v is = later (has v s) (taken_in ss v) (has_taken ss k v is)
+  where
+    later : (a b : Bool) → b ≡ true → (a || b) ≡ true
+    later true b is = refl
+    later false b is = is
+
+-- Where a slot stays, each number of it leads to the same entry, whatever the others have.
+pub same_entry : (old new : Volume) (slots : Slots) (at k v : ℕ) → slot_at new k ≡ slot_at old k → has v (slot_at old k) ≡ true → held_entry new slots at v ≡ held_entry old slots at v
+unfolding held_entry
+same_entry old new slots at k v same is =
+    let before : taken_in old.slots v ≡ true = has_taken old.slots k v is in
+    let after : taken_in new.slots v ≡ true = has_taken new.slots k v (ap (has v) same ∙ is) in
+    ap (λ (b : Bool). cond (nat_le v 1048575 && b) (chain_entry slots at v) None) (after ∙ sym before)
 
 pub held_none : (map : Volume) (slots : Slots) (slot v : ℕ) → taken_in map.slots v ≡ false → held_entry map slots slot v ≡ None
 unfolding held_entry

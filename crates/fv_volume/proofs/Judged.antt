@@ -35,7 +35,7 @@ use Rattle.fv_volume.proofs.Asked.{file, file_there, found}
 use Rattle.fv_volume.proofs.Changed.{leaves_ledger}
 use Rattle.fv_volume.proofs.Charging.{put_change, put_delta}
 use Rattle.fv_volume.proofs.Lookups.{named_none}
-use Rattle.fv_volume.proofs.OneVolumes.{is_alone}
+use Rattle.fv_volume.proofs.KeptTables.{ready_alone}
 
 -- ---- ledgers
 
@@ -142,7 +142,7 @@ module _ (d : Disk) (p : Pool) (x : VolumeState) (others : ℕ) where
       }
 
       its_delta : (block : List ℕ) → IsDeltaOf (volume_for d p x) (stamped (volume_for d p x) (put (table_told table) info.number its i block)) by
-      its_delta block = put_delta (volume_for d p x) (is_alone d p x) is.table is.reserves by info.number its i block its_there (count_is its (file_there d p x is f info first))
+      its_delta block = put_delta (volume_for d p x) (ready_alone d p x ready) is.table is.reserves by info.number its i block its_there (count_is its (file_there d p x is f info first))
 
       abbrev its_ledger : Ledger
       its_ledger = record x.ledger { charge = x.ledger.charge + count }

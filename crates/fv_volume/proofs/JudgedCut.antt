@@ -32,7 +32,7 @@ use Rattle.fv_volume.proofs.Answered.{cut_changes, cut_far, cut_none, cut_past, 
 use Rattle.fv_volume.proofs.Asked.{file, file_there, found, long}
 use Rattle.fv_volume.proofs.Charging.{cut_change, rm_change}
 use Rattle.fv_volume.proofs.Lookups.{named_none}
-use Rattle.fv_volume.proofs.OneVolumes.{is_alone}
+use Rattle.fv_volume.proofs.KeptTables.{ready_alone}
 
 -- A command by which a volume uses no more finds room where there was room before.
 module _ (m : Machine) (c : Command) (v : List ℕ) (x y : Volume) (others blocks : ℕ) (has : HasWithin v x others blocks m) (change : change_of m c ≡ Becomes v y) (budget : HasBudgetOf x y) (less : use_of y ≤ use_of x) where
@@ -77,25 +77,25 @@ module _ (d : Disk) (p : Pool) (x : VolumeState) where
     pub rm_counted : most_changes ≤ x.now → RefusedIn (Has x.name (volume_for d p x)) (Remove x.name f) (Refused TooMany)
     rm_counted all m has = rm_changes m x.name (volume_for d p x) has f info.number its its_name all
 
-    pub cut_accepted : (most : ℕ) → is_reserve most ≡ true → most ≤ info.length → x.now < most_changes → AcceptsCut d p x f most info
-    cut_accepted most near low more = record {
+    pub cut_accepted : IsReady d p x → (most : ℕ) → is_reserve most ≡ true → most ≤ info.length → x.now < most_changes → AcceptsCut d p x f most info
+    cut_accepted ready most near low more = record {
       near = near;
       first = first;
       accepted = λ others m has.
           cut_space m x.name (volume_for d p x) has.beside.there f info.number its its_name most near (let same = long d p x is f info first in omega (arith, same, low)) more
           ∙ has_room m (Cut x.name f most) x.name (volume_for d p x) (stamped (volume_for d p x) (cut (table_told table) info.number its most)) others p.found.blocks has
           (cut_change m x.name f (volume_for d p x) has.beside.there info.number its its_name most) (record { kind = refl; size = refl; span = refl })
-          (cut_uses_less (volume_for d p x) (is_alone d p x) is.table is.reserves info.number its most its_there);
+          (cut_uses_less (volume_for d p x) (ready_alone d p x ready) is.table is.reserves info.number its most its_there);
     }
 
-    pub rm_accepted : x.now < most_changes → AcceptsRemoval d p x f info
-    rm_accepted more = record {
+    pub rm_accepted : IsReady d p x → x.now < most_changes → AcceptsRemoval d p x f info
+    rm_accepted ready more = record {
       first = first;
       accepted = λ others m has.
           rm_space m x.name (volume_for d p x) has.beside.there f info.number its its_name more
           ∙ has_room m (Remove x.name f) x.name (volume_for d p x) (stamped (volume_for d p x) (rm (table_told table) info.number)) others p.found.blocks has
           (rm_change m x.name f (volume_for d p x) has.beside.there info.number its its_name) (record { kind = refl; size = refl; span = refl })
-          (rm_uses_less (volume_for d p x) (is_alone d p x) is.table is.reserves info.number its its_there);
+          (rm_uses_less (volume_for d p x) (ready_alone d p x ready) is.table is.reserves info.number its its_there);
     }
 
 -- A ledger with fewer blocks fits the volume.

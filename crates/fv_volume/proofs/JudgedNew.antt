@@ -37,7 +37,7 @@ use Rattle.fv_volume.proofs.Charging.{new_change, new_delta}
 use Rattle.fv_volume.proofs.FileCounts.{least_is, none_free, none_told, some_free, some_told}
 use Rattle.fv_volume.proofs.Judged.{more_ledger}
 use Rattle.fv_volume.proofs.Lookups.{named_none}
-use Rattle.fv_volume.proofs.OneVolumes.{is_alone}
+use Rattle.fv_volume.proofs.KeptTables.{ready_alone}
 
 pub some_is : {T : Type 0} (o : Option T) → is_some o ≡ true → (x : T) × (o ≡ Some x)
 some_is None is = absurd cc
@@ -104,7 +104,7 @@ module _ (d : Disk) (p : Pool) (x : VolumeState) (others : ℕ) where
 
             its_delta : IsDeltaOf (volume_for d p x) (stamped (volume_for d p x) (new (table_told table) f reserve)) by
             its_delta = subst (λ k. IsDeltaOf (volume_for d p x) (stamped (volume_for d p x) (new (table_told table) f k)) by) (sym zero_is)
-                (new_delta (volume_for d p x) (is_alone d p x) is.table is.reserves by f count_is)
+                (new_delta (volume_for d p x) (ready_alone d p x ready) is.table is.reserves by f count_is)
 
             its_left : (m : Machine) → beside m → IsLeft m (New x.name f reserve) x.name (record x.ledger { charge = x.ledger.charge + count }) others (capacity p.found.blocks)
             its_left m has = leaves_ledger d p x is others m has (New x.name f reserve) (stamped (volume_for d p x) (new (table_told table) f reserve)) by (record x.ledger { charge = x.ledger.charge + count })

@@ -31,14 +31,15 @@ use Rattle.fv_files.proofs.Tables.{file_tree}
 use Rattle.fv_volume.specs.declared.pool.Pool.{Pool}
 use Rattle.fv_volume.specs.declared.state.VolumeState.{VolumeState}
 use Rattle.fv_volume.specs.Calls.{Has}
-use Rattle.fv_volume.specs.OneVolume.{standing_for, volume_for, IsStanding}
+use Rattle.fv_volume.specs.OneVolume.{standing_for, volume_for, IsReady, IsStanding}
 use Rattle.fv_volume.specs.Paths.{if_unknown, unknown_over, unknown_to, StepsTo}
 use Rattle.fv_volume.specs.Placing.{IsStoredWell}
-use Rattle.fv_volume.proofs.Answered.{get_far, get_none, get_snapshot}
-use Rattle.fv_volume.proofs.Asked.{first_info}
+use Rattle.fv_volume.proofs.Answered.{get_far, get_lost, get_none}
+use Rattle.fv_volume.proofs.Asked.{first_info, lost}
 use Rattle.fv_volume.proofs.Followed.{same_way}
 use Rattle.fv_volume.proofs.Lookups.{found_passes, name_told, record_of, told_by}
-use Rattle.fv_volume.proofs.OneVolumes.{is_alone}
+use Rattle.fv_volume.proofs.KeptTables.{ready_snaps}
+use Rattle.fv_volume.proofs.SnapReads.{asked_lone}
 use Rattle.fv_volume.proofs.Undamaged.{file_holds, inode_holds, led_by, HoldsWell}
 
 -- ---- one tree
@@ -129,14 +130,14 @@ module _ (d : Disk) (p : Pool) (x : VolumeState) (is : IsStanding d p x) (well :
   known_steps name info first i before now steps = let none = none_unknown name info first i in let rose = steps info first in omega (arith, none, rose)
 
   -- a block that was given was given without a step
-  pub known_get : (m : Machine) → Has x.name (volume_for d p x) m → (s : Option (List ℕ)) (f : List ℕ) (i before now : ℕ) → refusal m (Get x.name s f i) ≡ None → StepsTo table f i before now → now ≡ before
-  known_get m has s f i before now accepted steps = by (is_index i) refl s accepted (file_named (table_told table) f) refl
+  pub known_get : IsReady d p x → (m : Machine) → Has x.name (volume_for d p x) m → (s : Option (List ℕ)) (f : List ℕ) (i before now : ℕ) → refusal m (Get x.name s f i) ≡ None → StepsTo table f i before now → now ≡ before
+  known_get ready m has s f i before now accepted steps = by (is_index i) refl s accepted (file_named (table_told table) f) refl
     where
       not_some : (r : Refusal) (o : Option Refusal) → o ≡ Some r → o ≡ None → ⊥
       not_some r o one none = let both : Some r ≡ None = sym one ∙ none in cc
 
       by : (b : Bool) → is_index i ≡ b → (s : Option (List ℕ)) → refusal m (Get x.name s f i) ≡ None → (o : Option (ℕ × File)) → file_named (table_told table) f ≡ o → now ≡ before
       by false far s accepted o found = absurd (not_some Range _ (get_far m x.name (volume_for d p x) has s f i far) accepted)
-      by true near (Some s) accepted o found = absurd (not_some NoSnapshot _ (get_snapshot m x.name (volume_for d p x) has (is_alone d p x) s f i near) accepted)
-      by true near None accepted None found = absurd (not_some NoFile _ (get_none m x.name (volume_for d p x) has f i near found) accepted)
+      by true near (Some s) accepted o found = absurd (not_some NoSnapshot _ (get_lost m x.name (volume_for d p x) has (Some s) (lost d p x (Some s) is (asked_lone d p x (ready_snaps d p x ready) (Some s) refl)) f i near) accepted)
+      by true near None accepted None found = absurd (not_some NoFile _ (get_none m x.name (volume_for d p x) has None (table_told table) refl f i near found) accepted)
       by true near None accepted (Some e) found = known_steps f _ (first_there table f x.now is.table e found) i before now steps

@@ -1,68 +1,28 @@
--- The label of a volume without snapshots and base: its fields are in range, and it says what the volume is.
-use Rattle.std.proofs.Common.{◌≡◌, ℕ, zero, suc, ◌-◌, ◌≤◌, Bool, true, false, List, [], ◌∷◌, ◌++◌, length, take, drop, replicate, Option, Some, None, refl, sym, ap, subst, ◌∙◌, arith}
-use Rattle.std.specs.Prelude.{◌&&◌, ◌%◌, if◌then◌else◌, min, Ok}
-use Rattle.std.specs.List.{list_all}
+-- The label of a volume without a base: its fields are in range, and it says what the volume is.
+use Rattle.std.proofs.Common.{◌≡◌, ℕ, ◌-◌, ◌≤◌, Bool, true, false, List, ◌++◌, length, get_or, take, replicate, Option, Some, None, refl, sym, ap, subst, ◌∙◌, arith}
+use Rattle.std.specs.Prelude.{◌&&◌, ◌%◌, ◌==◌, min}
+use Rattle.std.specs.List.{list_any}
 use Rattle.std.specs.Option.{is_none}
-use Rattle.std.proofs.Math.Seq.{drop-append_seam, take-append_seam}
-use Rattle.std.proofs.lemmas.Bool.{true≢false}
-use Rattle.std.proofs.lemmas.Bool.Decides.{nat_tests}
-use Rattle.std.proofs.lemmas.List.Elements.{All-replicate}
-use Rattle.fv_codec.specs.Blocks.{IsLabel, IsPointer, IsSnapRecord, last_place, most_stamps}
-use Rattle.fv_codec.specs.Fields.{all_name, all_zero, name_filled, ◌then◌}
+use Rattle.std.proofs.Math.Seq.{take-append_seam}
+use Rattle.std.proofs.lemmas.Bool.{and_parts, true≢false}
+use Rattle.fv_codec.specs.Blocks.{IsLabel, IsPointer, last_place, most_stamps}
 use Rattle.fv_model.specs.declared.commands.Kind.{Kind}
 use Rattle.fv_model.specs.declared.commands.Kind.TheVariants.{Volume as Whole, File as ByFile, Thin}
-use Rattle.fv_model.specs.Spelling.{is_name, is_name_byte as is_letter}
-use Rattle.fv_image.specs.Views.{Footing, Head, Snap, head_of, kind_named, snaps_from}
+use Rattle.fv_model.specs.Spelling.{is_name}
+use Rattle.fv_image.specs.Views.{Footing, Head, head_of, kind_named}
 use Rattle.fv_image.specs.Told.{has_none}
 use Rattle.fv_model.specs.Numbers.{greatest_span}
 use Rattle.fv_charge.specs.declared.ledger.Ledger.{Ledger}
 use Rattle.fv_volmap.specs.Slots.{Volume as MapSlots}
 use Rattle.fv_volume.specs.declared.state.VolumeState.{VolumeState}
-use Rattle.fv_volume.specs.Labels.{free_record, kind_number, label_said}
-use Rattle.fv_volume.specs.Files.{IsLabelled, IsOneMap, has_form}
+use Rattle.fv_volume.specs.Labels.{kind_number, label_said}
+use Rattle.fv_volume.specs.SnapRecords.{records_said, AreSayable}
+use Rattle.fv_volume.specs.Files.{HasSlotsOf, IsLabelled, has_form}
 use Rattle.fv_volume.specs.States.{head_in}
-use Rattle.fv_volume.proofs.Naming.{same_byte}
-
--- ---- the name, filled up with zero bytes
-
-both : (a b : Bool) → (a && b) ≡ true → (a ≡ true) × (b ≡ true)
-both true b is = (refl, is)
-both false b is = absurd (true≢false (sym is))
-
-spelled : (xs : List ℕ) → list_all is_letter xs ≡ true → all_name xs ≡ Ok tt
-unfolding all_name
-spelled [] all = refl
-spelled (x ∷ xs) all =
-    let parts = both (is_letter x) (list_all is_letter xs) all in
-    rw (same_byte x, parts.0) (spelled xs parts.1)
-
-zeros : (n : ℕ) → all_zero (replicate n 0) ≡ Ok tt
-unfolding all_zero
-zeros zero = refl
-zeros (suc n) = zeros n
-
-parts : (w : List ℕ) → is_name w ≡ true → (1 ≤ length w) × ((length w ≤ 64) × (list_all is_letter w ≡ true))
-parts w is = grind (arith, nat_tests, is)
-
-filled : (w : List ℕ) → is_name w ≡ true → name_filled (length w) (w ++ replicate (64 - length w) 0) ≡ Ok tt
-unfolding name_filled
-filled w is =
-    let field = w ++ replicate (64 - length w) 0 in
-    let first : all_name (take (length w) field) ≡ Ok tt = ap all_name (take-append_seam w (replicate (64 - length w) 0)) ∙ spelled w (parts w is).1.1 in
-    let rest : all_zero (drop (length w) field) ≡ Ok tt = ap all_zero (drop-append_seam w (replicate (64 - length w) 0)) ∙ zeros (64 - length w) in
-    (λ i. first i then rest i)
+use Rattle.fv_volume.proofs.Naming.{filled, parts}
+use Rattle.fv_volume.proofs.SnapRecords.{all_said, snaps_again}
 
 -- ---- the fields
-
-free_in_range : IsSnapRecord free_record
-unfolding name_filled all_name
-free_in_range = record {
-  name_length = omega arith;
-  name_long = refl;
-  name = zeros 64;
-  levels = omega arith;
-  root = record { vvbn = omega arith; pvbn = omega arith; stamp = omega arith };
-}
 
 pub kind_least : (k : Kind) → kind_number k ≤ 2
 kind_least Whole = omega arith
@@ -82,6 +42,7 @@ pub record IsSayable (x : VolumeState) : Type 0 where
   pub now : x.now ≤ most_stamps
   pub levels : x.active.levels ≤ 2
   pub root : IsPointer x.active.root
+  pub snapshots : AreSayable (head_in x)
 
 pub label_range : (x : VolumeState) → IsSayable x → (container height : ℕ) → container ≤ last_place → 1 ≤ height → height ≤ 2 → IsLabel (label_said x container height)
 unfolding label_said
@@ -108,7 +69,7 @@ label_range x is container height placed least greatest = record {
   height_greatest = greatest;
   levels = is.levels;
   root = is.root;
-  snapshots = All-replicate IsSnapRecord 24 free_record free_in_range;
+  snapshots = all_said (head_in x) is.snapshots;
 }
 
 -- ---- what the label says
@@ -118,25 +79,17 @@ kind_again Whole = refl
 kind_again ByFile = refl
 kind_again Thin = refl
 
-free_snapshots : snaps_from 1 (replicate 24 free_record) ≡ []
-unfolding snaps_from
-free_snapshots = refl
-
 no_base : (o : Option Footing) → is_none o ≡ true → o ≡ None
 no_base None is = refl
 no_base (Some b) is = absurd (true≢false (sym is))
 
-no_snaps : (ss : List Snap) → has_none ss ≡ true → ss ≡ []
-no_snaps [] is = refl
-no_snaps (s ∷ ss) is = absurd (true≢false (sym is))
-
--- a label says its volume's head, where that has no snapshot or base
-pub label_head : (x : VolumeState) → has_form (head_in x) ≡ true → is_name x.name ≡ true → (container height : ℕ) → head_of (label_said x container height) ≡ head_in x
+-- a label says its volume's head, where that has no base
+pub label_head : (x : VolumeState) → has_form (head_in x) ≡ true → is_name x.name ≡ true → AreSayable (head_in x) → (container height : ℕ) → head_of (label_said x container height) ≡ head_in x
 unfolding head_of label_said
-label_head x form named container height =
+label_head x form named said container height =
     let name : take (length x.name) (x.name ++ replicate (64 - length x.name) 0) ≡ x.name = take-append_seam x.name (replicate (64 - length x.name) 0) in
-    let more = both (has_none (head_in x).snapshots) (is_none (head_in x).base && x.known) form in
-    let last = both (is_none (head_in x).base) x.known more.1 in
+    let more = and_parts (has_none (head_in x).snapshots) (is_none (head_in x).base && x.known) form in
+    let last = and_parts (is_none (head_in x).base) x.known more.1 in
     (λ i. record {
       name = name i;
       kind = kind_again x.kind i;
@@ -147,7 +100,7 @@ label_head x form named container height =
       base = sym (no_base (head_in x).base last.0) i;
       known = sym last.1 i;
       active = record { levels = x.active.levels; root = x.active.root };
-      snapshots = (free_snapshots ∙ sym (no_snaps (head_in x).snapshots more.0)) i;
+      snapshots = snaps_again (head_in x) said i;
     })
 
 -- ---- a volume of which a consistency point told
@@ -171,19 +124,21 @@ same_label x y head container height = (λ i. record {
   height = height;
   levels = (head i).active.levels;
   root = (head i).active.root;
-  snapshots = replicate 24 free_record;
+  snapshots = records_said (head i).snapshots;
 })
 
 -- what holds of a volume's numbers and name holds of one with its head, its map and its ledger
-pub same_labelled : (slot : ℕ) (x y : VolumeState) → head_in y ≡ head_in x → y.slot ≡ x.slot → y.map ≡ x.map → y.ledger ≡ x.ledger → IsLabelled slot x → IsLabelled slot y
-same_labelled slot x y head at map ledger is =
+pub same_labelled : (slot : ℕ) (x y : VolumeState) → head_in y ≡ head_in x → y.slot ≡ x.slot → y.map ≡ x.map → y.ledger ≡ x.ledger → y.fresh ≡ x.fresh → IsLabelled slot x → IsLabelled slot y
+same_labelled slot x y head at map ledger fresh is =
     let span : y.span ≡ x.span = ap (λ (h : Head). h.span) head in
     record {
       slot_is = at ∙ is.slot_is;
       form = ap has_form head ∙ is.form;
       span = subst (λ (n : ℕ). n ≤ greatest_span) (sym span) is.span;
       map = ap (λ (m : MapSlots). m.span) map ∙ is.map ∙ sym span;
-      one = subst IsOneMap (sym map) is.one;
+      snapshots = subst AreSayable (sym head) is.snapshots;
+      slots = subst (HasSlotsOf (head_in y)) (sym map) (subst (λ (h : Head). HasSlotsOf h x.map) (sym head) is.slots);
+      waits = λ k on. subst (λ (h : Head). list_any (λ p. p.slot == k) h.snapshots ≡ true) (sym head) (is.waits k (sym (ap (λ (f : List Bool). get_or f k false) fresh) ∙ on));
       counts = ap (λ (l : Ledger). l.span) ledger ∙ is.counts ∙ sym span;
       levels = subst (λ (h : Head). h.active.levels ≤ 2) (sym head) is.levels;
       named = ap (λ (h : Head). is_name h.name) head ∙ is.named;

@@ -1,4 +1,6 @@
 mod Naming
+pub mod MapSlots
+mod Positions
 pub mod Labels
 pub mod Overheads
 pub mod Loaded
@@ -28,6 +30,8 @@ pub mod LoadedTables
 pub mod LoadedStored
 mod Counting
 pub mod Drawing
+pub mod StayingMaps
+pub mod MapCounts
 mod Gone
 mod MapBlocks
 pub mod SlotBlocks
@@ -42,6 +46,7 @@ pub mod Delaying
 pub mod LoadedBlocks
 pub mod Spacing
 pub mod Settled
+pub mod Reaches
 pub mod StaysStates
 pub mod Distinct
 pub mod Housing
@@ -52,8 +57,10 @@ pub mod Settling
 pub mod StoredTold
 pub mod Lookups
 pub mod Answered
+pub mod KeptTables
 pub mod OneVolumes
 pub mod Numbered
+pub mod SnapReads
 pub mod Asked
 mod CallCauses
 mod Followed
@@ -101,3 +108,8 @@ pub mod Destroyed
 pub mod Removed
 pub mod DestroyedOthers
 pub mod Emptied
+pub mod CountedMaps
+pub mod SnapRecords
+pub mod SnapSlots
+pub mod SlotReads
+pub mod KeptSlots

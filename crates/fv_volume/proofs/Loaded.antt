@@ -1,6 +1,6 @@
 -- What is loaded from a label, as a volume.
-use Rattle.std.proofs.Common.{◌≡◌, ℕ, Bool, nat_eq, map, subst, true, false, List, [], ◌∷◌, Some, None, refl, sym, ap, ◌∙◌, arith}
-use Rattle.std.specs.Prelude.{not, ◌==◌, ◌+◌, ◌-◌, ◌&&◌, find, take, if◌then◌else◌}
+use Rattle.std.proofs.Common.{◌≡◌, ℕ, Bool, nat_eq, map, subst, true, false, List, [], ◌∷◌, length, Some, None, refl, sym, ap, ◌∙◌, arith}
+use Rattle.std.specs.Prelude.{not, ◌==◌, ◌+◌, ◌-◌, ◌&&◌, find, take, replicate, if◌then◌else◌}
 use Rattle.std.specs.Option.{is_none, option_map}
 use Rattle.fv_model.specs.declared.commands.Kind.{Kind}
 use Rattle.fv_model.specs.Spelling.{is_name}
@@ -8,14 +8,19 @@ use Rattle.fv_image.specs.Told.{has_none}
 use Rattle.fv_codec.proofs.Numbers.{up_to-le}
 use Rattle.fv_volume.specs.declared.state.Snap.{Snap as StateSnap}
 use Rattle.fv_volume.specs.declared.state.VolumeState.{VolumeState}
+use Rattle.fv_volmap.specs.Slots.{stored_count}
 use Rattle.fv_volume.specs.Files.{IsLabelled, has_form, IsOneMap}
+use Rattle.fv_volume.proofs.StayingMaps.{no_waits}
 use Rattle.fv_volume.specs.States.{head_in, snap_in}
 use Rattle.std.proofs.lemmas.Bool.Decides.{nat_tests}
 use Rattle.fv_codec.specs.declared.label.Label.{Label}
 use Rattle.fv_codec.specs.declared.label.SnapRecord.{SnapRecord}
 use Rattle.fv_codec.specs.Blocks.{IsLabel, IsPointer}
 use Rattle.fv_image.specs.Views.{Head, footing_of, head_of, kind_named, snaps_from}
+use Rattle.fv_volume.specs.SnapRecords.{AreSayable}
 use Rattle.fv_volume.proofs.Labels.{IsSayable, label_range}
+use Rattle.fv_volume.proofs.MapSlots.{slots_of_one}
+use Rattle.fv_volume.proofs.SnapRecords.{label_sayable}
 use Rattle.fv_volume.specs.Loading.{first_used, form_in, is_used}
 
 -- a label without forms
@@ -78,10 +83,10 @@ head_with l name kind snaps = record {
   snapshots = map snap_in snaps;
 }
 
-pub head_from : (l : Label) → IsBare l → (name : List ℕ) (kind : Kind) (snaps : List StateSnap) → name ≡ take l.name_length l.name → kind ≡ kind_named l.kind → snaps ≡ []
+pub head_from : (l : Label) → IsBare l → (name : List ℕ) (kind : Kind) (snaps : List StateSnap) → name ≡ take l.name_length l.name → kind ≡ kind_named l.kind → map snap_in snaps ≡ snaps_from 1 l.snapshots
     → head_with l name kind snaps ≡ head_of l
 unfolding head_of
-head_from l is name kind snaps called sort empty = λ i. record {
+head_from l is name kind snaps called sort said = λ i. record {
   name = called i;
   kind = sort i;
   size = l.size;
@@ -91,13 +96,13 @@ head_from l is name kind snaps called sort empty = λ i. record {
   base = sym (no_footing l is) i;
   known = nat_eq l.known 1;
   active = record { levels = l.levels; root = l.root };
-  snapshots = (ap (map snap_in) empty ∙ sym (no_snapshots l is)) i;
+  snapshots = said i;
 }
 
 -- it can be said by a label again
-sayable : (l : Label) → IsLabel l → (y : VolumeState) → head_in y ≡ head_of l → is_name y.name ≡ true → IsSayable y
+sayable : (l : Label) → IsLabel l → length l.snapshots ≡ 24 → (y : VolumeState) → head_in y ≡ head_of l → is_name y.name ≡ true → IsSayable y
 unfolding head_of
-sayable l range y head named =
+sayable l range long y head named =
     let size : y.size ≡ l.size = ap (λ h. h.size) head in
     let most : y.most ≡ l.most = ap (λ h. h.most) head in
     let span : y.span ≡ l.span = ap (λ h. h.span) head in
@@ -116,12 +121,13 @@ sayable l range y head named =
       now = rw now range.now;
       levels = omega (arith, levels, range.levels);
       root = subst IsPointer (sym root) range.root;
+      snapshots = subst AreSayable (sym head) (label_sayable l range long);
     }
 
 -- a volume with the head of such a label has its numbers and its name
-pub labelled_from : (l : Label) → IsLabel l → form_in l ≡ None → (y : VolumeState) (slot : ℕ) → y.slot ≡ slot → head_in y ≡ head_of l → y.ledger.span ≡ l.span → is_name y.name ≡ true → y.map.span ≡ y.span → IsOneMap y.map → IsLabelled slot y
+pub labelled_from : (l : Label) → IsLabel l → length l.snapshots ≡ 24 → form_in l ≡ None → (y : VolumeState) (slot : ℕ) → y.slot ≡ slot → head_in y ≡ head_of l → y.ledger.span ≡ l.span → is_name y.name ≡ true → y.map.span ≡ y.span → IsOneMap y.map → y.fresh ≡ replicate stored_count false → IsLabelled slot y
 unfolding head_of
-labelled_from l range none y slot at head ledger named map one =
+labelled_from l range long none y slot at head ledger named map one settled =
     let same : y.span ≡ l.span = ap (λ h. h.span) head in
     let levels : y.active.levels ≡ l.levels = ap (λ h. h.active.levels) head in
     record {
@@ -129,9 +135,11 @@ labelled_from l range none y slot at head ledger named map one =
       form = ap has_form head ∙ head_bare l range (bare l none);
       span = omega (arith, same, range.span_greatest);
       map = map;
-      one = one;
+      snapshots = subst AreSayable (sym head) (label_sayable l range long);
+      slots = slots_of_one (head_in y) y.map (ap (λ h. h.snapshots) head ∙ no_snapshots l (bare l none)) one;
+      waits = no_waits y settled;
       counts = ledger ∙ sym same;
       levels = omega (arith, levels, range.levels);
       named = named;
-      label = label_range y (sayable l range y head named);
+      label = label_range y (sayable l range long y head named);
     }

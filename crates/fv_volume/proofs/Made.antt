@@ -1,12 +1,13 @@
 -- A new volume, and the machine with it.
 use Rattle.std.proofs.Common.{◌≡◌, ◌≢◌, ◌<◌, ◌≤◌, ◌+◌, ◌*◌, ℕ, Bool, true, false, cond, not, List, [], length, Option, Some, None, sum_by, true≢false, refl, sym, ap, subst, ◌∙◌, ⊎_elim, arith, length-set}
-use Rattle.std.specs.Prelude.{IfSome}
+use Rattle.std.specs.Prelude.{IfSome, replicate}
 use Rattle.std.specs.Option.{is_some, option_map, option_map_or}
 use Rattle.std.specs.FinMap as fin
 use Rattle.std.specs.Ordering.{nat_cmp, eq_by_cmp}
 use Rattle.std.specs.FinMap.{find}
 use Rattle.std.proofs.lemmas.Bool.{cases_eq}
 use Rattle.std.proofs.lemmas.Bool.Decides.{nat_tests}
+use Rattle.std.proofs.lemmas.List.Elements.{All-nil}
 use Rattle.std.proofs.lemmas.List.{get_or-set_same, get_or-set_other}
 use Rattle.fv_disk.specs.Shown.{Image}
 use Rattle.fv_model.specs.declared.answers.Refusal.{Refusal}
@@ -39,14 +40,16 @@ use Rattle.fv_image.specs.Chains.{parent_in, under}
 use Rattle.fv_image.specs.Views.{Head, Placed, View, entry_count}
 use Rattle.fv_image.specs.Volumes.{standing_of, table_at, volume_with, told_with}
 use Rattle.fv_image.proofs.LoneTables.{form_base, no_parent, place_own}
-use Rattle.fv_volmap.specs.Slots.{Volume as MapSlots, empty_volume as no_numbers}
+use Rattle.fv_volmap.specs.Slots.{Volume as MapSlots, empty_volume as no_numbers, stored_count}
 use Rattle.fv_volume.specs.declared.pool.Pool.{Pool}
 use Rattle.fv_volume.specs.declared.state.VolumeState.{VolumeState}
 use Rattle.fv_volume.specs.Creating.{Admits, IsNew, Refuses, new_ledger_of}
-use Rattle.fv_volume.specs.Labels.{hole}
+use Rattle.fv_volume.specs.SnapRecords.{hole, AreSayable, IsSayableSnap}
 use Rattle.fv_volume.proofs.Labels.{IsSayable, label_range}
 use Rattle.fv_volume.specs.Slots.{is_named, HasName, HaveSpans, HasSpan, IsFirstFree, IsFull, NoneHasName, sum_of}
-use Rattle.fv_volume.specs.Files.{AreNamed, AreStates, IsLabelled, IsState, has_form, IsOneMap}
+use Rattle.fv_volume.proofs.StayingMaps.{no_waits}
+use Rattle.fv_volume.specs.Files.{AreNamed, AreStates, HasSlotsOf, IsLabelled, IsState, has_form}
+use Rattle.fv_volume.proofs.MapSlots.{slots_of_one}
 use Rattle.fv_volume.specs.States.{States, empty_head, head_in, ledger_of_empty, placed_in, state_at, view_over, with_state}
 use Rattle.fv_volume.specs.Trees.{Trees, active_by, active_in, machine_in}
 use Rattle.fv_volume.proofs.Told.{Named, AreDistinct, named_from, volume_by, all_named, counted, distinct_from, fewer_named, find_set, head_there, is_inside, ledger_commit, none_named, none_some, same_named, some_named, summed, summed_states, volumes_are}
@@ -217,6 +220,9 @@ module _ (pool : Pool) (states : States) (trees : Trees) (i : Image) (long : len
 form_new : (name : List ℕ) (size : ℕ) (kind : Kind) (span : ℕ) → has_form (empty_head name size kind span) ≡ true
 form_new name size kind span = refl
 
+new_sayable : (name : List ℕ) (size : ℕ) (kind : Kind) (span : ℕ) → AreSayable (empty_head name size kind span)
+new_sayable name size kind span = record { slots = record { within = refl; rising = refl }; each = All-nil IsSayableSnap }
+
 -- a label can say it
 sayable_new : (y : VolumeState) (name : List ℕ) (size : ℕ) (kind : Kind) (span : ℕ) → span ≤ greatest_span → span ≡ span_of size 0 0 → head_in y ≡ empty_head name size kind span → is_size size ≡ true → is_name name ≡ true → IsSayable y
 sayable_new y name size kind span fits is head sized named =
@@ -240,12 +246,13 @@ sayable_new y name size kind span fits is head sized named =
       now = rw now_is (omega arith);
       levels = omega (arith, levels_are);
       root = subst IsPointer (sym root_is) (record { vvbn = omega arith; pvbn = omega arith; stamp = omega arith });
+      snapshots = subst AreSayable (sym head) (new_sayable name size kind span);
     }
 
 -- a new volume in its slot
 pub new_labelled : (y : VolumeState) (slot : ℕ) (name : List ℕ) (size : ℕ) (kind : Kind) (span : ℕ) → span ≤ greatest_span → span ≡ span_of size 0 0 → y.slot ≡ slot → head_in y ≡ empty_head name size kind span → y.ledger ≡ ledger_of_empty size kind span
-    → is_size size ≡ true → is_name name ≡ true → y.map ≡ no_numbers span → IsLabelled slot y
-new_labelled y slot name size kind span fits is at head ledger sized named map =
+    → is_size size ≡ true → is_name name ≡ true → y.map ≡ no_numbers span → y.fresh ≡ replicate stored_count false → IsLabelled slot y
+new_labelled y slot name size kind span fits is at head ledger sized named map settled =
     let span_is : y.span ≡ span = ap (λ h. h.span) head in
     let levels : y.active.levels ≡ 0 = ap (λ h. h.active.levels) head in
     record {
@@ -253,7 +260,9 @@ new_labelled y slot name size kind span fits is at head ledger sized named map =
       form = ap has_form head ∙ form_new name size kind span;
       span = omega (arith, span_is, fits);
       map = ap (λ (x : MapSlots). x.span) map ∙ sym span_is;
-      one = subst IsOneMap (sym map) (one_empty span);
+      snapshots = subst AreSayable (sym head) (new_sayable name size kind span);
+      slots = subst (λ (h : Head). HasSlotsOf h y.map) (sym head) (subst (HasSlotsOf (empty_head name size kind span)) (sym map) (slots_of_one (empty_head name size kind span) (no_numbers span) refl (one_empty span)));
+      waits = no_waits y settled;
       counts = ap (λ (l : Ledger). l.span) ledger ∙ sym span_is;
       levels = omega (arith, levels);
       named = ap is_name (ap (λ h. h.name) head) ∙ named;
@@ -267,9 +276,9 @@ put_at P states slot y within is each s = ⊎_elim
     (cases_eq s slot)
 
 pub each_made : (states : States) (slot : ℕ) (name : List ℕ) (size : ℕ) (kind : Kind) (span blocks : ℕ) (y : VolumeState) → length states ≡ 64 → ((s : ℕ) → IfSome (state_at states s) (IsLabelled s)) → Admits states blocks name size kind slot span
-    → y.slot ≡ slot → head_in y ≡ empty_head name size kind span → y.ledger ≡ ledger_of_empty size kind span → is_name name ≡ true → y.map ≡ no_numbers span → (s : ℕ) → IfSome (state_at (with_state states slot (Some y)) s) (IsLabelled s)
-each_made states slot name size kind span blocks y long each is at head ledger named map =
-    put_at IsLabelled states slot y (omega (arith, is.free.within, long)) (new_labelled y slot name size kind span is.most is.span_is at head ledger is.size_is named map) (λ s other. each s)
+    → y.slot ≡ slot → head_in y ≡ empty_head name size kind span → y.ledger ≡ ledger_of_empty size kind span → is_name name ≡ true → y.map ≡ no_numbers span → y.fresh ≡ replicate stored_count false → (s : ℕ) → IfSome (state_at (with_state states slot (Some y)) s) (IsLabelled s)
+each_made states slot name size kind span blocks y long each is at head ledger named map settled =
+    put_at IsLabelled states slot y (omega (arith, is.free.within, long)) (new_labelled y slot name size kind span is.most is.span_is at head ledger is.size_is named map settled) (λ s other. each s)
 
 -- the ledgers' spans are such as a volume can have
 pub have_spans : (states : States) → ((s : ℕ) → IfSome (state_at states s) (IsLabelled s)) → HaveSpans states
@@ -293,13 +302,13 @@ pub record IsAdded (pool : Pool) (states : States) (slot : ℕ) (name : List ℕ
   pub others : (s : ℕ) → s ≢ slot → container_at new_pool.containers s ≡ container_at pool.containers s
 
 pub added_by : (pool : Pool) (states : States) (slot : ℕ) (name : List ℕ) (size : ℕ) (kind : Kind) (span : ℕ) (y : VolumeState) (new_pool : Pool) (container : Mapped) → length states ≡ 64 → Admits states pool.found.blocks name size kind slot span
-    → y.slot ≡ slot → head_in y ≡ empty_head name size kind span → y.ledger ≡ ledger_of_empty size kind span → is_name name ≡ true → y.map ≡ no_numbers span
+    → y.slot ≡ slot → head_in y ≡ empty_head name size kind span → y.ledger ≡ ledger_of_empty size kind span → is_name name ≡ true → y.map ≡ no_numbers span → y.fresh ≡ replicate stored_count false
     → new_pool.found ≡ pool.found → new_pool.kept ≡ pool.kept → new_pool.containers ≡ with_parent (with_container pool.containers slot (Some container)) slot None → IsAdded pool states slot name size kind y new_pool
-added_by pool states slot name size kind span y new_pool container long is at head ledger named map found kept put = record {
+added_by pool states slot name size kind span y new_pool container long is at head ledger named map settled found kept put = record {
   long = long;
   admits = (span, is);
   head = head ∙ ap (empty_head name size kind) is.span_is;
-  labelled = new_labelled y slot name size kind span is.most is.span_is at head ledger is.size_is named map;
+  labelled = new_labelled y slot name size kind span is.most is.span_is at head ledger is.size_is named map settled;
   ledger = ledger ∙ ap (ledger_of_empty size kind) is.span_is;
   found = found;
   kept = kept;

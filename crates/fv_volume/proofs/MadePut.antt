@@ -1,5 +1,5 @@
 -- A write that was made is the machine's.
-use Rattle.std.proofs.Common.{◌≡◌, ℕ, ◌+◌, true, List, Option, Some, refl, sym, ap, subst, ◌∙◌, arith}
+use Rattle.std.proofs.Common.{◌≡◌, ◌≢◌, ℕ, ◌+◌, true, List, Option, Some, refl, sym, ap, subst, ◌∙◌, arith}
 use Rattle.std.specs.Prelude.{Ok}
 use Rattle.std.specs.FinMap as fin
 use Rattle.fv_disk.specs.Shown.{Shown as Disk}
@@ -21,22 +21,23 @@ use Rattle.fv_charge.specs.declared.delta.Delta.{Delta}
 use Rattle.fv_charge.specs.declared.ledger.Ledger.{Ledger}
 use Rattle.fv_charge.specs.Changes.{IsDeltaOf}
 use Rattle.fv_charge.specs.Ledgers.{IsLedgerOf}
-use Rattle.fv_volmap.specs.Slots.{Volume as Maps}
+use Rattle.fv_volmap.specs.Slots.{Volume as Maps, slot_at}
 use Rattle.fv_volume.specs.declared.pool.Pool.{Pool}
 use Rattle.fv_volume.specs.declared.state.VolumeState.{VolumeState}
 use Rattle.fv_volume.specs.Calls.{Changes, HasBeside, Reads}
 use Rattle.fv_volume.specs.Changing.{AcceptsPut}
 use Rattle.fv_volume.specs.Lending.{IsTold}
-use Rattle.fv_volume.specs.OneVolume.{shows, standing_by, standing_for, volume_for, AreSoundBy, IsStanding}
+use Rattle.fv_volume.specs.OneVolume.{shows, standing_by, standing_for, volume_for, AreSoundBy, IsReady, IsStanding}
 use Rattle.fv_volume.proofs.Asked.{file, file_there, found}
-use Rattle.fv_volume.proofs.Calling.{done_moves, done_next, done_says, done_told, done_trees, is_done, left_numbers, Parts}
+use Rattle.fv_volume.proofs.Calling.{done_moves, done_next, done_says, done_told, done_trees, is_done, left_numbers, left_slots, Parts}
 use Rattle.fv_volume.proofs.Changed.{made_standing, made_volume}
 use Rattle.fv_volume.proofs.Charging.{put_change, put_delta}
 use Rattle.fv_volume.proofs.Numbered.{put_files, still_numbered}
-use Rattle.fv_volume.proofs.OneVolumes.{is_alone, still_table}
+use Rattle.fv_volume.proofs.KeptTables.{ready_alone}
+use Rattle.fv_volume.proofs.OneVolumes.{still_table}
 
-module _ (d e f : Disk) (p q r : Pool) (first : Reads d p e q) (second : Reads e q f r) (x : VolumeState) (is : IsStanding d p x) (others : ℕ) (name : List ℕ) (i : ℕ) (content : List ℕ) (info : Info) (by : Delta)
-    (accepts : AcceptsPut d p x others name i info by) (map : Maps) (files : Option Files) (told : IsTold f r map x.slot)
+module _ (d e f : Disk) (p q r : Pool) (first : Reads d p e q) (second : Reads e q f r) (x : VolumeState) (is : IsStanding d p x) (ready : IsReady d p x) (others : ℕ) (name : List ℕ) (i : ℕ) (content : List ℕ) (info : Info) (by : Delta)
+    (accepts : AcceptsPut d p x others name i info by) (map : Maps) (slots : (k : ℕ) → k ≢ 0 → slot_at map k ≡ slot_at x.map k) (files : Option Files) (told : IsTold f r map x.slot)
     (trees : AreSoundBy (under (shows e q (record x { map = map }))) (shows e q (record x { map = map })).used x.active files)
     (written : WritesCell (standing_for e q x) (standing_by (under (shows e q (record x { map = map }))) x.active files) info.number i (x.now + 1) content) where
   abbrev its : File
@@ -60,7 +61,7 @@ module _ (d e f : Disk) (p q r : Pool) (first : Reads d p e q) (second : Reads e
       ∙ ap (λ (s : Standing). put (table_told s) info.number its i content (x.now + 1)) (still_table d e p q first x)
 
   its_delta : IsDeltaOf (volume_for d p x) (stamped (volume_for d p x) table) by
-  its_delta = put_delta (volume_for d p x) (is_alone d p x) is.table is.reserves by info.number its i content in_table (accepts.adds its its_there)
+  its_delta = put_delta (volume_for d p x) (ready_alone d p x ready) is.table is.reserves by info.number its i content in_table (accepts.adds its its_there)
 
   module _ (now : ℕ) (ledger : Ledger) (numbers : Option FileNumbers) (same : numbers ≡ x.numbers) (next : now ≡ x.now + 1) where
     abbrev done : VolumeState
@@ -71,10 +72,10 @@ module _ (d e f : Disk) (p q r : Pool) (first : Reads d p e q) (second : Reads e
     numbered = subst (λ (o : Option FileNumbers). AreNumbersIf o (table (x.now + 1))) (sym same) (still_numbered (table_told (standing_for d p x)) (table (x.now + 1)) info.number its (file_put its i content (x.now + 1)) in_table refl (put_files (table_told (standing_for d p x)) info.number its i content (x.now + 1)) x.numbers is.numbers)
 
     pub put_volume : volume_for f r done ≡ stamped (volume_for d p x) table
-    put_volume = made_volume d e f p q r first second x is map files told trees now ledger numbers table next made
+    put_volume = made_volume d e f p q r first second x is map slots files told trees now ledger numbers table next made
 
     pub put_standing : ((v w : Volume) → IsLedgerOf v x.ledger → IsDeltaOf v w by → IsLedgerOf w ledger) → IsStanding f r done
-    put_standing moves = made_standing d e f p q r first second x is map files told trees now ledger numbers table next made
+    put_standing moves = made_standing d e f p q r first second x is map slots files told trees now ledger numbers table next made
         (put_well x.now (x.now + 1) (table_told (standing_for d p x)) info.number its i content accepts.near (omega arith) is.table in_table)
         (put_unreserved (table_told (standing_for d p x)) is.reserves info.number its i content (x.now + 1) in_table)
         (moves (volume_for d p x) (stamped (volume_for d p x) table) is.ledger its_delta)
@@ -88,10 +89,13 @@ module _ (d e f : Disk) (p q r : Pool) (first : Reads d p e q) (second : Reads e
     }
 
 -- the parts of a write
-module _ (d e f : Disk) (p q r : Pool) (x v w y : VolumeState) (by : Delta) (parts : Parts {T = Unit {0}} d e f p q r x v w y (Ok tt) by) (is : IsStanding d p x) (others : ℕ) (name : List ℕ) (i : ℕ) (content : List ℕ) (info : Info)
+module _ (d e f : Disk) (p q r : Pool) (x v w y : VolumeState) (by : Delta) (parts : Parts {T = Unit {0}} d e f p q r x v w y (Ok tt) by) (is : IsStanding d p x) (ready : IsReady d p x) (others : ℕ) (name : List ℕ) (i : ℕ) (content : List ℕ) (info : Info)
     (accepts : AcceptsPut d p x others name i info by) (written : IsStanding e q v → WritesCell (standing_for e q v) (standing_for e q w) info.number i (v.now + 1) content) (kept : y.numbers ≡ w.numbers) where
   same_numbers : y.numbers ≡ x.numbers
   same_numbers = kept ∙ left_numbers d e f p q r x v w y (Ok tt) by parts
+
+  same_slots : (k : ℕ) → k ≢ 0 → slot_at w.map k ≡ slot_at x.map k
+  same_slots = left_slots d e f p q r x v w y (Ok tt) by parts
 
   told : IsTold f r w.map x.slot
   told = done_told d e f p q r x v w y (Ok tt) by parts is
@@ -107,8 +111,8 @@ module _ (d e f : Disk) (p q r : Pool) (x v w y : VolumeState) (by : Delta) (par
 
   pub put_stands : IsStanding f r y
   put_stands = subst (λ (z : VolumeState). IsStanding f r z) (sym (is_done d e f p q r x v w y (Ok tt) by parts))
-      (put_standing d e f p q r parts.first parts.alters.reads x is others name i content info by accepts w.map w.files told trees cell y.now y.ledger y.numbers same_numbers next (done_moves d e f p q r x v w y (Ok tt) by parts))
+      (put_standing d e f p q r parts.first parts.alters.reads x is ready others name i content info by accepts w.map same_slots w.files told trees cell y.now y.ledger y.numbers same_numbers next (done_moves d e f p q r x v w y (Ok tt) by parts))
 
   pub put_is : Changes (HasBeside x.name (volume_for d p x) others p.found.blocks) (Put x.name name i content) x.name (volume_for d p x) (volume_for f r y) (Ok tt)
   put_is = subst (λ (z : VolumeState). Changes (HasBeside x.name (volume_for d p x) others p.found.blocks) (Put x.name name i content) x.name (volume_for d p x) (volume_for f r z) (Ok tt)) (sym (is_done d e f p q r x v w y (Ok tt) by parts))
-      (put_changes d e f p q r parts.first parts.alters.reads x is others name i content info by accepts w.map w.files told trees cell y.now y.ledger y.numbers same_numbers next)
+      (put_changes d e f p q r parts.first parts.alters.reads x is ready others name i content info by accepts w.map same_slots w.files told trees cell y.now y.ledger y.numbers same_numbers next)

@@ -1,5 +1,5 @@
 -- A removal of a file that was made is the machine's.
-use Rattle.std.proofs.Common.{◌≡◌, ℕ, ◌+◌, ◌≤◌, true, List, Option, Some, sym, ap, subst, ◌∙◌, arith, pos, ◌+ℤ◌}
+use Rattle.std.proofs.Common.{◌≡◌, ◌≢◌, ℕ, ◌+◌, ◌≤◌, true, List, Option, Some, sym, ap, subst, ◌∙◌, arith, pos, ◌+ℤ◌}
 use Rattle.std.specs.Prelude.{Ok}
 use Rattle.std.specs.FinMap as fin
 use Rattle.fv_disk.specs.Shown.{Shown as Disk}
@@ -24,7 +24,7 @@ use Rattle.fv_charge.specs.declared.delta.Delta.{Delta}
 use Rattle.fv_charge.specs.declared.ledger.Ledger.{Ledger}
 use Rattle.fv_charge.specs.Changes.{IsDeltaOf}
 use Rattle.fv_charge.specs.Ledgers.{IsLedgerOf}
-use Rattle.fv_volmap.specs.Slots.{Volume as Maps}
+use Rattle.fv_volmap.specs.Slots.{Volume as Maps, slot_at}
 use Rattle.fv_volume.specs.declared.pool.Pool.{Pool}
 use Rattle.fv_volume.specs.declared.state.VolumeState.{VolumeState}
 use Rattle.fv_volume.specs.Calls.{Changes, HasWithin, Reads}
@@ -33,14 +33,15 @@ use Rattle.fv_volume.specs.Lending.{IsTold}
 use Rattle.fv_volume.specs.Numbering.{LacksFile}
 use Rattle.fv_volume.specs.OneVolume.{shows, standing_by, standing_for, volume_for, AreSoundBy, IsReady, IsStanding}
 use Rattle.fv_volume.proofs.Asked.{file, file_there, found}
-use Rattle.fv_volume.proofs.Calling.{done_moves, done_next, done_says, done_told, done_trees, is_done, Parts, left_numbers}
+use Rattle.fv_volume.proofs.Calling.{done_moves, done_next, done_says, done_told, done_trees, is_done, left_numbers, left_slots, Parts}
 use Rattle.fv_volume.proofs.Changed.{made_standing, made_volume}
 use Rattle.fv_volume.proofs.Charging.{rm_change, rm_delta}
 use Rattle.fv_volume.proofs.Numbered.{first_named, removed_numbered, rm_files}
-use Rattle.fv_volume.proofs.OneVolumes.{is_alone, still_table}
+use Rattle.fv_volume.proofs.KeptTables.{ready_alone}
+use Rattle.fv_volume.proofs.OneVolumes.{still_table}
 
 module _ (d e f : Disk) (p q r : Pool) (first : Reads d p e q) (second : Reads e q f r) (x : VolumeState) (is : IsStanding d p x) (ready : IsReady d p x) (others : ℕ) (name : List ℕ) (info : Info)
-    (accepts : AcceptsRemoval d p x name info) (map : Maps) (files : Option Files) (told : IsTold f r map x.slot)
+    (accepts : AcceptsRemoval d p x name info) (map : Maps) (slots : (k : ℕ) → k ≢ 0 → slot_at map k ≡ slot_at x.map k) (files : Option Files) (told : IsTold f r map x.slot)
     (trees : AreSoundBy (under (shows e q (record x { map = map }))) (shows e q (record x { map = map })).used x.active files)
     (removes : RemovesFile (standing_for e q x) (standing_by (under (shows e q (record x { map = map }))) x.active files) info.number (x.now + 1)) (count : ℕ)
     (takes : TakesByRemoval (standing_for e q x) info.number (x.now + 1) count) (by : Delta) (falls : count ≤ x.ledger.charge → (by.charge +ℤ pos count) ≡ pos 0) (need : by.need ≡ pos 0) (size : by.size ≡ x.ledger.size) (kind : by.kind ≡ x.ledger.kind) where
@@ -76,13 +77,13 @@ module _ (d e f : Disk) (p q r : Pool) (first : Reads d p e q) (second : Reads e
 
   low : count ≤ x.ledger.charge
   low =
-      let left = rm_charge (volume_for d p x) (is_alone d p x) is.table info.number its in_table in
+      let left = rm_charge (volume_for d p x) (ready_alone d p x ready) is.table info.number its in_table in
       let same = is.ledger.charged in
       let taken = taken_is in
       omega (arith, left, same, taken)
 
   its_delta : IsDeltaOf (volume_for d p x) (stamped (volume_for d p x) table) by
-  its_delta = rm_delta (volume_for d p x) (is_alone d p x) is.table is.reserves by info.number its in_table (record {
+  its_delta = rm_delta (volume_for d p x) (ready_alone d p x ready) is.table is.reserves by info.number its in_table (record {
     charge = subst (λ n. (by.charge +ℤ pos n) ≡ pos 0) taken_is (falls low);
     need = need;
     size = size ∙ ready.booked.size;
@@ -98,10 +99,10 @@ module _ (d e f : Disk) (p q r : Pool) (first : Reads d p e q) (second : Reads e
     numbered = removed_numbered (table_told (standing_for d p x)) (table (x.now + 1)) info.number its in_table (rm_files (table_told (standing_for d p x)) info.number (x.now + 1)) x.numbers numbers is.numbers (subst (λ (n : List ℕ). LacksFile x.numbers numbers n info.number) (sym its_named) lacks)
 
     pub rm_volume : volume_for f r done ≡ stamped (volume_for d p x) table
-    rm_volume = made_volume d e f p q r first second x is map files told trees now ledger numbers table next made
+    rm_volume = made_volume d e f p q r first second x is map slots files told trees now ledger numbers table next made
 
     pub rm_standing : ((v w : Volume) → IsLedgerOf v x.ledger → IsDeltaOf v w by → IsLedgerOf w ledger) → IsStanding f r done
-    rm_standing moves = made_standing d e f p q r first second x is map files told trees now ledger numbers table next made
+    rm_standing moves = made_standing d e f p q r first second x is map slots files told trees now ledger numbers table next made
         (rm_well x.now (x.now + 1) (table_told (standing_for d p x)) info.number (omega arith) is.table)
         (rm_unreserved (table_told (standing_for d p x)) is.reserves info.number (x.now + 1))
         (moves (volume_for d p x) (stamped (volume_for d p x) table) is.ledger its_delta)
@@ -121,6 +122,9 @@ module _ (d e f : Disk) (p q r : Pool) (x v w y : VolumeState) (by : Delta) (cou
   lacks_now : LacksFile x.numbers y.numbers name info.number
   lacks_now = subst (λ (o : Option FileNumbers). LacksFile o y.numbers name info.number) (left_numbers d e f p q r x v w y (Ok count) by parts) lacks
 
+  same_slots : (k : ℕ) → k ≢ 0 → slot_at w.map k ≡ slot_at x.map k
+  same_slots = left_slots d e f p q r x v w y (Ok count) by parts
+
   is_told : IsTold f r w.map x.slot
   is_told = done_told d e f p q r x v w y (Ok count) by parts is
 
@@ -138,9 +142,9 @@ module _ (d e f : Disk) (p q r : Pool) (x v w y : VolumeState) (by : Delta) (cou
 
   pub rm_stands : IsStanding f r y
   rm_stands = subst (λ (z : VolumeState). IsStanding f r z) (sym (is_done d e f p q r x v w y (Ok count) by parts))
-      (rm_standing d e f p q r parts.first parts.alters.reads x is ready others name info accepts w.map w.files is_told its_trees gone count fewer by falls need size kind y.now y.ledger y.numbers lacks_now its_next
+      (rm_standing d e f p q r parts.first parts.alters.reads x is ready others name info accepts w.map same_slots w.files is_told its_trees gone count fewer by falls need size kind y.now y.ledger y.numbers lacks_now its_next
       (done_moves d e f p q r x v w y (Ok count) by parts))
 
   pub rm_is : Changes (HasWithin x.name (volume_for d p x) others p.found.blocks) (Remove x.name name) x.name (volume_for d p x) (volume_for f r y) (Ok tt)
   rm_is = subst (λ (z : VolumeState). Changes (HasWithin x.name (volume_for d p x) others p.found.blocks) (Remove x.name name) x.name (volume_for d p x) (volume_for f r z) (Ok tt)) (sym (is_done d e f p q r x v w y (Ok count) by parts))
-      (rm_changes d e f p q r parts.first parts.alters.reads x is ready others name info accepts w.map w.files is_told its_trees gone count fewer by falls need size kind y.now y.ledger y.numbers lacks_now its_next)
+      (rm_changes d e f p q r parts.first parts.alters.reads x is ready others name info accepts w.map same_slots w.files is_told its_trees gone count fewer by falls need size kind y.now y.ledger y.numbers lacks_now its_next)

@@ -34,7 +34,7 @@ same_block i None = refl
 same_block i (Some e) = ap (λ (o : Option (List ℕ)). kept_or o (i e.pvbn)) (nothing_kept e.pvbn)
 
 module _ (found : Found) (i : Image) (s : ℕ) (l : Label) (map : Mapped) (lies : label_of found i s ≡ Some l) (spelled : Spelled i l.container l.height map) (size : length map.entries ≡ entry_count l.span) (valid : IsMapped map) where
-  block_there : (v : ℕ) → entry_block i (entry_under map v) ≡ block_in (entry_from (label_of found i s) i v)
+  pub block_there : (v : ℕ) → entry_block i (entry_under map v) ≡ block_in (entry_from (label_of found i s) i v)
   block_there v =
       sym (same_block i (entry_under map v))
       ∙ ap block_in (entry_of nothing i nothing_kept (Some l) (Some map) v (spelled, (size, valid)) ∙ ap (λ (o : Option Label). entry_from o i v) (sym lies))

@@ -1,5 +1,5 @@
 -- A volume that was just made stands for the machine's new one.
-use Rattle.std.proofs.Common.{◌≡◌, ℕ, Bool, true, List, Option, Some, None, sym, ap, subst, ◌∙◌, arith}
+use Rattle.std.proofs.Common.{◌≡◌, ℕ, Bool, true, List, [], Option, Some, None, sym, ap, subst, ◌∙◌, arith}
 use Rattle.std.specs.Prelude.{IsTrue, ◌==◌, if◌then◌else◌}
 use Rattle.std.specs.Option.{option_map}
 use Rattle.std.specs.Ordering.{nat_cmp}
@@ -36,9 +36,10 @@ use Rattle.fv_files.specs.declared.numbers.FileNumbers.{FileNumbers}
 use Rattle.fv_files.specs.Numbering.{AreNumbersIf}
 use Rattle.fv_volume.specs.declared.pool.Pool.{Pool}
 use Rattle.fv_volume.specs.declared.state.VolumeState.{VolumeState}
-use Rattle.fv_volume.specs.OneVolume.{shows, standing_by, table_for, volume_as, volume_for, AreSoundBy, IsStanding}
+use Rattle.fv_volume.specs.OneVolume.{blocks_in, shows, standing_by, table_for, volume_as, volume_for, AreSoundBy, IsKeptTable, IsStanding}
 use Rattle.fv_volume.specs.Placing.{AreStoredBy, IsStoredWell}
 use Rattle.fv_volume.specs.States.{empty_head, head_in, ledger_of_empty}
+use Rattle.fv_volume.proofs.KeptTables.{none_kept, none_told, snaps_none}
 use Rattle.fv_volume.proofs.Made.{ledger_new}
 use Rattle.fv_volume.proofs.Standings.{apart_alone}
 use Rattle.fv_volume.proofs.Stepping.{none_in}
@@ -84,6 +85,10 @@ module _ (disk : Disk) (pool : Pool) (x : VolumeState) (size : ℕ) (kind : Kind
   root : x.active.root ≡ hole
   root = ap (λ (h : Head). h.active.root) head
 
+  -- it has no snapshot
+  no_snapshots : x.snapshots ≡ []
+  no_snapshots = snaps_none x.snapshots (ap (λ (h : Head). h.snapshots) head)
+
   bare : x.active.root.stamp ≡ 0
   bare = ap (λ (p : Pointer). p.stamp) root
 
@@ -100,9 +105,9 @@ module _ (disk : Disk) (pool : Pool) (x : VolumeState) (size : ℕ) (kind : Kind
 
   -- it is told as the machine's new volume
   pub made_volume : volume_for disk pool x ≡ empty_volume size kind
-  made_volume = ap (volume_as x) made_table ∙ by
+  made_volume = (λ i. volume_as x (record { active = made_table i; snapshots = none_told (blocks_in disk pool x) x.snapshots no_snapshots i })) ∙ by
     where
-      by : volume_as x empty_table ≡ empty_volume size kind
+      by : volume_as x (record { active = empty_table; snapshots = fin.empty }) ≡ empty_volume size kind
       by = λ i. record {
         kind = (head i).kind;
         size = (head i).size;
@@ -121,6 +126,7 @@ module _ (disk : Disk) (pool : Pool) (x : VolumeState) (size : ℕ) (kind : Kind
     told = (tells, apart_alone pool x.map x.slot alone (λ v e is. absurd (no_entry v e is)) (λ v w other e is f there. absurd (no_entry v e is)));
     table = subst (IsWellTable x.now) (sym made_table) (empty_well x.now);
     reserves = subst HasNoReserve (sym made_table) no_reserve;
+    kept = none_kept (IsKeptTable disk pool x) x.snapshots no_snapshots;
     ledger = subst (λ v. IsLedgerOf v x.ledger) (sym made_volume) (subst (IsLedgerOf (empty_volume size kind)) (sym ledger) (ledger_new size kind));
     trees = subst (AreSoundBy (under (shows disk pool x)) (shows disk pool x).used x.active) (sym none) (bare_reached (under (shows disk pool x)) (shows disk pool x).used x.active.levels x.active.root bare);
     numbers = subst (λ (o : Option FileNumbers). AreNumbersIf o (table_for disk pool x)) (sym unnumbered) tt;

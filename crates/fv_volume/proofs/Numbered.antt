@@ -26,11 +26,11 @@ use Rattle.fv_volume.proofs.Lookups.{name_told, none_passes, not_both}
 
 module _ (d : Disk) (p : Pool) (x : VolumeState) (n : Option FileNumbers) where
   pub standing_with : IsStanding d p x → AreNumbersIf n (table_for d p x) → IsStanding d p (record x { numbers = n })
-  standing_with is numbered = record { told = is.told; table = is.table; reserves = is.reserves; ledger = is.ledger; trees = is.trees; numbers = numbered }
+  standing_with is numbered = record { told = is.told; table = is.table; reserves = is.reserves; kept = is.kept; ledger = is.ledger; trees = is.trees; numbers = numbered }
 
   labelled_with : IsLabelled x.slot x → IsLabelled x.slot (record x { numbers = n })
   unfolding label_said
-  labelled_with is = record { slot_is = is.slot_is; form = is.form; span = is.span; map = is.map; counts = is.counts; levels = is.levels; named = is.named; one = is.one; label = is.label }
+  labelled_with is = record { slot_is = is.slot_is; form = is.form; span = is.span; map = is.map; counts = is.counts; levels = is.levels; named = is.named; snapshots = is.snapshots; slots = is.slots; waits = is.waits; label = is.label }
 
   pub ready_with : IsReady d p x → IsReady d p (record x { numbers = n })
   ready_with is =

@@ -1,17 +1,16 @@
 -- What one volume is seen as once blocks were read.
-use Rattle.std.proofs.Common.{◌≡◌, ℕ, ◌≤◌, length, refl, sym, ap, subst, ◌∙◌, arith}
-use Rattle.std.specs.Prelude.{IsTrue, Option, Some, None, IfSome, is_some, cond}
-use Rattle.std.specs.Option.{ForSome}
+use Rattle.std.proofs.Common.{◌≡◌, ◌≢◌, ℕ, ◌≤◌, length, refl, sym, ap, subst, ◌∙◌, arith}
+use Rattle.std.specs.Prelude.{IsTrue, Option, Some, None, IfSome, is_some, cond, All}
 use Rattle.fv_disk.specs.Shown.{Shown as Disk}
 use Rattle.fv_disk.specs.DiskCalls.{Stays}
 use Rattle.fv_disk.proofs.Resting.{reads_then as disk_then}
-use Rattle.fv_aggmap.specs.Space.{Space}
-use Rattle.fv_container.specs.Chains.{Slots, container_at, own_entry}
+use Rattle.fv_container.specs.Chains.{Slots, container_at}
 use Rattle.fv_codec.specs.Blocks.{IsPointer}
 use Rattle.fv_root.specs.declared.find.Found.{Found}
 use Rattle.fv_root.specs.Formatted.{IsSize}
+use Rattle.fv_model.specs.Volumes.{Volume as Model}
 use Rattle.fv_laws.specs.WellFormed.{IsWellTable}
-use Rattle.fv_laws.specs.Positions.{HasNoReserve, IsAlone}
+use Rattle.fv_laws.specs.Positions.{HasNoReserve}
 use Rattle.fv_tables.specs.Spelled.{Under}
 use Rattle.fv_tables.specs.Told.{Standing, table_told}
 use Rattle.fv_tree.specs.Sources.{Use}
@@ -19,19 +18,17 @@ use Rattle.fv_tree.specs.Standing.{under}
 use Rattle.fv_files.specs.declared.files.Files.{Files}
 use Rattle.fv_files.specs.Numbering.{AreNumbersIf}
 use Rattle.fv_charge.specs.Ledgers.{IsLedgerOf}
-use Rattle.fv_volmap.specs.Slots.{Volume}
+use Rattle.fv_volmap.specs.Slots.{has, slot_at}
 use Rattle.fv_volume.specs.declared.pool.Pool.{Pool}
+use Rattle.fv_volume.specs.declared.state.Snap.{Snap}
 use Rattle.fv_volume.specs.declared.state.VolumeState.{VolumeState}
-use Rattle.fv_volume.specs.BlocksOver.{AreApart, IsKeptBack, OtherPlace, entries_in, held_entry}
+use Rattle.fv_volume.specs.BlocksOver.{block_of, entries_in, held_entry}
 use Rattle.fv_volume.specs.Calls.{Reads}
 use Rattle.fv_volume.specs.Labels.{label_said}
-use Rattle.fv_volume.specs.Lending.{IsTold, use_under}
-use Rattle.fv_volume.specs.OneVolume.{shows, standing_by, standing_for, volume_as, volume_for, AreSoundBy, IsReady, IsStanding}
+use Rattle.fv_volume.specs.Lending.{IsTold, use_of, use_under}
+use Rattle.fv_volume.specs.LendingLaws.{apart_by}
+use Rattle.fv_volume.specs.OneVolume.{blocks_in, shows, snaps_by, standing_by, standing_for, uses_in, volume_as, volume_for, AreSoundBy, IsKeptTable, IsReady, IsStanding, IsTableIn}
 use Rattle.fv_volume.proofs.Failing.{blocks_of}
-
--- it has neither snapshots nor a base
-pub is_alone : (disk : Disk) (pool : Pool) (x : VolumeState) → IsAlone (volume_for disk pool x)
-is_alone disk pool x = record { snapshots = refl; base = refl }
 
 -- what its label says of its table's root fits a pointer
 pub root_fits : (disk : Disk) (pool : Pool) (x : VolumeState) → IsReady disk pool x → IsPointer x.active.root
@@ -59,17 +56,6 @@ reads_then d e f p q r first second = record {
   stands = second.stands;
 }
 
--- the entries of a volume lie apart by the aggregate map and the containers alone
-apart_by : (p q : Pool) (map : Volume) (slot : ℕ) → q.map ≡ p.map → q.containers ≡ p.containers → AreApart p map slot → AreApart q map slot
-apart_by p q map slot spaces slots apart = record {
-  own = λ v. subst (λ (s : Space). ForSome (own_entry (container_at q.containers slot) v) (IsKeptBack s)) (sym spaces)
-      (subst (λ (c : Slots). ForSome (own_entry (container_at c slot) v) (IsKeptBack p.map)) (sym slots) (apart.own v));
-  held = λ v. subst (λ (s : Space). ForSome (held_entry map q.containers slot v) (IsKeptBack s)) (sym spaces)
-      (subst (λ (c : Slots). ForSome (held_entry map c slot v) (IsKeptBack p.map)) (sym slots) (apart.held v));
-  own_apart = λ v w other. subst (λ (c : Slots). ForSome (own_entry (container_at c slot) v) (λ e. ForSome (own_entry (container_at c slot) w) (OtherPlace e))) (sym slots) (apart.own_apart v w other);
-  held_apart = λ v w other. subst (λ (c : Slots). ForSome (own_entry (container_at c slot) v) (λ e. ForSome (held_entry map c slot w) (OtherPlace e))) (sym slots) (apart.held_apart v w other);
-}
-
 -- Where the same blocks are kept, the same entries stand and the disk reads the same, a volume is seen as the same.
 module _ (d e : Disk) (p q : Pool) (x : VolumeState) (spaces : q.map ≡ p.map) (slots : q.containers ≡ p.containers) (kept : q.kept ≡ p.kept) (reads : e.reads ≡ d.reads) (tells : e.tells ≡ d.tells) where
   same_under : under (shows e q x) ≡ under (shows d p x)
@@ -81,6 +67,21 @@ module _ (d e : Disk) (p q : Pool) (x : VolumeState) (spaces : q.map ≡ p.map) 
   same_standing_for : standing_for e q x ≡ standing_for d p x
   same_standing_for = ap (λ (u : Under). standing_by u x.active x.files) same_under
 
+  -- so are the blocks of each slot
+  same_slots : blocks_in e q x ≡ blocks_in d p x
+  same_slots = λ i k v. cond (has v (slot_at x.map k)) (block_of (kept i) (reads i) (held_entry x.map (slots i) x.slot v)) None
+
+  same_uses : uses_in q x ≡ uses_in p x
+  same_uses = λ i k v. cond (has v (slot_at x.map k)) (Some (use_of (held_entry x.map (slots i) x.slot v))) None
+
+  same_kept : All (IsKeptTable d p x) x.snapshots → All (IsKeptTable e q x) x.snapshots
+  same_kept all = subst (λ (u : ℕ → Under). All (λ (s : Snap). (s.slot ≢ 0) × IsTableIn (u s.slot) (uses_in q x s.slot) (slot_at x.map s.slot) x.now s.table) x.snapshots) (sym same_slots)
+      (subst (λ (u : ℕ → ℕ → Option Use). All (λ (s : Snap). (s.slot ≢ 0) × IsTableIn (blocks_in d p x s.slot) (u s.slot) (slot_at x.map s.slot) x.now s.table) x.snapshots) (sym same_uses) all)
+
+  -- the volume that it stands for
+  same_volume : volume_for e q x ≡ volume_for d p x
+  same_volume = λ i. volume_as x (record { active = table_told (same_standing_for i); snapshots = snaps_by (same_slots i) x.snapshots })
+
   same_told : IsTold d p x.map x.slot → IsTold e q x.map x.slot
   same_told told = (subst IsTrue (sym tells) told.0, apart_by p q x.map x.slot spaces slots told.1)
 
@@ -89,7 +90,8 @@ module _ (d e : Disk) (p q : Pool) (x : VolumeState) (spaces : q.map ≡ p.map) 
     told = same_told is.told;
     table = subst (λ (s : Standing). IsWellTable x.now (table_told s)) (sym same_standing_for) is.table;
     reserves = subst (λ (s : Standing). HasNoReserve (table_told s)) (sym same_standing_for) is.reserves;
-    ledger = subst (λ (s : Standing). IsLedgerOf (volume_as x (table_told s)) x.ledger) (sym same_standing_for) is.ledger;
+    kept = same_kept is.kept;
+    ledger = subst (λ (v : Model). IsLedgerOf v x.ledger) (sym same_volume) is.ledger;
     trees = subst (λ (u : ℕ → Option Use). AreSoundBy (under (shows e q x)) u x.active x.files) (sym same_used)
         (subst (λ (u : Under). AreSoundBy u (shows d p x).used x.active x.files) (sym same_under) is.trees);
     numbers = subst (λ (s : Standing). AreNumbersIf x.numbers (table_told s)) (sym same_standing_for) is.numbers;
@@ -111,7 +113,7 @@ module _ (d e : Disk) (p q : Pool) (reads : Reads d p e q) (x : VolumeState) whe
   still_table = same_standing_for d e p q x reads.leaves.map reads.leaves.containers reads.leaves.kept stays.reads stays.tells
 
   pub still_volume : volume_for e q x ≡ volume_for d p x
-  still_volume = ap (λ (s : Standing). volume_as x (table_told s)) still_table
+  still_volume = same_volume d e p q x reads.leaves.map reads.leaves.containers reads.leaves.kept stays.reads stays.tells
 
   pub still_told : IsTold d p x.map x.slot → IsTold e q x.map x.slot
   still_told = same_told d e p q x reads.leaves.map reads.leaves.containers reads.leaves.kept stays.reads stays.tells

@@ -1,10 +1,11 @@
 -- What is left of a volume where others change: it stands for what it stood for.
 use Rattle.std.proofs.Common.{◌≡◌, ◌≢◌, ℕ, Bool, true, false, ◌||◌, cond, List, Option, Some, None, ⊎_elim, refl, sym, ap, subst, ◌∙◌}
-use Rattle.std.specs.Prelude.{IsTrue}
+use Rattle.std.specs.Prelude.{IsTrue, All}
 use Rattle.std.specs.FinMap as fin
 use Rattle.std.proofs.lemmas.Bool.{cases_Bool}
 use Rattle.fv_disk.specs.Shown.{Shown as Disk}
 use Rattle.fv_bits.specs.Members.{is_member}
+use Rattle.fv_model.specs.Volumes.{Volume as Model}
 use Rattle.fv_laws.specs.WellFormed.{IsWellTable}
 use Rattle.fv_laws.specs.Positions.{HasNoReserve}
 use Rattle.fv_tables.specs.Spelled.{Under}
@@ -15,14 +16,15 @@ use Rattle.fv_charge.specs.Ledgers.{IsLedgerOf}
 use Rattle.fv_container.specs.declared.entry.Entry.{Entry}
 use Rattle.fv_container.specs.Mapped.{Mapped}
 use Rattle.fv_container.specs.Chains.{Slots, container_at, own_entry, parent_at}
-use Rattle.fv_volmap.specs.Slots.{Volume as Maps, active_of}
+use Rattle.fv_volmap.specs.Slots.{Volume as Maps, active_of, has, slot_at}
 use Rattle.fv_files.specs.Numbering.{AreNumbersIf}
 use Rattle.fv_volume.specs.declared.pool.Pool.{Pool}
+use Rattle.fv_volume.specs.declared.state.Snap.{Snap}
 use Rattle.fv_volume.specs.declared.state.VolumeState.{VolumeState}
 use Rattle.fv_volume.specs.BlocksOver.{block_of, held_block, held_entry}
 use Rattle.fv_volume.specs.Keeping.{kept_or}
 use Rattle.fv_volume.specs.Lending.{GoesOver, Lent, MayTake, lent_by, lent_for, use_of}
-use Rattle.fv_volume.specs.OneVolume.{home_in, shows, standing_by, standing_for, volume_as, volume_for, AreSoundBy, IsStanding}
+use Rattle.fv_volume.specs.OneVolume.{blocks_in, home_in, shows, snaps_by, standing_by, standing_for, uses_in, volume_as, volume_for, AreSoundBy, IsKeptTable, IsStanding, IsTableIn}
 use Rattle.fv_volume.specs.Placing.{AreLedBy, AreStoredBy, Goes, IsLedTo, IsStoredWell, LeavesOthers, LiesApart, StaysBeside}
 use Rattle.fv_volume.proofs.Shows.{get_held}
 use Rattle.fv_volume.proofs.Standings.{apart_alone, held_alone, held_own}
@@ -51,8 +53,19 @@ module _ (d e : Disk) (p q : Pool) (y : VolumeState) (alone : parent_at p.contai
   same_standing : standing_for e q y ≡ standing_for d p y
   same_standing = ap (λ (u : Under). standing_by u y.active y.files) same_under
 
+  -- so are the blocks of each of its slots
+  same_slots : blocks_in e q y ≡ blocks_in d p y
+  same_slots = λ i k v. cond (has v (slot_at y.map k)) (same_block v i) None
+
+  same_uses : uses_in q y ≡ uses_in p y
+  same_uses = λ i k v. cond (has v (slot_at y.map k)) (Some (use_of (same_held v i))) None
+
+  same_kept : All (IsKeptTable d p y) y.snapshots → All (IsKeptTable e q y) y.snapshots
+  same_kept all = subst (λ (u : ℕ → Under). All (λ (s : Snap). (s.slot ≢ 0) × IsTableIn (u s.slot) (uses_in q y s.slot) (slot_at y.map s.slot) y.now s.table) y.snapshots) (sym same_slots)
+      (subst (λ (u : ℕ → ℕ → Option Use). All (λ (s : Snap). (s.slot ≢ 0) × IsTableIn (blocks_in d p y s.slot) (u s.slot) (slot_at y.map s.slot) y.now s.table) y.snapshots) (sym same_uses) all)
+
   pub entries_volume : volume_for e q y ≡ volume_for d p y
-  entries_volume = ap (λ (s : Standing). volume_as y (table_told s)) same_standing
+  entries_volume = λ i. volume_as y (record { active = table_told (same_standing i); snapshots = snaps_by (same_slots i) y.snapshots })
 
   pub entries_standing : IsStanding d p y → IsStanding e q y
   entries_standing is = record {
@@ -62,7 +75,8 @@ module _ (d e : Disk) (p q : Pool) (y : VolumeState) (alone : parent_at p.contai
     );
     table = subst (λ (s : Standing). IsWellTable y.now (table_told s)) (sym same_standing) is.table;
     reserves = subst (λ (s : Standing). HasNoReserve (table_told s)) (sym same_standing) is.reserves;
-    ledger = subst (λ (s : Standing). IsLedgerOf (volume_as y (table_told s)) y.ledger) (sym same_standing) is.ledger;
+    kept = same_kept is.kept;
+    ledger = subst (λ (v : Model). IsLedgerOf v y.ledger) (sym entries_volume) is.ledger;
     trees = subst (λ (u : ℕ → Option Use). AreSoundBy (under (shows e q y)) u y.active y.files) (sym same_used)
         (subst (λ (u : Under). AreSoundBy u (shows d p y).used y.active y.files) (sym same_under) is.trees);
     numbers = subst (λ (s : Standing). AreNumbersIf y.numbers (table_told s)) (sym same_standing) is.numbers;

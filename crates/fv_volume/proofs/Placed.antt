@@ -1,9 +1,9 @@
 -- What a volume is once its files were placed, whole or in part.
 use Rattle.std.proofs.Common.{◌≡◌, ◌≢◌, ℕ, ◌≤◌, ◌+◌, true, Option, Some, None, refl, sym, ap, subst, ◌∙◌, arith}
-use Rattle.std.specs.Prelude.{min, Ok, Err}
+use Rattle.std.specs.Prelude.{All, min, Ok, Err}
 use Rattle.std.proofs.lemmas.Bool.{both_ways}
 use Rattle.std.proofs.Math.Nat.{min-eq_left, min-le_right}
-use Rattle.fv_disk.specs.Shown.{Shown as Disk}
+use Rattle.fv_disk.specs.Shown.{Image, Shown as Disk}
 use Rattle.fv_disk.specs.declared.fault.BlockFault.{BlockFault}
 use Rattle.fv_codec.specs.declared.pointer.Pointer.{Pointer}
 use Rattle.fv_codec.specs.Blocks.{IsLabel, IsPointer}
@@ -23,15 +23,19 @@ use Rattle.fv_files.specs.Pending.{pending_in}
 use Rattle.fv_files.specs.Tables.{table_in, AreReached, AreStanding, IsLed, IsStored, IsStoredUnder}
 use Rattle.fv_files.specs.Apart.{AreLed, stored_trees}
 use Rattle.fv_charge.specs.Ledgers.{IsLedgerOf}
-use Rattle.fv_volmap.specs.Slots.{Volume as Maps, slot_at}
+use Rattle.fv_volmap.specs.Slots.{Volume as Maps, has, slot_at}
 use Rattle.fv_volume.specs.declared.pool.Pool.{Pool}
 use Rattle.fv_volume.specs.declared.state.Rooted.{Rooted}
 use Rattle.fv_volume.specs.declared.state.VolumeState.{VolumeState}
+use Rattle.fv_volume.specs.BlocksOver.{held_block}
 use Rattle.fv_volume.specs.Files.{IsLabelled}
+use Rattle.fv_volume.specs.States.{head_in}
+use Rattle.fv_volume.proofs.MapSlots.{same_sayable, same_slots, slots_kept}
 use Rattle.fv_volume.specs.Labels.{label_said}
-use Rattle.fv_volume.specs.Lending.{IsTold, lent_for, sees}
-use Rattle.fv_volume.specs.OneVolume.{home_in, shows, standing_by, standing_for, table_for, volume_for, AreSoundBy, IsReady, IsStanding}
+use Rattle.fv_volume.specs.Lending.{IsTold, KeepsSlots, lent_by, lent_for, sees}
+use Rattle.fv_volume.specs.OneVolume.{blocks_in, home_in, shows, snaps_by, standing_by, standing_for, table_for, volume_for, AreSoundBy, IsKeptTable, IsReady, IsStanding}
 use Rattle.fv_volume.specs.Placing.{AreLedBy, AreStoredBy, Goes, IsLedTo, IsStoredWell, PlacesTable, pending_of}
+use Rattle.fv_volume.proofs.KeptTables.{kept_snaps, kept_tables}
 
 -- ---- calls can be made on it
 
@@ -71,7 +75,9 @@ module _ (x : VolumeState) (active : Rooted) (few : active.levels ≤ 2) (fits :
     form = is.form;
     span = is.span;
     map = span ∙ is.map;
-    one = λ k other. slots k other ∙ is.one k other;
+    snapshots = same_sayable _ (head_in x) refl is.snapshots;
+    slots = same_slots _ (head_in x) map refl (slots_kept (head_in x) x.map map slots is.slots);
+    waits = is.waits;
     counts = is.counts;
     levels = few;
     named = is.named;
@@ -126,22 +132,40 @@ module _ (d : Disk) (p : Pool) (x : VolumeState) (f : Files) (held : x.files ≡
       told_levels well = well.levels
 
   module _ (e : Disk) (q : Pool) (map : Maps) (g : Files) (placed : IsPlacedTable (table_in before f) (table_in (sees q map e (home_in x)) g)) (active : Rooted) (files : Option Files)
-      (now : standing_by (under (sees q map e (home_in x))) active files ≡ table_in (sees q map e (home_in x)) g) where
+      (now : standing_by (under (sees q map e (home_in x))) active files ≡ table_in (sees q map e (home_in x)) g) (room less : ℕ) (goes : Goes (lent_for p x.map d 0 (home_in x) room) q map e less) where
     abbrev left : VolumeState
     left = record x { active = active; map = map; files = files; changed = true }
 
     left_table : table_for e q left ≡ table_for d p x
     left_table = ap table_told now ∙ placed_table (table_in before f) (table_in (sees q map e (home_in x)) g) placed ∙ sym (ap table_told was_table)
 
-    pub left_volume : volume_for e q left ≡ volume_for d p x
-    left_volume = λ i. record (volume_for d p x) { active = left_table i }
+    slots : (k : ℕ) → k ≢ 0 → slot_at map k ≡ slot_at x.map k
+    slots = goes.goes.goes.snapshots
+
+    -- what is under the numbers of its snapshots stays
+    module _ (is : IsStanding d p x) where
+      keeps : KeepsSlots x.slot (lent_for p x.map d 0 (home_in x) room) (lent_by q map e goes.steps (home_in x) less goes.goes.strays goes.goes.noted)
+      keeps = goes.goes.goes.keeps is.told.1
+
+      blocks : (k v : ℕ) → k ≢ 0 → has v (slot_at x.map k) ≡ true → held_block map q x.slot e.reads v ≡ held_block x.map p x.slot d.reads v
+      blocks k v other here = ap (λ (i : Image). held_block map q x.slot i v) goes.goes.goes.only_reads.stays.reads ∙ keeps.blocks k v other here d.reads
+
+      left_snaps : snaps_by (blocks_in e q left) x.snapshots ≡ snaps_by (blocks_in d p x) x.snapshots
+      left_snaps = kept_snaps d e p q x left (omega arith) slots keeps.entries blocks x.snapshots is.kept
+
+      left_kept : All (IsKeptTable e q left) x.snapshots
+      left_kept = kept_tables d e p q x left (omega arith) slots keeps.entries blocks x.snapshots is.kept
+
+    pub left_volume : IsStanding d p x → volume_for e q left ≡ volume_for d p x
+    left_volume is = λ i. record (volume_for d p x) { active = left_table i; snapshots = left_snaps is i }
 
     pub left_standing : IsStanding d p x → IsTold e q map x.slot → AreSoundBy (under (sees q map e (home_in x))) (sees q map e (home_in x)).used active files → IsStanding e q left
     left_standing is told trees = record {
       told = told;
       table = subst (IsWellTable x.now) (sym left_table) is.table;
       reserves = subst HasNoReserve (sym left_table) is.reserves;
-      ledger = subst (λ v. IsLedgerOf v x.ledger) (sym left_volume) is.ledger;
+      kept = left_kept is;
+      ledger = subst (λ v. IsLedgerOf v x.ledger) (sym (left_volume is)) is.ledger;
       trees = trees;
       numbers = subst (AreNumbersIf x.numbers) (sym left_table) is.numbers;
     }
@@ -185,7 +209,7 @@ fits_done was now f g held none before after fits nothing =
 abbrev pub Told : Disk → Pool → VolumeState → Files → Type 0
 Told d p x f = IsTold d p x.map x.slot × AreStanding (shows d p x) f
 
-module _ (d e : Disk) (p q : Pool) (x : VolumeState) (f : Files) (held : x.files ≡ Some f) (map : Maps) (g : Files) where
+module _ (d e : Disk) (p q : Pool) (x : VolumeState) (f : Files) (held : x.files ≡ Some f) (map : Maps) (room less : ℕ) (goes : Goes (lent_for p x.map d 0 (home_in x) room) q map e less) (g : Files) where
   abbrev after : Shown
   after = sees q map e (home_in x)
 
@@ -202,10 +226,10 @@ module _ (d e : Disk) (p q : Pool) (x : VolumeState) (f : Files) (held : x.files
     tells = root_tells after g root active files rooted none few (table.stored told told.1)
 
     pub done_volume : volume_for e q (record x { active = active; map = map; files = files; changed = true }) ≡ volume_for d p x
-    done_volume = left_volume d p x f held e q map g (table.placed told told.1) active files tells
+    done_volume = left_volume d p x f held e q map g (table.placed told told.1) active files tells room less goes is
 
     pub done_standing : (Told d p x f → IsTold e q map x.slot) → IsStanding e q (record x { active = active; map = map; files = files; changed = true })
-    done_standing still = left_standing d p x f held e q map g (table.placed told told.1) active files tells is (still told) (root_stands after g root active files rooted none few (table.reached told told.1))
+    done_standing still = left_standing d p x f held e q map g (table.placed told told.1) active files tells room less goes is (still told) (root_stands after g root active files rooted none few (table.reached told told.1))
 
     pub done_led : IsLedTo d p x → IsLedTo e q (record x { active = active; map = map; files = files; changed = true })
     done_led led = subst (λ (o : Option Files). AreLedBy (under after) after.used active o) (sym none)
@@ -223,10 +247,10 @@ module _ (d e : Disk) (p q : Pool) (x : VolumeState) (f : Files) (held : x.files
     told_then = was_told d p x f held is
 
     pub failed_volume : volume_for e q (record x { map = map; files = Some g; changed = true }) ≡ volume_for d p x
-    failed_volume = left_volume d p x f held e q map g (table.placed told_then told_then.1) x.active (Some g) refl
+    failed_volume = left_volume d p x f held e q map g (table.placed told_then told_then.1) x.active (Some g) refl room less goes is
 
     pub failed_standing : (Told d p x f → IsTold e q map x.slot) → IsStanding e q (record x { map = map; files = Some g; changed = true })
-    failed_standing still = left_standing d p x f held e q map g (table.placed told_then told_then.1) x.active (Some g) refl is (still told_then) (table.stands told_then told_then.1)
+    failed_standing still = left_standing d p x f held e q map g (table.placed told_then told_then.1) x.active (Some g) refl room less goes is (still told_then) (table.stands told_then told_then.1)
 
     pub failed_led : IsLedTo d p x → IsLedTo e q (record x { map = map; files = Some g; changed = true })
     failed_led led = table.led told_then told_then.1 (was_led d p x f held led)

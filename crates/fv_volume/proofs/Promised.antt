@@ -14,7 +14,6 @@ use Rattle.fv_model.specs.declared.commands.Command.{Command}
 use Rattle.fv_model.specs.declared.commands.Command.TheVariants.{VolGuarantee, VolResize}
 use Rattle.fv_model.specs.declared.commands.Kind.{Kind}
 use Rattle.fv_model.specs.Numbers.{greatest_span, is_size}
-use Rattle.fv_model.specs.Tables.{Table}
 use Rattle.fv_model.specs.Volumes.{Volume}
 use Rattle.fv_model.specs.Machines.{Machine, capacity}
 use Rattle.fv_model.specs.Space.{charge}
@@ -31,7 +30,9 @@ use Rattle.fv_volume.specs.Calls.{Has, HasBeside}
 use Rattle.fv_volume.specs.Files.{IsLabelled}
 use Rattle.fv_volume.specs.Held.{IsHeldIn}
 use Rattle.fv_volume.specs.Labels.{label_said}
-use Rattle.fv_volume.specs.OneVolume.{table_for, volume_as, IsReady, IsStanding}
+use Rattle.fv_volume.specs.States.{head_in}
+use Rattle.fv_volume.proofs.MapSlots.{same_sayable, same_slots}
+use Rattle.fv_volume.specs.OneVolume.{content_for, volume_as, Content, IsReady, IsStanding}
 use Rattle.fv_volume.specs.Promising.{CanHave, FitsBeside, Promises, promised, promised_ledger, refusal_of}
 use Rattle.fv_volume.proofs.Changed.{within_size}
 use Rattle.fv_volume.proofs.Charging.{left_by}
@@ -195,7 +196,9 @@ module _ (x : VolumeState) (size : ℕ) (kind : Kind) where
     form = is.form;
     span = is.span;
     map = is.map;
-    one = is.one;
+    snapshots = same_sayable _ (head_in x) refl is.snapshots;
+    slots = same_slots _ (head_in x) x.map refl is.slots;
+    waits = is.waits;
     counts = is.counts;
     levels = is.levels;
     named = is.named;
@@ -207,14 +210,14 @@ module _ (x : VolumeState) (size : ℕ) (kind : Kind) where
   same_charge v = refl
 
   -- its ledger is right, since no file has a reserve
-  promised_books : (table : Table) → CanHave x table → IsLedgerOf (volume_as y table) y.ledger
-  promised_books table is =
+  promised_books : (content : Content) → CanHave x content → IsLedgerOf (volume_as y content) y.ledger
+  promised_books content is =
       let charged = is.ledger.charged in
       let needed = is.ledger.needed in
-      let before = no_need (volume_as x table) is.reserves in
-      let after = no_need (volume_as y table) is.reserves in
+      let before = no_need (volume_as x content) is.reserves in
+      let after = no_need (volume_as y content) is.reserves in
       record {
-        charged = charged ∙ sym (same_charge (volume_as x table));
+        charged = charged ∙ sym (same_charge (volume_as x content));
         needed = omega (arith, needed, before, after);
         size = refl;
         kind = refl;
@@ -222,10 +225,10 @@ module _ (x : VolumeState) (size : ℕ) (kind : Kind) where
       }
 
   -- what the machine says of the space for a command that gives it both
-  promised_left : (table : Table) (m : Machine) (blocks others : ℕ) (c : Command) → CanHave x table → HasBeside x.name (volume_as x table) others blocks m
-      → change_of m c ≡ Becomes x.name (volume_as y table) → IsLeft m c x.name y.ledger others (capacity blocks)
-  promised_left table m blocks others c is has change =
-      left_by m c x.name (volume_as x table) (volume_as y table) y.ledger others (capacity blocks) has.there change has.sum (promised_books table is) (ap capacity (sym has.blocks))
+  promised_left : (content : Content) (m : Machine) (blocks others : ℕ) (c : Command) → CanHave x content → HasBeside x.name (volume_as x content) others blocks m
+      → change_of m c ≡ Becomes x.name (volume_as y content) → IsLeft m c x.name y.ledger others (capacity blocks)
+  promised_left content m blocks others c is has change =
+      left_by m c x.name (volume_as x content) (volume_as y content) y.ledger others (capacity blocks) has.there change has.sum (promised_books content is) (ap capacity (sym has.blocks))
 
   -- ---- in a session
 
@@ -238,8 +241,8 @@ module _ (x : VolumeState) (size : ℕ) (kind : Kind) where
     changed = λ isnt. absurd (true≢false isnt);
   }
 
-  -- a volume that stands can have its table
-  pub can_have : (d : Disk) (p : Pool) → IsStanding d p x → CanHave x (table_for d p x)
+  -- a volume that stands can hold what it holds
+  pub can_have : (d : Disk) (p : Pool) → IsStanding d p x → CanHave x (content_for d p x)
   can_have d p is = record { reserves = is.reserves; ledger = is.ledger }
 
   pub promised_stands : (d : Disk) (p : Pool) → IsStanding d p x → IsStanding d p y
@@ -247,7 +250,8 @@ module _ (x : VolumeState) (size : ℕ) (kind : Kind) where
     told = is.told;
     table = is.table;
     reserves = is.reserves;
-    ledger = promised_books (table_for d p x) (can_have d p is);
+    kept = is.kept;
+    ledger = promised_books (content_for d p x) (can_have d p is);
     trees = is.trees;
     numbers = is.numbers;
   }
@@ -271,12 +275,12 @@ module _ (x : VolumeState) (blocks others : ℕ) (was : IsLabelled x.slot x) whe
   Said size kind r = (m : Machine) (c : Command) (v : List ℕ) → IsLeft m c v (promised_ledger x.ledger size kind) others (capacity blocks) → first_of (space m c v) ≡ refusal_of r
 
   module _ (size : ℕ) (kind : Kind) (c : Command) (y : VolumeState) (r : Result Unit Refusal) (done : OnOk r (y ≡ promised x size kind)) (stays : OnErr r (y ≡ x)) (fits : OnOk r (FitsBeside blocks others (promised_ledger x.ledger size kind)))
-      (sized : IsSizeOf x size) (change : (table : Table) (m : Machine) → Has x.name (volume_as x table) m → change_of m c ≡ Becomes x.name (volume_as (promised x size kind) table))
-      (agrees : (table : Table) (m : Machine) → CanHave x table → HasBeside x.name (volume_as x table) others blocks m → refusal m c ≡ refusal_of r) where
+      (sized : IsSizeOf x size) (change : (content : Content) (m : Machine) → Has x.name (volume_as x content) m → change_of m c ≡ Becomes x.name (volume_as (promised x size kind) content))
+      (agrees : (content : Content) (m : Machine) → CanHave x content → HasBeside x.name (volume_as x content) others blocks m → refusal m c ≡ refusal_of r) where
     promises : Promises x blocks others c size kind y r
     promises = record {
       agrees = agrees;
-      becomes = on_ok r (λ is table m has. subst (λ (z : VolumeState). change_of m c ≡ Becomes x.name (volume_as z table)) (sym is) (change table m has)) done;
+      becomes = on_ok r (λ is content m has. subst (λ (z : VolumeState). change_of m c ≡ Becomes x.name (volume_as z content)) (sym is) (change content m has)) done;
       done = done;
       labelled = on_ok r (λ is. subst (IsLabelled x.slot) (sym is) (promised_labelled x size kind x.slot sized was)) done;
       fits = fit r done fits;
@@ -293,7 +297,7 @@ module _ (x : VolumeState) (blocks others : ℕ) (was : IsLabelled x.slot x) whe
 
   pub resize_refused : (size : ℕ) → (is_size size && nat_le size x.most) ≡ false → Promises x blocks others (VolResize x.name size) size x.kind x (Err Range)
   resize_refused size out = record {
-    agrees = λ table m is has. resize_out m x.name (volume_as x table) has.there size out;
+    agrees = λ content m is has. resize_out m x.name (volume_as x content) has.there size out;
     becomes = tt;
     done = tt;
     labelled = tt;
@@ -307,14 +311,14 @@ module _ (x : VolumeState) (blocks others : ℕ) (was : IsLabelled x.slot x) whe
       let sized = size_of x size near in
       let parts = and_parts (is_size size) (nat_le size x.most) near in
       promises size x.kind (VolResize x.name size) y r done stays fits sized
-      (λ table m has. resize_change m x.name (volume_as x table) has size)
-      (λ table m is has. resize_in m x.name (volume_as x table) has.there size parts.0 sized.most
-      ∙ said m (VolResize x.name size) x.name (promised_left x size x.kind table m blocks others (VolResize x.name size) is has (resize_change m x.name (volume_as x table) has.there size)))
+      (λ content m has. resize_change m x.name (volume_as x content) has size)
+      (λ content m is has. resize_in m x.name (volume_as x content) has.there size parts.0 sized.most
+      ∙ said m (VolResize x.name size) x.name (promised_left x size x.kind content m blocks others (VolResize x.name size) is has (resize_change m x.name (volume_as x content) has.there size)))
 
   pub guarantee_promises : (kind : Kind) (y : VolumeState) (r : Result Unit Refusal) → OnOk r (y ≡ promised x x.size kind) → OnErr r (y ≡ x)
       → OnOk r (FitsBeside blocks others (promised_ledger x.ledger x.size kind)) → Said x.size kind r → Promises x blocks others (VolGuarantee x.name kind) x.size kind y r
   guarantee_promises kind y r done stays fits said =
       promises x.size kind (VolGuarantee x.name kind) y r done stays fits (its_size x.slot x was)
-      (λ table m has. guarantee_change m x.name (volume_as x table) has kind)
-      (λ table m is has. guarantee_by m x.name (volume_as x table) has.there kind
-      ∙ said m (VolGuarantee x.name kind) x.name (promised_left x x.size kind table m blocks others (VolGuarantee x.name kind) is has (guarantee_change m x.name (volume_as x table) has.there kind)))
+      (λ content m has. guarantee_change m x.name (volume_as x content) has kind)
+      (λ content m is has. guarantee_by m x.name (volume_as x content) has.there kind
+      ∙ said m (VolGuarantee x.name kind) x.name (promised_left x x.size kind content m blocks others (VolGuarantee x.name kind) is has (guarantee_change m x.name (volume_as x content) has.there kind)))

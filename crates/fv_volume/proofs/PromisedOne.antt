@@ -12,7 +12,6 @@ use Rattle.fv_model.specs.declared.commands.Command.{Command}
 use Rattle.fv_model.specs.declared.commands.Command.TheVariants.{VolGuarantee, VolResize}
 use Rattle.fv_model.specs.declared.commands.Kind.{Kind}
 use Rattle.fv_model.specs.Numbers.{is_size}
-use Rattle.fv_model.specs.Tables.{Table}
 use Rattle.fv_model.specs.Volumes.{Volume}
 use Rattle.fv_model.specs.Machines.{Machine, capacity}
 use Rattle.fv_model.specs.Space.{commit}
@@ -24,7 +23,7 @@ use Rattle.fv_container.specs.Chains.{slot_count}
 use Rattle.fv_volume.specs.declared.state.VolumeState.{VolumeState}
 use Rattle.fv_volume.specs.Calls.{Has, HasBeside}
 use Rattle.fv_volume.specs.Files.{IsLabelled}
-use Rattle.fv_volume.specs.OneVolume.{volume_as}
+use Rattle.fv_volume.specs.OneVolume.{volume_as, Content}
 use Rattle.fv_volume.specs.Promising.{CanHave, CanHaveAll, FitsBeside, HasVolumes, IsPromised, Promises, PromisesAt, PromisesIn, PromisesOne, has_size, promised, refusal_of}
 use Rattle.fv_volume.specs.Slots.{committed_by, is_named, sum_of, HasName, NoneHasName}
 use Rattle.fv_volume.specs.States.{States, state_at, with_state}
@@ -57,7 +56,7 @@ module _ (m : Machine) (v : List ℕ) where
 module _ (old : States) (blocks : ℕ) (name : List ℕ) (size : VolumeState → ℕ) (kind : VolumeState → Kind) where
   pub far_promises : (n : ℕ) → is_size n ≡ false → PromisesOne old blocks (VolResize name n) name size kind old (Err Range)
   far_promises n far = record {
-    agrees = λ tables m can has. resize_far m name n far;
+    agrees = λ contents m can has. resize_far m name n far;
     far = λ out. refl;
     missing = λ near none. absurd (true≢false (sym near ∙ far));
     done = tt;
@@ -67,7 +66,7 @@ module _ (old : States) (blocks : ℕ) (name : List ℕ) (size : VolumeState →
   -- a command on a volume that isn't there
   refused_missing : (c : Command) → has_size c ≡ true → ((m : Machine) → fin.get m.volumes name ≡ None → refusal m c ≡ Some NoVolume) → NoneHasName old name → PromisesOne old blocks c name size kind old (Err NoVolume)
   refused_missing c near by none = record {
-    agrees = λ tables m can has. by m (has.none name none);
+    agrees = λ contents m can has. by m (has.none name none);
     far = λ out. absurd (true≢false (sym near ∙ out));
     missing = λ within nowhere. refl;
     done = tt;
@@ -112,28 +111,28 @@ module _ (old : States) (blocks : ℕ) (c : List ℕ → Command) (size : Volume
         let same : committed_by (state_at old slot) ≡ committed x.ledger = ap committed_by there in
         omega (arith, part, same)
 
-    beside : (tables : ℕ → Table) (m : Machine) → CanHaveAll old tables → HasVolumes old tables blocks m → CanHave x (tables slot) × HasBeside x.name (volume_as x (tables slot)) others blocks m
-    beside tables m can has =
-        let its : CanHave x (tables slot) = subst (λ (o : Option VolumeState). IfSome o (λ x. CanHave x (tables slot))) there (can slot) in
+    beside : (contents : ℕ → Content) (m : Machine) → CanHaveAll old contents → HasVolumes old contents blocks m → CanHave x (contents slot) × HasBeside x.name (volume_as x (contents slot)) others blocks m
+    beside contents m can has =
+        let its : CanHave x (contents slot) = subst (λ (o : Option VolumeState). IfSome o (λ x. CanHave x (contents slot))) there (can slot) in
         let sum = has.sum in
         let own = own_part in
-        let commits_so : commit (volume_as x (tables slot)) ≡ committed x.ledger = sym (ledger_commit (volume_as x (tables slot)) x.ledger its.ledger) in (
+        let commits_so : commit (volume_as x (contents slot)) ≡ committed x.ledger = sym (ledger_commit (volume_as x (contents slot)) x.ledger its.ledger) in (
           its,
           record {
-            there = subst (λ (o : Option VolumeState). IfSome o (λ x. Has x.name (volume_as x (tables slot)) m)) there (has.there slot);
+            there = subst (λ (o : Option VolumeState). IfSome o (λ x. Has x.name (volume_as x (contents slot)) m)) there (has.there slot);
             sum = omega (arith, sum, own, commits_so);
             blocks = has.size;
           },
         )
 
-    answered : (tables : ℕ → Table) (m : Machine) → CanHaveAll old tables → HasVolumes old tables blocks m → refusal m (c name) ≡ refusal_of r
-    answered tables m can has =
-        let b = beside tables m can has in
-        subst (λ (n : List ℕ). refusal m (c n) ≡ refusal_of r) named (is.promises.agrees (tables slot) m b.0 b.1)
+    answered : (contents : ℕ → Content) (m : Machine) → CanHaveAll old contents → HasVolumes old contents blocks m → refusal m (c name) ≡ refusal_of r
+    answered contents m can has =
+        let b = beside contents m can has in
+        subst (λ (n : List ℕ). refusal m (c n) ≡ refusal_of r) named (is.promises.agrees (contents slot) m b.0 b.1)
 
     -- what is so once it was done
     module _ (y : VolumeState) (row : new ≡ with_state old slot (Some y)) (done : y ≡ promised x (size x) (kind x)) (labelled : IsLabelled x.slot y) (fits : FitsBeside blocks others y.ledger)
-        (becomes : (table : Table) (m : Machine) → Has x.name (volume_as x table) m → change_of m (c x.name) ≡ Becomes x.name (volume_as y table)) where
+        (becomes : (content : Content) (m : Machine) → Has x.name (volume_as x content) m → change_of m (c x.name) ≡ Becomes x.name (volume_as y content)) where
       its_sum : sum_of new ≤ capacity blocks
       its_sum =
           let sum : sum_of (with_state old slot (Some y)) + committed_by (state_at old slot) ≡ sum_of old + committed y.ledger = sum_by-set committed_by old slot (Some y) None inside in
@@ -154,8 +153,8 @@ module _ (old : States) (blocks : ℕ) (c : List ℕ → Command) (size : Volume
         labelled = subst (λ (n : ℕ). IsLabelled n (promised x (size x) (kind x))) at (subst (IsLabelled x.slot) done labelled);
         uses = (subst (λ (z : VolumeState). FitsBeside blocks others z.ledger) done fits).size;
         sum = its_sum;
-        becomes = λ table m has. subst (λ (n : List ℕ). change_of m (c n) ≡ Becomes n (volume_as (promised x (size x) (kind x)) table)) named
-            (subst (λ (z : VolumeState). change_of m (c x.name) ≡ Becomes x.name (volume_as z table)) done (becomes table m (subst (λ (n : List ℕ). Has n (volume_as x table) m) (sym named) has)));
+        becomes = λ content m has. subst (λ (n : List ℕ). change_of m (c n) ≡ Becomes n (volume_as (promised x (size x) (kind x)) content)) named
+            (subst (λ (z : VolumeState). change_of m (c x.name) ≡ Becomes x.name (volume_as z content)) done (becomes content m (subst (λ (n : List ℕ). Has n (volume_as x content) m) (sym named) has)));
       }
 
     found : PromisesOne old blocks (c name) name size kind new r

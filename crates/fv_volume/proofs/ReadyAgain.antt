@@ -1,5 +1,5 @@
 -- Calls can be made on a volume whose table or whose count of changes is another.
-use Rattle.std.proofs.Common.{◌≡◌, ◌≢◌, ℕ, ◌≤◌, true, false, Option, sym, ◌∙◌, arith}
+use Rattle.std.proofs.Common.{◌≡◌, ◌≢◌, ℕ, ◌≤◌, true, false, Option, sym, ◌∙◌, arith, refl}
 use Rattle.fv_disk.specs.Shown.{Shown as Disk}
 use Rattle.fv_codec.specs.Blocks.{IsLabel}
 use Rattle.fv_model.specs.Numbers.{most_changes}
@@ -11,6 +11,8 @@ use Rattle.fv_volume.specs.declared.pool.Pool.{Pool}
 use Rattle.fv_volume.specs.declared.state.VolumeState.{VolumeState}
 use Rattle.fv_volume.specs.Files.{IsLabelled}
 use Rattle.fv_volume.specs.Labels.{label_said}
+use Rattle.fv_volume.specs.States.{head_in}
+use Rattle.fv_volume.proofs.MapSlots.{same_sayable, same_slots, slots_kept}
 use Rattle.fv_volume.specs.OneVolume.{IsBooked, IsReady}
 
 module _ (x : VolumeState) (now : ℕ) (few : now ≤ most_changes) where
@@ -52,7 +54,9 @@ module _ (x : VolumeState) (now : ℕ) (few : now ≤ most_changes) where
     form = is.form;
     span = is.span;
     map = span ∙ is.map;
-    one = λ k other. slots k other ∙ is.one k other;
+    snapshots = same_sayable _ (head_in x) refl is.snapshots;
+    slots = same_slots _ (head_in x) map refl (slots_kept (head_in x) x.map map slots is.slots);
+    waits = is.waits;
     counts = counts ∙ is.counts;
     levels = is.levels;
     named = is.named;

@@ -1,13 +1,11 @@
 -- A volume that was written: what went is given back, and what is new was free.
-use Rattle.std.proofs.Common.{◌≡◌, ◌≢◌, ℕ, zero, suc, ◌+◌, ◌-◌, ◌<◌, ◌≤◌, List, length, Bool, true, false, not, ◌&&◌, ◌||◌, refl, sym, ap, ap₂, subst, ◌∙◌, arith, ⊎_elim, inl, inr, ◌⊎◌}
-use Rattle.std.specs.Prelude.{None, nat_lt}
+use Rattle.std.proofs.Common.{◌≡◌, ◌≢◌, ℕ, zero, suc, ◌+◌, ◌<◌, ◌≤◌, List, length, Bool, true, false, not, ◌&&◌, ◌||◌, refl, sym, ap, ap₂, subst, ◌∙◌, arith, ⊎_elim, inl, inr, ◌⊎◌}
+use Rattle.std.specs.Prelude.{None}
 use Rattle.std.specs.List.{list_any, range_with_len}
-use Rattle.std.proofs.lemmas.Bool.{and_parts, and_from, cases_eq, cases_lt, not-true, or_cases, or_left, or_right, true≢false}
-use Rattle.std.proofs.lemmas.Bool.Decides.{nat_tests}
+use Rattle.std.proofs.lemmas.Bool.{and_parts, and_from, cases_Bool, cases_eq, cases_lt, not-true, or_cases, or_left, or_right, true≢false}
 use Rattle.fv_bits.specs.Members.{is_member}
 use Rattle.fv_disk.specs.Shown.{Image}
 use Rattle.fv_model.specs.Machines.{first_block}
-use Rattle.fv_model.specs.Space.{map_blocks}
 use Rattle.fv_image.specs.Views.{entry_count}
 use Rattle.fv_image.proofs.HeldPlaces.{same_truth}
 use Rattle.fv_container.specs.Mapped.{Mapped, entry_under}
@@ -15,8 +13,9 @@ use Rattle.fv_container.specs.Spelled.{is_at, names}
 use Rattle.fv_aggmap.specs.Space.{Space, IsFree, blocks_of}
 use Rattle.fv_volume.specs.declared.state.VolumeState.{VolumeState}
 use Rattle.fv_volume.specs.Writing.{AreTaken, HasDrawn, HasGiven, HasLabel, HasOwnBlocks, IsTaken, IsTakenOther, IsWritten, has_maps_at, leads_away, on_disk}
-use Rattle.fv_volume.specs.Stored.{leads, place_at, place_in, stays}
+use Rattle.fv_volume.specs.Stored.{is_map_written, leads, place_at, place_in, stays}
 use Rattle.fv_volume.proofs.SlotBlocks.{any_in_range, range_has}
+use Rattle.fv_volume.proofs.StayingMaps.{stays_unwritten, written_within}
 use Rattle.fv_volume.proofs.Drawing.{LeadsAt, at_itself, at_means, free_before, leads_at, leads_where, maps_at, maps_where, not_so, or_neither}
 
 -- a block that is free in a space is free where the next root holds no other than the one on the disk
@@ -153,37 +152,29 @@ away_place x map n b is =
     let one = any_in_range (λ v. not (stays x v) && is_at b (place_at map v)) 0 n is in
     (at_means b (place_at map one.0) (and_parts (not (stays x one.0)) (is_at b (place_at map one.0)) one.3).1).1
 
-pub low_of : (x : VolumeState) (v : ℕ) → stays x v ≡ true → v < x.span
-low_of x v on = let low = (and_parts (nat_lt v x.span) _ on).0 in grind (arith, nat_tests, low)
+module _ (x : VolumeState) (old new : Mapped)
+    (kept : (v : ℕ) → stays x v ≡ true → entry_under new v ≡ entry_under old v) (holes : (v : ℕ) → stays x v ≡ false → is_map_written x v ≡ false → entry_under new v ≡ None) where
+  abbrev all : ℕ
+  all = entry_count x.span
 
-module _ (x : VolumeState) (old new : Mapped) (blocks : ℕ) (few : blocks ≤ map_blocks x.span)
-    (kept : (v : ℕ) → stays x v ≡ true → entry_under new v ≡ entry_under old v) (holes : (v : ℕ) → stays x v ≡ false → (v < x.span) ⊎ (x.span + blocks ≤ v) → entry_under new v ≡ None) where
-  -- The new entries are those that stay and those of the active map's blocks.
-  pub leads_new : (b : ℕ) → leads new (entry_count x.span) b ≡ (leads_on x old (entry_count x.span) b || has_maps_at new x.span blocks b)
-  leads_new b = same_truth (leads new (entry_count x.span) b) (leads_on x old (entry_count x.span) b || has_maps_at new x.span blocks b) (λ is. to (leads_where new (entry_count x.span) b is)) (λ is. ⊎_elim
-      (λ (on : leads_on x old (entry_count x.span) b ≡ true).
-      let at = on_where x old (entry_count x.span) b on in leads_at new (entry_count x.span) at.vvbn b at.within (ap place_in (kept at.vvbn at.on) ∙ at.place) at.some)
-      (λ (map : has_maps_at new x.span blocks b ≡ true).
-      let at = maps_where new x.span blocks b map in leads_at new (entry_count x.span) (x.span + at.index) b (omega (arith, at.within, few)) at.place at.some)
-      (or_cases (leads_on x old (entry_count x.span) b) (has_maps_at new x.span blocks b) is))
+  -- The new entries are those that stay and those of the blocks of maps that are written.
+  pub leads_new : (b : ℕ) → leads new all b ≡ (leads_on x old all b || has_maps_at x new all b)
+  leads_new b = same_truth (leads new all b) (leads_on x old all b || has_maps_at x new all b) (λ is. to (leads_where new all b is)) (λ is. ⊎_elim
+      (λ (on : leads_on x old all b ≡ true).
+      let at = on_where x old all b on in leads_at new all at.vvbn b at.within (ap place_in (kept at.vvbn at.on) ∙ at.place) at.some)
+      (λ (map : has_maps_at x new all b ≡ true).
+      let at = maps_where x new all b map in leads_at new all at.vvbn b at.within at.place at.some)
+      (or_cases (leads_on x old all b) (has_maps_at x new all b) is))
     where
-      to : LeadsAt new (entry_count x.span) b → (leads_on x old (entry_count x.span) b || has_maps_at new x.span blocks b) ≡ true
+      to : LeadsAt new all b → (leads_on x old all b || has_maps_at x new all b) ≡ true
       to at = so (stays x at.vvbn) refl
         where
-          hole : stays x at.vvbn ≡ false → (at.vvbn < x.span) ⊎ (x.span + blocks ≤ at.vvbn) → ⊥
-          hole off out = at.some (sym at.place ∙ ap place_in (holes at.vvbn off out))
-
-          so : (t : Bool) → stays x at.vvbn ≡ t → (leads_on x old (entry_count x.span) b || has_maps_at new x.span blocks b) ≡ true
-          so true on = or_left _ _ (on_at x old (entry_count x.span) at.vvbn b at.within on (ap place_in (sym (kept at.vvbn on)) ∙ at.place) at.some)
+          so : (t : Bool) → stays x at.vvbn ≡ t → (leads_on x old all b || has_maps_at x new all b) ≡ true
+          so true on = or_left _ _ (on_at x old all at.vvbn b at.within on (ap place_in (sym (kept at.vvbn on)) ∙ at.place) at.some)
           so false off = ⊎_elim
-              (λ (low : at.vvbn < x.span). absurd (hole off (inl low)))
-              (λ (past : x.span ≤ at.vvbn). ⊎_elim
-              (λ (inside : at.vvbn < x.span + blocks).
-              let back : x.span + (at.vvbn - x.span) ≡ at.vvbn = omega (arith, past) in
-              or_right (leads_on x old (entry_count x.span) b) _ (maps_at new x.span blocks (at.vvbn - x.span) b (omega (arith, past, inside)) (ap (place_at new) back ∙ at.place) at.some))
-              (λ (over : x.span + blocks ≤ at.vvbn). absurd (hole off (inr over)))
-              (cases_lt at.vvbn (x.span + blocks)))
-              (cases_lt at.vvbn x.span)
+              (λ (written : is_map_written x at.vvbn ≡ true). or_right (leads_on x old all b) _ (maps_at x new all at.vvbn b at.within written at.place at.some))
+              (λ (none : is_map_written x at.vvbn ≡ false). absurd (at.some (sym at.place ∙ ap place_in (holes at.vvbn off none))))
+              (cases_Bool (is_map_written x at.vvbn))
 
 -- ---- the volume
 
@@ -195,10 +186,10 @@ module _ (x : VolumeState) (before after : Image) (space given_back drawn stored
     (others : (b : ℕ) → IsTakenOther drawn label b → after b ≡ before b)
   where
     kept_now : (v : ℕ) → stays x v ≡ true → entry_under new v ≡ entry_under old v
-    kept_now v on = has.blocks.map.others v (inl (low_of x v on)) ∙ kept v on
+    kept_now v on = has.blocks.map.others v (inr (stays_unwritten x v on)) ∙ kept v on
 
-    holes_now : (v : ℕ) → stays x v ≡ false → (v < x.span) ⊎ (x.span + map_blocks x.span ≤ v) → entry_under new v ≡ None
-    holes_now v off out = has.blocks.map.others v out ∙ holes v off
+    holes_now : (v : ℕ) → stays x v ≡ false → is_map_written x v ≡ false → entry_under new v ≡ None
+    holes_now v off none = has.blocks.map.others v (inr none) ∙ holes v off
 
     given_free : (b : ℕ) → IsFree drawn b → IsFree given_back b
     given_free b free = free_then space given_back drawn (leads_away x old (entry_count x.span)) label gave took some b free
@@ -228,8 +219,11 @@ module _ (x : VolumeState) (before after : Image) (space given_back drawn stored
         (λ (free : IsFree given_back b). (not_old b free).0)
         (node_cases b named)
 
-    map_led : (k : ℕ) → k < map_blocks x.span → has_maps_at new x.span (map_blocks x.span) (place_at new (x.span + k)) ≡ true
-    map_led k lt = let least = has.blocks.map.some k lt in maps_at new x.span (map_blocks x.span) k (place_at new (x.span + k)) lt refl (λ none. omega (arith, least, none))
+    map_led : (v : ℕ) → is_map_written x v ≡ true → has_maps_at x new (entry_count x.span) (place_at new v) ≡ true
+    map_led v is =
+        let inside = written_within x v is in
+        let least = has.blocks.map.some v inside is in
+        maps_at x new (entry_count x.span) v (place_at new v) inside is refl (λ none. omega (arith, least, none))
 
     -- a block that stays is none of the others
     stays_apart : (b : ℕ) → leads_on x old (entry_count x.span) b ≡ true
@@ -267,33 +261,33 @@ module _ (x : VolumeState) (before after : Image) (space given_back drawn stored
       tree = has.blocks.tree;
       long = long;
       kept = kept_now;
-      active = has.blocks.map.active;
-      placed = has.blocks.map.some;
+      maps = λ v is. has.blocks.map.maps v (written_within x v is) is;
+      placed = λ v is. has.blocks.map.some v (written_within x v is) is;
       holes = holes_now;
-      bits = has.blocks.bits;
+      bits = λ v is. has.blocks.bits v (written_within x v is) is;
       given = given_back;
       gave = gave;
       some = some;
       fresh_label = label_is_free;
       fresh_nodes = λ b named lacks. given_free b (has.blocks.fresh_nodes b named (ap (λ (t : List ℕ). names t b) tree ∙ lacks));
-      fresh_maps = λ k lt. given_free (place_at new (x.span + k)) (has.blocks.fresh_maps (place_at new (x.span + k)) (map_led k lt));
+      fresh_maps = λ v is. given_free (place_at new v) (has.blocks.fresh_maps (place_at new v) (map_led v is));
       alone = not_so (names new.tree label) (λ named. label_taken space given_back drawn (leads_away x old (entry_count x.span)) label gave took some
           (has.blocks.fresh_nodes label named (ap (λ (t : List ℕ). names t label) tree ∙ (not_old label label_is_free).1)));
-      apart = λ k lt.
-          let free = has.blocks.fresh_maps (place_at new (x.span + k)) (map_led k lt) in
-          (λ same. label_taken space given_back drawn (leads_away x old (entry_count x.span)) label gave took some (subst (λ (b : ℕ). IsFree drawn b) same free), has.blocks.apart (place_at new (x.span + k)) (map_led k lt));
-      once = has.blocks.map.once;
+      apart = λ v is.
+          let free = has.blocks.fresh_maps (place_at new v) (map_led v is) in
+          (λ same. label_taken space given_back drawn (leads_away x old (entry_count x.span)) label gave took some (subst (λ (b : ℕ). IsFree drawn b) same free), has.blocks.apart (place_at new v) (map_led v is));
+      once = λ v w lt is too. has.blocks.map.once v w lt (written_within x w too) is too;
       held = λ b.
           released.held b ∙ ap (λ t. t && not (is_at b x.label)) (has.blocks.held b)
-          ∙ ap (λ t. ((names new.tree b || has_maps_at new x.span (map_blocks x.span) b) || (t && not (names mid.tree b))) && not (is_at b x.label)) (took.held b ∙ ap (λ t. is_at b label || t) (gave.held b))
-          ∙ ap (λ (ts : List ℕ). ((names new.tree b || has_maps_at new x.span (map_blocks x.span) b) || ((is_at b label || (is_member space.next b && not (leads_away x old (entry_count x.span) b))) && not (names ts b))) && not (is_at b x.label)) tree
-          ∙ renewed (is_at b label) (names new.tree b) (has_maps_at new x.span (map_blocks x.span) b) (leads_on x old (entry_count x.span) b) (leads_away x old (entry_count x.span) b) (is_at b x.label) (names old.tree b) (is_member space.next b)
+          ∙ ap (λ t. ((names new.tree b || has_maps_at x new (entry_count x.span) b) || (t && not (names mid.tree b))) && not (is_at b x.label)) (took.held b ∙ ap (λ t. is_at b label || t) (gave.held b))
+          ∙ ap (λ (ts : List ℕ). ((names new.tree b || has_maps_at x new (entry_count x.span) b) || ((is_at b label || (is_member space.next b && not (leads_away x old (entry_count x.span) b))) && not (names ts b))) && not (is_at b x.label)) tree
+          ∙ renewed (is_at b label) (names new.tree b) (has_maps_at x new (entry_count x.span) b) (leads_on x old (entry_count x.span) b) (leads_away x old (entry_count x.span) b) (is_at b x.label) (names old.tree b) (is_member space.next b)
           (λ at. not_old b (took.free b at))
           (not_label b)
           (λ map. (not_old b (given_free b (has.blocks.fresh_maps b map))).0)
           (stays_apart b)
           ∙ ap₂ (λ (p q : Bool). (is_at b label || (names new.tree b || p)) || (is_member space.next b && not (is_at b x.label || (names old.tree b || q))))
-          (sym (leads_new x old new (map_blocks x.span) (omega arith) kept_now holes_now b)) (sym (leads_parts x old (entry_count x.span) b));
+          (sym (leads_new x old new kept_now holes_now b)) (sym (leads_parts x old (entry_count x.span) b));
       committed = released.committed ∙ same ∙ took.committed ∙ gave.committed;
       others = λ b is. others b (given_spared space given_back drawn (leads_away x old (entry_count x.span)) label gave took some b is);
     }

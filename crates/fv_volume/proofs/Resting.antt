@@ -1,6 +1,6 @@
 -- Over a disk that reads as before a volume of a session is what it was between points.
 use Rattle.std.proofs.Common.{◌≡◌, ℕ, Option, Some, None, sym, ap, subst, ◌∙◌, refl}
-use Rattle.std.specs.Prelude.{IfSome, IsTrue}
+use Rattle.std.specs.Prelude.{All, IfSome, IsTrue}
 use Rattle.fv_disk.specs.Shown.{Image, Shown}
 use Rattle.fv_disk.specs.DiskCalls.{Stays}
 use Rattle.fv_laws.specs.WellFormed.{IsWellTable}
@@ -12,7 +12,7 @@ use Rattle.fv_files.specs.Numbering.{AreNumbersIf}
 use Rattle.fv_volume.specs.declared.pool.Pool.{Pool}
 use Rattle.fv_volume.specs.declared.state.VolumeState.{VolumeState}
 use Rattle.fv_volume.specs.Held.{named_held, IsHeldIn, IsReadyIn}
-use Rattle.fv_volume.specs.OneVolume.{shows, table_for, volume_for, AreSoundBy, IsReady, IsStanding}
+use Rattle.fv_volume.specs.OneVolume.{shows, table_for, volume_for, AreSoundBy, IsKeptTable, IsReady, IsStanding}
 use Rattle.fv_volume.specs.Placing.{AreLedBy, AreStoredBy, IsLedTo, IsStoredWell}
 
 module _ (d e : Shown) (stays : Stays d e) (pool : Pool) where
@@ -37,6 +37,7 @@ module _ (d e : Shown) (stays : Stays d e) (pool : Pool) where
     told = (subst IsTrue (sym stays.tells) is.told.0, is.told.1);
     table = subst (λ (i : Image). IsWellTable x.now (table_for (over i) pool x)) (sym stays.reads) is.table;
     reserves = subst (λ (i : Image). HasNoReserve (table_for (over i) pool x)) (sym stays.reads) is.reserves;
+    kept = subst (λ (i : Image). All (IsKeptTable (over i) pool x) x.snapshots) (sym stays.reads) is.kept;
     ledger = subst (λ (i : Image). IsLedgerOf (volume_for (over i) pool x) x.ledger) (sym stays.reads) is.ledger;
     trees = subst (λ (i : Image). AreSoundBy (under (shows (over i) pool x)) (shows d pool x).used x.active x.files) (sym stays.reads) is.trees;
     numbers = subst (λ (i : Image). AreNumbersIf x.numbers (table_for (over i) pool x)) (sym stays.reads) is.numbers;

@@ -10,6 +10,7 @@ use Rattle.fv_volume.specs.Housed.{AreHoused, as_written, settled_as, settled_at
 use Rattle.fv_volume.specs.Labels.{label_said}
 use Rattle.fv_volume.specs.Loading.{Houses}
 use Rattle.fv_volume.specs.States.{States, head_in, parent_in, state_at}
+use Rattle.fv_volume.proofs.StayingMaps.{no_waits}
 
 -- ---- one volume
 
@@ -60,7 +61,9 @@ still_labelled s x label is = record {
   form = is.form;
   span = is.span;
   map = is.map;
-  one = is.one;
+  snapshots = is.snapshots;
+  slots = is.slots;
+  waits = no_waits (as_written x label) refl;
   counts = is.counts;
   levels = is.levels;
   named = is.named;

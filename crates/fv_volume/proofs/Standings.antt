@@ -1,8 +1,9 @@
 -- From a volume of a session's view to one volume with nothing of it in memory, and back.
-use Rattle.std.proofs.Common.{◌≡◌, ◌≢◌, ℕ, Bool, true, false, ◌&&◌, cond, List, Option, Some, None, is_some, refl, sym, ap, subst, ◌∙◌}
-use Rattle.std.specs.Prelude.{IsTrue, map, nat_le}
+use Rattle.std.proofs.Common.{◌≡◌, ◌≢◌, ℕ, Bool, true, false, ◌&&◌, cond, List, [], ◌∷◌, Option, Some, None, is_some, refl, sym, ap, ap₂, subst, ◌∙◌}
+use Rattle.std.specs.Prelude.{All, IsTrue, map, nat_le}
 use Rattle.std.specs.Option.{ForSome, option_map, option_map_or}
 use Rattle.std.specs.FinMap as fin
+use Rattle.std.proofs.lemmas.List.Elements.{All-head, All-tail}
 use Rattle.fv_disk.specs.Shown.{Shown as Disk}
 use Rattle.fv_bits.specs.Members.{is_member}
 use Rattle.fv_codec.specs.declared.pointer.Pointer.{Pointer}
@@ -33,17 +34,20 @@ use Rattle.fv_container.specs.Chains.{Slots, chain_entry, container_at, own_entr
 use Rattle.fv_volmap.specs.Slots.{Volume as Maps, active_of, taken_in}
 use Rattle.fv_files.specs.Numbering.{AreNumbersIf}
 use Rattle.fv_volume.specs.declared.pool.Pool.{Pool}
+use Rattle.fv_volume.specs.declared.state.Snap.{Snap as Kept}
 use Rattle.fv_volume.specs.declared.state.VolumeState.{VolumeState}
 use Rattle.fv_volume.specs.BlocksOver.{AreApart, IsKeptBack, OtherPlace, block_of, held_entry}
 use Rattle.fv_volume.specs.Calls.{Reads}
 use Rattle.fv_volume.specs.Files.{has_form, IsLabelled, IsState}
-use Rattle.fv_volume.specs.OneVolume.{shows, standing_by, table_for, volume_as, AreSoundBy, IsStanding}
+use Rattle.fv_volume.specs.OneVolume.{blocks_in, content_for, shows, snap_by, standing_by, table_for, volume_as, volume_for, AreSoundBy, Content, IsKeptTable, IsStanding}
 use Rattle.fv_volume.specs.Placing.{AreLedBy, AreStoredBy, IsLedTo, IsStoredWell}
-use Rattle.fv_volume.specs.States.{States, head_in, placed_in, state_at, view_over}
+use Rattle.fv_volume.specs.States.{States, head_in, placed_in, snap_in, state_at, view_over}
 use Rattle.fv_volume.specs.Trees.{active_in, no_trees}
+use Rattle.fv_volume.proofs.KeptTables.{no_snaps, none_kept, none_told}
 use Rattle.fv_volume.proofs.LoadedTables.{StandsInView, chain_own, led, stands_file, stands_inode, stands_led, stands_once, stands_told}
 use Rattle.fv_volume.proofs.OneVolumes.{still_under, still_used}
 use Rattle.fv_volume.proofs.Shows.{get_held, use_none}
+use Rattle.fv_volume.proofs.SnapReads.{kept_by, slot_held}
 use Rattle.fv_volume.proofs.Told.{head_there}
 
 -- ---- the entries of a volume that stands on no other
@@ -78,9 +82,9 @@ apart_alone pool map slot alone kept apart = record {
 -- ---- the volume of a head
 
 -- A volume without snapshots and base is told as its view tells it.
-pub seen_volume : (w : View) (s : ℕ) (x : VolumeState) (table : Table) → has_form (head_in x) ≡ true → volume_with w s (head_in x) table ≡ volume_as x table
+pub seen_volume : (w : View) (s : ℕ) (x : VolumeState) (content : Content) → has_form (head_in x) ≡ true → content.snapshots ≡ fin.empty → volume_with w s (head_in x) content.active ≡ volume_as x content
 unfolding volume_with
-seen_volume w s x table form =
+seen_volume w s x content form nothing =
     let snaps = form_snapshots (head_in x) form in
     let base = form_base (head_in x) form in
     λ i. record {
@@ -89,11 +93,16 @@ seen_volume w s x table form =
       most = x.most;
       span = x.span;
       now = x.now;
-      active = table;
-      snapshots = ap (λ (ps : List Snap). fin.from_entries {R = name_cmp} (map (snap_told w s) ps)) snaps i;
+      active = content.active;
+      snapshots = (ap (λ (ps : List Snap). fin.from_entries {R = name_cmp} (map (snap_told w s) ps)) snaps ∙ sym nothing) i;
       base = ap (base_from w) base i;
       known = x.known;
     }
+
+-- so is the volume that it stands for, where the view tells its active table
+pub seen_for : (w : View) (s : ℕ) (disk : Disk) (pool : Pool) (x : VolumeState) (table : Table) → has_form (head_in x) ≡ true → table ≡ table_for disk pool x → volume_with w s (head_in x) table ≡ volume_for disk pool x
+seen_for w s disk pool x table form same =
+    ap (volume_with w s (head_in x)) same ∙ seen_volume w s x (content_for disk pool x) form (none_told (blocks_in disk pool x) x.snapshots (no_snaps x form))
 
 -- its table is that of its head's root
 pub active_is : (w : View) (s : ℕ) (h : Head) → w.head s ≡ Some h → active_in w no_trees s ≡ table_at w s h.active
@@ -197,7 +206,8 @@ module _ (disk : Disk) (pool : Pool) (states : States) (x : VolumeState) (is : S
         told = (tells, apart);
         table = subst (IsWellTable x.now) active state.table;
         reserves = subst HasNoReserve active state.reserves;
-        ledger = subst (λ v. IsLedgerOf v x.ledger) (seen_volume w x.slot x (active_in w no_trees x.slot) is.form ∙ ap (volume_as x) active) state.ledger;
+        kept = none_kept (IsKeptTable disk pool x) x.snapshots (no_snaps x is.form);
+        ledger = subst (λ v. IsLedgerOf v x.ledger) (seen_for w x.slot disk pool x (active_in w no_trees x.slot) is.form active) state.ledger;
         trees = subst (AreSoundBy (blocks_of source) source.used x.active) (sym none) seen_reached;
         numbers = numbered;
       }
@@ -243,12 +253,36 @@ module _ (disk : Disk) (pool : Pool) (states : States) (x : VolumeState) (is : I
     files = λ number r found level place some. held_there (pointer_at (stored (blocks_of shown) number r.levels r.root) level place).vvbn ((standing_reached.files number r found).held level place some);
   }
 
-  -- The view tells the table of the volume.
+  -- The view tells the table of the volume,
   pub standing_table : active_in u no_trees x.slot ≡ table_for disk pool x
   standing_table =
       active_is u x.slot (head_in x) here
       ∙ kept_table (blocks_of shown) (under u x.slot) x.active.levels x.active.root agree
       ∙ sym (ap (λ (o : Option Files). table_told (standing_by (blocks_of shown) x.active o)) none)
+
+  -- and those of its snapshots,
+  slot_there : (k v : ℕ) → is_some (blocks_in disk pool x k v) ≡ true → under u x.slot v ≡ blocks_in disk pool x k v
+  slot_there k v some = let same = slot_held disk pool x k v some in held_there v (ap is_some same ∙ some) ∙ same
+
+  snaps_seen : (snaps : List Kept) → All (IsKeptTable disk pool x) snaps → map (snap_told u x.slot) (map snap_in snaps) ≡ map (snap_by (blocks_in disk pool x)) snaps
+  snaps_seen [] all = refl
+  snaps_seen (q ∷ qs) all =
+      ap₂ (λ e es. e ∷ es) (ap (λ (t : Table). (q.name, t)) (kept_by disk pool x q (All-head (IsKeptTable disk pool x) q qs all) (under u x.slot) (slot_there q.slot))) (snaps_seen qs (All-tail (IsKeptTable disk pool x) q qs all))
+
+  -- so the volume that it stands for.
+  pub standing_volume : volume_with u x.slot (head_in x) (active_in u no_trees x.slot) ≡ volume_for disk pool x
+  unfolding volume_with
+  standing_volume = λ i. record {
+    kind = x.kind;
+    size = x.size;
+    most = x.most;
+    span = x.span;
+    now = x.now;
+    active = standing_table i;
+    snapshots = fin.from_entries {R = name_cmp} (snaps_seen x.snapshots is.kept i);
+    base = ap (base_from u) (form_base (head_in x) form) i;
+    known = x.known;
+  }
 
   -- The volume is one of the machine that the view tells.
   pub standing_state : IsLabelled x.slot x → IsState u no_trees x.slot x
@@ -256,7 +290,7 @@ module _ (disk : Disk) (pool : Pool) (states : States) (x : VolumeState) (is : I
     labelled = labelled;
     table = subst (IsWellTable x.now) (sym standing_table) is.table;
     reserves = subst HasNoReserve (sym standing_table) is.reserves;
-    ledger = subst (λ v. IsLedgerOf v x.ledger) (sym (seen_volume u x.slot x (active_in u no_trees x.slot) form ∙ ap (volume_as x) standing_table)) is.ledger;
+    ledger = subst (λ v. IsLedgerOf v x.ledger) (sym standing_volume) is.ledger;
   }
 
 -- After reads what is in use is led to still.

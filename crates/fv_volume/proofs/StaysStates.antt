@@ -2,25 +2,25 @@
 use Rattle.std.proofs.Common.{◌≡◌, ℕ, ◌<◌, true, List, length, map, get_or, refl, sym, ap, subst, ◌∙◌}
 use Rattle.std.specs.Prelude.{Option, Some, None, IfSome}
 use Rattle.std.specs.Option.{option_map, option_map_or}
-use Rattle.fv_bits.specs.Members.{is_member}
 use Rattle.fv_model.specs.Tables.{empty_table}
 use Rattle.fv_model.specs.Volumes.{Volume}
 use Rattle.fv_laws.specs.WellFormed.{IsWellTable}
 use Rattle.fv_laws.specs.Positions.{HasNoReserve}
 use Rattle.fv_tables.specs.Reached.{Item, items, is_listed}
-use Rattle.fv_image.specs.Views.{Head, View}
+use Rattle.fv_image.specs.Mapped.{root_at}
+use Rattle.fv_image.specs.Views.{Head, Rooted, View}
 use Rattle.fv_image.specs.Volumes.{active_at, standing_of, table_at, volume_with}
 use Rattle.fv_image.specs.Seen.{seen}
 use Rattle.fv_image.specs.Soundness.{AreTables}
 use Rattle.fv_image.specs.Staying.{StaysHeld, items_of, own_items}
 use Rattle.fv_image.proofs.SameSeen.{left_listed, same_reach, same_table, same_volume}
 use Rattle.fv_charge.specs.Ledgers.{IsLedgerOf}
-use Rattle.fv_volmap.specs.Slots.{active_of}
 use Rattle.fv_volume.specs.declared.state.VolumeState.{VolumeState}
 use Rattle.fv_volume.specs.Files.{AreStates, IsState}
-use Rattle.fv_volume.specs.Housed.{HaveReach, settled_as, settled_at}
+use Rattle.fv_volume.specs.Housed.{HaveReaches, ReachesAll, settled_as, settled_at}
 use Rattle.fv_volume.specs.States.{States, head_in, state_at, table_in}
 use Rattle.fv_volume.specs.Trees.{no_trees, volume_now}
+use Rattle.fv_volume.proofs.Reaches.{root_listed}
 use Rattle.fv_volume.proofs.Settled.{names_stay, settled_has, still_labelled}
 use Rattle.fv_volume.proofs.Told.{is_inside}
 
@@ -54,8 +54,9 @@ module _ (w u : View) (states : States) (long : length states ≡ 64) (heads : (
       ledger = subst (λ (v : Volume). IsLedgerOf v x.ledger) (sym volume_same) is.ledger;
     }
 
-    same_items : (v : ℕ) → is_listed (items (standing_of w s (table_in x.active))) v ≡ is_listed (items (standing_of u s (table_in x.active))) v
-    same_items v = sym (ap (λ (es : List Item). is_listed es v) (same_reach w u stays tables.bases tables.rests s (head_in x) (table_in x.active) inside head_there listed))
+    -- each of its roots reaches the same
+    same_items : (k : ℕ) (r : Rooted) → root_at (head_in x) k ≡ Some r → (v : ℕ) → is_listed (items (standing_of w s r)) v ≡ is_listed (items (standing_of u s r)) v
+    same_items k r at v = sym (ap (λ (es : List Item). is_listed es v) (same_reach w u stays tables.bases tables.rests s (head_in x) r inside head_there (root_listed w s (head_in x) k r at)))
 
   -- Settled, too, they are volumes of that machine,
   module _ (stay : States) (labels : List ℕ) (settled : (s : ℕ) → state_at stay s ≡ settled_at labels states s) where
@@ -72,13 +73,10 @@ module _ (w u : View) (states : States) (long : length states ≡ 64) (heads : (
             let now = state_same s x there is in
             settled_has (IsState u no_trees s) x (get_or labels s 0) (λ e. record { labelled = still_labelled s x (get_or labels s 0) now.labelled; table = now.table; reserves = now.reserves; ledger = now.ledger }) (λ e. now)
 
-    -- and the active map of each has what its table reaches.
-    pub reach_stays : HaveReach w states → HaveReach u stay
-    reach_stays have s low = subst (λ (o : Option VolumeState). IfSome o (Reaches u)) (sym (settled s)) (by (state_at states s) refl (have s low))
+    -- and the maps of each have what its roots reach.
+    pub reach_stays : HaveReaches w states → HaveReaches u stay
+    reach_stays have s low = subst (λ (o : Option VolumeState). IfSome o (ReachesAll u s)) (sym (settled s)) (by (state_at states s) refl (have s low))
       where
-        Reaches : View → VolumeState → Type 0
-        Reaches z x = (v : ℕ) → is_member (active_of x.map) v ≡ is_listed (items (standing_of z s (table_in x.active))) v
-
-        by : (o : Option VolumeState) → state_at states s ≡ o → IfSome o (Reaches w) → IfSome (option_map (settled_as (get_or labels s 0)) o) (Reaches u)
+        by : (o : Option VolumeState) → state_at states s ≡ o → IfSome o (ReachesAll w s) → IfSome (option_map (settled_as (get_or labels s 0)) o) (ReachesAll u s)
         by None there is = tt
-        by (Some x) there is = settled_has (Reaches u) x (get_or labels s 0) (λ e v. is v ∙ same_items s x there v) (λ e v. is v ∙ same_items s x there v)
+        by (Some x) there is = settled_has (ReachesAll u s) x (get_or labels s 0) (λ e k r at v. is k r at v ∙ same_items s x there k r at v) (λ e k r at v. is k r at v ∙ same_items s x there k r at v)

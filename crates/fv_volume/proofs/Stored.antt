@@ -1,12 +1,11 @@
 -- A volume once it was written: what it has now, that it stands in the image, and that it stays there.
-use Rattle.std.proofs.Common.{◌≡◌, ◌≢◌, ℕ, ◌+◌, ◌-◌, ◌<◌, ◌≤◌, length, Bool, true, false, not, ◌&&◌, ◌||◌, List, refl, sym, ap, subst, ◌∙◌, arith, ⊎_elim, inl, inr, ◌⊎◌}
+use Rattle.std.proofs.Common.{◌≡◌, ◌≢◌, ℕ, ◌<◌, ◌≤◌, length, Bool, true, false, not, ◌&&◌, ◌||◌, List, refl, sym, ap, subst, ◌∙◌, arith, ⊎_elim, inl, inr, ◌⊎◌}
 use Rattle.std.specs.Prelude.{Option, IfSome}
-use Rattle.std.proofs.lemmas.Bool.{cases_eq, cases_lt, or_cases, or_left, or_right, true≢false}
+use Rattle.std.proofs.lemmas.Bool.{cases_Bool, cases_eq, cases_lt, or_cases, or_left, or_right, true≢false}
 use Rattle.fv_disk.specs.Shown.{Image}
 use Rattle.fv_bits.specs.Members.{is_member}
 use Rattle.fv_codec.specs.Blocks.{label_at}
 use Rattle.fv_model.specs.Machines.{first_block}
-use Rattle.fv_model.specs.Space.{map_blocks}
 use Rattle.fv_image.specs.Containers.{height_of}
 use Rattle.fv_image.specs.Views.{entry_count}
 use Rattle.fv_image.specs.Reclaimed.{IsAllocatable}
@@ -16,38 +15,33 @@ use Rattle.fv_container.specs.Spelled.{is_at, names}
 use Rattle.fv_aggmap.specs.Space.{Space, IsFree, blocks_of}
 use Rattle.fv_volume.specs.declared.state.VolumeState.{VolumeState}
 use Rattle.fv_volume.specs.Writing.{HasOwnBlocks, IsTaken, IsWritten, leads_away}
-use Rattle.fv_volume.specs.Stored.{IsStored, is_of, leads, place_at, place_in, stays}
+use Rattle.fv_volume.specs.Stored.{IsStored, is_map_written, is_of, leads, place_at, place_in, stays}
 use Rattle.fv_volume.proofs.Drawing.{LeadsAt, at_itself, at_means, leads_at, leads_where, not_so, or_neither}
-use Rattle.fv_volume.proofs.Renewing.{away_place, away_where, low_of}
+use Rattle.fv_volume.proofs.Renewing.{away_place, away_where}
 use Rattle.fv_volume.proofs.Spelling.{flushed_still}
+use Rattle.fv_volume.proofs.StayingMaps.{stays_within, written_within}
 
--- which entry of a written volume leads to a block: one that stayed, or one of the active map's
+-- which entry of a written volume leads to a block: one that stayed, or one of a map that was written
 data Led (x : VolumeState) (old new : Mapped) (v : ℕ) : Type 0 where
   stayed : stays x v ≡ true → place_at new v ≡ place_at old v → Led x old new v
-  mapped : (k : ℕ) → k < map_blocks x.span → v ≡ x.span + k → Led x old new v
+  mapped : is_map_written x v ≡ true → Led x old new v
 
 module _ (x : VolumeState) (old : Mapped) (before : Image) (space : Space) (label : ℕ) (new : Mapped) (after : Image) (left : Space) (is : IsWritten x old before space label new after left) (own : HasOwnBlocks x old space) (some_old : (v : ℕ) → IfSome (entry_under old v) (λ e. 1 ≤ e.pvbn)) where
   led : (v : ℕ) → place_at new v ≢ 0 → Led x old new v
   led v some = so (stays x v) refl
     where
-      hole : stays x v ≡ false → (v < x.span) ⊎ (x.span + map_blocks x.span ≤ v) → ⊥
-      hole off out = some (ap place_in (is.holes v off out))
-
       so : (t : Bool) → stays x v ≡ t → Led x old new v
       so true e = stayed e (ap place_in (is.kept v e))
       so false e = ⊎_elim
-          (λ (low : v < x.span). absurd (hole e (inl low)))
-          (λ (past : x.span ≤ v). ⊎_elim
-          (λ (inside : v < x.span + map_blocks x.span). mapped (v - x.span) (omega (arith, past, inside)) (omega (arith, past)))
-          (λ (over : x.span + map_blocks x.span ≤ v). absurd (hole e (inr over)))
-          (cases_lt v (x.span + map_blocks x.span)))
-          (cases_lt v x.span)
+          (λ (written : is_map_written x v ≡ true). mapped written)
+          (λ (none : is_map_written x v ≡ false). absurd (some (ap place_in (is.holes v e none))))
+          (cases_Bool (is_map_written x v))
 
   -- a block that stays isn't free once the others were given back
   pub stay_taken : (v : ℕ) → stays x v ≡ true → place_at old v ≢ 0 → IsTaken is.given (place_at old v)
   stay_taken v on some free =
-      let low = low_of x v on in
-      let led : leads old (entry_count x.span) (place_at old v) ≡ true = leads_at old (entry_count x.span) v (place_at old v) (omega (arith, low)) refl some in
+      let low = stays_within x v on in
+      let led : leads old (entry_count x.span) (place_at old v) ≡ true = leads_at old (entry_count x.span) v (place_at old v) low refl some in
       let held : is_member space.next (place_at old v) ≡ true = own.held (place_at old v) (or_right (is_at (place_at old v) x.label) _ (or_right (names old.tree (place_at old v)) _ led)) in
       let none = or_neither (is_member is.given.committed (place_at old v)) (is_member is.given.next (place_at old v)) free.free in
       let gone : leads_away x old (entry_count x.span) (place_at old v) ≡ true = by (is_member space.next (place_at old v)) (leads_away x old (entry_count x.span) (place_at old v)) held (sym (is.gave.held (place_at old v)) ∙ none.1) in
@@ -59,38 +53,35 @@ module _ (x : VolumeState) (old : Mapped) (before : Image) (space : Space) (labe
       by true false e f = sym f
       by false a e f = absurd (true≢false (sym e))
 
-      two : ((w : ℕ) × (w < entry_count x.span) × (stays x w ≡ false) × (place_at old w ≡ place_at old v)) → v < x.span → ⊥
+      two : ((w : ℕ) × (w < entry_count x.span) × (stays x w ≡ false) × (place_at old w ≡ place_at old v)) → v < entry_count x.span → ⊥
       two w low = ⊎_elim
           (λ (same : v ≡ w.0). true≢false (sym on ∙ ap (stays x) same ∙ w.2))
           (λ (other : v ≢ w.0). ⊎_elim
           (λ (less : v < w.0). own.entries v w.0 less w.1 some (sym w.3))
-          (λ (more : w.0 ≤ v). own.entries w.0 v (omega (arith, more, other)) (omega (arith, low)) (λ none. some (sym w.3 ∙ none)) w.3)
+          (λ (more : w.0 ≤ v). own.entries w.0 v (omega (arith, more, other)) low (λ none. some (sym w.3 ∙ none)) w.3)
           (cases_lt v w.0))
           (cases_eq v w.0)
-
-  map_place : (v k : ℕ) → v ≡ x.span + k → place_at new v ≡ place_at new (x.span + k)
-  map_place v k at = ap (place_at new) at
 
   -- no two lead to one
   differ : (v w : ℕ) → v < w → w < entry_count x.span → place_at new v ≢ 0 → place_at new v ≢ place_at new w
   differ v w lt within some same = elim (led v some) [
     | stayed on at ↦ elim (led w (λ none. some (same ∙ none))) [
       | stayed too here ↦ own.entries v w lt within (λ none. some (at ∙ none)) (sym at ∙ same ∙ here)
-      | mapped k low here ↦ stay_taken v on (λ none. some (at ∙ none)) (subst (λ (b : ℕ). IsFree is.given b) (sym (map_place w k here) ∙ sym same ∙ at) (is.fresh_maps k low))
+      | mapped here ↦ stay_taken v on (λ none. some (at ∙ none)) (subst (λ (b : ℕ). IsFree is.given b) (sym same ∙ at) (is.fresh_maps w here))
     ]
-    | mapped j few at ↦ elim (led w (λ none. some (same ∙ none))) [
-      | stayed too here ↦ stay_taken w too (λ none. some (same ∙ here ∙ none)) (subst (λ (b : ℕ). IsFree is.given b) (sym (map_place v j at) ∙ same ∙ here) (is.fresh_maps j few))
-      | mapped k low here ↦ is.once j k (omega (arith, lt, at, here)) low (sym (map_place v j at) ∙ same ∙ map_place w k here)
+    | mapped at ↦ elim (led w (λ none. some (same ∙ none))) [
+      | stayed too here ↦ stay_taken w too (λ none. some (same ∙ here ∙ none)) (subst (λ (b : ℕ). IsFree is.given b) (same ∙ here) (is.fresh_maps v at))
+      | mapped here ↦ is.once v w lt at here same
     ]
   ]
 
-  -- a block that was free isn't led to, unless it is one of the active map's
-  not_led : (b : ℕ) → IsFree is.given b → ((k : ℕ) → k < map_blocks x.span → place_at new (x.span + k) ≢ b) → leads new (entry_count x.span) b ≡ false
+  -- a block that was free isn't led to, unless it is one of a map that was written
+  not_led : (b : ℕ) → IsFree is.given b → ((v : ℕ) → is_map_written x v ≡ true → place_at new v ≢ b) → leads new (entry_count x.span) b ≡ false
   not_led b free other = not_so (leads new (entry_count x.span) b) (λ is_led.
       let at = leads_where new (entry_count x.span) b is_led in
       let some : place_at new at.vvbn ≢ 0 = λ none. at.some (sym at.place ∙ none) in elim (led at.vvbn some) [
         | stayed on same ↦ stay_taken at.vvbn on (λ none. some (same ∙ none)) (subst (λ (c : ℕ). IsFree is.given c) (sym at.place ∙ same) free)
-        | mapped k low here ↦ other k low (sym (map_place at.vvbn k here) ∙ at.place)
+        | mapped here ↦ other at.vvbn here at.place
       ])
 
   -- and neither is an old node
@@ -98,7 +89,7 @@ module _ (x : VolumeState) (old : Mapped) (before : Image) (space : Space) (labe
   node_not_led b node = not_so (leads new (entry_count x.span) b) (λ is_led.
       let at = leads_where new (entry_count x.span) b is_led in elim (led at.vvbn (λ none. at.some (sym at.place ∙ none))) [
         | stayed on same ↦ true≢false (sym (leads_at old (entry_count x.span) at.vvbn b at.within (sym same ∙ at.place) at.some) ∙ own.nodes b node)
-        | mapped k low here ↦ old_taken (subst (λ (c : ℕ). IsFree is.given c) (sym (map_place at.vvbn k here) ∙ at.place) (is.fresh_maps k low))
+        | mapped here ↦ old_taken (subst (λ (c : ℕ). IsFree is.given c) at.place (is.fresh_maps at.vvbn here))
       ])
     where
       old_taken : IsFree is.given b → ⊥
@@ -108,21 +99,12 @@ module _ (x : VolumeState) (old : Mapped) (before : Image) (space : Space) (labe
   kept_some : (v : ℕ) → IfSome (entry_under new v) (λ e. 1 ≤ e.pvbn)
   kept_some v = so (stays x v) refl
     where
-      hole : stays x v ≡ false → (v < x.span) ⊎ (x.span + map_blocks x.span ≤ v) → IfSome (entry_under new v) (λ e. 1 ≤ e.pvbn)
-      hole off out = subst (λ (o : Option Entry). IfSome o (λ e. 1 ≤ e.pvbn)) (sym (is.holes v off out)) tt
-
-      map_entry : (k : ℕ) → k < map_blocks x.span → v ≡ x.span + k → IfSome (entry_under new v) (λ e. 1 ≤ e.pvbn)
-      map_entry k low at = subst (λ (o : Option Entry). IfSome o (λ e. 1 ≤ e.pvbn)) (sym (ap (entry_under new) at ∙ is.active k low)) (is.placed k low)
-
       so : (t : Bool) → stays x v ≡ t → IfSome (entry_under new v) (λ e. 1 ≤ e.pvbn)
       so true e = subst (λ (o : Option Entry). IfSome o (λ e. 1 ≤ e.pvbn)) (sym (is.kept v e)) (some_old v)
       so false e = ⊎_elim
-          (λ (low : v < x.span). hole e (inl low))
-          (λ (past : x.span ≤ v). ⊎_elim
-          (λ (inside : v < x.span + map_blocks x.span). map_entry (v - x.span) (omega (arith, past, inside)) (omega (arith, past)))
-          (λ (over : x.span + map_blocks x.span ≤ v). hole e (inr over))
-          (cases_lt v (x.span + map_blocks x.span)))
-          (cases_lt v x.span)
+          (λ (written : is_map_written x v ≡ true). subst (λ (o : Option Entry). IfSome o (λ e. 1 ≤ e.pvbn)) (sym (is.maps v written)) (is.placed v written))
+          (λ (none : is_map_written x v ≡ false). subst (λ (o : Option Entry). IfSome o (λ e. 1 ≤ e.pvbn)) (sym (is.holes v e none)) tt)
+          (cases_Bool (is_map_written x v))
 
   -- a node of the new tree is one of the old, or was free
   node_cases : (b : ℕ) → names new.tree b ≡ true → (names old.tree b ≡ true) ⊎ (IsFree is.given b)
@@ -143,7 +125,7 @@ module _ (x : VolumeState) (old : Mapped) (before : Image) (space : Space) (labe
     tree = is.tree;
     long = is.long;
     kept = is.kept;
-    active = is.active;
+    maps = is.maps;
     placed = is.placed;
     holes = is.holes;
     bits = is.bits;
@@ -152,9 +134,9 @@ module _ (x : VolumeState) (old : Mapped) (before : Image) (space : Space) (labe
       some = λ v. kept_some v;
       entries = differ;
       nodes = λ b named. ⊎_elim (λ (was : names old.tree b ≡ true). node_not_led b was)
-          (λ (free : IsFree is.given b). not_led b free (λ k low same. true≢false (sym named ∙ sym (ap (names new.tree) same) ∙ (is.apart k low).1)))
+          (λ (free : IsFree is.given b). not_led b free (λ v at same. true≢false (sym named ∙ sym (ap (names new.tree) same) ∙ (is.apart v at).1)))
           (node_cases b named);
-      label = not_led label is.fresh_label (λ k low same. (is.apart k low).0 same);
+      label = not_led label is.fresh_label (λ v at same. (is.apart v at).0 same);
     };
   }
 
@@ -171,7 +153,7 @@ module _ (x : VolumeState) (old : Mapped) (before : Image) (space : Space) (labe
       by : LeadsAt new (entry_count x.span) b → (is_of x x.label old b ≡ true) ⊎ (IsFree is.given b)
       by at = elim (led at.vvbn (λ none. at.some (sym at.place ∙ none))) [
         | stayed on same ↦ inl (or_right (is_at b x.label) _ (or_right (names old.tree b) _ (leads_at old (entry_count x.span) at.vvbn b at.within (sym same ∙ at.place) at.some)))
-        | mapped k low here ↦ inr (subst (λ (c : ℕ). IsFree is.given c) (sym (map_place at.vvbn k here) ∙ at.place) (is.fresh_maps k low))
+        | mapped here ↦ inr (subst (λ (c : ℕ). IsFree is.given c) at.place (is.fresh_maps at.vvbn here))
       ]
 
   -- so it was the slot's, or the next root held it not
@@ -212,13 +194,13 @@ stored_still x old label new i j is same = record {
   tree = flushed_still i j is.root (height_of (entry_count x.span)) new is.tree (λ b named. same b (or_right (is_at b label) _ (or_left (names new.tree b) _ named)));
   long = is.long;
   kept = is.kept;
-  active = is.active;
+  maps = is.maps;
   placed = is.placed;
   holes = is.holes;
-  bits = λ k lt.
-      let place = is.placed k lt in
-      let led : leads new (entry_count x.span) (place_at new (x.span + k)) ≡ true = leads_at new (entry_count x.span) (x.span + k) (place_at new (x.span + k)) (omega (arith, lt)) refl (λ none. omega (arith, place, none)) in
-      rw (same (place_at new (x.span + k)) (or_right (is_at (place_at new (x.span + k)) label) _ (or_right (names new.tree (place_at new (x.span + k))) _ led))) (is.bits k lt);
+  bits = λ v written.
+      let place = is.placed v written in
+      let led : leads new (entry_count x.span) (place_at new v) ≡ true = leads_at new (entry_count x.span) v (place_at new v) (written_within x v written) refl (λ none. omega (arith, place, none)) in
+      rw (same (place_at new v) (or_right (is_at (place_at new v) label) _ (or_right (names new.tree (place_at new v)) _ led))) (is.bits v written);
   alone = is.alone;
   apart = is.apart;
 }

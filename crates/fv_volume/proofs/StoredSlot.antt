@@ -1,5 +1,5 @@
 -- A written volume, as its image has it: it is loaded, and its slot is as the rules on blocks and maps ask.
-use Rattle.std.proofs.Common.{◌≡◌, ◌≢◌, ℕ, ◌+◌, ◌*◌, ◌/◌, ◌%◌, ◌<◌, ◌≤◌, length, Bool, true, false, not, ◌&&◌, List, ◌∷◌, refl, sym, ap, subst, ◌∙◌, arith, ⊎_elim, inl, inr, Ok}
+use Rattle.std.proofs.Common.{◌≡◌, ◌≢◌, ℕ, ◌+◌, ◌*◌, ◌/◌, ◌%◌, ◌<◌, ◌≤◌, length, Bool, true, false, not, ◌&&◌, List, ◌∷◌, refl, sym, ap, subst, ◌∙◌, arith, ⊎_elim, inr, Ok}
 use Rattle.std.specs.Prelude.{Option, Some, None, IfSome, map, nat_lt, ◌==◌, if◌then◌else◌}
 use Rattle.std.specs.List.{list_all, range_with_len}
 use Rattle.std.specs.Option.{is_some, option_map}
@@ -7,7 +7,7 @@ use Rattle.std.proofs.lemmas.Bool.{and_from, and_left, and_right, both_ways, cas
 use Rattle.std.proofs.lemmas.Bool.Decides.{nat_tests}
 use Rattle.fv_disk.specs.Shown.{Image}
 use Rattle.fv_bits.specs.Bits.{bit_of_area, bit_of_bytes}
-use Rattle.fv_bits.specs.Members.{is_member}
+use Rattle.fv_bits.specs.Members.{IsBlockOf, is_member}
 use Rattle.fv_codec.specs.declared.label.Label.{Label}
 use Rattle.fv_codec.specs.Blocks.{label_at}
 use Rattle.fv_model.specs.Space.{map_blocks}
@@ -29,19 +29,21 @@ use Rattle.fv_root.specs.Finding.{root_found}
 use Rattle.fv_container.specs.declared.entry.Entry.{Entry}
 use Rattle.fv_container.specs.Mapped.{IsMapped, Mapped, entry_under}
 use Rattle.fv_container.specs.Spelled.{Spelled, names, pair_of}
-use Rattle.fv_volmap.specs.Slots.{active_of}
+use Rattle.fv_volmap.specs.Slots.{active_of, stored_count}
 use Rattle.fv_volume.specs.declared.state.VolumeState.{VolumeState}
 use Rattle.fv_volume.specs.Files.{IsLabelled}
+use Rattle.fv_volume.proofs.MapSlots.{one_labelled}
 use Rattle.fv_volume.specs.Housed.{as_written}
 use Rattle.fv_volume.specs.Labels.{label_said}
 use Rattle.fv_volume.specs.Loading.{has_delayed, is_delayed_entry, is_kept_vvbn, IsContainerOf, IsLoaded}
 use Rattle.fv_volume.specs.States.{head_in}
 use Rattle.fv_volume.specs.UnderRoot.{StandsUnder}
-use Rattle.fv_volume.specs.Stored.{IsStored, is_of, leads, place_at, place_in}
+use Rattle.fv_volume.specs.Stored.{IsStored, is_of, is_rewritten, leads, map_index, place_at, place_in, slot_map}
 use Rattle.fv_volume.proofs.SlotBlocks.{HasKinds, entry_kinds, entry_leads, held_is_of, to_test}
 use Rattle.fv_image.proofs.LoneTables.{form_snapshots}
 use Rattle.fv_volume.proofs.Labels.{label_head}
 use Rattle.fv_volume.proofs.Delayed.{none_delayed}
+use Rattle.fv_volume.proofs.StayingMaps.{index_there, slot_there, stays_alone, unwritten_past, written_at, written_low}
 
 -- past the blocks of the active map no bit of it is set
 pub clear_past : (t : Taken) (i : Image) (s span v : ℕ) → block_bits * map_blocks span ≤ v → volume_bit (view_at t i) s span 0 v ≡ false
@@ -58,7 +60,7 @@ module _ (found : Found) (i : Image) (s : ℕ) (x : VolumeState) (old : Mapped) 
   said = label_said x is.root (height_of (entry_count x.span))
 
   pub head_said : head_of said ≡ head_in x
-  head_said = label_head x state.form state.named is.root (height_of (entry_count x.span))
+  head_said = label_head x state.form state.named state.snapshots is.root (height_of (entry_count x.span))
 
   label_some : label_place u s ≢ 0
   label_some none = let some = is.some in omega (arith, some, at, none)
@@ -87,13 +89,23 @@ module _ (found : Found) (i : Image) (s : ℕ) (x : VolumeState) (old : Mapped) 
 
   -- ---- it is loaded
 
-  map_entry : (k : ℕ) → k < map_blocks x.span → (view_at u i).entry s (map_vvbn x.span 0 k) ≡ Some (record { pvbn = place_at new (x.span + k); kind = 8; block = i (place_at new (x.span + k)) })
+  -- block k of the map of a slot that was written
+  abbrev block_at : ℕ → ℕ → ℕ
+  block_at j k = place_at new (map_vvbn x.span j k)
+
+  slot_entry : (j k : ℕ) → is_rewritten x j ≡ true → j < stored_count → k < map_blocks x.span → (view_at u i).entry s (map_vvbn x.span j k) ≡ Some (record { pvbn = block_at j k; kind = 8; block = i (block_at j k) })
   unfolding view_at entry_from
-  map_entry k within =
-      let where_it_is : x.span + (0 * map_blocks x.span + k) ≡ x.span + k = omega arith in
-      ap (λ (o : Option Label). entry_from o i (map_vvbn x.span 0 k)) label_now
-      ∙ ap (λ (v : ℕ). placed i (entry_at i said v)) where_it_is
-      ∙ ap (placed i) (entry_is (x.span + k) ∙ ap pair_of (is.active k within))
+  slot_entry j k on few within =
+      ap (λ (o : Option Label). entry_from o i (map_vvbn x.span j k)) label_now
+      ∙ ap (placed i) (entry_is (map_vvbn x.span j k) ∙ ap pair_of (is.maps (map_vvbn x.span j k) (written_at x j k on few within)))
+
+  slot_block : (j k : ℕ) → is_rewritten x j ≡ true → j < stored_count → k < map_blocks x.span → IsBlockOf (slot_map x j) k (i (block_at j k))
+  slot_block j k on few within =
+      subst (λ (n : ℕ). IsBlockOf (slot_map x j) n (i (block_at j k))) (index_there x.span j k within)
+      (subst (λ (n : ℕ). IsBlockOf (slot_map x n) (map_index x.span (map_vvbn x.span j k)) (i (block_at j k))) (slot_there x.span j k within) (is.bits (map_vvbn x.span j k) (written_at x j k on few within)))
+
+  map_entry : (k : ℕ) → k < map_blocks x.span → (view_at u i).entry s (map_vvbn x.span 0 k) ≡ Some (record { pvbn = block_at 0 k; kind = 8; block = i (block_at 0 k) })
+  map_entry k within = slot_entry 0 k refl (omega arith) within
 
   map_bit : (v : ℕ) → v < block_bits * map_blocks x.span → volume_bit (view_at u i) s x.span 0 v ≡ is_member (active_of x.map) v
   unfolding volume_bit bit_of_area
@@ -104,7 +116,7 @@ module _ (found : Found) (i : Image) (s : ℕ) (x : VolumeState) (old : Mapped) 
       let test : nat_lt v (block_bits * map_blocks x.span) ≡ true = grind (arith, nat_tests, within) in
       ap (λ (t : Bool). t && bit_of_bytes (block_in ((view_at u i).entry s (map_vvbn x.span 0 (v / 32768)))) (v % 32768)) test
       ∙ ap (λ (o : Option Placed). bit_of_bytes (block_in o) (v % 32768)) (map_entry (v / 32768) block)
-      ∙ (is.bits (v / 32768) block).bits (v % 32768) bit ∙ ap (is_member (active_of x.map)) back
+      ∙ (slot_block 0 (v / 32768) refl (omega arith) block).bits (v % 32768) bit ∙ ap (is_member (active_of x.map)) back
 
   pub stored_bits : ((v : ℕ) → x.span ≤ v → is_member (active_of x.map) v ≡ false) → (v : ℕ) → is_member (active_of x.map) v ≡ volume_bit (view_at u i) s x.span 0 v
   stored_bits low v = ⊎_elim
@@ -132,8 +144,9 @@ module _ (found : Found) (i : Image) (s : ℕ) (x : VolumeState) (old : Mapped) 
 
       gone : (v : ℕ) → is_kept_vvbn (active_of x.map) x.span v ≡ false → entry_under new v ≡ None
       gone v off = ⊎_elim
-          (λ (low : v < x.span). is.holes v (and_right (nat_lt v x.span) _ (sym (chosen v true (lower v x.span low)) ∙ off)) (inl low))
-          (λ (past : x.span ≤ v). is.holes v (and_left (nat_lt v x.span) _ (not_lower v x.span past)) (inr (at_least v (x.span + map_blocks x.span) (sym (chosen v false (not_lower v x.span past)) ∙ off))))
+          (λ (low : v < x.span). is.holes v (stays_alone x (one_labelled s x state) v ∙ and_right (nat_lt v x.span) _ (sym (chosen v true (lower v x.span low)) ∙ off)) (written_low x v low))
+          (λ (past : x.span ≤ v). is.holes v (stays_alone x (one_labelled s x state) v ∙ and_left (nat_lt v x.span) _ (not_lower v x.span past))
+          (unwritten_past s x state v (at_least v (x.span + map_blocks x.span) (sym (chosen v false (not_lower v x.span past)) ∙ off))))
           (cases_lt v x.span)
 
       so : (v : ℕ) (t : Bool) → is_kept_vvbn (active_of x.map) x.span v ≡ t → is_delayed_entry (active_of x.map) new x.span v ≡ false

@@ -47,7 +47,7 @@ use Rattle.fv_volmap.specs.Slots.{active_of}
 use Rattle.fv_volume.specs.declared.pool.Pool.{Pool}
 use Rattle.fv_volume.specs.declared.state.VolumeState.{VolumeState}
 use Rattle.fv_volume.specs.Files.{AreNamed, IsLabelled, has_form}
-use Rattle.fv_volume.specs.Housed.{AreHoused, HaveReach, settled_as, settled_at}
+use Rattle.fv_volume.specs.Housed.{AreHoused, HaveReaches, ReachesAll, settled_as, settled_at}
 use Rattle.fv_volume.specs.Labels.{label_said}
 use Rattle.fv_volume.specs.Loading.{label_of}
 use Rattle.fv_volume.specs.States.{States, head_in, state_at, table_in, view_over}
@@ -56,11 +56,13 @@ use Rattle.fv_volume.specs.UnderRoot.{AllStandUnder}
 use Rattle.fv_volume.proofs.Delaying.{loaded_undelayed}
 use Rattle.fv_volume.proofs.Distinct.{same_names}
 use Rattle.fv_volume.proofs.Labels.{label_head}
+use Rattle.fv_volume.proofs.Reaches.{active_reaches}
 use Rattle.fv_volume.proofs.Settled.{is_settled, same_head, settled_back}
+use Rattle.fv_volume.proofs.StayingMaps.{active_stays}
 use Rattle.fv_volume.proofs.Told.{is_inside}
 use Rattle.fv_volume.proofs.Viewed.{entry_of}
 
-module _ (pool : Pool) (states : States) (before : Image) (housed : AreHoused pool.containers states) (tables : AreTables (seen (view_over pool states before))) (reach : HaveReach (view_over pool states before) states) where
+module _ (pool : Pool) (states : States) (before : Image) (housed : AreHoused pool.containers states) (tables : AreTables (seen (view_over pool states before))) (reach : HaveReaches (view_over pool states before) states) where
   abbrev w : View
   w = view_over pool states before
 
@@ -72,7 +74,7 @@ module _ (pool : Pool) (states : States) (before : Image) (housed : AreHoused po
   labelled s x there = subst (λ (o : Option VolumeState). IfSome o (IsLabelled s)) there (housed.volumes s)
 
   reaches : (s : ℕ) (x : VolumeState) → s < 64 → state_at states s ≡ Some x → (v : ℕ) → is_member (active_of x.map) v ≡ is_listed (items (standing_of w s (table_in x.active))) v
-  reaches s x inside there = subst (λ (o : Option VolumeState). IfSome o (λ x. (v : ℕ) → is_member (active_of x.map) v ≡ is_listed (items (standing_of w s (table_in x.active))) v)) there (reach s inside)
+  reaches s x inside there = active_reaches w s x (subst (λ (o : Option VolumeState). IfSome o (ReachesAll w s)) there (reach s inside))
 
   -- no number past the span is in the active map
   pub past_clear : (s : ℕ) (x : VolumeState) → s < 64 → state_at states s ≡ Some x → (v : ℕ) → x.span ≤ v → is_member (active_of x.map) v ≡ false
@@ -96,7 +98,7 @@ module _ (pool : Pool) (states : States) (before : Image) (housed : AreHoused po
       let active = alone_listed (items (standing_of w s (table_in x.active))) v
       (subst (λ (ps : List Snap). is_listed (items_of w s ((0, table_in x.active) ∷ map (λ p. (p.slot, p.table)) ps)) v ≡ true) (form_snapshots (head_in x) (labelled s x there).form) listed) in
       let low = reached_below w s (head_in x) v tables.ranges inside (head_there s x there) active in
-      and_from (nat_lt v x.span) _ (grind (arith, nat_tests, low)) (reaches s x inside there v ∙ active)
+      active_stays x v low (reaches s x inside there v ∙ active)
 
   -- no volume stands on another
   no_footing : (s : ℕ) (h : Head) (b : Footing) → w.head s ≡ Some h → h.base ≡ Some b → ⊥
@@ -223,7 +225,7 @@ module _ (pool : Pool) (states : States) (before : Image) (housed : AreHoused po
     numbers s h inside is_head =
         let x = state_of s h (sym (stays_there.heads s) ∙ is_head) in
         let state = labelled s x.0 x.1 in
-        subst HasLabelNumbers (label_head x.0 state.form state.named 0 1 ∙ x.2) (label_numbers (label_said x.0 0 1) (state.label 0 1 (omega arith) (omega arith) (omega arith)))
+        subst HasLabelNumbers (label_head x.0 state.form state.named state.snapshots 0 1 ∙ x.2) (label_numbers (label_said x.0 0 1) (state.label 0 1 (omega arith) (omega arith) (omega arith)))
 
     none_delayed : delayed y.view ≡ 0
     unfolding layout_at

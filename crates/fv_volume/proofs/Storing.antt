@@ -1,5 +1,5 @@
 -- The blocks of a volume after they were written, and after its label was.
-use Rattle.std.proofs.Common.{◌≡◌, ◌≢◌, ℕ, ◌+◌, ◌<◌, ◌-◌, List, length, Bool, true, false, not, ◌&&◌, ◌||◌, refl, sym, ap, subst, ◌∙◌, arith, Option, Some, None}
+use Rattle.std.proofs.Common.{◌≡◌, ◌≢◌, ℕ, ◌<◌, ◌-◌, List, length, Bool, true, false, not, ◌&&◌, ◌||◌, refl, sym, ap, subst, ◌∙◌, arith, Option, Some, None}
 use Rattle.std.specs.Prelude.{slice_index_or, min}
 use Rattle.std.specs.FinSet as set
 use Rattle.std.proofs.lemmas.Bool.{true≢false}
@@ -7,7 +7,6 @@ use Rattle.std.proofs.lemmas.Bool.Decides.{nat_tests}
 use Rattle.fv_bits.specs.Members.{is_member}
 use Rattle.fv_disk.specs.Shown.{Image}
 use Rattle.fv_model.specs.Machines.{first_block}
-use Rattle.fv_model.specs.Space.{map_blocks}
 use Rattle.fv_image.specs.Containers.{height_of}
 use Rattle.fv_image.specs.Views.{entry_count}
 use Rattle.fv_container.specs.declared.entry.Entry.{Entry}
@@ -18,8 +17,8 @@ use Rattle.fv_container.specs.Freeing.{Room}
 use Rattle.fv_aggmap.specs.Freeing.{free_has, in_range, is_clear, room_of}
 use Rattle.fv_aggmap.specs.Space.{Space, IsFree, blocks_of, is_held}
 use Rattle.fv_volume.specs.declared.state.VolumeState.{VolumeState}
-use Rattle.fv_volume.specs.Writing.{AreTaken, HasBlocks, HasDrawn, HasMap, IsTaken, Renews, StandBits, has_maps_at}
-use Rattle.fv_volume.specs.Stored.{place_at, place_in}
+use Rattle.fv_volume.specs.Writing.{AreTaken, HasBlocks, HasDrawn, HasMaps, IsTaken, Renews, StandBits, has_maps_at, map_writes}
+use Rattle.fv_volume.specs.Stored.{is_map_written, map_entry, place_at, place_in}
 use Rattle.fv_volume.proofs.Drawing.{free_before, maps_at, maps_same, not_so}
 use Rattle.fv_volume.proofs.Spelling.{flushed_still}
 
@@ -49,15 +48,15 @@ module _ (old new : Mapped) (same : new.entries ≡ old.entries) where
   place_same : (v : ℕ) → place_at new v ≡ place_at old v
   place_same v = ap place_in (under v)
 
-  maps_still : (span n b : ℕ) → has_maps_at new span n b ≡ has_maps_at old span n b
-  maps_still span n b = maps_same old new span n b (λ k lt. place_same (span + k))
+  maps_still : (x : VolumeState) (n b : ℕ) → has_maps_at x new n b ≡ has_maps_at x old n b
+  maps_still x n b = maps_same x old new n b place_same
 
-  map_same : (span k : ℕ) (first : Mapped) → HasMap span k first old → HasMap span k first new
-  map_same span k first has = record {
-    active = λ j lt. under (span + j) ∙ has.active j lt ∙ ap (λ (p : ℕ). Some (record { pvbn = p; kind = 8 })) (sym (place_same (span + j)));
-    some = λ j lt. rw (place_same (span + j)) (has.some j lt);
+  map_same : (x : VolumeState) (n : ℕ) (first : Mapped) → HasMaps x n first old → HasMaps x n first new
+  map_same x n first has = record {
+    maps = λ v lt is. under v ∙ has.maps v lt is ∙ ap (λ (p : ℕ). Some (map_entry p)) (sym (place_same v));
+    some = λ v lt is. rw (place_same v) (has.some v lt is);
     others = λ v out. under v ∙ has.others v out;
-    once = λ i j lt below e. has.once i j lt below (sym (place_same (span + i)) ∙ e ∙ place_same (span + j));
+    once = λ v w lt below is too e. has.once v w lt below is too (sym (place_same v) ∙ e ∙ place_same w);
   }
 
 -- a tree that is written whole renews the old one
@@ -65,16 +64,16 @@ pub renews_whole : (old : Room) (before after : List ℕ) (new : Room) → Excha
 renews_whole old before after new is = record { fresh = λ b named lacks. is.free b named; held = is.held; committed = is.committed }
 
 module _ (x : VolumeState) (first : Mapped) (space mid left : Space) (root : ℕ) (old new : Mapped) (before after : Image)
-    (map : HasMap x.span (map_blocks x.span) first old) (bits : StandBits x (map_blocks x.span) old before) (drawn : HasDrawn space (has_maps_at old x.span (map_blocks x.span)) (map_blocks x.span) mid)
+    (map : HasMaps x (entry_count x.span) first old) (bits : StandBits x (entry_count x.span) old before) (drawn : HasDrawn space (has_maps_at x old (entry_count x.span)) (map_writes x (entry_count x.span)) mid)
     (tree : old.tree ≡ first.tree) (same : new.entries ≡ old.entries) (renews : Renews (room_of mid) old.tree new.tree (room_of left))
     (flushed : IsApart (room_of mid) old.tree → IsFlushed after root (height_of (length new.entries)) new) (long : length new.entries ≡ entry_count x.span)
     (still : (b : ℕ) → WasTaken (room_of mid) b → after b ≡ before b) (taken : AreTaken space first.tree)
   where
     abbrev at_maps : Mapped → ℕ → Bool
-    at_maps m b = has_maps_at m x.span (map_blocks x.span) b
+    at_maps m b = has_maps_at x m (entry_count x.span) b
 
     from_mid : (b : ℕ) → IsFree mid b → IsFree space b × (at_maps old b ≡ false)
-    from_mid b free = free_before space mid (has_maps_at old x.span (map_blocks x.span)) (map_blocks x.span) b drawn free
+    from_mid b free = free_before space mid (has_maps_at x old (entry_count x.span)) (map_writes x (entry_count x.span)) b drawn free
 
     apart : IsApart (room_of mid) old.tree
     apart b free = not_so (names old.tree b) (λ named. taken b (ap (λ (t : List ℕ). names t b) (sym tree) ∙ named) (from_mid b (free_in mid b free)).0)
@@ -83,21 +82,21 @@ module _ (x : VolumeState) (first : Mapped) (space mid left : Space) (root : ℕ
     node_free b named lacks = free_in mid b (renews.fresh b named (ap (λ (t : List ℕ). names t b) tree ∙ lacks))
 
     map_free : (b : ℕ) → at_maps new b ≡ true → IsFree space b
-    map_free b led = drawn.free b (sym (maps_still old new same x.span (map_blocks x.span) b) ∙ led)
+    map_free b led = drawn.free b (sym (maps_still old new same x (entry_count x.span) b) ∙ led)
 
     map_apart : (b : ℕ) → at_maps new b ≡ true → names new.tree b ≡ false
     map_apart b led = not_so (names new.tree b) (λ named.
         let lacks = not_so (names first.tree b) (λ was. taken b was (map_free b led)) in
-        true≢false (sym (sym (maps_still old new same x.span (map_blocks x.span) b) ∙ led) ∙ (from_mid b (node_free b named lacks)).1))
+        true≢false (sym (sym (maps_still old new same x (entry_count x.span) b) ∙ led) ∙ (from_mid b (node_free b named lacks)).1))
 
-    placed : (k : ℕ) → k < map_blocks x.span → at_maps old (place_at old (x.span + k)) ≡ true
-    placed k lt = maps_at old x.span (map_blocks x.span) k (place_at old (x.span + k)) lt refl (let some = map.some k lt in λ none. omega (arith, some, none))
+    placed : (v : ℕ) → v < entry_count x.span → is_map_written x v ≡ true → at_maps old (place_at old v) ≡ true
+    placed v lt is = maps_at x old (entry_count x.span) v (place_at old v) lt is refl (let some = map.some v lt is in λ none. omega (arith, some, none))
 
-    bits_still : StandBits x (map_blocks x.span) new after
-    bits_still k lt =
-        let at : place_at new (x.span + k) ≡ place_at old (x.span + k) = place_same old new same (x.span + k) in
-        let there : after (place_at old (x.span + k)) ≡ before (place_at old (x.span + k)) = still (place_at old (x.span + k)) (not_so _ (λ free. true≢false (sym (placed k lt) ∙ (from_mid (place_at old (x.span + k)) (free_in mid _ free)).1))) in
-        rw (at, there) (bits k lt)
+    bits_still : StandBits x (entry_count x.span) new after
+    bits_still v lt is =
+        let at : place_at new v ≡ place_at old v = place_same old new same v in
+        let there : after (place_at old v) ≡ before (place_at old v) = still (place_at old v) (not_so _ (λ free. true≢false (sym (placed v lt is) ∙ (from_mid (place_at old v) (free_in mid _ free)).1))) in
+        rw (at, there) (bits v lt is)
 
     held : (t l o m : Bool) → (l ≡ true → o ≡ false) → (t || (not o && (l || m))) ≡ ((t || l) || (m && not o))
     held true l o m off = refl
@@ -110,14 +109,14 @@ module _ (x : VolumeState) (first : Mapped) (space mid left : Space) (root : ℕ
     pub blocks_written : HasBlocks x first space root new after left
     blocks_written = record {
       tree = subst (λ (k : ℕ). IsFlushed after root (height_of k) new) long (flushed apart);
-      map = map_same old new same x.span (map_blocks x.span) first map;
+      map = map_same old new same x (entry_count x.span) first map;
       bits = bits_still;
       fresh_nodes = λ b named lacks. (from_mid b (node_free b named lacks)).0;
       fresh_maps = map_free;
       apart = map_apart;
       held = λ b.
           renews.held apart b ∙ ap (λ t. names new.tree b || (not t && is_member mid.next b)) (ap (λ (t : List ℕ). names t b) tree)
-          ∙ ap (λ t. names new.tree b || (not (names first.tree b) && t)) (drawn.held b ∙ ap (λ t. t || is_member space.next b) (sym (maps_still old new same x.span (map_blocks x.span) b)))
+          ∙ ap (λ t. names new.tree b || (not (names first.tree b) && t)) (drawn.held b ∙ ap (λ t. t || is_member space.next b) (sym (maps_still old new same x (entry_count x.span) b)))
           ∙ held (names new.tree b) (at_maps new b) (names first.tree b) (is_member space.next b) (λ led. not_so (names first.tree b) (λ named. taken b named (map_free b led)));
     }
 
@@ -130,10 +129,10 @@ blocks_still x first space left root label new before after has taken lacks othe
     record {
       tree = flushed_still before after root (height_of (entry_count x.span)) new has.tree (λ b named. others b (node b named));
       map = has.map;
-      bits = λ k lt.
-          let some = has.map.some k lt in
-          let led : has_maps_at new x.span (map_blocks x.span) (place_at new (x.span + k)) ≡ true = maps_at new x.span (map_blocks x.span) k (place_at new (x.span + k)) lt refl (λ none. omega (arith, some, none)) in
-          rw (others (place_at new (x.span + k)) (other (place_at new (x.span + k)) (has.fresh_maps (place_at new (x.span + k)) led))) (has.bits k lt);
+      bits = λ v lt is.
+          let some = has.map.some v lt is in
+          let led : has_maps_at x new (entry_count x.span) (place_at new v) ≡ true = maps_at x new (entry_count x.span) v (place_at new v) lt is refl (λ none. omega (arith, some, none)) in
+          rw (others (place_at new v) (other (place_at new v) (has.fresh_maps (place_at new v) led))) (has.bits v lt is);
       fresh_nodes = has.fresh_nodes;
       fresh_maps = has.fresh_maps;
       apart = has.apart;

@@ -1,5 +1,6 @@
 -- When volumes are volumes of the machine that they stand for.
-use Rattle.std.specs.Prelude.{◌≡◌, ◌≢◌, ◌≤◌, ℕ, true, None, IfSome}
+use Rattle.std.specs.Prelude.{◌≡◌, ◌≢◌, ◌≤◌, ◌==◌, ℕ, true, false, None, IfSome, get_or, is_some}
+use Rattle.std.specs.List.{list_any}
 use Rattle.fv_disk.specs.Shown.{Image}
 use Rattle.fv_codec.specs.Blocks.{IsLabel, last_place}
 use Rattle.fv_model.specs.Numbers.{greatest_span}
@@ -7,28 +8,38 @@ use Rattle.fv_model.specs.Spelling.{is_name}
 use Rattle.fv_model.specs.Machines.{Machine}
 use Rattle.fv_laws.specs.WellFormed.{IsWellTable}
 use Rattle.fv_laws.specs.Positions.{HasNoReserve}
-use Rattle.fv_image.specs.Views.{View}
+use Rattle.fv_image.specs.Views.{Head, View}
+use Rattle.fv_image.specs.Volumes.{snap_at}
 use Rattle.fv_charge.specs.Ledgers.{IsLedgerOf}
-use Rattle.fv_volmap.specs.Slots.{Volume as Maps, slot_at}
+use Rattle.fv_volmap.specs.Slots.{Volume as Maps, slot_at, slot_of_base}
 use Rattle.fv_volume.specs.declared.state.VolumeState.{VolumeState}
 use Rattle.fv_volume.specs.declared.pool.Pool.{Pool}
 use Rattle.fv_volume.specs.Labels.{label_said}
+use Rattle.fv_volume.specs.SnapRecords.{AreSayable}
 use Rattle.fv_volume.specs.States.{States, state_at, head_in, view_over}
 use Rattle.fv_volume.specs.Trees.{Trees, active_in, volume_now, machine_in}
 -- The forms of volumes that there are: no snapshot, no base and no unknown place.
 pub use Rattle.fv_image.specs.WholeMachine.{has_form}
 
--- Of the slots of a volume's maps the active one alone is used: no snapshot and no base has one.
+-- Of the slots of a volume's maps those of its snapshots are used beside the active one, and none for a base.
+pub record HasSlotsOf (h : Head) (maps : Maps) : Type 0 where
+  pub each : (k : ℕ) → k ≢ 0 → k ≢ slot_of_base → is_some (slot_at maps k) ≡ is_some (snap_at h k)
+  pub base : slot_at maps slot_of_base ≡ None
+
+-- The active one alone is used.
 abbrev pub IsOneMap : Maps → Type 0
 IsOneMap maps = (k : ℕ) → k ≢ 0 → slot_at maps k ≡ None
 
--- What a volume's label and its commit rest on, whatever its table holds: its numbers, its name, and that it has one map. It looks at no image.
+-- What a volume's label and its commit rest on, whatever its tables hold: its numbers, its name, its snapshots, that each has its map, and that no
+-- map waits but a snapshot's. It looks at no image.
 pub record IsLabelled (slot : ℕ) (x : VolumeState) : Type 0 where
   pub slot_is : x.slot ≡ slot
   pub form : has_form (head_in x) ≡ true
   pub span : x.span ≤ greatest_span
   pub map : x.map.span ≡ x.span
-  pub one : IsOneMap x.map
+  pub snapshots : AreSayable (head_in x)
+  pub slots : HasSlotsOf (head_in x) x.map
+  pub waits : (k : ℕ) → get_or x.fresh k false ≡ true → list_any (λ p. p.slot == k) (head_in x).snapshots ≡ true
   pub counts : x.ledger.span ≡ x.span
   pub levels : x.active.levels ≤ 2
   pub named : is_name x.name ≡ true

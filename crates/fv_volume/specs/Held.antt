@@ -1,13 +1,13 @@
 -- One volume of a session between points, whatever of its files is in memory, and what the placing of its files leaves.
-use Rattle.std.specs.Prelude.{◌≡◌, ◌≤◌, ◌<◌, ◌+◌, ℕ, true, false, length, List, [], ◌∷◌, Option, Some, None, IfSome, is_some}
+use Rattle.std.specs.Prelude.{◌≡◌, ◌≤◌, ◌<◌, ◌+◌, ℕ, true, false, length, List, [], ◌∷◌, Option, Some, None, IfSome, is_some, replicate}
 use Rattle.fv_disk.specs.Shown.{Shown}
 use Rattle.fv_model.specs.Volumes.{Volume}
-use Rattle.fv_volmap.specs.Slots.{active_of, empty_volume}
+use Rattle.fv_volmap.specs.Slots.{active_of, empty_volume, stored_count}
 use Rattle.fv_aggmap.specs.Space.{free_blocks}
 use Rattle.fv_volume.specs.declared.pool.Pool.{Pool}
 use Rattle.fv_volume.specs.declared.state.VolumeState.{VolumeState}
 use Rattle.fv_volume.specs.BlocksOver.{free_numbers}
-use Rattle.fv_volume.specs.Labels.{hole}
+use Rattle.fv_volume.specs.SnapRecords.{hole}
 use Rattle.fv_volume.specs.Lending.{lent_for}
 use Rattle.fv_volume.specs.OneVolume.{home_in, volume_for, IsReady, IsStanding}
 use Rattle.fv_volume.specs.Placing.{pending_of, Goes, IsLedTo, IsStoredWell, KeepsPlaced, LeavesOthers}
@@ -44,9 +44,9 @@ abbrev pub HasWholeMap : Option VolumeState → Type 0
 HasWholeMap state = IfSome state (λ x. length (active_of x.map) ≡ x.map.span)
 
 -- What of a volume neither the placing of its files nor a point changes: all but its active root, the numbers in use, the trees in memory,
--- whether it changed, and where its label lies.
+-- whether it changed, where its label lies, and which maps wait.
 abbrev pub core_of : VolumeState → VolumeState
-core_of x = record x { active = record { levels = 0; root = hole }; map = empty_volume 0; files = None; changed = false; label = 0 }
+core_of x = record x { active = record { levels = 0; root = hole }; map = empty_volume 0; files = None; changed = false; label = 0; fresh = replicate stored_count false }
 
 -- ---- placed
 

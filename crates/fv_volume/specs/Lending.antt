@@ -18,7 +18,7 @@ use Rattle.fv_store.specs.Held.{StandsOn}
 use Rattle.fv_tree.specs.Sources.{Shown, Use}
 use Rattle.fv_tree.specs.Spelled.{Rooted}
 use Rattle.fv_tree.specs.Standing.{IsNodeDamage, LacksBlock}
-use Rattle.fv_volmap.specs.Slots.{Volume, active_of, slot_at}
+use Rattle.fv_volmap.specs.Slots.{Volume, active_of, has, slot_at}
 use Rattle.fv_volume.specs.declared.blocks.Home.{Home}
 use Rattle.fv_volume.specs.declared.noted.Noted.{Noted}
 use Rattle.fv_volume.specs.declared.pool.Pool.{Pool}
@@ -166,6 +166,13 @@ pub record Spends (old new : Lent) : Type 0 where
   pub numbers : free_numbers old.map + new.room ≤ free_numbers new.map + old.room
   pub blocks : free_blocks old.pool.map + new.room ≤ free_blocks new.pool.map + old.room
 
+-- Where the entries of a volume lie apart they do so afterwards, and each number that another slot of its maps than the active one has leads to
+-- the entry and the block that it led to.
+pub record KeepsSlots (slot : ℕ) (old new : Lent) : Type 0 where
+  pub apart : AreApart new.pool new.map slot
+  pub entries : (k v : ℕ) → k ≢ 0 → has v (slot_at old.map k) ≡ true → held_entry new.map new.pool.containers slot v ≡ held_entry old.map old.pool.containers slot v
+  pub blocks : (k v : ℕ) → k ≢ 0 → has v (slot_at old.map k) ≡ true → (i : Image) → held_block new.map new.pool slot i v ≡ held_block old.map old.pool slot i v
+
 -- Blocks were read, placed and given up for one volume. The disk is only read, and the root on it holds what it held. A block
 -- that the next root held it goes on holding unless an entry of the volume led to it, and what it holds anew is an entry's. No
 -- block is kept anew, and no entry leads to a block, that couldn't be taken. All of other volumes stays. While some of the room is left, it tells
@@ -190,6 +197,7 @@ pub record GoesOver (old new : Lent) : Type 0 where
   pub parents : new.pool.containers.parents ≡ old.pool.containers.parents
   pub span : new.map.span ≡ old.map.span
   pub snapshots : (s : ℕ) → s ≢ 0 → slot_at new.map s ≡ slot_at old.map s
+  pub keeps : AreApart old.pool old.map old.home.slot → KeepsSlots old.home.slot old new
 
 -- ---- calls on a tree
 

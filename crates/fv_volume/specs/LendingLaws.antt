@@ -1,6 +1,7 @@
 -- What calls leave of all that was lent, one after another.
 use Rattle.std.proofs.Common.{◌≡◌, ◌⊎◌, ◌||◌, ℕ, Bool, true, false, List, length, Option, Some, None, refl, sym, ap, ap₂, subst, ◌∙◌, inl, inr, ⊎_elim, arith}
 use Rattle.std.specs.Prelude.{is_some}
+use Rattle.std.specs.Option.{ForSome}
 use Rattle.std.specs.FinMap as fin
 use Rattle.std.proofs.lemmas.Bool.{cases_Bool}
 use Rattle.fv_disk.specs.Shown.{Shown as Disk}
@@ -12,11 +13,12 @@ use Rattle.fv_image.specs.Reclaimed.{IsAllocatable}
 use Rattle.fv_aggmap.specs.Space.{Space, blocks_of, free_blocks, is_held}
 use Rattle.fv_container.specs.declared.entry.Entry.{Entry}
 use Rattle.fv_container.specs.Chains.{Slots, container_at, own_entry}
-use Rattle.fv_volmap.specs.Slots.{slot_at}
+use Rattle.fv_volmap.specs.Slots.{Volume as Maps, has, slot_at}
 use Rattle.fv_volume.specs.declared.blocks.Home.{Home}
 use Rattle.fv_volume.specs.declared.noted.Noted.{Noted}
-use Rattle.fv_volume.specs.BlocksOver.{entries_in, free_numbers}
-use Rattle.fv_volume.specs.Lending.{Lent, WasLack, ReadsOver, GoesOver, HasShapeOf, WasHole, IsNewEntry, IsOutOfRoom, IsOwn, MayTake, tree_in}
+use Rattle.fv_volume.specs.declared.pool.Pool.{Pool}
+use Rattle.fv_volume.specs.BlocksOver.{AreApart, IsKeptBack, OtherPlace, block_of, entries_in, free_numbers, held_entry}
+use Rattle.fv_volume.specs.Lending.{Lent, WasLack, ReadsOver, GoesOver, HasShapeOf, WasHole, IsNewEntry, IsOutOfRoom, IsOwn, KeepsSlots, MayTake, tree_in}
 
 disk_itself : (disk : Disk) → OnlyReads disk disk
 disk_itself disk = record {
@@ -67,6 +69,17 @@ reads_then old mid new first second = record {
       (⊎_elim (λ same. inl same) (λ hole. inr (subst (λ (h : Home). WasHole h.label new.noted) first.home hole)) second.noted);
 }
 
+-- the entries of a volume lie apart by the aggregate map and the containers alone
+pub apart_by : (p q : Pool) (map : Maps) (slot : ℕ) → q.map ≡ p.map → q.containers ≡ p.containers → AreApart p map slot → AreApart q map slot
+apart_by p q map slot spaces slots apart = record {
+  own = λ v. subst (λ (s : Space). ForSome (own_entry (container_at q.containers slot) v) (IsKeptBack s)) (sym spaces)
+      (subst (λ (c : Slots). ForSome (own_entry (container_at c slot) v) (IsKeptBack p.map)) (sym slots) (apart.own v));
+  held = λ v. subst (λ (s : Space). ForSome (held_entry map q.containers slot v) (IsKeptBack s)) (sym spaces)
+      (subst (λ (c : Slots). ForSome (held_entry map c slot v) (IsKeptBack p.map)) (sym slots) (apart.held v));
+  own_apart = λ v w other. subst (λ (c : Slots). ForSome (own_entry (container_at c slot) v) (λ e. ForSome (own_entry (container_at c slot) w) (OtherPlace e))) (sym slots) (apart.own_apart v w other);
+  held_apart = λ v w other. subst (λ (c : Slots). ForSome (own_entry (container_at c slot) v) (λ e. ForSome (held_entry map c slot w) (OtherPlace e))) (sym slots) (apart.held_apart v w other);
+}
+
 pub reads_goes : (old new : Lent) → ReadsOver old new → GoesOver old new
 reads_goes old new reads =
     let next : (b : ℕ) → is_member new.pool.map.next b ≡ is_member old.pool.map.next b = λ b. ap (λ (s : Space). is_member s.next b) reads.space in
@@ -95,6 +108,11 @@ reads_goes old new reads =
       parents = ap (λ (slots : Slots). slots.parents) reads.containers;
       span = ap (λ m. m.span) reads.map;
       snapshots = λ s other. ap (λ m. slot_at m s) reads.map;
+      keeps = λ apart. record {
+        apart = subst (λ (m : Maps). AreApart new.pool m old.home.slot) (sym reads.map) (apart_by old.pool new.pool old.map old.home.slot reads.space reads.containers apart);
+        entries = λ k v other here. λ j. held_entry (reads.map j) (reads.containers j) old.home.slot v;
+        blocks = λ k v other here i. λ j. block_of (reads.kept j) i (held_entry (reads.map j) (reads.containers j) old.home.slot v);
+      };
     }
 
 pub goes_itself : (l : Lent) → GoesOver l l
@@ -232,6 +250,16 @@ module _ (old mid new : Lent) (first : GoesOver old mid) (second : GoesOver mid 
     tree = shape.tree ∙ first.shape.tree;
   }
 
+  keeps_then : AreApart old.pool old.map slot → KeepsSlots slot old new
+  keeps_then apart =
+      let one : KeepsSlots slot old mid = first.keeps apart in
+      let two : KeepsSlots slot mid new = at_slot (λ s. AreApart mid.pool mid.map s → KeepsSlots s mid new) second.keeps one.apart in
+      record {
+        apart = two.apart;
+        entries = λ k v other here. two.entries k v other (ap (has v) (first.snapshots k other) ∙ here) ∙ one.entries k v other here;
+        blocks = λ k v other here i. two.blocks k v other (ap (has v) (first.snapshots k other) ∙ here) i ∙ one.blocks k v other here i;
+      }
+
   pub goes_then : GoesOver old new
   goes_then = record {
     home = second.home ∙ first.home;
@@ -254,4 +282,5 @@ module _ (old mid new : Lent) (first : GoesOver old mid) (second : GoesOver mid 
     parents = second.parents ∙ first.parents;
     span = second.span ∙ first.span;
     snapshots = λ s other. second.snapshots s other ∙ first.snapshots s other;
+    keeps = keeps_then;
   }

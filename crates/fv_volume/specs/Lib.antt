@@ -2,11 +2,13 @@ pub mod Causes
 pub mod Keeping
 pub mod Labels
 pub mod States
+pub mod Snapshots
 pub mod Slots
 pub mod Rows
 pub mod Creating
 pub mod Loading
 pub mod Opening
+pub mod Asking
 pub mod BlocksOver
 pub mod Trees
 pub mod Files
@@ -32,3 +34,6 @@ pub mod Placing
 pub mod Held
 pub mod Promising
 pub mod Destroying
+pub mod Mapped
+pub mod SnapRecords
+pub mod SlotReads

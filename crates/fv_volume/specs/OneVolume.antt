@@ -1,9 +1,10 @@
 -- What one volume is seen as, in its pool, over what the disk reads and with the trees that are in memory.
-use Rattle.std.specs.Prelude.{◌≡◌, ◌≤◌, ◌+◌, ℕ, false, Option, Some, None}
+use Rattle.std.specs.Prelude.{◌≡◌, ◌≢◌, ◌≤◌, ◌+◌, ℕ, false, cond, List, map, Option, Some, None, All}
 use Rattle.std.specs.Option.{option_map, option_and_then}
 use Rattle.std.specs.FinMap as fin
 use Rattle.fv_disk.specs.Shown.{Shown as Disk}
 use Rattle.fv_model.specs.Numbers.{greatest_span}
+use Rattle.fv_model.specs.Spelling.{name_cmp}
 use Rattle.fv_model.specs.Tables.{Table}
 use Rattle.fv_model.specs.Volumes.{Volume}
 use Rattle.fv_model.specs.Machines.{capacity}
@@ -11,20 +12,24 @@ use Rattle.fv_laws.specs.WellFormed.{IsWellTable}
 use Rattle.fv_laws.specs.Positions.{HasNoReserve}
 use Rattle.fv_root.specs.Formatted.{IsSize}
 use Rattle.fv_tables.specs.Spelled.{Under}
+use Rattle.fv_tables.specs.Reached.{items, is_listed}
 use Rattle.fv_tables.specs.Told.{Standing, standing_at, table_told}
 use Rattle.fv_tree.specs.Sources.{Shown, Use}
 use Rattle.fv_tree.specs.Standing.{under}
 use Rattle.fv_files.specs.declared.files.Files.{Files}
 use Rattle.fv_files.specs.Numbering.{AreNumbersIf}
-use Rattle.fv_files.specs.Tables.{changed, AreReached, AreSound}
+use Rattle.fv_files.specs.Tables.{changed, AreReached, AreSound, IsStoredUnder}
 use Rattle.fv_files.specs.Trees.{standing_in}
 use Rattle.fv_charge.specs.Ledgers.{IsLedgerOf, committed}
+use Rattle.fv_volmap.specs.Slots.{Slot, has, slot_at}
 use Rattle.fv_volume.specs.declared.blocks.Home.{Home}
 use Rattle.fv_volume.specs.declared.pool.Pool.{Pool}
 use Rattle.fv_volume.specs.declared.state.Rooted.{Rooted}
+use Rattle.fv_volume.specs.declared.state.Snap.{Snap}
 use Rattle.fv_volume.specs.declared.state.VolumeState.{VolumeState}
+use Rattle.fv_volume.specs.BlocksOver.{held_block, held_entry}
 use Rattle.fv_volume.specs.Files.{IsLabelled}
-use Rattle.fv_volume.specs.Lending.{CanLend, IsTold, sees}
+use Rattle.fv_volume.specs.Lending.{CanLend, IsTold, sees, use_of}
 use Rattle.fv_volume.specs.States.{States, state_at}
 use Rattle.fv_volume.specs.Trees.{Trees}
 
@@ -62,25 +67,68 @@ files_in state = option_and_then (λ x. x.files) state
 abbrev pub trees_of : States → Trees
 trees_of states s = option_map changed (files_in (state_at states s))
 
+-- ---- the tables of its snapshots
+
+-- The blocks under the VVBNs that a slot of its maps has. The table of a snapshot is told by those of its own slot, so that whatever is done
+-- to other blocks leaves it as it is.
+abbrev pub blocks_in : Disk → Pool → VolumeState → ℕ → Under
+blocks_in disk pool x k v = cond (has v (slot_at x.map k)) (held_block x.map pool x.slot disk.reads v) None
+
+-- a slot has these in use, each as its entry says
+abbrev pub uses_in : Pool → VolumeState → ℕ → ℕ → Option Use
+uses_in pool x k v = cond (has v (slot_at x.map k)) (Some (use_of (held_entry x.map pool.containers x.slot v))) None
+
+-- a snapshot's table, over the blocks of each slot
+abbrev pub standing_kept : (ℕ → Under) → Snap → Standing
+standing_kept blocks q = standing_at (blocks q.slot) q.table.levels q.table.root
+
+abbrev pub snap_by : (ℕ → Under) → Snap → List ℕ × Table
+snap_by blocks q = (q.name, table_told (standing_kept blocks q))
+
+abbrev pub snaps_by : (ℕ → Under) → List Snap → fin.FinMap name_cmp Table
+snaps_by blocks snaps = fin.from_entries {R = name_cmp} (map (snap_by blocks) snaps)
+
+-- A table lies whole in a slot, after so many changes: it is well-formed, no file of it has a reserve, each of its trees stands on the blocks
+-- of the slot and is stored well in them, and the slot has the VVBNs that it reaches and no others.
+pub record IsTableIn (blocks : Under) (uses : ℕ → Option Use) (slot : Slot) (now : ℕ) (root : Rooted) : Type 0 where
+  pub table : IsWellTable now (table_told (standing_at blocks root.levels root.root))
+  pub reserves : HasNoReserve (table_told (standing_at blocks root.levels root.root))
+  pub trees : AreReached blocks uses root.levels root.root
+  pub well : IsStoredUnder blocks root.levels root.root
+  pub reach : (v : ℕ) → has v slot ≡ is_listed (items (standing_at blocks root.levels root.root)) v
+
+-- The table of a snapshot lies whole in its slot, which isn't the active table's.
+abbrev pub IsKeptTable : Disk → Pool → VolumeState → Snap → Type 0
+IsKeptTable disk pool x q = (q.slot ≢ 0) × IsTableIn (blocks_in disk pool x q.slot) (uses_in pool x q.slot) (slot_at x.map q.slot) x.now q.table
+
 -- ---- the volume
 
--- a volume of the machine with the numbers of this one and a table; it has no snapshots and no base
-abbrev pub volume_as : VolumeState → Table → Volume
-volume_as x table = record {
+-- What a volume of the machine holds beside its numbers: its active table, and the tables of its snapshots by name.
+pub record Content : Type 0 where
+  pub active : Table
+  pub snapshots : fin.FinMap name_cmp Table
+
+-- a volume of the machine with the numbers of this one and what it holds; it has no base
+abbrev pub volume_as : VolumeState → Content → Volume
+volume_as x content = record {
   kind = x.kind;
   size = x.size;
   most = x.most;
   span = x.span;
   now = x.now;
-  active = table;
-  snapshots = fin.empty;
+  active = content.active;
+  snapshots = content.snapshots;
   base = None;
   known = x.known;
 }
 
+-- what this volume holds
+abbrev pub content_for : Disk → Pool → VolumeState → Content
+content_for disk pool x = record { active = table_for disk pool x; snapshots = snaps_by (blocks_in disk pool x) x.snapshots }
+
 -- the volume that this one stands for
 abbrev pub volume_for : Disk → Pool → VolumeState → Volume
-volume_for disk pool x = volume_as x (table_for disk pool x)
+volume_for disk pool x = volume_as x (content_for disk pool x)
 
 -- the numbers of its ledger are those of the volume, and its charge is one that a volume can have
 pub record IsBooked (x : VolumeState) : Type 0 where
@@ -99,12 +147,14 @@ pub record IsReady (disk : Disk) (pool : Pool) (x : VolumeState) : Type 0 where
   pub blocks : IsSize pool.found.blocks
   pub changed : x.changed ≡ false → x.files ≡ None
 
--- Where content is told, the volume stands for one of the machine: its table is well-formed after the changes that it counts, no file has
--- a reserve, its ledger is right, each of its trees stands on its blocks, and the numbers of its files in memory are those of its table.
+-- Where content is told, the volume stands for one of the machine: its active table is well-formed after the changes that it counts, no file
+-- of it has a reserve, the tables of its snapshots lie whole in their slots, its ledger is right, each tree of the active table stands on its
+-- blocks, and the numbers of its files in memory are those of that table.
 pub record IsStanding (disk : Disk) (pool : Pool) (x : VolumeState) : Type 0 where
   pub told : IsTold disk pool x.map x.slot
   pub table : IsWellTable x.now (table_for disk pool x)
   pub reserves : HasNoReserve (table_for disk pool x)
+  pub kept : All (IsKeptTable disk pool x) x.snapshots
   pub ledger : IsLedgerOf (volume_for disk pool x) x.ledger
   pub trees : AreSoundBy (under (shows disk pool x)) (shows disk pool x).used x.active x.files
   pub numbers : AreNumbersIf x.numbers (table_for disk pool x)

@@ -14,7 +14,7 @@ use Rattle.fv_volume.specs.declared.state.Snap.{Snap}
 use Rattle.fv_volume.specs.declared.state.VolumeState.{VolumeState}
 use Rattle.fv_volume.specs.declared.pool.Pool.{Pool}
 use Rattle.fv_volume.specs.Keeping.{Blocks, seen}
-use Rattle.fv_volume.specs.Labels.{hole}
+use Rattle.fv_volume.specs.SnapRecords.{hole}
 
 -- ---- heads
 
@@ -26,6 +26,9 @@ footing_in b = record { parent = b.parent; slot = b.slot; splitting = b.splittin
 
 abbrev pub snap_in : Snap → HeadSnap
 snap_in s = record { slot = s.slot; name = s.name; table = table_in s.table }
+
+abbrev pub snaps_in : List Snap → List HeadSnap
+snaps_in snaps = map snap_in snaps
 
 -- what a volume's label would say of it
 abbrev pub head_in : VolumeState → Head
@@ -39,7 +42,7 @@ head_in x = record {
   base = option_map footing_in x.base;
   known = x.known;
   active = table_in x.active;
-  snapshots = map snap_in x.snapshots;
+  snapshots = snaps_in x.snapshots;
 }
 
 -- the head of a new empty volume

@@ -1,5 +1,5 @@
 -- The stored form of a volume: the blocks that it has, and how it stands in an image.
-use Rattle.std.specs.Prelude.{◌≡◌, ◌≢◌, ◌≤◌, ◌<◌, ◌+◌, ◌⊎◌, ℕ, Bool, ◌||◌, ◌&&◌, true, false, List, Option, Some, None, Ok, IfSome, length, nat_lt}
+use Rattle.std.specs.Prelude.{◌≡◌, ◌≢◌, ◌≤◌, ◌<◌, ◌-◌, ◌/◌, ◌%◌, ◌==◌, ℕ, Bool, not, ◌||◌, ◌&&◌, true, false, List, Option, Some, None, Ok, IfSome, length, nat_le, nat_lt, get_or, is_some, replicate, take, if◌then◌else◌}
 use Rattle.std.specs.List.{list_any, range_with_len}
 use Rattle.fv_disk.specs.Shown.{Image}
 use Rattle.fv_codec.specs.Blocks.{label_at, last_place}
@@ -12,7 +12,7 @@ use Rattle.fv_container.specs.Mapped.{Mapped, entry_under}
 use Rattle.fv_container.specs.Spelled.{names, is_at}
 use Rattle.fv_container.specs.Flushed.{IsFlushed}
 use Rattle.fv_container.specs.declared.entry.Entry.{Entry}
-use Rattle.fv_volmap.specs.Slots.{active_of}
+use Rattle.fv_volmap.specs.Slots.{map_or_empty, slot_at, stored_count, taken_in}
 use Rattle.fv_volume.specs.declared.state.VolumeState.{VolumeState}
 use Rattle.fv_volume.specs.Labels.{label_said}
 
@@ -29,9 +29,38 @@ place_at map v = place_in (entry_under map v)
 unfoldable pub leads : Mapped → ℕ → ℕ → Bool
 leads map entries b = list_any (λ v. is_at b (place_in (entry_under map v))) (range_with_len 0 entries)
 
--- whether the block under a VVBN stays where the volume is written: one of the span that its active map has
+-- whether a consistency point writes the map of a slot: that of the active table, and one that was kept since the last point
+abbrev pub is_rewritten : VolumeState → ℕ → Bool
+is_rewritten x k = (k == 0) || get_or x.fresh k false
+
+-- whether the map of a slot stands on the disk, and a consistency point leaves it there
+abbrev pub has_stored_map : VolumeState → ℕ → Bool
+has_stored_map x k = nat_lt k stored_count && (is_some (slot_at x.map k) && not (is_rewritten x k))
+
+-- the slot that has the map block under a VVBN; behind the span lie the blocks of the maps, slot by slot
+abbrev pub map_slot : ℕ → ℕ → ℕ
+map_slot span v = (v - span) / map_blocks span
+
+-- which block of its map that is
+abbrev pub map_index : ℕ → ℕ → ℕ
+map_index span v = (v - span) % map_blocks span
+
+-- the map of a slot
+abbrev pub slot_map : VolumeState → ℕ → List Bool
+slot_map x k = map_or_empty x.map.span (slot_at x.map k)
+
+-- whether a consistency point writes the block under a VVBN: one of a map that it writes
+abbrev pub is_map_written : VolumeState → ℕ → Bool
+is_map_written x v = nat_le x.span v && (nat_lt v (entry_count x.span) && is_rewritten x (map_slot x.span v))
+
+-- an entry of a map's block
+abbrev pub map_entry : ℕ → Entry
+map_entry place = record { pvbn = place; kind = 8 }
+
+-- whether the block under a VVBN stays where the volume is written: of the span one that some map has, and behind it one of a map that
+-- isn't written
 abbrev pub stays : VolumeState → ℕ → Bool
-stays x v = nat_lt v x.span && is_member (active_of x.map) v
+stays x v = if nat_lt v x.span then taken_in (take stored_count x.map.slots) v else has_stored_map x (map_slot x.span v)
 
 -- whether a block is the volume's by its label's place and its container: the label, a node, or what an entry leads to
 abbrev pub is_of : VolumeState → ℕ → Mapped → ℕ → Bool
@@ -58,7 +87,7 @@ pub record AreSpacedIn (blocks : ℕ) (next : List Bool) (state : ℕ → Option
   pub set : (b : ℕ) → is_member next b ≡ true → (s : ℕ) × (s < 64) × (has_block (state s) (container s) b ≡ true)
 
 -- The volume stands in an image as it was written: its label says it with its tree, the tree spells its container, whose entries are those
--- that stayed and those of the active map's blocks, and each of these has its bits. Its blocks are apart.
+-- that stayed and those of the blocks of maps that are written, and each of these has its bits. Its blocks are apart.
 pub record IsStored (x : VolumeState) (old : Mapped) (label : ℕ) (new : Mapped) (i : Image) : Type 0 where
   pub root : ℕ
   pub root_least : 1 ≤ root
@@ -68,9 +97,9 @@ pub record IsStored (x : VolumeState) (old : Mapped) (label : ℕ) (new : Mapped
   pub tree : IsFlushed i root (height_of (entry_count x.span)) new
   pub long : length new.entries ≡ entry_count x.span
   pub kept : (v : ℕ) → stays x v ≡ true → entry_under new v ≡ entry_under old v
-  pub active : (k : ℕ) → k < map_blocks x.span → entry_under new (x.span + k) ≡ Some (record { pvbn = place_at new (x.span + k); kind = 8 })
-  pub placed : (k : ℕ) → k < map_blocks x.span → 1 ≤ place_at new (x.span + k)
-  pub holes : (v : ℕ) → stays x v ≡ false → (v < x.span) ⊎ (x.span + map_blocks x.span ≤ v) → entry_under new v ≡ None
-  pub bits : (k : ℕ) → k < map_blocks x.span → IsBlockOf (active_of x.map) k (i (place_at new (x.span + k)))
+  pub maps : (v : ℕ) → is_map_written x v ≡ true → entry_under new v ≡ Some (map_entry (place_at new v))
+  pub placed : (v : ℕ) → is_map_written x v ≡ true → 1 ≤ place_at new v
+  pub holes : (v : ℕ) → stays x v ≡ false → is_map_written x v ≡ false → entry_under new v ≡ None
+  pub bits : (v : ℕ) → is_map_written x v ≡ true → IsBlockOf (slot_map x (map_slot x.span v)) (map_index x.span v) (i (place_at new v))
   pub alone : names new.tree label ≡ false
-  pub apart : AreApartIn (record x { label = label; changed = false }) new
+  pub apart : AreApartIn (record x { label = label; changed = false; fresh = replicate stored_count false }) new

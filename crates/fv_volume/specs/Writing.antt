@@ -1,5 +1,5 @@
 -- The writing of one volume: what it does to the disk and to the map of free blocks, and the steps by which it is done.
-use Rattle.std.specs.Prelude.{◌≡◌, ◌≢◌, ◌≤◌, ◌<◌, ◌+◌, ◌⊎◌, ℕ, Bool, not, ◌||◌, ◌&&◌, true, false, List, Some, None, Ok, length}
+use Rattle.std.specs.Prelude.{◌≡◌, ◌≢◌, ◌≤◌, ◌<◌, ◌+◌, ◌-◌, ◌*◌, ◌⊎◌, ◌==◌, ℕ, Bool, not, ◌||◌, ◌&&◌, true, false, List, Some, None, Ok, length, get_or, count_by}
 use Rattle.std.specs.List.{list_any, range_with_len}
 use Rattle.std.specs.FinSet as set
 use Rattle.fv_disk.specs.Shown.{Image}
@@ -15,10 +15,10 @@ use Rattle.fv_container.specs.Flushed.{IsApart, IsFlushed}
 use Rattle.fv_container.specs.Freeing.{Room}
 use Rattle.fv_root.specs.Formatted.{IsSize}
 use Rattle.fv_aggmap.specs.Space.{Space, IsFree, blocks_of, free_blocks}
-use Rattle.fv_volmap.specs.Slots.{active_of}
+use Rattle.fv_volmap.specs.Slots.{stored_count}
 use Rattle.fv_volume.specs.declared.state.VolumeState.{VolumeState}
 use Rattle.fv_volume.specs.Labels.{label_said}
-use Rattle.fv_volume.specs.Stored.{is_of, leads, place_at, place_in, stays}
+use Rattle.fv_volume.specs.Stored.{is_map_written, is_of, leads, map_entry, map_index, map_slot, place_at, place_in, slot_map, stays}
 
 -- a block that can't be written: it isn't free
 abbrev pub IsTaken : Space → ℕ → Type 0
@@ -28,7 +28,7 @@ IsTaken space b = IsFree space b → ⊥
 abbrev pub on_disk : Space → Space
 on_disk space = record { committed = space.committed; next = space.committed }
 
--- whether an entry that goes leads to a block: all the others go, the delayed ones and those of the active map's blocks
+-- whether an entry that goes leads to a block: all the others go, the delayed ones and those of the maps that are written
 unfoldable pub leads_away : VolumeState → Mapped → ℕ → ℕ → Bool
 leads_away x map entries b = list_any (λ v. not (stays x v) && is_at b (place_in (entry_under map v))) (range_with_len 0 entries)
 
@@ -49,8 +49,8 @@ pub record HasGiven (old : Space) (given : ℕ → Bool) (new : Space) : Type 0 
   pub held : (b : ℕ) → is_member new.next b ≡ (is_member old.next b && not (given b))
   pub count : free_blocks old ≤ free_blocks new
 
--- The volume is written: the entries that stay are as before, the blocks of its active map have new places, and all other entries are
--- holes. The blocks of those that went are given back first, and what it has new was free then. A node that didn't change may stand where it
+-- The volume is written: the entries that stay are as before, the blocks of the maps that are written have new places, and all other entries
+-- are holes. The blocks of those that went are given back first, and what it has new was free then. A node that didn't change may stand where it
 -- stood.
 pub record IsWritten (x : VolumeState) (old : Mapped) (before : Image) (space : Space) (label : ℕ) (new : Mapped) (after : Image) (left : Space) : Type 0 where
   pub root : ℕ
@@ -60,21 +60,21 @@ pub record IsWritten (x : VolumeState) (old : Mapped) (before : Image) (space : 
   pub tree : IsFlushed after root (height_of (entry_count x.span)) new
   pub long : length new.entries ≡ entry_count x.span
   pub kept : (v : ℕ) → stays x v ≡ true → entry_under new v ≡ entry_under old v
-  pub active : (k : ℕ) → k < map_blocks x.span → entry_under new (x.span + k) ≡ Some (record { pvbn = place_at new (x.span + k); kind = 8 })
-  pub placed : (k : ℕ) → k < map_blocks x.span → 1 ≤ place_at new (x.span + k)
-  pub holes : (v : ℕ) → stays x v ≡ false → (v < x.span) ⊎ (x.span + map_blocks x.span ≤ v) → entry_under new v ≡ None
-  pub bits : (k : ℕ) → k < map_blocks x.span → IsBlockOf (active_of x.map) k (after (place_at new (x.span + k)))
+  pub maps : (v : ℕ) → is_map_written x v ≡ true → entry_under new v ≡ Some (map_entry (place_at new v))
+  pub placed : (v : ℕ) → is_map_written x v ≡ true → 1 ≤ place_at new v
+  pub holes : (v : ℕ) → stays x v ≡ false → is_map_written x v ≡ false → entry_under new v ≡ None
+  pub bits : (v : ℕ) → is_map_written x v ≡ true → IsBlockOf (slot_map x (map_slot x.span v)) (map_index x.span v) (after (place_at new v))
   -- what goes is given back, and what is new is free then
   pub given : Space
   pub gave : HasGiven space (leads_away x old (entry_count x.span)) given
   pub some : 1 ≤ label
   pub fresh_label : IsFree given label
   pub fresh_nodes : (b : ℕ) → names new.tree b ≡ true → names old.tree b ≡ false → IsFree given b
-  pub fresh_maps : (k : ℕ) → k < map_blocks x.span → IsFree given (place_at new (x.span + k))
-  -- the label, the nodes and the map's blocks are different blocks
+  pub fresh_maps : (v : ℕ) → is_map_written x v ≡ true → IsFree given (place_at new v)
+  -- the label, the nodes and the maps' blocks are different blocks
   pub alone : names new.tree label ≡ false
-  pub apart : (k : ℕ) → k < map_blocks x.span → (place_at new (x.span + k) ≢ label) × (names new.tree (place_at new (x.span + k)) ≡ false)
-  pub once : (j k : ℕ) → j < k → k < map_blocks x.span → place_at new (x.span + j) ≢ place_at new (x.span + k)
+  pub apart : (v : ℕ) → is_map_written x v ≡ true → (place_at new v ≢ label) × (names new.tree (place_at new v) ≡ false)
+  pub once : (v w : ℕ) → v < w → is_map_written x v ≡ true → is_map_written x w ≡ true → place_at new v ≢ place_at new w
   pub held : (b : ℕ) → is_member left.next b ≡ (is_of x label new b || (is_member space.next b && not (is_of x x.label old b)))
   pub committed : left.committed ≡ space.committed
   pub others : (b : ℕ) → IsTaken given b → after b ≡ before b
@@ -99,10 +99,22 @@ pub record HasEntries (x : VolumeState) (map : Mapped) : Type 0 where
   pub bits : x.map.span ≡ x.span
   pub entries : length map.entries ≡ entry_count x.span
 
+-- how many of the first VVBNs have a block of a map that is written
+unfoldable pub map_writes : VolumeState → ℕ → ℕ
+map_writes x count = count_by (is_map_written x) (range_with_len 0 count)
+
+-- how many maps are written, by which of them wait: the active one, and each that waits
+unfoldable pub map_count : List Bool → ℕ
+map_count fresh = count_by (λ k. (k == 0) || get_or fresh k false) (range_with_len 0 stored_count)
+
+-- the blocks that a volume asks for: its overhead, which counts the active map, and the other maps that are written
+abbrev pub asked : VolumeState → ℕ
+asked x = overhead x.span + (map_count x.fresh - 1) * map_blocks x.span
+
 -- As many blocks are free as a volume asks for beside its label.
 pub record HasRoomFor (x : VolumeState) (space : Space) : Type 0 where
   pub size : IsSize (blocks_of space)
-  pub room : overhead x.span ≤ free_blocks space + 1
+  pub room : asked x ≤ free_blocks space + 1
 
 -- of the first entries those are holes that don't stay; all others are as before
 pub record HasGone (x : VolumeState) (old : Mapped) (count : ℕ) (new : Mapped) : Type 0 where
@@ -119,20 +131,20 @@ pub record HasDrawn (old : Space) (taken : ℕ → Bool) (count : ℕ) (new : Sp
   pub held : (b : ℕ) → is_member new.next b ≡ (taken b || is_member old.next b)
   pub fewer : free_blocks new + count ≡ free_blocks old
 
--- whether one of the first blocks of the active map stands on a block
-unfoldable pub has_maps_at : Mapped → ℕ → ℕ → ℕ → Bool
-has_maps_at map span count b = list_any (λ k. is_at b (place_at map (span + k))) (range_with_len 0 count)
+-- whether one of these blocks stands on a block
+unfoldable pub has_maps_at : VolumeState → Mapped → ℕ → ℕ → Bool
+has_maps_at x map count b = list_any (λ v. is_map_written x v && is_at b (place_at map v)) (range_with_len 0 count)
 
--- The first blocks of the active map have entries, each with a place of its own, and all other entries are as before.
-pub record HasMap (span count : ℕ) (old new : Mapped) : Type 0 where
-  pub active : (k : ℕ) → k < count → entry_under new (span + k) ≡ Some (record { pvbn = place_at new (span + k); kind = 8 })
-  pub some : (k : ℕ) → k < count → 1 ≤ place_at new (span + k)
-  pub others : (v : ℕ) → (v < span) ⊎ (span + count ≤ v) → entry_under new v ≡ entry_under old v
-  pub once : (j k : ℕ) → j < k → k < count → place_at new (span + j) ≢ place_at new (span + k)
+-- Of the first VVBNs those of maps that are written have entries, each with a place of its own, and all other entries are as before.
+pub record HasMaps (x : VolumeState) (count : ℕ) (old new : Mapped) : Type 0 where
+  pub maps : (v : ℕ) → v < count → is_map_written x v ≡ true → entry_under new v ≡ Some (map_entry (place_at new v))
+  pub some : (v : ℕ) → v < count → is_map_written x v ≡ true → 1 ≤ place_at new v
+  pub others : (v : ℕ) → (count ≤ v) ⊎ (is_map_written x v ≡ false) → entry_under new v ≡ entry_under old v
+  pub once : (v w : ℕ) → v < w → w < count → is_map_written x v ≡ true → is_map_written x w ≡ true → place_at new v ≢ place_at new w
 
--- the first blocks of the active map stand at their places
+-- and the blocks stand at their places
 abbrev pub StandBits : VolumeState → ℕ → Mapped → Image → Type 0
-StandBits x count map i = (k : ℕ) → k < count → IsBlockOf (active_of x.map) k (i (place_at map (x.span + k)))
+StandBits x count map i = (v : ℕ) → v < count → is_map_written x v ≡ true → IsBlockOf (slot_map x (map_slot x.span v)) (map_index x.span v) (i (place_at map v))
 
 -- What the flush of a container makes of the map of free blocks: each node of the new tree is one of the old, at its place, or stands on a
 -- block that was free, and the old nodes that the new tree lacks are given back. Where a node stays its block does, since no block is
@@ -142,16 +154,16 @@ pub record Renews (old : Room) (before after : List ℕ) (new : Room) : Type 0 w
   pub held : IsApart old before → (b : ℕ) → new.held b ≡ (names after b || (not (names before b) && old.held b))
   pub committed : new.committed ≡ old.committed
 
--- The blocks of the active map and the new nodes of the container stand on blocks that were free, and the old nodes were given back that the
--- new tree lacks.
+-- The blocks of the maps that are written and the new nodes of the container stand on blocks that were free, and the old nodes were given
+-- back that the new tree lacks.
 pub record HasBlocks (x : VolumeState) (old : Mapped) (space : Space) (root : ℕ) (new : Mapped) (after : Image) (left : Space) : Type 0 where
   pub tree : IsFlushed after root (height_of (entry_count x.span)) new
-  pub map : HasMap x.span (map_blocks x.span) old new
-  pub bits : StandBits x (map_blocks x.span) new after
+  pub map : HasMaps x (entry_count x.span) old new
+  pub bits : StandBits x (entry_count x.span) new after
   pub fresh_nodes : (b : ℕ) → names new.tree b ≡ true → names old.tree b ≡ false → IsFree space b
-  pub fresh_maps : (b : ℕ) → has_maps_at new x.span (map_blocks x.span) b ≡ true → IsFree space b
-  pub apart : (b : ℕ) → has_maps_at new x.span (map_blocks x.span) b ≡ true → names new.tree b ≡ false
-  pub held : (b : ℕ) → is_member left.next b ≡ ((names new.tree b || has_maps_at new x.span (map_blocks x.span) b) || (is_member space.next b && not (names old.tree b)))
+  pub fresh_maps : (b : ℕ) → has_maps_at x new (entry_count x.span) b ≡ true → IsFree space b
+  pub apart : (b : ℕ) → has_maps_at x new (entry_count x.span) b ≡ true → names new.tree b ≡ false
+  pub held : (b : ℕ) → is_member left.next b ≡ ((names new.tree b || has_maps_at x new (entry_count x.span) b) || (is_member space.next b && not (names old.tree b)))
 
 -- and the label names them
 pub record HasLabel (x : VolumeState) (old : Mapped) (space : Space) (label : ℕ) (new : Mapped) (after : Image) (left : Space) : Type 0 where

@@ -13,13 +13,12 @@ ghost use Rattle.fv_model.specs.declared.answers.Refusal.{Refusal};
 ghost use Rattle.fv_model.specs.declared.answers.Reply.TheVariants as reply;
 ghost use Rattle.fv_model.specs.declared.commands.Command.TheVariants.{Get, Len, Ls};
 ghost use Rattle.fv_charge.specs.Ledgers.{IsLedgerOf};
-ghost use Rattle.fv_model.specs.Tables.{Table};
 ghost use Rattle.fv_volume.specs.Calls.{Asks, BlockCause, CallCause, Has, Reads};
 ghost use Rattle.fv_volume.specs.Lending.{lent_for};
 ghost use Rattle.fv_volume.specs.Promising.{told_by};
 ghost use Rattle.fv_volume.specs.Paths.{unknown_over, unknown_to, StepsTo};
 ghost use Rattle.fv_volume.specs.declared.fault.VolumeFault.TheVariants.{Refused};
-ghost use Rattle.fv_volume.specs.OneVolume.{home_in, standing_for, volume_as, volume_for, IsReady, IsStanding};
+ghost use Rattle.fv_volume.specs.OneVolume.{home_in, standing_for, volume_as, volume_for, Content, IsReady, IsStanding};
 
 use crate::blocks::Home;
 use crate::fault::VolumeFault;
@@ -150,7 +149,7 @@ impl VolumeState {
     pub fn stat(&self) -> Stat
         requires { self.now.ledger.span ≤ greatest_span }
         ensures told { result ≡ told_by self.entry.now }
-        ensures right { (table : Table) → IsLedgerOf (volume_as self.entry.now table) self.entry.now.ledger → result ≡ stat_of (volume_as self.entry.now table) }
+        ensures right { (content : Content) → IsLedgerOf (volume_as self.entry.now content) self.entry.now.ledger → result ≡ stat_of (volume_as self.entry.now content) }
     {
         Stat {
             size: self.size,

@@ -1,15 +1,15 @@
 //! Giving back what a volume has.
 
-ghost use Rattle.std.specs.Prelude.{◌≡◌, ◌<◌, ◌≤◌, ◌&&◌, ℕ, None, true, false, length, nat_lt};
-ghost use Rattle.fv_bits.specs.Members.{is_member};
+ghost use Rattle.std.specs.Prelude.{◌≡◌, ◌<◌, ℕ, None, true, false, length};
+ghost use Rattle.fv_image.specs.Views.{entry_count};
 ghost use Rattle.fv_container.specs.Mapped.{entry_under, with_entry};
 ghost use Rattle.fv_container.specs.Spelled.{is_at};
-ghost use Rattle.fv_volume.specs.Writing.{HasGiven, leads_away};
-ghost use Rattle.fv_volume.specs.Stored.{place_at, place_in, stays};
+ghost use Rattle.fv_volume.specs.Writing.{HasEntries, HasGiven, leads_away};
+ghost use Rattle.fv_volume.specs.Stored.{has_stored_map, place_at, place_in, stays};
 
+use crate::sizes::{entry_count, map_blocks};
 use crate::state::VolumeState;
 use fv_aggmap::AggMap;
-use fv_bits::BitMap;
 use fv_container::{Container, Entry};
 
 /// Gives a block back; 0 is none, and neither is a number past the last block.
@@ -42,43 +42,49 @@ fn give_back_entry(container: &mut Container, map: &mut AggMap, vvbn: u32)
     give_back_block(map, place);
 }
 
-/// Whether the entry of a VVBN stays where a volume of this span and with this active map is written.
-fn stays(active: &BitMap, span: u32, vvbn: u32) -> bool
-    requires { span ≤ length active.now }
-    ensures { result ≡ (nat_lt vvbn span && is_member active.now vvbn) }
+/// Whether the map of a slot stands on the disk, and a consistency point leaves it there.
+fn has_stored_map(state: &VolumeState, slot: u32) -> bool
+    ensures { result ≡ has_stored_map state.entry.now slot }
 {
-    vvbn < span && active.get(vvbn)
+    slot < 25 && state.map.snapshot(slot as u8).is_some() && !state.is_rewritten(slot as u8)
 }
 
-/// Leaves an entry that stays, and gives one back that goes.
-fn give_back_unless(container: &mut Container, map: &mut AggMap, vvbn: u32, stays: bool)
-    requires { vvbn < length container.old.entries }
-    ensures same { stays ≡ true → (container.new ≡ container.old) × (map.new ≡ map.old) }
-    ensures hole { stays ≡ false → container.new ≡ with_entry container.old vvbn None }
-    ensures given { stays ≡ false → HasGiven map.old (λ b. is_at b (place_at container.old vvbn)) map.new }
+/// Whether the entry of a VVBN stays where a volume is written. Costs a step for each slot.
+fn stays(state: &VolumeState, vvbn: u32) -> bool
+    requires { vvbn < entry_count state.now.span }
+    ensures { result ≡ stays state.entry.now vvbn }
 {
-    if !stays {
+    if vvbn < state.span {
+        return state.map.held(vvbn);
+    }
+    has_stored_map(state, (vvbn - state.span) / map_blocks(state.span))
+}
+
+/// Leaves an entry that stays, and gives one back that goes. Costs a step for a hole, and else one for each slot.
+#[tactic(auto, using(crate::proofs::Gone::hole_already, crate::proofs::Drawing::hole_given))]
+fn give_back_unless(state: &VolumeState, container: &mut Container, map: &mut AggMap, vvbn: u32)
+    requires within { vvbn < length container.old.entries }
+    requires below { vvbn < entry_count state.now.span }
+    ensures same { stays state.entry.now vvbn ≡ true → (container.new ≡ container.old) × (map.new ≡ map.old) }
+    ensures hole { stays state.entry.now vvbn ≡ false → container.new ≡ with_entry container.old vvbn None }
+    ensures given { stays state.entry.now vvbn ≡ false → HasGiven map.old (λ b. is_at b (place_at container.old vvbn)) map.new }
+{
+    if container.entry_at(vvbn).is_some() && !stays(state, vvbn) {
         give_back_entry(container, map, vvbn);
     }
 }
 
-/// Makes each entry of a volume's container a hole that doesn't stay, and gives its block back. Costs a step for each entry.
-pub(crate) fn give_back(
-    state: &VolumeState,
-    container: &mut Container,
-    map: &mut AggMap,
-    entries: u32,
-)
-    requires long { length container.old.entries ≡ entries }
-    requires bits { state.now.map.span ≡ state.now.span }
+/// Makes each entry of a volume's container a hole that doesn't stay, and gives its block back. Costs a step for each number, and one
+/// for each entry and slot.
+pub(crate) fn give_back(state: &VolumeState, container: &mut Container, map: &mut AggMap)
+    requires { HasEntries state.now container.old }
     ensures kept { (v : ℕ) → stays state.entry.now v ≡ true → entry_under container.new v ≡ entry_under container.old v }
     ensures holes { (v : ℕ) → stays state.entry.now v ≡ false → entry_under container.new v ≡ None }
-    ensures long { length container.new.entries ≡ entries }
+    ensures long { length container.new.entries ≡ entry_count state.entry.now.span }
     ensures tree { container.new.tree ≡ container.old.tree }
-    ensures given { HasGiven map.old (leads_away state.entry.now container.old entries) map.new }
+    ensures given { HasGiven map.old (leads_away state.entry.now container.old (entry_count state.entry.now.span)) map.new }
 {
-    let active = state.map.active();
-    for vvbn in 0..entries {
-        give_back_unless(container, map, vvbn, stays(active, state.span, vvbn));
+    for vvbn in 0..entry_count(state.span) {
+        give_back_unless(state, container, map, vvbn);
     }
 }

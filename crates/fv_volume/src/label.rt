@@ -1,8 +1,9 @@
 //! Labels as volumes.
 
-ghost use Rattle.std.specs.Prelude.{Ok, ◌≡◌, ◌≤◌, ◌-◌, ◌++◌, replicate, ◌⊎◌, ◌==◌, not, true, false, length, take, find, Some, None, IfOk, IfErr, IfNone, IsTrue, ℕ};
+ghost use Rattle.std.specs.Prelude.{Ok, ◌≡◌, ◌≤◌, ◌-◌, ◌++◌, replicate, ◌⊎◌, ◌==◌, not, true, false, length, take, find, Some, None, IfOk, IfErr, IfNone, IsTrue, ℕ, option_copied};
 ghost use Rattle.std.specs.Option.{option_map};
-ghost use Rattle.fv_codec.specs.Blocks.{IsLabel, label_at};
+ghost use Rattle.fv_codec.specs.Blocks.{IsLabel, IsSnapRecord, label_at};
+ghost use Rattle.fv_codec.specs.Fields.{name_filled};
 ghost use Rattle.fv_disk.specs.DiskCalls.{OnlyReads};
 ghost use Rattle.fv_disk.specs.Faults.{HasBlockCause};
 ghost use Rattle.fv_image.specs.Views.{head_of, kind_named};
@@ -10,8 +11,10 @@ ghost use Rattle.fv_model.specs.Spelling.{is_name};
 ghost use Rattle.fv_store.specs.Held.{StandsOn};
 ghost use Rattle.fv_volume.specs.Labels.{kind_number};
 ghost use Rattle.fv_volume.specs.Loading.{IsBadLabel, first_used, form_in, is_used};
-ghost use Rattle.fv_volume.specs.States.{head_in, ledger_of_empty};
+ghost use Rattle.fv_volume.specs.SnapRecords.{record_said, records_said, snap_said};
+ghost use Rattle.fv_volume.specs.States.{snap_in, snaps_in};
 
+use crate::state::{Rooted, Snap};
 use fv_codec::{Label, Pointer, SnapRecord};
 use fv_disk::{Block, BlockFault, Disk, ZERO};
 use fv_model::{Kind, Name};
@@ -90,16 +93,75 @@ pub(crate) fn name_of(label: &Label) -> Name
     ensures name { result ≡ take label.entry.now.name_length label.entry.now.name }
     ensures form { is_name result ≡ true }
 {
-    Name::read(name_bytes(label)).unwrap()
+    name_in(&label.name, label.name_length)
 }
 
-/// The bytes of the name that a label says.
-fn name_bytes(label: &Label) -> &[u8]
-    requires { IsLabel label.now }
-    ensures bytes { result.now ≡ take label.entry.now.name_length label.entry.now.name }
-    ensures long { length label.entry.now.name ≡ 64 }
+/// The name that so many bytes of a field spell.
+fn name_in(field: &[u8; 64], bytes: u8) -> Name
+    requires least { 1 ≤ bytes }
+    requires greatest { bytes ≤ 64 }
+    requires filled { name_filled bytes field.now ≡ Ok tt }
+    ensures name { result ≡ take bytes field.now }
+    ensures form { is_name result ≡ true }
 {
-    &label.name[..label.name_length as usize]
+    Name::read(&field[..bytes as usize]).unwrap()
+}
+
+/// The snapshot of a map slot that a used record says.
+pub(crate) fn snap_of(said: &SnapRecord, slot: u8) -> Snap
+    requires range { IsSnapRecord said.now }
+    requires used { 1 ≤ said.now.name_length }
+    ensures { snap_in result ≡ snap_said slot said.entry.now }
+{
+    Snap {
+        slot,
+        name: name_in(&said.name, said.name_length),
+        table: Rooted {
+            levels: said.levels,
+            root: said.root,
+        },
+    }
+}
+
+/// The record that says a snapshot.
+fn record_of(snap: &Snap) -> SnapRecord
+    ensures { result ≡ record_said (Some (snap_in snap.entry.now)) }
+{
+    let (name_length, name) = name_field(&snap.name);
+    SnapRecord {
+        name_length,
+        name,
+        levels: snap.table.levels,
+        root: snap.table.root,
+    }
+}
+
+/// The snapshot of a map slot.
+fn snap_at(snaps: &[Snap], slot: u8) -> Option<&Snap>
+    ensures { option_copied result ≡ find (λ p. p.slot == slot) snaps.entry.now }
+{
+    snaps.iter().find(|snap| snap.slot == slot)
+}
+
+/// The record of a map slot, free where no snapshot has it.
+fn record_at(snaps: &[Snap], slot: u8) -> SnapRecord
+    ensures { result ≡ record_said (find (λ p. p.slot == slot) (snaps_in snaps.entry.now)) }
+{
+    match snap_at(snaps, slot) {
+        Some(snap) => record_of(snap),
+        None => FREE,
+    }
+}
+
+/// The records of the map slots from 1 to 24.
+pub(crate) fn records_of(snaps: &[Snap]) -> [SnapRecord; 24]
+    ensures { result ≡ records_said (snaps_in snaps.entry.now) }
+{
+    let mut records = [FREE; 24];
+    for at in 0..24 {
+        records[at] = record_at(snaps, at as u8 + 1);
+    }
+    records
 }
 
 /// The kind that a label says.

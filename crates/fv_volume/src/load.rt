@@ -17,7 +17,7 @@ ghost use Rattle.fv_volume.specs.States.{head_in, state_at};
 
 use crate::label::read_label;
 use crate::sizes::entry_count;
-use crate::state::VolumeState;
+use crate::state::{Snapshots, VolumeState};
 use fv_bits::BitMap;
 use fv_codec::Label;
 use fv_container::{Container, Containers};
@@ -216,8 +216,10 @@ fn load_volume<D: Disk>(
     let container = read_container(alloc, store, disk, &label)?;
     let map = read_map(alloc, store, disk, &container, label.span)?;
     let delayed = has_delayed(map.active(), &container, label.span);
+    let snapshots = Snapshots::of_records(alloc, &label.snapshots)?;
     containers.put(slot, container, None);
-    Ok(Some(VolumeState::of_label(alloc, slot, place, &label, map, delayed)))
+    let state = VolumeState::of_label(slot, place, &label, snapshots, map, delayed);
+    Ok(Some(state))
 }
 
 /// Reads the volume of the next slot.

@@ -1,9 +1,10 @@
-//! How large a container is.
+//! How large a container is, and a map.
 
 ghost use Rattle.std.specs.Prelude.{◌≡◌, ◌≤◌};
 ghost use Rattle.fv_image.specs.Containers.{most_entries};
 ghost use Rattle.fv_image.specs.Views.{entry_count};
 ghost use Rattle.fv_model.specs.Numbers.{greatest_span};
+ghost use Rattle.fv_model.specs.Space.{map_blocks};
 
 /// The entries of the container of a volume of this span: one for each VVBN of the span and for each block
 /// of 25 maps.
@@ -13,4 +14,11 @@ pub(crate) fn entry_count(span: u32) -> u32
     ensures most { result ≤ most_entries }
 {
     span + 25 * span.div_ceil(32_768)
+}
+
+/// How many blocks a map of a span has, a bit for each number.
+pub(crate) fn map_blocks(span: u32) -> u32
+    ensures { result ≡ map_blocks span }
+{
+    span.div_ceil(32_768)
 }

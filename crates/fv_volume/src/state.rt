@@ -1,19 +1,25 @@
 //! One volume, as it is kept in memory.
 
-ghost use Rattle.std.specs.Prelude.{◌≡◌, ◌≤◌, ◌*◌, ◌∷◌, [], Bool, false, true, None, IfOk};
+ghost use Rattle.std.specs.Prelude.{◌≡◌, ◌<◌, ◌≤◌, ◌+◌, ◌*◌, ◌-◌, ◌∷◌, ◌++◌, [], Bool, false, true, nat_lt, length, position, take, drop, All, None, IfSome, IfNone, IfOk, OnOk, OnErr, replicate};
+ghost use Rattle.std.specs.List.{position_or_len};
 ghost use Rattle.fv_model.specs.Numbers.{greatest_span};
-ghost use Rattle.fv_codec.specs.Blocks.{IsLabel};
-ghost use Rattle.fv_image.specs.Views.{head_of};
+ghost use Rattle.fv_codec.specs.Blocks.{IsLabel, IsSnapRecord};
+ghost use Rattle.fv_image.specs.Views.{head_of, snaps_from};
 ghost use Rattle.fv_model.specs.Spelling.{is_name};
-ghost use Rattle.fv_volmap.specs.Slots.{empty_volume};
+ghost use Rattle.fv_volmap.specs.Slots.{empty_volume, stored_count};
 ghost use Rattle.fv_volume.specs.Labels.{label_said};
 ghost use Rattle.fv_volume.specs.Files.{has_form};
+ghost use Rattle.fv_volume.specs.Snapshots.{FindsSnap, IsLeastFree, AreSlotsFull, has_slot, added};
 ghost use Rattle.fv_volume.specs.Loading.{IsCounted, form_in};
-ghost use Rattle.fv_volume.specs.States.{empty_head, head_in, ledger_of_empty, IsLaid};
+ghost use Rattle.fv_volume.specs.SnapRecords.{snaps_by};
+ghost use Rattle.fv_volume.specs.States.{empty_head, head_in, ledger_of_empty, snaps_in, IsLaid};
+ghost use Rattle.fv_volume.specs.Stored.{is_rewritten};
+ghost use Rattle.fv_volume.specs.Writing.{asked, map_count};
 
-use crate::label::{FREE, HOLE, kind_number, kind_of, name_field, name_of};
-use fv_charge::Ledger;
-use fv_codec::{Label, Pointer};
+use crate::label::{HOLE, kind_number, kind_of, name_field, name_of, records_of, snap_of};
+use crate::sizes::map_blocks;
+use fv_charge::{Ledger, overhead};
+use fv_codec::{Label, Pointer, SnapRecord};
 use fv_files::{FileNumbers, Files};
 use fv_model::{Kind, Name};
 use fv_volmap::VolMap;
@@ -76,11 +82,125 @@ impl Snapshots {
         }
     }
 
+    /// The snapshots that the used ones of 24 records say, of the map slots from 1 on. The one error is want of
+    /// memory. Costs a step for each record.
+    pub(crate) fn of_records(
+        alloc: Global,
+        records: &[SnapRecord; 24],
+    ) -> Result<Snapshots, AllocError>
+        requires { All IsSnapRecord records.now }
+        ensures said { IfOk result (λ snaps. snaps_in snaps ≡ snaps_from 1 records.entry.now) }
+        ensures long { length records.entry.now ≡ 24 }
+    {
+        let mut snaps = Snapshots::new(alloc);
+        for at in 0..24 {
+            snaps.add_said(&records[at], at as u8 + 1)?;
+        }
+        Ok(snaps)
+    }
+
+    /// Adds the snapshot that the record of a map slot says at the end, where the record is a used one.
+    fn add_said(&mut self, said: &SnapRecord, slot: u8) -> Result<(), AllocError>
+        requires { IsSnapRecord said.now }
+        ensures { OnOk result (snaps_in self.new ≡ snaps_in self.old ++ snaps_by slot said.now) }
+    {
+        if said.name_length == 0 {
+            return Ok(());
+        }
+        self.push(snap_of(said, slot))
+    }
+
+    /// Adds a snapshot at the end. Where no memory is found nothing changes.
+    fn push(&mut self, snap: Snap) -> Result<(), AllocError>
+        ensures pushed { OnOk result (self.new ≡ self.old ++ snap ∷ []) }
+        ensures failed { OnErr result (self.new ≡ self.old) }
+    {
+        match self.snaps.push(snap) {
+            Ok(()) => Ok(()),
+            Err(fault) => Err(AllocError::from(fault)),
+        }
+    }
+
     /// The snapshots in the order of their slots.
     pub fn as_slice(&self) -> &[Snap]
         ensures { result.now ≡ self.now }
     {
         self.snaps.as_slice()
+    }
+
+    /// How many snapshots there are, at most 24 in a volume.
+    pub fn len(&self) -> usize
+        ensures { result ≡ length self.now }
+    {
+        self.snaps.len()
+    }
+
+    /// The place of the first snapshot of a name in the order of their slots; `None` exactly where none has it.
+    /// Costs a step for each snapshot.
+    pub fn find(&self, name: &Name) -> Option<usize>
+        ensures { FindsSnap self.now name.now result }
+    {
+        self.snaps.iter().position(|snap| snap.name == *name)
+    }
+
+    /// Whether a snapshot has this slot.
+    fn has_slot(&self, slot: u8) -> bool
+        ensures { result ≡ has_slot self.now slot }
+    {
+        self.snaps.iter().any(|snap| snap.slot == slot)
+    }
+
+    /// The least slot from 1 to 24 that no snapshot has; `None` exactly where each is a snapshot's. Costs a step
+    /// for each slot and snapshot.
+    pub fn free_slot(&self) -> Option<u8>
+        ensures free { IfSome result (IsLeastFree self.now) }
+        ensures full { IfNone result (AreSlotsFull self.now) }
+    {
+        for slot in 1..25 {
+            if !self.has_slot(slot) {
+                return Some(slot);
+            }
+        }
+        None
+    }
+
+    /// The place of the first snapshot of a greater slot.
+    fn next_after(&self, slot: u8) -> Option<usize>
+        ensures { result ≡ position (λ snap. nat_lt slot snap.slot) self.now }
+    {
+        self.snaps.iter().position(|snap| slot < snap.slot)
+    }
+
+    /// Where a snapshot of this slot goes: before the first of a greater slot.
+    fn place_of(&self, slot: u8) -> usize
+        ensures place { result ≡ position_or_len (λ snap. nat_lt slot snap.slot) self.now }
+        ensures within { result ≤ length self.now }
+    {
+        match self.next_after(slot) {
+            Some(place) => place,
+            None => self.len(),
+        }
+    }
+
+    /// Adds a snapshot before the first of a greater slot. The one error is want of memory; nothing changes then.
+    /// Costs a step for each snapshot.
+    pub fn insert(&mut self, snap: Snap) -> Result<(), AllocError>
+        ensures added { OnOk result (self.new ≡ added snap self.old) }
+        ensures failed { OnErr result (self.new ≡ self.old) }
+    {
+        let place = self.place_of(snap.slot);
+        match self.snaps.insert(place, snap) {
+            Ok(()) => Ok(()),
+            Err(fault) => Err(AllocError::from(fault)),
+        }
+    }
+
+    /// Removes the snapshot at a place. Costs a step for each behind it.
+    pub fn remove(&mut self, at: usize)
+        requires { at < length self.old }
+        ensures { self.new ≡ take at self.old ++ drop (at + 1) self.old }
+    {
+        self.snaps.remove(at);
     }
 }
 
@@ -122,6 +242,8 @@ pub struct VolumeState {
     pub(crate) label: u32,
     /// Whether the next consistency point has something to write.
     pub(crate) changed: bool,
+    /// Whether the map of each slot waits to be written: a snapshot's that was kept since the last consistency point.
+    pub(crate) fresh: [bool; 25],
 }
 
 impl VolumeState {
@@ -144,6 +266,7 @@ impl VolumeState {
         ensures base { IfOk result (λ state. state.base ≡ None) }
         ensures files { IfOk result (λ state. state.files ≡ None) }
         ensures numbers { IfOk result (λ state. state.numbers ≡ None) }
+        ensures fresh { IfOk result (λ state. state.fresh ≡ replicate stored_count false) }
         ensures named { is_name name.now ≡ true }
     {
         // What the bytes are known to be is what a label needs of them.
@@ -169,21 +292,24 @@ impl VolumeState {
             numbers: None,
             label: 0,
             changed: true,
+            fresh: [false; 25],
         })
     }
 
-    /// The volume that a label at this PVBN says, for a slot, with the map of its active table, from which its ledger is
-    /// counted, and whether the next consistency point has something to do for it. The label has no form that can't be loaded.
+    /// The volume that a label at this PVBN says, for a slot, with its snapshots, with the map of its active table, from which
+    /// its ledger is counted, and whether the next consistency point has something to do for it. The label has no form that
+    /// can't be loaded.
     pub(crate) fn of_label(
-        alloc: Global,
         slot: u8,
         place: u32,
         label: &Label,
+        snapshots: Snapshots,
         map: VolMap,
         changed: bool,
     ) -> VolumeState
         requires range { IsLabel label.now }
         requires form { form_in label.now ≡ None }
+        requires said { snaps_in snapshots ≡ snaps_from 1 label.now.snapshots }
         requires map { map.span ≡ label.now.span }
         ensures laid { IsLaid result slot place map changed }
         ensures head { head_in result ≡ head_of label.entry.now }
@@ -191,6 +317,7 @@ impl VolumeState {
         ensures base { result.base ≡ None }
         ensures files { result.files ≡ None }
         ensures numbers { result.numbers ≡ None }
+        ensures fresh { result.fresh ≡ replicate stored_count false }
         ensures named { is_name result.name ≡ true }
         ensures counted { IsCounted result }
         ensures ledger { result.ledger.span ≡ label.entry.now.span }
@@ -211,13 +338,14 @@ impl VolumeState {
                 levels: label.levels,
                 root: label.root,
             },
-            snapshots: Snapshots::new(alloc),
+            snapshots,
             map,
             ledger,
             files: None,
             numbers: None,
             label: place,
             changed,
+            fresh: [false; 25],
         }
     }
 
@@ -236,9 +364,42 @@ impl VolumeState {
         self.changed
     }
 
+    /// Whether the next consistency point writes the map of a slot: that of the active table, and one that was kept since the last
+    /// point.
+    pub(crate) fn is_rewritten(&self, slot: u8) -> bool
+        requires { slot < stored_count }
+        ensures { result ≡ is_rewritten self.entry.now slot }
+    {
+        slot == 0 || self.fresh[slot as usize]
+    }
+
+    /// How many maps wait to be written beside the active one.
+    fn waiting_maps(&self) -> u32
+        ensures value { result ≡ map_count self.entry.now.fresh - 1 }
+        ensures most { result ≤ 24 }
+    {
+        let mut count = 0;
+        for slot in 1..25 {
+            if self.fresh[slot] {
+                count += 1;
+            }
+        }
+        count
+    }
+
+    /// The blocks that a consistency point asks for to write the volume: its overhead, and those of the snapshots' maps that wait; of the
+    /// greatest span, 1,048,576, 4151 and 32 for each of at most 24 maps. Costs a step for each slot.
+    #[tactic(auto, using(crate::proofs::MapCounts::few_blocks))]
+    pub fn asked(&self) -> u64
+        requires { self.now.span ≤ greatest_span }
+        ensures value { result ≡ asked self.entry.now }
+        ensures most { result ≤ 4919 }
+    {
+        u64::from(overhead(self.span) + self.waiting_maps() * map_blocks(self.span))
+    }
+
     /// The label that says this volume, with the place of its container's root, 0 where that is all holes, and
-    /// with the container's height. The volume has no snapshot and no base, and knows all places.
-    /// It takes no memory.
+    /// with the container's height. The volume has no base, and knows all places. It takes no memory.
     #[tactic(auto, unfolding(crate::specs::Labels::label_said))]
     pub fn label(&self, container: u32, height: u8) -> Label
         requires { has_form (head_in self.now) ≡ true }
@@ -261,7 +422,7 @@ impl VolumeState {
             height,
             levels: self.active.levels,
             root: self.active.root,
-            snapshots: [FREE; 24],
+            snapshots: records_of(self.snapshots.as_slice()),
         }
     }
 
@@ -274,10 +435,11 @@ impl VolumeState {
         ensures slot { self.new.slot ≡ self.old.slot }
         ensures label { self.new.label ≡ label }
         ensures changed { self.new.changed ≡ false }
-        ensures others { self.new ≡ record self.old { label = label; changed = false } }
+        ensures others { self.new ≡ record self.old { label = label; changed = false; fresh = replicate stored_count false } }
     {
         self.label = label;
         self.changed = false;
+        self.fresh = [false; 25];
     }
 }
 

@@ -3,7 +3,6 @@
 ghost use Rattle.std.specs.Prelude.{◌≡◌, ◌<◌, ◌≤◌, ◌+◌, IsTrue, IfOk, OnOk, Ok, false, length};
 ghost use Rattle.fv_codec.specs.Blocks.{label_at, last_place};
 ghost use Rattle.fv_disk.specs.Sparing.{Spares};
-ghost use Rattle.fv_model.specs.Space.{overhead};
 ghost use Rattle.fv_image.specs.Containers.{height_of};
 ghost use Rattle.fv_image.specs.Views.{entry_count};
 ghost use Rattle.fv_store.specs.Held.{StandsOn};
@@ -13,18 +12,18 @@ ghost use Rattle.fv_container.specs.Mapped.{IsMapped};
 ghost use Rattle.fv_container.specs.Spelled.{names};
 ghost use Rattle.fv_volume.specs.Labels.{label_said};
 ghost use Rattle.fv_volume.specs.Files.{IsLabelled};
-ghost use Rattle.fv_volume.specs.Writing.{AreTaken, HasBlocks, HasEntries, HasLabel, HasOwnBlocks, HasRoomFor, IsOther, IsTaken, IsTakenOther, IsWritten, on_disk};
+ghost use Rattle.fv_volume.specs.Writing.{AreTaken, HasBlocks, HasEntries, HasLabel, HasOwnBlocks, HasRoomFor, IsOther, IsTaken, IsTakenOther, IsWritten, asked, on_disk};
 
 use crate::giving::{give_back, give_back_block};
 use crate::sizes::entry_count;
 use crate::state::VolumeState;
-use crate::taking::{take_block, write_map};
+use crate::taking::{take_block, write_maps};
 use fv_aggmap::AggMap;
 use fv_container::{Container, height_of};
 use fv_disk::{Disk, Failed, ZERO};
 use fv_store::Store;
 
-/// Writes the blocks of the active map and the container, and answers the root of the container's tree. The old tree is given back.
+/// Writes the blocks of the maps that wait and the container, and answers the root of the container's tree. The old tree is given back.
 fn write_blocks<D: Disk>(
     state: &VolumeState,
     container: &mut Container,
@@ -43,10 +42,10 @@ fn write_blocks<D: Disk>(
     ensures entries { length container.new.entries ≡ entry_count state.entry.now.span }
     ensures valid { OnOk result (IsMapped container.new) }
     ensures committed { map.new.committed ≡ map.old.committed }
-    ensures count { OnOk result (free_blocks map.old + 1 ≤ free_blocks map.new + overhead state.entry.now.span) }
+    ensures count { OnOk result (free_blocks map.old + 1 ≤ free_blocks map.new + asked state.entry.now) }
     ensures stands { StandsOn (D.shown disk.new) store.new.pairs }
 {
-    write_map(state, container, store, map, disk)?;
+    write_maps(state, container, store, map, disk)?;
     let root = container.flush(store, disk, map)?;
     Ok(root)
 }
@@ -96,7 +95,7 @@ fn write_anew<D: Disk>(
     ensures entries { length container.new.entries ≡ entry_count state.entry.now.span }
     ensures valid { OnOk result (IsMapped container.new) }
     ensures committed { map.new.committed ≡ map.old.committed }
-    ensures count { OnOk result (free_blocks map.old + 1 ≤ free_blocks map.new + overhead state.entry.now.span) }
+    ensures count { OnOk result (free_blocks map.old + 1 ≤ free_blocks map.new + asked state.entry.now) }
     ensures stands { StandsOn (D.shown disk.new) store.new.pairs }
 {
     let root = write_blocks(state, container, store, map, disk)?;
@@ -104,9 +103,10 @@ fn write_anew<D: Disk>(
     Ok(())
 }
 
-/// Writes a volume: the blocks of its active map to new places, its container and its label, whose PVBN it answers. Delayed entries
-/// become holes. Their blocks, and the old places of map, container and label, are given back; the blocks of all entries that the active
-/// map has stay. As many blocks are free as its overhead counts. It takes no memory and reads nothing.
+/// Writes a volume: the blocks of its active map, and of each snapshot's that waits, to new places, its container and its label, whose
+/// PVBN it answers. Delayed entries become holes. Their blocks, and the old places of maps, container and label, are given back; the
+/// blocks of all entries that some map has stay, and those of the other maps. As many blocks are free as it asks for: its overhead, and
+/// those of the snapshots' maps that wait. It takes no memory and reads nothing.
 ///
 /// The one error is a failed write: the blocks that were taken are then lost to the map, and the container isn't as before. Costs a
 /// step for each entry and a write for each block.
@@ -120,7 +120,7 @@ pub fn write_volume<D: Disk>(
     requires stands { StandsOn (D.shown disk.old) store.old.pairs }
     requires state { IsLabelled state.now.slot state.now }
     requires entries { length container.old.entries ≡ entry_count state.now.span }
-    requires room { overhead state.now.span ≤ free_blocks map.old }
+    requires room { asked state.now ≤ free_blocks map.old }
     ensures written { IsTrue (D.shown disk.old).tells
         → HasOwnBlocks state.entry.now container.old map.old
         → IfOk result (λ label. IsWritten state.entry.now container.old (D.shown disk.old).reads map.old label container.new (D.shown disk.new).reads map.new) }
@@ -129,10 +129,10 @@ pub fn write_volume<D: Disk>(
     ensures valid { OnOk result (IsMapped container.new) }
     ensures label { IfOk result (λ label. label < blocks_of map.old) }
     ensures committed { map.new.committed ≡ map.old.committed }
-    ensures count { OnOk result (free_blocks map.old ≤ free_blocks map.new + overhead state.entry.now.span) }
+    ensures count { OnOk result (free_blocks map.old ≤ free_blocks map.new + asked state.entry.now) }
     ensures stands { StandsOn (D.shown disk.new) store.new.pairs }
 {
-    give_back(state, container, map, entry_count(state.span));
+    give_back(state, container, map);
     let label = take_block(map);
     write_anew(state, container, store, map, disk, label)?;
     give_back_block(map, state.label_place());

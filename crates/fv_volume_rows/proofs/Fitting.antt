@@ -1,5 +1,5 @@
 -- Volumes that a point can be made of, after a call on one of them.
-use Rattle.std.proofs.Common.{◌≡◌, ◌≢◌, ◌<◌, ℕ, Bool, List, length, Option, Some, None, Result, Ok, Err, refl, sym, ap, subst, ◌∙◌, inl, inr, ⊎_elim, arith, length-set}
+use Rattle.std.proofs.Common.{◌≡◌, ◌≢◌, ◌<◌, ◌≤◌, ℕ, Bool, List, length, Option, Some, None, Result, Ok, Err, refl, sym, ap, subst, ◌∙◌, inl, inr, ⊎_elim, arith, length-set}
 use Rattle.std.specs.Prelude.{◌⊎◌, IfOk, IfSome, IsTrue, OnErr, OnOk, is_some, slice_index_or}
 use Rattle.std.specs.Ordering.{nat_cmp}
 use Rattle.std.specs.FinMap as fin
@@ -13,6 +13,7 @@ use Rattle.fv_bits.specs.Members.{is_member}
 use Rattle.fv_root.specs.declared.find.Found.{Found}
 use Rattle.fv_root.specs.Commits.{IsFoundOn}
 use Rattle.fv_root.specs.Finding.{IsFound, IsInRange}
+use Rattle.fv_root.specs.Formatted.{IsSize}
 use Rattle.fv_image.specs.Views.{entry_count}
 use Rattle.fv_aggmap.specs.Space.{Space}
 use Rattle.fv_container.specs.Mapped.{Mapped}
@@ -133,7 +134,42 @@ fit_read d e p q xs slot x y was within there same labelled reads =
       parents = ap (λ (c : Slots). c.parents) reads.leaves.containers;
     }) x y within there same labelled
 
--- What changed of one was placed.
+-- What changed of one was placed: calls can be made on each.
+pub held_placed : (d e : Disk) (p q : Pool) (xs : States) (slot room left : ℕ) (x y : VolumeState) → AreHeld d p xs → slot < slot_count → state_at xs slot ≡ Some x → y.slot ≡ x.slot → IsReady e q y
+    → Goes (lent_for p x.map d 0 (home_in x) room) q y.map e left → AreHeld e q (with_state xs slot (Some y))
+held_placed d e p q xs slot room left x y was within there same ready goes = record {
+  long = length-set xs slot (Some y) ∙ was.long;
+  size = subst (λ (f : Found). IsSize f.blocks) (sym over.found) was.size;
+  stands = ready.lent.stands;
+  labelled = with_at (λ s o. IfSome o (IsLabelled s)) xs slot y inside (subst (λ n. IsLabelled n y) (same ∙ mine.slot_is) ready.labelled) (λ s other. was.labelled s);
+  ready = with_at (λ s o. IfSome o (IsReady e q)) xs slot y inside ready (λ s other. beside s other (state_at xs s) (was.labelled s) (was.ready s));
+}
+  where
+    over : GoesOver (lent_for p x.map d 0 (home_in x) room) (lent_by q y.map e goes.steps (home_in x) left goes.goes.strays goes.goes.noted)
+    over = goes.goes.goes
+
+    inside : slot < length xs
+    inside = let long = was.long in omega (arith, within, long)
+
+    mine : IsLabelled slot x
+    mine = there_at (IsLabelled slot) (state_at xs slot) x there (was.labelled slot)
+
+    beside : (s : ℕ) → s ≢ slot → (o : Option VolumeState) → IfSome o (IsLabelled s) → IfSome o (IsReady d p) → IfSome o (IsReady e q)
+    beside s other None labelled before = tt
+    beside s other (Some w) labelled before = record {
+      lent = record {
+        within = before.lent.within;
+        stands = ready.lent.stands;
+        few = before.lent.few;
+        entries = subst (λ (c : Option Mapped). w.map.span ≤ length (entries_in c)) (sym (over.others w.slot (λ is. other (sym labelled.slot_is ∙ is ∙ mine.slot_is)))) before.lent.entries;
+      };
+      labelled = before.labelled;
+      booked = before.booked;
+      blocks = subst (λ (f : Found). IsSize f.blocks) (sym over.found) before.blocks;
+      changed = before.changed;
+    }
+
+-- And a point can be made.
 pub fit_placed : (d e : Disk) (p q : Pool) (xs : States) (slot room left : ℕ) (x y : VolumeState) → AreFit d p xs → slot < slot_count → state_at xs slot ≡ Some x → KeepsPlace x y → IsLabelled y.slot y
     → Goes (lent_for p x.map d 0 (home_in x) room) q y.map e left → AreFit e q (with_state xs slot (Some y))
 fit_placed d e p q xs slot room left x y was within there same labelled goes =

@@ -86,7 +86,7 @@ returns-clause-each g c =
 
 pub returns-clause-asked : goal.returns-clause-asked
 returns-clause-asked g c = λ tells.
-    asked_opened c.open-2.new.pool c.in_ok-volumes.volumes (g.D.Disk.shown c.args.disk.now).reads c.in_ok-volumes.ensures.states.long (returns-clause-loaded g c tells).view
+    asked_opened c.open-2.new.pool c.in_ok-volumes.volumes (g.D.Disk.shown c.args.disk.now).reads c.in_ok-volumes.ensures.states.long c.in_ok-volumes.ensures.states.each (returns-clause-loaded g c tells).view
 
 pub returns-in_err-volumes-clause-fault : goal.returns-in_err-volumes-clause-fault
 returns-in_err-volumes-clause-fault g c = λ tells.

@@ -16,7 +16,7 @@ returns-in-Ok-clause-asks g c =
     let of = of_get c.args.command.now x.name c.in-Get.volume snapshot c.in-Get.file c.in-Get.index (c.in-Get.is ∙ ap (λ s. Get c.in-Get.volume s c.in-Get.file c.in-Get.index) (sym c.as_ref.ensures.value)) c.requires.asks in
     state_answered d (g.D.Disk.shown c.get.new.disk) c.args.pool.now c.get.new.pool x c.get.ensures.reads (Get x.name snapshot c.in-Get.file c.in-Get.index) c.args.command.now of c.args.steps.now c.get.new.steps
     (λ _. Content c.get.new.into) c.in-Ok.field-0 c.in-Ok.ensures.asked c.in-Ok.ensures.cause
-    (λ is well m there accepted. known_get d c.args.pool.now x is well m there snapshot c.in-Get.file c.in-Get.index c.args.steps.now c.get.new.steps accepted (c.in-Ok.ensures.steps is))
+    (λ is well m there accepted. known_get d c.args.pool.now x is well c.requires.ready m there snapshot c.in-Get.file c.in-Get.index c.args.steps.now c.get.new.steps accepted (c.in-Ok.ensures.steps is))
 
 pub returns-in-Err-clause-asks : goal.returns-in-Err-clause-asks
 returns-in-Err-clause-asks g c =

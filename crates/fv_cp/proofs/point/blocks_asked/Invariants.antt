@@ -6,5 +6,5 @@ use Rattle.fv_cp.proofs.point.blocks_asked.Given as goal
 abbrev pub invariant-loop-slot : goal.invariant-loop-slot
 invariant-loop-slot l = record {
   sum : l.asked + asked_from l.slot l.volumes ≡ blocks_asked l.volumes;
-  most : l.asked ≤ 4151 * l.slot;
+  most : l.asked ≤ 4919 * l.slot;
 }

@@ -1,10 +1,7 @@
-use Rattle.std.proofs.Common.{◌≡◌, ℕ, ◌&&◌, Bool, List, sym, ap, subst, ◌∙◌, arith}
-use Rattle.std.specs.Prelude.{nat_lt}
-use Rattle.fv_bits.specs.Members.{is_member}
+use Rattle.std.proofs.Common.{ℕ, sym, subst, arith}
 use Rattle.fv_container.specs.Mapped.{Mapped}
 use Rattle.fv_container.specs.Spelled.{is_at}
 use Rattle.fv_volume.specs.Writing.{HasGiven, leads_away}
-use Rattle.fv_volume.specs.Stored.{stays}
 use Rattle.fv_volume.proofs.Drawing.{away_none, given_more, given_none}
 use Rattle.fv_volume.proofs.Gone.{all_gone, gone_more, next_place, none_gone}
 use Rattle.fv_volume.proofs.giving.give_back.Goals as goal
@@ -23,12 +20,11 @@ loop-vvbn-preserved c =
     let n = c.loop-vvbn.vvbn in
     let was = c.loop-vvbn.invariant in
     let step = c.give_back_unless.ensures in
-    let on : c.stays.result ≡ stays x n = c.stays.ensures ∙ ap (λ (active : List Bool). nat_lt n x.span && is_member active n) c.active-active.ensures.active in
     record {
-      gone = gone_more x old mid c.give_back_unless.new.container n (omega (arith, c.loop-vvbn-test.true, was.gone.long, c.requires.long)) was.gone (λ e. (step.same (on ∙ e)).0) (λ e. step.hole (on ∙ e));
-      given = given_more x old n c.args.map.now c.loop-vvbn.map c.give_back_unless.new.map was.given (λ e. (step.same (on ∙ e)).1)
-          (λ e. subst (λ (p : ℕ). HasGiven c.loop-vvbn.map (λ b. is_at b p) c.give_back_unless.new.map) (sym (next_place x old mid n was.gone)) (step.given (on ∙ e)));
+      gone = gone_more x old mid c.give_back_unless.new.container n (omega (arith, c.loop-vvbn-test.true, was.gone.long, c.requires.entries, c.entry_count-vvbn-end.ensures.value)) was.gone (λ e. (step.same e).0) (λ e. step.hole e);
+      given = given_more x old n c.args.map.now c.loop-vvbn.map c.give_back_unless.new.map was.given (λ e. (step.same e).1)
+          (λ e. subst (λ (p : ℕ). HasGiven c.loop-vvbn.map (λ b. is_at b p) c.give_back_unless.new.map) (sym (next_place x old mid n was.gone)) (step.given e));
     }
 
 pub returns-clause-holes : goal.returns-clause-holes
-returns-clause-holes c = all_gone c.args.state.now c.args.container.now c.loop-vvbn.container c.loop-vvbn.vvbn c.loop-vvbn.invariant.gone (omega (arith, c.loop-vvbn-test.false, c.requires.long))
+returns-clause-holes c = all_gone c.args.state.now c.args.container.now c.loop-vvbn.container c.loop-vvbn.vvbn c.loop-vvbn.invariant.gone (omega (arith, c.loop-vvbn-test.false, c.requires.entries, c.entry_count-vvbn-end.ensures.value))

@@ -65,21 +65,21 @@ returns-clause-loaded g c = λ tells empty.
     let told = subst IsTrue (sym first.tells) tells in
     let lies = is_label found i c.args.slot c.requires.slot (get_or found.root.labels c.args.slot 0) l refl c.if-place-eq0.false (c.in_ok-label.ensures.label tells) in
     let spelled = subst (λ (j : Image). Spelled j l.container l.height map) first.reads (c.in_ok-container.ensures.spelled told) in
-    let y = c.of_label.result in
+    let y = c.of_label-state.result in
     let second = c.read_container.ensures.only_reads.stays in
-    let span : y.span ≡ l.span = c.of_label.ensures.span in
+    let span : y.span ≡ l.span = c.of_label-state.ensures.span in
     let m = c.in_ok-map.map in
     let read = subst (λ (j : Image). HasRead j map l.span (map_blocks l.span) m) (second.reads ∙ first.reads) (c.in_ok-map.ensures.read (subst IsTrue (sym second.tells) told)) in
-    loaded_some found i c.args.slot c.requires.slot l y map _ lies c.of_label.ensures.head c.of_label.ensures.laid.label c.put.ensures.there spelled c.in_ok-container.ensures.size c.in_ok-container.ensures.valid
-    (λ v. ap (λ (x : Volume). is_member (active_of x) v) c.of_label.ensures.laid.map
+    loaded_some found i c.args.slot c.requires.slot l y map _ lies c.of_label-state.ensures.head c.of_label-state.ensures.laid.label c.put.ensures.there spelled c.in_ok-container.ensures.size c.in_ok-container.ensures.valid
+    (λ v. ap (λ (x : Volume). is_member (active_of x) v) c.of_label-state.ensures.laid.map
     ∙ read_bits found i c.args.slot l map lies spelled c.in_ok-container.ensures.size c.in_ok-container.ensures.valid m l.span read v
     ∙ ap (λ (n : ℕ). volume_bit (view_at (root_found found) i) c.args.slot n 0 v) (sym span))
-    (c.of_label.ensures.laid.changed ∙ c.has_delayed-delayed.ensures ∙ (λ j. has_delayed ((c.active.ensures.active ∙ ap (λ (x : Volume). active_of x) (sym c.of_label.ensures.laid.map)) j) map (sym span j)))
+    (c.of_label-state.ensures.laid.changed ∙ c.has_delayed-delayed.ensures ∙ (λ j. has_delayed ((c.active.ensures.active ∙ ap (λ (x : Volume). active_of x) (sym c.of_label-state.ensures.laid.map)) j) map (sym span j)))
 
 pub returns-clause-filled : goal.returns-clause-filled
 returns-clause-filled g c = record {
-  state = labelled_from c.in_ok-label.label c.in_ok-label.ensures.range c.in_ok-label.ensures.form c.of_label.result c.args.slot c.of_label.ensures.laid.slot c.of_label.ensures.head c.of_label.ensures.ledger c.of_label.ensures.named (ap (λ (x : Volume). x.span) c.of_label.ensures.laid.map ∙ c.in_ok-map.ensures.map ∙ sym c.of_label.ensures.span) (subst IsOneMap (sym c.of_label.ensures.laid.map) c.in_ok-map.ensures.one);
-  counted = c.of_label.ensures.counted;
-  housed = has_container c.in_ok-label.label c.of_label.result c.in_ok-container.container _ c.of_label.ensures.head c.in_ok-container.ensures.size c.put.ensures.there;
+  state = labelled_from c.in_ok-label.label c.in_ok-label.ensures.range c.of_records.ensures.long c.in_ok-label.ensures.form c.of_label-state.result c.args.slot c.of_label-state.ensures.laid.slot c.of_label-state.ensures.head c.of_label-state.ensures.ledger c.of_label-state.ensures.named (ap (λ (x : Volume). x.span) c.of_label-state.ensures.laid.map ∙ c.in_ok-map.ensures.map ∙ sym c.of_label-state.ensures.span) (subst IsOneMap (sym c.of_label-state.ensures.laid.map) c.in_ok-map.ensures.one) c.of_label-state.ensures.fresh;
+  counted = c.of_label-state.ensures.counted;
+  housed = has_container c.in_ok-label.label c.of_label-state.result c.in_ok-container.container _ c.of_label-state.ensures.head c.in_ok-container.ensures.size c.put.ensures.there;
   parent = search rules;
 }

@@ -33,7 +33,7 @@ returns-then-volume-ge-MOST_CHANGES-clause-refused g c = λ is.
 pub returns-clause-accepted : goal.returns-clause-accepted
 returns-clause-accepted g c = λ is.
     let few : c.args.volume.now.now < most_changes = (let now : c.find_file.new.volume.now ≡ c.args.volume.now.now = ap (λ (z : VolumeState). z.now) c.find_file.ensures.same in omega (arith, now, c.if-volume-ge-MOST_CHANGES.false)) in
-    rm_accepted (g.D.Disk.shown c.args.disk.now) c.args.pool.now c.args.volume.now is c.args.file.now c.in-Some.info (subst (Finds (standing_for (g.D.Disk.shown c.args.disk.now) c.args.pool.now c.args.volume.now).inode c.args.file.now) c.in-Some.is (c.in_ok-info.ensures.found is)) few
+    rm_accepted (g.D.Disk.shown c.args.disk.now) c.args.pool.now c.args.volume.now is c.args.file.now c.in-Some.info (subst (Finds (standing_for (g.D.Disk.shown c.args.disk.now) c.args.pool.now c.args.volume.now).inode c.args.file.now) c.in-Some.is (c.in_ok-info.ensures.found is)) c.requires.ready few
 
 pub returns-clause-more : goal.returns-clause-more
 returns-clause-more g c = (let now : c.find_file.new.volume.now ≡ c.args.volume.now.now = ap (λ (z : VolumeState). z.now) c.find_file.ensures.same in omega (arith, now, c.if-volume-ge-MOST_CHANGES.false))

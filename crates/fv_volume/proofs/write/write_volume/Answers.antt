@@ -1,14 +1,14 @@
 use Rattle.std.proofs.Common.{ℕ, ◌∙◌, arith, subst}
 use Rattle.std.specs.Prelude.{Ok, Err}
 use Rattle.fv_container.specs.Spelled.{is_at}
-use Rattle.fv_volume.specs.Writing.{HasGiven, IsTaken, IsTakenOther, leads_away, on_disk}
+use Rattle.fv_volume.specs.Writing.{HasGiven, IsTaken, IsTakenOther, on_disk}
 use Rattle.fv_volume.proofs.Counting.{room_for_label}
 use Rattle.fv_volume.proofs.Renewing.{label_free, no_old_node, nodes_taken, renewed_volume, spared}
 use Rattle.fv_volume.proofs.Sparing.{failed_value, spares_fewer}
 use Rattle.fv_volume.proofs.write.write_volume.Goals as goal
 
 pub take_block-label-requires : goal.take_block-label-requires
-take_block-label-requires g c = room_for_label c.args.state.now.span _ (omega (arith, c.requires.room, c.give_back.ensures.given.count))
+take_block-label-requires g c = room_for_label c.args.state.now _ (omega (arith, c.requires.room, c.give_back.ensures.given.count))
 
 pub returns-in_err-write_anew-clause-spares : goal.returns-in_err-write_anew-clause-spares
 returns-in_err-write_anew-clause-spares g c =
@@ -37,7 +37,7 @@ returns-clause-written g c = λ tells own.
     let gave = c.give_back.ensures in
     let taken = nodes_taken x space drawn old c.give_back.new.container (took.drawn.committed ∙ gave.given.committed) gave.tree own in
     renewed_volume x (g.D.Disk.shown c.args.disk.now).reads (g.D.Disk.shown c.write_anew.new.disk).reads space c.give_back.new.map drawn c.write_anew.new.map c.give_back_block.new.map c.take_block-label.result old c.give_back.new.container c.write_anew.new.container own
-    (subst (λ (n : ℕ). HasGiven space (leads_away x old n) c.give_back.new.map) c.entry_count.ensures.value gave.given) took.drawn took.least
+    gave.given took.drawn took.least
     (wrote.written tells taken (no_old_node x space c.give_back.new.map old c.give_back.new.container c.take_block-label.result gave.given.committed gave.tree own (label_free space c.give_back.new.map drawn _ c.take_block-label.result gave.given took.drawn took.least)))
     (subst (λ (p : ℕ). HasGiven c.write_anew.new.map (λ b. is_at b p) c.give_back_block.new.map) c.label_place.ensures c.give_back_block.ensures)
     wrote.committed wrote.entries gave.tree gave.kept gave.holes (λ b is. wrote.spares.reads tells b is)

@@ -32,7 +32,7 @@ returns-clause-added c =
     let long = (c.self.invariant (subst (λ (s : Session). IsNone s.failed) (sym c.self.view_is) c.requires.fresh)).housed.long in
     let room : c.args.room ≡ overhead (span_of c.args.size 0 0) = c.requires.room ∙ ap overhead c.requires.admitted.span_is in
     let asked : blocks_asked c.create.new.self ≤ blocks_asked c.self.inside.volumes + c.args.room =
-    omega (arith, asked_made c.self.inside.volumes slot c.args.name.now c.args.size c.args.kind c.create.new.self long e.slot e.made, room) in
+    omega (arith, asked_made c.self.inside.volumes slot c.args.name.now c.args.size c.args.kind c.create.new.self long e.slot e.made e.each, room) in
     added_as _ c.args.self.now _ c.args.name.now c.args.size c.args.kind c.args.room c.self.view_is (record {
       slot = slot;
       free = e.slot;

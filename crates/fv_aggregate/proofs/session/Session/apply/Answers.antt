@@ -13,7 +13,7 @@ use Rattle.fv_aggregate.specs.Calls.{GoesFor, IsPlain}
 use Rattle.fv_aggregate.specs.Commands.{volume_asked, changed_by, dirty_limit, machine_after, room_of}
 use Rattle.fv_aggregate.proofs.Added.{not_refused}
 use Rattle.fv_aggregate.proofs.Applied.{cp_asks, cp_built, cp_goes, cp_goes_for, cp_no_files, cp_no_list, cp_no_whole, cp_replies, create_asks, create_built, create_goes, create_goes_for, create_no_files, create_no_list, create_no_point, create_no_whole, create_replies, create_room, list_after, list_done, list_fails, list_replies, no_files, some_room, managed_or_unbuilt, rests_for, rests_for_fault}
-use Rattle.fv_aggregate.proofs.Applying.{booked_each, look_asks, look_files, look_goes, look_goes_for, look_name, look_no_point, look_refused, look_reply, make_asks, make_calm, make_files, make_goes, make_goes_for, make_name, make_no_point, make_reply, make_unasked, no_step, not_dead, rests_as}
+use Rattle.fv_aggregate.proofs.Applying.{booked_each, look_asks, look_files, look_goes, look_goes_for, look_name, look_no_point, look_refused, look_reply, look_same, make_asks, make_calm, make_goes, make_goes_for, make_name, make_no_point, make_reply, make_unasked, make_unchanged, no_step, not_dead, pointed_same, rests_as, same_map}
 use Rattle.fv_aggregate.proofs.Calls.{reads_itself}
 use Rattle.fv_aggregate.proofs.Changing.{change_of_volume, change_reads, look_reads}
 use Rattle.fv_aggregate.proofs.Keeping.{keeps_but, keeps_managed, named_as}
@@ -45,10 +45,12 @@ returns-in-VolCreate g c =
       plain = λ plain. record {
         refused = c.create.ensures.refused;
         calm = λ other few. c.create.ensures.calm (low few);
+        map = λ other stays few. c.create.ensures.map (low few);
         wanting = λ other few. c.create.ensures.wanting (low few);
         damage = c.create.ensures.damage;
         unbuilt = λ fresh none. create_built command _ _ _ c.in-VolCreate.is _ none;
         listed = λ list. create_no_list command _ _ _ c.in-VolCreate.is _ list;
+        untouched = λ list. create_no_list command _ _ _ c.in-VolCreate.is _ list;
         pointed = λ cp. create_no_point command _ _ _ c.in-VolCreate.is _ cp;
         memory = λ cp. create_no_point command _ _ _ c.in-VolCreate.is _ cp;
         managed = λ fresh name of. create_no_whole command _ _ _ c.in-VolCreate.is _ name of;
@@ -57,6 +59,7 @@ returns-in-VolCreate g c =
       point = λ tells last m stands cp. create_no_point command _ _ _ c.in-VolCreate.is _ cp;
       calm = λ other few. rests_as g.D.Disk.shown c.args.disk.now c.create.new.disk (c.create.ensures.calm (low few));
       files = λ tells none without. c.create.ensures.files tells without;
+      same = λ tells none stays same. c.create.ensures.same tells same;
       steps = record { other = λ none. refl; known = λ tells last m stands. no_step c.create.result c.args.steps.now; dead = λ failed. refl };
       numbers = λ alive. keeps_but _ s.volumes n.volumes (c.create.ensures.numbers alive);
       dead = λ failed. not_dead _ s fresh failed;
@@ -78,10 +81,12 @@ returns-in-Cp g c =
       plain = λ plain. record {
         refused = not_refused _ c.reclaim.result c.reclaim.ensures.reply;
         calm = λ other. absurd (other c.in-Cp.is);
+        map = λ other. absurd (other c.in-Cp.is);
         wanting = λ other. absurd (other c.in-Cp.is);
         damage = c.reclaim.ensures.damage;
         unbuilt = λ fresh none. cp_built _ command c.in-Cp.is none;
         listed = λ list. cp_no_list _ command c.in-Cp.is list;
+        untouched = λ list. cp_no_list _ command c.in-Cp.is list;
         pointed = λ cp. c.reclaim.ensures.left;
         memory = λ cp. c.reclaim.ensures.memory;
         managed = λ fresh name of. cp_no_whole _ command c.in-Cp.is name of;
@@ -90,6 +95,7 @@ returns-in-Cp g c =
       point = λ tells last m stands cp. c.reclaim.ensures.done tells last m stands;
       calm = λ other. absurd (other c.in-Cp.is);
       files = λ tells none without. c.reclaim.ensures.files tells;
+      same = λ tells none stays same. pointed_same d s n c.reclaim.result c.reclaim.ensures.left tells;
       steps = record { other = λ none. refl; known = λ tells last m stands. no_step c.reclaim.result c.args.steps.now; dead = λ failed. refl };
       numbers = λ alive. keeps_but _ s.volumes n.volumes (c.reclaim.ensures.numbers alive);
       dead = λ failed. not_dead _ s fresh failed;
@@ -122,6 +128,7 @@ returns-in-Some-asked_volume g c =
       point = λ tells last m stands cp. look_no_point command name asks d s e n c.look.result looks _ cp;
       calm = λ other few. looks.only_reads;
       files = λ tells none without. look_files command name asks d s e n c.look.result looks without;
+      same = λ tells none stays same. look_same command name asks d s e n c.look.result looks same;
       steps = record { other = c.look.ensures.steps; known = c.look.ensures.known; dead = λ failed. not_dead _ s fresh failed };
       numbers = λ alive. keeps_but _ s.volumes n.volumes c.look.ensures.kept;
       dead = λ failed. not_dead _ s fresh failed;
@@ -153,7 +160,8 @@ returns-in-Some-changed_volume g c =
       };
       point = λ tells last m stands cp. make_no_point command name of d s e n c.change.result makes _ cp;
       calm = λ other few. make_calm command name of d s e n c.change.result makes few;
-      files = λ tells isnt without. make_files command name of d s e n c.change.result makes _ isnt;
+      files = λ tells isnt without. make_unchanged command name of d s e n c.change.result makes _ isnt;
+      same = λ tells isnt stays same. make_unchanged command name of d s e n c.change.result makes _ isnt;
       steps = record { other = λ none. refl; known = λ tells last m stands. no_step c.change.result c.args.steps.now; dead = λ failed. refl };
       numbers = c.change.ensures.kept;
       dead = λ failed. not_dead _ s fresh failed;
@@ -189,6 +197,7 @@ returns-in-None-changed_volume g c =
       point = λ tells last m stands cp. absurd (at.not-Cp cp);
       calm = λ other few. reads_itself disk;
       files = λ tells none without. over.files without;
+      same = λ tells none stays same. same_map old new (over.map stays) same;
       steps = record { other = λ none. refl; known = λ tells last m stands. refl; dead = λ failed. refl };
       numbers = λ alive. keeps_managed old command new reply fit.housed.long c.manage.ensures;
       dead = λ failed. refl;

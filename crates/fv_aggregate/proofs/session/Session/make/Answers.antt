@@ -1,5 +1,5 @@
 use Rattle.std.proofs.Common.{◌≡◌, ◌≤◌, ◌+◌, ◌*◌, ℕ, rules, Ok, Err, sym, ap, subst, ◌∙◌, arith}
-use Rattle.std.specs.Prelude.{IsTrue}
+use Rattle.std.specs.Prelude.{IsNone, IsTrue}
 use Rattle.fv_model.specs.declared.answers.Reply.{Reply}
 use Rattle.fv_model.specs.declared.answers.Reply.TheVariants.{Done}
 use Rattle.fv_model.specs.declared.commands.Command.TheVariants.{VolCreate}
@@ -9,7 +9,9 @@ use Rattle.fv_model.specs.Space.{commits, overhead}
 use Rattle.fv_aggregate.specs.declared.fault.Fault.TheVariants.{Memory}
 use Rattle.fv_aggregate.specs.declared.session.Session.{Session}
 use Rattle.fv_aggregate.specs.Calls.{Goes, GoesFor, KeepsAsking}
-use Rattle.fv_aggregate.proofs.Added.{added_asks, added_for, added_goes, made_files, room_for, unmade_for, wanting_for}
+use Rattle.fv_aggregate.proofs.Added.{added_asks, added_for, added_goes, made_files, made_map, room_for, unmade_for, wanting_for}
+use Rattle.fv_aggregate.proofs.Applying.{same_map}
+use Rattle.fv_aggregate.proofs.Keeping.{keeps_added}
 use Rattle.fv_aggregate.proofs.session.Session.make.Goals as goal
 
 pub returns-in_err-make_room-clause-goes_for : goal.returns-in_err-make_room-clause-goes_for
@@ -55,6 +57,16 @@ pub returns-clause-files : goal.returns-clause-files
 returns-clause-files g c = λ tells none.
     made_files c.make_room.new.self c.args.name.now c.args.size c.args.kind c.from-room.result c.add.new.self c.in_ok-add.ensures.added (g.D.Disk.shown c.make_room.new.disk) (c.in_ok-make_room.ensures.files tells none)
 
+pub returns-clause-same : goal.returns-clause-same
+returns-clause-same g c = λ tells same.
+    same_map c.make_room.new.self c.add.new.self (made_map c.make_room.new.self c.args.name.now c.args.size c.args.kind c.from-room.result c.add.new.self c.in_ok-add.ensures.added) (c.in_ok-make_room.ensures.same tells same)
+
+pub returns-clause-map : goal.returns-clause-map
+returns-clause-map g c = λ few.
+    let room : c.from-room.result ≡ overhead c.args.admitted.span = search rules in
+    made_map c.make_room.new.self c.args.name.now c.args.size c.args.kind c.from-room.result c.add.new.self c.in_ok-add.ensures.added
+    ∙ ap (λ (s : Session). s.pool.map) (c.in_ok-make_room.ensures.calm (subst (λ (n : ℕ). c.args.self.now.pending + n ≤ 256) (sym room) few)).1
+
 pub returns-clause-goes_for : goal.returns-clause-goes_for
 returns-clause-goes_for g c = λ tells last m stands.
     let old = g.D.Disk.shown c.args.disk.now in
@@ -65,3 +77,8 @@ returns-clause-goes_for g c = λ tells last m stands.
     added_for old c.args.self.now mid c.make_room.new.self c.args.name.now c.args.size c.args.kind c.from-room.result (subst IsTrue (sym made.goes.ends.tells) tells) (made.goes.stands made.goes.done.goes_on).cache
     last m (made.goes_for tells last m stands) (room ∙ ap overhead c.requires.admitted.span_is)
     (made.room tells last m stands fits) c.add.new.self c.in_ok-add.ensures.added c.in_ok-add.ensures.pending
+
+pub returns-clause-numbers : goal.returns-clause-numbers
+returns-clause-numbers g c = λ none s known.
+    let added = c.in_ok-add.ensures.added in
+    keeps_added c.make_room.new.self c.args.name.now c.args.size c.args.kind c.from-room.result c.add.new.self added s (c.in_ok-make_room.ensures.numbers (subst IsNone added.failed none) s known)

@@ -7,7 +7,7 @@ use Rattle.fv_volume.specs.States.{States}
 use Rattle.fv_cp.specs.Placing.{HaveNoFiles}
 use Rattle.fv_cp.specs.Settling.{HaveFullRoom, IsNoDamage, IsStill, StillHeld, WholeCounts, WholeFails}
 use Rattle.fv_aggregate.specs.declared.session.Session.{Session}
-use Rattle.fv_aggregate.proofs.PointEnds.{done_asks, failed_asks, has_full_room, held_as, point_done, point_failed_for, point_lacks, point_moments, point_room, point_wanting, pointed, pointed_left, still_asks, still_for, still_wants}
+use Rattle.fv_aggregate.proofs.PointEnds.{done_asks, failed_asks, has_full_room, held_as, point_done, point_failed_for, point_lacks, point_moments, point_room, point_wanting, pointed, pointed_left, still_as, still_asks, still_for, still_said, still_wants}
 use Rattle.fv_aggregate.proofs.Standing.{reads_whole}
 use Rattle.fv_aggregate.proofs.session.Session.point.Goals as goal
 
@@ -92,16 +92,12 @@ returns-in-Err-DiskFault-clause-asks g c =
 pub invariant_of-self-in-Err-Damaged : goal.invariant_of-self-in-Err-Damaged
 invariant_of-self-in-Err-Damaged g c = λ fresh.
     let e = c.in-Err-Damaged in
-    let still : StillHeld (g.D.Disk.shown c.args.disk.now) c.self.inside.pool c.self.inside.volumes (g.D.Disk.shown c.full_point.new.disk) c.full_point.new.pool c.full_point.new.volumes =
-    subst (IsStill (g.D.Disk.shown c.args.disk.now) c.self.inside.pool c.self.inside.volumes (g.D.Disk.shown c.full_point.new.disk) c.full_point.new.pool c.full_point.new.volumes) e.field-0-is e.ensures.still in
-    still.placed.fit
+    (still_as (g.D.Disk.shown c.args.disk.now) c.self.inside.pool c.self.inside.volumes (g.D.Disk.shown c.full_point.new.disk) c.full_point.new.pool c.full_point.new.volumes _ _ e.field-0-is e.ensures.still).placed.fit
 
 pub invariant_of-self-in-Err-Memory : goal.invariant_of-self-in-Err-Memory
 invariant_of-self-in-Err-Memory g c = λ fresh.
     let e = c.in-Err-Memory in
-    let still : StillHeld (g.D.Disk.shown c.args.disk.now) c.self.inside.pool c.self.inside.volumes (g.D.Disk.shown c.full_point.new.disk) c.full_point.new.pool c.full_point.new.volumes =
-    subst (IsStill (g.D.Disk.shown c.args.disk.now) c.self.inside.pool c.self.inside.volumes (g.D.Disk.shown c.full_point.new.disk) c.full_point.new.pool c.full_point.new.volumes) e.field-0-is e.ensures.still in
-    still.placed.fit
+    (still_as (g.D.Disk.shown c.args.disk.now) c.self.inside.pool c.self.inside.volumes (g.D.Disk.shown c.full_point.new.disk) c.full_point.new.pool c.full_point.new.volumes _ _ e.field-0-is e.ensures.still).placed.fit
 
 pub returns-in-Err-Damaged-clause-goes : goal.returns-in-Err-Damaged-clause-goes
 returns-in-Err-Damaged-clause-goes g c =
@@ -112,7 +108,7 @@ returns-in-Err-Damaged-clause-goes g c =
     let pool = c.full_point.new.pool in
     let volumes = c.full_point.new.volumes in
     let fails : WholeFails c.args.self.now.volumes pool volumes fault = subst (λ (s : Session). WholeFails s.volumes pool volumes fault) c.self.view_is (subst (WholeFails c.self.inside.volumes pool volumes) e.field-0-is e.ensures.fails) in
-    let still : StillHeld old c.args.self.now.pool c.args.self.now.volumes new pool volumes = subst (λ (s : Session). StillHeld old s.pool s.volumes new pool volumes) c.self.view_is (subst (IsStill old c.self.inside.pool c.self.inside.volumes new pool volumes) e.field-0-is e.ensures.still) in
+    let still = still_said old _ c.args.self.now c.self.view_is new pool volumes _ _ e.field-0-is e.ensures.still in
     point_lacks old c.args.self.now new _ still (λ j. record (c.self.view_is j) { pool = pool; volumes = volumes }) e.at e.want e.found c.requires.fresh c.requires.stands (rw e.field-0-is at e.ensures.counts) fails
 
 pub returns-in-Err-Damaged-clause-damage : goal.returns-in-Err-Damaged-clause-damage
@@ -124,7 +120,7 @@ returns-in-Err-Damaged-clause-damage g c =
     let pool = c.full_point.new.pool in
     let volumes = c.full_point.new.volumes in
     let fails : WholeFails c.args.self.now.volumes pool volumes fault = subst (λ (s : Session). WholeFails s.volumes pool volumes fault) c.self.view_is (subst (WholeFails c.self.inside.volumes pool volumes) e.field-0-is e.ensures.fails) in
-    let still : StillHeld old c.args.self.now.pool c.args.self.now.volumes new pool volumes = subst (λ (s : Session). StillHeld old s.pool s.volumes new pool volumes) c.self.view_is (subst (IsStill old c.self.inside.pool c.self.inside.volumes new pool volumes) e.field-0-is e.ensures.still) in
+    let still = still_said old _ c.args.self.now c.self.view_is new pool volumes _ _ e.field-0-is e.ensures.still in
     still_wants old c.args.self.now new _ still (λ j. record (c.self.view_is j) { pool = pool; volumes = volumes }) e.at e.want e.found c.requires.fresh c.requires.stands fails
 
 pub returns-in-Err-Damaged-clause-asks : goal.returns-in-Err-Damaged-clause-asks
@@ -134,7 +130,7 @@ returns-in-Err-Damaged-clause-asks g c =
     let new = g.D.Disk.shown c.full_point.new.disk in
     let pool = c.full_point.new.pool in
     let volumes = c.full_point.new.volumes in
-    let still : StillHeld old c.args.self.now.pool c.args.self.now.volumes new pool volumes = subst (λ (s : Session). StillHeld old s.pool s.volumes new pool volumes) c.self.view_is (subst (IsStill old c.self.inside.pool c.self.inside.volumes new pool volumes) e.field-0-is e.ensures.still) in
+    let still = still_said old _ c.args.self.now c.self.view_is new pool volumes _ _ e.field-0-is e.ensures.still in
     still_asks old c.args.self.now new _ still (λ j. record (c.self.view_is j) { pool = pool; volumes = volumes })
 
 pub returns-in-Err-Damaged-clause-goes_for : goal.returns-in-Err-Damaged-clause-goes_for
@@ -156,7 +152,7 @@ returns-in-Err-Memory-clause-goes g c =
     let new = g.D.Disk.shown c.full_point.new.disk in
     let pool = c.full_point.new.pool in
     let volumes = c.full_point.new.volumes in
-    let still : StillHeld old c.args.self.now.pool c.args.self.now.volumes new pool volumes = subst (λ (s : Session). StillHeld old s.pool s.volumes new pool volumes) c.self.view_is (subst (IsStill old c.self.inside.pool c.self.inside.volumes new pool volumes) e.field-0-is e.ensures.still) in
+    let still = still_said old _ c.args.self.now c.self.view_is new pool volumes _ _ e.field-0-is e.ensures.still in
     point_wanting old c.args.self.now new _ still (λ j. record (c.self.view_is j) { pool = pool; volumes = volumes }) c.requires.fresh c.requires.stands (rw e.field-0-is at e.ensures.counts)
 
 pub returns-in-Err-Memory-clause-asks : goal.returns-in-Err-Memory-clause-asks
@@ -166,7 +162,7 @@ returns-in-Err-Memory-clause-asks g c =
     let new = g.D.Disk.shown c.full_point.new.disk in
     let pool = c.full_point.new.pool in
     let volumes = c.full_point.new.volumes in
-    let still : StillHeld old c.args.self.now.pool c.args.self.now.volumes new pool volumes = subst (λ (s : Session). StillHeld old s.pool s.volumes new pool volumes) c.self.view_is (subst (IsStill old c.self.inside.pool c.self.inside.volumes new pool volumes) e.field-0-is e.ensures.still) in
+    let still = still_said old _ c.args.self.now c.self.view_is new pool volumes _ _ e.field-0-is e.ensures.still in
     still_asks old c.args.self.now new _ still (λ j. record (c.self.view_is j) { pool = pool; volumes = volumes })
 
 pub returns-in-Err-Memory-clause-kept : goal.returns-in-Err-Memory-clause-kept
@@ -176,7 +172,7 @@ returns-in-Err-Memory-clause-kept g c = λ tells last m stands fresh.
     let new = g.D.Disk.shown c.full_point.new.disk in
     let pool = c.full_point.new.pool in
     let volumes = c.full_point.new.volumes in
-    let still : StillHeld old c.args.self.now.pool c.args.self.now.volumes new pool volumes = subst (λ (s : Session). StillHeld old s.pool s.volumes new pool volumes) c.self.view_is (subst (IsStill old c.self.inside.pool c.self.inside.volumes new pool volumes) e.field-0-is e.ensures.still) in
+    let still = still_said old _ c.args.self.now c.self.view_is new pool volumes _ _ e.field-0-is e.ensures.still in
     let long = ap (λ (s : Session). length s.volumes) (sym c.self.view_is) ∙ (c.self.invariant (subst (λ (s : Session). IsNone s.failed) (sym c.self.view_is) c.requires.fresh)).housed.long in
     still_for old c.args.self.now new _ still (λ j. record (c.self.view_is j) { pool = pool; volumes = volumes }) last m long stands
 

@@ -60,18 +60,19 @@ returns-in-Ok-clause-places g c = λ is.
     let x = c.args.self.now in
     let files = c.in-Some.files in
     let held : x.files ≡ Some files = search rules in
+    let goes = c.place_table.ensures.goes in
     let now = c.place_table.new in
     let after = c.take.ensures.after in
     let table = c.in-Ok.ensures.table in
     let rooted = c.rooted-self.ensures in
     let y : VolumeState = record x { active = c.rooted-self.result; map = now.map; files = c.take.new.self; changed = true } in
     let stands : IsStanding d now.pool y =
-    done_standing d d p now.pool x files held now.map now.files c.in-Ok.root c.rooted-self.result c.take.new.self rooted after table is c.place_table.ensures.told in
+    done_standing d d p now.pool x files held now.map c.args.room.now now.room goes now.files c.in-Ok.root c.rooted-self.result c.take.new.self rooted after table is c.place_table.ensures.told in
     record {
       standing = stands;
-      volume = done_volume d d p now.pool x files held now.map now.files c.in-Ok.root c.rooted-self.result c.take.new.self rooted after table is;
-      led = done_led d d p now.pool x files held now.map now.files c.in-Ok.root c.rooted-self.result c.take.new.self rooted after table is;
-      well = done_well d d p now.pool x files held now.map now.files c.in-Ok.root c.rooted-self.result c.take.new.self rooted after table is;
+      volume = done_volume d d p now.pool x files held now.map c.args.room.now now.room goes now.files c.in-Ok.root c.rooted-self.result c.take.new.self rooted after table is;
+      led = done_led d d p now.pool x files held now.map c.args.room.now now.room goes now.files c.in-Ok.root c.rooted-self.result c.take.new.self rooted after table is;
+      well = done_well d d p now.pool x files held now.map c.args.room.now now.room goes now.files c.in-Ok.root c.rooted-self.result c.take.new.self rooted after table is;
       seen = standing_seen d now.pool y stands after (returns-in-Ok-clause-ready g c).labelled;
       fits = fits_done x.files c.take.new.self files now.files held after c.args.room.now now.room (c.in-Ok.ensures.room.fits (was_told d p x files held is)) c.in-Ok.ensures.room.nothing;
       enough = λ enough. tt;
@@ -84,15 +85,16 @@ returns-in-Err-clause-places g c = λ is.
     let x = c.args.self.now in
     let files = c.in-Some.files in
     let held : x.files ≡ Some files = search rules in
+    let goes = c.place_table.ensures.goes in
     let now = c.place_table.new in
     let fault = c.in-Err.fault in
     let table = c.in-Err.ensures.table in
     let told = was_told d p x files held in
     record {
-      standing = failed_standing d d p now.pool x files held now.map now.files fault table is c.place_table.ensures.told;
-      volume = failed_volume d d p now.pool x files held now.map now.files fault table is;
-      led = failed_led d d p now.pool x files held now.map now.files fault table is;
-      well = failed_well d d p now.pool x files held now.map now.files fault table is;
+      standing = failed_standing d d p now.pool x files held now.map c.args.room.now now.room goes now.files fault table is c.place_table.ensures.told;
+      volume = failed_volume d d p now.pool x files held now.map c.args.room.now now.room goes now.files fault table is;
+      led = failed_led d d p now.pool x files held now.map c.args.room.now now.room goes now.files fault table is;
+      well = failed_well d d p now.pool x files held now.map c.args.room.now now.room goes now.files fault table is;
       seen = tt;
       fits = fits_failed x.files files now.files held c.args.room.now now.room (c.in-Err.ensures.room.fits (told is));
       enough = λ enough. c.into.ensures ∙ ap of_block (c.in-Err.ensures.room.enough (told is) (pending_held x.files files held c.args.room.now enough));

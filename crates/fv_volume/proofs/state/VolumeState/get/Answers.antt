@@ -5,7 +5,9 @@ use Rattle.fv_model.specs.Numbers.{is_index}
 use Rattle.fv_volume.specs.Causes.{of_block}
 use Rattle.fv_volume.specs.Lending.{lent_for}
 use Rattle.fv_volume.specs.OneVolume.{home_in, standing_for, IsStanding}
-use Rattle.fv_volume.proofs.Asked.{copied_none, copied_some, get_asked_found, get_asked_missing, get_asked_past, get_asked_snapshot, get_too_far, gives_before, info_later}
+use Rattle.fv_volume.proofs.Asked.{copied_none, copied_some, get_asked_found, get_asked_lost, get_asked_missing, get_asked_past, get_too_far, gives_before, info_later}
+use Rattle.fv_volume.proofs.KeptTables.{ready_snaps}
+use Rattle.fv_volume.proofs.SnapReads.{asked_active, asked_lone}
 use Rattle.fv_volume.proofs.CallCauses.{failed_cause, fails_later, not_refused}
 use Rattle.fv_volume.proofs.state.VolumeState.get.Goals as goal
 use Rattle.std.specs.Prelude.{◌≤◌, ◌<◌, IfErr}
@@ -28,7 +30,7 @@ pub returns-then-is_some-clause-asked : goal.returns-then-is_some-clause-asked
 returns-then-is_some-clause-asked g c = λ is.
     let near : is_index c.args.index ≡ true = search rules in
     let some : is_some c.args.snapshot ≡ true = search rules in
-    get_asked_snapshot (g.D.Disk.shown c.args.disk.now) c.args.pool.now c.args.self.now (option_copied c.args.snapshot) (copied_some c.args.snapshot some) c.args.file.now c.args.index _ near
+    get_asked_lost (g.D.Disk.shown c.args.disk.now) c.args.pool.now c.args.self.now (option_copied c.args.snapshot) is (asked_lone (g.D.Disk.shown c.args.disk.now) c.args.pool.now c.args.self.now (ready_snaps (g.D.Disk.shown c.args.disk.now) c.args.pool.now c.args.self.now c.requires.ready) (option_copied c.args.snapshot) (copied_some c.args.snapshot some)) c.args.file.now c.args.index _ near
 
 pub returns-in_err-find_file-clause-cause : goal.returns-in_err-find_file-clause-cause
 returns-in_err-find_file-clause-cause g c =
@@ -41,7 +43,7 @@ returns-in-None-clause-asked g c = λ is.
     let near : is_index c.args.index ≡ true = search rules in
     let none : is_some c.args.snapshot ≡ false = search rules in
     let found : c.in_ok-find_file.field-0 ≡ None = search rules in
-    get_asked_missing (g.D.Disk.shown c.args.disk.now) c.args.pool.now c.args.self.now (option_copied c.args.snapshot) (copied_none c.args.snapshot none) c.args.index _ near c.args.file.now (subst (λ o. Finds (standing_for (g.D.Disk.shown c.args.disk.now) c.args.pool.now c.args.self.now).inode c.args.file.now o) found (c.in_ok-find_file.ensures.found is))
+    get_asked_missing (g.D.Disk.shown c.args.disk.now) c.args.pool.now c.args.self.now (option_copied c.args.snapshot) is (standing_for (g.D.Disk.shown c.args.disk.now) c.args.pool.now c.args.self.now) (asked_active (g.D.Disk.shown c.args.disk.now) c.args.pool.now c.args.self.now (option_copied c.args.snapshot) (copied_none c.args.snapshot none)) c.args.file.now c.args.index _ near (subst (λ o. Finds (standing_for (g.D.Disk.shown c.args.disk.now) c.args.pool.now c.args.self.now).inode c.args.file.now o) found (c.in_ok-find_file.ensures.found is))
 
 pub returns-then-info-index-clause-asked : goal.returns-then-info-index-clause-asked
 returns-then-info-index-clause-asked g c =
@@ -50,7 +52,7 @@ returns-then-info-index-clause-asked g c =
     let found : c.in_ok-find_file.field-0 ≡ Some c.in-Some.info = search rules in
     let first : IsStanding (g.D.Disk.shown c.args.disk.now) c.args.pool.now c.args.self.now → IsFirst (standing_for (g.D.Disk.shown c.args.disk.now) c.args.pool.now c.args.self.now).inode c.args.file.now c.in-Some.info = λ is. subst (λ o. Finds (standing_for (g.D.Disk.shown c.args.disk.now) c.args.pool.now c.args.self.now).inode c.args.file.now o) found (c.in_ok-find_file.ensures.found is) in
     let past : c.in-Some.info.length ≤ c.args.index = search rules in
-    λ is. get_asked_past (g.D.Disk.shown c.args.disk.now) c.args.pool.now c.args.self.now (option_copied c.args.snapshot) (copied_none c.args.snapshot none) c.args.index _ near is c.args.file.now c.in-Some.info (first is) past
+    λ is. get_asked_past (g.D.Disk.shown c.args.disk.now) c.args.pool.now c.args.self.now (option_copied c.args.snapshot) is (standing_for (g.D.Disk.shown c.args.disk.now) c.args.pool.now c.args.self.now) (asked_active (g.D.Disk.shown c.args.disk.now) c.args.pool.now c.args.self.now (option_copied c.args.snapshot) (copied_none c.args.snapshot none)) c.args.file.now c.in-Some.info (first is) c.args.index _ near past
 
 pub read_block-requires-clause-there : goal.read_block-requires-clause-there
 read_block-requires-clause-there g c =
@@ -78,7 +80,7 @@ returns-in_ok-read_block-in-Some-clause-asked g c =
     let within : c.args.index < c.in-Some.info.length = search rules in
     λ is.
     let given = subst (λ (v : VolumeState). IsStanding (g.D.Disk.shown c.find_file.new.disk) c.find_file.new.pool v → GivesCell (standing_for (g.D.Disk.shown c.find_file.new.disk) c.find_file.new.pool v) c.in-Some.info.number c.args.index c.read_block.new.into) c.find_file.ensures.same c.in_ok-read_block-in-Some.ensures.block in
-    get_asked_found (g.D.Disk.shown c.args.disk.now) c.args.pool.now c.args.self.now (option_copied c.args.snapshot) (copied_none c.args.snapshot none) c.args.index _ near is c.args.file.now c.in-Some.info (first is) within
+    get_asked_found (g.D.Disk.shown c.args.disk.now) c.args.pool.now c.args.self.now (option_copied c.args.snapshot) is (standing_for (g.D.Disk.shown c.args.disk.now) c.args.pool.now c.args.self.now) (asked_active (g.D.Disk.shown c.args.disk.now) c.args.pool.now c.args.self.now (option_copied c.args.snapshot) (copied_none c.args.snapshot none)) c.args.file.now c.in-Some.info (first is) c.args.index _ near within
     (gives_before (g.D.Disk.shown c.args.disk.now) (g.D.Disk.shown c.find_file.new.disk) c.args.pool.now c.find_file.new.pool c.find_file.ensures.reads c.args.self.now c.in-Some.info.number c.args.index c.read_block.new.into (given (still_standing (g.D.Disk.shown c.args.disk.now) (g.D.Disk.shown c.find_file.new.disk) c.args.pool.now c.find_file.new.pool c.find_file.ensures.reads c.args.self.now is)))
 
 pub returns-in_ok-read_block-in-Some-clause-steps : goal.returns-in_ok-read_block-in-Some-clause-steps

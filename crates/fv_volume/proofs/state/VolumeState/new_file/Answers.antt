@@ -79,7 +79,7 @@ returns-clause-changes g c = λ is.
       moved = c.count_made.ensures.ledger;
       moves = c.count_made.ensures.machine;
     } in
-    new_is (g.D.Disk.shown c.args.disk.now) (g.D.Disk.shown c.judge_new.new.disk) (g.D.Disk.shown c.create_file.new.disk) c.args.pool.now c.judge_new.new.pool c.create_file.new.pool c.args.self.now c.judge_new.new.volume c.create_file.new.volume c.count_made.new.volume c.in_ok-making.making.delta parts is c.args.others c.args.file.now c.args.reserve c.in_ok-making.making.number c.in_ok-making.ensures.none (c.in_ok-making.ensures.accepted is) c.in_ok-create_file.ensures.made c.count_made.ensures.tells
+    new_is (g.D.Disk.shown c.args.disk.now) (g.D.Disk.shown c.judge_new.new.disk) (g.D.Disk.shown c.create_file.new.disk) c.args.pool.now c.judge_new.new.pool c.create_file.new.pool c.args.self.now c.judge_new.new.volume c.create_file.new.volume c.count_made.new.volume c.in_ok-making.making.delta parts is c.requires.ready c.args.others c.args.file.now c.args.reserve c.in_ok-making.making.number c.in_ok-making.ensures.none (c.in_ok-making.ensures.accepted is) c.in_ok-create_file.ensures.made c.count_made.ensures.tells
 
 pub returns-clause-standing : goal.returns-clause-standing
 returns-clause-standing g c = λ is.
@@ -92,7 +92,7 @@ returns-clause-standing g c = λ is.
       moved = c.count_made.ensures.ledger;
       moves = c.count_made.ensures.machine;
     } in
-    new_stands (g.D.Disk.shown c.args.disk.now) (g.D.Disk.shown c.judge_new.new.disk) (g.D.Disk.shown c.create_file.new.disk) c.args.pool.now c.judge_new.new.pool c.create_file.new.pool c.args.self.now c.judge_new.new.volume c.create_file.new.volume c.count_made.new.volume c.in_ok-making.making.delta parts is c.args.others c.args.file.now c.args.reserve c.in_ok-making.making.number c.in_ok-making.ensures.none (c.in_ok-making.ensures.accepted is) c.in_ok-create_file.ensures.made c.count_made.ensures.tells
+    new_stands (g.D.Disk.shown c.args.disk.now) (g.D.Disk.shown c.judge_new.new.disk) (g.D.Disk.shown c.create_file.new.disk) c.args.pool.now c.judge_new.new.pool c.create_file.new.pool c.args.self.now c.judge_new.new.volume c.create_file.new.volume c.count_made.new.volume c.in_ok-making.making.delta parts is c.requires.ready c.args.others c.args.file.now c.args.reserve c.in_ok-making.making.number c.in_ok-making.ensures.none (c.in_ok-making.ensures.accepted is) c.in_ok-create_file.ensures.made c.count_made.ensures.tells
 
 pub returns-clause-ready : goal.returns-clause-ready
 returns-clause-ready g c =

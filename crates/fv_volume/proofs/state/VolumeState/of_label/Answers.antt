@@ -5,7 +5,7 @@ use Rattle.fv_volume.proofs.Shows.{active_long}
 use Rattle.fv_volume.proofs.state.VolumeState.of_label.Goals as goal
 
 pub returns-clause-head : goal.returns-clause-head
-returns-clause-head c = head_from c.args.label.now (bare c.args.label.now c.requires.form) c.name_of.result c.kind_of-kind.result c.new.result c.name_of.ensures.name c.kind_of-kind.ensures c.new.ensures
+returns-clause-head c = head_from c.args.label.now (bare c.args.label.now c.requires.form) c.name_of.result c.kind_of-kind.result c.args.snapshots c.name_of.ensures.name c.kind_of-kind.ensures c.requires.said
 
 pub counted-ledger-requires-clause-held : goal.counted-ledger-requires-clause-held
 counted-ledger-requires-clause-held c = ap (λ (m : List Bool). length m) c.active.ensures.active ∙ active_long c.args.map c.active.ensures.valid ∙ c.requires.map

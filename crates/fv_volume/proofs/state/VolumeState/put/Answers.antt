@@ -80,7 +80,7 @@ returns-clause-changes g c = λ is.
       moved = c.count_change.ensures.ledger;
       moves = c.count_change.ensures.machine;
     } in
-    put_is (g.D.Disk.shown c.args.disk.now) (g.D.Disk.shown c.judge_put.new.disk) (g.D.Disk.shown c.write_block.new.disk) c.args.pool.now c.judge_put.new.pool c.write_block.new.pool c.args.self.now c.judge_put.new.volume c.write_block.new.volume c.count_change.new.volume c.in_ok-admission.admission.delta parts is c.args.others c.args.file.now c.args.index c.args.block.now c.in_ok-admission.admission.info (c.in_ok-admission.ensures.accepted is) c.in_ok-write_block.ensures.written (ap (λ (z : VolumeState). z.numbers) c.count_change.ensures.others)
+    put_is (g.D.Disk.shown c.args.disk.now) (g.D.Disk.shown c.judge_put.new.disk) (g.D.Disk.shown c.write_block.new.disk) c.args.pool.now c.judge_put.new.pool c.write_block.new.pool c.args.self.now c.judge_put.new.volume c.write_block.new.volume c.count_change.new.volume c.in_ok-admission.admission.delta parts is c.requires.ready c.args.others c.args.file.now c.args.index c.args.block.now c.in_ok-admission.admission.info (c.in_ok-admission.ensures.accepted is) c.in_ok-write_block.ensures.written (ap (λ (z : VolumeState). z.numbers) c.count_change.ensures.others)
 
 pub returns-clause-standing : goal.returns-clause-standing
 returns-clause-standing g c = λ is.
@@ -93,7 +93,7 @@ returns-clause-standing g c = λ is.
       moved = c.count_change.ensures.ledger;
       moves = c.count_change.ensures.machine;
     } in
-    put_stands (g.D.Disk.shown c.args.disk.now) (g.D.Disk.shown c.judge_put.new.disk) (g.D.Disk.shown c.write_block.new.disk) c.args.pool.now c.judge_put.new.pool c.write_block.new.pool c.args.self.now c.judge_put.new.volume c.write_block.new.volume c.count_change.new.volume c.in_ok-admission.admission.delta parts is c.args.others c.args.file.now c.args.index c.args.block.now c.in_ok-admission.admission.info (c.in_ok-admission.ensures.accepted is) c.in_ok-write_block.ensures.written (ap (λ (z : VolumeState). z.numbers) c.count_change.ensures.others)
+    put_stands (g.D.Disk.shown c.args.disk.now) (g.D.Disk.shown c.judge_put.new.disk) (g.D.Disk.shown c.write_block.new.disk) c.args.pool.now c.judge_put.new.pool c.write_block.new.pool c.args.self.now c.judge_put.new.volume c.write_block.new.volume c.count_change.new.volume c.in_ok-admission.admission.delta parts is c.requires.ready c.args.others c.args.file.now c.args.index c.args.block.now c.in_ok-admission.admission.info (c.in_ok-admission.ensures.accepted is) c.in_ok-write_block.ensures.written (ap (λ (z : VolumeState). z.numbers) c.count_change.ensures.others)
 
 pub returns-clause-ready : goal.returns-clause-ready
 returns-clause-ready g c =

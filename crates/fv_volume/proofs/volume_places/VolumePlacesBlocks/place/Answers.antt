@@ -37,7 +37,7 @@ returns-in-Ok-clause-calls g c =
       refl,
       record {
         goes = goes_placed self.pool.now c.place_block.new.pool self.map.now c.place_block.new.map c.args.kind c.args.block.now c.in-Ok.placed (g.D.Disk.shown self.disk.now) 0 self.home
-            self.room c.saturating_sub-self.result self.strays self.noted c.in-Ok.ensures.placed fewer one c.in-Ok.ensures.leaves self.entries;
+            self.room c.saturating_sub-self.result self.strays self.noted c.in-Ok.ensures.placed c.in-Ok.ensures.holds fewer one c.in-Ok.ensures.leaves self.entries;
         noted = inl refl;
       },
     )

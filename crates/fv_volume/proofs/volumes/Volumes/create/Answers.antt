@@ -21,7 +21,7 @@ returns-clause-states c = λ trees i are. added_states c.args.pool.now c.self.in
     is_added : IsAdded c.args.pool.now c.self.inside.states.items c.args.admitted.slot c.args.name.now c.args.size c.args.kind c.in_ok-state.state new_pool
     is_added = added_by c.args.pool.now c.self.inside.states.items c.args.admitted.slot c.args.name.now c.args.size c.args.kind c.args.admitted.span c.in_ok-state.state new_pool _ c.self.invariant
         (subst (λ (s : States). Admits s c.args.pool.now.found.blocks c.args.name.now c.args.size c.args.kind c.args.admitted.slot c.args.admitted.span) (sym c.self.view_is) c.requires.admitted)
-        c.in_ok-state.ensures.slot c.in_ok-state.ensures.head c.in_ok-state.ensures.ledger c.in_ok-state.ensures.named c.in_ok-state.ensures.map refl refl c.put.ensures.put
+        c.in_ok-state.ensures.slot c.in_ok-state.ensures.head c.in_ok-state.ensures.ledger c.in_ok-state.ensures.named c.in_ok-state.ensures.map c.in_ok-state.ensures.fresh refl refl c.put.ensures.put
 
 pub returns-clause-accepted : goal.returns-clause-accepted
 returns-clause-accepted c = λ trees i are.
@@ -40,7 +40,7 @@ returns-clause-machine c = λ trees i are. made_next c.args.pool.now c.self.insi
     is_added : IsAdded c.args.pool.now c.self.inside.states.items c.args.admitted.slot c.args.name.now c.args.size c.args.kind c.in_ok-state.state new_pool
     is_added = added_by c.args.pool.now c.self.inside.states.items c.args.admitted.slot c.args.name.now c.args.size c.args.kind c.args.admitted.span c.in_ok-state.state new_pool _ c.self.invariant
         (subst (λ (s : States). Admits s c.args.pool.now.found.blocks c.args.name.now c.args.size c.args.kind c.args.admitted.slot c.args.admitted.span) (sym c.self.view_is) c.requires.admitted)
-        c.in_ok-state.ensures.slot c.in_ok-state.ensures.head c.in_ok-state.ensures.ledger c.in_ok-state.ensures.named c.in_ok-state.ensures.map refl refl c.put.ensures.put
+        c.in_ok-state.ensures.slot c.in_ok-state.ensures.head c.in_ok-state.ensures.ledger c.in_ok-state.ensures.named c.in_ok-state.ensures.map c.in_ok-state.ensures.fresh refl refl c.put.ensures.put
 
 pub returns-clause-new : goal.returns-clause-new
 returns-clause-new c =
@@ -56,4 +56,4 @@ returns-clause-each c =
     let each : (s : ℕ) → IfSome (state_at items s) (IsLabelled s) = subst (λ (xs : States). (s : ℕ) → IfSome (state_at xs s) (IsLabelled s)) (sym c.self.view_is) c.requires.each in
     let is : Admits items c.args.pool.now.found.blocks c.args.name.now c.args.size c.args.kind c.args.admitted.slot c.args.admitted.span =
     subst (λ (s : States). Admits s c.args.pool.now.found.blocks c.args.name.now c.args.size c.args.kind c.args.admitted.slot c.args.admitted.span) (sym c.self.view_is) c.requires.admitted in
-    each_made items c.args.admitted.slot c.args.name.now c.args.size c.args.kind c.args.admitted.span c.args.pool.now.found.blocks c.in_ok-state.state c.self.invariant each is c.in_ok-state.ensures.slot c.in_ok-state.ensures.head c.in_ok-state.ensures.ledger c.in_ok-state.ensures.named c.in_ok-state.ensures.map
+    each_made items c.args.admitted.slot c.args.name.now c.args.size c.args.kind c.args.admitted.span c.args.pool.now.found.blocks c.in_ok-state.state c.self.invariant each is c.in_ok-state.ensures.slot c.in_ok-state.ensures.head c.in_ok-state.ensures.ledger c.in_ok-state.ensures.named c.in_ok-state.ensures.map c.in_ok-state.ensures.fresh

@@ -1,0 +1,81 @@
+use Rattle.std.proofs.Common.{◌≡◌, ◌≤◌, ◌-◌, ◌/◌, ◌^◌, ◌==◌, ◌&&◌, not, cond, Bool, ℕ, List, sym, ap, ◌∙◌, subst, arith}
+use Rattle.std.specs.Ordering.{nat_cmp}
+use Rattle.std.specs.FinMap as fin
+use Rattle.std.proofs.lemmas.Result.{err_from_is_err_and}
+use Rattle.fv_model.specs.Trees.{fan}
+use Rattle.fv_tree.specs.Spelled.{pointer_below}
+use Rattle.fv_tree.specs.Sources.{Shown}
+use Rattle.fv_tree.specs.Standing.{standing, under, Fails}
+use Rattle.fv_tree.specs.Flushing.{changed_of, loaded}
+use Rattle.fv_tree.proofs.Causes.{calm_itself, calm_then, fails_later, untouched_itself, untouched_then}
+use Rattle.fv_tree.proofs.Stays.{staying_end, staying_next, staying_top}
+use Rattle.fv_tree.proofs.kept.Tree.staying.Goals as goal
+
+pub loop-level-init : goal.loop-level-init
+loop-level-init g c =
+    let s = loaded (g.B.Blocks.shown c.args.blocks.now) c.args.self.now in
+    let i = c.args.index in
+    let none : s.tree.levels - s.tree.levels ≡ 0 = omega arith in
+    let top = c.top-pointer.ensures (under (g.B.Blocks.shown c.args.blocks.now)) ∙ ap (λ n. pointer_below s.tree n (i / fan ^ s.tree.levels)) (sym none) in record {
+      high = omega arith;
+      pointer = λ _. top;
+      count = λ _. staying_top s (g.B.Sharing.shared c.args.blocks.now) i c.stays-count.result c.top-pointer.result top c.stays-count.ensures.exact;
+      few = (let few = c.stays-count.ensures.few in omega (arith, few));
+      untouched = untouched_itself _;
+      calm = calm_itself _;
+      reads = g.met.B.Blocks.reads_nothing c.args.blocks.now;
+    }
+
+pub step-requires-clause-high : goal.step-requires-clause-high
+step-requires-clause-high g c = c.loop-level.invariant.high
+
+pub step-requires-clause-pointer : goal.step-requires-clause-pointer
+step-requires-clause-pointer g c = λ told.
+    c.loop-level.invariant.pointer told
+    ∙ ap (λ (h : fin.FinMap nat_cmp (List ℕ)). pointer_below (standing (λ v. fin.get h v) c.args.self.now) (c.args.self.now.levels - c.loop-level.level) (c.args.index / fan ^ c.loop-level.level)) (sym c.loop-level.invariant.untouched.held)
+
+pub returns-in_err-pointer-clause-untouched : goal.returns-in_err-pointer-clause-untouched
+returns-in_err-pointer-clause-untouched g c =
+    untouched_then (g.B.Blocks.shown c.args.blocks.now) (g.B.Blocks.shown c.loop-level.blocks) (g.B.Blocks.shown c.step.new.blocks) c.loop-level.invariant.untouched c.in_err-pointer.ensures.untouched
+
+pub returns-in_err-pointer-clause-reads : goal.returns-in_err-pointer-clause-reads
+returns-in_err-pointer-clause-reads g c = g.met.B.Blocks.reads_on c.args.blocks.now c.loop-level.blocks c.step.new.blocks c.loop-level.invariant.reads c.in_err-pointer.ensures.reads
+
+pub returns-in_err-pointer-clause-cause : goal.returns-in_err-pointer-clause-cause
+returns-in_err-pointer-clause-cause g c =
+    let old : Shown = g.B.Blocks.shown c.args.blocks.now in
+    let mid : Shown = g.B.Blocks.shown c.loop-level.blocks in
+    let new : Shown = g.B.Blocks.shown c.step.new.blocks in
+    let p = err_from_is_err_and c.from_residual.result c.from_residual.ensures.1 in
+    rw (p.1, p.2) (fails_later g.B.Blocks.told (standing (under old) c.args.self.now) old mid new c.in_err-pointer.field-0.0 c.loop-level.invariant.calm c.loop-level.invariant.untouched.held (subst (λ held. Fails g.B.Blocks.told (standing (λ v. fin.get held v) c.args.self.now) mid new c.in_err-pointer.field-0.0) c.loop-level.invariant.untouched.held c.in_err-pointer.ensures.cause))
+
+pub loop-level-preserved : goal.loop-level-preserved
+loop-level-preserved g c =
+    let a = g.B.Blocks.shown c.args.blocks.now in
+    let b = g.B.Blocks.shown c.loop-level.blocks in
+    let d = g.B.Blocks.shown c.step.new.blocks in
+    let s = loaded a c.args.self.now in
+    let i = c.args.index in
+    let level = c.loop-level.level in
+    let was = c.loop-level.invariant in
+    let now = c.in_ok-pointer.ensures in
+    let p = c.in_ok-pointer.pointer in
+    let one = c.stays-count-in-loop-level.ensures in
+    let high : level ≤ s.tree.levels = was.high in
+    let low : 1 ≤ level = omega (arith, c.loop-level-test.true) in
+    let below : g.B.Blocks.told → p ≡ pointer_below s.tree (s.tree.levels - (level - 1)) (i / fan ^ (level - 1)) =
+    λ told. now.below told ∙ ap (λ (h : fin.FinMap nat_cmp (List ℕ)). pointer_below (standing (λ v. fin.get h v) c.args.self.now) (s.tree.levels - (level - 1)) (i / fan ^ (level - 1))) was.untouched.held in
+    let reads = g.met.B.Blocks.reads_on c.args.blocks.now c.loop-level.blocks c.step.new.blocks was.reads now.reads in
+    let exact = one.exact ∙ ap (λ (shared : Bool). cond {A = ℕ} (not (p.stamp == 0) && (not (changed_of c.args.self.now (level - 1) (i / fan ^ (level - 1))) && shared)) 1 0) (g.met.B.Sharing.reads_share c.args.blocks.now c.step.new.blocks reads p.vvbn) in record {
+      high = omega (arith, high);
+      pointer = below;
+      count = λ told. staying_next s (g.B.Sharing.shared c.args.blocks.now) i level c.stays-count-in-loop-level.result c.loop-level.count p low high (below told) exact (was.count told);
+      few = (let before = was.few in let few = one.few in omega (arith, before, few, low));
+      untouched = untouched_then a b d was.untouched now.untouched;
+      calm = calm_then a b d was.calm now.counts.calm;
+      reads = reads;
+    }
+
+pub returns-clause-staying : goal.returns-clause-staying
+returns-clause-staying g c = λ told.
+    staying_end (loaded (g.B.Blocks.shown c.args.blocks.now) c.args.self.now) (g.B.Sharing.shared c.args.blocks.now) c.args.index c.loop-level.level c.loop-level.count (omega (arith, c.loop-level-test.false)) (c.loop-level.invariant.count told)

@@ -1,0 +1,62 @@
+-- The slots of a volume's maps against its snapshots.
+use Rattle.std.proofs.Common.{◌≡◌, ◌≢◌, ℕ, false, Some, None, [], List, map, refl, sym, ap, subst, ◌∙◌, ⊎_elim}
+use Rattle.std.specs.Prelude.{◌==◌, ◌&&◌, find, is_some, nat_le, nat_lt}
+use Rattle.std.specs.List.{All, list_all}
+use Rattle.std.proofs.lemmas.Bool.{cases_eq}
+use Rattle.fv_image.specs.Views.{Head, Snap}
+use Rattle.fv_image.specs.Volumes.{snap_at}
+use Rattle.fv_image.specs.Mapped.{is_rising, stored_slots}
+use Rattle.fv_image.proofs.LoneTables.{form_snapshots}
+use Rattle.fv_volmap.specs.Slots.{Slot, Volume as Maps, slot_at, slot_of_base}
+use Rattle.fv_volume.specs.declared.state.VolumeState.{VolumeState}
+use Rattle.fv_volume.specs.Files.{HasSlotsOf, IsLabelled, IsOneMap}
+use Rattle.fv_volume.specs.SnapRecords.{AreSayable, IsSayableSnap}
+use Rattle.fv_volume.specs.States.{head_in}
+
+is_free : (slot : Slot) → is_some slot ≡ false → slot ≡ None
+is_free None none = refl
+is_free (Some map) none = absurd cc
+
+no_snap : (h : Head) → h.snapshots ≡ [] → (k : ℕ) → is_some (snap_at h k) ≡ false
+unfolding snap_at
+no_snap h empty k = ap (λ (ps : List Snap). is_some (find (λ p. p.slot == k) ps)) empty
+
+-- Without snapshots the active slot alone is used.
+pub one_map : (h : Head) (maps : Maps) → h.snapshots ≡ [] → HasSlotsOf h maps → IsOneMap maps
+one_map h maps empty is k other = ⊎_elim
+    (λ (base : k ≡ slot_of_base). ap (slot_at maps) base ∙ is.base)
+    (λ (not_base : k ≢ slot_of_base). is_free (slot_at maps k) (is.each k other not_base ∙ no_snap h empty k))
+    (cases_eq k slot_of_base)
+
+pub one_labelled : (s : ℕ) (x : VolumeState) → IsLabelled s x → IsOneMap x.map
+one_labelled s x is = one_map (head_in x) x.map (form_snapshots (head_in x) is.form) is.slots
+
+pub slots_of_one : (h : Head) (maps : Maps) → h.snapshots ≡ [] → IsOneMap maps → HasSlotsOf h maps
+slots_of_one h maps empty one = record {
+  each = λ k other not_base. ap (λ (slot : Slot). is_some slot) (one k other) ∙ sym (no_snap h empty k);
+  base = one slot_of_base (λ e. absurd cc);
+}
+
+-- Heads with the same snapshots have the same slots, and can be said alike.
+pub same_slots : (g h : Head) (maps : Maps) → g.snapshots ≡ h.snapshots → HasSlotsOf h maps → HasSlotsOf g maps
+unfolding snap_at
+same_slots g h maps same is = record {
+  each = λ k other not_base. is.each k other not_base ∙ ap (λ (ps : List Snap). is_some (find (λ p. p.slot == k) ps)) (sym same);
+  base = is.base;
+}
+
+pub same_sayable : (g h : Head) → g.snapshots ≡ h.snapshots → AreSayable h → AreSayable g
+same_sayable g h same is = record {
+  slots = record {
+    within = ap (λ (ps : List Snap). list_all (λ p. nat_le 1 p.slot && nat_lt p.slot stored_slots) ps) same ∙ is.slots.within;
+    rising = ap (λ (ps : List Snap). is_rising (map (λ p. p.slot) ps)) same ∙ is.slots.rising;
+  };
+  each = subst (All IsSayableSnap) (sym same) is.each;
+}
+
+-- Maps with the same slots beside the active one serve the same snapshots.
+pub slots_kept : (h : Head) (old new : Maps) → ((k : ℕ) → k ≢ 0 → slot_at new k ≡ slot_at old k) → HasSlotsOf h old → HasSlotsOf h new
+slots_kept h old new same is = record {
+  each = λ k other not_base. ap (λ (slot : Slot). is_some slot) (same k other) ∙ is.each k other not_base;
+  base = same slot_of_base (λ e. absurd cc) ∙ is.base;
+}

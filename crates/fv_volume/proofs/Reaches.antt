@@ -1,0 +1,69 @@
+-- The slots of a volume's maps against what its roots reach.
+use Rattle.std.proofs.Common.{◌≡◌, ◌≢◌, ℕ, ⊎_elim, ◌==◌, Bool, true, false, List, Option, Some, None, refl, sym, ap, subst, ◌∙◌, arith}
+use Rattle.std.specs.Prelude.{find, if◌then◌else◌, map}
+use Rattle.std.specs.Option.{option_map}
+use Rattle.std.proofs.lemmas.Bool.{cases_eq}
+use Rattle.std.proofs.lemmas.Bool.Decides.{nat_tests}
+use Rattle.fv_bits.specs.Members.{is_member}
+use Rattle.fv_bits.proofs.Laws.{is_member-replicate}
+use Rattle.fv_tables.specs.Reached.{items, is_listed}
+use Rattle.fv_image.specs.Mapped.{root_at}
+use Rattle.fv_image.specs.Staying.{items_of, own_items}
+use Rattle.fv_image.specs.Views.{Head, Rooted, Snap, View}
+use Rattle.fv_image.specs.Volumes.{snap_at, standing_of}
+use Rattle.fv_image.proofs.LoneTables.{form_snapshots}
+use Rattle.fv_image.proofs.SameSeen.{left_listed, right_listed, snap_listed}
+use Rattle.fv_volmap.specs.Slots.{Slot, Volume as Maps, active_of, has, map_or_empty, slot_at}
+use Rattle.fv_volume.specs.declared.state.VolumeState.{VolumeState}
+use Rattle.fv_volume.specs.Files.{has_form}
+use Rattle.fv_volume.specs.Housed.{ReachesAll}
+use Rattle.fv_volume.specs.States.{head_in, table_in}
+
+-- the active map has what slot 0 has
+pub active_has : (m : Maps) (v : ℕ) → has v (slot_at m 0) ≡ is_member (active_of m) v
+active_has m v = by (slot_at m 0)
+  where
+    by : (o : Slot) → has v o ≡ is_member (map_or_empty m.span o) v
+    by None = sym (is_member-replicate m.span v)
+    by (Some map) = refl
+
+-- so it has the numbers that the active table reaches
+pub active_reaches : (w : View) (s : ℕ) (x : VolumeState) → ReachesAll w s x → (v : ℕ) → is_member (active_of x.map) v ≡ is_listed (items (standing_of w s (table_in x.active))) v
+active_reaches w s x is v = sym (active_has x.map v) ∙ is 0 (table_in x.active) refl v
+
+some_same : {X : Type 0} (a b : X) → Some a ≡ Some b → a ≡ b
+some_same a b e = cc
+
+none_some : {X : Type 0} (a : X) → ◌≡◌ {A = Option X} None (Some a) → ⊥
+none_some a e = cc
+
+-- and where there are no snapshots, that is all
+pub reaches_alone : (w : View) (s : ℕ) (x : VolumeState) → has_form (head_in x) ≡ true → ((v : ℕ) → is_member (active_of x.map) v ≡ is_listed (items (standing_of w s (table_in x.active))) v) → ReachesAll w s x
+unfolding snap_at
+reaches_alone w s x form active k r at v = ⊎_elim
+    (λ (same : k ≡ 0). subst (λ (n : ℕ). root_at (head_in x) n ≡ Some r → has v (slot_at x.map n) ≡ is_listed (items (standing_of w s r)) v) (sym same) here at)
+    (λ (other : k ≢ 0).
+    let test : (k == 0) ≡ false = grind (arith, nat_tests, other) in
+    let none : root_at (head_in x) k ≡ None =
+    ap (λ (b : Bool). if b then Some (head_in x).active else option_map (λ (p : Snap). p.table) (snap_at (head_in x) k)) test
+    ∙ ap (λ (ps : List Snap). option_map (λ (p : Snap). p.table) (find (λ p. p.slot == k) ps)) (form_snapshots (head_in x) form) in
+    absurd (none_some r (sym none ∙ at)))
+    (cases_eq k 0)
+  where
+    here : root_at (head_in x) 0 ≡ Some r → has v (slot_at x.map 0) ≡ is_listed (items (standing_of w s r)) v
+    here at = active_has x.map v ∙ active v ∙ ap (λ (t : Rooted). is_listed (items (standing_of w s t)) v) (some_same (table_in x.active) r at)
+
+-- what a root of a volume reaches is among what all of them do
+pub root_listed : (w : View) (s : ℕ) (h : Head) (k : ℕ) (r : Rooted) → root_at h k ≡ Some r → (v : ℕ) → is_listed (items (standing_of w s r)) v ≡ true → is_listed (own_items w s h) v ≡ true
+unfolding snap_at
+root_listed w s h k r at v is = by (k == 0) at
+  where
+    rest : (o : Option Snap) → find (λ p. p.slot == k) h.snapshots ≡ o → option_map (λ (p : Snap). p.table) o ≡ Some r → is_listed (own_items w s h) v ≡ true
+    rest None e at = absurd (none_some r at)
+    rest (Some p) e at = right_listed (items (standing_of w s h.active)) (items_of w s (map (λ p. (p.slot, p.table)) h.snapshots)) v
+        (snap_listed w s v k h.snapshots p e (subst (λ (t : Rooted). is_listed (items (standing_of w s t)) v ≡ true) (sym (some_same p.table r at)) is))
+
+    by : (b : Bool) → (if b then Some h.active else option_map (λ (p : Snap). p.table) (find (λ p. p.slot == k) h.snapshots)) ≡ Some r → is_listed (own_items w s h) v ≡ true
+    by true at = left_listed (items (standing_of w s h.active)) (items_of w s (map (λ p. (p.slot, p.table)) h.snapshots)) v
+        (subst (λ (t : Rooted). is_listed (items (standing_of w s t)) v ≡ true) (sym (some_same h.active r at)) is)
+    by false at = rest (find (λ p. p.slot == k) h.snapshots) refl at
