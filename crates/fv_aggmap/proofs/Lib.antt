@@ -3,3 +3,4 @@ mod Counting
 mod Holding
 pub mod Room
 pub mod FreeRoom
+pub mod Giving

@@ -1,3 +1,4 @@
 pub mod Freeing
+pub mod Giving
 pub mod Loading
 pub mod Space

@@ -18,20 +18,21 @@ use Rattle.fv_volume.specs.declared.fault.VolumeFault.{VolumeFault}
 use Rattle.fv_volume.specs.declared.fault.VolumeFault.TheVariants as volume
 use Rattle.fv_volume.specs.declared.pool.Pool.{Pool}
 use Rattle.fv_volume.specs.declared.state.VolumeState.{VolumeState}
-use Rattle.fv_volume.specs.Calls.{Agrees, Asks, CallCause, Has, Reads, TableFails}
+use Rattle.fv_volume.specs.Asking.{standing_read}
+use Rattle.fv_volume.specs.Calls.{Agrees, Asks, CallCause, CallFails, Has, Reads, TableFails}
 use Rattle.fv_volume.specs.Lending.{Lent, lent_for}
-use Rattle.fv_volume.specs.OneVolume.{home_in, standing_for, volume_for, IsStanding}
+use Rattle.fv_volume.specs.OneVolume.{home_in, volume_for, IsStanding}
 use Rattle.fv_volume.specs.Placing.{IsStoredWell}
 use Rattle.fv_volume.specs.Slots.{is_named, NoneHasName}
 use Rattle.fv_volume.specs.States.{States, state_at}
-use Rattle.fv_volume.proofs.Undamaged.{no_damage}
+use Rattle.fv_volume.proofs.KeptReads.{read_undamaged}
 use Rattle.fv_tables.specs.Told.{Standing}
 use Rattle.fv_cp.specs.Held.{IsHeldIn}
 use Rattle.fv_aggregate.specs.declared.fault.Fault.{Fault}
 use Rattle.fv_aggregate.specs.declared.fault.Fault.TheVariants.{DiskFault, Damaged, Memory}
 use Rattle.fv_aggregate.specs.declared.session.Session.{Session}
 use Rattle.fv_aggregate.specs.Calls.{HasDamage, WasRead}
-use Rattle.fv_aggregate.specs.Commands.{has_range, volume_asked}
+use Rattle.fv_aggregate.specs.Commands.{has_range, snapshot_asked, volume_asked}
 use Rattle.fv_aggregate.specs.Looking.{AsksSlot, AsksState, Faults, IsAsked, Looks, Replied}
 use Rattle.fv_aggregate.specs.Standing.{Stands, StandsFor}
 use Rattle.fv_aggregate.proofs.HeldMachine.{is_there, not_there, one}
@@ -61,7 +62,7 @@ module _ (d e : Shown) (p q : Pool) (x : VolumeState) (reads : Reads d p e q) (c
   abbrev its : Lent
   its = lent_for p x.map d 0 (home_in x) 0
 
-  pub state_answered : {T : Type 0} (says : T → Reply) (y : T) → (IsStanding d p x → Asks has c says (Ok y)) → CallCause {T = T} (IsStanding d p x) (standing_for d p x) its e.faults (Ok y)
+  pub state_answered : {T : Type 0} (says : T → Reply) (y : T) → (IsStanding d p x → Asks has c says (Ok y)) → CallCause {T = T} (IsStanding d p x) (standing_read d p x (snapshot_asked c)) its e.faults (Ok y)
       → (IsStanding d p x → IsStoredWell d p x → (m : Machine) → has m → refusal m c ≡ None → steps ≡ start) → AsksState d p x command start e q steps (Ok (says y))
   state_answered says y asks cause known = record {
     reads = reads;
@@ -71,12 +72,12 @@ module _ (d e : Shown) (p q : Pool) (x : VolumeState) (reads : Reads d p e q) (c
     unmoved = tt;
   }
 
-  pub state_failed : (T : Type 0) (says : T → Reply) (f : VolumeFault) → (IsStanding d p x → Asks {T = T} has c says (Err f)) → CallCause {T = T} (IsStanding d p x) (standing_for d p x) its e.faults (Err f)
+  pub state_failed : (T : Type 0) (says : T → Reply) (f : VolumeFault) → (IsStanding d p x → Asks {T = T} has c says (Err f)) → CallCause {T = T} (IsStanding d p x) (standing_read d p x (snapshot_asked c)) its e.faults (Err f)
       → ((r : Refusal) → f ≡ volume.Refused r → steps ≡ start) → AsksState d p x command start e q steps (Err f)
   state_failed T says f asks cause unmoved = record {
     reads = reads;
     asked = λ is. subst (λ (k : Command). Asks {T = Reply} has k (λ reply. reply) (Err f)) same (record { agrees = λ m there. agrees_err T Reply m c f ((asks is).agrees m there); reply = tt });
-    cause = cause;
+    cause = subst (λ (k : Command). CallFails (IsStanding d p x) (standing_read d p x (snapshot_asked k)) its e.faults f) same cause;
     known = λ is well. tt;
     unmoved = unmoved;
   }
@@ -213,7 +214,7 @@ module _ (d e : Shown) (laws : IsDisk d) (s : Session) (q : Pool) (c : Command) 
       (looks_broken d e laws s q asks.reads fresh stands c new.failed (rose_by _ _ _ e.faults asks.cause) b.1.1.1.written b.1.1.1.unwritten)
   looks_by (Err (volume.Damaged at want found)) asks new result b = as_is new result (Err (Damaged at want found)) now b.1.1.1 (b.1.0 ∙ ap (λ (g : Fault). Err g) b.1.1.0)
       (looks_damaged d e laws s q asks.reads fresh stands c at want found (calm_damage _ _ _ e.faults at want found asks.cause) (damaged_at d s slot x there fresh now at want found)
-      (λ tells last m is. no_damage d s.pool x (mine last m is).stands (mine last m is).well 0 e.faults at want found asks.cause))
+      (λ tells last m is. read_undamaged d s.pool x (mine last m is).stands (mine last m is).well (snapshot_asked c) 0 e.faults at want found asks.cause))
   looks_by (Err volume.Memory) asks new result b = as_is new result (Err Memory) now b.1.1.1 (b.1.0 ∙ ap (λ (g : Fault). Err g) b.1.1.0)
       (looks_wanting d e laws s q asks.reads fresh stands c (calm_memory _ _ _ e.faults asks.cause))
 

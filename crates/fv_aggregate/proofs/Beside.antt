@@ -138,6 +138,7 @@ module _ (disk : Shown) (pool : Pool) (states : States) (slot : ℕ) (name : Lis
     };
     blocks = fit.range.size;
     changed = λ isnt. absurd (not_changed isnt);
+    fresh = λ isnt. absurd (not_changed isnt);
   }
 
   ready_old : (s : ℕ) (y : VolumeState) → s ≢ slot → y.slot ≡ s → IsReady disk pool y → IsReady disk after y
@@ -152,6 +153,7 @@ module _ (disk : Shown) (pool : Pool) (states : States) (slot : ℕ) (name : Lis
     booked = ready.booked;
     blocks = ready.blocks;
     changed = ready.changed;
+    fresh = ready.fresh;
   }
 
   -- what holds of the new volume, and stays of each other one, holds of each

@@ -20,6 +20,7 @@ mod Looked
 mod CallEnds
 mod Numbered
 mod Asked
+mod Lost
 mod Becoming
 mod Changed
 mod NumbersRead

@@ -4,7 +4,7 @@ use Rattle.std.specs.Option.{option_map}
 use Rattle.fv_disk.specs.Shown.{Shown, Rose}
 use Rattle.fv_disk.specs.Crash.{Leaves}
 use Rattle.fv_disk.specs.DiskCalls.{OnlyReads}
-use Rattle.fv_model.specs.declared.answers.Refusal.TheVariants.{NoVolume, Range, Syntax}
+use Rattle.fv_model.specs.declared.answers.Refusal.TheVariants.{NoSnapshot, NoVolume, Range, Syntax}
 use Rattle.fv_model.specs.declared.answers.Reply.{Reply}
 use Rattle.fv_model.specs.declared.answers.Reply.TheVariants.{Names, Refused}
 use Rattle.fv_model.specs.declared.commands.Command.{Command}
@@ -13,9 +13,10 @@ use Rattle.fv_model.specs.Machines.{Machine}
 use Rattle.fv_image.specs.Layout.{root_place}
 use Rattle.fv_aggmap.specs.Space.{free_blocks}
 use Rattle.fv_container.specs.Chains.{slot_count}
+use Rattle.fv_volume.specs.Asking.{table_named}
 use Rattle.fv_volume.specs.BlocksOver.{LeavesPool}
 use Rattle.fv_volume.specs.declared.state.VolumeState.{VolumeState}
-use Rattle.fv_volume.specs.Slots.{NoneHasName}
+use Rattle.fv_volume.specs.Slots.{HasName, NoneHasName}
 use Rattle.fv_volume.specs.States.{States, state_at}
 use Rattle.fv_cp.specs.Lent.{blocks_asked}
 use Rattle.fv_cp.specs.Placing.{HaveNoFiles}
@@ -25,7 +26,7 @@ use Rattle.fv_aggregate.specs.declared.session.Session.{Session}
 use Rattle.fv_aggregate.specs.Adding.{IsPointed}
 use Rattle.fv_aggregate.specs.Asking.{AsksWithin, IsShort}
 use Rattle.fv_aggregate.specs.Causes.{KeepsEnds}
-use Rattle.fv_aggregate.specs.Commands.{changed_by, dirty_limit, finds_file, has_range, is_built, is_get, is_refusal, managed_by, removes_volume, room_of, volume_asked}
+use Rattle.fv_aggregate.specs.Commands.{changed_by, dirty_limit, finds_file, has_range, is_built, is_get, is_refusal, managed_by, removes_volume, room_of, snapshot_asked, volume_asked}
 use Rattle.fv_aggregate.specs.Known.{KnowsNamed}
 use Rattle.fv_aggregate.specs.Managing.{IsManaged}
 use Rattle.fv_aggregate.specs.Standing.{taken_since, OneOf, Stands, StandsAfter, StandsFor}
@@ -170,10 +171,10 @@ abbrev pub IsWithinLimit : Session → Command → Type 0
 IsWithinLimit session command = (room_of command ≡ 0) ⊎ (session.pending + room_of command ≤ dirty_limit)
 
 -- What a command that reads no file does beside, whatever the disk holds. Refused it leaves all as it was, and one that isn't built is refused as
--- no command. Without room, or with room within the dirty limit, it doesn't reach the disk, but for a `cp`; and then it leaves the session where
--- memory ran out, and takes no block and gives none back, but for a removal. `vol list` answers the names of the session's volumes and leaves all as it
--- was. A `cp` that is done leaves nothing pending and no file in memory; where
--- none was there it has no want of memory. Damage comes for want of blocks alone. A command on a whole volume is answered, without a fault.
+-- no command. One that adds no block, or whose room stays within the dirty limit, doesn't reach the disk, but for a `cp`; and then it leaves the
+-- session where memory ran out, and takes no block and gives none back, but for a removal. `vol list` answers the names of the session's volumes
+-- and leaves all as it was. A `cp` that is done leaves nothing pending and no file in memory; where none was there it has no want of memory.
+-- Damage comes for want of blocks alone. A command on a whole volume is answered, without a fault.
 pub record IsPlain {D : Type 0} (command : Command) (shown : Shown) (before : D) (old : Session) (shown_after : Shown) (after : D) (new : Session) (result : Result Reply Fault) : Type 0 where
   pub refused : IfOk result (λ reply. IsTrue (is_refusal reply) → IsUntouched before old after new)
   pub calm : command ≢ Cp → IsWithinLimit old command → after ≡ before
@@ -187,13 +188,23 @@ pub record IsPlain {D : Type 0} (command : Command) (shown : Shown) (before : D)
   pub memory : command ≡ Cp → HaveNoFiles old.volumes → IfErr result (λ e. e ≢ Memory)
   pub managed : IsNone old.failed → (name : List ℕ) → managed_by command ≡ Some name → IsAnswered old command name new result
 
--- What a command on files does beside. Whatever the disk holds, out of range it is refused as that and leaves all as it was, without its volume it is
--- refused for want of it, and one that asks leaves all but the cache and the numbers of files in memory where it is answered. So does a change
--- that is refused, where the session stands for a machine. Once a command that finds a file of a volume by its name is answered, refused or not, the
--- numbers of the volume's files are in memory.
+-- the volume of a name hasn't the snapshot that a command asks
+pub record LacksSnapshot (states : States) (name : List ℕ) (command : Command) : Type 0 where
+  pub slot : ℕ
+  pub within : slot < slot_count
+  pub named : HasName states slot name
+  pub state : VolumeState
+  pub there : state_at states slot ≡ Some state
+  pub none : table_named state (snapshot_asked command) ≡ None
+
+-- What a command on files does beside. Whatever the disk holds, out of range it is refused as that and leaves all as it was, without its volume
+-- it is refused for want of it, without the snapshot that it asks it is refused as that and leaves all as it was, and one that asks leaves all
+-- but the cache and the numbers of files in memory where it is answered. So does a change that is refused, where the session stands for a
+-- machine. Once a command that finds a file of a volume by its name is answered, refused or not, the numbers of the volume's files are in memory.
 pub record IsOnFiles {D : Type 0} (command : Command) (shown : Shown) (before : D) (old : Session) (shown_after : Shown) (after : D) (new : Session) (result : Result Reply Fault) : Type 0 where
   pub range : IsNone old.failed → has_range command ≡ false → (result ≡ Ok (Refused Range)) × IsUntouched before old after new
   pub missing : IsNone old.failed → has_range command ≡ true → (name : List ℕ) → (changed_by command ≡ Some name) ⊎ (volume_asked command ≡ Some name) → NoneHasName old.volumes name → result ≡ Ok (Refused NoVolume)
+  pub lost : IsNone old.failed → has_range command ≡ true → (name : List ℕ) → volume_asked command ≡ Some name → LacksSnapshot old.volumes name command → (result ≡ Ok (Refused NoSnapshot)) × IsUntouched before old after new
   pub asked : IsSome (volume_asked command) → OnOk result (WasRead shown old shown_after new)
   pub refused : IsTrue shown.tells → (last m : Machine) → StandsFor shown old last m → IfOk result (λ reply. IsTrue (is_refusal reply) → WasRead shown old shown_after new)
   pub known : finds_file command ≡ true → has_range command ≡ true → (name : List ℕ) → (changed_by command ≡ Some name) ⊎ (volume_asked command ≡ Some name) → OnOk result (KnowsNamed old.volumes name new.volumes)

@@ -97,6 +97,13 @@ volume_asked (Len volume snapshot file) = Some volume
 volume_asked (Ls volume snapshot) = Some volume
 volume_asked command = None
 
+-- the snapshot of it that is asked
+abbrev pub snapshot_asked : Command → Option (List ℕ)
+snapshot_asked (Get volume snapshot file index) = snapshot
+snapshot_asked (Len volume snapshot file) = snapshot
+snapshot_asked (Ls volume snapshot) = snapshot
+snapshot_asked command = None
+
 -- whether a command finds a file of a volume by its name, and leaves the names of all files: afterwards their numbers are in memory
 abbrev pub finds_file : Command → Bool
 finds_file (Put volume file index block) = true

@@ -12,6 +12,7 @@ use Rattle.fv_model.specs.Refusals.{next, refusal}
 use Rattle.fv_model.specs.Replies.{Allows}
 use Rattle.fv_volume.specs.declared.state.VolumeState.{VolumeState}
 use Rattle.fv_volume.specs.declared.pool.Pool.{Pool}
+use Rattle.fv_volume.specs.Asking.{standing_read}
 use Rattle.fv_volume.specs.Calls.{Agrees, Asks, CallCause, Changes, Has, HasWithin, KeepsHead, Reads}
 use Rattle.fv_volume.specs.Changing.{keeps_numbers, IsChangeOf, KeepsTable}
 use Rattle.fv_volume.specs.Lending.{lent_for}
@@ -24,7 +25,7 @@ use Rattle.fv_aggregate.specs.declared.fault.Fault.{Fault}
 use Rattle.fv_aggregate.specs.declared.fault.Fault.TheVariants.{DiskFault, Damaged, Memory}
 use Rattle.fv_aggregate.specs.declared.session.Session.{Session}
 use Rattle.fv_aggregate.specs.Calls.{Goes, GoesFor, KeepsAsking, WasRead}
-use Rattle.fv_aggregate.specs.Commands.{dirty_limit, file_room, is_refusal, volume_asked}
+use Rattle.fv_aggregate.specs.Commands.{dirty_limit, file_room, is_refusal, snapshot_asked, volume_asked}
 use Rattle.fv_aggregate.specs.Standing.{StandsFor}
 
 -- A command that asks was answered as the machine answers it, and nothing changed but the cache and the numbers of files in memory. After a fault the session stands for what it
@@ -53,7 +54,7 @@ pub record Makes (before : Shown) (old : Session) (command : Command) (after : S
 pub record AsksState (before : Shown) (pool : Pool) (x : VolumeState) (command : Command) (start : ℕ) (after : Shown) (left : Pool) (steps : ℕ) (result : Result Reply VolumeFault) : Type 0 where
   pub reads : Reads before pool after left
   pub asked : IsStanding before pool x → Asks (Has x.name (volume_for before pool x)) command (λ reply. reply) result
-  pub cause : CallCause (IsStanding before pool x) (standing_for before pool x) (lent_for pool x.map before 0 (home_in x) 0) after.faults result
+  pub cause : CallCause (IsStanding before pool x) (standing_read before pool x (snapshot_asked command)) (lent_for pool x.map before 0 (home_in x) 0) after.faults result
   pub known : IsStanding before pool x → IsStoredWell before pool x → OnOk result ((m : Machine) → Has x.name (volume_for before pool x) m → steps ≡ start)
   pub unmoved : IfErr result (λ e. (r : Refusal) → e ≡ volume.Refused r → steps ≡ start)
 

@@ -47,7 +47,7 @@ pub record IsWithoutFiles (session : Session) : Type 0 where
   pub none : HaveNoFiles session.volumes
   pub taken : (b : ℕ) → is_member session.pool.map.next b ≡ true → is_member session.pool.map.committed b ≡ true
 
--- the next root would hold what the root on the disk holds: since the last point no block was taken and none was given back
+-- the next root would hold what the root on the disk holds: what was taken since the last point was given back, and nothing else was
 abbrev pub HoldsAsCommitted : Session → Type 0
 HoldsAsCommitted session = session.pool.map.next ≡ session.pool.map.committed
 

@@ -1,16 +1,17 @@
 //! The commands that ask for files. None of them changes a volume.
 
-ghost use Rattle.std.specs.Prelude.{◌≡◌, ◌<◌, option_copied, false, true, is_some, Some, Ok, IsTrue, IsNone, IfSome, OnOk};
+ghost use Rattle.std.specs.Prelude.{◌≡◌, ◌<◌, option_copied, false, true, is_some, None, Some, Ok, IsTrue, IsNone, IfSome, OnOk};
 ghost use Rattle.fv_container.specs.Chains.{slot_count};
 ghost use Rattle.fv_cp.specs.Placing.{IsReadyIn};
-ghost use Rattle.fv_model.specs.declared.answers.Refusal.TheVariants.{NoVolume, Range};
+ghost use Rattle.fv_model.specs.declared.answers.Refusal.TheVariants.{NoSnapshot, NoVolume, Range};
 ghost use Rattle.fv_model.specs.declared.answers.Reply.TheVariants.{Refused};
 ghost use Rattle.fv_model.specs.Machines.{Machine};
+ghost use Rattle.fv_volume.specs.Asking.{table_named, IsRefusedUnread};
 ghost use Rattle.fv_volume.specs.OneVolume.{IsReady};
 ghost use Rattle.fv_volume.specs.Slots.{NoneHasName};
 ghost use Rattle.fv_volume.specs.States.{state_at};
-ghost use Rattle.fv_aggregate.specs.Calls.{IsUntouched};
-ghost use Rattle.fv_aggregate.specs.Commands.{finds_file, has_range, is_get, volume_asked};
+ghost use Rattle.fv_aggregate.specs.Calls.{IsUntouched, LacksSnapshot};
+ghost use Rattle.fv_aggregate.specs.Commands.{finds_file, has_range, is_get, snapshot_asked, volume_asked};
 ghost use Rattle.fv_aggregate.specs.Known.{KeepsNumbers, KnowsNamed, KnowsNumbers};
 ghost use Rattle.fv_aggregate.specs.Looking.{AsksSlot, AsksState, Breaks, IsAsked, Looks, Replied};
 ghost use Rattle.fv_aggregate.specs.Standing.{Stands, StandsFor};
@@ -53,6 +54,7 @@ impl Session {
         ensures looks { Looks (D.shown disk.old) self.old command.now (D.shown disk.new) self.new result }
         ensures range { has_range command.now ≡ false → (result ≡ Ok (Refused Range)) × IsUntouched disk.old self.old disk.new self.new }
         ensures missing { has_range command.now ≡ true → NoneHasName self.old.volumes volume.now → result ≡ Ok (Refused NoVolume) }
+        ensures lost { has_range command.now ≡ true → LacksSnapshot self.old.volumes volume.now command.now → (result ≡ Ok (Refused NoSnapshot)) × IsUntouched disk.old self.old disk.new self.new }
         ensures steps { is_get command.now ≡ false → steps.new ≡ steps.old }
         ensures known { IsTrue (D.shown disk.old).tells → (last m : Machine) → StandsFor (D.shown disk.old) self.old last m → OnOk result (steps.new ≡ steps.old) }
         ensures kept { KeepsNumbers self.old.volumes self.new.volumes }
@@ -68,7 +70,7 @@ impl Session {
     }
 
     /// Answers a command that asks for files of the volume of a slot. `get` and `len` have the numbers of its files in memory; `ls` reads all
-    /// names itself, and so would a snapshot's.
+    /// names itself, and a file of a snapshot is found without the numbers, which aren't those of its table.
     fn look_at<D: Disk, L: Ledger>(
         &mut self,
         disk: &mut D,
@@ -80,6 +82,7 @@ impl Session {
         requires stands { Stands (D.shown disk.old) self.old }
         requires asked { IsAsked self.old.volumes slot command.now }
         ensures looks { Looks (D.shown disk.old) self.old command.now (D.shown disk.new) self.new result }
+        ensures lost { has_range command.now ≡ true → IfSome (state_at self.old.volumes slot) (λ x. table_named x (snapshot_asked command.now) ≡ None → (result ≡ Ok (Refused NoSnapshot)) × IsUntouched disk.old self.old disk.new self.new) }
         ensures steps { is_get command.now ≡ false → steps.new ≡ steps.old }
         ensures known { IsTrue (D.shown disk.old).tells → (last m : Machine) → StandsFor (D.shown disk.old) self.old last m → OnOk result (steps.new ≡ steps.old) }
         ensures kept { KeepsNumbers self.old.volumes self.new.volumes }
@@ -104,6 +107,7 @@ impl Session {
         requires stands { Stands (D.shown disk.old) self.old }
         requires asked { IsAsked self.old.volumes slot command.now }
         ensures looks { Looks (D.shown disk.old) self.old command.now (D.shown disk.new) self.new result }
+        ensures lost { has_range command.now ≡ true → IfSome (state_at self.old.volumes slot) (λ x. table_named x (snapshot_asked command.now) ≡ None → (result ≡ Ok (Refused NoSnapshot)) × IsUntouched disk.old self.old disk.new self.new) }
         ensures steps { is_get command.now ≡ false → steps.new ≡ steps.old }
         ensures known { IsTrue (D.shown disk.old).tells → (last m : Machine) → StandsFor (D.shown disk.old) self.old last m → OnOk result (steps.new ≡ steps.old) }
         ensures volumes { self.new.volumes ≡ self.old.volumes }
@@ -152,7 +156,7 @@ impl Session {
     }
 }
 
-/// Whether a command finds a file of a volume by its name, and leaves the names of all files; in a snapshot it finds none.
+/// Whether a command finds a file of a volume by the numbers in memory, and leaves the names of all files. In a snapshot it doesn't.
 fn finds(command: &Command) -> bool
     ensures { result ≡ finds_file command.now }
 {
@@ -180,6 +184,7 @@ fn ask_slot<D: Disk, L: Ledger>(
     requires ready { IfSome (state_at volumes.old slot) (IsReadyIn (D.shown disk.old) pool.old slot) }
     requires asks { IfSome (state_at volumes.old slot) (λ x. volume_asked command.now ≡ Some x.name) }
     ensures asks { AsksSlot (D.shown disk.old) pool.old (state_at volumes.old slot) command.now steps.old (D.shown disk.new) pool.new steps.new result }
+    ensures lost { has_range command.now ≡ true → IfSome (state_at volumes.old slot) (λ x. table_named x (snapshot_asked command.now) ≡ None → IsRefusedUnread NoSnapshot disk.old pool.old disk.new pool.new result) }
     ensures same { volumes.new ≡ volumes.old }
     ensures steps { is_get command.now ≡ false → steps.new ≡ steps.old }
 {
@@ -201,6 +206,7 @@ fn ask_state<D: Disk, L: Ledger>(
     requires ready { IsReady (D.shown disk.old) pool.old state.old }
     requires asks { volume_asked command.now ≡ Some state.old.name }
     ensures asks { AsksState (D.shown disk.old) pool.old state.old command.now steps.old (D.shown disk.new) pool.new steps.new result }
+    ensures lost { has_range command.now ≡ true → table_named state.old (snapshot_asked command.now) ≡ None → IsRefusedUnread NoSnapshot disk.old pool.old disk.new pool.new result }
     ensures same { state.new ≡ state.old }
     ensures steps { is_get command.now ≡ false → steps.new ≡ steps.old }
 {

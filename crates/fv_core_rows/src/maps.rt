@@ -72,6 +72,38 @@ fn numbers_of_a_volume(rt: HostRuntime) -> Result<(), Fail> {
     Ok(())
 }
 
+/// How many numbers some slot has, how many slot 1 and slot 2 have alone, and which of 0 to 3 a snapshot has.
+fn shared(volume: &mut VolMap) -> (u32, u32, u32, [bool; 4]) {
+    let united = volume.united().count();
+    let kept = [0, 1, 2, 3].map(|v| volume.in_snapshot(v));
+    (united, volume.count_alone(1), volume.count_alone(2), kept)
+}
+
+/// Slot 1 keeps 0 and 1, slot 2 keeps 0 and 2, and then 0 is let go. Answers what is shared then, and once slot 1 is forgotten.
+fn kept_twice(volume: &mut VolMap) -> Result<[(u32, u32, u32, [bool; 4]); 2], AllocError> {
+    volume.allocate();
+    volume.allocate();
+    keep(volume, 1)?;
+    volume.release(1);
+    volume.allocate();
+    keep(volume, 2)?;
+    volume.release(0);
+    let both = shared(volume);
+    volume.forget(1);
+    Ok([both, shared(volume)])
+}
+
+/// With both slots 1 is in slot 1 alone, and slot 2 has nothing alone: 0 is in slot 1, too, and 2 is active. Without slot 1 only 0 is
+/// in slot 2 alone, and a free slot has nothing. 3 is past the span.
+#[test]
+fn numbers_of_two_snapshots(rt: HostRuntime) -> Result<(), Fail> {
+    let mut volume = VolMap::new(rt.alloc(), 3)?;
+    let both = (3, 1, 0, [true, true, true, false]);
+    let later = (2, 0, 1, [true, false, true, false]);
+    assert!(rt; kept_twice(&mut volume)? == [both, later]);
+    Ok(())
+}
+
 /// The map of a new aggregate of 512 blocks.
 fn aggregate<D: Disk>(alloc: Global, disk: &mut D) -> Option<AggMap> {
     format(disk, 512).ok()?;

@@ -45,8 +45,8 @@ const SLOTS: u8 = 64;
 /// counts, with both numbers. Nothing changes then. `DiskFault` comes only where a write or a barrier failed in this call; of what is
 /// in memory nothing is said then, of images as above. `Memory` doesn't come.
 ///
-/// Costs a write for each kept block; for each volume that changed, a step for each entry and a write for each of at most as many
-/// blocks as it asks for; beside that a commit, a step for each fixed block, and one for each 64 blocks.
+/// Costs a write for each kept block; for each volume that changed, a step for each entry, up to 25 more for one that is no hole, and a
+/// write for each of at most as many blocks as it asks for; beside that a commit, a step for each fixed block, and one for each 64 blocks.
 pub fn consistency_point<D: Disk>(
     volumes: &mut Volumes,
     pool: &mut Pool,

@@ -6,13 +6,11 @@ use Rattle.std.specs.Option.{is_some}
 use Rattle.std.proofs.lemmas.Bool.{cases_eq, cases_lt}
 use Rattle.std.proofs.lemmas.Bool.Decides.{nat_tests}
 use Rattle.std.proofs.lemmas.List.{get_or-set_same, get_or-set_other}
-use Rattle.fv_bits.proofs.Counts.{passing_same}
 use Rattle.fv_image.specs.Containers.{fan}
-use Rattle.fv_image.proofs.Counts.{none_between}
 use Rattle.fv_aggmap.specs.Space.{Space}
 use Rattle.fv_container.specs.Mapped.{Mapped, entry_under, with_entry}
 use Rattle.fv_volmap.specs.Slots.{Volume}
-use Rattle.fv_delay.specs.Delay.{delayed_in, is_delayed, is_held, region_of}
+use Rattle.fv_delay.specs.Delay.{is_delayed, is_held, region_of}
 use Rattle.fv_delay.specs.Reclaims.{HasEmptied, HasGiven, HasReclaimed, goes_with, lead_to, leads_to}
 use Rattle.fv_delay.proofs.Giving.{any_either, any_none, any_same, given_none, given_same, given_then, lead_part}
 use Rattle.fv_delay.proofs.Parts.{in_region, none_past}
@@ -156,31 +154,6 @@ module _ (map : Volume) (regions : ℕ → Bool) (old new : Mapped) (space left 
           ap₂ (λ (s t : Bool). is_some (if s && t then None else entry_under old v) && not (is_held map v)) e f ∙ e ∙ sym (ap₂ (λ (s t : Bool). s && not t) e f)
       so false t e f =
           ap (λ (k : Bool). is_some (if k && regions (region_of v) then None else entry_under old v) && not (is_held map v)) e ∙ e ∙ sym (ap (λ (k : Bool). k && not (regions (region_of v))) e)
-
-  region_at : (r v : ℕ) → fan * r ≤ v → v < fan * r + fan → region_of v ≡ r
-  region_at r v low high = omega (arith, low, high)
-
-  -- a region that was reclaimed has no delayed entry any more
-  pub none_left : (r : ℕ) → regions r ≡ true → delayed_in map new r ≡ 0
-  unfolding delayed_in
-  none_left r on = none_between (is_delayed map new) (fan * r) fan (λ v low high.
-      delayed_now v ∙ ap (λ (k : ℕ). is_delayed map old v && not (regions k)) (region_at r v low high) ∙ ap (λ (t : Bool). is_delayed map old v && not t) on ∙ and_false (is_delayed map old v))
-
-  -- another region has as many as before
-  pub others_left : (r : ℕ) → regions r ≡ false → delayed_in map new r ≡ delayed_in map old r
-  unfolding delayed_in
-  others_left r off = passing_same (is_delayed map new) (is_delayed map old) (fan * r) (fan * r) fan (λ j lt.
-      let v = fan * r + j in
-      delayed_now v ∙ ap (λ (k : ℕ). is_delayed map old v && not (regions k)) (region_at r v (omega arith) (omega (arith, lt)))
-      ∙ ap (λ (t : Bool). is_delayed map old v && not t) off ∙ and_true (is_delayed map old v))
-
-  -- no region has more
-  pub fewer_left : (r : ℕ) → delayed_in map new r ≤ delayed_in map old r
-  fewer_left r = so (regions r) refl
-    where
-      so : (t : Bool) → regions r ≡ t → delayed_in map new r ≤ delayed_in map old r
-      so true on = omega (arith, none_left r on)
-      so false off = omega (arith, others_left r off)
 
 -- ---- several regions
 

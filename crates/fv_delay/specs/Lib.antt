@@ -1,3 +1,4 @@
 pub mod Choice
 pub mod Delay
+pub mod Holding
 pub mod Reclaims

@@ -1,8 +1,8 @@
 -- What a reclaim makes of a container and of the blocks of the aggregate.
 use Rattle.std.specs.Prelude.{◌≡◌, ◌≤◌, ℕ, Bool, not, ◌&&◌, length, Option, Some, None, false, if◌then◌else◌}
 use Rattle.std.specs.List.{list_any, range_with_len}
-use Rattle.fv_bits.specs.Members.{is_member}
-use Rattle.fv_aggmap.specs.Space.{Space, free_blocks}
+pub use Rattle.fv_aggmap.specs.Giving.{HasGiven}
+use Rattle.fv_aggmap.specs.Space.{Space}
 use Rattle.fv_container.specs.declared.entry.Entry.{Entry}
 use Rattle.fv_container.specs.Mapped.{Mapped, entry_under}
 use Rattle.fv_container.specs.Spelled.{is_at}
@@ -23,13 +23,6 @@ pub record HasEmptied (old : Mapped) (goes : ℕ → Bool) (new : Mapped) : Type
   pub entries : (v : ℕ) → entry_under new v ≡ (if goes v then None else entry_under old v)
   pub long : length new.entries ≡ length old.entries
   pub tree : new.tree ≡ old.tree
-
--- Some blocks won't be held by the next root any more. The root on the disk holds what it held, so such a block is free only once that root
--- is replaced.
-pub record HasGiven (old : Space) (given : ℕ → Bool) (new : Space) : Type 0 where
-  pub committed : new.committed ≡ old.committed
-  pub held : (b : ℕ) → is_member new.next b ≡ (is_member old.next b && not (given b))
-  pub count : free_blocks old ≤ free_blocks new
 
 -- the entries that go with some regions: those that are delayed there
 abbrev pub goes_with : Volume → Mapped → (ℕ → Bool) → ℕ → Bool

@@ -17,7 +17,7 @@ use Rattle.fv_tree.specs.Writing.{IsAlike}
 use Rattle.fv_tree.specs.Flushing.{Loaded, Leads, IsSound, loaded_over}
 use Rattle.fv_tree.specs.Beside.{IsLaid, loaded_on, unread, LeadsTo, Spares}
 use Rattle.fv_tree.proofs.Beside.{tree_laid, unread_laid, unread_sound, other_alike, other_keeps, other_leads, other_sound, still_apart}
-use Rattle.fv_tree.proofs.Flushed.{none_some, some_none}
+use Rattle.fv_tree.proofs.Cases.{none_some, some_none}
 use Rattle.fv_tree.proofs.Whole.{hole_reaches}
 use Rattle.fv_tree.proofs.Writes.{none_at}
 use Rattle.fv_files.specs.declared.files.Files.{Files}
@@ -51,7 +51,7 @@ IsLaidIn blocks (Some s) = (s.tree.under ≡ blocks) × IsLaid s
 -- a tree without a cell, of which nothing is in memory
 abbrev pub IsBare : Option Loaded → Type 0
 IsBare None = Unit {0}
-IsBare (Some s) = (t : Rooted) × (s ≡ unread t) × (t.root.stamp ≡ 0) × ((level place : ℕ) → t.nodes level place ≡ None)
+IsBare (Some s) = (t : Rooted) × (s ≡ unread t) × (t.root.stamp ≡ 0) × ((level place : ℕ) → t.nodes level place ≡ None) × ((index : ℕ) → t.cells index ≡ None)
 
 pub bare_leads : (o : Option Loaded) → IsBare o → (v : ℕ) → LeadsIn o v → ⊥
 bare_leads None bare v led = led
@@ -62,7 +62,7 @@ bare_leads (Some s) bare v led = none (subst (λ (q : Loaded). LeadsTo q v) bare
 
 bare_stands : (used : ℕ → Option Use) (o : Option Loaded) → IsBare o → StandsIn used o
 bare_stands used None bare = tt
-bare_stands used (Some s) bare = subst (λ (q : Loaded). IsSound used q) (sym bare.1) (unread_sound used bare.0 bare.3 (hole_reaches used bare.0 bare.2))
+bare_stands used (Some s) bare = subst (λ (q : Loaded). IsSound used q) (sym bare.1) (unread_sound used bare.0 bare.3 bare.4 (hole_reaches used bare.0 bare.2))
 
 -- the same tree over other blocks, or a bare one
 abbrev pub IsOther : Under → Option Loaded → Option Loaded → Type 0

@@ -24,7 +24,7 @@ use Rattle.fv_tree.specs.Readying.{KeepsReady}
 use Rattle.fv_tree.specs.Beside.{unread, LeadsTo, Spares}
 use Rattle.fv_tree.proofs.Beside.{flush_spares, loading_spares, unread_sound}
 use Rattle.fv_tree.proofs.Causes.{calm_then, counts_then}
-use Rattle.fv_tree.proofs.Flushed.{unchanged_placed}
+use Rattle.fv_tree.proofs.Unchanged.{unchanged_placed}
 use Rattle.fv_tree.proofs.Gone.{is_memory}
 use Rattle.fv_tree.proofs.Leading.{flush_keeps, flush_leads}
 use Rattle.fv_inode.specs.declared.file.InodeFile.{InodeFile}
@@ -210,7 +210,7 @@ module _ (source : Shown) (f : Files) (m : maps.BTreeMap ℕ Tree) (n levels : �
   gone_stands = file_stands source source f g n refl others sound
       (loading_spares source source (LeadsFrom (loaded_trees (under source) f) (Some n)) (LeadsFrom (loaded_trees (under source) g) (Some n)) refl refl
       (λ v led. subst (λ o. LeadsIn o v) (sym was_tree) (reread_leads (under source) u n levels root is v (subst (λ o. LeadsIn o v) now_tree led))))
-      (subst (StandsIn source.used) (sym now_tree) (unread_sound source.used (stored (under source) n levels root) (λ level place. refl) reaches))
+      (subst (StandsIn source.used) (sym now_tree) (unread_sound source.used (stored (under source) n levels root) (λ level place. refl) (λ index. refl) reaches))
       (λ w at. absurd (not_some (tree_in g n) w none at))
       (λ there. none_there (tree_in g n) none there)
     where

@@ -74,7 +74,7 @@ module _ (old now : Shown) (f : Files) (i : InodeFile) (name : List ℕ) (reserv
   bare : IsBare (loaded_trees (under now) g (Some n))
   bare =
       let is : loaded_trees (under now) g (Some n) ≡ Some (unread (stored (under now) n (least_levels reserve) hole)) = (λ j. option_map (λ r. file_loaded (under now) n r (none j)) (own j)) in
-      subst IsBare (sym is) (stored (under now) n (least_levels reserve) hole, refl, refl, λ level place. refl)
+      subst IsBare (sym is) (stored (under now) n (least_levels reserve) hole, refl, refl, λ level place. refl, λ index. refl)
 
   pub made_sound : now.used ≡ old.used → i.tree.owner ≡ f.inode.tree.owner → Stands now i.tree → LeadsNoMore (loaded old f.inode.tree) (loaded now i.tree) → KeepsReady f.inode.tree i.tree → AreStanding now g
   made_sound used owner inode no_more keeps_ready = inode_stands old now f g n (λ k differs. refl) others sound

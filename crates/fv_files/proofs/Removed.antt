@@ -209,5 +209,5 @@ module _ (told cut_calls take_calls : Type 0) (old mid new : Shown) (f : Files) 
         cause = tt;
       }
 
-  pub remove_pending : pending i.tree ≤ pending f.inode.tree + 3 → ((t : Tree) → maps.get nat_cmp m n ≡ Some t → pending_trees last + tree_cost t ≡ pending_trees m) → pending_in (record { inode = i; trees = last; alloc = f.alloc }) ≤ pending_in f + 3
+  pub remove_pending : pending i.tree ≤ pending f.inode.tree + 4 → ((t : Tree) → maps.get nat_cmp m n ≡ Some t → pending_trees last + tree_cost t ≡ pending_trees m) → pending_in (record { inode = i; trees = last; alloc = f.alloc }) ≤ pending_in f + 4
   remove_pending inode cost = let out = cost cuts.next cuts.becomes.now in let sum = cuts.becomes.sum in omega (arith, inode, out, sum)

@@ -14,7 +14,7 @@ use Rattle.fv_tree.specs.Flushing.{Loaded, Leads, IsRight, IsSound, IsNodeOf, Na
 use Rattle.fv_tree.specs.Beside.{IsLaid, LieApart, loaded_on, unread, LeadsTo, Spares}
 use Rattle.fv_tree.specs.Stored.{HasPlaces, IsStoredWell}
 use Rattle.fv_tree.proofs.Beside.{beside_leads, beside_pointers}
-use Rattle.fv_tree.proofs.Flushed.{some_none}
+use Rattle.fv_tree.proofs.Cases.{some_none}
 use Rattle.fv_tree.proofs.Released.{block_read}
 use Rattle.fv_inode.specs.Files.{IsInodesOf}
 use Rattle.fv_inode.proofs.Indexed.{bare_indexes}
@@ -82,7 +82,7 @@ pub hole_stored : (blocks : Under) (levels : ℕ) (root : Pointer) → root.stam
 hole_stored blocks levels root none = record { trees = each; inodes = bare_indexes (stored blocks greatest_word levels root) none }
   where
     each : (a : Option ℕ) → StoredIn (stored_trees blocks levels root a)
-    each None = bare_stored (Some (unread (stored blocks greatest_word levels root))) (stored blocks greatest_word levels root, refl, none, λ level place. refl)
+    each None = bare_stored (Some (unread (stored blocks greatest_word levels root))) (stored blocks greatest_word levels root, refl, none, λ level place. refl, λ index. refl)
     each (Some n) = subst (λ o. StoredIn (option_map (λ (r : InodeRecord). unread (stored blocks n r.levels r.root)) o)) (sym (bare_file (stored blocks greatest_word levels root) none n)) tt
 
 -- ---- a table under a root

@@ -56,7 +56,7 @@ module _ (f : Files) (levels : ℕ) (root : Pointer) (is : (blocks : Under) → 
       where
         at : (o : Option InodeRecord) → file_at (stored blocks greatest_word levels root) n ≡ o → StandsIn used (option_map (λ r. unread (stored blocks n r.levels r.root)) o)
         at None e = tt
-        at (Some r) e = unread_sound used (stored blocks n r.levels r.root) (λ level place. refl) (reached.files n r e)
+        at (Some r) e = unread_sound used (stored blocks n r.levels r.root) (λ level place. refl) (λ index. refl) (reached.files n r e)
 
     pub stored_sound : maps.btree_map_len f.trees ≡ 0 → (blocks : Under) (used : ℕ → Option Use) → AreReached blocks used levels root → AreSound blocks used f
     stored_sound none blocks used reached = record {

@@ -73,7 +73,7 @@ fn cut_ready<B: Blocks>(
     ensures counted { B.told → IfOk result (λ count. AreStanding (B.shown blocks.old) files.old → TakesByCut (table_in (B.shown blocks.old) files.old) info.now.number length stamp count) }
     ensures led { B.told → KeepsLed (B.shown blocks.old) (B.shown blocks.new) files.old files.new }
     ensures pending { OnErr result (pending_in files.new ≤ pending_in files.old) }
-    ensures pending_done { B.told → OnOk result (AreStanding (B.shown blocks.old) files.old → (now : ℕ) → IsWellTable now (table_told (table_in (B.shown blocks.old) files.old)) → pending_in files.new ≤ pending_in files.old + 3) }
+    ensures pending_done { B.told → OnOk result (AreStanding (B.shown blocks.old) files.old → (now : ℕ) → IsWellTable now (table_told (table_in (B.shown blocks.old) files.old)) → pending_in files.new ≤ pending_in files.old + 7) }
     ensures changes { Changes B.told (Unit {0}) (B.shown blocks.old) (B.shown blocks.new) files.old files.new (KeptFails B.told (B.shown blocks.old) (B.shown blocks.new) files.old info.now.number) result }
     ensures calls { B.goes blocks.old blocks.new }
 {

@@ -30,7 +30,7 @@ pub fn prepare<B: Blocks>(
     requires range { IsInfo info.now }
     requires there { B.told → IsInfoOf (rooted (B.shown blocks.old) files.old.inode) info.now }
     ensures prepares { Prepares B.told (B.shown blocks.old) (B.shown blocks.new) files.old files.new info.now result }
-    ensures pending { pending_in files.new ≤ pending_in files.old + 8 }
+    ensures pending { pending_in files.new ≤ pending_in files.old + 4 }
     ensures reads { B.reads blocks.old blocks.new }
 {
     if !files.inode.ready(blocks, info.number)? {

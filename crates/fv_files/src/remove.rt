@@ -69,7 +69,7 @@ fn remove_ready<B: Blocks>(
     ensures removed { B.told → OnOk result (AreStanding (B.shown blocks.old) files.old → RemovesFile (table_in (B.shown blocks.old) files.old) (table_in (B.shown blocks.new) files.new) info.now.number stamp) }
     ensures counted { B.told → IfOk result (λ count. AreStanding (B.shown blocks.old) files.old → TakesByRemoval (table_in (B.shown blocks.old) files.old) info.now.number stamp count) }
     ensures led { B.told → (now : ℕ) → IsWellTable now (table_told (table_in (B.shown blocks.old) files.old)) → KeepsLed (B.shown blocks.old) (B.shown blocks.new) files.old files.new }
-    ensures pending { pending_in files.new ≤ pending_in files.old + 3 }
+    ensures pending { pending_in files.new ≤ pending_in files.old + 4 }
     ensures changes { Changes B.told (HoldsCells (rooted (B.shown blocks.old) files.old.inode)) (B.shown blocks.old) (B.shown blocks.new) files.old files.new (KeptFails B.told (B.shown blocks.old) (B.shown blocks.new) files.old info.now.number) result }
     ensures calls { B.goes blocks.old blocks.new }
 {

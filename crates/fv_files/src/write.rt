@@ -70,7 +70,7 @@ fn write_ready<B: Blocks>(
     ensures written { B.told → OnOk result (WritesCell (table_in (B.shown blocks.old) files.old) (table_in (B.shown blocks.new) files.new) info.now.number index stamp block.now) }
     ensures changes { Changes B.told (Unit {0}) (B.shown blocks.old) (B.shown blocks.new) files.old files.new (KeptFails B.told (B.shown blocks.old) (B.shown blocks.new) files.old info.now.number) result }
     ensures led { B.told → KeepsLed (B.shown blocks.old) (B.shown blocks.new) files.old files.new }
-    ensures pending { pending_in files.new ≤ pending_in files.old + 6 }
+    ensures pending { pending_in files.new ≤ pending_in files.old + 10 }
     ensures untouched { IsUntouched (B.shown blocks.old) (B.shown blocks.new) }
     ensures reads { B.reads blocks.old blocks.new }
 {

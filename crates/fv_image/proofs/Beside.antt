@@ -18,34 +18,34 @@ use Rattle.fv_tables.proofs.Lists.{all_of_range}
 use Rattle.fv_image.specs.Chains.{place, under}
 use Rattle.fv_image.specs.Views.{Placed, Rooted, Snap, Footing, Head, View, slots}
 use Rattle.fv_image.specs.Told as plain
-use Rattle.fv_image.specs.Volumes.{snap_told, base_from, volume_with, volume_told}
-use Rattle.fv_image.specs.Seen.{Reached, Root, VolumeSeen, root_seen, base_seen, volume_seen, seen}
+use Rattle.fv_image.specs.Volumes.{base_from, volume_with, volume_told}
+use Rattle.fv_image.specs.Seen.{Reached, Root, VolumeSeen, root_seen, roots_of, base_seen, volume_seen, seen}
 use Rattle.fv_image.specs.ReachRules.{all_volumes, is_hint, has_reached_shapes, has_pointers_in_range, has_reached_positions, are_distinct, has_distinct_files, reaches_once, has_reached_kinds}
 use Rattle.fv_image.specs.TableRules.{has_one_to_one, has_stamps_past, has_marks_over, has_cells_within, are_levels, has_levels}
 use Rattle.fv_image.specs.HintRules.{is_splitting, has_true_hints, leads_unknown, has_known_places, has_split_places, leaves_base, rests_on_base}
 use Rattle.fv_image.specs.VolumeRules.{has_wide_spans, comes_to_end, has_footing, has_bases, has_distinct_snapshots, has_use_in_size, has_commits_in_capacity}
 use Rattle.fv_image.specs.Soundness.{AreTables}
 use Rattle.fv_image.specs.WholeMachine.{has_form, has_no_reserves, is_built}
-use Rattle.fv_image.proofs.LoneTables.{built_forms, built_reserves, form_base, form_snapshots, no_parent, place_own}
+use Rattle.fv_image.proofs.LoneTables.{built_forms, built_reserves, form_base, no_parent, place_own}
 use Rattle.fv_image.proofs.PlainVolumes.{IsPlainHead, bare_seen, seen_plain}
 use Rattle.fv_image.proofs.SameSeen.{of_volume, seen_at}
 use Rattle.fv_image.proofs.Uses.{uses_nothing}
 
 -- ---- a volume that stays
 
--- Without snapshots and base a volume is seen by its head and the entries of its slot alone.
-module _ (w u : View) (s : ℕ) (h : Head) (snapshots : h.snapshots ≡ []) (base : h.base ≡ None) (places : (v : ℕ) → place u s v ≡ place w s v) (entries : (v : ℕ) → u.entry s v ≡ w.entry s v) where
+-- Without a base a volume is seen by its head and the entries of its slot alone.
+module _ (w u : View) (s : ℕ) (h : Head) (base : h.base ≡ None) (places : (v : ℕ) → place u s v ≡ place w s v) (entries : (v : ℕ) → u.entry s v ≡ w.entry s v) where
   blocks : under u s ≡ under w s
   unfolding under
   blocks = λ i v. option_map (λ (p : Placed). p.block) (places v i)
 
-  same_root : root_seen u s 0 h.active ≡ root_seen w s 0 h.active
+  same_root : (slot : ℕ) (r : Rooted) → root_seen u s slot r ≡ root_seen w s slot r
   unfolding root_seen
-  same_root = λ i. record {
-    map = 0;
-    rooted = h.active;
-    files = records (standing_at (blocks i) h.active.levels h.active.root);
-    reached = map (λ (e : Item). record { item = e; at = places e.pointer.vvbn i; own = is_some (entries e.pointer.vvbn i) }) (items (standing_at (blocks i) h.active.levels h.active.root));
+  same_root slot r = λ i. record {
+    map = slot;
+    rooted = r;
+    files = records (standing_at (blocks i) r.levels r.root);
+    reached = map (λ (e : Item). record { item = e; at = places e.pointer.vvbn i; own = is_some (entries e.pointer.vvbn i) }) (items (standing_at (blocks i) r.levels r.root));
   }
 
   same_told : volume_told u s h ≡ volume_told w s h
@@ -57,20 +57,17 @@ module _ (w u : View) (s : ℕ) (h : Head) (snapshots : h.snapshots ≡ []) (bas
     span = h.span;
     now = h.now;
     active = table_told (standing_at (blocks i) h.active.levels h.active.root);
-    snapshots = (ap (λ (ps : List Snap). fin.from_entries {R = name_cmp} (map (snap_told u s) ps)) snapshots ∙ sym (ap (λ (ps : List Snap). fin.from_entries {R = name_cmp} (map (snap_told w s) ps)) snapshots)) i;
+    snapshots = fin.from_entries {R = name_cmp} (map (λ (p : Snap). (p.name, table_told (standing_at (blocks i) p.table.levels p.table.root))) h.snapshots);
     base = (ap (base_from u) base ∙ sym (ap (base_from w) base)) i;
     known = h.known;
   }
-
-  roots_of_one : (v : View) → map (λ (r : ℕ × Rooted). root_seen v s r.0 r.1) (map (λ (p : Snap). (p.slot, p.table)) h.snapshots) ≡ []
-  roots_of_one v = ap (λ (ps : List Snap). map (λ (r : ℕ × Rooted). root_seen v s r.0 r.1) (map (λ (p : Snap). (p.slot, p.table)) ps)) snapshots
 
   pub lone_seen : volume_seen u s h ≡ volume_seen w s h
   unfolding volume_seen base_seen
   lone_seen = λ i. record {
     head = h;
     volume = same_told i;
-    roots = same_root i ∷ (roots_of_one u ∙ sym (roots_of_one w)) i;
+    roots = map (λ (r : ℕ × Rooted). same_root r.0 r.1 i) (roots_of h);
     base = (ap (base_seen u s) base ∙ sym (ap (base_seen w s) base)) i;
   }
 
@@ -115,20 +112,19 @@ module _ (w u : View) (slot : ℕ) (h : Head) (is : IsBeside w u slot h) (built 
       same : (a b : Head) → ◌≡◌ {A = Option Head} (Some a) (Some b) → a ≡ b
       same a b e = cc
 
-  -- a volume of another slot leads to the blocks that it led to
-  pub under_beside : (s : ℕ) (g : Head) → s ≢ slot → w.head s ≡ Some g → has_form g ≡ true → under u s ≡ under w s
-  unfolding under
-  under_beside s g other there form =
-      let base = form_base g form in
-      λ i v. option_map (λ (p : Placed). p.block) ((place_own u s v (no_parent u s g (is.heads s other ∙ there) base) ∙ is.entries s other v ∙ sym (place_own w s v (no_parent w s g there base))) i)
+  -- a volume of another slot finds each VVBN where it did
+  places_beside : (s : ℕ) (g : Head) → s ≢ slot → w.head s ≡ Some g → g.base ≡ None → (v : ℕ) → place u s v ≡ place w s v
+  places_beside s g other there base v =
+      place_own u s v (no_parent u s g (is.heads s other ∙ there) base) ∙ is.entries s other v ∙ sym (place_own w s v (no_parent w s g there base))
 
-  -- a volume of another slot is seen as it was
-  still : (s : ℕ) (g : Head) → s ≢ slot → w.head s ≡ Some g → has_form g ≡ true → volume_seen u s g ≡ volume_seen w s g
-  still s g other there form =
-      let base = form_base g form in
-      lone_seen w u s g (form_snapshots g form) base
-      (λ v. place_own u s v (no_parent u s g (is.heads s other ∙ there) base) ∙ is.entries s other v ∙ sym (place_own w s v (no_parent w s g there base)))
-      (is.entries s other)
+  -- and leads to the blocks that it led to
+  pub under_beside : (s : ℕ) (g : Head) → s ≢ slot → w.head s ≡ Some g → g.base ≡ None → under u s ≡ under w s
+  unfolding under
+  under_beside s g other there base = λ i v. option_map (λ (p : Placed). p.block) (places_beside s g other there base v i)
+
+  -- So it is seen as it was.
+  still : (s : ℕ) (g : Head) → s ≢ slot → w.head s ≡ Some g → g.base ≡ None → volume_seen u s g ≡ volume_seen w s g
+  still s g other there base = lone_seen w u s g base (places_beside s g other there base) (is.entries s other)
 
   -- What held of each volume holds of each, where it holds of the new one.
   pub all_beside : (was now : ℕ → VolumeSeen → Bool) → all_volumes (seen w) was ≡ true → ((s : ℕ) (x : VolumeSeen) → was s x ≡ true → now s x ≡ true) → now slot (bare_seen h) ≡ true → all_volumes (seen u) now ≡ true
@@ -144,7 +140,7 @@ module _ (w u : View) (slot : ℕ) (h : Head) (is : IsBeside w u slot h) (built 
           ap (λ (n : ℕ). now n (volume_seen u n g)) here ∙ ap (λ (x : Head). now slot (volume_seen u slot x)) head ∙ ap (now slot) (seen_plain u slot h is.plain) ∙ new)
           (λ (other : s ≢ slot).
           let was_there : w.head s ≡ Some g = sym (is.heads s other) ∙ e in
-          ap (now s) (still s g other was_there (forms s g inside e)) ∙ keeps s (volume_seen w s g) (of_volume w was s g all inside was_there))
+          ap (now s) (still s g other was_there (form_base g (forms s g inside e))) ∙ keeps s (volume_seen w s g) (of_volume w was s g all inside was_there))
           (cases_eq s slot)
         where
           same : (a b : Head) → ◌≡◌ {A = Option Head} (Some a) (Some b) → a ≡ b

@@ -1,7 +1,7 @@
 -- What a consistency point leaves: an image that keeps what its volumes' roots reach, in which each map is what its root reaches and the
--- aggregate map is what is held, is sound and tells the same machine. And the space rule, from what the volumes commit.
-use Rattle.std.proofs.Common.{◌≡◌, ℕ, zero, suc, ◌+◌, ◌-◌, ◌*◌, ◌<◌, ◌≤◌, Bool, true, List, [], ◌∷◌, refl, sym, ap, ap₂, subst, ◌∙◌, arith}
-use Rattle.std.specs.Prelude.{Option, Some, None, ◌&&◌, nat_le, sum_by, count_by}
+-- aggregate map is what is held, is sound and tells the same machine. And the space rule, from what the volumes commit or use.
+use Rattle.std.proofs.Common.{◌≡◌, ◌⊎◌, ℕ, zero, suc, ◌+◌, ◌-◌, ◌*◌, ◌<◌, ◌≤◌, Bool, true, List, [], ◌∷◌, refl, sym, ap, ap₂, subst, ◌∙◌, ⊎_elim, arith}
+use Rattle.std.specs.Prelude.{Option, Some, None, ◌&&◌, nat_le, max, sum_by, count_by}
 use Rattle.std.specs.List.{list_all, range_with_len}
 use Rattle.std.specs.Option.{option_map_or}
 use Rattle.std.proofs.lemmas.Bool.Decides.{nat_tests}
@@ -19,13 +19,14 @@ use Rattle.fv_image.specs.Sound.{agree, overheads, has_distinct_names, leaves_ro
 use Rattle.fv_image.specs.Volumes.{standing_of, volume_with, volume_told, told}
 use Rattle.fv_image.specs.Seen.{VolumeSeen, roots_of, volume_seen, seen}
 use Rattle.fv_image.specs.ReachRules.{is_reach, has_maps_of_reach, has_map_blocks, has_map_kinds}
-use Rattle.fv_image.specs.VolumeRules.{has_bases, has_use_in_size, commits_seen, has_commits_in_capacity}
+use Rattle.fv_image.specs.VolumeRules.{has_bases, has_use_in_size, uses_seen, commits_seen, has_commits_in_capacity}
 use Rattle.fv_image.specs.HintRules.{rests_on_base}
 use Rattle.fv_image.specs.Staying.{items_of, own_items, StaysHeld}
 use Rattle.fv_image.specs.Soundness.{AreBlocks, AreTables, IsSound}
 use Rattle.fv_image.specs.WholeMachine.{has_form, has_no_reserves, is_built, machine_from}
 use Rattle.fv_image.proofs.SameSeen.{left_listed, right_listed, same_reach, same_told, same_seen, seen_at, of_volume}
 use Rattle.fv_image.proofs.SoundTests.{machine_told}
+use Rattle.fv_image.proofs.Counts.{sums_within}
 use Rattle.fv_image.proofs.Promises.{room_from}
 
 -- ---- volume maps
@@ -98,6 +99,22 @@ module _ (w : View) (y : Layout) (ends : Ends w y) (tables : AreTables (seen w))
 pub record UsesOwn (w : View) : Type 0 where
   pub own : (s : ℕ) (h : Head) → s < 64 → w.head s ≡ Some h → count_by (is_own w s h) (vvbns h.span) ≤ use_of (volume_told w s h)
 
+-- So all volumes have at most as many entries of their own as they use together.
+pub own_used : (w : View) → UsesOwn w → own w ≤ uses_seen (seen w)
+unfolding own uses_seen slots volume_seen
+own_used w uses = sums_within (λ s. option_map_or (λ h. count_by (is_own w s h) (vvbns h.span)) (w.head s) 0) (λ s. option_map_or (λ x. use_of x.volume) ((seen w).volume s) 0) 0 64 (λ s low high. so s (omega (arith, high)) (w.head s) refl)
+  where
+    so : (s : ℕ) → s < 64 → (o : Option Head) → w.head s ≡ o → option_map_or (λ h. count_by (is_own w s h) (vvbns h.span)) (w.head s) 0 ≤ option_map_or (λ x. use_of x.volume) ((seen w).volume s) 0
+    so s inside None e = let none : option_map_or (λ h. count_by (is_own w s h) (vvbns h.span)) (w.head s) 0 ≡ 0 = ap (λ (o : Option Head). option_map_or (λ h. count_by (is_own w s h) (vvbns h.span)) o 0) e in omega (arith, none)
+    so s inside (Some h) e =
+        let a : option_map_or (λ h. count_by (is_own w s h) (vvbns h.span)) (w.head s) 0 ≡ count_by (is_own w s h) (vvbns h.span) = ap (λ (o : Option Head). option_map_or (λ h. count_by (is_own w s h) (vvbns h.span)) o 0) e in
+        let b : option_map_or (λ x. use_of x.volume) ((seen w).volume s) 0 ≡ use_of (volume_told w s h) = ap (λ (o : Option VolumeSeen). option_map_or (λ x. use_of x.volume) o 0) (seen_at w s h inside e) in
+        omega (arith, a, b, uses.own s h inside e)
+
+-- Where there is room for what all volumes use, for what is delayed, and for all overheads twice, the space rule holds.
+pub room_with_delayed : (w : View) → UsesOwn w → (room : ℕ) → 2 * overheads w + uses_seen (seen w) + delayed w + max 256 room ≤ w.blocks - first_block w.blocks → leaves_room w room ≡ true
+room_with_delayed w uses room enough = room_from w room (omega (arith, own_used w uses, enough))
+
 -- twice a sum and another are within a third where the parts are
 within_third : (a b c : ℕ → ℕ) (from count : ℕ) → ((k : ℕ) → from ≤ k → k < from + count → 2 * a k + b k ≤ c k) → 2 * sum_by a (range_with_len from count) + sum_by b (range_with_len from count) ≤ sum_by c (range_with_len from count)
 within_third a b c from zero each = omega arith
@@ -161,3 +178,18 @@ module _ (w : View) (tables : AreTables (seen w)) (uses : UsesOwn w) where
   -- So it does with more room where the commits leave it in the capacity.
   pub room_beside_commits : (room : ℕ) → delayed w ≡ 0 → 256 ≤ w.blocks - first_block w.blocks → commits_seen (seen w) + room ≤ capacity w.blocks → leaves_room w (256 + room) ≡ true
   room_beside_commits room none large enough = room_from w (256 + room) (omega (arith, none, large, commits_hold, enough))
+
+  -- Say that so many blocks were missing for the space rule with what was delayed before, and that so many were given back. Either these are
+  -- enough, and the rule holds by what the volumes use. Or no entry is delayed any more, and it holds by what they commit.
+  pub room_after : (room before taken missing : ℕ) → 256 ≤ w.blocks - first_block w.blocks → commits_seen (seen w) + room ≤ capacity w.blocks
+      → delayed w + taken ≤ before → (2 * overheads w + uses_seen (seen w) + before + max 256 room) - (w.blocks - first_block w.blocks) ≤ missing
+      → (missing ≤ taken) ⊎ (delayed w ≡ 0) → leaves_room w room ≡ true
+  room_after room before taken missing large enough left lacks = ⊎_elim
+      (λ (reached : missing ≤ taken). room_with_delayed w uses room (omega (arith, left, lacks, reached)))
+      (λ (none : delayed w ≡ 0). room_from w room (omega (arith, none, large, commits_hold, enough)))
+
+  -- So it holds without room, whatever the commits leave.
+  pub room_without : (before taken missing : ℕ) → 256 ≤ w.blocks - first_block w.blocks
+      → delayed w + taken ≤ before → (2 * overheads w + uses_seen (seen w) + before + 256) - (w.blocks - first_block w.blocks) ≤ missing
+      → (missing ≤ taken) ⊎ (delayed w ≡ 0) → leaves_room w 0 ≡ true
+  room_without before taken missing large left lacks = room_after 0 before taken missing large (omega (arith, capacity_fits)) left (omega (arith, lacks))

@@ -48,6 +48,10 @@ has_distinct_snapshots w = all_volumes w (λ s x. are_distinct (map (λ p. p.nam
 unfoldable pub has_use_in_size : Seen → Bool
 has_use_in_size w = all_volumes w (λ s x. nat_le (use_of x.volume) x.head.size)
 
+-- what all volumes use together
+unfoldable pub uses_seen : Seen → ℕ
+uses_seen w = sum_by (λ s. option_map_or (λ x. use_of x.volume) (w.volume s) 0) slots
+
 -- what all volumes commit together
 unfoldable pub commits_seen : Seen → ℕ
 commits_seen w = sum_by (λ s. option_map_or (λ x. commit x.volume) (w.volume s) 0) slots

@@ -9,7 +9,7 @@ use Rattle.fv_tables.specs.Spelled.{Rooted, block_at}
 use Rattle.fv_tables.specs.Told.{records_each}
 use Rattle.fv_tree.specs.Writing.{IsAlike}
 use Rattle.fv_tree.specs.Erasing.{IsErased}
-use Rattle.fv_tree.proofs.Flushed.{some_none}
+use Rattle.fv_tree.proofs.Cases.{some_none}
 use Rattle.fv_tree.proofs.Writes.{block_none, none_at}
 use Rattle.fv_inode.specs.Files.{IsInodesOf, NamesIndexes}
 use Rattle.fv_inode.specs.Changing.{FillsFiles, Rewrites, SetsRoot, WritesFiles}

@@ -68,7 +68,7 @@ impl InodeFile {
         ensures leads { (blocks : Under) → LeadsNoMore (loaded_over blocks self.old.tree) (loaded_over blocks self.new.tree) }
         ensures keeps { (blocks : Under) → LeadsNoMore (loaded_over blocks self.new.tree) (loaded_over blocks self.old.tree) }
         ensures stored_well { (blocks : Under) → IsStoredWell (loaded_over blocks self.old.tree) → IsStoredWell (loaded_over blocks self.new.tree) }
-        ensures pending { pending self.new.tree ≤ pending self.old.tree }
+        ensures pending { pending self.new.tree ≤ pending self.old.tree + 4 }
     {
         let cell = info.number / EACH;
         let slot = (info.number % EACH) as usize;

@@ -21,7 +21,7 @@ use std::alloc::Global;
 /// The owner of an inode file's nodes.
 const INODE_FILE: u64 = u64::MAX;
 
-/// The inode file of a table, of which what changed since the last `flush` is in memory. The record of file n is
+/// The inode file of a table, of which what changed or was held ready since the last `flush` is in memory. The record of file n is
 /// number n mod 16 of the inode block at cell n / 16.
 #[derive(Drop)]
 pub struct InodeFile {

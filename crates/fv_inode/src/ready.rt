@@ -19,7 +19,8 @@ use fv_tree::{Blocks, Tree};
 impl InodeFile {
     /// Brings the inode block of a file and the nodes over it into memory, so that a `rewrite` or an `erase` of the file
     /// can't fail; false exactly where no file has the number. The inode file stays as it is, after a fault, too. It loads
-    /// what `Tree::ready` loads, and once more to read the record. They stay in memory, and the next `flush` places them.
+    /// what `Tree::ready` loads, and once more to read the record. They stay in memory, and a `flush` places none of them
+    /// that isn't written.
     ///
     /// # Errors
     ///
@@ -32,7 +33,7 @@ impl InodeFile {
         ensures files { B.told → (n : ℕ) → file_at (rooted (B.shown blocks.new) self.new) n ≡ file_at (rooted (B.shown blocks.old) self.old) n }
         ensures levels { self.new.tree.levels ≡ self.old.tree.levels }
         ensures alters { Alters B.told (B.shown blocks.old) (B.shown blocks.new) self.old.tree self.new.tree result }
-        ensures pending { pending self.new.tree ≤ pending self.old.tree + 4 }
+        ensures pending { pending self.new.tree ≤ pending self.old.tree }
         ensures reads { B.reads blocks.old blocks.new }
     {
         ready_file(&mut self.tree, blocks, number)
@@ -46,7 +47,7 @@ fn ready_file<B: Blocks>(tree: &mut Tree, blocks: &mut B, number: u32) -> Result
     ensures alike { B.told → IsAlike (standing (under (B.shown blocks.old)) tree.old) (standing (under (B.shown blocks.new)) tree.new) }
     ensures levels { tree.new.levels ≡ tree.old.levels }
     ensures alters { Alters B.told (B.shown blocks.old) (B.shown blocks.new) tree.old tree.new result }
-    ensures pending { pending tree.new ≤ pending tree.old + 4 }
+    ensures pending { pending tree.new ≤ pending tree.old }
     ensures reads { B.reads blocks.old blocks.new }
 {
     let files = read_files(tree, blocks, number / EACH)?;
@@ -63,7 +64,7 @@ fn hold<B: Blocks>(tree: &mut Tree, blocks: &mut B, number: u32) -> Result<bool,
     ensures alike { B.told → IsAlike (standing (under (B.shown blocks.old)) tree.old) (standing (under (B.shown blocks.new)) tree.new) }
     ensures levels { tree.new.levels ≡ tree.old.levels }
     ensures alters { Alters B.told (B.shown blocks.old) (B.shown blocks.new) tree.old tree.new result }
-    ensures pending { pending tree.new ≤ pending tree.old + 4 }
+    ensures pending { pending tree.new ≤ pending tree.old }
     ensures reads { B.reads blocks.old blocks.new }
 {
     let there = tree.ready(blocks, number / EACH)?;

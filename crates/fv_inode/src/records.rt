@@ -191,7 +191,7 @@ pub fn rewrite_files(tree: &mut Tree, cell: u32, files: &[InodeRecord; 16], stam
     ensures leads { (blocks : Under) → LeadsNoMore (loaded_over blocks tree.old) (loaded_over blocks tree.new) }
     ensures keeps { (blocks : Under) → LeadsNoMore (loaded_over blocks tree.new) (loaded_over blocks tree.old) }
     ensures stored_well { (blocks : Under) → IsStoredWell (loaded_over blocks tree.old) → IsStoredWell (loaded_over blocks tree.new) }
-    ensures pending { pending tree.new ≤ pending tree.old }
+    ensures pending { pending tree.new ≤ pending tree.old + 4 }
 {
     let block = spelled(cell, files);
     tree.rewrite(cell, &block, stamp);

@@ -10,8 +10,10 @@ mod far;
 #[cfg(test)]
 mod rows;
 #[cfg(test)]
+mod shared;
+#[cfg(test)]
 mod stored;
 mod tables;
 
 pub use calls::{change, create, remove, set_root};
-pub use tables::{length, make, read, write};
+pub use tables::{length, make, read, staying, staying_by_removal, write};

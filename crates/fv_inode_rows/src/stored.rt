@@ -13,7 +13,7 @@ use std::alloc::Global;
 use std::test::Fail;
 
 /// A name of one letter and one digit.
-fn name(number: u8) -> Result<Name, Wrong> {
+pub(crate) fn name(number: u8) -> Result<Name, Wrong> {
     let bytes = [97 + number / 10 % 26, 48 + number % 10];
     match Name::read(&bytes) {
         Some(name) => Ok(name),
@@ -22,7 +22,7 @@ fn name(number: u8) -> Result<Name, Wrong> {
 }
 
 /// A block of one byte.
-fn full(byte: u8) -> [u8; 4096] {
+pub(crate) fn full(byte: u8) -> [u8; 4096] {
     [byte; 4096]
 }
 
@@ -81,7 +81,7 @@ fn forty(alloc: Global) -> Result<bool, Wrong> {
 }
 
 /// The root of a stored table with a file of 2 levels: blocks 0 and 200 are of bytes 5 and 6.
-fn stored(alloc: Global, blocks: &mut MemBlocks) -> Result<(u8, Pointer), Wrong> {
+pub(crate) fn stored(alloc: Global, blocks: &mut MemBlocks) -> Result<(u8, Pointer), Wrong> {
     let mut inodes = InodeFile::new(alloc);
     let file = name(7)?;
     if create(&mut inodes, blocks, &file, 0, 1)?.is_none() {
@@ -101,7 +101,7 @@ fn stored(alloc: Global, blocks: &mut MemBlocks) -> Result<(u8, Pointer), Wrong>
 }
 
 /// The table of a root pointer.
-fn table_at(alloc: Global, levels: u8, root: Pointer) -> Files {
+pub(crate) fn table_at(alloc: Global, levels: u8, root: Pointer) -> Files {
     let fits = root.stamp != 0 && root.vvbn <= 1_048_575 && root.pvbn <= 1_048_575;
     if fits && levels <= 2 {
         Files::at(alloc, levels, root)

@@ -2,7 +2,7 @@
 
 use fv_files::{Files, FilesFault};
 use fv_model::Name;
-use fv_tree::Blocks;
+use fv_tree::{Blocks, Sharing};
 
 /// The most cells that a file has.
 const MOST_CELLS: u32 = 2_097_152;
@@ -92,5 +92,40 @@ pub fn length<B: Blocks>(
     match table.find(blocks, name)? {
         None => Ok(None),
         Some(info) => Ok(Some(info.length)),
+    }
+}
+
+/// How many shared blocks a write of a block of a file replaces; `None` where there is no such file.
+///
+/// # Errors
+///
+/// As `Files::find` and `Files::staying`.
+#[tactic(auto, using(fv_files::proofs::Tables::first_info))]
+pub fn staying<B: Sharing>(
+    table: &mut Files,
+    blocks: &mut B,
+    name: &Name,
+    index: u32,
+) -> Result<Option<u32>, FilesFault> {
+    match table.find(blocks, name)? {
+        None => Ok(None),
+        Some(info) => Ok(Some(table.staying(blocks, &info, index)?)),
+    }
+}
+
+/// How many shared blocks the removal of a file replaces or lets go; `None` where there is no such file.
+///
+/// # Errors
+///
+/// As `Files::find` and `Files::staying_by_removal`.
+#[tactic(auto, using(fv_files::proofs::Tables::first_info))]
+pub fn staying_by_removal<B: Sharing>(
+    table: &mut Files,
+    blocks: &mut B,
+    name: &Name,
+) -> Result<Option<u32>, FilesFault> {
+    match table.find(blocks, name)? {
+        None => Ok(None),
+        Some(info) => Ok(Some(table.staying_by_removal(blocks, &info)?)),
     }
 }

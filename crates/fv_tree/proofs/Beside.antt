@@ -23,7 +23,7 @@ use Rattle.fv_tree.specs.Releasing.{IsDropped, Releases}
 use Rattle.fv_tree.specs.Beside.{IsLaid, loaded_on, unread, LeadsTo, Spares, LieApart}
 use Rattle.fv_tree.specs.Flushing.{Loaded, Leads, IsSound, ReachesOnce, IsRight, Flushes, IsPlaced, IsReplaced, loaded, loaded_over, node_placed, cell_placed, kind_for}
 use Rattle.fv_tree.proofs.Below.{no_pointers, kept_pointers, read_pointers}
-use Rattle.fv_tree.proofs.Flushed.{false_is_true, some_none, none_some}
+use Rattle.fv_tree.proofs.Cases.{false_is_true, some_none, none_some}
 use Rattle.fv_tree.proofs.Gone.{cell_led, spot_led}
 use Rattle.fv_tree.proofs.Hints.{right_as}
 use Rattle.fv_tree.proofs.Released.{block_read}
@@ -137,6 +137,11 @@ module _ (s : Loaded) (n : Under) (laid : IsLaid s) (stay : (level place v : ℕ
         let was = sound.same level place xs low node unchanged (stood level place some) in
         (ap (λ (p : Pointer). pointers_in (n p.vvbn)) (beside_pointers level place) ∙ ap pointers_in (led level place (stood level place some) was.1) ∙ was.0, was.1)
 
+    in_cells : (index : ℕ) (block : List ℕ) → t.cells index ≡ Some block → s.changed 0 index ≡ false → StandsAt w 0 index → (n (pointer_at w 0 index).vvbn ≡ Some block) × (s.placed 0 index ≡ true)
+    in_cells index block cell unchanged some =
+        let was = sound.cells index block cell unchanged (stood 0 index some) in
+        (ap (λ (p : Pointer). n p.vvbn) (beside_pointers 0 index) ∙ led 0 index (stood 0 index some) was.1 ∙ was.0, was.1)
+
     pub beside_sound : IsSound uses (loaded_on n s)
     beside_sound = record {
       once = λ level place k q v one other. sound.once level place k q v (beside_leads level place v one) (beside_leads k q v other);
@@ -146,18 +151,20 @@ module _ (s : Loaded) (n : Under) (laid : IsLaid s) (stay : (level place v : ℕ
           right_as (kind_for t.owner level) (kind_for t.owner level) refl (pointer_at t level place) (pointer_at w level place) (used v) (uses v) (ap (λ (p : Pointer). p.pvbn) (beside_pointers level place)) (same level place v was) (sound.used level place v was);
       over = λ level place changed some lt. sound.over level place changed (stood level place some) lt;
       same = in_place;
+      cells = in_cells;
       empty = λ level place low none where_. sound.empty level place low (ap (λ (p : Pointer). p.stamp) (sym (beside_pointers level place)) ∙ none) where_;
     }
 
 -- ---- a tree of which nothing is in memory
 
-pub unread_sound : (used : ℕ → Option Use) (t : Rooted) → ((level place : ℕ) → t.nodes level place ≡ None) → ReachesOnce used t → IsSound used (unread t)
-unread_sound used t none is = record {
+pub unread_sound : (used : ℕ → Option Use) (t : Rooted) → ((level place : ℕ) → t.nodes level place ≡ None) → ((index : ℕ) → t.cells index ≡ None) → ReachesOnce used t → IsSound used (unread t)
+unread_sound used t none no_cell is = record {
   once = λ level place k q v one two. is.once level place k q one.some two.some (one.vvbn ∙ sym two.vvbn);
   held = λ level place v leads. ap (λ v. is_some (t.under v)) (sym leads.vvbn) ∙ is.held level place leads.some;
   used = λ level place v leads. subst (λ v. IsRight (kind_for t.owner level) (pointer_at t level place) (used v)) leads.vvbn (is.used level place leads.some);
   over = λ level place changed. false_is_true false refl changed;
   same = λ level place xs _ node. some_none (t.nodes level place) xs (none level place) node;
+  cells = λ index block cell. some_none (t.cells index) block (no_cell index) cell;
   empty = λ level place _ _ _ xs node. some_none (t.nodes level place) xs (none level place) node;
 }
 

@@ -22,9 +22,10 @@ use Rattle.fv_tree.specs.Erasing.{IsErased}
 use Rattle.fv_tree.specs.Carried.{Brings, MarksNoMore, kept_at}
 use Rattle.fv_tree.specs.Unlinking.{IsOver, MarksOnly}
 use Rattle.fv_tree.specs.Collecting.{IsOverPast}
-use Rattle.fv_tree.specs.Costs.{changes_in, pending}
+use Rattle.fv_tree.specs.Costs.{cells_changed, changes_in, pending}
 use Rattle.fv_tree.proofs.Collected.{far_up}
-use Rattle.fv_tree.proofs.Differing.{counted_in, counted_more}
+use Rattle.fv_tree.proofs.Differing.{node_mark}
+use Rattle.fv_tree.proofs.MapMarks.{counted_in, counted_more}
 use Rattle.fv_tree.proofs.Erased.{hole_of}
 use Rattle.fv_tree.proofs.Spots.{same_spot}
 use Rattle.fv_tree.proofs.Tally.{Marks, AreOnce, is_marked, tally, three_more}
@@ -37,9 +38,9 @@ abbrev marks_in : List (Spot × KeptNode) → Marks
 marks_in [] = []
 marks_in (e ∷ es) = (e.0, e.1.changed) ∷ marks_in es
 
-tallied : (es : List (Spot × KeptNode)) → tally (marks_in es) ≡ counted_in es
+tallied : (es : List (Spot × KeptNode)) → tally (marks_in es) ≡ counted_in node_mark es
 tallied [] = refl
-tallied (e ∷ es) = ap (λ n. cond e.1.changed 1 0 + n) (tallied es) ∙ sym (counted_more e es)
+tallied (e ∷ es) = ap (λ n. cond e.1.changed 1 0 + n) (tallied es) ∙ sym (counted_more node_mark e es)
 
 marked_is : (es : List (Spot × KeptNode)) (k q : ℕ) → is_marked (marks_in es) k q ≡ node_changed (lookup (maps.is_at (spot_cmp (k, q))) es)
 marked_is [] k q = refl
@@ -144,7 +145,7 @@ module _ (blocks : Under) (used : ℕ → Option Use) (t u : Tree) (most start s
               | inr over ↦ inr (over.over.low, over.over.high, at_border k q changed over)
             ]
 
-    pub few_differ : maps.btree_map_len u.cells ≤ maps.btree_map_len t.cells → pending u ≤ pending t + 3
+    pub few_differ : cells_changed u.cells ≤ cells_changed t.cells → pending u ≤ pending t + 3
     few_differ cells = omega (arith, few_changes, cells)
 
 -- ---- one cell goes

@@ -13,15 +13,15 @@ use Rattle.fv_tree.specs.declared.kept.KeptNode.{KeptNode}
 use Rattle.fv_tree.specs.declared.kept.KeptCell.{KeptCell}
 use Rattle.fv_tree.specs.Spelled.{Under, hole, pointers_in, pointer_at}
 use Rattle.fv_tree.specs.Sources.{Shown, Use}
-use Rattle.fv_tree.specs.Standing.{standing, under, node_in, IsSameBut}
+use Rattle.fv_tree.specs.Standing.{standing, under, node_in, cell_in, IsSameBut}
 use Rattle.fv_tree.specs.Keeping.{IsSame}
-use Rattle.fv_tree.specs.Flushing.{Leads, IsEmptyNode, Stands, loaded, changed_of, placed_of, placed_in, node_changed, node_placed, cell_placed, kind_for}
+use Rattle.fv_tree.specs.Flushing.{Leads, IsEmptyNode, Stands, loaded, changed_of, placed_of, placed_in, node_changed, node_placed, cell_changed, cell_placed, kind_for}
 use Rattle.fv_tree.specs.Carried.{kept_at, IsBlank, IsRead, Brings}
-use Rattle.fv_tree.proofs.Flushed.{false_is_true, under_none}
-use Rattle.fv_tree.proofs.Gone.{cell_changed, spot_changed, cell_led, spot_led}
+use Rattle.fv_tree.proofs.Cases.{false_is_true}
+use Rattle.fv_tree.proofs.Gone.{changed_cell, spot_changed, cell_led, spot_led}
 use Rattle.fv_tree.proofs.Hints.{right_as}
 use Rattle.fv_tree.proofs.Spots.{here, elsewhere}
-use Rattle.fv_tree.proofs.Ways.{spot_is, nothing_there}
+use Rattle.fv_tree.proofs.Ways.{under_none, spot_is, nothing_there}
 
 or_this : {X : Type 0} → X → Option X → X
 or_this x None = x
@@ -81,7 +81,7 @@ module _ (old new : Shown) (t u : Tree) (level place : ℕ) (low : 1 ≤ level) 
     (same : IsSame (standing (under old) t) (standing (under new) u)) (brings : Brings (under old) t u level place (pointer_at (standing (under old) t) level place)) (stands : Stands old t) where
   other_changed : (j c : ℕ) → (j ≢ level) ⊎ (c ≢ place) → changed_of u j c ≡ changed_of t j c
   other_changed j c other = elim (cases_eq j 0) [
-    | inl e ↦ cell_changed u j c e ∙ ap (λ (cells : tree.BTreeMap ℕ KeptCell). is_some (tree.get nat_cmp cells c)) fields.cells ∙ sym (cell_changed t j c e)
+    | inl e ↦ changed_cell u j c e ∙ ap (λ (cells : tree.BTreeMap ℕ KeptCell). cell_changed (tree.get nat_cmp cells c)) fields.cells ∙ sym (changed_cell t j c e)
     | inr some ↦ spot_changed u j c (omega arith) ∙ ap node_changed (brings.others j c other) ∙ sym (spot_changed t j c (omega arith))
   ]
 
@@ -177,6 +177,13 @@ module _ (old new : Shown) (t u : Tree) (level place : ℕ) (low : 1 ≤ level) 
       let was = same_old j c xs some node now (λ e. reached (stamps j c ∙ e)) in
       ((λ i. pointers_in (seen_blocks i (same.pointers j c i).vvbn)) ∙ was.0, was.1)
 
+  in_cells : (index : ℕ) (block : List ℕ) → cell_in u index ≡ Some block → changed_of u 0 index ≡ false → (pointer_at (standing (under new) u) 0 index).stamp ≢ 0
+      → (under new (pointer_at (standing (under new) u) 0 index).vvbn ≡ Some block) × (placed_of u 0 index ≡ true)
+  in_cells index block cell now reached =
+      let other : (0 ≢ level) ⊎ (index ≢ place) = inl (λ e. absurd (omega (arith, low, e))) in
+      let was = stands.cells index block (sym (ap (λ (cells : tree.BTreeMap ℕ KeptCell). option_map (λ (kept : KeptCell). kept.block) (tree.get nat_cmp cells index)) fields.cells) ∙ cell) (sym (other_changed 0 index other) ∙ now) (λ e. reached (stamps 0 index ∙ e)) in
+      ((λ i. seen_blocks i (same.pointers 0 index i).vvbn) ∙ was.0, other_led 0 index other ∙ was.1)
+
   own_empty : (pointer_at (standing (under old) t) level place).stamp ≡ 0 → IsEmptyNode (standing (under old) t) level place → IsEmptyNode (standing (under new) u) level place
   own_empty none was = elim brings.own [
     | inl kept ↦ λ xs node. was xs (sym (ap (option_map (λ (kept : KeptNode). kept.children)) kept) ∙ node)
@@ -203,5 +210,6 @@ module _ (old new : Shown) (t u : Tree) (level place : ℕ) (low : 1 ≤ level) 
         right_as (kind_for t.owner j) (kind_for u.owner j) (ap (λ (o : ℕ). kind_for o j) fields.owner) (pointer_at (standing (under old) t) j c) (pointer_at (standing (under new) u) j c) (old.used v) (new.used v) (ap (λ (p : Pointer). p.pvbn) (same.pointers j c)) (ap (λ (u : ℕ → Option Use). u v) used) (stands.used j c v (leads_old j c v leads));
     over = over;
     same = same_nodes;
+    cells = in_cells;
     empty = λ j c some none which. empty_old j c (sym (stamps j c) ∙ none) (stands.empty j c some (sym (stamps j c) ∙ none) (empty_where j c which));
   }

@@ -1,5 +1,5 @@
 -- A cell or node in memory of which the block is placed.
-use Rattle.std.proofs.Common.{◌≡◌, ◌≢◌, ◌≤◌, ◌<◌, ℕ, ◌+◌, ◌*◌, ◌-◌, ◌/◌, ◌%◌, ◌⊎◌, inl, inr, Bool, true, false, cond, ◌&&◌, List, Option, Some, None, get_or, length, is_some, slice_set, refl, sym, ap, subst, ◌∙◌, arith, ◌==◌, nat_eq, if◌then◌else◌}
+use Rattle.std.proofs.Common.{◌≡◌, ◌≢◌, ◌≤◌, ◌<◌, ℕ, ◌+◌, ◌*◌, ◌-◌, ◌/◌, ◌%◌, ◌⊎◌, inl, inr, true, false, cond, ◌&&◌, List, Option, Some, None, get_or, length, is_some, slice_set, refl, sym, ap, subst, ◌∙◌, arith, ◌==◌, nat_eq, if◌then◌else◌}
 use Rattle.std.proofs.lemmas.Bool.{cases_eq, cases_lt}
 use Rattle.std.proofs.lemmas.Bool.Decides.{nat_tests}
 use Rattle.std.proofs.lemmas.List.{get_or-set_same, get_or-set_other}
@@ -9,68 +9,13 @@ use Rattle.fv_tree.specs.Sources.{Use}
 use Rattle.fv_tree.specs.Spelled.{Rooted, hole, pointers_at, pointers_in, pointer_at, block_at}
 use Rattle.fv_tree.specs.Flushing.{Loaded, Leads, IsRight, IsSound, IsEmptyNode, IsFlushed, IsReplaced, IsPlaced, HoldsUnknown, IsNodeOf, NamesPosition, Flushes, kind_for, use_told, HasKind}
 use Rattle.fv_tree.proofs.Below.{no_pointers, kept_pointers, read_pointers}
+use Rattle.fv_tree.proofs.Cases.{false_is_true, none_some, some_none, there}
 use Rattle.fv_tree.proofs.Hints.{HasUnknown, right_as, right_kind}
 use Rattle.fv_tree.proofs.Spots.{here, elsewhere}
 use Rattle.fv_tree.proofs.Stamped.{apart}
-use Rattle.fv_tree.proofs.Ways.{own_way, is_way, past, spot_is}
+use Rattle.fv_tree.proofs.Unchanged.{IsMemory, block_read}
+use Rattle.fv_tree.proofs.Ways.{own_way, is_way, past, reached_within, spot_is, top_is_first, under_none}
 use Rattle.fv_tree.proofs.Writes.{block_here, block_none}
-
-pub false_is_true : {P : Type 0} (b : Bool) → b ≡ false → b ≡ true → P
-false_is_true b e f = absurd (grind (arith, e, f))
-
-pub there : {X : Type 0} (o : Option X) → (o ≡ None) ⊎ ((x : X) × (o ≡ Some x))
-there None = inl refl
-there (Some x) = inr (x, refl)
-
-pub none_some : {X P : Type 0} (o : Option X) → o ≡ None → is_some o ≡ true → P
-none_some o none some = false_is_true (is_some o) (ap is_some none) some
-
-pub some_none : {X P : Type 0} (o : Option X) (x : X) → o ≡ None → o ≡ Some x → P
-some_none o x none some = none_some o none (ap is_some some)
-
-pub bit : (b : Bool) → (b ≡ false) ⊎ (b ≡ true)
-bit false = inl refl
-bit true = inr refl
-
--- the block of a cell that isn't in memory
-pub block_read : (t : Rooted) (i : ℕ) → (pointer_at t 0 i).stamp ≢ 0 → t.cells i ≡ None → block_at t i ≡ t.under (pointer_at t 0 i).vvbn
-unfolding block_at
-block_read t i some none = let test : ((pointer_at t 0 i).stamp == 0) ≡ false = grind (arith, nat_tests) in rw (test, none) refl
-
--- what is said to have changed, and not to lead to its block, is in memory
-pub record IsMemory (s : Loaded) : Type 0 where
-  pub nodes : (level place : ℕ) → 1 ≤ level → s.tree.nodes level place ≡ None → s.placed level place ≡ true
-  pub cells : (place : ℕ) → s.tree.cells place ≡ None → s.placed 0 place ≡ true
-  pub cell : (place : ℕ) (block : List ℕ) → s.tree.cells place ≡ Some block → s.changed 0 place ≡ true
-
--- what didn't change and is led to has its block
-pub unchanged_placed : (s : Loaded) (used : ℕ → Option Use) → IsSound used s → IsMemory s → (j c : ℕ) → s.changed j c ≡ false → (pointer_at s.tree j c).stamp ≢ 0 → s.placed j c ≡ true
-unchanged_placed s used sound memory j c same some = elim (cases_eq j 0) [
-  | inl e ↦ (λ i. s.placed (e i) c) ∙ elim (there (s.tree.cells c)) [
-    | inl absent ↦ memory.cells c absent
-    | inr held ↦ false_is_true (s.changed 0 c) (sym (λ i. s.changed (e i) c) ∙ same) (memory.cell c held.0 held.1)
-  ]
-  | inr low ↦ elim (there (s.tree.nodes j c)) [
-    | inl absent ↦ memory.nodes j c (omega arith) absent
-    | inr held ↦ (sound.same j c held.0 (omega arith) held.1 same some).1
-  ]
-]
-
--- a child of what nothing leads to has nothing that leads to it
-pub under_none : (t : Rooted) (level place : ℕ) → level < t.levels → (pointer_at t (level + 1) (place / fan)).stamp ≡ 0 → (pointer_at t level place).stamp ≡ 0
-under_none t level place lt e = ap (λ (p : Pointer). p.stamp) ((own_way t).down level place lt ∙ ap (λ (xs : List Pointer). get_or xs (place % fan) hole) (no_pointers t (level + 1) (place / fan) (pointer_at t (level + 1) (place / fan)) e))
-
-pub reached_within : (t : Rooted) (level place : ℕ) → (pointer_at t level place).stamp ≢ 0 → level ≤ t.levels
-reached_within t level place some = elim (cases_lt t.levels level) [
-  | inl lt ↦ absurd (some (ap (λ (p : Pointer). p.stamp) (past t level place lt)))
-  | inr le ↦ le
-]
-
-pub top_is_first : (t : Rooted) (place : ℕ) → (pointer_at t t.levels place).stamp ≢ 0 → place ≡ 0
-top_is_first t place some = elim (cases_eq place 0) [
-  | inl e ↦ e
-  | inr differs ↦ let test : (place == 0) ≡ false = grind (arith, nat_tests) in absurd (some (ap (λ (p : Pointer). p.stamp) ((own_way t).top place ∙ ap (λ b. if b then t.root else hole) test)))
-]
 
 -- the pointer to a cell or node leads to a new block of it, and it goes out of memory
 pub record Replaces (s : Loaded) (used : ℕ → Option Use) (u : Loaded) (uses : ℕ → Option Use) (k q : ℕ) (p : Pointer) : Type 0 where
@@ -369,6 +314,26 @@ module _ (s : Loaded) (used : ℕ → Option Use) (u : Loaded) (uses : ℕ → O
     ]
   ]
 
+  cells_other : (index : ℕ) (block : List ℕ) → u.tree.cells index ≡ Some block → u.changed 0 index ≡ false → (pointer_at u.tree 0 index).stamp ≢ 0 → (0 ≢ k) ⊎ (index ≢ q)
+      → (u.tree.under (pointer_at u.tree 0 index).vvbn ≡ Some block) × (u.placed 0 index ≡ true)
+  cells_other index block cell changed reached other =
+      let pointer : pointer_at u.tree 0 index ≡ pointer_at s.tree 0 index = pointer_there 0 index other in
+      let some_old : (pointer_at s.tree 0 index).stamp ≢ 0 = λ e. reached (same_stamps 0 index ∙ e) in
+      let apart : (k ≢ 0) ⊎ (index ≢ q) = elim other [
+        | inl level ↦ inl (λ e. level (sym e))
+        | inr place ↦ inr place
+      ] in
+      let was = sound.cells index block (sym (is.cells index apart) ∙ cell) (sym (is.changed_others 0 index other) ∙ changed) some_old in
+      let leads : Leads s 0 index (pointer_at s.tree 0 index).vvbn = record { some = some_old; placed = was.1; vvbn = refl } in
+      ((λ i. u.tree.under (pointer i).vvbn) ∙ (stays_under 0 index (pointer_at s.tree 0 index).vvbn leads other).0 ∙ was.0, is.placed_others 0 index other ∙ was.1)
+
+  in_cells : (index : ℕ) (block : List ℕ) → u.tree.cells index ≡ Some block → u.changed 0 index ≡ false → (pointer_at u.tree 0 index).stamp ≢ 0
+      → (u.tree.under (pointer_at u.tree 0 index).vvbn ≡ Some block) × (u.placed 0 index ≡ true)
+  in_cells index block cell changed reached = elim (spot_is 0 index k q) [
+    | inl at ↦ some_none (u.tree.cells index) block (ap u.tree.cells at.1 ∙ is.own_cell (sym at.0)) cell
+    | inr other ↦ cells_other index block cell changed reached other
+  ]
+
   empty_other : (j c : ℕ) → 1 ≤ j → (pointer_at u.tree j c).stamp ≡ 0 → (j ≤ u.tree.levels) ⊎ ((c ≢ 0) ⊎ (u.tree.root.stamp ≡ 0)) → (j ≢ k) ⊎ (c ≢ q) → (j ≢ k + 1) ⊎ (c ≢ q / fan) → IsEmptyNode u.tree j c
   empty_other j c low none where_ other beside xs node = sound.empty j c low (sym (same_stamps j c) ∙ none) (elim where_ [
     | inl le ↦ inl (omega (arith, le, is.levels))
@@ -409,6 +374,7 @@ module _ (s : Loaded) (used : ℕ → Option Use) (u : Loaded) (uses : ℕ → O
     used = in_use;
     over = over;
     same = same;
+    cells = in_cells;
     empty = empty;
   }
 

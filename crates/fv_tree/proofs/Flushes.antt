@@ -6,7 +6,9 @@ use Rattle.fv_tree.specs.Sources.{Use}
 use Rattle.fv_tree.specs.Spelled.{Rooted, pointer_at}
 use Rattle.fv_tree.specs.Writing.{IsAlike}
 use Rattle.fv_tree.specs.Flushing.{Loaded, Leads, IsSound, IsFlushed, IsReplaced, IsPlaced, HoldsUnknown, IsNodeOf, NamesPosition, Flushes, kind_for, use_told, HasKind}
-use Rattle.fv_tree.proofs.Flushed.{IsMemory, bit, there, some_none, false_is_true, reached_within, unchanged_placed}
+use Rattle.fv_tree.proofs.Cases.{bit, there, some_none, false_is_true}
+use Rattle.fv_tree.proofs.Ways.{reached_within}
+use Rattle.fv_tree.proofs.Unchanged.{IsMemory, unchanged_placed}
 
 pub alike_then : (t u v : Rooted) → IsAlike t u → IsAlike u v → IsAlike t v
 alike_then t u v first second = record {

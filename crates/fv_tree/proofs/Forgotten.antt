@@ -7,10 +7,11 @@ use Rattle.fv_tree.specs.Sources.{Use}
 use Rattle.fv_tree.specs.Spelled.{hole, pointers_at, pointers_in, pointer_at, stamp_in, block_at}
 use Rattle.fv_tree.specs.Flushing.{Loaded, Leads, IsSound, IsEmptyNode, IsFlushed, Flushes, kind_for}
 use Rattle.fv_tree.proofs.Below.{no_pointers, kept_pointers, read_pointers}
-use Rattle.fv_tree.proofs.Flushed.{IsMemory, there, false_is_true, some_none, under_none, unchanged_placed}
+use Rattle.fv_tree.proofs.Cases.{there, false_is_true, some_none}
+use Rattle.fv_tree.proofs.Unchanged.{IsMemory, block_read, unchanged_placed}
 use Rattle.fv_tree.proofs.Hints.{right_as}
-use Rattle.fv_tree.proofs.Ways.{IsWay, own_way, is_way, past, alike, spot_is}
-use Rattle.fv_tree.proofs.Writes.{block_none, block_same}
+use Rattle.fv_tree.proofs.Ways.{under_none, IsWay, own_way, is_way, past, alike, spot_is}
+use Rattle.fv_tree.proofs.Writes.{block_here, block_none, block_same}
 
 pub record Forgets (s u : Loaded) (k q : ℕ) : Type 0 where
   pub why : (s.changed k q ≡ false) ⊎ ((pointer_at s.tree k q).stamp ≡ 0)
@@ -77,7 +78,9 @@ module _ (s u : Loaded) (used : ℕ → Option Use) (k q : ℕ) (sound : IsSound
     | inl absent ↦ block_same s.tree u.tree q (pointers 0 q) (is.own_cell none ∙ sym absent) is.under
     | inr held ↦ elim (cases_eq (pointer_at s.tree 0 q).stamp 0) [
       | inl e ↦ block_none u.tree q (same_stamps 0 q ∙ e) ∙ sym (block_none s.tree q e)
-      | inr some ↦ false_is_true (s.changed 0 q) ((λ i. s.changed (sym none i) q) ∙ unchanged (λ e. some ((λ i. (pointer_at s.tree (sym none i) q).stamp) ∙ e))) (memory.cell q held.0 held.1)
+      | inr some ↦
+          let same : s.changed 0 q ≡ false = (λ i. s.changed (sym none i) q) ∙ unchanged (λ e. some ((λ i. (pointer_at s.tree (sym none i) q).stamp) ∙ e)) in
+          block_read u.tree q (λ e. some (sym (same_stamps 0 q) ∙ e)) (is.own_cell none) ∙ (λ i. is.under i (pointers 0 q i).vvbn) ∙ (sound.cells q held.0 held.1 same some).0 ∙ sym (block_here s.tree q held.0 some held.1)
     ]
   ]
 
@@ -133,6 +136,19 @@ module _ (s u : Loaded) (used : ℕ → Option Use) (k q : ℕ) (sound : IsSound
         ((λ i. pointers_in (is.under i (pointers j c i).vvbn)) ∙ was.0, is.placed_others j c other ∙ was.1)
   ]
 
+  in_cells : (index : ℕ) (block : List ℕ) → u.tree.cells index ≡ Some block → u.changed 0 index ≡ false → (pointer_at u.tree 0 index).stamp ≢ 0
+      → (u.tree.under (pointer_at u.tree 0 index).vvbn ≡ Some block) × (u.placed 0 index ≡ true)
+  in_cells index block cell changed reached = elim (spot_is 0 index k q) [
+    | inl at ↦ some_none (u.tree.cells index) block (ap u.tree.cells at.1 ∙ is.own_cell (sym at.0)) cell
+    | inr other ↦
+        let apart : (k ≢ 0) ⊎ (index ≢ q) = elim other [
+          | inl level ↦ inl (λ e. level (sym e))
+          | inr place ↦ inr place
+        ] in
+        let was = sound.cells index block (sym (is.cells index apart) ∙ cell) (sym (is.changed_others 0 index other) ∙ changed) (λ e. reached (same_stamps 0 index ∙ e)) in
+        ((λ i. is.under i (pointers 0 index i).vvbn) ∙ was.0, is.placed_others 0 index other ∙ was.1)
+  ]
+
   empty : (j c : ℕ) → 1 ≤ j → (pointer_at u.tree j c).stamp ≡ 0 → (j ≤ u.tree.levels) ⊎ ((c ≢ 0) ⊎ (u.tree.root.stamp ≡ 0)) → IsEmptyNode u.tree j c
   empty j c low none where_ = λ xs node. elim (spot_is j c k q) [
     | inl at ↦ some_none (u.tree.nodes j c) xs ((λ i. u.tree.nodes (at.0 i) (at.1 i)) ∙ is.own (omega (arith, low, at.0))) node
@@ -150,6 +166,7 @@ module _ (s u : Loaded) (used : ℕ → Option Use) (k q : ℕ) (sound : IsSound
     used = λ j c v leads. right_as (kind_for s.tree.owner j) (kind_for u.tree.owner j) (ap (λ (o : ℕ). kind_for o j) is.owner) (pointer_at s.tree j c) (pointer_at u.tree j c) (used v) (used v) (ap (λ (p : Pointer). p.pvbn) (pointers j c)) refl (sound.used j c v (leads_old j c v leads));
     over = over;
     same = same;
+    cells = in_cells;
     empty = empty;
   }
 

@@ -1,5 +1,5 @@
 -- A cell or node of a tree that goes out of memory, and what the tree over its blocks is then.
-use Rattle.std.proofs.Common.{◌≡◌, ◌≢◌, ◌≤◌, ℕ, ◌⊎◌, inl, inr, true, false, List, Option, Some, None, is_some, refl, sym, ap, subst, ◌∙◌, arith, ◌==◌, if◌then◌else◌}
+use Rattle.std.proofs.Common.{◌≡◌, ◌≢◌, ◌≤◌, ℕ, ◌⊎◌, inl, inr, true, false, List, Option, Some, None, refl, sym, ap, subst, ◌∙◌, arith, ◌==◌, if◌then◌else◌}
 use Rattle.std.specs.Ordering.{nat_cmp}
 use Rattle.std.specs.Option.{option_map}
 use Rattle.std.specs.BTreeMap as tree
@@ -13,8 +13,9 @@ use Rattle.fv_tree.specs.declared.kept.KeptCell.{KeptCell}
 use Rattle.fv_tree.specs.Spelled.{Under, pointer_at}
 use Rattle.fv_tree.specs.Sources.{Shown}
 use Rattle.fv_tree.specs.Standing.{standing, under, node_in, cell_in}
-use Rattle.fv_tree.specs.Flushing.{Stands, Flushes, ForgetsCell, ForgetsNode, loaded, changed_of, placed_of, changed_in, placed_in, node_changed, node_placed, cell_placed}
-use Rattle.fv_tree.proofs.Flushed.{IsMemory, some_none}
+use Rattle.fv_tree.specs.Flushing.{Stands, Flushes, ForgetsCell, ForgetsNode, loaded, changed_of, placed_of, changed_in, placed_in, node_changed, node_placed, cell_changed, cell_placed}
+use Rattle.fv_tree.proofs.Cases.{some_none}
+use Rattle.fv_tree.proofs.Unchanged.{IsMemory}
 use Rattle.fv_tree.proofs.Forgotten.{Forgets}
 use Rattle.fv_tree.proofs.Flushes.{flushes_nothing}
 
@@ -28,11 +29,11 @@ pub map_some : {X Y : Type 0} (f : X → Y) (o : Option X) (y : Y) → option_ma
 map_some f None y e = some_none None y refl e
 map_some f (Some x) y e = (x, refl)
 
-pub cell_changed : (t : Tree) (j c : ℕ) → j ≡ 0 → changed_of t j c ≡ is_some (tree.get nat_cmp t.cells c)
-cell_changed t j c e = let test : (j == 0) ≡ true = grind (arith, nat_tests) in ap (λ b. if b then is_some (tree.get nat_cmp t.cells c) else changed_in t.nodes j c) test
+pub changed_cell : (t : Tree) (j c : ℕ) → j ≡ 0 → changed_of t j c ≡ cell_changed (tree.get nat_cmp t.cells c)
+changed_cell t j c e = let test : (j == 0) ≡ true = grind (arith, nat_tests) in ap (λ b. if b then cell_changed (tree.get nat_cmp t.cells c) else changed_in t.nodes j c) test
 
 pub spot_changed : (t : Tree) (j c : ℕ) → 1 ≤ j → changed_of t j c ≡ changed_in t.nodes j c
-spot_changed t j c low = let test : (j == 0) ≡ false = grind (arith, nat_tests) in ap (λ b. if b then is_some (tree.get nat_cmp t.cells c) else changed_in t.nodes j c) test
+spot_changed t j c low = let test : (j == 0) ≡ false = grind (arith, nat_tests) in ap (λ b. if b then cell_changed (tree.get nat_cmp t.cells c) else changed_in t.nodes j c) test
 
 pub cell_led : (t : Tree) (j c : ℕ) → j ≡ 0 → placed_of t j c ≡ cell_placed (tree.get nat_cmp t.cells c)
 cell_led t j c e = let test : (j == 0) ≡ true = grind (arith, nat_tests) in ap (λ b. if b then cell_placed (tree.get nat_cmp t.cells c) else placed_in t.nodes j c) test
@@ -44,7 +45,6 @@ pub is_memory : (source : Shown) (t : Tree) → IsMemory (loaded source t)
 is_memory source t = record {
   nodes = λ j c low none. spot_led t j c low ∙ ap node_placed (map_none (λ (kept : KeptNode). kept.children) (tree.get spot_cmp t.nodes (j, c)) none);
   cells = λ c none. cell_led t 0 c refl ∙ ap cell_placed (map_none (λ (kept : KeptCell). kept.block) (tree.get nat_cmp t.cells c) none);
-  cell = λ c block held. cell_changed t 0 c refl ∙ ap is_some (map_some (λ (kept : KeptCell). kept.block) (tree.get nat_cmp t.cells c) block held).1;
 }
 
 -- a cell or node goes out of memory
@@ -85,7 +85,7 @@ node_goes t u k q low is = record {
 module _ (t u : Tree) (k q : ℕ) (goes : Goes t u k q) where
   pub gone_changed : changed_of u k q ≡ false
   gone_changed = elim (cases_eq k 0) [
-    | inl e ↦ cell_changed u k q e ∙ ap is_some (goes.own_cell e)
+    | inl e ↦ changed_cell u k q e ∙ ap cell_changed (goes.own_cell e)
     | inr low ↦ spot_changed u k q (omega arith) ∙ ap node_changed (goes.own_node (omega arith))
   ]
 
@@ -101,7 +101,7 @@ module _ (t u : Tree) (k q : ℕ) (goes : Goes t u k q) where
 
   pub other_changed : (j c : ℕ) → (j ≢ k) ⊎ (c ≢ q) → changed_of u j c ≡ changed_of t j c
   other_changed j c other = elim (cases_eq j 0) [
-    | inl e ↦ cell_changed u j c e ∙ ap is_some (other_cell j c e other (goes.cells c)) ∙ sym (cell_changed t j c e)
+    | inl e ↦ changed_cell u j c e ∙ ap cell_changed (other_cell j c e other (goes.cells c)) ∙ sym (changed_cell t j c e)
     | inr low ↦ spot_changed u j c (omega arith) ∙ ap node_changed (goes.nodes j c (omega arith) other) ∙ sym (spot_changed t j c (omega arith))
   ]
 

@@ -9,8 +9,8 @@ use Rattle.fv_tree.specs.declared.kept.Tree.{Tree}
 use Rattle.fv_tree.specs.declared.kept.KeptNode.{KeptNode}
 use Rattle.fv_tree.specs.Spelled.{Under, hole}
 use Rattle.fv_tree.specs.Standing.{node_in, cell_in, IsSameBut}
-use Rattle.fv_tree.specs.Carried.{kept_at, BringsNew, IsTop}
-use Rattle.fv_tree.specs.Flushing.{child_of, node_changed, pointer_in, changed_in}
+use Rattle.fv_tree.specs.Carried.{kept_at, BringsNew}
+use Rattle.fv_tree.specs.Flushing.{child_of, pointer_in}
 use Rattle.fv_tree.specs.Readying.{IsReady, KeepsReady}
 use Rattle.fv_tree.proofs.Past.{Raises, more}
 use Rattle.fv_tree.proofs.Readied.{pointer_low, pointer_top, ready_stands}
@@ -28,7 +28,7 @@ ungrown_ready t v i far fields brings j ready =
     (λ level low le. kept_old nothing t v i far brings level (j / fan ^ level) (ready_stands nothing t j ready level le)) ready
 
 -- the tree got its new levels
-module _ (t v : Tree) (i s : ℕ) (is : Raises t v i s) (some : s ≢ 0) (brings : BringsNew t v i) (tops : t.root.stamp ≢ 0 → (level : ℕ) → t.levels < level → level ≤ v.levels → IsTop v level)
+module _ (t v : Tree) (i s : ℕ) (is : Raises t v i s) (some : s ≢ 0) (brings : BringsNew t v i)
     (cells : (j : ℕ) → is_some (cell_in t j) ≡ true → is_some (cell_in v j) ≡ true) where
   grows : t.levels < v.levels
   grows = more nothing t v i s is some
@@ -74,16 +74,9 @@ module _ (t v : Tree) (i s : ℕ) (is : Raises t v i s) (some : s ≢ 0) (brings
       | inr ge ↦ λ none. some (ap (λ (p : Pointer). p.stamp) (sym (pointer_top v level (j / fan ^ level) (omega (arith, le, ge)) (first level (omega (arith, ge, grows))) ∙ is.root)) ∙ none)
     ]
 
-    marked_up : (level : ℕ) → 1 ≤ level → level ≤ v.levels → changed_in v.nodes level (j / fan ^ level) ≡ true
-    marked_up level low le = elim (cases_lt t.levels level) [
-      | inl new ↦ ap (changed_in v.nodes level) (first level (omega (arith, new))) ∙ (tops rooted level new le).changed
-      | inr old ↦ ap node_changed (kept level old) ∙ ready.marked level low old
-    ]
-
     pub grown_ready : IsReady v j
     grown_ready = record {
       covers = let up = wider v.levels (omega (arith, grows)) in let covers = ready.covers in omega (arith, up, covers);
       cell = cells j ready.cell;
       way = way_up;
-      marked = marked_up;
     }

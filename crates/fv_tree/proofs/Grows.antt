@@ -10,14 +10,14 @@ use Rattle.fv_tree.specs.Spelled.{Under}
 use Rattle.fv_tree.specs.Sources.{Use}
 use Rattle.fv_tree.specs.Standing.{cell_in, IsSameBut, IsSameButCells}
 use Rattle.fv_tree.specs.Writing.{HasNewLevels, Stamps, new_child}
-use Rattle.fv_tree.specs.Flushing.{IsSound, loaded_over, node_changed, node_placed, cell_placed}
+use Rattle.fv_tree.specs.Flushing.{IsSound, loaded_over, node_changed, node_placed, cell_changed, cell_placed}
 use Rattle.fv_tree.specs.Carried.{kept_at, IsBlank, BringsNew, IsTop, Marks}
 use Rattle.fv_tree.specs.Leading.{KeepsHints, LeadsNoMore}
 use Rattle.fv_tree.specs.Readying.{KeepsReady}
 use Rattle.fv_tree.proofs.Leading.{hints_then, leads_then}
 use Rattle.fv_tree.proofs.Marked.{IsMarked, marked_hints, marked_leads, marked_keeps, marked_sound}
 use Rattle.fv_tree.proofs.Past.{Raises, past_base}
-use Rattle.fv_tree.proofs.Ready.{cell_there, marked_is}
+use Rattle.fv_tree.proofs.Ready.{marked_is}
 use Rattle.fv_tree.proofs.ReadyPast.{past_hints, past_leads, past_keeps, past_ready, past_unplaced}
 use Rattle.fv_tree.proofs.Steps.{moved}
 use Rattle.fv_tree.proofs.StillReady.{cell_still, chosen, ready_then, stamps_ready}
@@ -30,7 +30,7 @@ module _ (s t h v u : Tree) (i stamp levels : ℕ) (block : List ℕ) (far : fan
     (blank : (level : ℕ) → 1 ≤ level → level ≤ levels → (level < levels) ⊎ (s.root.stamp ≡ 0) → IsBlank (kept_at t level (i / fan ^ level)))
     (tops : s.root.stamp ≢ 0 → (level : ℕ) → s.levels < level → level ≤ levels → IsTop t level)
     (same : IsSameButCells t h) (cell : (j : ℕ) → cell_in h j ≡ cond (nat_eq j i) (Some block) (cell_in t j))
-    (own : cell_placed (tree.get nat_cmp h.cells i) ≡ false) (others : (j : ℕ) → j ≢ i → tree.get nat_cmp h.cells j ≡ tree.get nat_cmp t.cells j)
+    (changed : cell_changed (tree.get nat_cmp h.cells i) ≡ true) (own : cell_placed (tree.get nat_cmp h.cells i) ≡ false) (others : (j : ℕ) → j ≢ i → tree.get nat_cmp h.cells j ≡ tree.get nat_cmp t.cells j)
     (owner : v.owner ≡ h.owner) (nodes : v.nodes ≡ h.nodes) (cells : v.cells ≡ h.cells) (up : v.levels ≡ levels) (root : v.root ≡ new_child stamp)
     (stamps : Stamps v u i stamp) (marks : Marks v u i) (some : 1 ≤ stamp) where
   all_nodes : v.nodes ≡ t.nodes
@@ -78,7 +78,7 @@ module _ (s t h v u : Tree) (i stamp levels : ℕ) (block : List ℕ) (far : fan
 
   marked : (blocks : Under) → IsMarked (loaded_over blocks v) (loaded_over blocks u) i
   marked blocks = marked_is blocks v u i stamp stamps marks given raises.covers (past_base blocks s v i stamp raises given).kept
-      (ap (λ (m : tree.BTreeMap ℕ KeptCell). is_some (tree.get nat_cmp m i)) cells ∙ cell_there t h i block cell)
+      (ap (λ (m : tree.BTreeMap ℕ KeptCell). cell_changed (tree.get nat_cmp m i)) cells ∙ changed)
 
   pub grows_leads : (blocks : Under) → LeadsNoMore (loaded_over blocks s) (loaded_over blocks u)
   grows_leads blocks = leads_then (loaded_over blocks s) (loaded_over blocks v) (loaded_over blocks u) (past_leads blocks s v i stamp raises given brings_up blank_up tops_up own_up others_up)
@@ -97,4 +97,4 @@ module _ (s t h v u : Tree) (i stamp levels : ℕ) (block : List ℕ) (far : fan
   grows_sound blocks used sound = marked_sound (loaded_over blocks v) (loaded_over blocks u) i (marked blocks) used raises.covers (past_ready blocks s v i stamp raises given brings_up blank_up tops_up own_up others_up used sound)
 
   pub grows_ready : KeepsReady s u
-  grows_ready = ready_then s v u (λ j ready. grown_ready s v i stamp raises given brings_up tops_up cells_up j ready) (stamps_ready v u i stamp stamps marks given)
+  grows_ready = ready_then s v u (λ j ready. grown_ready s v i stamp raises given brings_up cells_up j ready) (stamps_ready v u i stamp stamps given)

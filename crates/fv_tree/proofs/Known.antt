@@ -5,7 +5,7 @@ use Rattle.std.proofs.lemmas.Bool.{cases_eq}
 use Rattle.std.proofs.lemmas.Bool.Decides.{nat_tests}
 use Rattle.fv_tree.specs.Sources.{Shown, Use, Drops, IsUntouched}
 use Rattle.fv_tree.specs.Stored.{HasPlaces, KeepsPlaces}
-use Rattle.fv_tree.proofs.Flushed.{some_none}
+use Rattle.fv_tree.proofs.Cases.{some_none}
 
 pub places_same : (old new : Shown) → new.used ≡ old.used → KeepsPlaces old new
 places_same old new same has v x at = has v x (ap (λ (used : ℕ → Option Use). used v) (sym same) ∙ at)

@@ -13,7 +13,8 @@ use Rattle.fv_tree.specs.Releasing.{KeepsBlocks}
 use Rattle.fv_tree.specs.Flushing.{Loaded, Leads, IsSound, Stands, Flushes, IsFlushed, IsPlaced, IsReplaced, loaded, loaded_over}
 use Rattle.fv_tree.specs.Spelled.{pointer_at}
 use Rattle.fv_tree.specs.Leading.{KeepsHints, LeadsNoMore, Carries}
-use Rattle.fv_tree.proofs.Flushed.{bit, false_is_true, unchanged_placed}
+use Rattle.fv_tree.proofs.Cases.{bit, false_is_true}
+use Rattle.fv_tree.proofs.Unchanged.{unchanged_placed}
 use Rattle.fv_tree.proofs.Gone.{is_memory}
 use Rattle.fv_tree.proofs.Ready.{cells_loaded, stands_again}
 use Rattle.fv_tree.proofs.Released.{led_before}

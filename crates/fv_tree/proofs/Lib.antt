@@ -1,3 +1,4 @@
+pub mod Cases
 pub mod Below
 pub mod Causes
 pub mod Spots
@@ -21,6 +22,7 @@ pub mod Pointers
 pub mod Hints
 pub mod Removing
 pub mod Collected
+pub mod Unchanged
 pub mod Flushed
 pub mod Known
 pub mod Forgotten
@@ -46,6 +48,7 @@ pub mod StoredFlush
 pub mod Within
 pub mod Grows
 pub mod Rewritten
+pub mod HeldCells
 pub mod Refilled
 pub mod Ungrown
 pub mod ReadyPast
@@ -53,6 +56,7 @@ pub mod Flushes
 pub mod Seeking
 pub mod Beside
 pub mod Costly
+pub mod MapMarks
 pub mod Differing
 pub mod Tally
 pub mod Bordered

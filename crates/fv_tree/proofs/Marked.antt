@@ -8,10 +8,10 @@ use Rattle.fv_tree.specs.Sources.{Use}
 use Rattle.fv_tree.specs.Spelled.{hole, pointers_in, pointer_at}
 use Rattle.fv_tree.specs.Flushing.{Loaded, Leads, IsRight, IsSound, IsEmptyNode, kind_for}
 use Rattle.fv_tree.specs.Leading.{KeepsHints, LeadsNoMore}
-use Rattle.fv_tree.proofs.Flushed.{false_is_true, reached_within}
+use Rattle.fv_tree.proofs.Cases.{false_is_true}
 use Rattle.fv_tree.proofs.Hints.{right_as}
 use Rattle.fv_tree.proofs.Stamped.{above}
-use Rattle.fv_tree.proofs.Ways.{past}
+use Rattle.fv_tree.proofs.Ways.{reached_within, past}
 
 -- what holds of a tree of which the way to a cell is in memory, before that is marked
 pub record IsReady (taken : ℕ → Option Use) (v : Loaded) (i : ℕ) : Type 0 where
@@ -22,6 +22,8 @@ pub record IsReady (taken : ℕ → Option Use) (v : Loaded) (i : ℕ) : Type 0 
   pub over : (level place : ℕ) → place ≢ i / fan ^ level → v.changed level place ≡ true → (pointer_at v.tree level place).stamp ≢ 0 → level < v.tree.levels → v.changed (level + 1) (place / fan) ≡ true
   pub same : (level place : ℕ) (xs : List Pointer) → place ≢ i / fan ^ level → 1 ≤ level → v.tree.nodes level place ≡ Some xs → v.changed level place ≡ false → (pointer_at v.tree level place).stamp ≢ 0
       → (pointers_in (v.tree.under (pointer_at v.tree level place).vvbn) ≡ xs) × (v.placed level place ≡ true)
+  pub cells : (index : ℕ) (block : List ℕ) → index ≢ i / fan ^ 0 → v.tree.cells index ≡ Some block → v.changed 0 index ≡ false → (pointer_at v.tree 0 index).stamp ≢ 0
+      → (v.tree.under (pointer_at v.tree 0 index).vvbn ≡ Some block) × (v.placed 0 index ≡ true)
   pub empty : (level place : ℕ) → place ≢ i / fan ^ level → 1 ≤ level → (pointer_at v.tree level place).stamp ≡ 0 → (level ≤ v.tree.levels) ⊎ (place ≢ 0) → IsEmptyNode v.tree level place
 
 -- another pointer that leads to the same block, with some stamp
@@ -39,6 +41,7 @@ pub record IsMarked (v u : Loaded) (i : ℕ) : Type 0 where
   pub reached : (level : ℕ) → level ≤ v.tree.levels → IsReached (pointer_at v.tree level (i / fan ^ level)) (pointer_at u.tree level (i / fan ^ level))
   pub beside : (level place : ℕ) → level ≤ v.tree.levels → place ≢ i / fan ^ level → pointer_at u.tree level place ≡ pointer_at v.tree level place
   pub nodes : (level place : ℕ) → place ≢ i / fan ^ level → u.tree.nodes level place ≡ v.tree.nodes level place
+  pub cells : (index : ℕ) → u.tree.cells index ≡ v.tree.cells index
   pub placed : (level place : ℕ) → u.placed level place ≡ v.placed level place
   pub way : (level : ℕ) → level ≤ v.tree.levels → u.changed level (i / fan ^ level) ≡ true
   pub others : (level place : ℕ) → place ≢ i / fan ^ level → u.changed level place ≡ v.changed level place
@@ -131,6 +134,15 @@ module _ (v u : Loaded) (i : ℕ) (marked : IsMarked v u i) where
           ((λ j. pointers_in (marked.under j (pointer_off level place differs j).vvbn)) ∙ was.0, marked.placed level place ∙ was.1)
     ]
 
+    in_cells : (index : ℕ) (block : List ℕ) → u.tree.cells index ≡ Some block → u.changed 0 index ≡ false → (pointer_at u.tree 0 index).stamp ≢ 0
+        → (u.tree.under (pointer_at u.tree 0 index).vvbn ≡ Some block) × (u.placed 0 index ≡ true)
+    in_cells index block cell now reached = elim (on_or_off 0 index) [
+      | inl at ↦ false_is_true (u.changed 0 index) now ((λ j. u.changed 0 (at j)) ∙ marked.way 0 (within 0 index reached))
+      | inr differs ↦
+          let was = ready.cells index block differs (sym (marked.cells index) ∙ cell) (sym (marked.others 0 index differs) ∙ now) (λ e. reached (ap (λ (p : Pointer). p.stamp) (pointer_off 0 index differs) ∙ e)) in
+          ((λ j. marked.under j (pointer_off 0 index differs j).vvbn) ∙ was.0, marked.placed 0 index ∙ was.1)
+    ]
+
     -- a range on the way that nothing leads to lies above the levels
     on_empty : {P : Type 0} (level place : ℕ) → place ≡ i / fan ^ level → (pointer_at u.tree level place).stamp ≡ 0 → (level ≤ u.tree.levels) ⊎ ((place ≢ 0) ⊎ (u.tree.root.stamp ≡ 0)) → P
     on_empty level place at none which = elim (cases_lt v.tree.levels level) [
@@ -162,5 +174,6 @@ module _ (v u : Loaded) (i : ℕ) (marked : IsMarked v u i) where
       used = λ level place w leads. right_as (kind_for v.tree.owner level) (kind_for u.tree.owner level) (ap (λ (o : ℕ). kind_for o level) marked.owner) (pointer_at v.tree level place) (pointer_at u.tree level place) (taken w) (taken w) (same_hint level place (within level place leads.some)) refl (ready.used level place w (leads_old level place w leads));
       over = over;
       same = same;
+      cells = in_cells;
       empty = empty;
     }

@@ -15,10 +15,11 @@ use Rattle.fv_tree.specs.declared.kept.KeptCell.{KeptCell}
 use Rattle.fv_tree.specs.Spelled.{Rooted, hole, pointers_of, pointers_in, pointer_at}
 use Rattle.fv_tree.specs.Sources.{Shown}
 use Rattle.fv_tree.specs.Standing.{standing, under, node_in, cell_in}
-use Rattle.fv_tree.specs.Flushing.{Leads, Stands, IsMoved, IsNodeOf, loaded, changed_of, placed_of, changed_in, node_changed, cell_placed, pointer_in, is_unknown, all_known, kind_for}
+use Rattle.fv_tree.specs.Flushing.{Leads, Stands, IsMoved, IsNodeOf, loaded, changed_of, placed_of, changed_in, node_changed, cell_changed, cell_placed, pointer_in, is_unknown, all_known, kind_for}
 use Rattle.fv_tree.proofs.Below.{no_pointers, kept_pointers}
-use Rattle.fv_tree.proofs.Flushed.{Replaces, there, bit, false_is_true, none_some}
-use Rattle.fv_tree.proofs.Gone.{Goes, map_none, cell_changed, spot_changed, cell_led, spot_led, gone_changed, gone_led, other_changed, other_led, other_node, other_content, gone_node, gone_cell}
+use Rattle.fv_tree.proofs.Cases.{there, bit, false_is_true, none_some}
+use Rattle.fv_tree.proofs.Flushed.{Replaces}
+use Rattle.fv_tree.proofs.Gone.{Goes, map_none, changed_cell, spot_changed, cell_led, spot_led, gone_changed, gone_led, other_changed, other_led, other_node, other_content, gone_node, gone_cell}
 use Rattle.fv_tree.proofs.Hints.{HasUnknown, find_unknown, right_some}
 use Rattle.fv_tree.proofs.Pointers.{both}
 use Rattle.fv_tree.proofs.Ways.{own_way, past}
@@ -174,7 +175,7 @@ module _ (old new : Shown) (t mid u : Tree) (k q : ℕ) (content : List ℕ) (na
   -- what changed above still does
   mid_changed : (j c : ℕ) → (j ≢ k) ⊎ (c ≢ q) → changed_of mid j c ≡ changed_of t j c
   mid_changed j c differs = elim (cases_eq j 0) [
-    | inl e ↦ cell_changed mid j c e ∙ ap (λ (cells : tree.BTreeMap ℕ KeptCell). is_some (tree.get nat_cmp cells c)) moved.points.cells ∙ sym (cell_changed t j c e)
+    | inl e ↦ changed_cell mid j c e ∙ ap (λ (cells : tree.BTreeMap ℕ KeptCell). cell_changed (tree.get nat_cmp cells c)) moved.points.cells ∙ sym (changed_cell t j c e)
     | inr low ↦ spot_changed mid j c (omega arith) ∙ elim (cases_lt k t.levels) [
       | inl lt ↦ moved.points.changed j c (elim (cases_eq j (k + 1)) [
         | inl up ↦ elim (cases_eq c (q / fan)) [

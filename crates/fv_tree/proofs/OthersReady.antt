@@ -1,5 +1,5 @@
 -- Cells that are ready stay so while another one is removed.
-use Rattle.std.proofs.Common.{◌≡◌, ◌≢◌, ◌≤◌, ◌<◌, ℕ, zero, suc, ◌+◌, ◌-◌, ◌/◌, ◌%◌, ◌^◌, inl, inr, true, false, cond, List, Option, Some, None, is_some, nat_eq, refl, sym, ap, subst, ◌∙◌, arith}
+use Rattle.std.proofs.Common.{◌≡◌, ◌≢◌, ◌≤◌, ◌<◌, ℕ, zero, suc, ◌+◌, ◌-◌, ◌/◌, ◌%◌, ◌^◌, inl, inr, false, cond, List, Option, Some, None, is_some, nat_eq, refl, sym, ap, subst, ◌∙◌, arith}
 use Rattle.std.specs.Option.{option_map}
 use Rattle.std.proofs.Math.Nat.{div-eq_of_lt}
 use Rattle.std.proofs.lemmas.Bool.{cases_eq, cases_lt}
@@ -12,9 +12,8 @@ use Rattle.fv_tree.specs.Spelled.{hole}
 use Rattle.fv_tree.specs.Standing.{node_in}
 use Rattle.fv_tree.specs.Writing.{stamped, stamped_in, slot_of}
 use Rattle.fv_tree.specs.Unlinking.{AreBare, Unlinks, cleared_in}
-use Rattle.fv_tree.specs.Flushing.{changed_in, child_of, pointer_in}
+use Rattle.fv_tree.specs.Flushing.{child_of, pointer_in}
 use Rattle.fv_tree.specs.Readying.{IsReady}
-use Rattle.fv_tree.proofs.Gone.{spot_changed}
 use Rattle.fv_tree.proofs.Readied.{child_stamped, has_way, pointer_low, pointer_top}
 use Rattle.fv_tree.proofs.Stamped.{above, apart}
 use Rattle.fv_tree.proofs.Unlinked.{long_node}
@@ -91,19 +90,9 @@ module _ (t u : Tree) (i j lost start s : ℕ) (ready : IsReady t i) (other : Is
         λ none. some (ap (λ (p : Pointer). p.stamp) (sym (pointer_top u level (j / fan ^ level) at first ∙ root)) ∙ none)
   ]
 
-  marked_left : (level : ℕ) → 1 ≤ level → level ≤ t.levels → changed_in u.nodes level (j / fan ^ level) ≡ true
-  marked_left level low le = elim (cases_eq (j / fan ^ level) (i / fan ^ level)) [
-    | inr off ↦ sym (spot_changed u level (j / fan ^ level) low) ∙ is.unmarked some_left level (j / fan ^ level) off ∙ spot_changed t level (j / fan ^ level) low ∙ other.marked level low le
-    | inl same ↦ elim (cases_lt lost level) [
-      | inl high ↦ ap (changed_in u.nodes level) same ∙ is.marked level high le
-      | inr under ↦ absurd (off_way level under same)
-    ]
-  ]
-
   pub other_ready : IsReady u j
   other_ready = record {
     covers = subst (λ n. j < fan ^ n) (sym levels) other.covers;
     cell = ap is_some (is.cells some_left j differs) ∙ other.cell;
     way = way_left;
-    marked = λ level low le. marked_left level low (let same = levels in omega (arith, le, same));
   }

@@ -16,11 +16,11 @@ use Rattle.fv_tree.specs.Sources.{Shown, Use}
 use Rattle.fv_tree.specs.Standing.{standing, under, node_in, cell_in, IsSameButCells}
 use Rattle.fv_tree.specs.Keeping.{IsKept}
 use Rattle.fv_tree.specs.Writing.{Stamps}
-use Rattle.fv_tree.specs.Flushing.{IsSound, Stands, loaded, loaded_over, changed_of, placed_of, changed_in, placed_in, cell_placed, kind_for}
+use Rattle.fv_tree.specs.Flushing.{IsSound, Stands, loaded, loaded_over, changed_of, placed_of, changed_in, placed_in, cell_changed, cell_placed, kind_for}
 use Rattle.fv_tree.specs.Carried.{kept_at, Marks}
 use Rattle.fv_tree.specs.Leading.{LeadsNoMore}
-use Rattle.fv_tree.proofs.Flushed.{false_is_true}
-use Rattle.fv_tree.proofs.Gone.{map_some, cell_changed, spot_changed, cell_led, spot_led}
+use Rattle.fv_tree.proofs.Cases.{false_is_true}
+use Rattle.fv_tree.proofs.Gone.{map_some, changed_cell, spot_changed, cell_led, spot_led}
 use Rattle.fv_tree.proofs.Hints.{right_as}
 use Rattle.fv_tree.proofs.Marked.{IsReady, IsMarked}
 use Rattle.fv_tree.proofs.Stamped.{on_way, on, off, stamped_way}
@@ -39,7 +39,7 @@ stands_again old new t u held used same stands =
 pub cells_loaded : (blocks : Under) (t u : Tree) → IsSameButCells t u → ((i : ℕ) → tree.get nat_cmp u.cells i ≡ tree.get nat_cmp t.cells i) → loaded_over blocks u ≡ loaded_over blocks t
 cells_loaded blocks t u same cells = λ j. record {
   tree = same_standing blocks t u same (λ i. ap (option_map (λ (kept : KeptCell). kept.block)) (cells i)) j;
-  changed = λ level place. if level == 0 then is_some (cells place j) else changed_in (same.nodes j) level place;
+  changed = λ level place. if level == 0 then cell_changed (cells place j) else changed_in (same.nodes j) level place;
   placed = λ level place. if level == 0 then cell_placed (cells place j) else placed_in (same.nodes j) level place;
 }
 
@@ -70,17 +70,17 @@ and_false a b e = ap (λ c. c && b) e
 -- ---- the marks
 
 module _ (blocks : Under) (v u : Tree) (i : ℕ) (cells : u.cells ≡ v.cells) (marks : Marks v u i)
-    (kept : (level : ℕ) → 1 ≤ level → level ≤ v.levels → IsKept (standing blocks v) level (i / fan ^ level)) (cell : is_some (tree.get nat_cmp v.cells i) ≡ true) where
+    (kept : (level : ℕ) → 1 ≤ level → level ≤ v.levels → IsKept (standing blocks v) level (i / fan ^ level)) (cell : cell_changed (tree.get nat_cmp v.cells i) ≡ true) where
   pub way_changed : (level : ℕ) → level ≤ v.levels → changed_of u level (i / fan ^ level) ≡ true
   way_changed level le = elim (cases_eq level 0) [
-    | inl e ↦ (λ j. changed_of u (e j) (i / fan ^ e j)) ∙ ap (changed_of u 0) (first_range i) ∙ cell_changed u 0 i refl ∙ ap (λ (m : tree.BTreeMap ℕ KeptCell). is_some (tree.get nat_cmp m i)) cells ∙ cell
+    | inl e ↦ (λ j. changed_of u (e j) (i / fan ^ e j)) ∙ ap (changed_of u 0) (first_range i) ∙ changed_cell u 0 i refl ∙ ap (λ (m : tree.BTreeMap ℕ KeptCell). cell_changed (tree.get nat_cmp m i)) cells ∙ cell
     | inr low ↦ spot_changed u level (i / fan ^ level) (omega arith)
         ∙ marks.way level (omega arith) le (ap is_some (map_some (λ (kept : KeptNode). kept.children) (kept_at v level (i / fan ^ level)) (kept level (omega arith) le).pointers (kept level (omega arith) le).node).1)
   ]
 
   pub others_changed : (level place : ℕ) → place ≢ i / fan ^ level → changed_of u level place ≡ changed_of v level place
   others_changed level place differs = elim (cases_eq level 0) [
-    | inl e ↦ cell_changed u level place e ∙ ap (λ (m : tree.BTreeMap ℕ KeptCell). is_some (tree.get nat_cmp m place)) cells ∙ sym (cell_changed v level place e)
+    | inl e ↦ changed_cell u level place e ∙ ap (λ (m : tree.BTreeMap ℕ KeptCell). cell_changed (tree.get nat_cmp m place)) cells ∙ sym (changed_cell v level place e)
     | inr low ↦ spot_changed u level place (omega arith) ∙ marks.others level place differs ∙ sym (spot_changed v level place (omega arith))
   ]
 
@@ -91,7 +91,7 @@ module _ (blocks : Under) (v u : Tree) (i : ℕ) (cells : u.cells ≡ v.cells) (
   ]
 
 module _ (blocks : Under) (v u : Tree) (i s : ℕ) (stamps : Stamps v u i s) (marks : Marks v u i) (some : s ≢ 0) (covers : i < fan ^ v.levels)
-    (kept : (level : ℕ) → 1 ≤ level → level ≤ v.levels → IsKept (standing blocks v) level (i / fan ^ level)) (cell : is_some (tree.get nat_cmp v.cells i) ≡ true) where
+    (kept : (level : ℕ) → 1 ≤ level → level ≤ v.levels → IsKept (standing blocks v) level (i / fan ^ level)) (cell : cell_changed (tree.get nat_cmp v.cells i) ≡ true) where
   no_change : IsSameButCells v v
   no_change = record { owner = refl; levels = refl; root = refl; nodes = refl }
 
@@ -111,6 +111,7 @@ module _ (blocks : Under) (v u : Tree) (i s : ℕ) (stamps : Stamps v u i s) (ma
     };
     beside = λ level place le differs. pointers level place le ∙ off (pointer_at (standing blocks v)) i s level place differs;
     nodes = stamps.others;
+    cells = λ index. ap (λ (m : tree.BTreeMap ℕ KeptCell). option_map (λ (kept : KeptCell). kept.block) (tree.get nat_cmp m index)) stamps.cells;
     placed = all_led blocks v u i stamps.cells marks kept cell;
     way = way_changed blocks v u i stamps.cells marks kept cell;
     others = others_changed blocks v u i stamps.cells marks kept cell;
@@ -145,7 +146,7 @@ module _ (blocks : Under) (w v : Tree) (i : ℕ) (named : Bool) (same : IsSameBu
 
   changed_off : (k q : ℕ) → q ≢ i / fan ^ k → changed_of v k q ≡ changed_of w k q
   changed_off k q differs = elim (cases_eq k 0) [
-    | inl e ↦ cell_changed v k q e ∙ ap is_some (others q (λ same. differs (same ∙ sym (first_range i) ∙ (λ j. i / fan ^ sym e j)))) ∙ sym (cell_changed w k q e)
+    | inl e ↦ changed_cell v k q e ∙ ap cell_changed (others q (λ same. differs (same ∙ sym (first_range i) ∙ (λ j. i / fan ^ sym e j)))) ∙ sym (changed_cell w k q e)
     | inr low ↦ spot_changed v k q (omega arith) ∙ ap (λ (nodes : tree.BTreeMap Spot KeptNode). changed_in nodes k q) same.nodes ∙ sym (spot_changed w k q (omega arith))
   ]
 
@@ -208,6 +209,10 @@ module _ (blocks : Under) (w v : Tree) (i : ℕ) (named : Bool) (same : IsSameBu
         same = λ level place xs differs low node now reached.
             let was = sound.same level place xs low (sym (same_node level place) ∙ node) (sym (changed_off level place differs) ∙ now) (λ e. reached (ap (λ (p : Pointer). p.stamp) (cell_pointers level place) ∙ e)) in
             ((λ j. pointers_in (blocks (cell_pointers level place j).vvbn)) ∙ was.0, led_off level place (inl (omega (arith, low))) ∙ was.1);
+        cells = λ index block differs cell now reached.
+            let off : index ≢ i = λ e. differs (e ∙ sym (first_range i)) in
+            let was = sound.cells index block (sym (ap (option_map (λ (kept : KeptCell). kept.block)) (others index off)) ∙ cell) (sym (changed_off 0 index differs) ∙ now) (λ e. reached (ap (λ (p : Pointer). p.stamp) (cell_pointers 0 index) ∙ e)) in
+            ((λ j. blocks (cell_pointers 0 index j).vvbn) ∙ was.0, led_off 0 index (inr off) ∙ was.1);
         empty = λ level place differs low none which xs node. sound.empty level place low (sym (ap (λ (p : Pointer). p.stamp) (cell_pointers level place)) ∙ none) (elim which [
           | inl le ↦ inl (omega (arith, le, same.levels))
           | inr other ↦ inr (inl other)

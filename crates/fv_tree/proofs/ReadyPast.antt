@@ -1,5 +1,5 @@
 -- A tree whose levels grow, before the marks of a write, and how it stands to its blocks.
-use Rattle.std.proofs.Common.{◌≡◌, ◌≢◌, ◌≤◌, ◌<◌, ℕ, ◌+◌, ◌/◌, ◌^◌, ◌⊎◌, inl, inr, true, false, List, Option, Some, is_some, refl, sym, ap, subst, ◌∙◌, arith}
+use Rattle.std.proofs.Common.{◌≡◌, ◌≢◌, ◌≤◌, ◌<◌, ℕ, ◌+◌, ◌/◌, ◌^◌, ◌⊎◌, inl, inr, true, false, List, Option, Some, refl, sym, ap, subst, ◌∙◌, arith}
 use Rattle.std.specs.Ordering.{nat_cmp}
 use Rattle.std.specs.Option.{option_map}
 use Rattle.std.specs.BTreeMap as tree
@@ -9,21 +9,22 @@ use Rattle.fv_model.specs.Trees.{fan}
 use Rattle.fv_tree.specs.Sources.{Use}
 use Rattle.fv_tree.specs.declared.kept.Tree.{Tree}
 use Rattle.fv_tree.specs.declared.kept.KeptNode.{KeptNode}
+use Rattle.fv_tree.specs.declared.kept.KeptCell.{KeptCell}
 use Rattle.fv_tree.specs.Spelled.{Under, hole, pointers_in, pointer_at}
-use Rattle.fv_tree.specs.Standing.{standing, node_in}
-use Rattle.fv_tree.specs.Flushing.{Leads, IsSound, IsEmptyNode, loaded_over, changed_of, placed_of, changed_in, placed_in, node_changed, node_placed, cell_placed, kind_for}
+use Rattle.fv_tree.specs.Standing.{standing, node_in, cell_in}
+use Rattle.fv_tree.specs.Flushing.{Leads, IsSound, IsEmptyNode, loaded_over, changed_of, placed_of, changed_in, placed_in, node_changed, node_placed, cell_changed, cell_placed, kind_for}
 use Rattle.fv_tree.specs.Carried.{kept_at, IsBlank, BringsNew, IsTop}
 use Rattle.fv_tree.specs.Leading.{KeepsHints, LeadsNoMore}
 use Rattle.fv_tree.proofs.Brought.{blank_unplaced}
-use Rattle.fv_tree.proofs.Flushed.{false_is_true, under_none, reached_within, top_is_first}
-use Rattle.fv_tree.proofs.Gone.{cell_changed, spot_changed, cell_led, spot_led}
+use Rattle.fv_tree.proofs.Cases.{false_is_true}
+use Rattle.fv_tree.proofs.Gone.{changed_cell, spot_changed, cell_led, spot_led}
 use Rattle.fv_tree.proofs.Hints.{right_as}
 use Rattle.fv_tree.proofs.Marked.{IsReady}
 use Rattle.fv_tree.proofs.Past.{Raises, more, top, seen, alone}
 use Rattle.fv_tree.proofs.Raised.{raised_old, raised_first, raised_other, lone_elsewhere}
 use Rattle.fv_tree.proofs.Ready.{first_range}
 use Rattle.fv_tree.proofs.Ungrown.{not_past, kept_old, kept_off}
-use Rattle.fv_tree.proofs.Ways.{past, spot_is}
+use Rattle.fv_tree.proofs.Ways.{under_none, reached_within, top_is_first, past, spot_is}
 use Rattle.fv_tree.proofs.Writes.{none_at}
 
 module _ (blocks : Under) (t v : Tree) (i s : ℕ) (is : Raises t v i s) (some : s ≢ 0) (brings : BringsNew t v i)
@@ -47,7 +48,7 @@ module _ (blocks : Under) (t v : Tree) (i s : ℕ) (is : Raises t v i s) (some :
 
   changed_same : (k q : ℕ) → q ≢ i / fan ^ k → kept_at v k q ≡ kept_at t k q → changed_of v k q ≡ changed_of t k q
   changed_same k q differs kept = elim (cases_eq k 0) [
-    | inl e ↦ cell_changed v k q e ∙ ap is_some (others q (cell_off k q e differs)) ∙ sym (cell_changed t k q e)
+    | inl e ↦ changed_cell v k q e ∙ ap cell_changed (others q (cell_off k q e differs)) ∙ sym (changed_cell t k q e)
     | inr low ↦ spot_changed v k q (omega arith) ∙ ap node_changed kept ∙ sym (spot_changed t k q (omega arith))
   ]
 
@@ -159,6 +160,16 @@ module _ (blocks : Under) (t v : Tree) (i s : ℕ) (is : Raises t v i s) (some :
       | inr (inr lone) ↦ absurd (differs (lone_on k q lone.1 lone.2))
     ]
 
+    in_cells : (index : ℕ) (block : List ℕ) → index ≢ i / fan ^ 0 → cell_in v index ≡ Some block → changed_of v 0 index ≡ false → (pointer_at (standing blocks v) 0 index).stamp ≢ 0
+        → (blocks (pointer_at (standing blocks v) 0 index).vvbn ≡ Some block) × (placed_of v 0 index ≡ true)
+    in_cells index block differs cell now reached = elim (old_or_new 0 index reached) [
+      | inl old ↦
+          let was = sound.cells index block (sym (ap (option_map (λ (kept : KeptCell). kept.block)) (others index (cell_off 0 index refl differs))) ∙ cell) (sym (changed_old 0 index old.0) ∙ now) old.0 in
+          ((λ j. blocks (old.1 j).vvbn) ∙ was.0, led_old 0 index old.0 ∙ was.1)
+      | inr (inl high) ↦ absurd (omega (arith, high.1))
+      | inr (inr lone) ↦ absurd (differs (lone_on 0 index lone.1 lone.2))
+    ]
+
     -- where nothing leads now, nothing did
     none_before : (k q : ℕ) → (pointer_at (standing blocks v) k q).stamp ≡ 0 → (pointer_at (standing blocks t) k q).stamp ≡ 0
     none_before k q none = elim (cases_eq t.root.stamp 0) [
@@ -200,5 +211,6 @@ module _ (blocks : Under) (t v : Tree) (i s : ℕ) (is : Raises t v i s) (some :
       unplaced = λ level le _. past_unplaced level le;
       over = over;
       same = same;
+      cells = in_cells;
       empty = empty;
     }

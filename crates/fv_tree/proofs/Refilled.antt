@@ -17,7 +17,7 @@ use Rattle.fv_tree.specs.Standing.{standing, node_in, cell_in, children_in, IsSa
 use Rattle.fv_tree.specs.Keeping.{IsKept, IsSame}
 use Rattle.fv_tree.specs.Erasing.{StandsAt}
 use Rattle.fv_tree.specs.Refilling.{IsRefilled, Refills}
-use Rattle.fv_tree.specs.Flushing.{loaded_over}
+use Rattle.fv_tree.specs.Flushing.{cell_changed, loaded_over}
 use Rattle.fv_tree.specs.Carried.{Marks}
 use Rattle.fv_tree.proofs.Erased.{stamp_there}
 use Rattle.fv_tree.proofs.Marked.{IsMarked}
@@ -62,7 +62,7 @@ module _ (blocks : Under) (v w u : Tree) (i : ℕ) (block : List ℕ) (fields : 
 -- ---- how it stands to its blocks
 
 module _ (blocks : Under) (w u : Tree) (i : ℕ) (but : IsSameBut w u) (nodes : (level place : ℕ) → node_in u level place ≡ node_in w level place) (marks : Marks w u i) (stands : StandsAt (standing blocks w) 0 i)
-    (kept : (level : ℕ) → 1 ≤ level → level ≤ w.levels → IsKept (standing blocks w) level (i / fan ^ level)) (cell : is_some (tree.get nat_cmp w.cells i) ≡ true) where
+    (kept : (level : ℕ) → 1 ≤ level → level ≤ w.levels → IsKept (standing blocks w) level (i / fan ^ level)) (cell : cell_changed (tree.get nat_cmp w.cells i) ≡ true) where
   still : (k q : ℕ) → pointer_at (standing blocks u) k q ≡ pointer_at (standing blocks w) k q
   still = nodes_alone (standing blocks w) (standing blocks u) but.owner refl but.levels but.root nodes
 
@@ -79,6 +79,7 @@ module _ (blocks : Under) (w u : Tree) (i : ℕ) (but : IsSameBut w u) (nodes : 
     };
     beside = λ level place _ _. still level place;
     nodes = λ level place _. nodes level place;
+    cells = λ index. ap (λ (m : tree.BTreeMap ℕ KeptCell). option_map (λ (kept : KeptCell). kept.block) (tree.get nat_cmp m index)) but.cells;
     placed = all_led blocks w u i but.cells marks kept cell;
     way = way_changed blocks w u i but.cells marks kept cell;
     others = others_changed blocks w u i but.cells marks kept cell;

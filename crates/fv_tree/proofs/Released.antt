@@ -226,6 +226,7 @@ module _ (old new : Shown) (t u : Tree) (stands : IsSound old.used (loaded old t
         right_as (kind_for u.owner level) (kind_for u.owner level) refl (pointer_at (standing (under old) u) level place) (pointer_at (standing (under old) u) level place) (old.used v) (new.used v) refl (released.used v (not_dropped level place v led)) (sound.used level place v led);
     over = sound.over;
     same = sound.same;
+    cells = sound.cells;
     empty = sound.empty;
   }
 
@@ -249,6 +250,10 @@ module _ (old new : Shown) (t u : Tree) (stands : IsSound old.used (loaded old t
             let was = sound.same level place xs low node unchanged (stood level place there) in
             let led : Led (under old) u level place = record { some = stood level place there; placed = was.1; vvbn = refl } in
             (ap (λ (p : Pointer). pointers_in (under new p.vvbn)) (pointers level place) ∙ ap pointers_in (blocks_stay level place led) ∙ was.0, was.1);
+        cells = λ index block cell unchanged there.
+            let was = sound.cells index block cell unchanged (stood 0 index there) in
+            let led : Led (under old) u 0 index = record { some = stood 0 index there; placed = was.1; vvbn = refl } in
+            (ap (λ (p : Pointer). under new p.vvbn) (pointers 0 index) ∙ blocks_stay 0 index led ∙ was.0, was.1);
         empty = λ level place low none where_. sound.empty level place low (ap (λ (p : Pointer). p.stamp) (sym (pointers level place)) ∙ none) where_;
       }
 

@@ -1,36 +1,29 @@
 -- A cell in memory that is written, from the steps of the write.
-use Rattle.std.proofs.Common.{◌≡◌, ◌≢◌, ◌≤◌, ◌<◌, ℕ, ◌/◌, ◌^◌, inl, inr, Bool, true, false, cond, List, Option, Some, Result, Ok, Err, IfOk, OnErr, is_some, nat_eq, refl, sym, ap, subst, ◌∙◌, arith}
+use Rattle.std.proofs.Common.{◌≡◌, ◌≢◌, ◌≤◌, ◌<◌, ℕ, ◌/◌, ◌^◌, Bool, true, false, cond, List, Option, Some, is_some, nat_eq, refl, sym, ap, subst, ◌∙◌, arith}
 use Rattle.std.specs.Ordering.{nat_cmp}
 use Rattle.std.specs.BTreeMap as tree
-use Rattle.std.proofs.lemmas.Bool.{cases_eq}
-use Rattle.std.proofs.lemmas.Bool.Decides.{nat_tests}
-use Rattle.fv_model.specs.Trees.{fan, Spot, spot_cmp}
-use Rattle.fv_disk.specs.declared.fault.BlockFault.{BlockFault}
+use Rattle.fv_model.specs.Trees.{fan, Spot}
 use Rattle.fv_tree.specs.declared.kept.Tree.{Tree}
 use Rattle.fv_tree.specs.declared.kept.KeptNode.{KeptNode}
-use Rattle.fv_tree.specs.declared.kept.KeptCell.{KeptCell}
-use Rattle.fv_tree.specs.Spelled.{Under, Rooted, pointer_at, block_at}
+use Rattle.fv_tree.specs.Spelled.{Under, pointer_at}
 use Rattle.fv_tree.specs.Sources.{Use}
 use Rattle.fv_tree.specs.Standing.{standing, cell_in, children_in, IsSameButCells}
 use Rattle.fv_tree.specs.Keeping.{IsKept}
-use Rattle.fv_tree.specs.Writing.{IsAlike, IsWritten, Stamps}
-use Rattle.fv_tree.specs.Refilling.{IsRefilled}
-use Rattle.fv_tree.specs.Flushing.{IsSound, loaded_over, cell_placed, changed_in, placed_in}
-use Rattle.fv_tree.specs.Carried.{kept_at, Marks}
+use Rattle.fv_tree.specs.Writing.{IsWritten, Stamps}
+use Rattle.fv_tree.specs.Flushing.{IsSound, loaded_over, cell_changed, cell_placed, placed_in}
+use Rattle.fv_tree.specs.Carried.{Marks}
 use Rattle.fv_tree.specs.Leading.{KeepsHints, LeadsNoMore}
 use Rattle.fv_tree.specs.Readying.{IsReady}
-use Rattle.fv_tree.proofs.Gone.{map_some}
 use Rattle.fv_tree.proofs.Held.{same_self}
 use Rattle.fv_tree.proofs.Marked.{IsMarked}
-use Rattle.fv_tree.proofs.Readied.{has_way, ready_cell, ready_stands, stamps_lead, way_as, way_kept}
+use Rattle.fv_tree.proofs.Readied.{ready_cell, ready_stands, stamps_lead, way_as, way_kept}
 use Rattle.fv_tree.proofs.Ready.{cell_kept, marked_is}
-use Rattle.fv_tree.proofs.Refilled.{unstamped_none}
 use Rattle.fv_tree.proofs.Steps.{stamps_way, stamped_cells}
 use Rattle.fv_tree.proofs.Within.{within_hints, within_leads, within_keeps, within_sound}
 use Rattle.fv_tree.proofs.Writes.{within_base, written_is}
 
 module _ (w v u : Tree) (i s : ℕ) (block : List ℕ) (ready : IsReady w i) (some : 1 ≤ s) (fields : IsSameButCells w v) (cell : (j : ℕ) → cell_in v j ≡ cond (nat_eq j i) (Some block) (cell_in w j))
-    (own : cell_placed (tree.get nat_cmp v.cells i) ≡ cell_placed (tree.get nat_cmp w.cells i)) (others : (j : ℕ) → j ≢ i → tree.get nat_cmp v.cells j ≡ tree.get nat_cmp w.cells j) (stamps : Stamps v u i s) (marks : Marks v u i) where
+    (changed : cell_changed (tree.get nat_cmp v.cells i) ≡ true) (own : cell_placed (tree.get nat_cmp v.cells i) ≡ cell_placed (tree.get nat_cmp w.cells i)) (others : (j : ℕ) → j ≢ i → tree.get nat_cmp v.cells j ≡ tree.get nat_cmp w.cells j) (stamps : Stamps v u i s) (marks : Marks v u i) where
   given : s ≢ 0
   given e = absurd (omega (arith, e, some))
 
@@ -46,14 +39,11 @@ module _ (w v u : Tree) (i s : ℕ) (block : List ℕ) (ready : IsReady w i) (so
       (within_base (standing blocks w) (standing blocks w) i s (same_self (standing blocks w)) ready.covers (kept blocks))
       (stamps_way blocks w v u i s fields stamps) given cells
 
-  there : is_some (tree.get nat_cmp v.cells i) ≡ true
-  there = let test : nat_eq i i ≡ true = grind (arith, nat_tests) in ap is_some (map_some (λ (kept : KeptCell). kept.block) (tree.get nat_cmp v.cells i) block (cell i ∙ ap (λ b. cond b (Some block) (cell_in w i)) test)).1
-
   covers : i < fan ^ v.levels
   covers = subst (λ n. i < fan ^ n) (sym fields.levels) ready.covers
 
   marked : (blocks : Under) → IsMarked (loaded_over blocks v) (loaded_over blocks u) i
-  marked blocks = marked_is blocks v u i s stamps marks given covers (λ level low high. cell_kept blocks w v i true fields own others level (kept blocks level low (omega (arith, high, fields.levels)))) there
+  marked blocks = marked_is blocks v u i s stamps marks given covers (λ level low high. cell_kept blocks w v i true fields own others level (kept blocks level low (omega (arith, high, fields.levels)))) changed
 
   unnamed : (blocks : Under) → (pointer_at (standing blocks w) 0 i).stamp ≡ 0 → true ≡ false
   unnamed blocks none = absurd (ready_cell blocks w i ready none)
@@ -73,40 +63,14 @@ module _ (w v u : Tree) (i s : ℕ) (block : List ℕ) (ready : IsReady w i) (so
   pub rewritten_sound : (blocks : Under) (used : ℕ → Option Use) → IsSound used (loaded_over blocks w) → IsSound used (loaded_over blocks u)
   rewritten_sound blocks = within_sound blocks w v u i true fields own others (unnamed blocks) (λ _. refl) (unplaced blocks) (marked blocks) covers
 
-  node_there : (level : ℕ) → 1 ≤ level → level ≤ w.levels → is_some (kept_at v level (i / fan ^ level)) ≡ true
-  node_there level low le =
-      let node = has_way w i ready.way level low le in
-      ap is_some (ap (λ (nodes : tree.BTreeMap Spot KeptNode). tree.get spot_cmp nodes (level, i / fan ^ level)) fields.nodes ∙ (map_some (λ (kept : KeptNode). kept.children) (kept_at w level (i / fan ^ level)) node.0 node.1).1)
-
   pub still_ready : (j : ℕ) → IsReady w j → IsReady u j
   still_ready j was = record {
     covers = subst (λ n. j < fan ^ n) (sym (stamps.levels ∙ fields.levels)) was.covers;
     cell = ap is_some (cells j) ∙ chosen (nat_eq j i) (cell_in w j) was.cell;
     way = λ level le. stamps_lead v u i s level (j / fan ^ level) stamps given
         (way_as w v j fields.levels fields.root (λ level place. ap (λ (nodes : tree.BTreeMap Spot KeptNode). children_in nodes level place) fields.nodes) was.way level (omega (arith, le, stamps.levels)));
-    marked = λ level low le. let least : level ≤ w.levels = omega (arith, le, stamps.levels, fields.levels) in elim (cases_eq (j / fan ^ level) (i / fan ^ level)) [
-      | inl at ↦ ap (changed_in u.nodes level) at ∙ marks.way level low (omega (arith, le, stamps.levels)) (node_there level low least)
-      | inr differs ↦ marks.others level (j / fan ^ level) differs ∙ ap (λ (nodes : tree.BTreeMap Spot KeptNode). changed_in nodes level (j / fan ^ level)) fields.nodes ∙ was.marked level low least
-    ];
   }
     where
       chosen : (b : Bool) (o : Option (List ℕ)) → is_some o ≡ true → is_some (cond b (Some block) o) ≡ true
       chosen true o is = refl
       chosen false o is = is
-
--- ---- a cell that is filled with the content that it has
-
-pub refilled_alike : (t u : Rooted) (i : ℕ) (block : List ℕ) (there : Bool) → IsRefilled t u i block there → (pointer_at t 0 i).stamp ≢ 0 → block_at t i ≡ Some block → IsAlike t u
-refilled_alike t u i block true is stands same = record {
-  levels = is.levels;
-  stamps = is.stamps;
-  blocks = λ j. elim (cases_eq j i) [
-    | inl e ↦ ap (block_at u) e ∙ is.cell ∙ sym same ∙ ap (block_at t) (sym e)
-    | inr differs ↦ is.blocks j differs
-  ];
-}
-refilled_alike t u i block false is stands same = absurd (stands (unstamped_none (pointer_at t 0 i) is.stands))
-
-pub refilled_any : (r : Result Bool BlockFault) (t u : Rooted) (i : ℕ) (block : List ℕ) → IfOk r (IsRefilled t u i block) → OnErr r (IsAlike t u) → (pointer_at t 0 i).stamp ≢ 0 → block_at t i ≡ Some block → IsAlike t u
-refilled_any (Ok there) t u i block done failed stands same = refilled_alike t u i block there done stands same
-refilled_any (Err e) t u i block done failed stands same = failed

@@ -15,7 +15,7 @@ use Rattle.fv_tree.specs.Standing.{standing, node_in}
 use Rattle.fv_tree.specs.Writing.{stamped, stamped_in, slot_of}
 use Rattle.fv_tree.specs.Erasing.{StandsAt, HoldsCells, IsErased}
 use Rattle.fv_tree.specs.Releasing.{IsDropped, KeepsBlocks}
-use Rattle.fv_tree.specs.Flushing.{Leads, IsSound, IsEmptyNode, loaded_over, placed_of, changed_in, changed_of, pointer_in, kind_for}
+use Rattle.fv_tree.specs.Flushing.{Leads, IsSound, IsEmptyNode, loaded_over, placed_of, changed_in, changed_of, cell_changed, pointer_in, kind_for}
 use Rattle.fv_tree.specs.Unlinking.{HasWay, AreBare, Unlinks, CellGoes, cleared_in, IsOnWay, IsNamed, NamesOnce}
 use Rattle.fv_tree.proofs.Hints.{right_as, right_some}
 use Rattle.fv_tree.proofs.Erased.{hole_of, not_both, stamp_there}
@@ -326,7 +326,7 @@ module _ (blocks : Under) (t u : Tree) (i lost start stamp : ℕ) (way : HasWay 
   }
 
   node_of : (level q : ℕ) → changed_of u (level + 1) q ≡ changed_in u.nodes (level + 1) q
-  node_of level q = let test : (level + 1 == 0) ≡ false = grind (arith, nat_tests) in ap (λ b. if b then is_some (tree.get nat_cmp u.cells q) else changed_in u.nodes (level + 1) q) test
+  node_of level q = let test : (level + 1 == 0) ≡ false = grind (arith, nat_tests) in ap (λ b. if b then cell_changed (tree.get nat_cmp u.cells q) else changed_in u.nodes (level + 1) q) test
 
   changed_above : (level place : ℕ) → StandsAt v level place → level < t.levels → (place ≢ i / fan ^ level → changed_of t (level + 1) (place / fan) ≡ true) → changed_of u (level + 1) (place / fan) ≡ true
   changed_above level place there lt off = elim (cases_eq (place / fan) (i / fan ^ (level + 1))) [
@@ -400,6 +400,13 @@ module _ (blocks : Under) (t u : Tree) (i lost start stamp : ℕ) (way : HasWay 
         let was_so = kept level place there in
         let before_it = sound.same level place xs low (sym (is.others lt level place differs) ∙ node) (sym (is.unmarked lt level place differs) ∙ unchanged) was_so.0 in
         ((λ j. pointers_in (blocks (was_so.1 j))) ∙ before_it.0, was_so.2 ∙ before_it.1);
+    cells = λ index block cell unchanged there.
+        let differs : index ≢ i / fan ^ 0 = λ at. there ((λ j. (pointer_at v 0 (at j)).stamp) ∙ on_way_goes 0 (omega arith)) in
+        let off : index ≢ i = λ e. differs (let first : i / fan ^ 0 ≡ i = omega arith in e ∙ sym first) in
+        let lt = not_all 0 index there in
+        let was_so = kept 0 index there in
+        let before_it = sound.cells index block (sym (is.cells lt index off) ∙ cell) (sym (is.unmarked lt 0 index differs) ∙ unchanged) was_so.0 in
+        ((λ j. blocks (was_so.1 j)) ∙ before_it.0, was_so.2 ∙ before_it.1);
     empty = empty_there used sound;
   }
 

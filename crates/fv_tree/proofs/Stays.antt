@@ -1,7 +1,9 @@
 -- The places over a cell, and those under a place, that lead to a shared block and don't differ from it.
-use Rattle.std.proofs.Common.{◌≡◌, ◌≤◌, ◌<◌, ◌⊎◌, ℕ, zero, suc, ◌+◌, ◌-◌, ◌*◌, ◌/◌, ◌%◌, ◌^◌, List, [], get_or, subst, ap₂, Bool, true, false, not, ◌&&◌, cond, ◌==◌, is_some, inl, inr, refl, sym, ap, ◌∙◌, arith}
+use Rattle.std.proofs.Common.{◌≡◌, ◌≤◌, ◌<◌, ◌⊎◌, ℕ, zero, suc, ◌+◌, ◌-◌, ◌*◌, ◌/◌, ◌%◌, ◌^◌, List, [], get_or, subst, ap₂, Bool, true, false, not, ◌&&◌, cond, ◌==◌, inl, inr, refl, sym, ap, ◌∙◌, arith}
 use Rattle.std.specs.Prelude.{sum_by}
 use Rattle.std.specs.List.{range_with_len}
+use Rattle.std.specs.Ordering.{nat_cmp}
+use Rattle.std.specs.BTreeMap as tree
 use Rattle.std.proofs.Math.Nat.{mul-le-mul_right, one-le-pow, pow-le-pow_right, pow-suc}
 use Rattle.std.proofs.lemmas.Bool.{cases_eq}
 use Rattle.std.proofs.lemmas.Bool.Decides.{nat_tests}
@@ -10,7 +12,7 @@ use Rattle.fv_model.specs.Trees.{fan}
 use Rattle.fv_tree.specs.declared.kept.Tree.{Tree}
 use Rattle.fv_tree.specs.Spelled.{Under, Rooted, hole, pointer_at, pointers_at, pointer_below}
 use Rattle.fv_tree.specs.Standing.{standing}
-use Rattle.fv_tree.specs.Flushing.{Loaded, changed_of, changed_in, loaded_over}
+use Rattle.fv_tree.specs.Flushing.{Loaded, cell_changed, changed_of, changed_in, loaded_over}
 use Rattle.fv_tree.specs.Beside.{unread}
 use Rattle.fv_tree.specs.Costs.{pending}
 use Rattle.fv_tree.specs.Counting.{is_staying, staying_all, staying_at, staying_under}
@@ -18,9 +20,8 @@ use Rattle.fv_tree.proofs.Below.{no_pointers, on_the_way}
 use Rattle.fv_tree.proofs.Found.{passing_from, passing_top, passing_next, passing_all}
 use Rattle.fv_tree.proofs.Spans.{sum_more, sum_none, sum_same, under_cell, under_step}
 use Rattle.fv_tree.proofs.Seeking.{child_is}
-use Rattle.fv_tree.proofs.Gone.{cell_changed, spot_changed}
-use Rattle.fv_tree.proofs.Stepped.{no_cell}
-use Rattle.fv_tree.proofs.Differing.{some_count}
+use Rattle.fv_tree.proofs.Gone.{changed_cell, spot_changed}
+use Rattle.fv_tree.proofs.Differing.{some_cell, some_count}
 
 module _ (s : Loaded) (shared : ℕ → Bool) (i : ℕ) where
   abbrev test : ℕ → Bool
@@ -55,13 +56,13 @@ module _ (s : Loaded) (shared : ℕ → Bool) (i : ℕ) where
 
 pub unchanged : (t : Tree) → pending t ≡ 0 → (level place : ℕ) → changed_of t level place ≡ false
 unchanged t none level place = elim (cases_eq level 0) [
-  | inl cell ↦ cell_changed t level place cell ∙ ap is_some (no_cell t (omega (arith, none)) place)
-  | inr node ↦ spot_changed t level place (omega (arith, node)) ∙ so (changed_in t.nodes level place) refl
+  | inl cell ↦ changed_cell t level place cell ∙ so (cell_changed (tree.get nat_cmp t.cells place)) (λ e. let one = some_cell t.cells place e in absurd (omega (arith, none, one)))
+  | inr node ↦ spot_changed t level place (omega (arith, node)) ∙ so (changed_in t.nodes level place) (λ e. let one = some_count t.nodes (level, place) e in absurd (omega (arith, none, one)))
 ]
   where
-    so : (b : Bool) → changed_in t.nodes level place ≡ b → changed_in t.nodes level place ≡ false
-    so false e = e
-    so true e = absurd (let one = some_count t.nodes (level, place) e in omega (arith, none, one))
+    so : (b : Bool) → (b ≡ true → b ≡ false) → b ≡ false
+    so false wrong = refl
+    so true wrong = wrong refl
 
 pub staying_unread : (blocks : Under) (t : Tree) (shared : ℕ → Bool) (i : ℕ) → pending t ≡ 0 → staying_at (loaded_over blocks t) shared i ≡ staying_at (unread (standing blocks t)) shared i
 unfolding staying_at

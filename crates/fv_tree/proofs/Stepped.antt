@@ -13,10 +13,11 @@ use Rattle.fv_tree.specs.declared.kept.KeptCell.{KeptCell}
 use Rattle.fv_tree.specs.Spelled.{pointer_at}
 use Rattle.fv_tree.specs.Sources.{Shown}
 use Rattle.fv_tree.specs.Standing.{standing, under, children_in, node_in}
-use Rattle.fv_tree.specs.Flushing.{Stands, Flushes, HoldsAsMuch, Points, IsHidden, IsMoved, IsNodeStep, ForgetsCell, ForgetsNode, loaded, changed_of, node_changed, node_placed, cell_placed, all_known}
-use Rattle.fv_tree.proofs.Flushed.{bit, false_is_true, flushes_placed}
+use Rattle.fv_tree.specs.Flushing.{Stands, Flushes, HoldsAsMuch, Points, IsHidden, IsMoved, IsCellStep, IsNodeStep, ForgetsCell, ForgetsNode, loaded, changed_of, cell_changed, node_changed, node_placed, cell_placed, all_known}
+use Rattle.fv_tree.proofs.Cases.{bit, false_is_true}
+use Rattle.fv_tree.proofs.Flushed.{flushes_placed}
 use Rattle.fv_tree.proofs.Forgotten.{flushes_none}
-use Rattle.fv_tree.proofs.Gone.{Goes, cell_goes, node_goes, is_memory, cell_changed, spot_changed, cell_led, spot_led, forgets_is}
+use Rattle.fv_tree.proofs.Gone.{Goes, cell_goes, node_goes, is_memory, changed_cell, spot_changed, cell_led, spot_led, forgets_is}
 use Rattle.fv_tree.proofs.Moved.{hidden_is, no_stray, replaces_is, spells, one_unknown, unknown_in}
 use Rattle.fv_tree.proofs.Ways.{past, spot_is}
 
@@ -36,22 +37,29 @@ idle_step : (old new : Shown) (t u : Tree) (k q : ℕ) → Stands old t → new.
 idle_step old new t u k q stands held used goes why =
     subst (Flushes (loaded old t) old.used (loaded new u)) (sym used) (flushes_none (loaded old t) (loaded new u) old.used k q stands (is_memory old t) (forgets_is old new t u k q held goes why))
 
-pub cell_step : (old new : Shown) (t mid u : Tree) (q : ℕ) (cell : KeptCell) → Stands old t → tree.get nat_cmp t.cells q ≡ Some cell → IsHidden old t 0 q new mid ⊎ IsMoved old t 0 q cell.block cell.placed true new mid → ForgetsCell mid u q
+cell_written : (old new : Shown) (t mid u : Tree) (q : ℕ) (cell : KeptCell) → Stands old t → tree.get nat_cmp t.cells q ≡ Some cell → changed_of t 0 q ≡ true → IsHidden old t 0 q new mid ⊎ IsMoved old t 0 q cell.block cell.placed true new mid → ForgetsCell mid u q
     → Flushes (loaded old t) old.used (loaded new u) new.used
-cell_step old new t mid u q cell stands held (inl hidden) forgets =
-    let was : changed_of t 0 q ≡ true = cell_changed t 0 q refl ∙ ap is_some held in
+cell_written old new t mid u q cell stands held was (inl hidden) forgets =
     idle_step old new t u 0 q stands hidden.untouched.held hidden.untouched.used (cell_goes t u q (subst (λ v. ForgetsCell v u q) hidden.tree forgets)) (inr (hidden_is old t stands 0 q was hidden.none))
-cell_step old new t mid u q cell stands held (inr moved) forgets =
-    let was : changed_of t 0 q ≡ true = cell_changed t 0 q refl ∙ ap is_some held in
+cell_written old new t mid u q cell stands held was (inr moved) forgets =
     flushes_placed (loaded old t) old.used (loaded new u) new.used 0 q moved.pointer stands (is_memory old t)
     (replaces_is old new t mid u 0 q cell.block cell.placed true stands was (sym (cell_led t 0 q refl ∙ ap cell_placed held)) (λ j c e. absurd (omega (arith, e))) moved (cell_goes mid u q forgets)
     (λ low. absurd (omega (arith, low))) (λ low. absurd (omega (arith, low))) (λ e. ap (option_map (λ (kept : KeptCell). kept.block)) held) (λ hidden. false_is_true true hidden refl))
 
+pub cell_step : (old new : Shown) (t mid u : Tree) (q : ℕ) (cell : KeptCell) → Stands old t → tree.get nat_cmp t.cells q ≡ Some cell → IsCellStep old t q cell new mid → ForgetsCell mid u q → Flushes (loaded old t) old.used (loaded new u) new.used
+cell_step old new t mid u q cell stands held (inl idle) forgets =
+    idle_step old new t u 0 q stands idle.untouched.held idle.untouched.used (cell_goes t u q (subst (λ v. ForgetsCell v u q) idle.tree forgets)) (inl (changed_cell t 0 q refl ∙ ap cell_changed held ∙ idle.why))
+cell_step old new t mid u q cell stands held (inr is) forgets = cell_written old new t mid u q cell stands held (changed_cell t 0 q refl ∙ ap cell_changed held ∙ is.changed) is.moved forgets
+
 -- it names no stray
-pub cell_strays : (old new : Shown) (t mid : Tree) (q : ℕ) (cell : KeptCell) → Stands old t → tree.get nat_cmp t.cells q ≡ Some cell → IsHidden old t 0 q new mid ⊎ IsMoved old t 0 q cell.block cell.placed true new mid → new.strays ≡ old.strays
-cell_strays old new t mid q cell stands held (inl hidden) = hidden.untouched.strays
-cell_strays old new t mid q cell stands held (inr moved) =
-    no_stray old new t mid 0 q cell.block cell.placed true stands (cell_changed t 0 q refl ∙ ap is_some held) (sym (cell_led t 0 q refl ∙ ap cell_placed held)) moved
+none_strays : (old new : Shown) (t mid : Tree) (q : ℕ) (cell : KeptCell) → Stands old t → tree.get nat_cmp t.cells q ≡ Some cell → changed_of t 0 q ≡ true → IsHidden old t 0 q new mid ⊎ IsMoved old t 0 q cell.block cell.placed true new mid
+    → new.strays ≡ old.strays
+none_strays old new t mid q cell stands held was (inl hidden) = hidden.untouched.strays
+none_strays old new t mid q cell stands held was (inr moved) = no_stray old new t mid 0 q cell.block cell.placed true stands was (sym (cell_led t 0 q refl ∙ ap cell_placed held)) moved
+
+pub cell_strays : (old new : Shown) (t mid : Tree) (q : ℕ) (cell : KeptCell) → Stands old t → tree.get nat_cmp t.cells q ≡ Some cell → IsCellStep old t q cell new mid → new.strays ≡ old.strays
+cell_strays old new t mid q cell stands held (inl idle) = idle.untouched.strays
+cell_strays old new t mid q cell stands held (inr is) = none_strays old new t mid q cell stands held (changed_cell t 0 q refl ∙ ap cell_changed held ∙ is.changed) is.moved
 
 pub node_strays : (old new : Shown) (t mid : Tree) (k q : ℕ) (node : KeptNode) → Stands old t → tree.get spot_cmp t.nodes (k, q) ≡ Some node → IsNodeStep old t k q node new mid → new.strays ≡ old.strays
 node_strays old new t mid k q node stands held (inl idle) = idle.untouched.strays
@@ -62,7 +70,7 @@ node_strays old new t mid k q node stands held (inr (inr is)) =
 module _ (old new : Shown) (t mid u : Tree) (k q : ℕ) (node : KeptNode) (stands : Stands old t) (none : tree.btree_map_len t.cells ≡ 0) (held : tree.get spot_cmp t.nodes (k, q) ≡ Some node) where
   -- there are no nodes of level 0, and there is no cell
   no_change : k ≡ 0 → changed_of t k q ≡ false
-  no_change e = cell_changed t k q e ∙ ap is_some (no_cell t none q)
+  no_change e = changed_cell t k q e ∙ ap cell_changed (no_cell t none q)
 
   goes_at : ForgetsNode t u k q → Goes t u k q
   goes_at forgets = elim (cases_eq k 0) [
@@ -98,7 +106,7 @@ module _ (old new : Shown) (t mid u : Tree) (k q : ℕ) (node : KeptNode) (stand
   -- below the lowest nothing changed
   first : ((j c : ℕ) → j < k → tree.get spot_cmp t.nodes (j, c) ≡ None) → (j c : ℕ) → j + 1 ≡ k → changed_of t j c ≡ false
   first lowest j c up = elim (cases_eq j 0) [
-    | inl e ↦ cell_changed t j c e ∙ ap is_some (no_cell t none c)
+    | inl e ↦ changed_cell t j c e ∙ ap cell_changed (no_cell t none c)
     | inr low ↦ spot_changed t j c (omega arith) ∙ ap node_changed (lowest j c (omega (arith, up)))
   ]
 

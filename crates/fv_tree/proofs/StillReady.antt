@@ -1,5 +1,5 @@
 -- Cells that are ready stay so while nodes come into memory, cells are put there and marks get stamps.
-use Rattle.std.proofs.Common.{◌≡◌, ◌≢◌, ◌≤◌, ◌<◌, ℕ, ◌+◌, ◌/◌, ◌^◌, inl, inr, ◌⊎◌, Bool, true, false, cond, List, Option, Some, None, is_some, nat_eq, refl, sym, ap, subst, ◌∙◌, arith}
+use Rattle.std.proofs.Common.{◌≡◌, ◌≢◌, ◌≤◌, ◌<◌, ℕ, ◌+◌, ◌/◌, ◌^◌, inl, inr, ◌⊎◌, Bool, true, false, cond, List, Option, Some, is_some, nat_eq, refl, sym, ap, subst, ◌∙◌, arith}
 use Rattle.std.specs.Option.{option_map}
 use Rattle.std.specs.Ordering.{nat_cmp}
 use Rattle.std.specs.BTreeMap as tree
@@ -11,17 +11,12 @@ use Rattle.fv_tree.specs.declared.kept.KeptNode.{KeptNode}
 use Rattle.fv_tree.specs.declared.kept.KeptCell.{KeptCell}
 use Rattle.fv_tree.specs.Standing.{node_in, cell_in, IsSameBut, IsSameButCells}
 use Rattle.fv_tree.specs.Writing.{Stamps}
-use Rattle.fv_tree.specs.Carried.{kept_at, Marks}
-use Rattle.fv_tree.specs.Flushing.{changed_in, node_changed, pointer_in}
+use Rattle.fv_tree.specs.Carried.{kept_at}
+use Rattle.fv_tree.specs.Flushing.{pointer_in}
 use Rattle.fv_tree.specs.Readying.{IsReady, KeepsReady}
 use Rattle.fv_tree.proofs.Gone.{map_some}
-use Rattle.fv_tree.proofs.Readied.{pointer_as, stamps_lead, way_as}
+use Rattle.fv_tree.proofs.Readied.{has_way, pointer_as, stamps_lead, way_as}
 use Rattle.fv_tree.proofs.Stamped.{above}
-
--- what changed is in memory
-changed_there : (o : Option KeptNode) → node_changed o ≡ true → is_some o ≡ true
-changed_there None is = absurd (let wrong : false ≡ true = is in grind (arith, wrong))
-changed_there (Some kept) is = refl
 
 pub node_there : (t : Tree) (level place : ℕ) (xs : List Pointer) → node_in t level place ≡ Some xs → is_some (kept_at t level place) ≡ true
 node_there t level place xs node = ap is_some (map_some (λ (kept : KeptNode). kept.children) (kept_at t level place) xs node).1
@@ -37,7 +32,6 @@ way_ready t u i levels root cell nodes ready = record {
   cell = cell;
   way = λ level le none. ready.way level (omega (arith, le, levels)) (ap (λ (p : Pointer). p.stamp) (sym (pointer_as t u level (i / fan ^ level) levels root
       (λ lt. ap (node_in u (level + 1)) (above i level) ∙ ap (option_map (λ (kept : KeptNode). kept.children)) (nodes (level + 1) (omega arith) (omega (arith, lt))) ∙ ap (node_in t (level + 1)) (sym (above i level))))) ∙ none);
-  marked = λ level low le. let within : level ≤ t.levels = omega (arith, le, levels) in ap node_changed (nodes level low within) ∙ ready.marked level low within;
 }
 
 -- where one node comes into memory that wasn't there, or to which nothing leads
@@ -50,8 +44,10 @@ step_ready t u level place fields others own i ready = way_ready t u i fields.le
       | inr differs ↦ others k (i / fan ^ k) (inl differs)
       | inl at ↦ elim (cases_eq (i / fan ^ k) place) [
         | inr apart ↦ others k (i / fan ^ k) (inr apart)
-        | inl same ↦ (λ j. kept_at u (at j) (same j)) ∙ own (λ none. ready.way k le ((λ j. (pointer_in t (at j) (same j)).stamp) ∙ none))
-            ((λ j. is_some (kept_at t (sym at j) (sym same j))) ∙ changed_there (kept_at t k (i / fan ^ k)) (ready.marked k low le)) ∙ (λ j. kept_at t (sym at j) (sym same j))
+        | inl same ↦
+            let node = has_way t i ready.way k low le in
+            (λ j. kept_at u (at j) (same j)) ∙ own (λ none. ready.way k le ((λ j. (pointer_in t (at j) (same j)).stamp) ∙ none))
+            ((λ j. is_some (kept_at t (sym at j) (sym same j))) ∙ node_there t k (i / fan ^ k) node.0 node.1) ∙ (λ j. kept_at t (sym at j) (sym same j))
       ]
     ]
 
@@ -70,29 +66,20 @@ chosen false block o is = is
 pub cells_put : (t u : Tree) (i : ℕ) (block : List ℕ) → IsSameButCells t u → ((j : ℕ) → cell_in u j ≡ cond (nat_eq j i) (Some block) (cell_in t j)) → KeepsReady t u
 cells_put t u i block fields cells = cells_ready t u fields (λ j is. ap is_some (cells j) ∙ chosen (nat_eq j i) block (cell_in t j) is)
 
--- a mark over another cell leaves what is marked
-marked_still : (t u : Tree) (i j : ℕ) → Marks t u i → IsReady t j → (level : ℕ) → 1 ≤ level → level ≤ t.levels → changed_in u.nodes level (j / fan ^ level) ≡ true
-marked_still t u i j marks ready level low le = elim (cases_eq (j / fan ^ level) (i / fan ^ level)) [
-  | inl at ↦ ap (changed_in u.nodes level) at ∙ marks.way level low le (ap (λ q. is_some (kept_at t level q)) (sym at) ∙ changed_there (kept_at t level (j / fan ^ level)) (ready.marked level low le))
-  | inr differs ↦ marks.others level (j / fan ^ level) differs ∙ ready.marked level low le
-]
-
 -- where nodes got the mark that they changed
-pub marks_ready : (t u : Tree) (i : ℕ) → IsSameBut t u → ((level place : ℕ) → node_in u level place ≡ node_in t level place) → Marks t u i → KeepsReady t u
-marks_ready t u i fields nodes marks j ready = record {
+pub marks_ready : (t u : Tree) → IsSameBut t u → ((level place : ℕ) → node_in u level place ≡ node_in t level place) → KeepsReady t u
+marks_ready t u fields nodes j ready = record {
   covers = subst (λ n. j < fan ^ n) (sym fields.levels) ready.covers;
   cell = cell_still t u j fields.cells ready.cell;
   way = way_as t u j fields.levels fields.root nodes ready.way;
-  marked = λ level low le. marked_still t u i j marks ready level low (omega (arith, le, fields.levels));
 }
 
 -- where the marks over another cell get a stamp
-pub stamps_ready : (t u : Tree) (i s : ℕ) → Stamps t u i s → Marks t u i → s ≢ 0 → KeepsReady t u
-stamps_ready t u i s stamps marks some j ready = record {
+pub stamps_ready : (t u : Tree) (i s : ℕ) → Stamps t u i s → s ≢ 0 → KeepsReady t u
+stamps_ready t u i s stamps some j ready = record {
   covers = subst (λ n. j < fan ^ n) (sym stamps.levels) ready.covers;
   cell = cell_still t u j stamps.cells ready.cell;
   way = λ level le. stamps_lead t u i s level (j / fan ^ level) stamps some (ready.way level (omega (arith, le, stamps.levels)));
-  marked = λ level low le. marked_still t u i j marks ready level low (omega (arith, le, stamps.levels));
 }
 
 -- one after the other

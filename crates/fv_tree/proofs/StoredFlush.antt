@@ -7,7 +7,9 @@ use Rattle.fv_tree.specs.Spelled.{pointer_at}
 use Rattle.fv_tree.specs.Sources.{Shown}
 use Rattle.fv_tree.specs.Flushing.{Loaded, Leads, Stands, Flushes, IsFlushed, IsNodeOf, loaded}
 use Rattle.fv_tree.specs.Stored.{IsStoredWell, HasPlaces}
-use Rattle.fv_tree.proofs.Flushed.{bit, false_is_true, reached_within, unchanged_placed}
+use Rattle.fv_tree.proofs.Cases.{bit, false_is_true}
+use Rattle.fv_tree.proofs.Ways.{reached_within}
+use Rattle.fv_tree.proofs.Unchanged.{unchanged_placed}
 use Rattle.fv_tree.proofs.Gone.{is_memory}
 use Rattle.fv_tree.proofs.Leading.{not_replaced, placed_as, stays_or_done, was_some}
 

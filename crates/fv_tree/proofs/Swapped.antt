@@ -7,7 +7,7 @@ use Rattle.std.proofs.lemmas.Bool.Decides.{nat_tests}
 use Rattle.fv_codec.specs.declared.pointer.Pointer.{Pointer}
 use Rattle.fv_tree.specs.Sources.{Shown, Drops, IsUntouched, Use}
 use Rattle.fv_tree.specs.Flushing.{IsRight, Swaps}
-use Rattle.fv_tree.proofs.Flushed.{bit}
+use Rattle.fv_tree.proofs.Cases.{bit}
 
 differs_eq : (w v : ℕ) → w ≢ v → nat_eq w v ≡ false
 differs_eq w v differs = grind (arith, nat_tests)

@@ -1,5 +1,5 @@
 -- Nodes past the levels that come into memory, and how the tree stands to its blocks while its levels are what they were.
-use Rattle.std.proofs.Common.{◌≡◌, ◌≢◌, ◌≤◌, ◌<◌, ℕ, ◌+◌, ◌/◌, ◌^◌, ◌⊎◌, inl, inr, true, false, List, Option, Some, is_some, refl, sym, ap, ◌∙◌, arith}
+use Rattle.std.proofs.Common.{◌≡◌, ◌≢◌, ◌≤◌, ◌<◌, ℕ, ◌+◌, ◌/◌, ◌^◌, ◌⊎◌, inl, inr, true, false, List, Option, Some, refl, sym, ap, ◌∙◌, arith}
 use Rattle.std.specs.Ordering.{nat_cmp}
 use Rattle.std.specs.Option.{option_map}
 use Rattle.std.specs.BTreeMap as tree
@@ -11,14 +11,14 @@ use Rattle.fv_tree.specs.declared.kept.Tree.{Tree}
 use Rattle.fv_tree.specs.declared.kept.KeptNode.{KeptNode}
 use Rattle.fv_tree.specs.declared.kept.KeptCell.{KeptCell}
 use Rattle.fv_tree.specs.Spelled.{Under, hole, pointers_in, pointer_at}
-use Rattle.fv_tree.specs.Standing.{standing, node_in, IsSameBut}
+use Rattle.fv_tree.specs.Standing.{standing, node_in, cell_in, IsSameBut}
 use Rattle.fv_tree.specs.Keeping.{IsSame}
-use Rattle.fv_tree.specs.Flushing.{IsSound, IsEmptyNode, loaded_over, changed_of, placed_of, node_changed, node_placed, cell_placed, kind_for}
+use Rattle.fv_tree.specs.Flushing.{IsSound, IsEmptyNode, loaded_over, changed_of, placed_of, node_changed, node_placed, cell_changed, cell_placed, kind_for}
 use Rattle.fv_tree.specs.Carried.{kept_at, BringsNew}
 use Rattle.fv_tree.specs.Leading.{KeepsHints, LeadsNoMore}
 use Rattle.fv_tree.proofs.Brought.{blank_empty}
-use Rattle.fv_tree.proofs.Flushed.{under_none, reached_within}
-use Rattle.fv_tree.proofs.Gone.{cell_changed, spot_changed, cell_led, spot_led}
+use Rattle.fv_tree.proofs.Ways.{under_none, reached_within}
+use Rattle.fv_tree.proofs.Gone.{changed_cell, spot_changed, cell_led, spot_led}
 use Rattle.fv_tree.proofs.Hints.{right_as}
 use Rattle.fv_tree.proofs.Raised.{past_at}
 
@@ -62,7 +62,7 @@ module _ (blocks : Under) (t v : Tree) (i : ℕ) (far : fan ^ t.levels ≤ i) (f
 
   changed_old : (k q : ℕ) → (pointer_at (standing blocks t) k q).stamp ≢ 0 → changed_of v k q ≡ changed_of t k q
   changed_old k q some = elim (cases_eq k 0) [
-    | inl e ↦ cell_changed v k q e ∙ ap (λ (cells : tree.BTreeMap ℕ KeptCell). is_some (tree.get nat_cmp cells q)) fields.cells ∙ sym (cell_changed t k q e)
+    | inl e ↦ changed_cell v k q e ∙ ap (λ (cells : tree.BTreeMap ℕ KeptCell). cell_changed (tree.get nat_cmp cells q)) fields.cells ∙ sym (changed_cell t k q e)
     | inr low ↦ spot_changed v k q (omega arith) ∙ ap node_changed (kept_old blocks t v i far brings k q some) ∙ sym (spot_changed t k q (omega arith))
   ]
 
@@ -97,6 +97,13 @@ module _ (blocks : Under) (t v : Tree) (i : ℕ) (far : fan ^ t.levels ≤ i) (f
         let was = sound.same k q xs low (sym (ap (option_map (λ (kept : KeptNode). kept.children)) (kept_old blocks t v i far brings k q some)) ∙ node) (sym (changed_old k q some) ∙ now) some in
         ((λ j. pointers_in (blocks (same.pointers k q j).vvbn)) ∙ was.0, led_old k q some ∙ was.1)
 
+    in_cells : (index : ℕ) (block : List ℕ) → cell_in v index ≡ Some block → changed_of v 0 index ≡ false → (pointer_at (standing blocks v) 0 index).stamp ≢ 0
+        → (blocks (pointer_at (standing blocks v) 0 index).vvbn ≡ Some block) × (placed_of v 0 index ≡ true)
+    in_cells index block cell now reached =
+        let some : (pointer_at (standing blocks t) 0 index).stamp ≢ 0 = λ e. reached (stamps 0 index ∙ e) in
+        let was = sound.cells index block (sym (ap (λ (cells : tree.BTreeMap ℕ KeptCell). option_map (λ (kept : KeptCell). kept.block) (tree.get nat_cmp cells index)) fields.cells) ∙ cell) (sym (changed_old 0 index some) ∙ now) some in
+        ((λ j. blocks (same.pointers 0 index j).vvbn) ∙ was.0, led_old 0 index some ∙ was.1)
+
     empty : (k q : ℕ) → 1 ≤ k → (pointer_at (standing blocks v) k q).stamp ≡ 0 → (k ≤ v.levels) ⊎ ((q ≢ 0) ⊎ (v.root.stamp ≡ 0)) → IsEmptyNode (standing blocks v) k q
     empty k q low none which =
         let where_ : (k ≤ t.levels) ⊎ ((q ≢ 0) ⊎ (t.root.stamp ≡ 0)) = elim which [
@@ -123,5 +130,6 @@ module _ (blocks : Under) (t v : Tree) (i : ℕ) (far : fan ^ t.levels ≤ i) (f
           right_as (kind_for t.owner k) (kind_for v.owner k) (ap (λ (o : ℕ). kind_for o k) fields.owner) (pointer_at (standing blocks t) k q) (pointer_at (standing blocks v) k q) (used x) (used x) (ap (λ (p : Pointer). p.pvbn) (same.pointers k q)) refl (sound.used k q x (still_leads k q x leads));
       over = over;
       same = same_nodes;
+      cells = in_cells;
       empty = empty;
     }

@@ -50,6 +50,22 @@ pub past : (t : Rooted) (level place : ℕ) → t.levels < level → pointer_at 
 unfolding pointer_at
 past t level place lt = let test : nat_le level t.levels ≡ false = grind (arith, nat_tests) in rw test refl
 
+-- a child of what nothing leads to has nothing that leads to it
+pub under_none : (t : Rooted) (level place : ℕ) → level < t.levels → (pointer_at t (level + 1) (place / fan)).stamp ≡ 0 → (pointer_at t level place).stamp ≡ 0
+under_none t level place lt e = ap (λ (p : Pointer). p.stamp) ((own_way t).down level place lt ∙ ap (λ (xs : List Pointer). get_or xs (place % fan) hole) (no_pointers t (level + 1) (place / fan) (pointer_at t (level + 1) (place / fan)) e))
+
+pub reached_within : (t : Rooted) (level place : ℕ) → (pointer_at t level place).stamp ≢ 0 → level ≤ t.levels
+reached_within t level place some = elim (cases_lt t.levels level) [
+  | inl lt ↦ absurd (some (ap (λ (p : Pointer). p.stamp) (past t level place lt)))
+  | inr le ↦ le
+]
+
+pub top_is_first : (t : Rooted) (place : ℕ) → (pointer_at t t.levels place).stamp ≢ 0 → place ≡ 0
+top_is_first t place some = elim (cases_eq place 0) [
+  | inl e ↦ e
+  | inr differs ↦ let test : (place == 0) ≡ false = grind (arith, nat_tests) in absurd (some (ap (λ (p : Pointer). p.stamp) ((own_way t).top place ∙ ap (λ b. if b then t.root else hole) test)))
+]
+
 -- pointers are equal where the trees say the same above them
 pub alike : (t u : Rooted) (level place : ℕ) (p : Pointer) → u.owner ≡ t.owner → u.under ≡ t.under → u.nodes level place ≡ t.nodes level place → pointers_at u level place p ≡ pointers_at t level place p
 unfolding pointers_at

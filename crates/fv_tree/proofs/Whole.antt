@@ -9,17 +9,17 @@ use Rattle.fv_tree.specs.declared.kept.Tree.{Tree}
 use Rattle.fv_tree.specs.declared.kept.KeptNode.{KeptNode}
 use Rattle.fv_tree.specs.declared.kept.KeptCell.{KeptCell}
 use Rattle.fv_tree.specs.Spelled.{Under, Rooted, pointer_at, stored}
-use Rattle.fv_tree.specs.Standing.{standing, node_in}
-use Rattle.fv_tree.specs.Flushing.{Leads, IsRight, IsSound, ReachesOnce, loaded_over, changed_of, placed_of, node_changed, node_placed, cell_placed, kind_for}
-use Rattle.fv_tree.proofs.Flushed.{false_is_true, some_none}
-use Rattle.fv_tree.proofs.Gone.{cell_changed, spot_changed, cell_led, spot_led}
+use Rattle.fv_tree.specs.Standing.{standing, node_in, cell_in}
+use Rattle.fv_tree.specs.Flushing.{Leads, IsRight, IsSound, ReachesOnce, loaded_over, changed_of, placed_of, node_changed, node_placed, cell_changed, cell_placed, kind_for}
+use Rattle.fv_tree.proofs.Cases.{false_is_true, some_none}
+use Rattle.fv_tree.proofs.Gone.{changed_cell, spot_changed, cell_led, spot_led}
 use Rattle.fv_tree.proofs.Stepped.{no_cell, no_node}
 use Rattle.fv_tree.proofs.Writes.{none_at}
 
 module _ (t : Tree) (no_nodes : tree.btree_map_len t.nodes ≡ 0) (no_cells : tree.btree_map_len t.cells ≡ 0) where
   pub none_changed : (level place : ℕ) → changed_of t level place ≡ false
   none_changed level place = elim (cases_eq level 0) [
-    | inl e ↦ cell_changed t level place e ∙ ap is_some (no_cell t no_cells place)
+    | inl e ↦ changed_cell t level place e ∙ ap cell_changed (no_cell t no_cells place)
     | inr low ↦ spot_changed t level place (omega arith) ∙ ap node_changed (no_node t no_nodes level place)
   ]
 
@@ -60,6 +60,7 @@ module _ (t : Tree) (no_nodes : tree.btree_map_len t.nodes ≡ 0) (no_cells : tr
       used = λ level place v leads. subst (λ v. IsRight (kind_for t.owner level) (pointer_at (standing blocks t) level place) (used v)) leads.vvbn (is.used level place leads.some);
       over = λ level place changed. false_is_true (changed_of t level place) (none_changed level place) changed;
       same = λ level place xs _ node. no_kept level place xs node;
+      cells = λ index block cell. some_none (cell_in t index) block (ap (option_map (λ (kept : KeptCell). kept.block)) (no_cell t no_cells index)) cell;
       empty = λ level place _ _ _ xs node. no_kept level place xs node;
     }
 

@@ -6,6 +6,7 @@ use Rattle.fv_disk.specs.declared.fault.BlockFault.{BlockFault}
 use Rattle.fv_model.specs.Trees.{fan, Spot}
 use Rattle.fv_tree.specs.declared.kept.Tree.{Tree}
 use Rattle.fv_tree.specs.declared.kept.KeptNode.{KeptNode}
+use Rattle.fv_tree.specs.declared.kept.KeptCell.{KeptCell}
 use Rattle.fv_tree.specs.Spelled.{Rooted, pointer_at}
 use Rattle.fv_tree.specs.Sources.{Shown, IsDamaged}
 
@@ -37,9 +38,13 @@ way_cost cost t i = cost_below cost t i (suc t.levels)
 abbrev pub changes_in : maps.BTreeMap Spot KeptNode → ℕ
 changes_in nodes = count_by (λ (kept : KeptNode). kept.changed) (maps.values nodes)
 
--- how many cells and nodes in memory do; each cell there does
+-- how many cells in memory do
+abbrev pub cells_changed : maps.BTreeMap ℕ KeptCell → ℕ
+cells_changed cells = count_by (λ (kept : KeptCell). kept.changed) (maps.values cells)
+
+-- how many cells and nodes in memory do
 abbrev pub pending : Tree → ℕ
-pending t = maps.btree_map_len t.cells + changes_in t.nodes
+pending t = cells_changed t.cells + changes_in t.nodes
 
 -- Of what differs from its block no more is left, and at most so many blocks were placed as fewer are.
 pub record Fits (old : Shown) (t : Tree) (new : Shown) (u : Tree) : Type 0 where

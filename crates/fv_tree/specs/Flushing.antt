@@ -25,6 +25,10 @@ abbrev pub node_placed : Option KeptNode → Bool
 node_placed None = true
 node_placed (Some kept) = kept.placed
 
+abbrev pub cell_changed : Option KeptCell → Bool
+cell_changed None = false
+cell_changed (Some kept) = kept.changed
+
 abbrev pub cell_placed : Option KeptCell → Bool
 cell_placed None = true
 cell_placed (Some kept) = kept.placed
@@ -44,9 +48,9 @@ pub record Loaded : Type 0 where
   pub changed : ℕ → ℕ → Bool
   pub placed : ℕ → ℕ → Bool
 
--- a cell in memory always differs from its block
+-- whether a cell or a node in memory differs from its block
 abbrev pub changed_of : Tree → ℕ → ℕ → Bool
-changed_of t level place = if level == 0 then is_some (tree.get nat_cmp t.cells place) else changed_in t.nodes level place
+changed_of t level place = if level == 0 then cell_changed (tree.get nat_cmp t.cells place) else changed_in t.nodes level place
 
 abbrev pub placed_of : Tree → ℕ → ℕ → Bool
 placed_of t level place = if level == 0 then cell_placed (tree.get nat_cmp t.cells place) else placed_in t.nodes level place
@@ -95,6 +99,8 @@ pub record IsSound (taken : ℕ → Option Use) (s : Loaded) : Type 0 where
   -- what didn't change stands in its block
   pub same : (level place : ℕ) (xs : List Pointer) → 1 ≤ level → s.tree.nodes level place ≡ Some xs → s.changed level place ≡ false → (pointer_at s.tree level place).stamp ≢ 0
       → (pointers_in (s.tree.under (pointer_at s.tree level place).vvbn) ≡ xs) × (s.placed level place ≡ true)
+  pub cells : (index : ℕ) (block : List ℕ) → s.tree.cells index ≡ Some block → s.changed 0 index ≡ false → (pointer_at s.tree 0 index).stamp ≢ 0
+      → (s.tree.under (pointer_at s.tree 0 index).vvbn ≡ Some block) × (s.placed 0 index ≡ true)
   -- what nothing leads to is empty; above the levels a write that failed may have left nodes over the root
   pub empty : (level place : ℕ) → 1 ≤ level → (pointer_at s.tree level place).stamp ≡ 0 → (level ≤ s.tree.levels) ⊎ ((place ≢ 0) ⊎ (s.tree.root.stamp ≡ 0)) → IsEmptyNode s.tree level place
 
@@ -276,6 +282,20 @@ pub record IsNodeMoved (old : Shown) (t : Tree) (level place : ℕ) (node : Kept
   pub block : List ℕ
   pub spells : node_at block ≡ Ok (record { level = level; owner = t.owner; place = place; children = node.children })
   pub moved : IsMoved old t level place block node.placed (all_known node.children) new u
+
+-- nothing was placed, since the cell didn't change
+pub record IsCellIdle (old : Shown) (t : Tree) (changed : Bool) (new : Shown) (u : Tree) : Type 0 where
+  pub why : changed ≡ false
+  pub tree : u ≡ t
+  pub untouched : IsUntouched old new
+
+-- the cell's block was placed
+pub record IsCellMoved (old : Shown) (t : Tree) (place : ℕ) (cell : KeptCell) (new : Shown) (u : Tree) : Type 0 where
+  pub changed : cell.changed ≡ true
+  pub moved : IsHidden old t 0 place new u ⊎ IsMoved old t 0 place cell.block cell.placed true new u
+
+abbrev pub IsCellStep : Shown → Tree → ℕ → KeptCell → Shown → Tree → Type 0
+IsCellStep old t place cell new u = IsCellIdle old t cell.changed new u ⊎ IsCellMoved old t place cell new u
 
 abbrev pub IsNodeStep : Shown → Tree → ℕ → ℕ → KeptNode → Shown → Tree → Type 0
 IsNodeStep old t level place node new u = IsIdle old t level node.changed new u ⊎ (IsHidden old t level place new u ⊎ IsNodeMoved old t level place node new u)

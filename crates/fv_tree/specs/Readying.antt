@@ -1,21 +1,28 @@
 -- A cell that is in memory with all nodes over it.
-use Rattle.std.specs.Prelude.{◌≡◌, ◌≢◌, ◌≤◌, ◌<◌, ℕ, ◌/◌, ◌^◌, true, is_some}
+use Rattle.std.specs.Prelude.{◌≡◌, ◌≢◌, ◌≤◌, ◌<◌, ◌⊎◌, ℕ, ◌/◌, ◌^◌, true, false, List, Some, None, is_some}
+use Rattle.std.specs.Ordering.{nat_cmp}
+use Rattle.std.specs.BTreeMap as maps
 use Rattle.fv_model.specs.Trees.{fan}
 use Rattle.fv_tree.specs.declared.kept.Tree.{Tree}
-use Rattle.fv_tree.specs.Standing.{cell_in}
-use Rattle.fv_tree.specs.Flushing.{changed_in, pointer_in}
+use Rattle.fv_tree.specs.Standing.{cell_in, IsSameButCells}
+use Rattle.fv_tree.specs.Flushing.{pointer_in}
 
 -- each pointer on the way to a cell leads somewhere, as the root and the nodes in memory have it
 abbrev pub HoldsWay : Tree → ℕ → Type 0
 HoldsWay t i = (level : ℕ) → level ≤ t.levels → (pointer_in t level (i / fan ^ level)).stamp ≢ 0
 
--- Cell i and the nodes over it are in memory, as what changed, and each pointer on the way to it leads somewhere. Nothing is said of
--- blocks.
+-- Cell i and the nodes over it are in memory, and each pointer on the way to it leads somewhere. Nothing is said of blocks.
 pub record IsReady (t : Tree) (i : ℕ) : Type 0 where
   pub covers : i < fan ^ t.levels
   pub cell : is_some (cell_in t i) ≡ true
   pub way : HoldsWay t i
-  pub marked : (level : ℕ) → 1 ≤ level → level ≤ t.levels → changed_in t.nodes level (i / fan ^ level) ≡ true
+
+-- The content of cell i came into memory as its block has it, where it wasn't there.
+pub record HoldsCell (old new : Tree) (i : ℕ) (block : List ℕ) : Type 0 where
+  pub fields : IsSameButCells old new
+  pub own : ((is_some (cell_in old i) ≡ true) × (maps.get nat_cmp new.cells i ≡ maps.get nat_cmp old.cells i))
+      ⊎ ((maps.get nat_cmp old.cells i ≡ None) × (maps.get nat_cmp new.cells i ≡ Some (record { block = block; changed = false; placed = true })))
+  pub others : (j : ℕ) → j ≢ i → maps.get nat_cmp new.cells j ≡ maps.get nat_cmp old.cells j
 
 -- each cell that is ready stays so
 abbrev pub KeepsReady : Tree → Tree → Type 0

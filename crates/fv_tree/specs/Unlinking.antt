@@ -11,6 +11,7 @@ use Rattle.fv_tree.specs.Standing.{standing, node_in, cell_in}
 use Rattle.fv_tree.specs.Writing.{stamped, stamped_in, slot_of}
 use Rattle.fv_tree.specs.Erasing.{StandsAt, HoldsCells, IsErased}
 use Rattle.fv_tree.specs.Releasing.{KeepsBlocks}
+use Rattle.fv_tree.specs.Costs.{cells_changed}
 use Rattle.fv_tree.specs.Flushing.{IsSound, loaded_over, placed_of, changed_in, changed_of, pointer_in}
 
 -- the nodes over a cell are in memory
@@ -77,7 +78,7 @@ pub record IsOver (i level place : ℕ) : Type 0 where
 -- Of what is in memory no more differs from its blocks, but for the nodes over a cell. The nodes stand in their order.
 pub record MarksOnly (old new : Tree) (i : ℕ) : Type 0 where
   pub marks : (level place : ℕ) → changed_in new.nodes level place ≡ true → (changed_in old.nodes level place ≡ true) ⊎ IsOver i level place
-  pub cells : maps.btree_map_len new.cells ≤ maps.btree_map_len old.cells
+  pub cells : cells_changed new.cells ≤ cells_changed old.cells
   pub ordered : maps.IsOrdered spot_cmp new.nodes
 
 -- a cell that stood, and over which all nodes are in memory, was removed by a change with the stamp s

@@ -14,7 +14,7 @@ ghost use Rattle.fv_tree.specs.Erasing.{StandsAt};
 ghost use Rattle.fv_tree.specs.Releasing.{Releases, IsDropped};
 ghost use Rattle.fv_tree.specs.Flushing.{placed_in, placed_of, changed_in, changed_of, IsSound, loaded_over};
 ghost use Rattle.fv_tree.specs.Counting.{positions_of};
-ghost use Rattle.fv_tree.specs.Costs.{changes_in, pending};
+ghost use Rattle.fv_tree.specs.Costs.{cells_changed, changes_in, pending};
 ghost use Rattle.fv_tree.specs.Unlinking.{HasWay, HasNoOther, HasOther, AreBare, Unlinks, CellGoes, cleared_in, IsNamed, IsOnWay, IsOver, MarksOnly, NamesOnce};
 ghost use Rattle.fv_tree.specs.Carried.{MarksNoMore};
 ghost use Rattle.fv_tree.specs.Readying.{IsReady, KeepsOthersReady};
@@ -208,7 +208,7 @@ fn forget_way(tree: &mut Tree, index: u32, lost: u8)
     ensures gone { (level : ℕ) → 1 ≤ level → level ≤ lost → tree_map.get spot_cmp tree.new.nodes (level, index / fan ^ level) ≡ None }
     ensures pending { pending tree.new ≤ pending tree.old }
     ensures marks { MarksNoMore tree.old tree.new }
-    ensures fewer { tree_map.btree_map_len tree.new.cells ≤ tree_map.btree_map_len tree.old.cells }
+    ensures fewer { cells_changed tree.new.cells ≤ cells_changed tree.old.cells }
 {
     let _ = tree.cells.remove(&index);
     for below in 0..lost {

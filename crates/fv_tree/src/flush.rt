@@ -8,18 +8,18 @@ ghost use Rattle.fv_tree.specs.Spelled.{stored};
 ghost use Rattle.fv_tree.specs.Sources.{Counts, HasCause, IsDamaged, IsUntouched};
 ghost use Rattle.fv_tree.specs.Standing.{standing, under};
 ghost use Rattle.fv_tree.specs.Writing.{Remains};
-ghost use Rattle.fv_tree.specs.Flushing.{changed_in, loaded, pointer_in, Flushes, HoldsAsMuch, IsLeft, IsNodeStep, ReachesOnce, Stands};
+ghost use Rattle.fv_tree.specs.Flushing.{changed_in, loaded, pointer_in, Flushes, HoldsAsMuch, IsCellStep, IsLeft, IsNodeStep, ReachesOnce, Stands};
 ghost use Rattle.fv_tree.specs.Stored.{IsStoredWell, HasPlaces, KeepsPlaces};
 ghost use Rattle.fv_tree.specs.Costs.{changes_in, pending, Fits, IsEnough};
 
 use crate::blocks::{Blocks, TreeFault};
-use crate::kept::{KeptNode, Tree};
+use crate::kept::{KeptCell, KeptNode, Tree};
 use crate::placing::{
     all_known, first_cell, first_node, forget_cell, forget_node, replace, spelled,
 };
 use fv_codec::Pointer;
 
-/// Places the cells in memory.
+/// Places the cells in memory that changed.
 fn flush_cells<B: Blocks>(tree: &mut Tree, blocks: &mut B) -> Result<(), TreeFault>
     ensures flushes { B.told → Stands (B.shown blocks.old) tree.old → Flushes (loaded (B.shown blocks.old) tree.old) (B.shown blocks.old).used (loaded (B.shown blocks.new) tree.new) (B.shown blocks.new).used }
     ensures strays { B.told → Stands (B.shown blocks.old) tree.old → (B.shown blocks.new).strays ≡ (B.shown blocks.old).strays }
@@ -61,7 +61,7 @@ fn flush_nodes<B: Blocks>(tree: &mut Tree, blocks: &mut B) -> Result<(), TreeFau
     Ok(())
 }
 
-/// Places the first cell in memory.
+/// Places the first cell in memory, where it changed.
 fn flush_first_cell<B: Blocks>(tree: &mut Tree, blocks: &mut B) -> Result<(), TreeFault>
     ensures flushes { B.told → Stands (B.shown blocks.old) tree.old → Flushes (loaded (B.shown blocks.old) tree.old) (B.shown blocks.old).used (loaded (B.shown blocks.new) tree.new) (B.shown blocks.new).used }
     ensures strays { B.told → Stands (B.shown blocks.old) tree.old → (B.shown blocks.new).strays ≡ (B.shown blocks.old).strays }
@@ -78,10 +78,39 @@ fn flush_first_cell<B: Blocks>(tree: &mut Tree, blocks: &mut B) -> Result<(), Tr
     match first_cell(tree) {
         None => Ok(()),
         Some((index, cell)) => {
-            replace(tree, blocks, (0, index), &cell.block, cell.placed, true)?;
+            flush_cell(tree, blocks, index, &cell)?;
             forget_cell(tree, index);
             Ok(())
         }
+    }
+}
+
+/// Places a cell, where it changed.
+fn flush_cell<B: Blocks>(
+    tree: &mut Tree,
+    blocks: &mut B,
+    index: u32,
+    cell: &KeptCell,
+) -> Result<(), TreeFault>
+    ensures cell { B.told → OnOk result (IsCellStep (B.shown blocks.old) tree.old index cell.now (B.shown blocks.new) tree.new) }
+    ensures still { HoldsAsMuch tree.old tree.new }
+    ensures failed { OnErr result (tree.new ≡ tree.old) }
+    ensures changed { OnErr result (cell.now.changed ≡ true) }
+    ensures changes { (cell.now.changed ≡ true → (pointer_in tree.old 0 index).stamp ≢ 0 → 0 < tree.old.levels → changed_in tree.old.nodes 1 (index / fan) ≡ true) → changes_in tree.new.nodes ≤ changes_in tree.old.nodes }
+    ensures room { OnOk result ((B.shown blocks.old).room ≤ (B.shown blocks.new).room + 1) }
+    ensures still_room { cell.now.changed ≡ false → (B.shown blocks.old).room ≤ (B.shown blocks.new).room }
+    ensures enough { (B.shown blocks.old).room ≢ 0 → IfErr result (λ e. IsDamaged e → ⊥) }
+    ensures spent { (B.shown blocks.new).spent ≡ (B.shown blocks.old).spent }
+    ensures untouched { OnErr result (IsUntouched (B.shown blocks.old) (B.shown blocks.new)) }
+    ensures places { B.known → KeepsPlaces (B.shown blocks.old) (B.shown blocks.new) }
+    ensures calls { B.goes blocks.old blocks.new }
+    ensures counts { Counts (B.shown blocks.old) (B.shown blocks.new) result }
+    ensures cause { IfErr result (HasCause (B.shown blocks.old) (B.shown blocks.new)) }
+{
+    if cell.changed {
+        replace(tree, blocks, (0, index), &cell.block, cell.placed, true)
+    } else {
+        Ok(())
     }
 }
 

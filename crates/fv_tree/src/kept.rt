@@ -29,17 +29,19 @@ pub struct KeptNode {
     ghost some: { changed ≡ true → all_holes children ≡ false },
 }
 
-/// A cell in memory, which differs from its block.
+/// A cell in memory.
 #[derive(Clone, Copy)]
 pub struct KeptCell {
     /// Its content.
     pub block: [u8; 4096],
+    /// Whether it differs from its block.
+    pub changed: bool,
     /// Whether the pointer to it leads to a block that it replaces.
     pub placed: bool,
 }
 
-/// A tree of a file, or of an inode file, of which what changed since the last `flush` is in memory, with the
-/// nodes over it: at most five nodes and a cell for each `put`.
+/// A tree of a file, or of an inode file, of which what changed or was held ready since the last `flush` is in memory,
+/// with the nodes over it: at most five nodes and a cell for each `put`.
 #[derive(Drop)]
 pub struct Tree {
     pub(crate) owner: u64,

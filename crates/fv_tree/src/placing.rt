@@ -8,9 +8,9 @@ ghost use Rattle.fv_codec.specs.Blocks.{IsPointer, last_place, node_at};
 ghost use Rattle.fv_model.specs.Trees.{fan, spot_cmp};
 ghost use Rattle.fv_tree.specs.Sources.{Counts, Drops, HasCause, IsCalm, IsDamaged, IsKind, IsUntouched};
 ghost use Rattle.fv_tree.specs.Standing.{children_in};
-ghost use Rattle.fv_tree.specs.Costs.{changes_in};
+ghost use Rattle.fv_tree.specs.Costs.{cells_changed, changes_in};
 ghost use Rattle.fv_tree.specs.Stored.{KeepsPlaces};
-ghost use Rattle.fv_tree.specs.Flushing.{all_known, changed_in, is_unknown, kind_for, placed_in, pointer_in, ForgetsCell, ForgetsNode, HoldsAsMuch, IsHidden, IsMoved, Points, Swaps};
+ghost use Rattle.fv_tree.specs.Flushing.{all_known, cell_changed, changed_in, is_unknown, kind_for, placed_in, pointer_in, ForgetsCell, ForgetsNode, HoldsAsMuch, IsHidden, IsMoved, Points, Swaps};
 
 use crate::blocks::{Blocks, Placed, TreeFault};
 use crate::kept::{HOLE, KeptCell, KeptNode, Tree};
@@ -45,6 +45,8 @@ pub fn first_node(tree: &Tree) -> Option<((u8, u32), KeptNode)>
 pub fn forget_cell(tree: &mut Tree, index: u32)
     ensures forgets { ForgetsCell tree.old tree.new index }
     ensures len { is_some (maps.get nat_cmp tree.old.cells index) ≡ true → maps.btree_map_len tree.new.cells + 1 ≡ maps.btree_map_len tree.old.cells }
+    ensures changes { cells_changed tree.new.cells ≤ cells_changed tree.old.cells }
+    ensures fewer { cell_changed (maps.get nat_cmp tree.old.cells index) ≡ true → cells_changed tree.new.cells + 1 ≡ cells_changed tree.old.cells }
 {
     let _ = tree.cells.remove(&index);
 }

@@ -1,6 +1,6 @@
 //! Writing a cell that is in memory with the nodes over it, which can't fail.
 
-ghost use Rattle.std.specs.Prelude.{◌≡◌, ◌≢◌, ◌≤◌, ◌+◌, ℕ, Option, true, is_some, cond, nat_eq, Some, IfOk, IfErr};
+ghost use Rattle.std.specs.Prelude.{◌≡◌, ◌≢◌, ◌≤◌, ◌+◌, ℕ, Option, true, is_some, cond, nat_eq, Some, IfOk, IfErr, OnOk, OnErr};
 ghost use Rattle.std.specs.BTreeMap as maps;
 ghost use Rattle.std.specs.Ordering.{nat_cmp};
 ghost use Rattle.std.specs.Option.{option_map};
@@ -9,16 +9,16 @@ ghost use Rattle.fv_tree.specs.Spelled.{Under, pointer_at, stamp_in, block_at};
 ghost use Rattle.fv_tree.specs.Sources.{Counts, Use, IsUntouched};
 ghost use Rattle.fv_tree.specs.Standing.{standing, under, cell_in, Fails, IsSameButCells};
 ghost use Rattle.fv_tree.specs.Writing.{IsAlike, IsWritten, Remains, Writes};
-ghost use Rattle.fv_tree.specs.Flushing.{cell_placed, loaded, loaded_over, IsSound, Stands};
+ghost use Rattle.fv_tree.specs.Flushing.{cell_changed, cell_placed, loaded, loaded_over, IsSound, Stands};
 ghost use Rattle.fv_tree.specs.Stored.{IsStoredWell};
 ghost use Rattle.fv_tree.specs.Leading.{Carries, LeadsNoMore};
-ghost use Rattle.fv_tree.specs.Readying.{IsReady, KeepsReady};
-ghost use Rattle.fv_tree.specs.Costs.{pending};
+ghost use Rattle.fv_tree.specs.Readying.{HoldsCell, IsReady, KeepsReady};
+ghost use Rattle.fv_disk.specs.declared.fault.BlockFault.TheVariants.{Memory};
+ghost use Rattle.fv_tree.specs.Costs.{cells_changed, pending};
 
 use crate::blocks::{Blocks, TreeFault};
 use crate::keep::keep_path;
 use crate::kept::{KeptCell, Tree};
-use crate::refill::refill_cell;
 use crate::sizes::width;
 use crate::way::read_cell;
 use crate::write::stamp_path;
@@ -28,7 +28,8 @@ use std::collections::BTreeMap;
 impl Tree {
     /// Holds the cell at `index` and the nodes over it in memory, so that `rewrite` or `erase` can follow, which can't
     /// fail; false exactly for a hole. The tree is seen as before, after a fault, too. It loads at most the nodes
-    /// over the cell that aren't in memory, and its content. A later `flush` places what is held, as if it had changed.
+    /// over the cell that aren't in memory, and its content. What is held hasn't changed by that: a later `flush` places
+    /// none of it, unless it is written.
     ///
     /// # Errors
     ///
@@ -45,7 +46,7 @@ impl Tree {
         ensures leads { B.told → LeadsNoMore (loaded (B.shown blocks.old) self.old) (loaded (B.shown blocks.new) self.new) }
         ensures keeps { B.told → LeadsNoMore (loaded (B.shown blocks.new) self.new) (loaded (B.shown blocks.old) self.old) }
         ensures stored_well { B.told → IsStoredWell (loaded (B.shown blocks.old) self.old) → IsStoredWell (loaded (B.shown blocks.new) self.new) }
-        ensures pending { pending self.new ≤ pending self.old + 4 }
+        ensures pending { pending self.new ≤ pending self.old }
         ensures untouched { IsUntouched (B.shown blocks.old) (B.shown blocks.new) }
         ensures reads { B.reads blocks.old blocks.new }
         ensures counts { Counts (B.shown blocks.old) (B.shown blocks.new) result }
@@ -78,7 +79,7 @@ impl Tree {
         ensures stored_well { (held : Under) → IsStoredWell (loaded_over held self.old) → IsStoredWell (loaded_over held self.new) }
         ensures ready { (i : ℕ) → IsReady self.old i → IsReady self.new i }
         ensures memory { cell_in self.new index ≡ Some block.now }
-        ensures pending { pending self.new ≤ pending self.old }
+        ensures pending { pending self.new ≤ pending self.old + 4 }
     {
         put_content(self, index, block);
         stamp_path(self, index, stamp);
@@ -94,7 +95,7 @@ fn ready_cell<B: Blocks>(tree: &mut Tree, blocks: &mut B, index: u32) -> Result<
     ensures owner { tree.new.owner ≡ tree.old.owner }
     ensures levels { tree.new.levels ≡ tree.old.levels }
     ensures carries { B.told → Carries (B.shown blocks.old) (B.shown blocks.new) tree.old tree.new }
-    ensures pending { pending tree.new ≤ pending tree.old + 4 }
+    ensures pending { pending tree.new ≤ pending tree.old }
     ensures untouched { IsUntouched (B.shown blocks.old) (B.shown blocks.new) }
     ensures reads { B.reads blocks.old blocks.new }
     ensures counts { Counts (B.shown blocks.old) (B.shown blocks.new) result }
@@ -109,7 +110,30 @@ fn ready_cell<B: Blocks>(tree: &mut Tree, blocks: &mut B, index: u32) -> Result<
     }
     let mut content = [0; 4096];
     read_cell(tree, blocks, index, &pointer, &mut content)?;
-    refill_cell(tree, blocks, index, &content)
+    hold_cell(tree, index, &content)?;
+    Ok(true)
+}
+
+/// Puts a cell's content into memory as its block has it, where it isn't there.
+fn hold_cell(tree: &mut Tree, index: u32, block: &[u8; 4096]) -> Result<(), TreeFault>
+    ensures holds { OnOk result (HoldsCell tree.old tree.new index block.now) }
+    ensures fields { IsSameButCells tree.old tree.new }
+    ensures same { OnErr result ((i : ℕ) → maps.get nat_cmp tree.new.cells i ≡ maps.get nat_cmp tree.old.cells i) }
+    ensures changes { cells_changed tree.new.cells ≤ cells_changed tree.old.cells }
+    ensures memory { IfErr result (λ e. e ≡ Memory) }
+{
+    if tree.cells.contains_key(&index) {
+        return Ok(());
+    }
+    let cell = KeptCell {
+        block: *block,
+        changed: false,
+        placed: true,
+    };
+    match tree.cells.insert(index, cell) {
+        Ok(_) => Ok(()),
+        Err(_) => Err(TreeFault::Memory),
+    }
 }
 
 /// Copies the content of a cell that is in memory.
@@ -126,7 +150,8 @@ fn copy_cell(tree: &Tree, index: u32, into: &mut [u8; 4096])
 fn put_content(tree: &mut Tree, index: u32, block: &[u8; 4096])
     requires there { is_some (cell_in tree.old index) ≡ true }
     ensures fields { IsSameButCells tree.old tree.new }
-    ensures len { maps.btree_map_len tree.new.cells ≡ maps.btree_map_len tree.old.cells }
+    ensures count { cells_changed tree.new.cells ≤ cells_changed tree.old.cells + 1 }
+    ensures changed { cell_changed (maps.get nat_cmp tree.new.cells index) ≡ true }
     ensures cell { (i : ℕ) → cell_in tree.new i ≡ cond (nat_eq i index) (Some block.now) (cell_in tree.old i) }
     ensures own { cell_placed (maps.get nat_cmp tree.new.cells index) ≡ cell_placed (maps.get nat_cmp tree.old.cells index) }
     ensures others { (i : ℕ) → i ≢ index → maps.get nat_cmp tree.new.cells i ≡ maps.get nat_cmp tree.old.cells i }
@@ -137,12 +162,14 @@ fn put_content(tree: &mut Tree, index: u32, block: &[u8; 4096])
 /// Puts another content over that of a cell in memory.
 fn set_content(cells: &mut BTreeMap<u32, KeptCell>, index: u32, block: &[u8; 4096])
     requires there { is_some (maps.get nat_cmp cells.old index) ≡ true }
-    ensures len { maps.btree_map_len cells.new ≡ maps.btree_map_len cells.old }
+    ensures count { cells_changed cells.new ≤ cells_changed cells.old + 1 }
+    ensures changed { cell_changed (maps.get nat_cmp cells.new index) ≡ true }
     ensures content { (i : ℕ) → option_map (λ (kept : KeptCell). kept.block) (maps.get nat_cmp cells.new i) ≡ cond (nat_eq i index) (Some block.now) (option_map (λ (kept : KeptCell). kept.block) (maps.get nat_cmp cells.old i)) }
     ensures own { cell_placed (maps.get nat_cmp cells.new index) ≡ cell_placed (maps.get nat_cmp cells.old index) }
     ensures others { (i : ℕ) → i ≢ index → maps.get nat_cmp cells.new i ≡ maps.get nat_cmp cells.old i }
 {
     if let Some(cell) = cells.get_mut(&index) {
         cell.block = *block;
+        cell.changed = true;
     }
 }

@@ -19,8 +19,7 @@ use fv_codec::Pointer;
 impl Tree {
     /// How many of the blocks over the cell at `index`, its own and those of the nodes over it, are shared: at most 4. They
     /// stay charged when a write of the cell replaces them. A cell or node in memory that differs from its block isn't
-    /// counted, and one that `ready` holds differs, whether or not it was written. It keeps nothing in memory and loads at
-    /// most the nodes over the cell that aren't in memory, and no content.
+    /// counted. It keeps nothing in memory and loads at most the nodes over the cell that aren't in memory, and no content.
     ///
     /// # Errors
     ///
@@ -125,7 +124,10 @@ fn is_changed(tree: &Tree, level: u8, place: u32) -> bool
     ensures { result ≡ changed_of tree.now level place }
 {
     if level == 0 {
-        return tree.cells.contains_key(&place);
+        return match tree.cells.get(&place) {
+            Some(cell) => cell.changed,
+            None => false,
+        };
     }
     match tree.nodes.get(&(level, place)) {
         Some(node) => node.changed,

@@ -8,12 +8,12 @@ ghost use Rattle.fv_model.specs.Trees.{fan, spot_cmp};
 ghost use Rattle.fv_tree.specs.Standing.{standing, under, children_in, cell_in, IsSameButCells, Fails};
 ghost use Rattle.fv_tree.specs.Spelled.{Under};
 ghost use Rattle.fv_tree.specs.Sources.{Counts, Use, IsUntouched};
-ghost use Rattle.fv_tree.specs.Flushing.{cell_placed, changed_in, loaded_over, placed_in, IsSound};
+ghost use Rattle.fv_tree.specs.Flushing.{cell_changed, cell_placed, changed_in, loaded_over, placed_in, IsSound};
 ghost use Rattle.fv_tree.specs.Leading.{Carries, KeepsHints, LeadsNoMore};
 ghost use Rattle.fv_tree.specs.Readying.{KeepsReady};
 ghost use Rattle.fv_tree.specs.Carried.{Marks};
 ghost use Rattle.fv_tree.specs.Writing.{stamped, stamped_in, new_child, Stamps, IsAlike, IsWritten};
-ghost use Rattle.fv_tree.specs.Costs.{changes_in, pending};
+ghost use Rattle.fv_tree.specs.Costs.{cells_changed, changes_in, pending};
 ghost use Rattle.fv_disk.specs.declared.fault.BlockFault.TheVariants.{Memory};
 
 use crate::blocks::{Blocks, TreeFault};
@@ -24,7 +24,7 @@ use crate::sizes::{FAN, width};
 use fv_codec::Pointer;
 use std::collections::BTreeMap;
 
-/// Puts a cell's content into memory.
+/// Puts a cell's content into memory, as one that changed.
 pub fn keep_cell(
     tree: &mut Tree,
     index: u32,
@@ -37,12 +37,14 @@ pub fn keep_cell(
     ensures own { OnOk result (cell_placed (maps.get nat_cmp tree.new.cells index) ≡ (placed && cell_placed (maps.get nat_cmp tree.old.cells index))) }
     ensures others { (i : ℕ) → i ≢ index → maps.get nat_cmp tree.new.cells i ≡ maps.get nat_cmp tree.old.cells i }
     ensures same { OnErr result ((i : ℕ) → maps.get nat_cmp tree.new.cells i ≡ maps.get nat_cmp tree.old.cells i) }
-    ensures count { maps.btree_map_len tree.new.cells ≤ maps.btree_map_len tree.old.cells + 1 }
-    ensures still { OnErr result (maps.btree_map_len tree.new.cells ≤ maps.btree_map_len tree.old.cells) }
+    ensures changed { OnOk result (cell_changed (maps.get nat_cmp tree.new.cells index) ≡ true) }
+    ensures count { cells_changed tree.new.cells ≤ cells_changed tree.old.cells + 1 }
+    ensures still { OnErr result (cells_changed tree.new.cells ≤ cells_changed tree.old.cells) }
     ensures memory { IfErr result (λ e. e ≡ Memory) }
 {
     let cell = KeptCell {
         block: *block,
+        changed: true,
         placed: placed && is_placed(tree, index),
     };
     match tree.cells.insert(index, cell) {

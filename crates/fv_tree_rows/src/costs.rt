@@ -259,6 +259,29 @@ fn blocks_that_stay_charged(rt: HostRuntime) -> Result<(), Fail> {
     Ok(())
 }
 
+/// How many blocks are pending in that tree after all its blocks were shared, once a cell is ready or was written then; how
+/// many of those over the cell stay charged; and how many blocks a flush places.
+fn readied(alloc: Global, index: u32, writes: bool) -> Result<(u64, u32, u64), TreeFault> {
+    let (mut tree, mut blocks) = small(alloc)?;
+    blocks.share();
+    if tree.ready(&mut blocks, index)? && writes {
+        tree.rewrite(index, &block(9), 9);
+    }
+    let pending = tree.pending();
+    let staying = tree.staying(&mut blocks, index)?;
+    let start = blocks.calls();
+    tree.flush(&mut blocks)?;
+    Ok((pending, staying, blocks.calls().saturating_sub(start)))
+}
+
+#[test]
+fn what_is_ready_has_not_changed(rt: HostRuntime) -> Result<(), Fail> {
+    assert_eq!(rt; readied(rt.alloc(), 1, false), Ok((0, 3, 0)));
+    assert_eq!(rt; readied(rt.alloc(), 1, true), Ok((3, 0, 3)));
+    assert_eq!(rt; readied(rt.alloc(), 2, true), Ok((0, 2, 0)));
+    Ok(())
+}
+
 /// How many of all blocks are shared in that tree, before and after such a write, and how many blocks each look loads.
 fn staying_all(alloc: Global, other: u32) -> Result<[(u32, u64); 2], TreeFault> {
     let (mut tree, mut blocks) = small(alloc)?;

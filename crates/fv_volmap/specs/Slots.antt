@@ -1,5 +1,5 @@
 -- The slots of a volume, each free or with a set of numbers below the span, and what the calls make of them.
-use Rattle.std.specs.Prelude.{◌≡◌, ℕ, ◌<◌, Bool, false, true, not, ◌&&◌, count_by, List, ◌∷◌, length, replicate, slice_set, slice_index_or, Option, Some, None, All, IfSome}
+use Rattle.std.specs.Prelude.{◌≡◌, ℕ, ◌<◌, Bool, false, true, not, ◌&&◌, count_by, List, ◌∷◌, length, replicate, take, drop, slice_set, slice_index_or, Option, Some, None, All, IfSome}
 use Rattle.std.specs.List.{list_any, range_with_len}
 use Rattle.fv_bits.specs.Members.{is_member, TakesBlock}
 
@@ -42,6 +42,14 @@ has v (Some map) = is_member map v
 -- whether some slot has a number
 abbrev pub taken_in : List Slot → ℕ → Bool
 taken_in slots v = list_any (has v) slots
+
+-- how many slots are snapshots'
+abbrev pub snapshot_count : ℕ
+snapshot_count = 24
+
+-- whether the slot of some snapshot has a number
+abbrev pub is_shared : Volume → ℕ → Bool
+is_shared volume v = taken_in (take snapshot_count (drop 1 volume.slots)) v
 
 -- whether a slot has a number that no other slot has
 abbrev pub has_alone : List Slot → ℕ → ℕ → Bool

@@ -1,5 +1,5 @@
 -- What is asked of a volume is answered as the machine answers it.
-use Rattle.std.proofs.Common.{◌≡◌, ℕ, ◌<◌, ◌≤◌, true, false, List, Option, Some, None, replicate, refl, sym, ap, subst, ◌∙◌, arith, is_some, option_copied, Bor}
+use Rattle.std.proofs.Common.{◌≡◌, ℕ, ◌<◌, ◌≤◌, true, false, List, Option, Some, None, replicate, refl, sym, ap, ◌∙◌, arith}
 use Rattle.std.specs.Prelude.{Ok, Err, unwrap_or}
 use Rattle.std.specs.Option.{option_map}
 use Rattle.std.specs.FinMap as fin
@@ -30,12 +30,11 @@ use Rattle.fv_volume.specs.declared.fault.VolumeFault.TheVariants.{Refused}
 use Rattle.fv_volume.specs.declared.pool.Pool.{Pool}
 use Rattle.fv_volume.specs.declared.state.VolumeState.{VolumeState}
 use Rattle.fv_volume.specs.Asking.{standing_asked}
-use Rattle.fv_volume.specs.Calls.{Agrees, Asks, Has, Reads}
+use Rattle.fv_volume.specs.Calls.{Agrees, Asks, Has}
 use Rattle.fv_volume.specs.Promising.{told_by}
 use Rattle.fv_volume.specs.OneVolume.{standing_for, volume_as, volume_for, Content as Holding, IsStanding}
 use Rattle.fv_volume.proofs.Answered.{get_accepted, get_answer, get_far, get_lost, get_none, get_past, len_accepted, len_answer, len_lost, len_none, ls_accepted, ls_answer, ls_lost}
 use Rattle.fv_volume.proofs.Lookups.{named_first, named_none, names_are}
-use Rattle.fv_volume.proofs.OneVolumes.{still_table, stood_before}
 use Rattle.fv_volume.proofs.SnapReads.{asked_table, asked_well}
 
 -- a block, or zeros where there is none
@@ -159,20 +158,3 @@ stat_is x content is = λ i. record { size = x.size; used = is.charged i; need =
 -- what is known of a file by its name is what its record says
 pub first_info : (t : Rooted) (name : List ℕ) (info : Info) → IsFirst t name info → IsInfoOf t info
 first_info t name info first = record { file = first.file; there = first.there; told = first.told }
-
-module _ (d e : Disk) (p q : Pool) (reads : Reads d p e q) (x : VolumeState) where
-  pub info_later : (name : List ℕ) (info : Info) → (IsStanding d p x → IsFirst (standing_for d p x).inode name info) → IsStanding e q x → IsInfoOf (standing_for e q x).inode info
-  info_later name info first is = subst (λ (s : Standing). IsInfoOf s.inode info) (sym (still_table d e p q reads x)) (first_info (standing_for d p x).inode name info (first (stood_before d e p q reads x is)))
-
-  pub gives_before : (n i : ℕ) (into : List ℕ) → GivesCell (standing_for e q x) n i into → GivesCell (standing_for d p x) n i into
-  gives_before n i into gives = subst (λ (s : Standing). GivesCell s n i into) (still_table d e p q reads x) gives
-
--- ---- with the snapshot that a call names
-
-pub copied_some : {T : Type 0} (o : Option (Bor T)) → is_some o ≡ true → is_some (option_copied o) ≡ true
-copied_some None is = absurd cc
-copied_some (Some x) is = refl
-
-pub copied_none : {T : Type 0} (o : Option (Bor T)) → is_some o ≡ false → option_copied o ≡ None
-copied_none None is = refl
-copied_none (Some x) is = absurd cc

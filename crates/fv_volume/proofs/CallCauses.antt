@@ -178,14 +178,14 @@ module _ (d e : Disk) (p q : Pool) (reads : Reads d p e q) (x : VolumeState) (ca
   table_fails y faults f (inr (inl bad)) = inr (inl (inodes_bad y.inode faults f bad))
   table_fails y faults f (inr (inr fails)) = inr (inr (file_fails y faults f fails))
 
-  -- a call after reads that were done fails as one of before
-  pub fails_from : {T : Type 0} (faults : ℕ) (r : Result T BlockFault) → BlockCause (IsStanding e q x) (standing_for e q x) later faults r → BlockCause (IsStanding d p x) (standing_for d p x) before faults r
-  fails_from faults (Ok y) cause = cause ∙ calm
-  fails_from faults (Err f) cause = subst (λ (s : Standing). TableFails (IsStanding d p x) s before faults f) (still_table d e p q reads x) (table_fails (standing_for e q x) faults f cause)
+  -- a call after reads that were done fails as one of before, on a table that is the same
+  pub fails_on : {T : Type 0} (y z : Standing) → y ≡ z → (faults : ℕ) (r : Result T BlockFault) → BlockCause (IsStanding e q x) y later faults r → BlockCause (IsStanding d p x) z before faults r
+  fails_on y z same faults (Ok w) cause = cause ∙ calm
+  fails_on y z same faults (Err f) cause = subst (λ (s : Standing). TableFails (IsStanding d p x) s before faults f) same (table_fails y faults f cause)
 
 pub fails_later : (d e : Disk) (p q : Pool) (reads : Reads d p e q) (x : VolumeState) → e.faults ≡ d.faults → (steps : ℕ) {T : Type 0} (faults : ℕ) (r : Result T BlockFault)
     → BlockCause (IsStanding e q x) (standing_for e q x) (lent_for q x.map e steps (home_in x) 0) faults r → BlockCause (IsStanding d p x) (standing_for d p x) (lent_for p x.map d 0 (home_in x) 0) faults r
-fails_later d e p q reads x calm steps faults r cause = fails_from d e p q reads x calm 0 steps faults r cause
+fails_later d e p q reads x calm steps faults r cause = fails_on d e p q reads x calm 0 steps (standing_for e q x) (standing_for d p x) (still_table d e p q reads x) faults r cause
 
 -- ---- what reads of all that was lent leave of pool and disk
 

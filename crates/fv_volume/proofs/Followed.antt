@@ -51,12 +51,9 @@ hint_cost (Some e) p right = by (p == 0) refl
         let test : (e.pvbn == p) ≡ true = grind (arith, nat_tests, told) in
         ap {B = ℕ} (λ (b : Bool). cond (is_some (cond b (Some e) None)) 0 1) test
 
-right_cost : (map : Volume) (slots : Slots) (slot kind : ℕ) (p : Pointer) → IsRight kind p (use_under map slots slot p.vvbn) → steps_by (held_entry map slots slot p.vvbn) p.pvbn ≡ if_unknown p
-right_cost map slots slot kind p right = by (is_member (active_of map) p.vvbn) right
-  where
-    by : (b : Bool) → IsRight kind p (cond b (Some (use_of (held_entry map slots slot p.vvbn))) None) → steps_by (held_entry map slots slot p.vvbn) p.pvbn ≡ if_unknown p
-    by true is = hint_cost (held_entry map slots slot p.vvbn) p.pvbn is.0
-    by false is = absurd is
+right_cost : (map : Volume) (slots : Slots) (slot kind : ℕ) (p : Pointer) (b : Bool) → IsRight kind p (cond b (Some (use_of (held_entry map slots slot p.vvbn))) None) → steps_by (held_entry map slots slot p.vvbn) p.pvbn ≡ if_unknown p
+right_cost map slots slot kind p true right = hint_cost (held_entry map slots slot p.vvbn) p.pvbn right.0
+right_cost map slots slot kind p false right = absurd right
 
 -- ---- one tree
 
@@ -78,8 +75,8 @@ module _ (cost other : Pointer → ℕ) (t : Rooted) (agree : (level place : ℕ
   pub same_way : (i : ℕ) → way_cost cost t i ≡ way_cost other t i
   same_way i = same_below i (suc t.levels)
 
--- a tree that stands on a volume's blocks
-module _ (map : Volume) (slots : Slots) (slot : ℕ) (s : Loaded) (sound : IsSound (use_under map slots slot) s) (laid : IsLaid s) where
+-- a tree that stands on a volume's blocks, of which some VVBNs are in use, each as its entry says
+module _ (map : Volume) (slots : Slots) (slot : ℕ) (in_use : ℕ → Bool) (s : Loaded) (sound : IsSound (λ v. cond (in_use v) (Some (use_of (held_entry map slots slot v))) None) s) (laid : IsLaid s) where
   not_some : {X : Type 0} (o : Option X) → is_some o ≡ false → o ≡ None
   not_some None is = refl
   not_some (Some x) is = absurd cc
@@ -93,7 +90,7 @@ module _ (map : Volume) (slots : Slots) (slot : ℕ) (s : Loaded) (sound : IsSou
 
   pub steps_way : (i : ℕ) → way_cost (λ p. steps_by (held_entry map slots slot p.vvbn) p.pvbn) s.tree i ≡ unknown_to s.tree i
   steps_way i = same_way (λ p. steps_by (held_entry map slots slot p.vvbn) p.pvbn) if_unknown s.tree
-      (λ level place kept some. right_cost map slots slot (kind_for s.tree.owner level) (pointer_at s.tree level place)
+      (λ level place kept some. right_cost map slots slot (kind_for s.tree.owner level) (pointer_at s.tree level place) (in_use (pointer_at s.tree level place).vvbn)
       (sound.used level place (pointer_at s.tree level place).vvbn (record { some = some; placed = placed level place kept; vvbn = refl })))
       i
 
@@ -106,6 +103,9 @@ module _ (d : Disk) (p : Pool) (x : VolumeState) where
   abbrev taken : ℕ → Option Use
   taken = use_under x.map p.containers x.slot
 
+  abbrev active : ℕ → Bool
+  active v = is_member (active_of x.map) v
+
   abbrev cost : Pointer → ℕ
   cost q = steps_by (held_entry x.map p.containers x.slot q.vvbn) q.pvbn
 
@@ -114,13 +114,13 @@ module _ (d : Disk) (p : Pool) (x : VolumeState) where
 
   -- a tree of which nothing is in memory
   unread_way : (t : Rooted) → IsSound taken (unread t) → (i : ℕ) → way_cost cost t i ≡ unknown_to t i
-  unread_way t sound i = steps_way x.map p.containers x.slot (unread t) sound (unread_laid t) i
+  unread_way t sound i = steps_way x.map p.containers x.slot active (unread t) sound (unread_laid t) i
 
   kept_way : (t : Tree) → IsSound taken (loaded_over blocks t) → (i : ℕ) → way_cost cost (standing blocks t) i ≡ unknown_to (standing blocks t) i
-  kept_way t sound i = steps_way x.map p.containers x.slot (loaded_over blocks t) sound (tree_laid blocks t) i
+  kept_way t sound i = steps_way x.map p.containers x.slot active (loaded_over blocks t) sound (tree_laid blocks t) i
 
   inode_by : (o : Option Files) → AreSoundBy blocks taken x.active o → (i : ℕ) → way_cost cost (standing_by blocks x.active o).inode i ≡ unknown_to (standing_by blocks x.active o).inode i
-  inode_by None sound i = let t = stored blocks greatest_word x.active.levels x.active.root in unread_way t (unread_sound taken t (λ level place. refl) sound.inode) i
+  inode_by None sound i = let t = stored blocks greatest_word x.active.levels x.active.root in unread_way t (unread_sound taken t (λ level place. refl) (λ index. refl) sound.inode) i
   inode_by (Some f) sound i = kept_way f.inode.tree (sound.trees None) i
 
   -- the tree of a file, in memory or not
@@ -139,7 +139,7 @@ module _ (d : Disk) (p : Pool) (x : VolumeState) where
       → way_cost cost (tree_known (standing_by blocks x.active o) info) i ≡ unknown_to (tree_known (standing_by blocks x.active o) info) i
   file_by None sound info known i =
       let t = stored blocks info.number known.file.levels known.file.root in
-      file_tree info known.file known.told i None (unread_sound taken t (λ level place. refl) (sound.files info.number known.file known.there))
+      file_tree info known.file known.told i None (unread_sound taken t (λ level place. refl) (λ index. refl) (sound.files info.number known.file known.there))
   file_by (Some f) sound info known i =
       file_tree info known.file known.told i (tree_in f info.number)
       (subst (λ (o : Option InodeRecord). StandsIn taken (option_map (λ r. file_loaded blocks info.number r (tree_in f info.number)) o)) known.there (sound.trees (Some info.number)))

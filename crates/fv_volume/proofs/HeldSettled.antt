@@ -1,13 +1,13 @@
 -- A volume of a session after a point: what it is once the root on the disk names it.
 use Rattle.std.proofs.Common.{◌≡◌, ℕ, ◌<◌, ◌≤◌, false, Option, Some, None, length, refl, sym, ap, subst, ◌∙◌, arith}
-use Rattle.std.specs.Prelude.{IfSome}
+use Rattle.std.specs.Prelude.{IfSome, replicate}
 use Rattle.std.specs.Option.{option_map}
 use Rattle.fv_disk.specs.Shown.{Shown}
 use Rattle.fv_image.specs.Views.{View}
 use Rattle.fv_root.specs.Formatted.{IsSize}
 use Rattle.fv_store.specs.Held.{StandsOn}
 use Rattle.fv_container.specs.Chains.{container_at}
-use Rattle.fv_volmap.specs.Slots.{active_of}
+use Rattle.fv_volmap.specs.Slots.{active_of, stored_count}
 use Rattle.fv_files.specs.declared.numbers.FileNumbers.{FileNumbers}
 use Rattle.fv_files.specs.Numbering.{AreNumbersIf}
 use Rattle.fv_volume.specs.declared.pool.Pool.{Pool}
@@ -60,8 +60,8 @@ ready_of disk pool s (Some x) is = is.ready
 
 module _ (old new : Shown) (pool left : Pool) (s : ℕ) (stands : StandsOn new left.store.pairs) (size : left.found.blocks ≡ pool.found.blocks) where
   -- calls can be made on a volume that has its container
-  ready_with : (y : VolumeState) → y.slot ≡ s → y.slot < 64 → y.map.span ≤ 1048576 → IsBooked y → IsSize pool.found.blocks → y.files ≡ None → IsLabelled s y → Houses (Some y) (container_at left.containers s) → IsReadyIn new left s y
-  ready_with y slot within few booked blocks no_files labelled houses = record {
+  ready_with : (y : VolumeState) → y.slot ≡ s → y.slot < 64 → y.map.span ≤ 1048576 → IsBooked y → IsSize pool.found.blocks → y.files ≡ None → (y.changed ≡ false → y.fresh ≡ replicate stored_count false) → IsLabelled s y → Houses (Some y) (container_at left.containers s) → IsReadyIn new left s y
+  ready_with y slot within few booked blocks no_files no_maps labelled houses = record {
     slot = slot;
     ready = record {
       lent = record {
@@ -74,6 +74,7 @@ module _ (old new : Shown) (pool left : Pool) (s : ℕ) (stands : StandsOn new l
       booked = booked;
       blocks = subst IsSize (sym size) blocks;
       changed = λ isnt. no_files;
+      fresh = no_maps;
     };
   }
 
@@ -83,6 +84,6 @@ module _ (old new : Shown) (pool left : Pool) (s : ℕ) (stands : StandsOn new l
   settled_ready label (Some x) is no_files labelled houses =
       let b = is.ready.booked in
       settled_has (λ (y : VolumeState). IsLabelled s y → Houses (Some y) (container_at left.containers s) → IsReadyIn new left s y) x label
-      (λ changed. ready_with (as_written x label) is.slot is.ready.lent.within is.ready.lent.few (record { size = b.size; kind = b.kind; span = b.span; need = b.need; charge = b.charge }) is.ready.blocks no_files)
-      (λ same. ready_with x is.slot is.ready.lent.within is.ready.lent.few b is.ready.blocks no_files)
+      (λ changed. ready_with (as_written x label) is.slot is.ready.lent.within is.ready.lent.few (record { size = b.size; kind = b.kind; span = b.span; need = b.need; charge = b.charge }) is.ready.blocks no_files (λ isnt. refl))
+      (λ same. ready_with x is.slot is.ready.lent.within is.ready.lent.few b is.ready.blocks no_files is.ready.fresh)
       labelled houses

@@ -1,5 +1,7 @@
 -- A read of a volume that stands, and whose blocks are as its pointers say, makes no step: each of its pointers is known.
 use Rattle.std.proofs.Common.{◌≡◌, ◌≢◌, ℕ, zero, suc, ◌+◌, ◌/◌, ◌^◌, ◌<◌, Bool, true, false, cond, ◌||◌, ◌==◌, List, Option, Some, None, is_some, refl, sym, ap, ap₂, subst, ◌∙◌, arith}
+use Rattle.std.specs.Prelude.{unwrap_or}
+use Rattle.std.specs.Option.{option_map}
 use Rattle.std.specs.FinMap as fin
 use Rattle.std.specs.Cmp.{nat_cmp_total}
 use Rattle.std.proofs.lemmas.Bool.Decides.{nat_tests}
@@ -14,7 +16,7 @@ use Rattle.fv_model.specs.declared.answers.Refusal.TheVariants.{NoFile, NoSnapsh
 use Rattle.fv_model.specs.declared.commands.Command.TheVariants.{Get}
 use Rattle.fv_model.specs.Machines.{Machine}
 use Rattle.fv_model.specs.Numbers.{is_index}
-use Rattle.fv_model.specs.Refusals.{refusal}
+use Rattle.fv_model.specs.Refusals.{refusal, table_asked}
 use Rattle.fv_model.specs.Spelling.{is_same_name}
 use Rattle.fv_model.specs.Tables.{File, file_named}
 use Rattle.fv_model.specs.Trees.{fan}
@@ -23,24 +25,24 @@ use Rattle.fv_tables.specs.Told.{Standing, file_at, file_told, records_each, tab
 use Rattle.fv_tables.proofs.Tables.{files_told}
 use Rattle.fv_tree.specs.Costs.{cost_below, is_kept}
 use Rattle.fv_tree.specs.Sources.{Use}
-use Rattle.fv_tree.specs.Standing.{IsUnread}
+use Rattle.fv_tree.specs.Standing.{under, IsUnread}
 use Rattle.fv_inode.specs.declared.info.Info.{Info}
 use Rattle.fv_inode.specs.Files.{has_name, info_of, name_of, IsFirst}
 use Rattle.fv_files.specs.Tables.{tree_known}
-use Rattle.fv_files.proofs.Tables.{file_tree}
 use Rattle.fv_volume.specs.declared.pool.Pool.{Pool}
 use Rattle.fv_volume.specs.declared.state.VolumeState.{VolumeState}
 use Rattle.fv_volume.specs.Calls.{Has}
-use Rattle.fv_volume.specs.OneVolume.{standing_for, volume_for, IsReady, IsStanding}
+use Rattle.fv_volume.specs.Asking.{standing_asked, standing_read}
+use Rattle.fv_volume.specs.OneVolume.{shows, standing_for, volume_for, IsStanding}
 use Rattle.fv_volume.specs.Paths.{if_unknown, unknown_over, unknown_to, StepsTo}
 use Rattle.fv_volume.specs.Placing.{IsStoredWell}
 use Rattle.fv_volume.proofs.Answered.{get_far, get_lost, get_none}
 use Rattle.fv_volume.proofs.Asked.{first_info, lost}
 use Rattle.fv_volume.proofs.Followed.{same_way}
 use Rattle.fv_volume.proofs.Lookups.{found_passes, name_told, record_of, told_by}
-use Rattle.fv_volume.proofs.KeptTables.{ready_snaps}
-use Rattle.fv_volume.proofs.SnapReads.{asked_lone}
-use Rattle.fv_volume.proofs.Undamaged.{file_holds, inode_holds, led_by, HoldsWell}
+use Rattle.fv_volume.proofs.KeptReads.{known_holds, read_holds}
+use Rattle.fv_volume.proofs.SnapReads.{asked_table, asked_well}
+use Rattle.fv_volume.proofs.Undamaged.{led_by, HoldsWell, TableHolds}
 
 -- ---- one tree
 
@@ -113,31 +115,39 @@ module _ (x : Standing) (name : List ℕ) (now : ℕ) (well : IsWellTable now (t
     first = λ k less. one k less (file_at x.inode k) refl (has_name (file_at x.inode k) name) refl;
   }
 
+-- ---- a table that stands whole
+
+module _ (blocks : Under) (uses : ℕ → Option Use) (t : Standing) (holds : TableHolds blocks uses t) where
+  -- no pointer on the path to a file's cell is unknown
+  pub none_unknown : (name : List ℕ) (info : Info) → IsFirst t.inode name info → (i : ℕ) → unknown_over t info i ≡ 0
+  none_unknown name info first i =
+      let its = known_holds blocks uses t holds info (first_info t.inode name info first) in
+      ap₂ ◌+◌ (no_unknown blocks uses t.inode holds.inode (info.number / records_each)) (no_unknown blocks uses (tree_known t info) its i)
+
+  pub known_steps : (name : List ℕ) (info : Info) → IsFirst t.inode name info → (i before now : ℕ) → StepsTo t name i before now → now ≡ before
+  known_steps name info first i before now steps = let none = none_unknown name info first i in let rose = steps info first in omega (arith, none, rose)
+
 -- ---- a volume
 
 module _ (d : Disk) (p : Pool) (x : VolumeState) (is : IsStanding d p x) (well : IsStoredWell d p x) where
-  abbrev table : Standing
-  table = standing_for d p x
-
-  -- no pointer on the path to a file's cell is unknown
-  pub none_unknown : (name : List ℕ) (info : Info) → IsFirst table.inode name info → (i : ℕ) → unknown_over table info i ≡ 0
-  none_unknown name info first i =
-      let of = file_tree table info (first_info table.inode name info first) in
-      let its = subst (HoldsWell _ _) (sym of.tree) (file_holds d p x is well of.number of.file of.there) in
-      ap₂ ◌+◌ (no_unknown _ _ table.inode (inode_holds d p x is well) (info.number / records_each)) (no_unknown _ _ (tree_known table info) its i)
-
-  pub known_steps : (name : List ℕ) (info : Info) → IsFirst table.inode name info → (i before now : ℕ) → StepsTo table name i before now → now ≡ before
-  known_steps name info first i before now steps = let none = none_unknown name info first i in let rose = steps info first in omega (arith, none, rose)
-
   -- a block that was given was given without a step
-  pub known_get : IsReady d p x → (m : Machine) → Has x.name (volume_for d p x) m → (s : Option (List ℕ)) (f : List ℕ) (i before now : ℕ) → refusal m (Get x.name s f i) ≡ None → StepsTo table f i before now → now ≡ before
-  known_get ready m has s f i before now accepted steps = by (is_index i) refl s accepted (file_named (table_told table) f) refl
+  pub known_get : (m : Machine) → Has x.name (volume_for d p x) m → (s : Option (List ℕ)) (f : List ℕ) (i before now : ℕ) → refusal m (Get x.name s f i) ≡ None → StepsTo (standing_read d p x s) f i before now → now ≡ before
+  known_get m has s f i before now accepted steps = by (is_index i) refl (standing_asked d p x s) refl
     where
       not_some : (r : Refusal) (o : Option Refusal) → o ≡ Some r → o ≡ None → ⊥
       not_some r o one none = let both : Some r ≡ None = sym one ∙ none in cc
 
-      by : (b : Bool) → is_index i ≡ b → (s : Option (List ℕ)) → refusal m (Get x.name s f i) ≡ None → (o : Option (ℕ × File)) → file_named (table_told table) f ≡ o → now ≡ before
-      by false far s accepted o found = absurd (not_some Range _ (get_far m x.name (volume_for d p x) has s f i far) accepted)
-      by true near (Some s) accepted o found = absurd (not_some NoSnapshot _ (get_lost m x.name (volume_for d p x) has (Some s) (lost d p x (Some s) is (asked_lone d p x (ready_snaps d p x ready) (Some s) refl)) f i near) accepted)
-      by true near None accepted None found = absurd (not_some NoFile _ (get_none m x.name (volume_for d p x) has None (table_told table) refl f i near found) accepted)
-      by true near None accepted (Some e) found = known_steps f _ (first_there table f x.now is.table e found) i before now steps
+      at : (t : Standing) → standing_asked d p x s ≡ Some t → is_index i ≡ true → (o : Option (ℕ × File)) → file_named (table_told t) f ≡ o → now ≡ before
+      at t asked near None found =
+          let told : table_asked (volume_for d p x) s ≡ Some (table_told t) = asked_table d p x is s ∙ ap (option_map table_told) asked in
+          absurd (not_some NoFile _ (get_none m x.name (volume_for d p x) has s (table_told t) told f i near found) accepted)
+      at t asked near (Some e) found =
+          let read : standing_read d p x s ≡ t = ap (λ (o : Option Standing). unwrap_or o (standing_for d p x)) asked in
+          let mine = read_holds d p x is well s in
+          known_steps (under (shows d p x)) mine.uses t (subst (TableHolds (under (shows d p x)) mine.uses) read mine.holds) f _ (first_there t f x.now (asked_well d p x is s t asked) e found) i before now
+          (subst (λ (u : Standing). StepsTo u f i before now) read steps)
+
+      by : (b : Bool) → is_index i ≡ b → (o : Option Standing) → standing_asked d p x s ≡ o → now ≡ before
+      by false far o asked = absurd (not_some Range _ (get_far m x.name (volume_for d p x) has s f i far) accepted)
+      by true near None asked = absurd (not_some NoSnapshot _ (get_lost m x.name (volume_for d p x) has s (lost d p x s is asked) f i near) accepted)
+      by true near (Some t) asked = at t asked near (file_named (table_told t) f) refl

@@ -98,6 +98,7 @@ pub mod Spending
 pub mod Staying
 pub mod Resting
 pub mod Undamaged
+pub mod KeptReads
 pub mod KnownSteps
 pub mod FreeNumbers
 pub mod Waiting

@@ -53,7 +53,7 @@ use Rattle.fv_volume.proofs.MapSlots.{slots_of_one}
 use Rattle.fv_volume.specs.States.{States, empty_head, head_in, ledger_of_empty, placed_in, state_at, view_over, with_state}
 use Rattle.fv_volume.specs.Trees.{Trees, active_by, active_in, machine_in}
 use Rattle.fv_volume.proofs.Told.{Named, AreDistinct, named_from, volume_by, all_named, counted, distinct_from, fewer_named, find_set, head_there, is_inside, ledger_commit, none_named, none_some, same_named, some_named, summed, summed_states, volumes_are}
-use Rattle.fv_volume.proofs.Trees.{told_alike, same_active}
+use Rattle.fv_volume.proofs.Trees.{told_alike, same_active, same_snaps}
 use Rattle.fv_volume.proofs.Actives.{one_empty}
 
 -- ---- the new volume
@@ -349,17 +349,22 @@ module _ (pool : Pool) (states : States) (slot : ℕ) (name : List ℕ) (size : 
     unfolding view_over
     other_entry v = (λ j. placed_in (is.kept j) i (own_entry (is.others s other j) v))
 
-    -- a volume without base leads to what it led to
-    other_under : (x : VolumeState) → state_at states s ≡ Some x → has_form (head_in x) ≡ true → under now s ≡ under before s
+    -- a volume without a base leads to what it led to
+    other_under : (x : VolumeState) → state_at states s ≡ Some x → (head_in x).base ≡ None → under now s ≡ under before s
     unfolding under
-    other_under x in_slot form =
+    other_under x in_slot base =
         let old_head : before.head s ≡ Some (head_in x) = head_there pool states i s x in_slot in
-        let old_alone : parent_in (before.head s) ≡ None = no_parent before s (head_in x) old_head (form_base (head_in x) form) in
+        let old_alone : parent_in (before.head s) ≡ None = no_parent before s (head_in x) old_head base in
         let new_alone : parent_in (now.head s) ≡ None = ap parent_in other_head ∙ old_alone in
         (λ j v. option_map (λ (p : Placed). p.block) ((place_own now s v new_alone ∙ other_entry v ∙ sym (place_own before s v old_alone)) j))
 
-    other_active : (x : VolumeState) → state_at states s ≡ Some x → has_form (head_in x) ≡ true → active_in now trees s ≡ active_in before trees s
-    other_active x in_slot form = same_active before now s (other_under x in_slot form) other_head (trees s)
+    other_active : (x : VolumeState) → state_at states s ≡ Some x → (head_in x).base ≡ None → active_in now trees s ≡ active_in before trees s
+    other_active x in_slot base = same_active before now s (other_under x in_slot base) other_head (trees s)
+
+    -- so it is told as it was
+    other_told : (x : VolumeState) → state_at states s ≡ Some x → (head_in x).base ≡ None → volume_by now (active_in now trees) s x ≡ volume_by before (active_in before trees) s x
+    other_told x in_slot base = told_alike before now s (head_in x) (head_in x).active (active_in before trees s) (active_in now trees s) base
+        (same_snaps before now s (head_in x).snapshots (other_under x in_slot base)) (other_active x in_slot base)
 
   -- ---- the new one
 
@@ -396,12 +401,13 @@ module _ (pool : Pool) (states : States) (slot : ℕ) (name : List ℕ) (size : 
   -- a volume of another slot is one still
   old_state : (s : ℕ) → s ≢ slot → (x : VolumeState) → state_at states s ≡ Some x → IsState before trees s x → IsState now trees s x
   old_state s other x in_slot was =
-      let active = other_active s other x in_slot was.labelled.form in
+      let base : (head_in x).base ≡ None = form_base (head_in x) was.labelled.form in
+      let active = other_active s other x in_slot base in
       record {
         labelled = was.labelled;
         table = subst (λ (t : Table). IsWellTable x.now t) (sym active) was.table;
         reserves = subst HasNoReserve (sym active) was.reserves;
-        ledger = subst (λ (v : Volume). IsLedgerOf v x.ledger) (sym (told_alike before now s (head_in x) (head_in x).active (active_in before trees s) (active_in now trees s) was.labelled.form active)) was.ledger;
+        ledger = subst (λ (v : Volume). IsLedgerOf v x.ledger) (sym (other_told s other x in_slot base)) was.ledger;
       }
 
   old_each : (s : ℕ) → s ≢ slot → (o : Option VolumeState) → state_at states s ≡ o → IfSome o (IsState before trees s) → IfSome o (IsState now trees s)
@@ -450,9 +456,9 @@ module _ (pool : Pool) (states : States) (slot : ℕ) (name : List ℕ) (size : 
   old_same : named_from (volume_by now (active_in now trees)) 0 states ≡ named_from (volume_by before (active_in before trees)) 0 states
   old_same = same_named (volume_by before (active_in before trees)) (volume_by now (active_in now trees)) states 0 (λ k x in_slot.
       let zero_is : 0 + k ≡ k = omega arith in
-      let form : has_form (head_in x) ≡ true = (state_is pool states trees i is.long are k x in_slot).labelled.form in
+      let base : (head_in x).base ≡ None = form_base (head_in x) (state_is pool states trees i is.long are k x in_slot).labelled.form in
       subst (λ (n : ℕ). volume_by now (active_in now trees) n x ≡ volume_by before (active_in before trees) n x) (sym zero_is)
-      (told_alike before now k (head_in x) (head_in x).active (active_in before trees k) (active_in now trees k) form (other_active k (λ same. none_some x (sym in_slot ∙ ap (state_at states) same ∙ free.free)) x in_slot form)))
+      (other_told k (λ same. none_some x (sym in_slot ∙ ap (state_at states) same ∙ free.free)) x in_slot base))
 
   pub made_next : machine_in new_pool new_states trees i ≡ next (machine_in pool states trees i) (VolCreate name size kind)
   unfolding change_of machine_in told_with view_over

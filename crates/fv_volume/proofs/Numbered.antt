@@ -35,7 +35,7 @@ module _ (d : Disk) (p : Pool) (x : VolumeState) (n : Option FileNumbers) where
   pub ready_with : IsReady d p x → IsReady d p (record x { numbers = n })
   ready_with is =
       let b = is.booked in
-      record { lent = is.lent; labelled = labelled_with is.labelled; booked = record { size = b.size; kind = b.kind; span = b.span; need = b.need; charge = b.charge }; blocks = is.blocks; changed = is.changed }
+      record { lent = is.lent; labelled = labelled_with is.labelled; booked = record { size = b.size; kind = b.kind; span = b.span; need = b.need; charge = b.charge }; blocks = is.blocks; changed = is.changed; fresh = is.fresh }
 
 -- ---- what the changes do to the files
 

@@ -138,6 +138,7 @@ module _ (d e : Disk) (p q : Pool) (reads : Reads d p e q) (x : VolumeState) whe
     booked = is.booked;
     blocks = subst (λ (f : Found). IsSize f.blocks) (sym reads.leaves.found) is.blocks;
     changed = is.changed;
+    fresh = is.fresh;
   }
 
   -- what was said after them of a volume that they left is so of it before

@@ -74,6 +74,7 @@ module _ (pool : Pool) (states : States) (kept : KeptTo slot_count states pool.c
         };
         blocks = size;
         changed = λ isnt. counted.none;
+        fresh = λ isnt. counted.fresh;
       }
 
   -- Over an image that stands for a machine it stands for a volume of that.

@@ -100,6 +100,7 @@ ready_placed d e p q x active map files room left is few fits goes stands =
       booked = record { size = is.booked.size; kind = is.booked.kind; span = is.booked.span; need = is.booked.need; charge = is.booked.charge };
       blocks = subst (λ (f : Found). IsSize f.blocks) (sym over.found) is.blocks;
       changed = λ isnt. absurd (both_ways true isnt refl);
+      fresh = λ isnt. absurd (both_ways true isnt refl);
     }
 
 -- ---- it stands for what it stood for

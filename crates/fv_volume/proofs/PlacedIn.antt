@@ -170,6 +170,7 @@ module _ (disk after : Shown) (pool left : Pool) (states stay : States) (x y : V
     booked = ready.booked;
     blocks = subst (λ (f : Found). IsSize f.blocks) (sym over.found) ready.blocks;
     changed = ready.changed;
+    fresh = ready.fresh;
   }
 
   pub ready_still : ((k : ℕ) → IfSome (state_at states k) (IsReadyIn disk pool k)) → (k : ℕ) → IfSome (state_at stay k) (IsReadyIn after left k)

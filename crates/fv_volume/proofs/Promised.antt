@@ -239,6 +239,7 @@ module _ (x : VolumeState) (size : ℕ) (kind : Kind) where
     booked = record { size = refl; kind = refl; span = is.booked.span; need = is.booked.need; charge = is.booked.charge };
     blocks = is.blocks;
     changed = λ isnt. absurd (true≢false isnt);
+    fresh = λ isnt. absurd (true≢false isnt);
   }
 
   -- a volume that stands can hold what it holds

@@ -77,6 +77,7 @@ ready_again d p x now map files ledger numbers ready few span slots booked = rec
   booked = record { size = booked.size; kind = booked.kind; span = booked.span; need = booked.need; charge = booked.charge };
   blocks = ready.blocks;
   changed = λ isnt. absurd (both isnt);
+  fresh = λ isnt. absurd (both isnt);
 }
   where
     both : true ≡ false → ⊥

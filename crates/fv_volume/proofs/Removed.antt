@@ -102,6 +102,7 @@ module _ (pool : Pool) (states : States) (housed : AreHoused pool.containers sta
     booked = is.booked;
     blocks = subst (λ (f : Found). IsSize f.blocks) (sym gone.found) is.blocks;
     changed = is.changed;
+    fresh = is.fresh;
   }
 
   pub ready_left : (disk : Shown) → ((s : ℕ) → IfSome (state_at states s) (IsReadyIn disk pool s)) → (s : ℕ) → IfSome (state_at new s) (IsReadyIn disk left s)

@@ -30,6 +30,7 @@ module _ (d e : Shown) (stays : Stays d e) (pool : Pool) where
     booked = is.booked;
     blocks = is.blocks;
     changed = is.changed;
+    fresh = is.fresh;
   }
 
   standing_still : (x : VolumeState) → IsStanding d pool x → IsStanding e pool x

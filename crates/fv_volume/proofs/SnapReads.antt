@@ -19,10 +19,23 @@ use Rattle.fv_volmap.specs.Slots.{has, slot_at}
 use Rattle.fv_volume.specs.declared.pool.Pool.{Pool}
 use Rattle.fv_volume.specs.declared.state.Snap.{Snap}
 use Rattle.fv_volume.specs.declared.state.VolumeState.{VolumeState}
-use Rattle.fv_volume.specs.Asking.{snap_named, standing_asked}
+use Rattle.fv_volume.specs.declared.tables.TableAsked.TheVariants.{Kept}
+use Rattle.fv_volume.specs.Asking.{snap_named, standing_asked, standing_of}
 use Rattle.fv_volume.specs.BlocksOver.{held_block}
 use Rattle.fv_volume.specs.OneVolume.{blocks_in, shows, snap_by, standing_for, standing_kept, volume_for, IsKeptTable, IsStanding}
 use Rattle.fv_volume.proofs.Shows.{get_held}
+
+-- what holds of each snapshot holds of the one that is found
+pub found_among : (P : Snap → Type 0) (test : Snap → Bool) (snaps : List Snap) → All P snaps → (q : Snap) → find test snaps ≡ Some q → P q
+found_among P test [] all q found = absurd cc
+found_among P test (s ∷ ss) all q found = by (found_among P test ss (All-tail P s ss all) q) (test s) found
+  where
+    same : (a b : Snap) → Some a ≡ Some b → a ≡ b
+    same a b e = cc
+
+    by : (find test ss ≡ Some q → P q) → (b : Bool) → (if b then Some s else find test ss) ≡ Some q → P q
+    by later true e = subst P (same s q e) (All-head P s ss all)
+    by later false e = later e
 
 module _ (d : Disk) (p : Pool) (x : VolumeState) where
   abbrev blocks : Under
@@ -56,18 +69,6 @@ module _ (d : Disk) (p : Pool) (x : VolumeState) where
   abbrev told_of : Snap → Table
   told_of q = table_told (standing_at blocks q.table.levels q.table.root)
 
-  -- what holds of each snapshot holds of the one that is found
-  found_among : (P : Snap → Type 0) (test : Snap → Bool) (snaps : List Snap) → All P snaps → (q : Snap) → find test snaps ≡ Some q → P q
-  found_among P test [] all q found = absurd cc
-  found_among P test (s ∷ ss) all q found = by (found_among P test ss (All-tail P s ss all) q) (test s) found
-    where
-      same : (a b : Snap) → Some a ≡ Some b → a ≡ b
-      same a b e = cc
-
-      by : (find test ss ≡ Some q → P q) → (b : Bool) → (if b then Some s else find test ss) ≡ Some q → P q
-      by later true e = subst P (same s q e) (All-head P s ss all)
-      by later false e = later e
-
   -- the table of a name in the volume is that of the first snapshot of it
   found_table : (name : List ℕ) (snaps : List Snap) → All (IsKeptTable d p x) snaps → fin.find name_cmp name (map (snap_by (blocks_in d p x)) snaps) ≡ option_map told_of (snap_named snaps name)
   found_table name [] all = refl
@@ -77,22 +78,13 @@ module _ (d : Disk) (p : Pool) (x : VolumeState) where
       by later true = ap (λ (t : Table). Some t) (sym (kept_told s (All-head (IsKeptTable d p x) s ss all)))
       by later false = later
 
-  -- where no snapshot is named, the active table is asked
-  pub asked_active : (s : Option (List ℕ)) → s ≡ None → standing_asked d p x s ≡ Some (standing_for d p x)
-  asked_active s none = ap (standing_asked d p x) none
-
-  -- and where there is none, no other table
-  pub asked_lone : x.snapshots ≡ [] → (s : Option (List ℕ)) → is_some s ≡ true → standing_asked d p x s ≡ None
-  asked_lone lone None some = absurd cc
-  asked_lone lone (Some name) some = ap (λ (snaps : List Snap). option_map (λ (q : Snap). standing_at blocks q.table.levels q.table.root) (snap_named snaps name)) lone
-
   module _ (is : IsStanding d p x) where
     -- The machine finds the table that is asked, and none where there is none.
     pub asked_table : (s : Option (List ℕ)) → table_asked (volume_for d p x) s ≡ option_map table_told (standing_asked d p x s)
     asked_table None = refl
     asked_table (Some name) = fin.get-from_entries name_total (map (snap_by (blocks_in d p x)) x.snapshots) name ∙ found_table name x.snapshots is.kept ∙ twice (snap_named x.snapshots name)
       where
-        twice : (o : Option Snap) → option_map told_of o ≡ option_map table_told (option_map (λ (q : Snap). standing_at blocks q.table.levels q.table.root) o)
+        twice : (o : Option Snap) → option_map told_of o ≡ option_map table_told (option_map (standing_of d p x) (option_map (λ (q : Snap). Kept q.table) o))
         twice None = refl
         twice (Some q) = refl
 
@@ -107,7 +99,7 @@ module _ (d : Disk) (p : Pool) (x : VolumeState) where
         same : (a b : Standing) → Some a ≡ Some b → a ≡ b
         same a b e = cc
 
-        by : (o : Option Snap) → snap_named x.snapshots name ≡ o → option_map (λ (q : Snap). standing_at blocks q.table.levels q.table.root) o ≡ Some t → IsWellTable x.now (table_told t)
+        by : (o : Option Snap) → snap_named x.snapshots name ≡ o → option_map (standing_of d p x) (option_map (λ (q : Snap). Kept q.table) o) ≡ Some t → IsWellTable x.now (table_told t)
         by None e at = absurd cc
         by (Some q) e at = subst (λ (u : Standing). IsWellTable x.now (table_told u)) (same (standing_at blocks q.table.levels q.table.root) t at)
             (kept_well q (found_among (IsKeptTable d p x) (λ (q : Snap). is_same_name name q.name) x.snapshots is.kept q e))

@@ -22,7 +22,7 @@ use Rattle.std.specs.Option.{option_map}
 use Rattle.fv_volume.specs.declared.state.Snap.{Snap as StateSnap}
 use Rattle.fv_volume.specs.States.{snap_in, snaps_in}
 use Rattle.fv_image.proofs.LabelSlots.{label_slots}
-use Rattle.fv_volume.specs.SnapRecords.{free_record, record_said, records_from, records_said, snap_said, snaps_by, AreSayable, IsSayableSnap}
+use Rattle.fv_volume.specs.SnapRecords.{free_record, record_said, records_from, records_said, snap_said, snaps_recorded, AreSayable, IsSayableSnap}
 use Rattle.fv_volume.proofs.Naming.{parts, filled, zeros, named as is_named}
 
 named : (w : List ℕ) → is_name w ≡ true → (length w == 0) ≡ false
@@ -180,28 +180,28 @@ label_sayable l range long = record { slots = label_slots l long; each = each_sa
 
 -- ---- record by record
 
-pub snaps_more : (rs : List SnapRecord) (slot n : ℕ) (d : SnapRecord) → n < length rs → snaps_from slot (take (n + 1) rs) ≡ snaps_from slot (take n rs) ++ snaps_by (slot + n) (get_or rs n d)
+pub snaps_more : (rs : List SnapRecord) (slot n : ℕ) (d : SnapRecord) → n < length rs → snaps_from slot (take (n + 1) rs) ≡ snaps_from slot (take n rs) ++ snaps_recorded (slot + n) (get_or rs n d)
 unfolding snaps_from
 snaps_more [] slot n d within = absurd (omega (arith, within))
-snaps_more (r ∷ rs) slot zero d within = ap (λ (j : ℕ). snaps_by j r) (let same : slot ≡ slot + 0 = omega arith in same)
+snaps_more (r ∷ rs) slot zero d within = ap (λ (j : ℕ). snaps_recorded j r) (let same : slot ≡ slot + 0 = omega arith in same)
 snaps_more (r ∷ rs) slot (suc n) d within =
     ap (λ (m : ℕ). snaps_from slot (take m (r ∷ rs))) (let next : suc n + 1 ≡ suc (n + 1) = omega arith in next)
-    ∙ so (r.name_length == 0) (snaps_more rs (slot + 1) n d (omega (arith, within)) ∙ ap (λ (j : ℕ). snaps_from (slot + 1) (take n rs) ++ snaps_by j (get_or rs n d)) (let at : slot + 1 + n ≡ slot + suc n = omega arith in at))
+    ∙ so (r.name_length == 0) (snaps_more rs (slot + 1) n d (omega (arith, within)) ∙ ap (λ (j : ℕ). snaps_from (slot + 1) (take n rs) ++ snaps_recorded j (get_or rs n d)) (let at : slot + 1 + n ≡ slot + suc n = omega arith in at))
   where
-    so : (b : Bool) → snaps_from (slot + 1) (take (n + 1) rs) ≡ snaps_from (slot + 1) (take n rs) ++ snaps_by (slot + suc n) (get_or rs n d)
-        → (if b then snaps_from (slot + 1) (take (n + 1) rs) else snap_said slot r ∷ snaps_from (slot + 1) (take (n + 1) rs)) ≡ (if b then snaps_from (slot + 1) (take n rs) else snap_said slot r ∷ snaps_from (slot + 1) (take n rs)) ++ snaps_by (slot + suc n) (get_or rs n d)
+    so : (b : Bool) → snaps_from (slot + 1) (take (n + 1) rs) ≡ snaps_from (slot + 1) (take n rs) ++ snaps_recorded (slot + suc n) (get_or rs n d)
+        → (if b then snaps_from (slot + 1) (take (n + 1) rs) else snap_said slot r ∷ snaps_from (slot + 1) (take (n + 1) rs)) ≡ (if b then snaps_from (slot + 1) (take n rs) else snap_said slot r ∷ snaps_from (slot + 1) (take n rs)) ++ snaps_recorded (slot + suc n) (get_or rs n d)
     so true rest = rest
     so false rest = ap (λ (ps : List Snap). snap_said slot r ∷ ps) rest
 
 -- one more of those that were taken
-pub said_more : (rs : List SnapRecord) (n : ℕ) (d : SnapRecord) (old new : List StateSnap) → n < length rs → snaps_in old ≡ snaps_from 1 (take n rs) → snaps_in new ≡ snaps_in old ++ snaps_by (n + 1) (get_or rs n d) → snaps_in new ≡ snaps_from 1 (take (n + 1) rs)
+pub said_more : (rs : List SnapRecord) (n : ℕ) (d : SnapRecord) (old new : List StateSnap) → n < length rs → snaps_in old ≡ snaps_from 1 (take n rs) → snaps_in new ≡ snaps_in old ++ snaps_recorded (n + 1) (get_or rs n d) → snaps_in new ≡ snaps_from 1 (take (n + 1) rs)
 said_more rs n d old new within before more =
-    more ∙ ap₂ (λ (ps : List Snap) (j : ℕ). ps ++ snaps_by j (get_or rs n d)) before (let at : n + 1 ≡ 1 + n = omega arith in at) ∙ sym (snaps_more rs 1 n d within)
+    more ∙ ap₂ (λ (ps : List Snap) (j : ℕ). ps ++ snaps_recorded j (get_or rs n d)) before (let at : n + 1 ≡ 1 + n = omega arith in at) ∙ sym (snaps_more rs 1 n d within)
 
-pub none_said : (r : SnapRecord) (slot : ℕ) (ps : List Snap) → r.name_length ≡ 0 → ps ≡ ps ++ snaps_by slot r
+pub none_said : (r : SnapRecord) (slot : ℕ) (ps : List Snap) → r.name_length ≡ 0 → ps ≡ ps ++ snaps_recorded slot r
 none_said r slot ps free = sym (ap (λ (b : Bool). ps ++ (if b then [] else snap_said slot r ∷ [])) (let is : (r.name_length == 0) ≡ true = grind (arith, nat_tests, free) in is) ∙ append-nil ps)
 
-pub one_said : (r : SnapRecord) (slot : ℕ) (old new : List StateSnap) (p : StateSnap) → r.name_length ≢ 0 → snap_in p ≡ snap_said slot r → new ≡ old ++ p ∷ [] → snaps_in new ≡ snaps_in old ++ snaps_by slot r
+pub one_said : (r : SnapRecord) (slot : ℕ) (old new : List StateSnap) (p : StateSnap) → r.name_length ≢ 0 → snap_in p ≡ snap_said slot r → new ≡ old ++ p ∷ [] → snaps_in new ≡ snaps_in old ++ snaps_recorded slot r
 one_said r slot old new p used is added =
     ap snaps_in added ∙ map-append snap_in old (p ∷ []) ∙ ap (λ (d : Snap). snaps_in old ++ d ∷ []) is
     ∙ sym (ap (λ (b : Bool). snaps_in old ++ (if b then [] else snap_said slot r ∷ [])) (let isnt : (r.name_length == 0) ≡ false = grind (arith, nat_tests, used) in isnt))

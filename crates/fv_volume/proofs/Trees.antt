@@ -1,5 +1,5 @@
 -- What a session with trees in memory tells.
-use Rattle.std.proofs.Common.{◌≡◌, ℕ, true, List, map, Option, Some, None, sym, ap, ◌∙◌}
+use Rattle.std.proofs.Common.{◌≡◌, ℕ, List, map, Option, Some, None, sym, ap, ◌∙◌}
 use Rattle.std.specs.Option.{option_map_or}
 use Rattle.std.specs.FinMap as fin
 use Rattle.fv_disk.specs.Shown.{Image}
@@ -10,9 +10,7 @@ use Rattle.fv_tables.specs.Told.{standing_at, table_told}
 use Rattle.fv_image.specs.Chains.{under}
 use Rattle.fv_image.specs.Views.{Rooted, Snap, Head, View}
 use Rattle.fv_image.specs.Volumes.{snap_told, base_from, volume_with, told_with, told}
-use Rattle.fv_image.proofs.LoneTables.{form_snapshots, form_base}
 use Rattle.fv_volume.specs.declared.pool.Pool.{Pool}
-use Rattle.fv_volume.specs.Files.{has_form}
 use Rattle.fv_volume.specs.States.{States, view_over}
 use Rattle.fv_volume.specs.Trees.{Changed, Trees, active_by, machine_in, standing_in}
 
@@ -21,23 +19,25 @@ pub unchanged_machine : (pool : Pool) (states : States) (trees : Trees) (i : Ima
 unfolding machine_in
 unchanged_machine pool states trees i none = λ j. told_with (view_over pool states i) (λ s. active_by (view_over pool states i) s (none s j))
 
--- A volume without snapshots and base is told by its head and its active table alone.
-pub told_alike : (w u : View) (s : ℕ) (h : Head) (root : Rooted) (a b : Table) → has_form h ≡ true → b ≡ a → volume_with u s (record h { active = root }) b ≡ volume_with w s h a
+-- Over the same blocks snapshots have the same tables.
+pub same_snaps : (w u : View) (s : ℕ) (snaps : List Snap) → under u s ≡ under w s → map (snap_told u s) snaps ≡ map (snap_told w s) snaps
+same_snaps w u s snaps same = ap (λ (blocks : Under). map (λ (p : Snap). (p.name, table_told (standing_at blocks p.table.levels p.table.root))) snaps) same
+
+-- A volume without a base is told by its head, its active table and the tables of its snapshots alone.
+pub told_alike : (w u : View) (s : ℕ) (h : Head) (root : Rooted) (a b : Table) → h.base ≡ None → map (snap_told u s) h.snapshots ≡ map (snap_told w s) h.snapshots → b ≡ a
+    → volume_with u s (record h { active = root }) b ≡ volume_with w s h a
 unfolding volume_with
-told_alike w u s h root a b form same =
-    let snaps = form_snapshots h form in
-    let base = form_base h form in
-    λ i. record {
-      kind = h.kind;
-      size = h.size;
-      most = h.most;
-      span = h.span;
-      now = h.now;
-      active = same i;
-      snapshots = (ap (λ (ps : List Snap). fin.from_entries {R = name_cmp} (map (snap_told u s) ps)) snaps ∙ sym (ap (λ (ps : List Snap). fin.from_entries {R = name_cmp} (map (snap_told w s) ps)) snaps)) i;
-      base = (ap (base_from u) base ∙ sym (ap (base_from w) base)) i;
-      known = h.known;
-    }
+told_alike w u s h root a b base snaps same = λ i. record {
+  kind = h.kind;
+  size = h.size;
+  most = h.most;
+  span = h.span;
+  now = h.now;
+  active = same i;
+  snapshots = fin.from_entries {R = name_cmp} (snaps i);
+  base = (ap (base_from u) base ∙ sym (ap (base_from w) base)) i;
+  known = h.known;
+}
 
 -- A slot with the same head, over the same blocks, has the same active table.
 pub same_active : (w u : View) (k : ℕ) → under u k ≡ under w k → u.head k ≡ w.head k → (o : Option Changed) → active_by u k o ≡ active_by w k o

@@ -7,7 +7,7 @@ use Rattle.fv_disk.specs.declared.fault.BlockFault.TheVariants as block
 use Rattle.fv_codec.specs.declared.inode.InodeRecord.{InodeRecord}
 use Rattle.fv_codec.specs.Blocks.{greatest_word, inodes_at, node_at}
 use Rattle.fv_tables.specs.Spelled.{Rooted, Under, pointer_at, stored}
-use Rattle.fv_tables.specs.Told.{file_at, tree_of, tree_or}
+use Rattle.fv_tables.specs.Told.{Standing, file_at, tree_of, tree_or}
 use Rattle.fv_tree.specs.declared.kept.Tree.{Tree}
 use Rattle.fv_tree.specs.Sources.{Shown, Use}
 use Rattle.fv_tree.specs.Standing.{standing, under, IsNodeDamage, IsUnread, LacksBlock}
@@ -43,6 +43,12 @@ pub record HoldsWell (blocks : Under) (taken : ℕ → Option Use) (t : Rooted) 
   pub sound : IsSound taken loaded
   pub laid : IsLaid loaded
   pub well : IsTreeStoredWell loaded
+
+-- So each tree of a table does, and each inode block names its index.
+pub record TableHolds (blocks : Under) (taken : ℕ → Option Use) (t : Standing) : Type 0 where
+  pub inode : HoldsWell blocks taken t.inode
+  pub files : (n : ℕ) (r : InodeRecord) → file_at t.inode n ≡ Some r → HoldsWell blocks taken (tree_of t n r)
+  pub names : NamesIndexes t.inode
 
 -- so its pointer leads to it
 pub led_by : (s : Loaded) → IsLaid s → (level place : ℕ) → (pointer_at s.tree level place).stamp ≢ 0 → IsUnread s.tree level place → Leads s level place (pointer_at s.tree level place).vvbn
@@ -88,7 +94,7 @@ module _ (d : Disk) (p : Pool) (x : VolumeState) where
   holds_kept t sound well = record { loaded = loaded_over blocks t; tree = refl; on = refl; sound = sound; laid = tree_laid blocks t; well = well }
 
   inode_by : (o : Option Files) → AreSoundBy blocks taken x.active o → AreStoredBy blocks x.active o → HoldsWell blocks taken (standing_by blocks x.active o).inode
-  inode_by None sound well = let t = stored blocks greatest_word x.active.levels x.active.root in holds_unread t (λ level place. refl) refl (unread_sound taken t (λ level place. refl) sound.inode) (well.trees None)
+  inode_by None sound well = let t = stored blocks greatest_word x.active.levels x.active.root in holds_unread t (λ level place. refl) refl (unread_sound taken t (λ level place. refl) (λ index. refl) sound.inode) (well.trees None)
   inode_by (Some f) sound well = holds_kept f.inode.tree (sound.trees None) (well.trees None)
 
   file_tree : (n : ℕ) (r : InodeRecord) (o : Option Tree) → IsSound taken (file_loaded blocks n r o) → IsTreeStoredWell (file_loaded blocks n r o)
@@ -100,7 +106,7 @@ module _ (d : Disk) (p : Pool) (x : VolumeState) where
       → HoldsWell blocks taken (tree_of (standing_by blocks x.active o) n r)
   file_by None sound well n r there =
       let t = stored blocks n r.levels r.root in
-      file_tree n r None (unread_sound taken t (λ level place. refl) (sound.files n r there))
+      file_tree n r None (unread_sound taken t (λ level place. refl) (λ index. refl) (sound.files n r there))
       (subst (λ (o : Option InodeRecord). StoredIn (option_map (λ r. unread (stored blocks n r.levels r.root)) o)) there (well.trees (Some n)))
   file_by (Some f) sound well n r there =
       file_tree n r (tree_in f n)
@@ -111,28 +117,30 @@ module _ (d : Disk) (p : Pool) (x : VolumeState) where
   names_by None well = well.inodes
   names_by (Some f) well = well.inodes
 
-  module _ (is : IsStanding d p x) (well : IsStoredWell d p x) where
-    pub inode_holds : HoldsWell blocks taken (standing_for d p x).inode
-    inode_holds = inode_by x.files is.trees well
+  -- the active table
+  pub active_holds : IsStanding d p x → IsStoredWell d p x → TableHolds blocks taken (standing_for d p x)
+  active_holds is well = record { inode = inode_by x.files is.trees well; files = file_by x.files is.trees well; names = names_by x.files well }
 
-    pub file_holds : (n : ℕ) (r : InodeRecord) → file_at (standing_for d p x).inode n ≡ Some r → HoldsWell blocks taken (tree_of (standing_for d p x) n r)
-    file_holds n r there = file_by x.files is.trees well n r there
-
+  module _ (is : IsStanding d p x) (uses : ℕ → Option Use) (t : Standing) (holds : TableHolds blocks uses t) where
     abbrev its : ℕ → Lent
     its steps = lent_for p x.map d steps (home_in x) 0
 
-    inodes_shaped : (steps faults : ℕ) (e : BlockFault) → IsBadInodes (IsStanding d p x) (standing_for d p x).inode (its steps) faults e → ⊥
+    inodes_shaped : (steps faults : ℕ) (e : BlockFault) → IsBadInodes (IsStanding d p x) t.inode (its steps) faults e → ⊥
     inodes_shaped steps faults e bad =
-        let spelled = names_by x.files well bad.damage.cell bad.damage.block (bad.damage.lies is) in
+        let spelled = holds.names bad.damage.cell bad.damage.block (bad.damage.lies is) in
         not_err (inodes_at bad.damage.block) _ _ spelled.spells bad.damage.fault
 
-    file_whole : (steps faults at want found : ℕ) → FileFails (IsStanding d p x) (standing_for d p x) (its steps) faults (block.Damaged at want found) → ⊥
+    file_whole : (steps faults at want found : ℕ) → FileFails (IsStanding d p x) t (its steps) faults (block.Damaged at want found) → ⊥
     file_whole steps faults at want found fails =
         let of = fails.of_file is in
-        no_read_damage blocks taken fails.tree (subst (HoldsWell blocks taken) (sym of.tree) (file_holds of.number of.file of.there)) (IsStanding d p x) (its steps) faults at want found is refl fails.fails
+        no_read_damage blocks uses fails.tree (subst (HoldsWell blocks uses) (sym of.tree) (holds.files of.number of.file of.there)) (IsStanding d p x) (its steps) faults at want found is refl fails.fails
 
-    -- no load for its table answers damage
-    pub no_damage : (steps faults at want found : ℕ) → TableFails (IsStanding d p x) (standing_for d p x) (its steps) faults (block.Damaged at want found) → ⊥
-    no_damage steps faults at want found (inl fails) = no_read_damage blocks taken (standing_for d p x).inode inode_holds (IsStanding d p x) (its steps) faults at want found is refl fails
-    no_damage steps faults at want found (inr (inl bad)) = inodes_shaped steps faults (block.Damaged at want found) bad
-    no_damage steps faults at want found (inr (inr fails)) = file_whole steps faults at want found fails
+    -- no load for a table answers damage
+    pub none_damaged : (steps faults at want found : ℕ) → TableFails (IsStanding d p x) t (its steps) faults (block.Damaged at want found) → ⊥
+    none_damaged steps faults at want found (inl fails) = no_read_damage blocks uses t.inode holds.inode (IsStanding d p x) (its steps) faults at want found is refl fails
+    none_damaged steps faults at want found (inr (inl bad)) = inodes_shaped steps faults (block.Damaged at want found) bad
+    none_damaged steps faults at want found (inr (inr fails)) = file_whole steps faults at want found fails
+
+  -- so none for the active one
+  pub no_damage : IsStanding d p x → IsStoredWell d p x → (steps faults at want found : ℕ) → TableFails (IsStanding d p x) (standing_for d p x) (lent_for p x.map d steps (home_in x) 0) faults (block.Damaged at want found) → ⊥
+  no_damage is well = none_damaged is taken (standing_for d p x) (active_holds is well)

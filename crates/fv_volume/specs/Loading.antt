@@ -1,5 +1,5 @@
 -- Volumes as they are read from their labels.
-use Rattle.std.specs.Prelude.{◌≡◌, ◌≢◌, ◌<◌, ◌≤◌, ◌+◌, ◌-◌, ◌⊎◌, ◌*◌, ℕ, Bool, false, not, ◌&&◌, ◌==◌, nat_lt, if◌then◌else◌, List, [], length, find, Option, Some, None, IfSome, Ok, Err}
+use Rattle.std.specs.Prelude.{◌≡◌, ◌≢◌, ◌<◌, ◌≤◌, ◌+◌, ◌-◌, ◌⊎◌, ◌*◌, ℕ, Bool, false, not, ◌&&◌, ◌==◌, nat_lt, if◌then◌else◌, List, [], length, find, Option, Some, None, IfSome, Ok, Err, replicate}
 use Rattle.std.specs.List.{list_any, range_with_len}
 use Rattle.std.specs.Option.{is_some, option_map}
 use Rattle.fv_disk.specs.Shown.{Image}
@@ -11,7 +11,7 @@ use Rattle.fv_codec.specs.Blocks.{label_at}
 use Rattle.fv_image.specs.Containers.{IsNodeFault}
 use Rattle.fv_image.specs.Views.{entry_count, head_of, volume_bit}
 use Rattle.fv_model.specs.Space.{map_blocks}
-use Rattle.fv_volmap.specs.Slots.{Volume, active_of}
+use Rattle.fv_volmap.specs.Slots.{Volume, active_of, stored_count}
 use Rattle.fv_image.specs.Held.{label_in, label_lying, label_place, view_at}
 use Rattle.fv_container.specs.declared.entry.Entry.{Entry}
 use Rattle.fv_container.specs.Mapped.{IsMapped, Mapped, entry_under}
@@ -143,12 +143,13 @@ has_delayed active map span = list_any (is_delayed_entry active map span) (range
 abbrev pub ledger_by : VolumeState → Ledger
 ledger_by x = record { charge = charge_counted (active_of x.map) None 0 x.span; need = 0; size = x.size; kind = x.kind; span = x.span }
 
--- A volume's ledger is counted from its active map, which has each number of its span, and none of its files is in memory.
+-- A volume's ledger is counted from its active map, which has each number of its span, none of its files is in memory, and no map waits.
 pub record IsCounted (x : VolumeState) : Type 0 where
   pub ledger : x.ledger ≡ ledger_by x
   pub long : length (active_of x.map) ≡ x.map.span
   pub none : x.files ≡ None
   pub numbers : x.numbers ≡ None
+  pub fresh : x.fresh ≡ replicate stored_count false
 
 -- A slot's volume has the head that its label says, with the place of that label, and its container is the one that the label names.
 -- Its active map has the bits of its blocks. It is as the root on the disk has it, and has changed where an entry is delayed.

@@ -1,5 +1,5 @@
 -- What one volume is seen as, in its pool, over what the disk reads and with the trees that are in memory.
-use Rattle.std.specs.Prelude.{◌≡◌, ◌≢◌, ◌≤◌, ◌+◌, ℕ, false, cond, List, map, Option, Some, None, All}
+use Rattle.std.specs.Prelude.{◌≡◌, ◌≢◌, ◌≤◌, ◌+◌, ℕ, false, cond, List, map, Option, Some, None, All, replicate}
 use Rattle.std.specs.Option.{option_map, option_and_then}
 use Rattle.std.specs.FinMap as fin
 use Rattle.fv_disk.specs.Shown.{Shown as Disk}
@@ -21,7 +21,7 @@ use Rattle.fv_files.specs.Numbering.{AreNumbersIf}
 use Rattle.fv_files.specs.Tables.{changed, AreReached, AreSound, IsStoredUnder}
 use Rattle.fv_files.specs.Trees.{standing_in}
 use Rattle.fv_charge.specs.Ledgers.{IsLedgerOf, committed}
-use Rattle.fv_volmap.specs.Slots.{Slot, has, slot_at}
+use Rattle.fv_volmap.specs.Slots.{Slot, has, slot_at, stored_count}
 use Rattle.fv_volume.specs.declared.blocks.Home.{Home}
 use Rattle.fv_volume.specs.declared.pool.Pool.{Pool}
 use Rattle.fv_volume.specs.declared.state.Rooted.{Rooted}
@@ -139,13 +139,14 @@ pub record IsBooked (x : VolumeState) : Type 0 where
   pub charge : x.ledger.charge ≤ greatest_span
 
 -- A volume that calls can be made on, whatever the disk tells: its blocks can be lent, its label and its ledger have numbers in their
--- ranges, and so has the aggregate. Where trees of its table are in memory it has changed.
+-- ranges, and so has the aggregate. Where trees of its table are in memory, or maps of it wait, it has changed.
 pub record IsReady (disk : Disk) (pool : Pool) (x : VolumeState) : Type 0 where
   pub lent : CanLend pool x.map disk x.slot
   pub labelled : IsLabelled x.slot x
   pub booked : IsBooked x
   pub blocks : IsSize pool.found.blocks
   pub changed : x.changed ≡ false → x.files ≡ None
+  pub fresh : x.changed ≡ false → x.fresh ≡ replicate stored_count false
 
 -- Where content is told, the volume stands for one of the machine: its active table is well-formed after the changes that it counts, no file
 -- of it has a reserve, the tables of its snapshots lie whole in their slots, its ledger is right, each tree of the active table stands on its

@@ -14,6 +14,7 @@ use Rattle.fv_container.specs.Spelled.{names, is_at}
 use Rattle.fv_container.specs.Flushed.{IsApart, IsFlushed}
 use Rattle.fv_container.specs.Freeing.{Room}
 use Rattle.fv_root.specs.Formatted.{IsSize}
+pub use Rattle.fv_aggmap.specs.Giving.{HasGiven}
 use Rattle.fv_aggmap.specs.Space.{Space, IsFree, blocks_of, free_blocks}
 use Rattle.fv_volmap.specs.Slots.{stored_count}
 use Rattle.fv_volume.specs.declared.state.VolumeState.{VolumeState}
@@ -42,12 +43,6 @@ pub record HasOwnBlocks (x : VolumeState) (map : Mapped) (space : Space) : Type 
   pub old_nodes : (b : ℕ) → names map.tree b ≡ true → is_member space.committed b ≡ true
   pub old_label : x.label ≢ 0 → is_member space.committed x.label ≡ true
   pub held : (b : ℕ) → is_of x x.label map b ≡ true → is_member space.next b ≡ true
-
--- some blocks won't be held by the next root any more
-pub record HasGiven (old : Space) (given : ℕ → Bool) (new : Space) : Type 0 where
-  pub committed : new.committed ≡ old.committed
-  pub held : (b : ℕ) → is_member new.next b ≡ (is_member old.next b && not (given b))
-  pub count : free_blocks old ≤ free_blocks new
 
 -- The volume is written: the entries that stay are as before, the blocks of the maps that are written have new places, and all other entries
 -- are holes. The blocks of those that went are given back first, and what it has new was free then. A node that didn't change may stand where it

@@ -1,18 +1,20 @@
 //! What is asked of a volume. None of it changes the volume.
 
-ghost use Rattle.std.specs.Prelude.{◌≡◌, ◌≤◌, ◌+◌, ◌/◌, None, IfOk, IfErr, OnOk, option_copied};
+ghost use Rattle.std.specs.Prelude.{◌≡◌, ◌≤◌, ◌+◌, ◌/◌, None, false, true, IfOk, IfErr, OnOk, option_copied};
 ghost use Rattle.fv_inode.specs.Files.{Finds, IsInfo, IsInfoIf};
 ghost use Rattle.fv_inode.specs.Listing.{names_told};
 ghost use Rattle.std.specs.FinMap as fin;
 ghost use Rattle.fv_files.specs.Calls.{GivesCell};
 ghost use Rattle.fv_files.specs.Tables.{tree_known, IsInfoOf};
 ghost use Rattle.fv_tables.specs.Told.{records_each};
-ghost use Rattle.fv_model.specs.Numbers.{greatest_span};
+ghost use Rattle.fv_model.specs.Numbers.{greatest_span, is_index};
 ghost use Rattle.fv_model.specs.Replies.{stat_of};
 ghost use Rattle.fv_model.specs.declared.answers.Refusal.{Refusal};
+ghost use Rattle.fv_model.specs.declared.answers.Refusal.TheVariants.{Range};
 ghost use Rattle.fv_model.specs.declared.answers.Reply.TheVariants as reply;
 ghost use Rattle.fv_model.specs.declared.commands.Command.TheVariants.{Get, Len, Ls};
 ghost use Rattle.fv_charge.specs.Ledgers.{IsLedgerOf};
+ghost use Rattle.fv_volume.specs.Asking.{standing_of, standing_read, IsRefusedUnread, IsTableOf, RefusesLost};
 ghost use Rattle.fv_volume.specs.Calls.{Asks, BlockCause, CallCause, Has, Reads};
 ghost use Rattle.fv_volume.specs.Lending.{lent_for};
 ghost use Rattle.fv_volume.specs.Promising.{told_by};
@@ -25,6 +27,7 @@ use crate::fault::VolumeFault;
 use crate::lent_files::{block_told, find_told, kept_table, list_told, record_told, take_table};
 use crate::pool::Pool;
 use crate::state::VolumeState;
+use crate::tables::{TableAsked, copy_in, find_in, follow_in, list_in, table_asked};
 use fv_container::Steps;
 use fv_disk::{Block, BlockFault, Disk};
 use fv_inode::Info;
@@ -34,15 +37,17 @@ use std::marker::Brand;
 use std::sync::ledger::{Blank, Ledger};
 
 impl VolumeState {
-    /// The length of the file of a name, in blocks. The volume stays, and of the pool nothing changes but its cache.
+    /// The length of the file of a name, in blocks, in the active table or in that of a snapshot. The volume stays, and of the pool nothing
+    /// changes but its cache.
     ///
     /// # Errors
     ///
-    /// `Refused` as the machine refuses `len`: a snapshot that isn't there, and there is none; no file has the name. `DiskFault`
+    /// `Refused` as the machine refuses `len`: a snapshot that isn't there, for which nothing is read; no file has the name. `DiskFault`
     /// only where a read failed in this call. `Damaged` for a pointer to a VVBN that isn't held, at the place of the volume's
     /// label with 1 and 0, and for a node or an inode block without its shape: its place, and its first field that isn't as said.
     /// `Memory` where memory ran out. By the numbers of files in memory (`read_numbers`) it costs a block for the file's inode block and
-    /// for each node over it, and without them one for each inode block before the file's, too. `docs/MACHINE.md` has the command.
+    /// for each node over it, and without them, as of a snapshot, one for each inode block before the file's, too. A snapshot is found by a
+    /// step for each there is. `docs/MACHINE.md` has the command.
     pub fn length<D: Disk>(
         &mut self,
         alloc: Global,
@@ -54,21 +59,23 @@ impl VolumeState {
         requires ready { IsReady (D.shown disk.old) pool.old self.old }
         ensures asked { IsStanding (D.shown disk.old) pool.old self.old
             → Asks (Has self.old.name (volume_for (D.shown disk.old) pool.old self.old)) (Len self.old.name (option_copied snapshot.entry) file.now) (λ n. reply.Number n) result }
+        ensures snapshot { RefusesLost self.old (option_copied snapshot.entry) disk.old pool.old disk.new pool.new result }
         ensures same { self.new ≡ self.old }
         ensures reads { Reads (D.shown disk.old) pool.old (D.shown disk.new) pool.new }
-        ensures cause { CallCause (IsStanding (D.shown disk.old) pool.old self.old) (standing_for (D.shown disk.old) pool.old self.old)
+        ensures cause { CallCause (IsStanding (D.shown disk.old) pool.old self.old) (standing_read (D.shown disk.old) pool.old self.old (option_copied snapshot.entry))
             (lent_for pool.old self.old.map (D.shown disk.old) 0 (home_in self.old) 0) (D.shown disk.new).faults result }
     {
-        if snapshot.is_some() {
+        let Some(table) = table_asked(self, snapshot) else {
             return Err(VolumeFault::Refused(Refusal::NoSnapshot));
-        }
-        match find_file(self, alloc, pool, disk, file)? {
+        };
+        match find_in(self, alloc, pool, disk, &table, file)? {
             None => Err(VolumeFault::Refused(Refusal::NoFile)),
             Some(info) => Ok(info.length),
         }
     }
 
-    /// The names of all files, in byte order. The volume stays, and of the pool nothing changes but its cache.
+    /// The names of all files of the active table or of a snapshot's, in byte order. The volume stays, and of the pool nothing changes but
+    /// its cache.
     ///
     /// # Errors
     ///
@@ -84,21 +91,22 @@ impl VolumeState {
         requires ready { IsReady (D.shown disk.old) pool.old self.old }
         ensures asked { IsStanding (D.shown disk.old) pool.old self.old
             → Asks (Has self.old.name (volume_for (D.shown disk.old) pool.old self.old)) (Ls self.old.name (option_copied snapshot.entry)) (λ names. reply.Names names) result }
+        ensures snapshot { RefusesLost self.old (option_copied snapshot.entry) disk.old pool.old disk.new pool.new result }
         ensures same { self.new ≡ self.old }
         ensures reads { Reads (D.shown disk.old) pool.old (D.shown disk.new) pool.new }
-        ensures cause { CallCause (IsStanding (D.shown disk.old) pool.old self.old) (standing_for (D.shown disk.old) pool.old self.old)
+        ensures cause { CallCause (IsStanding (D.shown disk.old) pool.old self.old) (standing_read (D.shown disk.old) pool.old self.old (option_copied snapshot.entry))
             (lent_for pool.old self.old.map (D.shown disk.old) 0 (home_in self.old) 0) (D.shown disk.new).faults result }
     {
-        if snapshot.is_some() {
+        let Some(table) = table_asked(self, snapshot) else {
             return Err(VolumeFault::Refused(Refusal::NoSnapshot));
-        }
-        Ok(list_files(self, alloc, pool, disk)?)
+        };
+        Ok(list_in(self, alloc, pool, disk, &table)?)
     }
 
-    /// The block of a file at an index, zeros for a hole. The volume stays, and of the pool nothing changes but its cache. At
-    /// `Err` the content of `into` is open.
+    /// The block of a file of the active table or of a snapshot's at an index, zeros for a hole. The volume stays, and of the pool nothing
+    /// changes but its cache. At `Err` the content of `into` is open.
     ///
-    /// The steps rise by the unknown pointers on the path from the root of the volume's table to the file's record and from there to
+    /// The steps rise by the unknown pointers on the path from the root of the table that is asked to the file's record and from there to
     /// the cell, so not at all where all are known. The search for the name isn't counted, and a refused call makes no step.
     ///
     /// # Errors
@@ -120,26 +128,28 @@ impl VolumeState {
         requires ready { IsReady (D.shown disk.old) pool.old self.old }
         ensures asked { IsStanding (D.shown disk.old) pool.old self.old
             → Asks (Has self.old.name (volume_for (D.shown disk.old) pool.old self.old)) (Get self.old.name (option_copied snapshot.entry) file.now index) (λ _. reply.Content into.new) result }
-        ensures steps { IsStanding (D.shown disk.old) pool.old self.old → OnOk result (StepsTo (standing_for (D.shown disk.old) pool.old self.old) file.now index steps.old steps.new) }
+        ensures range { is_index index ≡ false → IsRefusedUnread Range disk.old pool.old disk.new pool.new result }
+        ensures snapshot { is_index index ≡ true → RefusesLost self.old (option_copied snapshot.entry) disk.old pool.old disk.new pool.new result }
+        ensures steps { IsStanding (D.shown disk.old) pool.old self.old → OnOk result (StepsTo (standing_read (D.shown disk.old) pool.old self.old (option_copied snapshot.entry)) file.now index steps.old steps.new) }
         ensures unmoved { IfErr result (λ e. (r : Refusal) → e ≡ Refused r → steps.new ≡ steps.old) }
         ensures same { self.new ≡ self.old }
         ensures reads { Reads (D.shown disk.old) pool.old (D.shown disk.new) pool.new }
-        ensures cause { CallCause (IsStanding (D.shown disk.old) pool.old self.old) (standing_for (D.shown disk.old) pool.old self.old)
+        ensures cause { CallCause (IsStanding (D.shown disk.old) pool.old self.old) (standing_read (D.shown disk.old) pool.old self.old (option_copied snapshot.entry))
             (lent_for pool.old self.old.map (D.shown disk.old) 0 (home_in self.old) 0) (D.shown disk.new).faults result }
     {
         if !in_index(u64::from(index)) {
             return Err(VolumeFault::Refused(Refusal::Range));
         }
-        if snapshot.is_some() {
+        let Some(table) = table_asked(self, snapshot) else {
             return Err(VolumeFault::Refused(Refusal::NoSnapshot));
-        }
-        match find_file(self, alloc, pool, disk, file)? {
+        };
+        match find_in(self, alloc, pool, disk, &table, file)? {
             None => Err(VolumeFault::Refused(Refusal::NoFile)),
             Some(info) => {
                 if info.length <= index {
                     return Err(VolumeFault::Refused(Refusal::Range));
                 }
-                Ok(read_block(self, alloc, pool, disk, &info, index, into, steps)?)
+                Ok(read_in(self, alloc, pool, disk, &table, &info, index, into, steps)?)
             }
         }
     }
@@ -201,7 +211,7 @@ pub(crate) fn find_file<D: Disk>(
 
 /// The names of all files.
 #[tactic(auto, using(crate::proofs::OneVolumes::root_fits, crate::proofs::OneVolumes::levels_fit))]
-fn list_files<D: Disk>(
+pub(crate) fn list_files<D: Disk>(
     volume: &mut VolumeState,
     alloc: Global,
     pool: &mut Pool,
@@ -232,35 +242,37 @@ fn list_files<D: Disk>(
     names
 }
 
-/// A block of the file of which this is known, or zeros, with the steps of the whole path to it.
-fn read_block<D: Disk, L: Ledger>(
+/// A block of the file of which this is known in a table, or zeros, with the steps of the whole path to it.
+fn read_in<D: Disk, L: Ledger>(
     volume: &mut VolumeState,
     alloc: Global,
     pool: &mut Pool,
     disk: &mut D,
+    table: &TableAsked,
     info: &Info,
     index: u32,
     into: &mut Block,
     steps: &mut Steps<L>,
 ) -> Result<(), BlockFault>
     requires ready { IsReady (D.shown disk.old) pool.old volume.old }
+    requires of { IsTableOf volume.old table.now }
     requires range { IsInfo info.now }
-    requires there { IsStanding (D.shown disk.old) pool.old volume.old → IsInfoOf (standing_for (D.shown disk.old) pool.old volume.old).inode info.now }
-    ensures block { IsStanding (D.shown disk.old) pool.old volume.old → OnOk result (GivesCell (standing_for (D.shown disk.old) pool.old volume.old) info.now.number index into.new) }
-    ensures steps { IsStanding (D.shown disk.old) pool.old volume.old → OnOk result (steps.new ≡ steps.old + unknown_over (standing_for (D.shown disk.old) pool.old volume.old) info.now index) }
+    requires there { IsStanding (D.shown disk.old) pool.old volume.old → IsInfoOf (standing_of (D.shown disk.old) pool.old volume.old table.now).inode info.now }
+    ensures block { IsStanding (D.shown disk.old) pool.old volume.old → OnOk result (GivesCell (standing_of (D.shown disk.old) pool.old volume.old table.now) info.now.number index into.new) }
+    ensures steps { IsStanding (D.shown disk.old) pool.old volume.old → OnOk result (steps.new ≡ steps.old + unknown_over (standing_of (D.shown disk.old) pool.old volume.old table.now) info.now index) }
     ensures same { volume.new ≡ volume.old }
     ensures reads { Reads (D.shown disk.old) pool.old (D.shown disk.new) pool.new }
-    ensures cause { BlockCause (IsStanding (D.shown disk.old) pool.old volume.old) (standing_for (D.shown disk.old) pool.old volume.old)
+    ensures cause { BlockCause (IsStanding (D.shown disk.old) pool.old volume.old) (standing_of (D.shown disk.old) pool.old volume.old table.now)
         (lent_for pool.old volume.old.map (D.shown disk.old) steps.old (home_in volume.old) 0) (D.shown disk.new).faults result }
 {
-    follow_record(volume, alloc, pool, disk, info.number, steps)?;
-    copy_block(volume, alloc, pool, disk, info, index, into, steps)?;
+    follow_in(volume, alloc, pool, disk, table, info.number, steps)?;
+    copy_in(volume, alloc, pool, disk, table, info, index, into, steps)?;
     Ok(())
 }
 
 /// Follows the path from the root of a volume's table to the record of a file, for its steps.
 #[tactic(auto, using(crate::proofs::OneVolumes::root_fits, crate::proofs::OneVolumes::levels_fit))]
-fn follow_record<D: Disk, L: Ledger>(
+pub(crate) fn follow_record<D: Disk, L: Ledger>(
     volume: &mut VolumeState,
     alloc: Global,
     pool: &mut Pool,
@@ -296,7 +308,7 @@ fn follow_record<D: Disk, L: Ledger>(
 
 /// A block of the file of which this is known, or zeros, with the steps of the path in its tree.
 #[tactic(auto, using(crate::proofs::OneVolumes::root_fits, crate::proofs::OneVolumes::levels_fit))]
-fn copy_block<D: Disk, L: Ledger>(
+pub(crate) fn copy_block<D: Disk, L: Ledger>(
     volume: &mut VolumeState,
     alloc: Global,
     pool: &mut Pool,

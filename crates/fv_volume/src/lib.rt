@@ -28,6 +28,7 @@ mod room;
 mod search;
 mod sizes;
 mod state;
+mod tables;
 mod taking;
 mod volume_blocks;
 mod volume_drops;

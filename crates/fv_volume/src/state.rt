@@ -1,17 +1,18 @@
 //! One volume, as it is kept in memory.
 
-ghost use Rattle.std.specs.Prelude.{◌≡◌, ◌<◌, ◌≤◌, ◌+◌, ◌*◌, ◌-◌, ◌∷◌, ◌++◌, [], Bool, false, true, nat_lt, length, position, take, drop, All, None, IfSome, IfNone, IfOk, OnOk, OnErr, replicate};
+ghost use Rattle.std.specs.Prelude.{◌≡◌, ◌<◌, ◌≤◌, ◌+◌, ◌*◌, ◌-◌, ◌∷◌, ◌++◌, [], Bool, false, true, nat_lt, length, position, take, drop, All, None, IfSome, IfNone, IfOk, OnOk, OnErr, option_copied, replicate};
 ghost use Rattle.std.specs.List.{position_or_len};
 ghost use Rattle.fv_model.specs.Numbers.{greatest_span};
 ghost use Rattle.fv_codec.specs.Blocks.{IsLabel, IsSnapRecord};
 ghost use Rattle.fv_image.specs.Views.{head_of, snaps_from};
 ghost use Rattle.fv_model.specs.Spelling.{is_name};
 ghost use Rattle.fv_volmap.specs.Slots.{empty_volume, stored_count};
+ghost use Rattle.fv_volume.specs.Asking.{snap_named};
 ghost use Rattle.fv_volume.specs.Labels.{label_said};
 ghost use Rattle.fv_volume.specs.Files.{has_form};
 ghost use Rattle.fv_volume.specs.Snapshots.{FindsSnap, IsLeastFree, AreSlotsFull, has_slot, added};
 ghost use Rattle.fv_volume.specs.Loading.{IsCounted, form_in};
-ghost use Rattle.fv_volume.specs.SnapRecords.{snaps_by};
+ghost use Rattle.fv_volume.specs.SnapRecords.{snaps_recorded};
 ghost use Rattle.fv_volume.specs.States.{empty_head, head_in, ledger_of_empty, snaps_in, IsLaid};
 ghost use Rattle.fv_volume.specs.Stored.{is_rewritten};
 ghost use Rattle.fv_volume.specs.Writing.{asked, map_count};
@@ -102,7 +103,7 @@ impl Snapshots {
     /// Adds the snapshot that the record of a map slot says at the end, where the record is a used one.
     fn add_said(&mut self, said: &SnapRecord, slot: u8) -> Result<(), AllocError>
         requires { IsSnapRecord said.now }
-        ensures { OnOk result (snaps_in self.new ≡ snaps_in self.old ++ snaps_by slot said.now) }
+        ensures { OnOk result (snaps_in self.new ≡ snaps_in self.old ++ snaps_recorded slot said.now) }
     {
         if said.name_length == 0 {
             return Ok(());
@@ -141,6 +142,14 @@ impl Snapshots {
         ensures { FindsSnap self.now name.now result }
     {
         self.snaps.iter().position(|snap| snap.name == *name)
+    }
+
+    /// The first snapshot of a name in the order of their slots; `None` exactly where none has it. Costs a step for
+    /// each snapshot.
+    pub fn named(&self, name: &Name) -> Option<&Snap>
+        ensures { option_copied result ≡ snap_named self.entry.now name.now }
+    {
+        self.snaps.iter().find(|snap| *name == snap.name)
     }
 
     /// Whether a snapshot has this slot.
@@ -399,7 +408,7 @@ impl VolumeState {
     }
 
     /// The label that says this volume, with the place of its container's root, 0 where that is all holes, and
-    /// with the container's height. The volume has no base, and knows all places. It takes no memory.
+    /// with the container's height. The volume has no base and no snapshot, and knows all places. It takes no memory.
     #[tactic(auto, unfolding(crate::specs::Labels::label_said))]
     pub fn label(&self, container: u32, height: u8) -> Label
         requires { has_form (head_in self.now) ≡ true }

@@ -109,7 +109,7 @@ fn write_anew<D: Disk>(
 /// those of the snapshots' maps that wait. It takes no memory and reads nothing.
 ///
 /// The one error is a failed write: the blocks that were taken are then lost to the map, and the container isn't as before. Costs a
-/// step for each entry and a write for each block.
+/// step for each entry, up to 25 more for one that is no hole, a map slot each, and a write for each block.
 pub fn write_volume<D: Disk>(
     state: &VolumeState,
     container: &mut Container,

@@ -167,6 +167,7 @@ held_placed d e p q xs slot room left x y was within there same ready goes = rec
       booked = before.booked;
       blocks = subst (λ (f : Found). IsSize f.blocks) (sym over.found) before.blocks;
       changed = before.changed;
+      fresh = before.fresh;
     }
 
 -- And a point can be made.

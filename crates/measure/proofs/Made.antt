@@ -53,6 +53,7 @@ module _ (p q : Pool) (old states : States) (slot size : ℕ) (name : List ℕ) 
     };
     blocks = subst (λ (x : Pool). IsSize x.found.blocks) (sym holes) blocks;
     changed = λ isnt. absurd (both (sym is.changed ∙ isnt));
+    fresh = λ isnt. absurd (both (sym is.changed ∙ isnt));
   }
 
   pub made_ready : IfSome (state_at states slot) (IsReady d q)
@@ -71,4 +72,5 @@ written_ready d e p q x ready containers found stands = record {
   booked = ready.booked;
   blocks = subst (λ (f : Found). IsSize f.blocks) (sym found) ready.blocks;
   changed = ready.changed;
+  fresh = ready.fresh;
 }

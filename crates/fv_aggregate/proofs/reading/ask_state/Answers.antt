@@ -3,8 +3,10 @@ use Rattle.std.specs.Prelude.{ℕ}
 use Rattle.fv_model.specs.declared.answers.Reply.TheVariants.{Content, Number, Names}
 use Rattle.fv_model.specs.declared.commands.Command.TheVariants.{Get, Len, Ls}
 use Rattle.fv_volume.proofs.KnownSteps.{known_get}
+use Rattle.fv_aggregate.specs.Commands.{has_range, snapshot_asked}
 use Rattle.fv_aggregate.specs.Looking.{AsksState}
 use Rattle.fv_aggregate.proofs.Asked.{of_get, of_len, of_ls, state_answered, state_failed}
+use Rattle.fv_aggregate.proofs.Lost.{none_answered, refused_lost}
 use Rattle.fv_aggregate.proofs.Missing.{not_get}
 use Rattle.fv_aggregate.proofs.reading.ask_state.Goals as goal
 
@@ -16,7 +18,7 @@ returns-in-Ok-clause-asks g c =
     let of = of_get c.args.command.now x.name c.in-Get.volume snapshot c.in-Get.file c.in-Get.index (c.in-Get.is ∙ ap (λ s. Get c.in-Get.volume s c.in-Get.file c.in-Get.index) (sym c.as_ref.ensures.value)) c.requires.asks in
     state_answered d (g.D.Disk.shown c.get.new.disk) c.args.pool.now c.get.new.pool x c.get.ensures.reads (Get x.name snapshot c.in-Get.file c.in-Get.index) c.args.command.now of c.args.steps.now c.get.new.steps
     (λ _. Content c.get.new.into) c.in-Ok.field-0 c.in-Ok.ensures.asked c.in-Ok.ensures.cause
-    (λ is well m there accepted. known_get d c.args.pool.now x is well c.requires.ready m there snapshot c.in-Get.file c.in-Get.index c.args.steps.now c.get.new.steps accepted (c.in-Ok.ensures.steps is))
+    (λ is well m there accepted. known_get d c.args.pool.now x is well m there snapshot c.in-Get.file c.in-Get.index c.args.steps.now c.get.new.steps accepted (c.in-Ok.ensures.steps is))
 
 pub returns-in-Err-clause-asks : goal.returns-in-Err-clause-asks
 returns-in-Err-clause-asks g c =
@@ -65,3 +67,39 @@ returns-in-Ok-clause-steps g c = λ none. absurd (not_get c.args.command.now c.i
 
 pub returns-in-Err-clause-steps : goal.returns-in-Err-clause-steps
 returns-in-Err-clause-steps g c = λ none. absurd (not_get c.args.command.now c.in-Get.volume (option_copied c.as_ref.result) c.in-Get.file c.in-Get.index (c.in-Get.is ∙ ap (λ s. Get c.in-Get.volume s c.in-Get.file c.in-Get.index) (sym c.as_ref.ensures.value)) none)
+
+pub returns-in-Ok-clause-lost : goal.returns-in-Ok-clause-lost
+returns-in-Ok-clause-lost g c = λ near none.
+    let snapshot = option_copied c.as_ref.result in
+    let is = c.in-Get.is ∙ ap (λ s. Get c.in-Get.volume s c.in-Get.file c.in-Get.index) (sym c.as_ref.ensures.value) in
+    none_answered _ c.args.state.now c.args.disk.now c.get.new.disk c.args.pool.now c.get.new.pool c.args.command.now snapshot (ap snapshot_asked is) none _ _ _ (c.in-Ok.ensures.snapshot (sym (ap has_range is) ∙ near))
+
+pub returns-in-Err-clause-lost : goal.returns-in-Err-clause-lost
+returns-in-Err-clause-lost g c = λ near none.
+    let snapshot = option_copied c.as_ref.result in
+    let is = c.in-Get.is ∙ ap (λ s. Get c.in-Get.volume s c.in-Get.file c.in-Get.index) (sym c.as_ref.ensures.value) in
+    refused_lost _ c.args.state.now c.args.disk.now c.get.new.disk c.args.pool.now c.get.new.pool c.args.command.now snapshot (ap snapshot_asked is) none _ _ (c.in-Err.ensures.snapshot (sym (ap has_range is) ∙ near))
+
+pub returns-in-Ok-length-clause-lost : goal.returns-in-Ok-length-clause-lost
+returns-in-Ok-length-clause-lost g c = λ near none.
+    let snapshot = option_copied c.as_ref-in-Len.result in
+    let is = c.in-Len.is ∙ ap (λ s. Len c.in-Len.volume s c.in-Len.file) (sym c.as_ref-in-Len.ensures.value) in
+    none_answered _ c.args.state.now c.args.disk.now c.length.new.disk c.args.pool.now c.length.new.pool c.args.command.now snapshot (ap snapshot_asked is) none _ _ _ c.in-Ok-length.ensures.snapshot
+
+pub returns-in-Err-length-clause-lost : goal.returns-in-Err-length-clause-lost
+returns-in-Err-length-clause-lost g c = λ near none.
+    let snapshot = option_copied c.as_ref-in-Len.result in
+    let is = c.in-Len.is ∙ ap (λ s. Len c.in-Len.volume s c.in-Len.file) (sym c.as_ref-in-Len.ensures.value) in
+    refused_lost _ c.args.state.now c.args.disk.now c.length.new.disk c.args.pool.now c.length.new.pool c.args.command.now snapshot (ap snapshot_asked is) none _ _ c.in-Err-length.ensures.snapshot
+
+pub returns-in-Ok-list-clause-lost : goal.returns-in-Ok-list-clause-lost
+returns-in-Ok-list-clause-lost g c = λ near none.
+    let snapshot = option_copied c.as_ref-in-Ls.result in
+    let is = c.in-Ls.is ∙ ap (λ s. Ls c.in-Ls.volume s) (sym c.as_ref-in-Ls.ensures.value) in
+    none_answered _ c.args.state.now c.args.disk.now c.list.new.disk c.args.pool.now c.list.new.pool c.args.command.now snapshot (ap snapshot_asked is) none _ _ _ c.in-Ok-list.ensures.snapshot
+
+pub returns-in-Err-list-clause-lost : goal.returns-in-Err-list-clause-lost
+returns-in-Err-list-clause-lost g c = λ near none.
+    let snapshot = option_copied c.as_ref-in-Ls.result in
+    let is = c.in-Ls.is ∙ ap (λ s. Ls c.in-Ls.volume s) (sym c.as_ref-in-Ls.ensures.value) in
+    refused_lost _ c.args.state.now c.args.disk.now c.list.new.disk c.args.pool.now c.list.new.pool c.args.command.now snapshot (ap snapshot_asked is) none _ _ c.in-Err-list.ensures.snapshot

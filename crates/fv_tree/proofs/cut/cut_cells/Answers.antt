@@ -1,5 +1,4 @@
 use Rattle.std.proofs.Common.{◌≡◌, ◌≤◌, ◌+◌, ◌/◌, ◌^◌, ap, get_or, length, refl, sym, subst, ◌∙◌, arith, nat_le, inl, inr}
-use Rattle.std.specs.BTreeMap as maps
 use Rattle.fv_tree.specs.Standing.{standing, under}
 use Rattle.fv_tree.specs.Erasing.{StandsAt}
 use Rattle.fv_tree.specs.Releasing.{Removes}
@@ -8,6 +7,7 @@ use Rattle.fv_model.specs.Trees.{fan}
 use Rattle.std.specs.FinMap as fin
 use Rattle.fv_tree.specs.Counting.{positions_of}
 use Rattle.fv_tree.specs.Collecting.{AreBelow, Collects}
+use Rattle.fv_tree.specs.Costs.{cells_changed}
 use Rattle.fv_tree.proofs.Bordered.{few_differ}
 use Rattle.fv_tree.proofs.Causes.{at_err, calm_then}
 use Rattle.fv_tree.proofs.Collected.{listed, next_listed, none_listed, not_yet, listed_past, way_held}
@@ -36,7 +36,7 @@ loop-index-init g c =
       count = λ told. let same = alike_count (standing (under a) t) (standing (under a) u) (same_alike (standing (under a) t) (standing (under a) u) (same_over (under a) (under b) t u (ap (λ h v. fin.get h v) now.untouched.held) (now.same told))) in omega (arith, same);
       few = omega arith;
       marks = λ told level place changed. inl (now.marks told level place changed);
-      cells = (let same = ap (λ m. maps.btree_map_len m) now.fields.cells in omega (arith, same));
+      cells = (let same = ap cells_changed now.fields.cells in omega (arith, same));
       none = λ _. now.changes;
       ordered = inl refl;
       calm = now.counts.calm;

@@ -4,7 +4,9 @@ use Rattle.fv_tree.specs.Flushing.{node_changed, node_placed}
 use Rattle.fv_tree.proofs.Observed.{elsewhere_same, here_now, observed}
 use Rattle.fv_tree.proofs.Written.{changed}
 use Rattle.fv_tree.proofs.Bordered.{still_ordered}
-use Rattle.fv_tree.proofs.Differing.{set_one}
+use Rattle.fv_model.specs.Trees.{spot_cmp}
+use Rattle.fv_tree.proofs.Differing.{node_mark}
+use Rattle.fv_tree.proofs.MapMarks.{set_one}
 use Rattle.fv_tree.proofs.erase.clear_slot.Goals as goal
 
 pub returns-in-Some-clause-children : goal.returns-in-Some-clause-children
@@ -24,7 +26,7 @@ returns-in-Some-clause-others c =
     elsewhere_same c.args.nodes.now (c.get_mut.follows.lender c.clear_child.new.node) c.args.level c.args.place c.in-Some.node.now c.clear_child.new.node ((c.get_mut.follows.holds c.clear_child.new.node).3 (subst IsSome c.in-Some.ensures.value refl)).0 c.in-Some.ensures.value
 
 pub returns-in-Some-clause-count : goal.returns-in-Some-clause-count
-returns-in-Some-clause-count c = set_one c.args.nodes.now (c.get_mut.follows.lender c.clear_child.new.node) (c.args.level, c.args.place) c.in-Some.node.now c.clear_child.new.node c.in-Some.ensures.value (c.get_mut.follows.holds c.clear_child.new.node).0
+returns-in-Some-clause-count c = set_one spot_cmp node_mark c.args.nodes.now (c.get_mut.follows.lender c.clear_child.new.node) (c.args.level, c.args.place) c.in-Some.node.now c.clear_child.new.node c.in-Some.ensures.value (c.get_mut.follows.holds c.clear_child.new.node).0
 
 pub returns-in-Some-clause-ordered : goal.returns-in-Some-clause-ordered
 returns-in-Some-clause-ordered c =

@@ -1,5 +1,5 @@
 use Rattle.std.proofs.Common.{◌+◌, ap, arith}
-use Rattle.std.specs.BTreeMap.{btree_map_len}
+use Rattle.fv_tree.specs.Costs.{cells_changed}
 use Rattle.fv_tree.proofs.Bordered.{way_marks}
 use Rattle.fv_tree.proofs.erase.cut_way.Goals as goal
 
@@ -10,7 +10,7 @@ returns-clause-differs c =
     let few = t.few in
     let some = c.requires.some in
     let same = c.forget_way.ensures.levels in
-    let kept = ap (λ m. btree_map_len m) c.stamp_above.ensures.cells in record {
+    let kept = ap cells_changed c.stamp_above.ensures.cells in record {
       marks = way_marks t v c.stamp_above.new.tree c.clear_slot.new.nodes c.args.index (c.args.lost + 1) c.width.result c.forget_way.ensures.marks (omega arith) (omega (arith, some, few)) c.width.ensures.is c.clear_slot.ensures.others (c.stamp_above.ensures.marks (omega (arith, some, same)));
       cells = omega (arith, kept, c.forget_way.ensures.fewer);
       ordered = c.stamp_above.ensures.ordered c.clear_slot.ensures.ordered;

@@ -1,6 +1,6 @@
 use Rattle.std.proofs.Common.{◌≡◌, ◌≢◌, ◌<◌, ◌≤◌, ◌⊎◌, ◌/◌, ◌^◌, ℕ, None}
 use Rattle.std.specs.Ordering.{nat_cmp}
-use Rattle.fv_tree.specs.Costs.{pending}
+use Rattle.fv_tree.specs.Costs.{cells_changed, pending}
 use Rattle.fv_tree.specs.Carried.{MarksNoMore}
 use Rattle.std.specs.BTreeMap as tree_map
 use Rattle.fv_model.specs.Trees.{fan, spot_cmp}
@@ -15,6 +15,6 @@ invariant-loop-below l = record {
   nodes : (level place : ℕ) → (l.below < level) ⊎ (place ≢ l.index / fan ^ level) → tree_map.get spot_cmp l.tree.nodes (level, place) ≡ tree_map.get spot_cmp l.fn.tree.nodes (level, place);
   pending : pending l.tree ≤ pending l.fn.tree;
   marks : MarksNoMore l.fn.tree l.tree;
-  fewer : tree_map.btree_map_len l.tree.cells ≤ tree_map.btree_map_len l.fn.tree.cells;
+  fewer : cells_changed l.tree.cells ≤ cells_changed l.fn.tree.cells;
   gone : (level : ℕ) → 1 ≤ level → level ≤ l.below → tree_map.get spot_cmp l.tree.nodes (level, l.index / fan ^ level) ≡ None;
 }

@@ -11,7 +11,7 @@ use Rattle.fv_tree.specs.declared.kept.KeptCell.{KeptCell}
 use Rattle.fv_tree.specs.declared.kept.KeptNode.{KeptNode}
 use Rattle.fv_tree.specs.Spelled.{hole}
 use Rattle.fv_tree.specs.Writing.{stamped}
-use Rattle.fv_tree.specs.Flushing.{node_changed, cell_placed, placed_in, placed_of, changed_of}
+use Rattle.fv_tree.specs.Flushing.{node_changed, cell_changed, cell_placed, placed_in, placed_of, changed_of}
 use Rattle.fv_tree.proofs.Bordered.{cleared_marks}
 use Rattle.fv_tree.proofs.erase.unlink.Goals as goal
 
@@ -35,7 +35,7 @@ changed_as : (t u : Tree) (i level place : ℕ) → place ≢ i / fan ^ level
     → ((level place : ℕ) → place ≢ i / fan ^ level → tree.get spot_cmp u.nodes (level, place) ≡ tree.get spot_cmp t.nodes (level, place))
     → changed_of u level place ≡ changed_of t level place
 changed_as t u i level place differs cells nodes = elim (cases_eq level 0) [
-  | inl low ↦ let test : (level == 0) ≡ true = grind (arith, nat_tests) in rw test (ap is_some (cells place (cell_apart i 0 level place (inr differs) low)))
+  | inl low ↦ let test : (level == 0) ≡ true = grind (arith, nat_tests) in rw test (ap cell_changed (cells place (cell_apart i 0 level place (inr differs) low)))
   | inr high ↦ let test : (level == 0) ≡ false = grind (arith, nat_tests) in rw test (ap node_changed (nodes level place differs))
 ]
 

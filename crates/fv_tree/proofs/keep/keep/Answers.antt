@@ -3,7 +3,8 @@ use Rattle.std.specs.Option.{option_map}
 use Rattle.std.specs.BTreeMap as tree
 use Rattle.fv_model.specs.Trees.{spot_cmp}
 use Rattle.fv_tree.specs.declared.kept.KeptNode.{KeptNode}
-use Rattle.fv_tree.proofs.Differing.{put_none, put_one, same_count}
+use Rattle.fv_tree.proofs.Differing.{node_mark, spot_total}
+use Rattle.fv_tree.proofs.MapMarks.{put_none, put_one, same_count}
 use Rattle.fv_tree.proofs.Spots.{same_spot, mapped}
 use Rattle.fv_tree.proofs.keep.keep.Goals as goal
 
@@ -16,13 +17,13 @@ returns-in-Ok-clause-kept c = λ k q.
     c.in-Ok.ensures.updates.0 (k, q) ∙ ap (λ b. cond b (Some c.args.node) (tree.get spot_cmp c.args.tree.now.nodes (k, q))) (same_spot c.args.level c.args.place k q)
 
 pub returns-in-Ok-clause-changes : goal.returns-in-Ok-clause-changes
-returns-in-Ok-clause-changes c = put_one c.args.tree.now.nodes c.insert.new.self (c.args.level, c.args.place) c.args.node c.insert.ensures.was_ordered c.in-Ok.ensures.entries
+returns-in-Ok-clause-changes c = put_one spot_cmp node_mark c.args.tree.now.nodes c.insert.new.self spot_total (c.args.level, c.args.place) c.args.node c.insert.ensures.was_ordered c.in-Ok.ensures.entries
 
 pub returns-in-Ok-clause-unchanged : goal.returns-in-Ok-clause-unchanged
-returns-in-Ok-clause-unchanged c = put_none c.args.tree.now.nodes c.insert.new.self (c.args.level, c.args.place) c.args.node c.insert.ensures.was_ordered c.in-Ok.ensures.entries
+returns-in-Ok-clause-unchanged c = put_none spot_cmp node_mark c.args.tree.now.nodes c.insert.new.self spot_total (c.args.level, c.args.place) c.args.node c.insert.ensures.was_ordered c.in-Ok.ensures.entries
 
 pub returns-in-Err-clause-changes : goal.returns-in-Err-clause-changes
-returns-in-Err-clause-changes c = let same = same_count c.args.tree.now.nodes c.insert.new.self c.in-Err.ensures.err in omega (arith, same)
+returns-in-Err-clause-changes c = let same = same_count spot_cmp node_mark c.args.tree.now.nodes c.insert.new.self c.in-Err.ensures.err in omega (arith, same)
 
 pub returns-in-Err-clause-unchanged : goal.returns-in-Err-clause-unchanged
-returns-in-Err-clause-unchanged c = λ _. same_count c.args.tree.now.nodes c.insert.new.self c.in-Err.ensures.err
+returns-in-Err-clause-unchanged c = λ _. same_count spot_cmp node_mark c.args.tree.now.nodes c.insert.new.self c.in-Err.ensures.err

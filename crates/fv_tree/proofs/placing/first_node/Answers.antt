@@ -1,7 +1,7 @@
 use Rattle.std.proofs.Common.{inl, inr, IsSome, subst, sym, refl}
 use Rattle.std.specs.BTreeMap as maps
 use Rattle.fv_model.specs.Trees.{spot_cmp}
-use Rattle.fv_tree.proofs.Flushed.{there}
+use Rattle.fv_tree.proofs.Cases.{there}
 use Rattle.fv_tree.proofs.Spots.{below_first}
 use Rattle.fv_tree.proofs.placing.first_node.Goals as goal
 

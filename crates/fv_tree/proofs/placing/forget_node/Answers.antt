@@ -1,7 +1,8 @@
 use Rattle.std.proofs.Common.{refl, cond, None, ap, ◌∙◌}
 use Rattle.std.specs.BTreeMap as maps
 use Rattle.fv_model.specs.Trees.{spot_cmp}
-use Rattle.fv_tree.proofs.Differing.{no_more, one_fewer}
+use Rattle.fv_tree.proofs.Differing.{node_fewer, node_mark}
+use Rattle.fv_tree.proofs.MapMarks.{no_more}
 use Rattle.fv_tree.proofs.Spots.{spot_differs}
 use Rattle.fv_tree.proofs.placing.forget_node.Goals as goal
 
@@ -16,7 +17,7 @@ returns-clause-forgets c = record {
 }
 
 pub returns-clause-changes : goal.returns-clause-changes
-returns-clause-changes c = no_more c.args.tree.now.nodes c.remove.new.self (c.args.level, c.args.place) c.remove.ensures.entries
+returns-clause-changes c = no_more spot_cmp node_mark c.args.tree.now.nodes c.remove.new.self (c.args.level, c.args.place) c.remove.ensures.entries
 
 pub returns-clause-fewer : goal.returns-clause-fewer
-returns-clause-fewer c = one_fewer c.args.tree.now.nodes c.remove.new.self (c.args.level, c.args.place) c.remove.ensures.entries
+returns-clause-fewer c = node_fewer c.args.tree.now.nodes c.remove.new.self (c.args.level, c.args.place) c.remove.ensures.entries

@@ -3,7 +3,7 @@ use Rattle.std.specs.Option.{option_map}
 use Rattle.fv_tree.specs.declared.kept.KeptNode.{KeptNode}
 use Rattle.fv_tree.specs.Flushing.{node_placed}
 use Rattle.fv_tree.proofs.Observed.{elsewhere_same, observed, changed_still}
-use Rattle.fv_tree.proofs.Differing.{set_again}
+use Rattle.fv_tree.proofs.Differing.{node_again}
 use Rattle.fv_tree.proofs.placing.point_slot.Goals as goal
 
 pub returns-in-Some-clause-others : goal.returns-in-Some-clause-others
@@ -19,4 +19,4 @@ returns-in-Some-clause-changed c =
     changed_still c.args.nodes.now (c.get_mut.follows.lender c.point_child.new.node) c.args.level c.args.place c.in-Some.node.now c.point_child.new.node ((c.get_mut.follows.holds c.point_child.new.node).3 (subst IsSome c.in-Some.ensures.value refl)).0 c.in-Some.ensures.value c.point_child.ensures.changed
 
 pub returns-in-Some-clause-again : goal.returns-in-Some-clause-again
-returns-in-Some-clause-again c = set_again c.args.nodes.now (c.get_mut.follows.lender c.point_child.new.node) (c.args.level, c.args.place) c.in-Some.node.now c.point_child.new.node c.in-Some.ensures.value (c.get_mut.follows.holds c.point_child.new.node).0
+returns-in-Some-clause-again c = node_again c.args.nodes.now (c.get_mut.follows.lender c.point_child.new.node) (c.args.level, c.args.place) c.in-Some.node.now c.point_child.new.node c.in-Some.ensures.value (c.get_mut.follows.holds c.point_child.new.node).0

@@ -4,7 +4,7 @@ use Rattle.std.specs.BTreeMap as tree
 use Rattle.std.specs.Ordering.{nat_cmp}
 use Rattle.std.specs.Option.{option_map}
 use Rattle.fv_codec.specs.declared.pointer.Pointer.{Pointer}
-use Rattle.fv_model.specs.Trees.{fan, Spot, spot_cmp}
+use Rattle.fv_model.specs.Trees.{fan, Spot}
 use Rattle.fv_tree.specs.declared.kept.KeptNode.{KeptNode}
 use Rattle.fv_tree.specs.declared.kept.KeptCell.{KeptCell}
 use Rattle.fv_tree.specs.Spelled.{pointer_at}
@@ -13,9 +13,7 @@ use Rattle.fv_tree.specs.Standing.{standing, under, children_in}
 use Rattle.fv_tree.specs.Erasing.{StandsAt}
 use Rattle.fv_tree.specs.Writing.{IsAlike}
 use Rattle.fv_tree.specs.Flushing.{placed_in}
-use Rattle.fv_tree.specs.Carried.{kept_at}
 use Rattle.fv_tree.proofs.Causes.{at_err}
-use Rattle.fv_tree.proofs.Gone.{map_some}
 use Rattle.fv_tree.proofs.Held.{same_self}
 use Rattle.fv_tree.proofs.Leading.{carries_itself, carries_cells, carries_then}
 use Rattle.fv_tree.proofs.Ready.{cell_kept, cell_pointers, cell_there}
@@ -85,10 +83,6 @@ returns-clause-ready g c = λ _.
       cell = filled_cell (tree.get nat_cmp u.cells i) (ap (λ (m : tree.BTreeMap ℕ KeptCell). is_some (tree.get nat_cmp m i)) marked.fields.cells ∙ cell_there v w i c.args.block.now cell.cell);
       way = way_as v u i (marked.fields.levels ∙ cell.fields.levels) (marked.fields.root ∙ cell.fields.root)
           (λ level place. marked.nodes level place ∙ ap (λ (nodes : tree.BTreeMap Spot KeptNode). children_in nodes level place) cell.fields.nodes) (path.way c.if-pointer-eq0.false);
-      marked = λ level low high.
-          let node = has_way v i (path.way c.if-pointer-eq0.false) level low (let same = levels in let old = path.fields.levels in omega (arith, high, same, old)) in
-          marked.marks.way level low (let same = marked.fields.levels in omega (arith, high, same))
-          (ap is_some (ap (λ (nodes : tree.BTreeMap Spot KeptNode). tree.get spot_cmp nodes (level, i / fan ^ level)) cell.fields.nodes ∙ (map_some (λ (kept : KeptNode). kept.children) (kept_at v level (i / fan ^ level)) node.0 node.1).1));
     }
 
 pub returns-clause-done : goal.returns-clause-done
@@ -121,7 +115,7 @@ returns-clause-carries g c = λ told.
     (remarked_is (under new) w u i marked.fields marked.nodes marked.marks
     (λ none. there (ap (λ (p : Pointer). p.stamp) (sym (cell_pointers (under new) v w i true cell.fields cell.own cell.others 0 i)) ∙ none))
     (λ level low high. cell_kept (under new) v w i true cell.fields cell.own cell.others level (path.kept told level low (omega (arith, high, levels))))
-    (cell_there v w i c.args.block.now cell.cell)))
+    cell.changed))
 
 pub returns-in_err-keep_cell-clause-keeps_ready : goal.returns-in_err-keep_cell-clause-keeps_ready
 returns-in_err-keep_cell-clause-keeps_ready g c =
@@ -136,7 +130,7 @@ returns-clause-keeps_ready g c =
     let marked = c.mark_path.ensures in
     ready_then c.args.tree.now v u c.keep_path.ensures.keeps_ready (ready_then v w u
     (cells_put v w c.args.index c.args.block.now c.keep_cell.ensures.fields c.in_ok-keep_cell.ensures.cell)
-    (marks_ready w u c.args.index marked.fields marked.nodes marked.marks))
+    (marks_ready w u marked.fields marked.nodes))
 
 pub returns-in_err-pointer-clause-held : goal.returns-in_err-pointer-clause-held
 returns-in_err-pointer-clause-held g c = λ ready.

@@ -1,20 +1,27 @@
-use Rattle.std.proofs.Common.{◌≡◌, ◌≢◌, ℕ, List, Option, Some, None, cond, is_some, refl, sym, ap, subst, ◌∙◌, arith}
-use Rattle.std.proofs.lemmas.Result.{IfOk-weaker, IfErr-weaker, err_from_is_err_and}
+use Rattle.std.proofs.Common.{◌≡◌, ◌≢◌, ◌<◌, ◌^◌, ℕ, List, Option, Some, None, cond, is_some, refl, sym, ap, subst, ◌∙◌, arith}
+use Rattle.std.proofs.lemmas.Result.{err_from_is_err_and}
 use Rattle.std.specs.Ordering.{nat_cmp}
 use Rattle.std.specs.FinMap as fin
+use Rattle.std.specs.BTreeMap as tree
+use Rattle.std.specs.Option.{option_map}
+use Rattle.fv_model.specs.Trees.{fan, Spot}
+use Rattle.fv_tree.specs.declared.kept.KeptNode.{KeptNode}
+use Rattle.fv_tree.specs.declared.kept.KeptCell.{KeptCell}
 use Rattle.fv_codec.specs.declared.pointer.Pointer.{Pointer}
-use Rattle.fv_tree.specs.Spelled.{pointer_at, stamp_in, block_at}
-use Rattle.fv_tree.specs.Standing.{standing, under}
-use Rattle.fv_tree.specs.Keeping.{IsSame}
+use Rattle.fv_tree.specs.Spelled.{pointer_at, block_at}
+use Rattle.fv_tree.specs.Standing.{standing, under, children_in}
 use Rattle.fv_tree.specs.Writing.{IsAlike}
-use Rattle.fv_tree.proofs.Causes.{calm_then, cell_fails, fails_later, fails_same}
+use Rattle.fv_tree.proofs.Causes.{cell_fails, fails_later, fails_same}
 use Rattle.fv_tree.proofs.Flushes.{alike_then}
 use Rattle.fv_tree.proofs.Held.{same_self}
-use Rattle.fv_tree.proofs.Leading.{carries_itself, carries_then, carries_untouched}
+use Rattle.fv_tree.proofs.HeldCells.{carries_held, held_alike, held_ready, held_there}
+use Rattle.fv_tree.proofs.Leading.{carries_cells, carries_itself, carries_then, carries_untouched}
+use Rattle.fv_tree.proofs.Readied.{way_as}
+use Rattle.fv_tree.proofs.StillReady.{cells_same, ready_then}
+use Rattle.fv_tree.proofs.Erased.{stamp_there}
 use Rattle.fv_tree.proofs.Ready.{is_stamped}
 use Rattle.fv_tree.proofs.Removing.{none_past}
-use Rattle.fv_tree.proofs.Rewritten.{refilled_any}
-use Rattle.fv_tree.proofs.Writes.{no_stamp, same_alike}
+use Rattle.fv_tree.proofs.Writes.{no_stamp, same_alike, same_standing}
 use Rattle.fv_tree.proofs.rewrite.ready_cell.Goals as goal
 
 pub returns-then-index-width-clause-there : goal.returns-then-index-width-clause-there
@@ -68,13 +75,54 @@ returns-in_err-read_cell-clause-cause g c =
     (fails_same g.B.Blocks.told t v b d e path.same
     (cell_fails g.B.Blocks.told v b d c.args.index c.in_ok-pointer.pointer e refl (λ told. path.pointer told ∙ sym ((path.same told).pointers 0 c.args.index)) c.in_err-read_cell.ensures.held c.in_err-read_cell.ensures.cause)))
 
+pub returns-in_err-hold_cell-clause-alike : goal.returns-in_err-hold_cell-clause-alike
+returns-in_err-hold_cell-clause-alike g c = λ told.
+    let t = standing (under (g.B.Blocks.shown c.args.blocks.now)) c.args.tree.now in
+    let v = c.keep_path.new.tree in
+    let d = under (g.B.Blocks.shown c.read_cell.new.blocks) in
+    let same = same_standing d v c.hold_cell.new.tree c.hold_cell.ensures.fields (λ i. ap (option_map (λ (kept : KeptCell). kept.block)) (c.in_err-hold_cell.ensures.same i)) in
+    subst (IsAlike t) (sym same) (subst (λ (h : fin.FinMap nat_cmp (List ℕ)). IsAlike t (standing (λ w. fin.get h w) v)) (sym c.read_cell.ensures.untouched.held)
+    (same_alike t (standing (under (g.B.Blocks.shown c.keep_path.new.blocks)) v) (c.keep_path.ensures.same told)))
+
+pub returns-in_err-hold_cell-clause-carries : goal.returns-in_err-hold_cell-clause-carries
+returns-in_err-hold_cell-clause-carries g c = λ told.
+    let b = g.B.Blocks.shown c.keep_path.new.blocks in
+    let d = g.B.Blocks.shown c.read_cell.new.blocks in
+    let v = c.keep_path.new.tree in
+    let u = c.hold_cell.new.tree in
+    carries_then (g.B.Blocks.shown c.args.blocks.now) b d c.args.tree.now v u (c.keep_path.ensures.carries told)
+    (carries_then b d d v v u (carries_untouched b d v c.read_cell.ensures.untouched) (carries_cells d v u c.hold_cell.ensures.fields c.in_err-hold_cell.ensures.same))
+
+pub returns-in_err-hold_cell-clause-keeps_ready : goal.returns-in_err-hold_cell-clause-keeps_ready
+returns-in_err-hold_cell-clause-keeps_ready g c =
+    ready_then c.args.tree.now c.keep_path.new.tree c.hold_cell.new.tree c.keep_path.ensures.keeps_ready
+    (cells_same c.keep_path.new.tree c.hold_cell.new.tree c.hold_cell.ensures.fields (λ i. ap (option_map (λ (kept : KeptCell). kept.block)) (c.in_err-hold_cell.ensures.same i)))
+
 pub returns-clause-there : goal.returns-clause-there
 returns-clause-there g c = λ told.
-    let v = c.keep_path.new.tree in
-    IfOk-weaker c.refill_cell.result _ _ (λ there is.
-    ap (λ (p : Pointer). is_some (stamp_in p)) (sym (ap (λ (h : fin.FinMap nat_cmp (List ℕ)). pointer_at (standing (λ w. fin.get h w) v) 0 c.args.index) c.read_cell.ensures.untouched.held ∙ (c.keep_path.ensures.same told).pointers 0 c.args.index))
-    ∙ is.stands) (c.refill_cell.ensures.done told)
+    let t = standing (under (g.B.Blocks.shown c.args.blocks.now)) c.args.tree.now in
+    ap is_some (stamp_there (pointer_at t 0 c.args.index) (λ none. c.if-pointer-eq0.false (ap (λ (p : Pointer). p.stamp) (c.in_ok-pointer.ensures.pointer told) ∙ none)))
 
+pub returns-clause-ready : goal.returns-clause-ready
+returns-clause-ready g c = λ _.
+    let v = c.keep_path.new.tree in
+    let u = c.hold_cell.new.tree in
+    let i = c.args.index in
+    let path = c.in_ok-pointer.ensures in
+    let holds = c.in_ok-hold_cell.ensures.holds in
+    let levels : u.levels ≡ c.args.tree.now.levels = holds.fields.levels ∙ path.fields.levels in
+    let within : i < fan ^ c.args.tree.now.levels = omega (arith, c.if-index-width.false, c.width.ensures.is) in record {
+      covers = subst (λ n. i < fan ^ n) (sym levels) within;
+      cell = held_there v u i c.read_cell.new.into holds;
+      way = way_as v u i holds.fields.levels holds.fields.root (λ level place. ap (λ (nodes : tree.BTreeMap Spot KeptNode). children_in nodes level place) holds.fields.nodes) (path.way c.if-pointer-eq0.false);
+    }
+
+pub returns-clause-keeps_ready : goal.returns-clause-keeps_ready
+returns-clause-keeps_ready g c =
+    ready_then c.args.tree.now c.keep_path.new.tree c.hold_cell.new.tree c.keep_path.ensures.keeps_ready
+    (held_ready c.keep_path.new.tree c.hold_cell.new.tree c.args.index c.read_cell.new.into c.in_ok-hold_cell.ensures.holds)
+
+-- the cell stands over the blocks as they are after the read, with the content that was read
 pub returns-clause-alike : goal.returns-clause-alike
 returns-clause-alike g c = λ told.
     let a = g.B.Blocks.shown c.args.blocks.now in
@@ -82,7 +130,7 @@ returns-clause-alike g c = λ told.
     let d = g.B.Blocks.shown c.read_cell.new.blocks in
     let t = standing (under a) c.args.tree.now in
     let v = c.keep_path.new.tree in
-    let u = standing (under (g.B.Blocks.shown c.refill_cell.new.blocks)) c.refill_cell.new.tree in
+    let u = c.hold_cell.new.tree in
     let i = c.args.index in
     let path = c.in_ok-pointer.ensures in
     let held = c.read_cell.ensures.untouched.held in
@@ -93,29 +141,22 @@ returns-clause-alike g c = λ told.
     (ap (λ (p : Pointer). p.stamp) (path.pointer told ∙ sym (ap (λ (h : fin.FinMap nat_cmp (List ℕ)). pointer_at (standing (λ w. fin.get h w) v) 0 i) held ∙ (path.same told).pointers 0 i)) ∙ none) in
     let block : block_at (standing (under d) v) i ≡ Some content =
     ap (λ (h : fin.FinMap nat_cmp (List ℕ)). block_at (standing (λ w. fin.get h w) v) i) held ∙ read.cell told ∙ ap (λ there. cond {A = Option (List ℕ)} there (Some content) None) (read.there ∙ is_stamped c.in_ok-pointer.pointer c.if-pointer-eq0.false) in
-    alike_then t (standing (under d) v) u first (refilled_any c.refill_cell.result (standing (under d) v) u i content (c.refill_cell.ensures.done told) (c.refill_cell.ensures.failed told) some block)
+    alike_then t (standing (under d) v) (standing (under d) u) first (held_alike v u i content c.in_ok-hold_cell.ensures.holds (under d) some block)
 
 pub returns-clause-carries : goal.returns-clause-carries
 returns-clause-carries g c = λ told.
     let a = g.B.Blocks.shown c.args.blocks.now in
     let b = g.B.Blocks.shown c.keep_path.new.blocks in
     let d = g.B.Blocks.shown c.read_cell.new.blocks in
-    let e = g.B.Blocks.shown c.refill_cell.new.blocks in
     let v = c.keep_path.new.tree in
-    let u = c.refill_cell.new.tree in
-    carries_then a b e c.args.tree.now v u (c.keep_path.ensures.carries told) (carries_then b d e v v u (carries_untouched b d v c.read_cell.ensures.untouched) (c.refill_cell.ensures.carries told))
-
-pub returns-clause-cause : goal.returns-clause-cause
-returns-clause-cause g c =
-    let a = g.B.Blocks.shown c.args.blocks.now in
-    let b = g.B.Blocks.shown c.keep_path.new.blocks in
-    let d = g.B.Blocks.shown c.read_cell.new.blocks in
-    let new = g.B.Blocks.shown c.refill_cell.new.blocks in
-    let t = standing (under a) c.args.tree.now in
-    let v = c.keep_path.new.tree in
+    let u = c.hold_cell.new.tree in
+    let i = c.args.index in
     let path = c.in_ok-pointer.ensures in
+    let held = c.read_cell.ensures.untouched.held in
     let read = c.in_ok-read_cell.ensures in
-    let held = read.untouched.held in
-    let same : g.B.Blocks.told → IsSame t (standing (under d) v) = λ told. subst (λ (h : fin.FinMap nat_cmp (List ℕ)). IsSame t (standing (λ w. fin.get h w) v)) (sym held) (path.same told) in
-    IfErr-weaker c.refill_cell.result _ _ (λ e h. fails_later g.B.Blocks.told t a d new e (calm_then a b d path.counts.calm read.counts.calm) (held ∙ path.untouched.held)
-    (fails_same g.B.Blocks.told t (standing (under d) v) d new e same h)) c.refill_cell.ensures.cause
+    let content = c.read_cell.new.into in
+    let some : (pointer_at (standing (under d) v) 0 i).stamp ≢ 0 = λ none. c.if-pointer-eq0.false
+    (ap (λ (p : Pointer). p.stamp) (path.pointer told ∙ sym (ap (λ (h : fin.FinMap nat_cmp (List ℕ)). pointer_at (standing (λ w. fin.get h w) v) 0 i) held ∙ (path.same told).pointers 0 i)) ∙ none) in
+    let block : block_at (standing (under d) v) i ≡ Some content =
+    ap (λ (h : fin.FinMap nat_cmp (List ℕ)). block_at (standing (λ w. fin.get h w) v) i) held ∙ read.cell told ∙ ap (λ there. cond {A = Option (List ℕ)} there (Some content) None) (read.there ∙ is_stamped c.in_ok-pointer.pointer c.if-pointer-eq0.false) in
+    carries_then a b d c.args.tree.now v u (path.carries told) (carries_then b d d v v u (carries_untouched b d v c.read_cell.ensures.untouched) (carries_held d v u i content c.in_ok-hold_cell.ensures.holds some block))

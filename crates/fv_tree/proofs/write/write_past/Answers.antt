@@ -1,11 +1,10 @@
-use Rattle.std.proofs.Common.{◌≡◌, ◌≤◌, ◌/◌, ℕ, true, inl, inr, ◌^◌, ◌<◌, cond, Some, nat_eq, sym, ap, refl, ◌∙◌, arith, subst}
+use Rattle.std.proofs.Common.{◌≡◌, ◌≤◌, ◌/◌, true, inl, inr, ◌^◌, ◌<◌, cond, Some, nat_eq, sym, ap, refl, ◌∙◌, arith, subst}
 use Rattle.std.specs.BTreeMap as tree
 use Rattle.std.proofs.Math.Nat.{div-eq_of_lt, pow-le-pow_right}
 use Rattle.std.proofs.lemmas.Bool.{cases_eq, cases_lt}
 use Rattle.fv_model.specs.Trees.{fan, Spot}
 use Rattle.fv_tree.specs.declared.kept.KeptNode.{KeptNode}
-use Rattle.fv_tree.specs.declared.kept.KeptCell.{KeptCell}
-use Rattle.fv_tree.specs.Costs.{changes_in}
+use Rattle.fv_tree.specs.Costs.{cells_changed, changes_in}
 use Rattle.fv_tree.specs.Standing.{standing, cell_in, IsSameButCells}
 use Rattle.fv_tree.specs.Writing.{IsAlike, HasNewLevels}
 use Rattle.fv_tree.proofs.Causes.{at_err}
@@ -76,7 +75,7 @@ returns-clause-stands c =
     let grown = c.in_ok-keep_new_levels.ensures in
     let cell = c.in_ok-keep_cell.ensures in
     grows_sound c.args.tree.now c.keep_new_levels.new.tree c.keep_cell.new.tree c.raise.new.tree c.stamp_path.new.tree c.args.index c.args.stamp c.levels_over-levels.result c.args.block.now
-    c.requires.past c.levels_over-levels.ensures.least c.levels_over-levels.ensures.covers grown.fields grown.grows grown.brings grown.blank grown.tops cell.fields cell.cell cell.own cell.others
+    c.requires.past c.levels_over-levels.ensures.least c.levels_over-levels.ensures.covers grown.fields grown.grows grown.brings grown.blank grown.tops cell.fields cell.cell cell.changed cell.own cell.others
     c.raise.ensures.owner c.raise.ensures.nodes c.raise.ensures.cells c.raise.ensures.levels c.raise.ensures.root c.stamp_path.ensures.stamps c.stamp_path.ensures.marks c.requires.stamp
 
 pub returns-clause-leads : goal.returns-clause-leads
@@ -84,7 +83,7 @@ returns-clause-leads c =
     let grown = c.in_ok-keep_new_levels.ensures in
     let cell = c.in_ok-keep_cell.ensures in
     grows_leads c.args.tree.now c.keep_new_levels.new.tree c.keep_cell.new.tree c.raise.new.tree c.stamp_path.new.tree c.args.index c.args.stamp c.levels_over-levels.result c.args.block.now
-    c.requires.past c.levels_over-levels.ensures.least c.levels_over-levels.ensures.covers grown.fields grown.grows grown.brings grown.blank grown.tops cell.fields cell.cell cell.own cell.others
+    c.requires.past c.levels_over-levels.ensures.least c.levels_over-levels.ensures.covers grown.fields grown.grows grown.brings grown.blank grown.tops cell.fields cell.cell cell.changed cell.own cell.others
     c.raise.ensures.owner c.raise.ensures.nodes c.raise.ensures.cells c.raise.ensures.levels c.raise.ensures.root c.stamp_path.ensures.stamps c.stamp_path.ensures.marks c.requires.stamp
 
 pub returns-clause-keeps : goal.returns-clause-keeps
@@ -92,7 +91,7 @@ returns-clause-keeps c =
     let grown = c.in_ok-keep_new_levels.ensures in
     let cell = c.in_ok-keep_cell.ensures in
     grows_keeps c.args.tree.now c.keep_new_levels.new.tree c.keep_cell.new.tree c.raise.new.tree c.stamp_path.new.tree c.args.index c.args.stamp c.levels_over-levels.result c.args.block.now
-    c.requires.past c.levels_over-levels.ensures.least c.levels_over-levels.ensures.covers grown.fields grown.grows grown.brings grown.blank grown.tops cell.fields cell.cell cell.own cell.others
+    c.requires.past c.levels_over-levels.ensures.least c.levels_over-levels.ensures.covers grown.fields grown.grows grown.brings grown.blank grown.tops cell.fields cell.cell cell.changed cell.own cell.others
     c.raise.ensures.owner c.raise.ensures.nodes c.raise.ensures.cells c.raise.ensures.levels c.raise.ensures.root c.stamp_path.ensures.stamps c.stamp_path.ensures.marks c.requires.stamp
 
 pub returns-in_err-keep_new_levels-clause-leads : goal.returns-in_err-keep_new_levels-clause-leads
@@ -138,8 +137,8 @@ returns-clause-pending c =
     let cell = c.in_ok-keep_cell.ensures in
     let few = c.levels_over-levels.ensures.few in
     let rises : v.levels ≡ levels = c.raise.ensures.levels in
-    let cells : tree.btree_map_len u.cells ≡ tree.btree_map_len h.cells = ap (λ (m : tree.BTreeMap ℕ KeptCell). tree.btree_map_len m) (c.stamp_path.ensures.stamps.cells ∙ c.raise.ensures.cells) in
-    let before : tree.btree_map_len t.cells ≡ tree.btree_map_len s.cells = ap (λ (m : tree.BTreeMap ℕ KeptCell). tree.btree_map_len m) grown.fields.cells in
+    let cells : cells_changed u.cells ≡ cells_changed h.cells = ap cells_changed (c.stamp_path.ensures.stamps.cells ∙ c.raise.ensures.cells) in
+    let before : cells_changed t.cells ≡ cells_changed s.cells = ap cells_changed grown.fields.cells in
     let nodes : v.nodes ≡ t.nodes = c.raise.ensures.nodes ∙ cell.fields.nodes in
     let same : changes_in v.nodes ≡ changes_in t.nodes = ap changes_in nodes in
     let one = cell.count in
@@ -180,7 +179,7 @@ returns-clause-keeps_ready c =
     let grown = c.in_ok-keep_new_levels.ensures in
     let cell = c.in_ok-keep_cell.ensures in
     grows_ready c.args.tree.now c.keep_new_levels.new.tree c.keep_cell.new.tree c.raise.new.tree c.stamp_path.new.tree c.args.index c.args.stamp c.levels_over-levels.result c.args.block.now
-    c.requires.past c.levels_over-levels.ensures.least c.levels_over-levels.ensures.covers grown.fields grown.grows grown.brings grown.blank grown.tops cell.fields cell.cell cell.own cell.others
+    c.requires.past c.levels_over-levels.ensures.least c.levels_over-levels.ensures.covers grown.fields grown.grows grown.brings grown.blank grown.tops cell.fields cell.cell cell.changed cell.own cell.others
     c.raise.ensures.owner c.raise.ensures.nodes c.raise.ensures.cells c.raise.ensures.levels c.raise.ensures.root c.stamp_path.ensures.stamps c.stamp_path.ensures.marks c.requires.stamp
 
 pub returns-in_err-keep_new_levels-clause-hints : goal.returns-in_err-keep_new_levels-clause-hints
@@ -203,5 +202,5 @@ returns-clause-hints c =
     let grown = c.in_ok-keep_new_levels.ensures in
     let cell = c.in_ok-keep_cell.ensures in
     grows_hints c.args.tree.now c.keep_new_levels.new.tree c.keep_cell.new.tree c.raise.new.tree c.stamp_path.new.tree c.args.index c.args.stamp c.levels_over-levels.result c.args.block.now
-    c.requires.past c.levels_over-levels.ensures.least c.levels_over-levels.ensures.covers grown.fields grown.grows grown.brings grown.blank grown.tops cell.fields cell.cell cell.own cell.others
+    c.requires.past c.levels_over-levels.ensures.least c.levels_over-levels.ensures.covers grown.fields grown.grows grown.brings grown.blank grown.tops cell.fields cell.cell cell.changed cell.own cell.others
     c.raise.ensures.owner c.raise.ensures.nodes c.raise.ensures.cells c.raise.ensures.levels c.raise.ensures.root c.stamp_path.ensures.stamps c.stamp_path.ensures.marks c.requires.stamp

@@ -5,7 +5,7 @@ use Rattle.fv_tree.specs.Spelled.{pointer_at}
 use Rattle.fv_tree.specs.Sources.{Shown}
 use Rattle.fv_tree.specs.Flushing.{placed_in}
 use Rattle.fv_tree.proofs.Leading.{carries_cells, carries_then}
-use Rattle.fv_tree.proofs.Ready.{marked_is, cell_kept, cell_there, unstamped, is_stamped}
+use Rattle.fv_tree.proofs.Ready.{marked_is, cell_kept, unstamped, is_stamped}
 use Rattle.fv_tree.specs.Standing.{standing, under}
 use Rattle.fv_tree.specs.Writing.{IsAlike}
 use Rattle.fv_tree.proofs.Causes.{at_err}
@@ -65,7 +65,7 @@ returns-clause-carries g c = λ told.
     (carries_within new w v u i named cell.fields cell.own cell.others (λ e. unstamped c.in_ok-pointer.pointer (same ∙ e)) (λ there. is_stamped c.in_ok-pointer.pointer (λ e. there (sym same ∙ e))) unplaced covers
     (marked_is (under new) v u i c.args.stamp c.stamp_path.ensures.stamps c.stamp_path.ensures.marks some covers
     (λ level low high. cell_kept (under new) w v i named cell.fields cell.own cell.others level (path.kept told level low (omega (arith, high, levels))))
-    (cell_there w v i c.args.block.now cell.cell)))
+    cell.changed))
 
 pub returns-in_err-keep_cell-clause-keeps_ready : goal.returns-in_err-keep_cell-clause-keeps_ready
 returns-in_err-keep_cell-clause-keeps_ready g c =
@@ -79,4 +79,4 @@ returns-clause-keeps_ready g c =
     let u = c.stamp_path.new.tree in
     ready_then c.args.tree.now w u c.keep_path.ensures.keeps_ready (ready_then w v u
     (cells_put w v c.args.index c.args.block.now c.keep_cell.ensures.fields c.in_ok-keep_cell.ensures.cell)
-    (stamps_ready v u c.args.index c.args.stamp c.stamp_path.ensures.stamps c.stamp_path.ensures.marks (λ e. absurd (omega (arith, e, c.requires.stamp)))))
+    (stamps_ready v u c.args.index c.args.stamp c.stamp_path.ensures.stamps (λ e. absurd (omega (arith, e, c.requires.stamp)))))

@@ -1,5 +1,5 @@
-use Rattle.std.proofs.Common.{◌≡◌, ◌≤◌, ◌+◌, ◌⊎◌, ℕ, rules, Err, Some, true≢false, refl, sym, subst, ◌∙◌, ⊎_elim}
-use Rattle.std.specs.Prelude.{IsNone, Result}
+use Rattle.std.proofs.Common.{◌≡◌, ◌≤◌, ◌+◌, ◌⊎◌, ℕ, List, rules, Err, Some, true≢false, inr, refl, sym, subst, ◌∙◌, ⊎_elim}
+use Rattle.std.specs.Prelude.{IsNone, IsSome, Result}
 use Rattle.fv_model.specs.Space.{overhead, span_of}
 use Rattle.fv_volume.specs.Slots.{NoneHasName}
 use Rattle.fv_cp.specs.Lent.{FitTogether}
@@ -9,7 +9,7 @@ use Rattle.fv_model.specs.declared.answers.Reply.{Reply}
 use Rattle.fv_model.specs.declared.answers.Reply.TheVariants.{Names}
 use Rattle.fv_aggregate.specs.declared.fault.Fault.{Fault}
 use Rattle.fv_aggregate.specs.declared.fault.Fault.TheVariants.{Failed, Memory}
-use Rattle.fv_aggregate.specs.Calls.{GoesFor, IsPlain}
+use Rattle.fv_aggregate.specs.Calls.{GoesFor, IsPlain, LacksSnapshot}
 use Rattle.fv_aggregate.specs.Commands.{volume_asked, changed_by, dirty_limit, machine_after, room_of}
 use Rattle.fv_aggregate.proofs.Added.{not_refused}
 use Rattle.fv_aggregate.proofs.Applied.{cp_asks, cp_built, cp_goes, cp_goes_for, cp_no_files, cp_no_list, cp_no_whole, cp_replies, create_asks, create_built, create_goes, create_goes_for, create_no_files, create_no_list, create_no_point, create_no_whole, create_replies, create_room, list_after, list_done, list_fails, list_replies, no_files, some_room, managed_or_unbuilt, rests_for, rests_for_fault}
@@ -121,6 +121,7 @@ returns-in-Some-asked_volume g c =
       on_files = λ files. record {
         range = λ fresh far. c.look.ensures.range far;
         missing = λ fresh near other of none. c.look.ensures.missing near (subst (NoneHasName s.volumes) (look_name command name asks d s e n c.look.result looks other of) none);
+        lost = λ fresh near other of lacks. c.look.ensures.lost near (subst (λ (n : List ℕ). LacksSnapshot s.volumes n command) (look_name command name asks d s e n c.look.result looks other (inr of)) lacks);
         asked = λ of. looks.read;
         refused = λ tells last m stands. look_refused command name asks d s e n c.look.result looks;
         known = λ finds near other of. named_as s.volumes n.volumes c.look.result other name (look_name command name asks d s e n c.look.result looks other of) (c.look.ensures.finds finds near);
@@ -154,6 +155,7 @@ returns-in-Some-changed_volume g c =
       on_files = λ files. record {
         range = λ fresh far. c.change.ensures.range far;
         missing = λ fresh near other named none. c.change.ensures.missing near (subst (NoneHasName s.volumes) (make_name command name of d s e n c.change.result makes other named) none);
+        lost = λ fresh near other asked lacks. make_unasked command name of d s e n c.change.result makes _ (subst IsSome (sym asked) refl);
         asked = λ asked. make_unasked command name of d s e n c.change.result makes _ asked;
         refused = makes.refused;
         known = λ finds near other named. named_as s.volumes n.volumes c.change.result other name (make_name command name of d s e n c.change.result makes other named) (c.change.ensures.finds finds near);

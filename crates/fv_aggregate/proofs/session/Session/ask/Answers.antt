@@ -1,9 +1,15 @@
-use Rattle.std.proofs.Common.{◌≡◌, length, sym, ap, subst, ◌∙◌}
-use Rattle.std.specs.Prelude.{IsNone}
+use Rattle.std.proofs.Common.{◌≡◌, length, Ok, None, sym, ap, subst, ◌∙◌}
+use Rattle.std.specs.Prelude.{IfSome, IsNone}
+use Rattle.fv_model.specs.declared.answers.Refusal.TheVariants.{NoSnapshot}
+use Rattle.fv_model.specs.declared.answers.Reply.TheVariants.{Refused}
+use Rattle.fv_volume.specs.Asking.{table_named, IsRefusedUnread}
 use Rattle.fv_volume.specs.States.{state_at}
 use Rattle.fv_aggregate.specs.declared.session.Session.{Session}
+use Rattle.fv_aggregate.specs.Calls.{IsUntouched}
+use Rattle.fv_aggregate.specs.Commands.{snapshot_asked}
 use Rattle.fv_aggregate.specs.Looking.{AsksSlot, Replied}
 use Rattle.fv_aggregate.proofs.Asked.{known_by, looks_by, slot_asked}
+use Rattle.fv_aggregate.proofs.Lost.{over_slot, replied_lost}
 use Rattle.fv_aggregate.proofs.Missing.{asked_closed}
 use Rattle.fv_aggregate.proofs.Keeping.{replied_volumes}
 use Rattle.fv_aggregate.proofs.session.Session.ask.Goals as goal
@@ -54,3 +60,22 @@ returns-clause-known g c = λ tells last m held.
 pub returns-clause-volumes : goal.returns-clause-volumes
 returns-clause-volumes g c =
     replied_volumes (g.D.Disk.shown c.ask_slot-asked.new.disk) c.ask_slot-asked.result _ c.replied.new.self c.replied.result c.replied.ensures ∙ c.ask_slot-asked.ensures.same ∙ ap (λ (n : Session). n.volumes) c.self.view_is
+
+pub returns-clause-lost : goal.returns-clause-lost
+returns-clause-lost g c = λ near.
+    let e = g.D.Disk.shown c.ask_slot-asked.new.disk in
+    let s = c.args.self.now in
+    let q = c.ask_slot-asked.new.pool in
+    let command = c.args.command.now in
+    let r = c.ask_slot-asked.result in
+    let was : ◌≡◌ {A = Session} (record { volumes = c.ask_slot-asked.new.volumes; pool = q; pending = c.self.inside.pending; failed = c.self.inside.failed }) (record s { pool = q }) =
+    λ j. record { volumes = (c.ask_slot-asked.ensures.same ∙ ap (λ (n : Session). n.volumes) c.self.view_is) j; pool = q; pending = (c.self.view_is j).pending; failed = (c.self.view_is j).failed } in
+    let replied = subst (λ (n : Session). Replied e r n c.replied.new.self c.replied.result) was c.replied.ensures in
+    let said = subst (λ (n : Session). IfSome (state_at n.volumes c.args.slot) (λ x. table_named x (snapshot_asked command) ≡ None → IsRefusedUnread NoSnapshot c.args.disk.now n.pool c.ask_slot-asked.new.disk q r)) c.self.view_is (c.ask_slot-asked.ensures.lost near) in
+    over_slot (λ x. table_named x (snapshot_asked command) ≡ None → IsRefusedUnread NoSnapshot c.args.disk.now s.pool c.ask_slot-asked.new.disk q r)
+    (λ x. table_named x (snapshot_asked command) ≡ None → (c.replied.result ≡ Ok (Refused NoSnapshot)) × IsUntouched c.args.disk.now s c.ask_slot-asked.new.disk c.replied.new.self)
+    (λ x refused none.
+    let at = refused none in
+    let is = replied_lost e r (record s { pool = q }) c.replied.new.self c.replied.result at.answer replied in
+    (is.0, (at.same_disk, is.1 ∙ (λ j. record s { pool = at.same_pool j }))))
+    (state_at s.volumes c.args.slot) said

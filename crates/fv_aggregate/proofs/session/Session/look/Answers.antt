@@ -7,6 +7,7 @@ use Rattle.fv_aggregate.specs.Commands.{has_range}
 use Rattle.fv_aggregate.proofs.Asked.{asked_at, looks_done, looks_missing}
 use Rattle.fv_aggregate.proofs.Calls.{reads_itself}
 use Rattle.fv_aggregate.proofs.Looked.{reads_alone}
+use Rattle.fv_aggregate.proofs.Lost.{of_lacking}
 use Rattle.fv_aggregate.proofs.Missing.{asked_far, refused_allows}
 use Rattle.fv_model.specs.declared.answers.Reply.TheVariants.{Refused}
 use Rattle.fv_aggregate.proofs.session.Session.look.Goals as goal
@@ -39,3 +40,14 @@ returns-in-Some-clause-missing g c = λ near none.
     let found = c.in-Some.ensures.some in
     let named = subst (λ (n : Session). HasName n.volumes c.in-Some.slot c.args.volume.now) c.self.view_is found.1 in
     absurd (true≢false (sym named.named ∙ none.none c.in-Some.slot found.0))
+
+pub returns-in-Some-clause-lost : goal.returns-in-Some-clause-lost
+returns-in-Some-clause-lost g c = λ near lacks.
+    let found = c.in-Some.ensures.some in
+    let named = subst (λ (n : Session). HasName n.volumes c.in-Some.slot c.args.volume.now) c.self.view_is found.1 in
+    of_lacking c.args.self.now.volumes c.in-Some.slot c.args.volume.now c.args.command.now named lacks _ (c.look_at.ensures.lost near)
+
+pub returns-in-None-clause-lost : goal.returns-in-None-clause-lost
+returns-in-None-clause-lost g c = λ near lacks.
+    let none = subst (λ (n : Session). NoneHasName n.volumes c.args.volume.now) c.self.view_is c.in-None.ensures.none in
+    absurd (true≢false (sym lacks.named.named ∙ none.none lacks.slot lacks.within))

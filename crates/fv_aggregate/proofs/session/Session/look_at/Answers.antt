@@ -1,6 +1,9 @@
-use Rattle.std.proofs.Common.{◌≡◌, rules, Err, sym, subst}
+use Rattle.std.proofs.Common.{◌≡◌, true, rules, Err, sym, subst, ◌∙◌}
+use Rattle.fv_volume.specs.States.{state_at}
+use Rattle.fv_aggregate.specs.Commands.{finds_file}
 use Rattle.fv_aggregate.specs.Looking.{Looks}
 use Rattle.fv_aggregate.proofs.Asked.{asked_read, damaged_at}
+use Rattle.fv_aggregate.proofs.Lost.{finds_active, none_lost}
 use Rattle.fv_aggregate.proofs.Numbered.{known_numbered, look_numbered, look_unnumbered}
 use Rattle.fv_aggregate.proofs.session.Session.look_at.Goals as goal
 
@@ -31,3 +34,16 @@ returns-clause-known g c =
     let of = c.requires.asked in
     known_numbered d c.args.self.now c.args.command.now (damaged_at d c.args.self.now c.args.slot of.state of.there c.requires.fresh) e c.read_numbers.new.self tt c.in_ok-read_numbers.ensures.numbered
     (g.D.Disk.shown c.ask-2.new.disk) c.ask-2.new.self c.ask-2.result c.args.steps.now c.ask-2.new.steps c.ask-2.ensures.known
+
+-- a table whose files are found by their numbers is there
+pub returns-in_err-read_numbers-clause-lost : goal.returns-in_err-read_numbers-clause-lost
+returns-in_err-read_numbers-clause-lost g c = λ near.
+    let of = c.requires.asked in
+    let finds : finds_file c.args.command.now ≡ true = sym c.finds.ensures ∙ c.if-not-finds.false in
+    none_lost (state_at c.args.self.now.volumes c.args.slot) c.args.command.now (finds_active c.args.command.now of.state.name of.asks finds) _
+
+pub returns-clause-lost : goal.returns-clause-lost
+returns-clause-lost g c = λ near.
+    let of = c.requires.asked in
+    let finds : finds_file c.args.command.now ≡ true = sym c.finds.ensures ∙ c.if-not-finds.false in
+    none_lost (state_at c.args.self.now.volumes c.args.slot) c.args.command.now (finds_active c.args.command.now of.state.name of.asks finds) _

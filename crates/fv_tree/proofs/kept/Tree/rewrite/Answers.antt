@@ -1,11 +1,7 @@
-use Rattle.std.proofs.Common.{◌≡◌, ◌≤◌, ◌/◌, ◌^◌, ℕ, refl, ap, ◌∙◌, arith}
-use Rattle.std.specs.BTreeMap as maps
-use Rattle.fv_model.specs.Trees.{fan, Spot}
-use Rattle.fv_tree.specs.declared.kept.KeptNode.{KeptNode}
-use Rattle.fv_tree.specs.declared.kept.KeptCell.{KeptCell}
-use Rattle.fv_tree.specs.Flushing.{changed_in, loaded_over}
+use Rattle.std.proofs.Common.{◌≡◌, refl, ap, ◌∙◌, arith}
+use Rattle.fv_tree.specs.Flushing.{loaded_over}
 use Rattle.fv_tree.proofs.Stored.{stored_on}
-use Rattle.fv_tree.specs.Costs.{changes_in}
+use Rattle.fv_tree.specs.Costs.{cells_changed, changes_in}
 use Rattle.fv_tree.specs.Standing.{standing}
 use Rattle.fv_tree.proofs.Rewritten.{rewritten, rewritten_hints, rewritten_leads, rewritten_keeps, rewritten_sound, still_ready}
 use Rattle.fv_tree.proofs.Seen.{writes}
@@ -16,51 +12,48 @@ returns-clause-written c = λ held.
     let put = c.put_content.ensures in
     writes (standing held c.args.self.now) (standing held c.stamp_path.new.tree) c.args.index c.args.stamp c.args.block.now
     (rewritten c.args.self.now c.put_content.new.tree c.stamp_path.new.tree c.args.index c.args.stamp c.args.block.now c.requires.ready c.requires.stamp
-    put.fields put.cell put.own put.others c.stamp_path.ensures.stamps c.stamp_path.ensures.marks held)
+    put.fields put.cell put.changed put.own put.others c.stamp_path.ensures.stamps c.stamp_path.ensures.marks held)
 
 pub returns-clause-place_by_place : goal.returns-clause-place_by_place
 returns-clause-place_by_place c =
     let put = c.put_content.ensures in
     rewritten c.args.self.now c.put_content.new.tree c.stamp_path.new.tree c.args.index c.args.stamp c.args.block.now c.requires.ready c.requires.stamp
-    put.fields put.cell put.own put.others c.stamp_path.ensures.stamps c.stamp_path.ensures.marks
+    put.fields put.cell put.changed put.own put.others c.stamp_path.ensures.stamps c.stamp_path.ensures.marks
 
 pub returns-clause-sound : goal.returns-clause-sound
 returns-clause-sound c =
     let put = c.put_content.ensures in
     rewritten_sound c.args.self.now c.put_content.new.tree c.stamp_path.new.tree c.args.index c.args.stamp c.args.block.now c.requires.ready c.requires.stamp
-    put.fields put.cell put.own put.others c.stamp_path.ensures.stamps c.stamp_path.ensures.marks
+    put.fields put.cell put.changed put.own put.others c.stamp_path.ensures.stamps c.stamp_path.ensures.marks
 
 pub returns-clause-leads : goal.returns-clause-leads
 returns-clause-leads c =
     let put = c.put_content.ensures in
     rewritten_leads c.args.self.now c.put_content.new.tree c.stamp_path.new.tree c.args.index c.args.stamp c.args.block.now c.requires.ready c.requires.stamp
-    put.fields put.cell put.own put.others c.stamp_path.ensures.stamps c.stamp_path.ensures.marks
+    put.fields put.cell put.changed put.own put.others c.stamp_path.ensures.stamps c.stamp_path.ensures.marks
 
 pub returns-clause-keeps : goal.returns-clause-keeps
 returns-clause-keeps c =
     let put = c.put_content.ensures in
     rewritten_keeps c.args.self.now c.put_content.new.tree c.stamp_path.new.tree c.args.index c.args.stamp c.args.block.now c.requires.ready c.requires.stamp
-    put.fields put.cell put.own put.others c.stamp_path.ensures.stamps c.stamp_path.ensures.marks
+    put.fields put.cell put.changed put.own put.others c.stamp_path.ensures.stamps c.stamp_path.ensures.marks
 
 pub returns-clause-ready : goal.returns-clause-ready
 returns-clause-ready c =
     let put = c.put_content.ensures in
     still_ready c.args.self.now c.put_content.new.tree c.stamp_path.new.tree c.args.index c.args.stamp c.args.block.now c.requires.ready c.requires.stamp
-    put.fields put.cell put.own put.others c.stamp_path.ensures.stamps c.stamp_path.ensures.marks
+    put.fields put.cell put.changed put.own put.others c.stamp_path.ensures.stamps c.stamp_path.ensures.marks
 
 pub returns-clause-pending : goal.returns-clause-pending
 returns-clause-pending c =
-    let w = c.args.self.now in
     let v = c.put_content.new.tree in
-    let u = c.stamp_path.new.tree in
-    let i = c.args.index in
     let put = c.put_content.ensures in
-    let ready = c.requires.ready in
-    let cells : maps.btree_map_len u.cells ≡ maps.btree_map_len w.cells = ap (λ (m : maps.BTreeMap ℕ KeptCell). maps.btree_map_len m) c.stamp_path.ensures.stamps.cells ∙ put.len in
-    let same : changes_in v.nodes ≡ changes_in w.nodes = ap changes_in put.fields.nodes in
-    let less : changes_in u.nodes ≤ changes_in v.nodes = c.stamp_path.ensures.again (λ level low high.
-    ap (λ (nodes : maps.BTreeMap Spot KeptNode). changed_in nodes level (i / fan ^ level)) put.fields.nodes ∙ ready.marked level low (let levels = put.fields.levels in omega (arith, high, levels))) in
-    omega (arith, cells, same, less)
+    let cells : cells_changed c.stamp_path.new.tree.cells ≡ cells_changed v.cells = ap cells_changed c.stamp_path.ensures.stamps.cells in
+    let same : changes_in v.nodes ≡ changes_in c.args.self.now.nodes = ap changes_in put.fields.nodes in
+    let more = c.stamp_path.ensures.changes in
+    let one = put.count in
+    let few = v.few in
+    omega (arith, cells, same, more, one, few)
 
 pub returns-clause-stored_well : goal.returns-clause-stored_well
 returns-clause-stored_well c = λ held.
@@ -69,5 +62,5 @@ returns-clause-stored_well c = λ held.
     let v = c.put_content.new.tree in
     let u = c.stamp_path.new.tree in
     stored_on (loaded_over held w) (loaded_over held u) (c.stamp_path.ensures.stamps.owner ∙ put.fields.owner) refl
-    (rewritten_leads w v u c.args.index c.args.stamp c.args.block.now c.requires.ready c.requires.stamp put.fields put.cell put.own put.others c.stamp_path.ensures.stamps c.stamp_path.ensures.marks held)
-    (rewritten_hints w v u c.args.index c.args.stamp c.args.block.now c.requires.ready c.requires.stamp put.fields put.cell put.own put.others c.stamp_path.ensures.stamps c.stamp_path.ensures.marks held)
+    (rewritten_leads w v u c.args.index c.args.stamp c.args.block.now c.requires.ready c.requires.stamp put.fields put.cell put.changed put.own put.others c.stamp_path.ensures.stamps c.stamp_path.ensures.marks held)
+    (rewritten_hints w v u c.args.index c.args.stamp c.args.block.now c.requires.ready c.requires.stamp put.fields put.cell put.changed put.own put.others c.stamp_path.ensures.stamps c.stamp_path.ensures.marks held)

@@ -1,25 +1,37 @@
-use Rattle.std.proofs.Common.{◌≡◌, Err, true, false, is_some, option_copied, rules}
+use Rattle.std.proofs.Common.{◌≡◌, ◌∙◌, Err, option_copied, rules, sym, subst}
+use Rattle.fv_tables.specs.Told.{Standing}
+use Rattle.fv_volume.specs.Asking.{standing_of}
+use Rattle.fv_volume.specs.Calls.{CallCause}
 use Rattle.fv_volume.specs.Causes.{of_block}
 use Rattle.fv_volume.specs.Lending.{lent_for}
-use Rattle.fv_volume.specs.OneVolume.{home_in, standing_for, IsStanding}
-use Rattle.fv_volume.proofs.Asked.{copied_none, copied_some, ls_asked_found, ls_asked_lost}
-use Rattle.fv_volume.proofs.KeptTables.{ready_snaps}
-use Rattle.fv_volume.proofs.SnapReads.{asked_active, asked_lone}
+use Rattle.fv_volume.specs.OneVolume.{home_in, IsStanding}
+use Rattle.fv_volume.proofs.Asked.{ls_asked_found, ls_asked_lost}
 use Rattle.fv_volume.proofs.CallCauses.{failed_cause}
+use Rattle.fv_volume.proofs.KeptReads.{asked_is, asked_none, read_is}
 use Rattle.fv_volume.proofs.state.VolumeState.list.Goals as goal
 
-pub returns-then-is_some-clause-asked : goal.returns-then-is_some-clause-asked
-returns-then-is_some-clause-asked g c = λ is.
-    let some : is_some c.args.snapshot ≡ true = search rules in
-    ls_asked_lost (g.D.Disk.shown c.args.disk.now) c.args.pool.now c.args.self.now (option_copied c.args.snapshot) is (asked_lone (g.D.Disk.shown c.args.disk.now) c.args.pool.now c.args.self.now (ready_snaps (g.D.Disk.shown c.args.disk.now) c.args.pool.now c.args.self.now c.requires.ready) (option_copied c.args.snapshot) (copied_some c.args.snapshot some))
+pub returns-in_default-clause-asked : goal.returns-in_default-clause-asked
+returns-in_default-clause-asked g c = λ is.
+    let d = g.D.Disk.shown c.args.disk.now in
+    let s = option_copied c.args.snapshot in
+    ls_asked_lost d c.args.pool.now c.args.self.now s is (asked_none d c.args.pool.now c.args.self.now s (sym c.table_asked.ensures ∙ c.in_default.is))
 
-pub returns-in_err-list_files-clause-cause : goal.returns-in_err-list_files-clause-cause
-returns-in_err-list_files-clause-cause g c =
-    let failed : c.from_residual.result ≡ Err (of_block c.in_err-list_files.field-0.0) = search rules in
-    failed_cause (IsStanding (g.D.Disk.shown c.args.disk.now) c.args.pool.now c.args.self.now) (standing_for (g.D.Disk.shown c.args.disk.now) c.args.pool.now c.args.self.now) (lent_for c.args.pool.now c.args.self.now.map (g.D.Disk.shown c.args.disk.now) 0 (home_in c.args.self.now) 0) (g.D.Disk.shown c.list_files.new.disk).faults
-    c.in_err-list_files.field-0.0 c.from_residual.result failed c.in_err-list_files.ensures.cause
+pub returns-in_err-list_in-clause-cause : goal.returns-in_err-list_in-clause-cause
+returns-in_err-list_in-clause-cause g c =
+    let d = g.D.Disk.shown c.args.disk.now in
+    let p = c.args.pool.now in
+    let x = c.args.self.now in
+    let t = c.in-Some.table in
+    let left = (g.D.Disk.shown c.list_in.new.disk).faults in
+    let failed : c.from_residual.result ≡ Err (of_block c.in_err-list_in.field-0.0) = search rules in
+    subst (λ (u : Standing). CallCause (IsStanding d p x) u (lent_for p x.map d 0 (home_in x) 0) left c.from_residual.result) (read_is d p x (option_copied c.args.snapshot) t (sym c.table_asked.ensures ∙ c.in-Some.is))
+    (failed_cause (IsStanding d p x) (standing_of d p x t) (lent_for p x.map d 0 (home_in x) 0) left c.in_err-list_in.field-0.0 c.from_residual.result failed c.in_err-list_in.ensures.cause)
 
 pub returns-clause-asked : goal.returns-clause-asked
 returns-clause-asked g c = λ is.
-    let none : is_some c.args.snapshot ≡ false = search rules in
-    ls_asked_found (g.D.Disk.shown c.args.disk.now) c.args.pool.now c.args.self.now (option_copied c.args.snapshot) is (standing_for (g.D.Disk.shown c.args.disk.now) c.args.pool.now c.args.self.now) (asked_active (g.D.Disk.shown c.args.disk.now) c.args.pool.now c.args.self.now (option_copied c.args.snapshot) (copied_none c.args.snapshot none)) c.in_ok-list_files.field-0 (c.in_ok-list_files.ensures.names is)
+    let d = g.D.Disk.shown c.args.disk.now in
+    let p = c.args.pool.now in
+    let x = c.args.self.now in
+    let s = option_copied c.args.snapshot in
+    let t = c.in-Some.table in
+    ls_asked_found d p x s is (standing_of d p x t) (asked_is d p x s t (sym c.table_asked.ensures ∙ c.in-Some.is)) c.in_ok-list_in.field-0 (c.in_ok-list_in.ensures.names is)

@@ -16,4 +16,5 @@ returns-clause-counted c = record {
   long = active_long c.args.map c.active.ensures.valid;
   none = refl;
   numbers = refl;
+  fresh = refl;
 }

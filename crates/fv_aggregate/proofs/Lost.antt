@@ -1,0 +1,86 @@
+-- A command that asks a snapshot which its volume hasn't is refused for it at once.
+use Rattle.std.proofs.Common.{◌≡◌, ◌<◌, ℕ, true, List, Option, Some, None, Result, Ok, Err, true≢false, refl, sym, ap, subst, ◌∙◌, ⊎_elim, arith}
+use Rattle.std.specs.Prelude.{IfSome}
+use Rattle.std.specs.Option.{is_none}
+use Rattle.std.proofs.lemmas.Bool.{cases_lt}
+use Rattle.fv_disk.specs.Shown.{Shown}
+use Rattle.fv_model.specs.declared.answers.Refusal.TheVariants.{NoSnapshot}
+use Rattle.fv_model.specs.declared.answers.Reply.{Reply}
+use Rattle.fv_model.specs.declared.answers.Reply.TheVariants.{Refused}
+use Rattle.fv_model.specs.declared.commands.Command.{Command}
+use Rattle.fv_volume.specs.declared.fault.VolumeFault.{VolumeFault}
+use Rattle.fv_volume.specs.declared.fault.VolumeFault.TheVariants as volume
+use Rattle.fv_volume.specs.declared.pool.Pool.{Pool}
+use Rattle.fv_volume.specs.declared.state.VolumeState.{VolumeState}
+use Rattle.fv_volume.specs.Asking.{table_named, IsRefusedUnread, RefusesLost}
+use Rattle.fv_volume.specs.Slots.{HasName}
+use Rattle.fv_volume.specs.States.{States, state_at}
+use Rattle.fv_aggregate.specs.declared.fault.Fault.{Fault}
+use Rattle.fv_aggregate.specs.declared.session.Session.{Session}
+use Rattle.fv_aggregate.specs.Calls.{LacksSnapshot}
+use Rattle.fv_aggregate.specs.Commands.{finds_file, snapshot_asked, volume_asked}
+use Rattle.fv_aggregate.specs.Looking.{Replied}
+use Rattle.fv_aggregate.proofs.Missing.{asked_cases}
+
+-- ---- by what a volume answers
+
+ok_err : (T : Type 0) (y : T) (f : VolumeFault) → ◌≡◌ {A = Result T VolumeFault} (Ok y) (Err f) → ⊥
+ok_err T y f is = cc
+
+same_err : (T : Type 0) (f h : VolumeFault) → ◌≡◌ {A = Result T VolumeFault} (Err f) (Err h) → f ≡ h
+same_err T f h is = cc
+
+module _ (D : Type 0) (x : VolumeState) (old new : D) (p q : Pool) (c : Command) (s : Option (List ℕ)) (is : snapshot_asked c ≡ s) (none : table_named x (snapshot_asked c) ≡ None) (T : Type 0) where
+  abbrev gone : table_named x s ≡ None
+  gone = subst (λ (o : Option (List ℕ)). table_named x o ≡ None) is none
+
+  -- it answers nothing
+  pub none_answered : (X : Type 0) (y : T) → RefusesLost {D = D} {T = T} x s old p new q (Ok y) → X
+  none_answered X y refuses = absurd (ok_err T y (volume.Refused NoSnapshot) (refuses.lost gone).answer)
+
+  -- and refuses
+  pub refused_lost : (f : VolumeFault) → RefusesLost {D = D} {T = T} x s old p new q (Err f) → IsRefusedUnread {D = D} {T = Reply} NoSnapshot old p new q (Err f)
+  refused_lost f refuses =
+      let at = refuses.lost gone in
+      record { answer = ap (λ (h : VolumeFault). Err h) (same_err T f (volume.Refused NoSnapshot) at.answer); same_disk = at.same_disk; same_pool = at.same_pool }
+
+-- so of the volume of a slot
+pub over_slot : (A B : VolumeState → Type 0) → ((x : VolumeState) → A x → B x) → (o : Option VolumeState) → IfSome o A → IfSome o B
+over_slot A B to None is = tt
+over_slot A B to (Some x) is = to x is
+
+-- what a session answers for it
+pub replied_lost : (e : Shown) (r : Result Reply VolumeFault) (old new : Session) (result : Result Reply Fault) → r ≡ Err (volume.Refused NoSnapshot) → Replied e r old new result → (result ≡ Ok (Refused NoSnapshot)) × (new ≡ old)
+replied_lost e r old new result is replied = subst (λ (z : Result Reply VolumeFault). Replied e z old new result) is replied
+
+-- ---- whether a snapshot is asked
+
+no_snapshot : (s : Option (List ℕ)) → is_none s ≡ true → s ≡ None
+no_snapshot None is = refl
+no_snapshot (Some name) is = absurd cc
+
+-- a command that finds a file by the numbers in memory asks the active table, which is there
+pub finds_active : (c : Command) (name : List ℕ) → volume_asked c ≡ Some name → finds_file c ≡ true → snapshot_asked c ≡ None
+finds_active c name asks = asked_cases (λ (k : Command). finds_file k ≡ true → snapshot_asked k ≡ None) name (λ s f i is. no_snapshot s is) (λ s f is. no_snapshot s is) (λ s is. absurd cc) c asks
+
+active_there : (X : Type 0) (x : VolumeState) (c : Command) → snapshot_asked c ≡ None → table_named x (snapshot_asked c) ≡ None → X
+active_there X x c active none = absurd (let gone : table_named x None ≡ None = subst (λ (o : Option (List ℕ)). table_named x o ≡ None) active none in cc)
+
+pub none_lost : (o : Option VolumeState) (c : Command) → snapshot_asked c ≡ None → (X : Type 0) → IfSome o (λ x. table_named x (snapshot_asked c) ≡ None → X)
+none_lost None c active X = tt
+none_lost (Some x) c active X = active_there X x c active
+
+-- ---- the volume of a name
+
+-- a name finds one slot
+same_slot : (states : States) (name : List ℕ) (a b : ℕ) → HasName states a name → HasName states b name → a ≡ b
+same_slot states name a b one other = ⊎_elim
+    (λ (less : a < b). absurd (true≢false (sym one.named ∙ other.first a less)))
+    (λ most. ⊎_elim (λ (less : b < a). absurd (true≢false (sym other.named ∙ one.first b less))) (λ least. omega (arith, most, least)) (cases_lt b a))
+    (cases_lt a b)
+
+-- what is said of the volume in the slot that the name finds is so of the one that lacks the snapshot
+pub of_lacking : (states : States) (slot : ℕ) (name : List ℕ) (c : Command) → HasName states slot name → LacksSnapshot states name c → (X : Type 0) → IfSome (state_at states slot) (λ x. table_named x (snapshot_asked c) ≡ None → X) → X
+of_lacking states slot name c found lacks X says =
+    let here : state_at states slot ≡ Some lacks.state = subst (λ (k : ℕ). state_at states k ≡ Some lacks.state) (same_slot states name lacks.slot slot lacks.named found) lacks.there in
+    subst (λ (o : Option VolumeState). IfSome o (λ x. table_named x (snapshot_asked c) ≡ None → X)) here says lacks.none

@@ -1,0 +1,224 @@
+-- What a read of a table finds that a command asks, a snapshot's among them: each of its trees stands whole on the blocks that the volume holds.
+use Rattle.std.proofs.Common.{◌≡◌, ◌≤◌, ℕ, List, [], ◌∷◌, Option, Some, None, refl, sym, ap, subst, ◌∙◌}
+use Rattle.std.specs.Prelude.{All, map, unwrap_or}
+use Rattle.std.specs.Option.{option_map}
+use Rattle.std.proofs.lemmas.List.Elements.{All-cons, All-head, All-nil, All-tail}
+use Rattle.fv_disk.specs.Shown.{Shown as Disk}
+use Rattle.fv_disk.specs.declared.fault.BlockFault.TheVariants as block
+use Rattle.fv_codec.specs.declared.inode.InodeRecord.{InodeRecord}
+use Rattle.fv_codec.specs.declared.pointer.Pointer.{Pointer}
+use Rattle.fv_codec.specs.Blocks.{greatest_word, IsPointer}
+use Rattle.fv_model.specs.Spelling.{is_same_name}
+use Rattle.fv_tables.specs.Kept.{AgreeOnTree}
+use Rattle.fv_tables.specs.Spelled.{Rooted as Spelled, Under, pointer_at, stored}
+use Rattle.fv_tables.specs.Told.{Standing, file_at, standing_at}
+use Rattle.fv_tables.proofs.Tables.{same_record}
+use Rattle.fv_tree.specs.Beside.{loaded_on, unread, IsLaid}
+use Rattle.fv_tree.specs.Costs.{way_cost}
+use Rattle.fv_tree.specs.Flushing.{Leads, IsNodeOf, IsSound, ReachesOnce}
+use Rattle.fv_tree.specs.Sources.{Use}
+use Rattle.fv_tree.specs.Standing.{under}
+use Rattle.fv_tree.specs.Stored.{IsStoredWell as IsTreeStoredWell}
+use Rattle.fv_tree.proofs.Beside.{beside_alike, beside_leads, beside_pointers, beside_sound, unread_laid, unread_sound}
+use Rattle.fv_inode.specs.declared.info.Info.{Info}
+use Rattle.fv_inode.proofs.Indexed.{alike_indexes}
+use Rattle.fv_files.specs.Apart.{StoredIn}
+use Rattle.fv_files.specs.Tables.{tree_known, IsInfoOf}
+use Rattle.fv_files.proofs.Tables.{file_tree}
+use Rattle.fv_volmap.specs.Slots.{has, slot_at}
+use Rattle.fv_volume.specs.declared.pool.Pool.{Pool}
+use Rattle.fv_volume.specs.declared.state.Rooted.{Rooted}
+use Rattle.fv_volume.specs.declared.state.Snap.{Snap}
+use Rattle.fv_volume.specs.declared.state.VolumeState.{VolumeState}
+use Rattle.fv_volume.specs.declared.tables.TableAsked.{TableAsked}
+use Rattle.fv_volume.specs.declared.tables.TableAsked.TheVariants.{Active, Kept}
+use Rattle.fv_volume.specs.Asking.{snap_named, standing_asked, standing_of, standing_read, table_named, IsTableOf}
+use Rattle.fv_volume.specs.Calls.{Reads, TableFails}
+use Rattle.fv_volume.specs.Lending.{lent_for}
+use Rattle.fv_volume.specs.OneVolume.{blocks_in, home_in, shows, standing_for, uses_in, IsKeptTable, IsReady, IsStanding}
+use Rattle.fv_volume.specs.Paths.{unknown_to}
+use Rattle.fv_volume.specs.Placing.{IsStoredWell}
+use Rattle.fv_volume.specs.SnapRecords.{IsSayableSnap}
+use Rattle.fv_volume.specs.States.{snap_in}
+use Rattle.fv_volume.proofs.Followed.{steps_way}
+use Rattle.fv_volume.proofs.OneVolumes.{still_standing, still_table, still_under, stood_before}
+use Rattle.fv_volume.proofs.SnapReads.{found_among, slot_held}
+use Rattle.fv_volume.proofs.Undamaged.{active_holds, none_damaged, HoldsWell, TableHolds}
+
+-- ---- the table of a snapshot
+
+-- A table under another root than the active one is that of a snapshot, which has what each of them has.
+pub record IsOfSnap (P : Snap → Type 0) (root : Rooted) : Type 0 where
+  pub snap : Snap
+  pub table : snap.table ≡ root
+  pub has : P snap
+
+pub of_snap : (x : VolumeState) (P : Snap → Type 0) → All P x.snapshots → (root : Rooted) → IsTableOf x (Kept root) → IsOfSnap P root
+of_snap x P all root (None, none) = absurd cc
+of_snap x P all root (Some name, named) = by (snap_named x.snapshots name) refl named
+  where
+    same_root : (a b : Rooted) → ◌≡◌ {A = Option TableAsked} (Some (Kept a)) (Some (Kept b)) → a ≡ b
+    same_root a b e = cc
+
+    by : (o : Option Snap) → snap_named x.snapshots name ≡ o → option_map (λ (q : Snap). Kept q.table) o ≡ Some (Kept root) → IsOfSnap P root
+    by None is at = absurd cc
+    by (Some q) is at = record { snap = q; table = same_root q.table root at; has = found_among P (λ (q : Snap). is_same_name name q.name) x.snapshots all q is }
+
+-- what a label says of each snapshot
+each_sayable : (snaps : List Snap) → All IsSayableSnap (map snap_in snaps) → All (λ (q : Snap). IsSayableSnap (snap_in q)) snaps
+each_sayable [] all = All-nil (λ (q : Snap). IsSayableSnap (snap_in q))
+each_sayable (q ∷ qs) all = All-cons (λ (q : Snap). IsSayableSnap (snap_in q)) q qs (All-head IsSayableSnap (snap_in q) (map snap_in qs) all) (each_sayable qs (All-tail IsSayableSnap (snap_in q) (map snap_in qs) all))
+
+module _ (disk : Disk) (pool : Pool) (x : VolumeState) (ready : IsReady disk pool x) (root : Rooted) (of : IsTableOf x (Kept root)) where
+  abbrev said : IsOfSnap (λ (q : Snap). IsSayableSnap (snap_in q)) root
+  said = of_snap x (λ (q : Snap). IsSayableSnap (snap_in q)) (each_sayable x.snapshots ready.labelled.snapshots.each) root of
+
+  -- its root fits a pointer
+  pub kept_root_fits : IsPointer root.root
+  kept_root_fits = subst (λ (r : Rooted). IsPointer r.root) said.table said.has.root
+
+  pub kept_levels_fit : root.levels ≤ 2
+  kept_levels_fit = subst (λ (r : Rooted). r.levels ≤ 2) said.table said.has.levels
+
+-- A tree that stands whole on the blocks of a slot does so on all that the volume holds.
+module _ (d : Disk) (p : Pool) (x : VolumeState) (k owner levels : ℕ) (root : Pointer) (reaches : ReachesOnce (uses_in p x k) (stored (blocks_in d p x k) owner levels root))
+    (is : IsTreeStoredWell (unread (stored (blocks_in d p x k) owner levels root))) where
+  abbrev blocks : Under
+  blocks = under (shows d p x)
+
+  abbrev own : Spelled
+  own = stored (blocks_in d p x k) owner levels root
+
+  sound : IsSound (uses_in p x k) (unread own)
+  sound = unread_sound (uses_in p x k) own (λ level place. refl) (λ index. refl) reaches
+
+  laid : IsLaid (unread own)
+  laid = unread_laid own
+
+  stay : (level place v : ℕ) → Leads (unread own) level place v → blocks v ≡ blocks_in d p x k v
+  stay level place v leads = slot_held d p x k v (sound.held level place v leads)
+
+  slot_tree : HoldsWell blocks (uses_in p x k) (stored blocks owner levels root)
+  slot_tree = record {
+    loaded = loaded_on blocks (unread own);
+    tree = refl;
+    on = refl;
+    sound = beside_sound (unread own) blocks laid stay (uses_in p x k) (uses_in p x k) (λ level place v leads. refl) sound;
+    laid = unread_laid (stored blocks owner levels root);
+    well = record {
+      nodes = λ level place v low led. let was = beside_leads (unread own) blocks laid stay level place v led in subst (IsNodeOf owner level place) (sym (stay level place v was)) (is.nodes level place v low was);
+      known = λ level place v led none. is.known level place v (beside_leads (unread own) blocks laid stay level place v led) (ap (λ (p : Pointer). p.pvbn) (sym (beside_pointers (unread own) blocks laid stay level place)) ∙ none);
+    };
+  }
+
+module _ (d : Disk) (p : Pool) (x : VolumeState) (q : Snap) (is : IsKeptTable d p x q) where
+  abbrev whole : Under
+  whole = under (shows d p x)
+
+  abbrev its : Under
+  its = blocks_in d p x q.slot
+
+  abbrev inode : Spelled
+  inode = stored its greatest_word q.table.levels q.table.root
+
+  agree : AgreeOnTree inode whole
+  agree level place some = slot_held d p x q.slot (pointer_at inode level place).vvbn (is.1.trees.inode.held level place some)
+
+  in_slot : (n : ℕ) (r : InodeRecord) → file_at (stored whole greatest_word q.table.levels q.table.root) n ≡ Some r → file_at inode n ≡ Some r
+  in_slot n r there = sym (same_record inode whole agree n) ∙ there
+
+  inode_leads : (level place v : ℕ) → Leads (unread inode) level place v → whole v ≡ its v
+  inode_leads level place v leads = slot_held d p x q.slot v ((unread_sound (uses_in p x q.slot) inode (λ level place. refl) (λ index. refl) is.1.trees.inode).held level place v leads)
+
+  -- So does each tree of a snapshot's table.
+  pub kept_holds : TableHolds whole (uses_in p x q.slot) (standing_at whole q.table.levels q.table.root)
+  kept_holds = record {
+    inode = slot_tree d p x q.slot greatest_word q.table.levels q.table.root is.1.trees.inode (is.1.well.trees None);
+    files = λ n r there. slot_tree d p x q.slot n r.levels r.root (is.1.trees.files n r (in_slot n r there))
+        (subst (λ (o : Option InodeRecord). StoredIn (option_map (λ r. unread (stored its n r.levels r.root)) o)) (in_slot n r there) (is.1.well.trees (Some n)));
+    names = alike_indexes inode (stored whole greatest_word q.table.levels q.table.root) (beside_alike (unread inode) whole (unread_laid inode) inode_leads) is.1.well.inodes;
+  }
+
+-- the tree of a file of which this is known
+pub known_holds : (blocks : Under) (uses : ℕ → Option Use) (t : Standing) → TableHolds blocks uses t → (info : Info) → IsInfoOf t.inode info → HoldsWell blocks uses (tree_known t info)
+known_holds blocks uses t holds info known =
+    let of = file_tree t info known in
+    subst (HoldsWell blocks uses) (sym of.tree) (holds.files of.number of.file of.there)
+
+module _ (d : Disk) (p : Pool) (x : VolumeState) (is : IsStanding d p x) where
+  -- What a path in a tree costs whose blocks a slot has are the unknown pointers on it.
+  slot_way : (k : ℕ) (t : Spelled) → HoldsWell (under (shows d p x)) (uses_in p x k) t → (i : ℕ) → way_cost (shows d p x).cost t i ≡ unknown_to t i
+  slot_way k t good i = subst (λ (u : Spelled). way_cost (shows d p x).cost u i ≡ unknown_to u i) good.tree
+      (steps_way x.map p.containers x.slot (λ v. has v (slot_at x.map k)) good.loaded good.sound good.laid i)
+
+  module _ (root : Rooted) (of : IsTableOf x (Kept root)) where
+    abbrev kept : IsOfSnap (IsKeptTable d p x) root
+    kept = of_snap x (IsKeptTable d p x) is.kept root of
+
+    abbrev table : Standing
+    table = standing_of d p x (Kept root)
+
+    root_holds : TableHolds (under (shows d p x)) (uses_in p x kept.snap.slot) table
+    root_holds = subst (λ (r : Rooted). TableHolds (under (shows d p x)) (uses_in p x kept.snap.slot) (standing_of d p x (Kept r))) kept.table (kept_holds d p x kept.snap kept.has)
+
+    pub kept_inode_way : (i : ℕ) → way_cost (shows d p x).cost table.inode i ≡ unknown_to table.inode i
+    kept_inode_way i = slot_way kept.snap.slot table.inode root_holds.inode i
+
+    pub kept_file_way : (info : Info) → IsInfoOf table.inode info → (i : ℕ) → way_cost (shows d p x).cost (tree_known table info) i ≡ unknown_to (tree_known table info) i
+    kept_file_way info known i = slot_way kept.snap.slot (tree_known table info) (known_holds _ _ table root_holds info known) i
+
+  -- ---- the table that is asked
+
+  -- A table stands whole on the blocks that the volume holds, some of which are in use.
+  pub record HoldsTable (t : Standing) : Type 0 where
+    pub uses : ℕ → Option Use
+    pub holds : TableHolds (under (shows d p x)) uses t
+
+  module _ (well : IsStoredWell d p x) where
+    of_holds : (t : TableAsked) → IsTableOf x t → HoldsTable (standing_of d p x t)
+    of_holds Active of = record { uses = (shows d p x).used; holds = active_holds d p x is well }
+    of_holds (Kept root) of = record { uses = uses_in p x (kept root of).snap.slot; holds = root_holds root of }
+
+    -- the table of each command does
+    pub read_holds : (s : Option (List ℕ)) → HoldsTable (standing_read d p x s)
+    read_holds s = by (table_named x s) refl
+      where
+        by : (o : Option TableAsked) → table_named x s ≡ o → HoldsTable (unwrap_or (option_map (standing_of d p x) o) (standing_for d p x))
+        by None named = of_holds Active (None, refl)
+        by (Some t) named = of_holds t (s, named)
+
+    -- so no load for it answers damage
+    pub read_undamaged : (s : Option (List ℕ)) (steps faults at want found : ℕ) → TableFails (IsStanding d p x) (standing_read d p x s) (lent_for p x.map d steps (home_in x) 0) faults (block.Damaged at want found) → ⊥
+    read_undamaged s = let mine = read_holds s in none_damaged d p x is mine.uses (standing_read d p x s) mine.holds
+
+-- ---- by what is asked
+
+module _ (d : Disk) (p : Pool) (x : VolumeState) (s : Option (List ℕ)) where
+  pub asked_none : table_named x s ≡ None → standing_asked d p x s ≡ None
+  asked_none none = ap (option_map (standing_of d p x)) none
+
+  module _ (t : TableAsked) (named : table_named x s ≡ Some t) where
+    pub asked_is : standing_asked d p x s ≡ Some (standing_of d p x t)
+    asked_is = ap (option_map (standing_of d p x)) named
+
+    pub read_is : standing_of d p x t ≡ standing_read d p x s
+    read_is = sym (ap (λ (o : Option Standing). unwrap_or o (standing_for d p x)) asked_is)
+
+-- ---- after reads
+
+module _ (d e : Disk) (p q : Pool) (reads : Reads d p e q) (x : VolumeState) (t : TableAsked) where
+  -- each table is seen as before
+  pub still_of : standing_of e q x t ≡ standing_of d p x t
+  still_of = by t
+    where
+      by : (t : TableAsked) → standing_of e q x t ≡ standing_of d p x t
+      by Active = still_table d e p q reads x
+      by (Kept root) = ap (λ (u : Under). standing_at u root.levels root.root) (still_under d e p q reads x)
+
+  -- what was said after them of a volume that they left is so of it before
+  pub of_before : (y : VolumeState) → y ≡ x → (says : Standing → Type 0) → (IsStanding e q y → says (standing_of e q y t)) → IsStanding d p x → says (standing_of d p x t)
+  of_before y same says made is = subst says still_of (subst (λ (z : VolumeState). IsStanding e q z → says (standing_of e q z t)) same made (still_standing d e p q reads x is))
+
+  -- and what is known of a table before is known after
+  pub of_after : (y : VolumeState) → y ≡ x → (says : Standing → Type 0) → (IsStanding d p x → says (standing_of d p x t)) → IsStanding e q y → says (standing_of e q y t)
+  of_after y same says known is = subst (λ (z : VolumeState). says (standing_of e q z t)) (sym same) (subst says (sym still_of) (known (stood_before d e p q reads x (subst (λ (z : VolumeState). IsStanding e q z) same is))))
