@@ -83,7 +83,7 @@ module _ (session : Session) (name : List ℕ) (size : ℕ) (kind : Kind) (room 
   module _ (disk : Shown) (last m : Machine) (stands : StandsFor disk session last m) where
     pub made_stands : IsTrue disk.tells → StandsOn disk session.pool.store.pairs → new.pending ≡ session.pending + room → room ≡ overhead (span_of size 0 0) → HasRoom disk session room → StandsFor disk new last (next m (VolCreate name size kind))
     made_stands tells cache pending room_is enough =
-        let none : unwritten (record new { pool = pool }) ≡ unwritten session = (let files = added.files in omega (arith, files)) in
+        let none : unwritten (record new { pool = pool }) ≡ unwritten session = (let files = added.files in let maps = added.waiting in omega (arith, files, maps)) in
         let over = added.overheads in
         subst (λ (p : Pool). StandsFor disk (record new { pool = p }) last (next m (VolCreate name size kind))) (sym added.holes) (record {
           held = held_beside disk session.pool session.volumes added.slot name size kind new.volumes added.fit added.free added.made new_slot added.each last stands.held tells cache added.span (added.place, added.admits);

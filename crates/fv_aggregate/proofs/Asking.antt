@@ -22,15 +22,15 @@ use Rattle.fv_volume.specs.Creating.{IsMade, IsNew}
 use Rattle.fv_volume.specs.Files.{IsLabelled}
 use Rattle.fv_volume.specs.Slots.{IsFirstFree}
 use Rattle.fv_volume.specs.States.{States, state_at, view_over}
-use Rattle.fv_volume.specs.Writing.{asked}
-use Rattle.fv_volume.proofs.MapCounts.{asked_alone}
-use Rattle.fv_cp.specs.Lent.{asked_by, blocks_asked}
+use Rattle.fv_volume.specs.Writing.{asked, map_wait}
+use Rattle.fv_volume.proofs.MapCounts.{alone_waits}
+use Rattle.fv_cp.specs.Lent.{asked_by, blocks_asked, maps_waiting, waiting_by, HaveNoneWaiting}
 use Rattle.fv_cp.specs.Placing.{pending_by, pending_files}
 use Rattle.fv_aggregate.specs.declared.session.Session.{Session}
 use Rattle.fv_aggregate.specs.Asking.{AsksWithin, IsShort}
 use Rattle.fv_aggregate.specs.Standing.{overhead_by, overheads_in, taken_since, Stands}
 use Rattle.fv_aggregate.proofs.Clear.{clear_is, clear_stays, free_and_placed}
-use Rattle.fv_aggregate.proofs.Sums.{asked_within, over_slots, overheads_are, overheads_in_with, pending_with}
+use Rattle.fv_aggregate.proofs.Sums.{asked_within, none_waiting, over_slots, overheads_are, overheads_in_with, pending_with, waiting_with}
 
 -- ---- an image that lacks blocks
 
@@ -69,8 +69,8 @@ asks_still old new session after room reads found asked pending asks =
     }
 
 -- volumes that were just read
-pub asked_opened : (pool : Pool) (states : States) (i : Image) → length states ≡ 64 → ((s : ℕ) → IfSome (state_at states s) (IsLabelled s)) → view_over pool states i ≡ view_at (root_found pool.found) i → blocks_asked states ≤ overheads (view_at (root_found pool.found) i)
-asked_opened pool states i long labelled seen = omega (arith, asked_within states labelled, overheads_are pool states i long, ap overheads seen)
+pub asked_opened : (pool : Pool) (states : States) (i : Image) → length states ≡ 64 → HaveNoneWaiting states → view_over pool states i ≡ view_at (root_found pool.found) i → blocks_asked states ≤ overheads (view_at (root_found pool.found) i)
+asked_opened pool states i long none seen = omega (arith, asked_within states, none_waiting states long none, overheads_are pool states i long, ap overheads seen)
 
 -- volumes without changes ask for nothing, as after a point
 pub asked_unchanged : (states : States) → length states ≡ 64 → ((s : ℕ) → IfSome (state_at states s) (λ x. x.changed ≡ false)) → blocks_asked states ≡ 0
@@ -80,13 +80,30 @@ asked_unchanged states long unchanged = over_slots asked_by states long ∙ none
     by None is = refl
     by (Some x) is = ap {B = ℕ} (λ (b : Bool). cond b (asked x) 0) is
 
+-- no map of a new volume waits
+wait_made : (states : States) (slot : ℕ) (name : List ℕ) (size : ℕ) (kind : Kind) (now : States) → length states ≡ 64 → IsFirstFree states slot → (made : IsMade states slot name size kind now)
+    → ((s : ℕ) → IfSome (state_at now s) (IsLabelled s)) → map_wait made.state ≡ 0
+wait_made states slot name size kind now long free made labelled =
+    let inside : slot < length states = omega (arith, long, free.within) in
+    let there : state_at now slot ≡ Some made.state = ap (λ (xs : States). state_at xs slot) made.states ∙ get_or-set_same states slot (Some made.state) None inside in
+    alone_waits slot made.state (subst (λ (o : Option VolumeState). IfSome o (IsLabelled slot)) there (labelled slot)) (ap (λ (h : Head). h.snapshots) made.head)
+
+-- so as many wait as before
+pub waiting_made : (states : States) (slot : ℕ) (name : List ℕ) (size : ℕ) (kind : Kind) (now : States) → length states ≡ 64 → IsFirstFree states slot → IsMade states slot name size kind now
+    → ((s : ℕ) → IfSome (state_at now s) (IsLabelled s)) → maps_waiting now ≡ maps_waiting states
+waiting_made states slot name size kind now long free made labelled =
+    let sum : maps_waiting now + waiting_by (state_at states slot) ≡ maps_waiting states + waiting_by (Some made.state) =
+    ap (λ (xs : States). maps_waiting xs + waiting_by (state_at states slot)) made.states ∙ waiting_with states slot (Some made.state) (omega (arith, long, free.within)) in
+    let nothing : waiting_by (state_at states slot) ≡ 0 = ap waiting_by free.free in
+    let none : waiting_by (Some made.state) ≡ 0 = wait_made states slot name size kind now long free made labelled in
+    omega (arith, sum, nothing, none)
+
 -- a new volume asks for its overhead
 pub asked_made : (states : States) (slot : ℕ) (name : List ℕ) (size : ℕ) (kind : Kind) (now : States) → length states ≡ 64 → IsFirstFree states slot → IsMade states slot name size kind now
     → ((s : ℕ) → IfSome (state_at now s) (IsLabelled s)) → blocks_asked now ≤ blocks_asked states + overhead (span_of size 0 0)
 asked_made states slot name size kind now long free made labelled =
     let inside : slot < length states = omega (arith, long, free.within) in
-    let there : state_at now slot ≡ Some made.state = ap (λ (xs : States). state_at xs slot) made.states ∙ get_or-set_same states slot (Some made.state) None inside in
-    let alone = asked_alone slot made.state (subst (λ (o : Option VolumeState). IfSome o (IsLabelled slot)) there (labelled slot)) in
+    let alone : asked made.state ≡ overhead made.state.span = only_overhead (overhead made.state.span) (map_wait made.state) (wait_made states slot name size kind now long free made labelled) in
     let sum : blocks_asked now + asked_by (state_at states slot) ≡ blocks_asked states + asked_by (Some made.state) =
     ap (λ (xs : States). blocks_asked xs + asked_by (state_at states slot)) made.states ∙ sum_by-set asked_by states slot (Some made.state) None inside in
     let nothing : asked_by (state_at states slot) ≡ 0 = ap asked_by free.free in
@@ -96,6 +113,9 @@ asked_made states slot name size kind now long free made labelled =
     chosen : (b : Bool) (n : ℕ) → cond b n 0 ≤ n
     chosen true n = omega arith
     chosen false n = omega arith
+
+    only_overhead : (a b : ℕ) → b ≡ 0 → a + b ≡ a
+    only_overhead a b none = omega (arith, none)
 
 -- and it is one more to keep room for
 pub overheads_made : (states : States) (slot : ℕ) (name : List ℕ) (size : ℕ) (kind : Kind) (now : States) → length states ≡ 64 → IsFirstFree states slot → IsMade states slot name size kind now

@@ -37,13 +37,15 @@ use Rattle.fv_volume.specs.declared.pool.Pool.{Pool}
 use Rattle.fv_volume.specs.declared.state.VolumeState.{VolumeState}
 use Rattle.fv_volume.specs.BlocksOver.{entries_in}
 use Rattle.fv_volume.specs.Creating.{Admits, IsMade, IsNew, new_ledger_of, with_holes}
-use Rattle.fv_volume.specs.Files.{AreNamed, IsLabelled}
+use Rattle.fv_volume.specs.Files.{AreNamed, IsLabelled, IsOneMap}
+use Rattle.fv_volume.proofs.MapSlots.{one_empty}
+use Rattle.fv_volume.proofs.StayingMaps.{moves_alone}
 use Rattle.fv_volume.specs.Housed.{AreHoused}
 use Rattle.fv_volume.specs.OneVolume.{shows, volume_for, IsReady}
 use Rattle.fv_volume.specs.Placing.{AreLedBy, IsLedTo}
 use Rattle.fv_volume.specs.Slots.{committed_by, is_named, sum_of, IsFirstFree}
 use Rattle.fv_volume.specs.States.{States, empty_head, head_in, parent_in, state_at, with_state}
-use Rattle.fv_volume.specs.Stored.{AreSpacedIn, has_block, is_of, leads, place_in}
+use Rattle.fv_volume.specs.Stored.{AreSpacedIn, has_block, has_stored_map, is_of, leads, place_in}
 use Rattle.fv_volume.proofs.Housing.{housed_with}
 use Rattle.fv_volume.proofs.Made.{from_pairs, to_pair}
 use Rattle.fv_volume.proofs.NewStanding.{made_standing, made_volume, made_well}
@@ -287,6 +289,7 @@ module _ (disk : Shown) (pool : Pool) (states : States) (slot : ℕ) (name : Lis
         nodes = λ b named. none_led (entry_count x.span) (entry_count x.span) b;
         label = none_led (entry_count x.span) (entry_count x.span) x.label;
       };
+      maps = λ k j on within. absurd (both_ways (has_stored_map x k) (moves_alone x (subst IsOneMap (sym is.map) (one_empty x.span)) k) on);
       unchanged = λ e. absurd (not_changed e);
     }
 

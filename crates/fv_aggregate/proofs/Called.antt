@@ -15,7 +15,7 @@ use Rattle.fv_container.specs.Mapped.{Mapped}
 use Rattle.fv_files.specs.declared.numbers.FileNumbers.{FileNumbers}
 use Rattle.fv_volume.specs.declared.pool.Pool.{Pool}
 use Rattle.fv_volume.specs.declared.state.VolumeState.{VolumeState}
-use Rattle.fv_volume.specs.Calls.{Reads}
+use Rattle.fv_volume.specs.Calls.{GivesUp, Reads}
 use Rattle.fv_volume.specs.Files.{AreNamed}
 use Rattle.fv_volume.specs.Loading.{IsLoaded}
 use Rattle.fv_volume.specs.OneVolume.{IsReady, IsStanding}
@@ -26,6 +26,7 @@ use Rattle.fv_volume.specs.Stored.{AreApartIn, AreSpacedIn, has_block, is_of}
 use Rattle.fv_volume.specs.UnderRoot.{IsLentAt, IsMapOf}
 use Rattle.fv_volume.proofs.Made.{from_pairs, to_pair}
 use Rattle.fv_volume.proofs.OneVolumes.{still_ready, still_standing}
+use Rattle.fv_volume.proofs.StandingMaps.{maps_still}
 use Rattle.fv_volume.proofs.Standings.{still_led, still_well}
 use Rattle.fv_volume.proofs.Told.{is_inside}
 use Rattle.fv_cp.specs.Held.{IsHeld, IsHeldIn}
@@ -34,6 +35,7 @@ use Rattle.fv_cp.specs.Held.{IsHeld, IsHeldIn}
 pub record IsCalled (disk : Shown) (pool : Pool) (x y : VolumeState) : Type 0 where
   pub same : y ≡ record x { now = y.now; map = y.map; files = y.files; numbers = y.numbers; ledger = y.ledger; changed = y.changed }
   pub unchanged : y.changed ≡ false → y ≡ record x { numbers = y.numbers }
+  pub maps : GivesUp x.map y.map
   pub ready : IsReady disk pool y
   pub stands : IsStanding disk pool y
   pub led : IsLedTo disk pool y
@@ -106,6 +108,7 @@ module _ (d e : Shown) (p q : Pool) (reads : Reads d p e q) where
       label = λ some. ap (λ (z : VolumeState). z.label) called.same ∙ l.label (λ none. some (ap (λ (z : VolumeState). z.label) called.same ∙ none));
       nodes = l.nodes;
       apart = subst (λ (z : VolumeState). AreApartIn z map) (sym called.same) (record { some = l.apart.some; entries = l.apart.entries; nodes = l.apart.nodes; label = l.apart.label });
+      maps = maps_still d.reads p.found x y map map (ap (λ (z : VolumeState). z.span) called.same) called.maps.span called.maps.snapshots (ap (λ (z : VolumeState). z.fresh) called.same) (λ v past. refl) l.maps;
       unchanged = λ un. subst (λ (z : VolumeState). IsLoaded d.reads p.found s (Some z) (Some map)) (sym (called.unchanged un)) (loaded_with map y.numbers (l.unchanged (sym (ap (λ (z : VolumeState). z.changed) (called.unchanged un)) ∙ un)));
     }
 

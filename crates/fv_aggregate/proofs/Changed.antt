@@ -37,7 +37,7 @@ use Rattle.fv_volume.specs.States.{States, parent_in, state_at, with_state}
 use Rattle.fv_volume.specs.Writing.{IsTaken, on_disk}
 use Rattle.fv_volume.proofs.Told.{is_inside, ledger_commit}
 use Rattle.fv_cp.specs.Held.{machine_held, IsHeld, IsHeldIn}
-use Rattle.fv_cp.specs.Lent.{FitTogether}
+use Rattle.fv_cp.specs.Lent.{maps_waiting, waiting_by, FitTogether}
 use Rattle.fv_cp.specs.Placing.{pending_by, pending_files, AreReady, IsReadyIn}
 use Rattle.fv_aggregate.specs.declared.session.Session.{Session}
 use Rattle.fv_aggregate.specs.Looking.{ChangesState}
@@ -113,6 +113,13 @@ module _ (d e : Shown) (p q : Pool) (states : States) (s : ℕ) (x y : VolumeSta
   same_overheads =
       let sum = sum_by-set overhead_by states s (Some y) None inside in
       let own : overhead_by (state_at states s) ≡ overhead_by (Some y) = ap overhead_by there ∙ sym (ap (λ (z : VolumeState). overhead_by (Some z)) same) in
+      omega (arith, sum, own)
+
+  -- and so do the maps that wait
+  pub same_waiting : maps_waiting stay ≡ maps_waiting states
+  same_waiting =
+      let sum = sum_by-set waiting_by states s (Some y) None inside in
+      let own : waiting_by (state_at states s) ≡ waiting_by (Some y) = ap waiting_by there ∙ sym (ap (λ (z : VolumeState). waiting_by (Some z)) same) in
       omega (arith, sum, own)
 
   -- so many blocks more are pending at most
@@ -210,6 +217,7 @@ module _ (d : Shown) (p : Pool) (states : States) (long : length states ≡ 64) 
       called_done = record {
         same = did.head.same;
         unchanged = λ un. but_for_numbers x y (did.head.idle un);
+        maps = did.head.maps;
         ready = did.ready;
         stands = stand;
         led = (did.table mine.stands).led mine.led;
@@ -241,6 +249,7 @@ module _ (d : Shown) (p : Pool) (states : States) (long : length states ≡ 64) 
       called_left = record {
         same = did.head.same;
         unchanged = λ un. but_for_numbers x y (did.head.idle un);
+        maps = did.head.maps;
         ready = did.ready;
         stands = left_stand;
         led = (did.table mine.stands).led mine.led;
@@ -281,13 +290,14 @@ module _ (d e : Shown) (s : Session) (q : Pool) (slot : ℕ) (x y : VolumeState)
   pub stands_for_changed : (last m n : Machine) → StandsFor d s last m → s.pending + 16 ≤ 256 → pending_of y.files ≤ pending_of x.files + 14
       → IsHeld e q (with_state s.volumes slot (Some y)) last → machine_held e q (with_state s.volumes slot (Some y)) ≡ n → StandsFor e changed_session last n
   stands_for_changed last m n is few room held machine =
-      let files : pending_files s.volumes + taken_since s.pool.map ≤ s.pending = is.files in
-      let pending : pending_files s.volumes + taken_since s.pool.map + overheads_in s.volumes ≤ overheads (view_at (root_found s.pool.found) d.reads) + s.pending = is.pending in
+      let files : pending_files s.volumes + maps_waiting s.volumes + taken_since s.pool.map ≤ s.pending = is.files in
+      let pending : pending_files s.volumes + maps_waiting s.volumes + taken_since s.pool.map + overheads_in s.volumes ≤ overheads (view_at (root_found s.pool.found) d.reads) + s.pending = is.pending in
       let fits : overheads (view_at (root_found s.pool.found) d.reads) + max 256 s.pending ≤ clear_blocks s.pool.map = is.room in
       let own = own_pending d e s.pool q s.volumes slot x y there did.reads did.head.same did.ready long in
       let now = pending_within d e s.pool q s.volumes slot x y there did.reads did.head.same did.ready long room in
       let count : more ≡ pending_of y.files - pending_of x.files = more_is ∙ counts_all (pending_of x.files) (pending_of y.files) (omega (arith, files, own, few)) room in
       let same = same_overheads d e s.pool q s.volumes slot x y there did.reads did.head.same did.ready long in
+      let maps = same_waiting d e s.pool q s.volumes slot x y there did.reads did.head.same did.ready long in
       let over = last_overheads d e s q did.reads in
       let placed : taken_since q.map ≡ taken_since s.pool.map = placed_read d e s q did.reads in
       let clear : clear_blocks q.map ≡ clear_blocks s.pool.map = clear_read d e s q did.reads in
@@ -295,8 +305,8 @@ module _ (d e : Shown) (s : Session) (q : Pool) (slot : ℕ) (x y : VolumeState)
         held = held;
         machine = machine;
         settled = settled_read d e s q did.reads is.settled;
-        pending = omega (arith, pending, now, count, same, over, placed);
-        files = omega (arith, files, now, count, placed);
-        few = omega (arith, files, now, room, few, placed);
+        pending = omega (arith, pending, now, maps, count, same, over, placed);
+        files = omega (arith, files, now, maps, count, placed);
+        few = omega (arith, files, now, maps, room, few, placed);
         room = omega (arith, fits, over, clear, count, room, few);
       }

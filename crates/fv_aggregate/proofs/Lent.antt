@@ -9,21 +9,18 @@ use Rattle.fv_disk.specs.Shown.{Image}
 use Rattle.fv_bits.specs.Members.{is_member}
 use Rattle.fv_codec.specs.declared.label.Label.{Label}
 use Rattle.fv_model.specs.Machines.{Machine, first_block}
-use Rattle.fv_tables.specs.Reached.{items, is_listed}
 use Rattle.fv_image.specs.Maps.{area_bits, map_bit}
 use Rattle.fv_image.specs.NewerRoot.{Taken}
 use Rattle.fv_image.specs.Containers.{IsNodePlace, container_entry}
-use Rattle.fv_image.specs.Views.{Head, entry_count, head_of, volume_bit}
+use Rattle.fv_image.specs.Views.{Head, entry_count, head_of}
 use Rattle.fv_image.specs.Held.{Layout, label_place, layout_at, view_at}
 use Rattle.fv_image.specs.Whole.{is_held_by}
 use Rattle.fv_image.specs.Reclaimed.{IsEntryPlace, entry_at}
 use Rattle.fv_image.specs.SoundSlots.{AreDifferent}
-use Rattle.fv_image.specs.Volumes.{standing_of}
 use Rattle.fv_image.specs.WholeMachine.{Tells}
-use Rattle.fv_image.proofs.ChargeBits.{reach}
 use Rattle.fv_image.proofs.Different.{different_when_once}
 use Rattle.fv_image.proofs.HeldPlaces.{block_is_held}
-use Rattle.fv_image.proofs.LoneTables.{built_forms, form_base, form_snapshots}
+use Rattle.fv_image.proofs.RootTables.{root_reach}
 use Rattle.fv_image.proofs.Named.{slot_in}
 use Rattle.fv_image.proofs.SoundSlots.{held_lies}
 use Rattle.fv_image.proofs.Spaced.{AreSpaced, spaced_from}
@@ -36,15 +33,17 @@ use Rattle.fv_container.specs.declared.entry.Entry.{Entry}
 use Rattle.fv_container.specs.Chains.{Slots, container_at, slot_count}
 use Rattle.fv_container.specs.Mapped.{IsMapped, Mapped, entry_under}
 use Rattle.fv_container.specs.Spelled.{Spelled, is_at, pair_of}
-use Rattle.fv_volmap.specs.Slots.{active_of}
 use Rattle.fv_volume.specs.declared.state.VolumeState.{VolumeState}
-use Rattle.fv_volume.specs.Loading.{IsContainerOf, IsLoaded, LoadedTo, label_of}
-use Rattle.fv_volume.specs.States.{States, head_in, state_at, table_in}
+use Rattle.fv_volume.specs.Loading.{HaveBits, IsContainerOf, IsLoaded, LoadedTo, label_of}
+use Rattle.fv_volume.specs.Files.{HasOwnSlots}
+use Rattle.fv_volume.specs.States.{States, head_in, state_at}
+use Rattle.fv_volume.proofs.StandingMaps.{loaded_maps}
 use Rattle.fv_volume.specs.Stored.{AreApartIn, AreSpacedIn, has_block, leads, place_at, place_in}
 use Rattle.fv_volume.specs.Housed.{HaveReaches, ReachesAll}
 use Rattle.fv_cp.specs.Lent.{IsLentAt}
 use Rattle.fv_volume.proofs.LentSlots.{lent_from_loaded}
-use Rattle.fv_volume.proofs.Reaches.{reaches_alone}
+use Rattle.fv_volume.proofs.EachRoot.{root_there}
+use Rattle.fv_volume.proofs.KeptSlots.{root_bits, root_few}
 use Rattle.fv_volume.proofs.LoadedBlocks.{loaded_holds, span_of}
 use Rattle.fv_volume.proofs.SlotBlocks.{HasKinds, any_in_range, at_is, entry_kinds}
 
@@ -176,17 +175,18 @@ module _ (i : Image) (found : Found) (m : Machine) (tells : Tells (layout_at (ro
           same : (a b : Head) → ◌≡◌ {A = Option Head} (Some a) (Some b) → a ≡ b
           same a b e = cc
 
-  pub slots_opened : (s : ℕ) → s < 64 → IsLentAt i found s (state_at states s) (container_at containers s)
-  slots_opened s inside = lent_from_loaded i found s (state_at states s) (container_at containers s) (loaded.each s inside) (apart_opened s inside (state_at states s) (container_at containers s) (loaded.each s inside))
+  pub slots_opened : ((s : ℕ) → IfSome (state_at states s) HasOwnSlots) → (s : ℕ) → s < 64 → IsLentAt i found s (state_at states s) (container_at containers s)
+  slots_opened kept s inside = lent_from_loaded i found s (state_at states s) (container_at containers s) (loaded.each s inside) (apart_opened s inside (state_at states s) (container_at containers s) (loaded.each s inside))
+      (loaded_maps found i s inside tells.sound (state_at states s) (container_at containers s) (loaded.each s inside) (kept s))
 
-  pub reach_opened : ((b : ℕ) → length (i b) ≡ 4096) → HaveReaches (view_at t i) states
+  pub reach_opened : ((s : ℕ) → IfSome (state_at states s) HasOwnSlots) → ((b : ℕ) → length (i b) ≡ 4096) → HaveReaches (view_at t i) states
   unfolding layout_at view_at
-  reach_opened whole s inside = so (state_at states s) refl (loaded.each s inside).bits
+  reach_opened kept whole s inside = so (state_at states s) refl (loaded.each s inside).bits (kept s)
     where
-      so : (o : Option VolumeState) → state_at states s ≡ o → IfSome o (λ x. (v : ℕ) → is_member (active_of x.map) v ≡ volume_bit (view_at t i) s x.span 0 v)
-          → IfSome o (ReachesAll (view_at t i) s)
-      so None there bits = tt
-      so (Some x) there bits =
+      so : (o : Option VolumeState) → state_at states s ≡ o → IfSome o (λ x. HaveBits (view_at t i) s x.span x.map) → IfSome o HasOwnSlots → IfSome o (ReachesAll (view_at t i) s)
+      so None there bits slots = tt
+      so (Some x) there bits slots = λ k r at v.
           let here : (view_at t i).head s ≡ Some (head_in x) = sym (loaded.each s inside).head ∙ ap (option_map head_in) there in
-          let form = built_forms (view_at t i) tells.built s (head_in x) inside here in
-          reaches_alone (view_at t i) s x form (λ v. bits v ∙ reach (view_at t i) s (head_in x) inside here tells.sound.tables tells.sound.maps (numbers_at t i whole s (head_in x) here) (form_snapshots (head_in x) form) (form_base (head_in x) form) v)
+          let one = root_there (head_in x) k r at in
+          root_bits (view_at t i) s (head_in x) x.map slots.0 slots.1 bits k r one v
+          ∙ root_reach (view_at t i) s (head_in x) inside here tells.sound.tables k r one (root_few (head_in x) (numbers_at t i whole s (head_in x) here) k r one) tells.sound.maps v

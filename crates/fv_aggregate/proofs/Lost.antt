@@ -1,10 +1,11 @@
 -- A command that asks a snapshot which its volume hasn't is refused for it at once.
-use Rattle.std.proofs.Common.{◌≡◌, ◌<◌, ℕ, true, List, Option, Some, None, Result, Ok, Err, true≢false, refl, sym, ap, subst, ◌∙◌, ⊎_elim, arith}
-use Rattle.std.specs.Prelude.{IfSome}
+use Rattle.std.proofs.Common.{◌≡◌, ◌<◌, ℕ, Bool, true, false, List, Option, Some, None, Result, Ok, Err, true≢false, refl, sym, ap, subst, ◌∙◌, ⊎_elim, arith}
+use Rattle.std.specs.Prelude.{IfOk, IfSome}
 use Rattle.std.specs.Option.{is_none}
 use Rattle.std.proofs.lemmas.Bool.{cases_lt}
 use Rattle.fv_disk.specs.Shown.{Shown}
-use Rattle.fv_model.specs.declared.answers.Refusal.TheVariants.{NoSnapshot}
+use Rattle.fv_model.specs.declared.answers.Refusal.{Refusal}
+use Rattle.fv_model.specs.declared.answers.Refusal.TheVariants.{NoSnapshot, Range}
 use Rattle.fv_model.specs.declared.answers.Reply.{Reply}
 use Rattle.fv_model.specs.declared.answers.Reply.TheVariants.{Refused}
 use Rattle.fv_model.specs.declared.commands.Command.{Command}
@@ -13,12 +14,13 @@ use Rattle.fv_volume.specs.declared.fault.VolumeFault.TheVariants as volume
 use Rattle.fv_volume.specs.declared.pool.Pool.{Pool}
 use Rattle.fv_volume.specs.declared.state.VolumeState.{VolumeState}
 use Rattle.fv_volume.specs.Asking.{table_named, IsRefusedUnread, RefusesLost}
-use Rattle.fv_volume.specs.Slots.{HasName}
+use Rattle.fv_volume.specs.Slots.{HasName, is_named}
 use Rattle.fv_volume.specs.States.{States, state_at}
 use Rattle.fv_aggregate.specs.declared.fault.Fault.{Fault}
 use Rattle.fv_aggregate.specs.declared.session.Session.{Session}
+use Rattle.fv_container.specs.Chains.{slot_count}
 use Rattle.fv_aggregate.specs.Calls.{LacksSnapshot}
-use Rattle.fv_aggregate.specs.Commands.{finds_file, snapshot_asked, volume_asked}
+use Rattle.fv_aggregate.specs.Commands.{finds_file, is_refusal, snapshot_asked, volume_asked}
 use Rattle.fv_aggregate.specs.Looking.{Replied}
 use Rattle.fv_aggregate.proofs.Missing.{asked_cases}
 
@@ -44,6 +46,32 @@ module _ (D : Type 0) (x : VolumeState) (old new : D) (p q : Pool) (c : Command)
       let at = refuses.lost gone in
       record { answer = ap (λ (h : VolumeFault). Err h) (same_err T f (volume.Refused NoSnapshot) at.answer); same_disk = at.same_disk; same_pool = at.same_pool }
 
+-- ---- only for it
+
+err_ok : (reply : Reply) (f : Fault) (X : Type 0) → ◌≡◌ {A = Result Reply Fault} (Err f) (Ok reply) → X
+err_ok reply f X is = absurd (let no : ⊥ = cc in no)
+
+-- a fault of a session is no refusal
+pub no_refusal : (X : Type 0) (f : Fault) (result : Result Reply Fault) → result ≡ Err f → result ≡ Ok (Refused NoSnapshot) → X
+no_refusal X f result failed answer = err_ok (Refused NoSnapshot) f X (sym failed ∙ answer)
+
+range_differs : volume.Refused NoSnapshot ≡ volume.Refused Range → ⊥
+range_differs is = cc
+
+module _ (D : Type 0) (x : VolumeState) (old new : D) (p q : Pool) (c : Command) (s : Option (List ℕ)) (is : snapshot_asked c ≡ s) (T : Type 0) (f : VolumeFault)
+    (answer : ◌≡◌ {A = Result Reply VolumeFault} (Err f) (Err (volume.Refused NoSnapshot))) where
+  refused : f ≡ volume.Refused NoSnapshot
+  refused = same_err Reply f (volume.Refused NoSnapshot) answer
+
+  -- the volume lacks the snapshot,
+  pub lost_alone : RefusesLost {D = D} {T = T} x s old p new q (Err f) → table_named x (snapshot_asked c) ≡ None
+  lost_alone refuses = subst (λ (o : Option (List ℕ)). table_named x o ≡ None) (sym is) (refuses.only (ap (λ (h : VolumeFault). Err h) refused))
+
+  -- and an index that no file can have is refused as that
+  pub lost_within : (b : Bool) → (b ≡ false → IsRefusedUnread {D = D} {T = T} Range old p new q (Err f)) → (b ≡ true → RefusesLost {D = D} {T = T} x s old p new q (Err f)) → table_named x (snapshot_asked c) ≡ None
+  lost_within true range lost = lost_alone (lost refl)
+  lost_within false range lost = absurd (range_differs (sym refused ∙ same_err T f (volume.Refused Range) (range refl).answer))
+
 -- so of the volume of a slot
 pub over_slot : (A B : VolumeState → Type 0) → ((x : VolumeState) → A x → B x) → (o : Option VolumeState) → IfSome o A → IfSome o B
 over_slot A B to None is = tt
@@ -52,6 +80,20 @@ over_slot A B to (Some x) is = to x is
 -- what a session answers for it
 pub replied_lost : (e : Shown) (r : Result Reply VolumeFault) (old new : Session) (result : Result Reply Fault) → r ≡ Err (volume.Refused NoSnapshot) → Replied e r old new result → (result ≡ Ok (Refused NoSnapshot)) × (new ≡ old)
 replied_lost e r old new result is replied = subst (λ (z : Result Reply VolumeFault). Replied e z old new result) is replied
+
+same_refusal : (r : Refusal) → ◌≡◌ {A = Result Reply Fault} (Ok (Refused r)) (Ok (Refused NoSnapshot)) → r ≡ NoSnapshot
+same_refusal r is = cc
+
+same_reply : (a b : Reply) → ◌≡◌ {A = Result Reply Fault} (Ok a) (Ok b) → a ≡ b
+same_reply a b is = cc
+
+-- it answers so only where the volume did
+pub replied_only : (e : Shown) (r : Result Reply VolumeFault) (old new : Session) (result : Result Reply Fault) → IfOk r (λ reply. is_refusal reply ≡ false) → Replied e r old new result → result ≡ Ok (Refused NoSnapshot) → r ≡ Err (volume.Refused NoSnapshot)
+replied_only e (Ok reply) old new result told replied is = absurd (true≢false (sym (ap is_refusal (same_reply reply (Refused NoSnapshot) (sym replied.0 ∙ is))) ∙ told))
+replied_only e (Err (volume.Refused r)) old new result told replied is = ap (λ (k : Refusal). Err (volume.Refused k)) (same_refusal r (sym replied.0 ∙ is))
+replied_only e (Err volume.DiskFault) old new result told replied is = no_refusal _ replied.0 result replied.1.0 is
+replied_only e (Err (volume.Damaged at want found)) old new result told replied is = no_refusal _ replied.0 result replied.1.0 is
+replied_only e (Err volume.Memory) old new result told replied is = no_refusal _ replied.0 result replied.1.0 is
 
 -- ---- whether a snapshot is asked
 
@@ -63,7 +105,7 @@ no_snapshot (Some name) is = absurd cc
 pub finds_active : (c : Command) (name : List ℕ) → volume_asked c ≡ Some name → finds_file c ≡ true → snapshot_asked c ≡ None
 finds_active c name asks = asked_cases (λ (k : Command). finds_file k ≡ true → snapshot_asked k ≡ None) name (λ s f i is. no_snapshot s is) (λ s f is. no_snapshot s is) (λ s is. absurd cc) c asks
 
-active_there : (X : Type 0) (x : VolumeState) (c : Command) → snapshot_asked c ≡ None → table_named x (snapshot_asked c) ≡ None → X
+pub active_there : (X : Type 0) (x : VolumeState) (c : Command) → snapshot_asked c ≡ None → table_named x (snapshot_asked c) ≡ None → X
 active_there X x c active none = absurd (let gone : table_named x None ≡ None = subst (λ (o : Option (List ℕ)). table_named x o ≡ None) active none in cc)
 
 pub none_lost : (o : Option VolumeState) (c : Command) → snapshot_asked c ≡ None → (X : Type 0) → IfSome o (λ x. table_named x (snapshot_asked c) ≡ None → X)
@@ -84,3 +126,11 @@ pub of_lacking : (states : States) (slot : ℕ) (name : List ℕ) (c : Command) 
 of_lacking states slot name c found lacks X says =
     let here : state_at states slot ≡ Some lacks.state = subst (λ (k : ℕ). state_at states k ≡ Some lacks.state) (same_slot states name lacks.slot slot lacks.named found) lacks.there in
     subst (λ (o : Option VolumeState). IfSome o (λ x. table_named x (snapshot_asked c) ≡ None → X)) here says lacks.none
+
+-- a volume that is named and has no such snapshot lacks it
+pub lacking : (states : States) (slot : ℕ) (name : List ℕ) (c : Command) → slot < slot_count → HasName states slot name → IfSome (state_at states slot) (λ x. table_named x (snapshot_asked c) ≡ None) → LacksSnapshot states name c
+lacking states slot name c within named = so (state_at states slot) refl
+  where
+    so : (o : Option VolumeState) → state_at states slot ≡ o → IfSome o (λ x. table_named x (snapshot_asked c) ≡ None) → LacksSnapshot states name c
+    so None there none = absurd (true≢false (sym named.named ∙ ap (λ (o : Option VolumeState). is_named o name) there))
+    so (Some x) there none = record { slot = slot; within = within; named = named; state = x; there = there; none = none }

@@ -14,6 +14,8 @@ use Rattle.fv_root.specs.Finding.{root_found}
 use Rattle.fv_charge.specs.Ledgers.{committed}
 use Rattle.fv_volume.specs.declared.pool.Pool.{Pool}
 use Rattle.fv_volume.specs.declared.state.VolumeState.{VolumeState}
+use Rattle.fv_volmap.specs.Slots.{slot_at}
+use Rattle.fv_volume.specs.BlocksOver.{free_numbers}
 use Rattle.fv_volume.specs.Calls.{Reads}
 use Rattle.fv_volume.specs.Causes.{of_block}
 use Rattle.fv_volume.specs.OneVolume.{volume_for, IsReady, IsStanding}
@@ -25,7 +27,7 @@ use Rattle.fv_volume.proofs.Standings.{still_led, still_well}
 use Rattle.fv_volume.proofs.Told.{is_inside}
 use Rattle.fv_volume.proofs.Undamaged.{no_damage}
 use Rattle.fv_cp.specs.Held.{machine_held, IsHeld, IsHeldIn}
-use Rattle.fv_cp.specs.Lent.{asked_by, blocks_asked, FitTogether}
+use Rattle.fv_cp.specs.Lent.{asked_by, blocks_asked, maps_waiting, FitTogether}
 use Rattle.fv_cp.specs.Placing.{pending_files}
 use Rattle.fv_aggregate.specs.declared.fault.Fault.{Fault}
 use Rattle.fv_aggregate.specs.declared.fault.Fault.TheVariants.{DiskFault, Damaged, Memory}
@@ -40,7 +42,7 @@ use Rattle.fv_aggregate.proofs.Asked.{calm_damage, calm_memory, damaged_at, rose
 use Rattle.fv_aggregate.proofs.Becoming.{machine_stays}
 use Rattle.fv_aggregate.proofs.CallEnds.{goes_broken, goes_damaged, goes_done, goes_for_broken, goes_for_done, goes_for_fault, goes_wanting}
 use Rattle.fv_aggregate.proofs.Called.{called_held, IsCalled}
-use Rattle.fv_aggregate.proofs.Changed.{fit_changed, mine, pending_within, ready_changed, same_overheads}
+use Rattle.fv_aggregate.proofs.Changed.{fit_changed, mine, pending_within, ready_changed, same_overheads, same_waiting}
 use Rattle.fv_aggregate.proofs.Looked.{clear_read, last_overheads, placed_read, settled_read, stands_read}
 
 -- a volume that is the same but for those numbers is left as a change leaves it, too
@@ -108,6 +110,7 @@ module _ (d e : Shown) (s : Session) (q : Pool) (slot : ℕ) (x y : VolumeState)
     called = record {
       same = as_changed;
       unchanged = λ un. same;
+      maps = record { span = ap (λ (z : VolumeState). z.map.span) same; snapshots = λ k other. ap (λ (z : VolumeState). slot_at z.map k) same; numbers = (let numbers : free_numbers y.map ≡ free_numbers x.map = ap (λ (z : VolumeState). free_numbers z.map) same in omega (arith, numbers)) };
       ready = ready;
       stands = standing its.stands;
       led = subst (IsLedTo e q) (sym same) (still_led d e s.pool q reads x its.led);
@@ -134,20 +137,21 @@ module _ (d e : Shown) (s : Session) (q : Pool) (slot : ℕ) (x y : VolumeState)
         let no_more : pending_of y.files ≡ pending_of x.files = ap (λ (z : VolumeState). pending_of z.files) same in
         let now : pending_files stay ≤ pending_files s.volumes + (pending_of y.files - pending_of x.files) = pending_within d e s.pool q s.volumes slot x y there reads as_changed ready long (omega (arith, no_more)) in
         let all = same_overheads d e s.pool q s.volumes slot x y there reads as_changed ready long in
+        let maps = same_waiting d e s.pool q s.volumes slot x y there reads as_changed ready long in
         let over = last_overheads d e s q reads in
         let placed : taken_since q.map ≡ taken_since s.pool.map = placed_read d e s q reads in
         let clear : clear_blocks q.map ≡ clear_blocks s.pool.map = clear_read d e s q reads in
-        let pending : pending_files s.volumes + taken_since s.pool.map + overheads_in s.volumes ≤ overheads (view_at (root_found s.pool.found) d.reads) + s.pending = is.pending in
-        let files : pending_files s.volumes + taken_since s.pool.map ≤ s.pending = is.files in
-        let few : pending_files s.volumes + taken_since s.pool.map < 256 = is.few in
+        let pending : pending_files s.volumes + maps_waiting s.volumes + taken_since s.pool.map + overheads_in s.volumes ≤ overheads (view_at (root_found s.pool.found) d.reads) + s.pending = is.pending in
+        let files : pending_files s.volumes + maps_waiting s.volumes + taken_since s.pool.map ≤ s.pending = is.files in
+        let few : pending_files s.volumes + maps_waiting s.volumes + taken_since s.pool.map < 256 = is.few in
         let fits : overheads (view_at (root_found s.pool.found) d.reads) + max 256 s.pending ≤ clear_blocks s.pool.map = is.room in
         record {
           held = held;
           machine = machine;
           settled = settled_read d e s q reads is.settled;
-          pending = omega (arith, pending, now, no_more, all, over, placed);
-          files = omega (arith, files, now, no_more, placed);
-          few = omega (arith, few, now, no_more, placed);
+          pending = omega (arith, pending, now, maps, no_more, all, over, placed);
+          files = omega (arith, files, now, maps, no_more, placed);
+          few = omega (arith, few, now, maps, no_more, placed);
           room = omega (arith, fits, over, clear);
         }
 

@@ -32,7 +32,7 @@ use Rattle.fv_disk.specs.declared.fault.BlockFault.{BlockFault}
 use Rattle.fv_disk.specs.declared.fault.BlockFault.TheVariants.{DiskFault, Damaged, Memory}
 use Rattle.fv_volume.specs.Keeping.{Blocks}
 use Rattle.fv_volume.specs.declared.state.VolumeState.{VolumeState}
-use Rattle.fv_volume.specs.Files.{IsLabelled}
+use Rattle.fv_volume.specs.Files.{HasOwnSlots, IsLabelled, IsState}
 use Rattle.fv_volume.specs.Loading.{IsCounted, IsLoadFault, KeptTo}
 use Rattle.fv_volume.specs.OneVolume.{IsReady}
 use Rattle.fv_volume.specs.States.{States, state_at, view_over}
@@ -49,7 +49,7 @@ use Rattle.fv_volume.specs.UnderRoot.{IsMapOf}
 use Rattle.fv_aggregate.proofs.Asking.{asks_after_reads}
 use Rattle.fv_aggregate.proofs.Clear.{clear_is_free, none_held, none_placed}
 use Rattle.fv_aggregate.proofs.Standing.{settled_after_reads}
-use Rattle.fv_aggregate.proofs.Sums.{none_pending, overheads_are}
+use Rattle.fv_aggregate.proofs.Sums.{none_pending, none_waiting, overheads_are}
 use Rattle.fv_aggregate.proofs.Lent.{reach_opened, slots_opened, spaced_opened}
 
 -- ---- faults
@@ -95,6 +95,14 @@ found_on disk found settled is = record {
   images = λ c now. subst (λ (i : Image). IsFound i found) (sym (settled_image disk c settled now)) is;
 }
 
+-- a volume of a machine has the map slots of its snapshots
+slots_of : (states : States) (s : ℕ) (w : View) → IfSome (state_at states s) (IsState w no_trees s) → IfSome (state_at states s) HasOwnSlots
+slots_of states s w are = by (state_at states s) are
+  where
+    by : (o : Option VolumeState) → IfSome o (IsState w no_trees s) → IfSome o HasOwnSlots
+    by None is = tt
+    by (Some x) is = (is.labelled.slots, is.labelled.snapshots.slots)
+
 lent_opened : (disk : Shown) (session : Session) (m : Machine) → IsSettled disk → ((b : ℕ) → length (disk.reads b) ≡ 4096) → IsOpened disk.reads session → machine_of disk.reads ≡ Some m → IsLent disk session.pool session.volumes m
 unfolding layout_at
 lent_opened disk session m settled whole opened machine =
@@ -102,17 +110,18 @@ lent_opened disk session m settled whole opened machine =
     let t = root_found found in
     let tells = found_tells disk.reads found m opened.found machine in
     let alike : view_over session.pool session.volumes disk.reads ≡ view_at t disk.reads = opened.view in
+    let own : (s : ℕ) → IfSome (state_at session.volumes s) HasOwnSlots = λ s. slots_of session.volumes s (view_over session.pool session.volumes disk.reads) ((opened.states m tells).each s) in
     record {
       found = found_on disk found settled opened.found;
       tells = tells;
       keeps = λ c now. subst (λ (i : Image). Keeps t disk.reads i) (sym (settled_image disk c settled now)) (record { root = opened.found.root; layout = refl });
       map = record { len = opened.map.len; bits = opened.map.bits };
-      slots = slots_opened disk.reads found m tells session.volumes session.pool.containers opened.slots;
+      slots = slots_opened disk.reads found m tells session.volumes session.pool.containers opened.slots own;
       spaced = spaced_opened disk.reads found m tells session.volumes session.pool.containers opened.slots session.pool.map opened.map;
       states = opened.states m tells;
       built = subst (λ (w : View). is_built w ≡ true) (sym alike) tells.built;
       tables = subst (λ (w : View). AreTables (seen w)) (sym alike) tells.sound.tables;
-      reach = subst (λ (w : View). HaveReaches w session.volumes) (sym alike) (reach_opened disk.reads found m tells session.volumes session.pool.containers opened.slots whole);
+      reach = subst (λ (w : View). HaveReaches w session.volumes) (sym alike) (reach_opened disk.reads found m tells session.volumes session.pool.containers opened.slots own whole);
     }
 
 pub opened_for : (disk : Shown) (session : Session) (m : Machine) → IsSettled disk → IsTrue disk.tells → ((b : ℕ) → length (disk.reads b) ≡ 4096) → IsOpened disk.reads session → AreOpened disk disk.reads session → IsFresh session → machine_of disk.reads ≡ Some m → StandsFor disk session m m
@@ -123,6 +132,7 @@ opened_for disk session m settled told whole opened each fresh machine =
     let none : session.pending ≡ 0 = fresh.pending in
     let placed = none_placed session.pool.map opened.map.same in
     let pending = none_pending session.volumes each.fit.housed.long each.none in
+    let waiting = none_waiting session.volumes each.fit.housed.long each.waiting in
     let over = overheads_are session.pool session.volumes disk.reads each.fit.housed.long in
     let same = ap overheads alike in
     let held : IsHeld disk session.pool session.volumes m = lent_held disk session.pool session.volumes m (lent_opened disk session m settled whole opened machine) each.fit.housed.long
@@ -131,9 +141,9 @@ opened_for disk session m settled told whole opened each fresh machine =
       held = held;
       machine = held_machine disk session.pool session.volumes m held each.fit each.none each.maps ∙ sym (unchanged_machine session.pool session.volumes no_trees disk.reads (λ s. refl)) ∙ opened.machine m tells;
       settled = settled;
-      pending = omega (arith, placed, pending, over, same);
-      files = omega (arith, placed, pending);
-      few = omega (arith, placed, pending);
+      pending = omega (arith, placed, pending, waiting, over, same);
+      files = omega (arith, placed, pending, waiting);
+      few = omega (arith, placed, pending, waiting);
       room = omega (arith, none, clear_is_free session.pool.map opened.map.same, room_when_sound disk.reads found session.pool.map opened.map tells.sound);
     }
   where

@@ -1,6 +1,6 @@
 -- What a session stands for after a consistency point.
 use Rattle.std.proofs.Common.{◌≡◌, ◌<◌, ◌≤◌, ◌+◌, ◌-◌, ◌*◌, ℕ, Bool, true, false, List, Option, Some, None, Ok, Err, refl, sym, ap, subst, ◌∙◌, ⊎_elim, inl, inr, arith, length, sum_by}
-use Rattle.std.specs.Prelude.{IfSome, IsNone, IsSome, IsTrue, max}
+use Rattle.std.specs.Prelude.{IfSome, IsNone, IsSome, IsTrue, max, replicate}
 use Rattle.std.specs.List.{range_with_len}
 use Rattle.std.specs.Option.{option_map}
 use Rattle.std.proofs.lemmas.Bool.Decides.{nat_tests}
@@ -34,11 +34,12 @@ use Rattle.fv_aggmap.proofs.Room.{room_when_loaded, room_when_sound}
 use Rattle.fv_container.specs.Chains.{container_at}
 use Rattle.fv_container.specs.Mapped.{Mapped}
 use Rattle.fv_cp.specs.Held.{machine_held, IsHeld}
-use Rattle.fv_cp.specs.Lent.{blocks_asked, IsLentAt}
+use Rattle.fv_cp.specs.Lent.{blocks_asked, maps_waiting, HaveNoneWaiting, IsLentAt}
 use Rattle.fv_cp.specs.Placing.{pending_files, core_of, HaveNoFiles, KeepCores}
 use Rattle.fv_cp.specs.Points.{LacksRoom}
 use Rattle.fv_cp.specs.Settling.{GoesOnWhole, HaveFullRoom, IsHeldPoint, IsStill, OldOrHeld, StillHeld, WholeCounts, WholeFails}
 use Rattle.fv_disk.specs.declared.fault.BlockFault.TheVariants as block
+use Rattle.fv_volmap.specs.Slots.{stored_count}
 use Rattle.fv_volume.specs.declared.fault.VolumeFault.{VolumeFault}
 use Rattle.fv_volume.specs.declared.fault.VolumeFault.TheVariants as cp
 use Rattle.fv_volume.specs.declared.pool.Pool.{Pool}
@@ -46,7 +47,6 @@ use Rattle.fv_volume.specs.declared.state.VolumeState.{VolumeState}
 use Rattle.fv_volume.specs.Creating.{Admits}
 use Rattle.fv_volume.specs.Loading.{IsLoaded}
 use Rattle.fv_volume.specs.Slots.{committed_by, is_named, sum_of}
-use Rattle.fv_volume.specs.Files.{IsLabelled}
 use Rattle.fv_volume.specs.Held.{IsHeldIn}
 use Rattle.fv_volume.specs.States.{States, state_at, view_over}
 use Rattle.fv_volume.proofs.FreeNumbers.{has_numbers}
@@ -59,7 +59,7 @@ use Rattle.fv_aggregate.specs.Standing.{clear_blocks, overheads_in, taken_since,
 use Rattle.fv_aggregate.proofs.Asking.{asked_unchanged, asks_more, asks_still, short_is}
 use Rattle.fv_aggregate.proofs.Clear.{clear_is_free, clear_stays, free_and_placed, none_held, none_placed}
 use Rattle.fv_aggregate.proofs.Standing.{settled_after_reads}
-use Rattle.fv_aggregate.proofs.Sums.{asked_within, none_pending, one_pending, over_slots, overheads_are, overheads_kept, same_overheads}
+use Rattle.fv_aggregate.proofs.Sums.{asked_within, none_pending, none_waiting, one_pending, over_slots, overheads_are, overheads_kept, same_overheads}
 
 -- what a point that was not done says, for the fault that it answered
 pub still_as : (old : Shown) (pool : Pool) (states : States) (new : Shown) (left : Pool) (stay : States) (said fault : VolumeFault) → said ≡ fault → IsStill old pool states new left stay said → IsStill old pool states new left stay fault
@@ -73,10 +73,6 @@ still_said old before session same new left stay said fault is still =
 
 -- ---- before a point
 
-held_labelled : (disk : Shown) (pool : Pool) (s : ℕ) (o : Option VolumeState) → IfSome o (IsHeldIn disk pool s) → IfSome o (IsLabelled s)
-held_labelled disk pool s None is = tt
-held_labelled disk pool s (Some x) is = subst (λ (n : ℕ). IsLabelled n x) is.slot is.ready.labelled
-
 -- a session that stands for a machine has the numbers and the blocks that a point asks for
 pub has_full_room : (disk : Shown) (session : Session) (last m : Machine) → StandsFor disk session last m → HaveFullRoom session.pool session.volumes
 has_full_room disk session last m stands =
@@ -84,7 +80,7 @@ has_full_room disk session last m stands =
     record {
       numbers = λ s. has_numbers disk session.pool s (state_at session.volumes s) (stands.held.each s) (omega (arith, one_pending session.volumes s, stands.few));
       free = omega (arith, all, stands.few, stands.room);
-      blocks = omega (arith, all, asked_within session.volumes (λ s. held_labelled disk session.pool s (state_at session.volumes s) (stands.held.each s)), stands.pending, stands.room);
+      blocks = omega (arith, all, asked_within session.volumes, stands.pending, stands.room);
     }
 
 -- what the session stands for, by its parts
@@ -221,7 +217,7 @@ module _ (before : Shown) (old : Session) (after : Shown) (new : Session) (still
       let spent = still.placed.spent last stands.held (record { numbers = full.numbers; blocks = full.free }) in
       let over = overheads_kept old.volumes new.volumes long still.placed.fit.housed.long still.placed.cores in
       let clear = clear_stays old.pool.map new.pool.map still.placed.committed in
-      let fewer : unwritten new ≤ unwritten old = omega (arith, spent.blocks, clear, free_and_placed old.pool.map, free_and_placed new.pool.map) in
+      let fewer : unwritten new ≤ unwritten old = omega (arith, spent.blocks, still.placed.waiting, clear, free_and_placed old.pool.map, free_and_placed new.pool.map) in
       let same : overheads (view_at (root_found new.pool.found) after.reads) ≡ overheads (view_at (root_found old.pool.found) before.reads) = λ j. overheads (view_at (root_found (still.placed.found j)) (reads.stays.reads j)) in
       record {
         held = still.placed.held last stands.held;
@@ -323,10 +319,19 @@ module _ (old : Shown) (pool : Pool) (states : States) (new : Shown) (left : Poo
     now_held : IsHeld new left stay m
     now_held = subst (IsHeld new left stay) machine_is is.held
 
+    -- no map waits
+    none_fresh : HaveNoneWaiting stay
+    none_fresh s = by (state_at stay s) (now_held.each s) (is.unchanged s)
+      where
+        by : (o : Option VolumeState) → IfSome o (IsHeldIn new left s) → IfSome o (λ x. x.changed ≡ false) → IfSome o (λ x. x.fresh ≡ replicate stored_count false)
+        by None held unchanged = tt
+        by (Some x) held unchanged = held.ready.fresh unchanged
+
     pub pointed : length stay ≡ 64 → HaveNoFiles stay → (after : Session) → after.pool ≡ left → after.volumes ≡ stay → after.pending ≡ 0 → StandsFor new after m m
     pointed long bare after new_pool new_states none =
         let placed : taken_since after.pool.map ≡ 0 = ap (λ (p : Pool). taken_since p.map) new_pool ∙ none_placed left.map loaded.same in
         let pending : pending_files after.volumes ≡ 0 = ap pending_files new_states ∙ none_pending stay long bare in
+        let waiting : maps_waiting after.volumes ≡ 0 = ap maps_waiting new_states ∙ none_waiting stay long none_fresh in
         let over : overheads_in after.volumes ≡ overheads (view_at (root_found left.found) new.reads) = ap overheads_in new_states ∙ overheads_are left stay new.reads long ∙ overheads_stay in
         let same : overheads (view_at (root_found after.pool.found) new.reads) ≡ overheads (view_at (root_found left.found) new.reads) = ap (λ (p : Pool). overheads (view_at (root_found p.found) new.reads)) new_pool in
         let clear : clear_blocks after.pool.map ≡ free_blocks left.map = ap (λ (p : Pool). clear_blocks p.map) new_pool ∙ clear_is_free left.map loaded.same in
@@ -334,9 +339,9 @@ module _ (old : Shown) (pool : Pool) (states : States) (new : Shown) (left : Poo
           held = subst (λ (p : Pool). IsHeld new p after.volumes m) (sym new_pool) (subst (λ (v : States). IsHeld new left v m) (sym new_states) now_held);
           machine = (λ j. machine_held new (new_pool j) (new_states j)) ∙ is.machine ∙ machine_is;
           settled = is.settled;
-          pending = omega (arith, placed, pending, over, same);
-          files = omega (arith, placed, pending);
-          few = omega (arith, placed, pending);
+          pending = omega (arith, placed, pending, waiting, over, same);
+          files = omega (arith, placed, pending, waiting);
+          few = omega (arith, placed, pending, waiting);
           room = omega (arith, none, same, clear, room_when_sound new.reads left.found left.map loaded now_held.tells.sound);
         }
 

@@ -38,7 +38,7 @@ use Rattle.fv_volume.proofs.Made.{to_pair}
 use Rattle.fv_volume.proofs.Removed.{each_left, empty_state, given_within, housed_left, lent_left, names_left, other_state, ready_left, sum_left, sum_less, unkept_left}
 use Rattle.fv_volume.proofs.Told.{named_from, same_named}
 use Rattle.fv_cp.specs.Held.{machine_held, IsHeld, IsHeldIn}
-use Rattle.fv_cp.specs.Lent.{FitTogether, asked_by, blocks_asked}
+use Rattle.fv_cp.specs.Lent.{FitTogether, asked_by, blocks_asked, waiting_by}
 use Rattle.fv_cp.specs.Placing.{pending_by}
 use Rattle.fv_aggregate.specs.declared.session.Session.{Session}
 use Rattle.fv_aggregate.specs.Standing.{overhead_by, taken_since, IsWithoutFiles, Stands, StandsFor}
@@ -203,6 +203,7 @@ module _ (session : Session) (fit : FitTogether session.pool session.volumes) (n
   stands_for_without disk last m stands =
       let files = less pending_by refl in
       let over = less overhead_by refl in
+      let maps = less waiting_by refl in
       let clear = clear_stays session.pool.map left.map is.gone.given.committed in
       let free = is.gone.given.count in
       let held : overheads (view_at (root_found left.found) disk.reads) ≡ overheads (view_at (root_found session.pool.found) disk.reads) = ap (λ (f : Found). overheads (view_at (root_found f) disk.reads)) is.gone.found in
@@ -211,8 +212,8 @@ module _ (session : Session) (fit : FitTogether session.pool session.volumes) (n
         held = held_without session.pool session.volumes fit name new left is disk last stands.held;
         machine = machine_without session.pool session.volumes fit name new left is disk last stands.held ∙ ap (λ (k : Machine). changed k (Goes name)) stands.machine;
         settled = stands.settled;
-        pending = omega (arith, files, over, held, taken, stands.pending);
-        files = omega (arith, files, taken, stands.files);
-        few = omega (arith, files, taken, stands.few);
+        pending = omega (arith, files, maps, over, held, taken, stands.pending);
+        files = omega (arith, files, maps, taken, stands.files);
+        few = omega (arith, files, maps, taken, stands.few);
         room = omega (arith, held, clear, stands.room);
       }

@@ -18,7 +18,7 @@ use Rattle.fv_volume.specs.Promising.{promised, IsPromised, PromisesOne}
 use Rattle.fv_volume.specs.States.{States}
 use Rattle.fv_volume.proofs.PromisedAll.{each_promised, held_promised, housed_promised, lent_promised, names_promised, ready_promised, spaced_promised, sum_promised}
 use Rattle.fv_cp.specs.Held.{machine_held, IsHeld}
-use Rattle.fv_cp.specs.Lent.{FitTogether}
+use Rattle.fv_cp.specs.Lent.{FitTogether, waiting_by}
 use Rattle.fv_cp.specs.Placing.{pending_by}
 use Rattle.fv_aggregate.specs.declared.session.Session.{Session}
 use Rattle.fv_aggregate.specs.Standing.{overhead_by, IsWithoutFiles, Stands, StandsFor}
@@ -104,13 +104,14 @@ module _ (session : Session) (c : Command) (name : List ℕ) (size : VolumeState
   stands_for_promised disk fit there last m stands accepted =
       let files = sum_promised states pool.found.blocks c name size kind new is pending_by refl in
       let over = sum_promised states pool.found.blocks c name size kind new is overhead_by refl in
+      let maps = sum_promised states pool.found.blocks c name size kind new is waiting_by refl in
       record {
         held = held_now disk fit there.cache last stands.held;
         machine = machine_promised disk fit there.cache last stands.held (subst (λ (k : Machine). refusal k c ≡ None) (sym stands.machine) accepted) ∙ ap (λ (k : Machine). next k c) stands.machine;
         settled = stands.settled;
-        pending = omega (arith, files, over, stands.pending);
-        files = omega (arith, files, stands.files);
-        few = omega (arith, files, stands.few);
+        pending = omega (arith, files, maps, over, stands.pending);
+        files = omega (arith, files, maps, stands.files);
+        few = omega (arith, files, maps, stands.few);
         room = stands.room;
       }
 

@@ -1,6 +1,6 @@
 -- What the volumes of a session sum up to, by slot and by view.
 use Rattle.std.proofs.Common.{◌≡◌, ◌<◌, ◌≤◌, ◌+◌, ℕ, suc, Bool, true, false, cond, [], ◌∷◌, length, Option, Some, None, sum_by, refl, sym, ap, ◌∙◌, ⊎_elim, arith}
-use Rattle.std.specs.Prelude.{IfSome}
+use Rattle.std.specs.Prelude.{IfSome, replicate}
 use Rattle.std.specs.List.{range_with_len}
 use Rattle.std.specs.Option.{option_map, option_map_or}
 use Rattle.std.proofs.lemmas.Bool.{cases_lt}
@@ -11,14 +11,14 @@ use Rattle.fv_model.specs.Space.{overhead}
 use Rattle.fv_image.specs.Views.{Head, View, slots}
 use Rattle.fv_image.specs.Sound.{overheads}
 use Rattle.fv_image.proofs.Counts.{none_sum, same_sum}
-use Rattle.fv_cp.specs.Lent.{asked_by, blocks_asked}
+use Rattle.fv_cp.specs.Lent.{asked_by, blocks_asked, maps_waiting, waiting_by, HaveNoneWaiting}
 use Rattle.fv_cp.specs.Placing.{core_of, pending_by, pending_files, HaveNoFiles, HasNoFiles, KeepCores}
+use Rattle.fv_volmap.specs.Slots.{stored_count}
 use Rattle.fv_volume.specs.declared.pool.Pool.{Pool}
 use Rattle.fv_volume.specs.declared.state.VolumeState.{VolumeState}
-use Rattle.fv_volume.specs.Files.{IsLabelled}
 use Rattle.fv_volume.specs.States.{States, head_in, state_at, view_over, with_state}
 use Rattle.fv_volume.specs.Writing.{asked}
-use Rattle.fv_volume.proofs.MapCounts.{asked_alone}
+use Rattle.fv_volume.proofs.MapCounts.{settled_waits}
 use Rattle.fv_aggregate.specs.Standing.{overhead_by, overheads_in}
 
 by_slot : (f : Option VolumeState → ℕ) (g : ℕ → Option VolumeState) (xs : States) (from : ℕ) → ((k : ℕ) → k < length xs → g (from + k) ≡ state_at xs k) → sum_by f xs ≡ sum_by (λ s. f (g s)) (range_with_len from (length xs))
@@ -36,21 +36,21 @@ over_slots f states long =
 
 -- ---- overheads
 
--- the blocks that a consistency point asks for are overheads, since no volume has a snapshot
-pub asked_within : (states : States) → ((s : ℕ) → IfSome (state_at states s) (IsLabelled s)) → blocks_asked states ≤ overheads_in states
-asked_within states labelled = row states (λ s. so s (state_at states s) (labelled s))
+-- the blocks that a consistency point asks for are overheads, and those of maps that wait
+pub asked_within : (states : States) → blocks_asked states ≤ overheads_in states + maps_waiting states
+asked_within states = row states
   where
     chosen : (b : Bool) (n : ℕ) → cond b n 0 ≤ n
     chosen true n = omega arith
     chosen false n = omega arith
 
-    so : (s : ℕ) (x : Option VolumeState) → IfSome x (IsLabelled s) → asked_by x ≤ overhead_by x
-    so s None is = omega arith
-    so s (Some x) is = omega (arith, chosen x.changed (asked x), asked_alone s x is)
+    so : (x : Option VolumeState) → asked_by x ≤ overhead_by x + waiting_by x
+    so None = omega arith
+    so (Some x) = chosen x.changed (asked x)
 
-    row : (xs : States) → ((k : ℕ) → asked_by (state_at xs k) ≤ overhead_by (state_at xs k)) → sum_by asked_by xs ≤ sum_by overhead_by xs
-    row [] each = omega arith
-    row (x ∷ xs) each = omega (arith, each 0, row xs (λ k. each (suc k)), sum_by-cons asked_by x xs, sum_by-cons overhead_by x xs)
+    row : (xs : States) → sum_by asked_by xs ≤ sum_by overhead_by xs + sum_by waiting_by xs
+    row [] = omega arith
+    row (x ∷ xs) = omega (arith, so x, row xs, sum_by-cons asked_by x xs, sum_by-cons overhead_by x xs, sum_by-cons waiting_by x xs)
 
 -- the overheads of the volumes are those of what they show
 pub overheads_are : (pool : Pool) (states : States) (i : Image) → length states ≡ 64 → overheads_in states ≡ overheads (view_over pool states i)
@@ -92,10 +92,22 @@ one_pending states s = ⊎_elim
     (λ (past : length states ≤ s). let none : pending_by (state_at states s) ≡ 0 = ap pending_by (get_or_past states s None past) in omega (arith, none))
     (cases_lt s (length states))
 
+-- ---- maps that wait
+
+pub none_waiting : (states : States) → length states ≡ 64 → HaveNoneWaiting states → maps_waiting states ≡ 0
+none_waiting states long none = over_slots waiting_by states long ∙ none_sum (λ s. waiting_by (state_at states s)) 0 64 (λ k low high. by (state_at states k) (none k))
+  where
+    by : (o : Option VolumeState) → IfSome o (λ x. x.fresh ≡ replicate stored_count false) → waiting_by o ≡ 0
+    by None is = refl
+    by (Some x) is = settled_waits x is
+
 -- ---- one volume more, or another in its slot
 
 pub pending_with : (states : States) (s : ℕ) (o : Option VolumeState) → s < length states → pending_files (with_state states s o) + pending_by (state_at states s) ≡ pending_files states + pending_by o
 pending_with states s o inside = sum_by-set pending_by states s o None inside
+
+pub waiting_with : (states : States) (s : ℕ) (o : Option VolumeState) → s < length states → maps_waiting (with_state states s o) + waiting_by (state_at states s) ≡ maps_waiting states + waiting_by o
+waiting_with states s o inside = sum_by-set waiting_by states s o None inside
 
 pub overheads_in_with : (states : States) (s : ℕ) (o : Option VolumeState) → s < length states → overheads_in (with_state states s o) + overhead_by (state_at states s) ≡ overheads_in states + overhead_by o
 overheads_in_with states s o inside = sum_by-set overhead_by states s o None inside

@@ -1,7 +1,7 @@
 -- An image that stands for a machine is damaged nowhere.
 use Rattle.std.proofs.Common.{◌≡◌, ◌≢◌, ◌<◌, ◌+◌, ◌-◌, ◌*◌, ◌/◌, ◌%◌, ℕ, zero, suc, Bool, true, false, not, List, [], ◌∷◌, length, Option, Some, None, Result, Ok, Err, true≢false, refl, sym, ap, subst, ◌∙◌, ⊎_elim, inl, inr, arith}
 use Rattle.std.specs.Prelude.{◌⊎◌, ◌&&◌, ◌==◌, IfErr, IsErr, find, nat_lt, take, if◌then◌else◌}
-use Rattle.std.specs.List.{list_all, range_with_len}
+use Rattle.std.specs.List.{list_any}
 use Rattle.std.specs.Option.{is_none, option_map}
 use Rattle.std.proofs.lemmas.Bool.{and_parts}
 use Rattle.std.proofs.lemmas.Bool.Decides.{nat_tests}
@@ -19,21 +19,18 @@ use Rattle.fv_model.specs.Space.{map_blocks}
 use Rattle.fv_image.specs.Layout.{block_bits, gate_place, root_place, superblock}
 use Rattle.fv_image.specs.NewerRoot.{Taken, behind, newer, root_of, taken_of}
 use Rattle.fv_image.specs.Maps.{area_bits, map_bit}
-use Rattle.fv_image.specs.Containers.{container_entry, node_of, node_shape, shaped}
-use Rattle.fv_image.specs.Views.{Footing, View, block_in, entry_count, head_of, map_vvbn, snaps_from, volume_bit}
+use Rattle.fv_image.specs.Containers.{node_of, node_shape, shaped}
+use Rattle.fv_image.specs.Views.{Footing, View, block_in, head_of, map_vvbn, snaps_from, used_slots, volume_bit}
 use Rattle.fv_image.specs.Told.{has_none}
-use Rattle.fv_image.specs.Held.{entry_from, is_held, label_in, label_place, layout_at, lying_at, node_from, placed, view_at}
-use Rattle.fv_image.specs.Sound.{kind_at}
+use Rattle.fv_image.specs.Held.{is_held, label_in, label_place, layout_at, lying_at, node_from, view_at}
 use Rattle.fv_image.specs.SoundSlots.{IsSoundSlot, IsSoundVolume}
 use Rattle.fv_image.specs.Soundness.{IsSound}
 use Rattle.fv_image.specs.WholeMachine.{Tells, has_form, machine_of}
-use Rattle.fv_image.proofs.ChargeBits.{reach}
 use Rattle.fv_image.proofs.Counted.{image_has_heads}
 use Rattle.fv_image.proofs.HeldPlaces.{label_some, node_lies}
-use Rattle.fv_image.proofs.Kept.{at_number}
-use Rattle.fv_image.proofs.LoneTables.{built_forms, form_base, form_snapshots}
+use Rattle.fv_image.proofs.LoneTables.{built_forms}
 use Rattle.fv_image.proofs.Named.{label_inside}
-use Rattle.fv_image.proofs.Reaching.{reached_below}
+use Rattle.fv_image.proofs.RootTables.{led_below, root_led}
 use Rattle.fv_image.proofs.Room.{bit_is_held}
 use Rattle.fv_image.proofs.SameLayout.{slot_inside}
 use Rattle.fv_image.proofs.SoundFacts.{lying_label}
@@ -44,10 +41,9 @@ use Rattle.fv_image.proofs.Stands.{stands_for}
 use Rattle.fv_root.specs.declared.find.Found.{Found}
 use Rattle.fv_root.specs.Finding.{IsDamaged, IsNoAggregate, root_found}
 use Rattle.fv_aggmap.specs.Loading.{IsPastMap}
-use Rattle.fv_container.specs.declared.entry.Entry.{Entry}
-use Rattle.fv_container.specs.Mapped.{Mapped, entry_under}
-use Rattle.fv_container.specs.Spelled.{Spelled, pair_of}
-use Rattle.fv_volume.specs.Loading.{IsActiveFault, IsLabelFault, IsTreeFault, first_used, form_in, is_used, label_of}
+use Rattle.fv_volume.specs.Loading.{IsLabelFault, IsMapFault, IsTreeFault, entry_block, first_used, form_in, is_used, label_of}
+use Rattle.fv_volume.proofs.KeptSlots.{root_few, root_used}
+use Rattle.fv_volume.proofs.Mapping.{block_there}
 use Rattle.fv_aggregate.specs.declared.fault.OpenFault.{OpenFault}
 use Rattle.fv_aggregate.specs.declared.fault.OpenFault.TheVariants.{DiskFault, NotAggregate, Damaged, Memory}
 use Rattle.fv_aggregate.specs.declared.session.Session.{Session}
@@ -212,65 +208,42 @@ module _ (i : Image) (found : Found) (m : Machine) (tells : Tells (layout_at (ro
       apart : (v : Verdict) → v ≡ Ok tt → v ≡ Err (record { want = want; found = number }) → ⊥
       apart v a b = cc
 
-  -- ---- active maps
-
-  -- the blocks of the active map are map blocks
-  map_there : (s : ℕ) (l : Label) → label_of found i s ≡ Some l → (k : ℕ) → k < map_blocks l.span → kind_at ((view_at (root_found found) i).entry s (map_vvbn l.span 0 k)) ≡ 8
-  unfolding layout_at view_at head_of
-  map_there s l lies k within =
-      let all = (and_parts (list_all (λ k. kind_at ((view_at (root_found found) i).entry s (map_vvbn l.span 0 k)) == 8) (range_with_len 0 (map_blocks l.span))) _ (volume_there s l lies).maps).0 in
-      same _ 8 (at_number (λ k. kind_at ((view_at (root_found found) i).entry s (map_vvbn l.span 0 k)) == 8) 0 (map_blocks l.span) k all (omega arith) (omega (arith, within)))
-    where
-      same : (a b : ℕ) → (a == b) ≡ true → a ≡ b
-      same a b e = grind (arith, nat_tests)
-
-  -- a block of the active map is there under its VVBN
-  active_block : (s : ℕ) (l : Label) → label_of found i s ≡ Some l → (map : Mapped) → Spelled i l.container l.height map → length map.entries ≡ entry_count l.span → (k : ℕ) → k < map_blocks l.span → (e : Entry) → entry_under map (l.span + k) ≡ Some e
-      → block_in ((view_at (root_found found) i).entry s (map_vvbn l.span 0 k)) ≡ i e.pvbn
-  unfolding view_at entry_from
-  active_block s l lies map spelled long k within e there =
-      let t = root_found found in
-      let vvbn : map_vvbn l.span 0 k ≡ l.span + k = omega arith in
-      let entry : (view_at t i).entry s (map_vvbn l.span 0 k) ≡ placed i (e.pvbn, e.kind) =
-      ap (λ (o : Option Label). entry_from o i (map_vvbn l.span 0 k)) lies
-      ∙ ap (λ (v : ℕ). placed i (container_entry i l.container l.height (entry_count l.span) v)) vvbn
-      ∙ ap (λ (n : ℕ). placed i (container_entry i l.container l.height n (l.span + k))) (sym long)
-      ∙ ap (placed i) (spelled.entries (l.span + k) ∙ ap pair_of there) in
-      ap block_in entry ∙ so (e.kind == 0) (ap kind_at (sym entry) ∙ map_there s l lies k within)
-    where
-      so : (hole : Bool) → kind_at (if hole then None else Some (record { pvbn = e.pvbn; kind = e.kind; block = i e.pvbn })) ≡ 8 → block_in (if hole then None else Some (record { pvbn = e.pvbn; kind = e.kind; block = i e.pvbn })) ≡ i e.pvbn
-      so true kind = absurd cc
-      so false kind = refl
+  -- ---- the maps of volumes
 
   below : (number k blocks : ℕ) → number / 32768 ≡ k → k < blocks → number < 32768 * blocks
   below number k blocks place within = omega (arith, place, within)
 
-  -- a number whose bit is set is one of the span
-  bit_below : (whole : (b : ℕ) → length (i b) ≡ 4096) (s : ℕ) (l : Label) → label_of found i s ≡ Some l → (v : ℕ) → volume_bit (view_at (root_found found) i) s l.span 0 v ≡ true → v < l.span
+  -- a number whose bit is set in the map of a root is one of the span
+  bit_below : (whole : (b : ℕ) → length (i b) ≡ 4096) (s : ℕ) (l : Label) → label_of found i s ≡ Some l → (k : ℕ) → list_any (λ j. j == k) (used_slots (head_of l)) ≡ true → (v : ℕ) → volume_bit (view_at (root_found found) i) s l.span k v ≡ true → v < l.span
   unfolding layout_at view_at head_of
-  bit_below whole s l lies v set =
+  bit_below whole s l lies k used v set =
       let w : View = view_at (root_found found) i in
       let h = head_of l in
       let inside = slot_inside (root_found found) i s l lies in
       let there : w.head s ≡ Some h = ap (option_map head_of) lies in
-      let form = built_label s l lies in
-      let listed = sym (reach w s h inside there sound.tables sound.maps (numbers_at (root_found found) i whole s h there) (form_snapshots h form) (form_base h form) v) ∙ set in
-      reached_below w s h v sound.tables.ranges inside there listed
+      let numbers = numbers_at (root_found found) i whole s h there in
+      let root = root_used h k used in
+      let led = root_led w s h inside there sound.tables k root.0 root.1 (root_few h numbers k root.0 root.1) sound.maps v set in
+      let low = led_below w s h inside there sound.tables k root.0 root.1 led.owner led.level led.index led.some in
+      let at = led.vvbn in
+      omega (arith, low, at)
 
-  pub no_active_fault : (whole : (b : ℕ) → length (i b) ≡ 4096) (at want number : ℕ) → IsActiveFault i found at want number → ⊥
-  unfolding volume_bit bit_of_area
-  no_active_fault whole at want number bad =
+  pub no_slot_fault : (whole : (b : ℕ) → length (i b) ≡ 4096) (at want number : ℕ) → IsMapFault i found at want number → ⊥
+  unfolding volume_bit bit_of_area view_at
+  no_slot_fault whole at want number bad =
       let t = root_found found in
       let s = bad.slot in
       let l = bad.label in
       let fault = bad.fault in
       let k = fault.index in
-      let block = active_block s l bad.lies bad.map bad.spelled bad.long k fault.within fault.entry fault.there in
+      let j = bad.map_slot in
+      let block : block_in ((view_at t i).entry s (map_vvbn l.span j k)) ≡ i fault.entry.pvbn =
+      sym (block_there found i s l bad.map bad.lies bad.spelled bad.long bad.valid (map_vvbn l.span j k)) ∙ ap (entry_block i) fault.there in
       let inside : number < block_bits * map_blocks l.span = below number k (map_blocks l.span) fault.past.place fault.within in
       let test : nat_lt number (block_bits * map_blocks l.span) ≡ true = passes number (block_bits * map_blocks l.span) inside in
-      let here : block_in ((view_at t i).entry s (map_vvbn l.span 0 (number / block_bits))) ≡ i fault.entry.pvbn = ap (λ (n : ℕ). block_in ((view_at t i).entry s (map_vvbn l.span 0 n))) fault.past.place ∙ block in
-      let set : volume_bit (view_at t i) s l.span 0 number ≡ true = (λ j. test j && bit_of_bytes (here j) (number % block_bits)) ∙ fault.past.bit in
-      omega (arith, bit_below whole s l bad.lies number set, fault.past.past)
+      let here : block_in ((view_at t i).entry s (map_vvbn l.span j (number / block_bits))) ≡ i fault.entry.pvbn = ap (λ (n : ℕ). block_in ((view_at t i).entry s (map_vvbn l.span j n))) fault.past.place ∙ block in
+      let set : volume_bit (view_at t i) s l.span j number ≡ true = (λ m. test m && bit_of_bytes (here m) (number % block_bits)) ∙ fault.past.bit in
+      omega (arith, bit_below whole s l bad.lies j bad.used number set, fault.past.past)
     where
       passes : (a b : ℕ) → a < b → nat_lt a b ≡ true
       passes a b low = grind (arith, nat_tests)
@@ -291,7 +264,7 @@ whole i m long is (Damaged at want number) (inr under) =
     (λ label. no_label_fault i under.root m tells at want number label)
     (λ rest. ⊎_elim
     (λ tree. no_tree_fault i under.root m tells at want number tree)
-    (λ active. no_active_fault i under.root m tells long at want number active)
+    (λ map. no_slot_fault i under.root m tells long at want number map)
     rest)
     load)
     under.fault)

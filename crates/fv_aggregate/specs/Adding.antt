@@ -10,7 +10,7 @@ use Rattle.fv_volume.specs.Creating.{Admits, IsMade, IsNew, with_holes}
 use Rattle.fv_volume.specs.Slots.{IsFirstFree}
 use Rattle.fv_volume.specs.States.{state_at}
 use Rattle.fv_volume.specs.Files.{IsLabelled}
-use Rattle.fv_cp.specs.Lent.{FitTogether, blocks_asked}
+use Rattle.fv_cp.specs.Lent.{FitTogether, blocks_asked, maps_waiting}
 use Rattle.fv_cp.specs.Placing.{pending_files, KeepCores}
 use Rattle.fv_aggregate.specs.declared.session.Session.{Session}
 use Rattle.fv_aggregate.specs.Standing.{clear_blocks, overheads_in, IsWithoutFiles}
@@ -48,4 +48,5 @@ pub record IsAdded (old : Session) (name : List ℕ) (size : ℕ) (kind : Kind) 
   pub asked : blocks_asked new.volumes ≤ blocks_asked old.volumes + room
   pub overheads : overheads_in new.volumes ≡ overheads_in old.volumes + room
   pub files : pending_files new.volumes ≡ pending_files old.volumes
+  pub waiting : maps_waiting new.volumes ≡ maps_waiting old.volumes
   pub failed : new.failed ≡ old.failed

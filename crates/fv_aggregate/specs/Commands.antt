@@ -104,7 +104,8 @@ snapshot_asked (Len volume snapshot file) = snapshot
 snapshot_asked (Ls volume snapshot) = snapshot
 snapshot_asked command = None
 
--- whether a command finds a file of a volume by its name, and leaves the names of all files: afterwards their numbers are in memory
+-- whether a command finds a file of the active table of a volume by its name, and leaves the names of all files: afterwards their numbers are in
+-- memory
 abbrev pub finds_file : Command → Bool
 finds_file (Put volume file index block) = true
 finds_file (Get volume snapshot file index) = is_none snapshot

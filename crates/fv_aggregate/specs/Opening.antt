@@ -13,7 +13,7 @@ use Rattle.fv_volume.specs.Placing.{IsLedTo, IsStoredWell}
 use Rattle.fv_volume.specs.States.{state_at, view_over}
 use Rattle.fv_volume.specs.Trees.{machine_in, no_trees}
 use Rattle.fv_volume.specs.Files.{AreStates}
-use Rattle.fv_cp.specs.Lent.{FitTogether}
+use Rattle.fv_cp.specs.Lent.{FitTogether, HaveNoneWaiting}
 use Rattle.fv_cp.specs.Placing.{AreReady, HasWholeMap, HaveNoFiles}
 use Rattle.fv_aggregate.specs.declared.session.Session.{Session}
 
@@ -26,12 +26,13 @@ pub record IsOpened (i : Image) (session : Session) : Type 0 where
   pub machine : (m : Machine) → Tells (layout_at (root_found session.pool.found) i) m → machine_in session.pool session.volumes no_trees i ≡ m
   pub states : (m : Machine) → Tells (layout_at (root_found session.pool.found) i) m → AreStates (view_over session.pool session.volumes i) no_trees session.volumes
 
--- Calls can be made on each volume, whatever was read, and no file of one is in memory. Where what was read stands for a machine each stands for
--- one of that, with what is in use led to and stored well.
+-- Calls can be made on each volume, whatever was read, no file of one is in memory, and no map waits. Where what was read stands for a machine
+-- each stands for one of that, with what is in use led to and stored well.
 pub record AreOpened (disk : Shown) (i : Image) (session : Session) : Type 0 where
   pub fit : FitTogether session.pool session.volumes
   pub ready : AreReady disk session.pool session.volumes
   pub none : HaveNoFiles session.volumes
+  pub waiting : HaveNoneWaiting session.volumes
   pub maps : (s : ℕ) → HasWholeMap (state_at session.volumes s)
   pub standing : (m : Machine) → IsTrue disk.tells → machine_of i ≡ Some m → (s : ℕ) → IfSome (state_at session.volumes s) (IsStanding disk session.pool)
   pub led : (m : Machine) → IsTrue disk.tells → machine_of i ≡ Some m → (s : ℕ) → IfSome (state_at session.volumes s) (IsLedTo disk session.pool)

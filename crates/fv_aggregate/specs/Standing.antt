@@ -17,6 +17,7 @@ use Rattle.fv_volume.specs.declared.state.VolumeState.{VolumeState}
 use Rattle.fv_volume.specs.States.{States}
 use Rattle.fv_volume.specs.UnderRoot.{IsMapOf}
 use Rattle.fv_cp.specs.Held.{machine_held, IsHeld}
+use Rattle.fv_cp.specs.Lent.{maps_waiting}
 use Rattle.fv_cp.specs.Placing.{pending_files, AreReady, HaveNoFiles}
 use Rattle.fv_aggregate.specs.declared.session.Session.{Session}
 use Rattle.fv_aggregate.specs.Commands.{dirty_limit}
@@ -38,9 +39,10 @@ clear_blocks space = free_from space.committed space.committed (first_block (blo
 abbrev pub taken_since : Space → ℕ
 taken_since space = clear_blocks space - free_blocks space
 
--- The blocks of files that the disk hasn't: those that a flush places at most, and those that have their places already.
+-- The blocks that the disk hasn't, beside the overheads: those of files that a flush places at most, those of maps that wait, and those that
+-- have their places already.
 abbrev pub unwritten : Session → ℕ
-unwritten session = pending_files session.volumes + taken_since session.pool.map
+unwritten session = pending_files session.volumes + maps_waiting session.volumes + taken_since session.pool.map
 
 -- no file is in memory, and no block was taken for one since the last point
 pub record IsWithoutFiles (session : Session) : Type 0 where
@@ -65,10 +67,10 @@ pub record StandsFor (disk : Shown) (session : Session) (last now : Machine) : T
   pub held : IsHeld disk session.pool session.volumes last
   pub machine : machine_held disk session.pool session.volumes ≡ now
   pub settled : IsSettled disk
-  -- among the pending blocks are the unwritten ones of files, and those by which the overheads have passed those of the last point
+  -- among the pending blocks are the unwritten ones, and those by which the overheads have passed those of the last point
   pub pending : unwritten session + overheads_in session.volumes ≤ overheads (view_at (root_found session.pool.found) disk.reads) + session.pending
   pub files : unwritten session ≤ session.pending
-  -- and the dirty limit bounds those of files
+  -- and the dirty limit bounds the unwritten ones
   pub few : unwritten session < dirty_limit
   -- beside the overheads of the last point there is room for what is pending, and for 256 blocks at least
   pub room : overheads (view_at (root_found session.pool.found) disk.reads) + max 256 session.pending ≤ clear_blocks session.pool.map

@@ -1,17 +1,18 @@
 //! The commands that ask for files. None of them changes a volume.
 
-ghost use Rattle.std.specs.Prelude.{◌≡◌, ◌<◌, option_copied, false, true, is_some, None, Some, Ok, IsTrue, IsNone, IfSome, OnOk};
+ghost use Rattle.std.specs.Prelude.{◌≡◌, ◌<◌, option_copied, false, true, is_some, None, Some, Ok, Err, IsTrue, IsNone, IfSome, IfOk, OnOk};
 ghost use Rattle.fv_container.specs.Chains.{slot_count};
 ghost use Rattle.fv_cp.specs.Placing.{IsReadyIn};
 ghost use Rattle.fv_model.specs.declared.answers.Refusal.TheVariants.{NoSnapshot, NoVolume, Range};
 ghost use Rattle.fv_model.specs.declared.answers.Reply.TheVariants.{Refused};
 ghost use Rattle.fv_model.specs.Machines.{Machine};
 ghost use Rattle.fv_volume.specs.Asking.{table_named, IsRefusedUnread};
+ghost use Rattle.fv_volume.specs.declared.fault.VolumeFault.TheVariants as of_volume;
 ghost use Rattle.fv_volume.specs.OneVolume.{IsReady};
 ghost use Rattle.fv_volume.specs.Slots.{NoneHasName};
 ghost use Rattle.fv_volume.specs.States.{state_at};
 ghost use Rattle.fv_aggregate.specs.Calls.{IsUntouched, LacksSnapshot};
-ghost use Rattle.fv_aggregate.specs.Commands.{finds_file, has_range, is_get, snapshot_asked, volume_asked};
+ghost use Rattle.fv_aggregate.specs.Commands.{finds_file, has_range, is_get, is_refusal, snapshot_asked, volume_asked};
 ghost use Rattle.fv_aggregate.specs.Known.{KeepsNumbers, KnowsNamed, KnowsNumbers};
 ghost use Rattle.fv_aggregate.specs.Looking.{AsksSlot, AsksState, Breaks, IsAsked, Looks, Replied};
 ghost use Rattle.fv_aggregate.specs.Standing.{Stands, StandsFor};
@@ -55,6 +56,7 @@ impl Session {
         ensures range { has_range command.now ≡ false → (result ≡ Ok (Refused Range)) × IsUntouched disk.old self.old disk.new self.new }
         ensures missing { has_range command.now ≡ true → NoneHasName self.old.volumes volume.now → result ≡ Ok (Refused NoVolume) }
         ensures lost { has_range command.now ≡ true → LacksSnapshot self.old.volumes volume.now command.now → (result ≡ Ok (Refused NoSnapshot)) × IsUntouched disk.old self.old disk.new self.new }
+        ensures only { result ≡ Ok (Refused NoSnapshot) → LacksSnapshot self.old.volumes volume.now command.now }
         ensures steps { is_get command.now ≡ false → steps.new ≡ steps.old }
         ensures known { IsTrue (D.shown disk.old).tells → (last m : Machine) → StandsFor (D.shown disk.old) self.old last m → OnOk result (steps.new ≡ steps.old) }
         ensures kept { KeepsNumbers self.old.volumes self.new.volumes }
@@ -83,6 +85,7 @@ impl Session {
         requires asked { IsAsked self.old.volumes slot command.now }
         ensures looks { Looks (D.shown disk.old) self.old command.now (D.shown disk.new) self.new result }
         ensures lost { has_range command.now ≡ true → IfSome (state_at self.old.volumes slot) (λ x. table_named x (snapshot_asked command.now) ≡ None → (result ≡ Ok (Refused NoSnapshot)) × IsUntouched disk.old self.old disk.new self.new) }
+        ensures only { result ≡ Ok (Refused NoSnapshot) → IfSome (state_at self.old.volumes slot) (λ x. table_named x (snapshot_asked command.now) ≡ None) }
         ensures steps { is_get command.now ≡ false → steps.new ≡ steps.old }
         ensures known { IsTrue (D.shown disk.old).tells → (last m : Machine) → StandsFor (D.shown disk.old) self.old last m → OnOk result (steps.new ≡ steps.old) }
         ensures kept { KeepsNumbers self.old.volumes self.new.volumes }
@@ -108,6 +111,7 @@ impl Session {
         requires asked { IsAsked self.old.volumes slot command.now }
         ensures looks { Looks (D.shown disk.old) self.old command.now (D.shown disk.new) self.new result }
         ensures lost { has_range command.now ≡ true → IfSome (state_at self.old.volumes slot) (λ x. table_named x (snapshot_asked command.now) ≡ None → (result ≡ Ok (Refused NoSnapshot)) × IsUntouched disk.old self.old disk.new self.new) }
+        ensures only { result ≡ Ok (Refused NoSnapshot) → IfSome (state_at self.old.volumes slot) (λ x. table_named x (snapshot_asked command.now) ≡ None) }
         ensures steps { is_get command.now ≡ false → steps.new ≡ steps.old }
         ensures known { IsTrue (D.shown disk.old).tells → (last m : Machine) → StandsFor (D.shown disk.old) self.old last m → OnOk result (steps.new ≡ steps.old) }
         ensures volumes { self.new.volumes ≡ self.old.volumes }
@@ -185,6 +189,8 @@ fn ask_slot<D: Disk, L: Ledger>(
     requires asks { IfSome (state_at volumes.old slot) (λ x. volume_asked command.now ≡ Some x.name) }
     ensures asks { AsksSlot (D.shown disk.old) pool.old (state_at volumes.old slot) command.now steps.old (D.shown disk.new) pool.new steps.new result }
     ensures lost { has_range command.now ≡ true → IfSome (state_at volumes.old slot) (λ x. table_named x (snapshot_asked command.now) ≡ None → IsRefusedUnread NoSnapshot disk.old pool.old disk.new pool.new result) }
+    ensures only { result ≡ Err (of_volume.Refused NoSnapshot) → IfSome (state_at volumes.old slot) (λ x. table_named x (snapshot_asked command.now) ≡ None) }
+    ensures told { IfOk result (λ reply. is_refusal reply ≡ false) }
     ensures same { volumes.new ≡ volumes.old }
     ensures steps { is_get command.now ≡ false → steps.new ≡ steps.old }
 {
@@ -207,6 +213,8 @@ fn ask_state<D: Disk, L: Ledger>(
     requires asks { volume_asked command.now ≡ Some state.old.name }
     ensures asks { AsksState (D.shown disk.old) pool.old state.old command.now steps.old (D.shown disk.new) pool.new steps.new result }
     ensures lost { has_range command.now ≡ true → table_named state.old (snapshot_asked command.now) ≡ None → IsRefusedUnread NoSnapshot disk.old pool.old disk.new pool.new result }
+    ensures only { result ≡ Err (of_volume.Refused NoSnapshot) → table_named state.old (snapshot_asked command.now) ≡ None }
+    ensures told { IfOk result (λ reply. is_refusal reply ≡ false) }
     ensures same { state.new ≡ state.old }
     ensures steps { is_get command.now ≡ false → steps.new ≡ steps.old }
 {

@@ -70,9 +70,9 @@ impl Session {
     /// and found. `DiskFault` comes only where the barrier or a read failed, and `Memory` where memory ran out; over an image that
     /// stands for a machine nothing else keeps it from being opened.
     ///
-    /// Costs a barrier, a read for each fixed block, each block of one map area, and each label, container node and active map
-    /// block of the volumes. It holds up to 1024 blocks of cache, two bits for each block of the aggregate, and an entry and a bit for
-    /// each VVBN of each volume. `docs/FORMAT.md` has what it reads.
+    /// Costs a barrier, a read for each fixed block, each block of one map area, and each label, container node and map block of the
+    /// volumes. It holds up to 1024 blocks of cache, two bits for each block of the aggregate, and for each VVBN of each volume an entry
+    /// and a bit for each map slot in use. `docs/FORMAT.md` has what it reads.
     pub fn open<D: Disk>(alloc: Global, disk: &mut D) -> Result<Session, OpenFault>
         ensures stands { IfOk result (Stands (D.shown disk.new)) }
         ensures fresh { IfOk result IsFresh }

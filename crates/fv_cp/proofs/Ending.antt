@@ -41,7 +41,8 @@ use Rattle.fv_volume.specs.Stored.{AreApartIn, AreSpacedIn, has_block, is_of, st
 use Rattle.fv_volume.specs.Writing.{on_disk, IsTaken}
 use Rattle.fv_volume.proofs.HeldAlone.{of_each}
 use Rattle.fv_volume.proofs.LentSlots.{lent_apart, lent_from_loaded, loaded_from_lent, lent_slot, area_taken, held_taken}
-use Rattle.fv_volume.proofs.Settled.{heads_stay, housed_after, same_stay, settled_same, unchanged_stay, settled_written}
+use Rattle.fv_volume.proofs.Settled.{heads_stay, housed_after, same_stay, settled_same, settled_slots, unchanged_stay, settled_written}
+use Rattle.fv_volume.proofs.StandingMaps.{loaded_maps}
 use Rattle.fv_volume.proofs.Spacing.{spaced_same}
 use Rattle.fv_volume.proofs.StaysStates.{active_same, reach_stays, states_stay}
 use Rattle.fv_volume.proofs.StillLoaded.{still_loaded, still_stands}
@@ -201,6 +202,7 @@ module _ (disk : Shown) (pool : Pool) (states : States) (before : Machine) (lent
           let lies : (b : ℕ) → is_of x (get_or labels s 0) r.new b ≡ true → IsAllocatable u.blocks b = λ b of. (is.spaced.held s b inside ((λ k. has_block (now k) (r.now k) b) ∙ of)).1 in
           subst (λ (o : Option VolumeState). StandsUnder mid.reads f s o (container_at left.containers s)) (sym now) (subst (λ (c : Option Mapped). StandsUnder mid.reads f s (Some (as_written x (get_or labels s 0))) c) (sym r.now)
           (stored_stands f mid.reads s x r.old (get_or labels s 0) r.new r.stored (place_is f s inside) (subst (λ (o : Option VolumeState). IfSome o (IsLabelled s)) there (fit.housed.volumes s)) r.valid
+          disk.reads pool.found (lent_slot disk.reads pool.found s (state_at states s) (container_at pool.containers s) x r.old there r.was (lent.slots s inside)).maps agrees
           (past_clear pool states disk.reads fit.housed lent.tables lent.reach s x inside there) lies))
       by (as_lent waits at) =
           subst (λ (o : Option VolumeState). StandsUnder mid.reads f s o (container_at left.containers s)) (sym at.state) (subst (λ (c : Option Mapped). StandsUnder mid.reads f s (state_at states s) c) (sym at.lies)
@@ -299,7 +301,8 @@ module _ (disk : Shown) (pool : Pool) (states : States) (before : Machine) (lent
 
     lent_at_now : (s : ℕ) → s < 64 → IsLentAt new.reads f s (state_at stay s) (container_at last.containers s)
     lent_at_now s inside = subst (λ (o : Option VolumeState). IsLentAt new.reads f s o (container_at last.containers s)) (sym (settled s)) (subst (λ (c : Slots). IsLentAt new.reads f s (settled_at labels states s) (container_at c s)) (sym containers)
-        (lent_from_loaded new.reads f s (settled_at labels states s) (container_at left.containers s) (loaded_then s inside) (apart_now s inside)))
+        (lent_from_loaded new.reads f s (settled_at labels states s) (container_at left.containers s) (loaded_then s inside) (apart_now s inside)
+        (loaded_maps f new.reads s inside tells_now.sound (settled_at labels states s) (container_at left.containers s) (loaded_then s inside) (settled_slots s (state_at states s) (get_or labels s 0) (fit.housed.volumes s)))))
 
     -- ---- the point
 

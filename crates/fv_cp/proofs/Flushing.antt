@@ -22,13 +22,13 @@ use Rattle.fv_volume.specs.Placing.{pending_of}
 use Rattle.fv_volume.specs.Slots.{sum_of}
 use Rattle.fv_volume.specs.States.{States, state_at, with_state}
 use Rattle.fv_volume.specs.Stored.{AreSpacedIn}
-use Rattle.fv_volume.specs.Writing.{asked}
+use Rattle.fv_volume.specs.Writing.{asked, map_wait}
 use Rattle.fv_volume.proofs.PlacedIn as one
 use Rattle.fv_volume.proofs.Told.{is_inside}
 use Rattle.fv_volume.proofs.Spending.{spent_one}
 use Rattle.fv_volume.proofs.Staying.{only_itself}
 use Rattle.fv_cp.specs.Held.{machine_held, named_held, IsHeld, IsHeldIn}
-use Rattle.fv_cp.specs.Lent.{asked_by, blocks_asked, FitTogether}
+use Rattle.fv_cp.specs.Lent.{asked_by, blocks_asked, maps_waiting, waiting_by, FitTogether}
 use Rattle.fv_cp.specs.Placing.{pending_by, pending_files, HasNumbers, HaveNoFiles, HaveRoom, HaveSpent, IsPlacedAs, ArePlaced, AreReady, HasNoFiles, HasWholeMap, IsReadyIn, IsSlotPlaced, MayFail, PlacesSlot}
 use Rattle.fv_disk.proofs.Resting.{reads_then}
 use Rattle.fv_store.specs.Held.{StandsOn}
@@ -58,6 +58,13 @@ module _ (disk after : Shown) (pool left : Pool) (states stay : States) (x y : V
       let changed = one.changed_still disk after pool left states stay x y there now fit.housed placed ready in
       let same : asked_by (Some y) ≡ asked_by (state_at states x.slot) = ap (λ (z : VolumeState). cond y.changed (asked z) 0) placed.keeps ∙ ap (λ (t : Bool). cond t (asked x) 0) changed ∙ sym (ap asked_by there) in
       let all : blocks_asked stay ≡ blocks_asked (with_state states x.slot (Some y)) = ap blocks_asked now in
+      omega (arith, sum, same, all)
+
+  pub waiting_still : maps_waiting stay ≡ maps_waiting states
+  waiting_still =
+      let sum = sum_by-set waiting_by states x.slot (Some y) None in_list in
+      let same : waiting_by (Some y) ≡ waiting_by (state_at states x.slot) = ap (λ (z : VolumeState). map_wait z) placed.keeps ∙ sym (ap waiting_by there) in
+      let all : maps_waiting stay ≡ maps_waiting (with_state states x.slot (Some y)) = ap maps_waiting now in
       omega (arith, sum, same, all)
 
   module _ (before : Machine) (held : IsHeld disk pool states before) where
@@ -122,7 +129,7 @@ pub record HasPassed (disk : Shown) (pool : Pool) (states : States) (count : ℕ
 pub passed_none : (disk : Shown) (pool : Pool) (states : States) → FitTogether pool states → AreReady disk pool states → StandsOn disk pool.store.pairs → HasPassed disk pool states 0 disk pool states
 passed_none disk pool states fit ready stands = record {
   come = record {
-    placed = record { held = λ before held. held; machine = λ before held. refl; fit = fit; found = refl; committed = refl; cores = λ s. refl; asked = refl; spent = λ before held room. record { fewer = omega arith; numbers = room.numbers; blocks = omega arith }; only_reads = only_itself disk; idle = λ none. (refl, refl) };
+    placed = record { held = λ before held. held; machine = λ before held. refl; fit = fit; found = refl; committed = refl; cores = λ s. refl; asked = refl; waiting = refl; spent = λ before held room. record { fewer = omega arith; numbers = room.numbers; blocks = omega arith }; only_reads = only_itself disk; idle = λ none. (refl, refl) };
     ready = ready;
     stands = stands;
   };
@@ -180,6 +187,7 @@ module _ (disk : Shown) (pool : Pool) (states : States) (mid : Shown) (held : Po
           committed = did.placed.goes.goes.goes.committed ∙ come.placed.committed;
           cores = λ s. one.cores_still mid after held left between stay x did.now here now come.placed.fit.housed did.placed s ∙ come.placed.cores s;
           asked = asked_still mid after held left between stay x did.now here now come.placed.fit did.placed ready.ready ∙ come.placed.asked;
+          waiting = waiting_still mid after held left between stay x did.now here now come.placed.fit did.placed ∙ come.placed.waiting;
           spent = λ before was room.
               let first = come.placed.spent before was room in
               let second = spent_still mid after held left between stay x did.now here now come.placed.fit did.placed before (come.placed.held before was) (room_now first room) in

@@ -10,18 +10,19 @@ use Rattle.fv_codec.specs.declared.inode.InodeRecord.{InodeRecord}
 use Rattle.fv_codec.specs.declared.pointer.Pointer.{Pointer}
 use Rattle.fv_model.specs.Machines.{Machine, capacity}
 use Rattle.fv_model.specs.Spelling.{name_cmp}
+use Rattle.fv_laws.proofs.Lists.{In}
 use Rattle.fv_tables.proofs.Lists.{all_of_range, same_parts}
 use Rattle.fv_image.specs.HintRules.{has_known_places, has_split_places, has_true_hints, is_based, is_copied, is_in_label, is_known, leads_unknown, leaves_base, rests_on_base}
 use Rattle.fv_image.specs.ReachRules.{all_volumes, are_distinct, has_distinct_files, has_pointers_in_range, has_reached_kinds, has_reached_positions, has_reached_shapes, reaches_once}
-use Rattle.fv_image.specs.Seen.{Reached, Root, VolumeSeen, seen}
+use Rattle.fv_image.specs.Seen.{Reached, Root, VolumeSeen, roots_of, seen, volume_seen}
 use Rattle.fv_image.specs.Soundness.{AreTables}
 use Rattle.fv_image.specs.TableRules.{has_cells_within, has_levels, has_marks_over, has_one_to_one, has_stamps_past}
 use Rattle.fv_image.specs.VolumeRules.{comes_to_end, commits_seen, has_bases, has_commits_in_capacity, has_distinct_snapshots, has_footing, has_use_in_size, has_wide_spans}
-use Rattle.fv_image.specs.Views.{Footing, Snap, View, slots}
+use Rattle.fv_image.specs.Views.{Footing, Rooted, Snap, View, slots}
 use Rattle.fv_image.specs.Volumes.{active_at, named_with, told_with, volumes_with}
 use Rattle.fv_image.specs.WholeMachine.{has_no_reserves, is_built}
 use Rattle.fv_image.proofs.LoneTables.{form_base, form_snapshots}
-use Rattle.fv_volmap.specs.Slots.{active_of}
+use Rattle.fv_volmap.specs.Slots.{IsVolume}
 use Rattle.fv_volume.specs.declared.pool.Pool.{Pool}
 use Rattle.fv_volume.specs.declared.state.VolumeState.{VolumeState}
 use Rattle.fv_volume.specs.Files.{AreStates, IsState, has_form}
@@ -32,9 +33,8 @@ use Rattle.fv_cp.specs.Held.{machine_held, named_held, IsHeld, IsHeldIn}
 use Rattle.fv_cp.specs.Lent.{FitTogether, IsLent}
 use Rattle.fv_cp.specs.Placing.{HasNoFiles, HasWholeMap}
 use Rattle.fv_cp.specs.Points.{machine_lent}
-use Rattle.fv_volume.proofs.Reaches.{reaches_alone}
 use Rattle.fv_volume.proofs.Ruled as rule
-use Rattle.fv_volume.proofs.Ruled.{AreRuled, lone}
+use Rattle.fv_volume.proofs.Ruled.{AreRuled}
 use Rattle.fv_volume.proofs.HeldAlone as alone
 use Rattle.fv_volume.proofs.HeldAlone.{all_seen, commits_fit, commits_in_view, each_held, of_each}
 use Rattle.fv_volume.specs.Numbering.{AreNumbersSeen}
@@ -64,21 +64,24 @@ module _ (disk : Shown) (pool : Pool) (states : States) (before : Machine) (held
     no_files : x.files ≡ None
     no_files = subst HasNoFiles e (none x.slot)
 
-    whole : length (active_of x.map) ≡ x.map.span
+    whole : IsVolume x.map
     whole = subst HasWholeMap e (maps x.slot)
 
     form : has_form (head_in x) ≡ true
     form = one.ready.labelled.form
 
-    abbrev led : Option ℕ → ℕ → ℕ → Pointer
+    base : (head_in x).base ≡ None
+    base = form_base (head_in x) form
+
+    abbrev led : ℕ → Rooted → Option ℕ → ℕ → ℕ → Pointer
     led = alone.led disk pool states fit.housed held.slots held.spaced x e one no_files whole
 
-    ruled : AreRuled w x.slot (head_in x) led
+    ruled : (k : ℕ) (r : Rooted) → In {X = ℕ × Rooted} (k, r) (roots_of (head_in x)) → AreRuled w x.slot (head_in x) r (led k r)
     ruled = alone.ruled disk pool states fit.housed held.slots held.spaced x e one no_files whole
 
   -- ---- all of them
 
-  all_held : (test : ℕ → VolumeSeen → Bool) → ((x : VolumeState) → state_at states x.slot ≡ Some x → test x.slot (lone w x.slot (head_in x)) ≡ true) → all_volumes (seen w) test ≡ true
+  all_held : (test : ℕ → VolumeSeen → Bool) → ((x : VolumeState) → state_at states x.slot ≡ Some x → test x.slot (volume_seen w x.slot (head_in x)) ≡ true) → all_volumes (seen w) test ≡ true
   all_held = all_seen states fit.housed.volumes pool disk.reads
 
   each_state : AreStates w no_trees states
@@ -90,30 +93,30 @@ module _ (disk : Shown) (pool : Pool) (states : States) (before : Machine) (held
 
   -- The rules on tables hold.
   tables : AreTables (seen w)
-  unfolding has_reached_shapes has_pointers_in_range has_wide_spans has_bases has_distinct_snapshots has_distinct_files has_reached_positions reaches_once has_reached_kinds has_one_to_one has_stamps_past has_marks_over has_cells_within has_levels has_true_hints leads_unknown has_known_places has_split_places leaves_base rests_on_base has_use_in_size has_commits_in_capacity seen view_over
+  unfolding has_reached_shapes has_pointers_in_range has_wide_spans has_bases has_distinct_snapshots has_distinct_files has_reached_positions reaches_once has_reached_kinds has_one_to_one has_stamps_past has_marks_over has_cells_within has_levels has_true_hints leads_unknown has_known_places has_split_places leaves_base rests_on_base has_use_in_size has_commits_in_capacity seen volume_seen view_over
   tables = record {
     shapes = all_held _ (λ x e. rule.shapes w x.slot (head_in x) (led x e) (ruled x e));
     ranges = all_held _ (λ x e. rule.ranges w x.slot (head_in x) (led x e) (ruled x e));
     spans = all_held _ (λ x e. alone.wide_rule disk pool states fit.housed held.slots held.spaced x e (one x e) (no_files x e) (whole x e));
-    bases = all_held _ (λ x e. and_from (comes_to_end (seen w) 64 x.slot) _ (alone.footing_rule disk pool states fit.housed held.slots held.spaced x e (one x e) (no_files x e) (whole x e)) (ap (λ (o : Option Footing). option_map_or (has_footing (seen w) (lone w x.slot (head_in x))) o true) (form_base (head_in x) (form x e))));
+    bases = all_held _ (λ x e. and_from (comes_to_end (seen w) 64 x.slot) _ (alone.footing_rule disk pool states fit.housed held.slots held.spaced x e (one x e) (no_files x e) (whole x e)) (ap (λ (o : Option Footing). option_map_or (has_footing (seen w) (volume_seen w x.slot (head_in x))) o true) (base x e)));
     snapshots = all_held _ (λ x e. ap (λ (ps : List Snap). are_distinct (map (λ p. p.name) ps)) (form_snapshots (head_in x) (form x e)));
     files = all_held _ (λ x e. alone.files_rule disk pool states fit.housed held.slots held.spaced x e (one x e) (no_files x e) (whole x e));
     positions = all_held _ (λ x e. rule.positions w x.slot (head_in x) (led x e) (ruled x e));
     once = all_held _ (λ x e. rule.once w x.slot (head_in x) (led x e) (ruled x e));
     kinds = all_held _ (λ x e. rule.kinds w x.slot (head_in x) (led x e) (ruled x e));
-    ids = all_held _ (λ x e. rule.ids w x.slot (head_in x) (led x e) (ruled x e));
-    stamps = all_held _ (λ x e. rule.stamps w x.slot (head_in x) (led x e) (ruled x e));
+    ids = all_held _ (λ x e. rule.ids w x.slot (head_in x) (led x e) (ruled x e) (base x e) (alone.one_to_one disk pool states fit.housed held.slots held.spaced x e (one x e) (no_files x e) (whole x e)));
+    stamps = all_held _ (λ x e. rule.stamps w x.slot (head_in x) (led x e) (ruled x e) (base x e));
     marks = all_held _ (λ x e. rule.marks w x.slot (head_in x) (led x e) (ruled x e));
     cells = all_held _ (λ x e. alone.cells_rule disk pool states fit.housed held.slots held.spaced x e (one x e) (no_files x e) (whole x e));
     levels = all_held _ (λ x e. alone.levels_rule disk pool states fit.housed held.slots held.spaced x e (one x e) (no_files x e) (whole x e));
     hints = all_held _ (λ x e. rule.hints w x.slot (head_in x) (led x e) (ruled x e));
     unknown = all_held _ (λ x e. rule.unknown w x.slot (head_in x) (led x e) (ruled x e));
     known = all_held _ (λ x e. rule.known_places w x.slot (head_in x) (led x e) (ruled x e));
-    split = all_held _ (λ x e. rule.split w x.slot (head_in x) (led x e) (ruled x e) (form_base (head_in x) (form x e))
-        (λ r. list_all (λ (e : Reached). not (is_known e.item.pointer) || not (is_in_label e.item || (is_copied (lone w x.slot (head_in x)) r e.item.pointer.vvbn || is_copied (lone w x.slot (head_in x)) r e.item.holder.vvbn))) r.reached));
-    leaves = all_held _ (λ x e. refl);
-    rests = all_held _ (λ x e. rule.rests w x.slot (head_in x) (led x e) (ruled x e) (form_base (head_in x) (form x e))
-        (λ r. list_all (λ (e : Reached). e.own || is_based (lone w x.slot (head_in x)) e.item.pointer.vvbn) r.reached));
+    split = all_held _ (λ x e. rule.split w x.slot (head_in x) (led x e) (ruled x e) (base x e)
+        (λ r. list_all (λ (e : Reached). not (is_known e.item.pointer) || not (is_in_label e.item || (is_copied (volume_seen w x.slot (head_in x)) r e.item.pointer.vvbn || is_copied (volume_seen w x.slot (head_in x)) r e.item.holder.vvbn))) r.reached));
+    leaves = all_held _ (λ x e. rule.leaves w x.slot (head_in x) (led x e) (ruled x e) (base x e));
+    rests = all_held _ (λ x e. rule.rests w x.slot (head_in x) (led x e) (ruled x e) (base x e)
+        (λ r. list_all (λ (e : Reached). e.own || is_based (volume_seen w x.slot (head_in x)) e.item.pointer.vvbn) r.reached));
     sizes = all_held _ (λ x e. alone.size_rule disk pool states fit.housed held.slots held.spaced x e (one x e) (no_files x e) (whole x e));
     commits = (let same = commits_in_view pool states disk.reads fit.housed.long each_state in let fits = held.commits in le-leb (commits_seen (seen w)) (capacity pool.found.blocks) (omega (arith, same, fits)));
   }
@@ -141,7 +144,7 @@ module _ (disk : Shown) (pool : Pool) (states : States) (before : Machine) (held
     built = built;
     tables = tables;
     reach = λ s low. of_each states fit.housed.volumes (λ s o. IfSome o (ReachesAll w s)) (λ s. tt)
-        (λ x e. reaches_alone w x.slot x (one x e).ready.labelled.form (alone.reach_is disk pool states fit.housed held.slots held.spaced x e (one x e) (no_files x e) (whole x e))) s;
+        (λ x e. alone.reach_is disk pool states fit.housed held.slots held.spaced x e (one x e) (no_files x e) (whole x e)) s;
   }
 
   -- The machine that they are lent for is the one that they stand for.

@@ -1,5 +1,5 @@
 -- What a consistency point is lent: volumes with what they share, over a disk on which they stand.
-use Rattle.std.specs.Prelude.{◌≡◌, ◌<◌, ℕ, true, Option, Some, None, cond}
+use Rattle.std.specs.Prelude.{◌≡◌, ◌<◌, ℕ, true, false, Option, Some, None, IfSome, cond, replicate}
 use Rattle.std.specs.List.{sum_by}
 use Rattle.fv_disk.specs.Shown.{Shown}
 use Rattle.fv_model.specs.Machines.{Machine}
@@ -11,6 +11,7 @@ use Rattle.fv_root.specs.Finding.{root_found, IsInRange}
 use Rattle.fv_root.specs.Commits.{IsFoundOn}
 use Rattle.fv_container.specs.Chains.{slot_count, container_at}
 use Rattle.fv_aggmap.specs.Space.{blocks_of}
+use Rattle.fv_volmap.specs.Slots.{stored_count}
 use Rattle.fv_volume.specs.declared.pool.Pool.{Pool}
 use Rattle.fv_volume.specs.declared.state.VolumeState.{VolumeState}
 use Rattle.fv_volume.specs.Keeping.{IsUnkept}
@@ -18,7 +19,7 @@ use Rattle.fv_volume.specs.States.{States, state_at, view_over}
 use Rattle.fv_volume.specs.Trees.{no_trees}
 use Rattle.fv_volume.specs.Files.{AreStates}
 pub use Rattle.fv_volume.specs.Loading.{Houses}
-use Rattle.fv_volume.specs.Writing.{IsTaken, asked, on_disk}
+use Rattle.fv_volume.specs.Writing.{IsTaken, asked, map_wait, on_disk}
 pub use Rattle.fv_volume.specs.Housed.{AreHoused, HaveReaches}
 pub use Rattle.fv_volume.specs.Stored.{AreApartIn, AreSpacedIn, has_block}
 pub use Rattle.fv_volume.specs.UnderRoot.{IsLentAt, IsLentSlot, IsMapOf}
@@ -63,3 +64,16 @@ asked_by (Some x) = cond x.changed (asked x) 0
 -- the blocks that a consistency point asks for
 abbrev pub blocks_asked : States → ℕ
 blocks_asked states = sum_by asked_by states
+
+-- the blocks of a volume's maps that wait
+abbrev pub waiting_by : Option VolumeState → ℕ
+waiting_by None = 0
+waiting_by (Some x) = map_wait x
+
+-- those of all volumes
+abbrev pub maps_waiting : States → ℕ
+maps_waiting states = sum_by waiting_by states
+
+-- no map of a volume waits
+abbrev pub HaveNoneWaiting : States → Type 0
+HaveNoneWaiting states = (s : ℕ) → IfSome (state_at states s) (λ x. x.fresh ≡ replicate stored_count false)

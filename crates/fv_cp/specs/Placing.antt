@@ -16,7 +16,7 @@ use Rattle.fv_volume.specs.OneVolume.{IsStanding}
 use Rattle.fv_volume.specs.Placing.{pending_of}
 use Rattle.fv_volume.specs.States.{States, state_at, with_state}
 use Rattle.fv_cp.specs.Held.{machine_held, IsHeld}
-use Rattle.fv_cp.specs.Lent.{blocks_asked, FitTogether}
+use Rattle.fv_cp.specs.Lent.{blocks_asked, maps_waiting, FitTogether}
 
 -- ---- one volume
 
@@ -75,8 +75,9 @@ pub record ArePlaced (disk : Shown) (pool : Pool) (states : States) (after : Sho
   -- the map of the root that counts stays; the next root's may differ
   pub committed : left.map.committed ≡ pool.map.committed
   pub cores : KeepCores states stay
-  -- what a point asks for stays
+  -- what a point asks for stays, and so do the maps that wait
   pub asked : blocks_asked stay ≡ blocks_asked states
+  pub waiting : maps_waiting stay ≡ maps_waiting states
   pub spent : (before : Machine) → IsHeld disk pool states before → HaveRoom pool states → HaveSpent pool states left stay
   pub only_reads : OnlyReads disk after
   pub idle : HaveNoFiles states → (left ≡ pool) × (stay ≡ states)

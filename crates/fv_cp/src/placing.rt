@@ -1,9 +1,9 @@
 //! Placing what changed of the files of all volumes.
 
-ghost use Rattle.std.specs.Prelude.{◌≡◌, ◌<◌, ℕ, Some, None, IfErr, IfSome, OnOk, length};
+ghost use Rattle.std.specs.Prelude.{◌≡◌, ◌<◌, ℕ, Some, None, IfErr, IfSome, OnOk};
 ghost use Rattle.fv_container.specs.Chains.{slot_count};
 ghost use Rattle.fv_store.specs.Held.{StandsOn};
-ghost use Rattle.fv_volmap.specs.Slots.{active_of};
+ghost use Rattle.fv_volmap.specs.Slots.{IsVolume};
 ghost use Rattle.fv_volume.specs.OneVolume.{IsReady};
 ghost use Rattle.fv_volume.specs.States.{state_at};
 ghost use Rattle.fv_cp.specs.Lent.{FitTogether};
@@ -78,7 +78,7 @@ fn flush_volume<D: Disk>(
     requires ready { IsReady (D.shown disk.now) pool.old state.old }
     ensures placed { IsPlacedAs (D.shown disk.now) pool.old state.old (D.shown disk.now) pool.new state.new }
     ensures none { OnOk result (state.new.files ≡ None) }
-    ensures whole { length (active_of state.new.map) ≡ state.new.map.span }
+    ensures whole { IsVolume state.new.map }
     ensures fails { IfErr result (MayFail (D.shown disk.now) pool.old (Some state.old)) }
     ensures cause { IfErr result IsPlaceFault }
 {

@@ -35,7 +35,7 @@ use Rattle.fv_files.specs.Tables.{table_in, tree_in, loaded_trees, AreStanding, 
 use Rattle.fv_tree.proofs.Beside.{loading_spares}
 use Rattle.fv_files.specs.Apart.{LeadsAny}
 use Rattle.fv_files.specs.Calls.{KeepsStored, SparesOthers}
-use Rattle.fv_files.specs.Flushing.{FlushesKept, LaysTrees}
+use Rattle.fv_files.specs.Flushing.{FlushesKept, HasRoot, LaysTrees}
 use Rattle.fv_files.specs.Pending.{pending_trees, tree_cost, FitsTable}
 use Rattle.fv_files.proofs.Looked.{Held, counts_done, counts_failed}
 use Rattle.fv_files.proofs.Tables.{placed_then}
@@ -43,7 +43,7 @@ use Rattle.fv_files.proofs.Stored.{places_of}
 use Rattle.fv_files.proofs.Changed.{with_trees, with_inode, owned_stands, owned_stored, has_record}
 use Rattle.fv_files.proofs.Prepared.{readied_led, readied_placed, readied_spares, readied_stands, readied_stored}
 use Rattle.fv_files.proofs.Sums.{most_cost}
-use Rattle.fv_files.proofs.Laid.{HasRoot, kept_flush_led, kept_flush_spares, kept_flush_stored, kept_placed, kept_stood, root_led, root_placed, root_spares, root_stands, root_stored, gone_led, gone_placed, gone_spares, gone_stands, gone_stored, lay_failed, table_spares_then}
+use Rattle.fv_files.proofs.Laid.{kept_flush_led, kept_flush_spares, kept_flush_stored, kept_placed, kept_stood, root_led, root_placed, root_spares, root_stands, root_stored, gone_led, gone_placed, gone_spares, gone_stands, gone_stored, lay_failed, table_spares_then}
 
 -- ---- no memory
 

@@ -38,7 +38,7 @@ use Rattle.fv_files.specs.Apart.{LeadsAny, LeadsIn, LeadsFrom, StandsIn, StoredI
 use Rattle.fv_files.specs.Tables.{table_in, tree_in, file_loaded, loaded_trees, AreStanding, IsLed, IsStored}
 use Rattle.fv_files.specs.Calls.{Becomes, KeepsStored, SparesOthers}
 use Rattle.fv_files.specs.Failing.{FilesFail}
-use Rattle.fv_files.specs.Flushing.{FlushFails, LayFails, LaysTrees, holding}
+use Rattle.fv_files.specs.Flushing.{FlushFails, HasRoot, LayFails, LaysTrees, holding}
 use Rattle.fv_files.specs.Pending.{FitsTable}
 use Rattle.fv_files.proofs.Looked.{Held, fails_after}
 use Rattle.fv_files.proofs.Tables.{placed_alike, placed_then, some_same}
@@ -148,12 +148,6 @@ module _ (old new : Shown) (f : Files) (i : InodeFile) (n levels : ℕ) (root : 
       (stored_on_blocks f old new untouched.held was)
 
 -- ---- it goes from memory
-
-pub record HasRoot (o : Option InodeRecord) (levels : ℕ) (root : Pointer) : Type 0 where
-  pub file : InodeRecord
-  pub is : o ≡ Some file
-  pub levels_is : file.levels ≡ levels
-  pub root_is : file.root ≡ root
 
 module _ (source : Shown) (f : Files) (m : maps.BTreeMap ℕ Tree) (n levels : ℕ) (root : Pointer) (u : Tree) (kept : tree_in f n ≡ Some u) (gone : (k : ℕ) → maps.get nat_cmp m k ≡ cond (nat_eq k n) None (maps.get nat_cmp f.trees k))
     (sound : AreStanding source f) (own : HasRoot (file_at (rooted source f.inode) n) levels root) (is : standing (under source) u ≡ stored (under source) n levels root) (reaches : ReachesOnce source.used (stored (under source) n levels root)) where

@@ -13,6 +13,7 @@ pub mod Prepared
 pub mod Removed
 pub mod Laid
 pub mod Flushed
+pub mod Passed
 pub mod Ended
 pub mod Adding
 pub mod Counted

@@ -1,9 +1,10 @@
 -- What a flush of a table leaves.
-use Rattle.std.specs.Prelude.{◌≡◌, ◌⊎◌, ℕ, List, None, Result, IfOk, IfErr, OnOk}
+use Rattle.std.specs.Prelude.{◌≡◌, ◌⊎◌, ℕ, List, Option, Some, None, Result, IfOk, IfErr, OnOk}
 use Rattle.std.specs.Ordering.{nat_cmp}
 use Rattle.std.specs.BTreeMap as maps
 use Rattle.std.specs.FinMap as fin
 use Rattle.fv_disk.specs.declared.fault.BlockFault.{BlockFault}
+use Rattle.fv_codec.specs.declared.inode.InodeRecord.{InodeRecord}
 use Rattle.fv_codec.specs.declared.pointer.Pointer.{Pointer}
 use Rattle.fv_codec.specs.Blocks.{IsPointer}
 use Rattle.fv_tables.specs.Spelled.{stored}
@@ -65,6 +66,13 @@ pub record FlushesTable (told : Type 0) (old new : Shown) (f g : Files) (result 
   pub stored : told → IfOk result (λ root. AreStanding old f → table_in new g ≡ standing_at (under new) g.inode.tree.levels root)
   pub reached : told → IfOk result (λ root. AreStanding old f → AreReached (under new) new.used g.inode.tree.levels root)
   pub stored_led : told → IfOk result (λ root. AreStanding old f → IsLed old f → AreLed new.used (stored_trees (under new) g.inode.tree.levels root))
+
+-- the record of a file has this root, of a tree of so many levels
+pub record HasRoot (o : Option InodeRecord) (levels : ℕ) (root : Pointer) : Type 0 where
+  pub file : InodeRecord
+  pub is : o ≡ Some file
+  pub levels_is : file.levels ≡ levels
+  pub root_is : file.root ≡ root
 
 -- a tree in memory was placed, or a part of it
 pub record FlushesKept (told : Type 0) (old new : Shown) (m n : maps.BTreeMap ℕ Tree) (number : ℕ) (result : Result Pointer BlockFault) : Type 0 where

@@ -3,26 +3,30 @@
 ghost use Rattle.std.specs.Prelude.{◌≡◌, ◌≤◌, ◌+◌, ◌-◌, ℕ, true, Some, is_some, IfNone, IfOk, IfSome, OnOk};
 ghost use Rattle.std.specs.Ordering.{nat_cmp};
 ghost use Rattle.std.specs.BTreeMap as maps;
+ghost use Rattle.fv_tables.specs.Told.{file_at};
 ghost use Rattle.fv_tree.specs.declared.kept.Tree as kept;
 ghost use Rattle.fv_tree.specs.Standing.{under};
 ghost use Rattle.fv_tree.specs.Stored.{KeepsPlaces};
+ghost use Rattle.fv_inode.specs.Files.{rooted};
 ghost use Rattle.fv_files.specs.Tables.{tree_in, AreStanding, IsLed, IsStored, IsStoredUnder};
 ghost use Rattle.fv_files.specs.Calls.{KeepsStored};
-ghost use Rattle.fv_files.specs.Flushing.{FlushesKept, FlushesTable, LaysTrees};
+ghost use Rattle.fv_files.specs.Flushing.{FlushesKept, FlushesTable, HasRoot, LaysTrees};
 
 use crate::files::{Files, FilesFault};
 use crate::remove::forget;
 use fv_codec::Pointer;
+use fv_inode::Info;
 use fv_tree::{Blocks, Tree};
 use std::collections::BTreeMap;
 
 impl Files {
     /// Places each block that changed since the last flush once: the trees of the files by number, each with its root laid into
-    /// the file's inode block, and the inode file last. Each block that one of them replaces is named once to `gone`. Answers the
-    /// root of the inode file, and then nothing is in memory, and the table stands under that root. It is told as before in every
-    /// outcome, and a later flush goes on where one failed. It places no more blocks than are pending; with room for so many no
-    /// damage is answered. It fails as `place` does or for want of memory, since the inode block of each tree in memory is there,
-    /// too. All this is so for a table that stands on its blocks. Of another it loads what isn't in memory of those inode blocks.
+    /// the file's inode block, unless the file's record has that root and as many levels already, and the inode file last. Each
+    /// block that one of them replaces is named once to `gone`. Answers the root of the inode file, and then nothing is in
+    /// memory, and the table stands under that root. It is told as before in every outcome, and a later flush goes on where one
+    /// failed. It places no more blocks than are pending; with room for so many no damage is answered. It fails as `place` does
+    /// or for want of memory, since the inode block of each tree in memory is there, too. All this is so for a table that stands
+    /// on its blocks. Of another it loads what isn't in memory of those inode blocks.
     ///
     /// # Errors
     ///
@@ -84,16 +88,25 @@ fn flush_file<B: Blocks>(files: &mut Files, blocks: &mut B, number: u32) -> Resu
     ensures fewer { OnOk result (maps.btree_map_len files.new.trees + 1 ≡ maps.btree_map_len files.old.trees) }
     ensures calls { B.goes blocks.old blocks.new }
 {
-    if files.inode.look(blocks, number)?.is_none() {
-        forget(&mut files.trees, number);
-        return Ok(());
+    match files.inode.look(blocks, number)? {
+        None => {
+            forget(&mut files.trees, number);
+            Ok(())
+        }
+        Some(info) => lay_file(files, blocks, number, &info),
     }
-    lay_file(files, blocks, number)
 }
 
-/// Places the tree of a file, and lays its root into the file's inode block.
-fn lay_file<B: Blocks>(files: &mut Files, blocks: &mut B, number: u32) -> Result<(), FilesFault>
+/// Places the tree of a file, and lays its root into the file's inode block. Where the file's record has that root and as many
+/// levels already, the inode block stays as it is.
+fn lay_file<B: Blocks>(
+    files: &mut Files,
+    blocks: &mut B,
+    number: u32,
+    info: &Info,
+) -> Result<(), FilesFault>
     requires kept { is_some (tree_in files.old number) ≡ true }
+    requires there { B.told → HasRoot (file_at (rooted (B.shown blocks.old) files.old.inode) number) info.now.levels info.now.root }
     ensures lays { LaysTrees B.told (B.shown blocks.old) (B.shown blocks.new) files.old files.new result }
     ensures stored_well { B.told → B.known → KeepsStored (B.shown blocks.old) (B.shown blocks.new) files.old files.new }
     ensures fewer { OnOk result (maps.btree_map_len files.new.trees + 1 ≡ maps.btree_map_len files.old.trees) }
@@ -101,9 +114,20 @@ fn lay_file<B: Blocks>(files: &mut Files, blocks: &mut B, number: u32) -> Result
 {
     let levels = kept_levels(&files.trees, number);
     let root = flush_kept(&mut files.trees, blocks, number)?;
+    if has_root(info, levels, &root) {
+        forget(&mut files.trees, number);
+        return Ok(());
+    }
     files.inode.set_root(blocks, number, levels, root)?;
     forget(&mut files.trees, number);
     Ok(())
+}
+
+/// Whether the record of a file has this root, of a tree of so many levels.
+fn has_root(info: &Info, levels: u8, root: &Pointer) -> bool
+    ensures { result ≡ true → (info.now.levels ≡ levels) × (info.now.root ≡ root.now) }
+{
+    info.levels == levels && info.root == *root
 }
 
 /// How many levels a tree in memory has.

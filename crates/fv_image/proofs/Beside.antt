@@ -62,9 +62,9 @@ module _ (w u : View) (s : ℕ) (h : Head) (base : h.base ≡ None) (places : (v
     known = h.known;
   }
 
-  pub lone_seen : volume_seen u s h ≡ volume_seen w s h
+  pub seen_still : volume_seen u s h ≡ volume_seen w s h
   unfolding volume_seen base_seen
-  lone_seen = λ i. record {
+  seen_still = λ i. record {
     head = h;
     volume = same_told i;
     roots = map (λ (r : ℕ × Rooted). same_root r.0 r.1 i) (roots_of h);
@@ -124,7 +124,7 @@ module _ (w u : View) (slot : ℕ) (h : Head) (is : IsBeside w u slot h) (built 
 
   -- So it is seen as it was.
   still : (s : ℕ) (g : Head) → s ≢ slot → w.head s ≡ Some g → g.base ≡ None → volume_seen u s g ≡ volume_seen w s g
-  still s g other there base = lone_seen w u s g base (places_beside s g other there base) (is.entries s other)
+  still s g other there base = seen_still w u s g base (places_beside s g other there base) (is.entries s other)
 
   -- What held of each volume holds of each, where it holds of the new one.
   pub all_beside : (was now : ℕ → VolumeSeen → Bool) → all_volumes (seen w) was ≡ true → ((s : ℕ) (x : VolumeSeen) → was s x ≡ true → now s x ≡ true) → now slot (bare_seen h) ≡ true → all_volumes (seen u) now ≡ true

@@ -19,8 +19,8 @@ use fv_tree::{Blocks, Tree};
 impl InodeFile {
     /// Brings the inode block of a file and the nodes over it into memory, so that a `rewrite` or an `erase` of the file
     /// can't fail; false exactly where no file has the number. The inode file stays as it is, after a fault, too. It loads
-    /// what `Tree::ready` loads, and once more to read the record. They stay in memory, and a `flush` places none of them
-    /// that isn't written.
+    /// what `Tree::ready` loads, and once more to read the record. They stay in memory unchanged: for them alone a `flush`
+    /// places nothing.
     ///
     /// # Errors
     ///

@@ -8,6 +8,8 @@ mod calls;
 #[cfg(test)]
 mod far;
 #[cfg(test)]
+mod flushed;
+#[cfg(test)]
 mod rows;
 #[cfg(test)]
 mod shared;

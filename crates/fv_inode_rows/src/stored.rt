@@ -27,7 +27,7 @@ pub(crate) fn full(byte: u8) -> [u8; 4096] {
 }
 
 /// Whether block `index` of a file starts and ends with a byte.
-fn has(
+pub(crate) fn has(
     table: &mut Files,
     blocks: &mut MemBlocks,
     name: &Name,

@@ -18,7 +18,9 @@ use Rattle.fv_tree.proofs.Leading.{hints_then, leads_then}
 use Rattle.fv_tree.proofs.Marked.{IsMarked, marked_hints, marked_leads, marked_keeps, marked_sound}
 use Rattle.fv_tree.proofs.Past.{Raises, past_base}
 use Rattle.fv_tree.proofs.Ready.{marked_is}
-use Rattle.fv_tree.proofs.ReadyPast.{past_hints, past_leads, past_keeps, past_ready, past_unplaced}
+use Rattle.fv_tree.specs.Altering.{Alters}
+use Rattle.fv_tree.proofs.Altered.{marked_alters}
+use Rattle.fv_tree.proofs.ReadyPast.{past_place, past_hints, past_leads, past_keeps, past_ready, past_unplaced}
 use Rattle.fv_tree.proofs.Steps.{moved}
 use Rattle.fv_tree.proofs.StillReady.{cell_still, chosen, ready_then, stamps_ready}
 use Rattle.fv_tree.proofs.GrownReady.{grown_ready}
@@ -95,6 +97,10 @@ module _ (s t h v u : Tree) (i stamp levels : ℕ) (block : List ℕ) (far : fan
 
   pub grows_sound : (blocks : Under) (used : ℕ → Option Use) → IsSound used (loaded_over blocks s) → IsSound used (loaded_over blocks u)
   grows_sound blocks used sound = marked_sound (loaded_over blocks v) (loaded_over blocks u) i (marked blocks) used raises.covers (past_ready blocks s v i stamp raises given brings_up blank_up tops_up own_up others_up used sound)
+
+  pub grows_alters : (blocks : Under) → Alters stamp (loaded_over blocks s) (loaded_over blocks u)
+  grows_alters blocks = marked_alters blocks v u i stamp stamps marks given raises.covers (past_base blocks s v i stamp raises given).kept (ap (λ (m : tree.BTreeMap ℕ KeptCell). cell_changed (tree.get nat_cmp m i)) cells ∙ changed)
+      (loaded_over blocks s) (past_place blocks s v i stamp raises given brings_up blank_up tops_up own_up others_up)
 
   pub grows_ready : KeepsReady s u
   grows_ready = ready_then s v u (λ j ready. grown_ready s v i stamp raises given brings_up cells_up j ready) (stamps_ready v u i stamp stamps given)

@@ -43,8 +43,8 @@ module _ (t u : Tree) (i : ℕ) (block : List ℕ) (is : HoldsCell t u i block) 
       here (inl kept) = ap f kept.1
       here (inr new) = ap f new.1 ∙ same ∙ sym (ap f new.0)
 
-  same_changed : (k q : ℕ) → changed_of u k q ≡ changed_of t k q
-  same_changed k q = elim (cases_eq k 0) [
+  pub held_changed : (k q : ℕ) → changed_of u k q ≡ changed_of t k q
+  held_changed k q = elim (cases_eq k 0) [
     | inl e ↦ changed_cell u k q e ∙ seen_as cell_changed refl q ∙ sym (changed_cell t k q e)
     | inr low ↦ spot_changed u k q (omega arith) ∙ ap (λ (nodes : tree.BTreeMap Spot KeptNode). changed_in nodes k q) is.fields.nodes ∙ sym (spot_changed t k q (omega arith))
   ]
@@ -57,6 +57,9 @@ module _ (t u : Tree) (i : ℕ) (block : List ℕ) (is : HoldsCell t u i block) 
 
   same_node : (k q : ℕ) → node_in u k q ≡ node_in t k q
   same_node k q = ap (λ (nodes : tree.BTreeMap Spot KeptNode). children_in nodes k q) is.fields.nodes
+
+  pub held_pointers : (blocks : Under) (k q : ℕ) → pointer_at (standing blocks u) k q ≡ pointer_at (standing blocks t) k q
+  held_pointers blocks = nodes_alone (standing blocks t) (standing blocks u) is.fields.owner refl is.fields.levels is.fields.root same_node
 
   -- a cell is in memory as it was, or it is the new one
   cell_as : (j : ℕ) → (cell_in u j ≡ cell_in t j) ⊎ ((j ≡ i) × (cell_in t i ≡ None) × (cell_in u i ≡ Some block))
@@ -82,7 +85,7 @@ module _ (t u : Tree) (i : ℕ) (block : List ℕ) (is : HoldsCell t u i block) 
 
   module _ (blocks : Under) (some : (pointer_at (standing blocks t) 0 i).stamp ≢ 0) (has : block_at (standing blocks t) i ≡ Some block) where
     pointers : (k q : ℕ) → pointer_at (standing blocks u) k q ≡ pointer_at (standing blocks t) k q
-    pointers = nodes_alone (standing blocks t) (standing blocks u) is.fields.owner refl is.fields.levels is.fields.root same_node
+    pointers = held_pointers blocks
 
     stood : (k q : ℕ) → (pointer_at (standing blocks u) k q).stamp ≢ 0 → (pointer_at (standing blocks t) k q).stamp ≢ 0
     stood k q there none = there (ap (λ (p : Pointer). p.stamp) (pointers k q) ∙ none)
@@ -130,7 +133,7 @@ module _ (t u : Tree) (i : ℕ) (block : List ℕ) (is : HoldsCell t u i block) 
           → (blocks (pointer_at (standing blocks u) 0 index).vvbn ≡ Some b) × (placed_of u 0 index ≡ true)
       in_cells index b cell unchanged there = elim (cell_as index) [
         | inl same ↦
-            let was = sound.cells index b (sym same ∙ cell) (sym (same_changed 0 index) ∙ unchanged) (stood 0 index there) in
+            let was = sound.cells index b (sym same ∙ cell) (sym (held_changed 0 index) ∙ unchanged) (stood 0 index there) in
             ((λ j. blocks (pointers 0 index j).vvbn) ∙ was.0, same_placed 0 index ∙ was.1)
         | inr new ↦
             let now = new_cell b new.1 new.2 (ap (cell_in u) (sym new.0) ∙ cell) in
@@ -144,9 +147,9 @@ module _ (t u : Tree) (i : ℕ) (block : List ℕ) (is : HoldsCell t u i block) 
         used = λ level place v led.
             right_as (kind_for t.owner level) (kind_for u.owner level) (ap (λ (o : ℕ). kind_for o level) is.fields.owner) (pointer_at (standing blocks t) level place) (pointer_at (standing blocks u) level place) (used v) (used v)
             (ap (λ (p : Pointer). p.pvbn) (pointers level place)) refl (sound.used level place v (leads level place v led));
-        over = λ level place changed there lt. same_changed (level + 1) (place / fan) ∙ sound.over level place (sym (same_changed level place) ∙ changed) (stood level place there) (omega (arith, lt, is.fields.levels));
+        over = λ level place changed there lt. held_changed (level + 1) (place / fan) ∙ sound.over level place (sym (held_changed level place) ∙ changed) (stood level place there) (omega (arith, lt, is.fields.levels));
         same = λ level place xs low node unchanged there.
-            let was = sound.same level place xs low (sym (same_node level place) ∙ node) (sym (same_changed level place) ∙ unchanged) (stood level place there) in
+            let was = sound.same level place xs low (sym (same_node level place) ∙ node) (sym (held_changed level place) ∙ unchanged) (stood level place there) in
             ((λ j. pointers_in (blocks (pointers level place j).vvbn)) ∙ was.0, same_placed level place ∙ was.1);
         cells = in_cells;
         empty = λ level place low none which xs node. sound.empty level place low (sym (ap (λ (p : Pointer). p.stamp) (pointers level place)) ∙ none) (elim which [

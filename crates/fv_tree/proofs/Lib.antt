@@ -62,3 +62,4 @@ pub mod Tally
 pub mod Bordered
 pub mod Stays
 pub mod Spans
+pub mod Altered

@@ -95,8 +95,8 @@ module _ (blocks : Under) (v u : Tree) (i s : ℕ) (stamps : Stamps v u i s) (ma
   no_change : IsSameButCells v v
   no_change = record { owner = refl; levels = refl; root = refl; nodes = refl }
 
-  pointers : (level place : ℕ) → level ≤ v.levels → pointer_at (standing blocks u) level place ≡ on_way (pointer_at (standing blocks v)) i s level place
-  pointers level place le = is_way (standing blocks u) _ (stamped_way (standing blocks v) (standing blocks u) i s (stamps_way blocks v v u i s no_change stamps) some covers kept) level place (omega (arith, le, stamps.levels))
+  pub marked_pointers : (level place : ℕ) → level ≤ v.levels → pointer_at (standing blocks u) level place ≡ on_way (pointer_at (standing blocks v)) i s level place
+  marked_pointers level place le = is_way (standing blocks u) _ (stamped_way (standing blocks v) (standing blocks u) i s (stamps_way blocks v v u i s no_change stamps) some covers kept) level place (omega (arith, le, stamps.levels))
 
   pub marked_is : IsMarked (loaded_over blocks v) (loaded_over blocks u) i
   marked_is = record {
@@ -104,12 +104,12 @@ module _ (blocks : Under) (v u : Tree) (i s : ℕ) (stamps : Stamps v u i s) (ma
     under = refl;
     levels = stamps.levels;
     root = λ none. some (sym (ap (λ (p : Pointer). p.stamp) stamps.root) ∙ none);
-    reached = λ level le. let is = pointers level (i / fan ^ level) le ∙ on (pointer_at (standing blocks v)) i s level (i / fan ^ level) refl in record {
+    reached = λ level le. let is = marked_pointers level (i / fan ^ level) le ∙ on (pointer_at (standing blocks v)) i s level (i / fan ^ level) refl in record {
       vvbn = ap (λ (p : Pointer). p.vvbn) is;
       pvbn = ap (λ (p : Pointer). p.pvbn) is;
       some = λ none. some (sym (ap (λ (p : Pointer). p.stamp) is) ∙ none);
     };
-    beside = λ level place le differs. pointers level place le ∙ off (pointer_at (standing blocks v)) i s level place differs;
+    beside = λ level place le differs. marked_pointers level place le ∙ off (pointer_at (standing blocks v)) i s level place differs;
     nodes = stamps.others;
     cells = λ index. ap (λ (m : tree.BTreeMap ℕ KeptCell). option_map (λ (kept : KeptCell). kept.block) (tree.get nat_cmp m index)) stamps.cells;
     placed = all_led blocks v u i stamps.cells marks kept cell;
@@ -144,7 +144,7 @@ module _ (blocks : Under) (w v : Tree) (i : ℕ) (named : Bool) (same : IsSameBu
     | inr low ↦ spot_led v k q (omega arith) ∙ ap (λ (nodes : tree.BTreeMap Spot KeptNode). placed_in nodes k q) same.nodes ∙ sym (spot_led w k q (omega arith))
   ]
 
-  changed_off : (k q : ℕ) → q ≢ i / fan ^ k → changed_of v k q ≡ changed_of w k q
+  pub changed_off : (k q : ℕ) → q ≢ i / fan ^ k → changed_of v k q ≡ changed_of w k q
   changed_off k q differs = elim (cases_eq k 0) [
     | inl e ↦ changed_cell v k q e ∙ ap cell_changed (others q (λ same. differs (same ∙ sym (first_range i) ∙ (λ j. i / fan ^ sym e j)))) ∙ sym (changed_cell w k q e)
     | inr low ↦ spot_changed v k q (omega arith) ∙ ap (λ (nodes : tree.BTreeMap Spot KeptNode). changed_in nodes k q) same.nodes ∙ sym (spot_changed w k q (omega arith))

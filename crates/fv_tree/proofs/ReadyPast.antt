@@ -26,6 +26,7 @@ use Rattle.fv_tree.proofs.Ready.{first_range}
 use Rattle.fv_tree.proofs.Ungrown.{not_past, kept_old, kept_off}
 use Rattle.fv_tree.proofs.Ways.{under_none, reached_within, top_is_first, past, spot_is}
 use Rattle.fv_tree.proofs.Writes.{none_at}
+use Rattle.fv_tree.specs.Altering.{IsAsBefore, IsChanged, IsHole}
 
 module _ (blocks : Under) (t v : Tree) (i s : ℕ) (is : Raises t v i s) (some : s ≢ 0) (brings : BringsNew t v i)
     (blank : (level : ℕ) → 1 ≤ level → level ≤ v.levels → (level < v.levels) ⊎ (t.root.stamp ≡ 0) → IsBlank (kept_at v level (i / fan ^ level)))
@@ -131,6 +132,20 @@ module _ (blocks : Under) (t v : Tree) (i s : ℕ) (is : Raises t v i s) (some :
     placed = led_old k q leads.some ∙ leads.placed;
     vvbn = ap (λ (p : Pointer). p.vvbn) (still_pointer k q leads.some) ∙ leads.vvbn;
   }
+
+  -- off the way a place is as before, or it is a new one over the old root
+  pub past_place : (k q : ℕ) → q ≢ i / fan ^ k → IsHole (loaded_over blocks v) k q ⊎ (IsChanged s (loaded_over blocks v) k q ⊎ IsAsBefore (loaded_over blocks t) (loaded_over blocks v) k q)
+  past_place k q differs = elim (cases_eq (pointer_at (standing blocks v) k q).stamp 0) [
+    | inl none ↦ inl none
+    | inr reached ↦ elim (old_or_new k q reached) [
+      | inl old ↦ inr (inr (record { pointer = old.1; changed = changed_old k q old.0 }))
+      | inr (inl high) ↦ let le : k ≤ v.levels = reached_within (standing blocks v) k q reached in inr (inl (record {
+        stamped = ap (λ (p : Pointer). p.stamp) (seen blocks t v i s is some high.0 k q le ∙ raised_first (standing blocks t) s k q high.1 high.2);
+        changed = top_changed k q le high.0 high.1 high.2;
+      }))
+      | inr (inr lone) ↦ absurd (differs (lone_on k q lone.1 lone.2))
+    ]
+  ]
 
   module _ (used : ℕ → Option Use) (sound : IsSound used (loaded_over blocks t)) where
     over_old : (k q : ℕ) → changed_of v k q ≡ true → (pointer_at (standing blocks t) k q).stamp ≢ 0 → k < v.levels → changed_of v (k + 1) (q / fan) ≡ true

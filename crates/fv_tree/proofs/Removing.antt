@@ -27,6 +27,8 @@ use Rattle.fv_tree.proofs.Marks.{erases}
 use Rattle.fv_tree.proofs.Raised.{past_at}
 use Rattle.fv_tree.proofs.Writes.{no_stamp, same_alike}
 use Rattle.fv_tree.proofs.Stored.{stored_off}
+use Rattle.fv_tree.specs.Altering.{Alters, Leaves}
+use Rattle.fv_tree.proofs.Altered.{alters_over, alters_then, leaves_blocks, only_leaves}
 use Rattle.fv_tree.proofs.Released.{nothing_released, released_then, released_as, keeps_then, led_before, moved_leads, moved_keeps, moved_pointers, blocks_stay, released_alike, released_sound, sound_used, erased_alike}
 
 -- a tree that is the same over the same blocks
@@ -41,8 +43,8 @@ stands_over old new u held used stands = subst (λ h. IsSound old.used (loaded_o
 
 -- nothing went
 pub removes_nothing : (old new : Shown) (t u : Tree) (gone : ℕ → Bool) (start s : ℕ) → IsUntouched old new → IsCalm old new
-    → IsSame (standing (under old) t) (standing (under new) u) → KeepsBlocks (under old) t u → (Stands old t → Stands new u) → ((i : ℕ) → StandsAt (standing (under old) t) 0 i → gone i ≡ false) → Removes old new t u gone start s
-removes_nothing old new t u gone start s untouched calm same keeps sound none =
+    → IsSame (standing (under old) t) (standing (under new) u) → KeepsBlocks (under old) t u → (Stands old t → Stands new u) → Leaves (loaded old t) (loaded new u) → ((i : ℕ) → StandsAt (standing (under old) t) 0 i → gone i ≡ false) → Removes old new t u gone start s
+removes_nothing old new t u gone start s untouched calm same keeps sound leaves none =
     let held = untouched.held in
     let used = untouched.used in
     let here = same_over (under old) (under new) t u (ap (λ h v. fin.get h v) held) same in record {
@@ -55,6 +57,7 @@ removes_nothing old new t u gone start s untouched calm same keeps sound none =
       sound = λ stands. stands_over old new u held used (sound stands);
       released = released_as old new _ _ (nothing_released old new held used calm) (λ v never. absurd never) (λ v dropped. dropped.led.some (ap (λ (p : Pointer). p.stamp) (sym (here.pointers dropped.level dropped.place)) ∙ dropped.goes));
       strays = λ _. untouched.strays;
+      alters = only_leaves s (loaded old t) (loaded_over (under old) u) (leaves_blocks old new t u held leaves);
     }
 
 -- one more cell goes
@@ -106,6 +109,7 @@ module _ (a b c : Shown) (t u w : Tree) (gone both : ℕ → Bool) (index start 
     sound = λ sound. goes.sound a.used (first.sound sound);
     released = released_then a b c (IsDropped (under a) t u) (IsDropped (under a) u w) (IsDropped (under a) t w) first.released released earlier later either_one;
     strays = λ sound. strays (sound_used a b t u sound first.keeps first.released (first.sound sound)) ∙ first.strays sound;
+    alters = alters_then s (loaded_over (under a) t) (loaded_over (under a) u) (loaded_over (under a) w) first.alters goes.alters;
   }
 
 -- a cell that is left
@@ -129,6 +133,7 @@ removes_as old new t u gone other start s is same = record {
   sound = is.sound;
   released = is.released;
   strays = is.strays;
+  alters = is.alters;
 }
 
 -- no mark lies over holes alone in a tree that is the same
@@ -171,6 +176,9 @@ module _ (old new : Shown) (t u : Tree) (gone : ℕ → Bool) (start s : ℕ) (i
   pub removed_leads : LeadsNoMore (loaded old t) (loaded new u)
   removed_leads level place v led = led_before (under old) t u level place v is.keeps (moved_leads (under old) (under new) u (blocks_stay old new t u stands is.keeps is.released) level place v led)
 
+  pub removed_alters : Alters s (loaded old t) (loaded new u)
+  removed_alters = alters_over s (loaded old t) (under old) (under new) u (moved_pointers (under old) (under new) u (blocks_stay old new t u stands is.keeps is.released)) is.alters
+
   pub removed_hints : KeepsHints (loaded old t) (loaded new u)
   removed_hints level place v led =
       let same = moved_pointers (under old) (under new) u (blocks_stay old new t u stands is.keeps is.released) level place in
@@ -193,6 +201,11 @@ pub leads_after : {X : Type 0} (r : Result X BlockFault) (old new : Shown) (t u 
     → Stands old t → LeadsNoMore (loaded old t) (loaded new u)
 leads_after (Ok x) old new t u gone start s done stays stands = removed_leads old new t u gone start s done stands
 leads_after (Err e) old new t u gone start s done stays stands = stays.leads
+
+pub alters_after : {X : Type 0} (r : Result X BlockFault) (old new : Shown) (t u : Tree) (gone : ℕ → Bool) (start s : ℕ) → OnOk r (Removes old new t u gone start s) → OnErr r (Leaves (loaded old t) (loaded new u))
+    → Stands old t → Alters s (loaded old t) (loaded new u)
+alters_after (Ok x) old new t u gone start s done leaves stands = removed_alters old new t u gone start s done stands
+alters_after (Err e) old new t u gone start s done leaves stands = only_leaves s (loaded old t) (loaded new u) leaves
 
 pub hints_after : {X : Type 0} (r : Result X BlockFault) (old new : Shown) (t u : Tree) (gone : ℕ → Bool) (start s : ℕ) → OnOk r (Removes old new t u gone start s) → OnErr r (Carries old new t u)
     → Stands old t → KeepsHints (loaded old t) (loaded new u)
@@ -232,9 +245,9 @@ remains_after (Err e) t u same = λ seen contents shows.
 -- a whole removal, from what it did over the blocks of before
 pub removal_after : (told calls : Type 0) (r : Result ℕ BlockFault) (old new : Shown) (t u : Tree) (gone : ℕ → Bool) (start s : ℕ) → (told → OnOk r (Removes old new t u gone start s))
     → (told → OnErr r (IsSame (standing (under old) t) (standing (under new) u))) → u.owner ≡ t.owner → (told → OnErr r (Carries old new t u)) → OnErr r (IsUntouched old new) → old.room ≤ new.room → OnErr r (pending u ≤ pending t) → calls → Counts old new r
-    → (told → IfOk r (λ count. positions_of (standing (under old) t) ≡ positions_of (standing (under old) u) + count))
+    → (told → IfOk r (λ count. positions_of (standing (under old) t) ≡ positions_of (standing (under old) u) + count)) → (told → OnErr r (Leaves (loaded old t) (loaded new u)))
     → IfErr r (Fails told (standing (under old) t) old new) → Removal told calls old new t u gone start s r
-removal_after told calls r old new t u gone start s done same owner stays untouched room still called counts count cause = record {
+removal_after told calls r old new t u gone start s done same owner stays untouched room still called counts count leaves cause = record {
   erased = λ tells. on_ok_weaker r (removed_seen old new t u gone start s) (done tells);
   place_by_place = λ tells. on_ok_weaker r (removed old new t u gone start s) (done tells);
   strays = λ tells. strays_after r old new t u gone start s (done tells) untouched;
@@ -246,6 +259,8 @@ removal_after told calls r old new t u gone start s done same owner stays untouc
       (λ v. may_go_after r old new t u gone start s (done tells) untouched v) (leads_after r old new t u gone start s (done tells) (stays tells) stood) (hints_after r old new t u gone start s (done tells) (stays tells) stood);
   lets_go = λ tells. lets_go_after r old new t u gone start s (done tells) (stays tells);
   count = λ tells. count_after r old new t u gone start s (done tells) (count tells);
+  alters = λ tells. alters_after r old new t u gone start s (done tells) (leaves tells);
+  leaves = leaves;
   failed = λ tells. remains_after r (standing (under old) t) (standing (under new) u) (same tells);
   untouched = untouched;
   room = room;

@@ -14,6 +14,8 @@ use Rattle.fv_tree.specs.Flushing.{IsSound, loaded_over, cell_changed, cell_plac
 use Rattle.fv_tree.specs.Carried.{Marks}
 use Rattle.fv_tree.specs.Leading.{KeepsHints, LeadsNoMore}
 use Rattle.fv_tree.specs.Readying.{IsReady}
+use Rattle.fv_tree.specs.Altering.{Alters}
+use Rattle.fv_tree.proofs.Altered.{way_alters}
 use Rattle.fv_tree.proofs.Held.{same_self}
 use Rattle.fv_tree.proofs.Marked.{IsMarked}
 use Rattle.fv_tree.proofs.Readied.{ready_cell, ready_stands, stamps_lead, way_as, way_kept}
@@ -62,6 +64,9 @@ module _ (w v u : Tree) (i s : ℕ) (block : List ℕ) (ready : IsReady w i) (so
 
   pub rewritten_sound : (blocks : Under) (used : ℕ → Option Use) → IsSound used (loaded_over blocks w) → IsSound used (loaded_over blocks u)
   rewritten_sound blocks = within_sound blocks w v u i true fields own others (unnamed blocks) (λ _. refl) (unplaced blocks) (marked blocks) covers
+
+  pub rewritten_alters : (blocks : Under) → Alters s (loaded_over blocks w) (loaded_over blocks u)
+  rewritten_alters blocks = way_alters blocks w v u i s true fields own others stamps marks given covers (λ level low high. cell_kept blocks w v i true fields own others level (kept blocks level low (omega (arith, high, fields.levels)))) changed
 
   pub still_ready : (j : ℕ) → IsReady w j → IsReady u j
   still_ready j was = record {

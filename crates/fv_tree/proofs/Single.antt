@@ -17,6 +17,8 @@ use Rattle.fv_tree.specs.Erasing.{StandsAt, HoldsCells, IsErased}
 use Rattle.fv_tree.specs.Releasing.{IsDropped, KeepsBlocks}
 use Rattle.fv_tree.specs.Flushing.{Leads, IsSound, IsEmptyNode, loaded_over, placed_of, changed_in, changed_of, cell_changed, pointer_in, kind_for}
 use Rattle.fv_tree.specs.Unlinking.{HasWay, AreBare, Unlinks, CellGoes, cleared_in, IsOnWay, IsNamed, NamesOnce}
+use Rattle.fv_tree.specs.Altering.{Alters}
+use Rattle.fv_tree.proofs.Gone.{spot_changed}
 use Rattle.fv_tree.proofs.Hints.{right_as, right_some}
 use Rattle.fv_tree.proofs.Erased.{hole_of, not_both, stamp_there}
 use Rattle.fv_tree.proofs.Collected.{pointer_in_is}
@@ -410,6 +412,21 @@ module _ (blocks : Under) (t u : Tree) (i lost start stamp : ℕ) (way : HasWay 
     empty = empty_there used sound;
   }
 
+  one_alters : Alters stamp (loaded_over blocks t) (loaded_over blocks u)
+  one_alters level place = elim (cases_eq (pointer_at v level place).stamp 0) [
+    | inl none ↦ inl none
+    | inr there ↦ let lt = not_all level place there in elim (cases_eq place (i / fan ^ level)) [
+      | inl at ↦ let up = still level (subst (StandsAt v level) at there) in inr (inl (record {
+        stamped = ap (λ (p : Pointer). p.stamp) (above_lost level place up.0 up.1 at);
+        changed = spot_changed u level place (omega (arith, up.0)) ∙ ap (changed_in u.nodes level) at ∙ is.marked level up.0 up.1;
+      }))
+      | inr differs ↦ elim (beside level place differs) [
+        | inl same ↦ inr (inr (record { pointer = same; changed = is.unmarked lt level place differs }))
+        | inr none ↦ inl none.0
+      ]
+    ]
+  ]
+
   pub one_goes : CellGoes blocks t u i start stamp
   one_goes = record {
     erased = one_erased;
@@ -417,4 +434,5 @@ module _ (blocks : Under) (t u : Tree) (i lost start stamp : ℕ) (way : HasWay 
     keeps = one_keeps;
     ways = one_ways;
     sound = one_sound;
+    alters = one_alters;
   }

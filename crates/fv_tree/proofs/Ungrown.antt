@@ -16,6 +16,7 @@ use Rattle.fv_tree.specs.Keeping.{IsSame}
 use Rattle.fv_tree.specs.Flushing.{IsSound, IsEmptyNode, loaded_over, changed_of, placed_of, node_changed, node_placed, cell_changed, cell_placed, kind_for}
 use Rattle.fv_tree.specs.Carried.{kept_at, BringsNew}
 use Rattle.fv_tree.specs.Leading.{KeepsHints, LeadsNoMore}
+use Rattle.fv_tree.specs.Altering.{Leaves}
 use Rattle.fv_tree.proofs.Brought.{blank_empty}
 use Rattle.fv_tree.proofs.Ways.{under_none, reached_within}
 use Rattle.fv_tree.proofs.Gone.{changed_cell, spot_changed, cell_led, spot_led}
@@ -65,6 +66,16 @@ module _ (blocks : Under) (t v : Tree) (i : ℕ) (far : fan ^ t.levels ≤ i) (f
     | inl e ↦ changed_cell v k q e ∙ ap (λ (cells : tree.BTreeMap ℕ KeptCell). cell_changed (tree.get nat_cmp cells q)) fields.cells ∙ sym (changed_cell t k q e)
     | inr low ↦ spot_changed v k q (omega arith) ∙ ap node_changed (kept_old blocks t v i far brings k q some) ∙ sym (spot_changed t k q (omega arith))
   ]
+
+  pub still_same : Leaves (loaded_over blocks t) (loaded_over blocks v)
+  still_same = record {
+    levels = fields.levels;
+    root = fields.root;
+    places = λ k q. elim (cases_eq (pointer_at (standing blocks v) k q).stamp 0) [
+      | inl none ↦ inl none
+      | inr some ↦ inr (record { pointer = same.pointers k q; changed = changed_old k q (λ e. some (stamps k q ∙ e)) })
+    ];
+  }
 
   pub still_hints : KeepsHints (loaded_over blocks t) (loaded_over blocks v)
   still_hints k q x leads = ap (λ (p : Pointer). p.pvbn) (same.pointers k q)

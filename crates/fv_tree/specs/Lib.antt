@@ -19,3 +19,4 @@ pub mod Reading
 pub mod Seeking
 pub mod Beside
 pub mod Costs
+pub mod Altering

@@ -7,6 +7,7 @@ use Rattle.fv_tree.specs.Sources.{Shown, IsCalm}
 use Rattle.fv_tree.specs.Standing.{standing, under}
 use Rattle.fv_tree.specs.Flushing.{Leads, IsSound, loaded_over, placed_of}
 use Rattle.fv_tree.specs.Erasing.{StandsAt, HoldsCells, IsErased}
+use Rattle.fv_tree.specs.Altering.{Alters}
 
 -- a block to which the tree led, at a place that no longer stands
 pub record IsDropped (blocks : Under) (old new : Tree) (vvbn : ℕ) : Type 0 where
@@ -39,3 +40,4 @@ pub record Removes (old new : Shown) (t u : Tree) (gone : ℕ → Bool) (start s
   pub sound : IsSound old.used (loaded_over (under old) t) → IsSound old.used (loaded_over (under old) u)
   pub released : Releases old new (IsDropped (under old) t u)
   pub strays : IsSound old.used (loaded_over (under old) t) → new.strays ≡ old.strays
+  pub alters : Alters s (loaded_over (under old) t) (loaded_over (under old) u)

@@ -9,6 +9,7 @@ use Rattle.fv_tree.specs.Counting.{positions_of}
 use Rattle.fv_tree.specs.Erasing.{HoldsCells, IsErased, Erases}
 use Rattle.fv_tree.specs.Releasing.{IsDropped, Releases}
 use Rattle.fv_tree.specs.Flushing.{Leads, Stands, loaded}
+use Rattle.fv_tree.specs.Altering.{Alters, Leaves}
 use Rattle.fv_tree.specs.Leading.{LeadsNoMore}
 use Rattle.fv_tree.specs.Stored.{IsStoredWell}
 use Rattle.fv_tree.specs.Costs.{pending}
@@ -29,6 +30,9 @@ pub record Removal (told calls : Type 0) (old new : Shown) (t u : Tree) (gone : 
   pub lets_go : told → Stands old t → (level place v : ℕ) → Leads (loaded old t) level place v → Leads (loaded new u) level place v ⊎ (new.used v ≡ None)
   -- how many positions went
   pub count : told → IfOk result (λ count. Stands old t → positions_of (standing (under old) t) ≡ positions_of (standing (under new) u) + count)
+  -- each place that still stands got the stamp, or is as before; after a fault nothing changed
+  pub alters : told → Stands old t → Alters s (loaded old t) (loaded new u)
+  pub leaves : told → OnErr result (Leaves (loaded old t) (loaded new u))
   pub failed : told → OnErr result (Remains (standing (under old) t) (standing (under new) u))
   pub untouched : OnErr result (IsUntouched old new)
   pub room : old.room ≤ new.room

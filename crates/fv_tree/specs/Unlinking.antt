@@ -11,6 +11,7 @@ use Rattle.fv_tree.specs.Standing.{standing, node_in, cell_in}
 use Rattle.fv_tree.specs.Writing.{stamped, stamped_in, slot_of}
 use Rattle.fv_tree.specs.Erasing.{StandsAt, HoldsCells, IsErased}
 use Rattle.fv_tree.specs.Releasing.{KeepsBlocks}
+use Rattle.fv_tree.specs.Altering.{Alters}
 use Rattle.fv_tree.specs.Costs.{cells_changed}
 use Rattle.fv_tree.specs.Flushing.{IsSound, loaded_over, placed_of, changed_in, changed_of, pointer_in}
 
@@ -89,3 +90,4 @@ pub record CellGoes (blocks : Under) (old new : Tree) (i start s : ℕ) : Type 0
   pub sound : (used : ℕ → Option Use) → IsSound used (loaded_over blocks old) → IsSound used (loaded_over blocks new)
   -- the nodes over the other cells stay in memory
   pub ways : (k : ℕ) → StandsAt (standing blocks new) 0 k → HasWay old k → HasWay new k
+  pub alters : Alters s (loaded_over blocks old) (loaded_over blocks new)

@@ -9,7 +9,8 @@ ghost use Rattle.fv_tree.specs.Keeping.{IsSame};
 ghost use Rattle.fv_tree.specs.Carried.{MarksNoMore};
 ghost use Rattle.fv_tree.specs.Erasing.{HoldsCells, StandsAt};
 ghost use Rattle.fv_tree.specs.Releasing.{KeepsBlocks, Removes};
-ghost use Rattle.fv_tree.specs.Flushing.{Stands};
+ghost use Rattle.fv_tree.specs.Altering.{Leaves};
+ghost use Rattle.fv_tree.specs.Flushing.{loaded, Stands};
 ghost use Rattle.fv_tree.specs.Counting.{positions_of};
 ghost use Rattle.fv_tree.specs.Leading.{Carries};
 ghost use Rattle.fv_tree.specs.Removal.{Removal};
@@ -68,6 +69,7 @@ fn cut_cells<B: Blocks>(
     ensures failed { B.told → OnErr result (IsSame (standing (under (B.shown blocks.old)) tree.old) (standing (under (B.shown blocks.new)) tree.new)) }
     ensures owner { tree.new.owner ≡ tree.old.owner }
     ensures stays { B.told → OnErr result (Carries (B.shown blocks.old) (B.shown blocks.new) tree.old tree.new) }
+    ensures leaves { B.told → OnErr result (Leaves (loaded (B.shown blocks.old) tree.old) (loaded (B.shown blocks.new) tree.new)) }
     ensures untouched { OnErr result (IsUntouched (B.shown blocks.old) (B.shown blocks.new)) }
     ensures room { (B.shown blocks.old).room ≤ (B.shown blocks.new).room }
     ensures still { OnErr result (pending tree.new ≤ pending tree.old) }
@@ -93,6 +95,7 @@ fn keep_past<B: Blocks>(tree: &mut Tree, blocks: &mut B, most: u32) -> Result<Ve
     ensures fields { IsSameBut tree.old tree.new }
     ensures same { B.told → IsSame (standing (under (B.shown blocks.old)) tree.old) (standing (under (B.shown blocks.new)) tree.new) }
     ensures blocks { B.told → KeepsBlocks (under (B.shown blocks.old)) tree.old tree.new }
+    ensures leaves { B.told → Leaves (loaded (B.shown blocks.old) tree.old) (loaded (B.shown blocks.new) tree.new) }
     ensures stands { B.told → Stands (B.shown blocks.old) tree.old → Stands (B.shown blocks.new) tree.new }
     ensures changes { changes_in tree.new.nodes ≤ changes_in tree.old.nodes }
     ensures marks { B.told → MarksNoMore tree.old tree.new }
@@ -158,6 +161,7 @@ fn keep_level<B: Blocks>(
     ensures fields { IsSameBut tree.old tree.new }
     ensures same { B.told → IsSame (standing (under (B.shown blocks.old)) tree.old) (standing (under (B.shown blocks.new)) tree.new) }
     ensures blocks { B.told → KeepsBlocks (under (B.shown blocks.old)) tree.old tree.new }
+    ensures leaves { B.told → Leaves (loaded (B.shown blocks.old) tree.old) (loaded (B.shown blocks.new) tree.new) }
     ensures stands { B.told → Stands (B.shown blocks.old) tree.old → Stands (B.shown blocks.new) tree.new }
     ensures changes { changes_in tree.new.nodes ≤ changes_in tree.old.nodes }
     ensures marks { B.told → MarksNoMore tree.old tree.new }
@@ -196,6 +200,7 @@ fn keep_range<B: Blocks>(
     ensures nodes { B.told → StillHeld tree.old tree.new }
     ensures same { B.told → IsSame (standing (under (B.shown blocks.old)) tree.old) (standing (under (B.shown blocks.new)) tree.new) }
     ensures blocks { B.told → KeepsBlocks (under (B.shown blocks.old)) tree.old tree.new }
+    ensures leaves { B.told → Leaves (loaded (B.shown blocks.old) tree.old) (loaded (B.shown blocks.new) tree.new) }
     ensures stands { B.told → Stands (B.shown blocks.old) tree.old → Stands (B.shown blocks.new) tree.new }
     ensures changes { changes_in tree.new.nodes ≤ changes_in tree.old.nodes }
     ensures marks { B.told → MarksNoMore tree.old tree.new }

@@ -9,6 +9,7 @@ ghost use Rattle.fv_tree.specs.Sources.{Counts, HasCause, IsDamaged, IsUntouched
 ghost use Rattle.fv_tree.specs.Standing.{standing, under};
 ghost use Rattle.fv_tree.specs.Writing.{Remains};
 ghost use Rattle.fv_tree.specs.Flushing.{changed_in, loaded, pointer_in, Flushes, HoldsAsMuch, IsCellStep, IsLeft, IsNodeStep, ReachesOnce, Stands};
+ghost use Rattle.fv_tree.specs.Altering.{PlacesAnew};
 ghost use Rattle.fv_tree.specs.Stored.{IsStoredWell, HasPlaces, KeepsPlaces};
 ghost use Rattle.fv_tree.specs.Costs.{changes_in, pending, Fits, IsEnough};
 
@@ -187,6 +188,7 @@ impl Tree {
     /// As `place` of the `Blocks` answers them.
     pub fn flush<B: Blocks>(&mut self, blocks: &mut B) -> Result<Pointer, TreeFault>
         ensures flushes { B.told → Stands (B.shown blocks.old) self.old → Flushes (loaded (B.shown blocks.old) self.old) (B.shown blocks.old).used (loaded (B.shown blocks.new) self.new) (B.shown blocks.new).used }
+        ensures anew { B.told → Stands (B.shown blocks.old) self.old → PlacesAnew (loaded (B.shown blocks.old) self.old) (B.shown blocks.old).used (loaded (B.shown blocks.new) self.new) }
         ensures strays { B.told → Stands (B.shown blocks.old) self.old → (B.shown blocks.new).strays ≡ (B.shown blocks.old).strays }
         ensures remains { B.told → Stands (B.shown blocks.old) self.old → Remains (standing (under (B.shown blocks.old)) self.old) (standing (under (B.shown blocks.new)) self.new) }
         ensures left { IsLeft self.old self.new }

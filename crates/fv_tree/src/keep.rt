@@ -9,7 +9,8 @@ ghost use Rattle.fv_tree.specs.Sources.{Counts, IsUntouched};
 ghost use Rattle.fv_tree.specs.Standing.{standing, under, node_in, IsSameBut, Fails, LoadFails};
 ghost use Rattle.fv_tree.specs.Releasing.{KeepsBlocks};
 ghost use Rattle.fv_tree.specs.Keeping.{IsKept, Keeps, IsSame, KeepsBelow};
-ghost use Rattle.fv_tree.specs.Flushing.{placed_in, pointer_in};
+ghost use Rattle.fv_tree.specs.Flushing.{loaded, placed_in, pointer_in};
+ghost use Rattle.fv_tree.specs.Altering.{Leaves};
 ghost use Rattle.fv_tree.specs.Carried.{kept_at, Brings, IsBlank};
 ghost use Rattle.fv_tree.specs.Readying.{HoldsWay, KeepsReady};
 ghost use Rattle.fv_tree.specs.Unlinking.{HasWay};
@@ -41,6 +42,7 @@ pub fn keep_path<B: Blocks>(
     ensures carries { B.told → Carries (B.shown blocks.old) (B.shown blocks.new) tree.old tree.new }
     ensures same { B.told → IsSame (standing (under (B.shown blocks.old)) tree.old) (standing (under (B.shown blocks.new)) tree.new) }
     ensures blocks { B.told → KeepsBlocks (under (B.shown blocks.old)) tree.old tree.new }
+    ensures leaves { B.told → Leaves (loaded (B.shown blocks.old) tree.old) (loaded (B.shown blocks.new) tree.new) }
     ensures untouched { IsUntouched (B.shown blocks.old) (B.shown blocks.new) }
     ensures reads { B.reads blocks.old blocks.new }
     ensures counts { Counts (B.shown blocks.old) (B.shown blocks.new) result }
@@ -79,6 +81,7 @@ fn keep_step<B: Blocks>(
     ensures others { KeepsBelow (standing (under (B.shown blocks.old)) tree.old) (standing (under (B.shown blocks.new)) tree.new) level }
     ensures same { B.told → IsSame (standing (under (B.shown blocks.old)) tree.old) (standing (under (B.shown blocks.new)) tree.new) }
     ensures blocks { B.told → KeepsBlocks (under (B.shown blocks.old)) tree.old tree.new }
+    ensures leaves { B.told → Leaves (loaded (B.shown blocks.old) tree.old) (loaded (B.shown blocks.new) tree.new) }
     ensures untouched { IsUntouched (B.shown blocks.old) (B.shown blocks.new) }
     ensures reads { B.reads blocks.old blocks.new }
     ensures counts { Counts (B.shown blocks.old) (B.shown blocks.new) result }

@@ -11,7 +11,8 @@ ghost use Rattle.fv_tree.specs.Writing.{IsAlike, Remains};
 ghost use Rattle.fv_disk.specs.declared.fault.BlockFault.TheVariants.{Memory};
 ghost use Rattle.fv_tree.specs.Readying.{IsReady, KeepsReady};
 ghost use Rattle.fv_tree.specs.Refilling.{IsFilledWay, IsRefilled, Refills};
-ghost use Rattle.fv_tree.specs.Flushing.{changed_in, loaded, placed_in, Stands};
+ghost use Rattle.fv_tree.specs.Flushing.{changed_in, loaded, placed_in, Stands, changed_of};
+ghost use Rattle.fv_tree.specs.Altering.{Leaves};
 ghost use Rattle.fv_tree.specs.Stored.{IsStoredWell};
 ghost use Rattle.fv_tree.specs.Leading.{Carries, LeadsNoMore};
 ghost use Rattle.fv_tree.specs.Carried.{Marks};
@@ -51,6 +52,8 @@ impl Tree {
         ensures stands { B.told → Stands (B.shown blocks.old) self.old → Stands (B.shown blocks.new) self.new }
         ensures leads { B.told → LeadsNoMore (loaded (B.shown blocks.old) self.old) (loaded (B.shown blocks.new) self.new) }
         ensures keeps { B.told → LeadsNoMore (loaded (B.shown blocks.new) self.new) (loaded (B.shown blocks.old) self.old) }
+        ensures leaves { B.told → Stands (B.shown blocks.old) self.old → changed_of self.old 0 index ≡ true → Leaves (loaded (B.shown blocks.old) self.old) (loaded (B.shown blocks.new) self.new) }
+        ensures unchanged { B.told → OnErr result (Leaves (loaded (B.shown blocks.old) self.old) (loaded (B.shown blocks.new) self.new)) }
         ensures stored_well { B.told → IsStoredWell (loaded (B.shown blocks.old) self.old) → IsStoredWell (loaded (B.shown blocks.new) self.new) }
         ensures pending { pending self.new ≤ pending self.old + 4 }
         ensures still { OnErr result (pending self.new ≤ pending self.old) }
@@ -78,6 +81,8 @@ pub fn refill_cell<B: Blocks>(
     ensures owner { tree.new.owner ≡ tree.old.owner }
     ensures levels { tree.new.levels ≡ tree.old.levels }
     ensures carries { B.told → Carries (B.shown blocks.old) (B.shown blocks.new) tree.old tree.new }
+    ensures leaves { B.told → Stands (B.shown blocks.old) tree.old → changed_of tree.old 0 index ≡ true → Leaves (loaded (B.shown blocks.old) tree.old) (loaded (B.shown blocks.new) tree.new) }
+    ensures unchanged { B.told → OnErr result (Leaves (loaded (B.shown blocks.old) tree.old) (loaded (B.shown blocks.new) tree.new)) }
     ensures pending { pending tree.new ≤ pending tree.old + 4 }
     ensures still { OnErr result (pending tree.new ≤ pending tree.old) }
     ensures untouched { IsUntouched (B.shown blocks.old) (B.shown blocks.new) }

@@ -1,6 +1,8 @@
 //! Removing a cell.
 
 ghost use Rattle.std.specs.Prelude.{◌≡◌, ◌≤◌, ◌+◌, nat_eq, Ok, IfOk, OnOk, OnErr, IfErr};
+ghost use Rattle.fv_tree.specs.Altering.{Leaves};
+ghost use Rattle.fv_tree.specs.Flushing.{loaded};
 ghost use Rattle.fv_tree.specs.Sources.{Counts, IsUntouched};
 ghost use Rattle.fv_tree.specs.Standing.{standing, under, Fails};
 ghost use Rattle.fv_tree.specs.Keeping.{IsSame};
@@ -71,6 +73,7 @@ fn remove_cell<B: Blocks>(
     ensures failed { B.told → OnErr result (IsSame (standing (under (B.shown blocks.old)) tree.old) (standing (under (B.shown blocks.new)) tree.new)) }
     ensures owner { tree.new.owner ≡ tree.old.owner }
     ensures stays { B.told → OnErr result (Carries (B.shown blocks.old) (B.shown blocks.new) tree.old tree.new) }
+    ensures leaves { B.told → OnErr result (Leaves (loaded (B.shown blocks.old) tree.old) (loaded (B.shown blocks.new) tree.new)) }
     ensures untouched { OnErr result (IsUntouched (B.shown blocks.old) (B.shown blocks.new)) }
     ensures room { (B.shown blocks.old).room ≤ (B.shown blocks.new).room }
     ensures pending { pending tree.new ≤ pending tree.old + 3 }

@@ -9,8 +9,9 @@ ghost use Rattle.fv_tree.specs.Spelled.{Under, pointer_at, stamp_in, block_at};
 ghost use Rattle.fv_tree.specs.Sources.{Counts, Use, IsUntouched};
 ghost use Rattle.fv_tree.specs.Standing.{standing, under, cell_in, Fails, IsSameButCells};
 ghost use Rattle.fv_tree.specs.Writing.{IsAlike, IsWritten, Remains, Writes};
-ghost use Rattle.fv_tree.specs.Flushing.{cell_changed, cell_placed, loaded, loaded_over, IsSound, Stands};
+ghost use Rattle.fv_tree.specs.Flushing.{cell_changed, cell_placed, changed_of, loaded, loaded_over, IsSound, Stands};
 ghost use Rattle.fv_tree.specs.Stored.{IsStoredWell};
+ghost use Rattle.fv_tree.specs.Altering.{Alters, Leaves};
 ghost use Rattle.fv_tree.specs.Leading.{Carries, LeadsNoMore};
 ghost use Rattle.fv_tree.specs.Readying.{HoldsCell, IsReady, KeepsReady};
 ghost use Rattle.fv_disk.specs.declared.fault.BlockFault.TheVariants.{Memory};
@@ -28,8 +29,8 @@ use std::collections::BTreeMap;
 impl Tree {
     /// Holds the cell at `index` and the nodes over it in memory, so that `rewrite` or `erase` can follow, which can't
     /// fail; false exactly for a hole. The tree is seen as before, after a fault, too. It loads at most the nodes
-    /// over the cell that aren't in memory, and its content. What is held hasn't changed by that: a later `flush` places
-    /// none of it, unless it is written.
+    /// over the cell that aren't in memory, and its content. What comes into memory by it hasn't changed: for it alone a
+    /// later `flush` places nothing.
     ///
     /// # Errors
     ///
@@ -46,6 +47,7 @@ impl Tree {
         ensures leads { B.told → LeadsNoMore (loaded (B.shown blocks.old) self.old) (loaded (B.shown blocks.new) self.new) }
         ensures keeps { B.told → LeadsNoMore (loaded (B.shown blocks.new) self.new) (loaded (B.shown blocks.old) self.old) }
         ensures stored_well { B.told → IsStoredWell (loaded (B.shown blocks.old) self.old) → IsStoredWell (loaded (B.shown blocks.new) self.new) }
+        ensures leaves { B.told → Leaves (loaded (B.shown blocks.old) self.old) (loaded (B.shown blocks.new) self.new) }
         ensures pending { pending self.new ≤ pending self.old }
         ensures untouched { IsUntouched (B.shown blocks.old) (B.shown blocks.new) }
         ensures reads { B.reads blocks.old blocks.new }
@@ -78,6 +80,8 @@ impl Tree {
         ensures keeps { (held : Under) → LeadsNoMore (loaded_over held self.new) (loaded_over held self.old) }
         ensures stored_well { (held : Under) → IsStoredWell (loaded_over held self.old) → IsStoredWell (loaded_over held self.new) }
         ensures ready { (i : ℕ) → IsReady self.old i → IsReady self.new i }
+        ensures alters { (held : Under) → Alters stamp (loaded_over held self.old) (loaded_over held self.new) }
+        ensures marked { changed_of self.new 0 index ≡ true }
         ensures memory { cell_in self.new index ≡ Some block.now }
         ensures pending { pending self.new ≤ pending self.old + 4 }
     {
@@ -95,6 +99,7 @@ fn ready_cell<B: Blocks>(tree: &mut Tree, blocks: &mut B, index: u32) -> Result<
     ensures owner { tree.new.owner ≡ tree.old.owner }
     ensures levels { tree.new.levels ≡ tree.old.levels }
     ensures carries { B.told → Carries (B.shown blocks.old) (B.shown blocks.new) tree.old tree.new }
+    ensures leaves { B.told → Leaves (loaded (B.shown blocks.old) tree.old) (loaded (B.shown blocks.new) tree.new) }
     ensures pending { pending tree.new ≤ pending tree.old }
     ensures untouched { IsUntouched (B.shown blocks.old) (B.shown blocks.new) }
     ensures reads { B.reads blocks.old blocks.new }

@@ -1,6 +1,6 @@
 //! The calls of a tree.
 
-ghost use Rattle.std.specs.Prelude.{◌≡◌, ◌≤◌, ◌<◌, ◌+◌, ℕ, List, Option, cond, Some, None, IfOk, IfErr, OnOk, OnErr};
+ghost use Rattle.std.specs.Prelude.{◌≡◌, ◌≤◌, ◌<◌, ◌+◌, ℕ, true, List, Option, cond, Some, None, IfOk, IfErr, OnOk, OnErr};
 ghost use Rattle.std.specs.BTreeMap as maps;
 ghost use Rattle.std.specs.FinMap as fin;
 ghost use Rattle.std.specs.Ordering.{nat_cmp};
@@ -10,8 +10,9 @@ ghost use Rattle.fv_tree.specs.Spelled.{Under, hole, stored, block_at};
 ghost use Rattle.fv_tree.specs.Sources.{Counts, Use, IsUntouched};
 ghost use Rattle.fv_tree.specs.Standing.{standing, under, Shows, Fails};
 ghost use Rattle.fv_tree.specs.Writing.{IsWritten, Writes, Remains};
-ghost use Rattle.fv_tree.specs.Flushing.{loaded, loaded_over, IsSound, ReachesOnce, Stands};
+ghost use Rattle.fv_tree.specs.Flushing.{changed_of, loaded, loaded_over, IsSound, ReachesOnce, Stands};
 ghost use Rattle.fv_tree.specs.Readying.{KeepsReady};
+ghost use Rattle.fv_tree.specs.Altering.{Alters, Leaves};
 ghost use Rattle.fv_tree.specs.Stored.{IsStoredWell};
 ghost use Rattle.fv_tree.specs.Leading.{LeadsNoMore};
 ghost use Rattle.fv_tree.specs.Costs.{pending, way_cost};
@@ -108,6 +109,9 @@ impl Tree {
         ensures stands { B.told → Stands (B.shown blocks.old) self.old → Stands (B.shown blocks.new) self.new }
         ensures leads { B.told → LeadsNoMore (loaded (B.shown blocks.old) self.old) (loaded (B.shown blocks.new) self.new) }
         ensures keeps { B.told → LeadsNoMore (loaded (B.shown blocks.new) self.new) (loaded (B.shown blocks.old) self.old) }
+        ensures alters { B.told → Alters stamp (loaded (B.shown blocks.old) self.old) (loaded (B.shown blocks.new) self.new) }
+        ensures leaves { B.told → OnErr result (Leaves (loaded (B.shown blocks.old) self.old) (loaded (B.shown blocks.new) self.new)) }
+        ensures marked { OnOk result (changed_of self.new 0 index ≡ true) }
         ensures stored_well { B.told → IsStoredWell (loaded (B.shown blocks.old) self.old) → IsStoredWell (loaded (B.shown blocks.new) self.new) }
         ensures keeps_ready { KeepsReady self.old self.new }
         ensures pending { pending self.new ≤ pending self.old + 6 }

@@ -8,7 +8,8 @@ ghost use Rattle.fv_model.specs.Trees.{fan, spot_cmp};
 ghost use Rattle.fv_tree.specs.Standing.{standing, under, children_in, cell_in, IsSameButCells, Fails};
 ghost use Rattle.fv_tree.specs.Spelled.{Under};
 ghost use Rattle.fv_tree.specs.Sources.{Counts, Use, IsUntouched};
-ghost use Rattle.fv_tree.specs.Flushing.{cell_changed, cell_placed, changed_in, loaded_over, placed_in, IsSound};
+ghost use Rattle.fv_tree.specs.Flushing.{cell_changed, cell_placed, changed_in, changed_of, loaded, loaded_over, placed_in, IsSound};
+ghost use Rattle.fv_tree.specs.Altering.{Alters, Leaves};
 ghost use Rattle.fv_tree.specs.Leading.{Carries, KeepsHints, LeadsNoMore};
 ghost use Rattle.fv_tree.specs.Readying.{KeepsReady};
 ghost use Rattle.fv_tree.specs.Carried.{Marks};
@@ -143,6 +144,9 @@ pub fn write_within<B: Blocks>(
     ensures failed { B.told → OnErr result (IsAlike (standing (under (B.shown blocks.old)) tree.old) (standing (under (B.shown blocks.new)) tree.new)) }
     ensures owner { tree.new.owner ≡ tree.old.owner }
     ensures carries { B.told → Carries (B.shown blocks.old) (B.shown blocks.new) tree.old tree.new }
+    ensures alters { B.told → Alters stamp (loaded (B.shown blocks.old) tree.old) (loaded (B.shown blocks.new) tree.new) }
+    ensures leaves { B.told → OnErr result (Leaves (loaded (B.shown blocks.old) tree.old) (loaded (B.shown blocks.new) tree.new)) }
+    ensures marked { OnOk result (changed_of tree.new 0 index ≡ true) }
     ensures keeps_ready { KeepsReady tree.old tree.new }
     ensures pending { pending tree.new ≤ pending tree.old + 6 }
     ensures untouched { IsUntouched (B.shown blocks.old) (B.shown blocks.new) }
@@ -173,6 +177,9 @@ pub fn write_past(
     ensures leads { (blocks : Under) → LeadsNoMore (loaded_over blocks tree.old) (loaded_over blocks tree.new) }
     ensures keeps { (blocks : Under) → LeadsNoMore (loaded_over blocks tree.new) (loaded_over blocks tree.old) }
     ensures hints { (blocks : Under) → KeepsHints (loaded_over blocks tree.old) (loaded_over blocks tree.new) }
+    ensures alters { (blocks : Under) → Alters stamp (loaded_over blocks tree.old) (loaded_over blocks tree.new) }
+    ensures leaves { (blocks : Under) → OnErr result (Leaves (loaded_over blocks tree.old) (loaded_over blocks tree.new)) }
+    ensures marked { OnOk result (changed_of tree.new 0 index ≡ true) }
     ensures keeps_ready { KeepsReady tree.old tree.new }
     ensures pending { pending tree.new ≤ pending tree.old + 6 }
     ensures memory { IfErr result (λ e. e ≡ Memory) }
@@ -212,6 +219,9 @@ pub fn write_cell<B: Blocks>(
     ensures failed { B.told → OnErr result (IsAlike (standing (under (B.shown blocks.old)) tree.old) (standing (under (B.shown blocks.new)) tree.new)) }
     ensures owner { tree.new.owner ≡ tree.old.owner }
     ensures carries { B.told → Carries (B.shown blocks.old) (B.shown blocks.new) tree.old tree.new }
+    ensures alters { B.told → Alters stamp (loaded (B.shown blocks.old) tree.old) (loaded (B.shown blocks.new) tree.new) }
+    ensures leaves { B.told → OnErr result (Leaves (loaded (B.shown blocks.old) tree.old) (loaded (B.shown blocks.new) tree.new)) }
+    ensures marked { OnOk result (changed_of tree.new 0 index ≡ true) }
     ensures keeps_ready { KeepsReady tree.old tree.new }
     ensures pending { pending tree.new ≤ pending tree.old + 6 }
     ensures untouched { IsUntouched (B.shown blocks.old) (B.shown blocks.new) }

@@ -48,8 +48,8 @@ abbrev pub snapshot_count : ℕ
 snapshot_count = 24
 
 -- whether the slot of some snapshot has a number
-abbrev pub is_shared : Volume → ℕ → Bool
-is_shared volume v = taken_in (take snapshot_count (drop 1 volume.slots)) v
+abbrev pub is_in_snapshot : Volume → ℕ → Bool
+is_in_snapshot volume v = taken_in (take snapshot_count (drop 1 volume.slots)) v
 
 -- whether a slot has a number that no other slot has
 abbrev pub has_alone : List Slot → ℕ → ℕ → Bool

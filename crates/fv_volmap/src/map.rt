@@ -3,7 +3,7 @@
 ghost use Rattle.std.specs.Prelude.{◌≡◌, ℕ, ◌*◌, ◌<◌, ◌≤◌, false, true, length, take, slice_set, Some, None, IsSome, IfSome, IfNone, IfOk, OnOk, OnErr, OnSome, option_copied};
 ghost use Rattle.fv_bits.specs.Bits.{block_bits};
 ghost use Rattle.fv_bits.specs.Members.{IsFirstPast};
-ghost use Rattle.fv_volmap.specs.Slots.{Volume, slot_count, stored_count, slot_at, active_of, taken_in, with_slot, empty_volume, IsVolume, Loads, AreUnited, Allocates, alone_in, is_shared};
+ghost use Rattle.fv_volmap.specs.Slots.{Volume, slot_count, stored_count, slot_at, active_of, taken_in, with_slot, empty_volume, IsVolume, Loads, AreUnited, Allocates, alone_in, is_in_snapshot};
 
 use crate::slots;
 use fv_bits::BitMap;
@@ -216,10 +216,10 @@ impl VolMap {
     }
 
     /// Whether the slot of a snapshot, 1 to 24, has this number, whatever number it is; none has one from the
-    /// span on. Costs a step for each slot. `docs/SPACE.md` has what stays charged for a snapshot.
+    /// span on. Costs a step for each slot. `docs/DECISIONS.md` has how what stays charged is counted.
     #[tactic(auto, using(crate::proofs::Rows::stored_slots))]
     pub fn in_snapshot(&self, vvbn: u32) -> bool
-        ensures { result ≡ is_shared self.now vvbn }
+        ensures { result ≡ is_in_snapshot self.now vvbn }
     {
         slots::any_has(&self.others[..24], vvbn)
     }

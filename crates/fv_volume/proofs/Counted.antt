@@ -1,45 +1,78 @@
--- The ledger of a volume with files, counted from its active map.
-use Rattle.std.proofs.Common.{◌≡◌, ℕ, ◌+◌, ◌*◌, ◌<◌, ◌≤◌, Bool, List, [], length, Some, None, refl, sym, ap, ◌∙◌, arith}
+-- The ledger of a volume with files, counted from its maps.
+use Rattle.std.proofs.Common.{◌≡◌, ℕ, ◌+◌, ◌*◌, ◌<◌, ◌≤◌, true, length, refl, sym, ap, subst, ◌∙◌, arith}
+use Rattle.std.specs.Prelude.{Option, Some, None}
+use Rattle.std.specs.List.{list_all}
+use Rattle.std.specs.Option.{option_map_or}
+use Rattle.std.proofs.Math.Nat.{mul-le-mul_left}
 use Rattle.fv_bits.specs.Members.{is_member, count_of}
 use Rattle.fv_bits.proofs.Laws.{count_of-le}
-use Rattle.fv_model.specs.Space.{map_blocks}
+use Rattle.fv_model.specs.Numbers.{greatest_span}
+use Rattle.fv_model.specs.Space.{map_blocks, charge}
 use Rattle.fv_laws.specs.Positions.{HasNoReserve}
 use Rattle.fv_laws.proofs.PathCharges.{no_need}
-use Rattle.fv_image.specs.Views.{Head, View, volume_bit}
+use Rattle.fv_tables.specs.Reached.{is_listed}
+use Rattle.fv_image.specs.Views.{Footing, Head, View}
 use Rattle.fv_image.specs.Volumes.{table_at, volume_with, volume_told}
-use Rattle.fv_image.specs.Seen.{seen}
+use Rattle.fv_image.specs.Seen.{roots_of, seen}
+use Rattle.fv_image.specs.ReachRules.{has_maps_of_reach, is_reach}
 use Rattle.fv_image.specs.Soundness.{AreTables, AreMaps}
+use Rattle.fv_image.specs.Staying.{own_items}
+use Rattle.fv_image.specs.Charged.{out_items}
+use Rattle.fv_image.specs.Mapped.{AreInSlots}
+use Rattle.fv_image.proofs.CountedCharge.{HasParentNumbers, held_is_listed}
 use Rattle.fv_image.proofs.OwnUses.{HasLabelNumbers}
-use Rattle.fv_image.proofs.ChargeBits.{charge_bits}
+use Rattle.fv_image.proofs.SoundFacts.{of_slot}
 use Rattle.fv_charge.specs.declared.ledger.Ledger.{Ledger}
 use Rattle.fv_charge.specs.Ledgers.{IsLedgerOf}
-use Rattle.fv_charge.specs.Counted.{charge_counted}
-use Rattle.fv_volmap.specs.Slots.{active_of}
+use Rattle.fv_volmap.specs.Slots.{IsVolume, Volume as Maps, has}
 use Rattle.fv_volume.specs.declared.state.VolumeState.{VolumeState}
-use Rattle.fv_volume.specs.Loading.{IsCounted}
-use Rattle.fv_volume.proofs.Charging.{members_are}
+use Rattle.fv_volume.specs.Files.{HasSlotsOf}
+use Rattle.fv_volume.specs.Loading.{HasCounted, HaveBits, IsCounted}
+use Rattle.fv_volume.specs.OneVolume.{greatest_charge}
+use Rattle.fv_volume.proofs.CountedMaps.{counted_charge}
+use Rattle.fv_volume.proofs.KeptSlots.{taken_bits}
+use Rattle.fv_volume.proofs.SnapSlots.{stored_taken}
 
--- A volume that stands in its blocks, without snapshots, base and reserves, has the ledger that its active map is counted to.
-pub counted_ledger : (w : View) (s : ℕ) (h : Head) → s < 64 → w.head s ≡ Some h → AreTables (seen w) → AreMaps w → HasLabelNumbers h → h.snapshots ≡ [] → h.base ≡ None → HasNoReserve (table_at w s h.active)
-    → (map : List Bool) → length map ≡ h.span → ((v : ℕ) → is_member map v ≡ volume_bit w s h.span 0 v)
-    → IsLedgerOf (volume_told w s h) (record { charge = charge_counted map None 0 h.span; need = 0; size = h.size; kind = h.kind; span = h.span })
-unfolding volume_with
-counted_ledger w s h small there tables maps numbers snapshots base none map long each = record {
-  charged = plain (count_of map) (map_blocks h.span) ∙ members_are map (volume_bit w s h.span 0) h.span long each ∙ sym (charge_bits w s h small there tables maps numbers snapshots base);
-  needed = sym (no_need (volume_told w s h) none);
-  size = refl;
-  kind = refl;
-  span = refl;
-}
-  where
-    plain : (n m : ℕ) → n + m * 0 ≡ n
-    plain n m = grind (arith)
+module _ (w : View) (s : ℕ) (h : Head) (small : s < 64) (there : w.head s ≡ Some h) (tables : AreTables (seen w)) (maps : AreMaps w) (numbers : HasLabelNumbers h) (base : h.base ≡ None)
+    (m : Maps) (is : IsVolume m) (span : m.span ≡ h.span) (slots : HasSlotsOf h m) (order : AreInSlots h) (bits : HaveBits w s h.span m) where
+  each_reach : list_all (is_reach w s h) (roots_of h) ≡ true
+  unfolding has_maps_of_reach
+  each_reach = subst (λ (o : Option Head). option_map_or (λ h. list_all (is_reach w s h) (roots_of h)) o true ≡ true) there (of_slot (λ s. option_map_or (λ h. list_all (is_reach w s h) (roots_of h)) (w.head s) true) s maps.reach small)
 
--- A ledger that is counted has no more blocks than the span has numbers.
-pub counted_within : (x : VolumeState) → IsCounted x → x.ledger.charge ≤ x.map.span
-counted_within x is =
-    let charge : x.ledger.charge ≡ count_of (active_of x.map) + map_blocks x.span * 0 = ap (λ (l : Ledger). l.charge) is.ledger in
-    omega (arith, charge, none (map_blocks x.span), count_of-le (active_of x.map), is.long)
-  where
-    none : (n : ℕ) → n * 0 ≡ 0
-    none n = grind (arith)
+  no_parents : HasParentNumbers w h.base
+  no_parents b g based = absurd (no_base b (sym base ∙ based))
+    where
+      no_base : (b : Footing) → ◌≡◌ {A = Option Footing} None (Some b) → ⊥
+      no_base b e = cc
+
+  module _ (ledger : Ledger) (counted : HasCounted m (length h.snapshots) h.span h.size h.kind ledger) where
+    -- what the slots have together is what the roots reach
+    listed : (v : ℕ) → v < h.span → is_member counted.union v ≡ is_listed (own_items w s h) v
+    listed v low =
+        counted.united.members v
+        ∙ stored_taken m.slots v is.count (ap (has v) slots.base)
+        ∙ taken_bits w s h m slots order bits v
+        ∙ held_is_listed w s h each_reach v (omega (arith, low))
+
+    -- A volume that stands in its blocks, without base and reserves, has the ledger that its maps are counted to.
+    pub counted_ledger : HasNoReserve (table_at w s h.active) → IsLedgerOf (volume_told w s h) ledger
+    unfolding volume_with
+    counted_ledger none = subst (IsLedgerOf (volume_told w s h)) (sym counted.ledger_is) (record {
+      charged = counted_charge w s h small there numbers no_parents tables.snapshots tables.ids tables.ranges counted.union None (counted.united.len ∙ span) listed
+          (λ v low. ap (λ (o : Option Footing). is_listed (out_items w o) v) base);
+      needed = sym (no_need (volume_told w s h) none);
+      size = refl;
+      kind = refl;
+      span = refl;
+    })
+
+-- A ledger that is counted has no more blocks than the span has numbers, and the maps of 24 snapshots blocks.
+pub counted_within : (x : VolumeState) → IsCounted x → x.map.span ≡ x.span → x.span ≤ greatest_span → x.ledger.charge ≤ greatest_charge
+counted_within x is same most =
+    let c = is.ledger in
+    let count : x.ledger.charge ≡ count_of c.union + map_blocks x.span * length x.snapshots = ap (λ (l : Ledger). l.charge) c.ledger_is in
+    let few : map_blocks x.span ≤ 32 = omega (arith, most) in
+    let first : map_blocks x.span * length x.snapshots ≤ map_blocks x.span * 24 = mul-le-mul_left (map_blocks x.span) is.few in
+    let held = count_of-le c.union in
+    let long = c.united.len in
+    omega (arith, count, few, first, held, long, same, most)

@@ -1,5 +1,5 @@
 -- What a volume's maps have together, and what is counted of them.
-use Rattle.std.proofs.Common.{◌≡◌, ℕ, zero, suc, ◌+◌, ◌-◌, ◌*◌, ◌<◌, ◌≤◌, Bool, true, false, not, List, [], ◌∷◌, length, refl, sym, ap, ap₂, ◌∙◌, arith, ⊎_elim, get_or-set_same, get_or-set_other}
+use Rattle.std.proofs.Common.{◌≡◌, ℕ, zero, suc, ◌+◌, ◌-◌, ◌*◌, ◌<◌, Bool, true, false, not, List, [], ◌∷◌, length, refl, sym, ap, ap₂, ◌∙◌, arith, ⊎_elim, get_or-set_same, get_or-set_other}
 use Rattle.std.specs.Prelude.{Option, Some, None, ◌&&◌, ◌||◌, ◌==◌, take, get_or, if◌then◌else◌}
 use Rattle.std.specs.List.{list_any, range_with_len}
 use Rattle.std.proofs.lemmas.Bool.{cases_eq}
@@ -20,7 +20,7 @@ use Rattle.fv_image.specs.Mapped.{MapSlot, AreInSlots}
 use Rattle.fv_image.proofs.OwnUses.{HasLabelNumbers}
 use Rattle.fv_image.proofs.CountedCharge.{HasParentNumbers, charge_by_sets}
 use Rattle.fv_image.proofs.MapSteps.{has_in, taken_is, with_map}
-use Rattle.fv_volmap.specs.Slots.{Volume as Maps, IsVolume, slot_at, stored_count, taken_in, with_slot}
+use Rattle.fv_volmap.specs.Slots.{Volume as Maps, slot_at, stored_count, taken_in, with_slot}
 use Rattle.fv_volume.specs.Mapped.{AreMapped, IsBaseMap}
 
 -- ---- slots in a row
@@ -29,15 +29,19 @@ any_later : (g : ℕ → Bool) (from n : ℕ) → list_any g (range_with_len (fr
 any_later g from zero = refl
 any_later g from (suc n) = ap₂ (λ (a b : Bool). a || b) (ap g (let next : from + 1 ≡ suc from = omega arith in next)) (any_later g (from + 1) n)
 
-pub any_taken : {X : Type 0} (f : X → Bool) (d : X) (xs : List X) (n : ℕ) → n ≤ length xs → list_any f (take n xs) ≡ list_any (λ k. f (get_or xs k d)) (range_with_len 0 n)
-any_taken f d xs zero within = refl
-any_taken f d [] (suc n) within = absurd (omega (arith, within))
-any_taken f d (x ∷ xs) (suc n) within = ap (λ (b : Bool). f x || b) (any_taken f d xs n (omega (arith, within)) ∙ sym (any_later (λ k. f (get_or (x ∷ xs) k d)) 0 n))
+none_any : (g : ℕ → Bool) (from n : ℕ) → ((k : ℕ) → g k ≡ false) → list_any g (range_with_len from n) ≡ false
+none_any g from zero none = refl
+none_any g from (suc n) none = ap₂ (λ (a b : Bool). a || b) (none from) (none_any g (from + 1) n none)
+
+pub any_taken : {X : Type 0} (f : X → Bool) (d : X) → f d ≡ false → (xs : List X) (n : ℕ) → list_any f (take n xs) ≡ list_any (λ k. f (get_or xs k d)) (range_with_len 0 n)
+any_taken f d none xs zero = refl
+any_taken f d none [] (suc n) = sym (none_any (λ k. f d) 0 (suc n) (λ k. none))
+any_taken f d none (x ∷ xs) (suc n) = ap (λ (b : Bool). f x || b) (any_taken f d none xs n ∙ sym (any_later (λ k. f (get_or (x ∷ xs) k d)) 0 n))
 
 -- The stored slots of a volume that is mapped have together what its roots reach.
-pub stored_listed : (w : View) (s : ℕ) (h : Head) (m : Maps) → IsVolume m → AreMapped w s h m → AreInSlots h → (v : ℕ) → taken_in (take stored_count m.slots) v ≡ is_listed (own_items w s h) v
-stored_listed w s h m is mapped slots v =
-    any_taken (has_in v) None m.slots stored_count (let long = is.count in omega (arith, long)) ∙ taken_is w s h (slot_at m) mapped slots v
+pub stored_listed : (w : View) (s : ℕ) (h : Head) (m : Maps) → AreMapped w s h m → AreInSlots h → (v : ℕ) → taken_in (take stored_count m.slots) v ≡ is_listed (own_items w s h) v
+stored_listed w s h m mapped slots v =
+    any_taken (has_in v) None refl m.slots stored_count ∙ taken_is w s h (slot_at m) mapped slots v
 
 -- a volume with another slot has the others as before
 pub slot_with : (m : Maps) (j : ℕ) (x : MapSlot) → j < length m.slots → (k : ℕ) → slot_at (with_slot m j x) k ≡ with_map (slot_at m) j x k

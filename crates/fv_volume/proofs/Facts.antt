@@ -1,14 +1,12 @@
--- What is known of each pointer that the table of a volume reaches, of which nothing is in memory and which is stored well.
-use Rattle.std.proofs.Common.{◌≡◌, ◌≢◌, ◌⊎◌, ℕ, ◌+◌, ◌<◌, ◌≤◌, ◌/◌, ◌%◌, Bool, true, false, not, ◌||◌, List, Option, Some, None, Ok, is_some, get_or, inl, inr, refl, sym, ap, subst, ◌∙◌, arith, ⊎_elim, length}
+-- What is known of each pointer that the table of a root of a volume reaches, of which nothing is in memory and which lies whole in its slot.
+use Rattle.std.proofs.Common.{◌≡◌, ◌≢◌, ◌⊎◌, ℕ, ◌+◌, ◌<◌, ◌≤◌, ◌/◌, ◌%◌, Bool, true, false, not, ◌||◌, List, Option, Some, None, Ok, is_some, get_or, inl, inr, refl, sym, ap, subst, ◌∙◌, arith, ⊎_elim}
 use Rattle.std.specs.Prelude.{nat_lt, ◌==◌, if◌then◌else◌, cond, min}
 use Rattle.std.specs.List.{list_all}
 use Rattle.std.specs.Option.{option_map, option_map_or}
 use Rattle.std.specs.FinMap as fin
-use Rattle.std.proofs.lemmas.Bool.{cases_eq, cases_lt}
+use Rattle.std.proofs.lemmas.Bool.{cases_eq}
 use Rattle.std.proofs.lemmas.Bool.Decides.{nat_tests}
-use Rattle.std.proofs.lemmas.List.{get_or_past}
 use Rattle.fv_disk.specs.Shown.{Shown as Disk}
-use Rattle.fv_bits.specs.Members.{is_member}
 use Rattle.fv_codec.specs.declared.inode.InodeRecord.{InodeRecord}
 use Rattle.fv_codec.specs.declared.pointer.Pointer.{Pointer}
 use Rattle.fv_codec.specs.Blocks.{greatest_word, inodes_at, node_at}
@@ -26,10 +24,8 @@ use Rattle.fv_tables.proofs.Pointers.{none_under}
 use Rattle.fv_tables.proofs.Tables.{files_told, stamps_told}
 use Rattle.fv_tree.specs.Beside.{unread}
 use Rattle.fv_tree.specs.Flushing.{IsRight, NamesPosition, ReachesOnce, kind_for}
-use Rattle.fv_tree.specs.Sources.{Shown, Use}
-use Rattle.fv_tree.specs.Standing.{under as blocks_of}
+use Rattle.fv_tree.specs.Sources.{Use}
 use Rattle.fv_inode.specs.Files.{IsInodesOf}
-use Rattle.fv_files.specs.declared.files.Files.{Files}
 use Rattle.fv_files.specs.Apart.{LeadsFrom, LeadsIn, stored_trees}
 use Rattle.fv_files.specs.Tables.{AreReached, IsStoredUnder}
 use Rattle.fv_files.proofs.Stored.{inodes_under, known_under, node_under}
@@ -38,21 +34,21 @@ use Rattle.fv_image.specs.ReachRules.{inodes_are, is_of_position, node_is, shape
 use Rattle.fv_image.specs.Sound.{is_fine}
 use Rattle.fv_image.specs.Views.{Head, Placed, View}
 use Rattle.fv_image.specs.Volumes.{standing_of}
-use Rattle.fv_image.proofs.LoneTables.{form_base, no_parent, place_own}
+use Rattle.fv_image.proofs.LoneTables.{no_parent, place_own}
 use Rattle.fv_image.proofs.WellTrees.{in_node}
 use Rattle.fv_container.specs.declared.entry.Entry.{Entry}
 use Rattle.fv_container.specs.Chains.{container_at, own_entry, parent_at}
 use Rattle.fv_container.specs.Chains.{Slots}
-use Rattle.fv_volmap.specs.Slots.{Volume as Maps, active_of}
+use Rattle.fv_volmap.specs.Slots.{Volume as Maps, has, slot_at}
 use Rattle.fv_volume.specs.declared.pool.Pool.{Pool}
+use Rattle.fv_volume.specs.declared.state.Rooted.{Rooted}
 use Rattle.fv_volume.specs.declared.state.VolumeState.{VolumeState}
 use Rattle.fv_volume.specs.BlocksOver.{held_entry}
-use Rattle.fv_volume.specs.Files.{has_form}
 use Rattle.fv_volume.specs.Keeping.{seen}
-use Rattle.fv_volume.specs.Lending.{use_of, use_under}
-use Rattle.fv_volume.specs.OneVolume.{shows, standing_by, IsStanding}
-use Rattle.fv_volume.specs.States.{States, head_in, placed_in, state_at, view_over}
-use Rattle.fv_volume.proofs.Standings.{agree, held_own, standing_reached}
+use Rattle.fv_volume.specs.Lending.{use_of}
+use Rattle.fv_volume.specs.OneVolume.{blocks_in, uses_in, RootStands}
+use Rattle.fv_volume.specs.States.{States, head_in, placed_in, state_at, table_in, view_over}
+use Rattle.fv_volume.proofs.Standings.{held_own, root_agrees}
 use Rattle.fv_volume.proofs.Told.{head_there}
 use Rattle.fv_volume.proofs.Ruled.{AreRuled, IsRuled, owner_number}
 
@@ -64,8 +60,8 @@ range_itself a = let test : nat_lt a a ≡ false = grind (arith, nat_tests) in r
 some_same : (a b : List ℕ) → ◌≡◌ {A = Option (List ℕ)} (Some a) (Some b) → a ≡ b
 some_same a b e = cc
 
-used_in : (map : Maps) (slots : Slots) (slot v : ℕ) → is_some (use_under map slots slot v) ≡ true → is_member (active_of map) v ≡ true
-used_in map slots slot v some = from (is_member (active_of map) v) some
+used_in : (map : Maps) (slots : Slots) (slot k v : ℕ) → is_some (cond (has v (slot_at map k)) (Some (use_of (held_entry map slots slot v))) None) ≡ true → has v (slot_at map k) ≡ true
+used_in map slots slot k v some = from (has v (slot_at map k)) some
   where
     from : (t : Bool) → is_some (cond t (Some (use_of (held_entry map slots slot v))) None) ≡ true → t ≡ true
     from true some = refl
@@ -143,14 +139,34 @@ module _ (now start : ℕ) (cells : List ℕ) (t : Tree) (is : IsTree now start 
       (stamps_told t (level + 1) (index / fan) ∙ stamp_some (pointer_at t (level + 1) (index / fan)) over) in
       subst (λ (b : Bool). (pointer_at t level index).stamp ≤ (if b then pointer_at t (level + 1) (index / fan) else top).stamp) (sym test) rises
 
--- ---- one volume
+-- ---- the table of one root
 
-module _ (disk : Disk) (pool : Pool) (states : States) (x : VolumeState) (is : IsStanding disk pool x) (none : x.files ≡ None) (there : state_at states x.slot ≡ Some x) (alone : parent_at pool.containers x.slot ≡ None) (form : has_form (head_in x) ≡ true)
-    (maps : length (active_of x.map) ≡ x.map.span) (span : x.map.span ≡ x.span)
-    (own : (v : ℕ) (e : Entry) → own_entry (container_at pool.containers x.slot) v ≡ Some e → (first_block pool.found.blocks ≤ e.pvbn) × (e.pvbn < pool.found.blocks))
-    (well_stored : IsStoredUnder (blocks_of (shows disk pool x)) x.active.levels x.active.root) where
-  abbrev shown : Shown
-  shown = shows disk pool x
+-- the pointer of each place of each tree
+abbrev pub led_by : Under → Rooted → Option ℕ → ℕ → ℕ → Pointer
+led_by blocks root None level index = pointer_at (stored blocks greatest_word root.levels root.root) level index
+led_by blocks root (Some n) level index = option_map_or (λ (r : InodeRecord). pointer_at (stored blocks n r.levels r.root) level index) (file_at (stored blocks greatest_word root.levels root.root) n) hole
+
+module _ (disk : Disk) (pool : Pool) (states : States) (x : VolumeState) (k : ℕ) (root : Rooted) (is : RootStands disk pool x k root) (there : state_at states x.slot ≡ Some x) (alone : parent_at pool.containers x.slot ≡ None) (base : (head_in x).base ≡ None)
+    (below : (v : ℕ) → has v (slot_at x.map k) ≡ true → v < x.span)
+    (own : (v : ℕ) (e : Entry) → own_entry (container_at pool.containers x.slot) v ≡ Some e → (first_block pool.found.blocks ≤ e.pvbn) × (e.pvbn < pool.found.blocks)) where
+  -- the blocks of blocks slot, and what is in use there
+  abbrev blocks : Under
+  blocks = blocks_in disk pool x k
+
+  abbrev uses : ℕ → Option Use
+  uses = uses_in pool x k
+
+  abbrev y : Standing
+  y = standing_at blocks root.levels root.root
+
+  abbrev inodes : Tree
+  inodes = stored blocks greatest_word root.levels root.root
+
+  abbrev file_tree : ℕ → InodeRecord → Tree
+  file_tree n r = stored blocks n r.levels r.root
+
+  abbrev places : Option ℕ → ℕ → ℕ → Pointer
+  places = led_by blocks root
 
   abbrev s : ℕ
   s = x.slot
@@ -161,22 +177,14 @@ module _ (disk : Disk) (pool : Pool) (states : States) (x : VolumeState) (is : I
   abbrev w : View
   w = view_over pool states disk.reads
 
-  abbrev y : Standing
-  y = standing_at (blocks_of shown) x.active.levels x.active.root
+  told_table : IsWellTable x.now (table_told y)
+  told_table = is.table
 
-  abbrev inodes : Tree
-  inodes = stored (blocks_of shown) greatest_word x.active.levels x.active.root
+  reached : AreReached blocks uses root.levels root.root
+  reached = is.trees
 
-  abbrev file_tree : ℕ → InodeRecord → Tree
-  file_tree n r = stored (blocks_of shown) n r.levels r.root
-
-  -- the pointer of each place of each tree
-  abbrev pub led_by : Option ℕ → ℕ → ℕ → Pointer
-  led_by None level index = pointer_at inodes level index
-  led_by (Some n) level index = option_map_or (λ r. pointer_at (file_tree n r) level index) (file_at inodes n) hole
-
-  reached : AreReached (blocks_of shown) shown.used x.active.levels x.active.root
-  reached = standing_reached disk pool states x is none there alone form
+  well_stored : IsStoredUnder blocks root.levels root.root
+  well_stored = is.well
 
   here : w.head s ≡ Some h
   here = head_there pool states disk.reads s x there
@@ -195,38 +203,24 @@ module _ (disk : Disk) (pool : Pool) (states : States) (x : VolumeState) (is : I
     entry : Entry
     stands : own_entry (container_at pool.containers s) p.vvbn ≡ Some entry
     lies : place w s p.vvbn ≡ Some (record { pvbn = entry.pvbn; kind = entry.kind; block = seen pool.kept disk.reads entry.pvbn })
-    block : blocks_of shown p.vvbn ≡ Some (seen pool.kept disk.reads entry.pvbn)
+    block : blocks p.vvbn ≡ Some (seen pool.kept disk.reads entry.pvbn)
     right : IsRight kind p (Some (use_of (Some entry)))
 
-  -- no number past the span is a member
-  beyond : (v : ℕ) → x.span ≤ v → is_member (active_of x.map) v ≡ false
-  unfolding is_member
-  beyond v past = get_or_past (active_of x.map) v false (omega (arith, maps, span, past))
-
-  place_at : (kind : ℕ) (p : Pointer) → 1 ≤ kind → IsRight kind p (shown.used p.vvbn) → is_some (blocks_of shown p.vvbn) ≡ true → under w s p.vvbn ≡ blocks_of shown p.vvbn → IsPlace kind p
+  place_at : (kind : ℕ) (p : Pointer) → 1 ≤ kind → IsRight kind p (uses p.vvbn) → is_some (blocks p.vvbn) ≡ true → under w s p.vvbn ≡ blocks p.vvbn → IsPlace kind p
   unfolding under
   place_at kind p least right held same = by (held_entry x.map pool.containers s p.vvbn) refl (subst (IsRight kind p) (ap (λ (t : Bool). cond t (Some (use_of (held_entry x.map pool.containers s p.vvbn))) None) member) right)
     where
-      member : is_member (active_of x.map) p.vvbn ≡ true
-      member = used_in x.map pool.containers s p.vvbn (right_some kind p (shown.used p.vvbn) right)
-
-      low : p.vvbn < x.span
-      low = ⊎_elim
-          (λ (low : p.vvbn < x.span). low)
-          (λ (past : x.span ≤ p.vvbn). absurd (false_true (sym (beyond p.vvbn past) ∙ member)))
-          (cases_lt p.vvbn x.span)
-        where
-          false_true : false ≡ true → ⊥
-          false_true e = cc
+      member : has p.vvbn (slot_at x.map k) ≡ true
+      member = used_in x.map pool.containers s k p.vvbn (right_some kind p (uses p.vvbn) right)
 
       by : (o : Option Entry) → held_entry x.map pool.containers s p.vvbn ≡ o → IsRight kind p (Some (use_of (held_entry x.map pool.containers s p.vvbn))) → IsPlace kind p
       by None e right = let zero_kind : 0 ≡ kind = sym (ap (λ (o : Option Entry). (use_of o).kind) e) ∙ right.1 in absurd (omega (arith, least, zero_kind))
       by (Some e) at right =
           let mine : own_entry (container_at pool.containers s) p.vvbn ≡ Some e = held_own x.map pool.containers s alone p.vvbn e at in
           let lies : place w s p.vvbn ≡ Some (record { pvbn = e.pvbn; kind = e.kind; block = seen pool.kept disk.reads e.pvbn }) =
-          place_own w s p.vvbn (no_parent w s h here (form_base h form)) ∙ entry_is p.vvbn ∙ ap (placed_in pool.kept disk.reads) mine in
+          place_own w s p.vvbn (no_parent w s h here base) ∙ entry_is p.vvbn ∙ ap (placed_in pool.kept disk.reads) mine in
           record {
-            low = low;
+            low = below p.vvbn member;
             entry = e;
             stands = mine;
             lies = lies;
@@ -234,11 +228,8 @@ module _ (disk : Disk) (pool : Pool) (states : States) (x : VolumeState) (is : I
             right = subst (λ (o : Option Entry). IsRight kind p (Some (use_of o))) at right;
           }
 
-  agreed : AgreeOnTable (blocks_of shown) (under w s) x.active.levels x.active.root
-  agreed = agree disk pool states x is none there alone form
-
-  told_table : IsWellTable x.now (table_told y)
-  told_table = subst (λ (o : Option Files). IsWellTable x.now (table_told (standing_by (blocks_of shown) x.active o))) none is.table
+  agreed : AgreeOnTable blocks (under w s) root.levels root.root
+  agreed = root_agrees disk pool states x there alone base k root is.trees
 
   inode_tree : (cells : List ℕ) × IsTree x.now 0 cells (tree_told inodes)
   unfolding table_told
@@ -253,10 +244,10 @@ module _ (disk : Disk) (pool : Pool) (states : States) (x : VolumeState) (is : I
   file_is_tree n r found = (_, (_, (told_table.files n (file_told (file_tree n r) r) (file_there n r found)).tree))
 
   -- what is known of a place of a tree
-  ruled : (from : Option ℕ) (top : Pointer) (t : Tree) → t.owner ≡ owner_number from → t.under ≡ blocks_of shown → ((level index : ℕ) → led_by from level index ≡ pointer_at t level index) → ReachesOnce shown.used t
-      → ((level index : ℕ) → (pointer_at t level index).stamp ≢ 0 → under w s (pointer_at t level index).vvbn ≡ blocks_of shown (pointer_at t level index).vvbn)
+  ruled : (from : Option ℕ) (top : Pointer) (t : Tree) → t.owner ≡ owner_number from → t.under ≡ blocks → ((level index : ℕ) → places from level index ≡ pointer_at t level index) → ReachesOnce uses t
+      → ((level index : ℕ) → (pointer_at t level index).stamp ≢ 0 → under w s (pointer_at t level index).vvbn ≡ blocks (pointer_at t level index).vvbn)
       → ((level index : ℕ) → (pointer_at t level index).stamp ≢ 0 → IsStoredAt t level index) → (start : ℕ) (cells : List ℕ) → IsTree x.now start cells (tree_told t)
-      → (level index : ℕ) → (pointer_at t level index).stamp ≢ 0 → IsRuled w s h led_by (item_of top t level index)
+      → (level index : ℕ) → (pointer_at t level index).stamp ≢ 0 → IsRuled w s h places (item_of top t level index)
   ruled from top t owner over led once seen_alike well start cells tree level index some =
       let p = pointer_at t level index in
       let stored_at = well level index some in
@@ -289,44 +280,44 @@ module _ (disk : Disk) (pool : Pool) (states : States) (x : VolumeState) (is : I
 
   inode_well : (level index : ℕ) → (pointer_at inodes level index).stamp ≢ 0 → IsStoredAt inodes level index
   inode_well level index some = record {
-    known = known_under (blocks_of shown) x.active.levels x.active.root well_stored None inodes refl level index some;
-    node = λ low. node_under (blocks_of shown) x.active.levels x.active.root well_stored None inodes refl level index low some;
-    inodes = λ block zero owner lies. inodes_under (blocks_of shown) x.active.levels x.active.root well_stored index block
+    known = known_under blocks root.levels root.root well_stored None inodes refl level index some;
+    node = λ low. node_under blocks root.levels root.root well_stored None inodes refl level index low some;
+    inodes = λ block zero owner lies. inodes_under blocks root.levels root.root well_stored index block
         (subst (λ (l : ℕ). (pointer_at inodes l index).stamp ≢ 0) zero some) (subst (λ (l : ℕ). inodes.under (pointer_at inodes l index).vvbn ≡ Some block) zero lies);
   }
 
   file_well : (n : ℕ) (r : InodeRecord) → file_at inodes n ≡ Some r → (level index : ℕ) → (pointer_at (file_tree n r) level index).stamp ≢ 0 → IsStoredAt (file_tree n r) level index
   file_well n r found level index some =
-      let is : stored_trees (blocks_of shown) x.active.levels x.active.root (Some n) ≡ Some (unread (file_tree n r)) = ap (option_map (λ r. unread (file_tree n r))) found in
+      let is : stored_trees blocks root.levels root.root (Some n) ≡ Some (unread (file_tree n r)) = ap (option_map (λ r. unread (file_tree n r))) found in
       record {
-        known = known_under (blocks_of shown) x.active.levels x.active.root well_stored (Some n) (file_tree n r) is level index some;
-        node = λ low. node_under (blocks_of shown) x.active.levels x.active.root well_stored (Some n) (file_tree n r) is level index low some;
+        known = known_under blocks root.levels root.root well_stored (Some n) (file_tree n r) is level index some;
+        node = λ low. node_under blocks root.levels root.root well_stored (Some n) (file_tree n r) is level index low some;
         inodes = λ block zero owner lies. (let few = told_table.numbers n (file_told (file_tree n r) r) (file_there n r found) in absurd (omega (arith, few, owner)));
       }
 
-  led_file : (n : ℕ) (r : InodeRecord) → file_at inodes n ≡ Some r → (level index : ℕ) → led_by (Some n) level index ≡ pointer_at (file_tree n r) level index
+  led_file : (n : ℕ) (r : InodeRecord) → file_at inodes n ≡ Some r → (level index : ℕ) → places (Some n) level index ≡ pointer_at (file_tree n r) level index
   led_file n r found level index = ap (λ (o : Option InodeRecord). option_map_or (λ r. pointer_at (file_tree n r) level index) o hole) found
 
-  each_ruled : (test : Item → Bool) → ((e : Item) → IsRuled w s h led_by e → test e ≡ true) → list_all test (items (standing_of w s h.active)) ≡ true
-  each_ruled test f = subst (λ (es : List Item). list_all test es ≡ true) (sym (kept_items (blocks_of shown) (under w s) x.active.levels x.active.root agreed))
+  each_ruled : (test : Item → Bool) → ((e : Item) → IsRuled w s h places e → test e ≡ true) → list_all test (items (standing_of w s (table_in root))) ≡ true
+  each_ruled test f = subst (λ (es : List Item). list_all test es ≡ true) (sym (kept_items blocks (under w s) root.levels root.root agreed))
       (from_trees test y
       (λ level index some. f _ (ruled None hole inodes refl refl (λ level index. refl) reached.inode agreed.inode inode_well 0 inode_tree.0 inode_tree.1 level index some))
       (λ n r found level index some. let tree = file_is_tree n r found in
       f _ (ruled (Some n) (pointer_at inodes 0 (n / records_each)) (file_tree n r) refl refl (led_file n r found) (reached.files n r found) (agreed.files n r found) (file_well n r found) tree.0 tree.1.0 tree.1.1 level index some)))
 
   -- a place with a pointer is one of a tree
-  leads : (a : Option ℕ) (level index : ℕ) → (led_by a level index).stamp ≢ 0 → LeadsFrom (stored_trees (blocks_of shown) x.active.levels x.active.root) a (led_by a level index).vvbn
+  leads : (a : Option ℕ) (level index : ℕ) → (places a level index).stamp ≢ 0 → LeadsFrom (stored_trees blocks root.levels root.root) a (places a level index).vvbn
   leads None level index some = record { level = level; place = index; leads = record { some = some; placed = refl; vvbn = refl } }
   leads (Some n) level index some = by (file_at inodes n) refl
     where
-      by : (o : Option InodeRecord) → file_at inodes n ≡ o → LeadsFrom (stored_trees (blocks_of shown) x.active.levels x.active.root) (Some n) (led_by (Some n) level index).vvbn
+      by : (o : Option InodeRecord) → file_at inodes n ≡ o → LeadsFrom (stored_trees blocks root.levels root.root) (Some n) (places (Some n) level index).vvbn
       by None e = absurd (some (ap (λ (o : Option InodeRecord). (option_map_or (λ r. pointer_at (file_tree n r) level index) o hole).stamp) e))
       by (Some r) e =
           let at = led_file n r e level index in
-          subst (λ (o : Option InodeRecord). LeadsIn (option_map (λ r. unread (file_tree n r)) o) (led_by (Some n) level index).vvbn) (sym e)
+          subst (λ (o : Option InodeRecord). LeadsIn (option_map (λ r. unread (file_tree n r)) o) (places (Some n) level index).vvbn) (sym e)
           (record { level = level; place = index; leads = record { some = subst (λ (p : Pointer). p.stamp ≢ 0) at some; placed = refl; vvbn = ap (λ (p : Pointer). p.vvbn) (sym at) } })
 
-  once_in : (a : Option ℕ) (level index k j : ℕ) → (led_by a level index).stamp ≢ 0 → (led_by a k j).stamp ≢ 0 → (led_by a level index).vvbn ≡ (led_by a k j).vvbn → (level ≡ k) × (index ≡ j)
+  once_in : (a : Option ℕ) (level index k j : ℕ) → (places a level index).stamp ≢ 0 → (places a k j).stamp ≢ 0 → (places a level index).vvbn ≡ (places a k j).vvbn → (level ≡ k) × (index ≡ j)
   once_in None level index k j first second alike = reached.inode.once level index k j first second alike
   once_in (Some n) level index k j first second alike = by (file_at inodes n) refl
     where
@@ -344,7 +335,7 @@ module _ (disk : Disk) (pool : Pool) (states : States) (x : VolumeState) (is : I
   same_tree (Some n) None = inr (λ e. cc)
   same_tree (Some n) (Some k) = ⊎_elim (λ (e : n ≡ k). inl (ap (λ (m : ℕ). Some m) e)) (λ (differ : n ≢ k). inr (λ e. let same : n ≡ k = cc in differ same)) (cases_eq n k)
 
-  few_files : (n level index : ℕ) → (led_by (Some n) level index).stamp ≢ 0 → n < most_files
+  few_files : (n level index : ℕ) → (places (Some n) level index).stamp ≢ 0 → n < most_files
   few_files n level index some = by (file_at inodes n) refl
     where
       by : (o : Option InodeRecord) → file_at inodes n ≡ o → n < most_files
@@ -352,20 +343,14 @@ module _ (disk : Disk) (pool : Pool) (states : States) (x : VolumeState) (is : I
       by (Some r) e = told_table.numbers n (file_told (file_tree n r) r) (file_there n r e)
 
   -- So the rules have what they ask for.
-  pub are_ruled : AreRuled w s h led_by
+  pub are_ruled : AreRuled w s h (table_in root) places
   are_ruled = record {
     each = each_ruled;
     once = λ a b level index k j first second alike. ⊎_elim
         (λ (e : a ≡ b).
-        let at : led_by a k j ≡ led_by b k j = ap (λ (c : Option ℕ). led_by c k j) e in
+        let at : places a k j ≡ places b k j = ap (λ (c : Option ℕ). places c k j) e in
         (e, once_in a level index k j first (subst (λ (p : Pointer). p.stamp ≢ 0) (sym at) second) (alike ∙ ap (λ (p : Pointer). p.vvbn) (sym at))))
-        (λ (differ : a ≢ b). absurd (reached.apart a b (led_by a level index).vvbn differ (leads a level index first) (subst (λ (v : ℕ). LeadsFrom (stored_trees (blocks_of shown) x.active.levels x.active.root) b v) (sym alike) (leads b k j second))))
+        (λ (differ : a ≢ b). absurd (reached.apart a b (places a level index).vvbn differ (leads a level index first) (subst (λ (v : ℕ). LeadsFrom (stored_trees blocks root.levels root.root) b v) (sym alike) (leads b k j second))))
         (same_tree a b);
-    owned = owned;
+    numbers = λ n level index some same. (let few = few_files n level index some in absurd (omega (arith, few, same)));
   }
-    where
-      owned : (a b : Option ℕ) (level index k j : ℕ) → (led_by a level index).stamp ≢ 0 → (led_by b k j).stamp ≢ 0 → owner_number a ≡ owner_number b → a ≡ b
-      owned None None level index k j first second same = refl
-      owned None (Some n) level index k j first second same = let few = few_files n k j second in absurd (omega (arith, few, same))
-      owned (Some n) None level index k j first second same = let few = few_files n level index first in absurd (omega (arith, few, same))
-      owned (Some n) (Some m) level index k j first second same = ap (λ (i : ℕ). Some i) same

@@ -75,6 +75,7 @@ goes_failed pool map disk steps home room strays noted after cause =
       loses = itself.loses;
       gains = itself.gains;
       entries = itself.entries;
+      beyond = λ w past. refl;
       kept = itself.kept;
       shape = record { there = refl; count = refl; tree = refl };
       others = λ s other. refl;
@@ -102,6 +103,7 @@ goes_dropped pool map after disk steps home room strays less noted v is released
       loses = itself.loses;
       gains = itself.gains;
       entries = itself.entries;
+      beyond = λ w past. refl;
       kept = itself.kept;
       shape = record { there = refl; count = refl; tree = refl };
       others = λ s other. refl;
@@ -262,6 +264,7 @@ module _ (pool new : Pool) (map after : Volume) (slot kind : ℕ) (block : List 
         gains = λ b is. subst (λ s. IsOwn new.containers s b ⊎ ((is_member pool.map.next b ≡ true) × (IsOwn pool.containers s b → IsOwn new.containers s b))) (sym at)
             (gain b (own v) refl (sym (ap (λ (s : Space). is_member s.next b) space_is) ∙ is));
         entries = λ w. subst (λ s. (own_entry (container_at new.containers s) w ≡ own_entry (container_at pool.containers s) w) ⊎ IsNewEntry pool.map pool.containers new.containers s w) (sym at) (entry_placed w);
+        beyond = λ w past. subst (λ s. own_entry (container_at new.containers s) w ≡ own_entry (container_at pool.containers s) w) (sym at) (own_others w (let low = places.takes.number.within in omega (arith, low, past)));
         kept = λ b. subst (λ s. (fin.get new.kept b ≡ fin.get pool.kept b) ⊎ MayTake pool.map pool.containers s b) (sym at) (kept_placed b);
         shape = subst (λ s. HasShapeOf (container_at pool.containers s) (container_at new.containers s)) (sym at) shape_placed;
         others = λ s other. ap (λ (slots : Slots). container_at slots s) put

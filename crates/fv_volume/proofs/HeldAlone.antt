@@ -1,5 +1,5 @@
--- A volume of a session that has nothing in memory: alone it keeps the rules of soundness, and what a view tells of it is the volume.
-use Rattle.std.proofs.Common.{◌≡◌, ◌≢◌, ℕ, ◌+◌, ◌<◌, ◌≤◌, Bool, true, false, not, ◌&&◌, ◌||◌, List, [], ◌∷◌, Option, Some, None, refl, sym, ap, subst, ◌∙◌, arith, length}
+-- A volume of a session that has nothing in memory: with all its roots it keeps the rules of soundness, and what a view tells of it is the volume.
+use Rattle.std.proofs.Common.{◌≡◌, ◌≢◌, ℕ, ◌+◌, ◌<◌, ◌≤◌, Bool, true, false, not, ◌&&◌, ◌||◌, List, [], ◌∷◌, Option, Some, None, inl, inr, refl, sym, ap, subst, ◌∙◌, arith, length}
 use Rattle.std.specs.Prelude.{IfSome, nat_le, nat_lt, map, take, ◌==◌}
 use Rattle.std.specs.List.{list_all}
 use Rattle.std.specs.Option.{option_and_then, option_map_or}
@@ -16,24 +16,22 @@ use Rattle.fv_model.specs.Places.{id_cmp}
 use Rattle.fv_model.specs.Space.{base_ids, commits, use_of}
 use Rattle.fv_model.specs.Tables.{empty_table}
 use Rattle.fv_model.specs.Volumes.{Volume}
-use Rattle.fv_tables.specs.Reached.{Item, is_listed, items}
-use Rattle.fv_tables.specs.Spelled.{hole, pointer_at, stored}
+use Rattle.fv_tables.specs.Reached.{Item, items}
+use Rattle.fv_tables.specs.Spelled.{Under, hole, pointer_at, stored}
 use Rattle.fv_tables.specs.Told.{file_at, file_told, records, standing_at, table_told}
 use Rattle.fv_tables.proofs.Lists.{all_of_range}
 use Rattle.fv_tables.proofs.Tables.{kept_records}
-use Rattle.fv_tree.specs.Standing.{under as blocks_of}
-use Rattle.fv_files.specs.declared.files.Files.{Files}
 use Rattle.fv_files.specs.Numbering.{AreNumbersIf}
-use Rattle.fv_files.specs.Tables.{IsStoredUnder}
+use Rattle.fv_laws.proofs.Lists.{In}
 use Rattle.fv_laws.specs.WellFormed.{IsWellTable}
 use Rattle.fv_image.specs.Chains.{under}
 use Rattle.fv_image.specs.Held.{Layout, layout_at}
 use Rattle.fv_image.specs.ReachRules.{all_volumes, are_distinct}
-use Rattle.fv_image.specs.Seen.{Reached, Root, VolumeSeen, reached_at, seen, volume_seen}
+use Rattle.fv_image.specs.Seen.{Reached, Root, VolumeSeen, reached_at, root_seen, roots_of, seen, volume_seen}
 use Rattle.fv_image.specs.Soundness.{AreTables}
 use Rattle.fv_image.specs.TableRules.{are_levels, is_cell_of}
 use Rattle.fv_image.specs.VolumeRules.{comes_to_end, commits_seen, has_commits_in_capacity, has_use_in_size, has_wide_spans}
-use Rattle.fv_image.specs.Views.{Footing, Head, View, slots}
+use Rattle.fv_image.specs.Views.{Footing, Head, Rooted, Snap, View, slots}
 use Rattle.fv_image.specs.Volumes.{active_at, named_with, standing_of, table_at, volume_told, volume_with}
 use Rattle.fv_image.proofs.Committed.{commits_told}
 use Rattle.fv_image.proofs.LoneTables.{form_base, form_snapshots}
@@ -41,31 +39,30 @@ use Rattle.fv_image.proofs.SameSeen.{seen_at}
 use Rattle.fv_root.specs.Finding.{root_found}
 use Rattle.fv_container.specs.declared.entry.Entry.{Entry}
 use Rattle.fv_container.specs.Chains.{container_at, own_entry, parent_at}
-use Rattle.fv_volmap.specs.Slots.{active_of}
+use Rattle.fv_volmap.specs.Slots.{IsVolume, has, slot_at}
 use Rattle.fv_volume.specs.declared.pool.Pool.{Pool}
 use Rattle.fv_volume.specs.declared.state.VolumeState.{VolumeState}
 use Rattle.fv_volume.specs.Files.{AreStates, IsState, has_form}
 use Rattle.fv_volume.specs.Numbering.{AreNumbersSeen}
-use Rattle.fv_volume.specs.OneVolume.{shows, standing_by, table_for, volume_for, IsReady, IsStanding}
-use Rattle.fv_volume.specs.Placing.{AreStoredBy, IsLedTo, IsStoredWell}
+use Rattle.fv_volume.specs.OneVolume.{blocks_in, table_for, volume_for, IsReady, IsStanding, RootStands}
+use Rattle.fv_volume.specs.Placing.{IsLedTo, IsStoredWell}
 use Rattle.fv_volume.specs.Slots.{sum_of}
-use Rattle.fv_volume.specs.States.{States, head_in, parent_in, state_at, table_in, view_over}
+use Rattle.fv_volume.specs.States.{States, head_in, parent_in, rooted_as, state_at, view_over}
 use Rattle.fv_volume.specs.Trees.{active_in, no_trees}
 use Rattle.fv_volume.proofs.Distinct.{same_names}
 use Rattle.fv_volume.proofs.Made.{commits_are}
-use Rattle.fv_volume.proofs.Reached.{standing_reach}
-use Rattle.fv_volume.proofs.Standings.{agree, standing_reached, standing_state, standing_table, standing_volume}
+use Rattle.fv_volume.proofs.Reached.{roots_stand, standing_reach}
+use Rattle.fv_volume.proofs.Shows.{slot_below}
+use Rattle.fv_volume.proofs.Standings.{root_agrees, standing_state, standing_table, standing_volume}
 use Rattle.fv_volume.proofs.Told.{head_there, is_inside}
 use Rattle.fv_volume.proofs.Trees.{unchanged_machine}
 use Rattle.fv_volume.proofs.Facts.{are_ruled, led_by}
 use Rattle.fv_volume.proofs.PlacedIn.{alone_by, own_has}
 use Rattle.fv_volume.proofs.Records.{all_records, cell_below, file_levels, file_there, inode_levels, names_apart}
-use Rattle.fv_bits.specs.Members.{is_member}
-use Rattle.fv_laws.specs.Positions.{HasNoReserve}
-use Rattle.fv_volume.proofs.Ruled.{AreRuled, IsRuled, lone, owner_number, seen_lone}
+use Rattle.fv_volume.proofs.Ruled.{AreOneToOne, AreRuled, IsRuled, of_roots, one_itself, owner_number}
 use Rattle.fv_disk.specs.Shown.{Image}
 use Rattle.fv_volume.specs.Held.{named_held, IsHeldIn}
-use Rattle.fv_volume.specs.Housed.{AreHoused}
+use Rattle.fv_volume.specs.Housed.{AreHoused, ReachesAll}
 use Rattle.fv_volume.specs.Files.{IsLabelled}
 use Rattle.fv_volume.specs.Stored.{AreSpacedIn}
 use Rattle.fv_volume.specs.UnderRoot.{IsLentAt}
@@ -79,9 +76,6 @@ at_most a b le = grind (arith, nat_tests, le)
 at_least : (a b : ℕ) → nat_le a b ≡ true → a ≤ b
 at_least a b test = grind (arith, nat_tests, test)
 
-one_root : (b : Bool) → b ≡ true → (b && true) ≡ true
-one_root b is = and_from b true is refl
-
 -- ---- the volumes of the slots
 
 module _ (states : States) (labelled : (s : ℕ) → IfSome (state_at states s) (IsLabelled s)) where
@@ -93,8 +87,8 @@ module _ (states : States) (labelled : (s : ℕ) → IfSome (state_at states s) 
       by None e is = nothing s
       by (Some x) e is = subst (λ (n : ℕ). P n (Some x)) is.slot_is (some x (ap (state_at states) is.slot_is ∙ e))
 
-  -- what holds of each volume alone holds of all that a view over them tells
-  pub all_seen : (pool : Pool) (i : Image) (test : ℕ → VolumeSeen → Bool) → ((x : VolumeState) → state_at states x.slot ≡ Some x → test x.slot (lone (view_over pool states i) x.slot (head_in x)) ≡ true) → all_volumes (seen (view_over pool states i)) test ≡ true
+  -- what holds of each volume holds of all that a view over them tells
+  pub all_seen : (pool : Pool) (i : Image) (test : ℕ → VolumeSeen → Bool) → ((x : VolumeState) → state_at states x.slot ≡ Some x → test x.slot (volume_seen (view_over pool states i) x.slot (head_in x)) ≡ true) → all_volumes (seen (view_over pool states i)) test ≡ true
   unfolding slots seen view_over
   all_seen pool i test each = all_of_range (λ s. option_map_or (test s) ((seen (view_over pool states i)).volume s) true) 0 64 (λ s low high.
       of_each (λ s o. state_at states s ≡ o → s < 64 → option_map_or (test s) ((seen (view_over pool states i)).volume s) true ≡ true) without with s refl (omega (arith, high)))
@@ -104,9 +98,7 @@ module _ (states : States) (labelled : (s : ℕ) → IfSome (state_at states s) 
 
       with : (x : VolumeState) → state_at states x.slot ≡ Some x → state_at states x.slot ≡ Some x → x.slot < 64 → option_map_or (test x.slot) ((seen (view_over pool states i)).volume x.slot) true ≡ true
       with x there e low =
-          let form : has_form (head_in x) ≡ true = (subst (λ (o : Option VolumeState). IfSome o (IsLabelled x.slot)) there (labelled x.slot)).form in
-          ap (λ (o : Option VolumeSeen). option_map_or (test x.slot) o true) (seen_at (view_over pool states i) x.slot (head_in x) low (head_there pool states i x.slot x there))
-          ∙ ap (test x.slot) (seen_lone (view_over pool states i) x.slot (head_in x) (form_snapshots (head_in x) form) (form_base (head_in x) form)) ∙ each x there
+          ap (λ (o : Option VolumeSeen). option_map_or (test x.slot) o true) (seen_at (view_over pool states i) x.slot (head_in x) low (head_there pool states i x.slot x there)) ∙ each x there
 
 -- all that volumes of a view commit
 pub commits_in_view : (pool : Pool) (states : States) (i : Image) → length states ≡ 64 → AreStates (view_over pool states i) no_trees states → commits_seen (seen (view_over pool states i)) ≡ sum_of states
@@ -118,7 +110,7 @@ commits_in_view pool states i long are =
 -- ---- a volume with nothing of it in memory
 
 module _ (disk : Shown) (pool : Pool) (states : States) (housed : AreHoused pool.containers states) (at_slots : (s : ℕ) → s < 64 → IsLentAt disk.reads pool.found s (state_at states s) (container_at pool.containers s)) (spaced : AreSpacedIn pool.found.blocks pool.map.next (state_at states) (container_at pool.containers))
-    (x : VolumeState) (there : state_at states x.slot ≡ Some x) (one : IsHeldIn disk pool x.slot x) (no_files : x.files ≡ None) (long : length (active_of x.map) ≡ x.map.span) where
+    (x : VolumeState) (there : state_at states x.slot ≡ Some x) (one : IsHeldIn disk pool x.slot x) (no_files : x.files ≡ None) (whole : IsVolume x.map) where
   abbrev w : View
   w = view_over pool states disk.reads
 
@@ -128,11 +120,14 @@ module _ (disk : Shown) (pool : Pool) (states : States) (housed : AreHoused pool
   abbrev s : ℕ
   s = x.slot
 
-  pub form : has_form h ≡ true
+  form : has_form h ≡ true
   form = one.ready.labelled.form
 
-  pub alone : parent_at pool.containers s ≡ None
-  alone = housed.parents s ∙ ap parent_in there ∙ alone_by x.base (form_base h form)
+  base : h.base ≡ None
+  base = form_base h form
+
+  alone : parent_at pool.containers s ≡ None
+  alone = housed.parents s ∙ ap parent_in there ∙ alone_by x.base base
 
   here : w.head s ≡ Some h
   here = head_there pool states disk.reads s x there
@@ -140,71 +135,119 @@ module _ (disk : Shown) (pool : Pool) (states : States) (housed : AreHoused pool
   inside : s < 64
   inside = is_inside states s x housed.long there
 
-  pub own : (v : ℕ) (e : Entry) → own_entry (container_at pool.containers s) v ≡ Some e → (first_block pool.found.blocks ≤ e.pvbn) × (e.pvbn < pool.found.blocks)
+  own : (v : ℕ) (e : Entry) → own_entry (container_at pool.containers s) v ≡ Some e → (first_block pool.found.blocks ≤ e.pvbn) × (e.pvbn < pool.found.blocks)
   own v e at = (spaced.held s e.pvbn inside (own_has disk pool states housed at_slots s x there e.pvbn (record { vvbn = v; entry = e; stands = at; leads = refl }))).1
 
-  pub stored_well : IsStoredUnder (blocks_of (shows disk pool x)) x.active.levels x.active.root
-  stored_well = subst (AreStoredBy (blocks_of (shows disk pool x)) x.active) no_files one.well
+  -- ---- its roots
 
-  abbrev pub led : Option ℕ → ℕ → ℕ → Pointer
-  led = led_by disk pool states x one.stands no_files there alone form long one.ready.labelled.map own stored_well
+  abbrev IsRoot : ℕ → Rooted → Type 0
+  IsRoot k r = In {X = ℕ × Rooted} (k, r) (roots_of h)
 
-  pub ruled : AreRuled w s h led
-  ruled = are_ruled disk pool states x one.stands no_files there alone form long one.ready.labelled.map own stored_well
+  stood : (k : ℕ) (r : Rooted) → IsRoot k r → RootStands disk pool x k (rooted_as r)
+  stood = roots_stand disk pool x one.stands no_files one.led one.well
 
-  told_table : IsWellTable x.now (table_told (standing_at (blocks_of (shows disk pool x)) x.active.levels x.active.root))
-  told_table = subst (λ (o : Option Files). IsWellTable x.now (table_told (standing_by (blocks_of (shows disk pool x)) x.active o))) no_files one.stands.table
+  in_span : (k v : ℕ) → has v (slot_at x.map k) ≡ true → v < x.span
+  in_span k v member = let low = slot_below x.map whole k v member in let same = one.ready.labelled.map in omega (arith, low, same)
 
-  -- what holds of each record holds of all that the view has
-  of_records : (p : ℕ × InodeRecord → Bool) → ((n : ℕ) (r : InodeRecord) → file_at (stored (blocks_of (shows disk pool x)) greatest_word x.active.levels x.active.root) n ≡ Some r → p (n, r) ≡ true) → list_all p (records (standing_of w s h.active)) ≡ true
-  of_records p each = subst (λ (rs : List (ℕ × InodeRecord)). list_all p rs ≡ true) (sym (kept_records (blocks_of (shows disk pool x)) (under w s) x.active.levels x.active.root (agree disk pool states x one.stands no_files there alone form)))
-      (all_records x.now (blocks_of (shows disk pool x)) x.active.levels x.active.root told_table p each)
+  abbrev pub led : ℕ → Rooted → Option ℕ → ℕ → ℕ → Pointer
+  led k r = led_by (blocks_in disk pool x k) (rooted_as r)
 
-  pub files_rule : list_all (λ (r : Root). are_distinct (map (λ (f : ℕ × InodeRecord). take f.1.name_length f.1.name) r.files)) (lone w s h).roots ≡ true
-  files_rule = one_root _ (subst (λ (rs : List (ℕ × InodeRecord)). are_distinct (map (λ (f : ℕ × InodeRecord). take f.1.name_length f.1.name) rs) ≡ true)
-      (sym (kept_records (blocks_of (shows disk pool x)) (under w s) x.active.levels x.active.root (agree disk pool states x one.stands no_files there alone form)))
-      (names_apart x.now (blocks_of (shows disk pool x)) x.active.levels x.active.root told_table))
+  pub ruled : (k : ℕ) (r : Rooted) → IsRoot k r → AreRuled w s h r (led k r)
+  ruled k r is = are_ruled disk pool states x k (rooted_as r) (stood k r is) there alone base (in_span k) own
 
-  pub levels_rule : list_all (λ (r : Root). are_levels 0 r.rooted.levels r.rooted.root.stamp && list_all (λ (f : ℕ × InodeRecord). are_levels f.1.reserve f.1.levels f.1.root.stamp) r.files) (lone w s h).roots ≡ true
-  levels_rule = one_root _ (and_from (are_levels 0 x.active.levels x.active.root.stamp) _ (inode_levels x.now (blocks_of (shows disk pool x)) x.active.levels x.active.root told_table)
-      (of_records (λ f. are_levels f.1.reserve f.1.levels f.1.root.stamp) (λ n r found. file_levels x.now (blocks_of (shows disk pool x)) x.active.levels x.active.root told_table n r found)))
-
-  -- a cell of a file lies below its length
-  cell_rule : (n : ℕ) (r : InodeRecord) → file_at (stored (blocks_of (shows disk pool x)) greatest_word x.active.levels x.active.root) n ≡ Some r → (e : Item) → IsRuled w s h led e → (not (is_cell_of n e) || nat_lt e.place r.length) ≡ true
-  cell_rule n r found e k = by (is_cell_of n e) refl
+  -- ids of one table are those of its VVBNs, and without snapshots there is one table
+  pub one_to_one : (k : ℕ) (r : Rooted) (j : ℕ) (q : Rooted) → IsRoot k r → IsRoot j q → AreOneToOne (led k r) (led j q)
+  one_to_one k r j q one two = subst (λ (p : ℕ × Rooted). AreOneToOne (led k r) (led p.0 p.1)) (sym (only k r one) ∙ only j q two) (one_itself w s h r (led k r) (ruled k r one))
     where
-      below : (a b : ℕ) → a < b → nat_lt a b ≡ true
-      below a b low = grind (arith, nat_tests, low)
+      only : (k : ℕ) (r : Rooted) → IsRoot k r → ◌≡◌ {A = ℕ × Rooted} (0, h.active) (k, r)
+      only k r (inl same) = same
+      only k r (inr there) = absurd (subst (λ (ps : List Snap). In {X = ℕ × Rooted} (k, r) (map (λ (p : Snap). (p.slot, p.table)) ps)) (form_snapshots h form) there)
 
-      meant : (a b : ℕ) → (a == b) ≡ true → a ≡ b
-      meant a b e = grind (arith, nat_tests, e)
+  -- ---- the table of a root
 
-      lies : (a : Option ℕ) → owner_number a ≡ n → e.pointer ≡ led a 0 e.place → e.place < r.length
-      lies None same at = let few = told_table.numbers n _ (file_there x.now (blocks_of (shows disk pool x)) x.active.levels x.active.root told_table n r found) in absurd (omega (arith, few, same))
-      lies (Some m) same at =
-          let p : Pointer = pointer_at (stored (blocks_of (shows disk pool x)) n r.levels r.root) 0 e.place in
-          let is : e.pointer ≡ p = at ∙ ap (λ (i : ℕ). led (Some i) 0 e.place) same ∙ ap (λ (o : Option InodeRecord). option_map_or (λ r. pointer_at (stored (blocks_of (shows disk pool x)) n r.levels r.root) 0 e.place) o hole) found in
-          let some : p.stamp ≢ 0 = subst (λ (q : Pointer). q.stamp ≢ 0) is k.some in
-          cell_below x.now (blocks_of (shows disk pool x)) x.active.levels x.active.root told_table n r found e.place some
-          (((standing_reached disk pool states x one.stands no_files there alone form).files n r found).held 0 e.place some)
+  module _ (k : ℕ) (r : Rooted) (is : IsRoot k r) where
+    abbrev blocks : Under
+    blocks = blocks_in disk pool x k
 
-      by : (b : Bool) → is_cell_of n e ≡ b → (not b || nat_lt e.place r.length) ≡ true
-      by false isnt = refl
-      by true is =
-          let parts = and_parts (e.owner == n) (e.level == 0) is in
-          below e.place r.length (lies k.from (sym k.owner ∙ meant e.owner n parts.0) (k.stands ∙ ap (λ (l : ℕ). led k.from l e.place) (meant e.level 0 parts.1)))
+    root : RootStands disk pool x k (rooted_as r)
+    root = stood k r is
 
-  pub cells_rule : list_all (λ (r : Root). list_all (λ (f : ℕ × InodeRecord). list_all (λ (e : Reached). not (is_cell_of f.0 e.item) || nat_lt e.item.place f.1.length) r.reached) r.files) (lone w s h).roots ≡ true
-  cells_rule = one_root _ (of_records (λ f. list_all (λ (e : Reached). not (is_cell_of f.0 e.item) || nat_lt e.item.place f.1.length) (map (reached_at w s) (items (standing_of w s h.active))))
-      (λ n r found. list_all-map (λ (e : Reached). not (is_cell_of n e.item) || nat_lt e.item.place r.length) (reached_at w s) (items (standing_of w s h.active))
-      ∙ ruled.each (λ e. not (is_cell_of n e) || nat_lt e.place r.length) (cell_rule n r found)))
+    told_table : IsWellTable x.now (table_told (standing_at blocks r.levels r.root))
+    told_table = root.table
+
+    same_records : records (standing_of w s r) ≡ records (standing_at blocks r.levels r.root)
+    same_records = kept_records blocks (under w s) r.levels r.root (root_agrees disk pool states x there alone base k (rooted_as r) root.trees)
+
+    -- what holds of each record holds of all that the view has
+    of_records : (p : ℕ × InodeRecord → Bool) → ((n : ℕ) (f : InodeRecord) → file_at (stored blocks greatest_word r.levels r.root) n ≡ Some f → p (n, f) ≡ true) → list_all p (records (standing_of w s r)) ≡ true
+    of_records p each = subst (λ (rs : List (ℕ × InodeRecord)). list_all p rs ≡ true) (sym same_records) (all_records x.now blocks r.levels r.root told_table p each)
+
+    names_there : are_distinct (map (λ (f : ℕ × InodeRecord). take f.1.name_length f.1.name) (records (standing_of w s r))) ≡ true
+    names_there = subst (λ (rs : List (ℕ × InodeRecord)). are_distinct (map (λ (f : ℕ × InodeRecord). take f.1.name_length f.1.name) rs) ≡ true) (sym same_records) (names_apart x.now blocks r.levels r.root told_table)
+
+    levels_there : (are_levels 0 r.levels r.root.stamp && list_all (λ (f : ℕ × InodeRecord). are_levels f.1.reserve f.1.levels f.1.root.stamp) (records (standing_of w s r))) ≡ true
+    levels_there = and_from (are_levels 0 r.levels r.root.stamp) _ (inode_levels x.now blocks r.levels r.root told_table)
+        (of_records (λ f. are_levels f.1.reserve f.1.levels f.1.root.stamp) (λ n f found. file_levels x.now blocks r.levels r.root told_table n f found))
+
+    -- a cell of a file lies below its length
+    cell_there : (n : ℕ) (f : InodeRecord) → file_at (stored blocks greatest_word r.levels r.root) n ≡ Some f → (e : Item) → IsRuled w s h (led k r) e → (not (is_cell_of n e) || nat_lt e.place f.length) ≡ true
+    cell_there n f found e known = by (is_cell_of n e) refl
+      where
+        below : (a b : ℕ) → a < b → nat_lt a b ≡ true
+        below a b low = grind (arith, nat_tests, low)
+
+        meant : (a b : ℕ) → (a == b) ≡ true → a ≡ b
+        meant a b e = grind (arith, nat_tests, e)
+
+        lies : (a : Option ℕ) → owner_number a ≡ n → e.pointer ≡ led k r a 0 e.place → e.place < f.length
+        lies None same at = let few = told_table.numbers n _ (file_there x.now blocks r.levels r.root told_table n f found) in absurd (omega (arith, few, same))
+        lies (Some m) same at =
+            let p : Pointer = pointer_at (stored blocks n f.levels f.root) 0 e.place in
+            let is : e.pointer ≡ p = at ∙ ap (λ (i : ℕ). led k r (Some i) 0 e.place) same ∙ ap (λ (o : Option InodeRecord). option_map_or (λ (f : InodeRecord). pointer_at (stored blocks n f.levels f.root) 0 e.place) o hole) found in
+            let some : p.stamp ≢ 0 = subst (λ (q : Pointer). q.stamp ≢ 0) is known.some in
+            cell_below x.now blocks r.levels r.root told_table n f found e.place some ((root.trees.files n f found).held 0 e.place some)
+
+        by : (b : Bool) → is_cell_of n e ≡ b → (not b || nat_lt e.place f.length) ≡ true
+        by false isnt = refl
+        by true is =
+            let parts = and_parts (e.owner == n) (e.level == 0) is in
+            below e.place f.length (lies known.from (sym known.owner ∙ meant e.owner n parts.0) (known.stands ∙ ap (λ (l : ℕ). led k r known.from l e.place) (meant e.level 0 parts.1)))
+
+    cells_there : list_all (λ (f : ℕ × InodeRecord). list_all (λ (e : Reached). not (is_cell_of f.0 e.item) || nat_lt e.item.place f.1.length) (map (reached_at w s) (items (standing_of w s r)))) (records (standing_of w s r)) ≡ true
+    cells_there = of_records (λ f. list_all (λ (e : Reached). not (is_cell_of f.0 e.item) || nat_lt e.item.place f.1.length) (map (reached_at w s) (items (standing_of w s r))))
+        (λ n f found. list_all-map (λ (e : Reached). not (is_cell_of n e.item) || nat_lt e.item.place f.length) (reached_at w s) (items (standing_of w s r))
+        ∙ (ruled k r is).each (λ e. not (is_cell_of n e) || nat_lt e.place f.length) (cell_there n f found))
+
+    reserves_there : list_all (λ (f : ℕ × InodeRecord). f.1.reserve == 0) (records (standing_of w s r)) ≡ true
+    unfolding file_told
+    reserves_there = of_records (λ f. f.1.reserve == 0) (λ n f found.
+        let none : f.reserve ≡ 0 = root.reserves n _ (file_there x.now blocks r.levels r.root told_table n f found) in
+        grind (arith, nat_tests, none))
+
+  -- ---- the rules on its tables
+
+  pub files_rule : list_all (λ (r : Root). are_distinct (map (λ (f : ℕ × InodeRecord). take f.1.name_length f.1.name) r.files)) (volume_seen w s h).roots ≡ true
+  unfolding root_seen
+  files_rule = of_roots w s h led ruled (λ (r : Root). are_distinct (map (λ (f : ℕ × InodeRecord). take f.1.name_length f.1.name) r.files)) names_there
+
+  pub levels_rule : list_all (λ (r : Root). are_levels 0 r.rooted.levels r.rooted.root.stamp && list_all (λ (f : ℕ × InodeRecord). are_levels f.1.reserve f.1.levels f.1.root.stamp) r.files) (volume_seen w s h).roots ≡ true
+  unfolding root_seen
+  levels_rule = of_roots w s h led ruled (λ (r : Root). are_levels 0 r.rooted.levels r.rooted.root.stamp && list_all (λ (f : ℕ × InodeRecord). are_levels f.1.reserve f.1.levels f.1.root.stamp) r.files) levels_there
+
+  pub cells_rule : list_all (λ (r : Root). list_all (λ (f : ℕ × InodeRecord). list_all (λ (e : Reached). not (is_cell_of f.0 e.item) || nat_lt e.item.place f.1.length) r.reached) r.files) (volume_seen w s h).roots ≡ true
+  unfolding root_seen
+  cells_rule = of_roots w s h led ruled (λ (r : Root). list_all (λ (f : ℕ × InodeRecord). list_all (λ (e : Reached). not (is_cell_of f.0 e.item) || nat_lt e.item.place f.1.length) r.reached) r.files) cells_there
+
+  pub reserve_rule : list_all (λ (r : Root). list_all (λ (f : ℕ × InodeRecord). f.1.reserve == 0) r.files) (volume_seen w s h).roots ≡ true
+  unfolding root_seen
+  reserve_rule = of_roots w s h led ruled (λ (r : Root). list_all (λ (f : ℕ × InodeRecord). f.1.reserve == 0) r.files) reserves_there
 
   -- the volume that the view tells
   table_is : active_in w no_trees s ≡ table_at w s h.active
   table_is = ap (λ (o : Option Head). option_map_or (λ h. table_at w s h.active) o empty_table) here
 
   volume_is : volume_told w s h ≡ volume_for disk pool x
-  volume_is = ap (volume_with w s h) (sym table_is) ∙ standing_volume disk pool states x one.stands no_files there alone form
+  volume_is = ap (volume_with w s h) (sym table_is) ∙ standing_volume disk pool states x there alone base one.stands no_files
 
   pub wide_rule : nat_le (h.most + (set.len (base_ids (volume_told w s h).base) + 256)) h.span ≡ true
   wide_rule =
@@ -224,18 +267,11 @@ module _ (disk : Shown) (pool : Pool) (states : States) (housed : AreHoused pool
   pub footing_rule : comes_to_end (seen w) 64 x.slot ≡ true
   unfolding comes_to_end volume_seen
   footing_rule = ap (λ (o : Option Footing). option_map_or (λ b. comes_to_end (seen w) 63 b.parent) o true)
-      (ap (λ (o : Option VolumeSeen). option_and_then (λ y. y.head.base) o) (seen_at w x.slot h inside here) ∙ form_base h form)
-
-  pub reserve_rule : list_all (λ (r : Root). list_all (λ (f : ℕ × InodeRecord). f.1.reserve == 0) r.files) (lone w s h).roots ≡ true
-  unfolding file_told
-  reserve_rule = one_root _ (of_records (λ f. f.1.reserve == 0) (λ n r found.
-      let none : r.reserve ≡ 0 = subst (λ (o : Option Files). HasNoReserve (table_told (standing_by (blocks_of (shows disk pool x)) x.active o))) no_files one.stands.reserves n _
-      (file_there x.now (blocks_of (shows disk pool x)) x.active.levels x.active.root told_table n r found) in
-      grind (arith, nat_tests, none)))
+      (ap (λ (o : Option VolumeSeen). option_and_then (λ y. y.head.base) o) (seen_at w x.slot h inside here) ∙ base)
 
   -- the view tells its table
   pub table_seen : active_in w no_trees s ≡ table_for disk pool x
-  table_seen = standing_table disk pool states x one.stands no_files there alone form
+  table_seen = standing_table disk pool states x there alone base one.stands no_files
 
   -- which has the numbers of its files in memory,
   pub numbers_seen : AreNumbersSeen w s (Some x)
@@ -243,11 +279,11 @@ module _ (disk : Shown) (pool : Pool) (states : States) (housed : AreHoused pool
 
   -- and it as it is,
   pub state_is : IsState w no_trees s x
-  state_is = standing_state disk pool states x one.stands no_files there alone form one.ready.labelled
+  state_is = standing_state disk pool states x there alone base one.stands no_files one.ready.labelled
 
   -- with what it reaches,
-  pub reach_is : (v : ℕ) → is_member (active_of x.map) v ≡ is_listed (items (standing_of w s (table_in x.active))) v
-  reach_is = standing_reach disk pool states x one.stands no_files there alone form one.led
+  pub reach_is : ReachesAll w s x
+  reach_is = standing_reach disk pool states x there alone base one.stands no_files one.led
 
   -- and with its name
   pub named_is : named_held disk pool (Some x) ≡ named_with w (active_at w) s (Some h)
@@ -272,20 +308,18 @@ module _ (pool : Pool) (states : States) (i : Image) (long : length states ≡ 6
 
   -- its span is wide enough for all that it may grow to
   seen_wide : x.most + 256 ≤ x.span
-  unfolding has_wide_spans
+  unfolding has_wide_spans volume_seen
   seen_wide = by (set.len (base_ids (volume_told seen_by s head).base))
-      (subst (λ (y : VolumeSeen). nat_le (y.head.most + (set.len (base_ids y.volume.base) + 256)) y.head.span ≡ true) (seen_lone seen_by s head (form_snapshots head state.labelled.form) (form_base head state.labelled.form))
-      (of_volume seen_by (λ s y. nat_le (y.head.most + (set.len (base_ids y.volume.base) + 256)) y.head.span) s head tables.spans small stands))
+      (of_volume seen_by (λ s y. nat_le (y.head.most + (set.len (base_ids y.volume.base) + 256)) y.head.span) s head tables.spans small stands)
     where
       by : (n : ℕ) → nat_le (x.most + (n + 256)) x.span ≡ true → x.most + 256 ≤ x.span
       by n test = let enough = at_least (x.most + (n + 256)) x.span test in omega (arith, enough)
 
   -- and it uses at most its size
   seen_within : x.ledger.charge ≤ x.size
-  unfolding has_use_in_size
+  unfolding has_use_in_size volume_seen
   seen_within =
-      let fits = at_least (use_of (volume_told seen_by s head)) x.size (subst (λ (y : VolumeSeen). nat_le (use_of y.volume) y.head.size ≡ true) (seen_lone seen_by s head (form_snapshots head state.labelled.form) (form_base head state.labelled.form))
-      (of_volume seen_by (λ s y. nat_le (use_of y.volume) y.head.size) s head tables.sizes small stands)) in
+      let fits = at_least (use_of (volume_told seen_by s head)) x.size (of_volume seen_by (λ s y. nat_le (use_of y.volume) y.head.size) s head tables.sizes small stands) in
       let table : active_in seen_by no_trees s ≡ table_at seen_by s head.active = ap (λ (o : Option Head). option_map_or (λ h. table_at seen_by s h.active) o empty_table) stands in
       let charged : x.ledger.charge ≡ charge (volume_told seen_by s head) = state.ledger.charged ∙ ap (λ (t : Table). charge (volume_with seen_by s head t)) table in
       omega (arith, fits, charged)

@@ -7,7 +7,7 @@ use Rattle.fv_image.specs.Views.{View}
 use Rattle.fv_root.specs.Formatted.{IsSize}
 use Rattle.fv_store.specs.Held.{StandsOn}
 use Rattle.fv_container.specs.Chains.{container_at}
-use Rattle.fv_volmap.specs.Slots.{active_of, stored_count}
+use Rattle.fv_volmap.specs.Slots.{stored_count, IsVolume}
 use Rattle.fv_files.specs.declared.numbers.FileNumbers.{FileNumbers}
 use Rattle.fv_files.specs.Numbering.{AreNumbersIf}
 use Rattle.fv_volume.specs.declared.pool.Pool.{Pool}
@@ -36,7 +36,7 @@ settled_no_files (Some x) label is = settled_has (λ (y : VolumeState). y.files 
 
 pub settled_whole : (o : Option VolumeState) (label : ℕ) → HasWholeMap o → HasWholeMap (option_map (settled_as label) o)
 settled_whole None label is = tt
-settled_whole (Some x) label is = settled_has (λ (y : VolumeState). length (active_of y.map) ≡ y.map.span) x label (λ e. is) (λ e. is)
+settled_whole (Some x) label is = settled_has (λ (y : VolumeState). IsVolume y.map) x label (λ e. is) (λ e. is)
 
 pub settled_core : (o : Option VolumeState) (label : ℕ) → option_map core_of (option_map (settled_as label) o) ≡ option_map core_of o
 settled_core None label = refl

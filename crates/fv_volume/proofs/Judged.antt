@@ -7,7 +7,7 @@ use Rattle.fv_disk.specs.Shown.{Shown as Disk}
 use Rattle.fv_model.specs.declared.answers.Refusal.TheVariants.{NoFile, Range, TooMany}
 use Rattle.fv_model.specs.declared.commands.Command.{Command}
 use Rattle.fv_model.specs.declared.commands.Command.TheVariants.{Put}
-use Rattle.fv_model.specs.Numbers.{is_index, most_changes, greatest_span}
+use Rattle.fv_model.specs.Numbers.{is_index, most_changes}
 use Rattle.fv_model.specs.Tables.{File, file_named, put}
 use Rattle.fv_model.specs.Machines.{Machine, capacity}
 use Rattle.fv_model.specs.Effects.{stamped}
@@ -29,7 +29,7 @@ use Rattle.fv_volume.specs.Calls.{HasBeside, Reads}
 use Rattle.fv_volume.specs.Changing.{AcceptsPut, FitsLedger, RefusedIn, SpaceSays}
 use Rattle.fv_volume.specs.Charging.{AddsBlocks}
 use Rattle.fv_volume.specs.Labels.{label_said}
-use Rattle.fv_volume.specs.OneVolume.{standing_for, volume_for, IsReady, IsStanding}
+use Rattle.fv_volume.specs.OneVolume.{greatest_charge, standing_for, volume_for, IsReady, IsStanding}
 use Rattle.fv_volume.proofs.Answered.{put_changes, put_far, put_none, put_space}
 use Rattle.fv_volume.proofs.Asked.{file, file_there, found}
 use Rattle.fv_volume.proofs.Changed.{leaves_ledger}
@@ -58,13 +58,13 @@ pub record IsMore (l : Ledger) (count : ℕ) (by : Delta) : Type 0 where
   pub can : CanChange l by
 
 -- a ledger without a need can be changed by few blocks more, or by some fewer
-pub can_more : (l : Ledger) (d : Delta) (r : ℤ) → d.charge ≡ r → (count : ℕ) → l.charge ≤ greatest_span → l.need ≡ 0 → count ≤ 6 → r ≡ pos count → d.need ≡ pos 0 → CanChange l d
+pub can_more : (l : Ledger) (d : Delta) (r : ℤ) → d.charge ≡ r → (count : ℕ) → l.charge ≤ greatest_charge → l.need ≡ 0 → count ≤ 6 → r ≡ pos count → d.need ≡ pos 0 → CanChange l d
 can_more l d r same count low none few charge need = record {
   charge = record { least = omega (arith, ints, same, charge); most = omega (arith, ints, same, low, few, charge) };
   need = record { least = omega (arith, ints, need); most = omega (arith, ints, none, need) };
 }
 
-pub can_fewer : (l : Ledger) (d : Delta) (r : ℤ) → d.charge ≡ r → (count : ℕ) → l.charge ≤ greatest_span → l.need ≡ 0 → count ≤ l.charge → (r +ℤ pos count) ≡ pos 0 → d.need ≡ pos 0 → CanChange l d
+pub can_fewer : (l : Ledger) (d : Delta) (r : ℤ) → d.charge ≡ r → (count : ℕ) → l.charge ≤ greatest_charge → l.need ≡ 0 → count ≤ l.charge → (r +ℤ pos count) ≡ pos 0 → d.need ≡ pos 0 → CanChange l d
 can_fewer l d r same count low none within falls need = record {
   charge = record { least = omega (arith, ints, same, within, falls); most = omega (arith, ints, same, low, falls) };
   need = record { least = omega (arith, ints, need); most = omega (arith, ints, none, need) };

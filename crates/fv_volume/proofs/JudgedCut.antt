@@ -6,7 +6,7 @@ use Rattle.fv_disk.specs.Shown.{Shown as Disk}
 use Rattle.fv_model.specs.declared.answers.Refusal.TheVariants.{AggregateFull, NoFile, Range, TooMany, VolumeFull}
 use Rattle.fv_model.specs.declared.commands.Command.{Command}
 use Rattle.fv_model.specs.declared.commands.Command.TheVariants.{Cut, Remove}
-use Rattle.fv_model.specs.Numbers.{is_reserve, most_changes, greatest_span}
+use Rattle.fv_model.specs.Numbers.{is_reserve, most_changes}
 use Rattle.fv_model.specs.Tables.{File, cut, file_named, rm}
 use Rattle.fv_model.specs.Volumes.{Volume}
 use Rattle.fv_model.specs.Machines.{Machine}
@@ -27,7 +27,7 @@ use Rattle.fv_volume.specs.declared.pool.Pool.{Pool}
 use Rattle.fv_volume.specs.declared.state.VolumeState.{VolumeState}
 use Rattle.fv_volume.specs.Calls.{Has, HasWithin}
 use Rattle.fv_volume.specs.Changing.{AcceptsCut, AcceptsRemoval, FitsLedger, RefusedIn}
-use Rattle.fv_volume.specs.OneVolume.{standing_for, volume_for, IsReady, IsStanding}
+use Rattle.fv_volume.specs.OneVolume.{greatest_charge, standing_for, volume_for, IsReady, IsStanding}
 use Rattle.fv_volume.proofs.Answered.{cut_changes, cut_far, cut_none, cut_past, cut_space, rm_changes, rm_none, rm_space}
 use Rattle.fv_volume.proofs.Asked.{file, file_there, found, long}
 use Rattle.fv_volume.proofs.Charging.{cut_change, rm_change}
@@ -108,7 +108,7 @@ fewer_fits d p x by ready more can less need size kind = record {
     kind = moved.kind ∙ kind ∙ ready.booked.kind;
     span = moved.span ∙ ready.booked.span;
     need = (let was = ready.booked.need in let now = moved.need in let e : l.need ≡ 0 = omega (arith, ints, was, now, need) in e);
-    charge = (let was = ready.booked.charge in let now = moved.charge in let e : l.charge ≤ greatest_span = omega (arith, ints, was, now, less) in e);
+    charge = (let was = ready.booked.charge in let now = moved.charge in let e : l.charge ≤ greatest_charge = omega (arith, ints, was, now, less) in e);
   };
 }
 

@@ -8,9 +8,7 @@ use Rattle.fv_disk.specs.Shown.{Image}
 use Rattle.fv_codec.specs.declared.label.Label.{Label}
 use Rattle.fv_codec.specs.Blocks.{label_at}
 use Rattle.fv_image.specs.Containers.{shaped}
-use Rattle.fv_bits.specs.Members.{is_member}
-use Rattle.fv_volmap.specs.Slots.{active_of}
-use Rattle.fv_image.specs.Views.{entry_count, head_of, volume_bit}
+use Rattle.fv_image.specs.Views.{entry_count, head_of, snaps_from}
 use Rattle.fv_image.specs.Held.{label_in, label_place, lying_at, view_at}
 use Rattle.fv_disk.specs.declared.fault.BlockFault.{BlockFault}
 use Rattle.fv_disk.specs.declared.fault.BlockFault.TheVariants.{DiskFault, Damaged, Memory}
@@ -19,8 +17,10 @@ use Rattle.fv_container.specs.Spelled.{IsFault, Spelled}
 use Rattle.fv_root.specs.declared.find.Found.{Found}
 use Rattle.fv_root.specs.Finding.{root_found}
 use Rattle.fv_volume.specs.declared.state.VolumeState.{VolumeState}
-use Rattle.fv_volume.specs.Loading.{IsBadLabel, IsBadMap, IsContainerOf, IsLoadFault, IsLoaded, form_in, has_delayed, label_of}
-use Rattle.fv_volume.specs.States.{head_in}
+use Rattle.fv_volume.specs.Loading.{HaveBits, IsBadLabel, IsBadMap, IsContainerOf, IsLoadFault, IsLoaded, form_in, has_delayed, label_of}
+use Rattle.fv_volume.specs.declared.state.Snap.{Snap}
+use Rattle.fv_volume.specs.States.{head_in, snaps_in}
+use Rattle.fv_volume.proofs.KeptSlots.{slots_with}
 
 -- a fault that was handed on
 pub handed : {T : Type 0} (P : BlockFault → Type 0) (e : BlockFault) (result : Result T BlockFault) → IsErrAnd result (λ f. f ≡ e) → P e → IfErr result P
@@ -55,13 +55,13 @@ module _ (found : Found) (i : Image) (s : ℕ) (lt : s < 64) where
 
   pub loaded_some : (l : Label) (y : VolumeState) (map : Mapped) (c : Option Mapped) → label_of found i s ≡ Some l → head_in y ≡ head_of l → y.label ≡ get_or found.root.labels s 0 → c ≡ Some map
       → Spelled i l.container l.height map → length map.entries ≡ entry_count l.span → IsMapped map
-      → ((v : ℕ) → is_member (active_of y.map) v ≡ volume_bit (view_at (root_found found) i) s y.span 0 v) → y.changed ≡ has_delayed (active_of y.map) map y.span → IsLoaded i found s (Some y) c
+      → HaveBits (view_at (root_found found) i) s y.span y.map → y.changed ≡ has_delayed y.map map y.span → IsLoaded i found s (Some y) c
   loaded_some l y map c lies head place there spelled size valid bits changed = record {
     head = ap Some head ∙ ap (option_map head_of) (sym lies);
     tree = subst (λ (o : Option Label). IsContainerOf i o c) (sym lies) (subst (IsContainerOf i (Some l)) (sym there) (spelled, (size, valid)));
     label = place ∙ sym place_there;
     bits = bits;
-    changed = subst (λ (o : Option Mapped). IfSome o (λ m. y.changed ≡ has_delayed (active_of y.map) m y.span)) (sym there) changed;
+    changed = subst (λ (o : Option Mapped). IfSome o (λ m. y.changed ≡ has_delayed y.map m y.span)) (sym there) changed;
   }
 
   pub bad_label : (p : ℕ) (e : BlockFault) → p ≡ get_or found.root.labels s 0 → p ≢ 0 → IsBadLabel (i p) p e → IsLoadFault i found e
@@ -79,7 +79,19 @@ module _ (found : Found) (i : Image) (s : ℕ) (lt : s < 64) where
   bad_tree l DiskFault lies bad = tt
   bad_tree l Memory lies bad = tt
 
-  pub bad_map : (l : Label) (map : Mapped) (e : BlockFault) → label_of found i s ≡ Some l → Spelled i l.container l.height map → length map.entries ≡ entry_count l.span → IsBadMap i map l.span e → IsLoadFault i found e
-  bad_map l map (Damaged at want number) lies spelled long bad = inr (inr (record { slot = s; label = l; lies = lies; map = map; spelled = spelled; long = long; fault = bad }))
-  bad_map l map DiskFault lies spelled long bad = tt
-  bad_map l map Memory lies spelled long bad = tt
+  pub bad_map : (l : Label) (map : Mapped) (snaps : List Snap) (e : BlockFault) → label_of found i s ≡ Some l → Spelled i l.container l.height map → length map.entries ≡ entry_count l.span → IsMapped map → snaps_in snaps ≡ snaps_from 1 l.snapshots → IsBadMap i map l.span snaps e → IsLoadFault i found e
+  unfolding head_of
+  bad_map l map snaps (Damaged at want number) lies spelled long valid said bad = inr (inr (record {
+    slot = s;
+    label = l;
+    lies = lies;
+    map = map;
+    spelled = spelled;
+    long = long;
+    valid = valid;
+    map_slot = bad.0;
+    used = sym (slots_with (head_of l) snaps said bad.0) ∙ bad.1.0;
+    fault = bad.1.1;
+  }))
+  bad_map l map snaps DiskFault lies spelled long valid said bad = tt
+  bad_map l map snaps Memory lies spelled long valid said bad = tt

@@ -27,7 +27,7 @@ use Rattle.fv_volume.specs.declared.state.VolumeState.{VolumeState}
 use Rattle.fv_volume.specs.Loading.{IsContainerOf, IsLoaded, label_of}
 use Rattle.fv_volume.specs.States.{head_in}
 use Rattle.fv_volume.specs.Stored.{AreApartIn, is_of}
-use Rattle.fv_volume.specs.UnderRoot.{IsLentAt, IsLentSlot, IsMapOf}
+use Rattle.fv_volume.specs.UnderRoot.{IsLentAt, IsLentSlot, IsMapOf, StandMaps}
 use Rattle.fv_volume.specs.Writing.{HasOwnBlocks, IsTaken, on_disk}
 use Rattle.fv_volume.proofs.Drawing.{at_means, not_so}
 use Rattle.fv_volume.proofs.StillLoaded.{none_loaded, sound_spaced}
@@ -51,23 +51,24 @@ named_some : (places : List ℕ) (b : ℕ) → names places b ≡ true → b ≢
 named_some [] b is = absurd cc
 named_some (p ∷ ps) b is = ⊎_elim (λ (here : is_at b p ≡ true). (at_means b p here).1) (λ (rest : names ps b ≡ true). named_some ps b rest) (or_cases (is_at b p) (names ps b) is)
 
--- A loaded volume whose blocks are apart can be lent.
-pub lent_from_loaded : (i : Image) (found : Found) (s : ℕ) (o : Option VolumeState) (c : Option Mapped) → IsLoaded i found s o c → IfSome o (λ x. IfSome c (AreApartIn x)) → IsLentAt i found s o c
-lent_from_loaded i found s None None is apart = tt
-lent_from_loaded i found s None (Some map) is apart = by (label_of found i s) refl
+-- A loaded volume whose blocks are apart, and whose maps stand, can be lent.
+pub lent_from_loaded : (i : Image) (found : Found) (s : ℕ) (o : Option VolumeState) (c : Option Mapped) → IsLoaded i found s o c → IfSome o (λ x. IfSome c (AreApartIn x)) → IfSome o (λ x. IfSome c (StandMaps i found x)) → IsLentAt i found s o c
+lent_from_loaded i found s None None is apart maps = tt
+lent_from_loaded i found s None (Some map) is apart maps = by (label_of found i s) refl
   where
     by : (l : Option Label) → label_of found i s ≡ l → ⊥
     by None there = (both_or_none i found s None (Some map) None there is).0
     by (Some l) there = none-some (head_of l) (both_or_none i found s None (Some map) (Some l) there is).1
-lent_from_loaded i found s (Some x) None is apart = by (label_of found i s) refl
+lent_from_loaded i found s (Some x) None is apart maps = by (label_of found i s) refl
   where
     by : (l : Option Label) → label_of found i s ≡ l → ⊥
     by None there = none-some (head_in x) (sym (both_or_none i found s (Some x) None None there is).1)
     by (Some l) there = (both_or_none i found s (Some x) None (Some l) there is).0
-lent_from_loaded i found s (Some x) (Some map) is apart = record {
+lent_from_loaded i found s (Some x) (Some map) is apart maps = record {
   label = λ some. is.label;
   nodes = nodes_of i found s (label_of found i s) map refl is.tree;
   apart = apart;
+  maps = maps;
   unchanged = λ unchanged. is;
 }
 

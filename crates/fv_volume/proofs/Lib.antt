@@ -4,7 +4,6 @@ mod Positions
 pub mod Labels
 pub mod Overheads
 pub mod Loaded
-mod Actives
 pub mod Delayed
 pub mod Labelled
 pub mod Stepping
@@ -23,7 +22,6 @@ mod Going
 mod Failing
 pub mod Splits
 pub mod Counted
-pub mod Flushed
 pub mod Found
 pub mod Apart
 pub mod LoadedTables
@@ -70,6 +68,7 @@ mod MadePut
 mod MadeNew
 mod ReadyAgain
 mod DropCauses
+pub mod EachRoot
 pub mod JudgedCut
 mod LeftTables
 mod Calling
@@ -82,6 +81,7 @@ pub mod Placed
 mod PlaceCauses
 pub mod Standings
 pub mod Others
+pub mod OverBlocks
 pub mod Openings
 pub mod NewStanding
 pub mod Reached
@@ -113,4 +113,6 @@ pub mod CountedMaps
 pub mod SnapRecords
 pub mod SnapSlots
 pub mod SlotReads
+pub mod SlotRoots
 pub mod KeptSlots
+pub mod StandingMaps

@@ -1,5 +1,5 @@
 -- What is loaded from a label, as a volume.
-use Rattle.std.proofs.Common.{◌≡◌, ℕ, Bool, nat_eq, map, subst, true, false, List, [], ◌∷◌, length, Some, None, refl, sym, ap, ◌∙◌, arith}
+use Rattle.std.proofs.Common.{◌≡◌, ℕ, Bool, nat_eq, map, subst, true, false, List, [], ◌∷◌, length, suc, ◌≤◌, Some, None, refl, sym, ap, ◌∙◌, arith}
 use Rattle.std.specs.Prelude.{not, ◌==◌, ◌+◌, ◌-◌, ◌&&◌, find, take, replicate, if◌then◌else◌}
 use Rattle.std.specs.Option.{is_none, option_map}
 use Rattle.fv_model.specs.declared.commands.Kind.{Kind}
@@ -8,19 +8,22 @@ use Rattle.fv_image.specs.Told.{has_none}
 use Rattle.fv_codec.proofs.Numbers.{up_to-le}
 use Rattle.fv_volume.specs.declared.state.Snap.{Snap as StateSnap}
 use Rattle.fv_volume.specs.declared.state.VolumeState.{VolumeState}
-use Rattle.fv_volmap.specs.Slots.{stored_count}
-use Rattle.fv_volume.specs.Files.{IsLabelled, has_form, IsOneMap}
+use Rattle.fv_volmap.specs.Slots.{Volume as Maps, stored_count}
+use Rattle.fv_volume.specs.Files.{HasSlotsOf, IsLabelled, has_form}
 use Rattle.fv_volume.proofs.StayingMaps.{no_waits}
-use Rattle.fv_volume.specs.States.{head_in, snap_in}
+use Rattle.fv_volume.specs.States.{head_in, snap_in, snaps_in}
+use Rattle.std.proofs.lemmas.List.{length-map}
 use Rattle.std.proofs.lemmas.Bool.Decides.{nat_tests}
 use Rattle.fv_codec.specs.declared.label.Label.{Label}
 use Rattle.fv_codec.specs.declared.label.SnapRecord.{SnapRecord}
 use Rattle.fv_codec.specs.Blocks.{IsLabel, IsPointer}
-use Rattle.fv_image.specs.Views.{Head, footing_of, head_of, kind_named, snaps_from}
+use Rattle.fv_image.specs.Views.{Head, Snap, footing_of, head_of, kind_named, snaps_from}
 use Rattle.fv_volume.specs.SnapRecords.{AreSayable}
 use Rattle.fv_volume.proofs.Labels.{IsSayable, label_range}
-use Rattle.fv_volume.proofs.MapSlots.{slots_of_one}
 use Rattle.fv_volume.proofs.SnapRecords.{label_sayable}
+use Rattle.fv_volume.proofs.KeptSlots.{slots_read}
+use Rattle.fv_volume.specs.SlotReads.{AreUsedTo}
+use Rattle.fv_image.proofs.LabelSlots.{label_slots}
 use Rattle.fv_volume.specs.Loading.{first_used, form_in, is_used}
 
 -- a label without forms
@@ -125,9 +128,9 @@ sayable l range long y head named =
     }
 
 -- a volume with the head of such a label has its numbers and its name
-pub labelled_from : (l : Label) → IsLabel l → length l.snapshots ≡ 24 → form_in l ≡ None → (y : VolumeState) (slot : ℕ) → y.slot ≡ slot → head_in y ≡ head_of l → y.ledger.span ≡ l.span → is_name y.name ≡ true → y.map.span ≡ y.span → IsOneMap y.map → y.fresh ≡ replicate stored_count false → IsLabelled slot y
+pub labelled_from : (l : Label) → IsLabel l → length l.snapshots ≡ 24 → form_in l ≡ None → (y : VolumeState) (slot : ℕ) → y.slot ≡ slot → head_in y ≡ head_of l → y.ledger.span ≡ l.span → is_name y.name ≡ true → y.map.span ≡ y.span → HasSlotsOf (head_in y) y.map → y.fresh ≡ replicate stored_count false → IsLabelled slot y
 unfolding head_of
-labelled_from l range long none y slot at head ledger named map one settled =
+labelled_from l range long none y slot at head ledger named map slots settled =
     let same : y.span ≡ l.span = ap (λ h. h.span) head in
     let levels : y.active.levels ≡ l.levels = ap (λ h. h.active.levels) head in
     record {
@@ -136,10 +139,34 @@ labelled_from l range long none y slot at head ledger named map one settled =
       span = omega (arith, same, range.span_greatest);
       map = map;
       snapshots = subst AreSayable (sym head) (label_sayable l range long);
-      slots = slots_of_one (head_in y) y.map (ap (λ h. h.snapshots) head ∙ no_snapshots l (bare l none)) one;
+      slots = slots;
       waits = no_waits y settled;
       counts = ledger ∙ sym same;
       levels = omega (arith, levels, range.levels);
       named = named;
       label = label_range y (sayable l range long y head named);
     }
+
+-- records say at most as many snapshots as they are
+few_said : (records : List SnapRecord) (j : ℕ) → length (snaps_from j records) ≤ length records
+unfolding snaps_from
+few_said [] j = omega arith
+few_said (r ∷ rs) j = so (r.name_length == 0) (few_said rs (j + 1))
+  where
+    so : (b : Bool) → length (snaps_from (j + 1) rs) ≤ length rs
+        → length (if b then snaps_from (j + 1) rs else record { slot = j; name = take r.name_length r.name; table = record { levels = r.levels; root = r.root } } ∷ snaps_from (j + 1) rs) ≤ suc (length rs)
+    so true rest = omega (arith, rest)
+    so false rest = omega (arith, rest)
+
+pub few_snaps : (l : Label) (snaps : List StateSnap) → length l.snapshots ≡ 24 → snaps_in snaps ≡ snaps_from 1 l.snapshots → length snaps ≤ 24
+few_snaps l snaps long said =
+    let same : length (snaps_in snaps) ≡ length snaps = length-map snaps snap_in in
+    let equal : length (snaps_in snaps) ≡ length (snaps_from 1 l.snapshots) = ap (λ (ps : List Snap). length ps) said in
+    let few = few_said l.snapshots 1 in
+    omega (arith, same, equal, few, long)
+
+-- the slots that were read are those of the label's snapshots
+pub slots_loaded : (l : Label) (y : VolumeState) (snaps : List StateSnap) (m : Maps) → length l.snapshots ≡ 24 → snaps_in snaps ≡ snaps_from 1 l.snapshots → head_in y ≡ head_of l → y.map ≡ m → AreUsedTo snaps stored_count m → HasSlotsOf (head_in y) y.map
+unfolding head_of
+slots_loaded l y snaps m long said head same used =
+    subst (λ (h : Head). HasSlotsOf h y.map) (sym head) (subst (HasSlotsOf (head_of l)) (sym same) (slots_read (head_of l) snaps m said (label_slots l long) used))

@@ -49,12 +49,11 @@ use Rattle.fv_volume.proofs.Labels.{IsSayable, label_range}
 use Rattle.fv_volume.specs.Slots.{is_named, HasName, HaveSpans, HasSpan, IsFirstFree, IsFull, NoneHasName, sum_of}
 use Rattle.fv_volume.proofs.StayingMaps.{no_waits}
 use Rattle.fv_volume.specs.Files.{AreNamed, AreStates, HasSlotsOf, IsLabelled, IsState, has_form}
-use Rattle.fv_volume.proofs.MapSlots.{slots_of_one}
+use Rattle.fv_volume.proofs.MapSlots.{one_empty, slots_of_one}
 use Rattle.fv_volume.specs.States.{States, empty_head, head_in, ledger_of_empty, placed_in, state_at, view_over, with_state}
 use Rattle.fv_volume.specs.Trees.{Trees, active_by, active_in, machine_in}
 use Rattle.fv_volume.proofs.Told.{Named, AreDistinct, named_from, volume_by, all_named, counted, distinct_from, fewer_named, find_set, head_there, is_inside, ledger_commit, none_named, none_some, same_named, some_named, summed, summed_states, volumes_are}
 use Rattle.fv_volume.proofs.Trees.{told_alike, same_active, same_snaps}
-use Rattle.fv_volume.proofs.Actives.{one_empty}
 
 -- ---- the new volume
 

@@ -1,17 +1,18 @@
 -- How many blocks of maps are written, counted by slots.
-use Rattle.std.proofs.Common.{◌≡◌, ℕ, zero, suc, ◌+◌, ◌-◌, ◌*◌, ◌/◌, ◌<◌, ◌≤◌, Bool, true, false, cond, ◌&&◌, ◌||◌, ◌==◌, get_or, refl, sym, ap, ◌∙◌, arith}
+use Rattle.std.proofs.Common.{◌≡◌, ℕ, zero, suc, ◌+◌, ◌-◌, ◌*◌, ◌/◌, ◌<◌, ◌≤◌, Bool, true, false, [], cond, replicate, ◌&&◌, ◌||◌, ◌==◌, get_or, refl, sym, ap, ◌∙◌, arith}
 use Rattle.std.specs.Prelude.{nat_le, nat_lt}
 use Rattle.std.proofs.Math.Nat.{mul-le-mul_right}
 use Rattle.std.proofs.lemmas.Bool.Decides.{nat_tests}
 use Rattle.fv_bits.proofs.Counts.{none_pass, passing, passing-add, passing-suc, passing_le, passing_same}
-use Rattle.fv_model.specs.Space.{map_blocks, overhead}
+use Rattle.fv_model.specs.Space.{map_blocks}
 use Rattle.fv_image.specs.Views.{entry_count, map_vvbn}
 use Rattle.fv_volmap.specs.Slots.{stored_count}
 use Rattle.fv_volume.specs.declared.state.VolumeState.{VolumeState}
 use Rattle.fv_volume.specs.Files.{IsLabelled}
+use Rattle.fv_volume.specs.States.{head_in}
 use Rattle.fv_volume.specs.Stored.{is_map_written, is_rewritten}
-use Rattle.fv_volume.specs.Writing.{asked, map_count, map_writes}
-use Rattle.fv_volume.proofs.StayingMaps.{map_vvbn_within, rewritten_first, slot_there, writes_none}
+use Rattle.fv_volume.specs.Writing.{map_count, map_wait, map_writes}
+use Rattle.fv_volume.proofs.StayingMaps.{map_vvbn_within, none_fresh, none_marked, slot_there, writes_none}
 
 -- a block of a map is written where its slot's map is
 written_is : (x : VolumeState) (j k : ℕ) → j < stored_count → k < map_blocks x.span → is_map_written x (map_vvbn x.span j k) ≡ is_rewritten x j
@@ -81,13 +82,23 @@ writes_fit x = writes_counted x ∙ by (map_count x.fresh) (passing (is_rewritte
         same : (n m : ℕ) → (1 + n) * m ≡ ((1 + n) - 1) * m + m
         same n m = let less : (1 + n) - 1 ≡ n = omega arith in rw less (let all : (1 + n) * m ≡ n * m + m = omega arith in all)
 
--- without snapshots a volume asks for its overhead
-pub asked_alone : (slot : ℕ) (x : VolumeState) → IsLabelled slot x → asked x ≡ overhead x.span
-asked_alone slot x is =
-    let none : passing (is_rewritten x) 1 24 ≡ 0 = none_pass (is_rewritten x) 1 24 (λ k from. rewritten_first slot x is k (omega (arith, from))) in
+none_wait : (x : VolumeState) → ((k : ℕ) → get_or x.fresh k false ≡ false) → map_wait x ≡ 0
+none_wait x marked =
+    let none : passing (is_rewritten x) 1 24 ≡ 0 = none_pass (is_rewritten x) 1 24 later in
     let less : map_count x.fresh - 1 ≡ 0 = omega (arith, none, first_counted x) in
-    let whole : overhead x.span + 0 * map_blocks x.span ≡ overhead x.span = omega arith in
-    ap (λ (n : ℕ). overhead x.span + n * map_blocks x.span) less ∙ whole
+    let nothing : 0 * map_blocks x.span ≡ 0 = omega arith in
+    ap (λ (n : ℕ). n * map_blocks x.span) less ∙ nothing
+  where
+    later : (k : ℕ) → 1 ≤ k → is_rewritten x k ≡ false
+    later k from = let other : (k == 0) ≡ false = grind (arith, nat_tests, from) in ap (λ (t : Bool). t || get_or x.fresh k false) other ∙ marked k
+
+-- a volume none of whose maps waits asks for its overhead, as one that was read or written
+pub settled_waits : (x : VolumeState) → x.fresh ≡ replicate stored_count false → map_wait x ≡ 0
+settled_waits x settled = none_wait x (none_fresh x.fresh settled)
+
+-- or one without snapshots
+pub alone_waits : (slot : ℕ) (x : VolumeState) → IsLabelled slot x → (head_in x).snapshots ≡ [] → map_wait x ≡ 0
+alone_waits slot x is empty = none_wait x (none_marked slot x is empty)
 
 -- ---- the count by the code
 

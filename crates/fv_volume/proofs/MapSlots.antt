@@ -1,13 +1,13 @@
 -- The slots of a volume's maps against its snapshots.
-use Rattle.std.proofs.Common.{◌≡◌, ◌≢◌, ℕ, false, Some, None, [], List, map, refl, sym, ap, subst, ◌∙◌, ⊎_elim}
-use Rattle.std.specs.Prelude.{◌==◌, ◌&&◌, find, is_some, nat_le, nat_lt}
+use Rattle.std.proofs.Common.{◌≡◌, ◌≢◌, ℕ, zero, suc, replicate, false, Some, None, [], List, map, refl, sym, ap, subst, ◌∙◌, ⊎_elim}
+use Rattle.std.specs.Prelude.{◌==◌, ◌&&◌, find, is_some, nat_le, nat_lt, slice_index_or}
 use Rattle.std.specs.List.{All, list_all}
 use Rattle.std.proofs.lemmas.Bool.{cases_eq}
 use Rattle.fv_image.specs.Views.{Head, Snap}
 use Rattle.fv_image.specs.Volumes.{snap_at}
 use Rattle.fv_image.specs.Mapped.{is_rising, stored_slots}
 use Rattle.fv_image.proofs.LoneTables.{form_snapshots}
-use Rattle.fv_volmap.specs.Slots.{Slot, Volume as Maps, slot_at, slot_of_base}
+use Rattle.fv_volmap.specs.Slots.{Slot, Volume as Maps, empty_volume, slot_at, slot_of_base}
 use Rattle.fv_volume.specs.declared.state.VolumeState.{VolumeState}
 use Rattle.fv_volume.specs.Files.{HasSlotsOf, IsLabelled, IsOneMap}
 use Rattle.fv_volume.specs.SnapRecords.{AreSayable, IsSayableSnap}
@@ -60,3 +60,13 @@ slots_kept h old new same is = record {
   each = λ k other not_base. ap (λ (slot : Slot). is_some slot) (same k other) ∙ is.each k other not_base;
   base = same slot_of_base (λ e. absurd cc) ∙ is.base;
 }
+
+-- A new volume has one map.
+pub one_empty : (span : ℕ) → IsOneMap (empty_volume span)
+one_empty span zero other = absurd (other refl)
+one_empty span (suc k) other = none 25 k
+  where
+    none : (n k : ℕ) → slice_index_or {A = Slot} (replicate n None) k None ≡ None
+    none zero k = refl
+    none (suc n) zero = refl
+    none (suc n) (suc k) = none n k

@@ -28,10 +28,9 @@ use Rattle.fv_volume.specs.States.{States, state_at, view_over}
 use Rattle.fv_volume.specs.Trees.{no_trees}
 use Rattle.fv_volume.proofs.Apart.{loaded_apart}
 use Rattle.fv_volume.proofs.Counted.{counted_within}
-use Rattle.fv_volume.proofs.LoadedStored.{seen_well}
 use Rattle.fv_volume.proofs.LoadedTables.{loaded_stands}
 use Rattle.fv_volume.proofs.OneVolumes.{still_standing}
-use Rattle.fv_volume.proofs.Standings.{seen_led, seen_standing, still_led, still_well}
+use Rattle.fv_volume.proofs.Standings.{seen_led, seen_standing, seen_well, still_led, still_well}
 use Rattle.fv_volume.proofs.Told.{is_inside}
 use Rattle.fv_volume.proofs.Viewed.{loaded_states}
 
@@ -56,7 +55,7 @@ module _ (pool : Pool) (states : States) (kept : KeptTo slot_count states pool.c
       let housed = housed_entries x (container_at pool.containers x.slot) (subst (λ (o : Option VolumeState). Houses o (container_at pool.containers x.slot)) here (kept.housed x.slot)) in
       let span = labelled.map in
       let most = labelled.span in
-      let within = counted_within x counted in
+      let within = counted_within x counted span most in
       record {
         lent = record {
           within = is_inside states x.slot x kept.long here;
@@ -66,11 +65,11 @@ module _ (pool : Pool) (states : States) (kept : KeptTo slot_count states pool.c
         };
         labelled = subst (λ n. IsLabelled n x) (sym labelled.slot_is) labelled;
         booked = record {
-          size = ap (λ (l : Ledger). l.size) counted.ledger;
-          kind = ap (λ (l : Ledger). l.kind) counted.ledger;
-          span = ap (λ (l : Ledger). l.span) counted.ledger;
-          need = ap (λ (l : Ledger). l.need) counted.ledger;
-          charge = omega (arith, within, span, most);
+          size = ap (λ (l : Ledger). l.size) counted.ledger.ledger_is;
+          kind = ap (λ (l : Ledger). l.kind) counted.ledger.ledger_is;
+          span = ap (λ (l : Ledger). l.span) counted.ledger.ledger_is;
+          need = ap (λ (l : Ledger). l.need) counted.ledger.ledger_is;
+          charge = within;
         };
         blocks = size;
         changed = λ isnt. counted.none;
@@ -82,7 +81,7 @@ module _ (pool : Pool) (states : States) (kept : KeptTo slot_count states pool.c
       → IsMapLoaded disk.reads pool.found pool.map → (m : Machine) → Tells (layout_at (root_found pool.found) disk.reads) m → IsStanding disk pool x
   loaded_standing disk tells whole loaded none map m is =
       seen_standing disk pool states x
-      (loaded_stands pool disk.reads states kept loaded none m is whole x.slot x here)
+      (loaded_stands disk pool states kept loaded none m is whole x here)
       counted.none tells
       (loaded_apart pool disk.reads states is.sound map kept loaded x.map x.slot)
       (subst (λ (o : Option VolumeState). IfSome o (IsState (view_over pool states disk.reads) no_trees x.slot)) here ((loaded_states pool disk.reads states kept loaded none m is whole).each x.slot))
@@ -91,12 +90,12 @@ module _ (pool : Pool) (states : States) (kept : KeptTo slot_count states pool.c
   -- What is in use of it is led to.
   pub loaded_led : (disk : Disk) → IsTrue disk.tells → ((b : ℕ) → length (disk.reads b) ≡ 4096) → LoadedTo disk.reads pool.found slot_count states pool.containers → pool.kept ≡ fin.empty
       → (m : Machine) → Tells (layout_at (root_found pool.found) disk.reads) m → IsLedTo disk pool x
-  loaded_led disk tells whole loaded none m is = seen_led disk pool states x (loaded_stands pool disk.reads states kept loaded none m is whole x.slot x here) counted.none
+  loaded_led disk tells whole loaded none m is = seen_led disk pool states x (loaded_stands disk pool states kept loaded none m is whole x here) counted.none
 
   -- And what it leads to is stored well.
   pub loaded_well : (disk : Disk) → ((b : ℕ) → length (disk.reads b) ≡ 4096) → LoadedTo disk.reads pool.found slot_count states pool.containers → pool.kept ≡ fin.empty
       → (m : Machine) → Tells (layout_at (root_found pool.found) disk.reads) m → IsStoredWell disk pool x
-  loaded_well disk whole loaded none m is = seen_well disk pool states x (loaded_stands pool disk.reads states kept loaded none m is whole x.slot x here) counted.none
+  loaded_well disk whole loaded none m is = seen_well disk pool states x (loaded_stands disk pool states kept loaded none m is whole x here) counted.none
 
 -- so with all of them, once the disk was read
 

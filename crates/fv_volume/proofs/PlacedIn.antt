@@ -22,7 +22,7 @@ use Rattle.fv_container.specs.Chains.{slot_count}
 use Rattle.fv_root.specs.Formatted.{IsSize}
 use Rattle.fv_bits.specs.Members.{is_member}
 use Rattle.fv_container.specs.Chains.{container_at, own_entry, parent_at}
-use Rattle.fv_container.specs.Mapped.{Mapped}
+use Rattle.fv_container.specs.Mapped.{Mapped, entry_under}
 use Rattle.fv_container.specs.Spelled.{is_at, names}
 use Rattle.fv_volume.specs.declared.pool.Pool.{Pool}
 use Rattle.fv_volume.specs.declared.state.Base.{Base}
@@ -40,6 +40,7 @@ use Rattle.fv_volume.specs.Stored.{AreApartIn, AreSpacedIn, has_block, is_of}
 use Rattle.fv_volume.specs.UnderRoot.{IsLentAt, IsLentSlot, IsMapOf}
 use Rattle.fv_volume.specs.Writing.{IsTaken, on_disk}
 use Rattle.fv_volume.proofs.LentSlots.{lent_slot}
+use Rattle.fv_volume.proofs.StandingMaps.{maps_still}
 use Rattle.fv_volume.proofs.Made.{from_pairs, to_pair}
 use Rattle.fv_volume.proofs.Spacing.{spaced_next}
 use Rattle.fv_volume.proofs.Told.{is_inside, none_some}
@@ -287,6 +288,12 @@ module _ (disk after : Shown) (pool left : Pool) (states stay : States) (x y : V
         (from_free disk after pool left x y.active y.map y.files y.changed room less placed.goes.steps placed.goes.goes.strays placed.goes.goes.noted over was.map is.map was.is is.is long lent.apart pool.found.blocks size of_held told b (sym (has_now b) ∙ of)))
         (λ b of. lies_well disk after pool left x y.active y.map y.files y.changed room less placed.goes.steps placed.goes.goes.strays placed.goes.goes.noted over was.map is.map was.is is.is long lent.apart pool.found.blocks size of_held told b (sym (has_now b) ∙ of))
 
+    -- the entries behind the span stay
+    behind : (v : ℕ) → x.span ≤ v → entry_under is.map v ≡ entry_under was.map v
+    behind v past =
+        let span = mine.ready.labelled.map in
+        sym (ap (λ (c : Option Mapped). own_entry c v) is.is) ∙ over.beyond v (omega (arith, span, past)) ∙ ap (λ (c : Option Mapped). own_entry c v) was.is
+
     -- without a change it is as the root on the disk has it
     unchanged : (o : Option Files) → x.files ≡ o → y.changed ≡ false → IsLoaded disk.reads pool.found s (Some y) (Some is.map)
     unchanged (Some f) e un = absurd (both_ways _ un (placed.changed (ap is_some e)))
@@ -303,6 +310,7 @@ module _ (disk after : Shown) (pool left : Pool) (states stay : States) (x y : V
           (tree_same disk after pool left x y.active y.map y.files y.changed room less placed.goes.steps placed.goes.goes.strays placed.goes.goes.noted over was.map is.map was.is is.is long lent.apart pool.found.blocks size of_held told) node);
       apart = subst (λ (v : VolumeState). AreApartIn v is.map) (sym placed.keeps)
           (apart_now disk after pool left x y.active y.map y.files y.changed room less placed.goes.steps placed.goes.goes.strays placed.goes.goes.noted over was.map is.map was.is is.is long lent.apart pool.found.blocks size of_held told);
+      maps = maps_still disk.reads pool.found x y was.map is.map (ap (λ (v : VolumeState). v.span) placed.keeps) over.span over.snapshots (ap (λ (v : VolumeState). v.fresh) placed.keeps) behind lent.maps;
       unchanged = unchanged x.files refl;
     }))
 

@@ -13,7 +13,7 @@ use Rattle.fv_model.specs.declared.answers.Refusal.TheVariants.{NoVolume, Volume
 use Rattle.fv_model.specs.declared.commands.Command.{Command}
 use Rattle.fv_model.specs.declared.commands.Command.TheVariants.{VolGuarantee, VolResize}
 use Rattle.fv_model.specs.declared.commands.Kind.{Kind}
-use Rattle.fv_model.specs.Numbers.{greatest_span, is_size}
+use Rattle.fv_model.specs.Numbers.{is_size}
 use Rattle.fv_model.specs.Volumes.{Volume}
 use Rattle.fv_model.specs.Machines.{Machine, capacity}
 use Rattle.fv_model.specs.Space.{charge}
@@ -32,7 +32,7 @@ use Rattle.fv_volume.specs.Held.{IsHeldIn}
 use Rattle.fv_volume.specs.Labels.{label_said}
 use Rattle.fv_volume.specs.States.{head_in}
 use Rattle.fv_volume.proofs.MapSlots.{same_sayable, same_slots}
-use Rattle.fv_volume.specs.OneVolume.{content_for, volume_as, Content, IsReady, IsStanding}
+use Rattle.fv_volume.specs.OneVolume.{content_for, greatest_charge, volume_as, Content, IsReady, IsStanding}
 use Rattle.fv_volume.specs.Promising.{CanHave, FitsBeside, Promises, promised, promised_ledger, refusal_of}
 use Rattle.fv_volume.proofs.Changed.{within_size}
 use Rattle.fv_volume.proofs.Charging.{left_by}
@@ -43,7 +43,7 @@ use Rattle.fv_volume.proofs.Labels.{kind_least}
 abbrev by_nothing : ℕ → Kind → Delta
 by_nothing size kind = record { charge = pos 0; need = pos 0; size = size; kind = kind }
 
-pub can_promise : (l : Ledger) (size : ℕ) (kind : Kind) → l.charge ≤ greatest_span → l.need ≡ 0 → CanChange l (by_nothing size kind)
+pub can_promise : (l : Ledger) (size : ℕ) (kind : Kind) → l.charge ≤ greatest_charge → l.need ≡ 0 → CanChange l (by_nothing size kind)
 can_promise l size kind few none = record {
   charge = record { least = omega (arith, ints); most = omega (arith, ints, few) };
   need = record { least = omega (arith, ints); most = omega (arith, ints, none) };

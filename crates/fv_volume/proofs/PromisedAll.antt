@@ -22,6 +22,7 @@ use Rattle.fv_volume.specs.Stored.{AreSpacedIn, has_block}
 use Rattle.fv_volume.specs.UnderRoot.{IsLentAt}
 use Rattle.fv_volume.proofs.Made.{from_pairs, to_pair}
 use Rattle.fv_volume.proofs.Promised.{promised_held, promised_ready}
+use Rattle.fv_volume.proofs.StandingMaps.{maps_still}
 use Rattle.fv_volume.proofs.PromisedOne.{inside_row}
 
 module _ (old : States) (blocks : ℕ) (c : Command) (name : List ℕ) (size : VolumeState → ℕ) (kind : VolumeState → Kind) (new : States) (is : IsPromised old blocks c name size kind new) where
@@ -121,6 +122,7 @@ module _ (old : States) (blocks : ℕ) (c : Command) (name : List ℕ) (size : V
         label = lent.label;
         nodes = lent.nodes;
         apart = record { some = lent.apart.some; entries = lent.apart.entries; nodes = lent.apart.nodes; label = lent.apart.label };
+        maps = maps_still i found x y map map refl refl (λ k other. refl) refl (λ v past. refl) lent.maps;
         unchanged = λ isnt. absurd (true≢false isnt);
       }
 

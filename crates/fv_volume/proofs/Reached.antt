@@ -1,5 +1,6 @@
--- The active map of a volume with nothing of it in memory is what its active table reaches, in any view of a session in which it lies.
-use Rattle.std.proofs.Common.{◌≡◌, ℕ, Bool, true, false, Option, Some, None, is_some, refl, sym, ap, subst, ◌∙◌, ⊎_elim}
+-- What the maps of a volume with nothing of it in memory have is what its roots reach, in any view of a session in which it lies.
+use Rattle.std.proofs.Common.{◌≡◌, ℕ, Bool, true, false, cond, Option, Some, None, is_some, refl, sym, ap, subst, ◌∙◌, ⊎_elim}
+use Rattle.std.specs.Prelude.{slice_index_or}
 use Rattle.std.specs.Cmp.{both_ways}
 use Rattle.std.specs.List.{list_all}
 use Rattle.std.specs.Option.{option_map}
@@ -9,52 +10,92 @@ use Rattle.fv_bits.specs.Members.{is_member}
 use Rattle.fv_codec.specs.declared.inode.InodeRecord.{InodeRecord}
 use Rattle.fv_codec.specs.declared.pointer.Pointer.{Pointer}
 use Rattle.fv_codec.specs.Blocks.{greatest_word}
+use Rattle.fv_laws.specs.Positions.{HasNoReserve}
+use Rattle.fv_laws.specs.WellFormed.{IsWellTable}
+use Rattle.fv_laws.proofs.Lists.{In}
+use Rattle.fv_tables.specs.Kept.{AgreeOnTable}
 use Rattle.fv_tables.specs.Reached.{Item, items, is_listed}
-use Rattle.fv_tables.specs.Spelled.{Rooted as Tree, pointer_at, stored}
-use Rattle.fv_tables.specs.Told.{Standing, file_at, standing_at}
+use Rattle.fv_tables.specs.Spelled.{Rooted as Tree, Under, pointer_at, stored}
+use Rattle.fv_tables.specs.Told.{Standing, file_at, standing_at, table_told}
 use Rattle.fv_tables.proofs.Items.{from_trees, kept_items, listed_file, listed_inode}
+use Rattle.fv_tables.proofs.Listed.{picked_all, picked_is}
+use Rattle.fv_tables.proofs.Tables.{kept_table}
 use Rattle.fv_tree.specs.Beside.{unread}
 use Rattle.fv_tree.specs.Flushing.{IsRight}
 use Rattle.fv_tree.specs.Sources.{Shown, Use}
 use Rattle.fv_tree.specs.Standing.{under as blocks_of}
+use Rattle.fv_files.specs.declared.files.Files.{Files}
 use Rattle.fv_files.specs.Apart.{LeadsFrom, LeadsIn, stored_trees}
+use Rattle.fv_files.specs.Tables.{AreReached}
 use Rattle.fv_image.specs.Chains.{under}
+use Rattle.fv_image.specs.Seen.{roots_of}
+use Rattle.fv_image.specs.Views.{View, Rooted as Table}
 use Rattle.fv_image.specs.Volumes.{standing_of}
-use Rattle.fv_tables.proofs.Listed.{picked_all, picked_is}
+use Rattle.fv_image.proofs.LoneTables.{form_base}
 use Rattle.fv_container.specs.Chains.{parent_at}
-use Rattle.fv_volmap.specs.Slots.{active_of}
+use Rattle.fv_volmap.specs.Slots.{active_of, has, slot_at}
 use Rattle.fv_volume.specs.declared.pool.Pool.{Pool}
+use Rattle.fv_volume.specs.declared.state.Rooted.{Rooted}
+use Rattle.fv_volume.specs.declared.state.Snap.{Snap}
 use Rattle.fv_volume.specs.declared.state.VolumeState.{VolumeState}
-use Rattle.fv_volume.specs.Files.{has_form, IsLabelled}
-use Rattle.fv_volume.specs.OneVolume.{shows, IsStanding}
-use Rattle.fv_volume.specs.Placing.{AreLedBy, IsLedTo, IsSeen}
-use Rattle.fv_volume.specs.States.{States, head_in, state_at, table_in, view_over}
-use Rattle.fv_volume.proofs.Shows.{unused_member, used_member}
-use Rattle.fv_volume.proofs.Standings.{agree, standing_reached, standing_state, standing_table}
+use Rattle.fv_volume.specs.BlocksOver.{held_block}
+use Rattle.fv_volume.specs.Files.{IsLabelled}
+use Rattle.fv_volume.specs.Housed.{ReachesAll}
+use Rattle.fv_volume.specs.OneVolume.{blocks_in, shows, standing_by, uses_in, AreSoundBy, IsKeptTable, IsStanding, RootStands}
+use Rattle.fv_volume.specs.Placing.{AreLedBy, AreStoredBy, IsLedTo, IsSeen, IsStoredWell}
+use Rattle.fv_volume.specs.States.{States, head_in, rooted_as, state_at, table_in, view_over}
+use Rattle.fv_volume.proofs.EachRoot.{each_root, root_there}
+use Rattle.fv_volume.proofs.OverBlocks.{over_reached, over_stored}
+use Rattle.fv_volume.proofs.Reaches.{active_has, active_uses}
+use Rattle.fv_volume.proofs.Shows.{get_held, unused_member, used_member}
+use Rattle.fv_volume.proofs.Standings.{root_agrees, standing_state, standing_table}
 
 -- what a pointer leads to is in use
 some_right : (kind : ℕ) (p : Pointer) (o : Option Use) → IsRight kind p o → is_some o ≡ true
 some_right kind p None right = absurd right
 some_right kind p (Some x) right = refl
 
-module _ (disk : Disk) (pool : Pool) (states : States) (x : VolumeState) (is : IsStanding disk pool x) (none : x.files ≡ None) (there : state_at states x.slot ≡ Some x) (alone : parent_at pool.containers x.slot ≡ None) (form : has_form (head_in x) ≡ true) where
+-- ---- the active root
+
+module _ (disk : Disk) (pool : Pool) (x : VolumeState) (is : IsStanding disk pool x) (none : x.files ≡ None) where
   abbrev shown : Shown
   shown = shows disk pool x
 
+  abbrev blocks : Under
+  blocks = blocks_in disk pool x 0
+
+  -- its table over all blocks that the volume holds
   abbrev y : Standing
   y = standing_at (blocks_of shown) x.active.levels x.active.root
 
   abbrev inodes : Tree
   inodes = stored (blocks_of shown) greatest_word x.active.levels x.active.root
 
+  reached : AreReached (blocks_of shown) shown.used x.active.levels x.active.root
+  reached = subst (AreSoundBy (blocks_of shown) shown.used x.active) none is.trees
+
   member_at : (v kind : ℕ) (p : Pointer) → IsRight kind p (shown.used v) → is_member (active_of x.map) v ≡ true
   member_at v kind p right = used_member x.map pool.containers x.slot v (some_right kind p (shown.used v) right)
 
+  -- what is in use lies in slot 0
+  in_slot : (v : ℕ) → is_member (active_of x.map) v ≡ true → blocks v ≡ blocks_of shown v
+  in_slot v member = ap (λ (t : Bool). cond t (held_block x.map pool x.slot disk.reads v) None) (active_has x.map v ∙ member) ∙ sym (get_held x.map pool x.slot disk.reads v)
+
+  agrees : AgreeOnTable (blocks_of shown) blocks x.active.levels x.active.root
+  agrees = record {
+    inode = λ level place some. in_slot (pointer_at inodes level place).vvbn (member_at _ _ (pointer_at inodes level place) (reached.inode.used level place some));
+    files = λ n r found level place some. in_slot (pointer_at (stored (blocks_of shown) n r.levels r.root) level place).vvbn (member_at _ _ (pointer_at (stored (blocks_of shown) n r.levels r.root) level place) ((reached.files n r found).used level place some));
+  }
+
+  -- Its trees stand on the blocks of its slot,
+  pub active_reached : AreReached blocks (uses_in pool x 0) x.active.levels x.active.root
+  active_reached = subst (λ (uses : ℕ → Option Use). AreReached blocks uses x.active.levels x.active.root) (sym (active_uses disk pool x)) (over_reached (blocks_of shown) blocks x.active.levels x.active.root agrees shown.used reached)
+
   all_members : list_all (λ (e : Item). is_member (active_of x.map) e.pointer.vvbn) (items y) ≡ true
   all_members = from_trees (λ (e : Item). is_member (active_of x.map) e.pointer.vvbn) y
-      (λ level place some. member_at (pointer_at inodes level place).vvbn _ (pointer_at inodes level place) ((standing_reached disk pool states x is none there alone form).inode.used level place some))
+      (λ level place some. member_at (pointer_at inodes level place).vvbn _ (pointer_at inodes level place) (reached.inode.used level place some))
       (λ n r found level place some. member_at (pointer_at (stored (blocks_of shown) n r.levels r.root) level place).vvbn _ (pointer_at (stored (blocks_of shown) n r.levels r.root) level place)
-      (((standing_reached disk pool states x is none there alone form).files n r found).used level place some))
+      ((reached.files n r found).used level place some))
 
   -- what isn't listed is led to from nowhere
   led_listed : (v : ℕ) (a : Option ℕ) → LeadsFrom (stored_trees (blocks_of shown) x.active.levels x.active.root) a v → is_listed (items y) v ≡ true
@@ -80,16 +121,61 @@ module _ (disk : Disk) (pool : Pool) (states : States) (x : VolumeState) (is : I
     to_member : (v : ℕ) → is_listed (items y) v ≡ true → is_member (active_of x.map) v ≡ true
     to_member v listed = subst (λ n. is_member (active_of x.map) n ≡ true) (picked_is (items y) v listed) (picked_all (λ (e : Item). is_member (active_of x.map) e.pointer.vvbn) (items y) v listed all_members)
 
-    -- So its map has the numbers that its table reaches, as a consistency point asks.
-    pub standing_reach : (v : ℕ) → is_member (active_of x.map) v ≡ is_listed (items (standing_of (view_over pool states disk.reads) x.slot (table_in x.active))) v
-    standing_reach v =
-        both_ways (is_member (active_of x.map) v) (is_listed (items y) v) (to_listed v) (to_member v)
-        ∙ sym (ap (λ es. is_listed es v) (kept_items (blocks_of shown) (under (view_over pool states disk.reads) x.slot) x.active.levels x.active.root (agree disk pool states x is none there alone form)))
+    -- and slot 0 has the numbers that its table reaches.
+    pub active_reach : (v : ℕ) → has v (slot_at x.map 0) ≡ is_listed (items (standing_at blocks x.active.levels x.active.root)) v
+    active_reach v =
+        active_has x.map v
+        ∙ both_ways (is_member (active_of x.map) v) (is_listed (items y) v) (to_listed v) (to_member v)
+        ∙ sym (ap (λ es. is_listed es v) (kept_items (blocks_of shown) blocks x.active.levels x.active.root agrees))
+
+    module _ (well : IsStoredWell disk pool x) where
+      same_told : table_told (standing_at blocks x.active.levels x.active.root) ≡ table_told y
+      same_told = kept_table (blocks_of shown) blocks x.active.levels x.active.root agrees
+
+      pub active_stands : RootStands disk pool x 0 x.active
+      active_stands = record {
+        table = subst (IsWellTable x.now) (sym same_told) (subst (λ (o : Option Files). IsWellTable x.now (table_told (standing_by (blocks_of shown) x.active o))) none is.table);
+        reserves = subst HasNoReserve (sym same_told) (subst (λ (o : Option Files). HasNoReserve (table_told (standing_by (blocks_of shown) x.active o))) none is.reserves);
+        trees = active_reached;
+        well = over_stored (blocks_of shown) blocks x.active.levels x.active.root agrees (subst (AreStoredBy (blocks_of shown) x.active) none well);
+        reach = active_reach;
+      }
+
+      -- So the table of each root lies whole in its slot.
+      pub roots_stand : (k : ℕ) (r : Table) → In {X = ℕ × Table} (k, r) (roots_of (head_in x)) → RootStands disk pool x k (rooted_as r)
+      roots_stand = each_root x (RootStands disk pool x) active_stands (λ n q lt. (is.kept n q lt).1)
+
+-- ---- in a view
+
+module _ (disk : Disk) (pool : Pool) (states : States) (x : VolumeState) (there : state_at states x.slot ≡ Some x) (alone : parent_at pool.containers x.slot ≡ None) (base : (head_in x).base ≡ None) where
+  abbrev u : View
+  u = view_over pool states disk.reads
+
+  -- a slot has the numbers that a root reaches in the view
+  abbrev Reaches : ℕ → Rooted → Type 0
+  Reaches k root = (v : ℕ) → has v (slot_at x.map k) ≡ is_listed (items (standing_of u x.slot (table_in root))) v
+
+  root_reaches : (k : ℕ) (root : Rooted) → AreReached (blocks_in disk pool x k) (uses_in pool x k) root.levels root.root
+      → ((v : ℕ) → has v (slot_at x.map k) ≡ is_listed (items (standing_at (blocks_in disk pool x k) root.levels root.root)) v) → Reaches k root
+  root_reaches k root trees reach v =
+      reach v ∙ sym (ap (λ es. is_listed es v) (kept_items (blocks_in disk pool x k) (under u x.slot) root.levels root.root (root_agrees disk pool states x there alone base k root trees)))
+
+  kept_reaches : (q : Snap) → IsKeptTable disk pool x q → Reaches q.slot q.table
+  kept_reaches q kept = root_reaches q.slot q.table kept.1.trees kept.1.reach
+
+  -- So each slot has the numbers that its root reaches, as a consistency point asks.
+  pub standing_reach : IsStanding disk pool x → x.files ≡ None → IsLedTo disk pool x → ReachesAll u x.slot x
+  standing_reach is none led k r at = each_root x Reaches
+      (root_reaches 0 x.active (active_reached disk pool x is none) (active_reach disk pool x is none led))
+      (λ n q lt. kept_reaches (slice_index_or x.snapshots n q) (is.kept n q lt))
+      k r (root_there (head_in x) k r at)
 
 -- So its view alone tells it.
 pub standing_seen : (disk : Disk) (pool : Pool) (x : VolumeState) → IsStanding disk pool x → x.files ≡ None → IsLabelled x.slot x → IsSeen disk pool x
-standing_seen disk pool x is none labelled = λ states there alone. record {
-  table = standing_table disk pool states x is none there alone labelled.form;
-  state = standing_state disk pool states x is none there alone labelled.form labelled;
-  reach = standing_reach disk pool states x is none there alone labelled.form;
-}
+standing_seen disk pool x is none labelled = λ states there alone.
+    let base = form_base (head_in x) labelled.form in
+    record {
+      table = standing_table disk pool states x there alone base is none;
+      state = standing_state disk pool states x there alone base is none labelled;
+      reach = standing_reach disk pool states x there alone base is none;
+    }

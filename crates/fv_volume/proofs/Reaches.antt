@@ -1,23 +1,25 @@
 -- The slots of a volume's maps against what its roots reach.
-use Rattle.std.proofs.Common.{◌≡◌, ◌≢◌, ℕ, ⊎_elim, ◌==◌, Bool, true, false, List, Option, Some, None, refl, sym, ap, subst, ◌∙◌, arith}
-use Rattle.std.specs.Prelude.{find, if◌then◌else◌, map}
+use Rattle.std.proofs.Common.{◌≡◌, ℕ, ◌==◌, Bool, true, false, Option, Some, None, refl, sym, subst, ◌∙◌, arith}
+use Rattle.std.specs.Prelude.{cond, find, if◌then◌else◌, map}
 use Rattle.std.specs.Option.{option_map}
-use Rattle.std.proofs.lemmas.Bool.{cases_eq}
-use Rattle.std.proofs.lemmas.Bool.Decides.{nat_tests}
+use Rattle.fv_disk.specs.Shown.{Shown as Disk}
 use Rattle.fv_bits.specs.Members.{is_member}
 use Rattle.fv_bits.proofs.Laws.{is_member-replicate}
 use Rattle.fv_tables.specs.Reached.{items, is_listed}
 use Rattle.fv_image.specs.Mapped.{root_at}
 use Rattle.fv_image.specs.Staying.{items_of, own_items}
-use Rattle.fv_image.specs.Views.{Head, Rooted, Snap, View}
+use Rattle.fv_image.specs.Views.{Head, Rooted, Snap, View, volume_bit}
 use Rattle.fv_image.specs.Volumes.{snap_at, standing_of}
-use Rattle.fv_image.proofs.LoneTables.{form_snapshots}
 use Rattle.fv_image.proofs.SameSeen.{left_listed, right_listed, snap_listed}
 use Rattle.fv_volmap.specs.Slots.{Slot, Volume as Maps, active_of, has, map_or_empty, slot_at}
+use Rattle.fv_volume.specs.declared.pool.Pool.{Pool}
 use Rattle.fv_volume.specs.declared.state.VolumeState.{VolumeState}
-use Rattle.fv_volume.specs.Files.{has_form}
+use Rattle.fv_volume.specs.BlocksOver.{held_entry}
 use Rattle.fv_volume.specs.Housed.{ReachesAll}
-use Rattle.fv_volume.specs.States.{head_in, table_in}
+use Rattle.fv_volume.specs.Lending.{use_of}
+use Rattle.fv_volume.specs.Loading.{HaveBits}
+use Rattle.fv_volume.specs.OneVolume.{shows, uses_in}
+use Rattle.fv_volume.specs.States.{table_in}
 
 -- the active map has what slot 0 has
 pub active_has : (m : Maps) (v : ℕ) → has v (slot_at m 0) ≡ is_member (active_of m) v
@@ -26,6 +28,14 @@ active_has m v = by (slot_at m 0)
     by : (o : Slot) → has v o ≡ is_member (map_or_empty m.span o) v
     by None = sym (is_member-replicate m.span v)
     by (Some map) = refl
+
+-- what is in use of it is what slot 0 has in use
+pub active_uses : (d : Disk) (p : Pool) (x : VolumeState) → uses_in p x 0 ≡ (shows d p x).used
+active_uses d p x = λ i v. cond (active_has x.map v i) (Some (use_of (held_entry x.map p.containers x.slot v))) None
+
+-- and the bits that are told of slot 0
+pub active_bits : (w : View) (s span : ℕ) (m : Maps) → HaveBits w s span m → (v : ℕ) → is_member (active_of m) v ≡ volume_bit w s span 0 v
+active_bits w s span m bits v = sym (active_has m v) ∙ bits 0 v (omega arith)
 
 -- so it has the numbers that the active table reaches
 pub active_reaches : (w : View) (s : ℕ) (x : VolumeState) → ReachesAll w s x → (v : ℕ) → is_member (active_of x.map) v ≡ is_listed (items (standing_of w s (table_in x.active))) v
@@ -36,22 +46,6 @@ some_same a b e = cc
 
 none_some : {X : Type 0} (a : X) → ◌≡◌ {A = Option X} None (Some a) → ⊥
 none_some a e = cc
-
--- and where there are no snapshots, that is all
-pub reaches_alone : (w : View) (s : ℕ) (x : VolumeState) → has_form (head_in x) ≡ true → ((v : ℕ) → is_member (active_of x.map) v ≡ is_listed (items (standing_of w s (table_in x.active))) v) → ReachesAll w s x
-unfolding snap_at
-reaches_alone w s x form active k r at v = ⊎_elim
-    (λ (same : k ≡ 0). subst (λ (n : ℕ). root_at (head_in x) n ≡ Some r → has v (slot_at x.map n) ≡ is_listed (items (standing_of w s r)) v) (sym same) here at)
-    (λ (other : k ≢ 0).
-    let test : (k == 0) ≡ false = grind (arith, nat_tests, other) in
-    let none : root_at (head_in x) k ≡ None =
-    ap (λ (b : Bool). if b then Some (head_in x).active else option_map (λ (p : Snap). p.table) (snap_at (head_in x) k)) test
-    ∙ ap (λ (ps : List Snap). option_map (λ (p : Snap). p.table) (find (λ p. p.slot == k) ps)) (form_snapshots (head_in x) form) in
-    absurd (none_some r (sym none ∙ at)))
-    (cases_eq k 0)
-  where
-    here : root_at (head_in x) 0 ≡ Some r → has v (slot_at x.map 0) ≡ is_listed (items (standing_of w s r)) v
-    here at = active_has x.map v ∙ active v ∙ ap (λ (t : Rooted). is_listed (items (standing_of w s t)) v) (some_same (table_in x.active) r at)
 
 -- what a root of a volume reaches is among what all of them do
 pub root_listed : (w : View) (s : ℕ) (h : Head) (k : ℕ) (r : Rooted) → root_at h k ≡ Some r → (v : ℕ) → is_listed (items (standing_of w s r)) v ≡ true → is_listed (own_items w s h) v ≡ true

@@ -1,6 +1,6 @@
--- What the rules of soundness ask of a volume that stands alone, by what is known of each pointer that its table reaches.
-use Rattle.std.proofs.Common.{◌≡◌, ◌≢◌, ℕ, ◌<◌, ◌≤◌, Bool, true, false, not, ◌&&◌, ◌||◌, List, [], ◌∷◌, ◌++◌, Option, Some, None, is_some, refl, sym, ap, subst, ◌∙◌, arith, ⊎_elim}
-use Rattle.std.specs.Prelude.{map, nat_le, nat_lt, ◌==◌}
+-- What the rules of soundness ask of a volume without a base, by what is known of each pointer that its roots reach.
+use Rattle.std.proofs.Common.{◌≡◌, ◌≢◌, ℕ, ◌<◌, ◌≤◌, Bool, true, false, not, ◌&&◌, ◌||◌, Option, Some, None, is_some, refl, sym, ap, subst, ◌∙◌, arith, ⊎_elim}
+use Rattle.std.specs.Prelude.{flat_map, map, nat_le, nat_lt, ◌==◌}
 use Rattle.std.specs.List.{list_all}
 use Rattle.std.specs.Option.{is_none}
 use Rattle.std.proofs.lemmas.Bool.{and_from, and_parts, cases_Bool}
@@ -8,34 +8,19 @@ use Rattle.std.proofs.lemmas.Bool.Decides.{nat_tests}
 use Rattle.std.proofs.lemmas.List.Folds.{list_all-append, list_all-map}
 use Rattle.fv_codec.specs.declared.pointer.Pointer.{Pointer}
 use Rattle.fv_codec.specs.Blocks.{greatest_word}
+use Rattle.fv_laws.proofs.Lists.{In}
+use Rattle.fv_laws.proofs.Tests.{to_all}
 use Rattle.fv_model.specs.Machines.{first_block}
 use Rattle.fv_tables.specs.Reached.{Item, items}
-use Rattle.fv_tables.specs.Told.{records}
+use Rattle.fv_tables.proofs.Lists.{all_flat}
 use Rattle.fv_image.specs.Chains.{place}
 use Rattle.fv_image.specs.HintRules.{is_in_label, is_splitting, is_true_hint}
 use Rattle.fv_image.specs.ReachRules.{block_is, is_hint, is_of_position, is_same_position, kind_of, shape_for}
-use Rattle.fv_image.specs.Seen.{Reached, Root, VolumeSeen, base_seen, reached_at, root_seen, volume_seen}
+use Rattle.fv_image.specs.Seen.{Based, Reached, Root, base_seen, reached_at, root_seen, roots_of, volume_seen}
 use Rattle.fv_image.specs.Sound.{agree, is_fine, is_unknown, kind_at}
 use Rattle.fv_image.specs.TableRules.{all_items, has_same_id, is_below_mark}
-use Rattle.fv_image.specs.Views.{Footing, Head, Placed, Rooted, Snap, View}
-use Rattle.fv_image.specs.Volumes.{standing_of, volume_told}
-
--- ---- what is seen of it
-
-abbrev pub lone_root : View → ℕ → Head → Root
-lone_root w s h = record { map = 0; rooted = h.active; files = records (standing_of w s h.active); reached = map (reached_at w s) (items (standing_of w s h.active)) }
-
-abbrev pub lone : View → ℕ → Head → VolumeSeen
-lone w s h = record { head = h; volume = volume_told w s h; roots = lone_root w s h ∷ []; base = [] }
-
-pub seen_lone : (w : View) (s : ℕ) (h : Head) → h.snapshots ≡ [] → h.base ≡ None → volume_seen w s h ≡ lone w s h
-unfolding volume_seen base_seen root_seen
-seen_lone w s h snapshots base = λ i. record {
-  head = h;
-  volume = volume_told w s h;
-  roots = lone_root w s h ∷ map (λ (r : ℕ × Rooted). root_seen w s r.0 r.1) (map (λ (p : Snap). (p.slot, p.table)) (snapshots i));
-  base = base_seen w s (base i);
-}
+use Rattle.fv_image.specs.Views.{Footing, Head, Placed, Rooted, View}
+use Rattle.fv_image.specs.Volumes.{standing_of}
 
 -- ---- what is known of a pointer
 
@@ -63,11 +48,28 @@ pub record IsRuled (w : View) (s : ℕ) (h : Head) (led : Option ℕ → ℕ →
   pub stamp : e.pointer.stamp ≤ h.now
   pub mark : e.level < e.levels → e.pointer.stamp ≤ e.holder.stamp
 
--- the pointers of one volume's table: each is known, one VVBN is led to from one place of one tree, and each tree has its owner
-pub record AreRuled (w : View) (s : ℕ) (h : Head) (led : Option ℕ → ℕ → ℕ → Pointer) : Type 0 where
-  pub each : (test : Item → Bool) → ((e : Item) → IsRuled w s h led e → test e ≡ true) → list_all test (items (standing_of w s h.active)) ≡ true
+-- the pointers of the table of one root: each is known, one VVBN is led to from one place of one tree, and the number of a file isn't that of
+-- the inode file
+pub record AreRuled (w : View) (s : ℕ) (h : Head) (r : Rooted) (led : Option ℕ → ℕ → ℕ → Pointer) : Type 0 where
+  pub each : (test : Item → Bool) → ((e : Item) → IsRuled w s h led e → test e ≡ true) → list_all test (items (standing_of w s r)) ≡ true
   pub once : (a b : Option ℕ) (level index k j : ℕ) → (led a level index).stamp ≢ 0 → (led b k j).stamp ≢ 0 → (led a level index).vvbn ≡ (led b k j).vvbn → (a ≡ b) × ((level ≡ k) × (index ≡ j))
-  pub owned : (a b : Option ℕ) (level index k j : ℕ) → (led a level index).stamp ≢ 0 → (led b k j).stamp ≢ 0 → owner_number a ≡ owner_number b → a ≡ b
+  pub numbers : (n level index : ℕ) → (led (Some n) level index).stamp ≢ 0 → n ≢ greatest_word
+
+-- Pointers of two tables of a volume lead to one VVBN where they have one id, and have one id where they lead to one VVBN. A pointer's id is
+-- its tree, its place there and its stamp.
+pub record AreOneToOne (one other : Option ℕ → ℕ → ℕ → Pointer) : Type 0 where
+  pub vvbn : (a : Option ℕ) (level index : ℕ) → (one a level index).stamp ≢ 0 → (other a level index).stamp ≡ (one a level index).stamp → (other a level index).vvbn ≡ (one a level index).vvbn
+  pub place : (a b : Option ℕ) (level index k j : ℕ) → (one a level index).stamp ≢ 0 → (other b k j).stamp ≢ 0 → (one a level index).vvbn ≡ (other b k j).vvbn
+      → (a ≡ b) × ((level ≡ k) × ((index ≡ j) × ((one a level index).stamp ≡ (other b k j).stamp)))
+
+-- so do those of one table
+pub one_itself : (w : View) (s : ℕ) (h : Head) (r : Rooted) (led : Option ℕ → ℕ → ℕ → Pointer) → AreRuled w s h r led → AreOneToOne led led
+one_itself w s h r led is = record {
+  vvbn = λ a level index some stamp. refl;
+  place = λ a b level index k j first second alike.
+      let one = is.once a b level index k j first second alike in
+      (one.0, (one.1.0, (one.1.1, λ i. (led (one.0 i) (one.1.0 i) (one.1.1 i)).stamp)));
+}
 
 equals : (a b : ℕ) → a ≡ b → (a == b) ≡ true
 equals a b e = grind (arith, nat_tests, e)
@@ -75,68 +77,117 @@ equals a b e = grind (arith, nat_tests, e)
 meant : (a b : ℕ) → (a == b) ≡ true → a ≡ b
 meant a b e = grind (arith, nat_tests, e)
 
-one_root : (b : Bool) → b ≡ true → (b && true) ≡ true
-one_root b is = and_from b true is refl
+at_most : (a b : ℕ) → a ≤ b → nat_le a b ≡ true
+at_most a b le = grind (arith, nat_tests, le)
+
+below : (a b : ℕ) → a < b → nat_lt a b ≡ true
+below a b low = grind (arith, nat_tests, low)
 
 either : (b c : Bool) → (b ≡ true → c ≡ true) → (not b || c) ≡ true
 either true c so = so refl
 either false c so = refl
 
-module _ (w : View) (s : ℕ) (h : Head) (led : Option ℕ → ℕ → ℕ → Pointer) (is : AreRuled w s h led) where
-  abbrev es : List Item
-  es = items (standing_of w s h.active)
+-- ---- two pointers of a volume
 
-  abbrev known : Item → Type 0
-  known e = IsRuled w s h led e
+module _ (w : View) (s : ℕ) (h : Head) (one other : Option ℕ → ℕ → ℕ → Pointer) (a b : Item) (k : IsRuled w s h one a) (j : IsRuled w s h other b)
+    (files : (n level index : ℕ) → (one (Some n) level index).stamp ≢ 0 → n ≢ greatest_word) (others : (n level index : ℕ) → (other (Some n) level index).stamp ≢ 0 → n ≢ greatest_word) (alike : AreOneToOne one other) where
+  first : (one k.from a.level a.place).stamp ≢ 0
+  first = subst (λ (p : Pointer). p.stamp ≢ 0) k.stands k.some
 
-  -- what holds of each pointer holds of all that the root reaches
-  pub of_each : (test : Reached → Bool) → ((e : Item) → known e → test (reached_at w s e) ≡ true) → list_all (λ (r : Root). list_all test r.reached) (lone w s h).roots ≡ true
-  of_each test f = one_root (list_all test (map (reached_at w s) es)) (list_all-map test (reached_at w s) es ∙ is.each (λ e. test (reached_at w s e)) f)
+  second : (other j.from b.level b.place).stamp ≢ 0
+  second = subst (λ (p : Pointer). p.stamp ≢ 0) j.stands j.some
 
-  pub shapes : list_all (λ (r : Root). list_all (λ e. block_is (λ block. is_fine (shape_for e.item block)) e.at) r.reached) (lone w s h).roots ≡ true
-  shapes = of_each (λ e. block_is (λ block. is_fine (shape_for e.item block)) e.at) (λ e k. ap (block_is (λ block. is_fine (shape_for e block))) k.lies ∙ k.shape)
-
-  pub ranges : list_all (λ (r : Root). list_all (λ e. nat_lt e.item.pointer.vvbn h.span && is_hint w.blocks e.item.pointer.pvbn) r.reached) (lone w s h).roots ≡ true
-  ranges = of_each (λ e. nat_lt e.item.pointer.vvbn h.span && is_hint w.blocks e.item.pointer.pvbn) (λ e k. and_from (nat_lt e.pointer.vvbn h.span) _ (below e.pointer.vvbn h.span k.low) (within e.pointer.pvbn k.least k.greatest))
+  same_tree : owner_number k.from ≡ owner_number j.from → k.from ≡ j.from
+  same_tree = by k.from j.from first second
     where
-      below : (a b : ℕ) → a < b → nat_lt a b ≡ true
-      below a b low = grind (arith, nat_tests, low)
+      by : (c d : Option ℕ) → (one c a.level a.place).stamp ≢ 0 → (other d b.level b.place).stamp ≢ 0 → owner_number c ≡ owner_number d → c ≡ d
+      by None None one two same = refl
+      by None (Some n) one two same = absurd (others n b.level b.place two (sym same))
+      by (Some n) None one two same = absurd (files n a.level a.place one same)
+      by (Some n) (Some m) one two same = ap (λ (i : ℕ). Some i) same
 
+  -- those that lead to one VVBN have one id
+  led_to_one : a.pointer.vvbn ≡ b.pointer.vvbn → has_same_id a b ≡ true
+  led_to_one same =
+      let at = alike.place k.from j.from a.level a.place b.level b.place first second (ap (λ (p : Pointer). p.vvbn) (sym k.stands) ∙ same ∙ ap (λ (p : Pointer). p.vvbn) j.stands) in
+      let stamp : a.pointer.stamp ≡ b.pointer.stamp = ap (λ (p : Pointer). p.stamp) k.stands ∙ at.1.1.1 ∙ ap (λ (p : Pointer). p.stamp) (sym j.stands) in
+      and_from (is_same_position a b) _
+      (and_from (a.owner == b.owner) _ (equals a.owner b.owner (k.owner ∙ ap owner_number at.0 ∙ sym j.owner)) (and_from (a.level == b.level) _ (equals a.level b.level at.1.0) (equals a.place b.place at.1.1.0)))
+      (equals a.pointer.stamp b.pointer.stamp stamp)
+
+  -- and those of one id lead to one
+  of_one_id : has_same_id a b ≡ true → a.pointer.vvbn ≡ b.pointer.vvbn
+  of_one_id is =
+      let parts = and_parts (is_same_position a b) (a.pointer.stamp == b.pointer.stamp) is in
+      let positions = and_parts (a.owner == b.owner) _ parts.0 in
+      let levels = and_parts (a.level == b.level) _ positions.1 in
+      let tree : k.from ≡ j.from = same_tree (sym k.owner ∙ meant a.owner b.owner positions.0 ∙ j.owner) in
+      let level : a.level ≡ b.level = meant a.level b.level levels.0 in
+      let index : a.place ≡ b.place = meant a.place b.place levels.1 in
+      let stands : b.pointer ≡ other k.from a.level a.place = j.stands ∙ (λ i. other (sym tree i) (sym level i) (sym index i)) in
+      let stamp : (other k.from a.level a.place).stamp ≡ (one k.from a.level a.place).stamp =
+      ap (λ (p : Pointer). p.stamp) (sym stands) ∙ sym (meant a.pointer.stamp b.pointer.stamp parts.1) ∙ ap (λ (p : Pointer). p.stamp) k.stands in
+      ap (λ (p : Pointer). p.vvbn) k.stands ∙ sym (alike.vvbn k.from a.level a.place first stamp) ∙ ap (λ (p : Pointer). p.vvbn) (sym stands)
+
+  same_id : agree (has_same_id a b) (a.pointer.vvbn == b.pointer.vvbn) ≡ true
+  same_id = ⊎_elim
+      (λ (is : has_same_id a b ≡ true). ap (λ (t : Bool). agree t (a.pointer.vvbn == b.pointer.vvbn)) is ∙ equals a.pointer.vvbn b.pointer.vvbn (of_one_id is))
+      (λ (isnt : has_same_id a b ≡ false). ap (λ (t : Bool). agree t (a.pointer.vvbn == b.pointer.vvbn)) isnt ∙ differs (a.pointer.vvbn == b.pointer.vvbn) refl isnt)
+      (cases_Bool (has_same_id a b))
+    where
+      differs : (t : Bool) → (a.pointer.vvbn == b.pointer.vvbn) ≡ t → has_same_id a b ≡ false → not t ≡ true
+      differs false e isnt = refl
+      differs true e isnt = sym isnt ∙ led_to_one (meant a.pointer.vvbn b.pointer.vvbn e)
+
+-- ---- the rules
+
+module _ (w : View) (s : ℕ) (h : Head) (led : ℕ → Rooted → Option ℕ → ℕ → ℕ → Pointer) (is : (k : ℕ) (r : Rooted) → In {X = ℕ × Rooted} (k, r) (roots_of h) → AreRuled w s h r (led k r)) where
+  -- what holds of each root holds of all that are seen
+  pub of_roots : (test : Root → Bool) → ((k : ℕ) (r : Rooted) → In {X = ℕ × Rooted} (k, r) (roots_of h) → test (root_seen w s k r) ≡ true) → list_all test (volume_seen w s h).roots ≡ true
+  unfolding volume_seen
+  of_roots test each = list_all-map test (λ (r : ℕ × Rooted). root_seen w s r.0 r.1) (roots_of h) ∙ to_all (λ (r : ℕ × Rooted). test (root_seen w s r.0 r.1)) (roots_of h) (λ r there. each r.0 r.1 there)
+
+  -- what holds of each pointer holds of all that the roots reach
+  pub of_each : (test : Reached → Bool) → ((places : Option ℕ → ℕ → ℕ → Pointer) (e : Item) → IsRuled w s h places e → test (reached_at w s e) ≡ true) → list_all (λ (r : Root). list_all test r.reached) (volume_seen w s h).roots ≡ true
+  unfolding root_seen
+  of_each test f = of_roots (λ (r : Root). list_all test r.reached)
+      (λ k r one. list_all-map test (reached_at w s) (items (standing_of w s r)) ∙ (is k r one).each (λ e. test (reached_at w s e)) (f (led k r)))
+
+  pub shapes : list_all (λ (r : Root). list_all (λ e. block_is (λ block. is_fine (shape_for e.item block)) e.at) r.reached) (volume_seen w s h).roots ≡ true
+  shapes = of_each (λ e. block_is (λ block. is_fine (shape_for e.item block)) e.at) (λ places e k. ap (block_is (λ block. is_fine (shape_for e block))) k.lies ∙ k.shape)
+
+  pub ranges : list_all (λ (r : Root). list_all (λ e. nat_lt e.item.pointer.vvbn h.span && is_hint w.blocks e.item.pointer.pvbn) r.reached) (volume_seen w s h).roots ≡ true
+  ranges = of_each (λ e. nat_lt e.item.pointer.vvbn h.span && is_hint w.blocks e.item.pointer.pvbn) (λ places e k. and_from (nat_lt e.pointer.vvbn h.span) _ (below e.pointer.vvbn h.span k.low) (within e.pointer.pvbn k.least k.greatest))
+    where
       within : (p : ℕ) → first_block w.blocks ≤ p → p < w.blocks → is_hint w.blocks p ≡ true
       within p least greatest = by (p == 0) (and_from (nat_le (first_block w.blocks) p) (nat_lt p w.blocks) (at_most (first_block w.blocks) p least) (below p w.blocks greatest))
         where
-          at_most : (a b : ℕ) → a ≤ b → nat_le a b ≡ true
-          at_most a b le = grind (arith, nat_tests, le)
-
           by : (t : Bool) → (nat_le (first_block w.blocks) p && nat_lt p w.blocks) ≡ true → (t || (nat_le (first_block w.blocks) p && nat_lt p w.blocks)) ≡ true
           by true e = refl
           by false e = e
 
-  pub positions : list_all (λ (r : Root). list_all (λ e. block_is (is_of_position e.item) e.at) r.reached) (lone w s h).roots ≡ true
-  positions = of_each (λ e. block_is (is_of_position e.item) e.at) (λ e k. ap (block_is (is_of_position e)) k.lies ∙ k.position)
+  pub positions : list_all (λ (r : Root). list_all (λ e. block_is (is_of_position e.item) e.at) r.reached) (volume_seen w s h).roots ≡ true
+  positions = of_each (λ e. block_is (is_of_position e.item) e.at) (λ places e k. ap (block_is (is_of_position e)) k.lies ∙ k.position)
 
-  pub kinds : list_all (λ (r : Root). list_all (λ e. kind_at e.at == kind_of e.item) r.reached) (lone w s h).roots ≡ true
-  kinds = of_each (λ e. kind_at e.at == kind_of e.item) (λ e k. equals (kind_at (place w s e.pointer.vvbn)) (kind_of e) (ap kind_at k.lies ∙ k.kind))
+  pub kinds : list_all (λ (r : Root). list_all (λ e. kind_at e.at == kind_of e.item) r.reached) (volume_seen w s h).roots ≡ true
+  kinds = of_each (λ e. kind_at e.at == kind_of e.item) (λ places e k. equals (kind_at (place w s e.pointer.vvbn)) (kind_of e) (ap kind_at k.lies ∙ k.kind))
 
-  pub marks : list_all (λ (r : Root). list_all (λ e. not (is_below_mark e.item) || nat_le e.item.pointer.stamp e.item.holder.stamp) r.reached) (lone w s h).roots ≡ true
+  pub marks : list_all (λ (r : Root). list_all (λ e. not (is_below_mark e.item) || nat_le e.item.pointer.stamp e.item.holder.stamp) r.reached) (volume_seen w s h).roots ≡ true
   marks = of_each (λ e. not (is_below_mark e.item) || nat_le e.item.pointer.stamp e.item.holder.stamp)
-      (λ e k. either (is_below_mark e) _ (λ below. at_most e.pointer.stamp e.holder.stamp (k.mark (lower e.level e.levels below))))
+      (λ places e k. either (is_below_mark e) _ (λ under. at_most e.pointer.stamp e.holder.stamp (k.mark (lower e.level e.levels under))))
     where
       lower : (a b : ℕ) → nat_lt a b ≡ true → a < b
       lower a b test = grind (arith, nat_tests, test)
 
-      at_most : (a b : ℕ) → a ≤ b → nat_le a b ≡ true
-      at_most a b le = grind (arith, nat_tests, le)
-
-  pub hints : list_all (λ (r : Root). list_all (λ e. is_true_hint e.item.pointer e.at) r.reached) (lone w s h).roots ≡ true
-  hints = of_each (λ e. is_true_hint e.item.pointer e.at) (λ e k. ap (is_true_hint e.pointer) k.lies ∙ by (e.pointer.pvbn == 0) (equals k.at.pvbn e.pointer.pvbn k.hint))
+  pub hints : list_all (λ (r : Root). list_all (λ e. is_true_hint e.item.pointer e.at) r.reached) (volume_seen w s h).roots ≡ true
+  hints = of_each (λ e. is_true_hint e.item.pointer e.at) (λ places e k. ap (is_true_hint e.pointer) k.lies ∙ by (e.pointer.pvbn == 0) (equals k.at.pvbn e.pointer.pvbn k.hint))
     where
       by : {b : Bool} (t : Bool) → b ≡ true → (t || b) ≡ true
       by true e = refl
       by false e = e
 
-  isnt_unknown : (e : Item) → known e → is_unknown e.pointer ≡ false
-  isnt_unknown e k = so (e.pointer.stamp == 0) (zero_not e.pointer.pvbn k.known)
+  isnt_unknown : (places : Option ℕ → ℕ → ℕ → Pointer) (e : Item) → IsRuled w s h places e → is_unknown e.pointer ≡ false
+  isnt_unknown places e k = so (e.pointer.stamp == 0) (zero_not e.pointer.pvbn k.known)
     where
       zero_not : (p : ℕ) → p ≢ 0 → (p == 0) ≡ false
       zero_not p some = grind (arith, nat_tests, some)
@@ -145,75 +196,59 @@ module _ (w : View) (s : ℕ) (h : Head) (led : Option ℕ → ℕ → ℕ → P
       so true e = refl
       so false e = e
 
-  pub unknown : list_all (λ (r : Root). list_all (λ e. not (is_unknown e.item.pointer) || (is_in_label e.item || (e.item.holder.pvbn == 0))) r.reached) (lone w s h).roots ≡ true
-  unknown = of_each (λ e. not (is_unknown e.item.pointer) || (is_in_label e.item || (e.item.holder.pvbn == 0))) (λ e k. ap (λ (t : Bool). not t || (is_in_label e || (e.holder.pvbn == 0))) (isnt_unknown e k))
+  pub unknown : list_all (λ (r : Root). list_all (λ e. not (is_unknown e.item.pointer) || (is_in_label e.item || (e.item.holder.pvbn == 0))) r.reached) (volume_seen w s h).roots ≡ true
+  unknown = of_each (λ e. not (is_unknown e.item.pointer) || (is_in_label e.item || (e.item.holder.pvbn == 0))) (λ places e k. ap (λ (t : Bool). not t || (is_in_label e || (e.holder.pvbn == 0))) (isnt_unknown places e k))
 
-  pub known_places : list_all (λ (r : Root). list_all (λ e. not h.known || not (is_unknown e.item.pointer)) r.reached) (lone w s h).roots ≡ true
-  known_places = of_each (λ e. not h.known || not (is_unknown e.item.pointer)) (λ e k. either h.known _ (λ so. ap not (isnt_unknown e k)))
+  pub known_places : list_all (λ (r : Root). list_all (λ e. not h.known || not (is_unknown e.item.pointer)) r.reached) (volume_seen w s h).roots ≡ true
+  known_places = of_each (λ e. not h.known || not (is_unknown e.item.pointer)) (λ places e k. either h.known _ (λ so. ap not (isnt_unknown places e k)))
 
-  -- ---- one place for each VVBN
+  -- ---- one place for each VVBN of a root
 
-  same_position : (a b : Item) → known a → known b → a.pointer.vvbn ≡ b.pointer.vvbn → is_same_position a b ≡ true
-  same_position a b k j alike =
-      let one = is.once k.from j.from a.level a.place b.level b.place (subst (λ (p : Pointer). p.stamp ≢ 0) k.stands k.some) (subst (λ (p : Pointer). p.stamp ≢ 0) j.stands j.some)
-      (ap (λ (p : Pointer). p.vvbn) (sym k.stands) ∙ alike ∙ ap (λ (p : Pointer). p.vvbn) j.stands) in
-      and_from (a.owner == b.owner) _ (equals a.owner b.owner (k.owner ∙ ap owner_number one.0 ∙ sym j.owner)) (and_from (a.level == b.level) _ (equals a.level b.level one.1.0) (equals a.place b.place one.1.1))
-
-  pub once : list_all (λ (r : Root). list_all (λ a. is_some a.at && list_all (λ b. not (a.item.pointer.vvbn == b.item.pointer.vvbn) || is_same_position a.item b.item) r.reached) r.reached) (lone w s h).roots ≡ true
-  once = of_each (λ a. is_some a.at && list_all (λ b. not (a.item.pointer.vvbn == b.item.pointer.vvbn) || is_same_position a.item b.item) (map (reached_at w s) es))
-      (λ a k. and_from (is_some (place w s a.pointer.vvbn)) _ (ap is_some k.lies)
+  pub once : list_all (λ (r : Root). list_all (λ a. is_some a.at && list_all (λ b. not (a.item.pointer.vvbn == b.item.pointer.vvbn) || is_same_position a.item b.item) r.reached) r.reached) (volume_seen w s h).roots ≡ true
+  unfolding root_seen
+  once = of_roots (λ (r : Root). list_all (λ a. is_some a.at && list_all (λ b. not (a.item.pointer.vvbn == b.item.pointer.vvbn) || is_same_position a.item b.item) r.reached) r.reached)
+      (λ k r one.
+      let rules = is k r one in
+      let es = items (standing_of w s r) in
+      list_all-map (λ a. is_some a.at && list_all (λ b. not (a.item.pointer.vvbn == b.item.pointer.vvbn) || is_same_position a.item b.item) (map (reached_at w s) es)) (reached_at w s) es
+      ∙ rules.each (λ a. is_some (place w s a.pointer.vvbn) && list_all (λ b. not (a.pointer.vvbn == b.item.pointer.vvbn) || is_same_position a b.item) (map (reached_at w s) es))
+      (λ a first. and_from (is_some (place w s a.pointer.vvbn)) _ (ap is_some first.lies)
       (list_all-map (λ b. not (a.pointer.vvbn == b.item.pointer.vvbn) || is_same_position a b.item) (reached_at w s) es
-      ∙ is.each (λ b. not (a.pointer.vvbn == b.pointer.vvbn) || is_same_position a b) (λ b j. either (a.pointer.vvbn == b.pointer.vvbn) _ (λ alike. same_position a b k j (meant a.pointer.vvbn b.pointer.vvbn alike)))))
-
-  -- what holds of each pointer holds of all items
-  of_items : (p : Item → Bool) → list_all p es ≡ true → list_all p (all_items (lone w s h)) ≡ true
-  of_items p all =
-      let some = list_all-map p (λ (r : Reached). r.item) (map (reached_at w s) es) ∙ list_all-map (λ (r : Reached). p r.item) (reached_at w s) es ∙ all in
-      list_all-append p (map (λ (r : Reached). r.item) (map (reached_at w s) es) ++ []) []
-      ∙ one_root _ (list_all-append p (map (λ (r : Reached). r.item) (map (reached_at w s) es)) [] ∙ one_root _ some)
-
-  same_id : (a b : Item) → known a → known b → agree (has_same_id a b) (a.pointer.vvbn == b.pointer.vvbn) ≡ true
-  same_id a b k j = ⊎_elim
-      (λ (alike : has_same_id a b ≡ true).
-      let parts = and_parts (is_same_position a b) (a.pointer.stamp == b.pointer.stamp) alike in
-      let places = and_parts (a.owner == b.owner) _ parts.0 in
-      let levels = and_parts (a.level == b.level) _ places.1 in
-      let owners : owner_number k.from ≡ owner_number j.from = sym k.owner ∙ meant a.owner b.owner places.0 ∙ j.owner in
-      let trees : k.from ≡ j.from = is.owned k.from j.from a.level a.place b.level b.place (subst (λ (p : Pointer). p.stamp ≢ 0) k.stands k.some) (subst (λ (p : Pointer). p.stamp ≢ 0) j.stands j.some) owners in
-      let level : a.level ≡ b.level = meant a.level b.level levels.0 in
-      let index : a.place ≡ b.place = meant a.place b.place levels.1 in
-      let pointer : a.pointer ≡ b.pointer = k.stands ∙ (λ i. led (trees i) (level i) (index i)) ∙ sym j.stands in
-      ap (λ (t : Bool). agree t (a.pointer.vvbn == b.pointer.vvbn)) alike ∙ equals a.pointer.vvbn b.pointer.vvbn (ap (λ (p : Pointer). p.vvbn) pointer))
-      (λ (differs : has_same_id a b ≡ false). ap (λ (t : Bool). agree t (a.pointer.vvbn == b.pointer.vvbn)) differs ∙ not_alike (a.pointer.vvbn == b.pointer.vvbn) refl differs)
-      (cases_Bool (has_same_id a b))
-    where
-      same_pointer : a.pointer.vvbn ≡ b.pointer.vvbn → a.pointer.stamp ≡ b.pointer.stamp
-      same_pointer alike =
-          let one = is.once k.from j.from a.level a.place b.level b.place (subst (λ (p : Pointer). p.stamp ≢ 0) k.stands k.some) (subst (λ (p : Pointer). p.stamp ≢ 0) j.stands j.some)
-          (ap (λ (p : Pointer). p.vvbn) (sym k.stands) ∙ alike ∙ ap (λ (p : Pointer). p.vvbn) j.stands) in
-          ap (λ (p : Pointer). p.stamp) (k.stands ∙ (λ i. led (one.0 i) (one.1.0 i) (one.1.1 i)) ∙ sym j.stands)
-
-      not_alike : (t : Bool) → (a.pointer.vvbn == b.pointer.vvbn) ≡ t → has_same_id a b ≡ false → not t ≡ true
-      not_alike false e isnt = refl
-      not_alike true e isnt =
-          let alike = meant a.pointer.vvbn b.pointer.vvbn e in
-          let has : has_same_id a b ≡ true = and_from (is_same_position a b) _ (same_position a b k j alike) (equals a.pointer.stamp b.pointer.stamp (same_pointer alike)) in
-          sym isnt ∙ has
-
-  pub ids : list_all (λ a. list_all (λ b. agree (has_same_id a b) (a.pointer.vvbn == b.pointer.vvbn)) (all_items (lone w s h))) (all_items (lone w s h)) ≡ true
-  ids = of_items (λ a. list_all (λ b. agree (has_same_id a b) (a.pointer.vvbn == b.pointer.vvbn)) (all_items (lone w s h)))
-      (is.each _ (λ a k. of_items (λ b. agree (has_same_id a b) (a.pointer.vvbn == b.pointer.vvbn)) (is.each (λ b. agree (has_same_id a b) (a.pointer.vvbn == b.pointer.vvbn)) (λ b j. same_id a b k j))))
-
-  pub stamps : list_all (λ e. nat_le e.pointer.stamp h.now) (all_items (lone w s h)) ≡ true
-  stamps = of_items (λ e. nat_le e.pointer.stamp h.now) (is.each (λ e. nat_le e.pointer.stamp h.now) (λ e k. at_most e.pointer.stamp h.now k.stamp))
-    where
-      at_most : (a b : ℕ) → a ≤ b → nat_le a b ≡ true
-      at_most a b le = grind (arith, nat_tests, le)
+      ∙ rules.each (λ b. not (a.pointer.vvbn == b.pointer.vvbn) || is_same_position a b) (λ b second. either (a.pointer.vvbn == b.pointer.vvbn) _ (λ alike.
+      (and_parts (is_same_position a b) _ (led_to_one w s h (led k r) (led k r) a b first second rules.numbers rules.numbers (one_itself w s h r (led k r) rules) (meant a.pointer.vvbn b.pointer.vvbn alike))).0)))))
 
   -- ---- without a base
 
-  pub split : h.base ≡ None → (test : Root → Bool) → list_all (λ (r : Root). not (is_splitting h.base) || test r) (lone w s h).roots ≡ true
-  split base test = one_root _ (ap (λ (o : Option Footing). not (is_splitting o) || test (lone_root w s h)) base)
+  module _ (base : h.base ≡ None) where
+    nothing : (test : Based → Bool) → list_all test (volume_seen w s h).base ≡ true
+    unfolding volume_seen base_seen
+    nothing test = ap (λ (o : Option Footing). list_all test (base_seen w s o)) base
 
-  pub rests : h.base ≡ None → (test : Root → Bool) → list_all (λ (r : Root). is_none h.base || test r) (lone w s h).roots ≡ true
-  rests base test = one_root _ (ap (λ (o : Option Footing). is_none o || test (lone_root w s h)) base)
+    -- what holds of each pointer of each root holds of all items
+    of_items : (test : Item → Bool) → ((k : ℕ) (r : Rooted) → In {X = ℕ × Rooted} (k, r) (roots_of h) → list_all test (items (standing_of w s r)) ≡ true) → list_all test (all_items (volume_seen w s h)) ≡ true
+    unfolding root_seen
+    of_items test f =
+        list_all-append test (flat_map (λ (r : Root). map (λ (e : Reached). e.item) r.reached) (volume_seen w s h).roots) (map (λ (b : Based). b.item) (volume_seen w s h).base)
+        ∙ and_from _ _
+        (all_flat test (λ (r : Root). map (λ (e : Reached). e.item) r.reached) (volume_seen w s h).roots ∙ of_roots (λ (r : Root). list_all test (map (λ (e : Reached). e.item) r.reached)) (λ k r one.
+        list_all-map test (λ (e : Reached). e.item) (map (reached_at w s) (items (standing_of w s r))) ∙ list_all-map (λ (e : Reached). test e.item) (reached_at w s) (items (standing_of w s r)) ∙ f k r one))
+        (list_all-map test (λ (b : Based). b.item) (volume_seen w s h).base ∙ nothing (λ (b : Based). test b.item))
+
+    pub ids : ((k : ℕ) (r : Rooted) (j : ℕ) (q : Rooted) → In {X = ℕ × Rooted} (k, r) (roots_of h) → In {X = ℕ × Rooted} (j, q) (roots_of h) → AreOneToOne (led k r) (led j q))
+        → list_all (λ a. list_all (λ b. agree (has_same_id a b) (a.pointer.vvbn == b.pointer.vvbn)) (all_items (volume_seen w s h))) (all_items (volume_seen w s h)) ≡ true
+    ids pairs = of_items (λ a. list_all (λ b. agree (has_same_id a b) (a.pointer.vvbn == b.pointer.vvbn)) (all_items (volume_seen w s h)))
+        (λ k r one. (is k r one).each _ (λ a first. of_items (λ b. agree (has_same_id a b) (a.pointer.vvbn == b.pointer.vvbn))
+        (λ j q two. (is j q two).each (λ b. agree (has_same_id a b) (a.pointer.vvbn == b.pointer.vvbn))
+        (λ b second. same_id w s h (led k r) (led j q) a b first second (is k r one).numbers (is j q two).numbers (pairs k r j q one two)))))
+
+    pub stamps : list_all (λ e. nat_le e.pointer.stamp h.now) (all_items (volume_seen w s h)) ≡ true
+    stamps = of_items (λ e. nat_le e.pointer.stamp h.now) (λ k r one. (is k r one).each (λ e. nat_le e.pointer.stamp h.now) (λ e known. at_most e.pointer.stamp h.now known.stamp))
+
+    pub split : (test : Root → Bool) → list_all (λ (r : Root). not (is_splitting h.base) || test r) (volume_seen w s h).roots ≡ true
+    split test = of_roots (λ (r : Root). not (is_splitting h.base) || test r) (λ k r one. ap (λ (o : Option Footing). not (is_splitting o) || test (root_seen w s k r)) base)
+
+    pub leaves : list_all (λ (b : Based). not b.own) (volume_seen w s h).base ≡ true
+    leaves = nothing (λ (b : Based). not b.own)
+
+    pub rests : (test : Root → Bool) → list_all (λ (r : Root). is_none h.base || test r) (volume_seen w s h).roots ≡ true
+    rests test = of_roots (λ (r : Root). is_none h.base || test r) (λ k r one. ap (λ (o : Option Footing). is_none o || test (root_seen w s k r)) base)

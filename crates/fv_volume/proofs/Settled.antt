@@ -5,7 +5,7 @@ use Rattle.std.specs.Option.{option_map}
 use Rattle.fv_container.specs.Mapped.{Mapped}
 use Rattle.fv_container.specs.Chains.{Slots, container_at}
 use Rattle.fv_volume.specs.declared.state.VolumeState.{VolumeState}
-use Rattle.fv_volume.specs.Files.{AreNamed, IsLabelled}
+use Rattle.fv_volume.specs.Files.{AreNamed, HasOwnSlots, IsLabelled}
 use Rattle.fv_volume.specs.Housed.{AreHoused, as_written, settled_as, settled_at}
 use Rattle.fv_volume.specs.Labels.{label_said}
 use Rattle.fv_volume.specs.Loading.{Houses}
@@ -73,6 +73,11 @@ still_labelled s x label is = record {
 settled_labelled : (s : ℕ) (o : Option VolumeState) (label : ℕ) → IfSome o (IsLabelled s) → IfSome (option_map (settled_as label) o) (IsLabelled s)
 settled_labelled s None label is = tt
 settled_labelled s (Some x) label is = settled_has (IsLabelled s) x label (λ e. still_labelled s x label is) (λ e. is)
+
+-- its snapshots keep their slots
+pub settled_slots : (s : ℕ) (o : Option VolumeState) (label : ℕ) → IfSome o (IsLabelled s) → IfSome (option_map (settled_as label) o) HasOwnSlots
+settled_slots s None label is = tt
+settled_slots s (Some x) label is = settled_has HasOwnSlots x label (λ e. (is.slots, is.snapshots.slots)) (λ e. (is.slots, is.snapshots.slots))
 
 -- and it keeps its container and its parent
 settled_houses : (o : Option VolumeState) (label : ℕ) (c : Option Mapped) → Houses o c → Houses (option_map (settled_as label) o) c

@@ -7,17 +7,19 @@ use Rattle.std.specs.Cmp.{nat_cmp_total}
 use Rattle.std.specs.FinMap as fin
 use Rattle.std.proofs.lemmas.Bool.{cases_Bool, cases_eq, cases_lt}
 use Rattle.std.proofs.lemmas.Bool.Decides.{nat_tests}
+use Rattle.std.proofs.lemmas.List.{get_or_past}
 use Rattle.std.proofs.lemmas.List.Elements.{All-get_or}
 use Rattle.fv_disk.specs.Shown.{Image}
 use Rattle.fv_disk.specs.declared.fault.BlockFault.{BlockFault}
 use Rattle.fv_disk.specs.declared.fault.BlockFault.TheVariants.{DiskFault, Damaged, Memory}
 use Rattle.fv_bits.specs.Members.{is_member}
 use Rattle.fv_bits.proofs.Counts.{passing}
+use Rattle.fv_bits.proofs.Laws.{is_member_past}
 use Rattle.fv_image.proofs.Counts.{listed_within, none_between, within_two}
 use Rattle.fv_container.specs.declared.entry.Entry.{Entry}
 use Rattle.fv_container.specs.Chains.{Slots, chain_entry}
 use Rattle.fv_tree.specs.Sources.{IsDamaged}
-use Rattle.fv_volmap.specs.Slots.{Allocates, IsVolume, Slot, Volume, active_of, map_or_empty, taken_in, with_slot}
+use Rattle.fv_volmap.specs.Slots.{Allocates, IsVolume, Slot, Volume, active_of, has, map_or_empty, slot_at, taken_in, with_slot}
 use Rattle.fv_volume.specs.declared.pool.Pool.{Pool}
 use Rattle.fv_volume.specs.BlocksOver.{AreApart, IsLooseFault, block_of, free_numbers, held_block, held_entry, place_of}
 use Rattle.fv_volume.specs.Lending.{below, blocks_held, use_of, use_under, with_block}
@@ -172,6 +174,20 @@ pub active_long : (map : Volume) → IsVolume map → length (active_of map) ≡
 active_long map is =
     let all = All-get_or (λ (slot : Slot). IfSome slot (λ m. length m ≡ map.span)) map.slots 0 None (omega (arith, is.count)) is.long in
     subst (λ (s : Slot). IfSome s (λ m. length m ≡ map.span)) is.active all
+
+-- a number that a slot has is one of the span
+pub slot_below : (map : Volume) → IsVolume map → (k v : ℕ) → has v (slot_at map k) ≡ true → v < map.span
+slot_below map is k v there = ⊎_elim
+    (λ (low : k < length map.slots). by (slot_at map k) (All-get_or (λ (slot : Slot). IfSome slot (λ m. length m ≡ map.span)) map.slots k None low is.long) there)
+    (λ (past : length map.slots ≤ k). absurd (wrong (sym (ap (has v) (get_or_past map.slots k None past)) ∙ there)))
+    (cases_lt k (length map.slots))
+  where
+    wrong : false ≡ true → ⊥
+    wrong e = cc
+
+    by : (o : Slot) → IfSome o (λ m. length m ≡ map.span) → has v o ≡ true → v < map.span
+    by None long e = absurd (wrong e)
+    by (Some m) long e = ⊎_elim (λ (low : v < length m). omega (arith, low, long)) (λ (past : length m ≤ v). absurd (wrong (sym (is_member_past m v past) ∙ e))) (cases_lt v (length m))
 
 module _ (map after : Volume) (v : ℕ) (is : IsVolume map) (number : Allocates map v after) where
   abbrev more : List Bool

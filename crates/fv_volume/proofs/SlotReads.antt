@@ -1,12 +1,12 @@
--- The map of any slot as it is read from its blocks, one after another; the other slots stay.
-use Rattle.std.proofs.Common.{◌≡◌, ◌≢◌, ◌<◌, ◌≤◌, ◌+◌, ◌*◌, ℕ, Bool, true, false, List, length, length-set, replicate, Option, Some, None, refl, sym, ap, ◌∙◌, ⊎_elim, arith}
-use Rattle.std.specs.Prelude.{nat_lt, ◌&&◌, is_some}
-use Rattle.std.proofs.lemmas.Bool.{cases_lt}
+-- The maps of slots as they are read from their blocks, one after another; the other slots stay.
+use Rattle.std.proofs.Common.{◌≡◌, ◌≢◌, ◌<◌, ◌≤◌, ◌+◌, ◌*◌, ◌%◌, ℕ, Bool, true, false, List, length, length-set, replicate, Option, Some, None, refl, sym, ap, subst, ◌∙◌, ⊎_elim, arith}
+use Rattle.std.specs.Prelude.{nat_lt, ◌&&◌, ◌||◌, ◌==◌, is_some, IfNone, IfSome}
+use Rattle.std.proofs.lemmas.Bool.{cases_eq, cases_lt, true≢false}
 use Rattle.std.proofs.lemmas.Bool.Decides.{nat_tests}
 use Rattle.std.proofs.lemmas.List.{get_or-set_other, get_or-set_same}
 use Rattle.fv_disk.specs.Shown.{Image}
 use Rattle.fv_bits.specs.Bits.{bit_of_area, bit_of_bytes, block_bits}
-use Rattle.fv_bits.specs.Members.{TakesBlock, is_member}
+use Rattle.fv_bits.specs.Members.{IsFirstPast, TakesBlock, is_member}
 use Rattle.fv_bits.proofs.Laws.{is_member-replicate, taken_more, zero_block}
 use Rattle.fv_model.specs.Space.{map_blocks}
 use Rattle.fv_codec.specs.declared.label.Label.{Label}
@@ -17,13 +17,16 @@ use Rattle.fv_container.specs.Mapped.{IsMapped, Mapped, entry_under}
 use Rattle.fv_container.specs.Spelled.{Spelled}
 use Rattle.fv_root.specs.declared.find.Found.{Found}
 use Rattle.fv_root.specs.Finding.{root_found}
-use Rattle.fv_volmap.specs.Slots.{IsVolume, Loads, Slot, Volume, has, map_or_empty, slot_at, slot_count}
-use Rattle.fv_volume.specs.Loading.{entry_block, label_of}
-use Rattle.fv_volume.specs.SlotReads.{HasReadSlot, slot_bit}
+use Rattle.fv_volmap.specs.Slots.{IsVolume, Loads, Slot, Volume, empty_volume, has, map_or_empty, slot_at, slot_count, stored_count}
+use Rattle.fv_volume.specs.declared.state.Snap.{Snap}
+use Rattle.fv_volume.specs.Loading.{HaveBits, entry_block, is_slot_with, is_used_slot, label_of}
+use Rattle.fv_volume.specs.SlotReads.{AreUsedTo, HasReadSlot, HaveRead, TakesSlot, slot_bit}
+use Rattle.fv_volume.specs.Snapshots.{has_slot}
+use Rattle.fv_volume.proofs.MapSlots.{one_empty}
 use Rattle.fv_volume.proofs.Mapping.{block_there}
 
 -- a free slot has what an empty map has
-has_or_empty : (span v : ℕ) (s : Slot) → has v s ≡ is_member (map_or_empty span s) v
+pub has_or_empty : (span v : ℕ) (s : Slot) → has v s ≡ is_member (map_or_empty span s) v
 has_or_empty span v None = sym (is_member-replicate span v)
 has_or_empty span v (Some map) = refl
 
@@ -37,6 +40,37 @@ slot_now old new slot index block low is loads =
 -- every other slot stays
 pub others_stay : (old new : Volume) (slot index : ℕ) (block : List ℕ) → Loads old slot index block new → (k : ℕ) → k ≢ slot → slot_at new k ≡ slot_at old k
 others_stay old new slot index block loads k other = ap (λ (m : Volume). slot_at m k) loads.volume ∙ get_or-set_other old.slots slot k (Some loads.map) None other
+
+pub at_none : {X : Type 0} (o : Option X) (P : Type 0) → o ≡ None → IfNone o P → P
+at_none None P is holds = holds
+at_none (Some x) P is holds = absurd cc
+
+-- zeros have no bit past the span
+pub zeros_past : (span index n number : ℕ) → IsFirstPast span index (replicate n 0) number → ⊥
+zeros_past span index n number past = true≢false (sym past.bit ∙ zero_block n (number % 32768))
+
+-- so zeros are taken
+pub zeros_taken : (o : Option ℕ) (P : Type 0) (span index n : ℕ) → IfNone o P → IfSome o (IsFirstPast span index (replicate n 0)) → P
+zeros_taken None P span index n is past = is
+zeros_taken (Some number) P span index n is past = absurd (zeros_past span index n number past)
+
+-- a block was taken
+pub takes_block : (old new : Volume) (slot index : ℕ) (block : List ℕ) → slot < slot_count → IsVolume new → Loads old slot index block new → TakesSlot old slot 1 new
+takes_block old new slot index block low is loads = record {
+  span = ap (λ (m : Volume). m.span) loads.volume;
+  used = λ some. ap (λ (s : Slot). is_some s) (slot_now old new slot index block low is loads);
+  others = others_stay old new slot index block loads;
+}
+
+pub takes_none : (m : Volume) (slot : ℕ) → TakesSlot m slot 0 m
+takes_none m slot = record { span = refl; used = λ some. absurd (omega (arith, some)); others = λ k other. refl }
+
+pub takes_more : (a b c : Volume) (slot count : ℕ) → TakesSlot a slot count b → TakesSlot b slot 1 c → TakesSlot a slot (count + 1) c
+takes_more a b c slot count before one = record {
+  span = one.span ∙ before.span;
+  used = λ some. one.used (omega arith);
+  others = λ k other. one.others k other ∙ before.others k other;
+}
 
 module _ (i : Image) (c : Mapped) (span slot : ℕ) where
   area : ℕ → List ℕ
@@ -71,16 +105,14 @@ module _ (i : Image) (c : Mapped) (span slot : ℕ) where
         clear = λ v from. is v ∙ taken.others v (omega (arith, from)) ∙ was v ∙ so_far.clear v (omega (arith, from));
       }
 
-  -- a block of another slot changes nothing of what was read
-  pub other_read : (count j k : ℕ) (block : List ℕ) (old new : Volume) → slot ≢ j → Loads old j k block new → HasReadSlot i c span slot count old → HasReadSlot i c span slot count new
-  other_read count j k block old new other loads so_far =
-      let same : slot_at new slot ≡ slot_at old slot = others_stay old new j k block loads slot other in
-      record {
-        size = ap (λ (m : Volume). m.span) loads.volume ∙ so_far.size;
-        used = λ some. ap (λ (s : Slot). is_some s) same ∙ so_far.used some;
-        bits = λ v below. ap (has v) same ∙ so_far.bits v below;
-        clear = λ v from. ap (has v) same ∙ so_far.clear v from;
-      }
+  -- what was read of a slot that stays
+  pub read_stays : (count : ℕ) (old new : Volume) → new.span ≡ old.span → slot_at new slot ≡ slot_at old slot → HasReadSlot i c span slot count old → HasReadSlot i c span slot count new
+  read_stays count old new size same so_far = record {
+    size = size ∙ so_far.size;
+    used = λ some. ap (λ (s : Slot). is_some s) same ∙ so_far.used some;
+    bits = λ v below. ap (has v) same ∙ so_far.bits v below;
+    clear = λ v from. ap (has v) same ∙ so_far.clear v from;
+  }
 
   -- the whole map has the bits of its blocks
   pub whole_read : (m : Volume) → HasReadSlot i c span slot (map_blocks span) m → (v : ℕ) → has v (slot_at m slot) ≡ slot_bit i c span slot v
@@ -102,3 +134,117 @@ module _ (found : Found) (i : Image) (s : ℕ) (l : Label) (map : Mapped) (lies 
 
   pub slot_read : (m : Volume) (span slot : ℕ) → HasReadSlot i map span slot (map_blocks span) m → (v : ℕ) → has v (slot_at m slot) ≡ volume_bit (view_at (root_found found) i) s span slot v
   slot_read m span slot read v = whole_read i map span slot m read v ∙ slot_told span slot v
+
+  -- so it is with all maps that were read
+  pub bits_read : (m : Volume) (span : ℕ) (snaps : List Snap) → AreUsedTo snaps stored_count m → HaveRead i map span stored_count m → HaveBits (view_at (root_found found) i) s span m
+  bits_read m span snaps used read k v low = so (slot_at m k) refl
+    where
+      test : nat_lt k stored_count ≡ true
+      test = grind (arith, nat_tests, low)
+
+      always : (b : Bool) → (b || true) ≡ true
+      always true = refl
+      always false = refl
+
+      -- a free slot isn't the active one
+      later : is_some (slot_at m k) ≡ false → (k == 0) ≡ false
+      later none = first (k == 0) (has_slot snaps k) (ap (λ (b : Bool). b && is_slot_with snaps k) (sym test) ∙ sym (used.each k) ∙ none)
+        where
+          first : (a b : Bool) → (a || b) ≡ false → a ≡ false
+          first true b e = e
+          first false b e = refl
+
+      so : (o : Slot) → slot_at m k ≡ o → has v (slot_at m k) ≡ (is_used_slot m k && volume_bit (view_at (root_found found) i) s span k v)
+      so None e =
+          let none : is_some (slot_at m k) ≡ false = ap (λ (o : Slot). is_some o) e in
+          ap (has v) e ∙ sym (λ j. (later none j || none j) && volume_bit (view_at (root_found found) i) s span k v)
+      so (Some b) e =
+          let some : is_some (slot_at m k) ≡ true = ap (λ (o : Slot). is_some o) e in
+          slot_read m span k (read.each k low some) v
+          ∙ sym (ap (λ (t : Bool). t && volume_bit (view_at (root_found found) i) s span k v) (ap (λ (t : Bool). (k == 0) || t) some ∙ always (k == 0)))
+
+-- ---- slot by slot
+
+module _ (snaps : List Snap) where
+  -- the active one first
+  pub used_first : (span count : ℕ) (new : Volume) → 1 ≤ count → TakesSlot (empty_volume span) 0 count new → AreUsedTo snaps 1 new
+  used_first span count new some takes = record {
+    each = λ k. ⊎_elim
+        (λ (e : k ≡ 0). subst (λ (n : ℕ). is_some (slot_at new n) ≡ (nat_lt n 1 && is_slot_with snaps n)) (sym e) (takes.used some))
+        (λ (other : k ≢ 0).
+        let past : nat_lt k 1 ≡ false = grind (arith, nat_tests, other) in
+        ap (λ (o : Slot). is_some o) (takes.others k other ∙ one_empty span k other) ∙ sym (ap (λ (b : Bool). b && is_slot_with snaps k) past))
+        (cases_eq k 0);
+  }
+
+  module _ (slot : ℕ) (old : Volume) (so_far : AreUsedTo snaps slot old) where
+    same_before : (k : ℕ) → k ≢ slot → nat_lt k slot ≡ nat_lt k (slot + 1)
+    same_before k other = ⊎_elim
+        (λ (low : k < slot). (let a : nat_lt k slot ≡ true = grind (arith, nat_tests, low) in a) ∙ sym (let b : nat_lt k (slot + 1) ≡ true = grind (arith, nat_tests, low) in b))
+        (λ (high : slot ≤ k). (let a : nat_lt k slot ≡ false = grind (arith, nat_tests, high) in a) ∙ sym (let b : nat_lt k (slot + 1) ≡ false = grind (arith, nat_tests, high, other) in b))
+        (cases_lt k slot)
+
+    here : nat_lt slot (slot + 1) ≡ true
+    here = grind (arith, nat_tests)
+
+    pub free_yet : is_some (slot_at old slot) ≡ false
+    free_yet = so_far.each slot ∙ ap (λ (b : Bool). b && is_slot_with snaps slot) (let past : nat_lt slot slot ≡ false = grind (arith, nat_tests) in past)
+
+    pub none_has : (v : ℕ) → has v (slot_at old slot) ≡ false
+    none_has v = so (slot_at old slot) free_yet
+      where
+        so : (o : Slot) → is_some o ≡ false → has v o ≡ false
+        so None e = refl
+        so (Some map) e = absurd (true≢false e)
+
+    module _ (above : 1 ≤ slot) where
+      which : is_slot_with snaps slot ≡ has_slot snaps slot
+      which = ap (λ (b : Bool). b || has_slot snaps slot) (let first : (slot == 0) ≡ false = grind (arith, nat_tests, above) in first)
+
+      -- a slot that no snapshot has is passed,
+      pub used_passed : has_slot snaps slot ≡ false → AreUsedTo snaps (slot + 1) old
+      used_passed none = record {
+        each = λ k. ⊎_elim
+            (λ (e : k ≡ slot). subst (λ (n : ℕ). is_some (slot_at old n) ≡ (nat_lt n (slot + 1) && is_slot_with snaps n)) (sym e)
+            (free_yet ∙ sym (ap (λ (b : Bool). b && is_slot_with snaps slot) here ∙ which ∙ none)))
+            (λ (other : k ≢ slot). so_far.each k ∙ ap (λ (b : Bool). b && is_slot_with snaps k) (same_before k other))
+            (cases_eq k slot);
+      }
+
+      -- and one that a snapshot has is taken
+      pub used_more : (count : ℕ) (new : Volume) → 1 ≤ count → TakesSlot old slot count new → has_slot snaps slot ≡ true → AreUsedTo snaps (slot + 1) new
+      used_more count new some takes one = record {
+        each = λ k. ⊎_elim
+            (λ (e : k ≡ slot). subst (λ (n : ℕ). is_some (slot_at new n) ≡ (nat_lt n (slot + 1) && is_slot_with snaps n)) (sym e)
+            (takes.used some ∙ sym (ap (λ (b : Bool). b && is_slot_with snaps slot) here ∙ which ∙ one)))
+            (λ (other : k ≢ slot). ap (λ (o : Slot). is_some o) (takes.others k other) ∙ so_far.each k ∙ ap (λ (b : Bool). b && is_slot_with snaps k) (same_before k other))
+            (cases_eq k slot);
+      }
+
+    module _ (i : Image) (c : Mapped) (span : ℕ) (read : HaveRead i c span slot old) where
+      pub read_passed : HaveRead i c span (slot + 1) old
+      read_passed = record {
+        each = λ k low used. ⊎_elim
+            (λ (e : k ≡ slot). absurd (true≢false (sym (ap (λ (n : ℕ). is_some (slot_at old n)) (sym e) ∙ used) ∙ free_yet)))
+            (λ (other : k ≢ slot). read.each k (omega (arith, low, other)) used)
+            (cases_eq k slot);
+      }
+
+      pub read_more : (count : ℕ) (new : Volume) → TakesSlot old slot count new → HasReadSlot i c span slot (map_blocks span) new → HaveRead i c span (slot + 1) new
+      read_more count new takes now = record {
+        each = λ k low used. ⊎_elim
+            (λ (e : k ≡ slot). subst (λ (n : ℕ). HasReadSlot i c span n (map_blocks span) new) (sym e) now)
+            (λ (other : k ≢ slot).
+            let same = takes.others k other in
+            read_stays i c span k (map_blocks span) old new takes.span same (read.each k (omega (arith, low, other)) (ap (λ (o : Slot). is_some o) (sym same) ∙ used)))
+            (cases_eq k slot);
+      }
+
+-- the active map alone was read
+pub read_first : (i : Image) (c : Mapped) (span : ℕ) (new : Volume) → HasReadSlot i c span 0 (map_blocks span) new → HaveRead i c span 1 new
+read_first i c span new now = record {
+  each = λ k low used. let e : k ≡ 0 = omega (arith, low) in subst (λ (n : ℕ). HasReadSlot i c span n (map_blocks span) new) (sym e) now;
+}
+
+pub empty_read : (i : Image) (c : Mapped) (span : ℕ) → HasReadSlot i c span 0 0 (empty_volume span)
+empty_read i c span = none_read i c span 0 (empty_volume span) refl (λ v. is_member-replicate span v)

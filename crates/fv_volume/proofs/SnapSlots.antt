@@ -143,7 +143,7 @@ module _ (h : Head) (a : Rooted) (m : Maps) (long : stored_count < length m.slot
 -- ---- the union of the slots
 
 -- where no base has one, the stored slots have all
-stored_taken : (slots : List Slot) (v : ℕ) → length slots ≡ 26 → has v (slot_at (record { span = 0; slots = slots }) slot_of_base) ≡ false → taken_in slots v ≡ taken_in (take stored_count slots) v
+pub stored_taken : (slots : List Slot) (v : ℕ) → length slots ≡ 26 → has v (slot_at (record { span = 0; slots = slots }) slot_of_base) ≡ false → taken_in slots v ≡ taken_in (take stored_count slots) v
 stored_taken slots v long free =
     sym (ap (λ (s : List Slot). taken_in s v) (take_all 26 slots (omega (arith, long))))
     ∙ list_any_more (has v) slots 25 None (omega (arith, long)) ∙ ap (λ (b : Bool). taken_in (take stored_count slots) v || b) free ∙ or_none (taken_in (take stored_count slots) v)
@@ -155,4 +155,4 @@ stored_taken slots v long free =
 -- The union of the slots of a volume without a base that is mapped has what its roots reach.
 pub united_listed : (w : View) (s : ℕ) (h : Head) (m : Maps) → IsVolume m → AreMapped w s h m → AreInSlots h → slot_at m slot_of_base ≡ None → (map : List Bool) → AreUnited m map → (v : ℕ) → is_member map v ≡ is_listed (own_items w s h) v
 united_listed w s h m is mapped slots base map united v =
-    united.members v ∙ stored_taken m.slots v (let long = is.count in omega (arith, long)) (ap (has v) base) ∙ stored_listed w s h m is mapped slots v
+    united.members v ∙ stored_taken m.slots v (let long = is.count in omega (arith, long)) (ap (has v) base) ∙ stored_listed w s h m mapped slots v

@@ -1,7 +1,6 @@
 -- What the placing of one volume's files takes of its numbers and of the blocks.
-use Rattle.std.proofs.Common.{◌≡◌, ℕ, ◌+◌, ◌<◌, ◌≤◌, is_some, length, Option, Some, None, refl, sym, ap, subst, arith}
+use Rattle.std.proofs.Common.{◌≡◌, ℕ, ◌+◌, ◌<◌, ◌≤◌, is_some, Option, Some, None, refl, sym, ap, subst, arith}
 use Rattle.std.specs.Prelude.{min}
-use Rattle.fv_volmap.specs.Slots.{IsVolume, Volume, active_of}
 use Rattle.fv_disk.specs.Shown.{Shown}
 use Rattle.fv_aggmap.specs.Space.{free_blocks}
 use Rattle.fv_files.specs.declared.files.Files.{Files}
@@ -12,11 +11,6 @@ use Rattle.fv_volume.specs.Lending.{lent_for}
 use Rattle.fv_volume.specs.OneVolume.{home_in, IsStanding}
 use Rattle.fv_volume.specs.Placing.{pending_of, Goes}
 use Rattle.fv_volume.specs.Held.{HasNumbers, HasSpent, IsPlacedAs}
-use Rattle.fv_volume.proofs.Shows.{active_long}
-
--- the active map of a volume has each number of its span
-pub whole_map : (map : Volume) → IsVolume map → length (active_of map) ≡ map.span
-whole_map map is = active_long map is
 
 -- what was placed of a volume, by the room that there was for it
 pub spends : (disk : Shown) (pool : Pool) (x : VolumeState) (room : ℕ) (left : Pool) (y : VolumeState) (rest : ℕ) → room ≡ min (min (free_blocks pool.map) (pending_of x.files + 1)) (free_numbers x.map)

@@ -1,9 +1,9 @@
 -- Which entries stay where a volume is written.
-use Rattle.std.proofs.Common.{◌≡◌, ◌≢◌, ℕ, zero, suc, ◌+◌, ◌-◌, ◌*◌, ◌/◌, ◌%◌, ◌<◌, ◌≤◌, Bool, true, false, not, ◌&&◌, ◌||◌, List, [], ◌∷◌, ◌==◌, cond, take, replicate, get_or, if◌then◌else◌, refl, sym, ap, ◌∙◌, ⊎_elim, arith}
-use Rattle.std.specs.Prelude.{Some, None, is_some, nat_le, nat_lt, slice_index_or}
+use Rattle.std.proofs.Common.{◌≡◌, ◌≢◌, ℕ, ◌+◌, ◌-◌, ◌*◌, ◌/◌, ◌%◌, ◌<◌, ◌≤◌, Bool, true, false, not, ◌&&◌, ◌||◌, List, [], ◌==◌, cond, take, replicate, get_or, if◌then◌else◌, refl, sym, ap, ◌∙◌, ⊎_elim, arith}
+use Rattle.std.specs.Prelude.{is_some, nat_le, nat_lt}
 use Rattle.std.specs.List.{list_any}
 use Rattle.std.proofs.Math.Nat.{div-lt_iff_lt-mul, div-zero, mod-lt}
-use Rattle.std.proofs.lemmas.Nat.{div-mul-add, le-div, mod-mul-add}
+use Rattle.std.proofs.lemmas.Nat.{div-mul-add, mod-mul-add}
 use Rattle.std.proofs.lemmas.Bool.{and_from, and_parts, cases_eq, true≢false}
 use Rattle.std.proofs.lemmas.Bool.Decides.{nat_tests}
 use Rattle.fv_bits.specs.Members.{is_member}
@@ -11,8 +11,7 @@ use Rattle.fv_bits.proofs.Laws.{is_member-replicate}
 use Rattle.fv_bits.proofs.Counts.{none_pass, passing, passing-add, passing-suc, passing_same}
 use Rattle.fv_model.specs.Space.{map_blocks}
 use Rattle.fv_image.specs.Views.{Snap, entry_count, map_vvbn}
-use Rattle.fv_image.proofs.LoneTables.{form_snapshots}
-use Rattle.fv_volmap.specs.Slots.{Slot, Volume as Maps, active_of, has, map_or_empty, slot_at, stored_count, taken_in}
+use Rattle.fv_volmap.specs.Slots.{Slot, slot_at, stored_count, taken_in}
 use Rattle.fv_volume.specs.declared.state.VolumeState.{VolumeState}
 use Rattle.fv_volume.specs.Files.{IsLabelled, IsOneMap}
 use Rattle.fv_volume.specs.States.{head_in}
@@ -34,10 +33,6 @@ no_waits x is k waits = absurd (true≢false (sym waits ∙ none_fresh x.fresh i
 and_false : (b : Bool) → (b && false) ≡ false
 and_false true = refl
 and_false false = refl
-
-or_false : (b : Bool) → (b || false) ≡ b
-or_false true = refl
-or_false false = refl
 
 -- the active map is always written
 pub active_moves : (x : VolumeState) → has_stored_map x 0 ≡ false
@@ -63,37 +58,7 @@ stays_within x v is = by (nat_lt v x.span) refl is
     by true e has = let low : v < x.span = grind (arith, nat_tests, e) in omega (arith, low)
     by false e has = later has
 
--- a number that the active map has stays
-pub active_stays : (x : VolumeState) (v : ℕ) → v < x.span → is_member (active_of x.map) v ≡ true → stays x v ≡ true
-active_stays x v low is =
-    let test : nat_lt v x.span ≡ true = grind (arith, nat_tests, low) in
-    ap (λ (t : Bool). if t then taken_in (take stored_count x.map.slots) v else has_stored_map x (map_slot x.span v)) test ∙ row x.map.slots is
-  where
-    none : is_member (map_or_empty x.map.span None) v ≡ true → ⊥
-    none is = true≢false (sym is ∙ is_member-replicate x.map.span v)
-
-    row : (ss : List Slot) → is_member (map_or_empty x.map.span (slice_index_or ss 0 None)) v ≡ true → taken_in (take stored_count ss) v ≡ true
-    row [] is = absurd (none is)
-    row (None ∷ ss) is = absurd (none is)
-    row (Some a ∷ ss) is = ap (λ (t : Bool). t || taken_in (take 24 ss) v) is
-
 -- ---- where no slot but the active one is used
-
-none_taken : (n : ℕ) (ss : List Slot) (v : ℕ) → ((k : ℕ) → slice_index_or ss k None ≡ None) → taken_in (take n ss) v ≡ false
-none_taken zero ss v free = refl
-none_taken (suc n) [] v free = refl
-none_taken (suc n) (s ∷ ss) v free = ap (λ (t : Bool). t || taken_in (take n ss) v) (ap (has v) (free 0)) ∙ none_taken n ss v (λ k. free (suc k))
-
-pub taken_alone : (m : Maps) → IsOneMap m → (v : ℕ) → taken_in (take stored_count m.slots) v ≡ is_member (active_of m) v
-taken_alone m one v = row m.slots one
-  where
-    rest : (ss : List Slot) → ((k : ℕ) → slice_index_or ss k None ≡ None) → taken_in (take 24 ss) v ≡ false
-    rest ss free = none_taken 24 ss v free
-
-    row : (ss : List Slot) → ((k : ℕ) → k ≢ 0 → slice_index_or ss k None ≡ None) → taken_in (take stored_count ss) v ≡ is_member (map_or_empty m.span (slice_index_or ss 0 None)) v
-    row [] free = sym (is_member-replicate m.span v)
-    row (None ∷ ss) free = rest ss (λ k. free (suc k) (omega arith)) ∙ sym (is_member-replicate m.span v)
-    row (Some a ∷ ss) free = ap (λ (t : Bool). is_member a v || t) (rest ss (λ k. free (suc k) (omega arith))) ∙ or_false (is_member a v)
 
 pub moves_alone : (x : VolumeState) → IsOneMap x.map → (k : ℕ) → has_stored_map x k ≡ false
 moves_alone x one k = ⊎_elim
@@ -101,14 +66,6 @@ moves_alone x one k = ⊎_elim
     (λ (other : k ≢ 0).
     ap (λ (s : Slot). nat_lt k stored_count && (is_some s && not (is_rewritten x k))) (one k other) ∙ and_false (nat_lt k stored_count))
     (cases_eq k 0)
-
--- what stays is what the active map has
-pub stays_alone : (x : VolumeState) → IsOneMap x.map → (v : ℕ) → stays x v ≡ (nat_lt v x.span && is_member (active_of x.map) v)
-stays_alone x one v = by (nat_lt v x.span)
-  where
-    by : (t : Bool) → (if t then taken_in (take stored_count x.map.slots) v else has_stored_map x (map_slot x.span v)) ≡ (t && is_member (active_of x.map) v)
-    by true = taken_alone x.map one v
-    by false = moves_alone x one (map_slot x.span v)
 
 -- ---- blocks of maps that are written
 
@@ -201,29 +158,19 @@ written_at x j k is few within =
     let below : nat_lt (map_vvbn x.span j k) (entry_count x.span) ≡ true = grind (arith, nat_tests, high) in
     and_from _ _ past (and_from _ _ below (ap (is_rewritten x) (slot_there x.span j k within) ∙ is))
 
+-- a block of a map that a point leaves stays
+pub stored_stays : (x : VolumeState) (k j : ℕ) → has_stored_map x k ≡ true → j < map_blocks x.span → stays x (map_vvbn x.span k j) ≡ true
+stored_stays x k j on within =
+    let past : nat_lt (map_vvbn x.span k j) x.span ≡ false = grind (arith, nat_tests) in
+    ap (λ (t : Bool). if t then taken_in (take stored_count x.map.slots) (map_vvbn x.span k j) else has_stored_map x (map_slot x.span (map_vvbn x.span k j))) past
+    ∙ ap (has_stored_map x) (slot_there x.span k j within) ∙ on
+
 -- ---- where no map waits
 
--- Without snapshots the active map alone is written.
-pub rewritten_first : (slot : ℕ) (x : VolumeState) → IsLabelled slot x → (k : ℕ) → k ≢ 0 → is_rewritten x k ≡ false
-rewritten_first slot x is k other = so (get_or x.fresh k false) refl
+-- Without snapshots none does.
+pub none_marked : (slot : ℕ) (x : VolumeState) → IsLabelled slot x → (head_in x).snapshots ≡ [] → (k : ℕ) → get_or x.fresh k false ≡ false
+none_marked slot x is empty k = so (get_or x.fresh k false) refl
   where
-    zero_not : (k == 0) ≡ false
-    zero_not = grind (arith, nat_tests, other)
-
-    none : get_or x.fresh k false ≡ true → ⊥
-    none waits = true≢false (sym (is.waits k waits) ∙ ap (λ (ps : List Snap). list_any (λ p. p.slot == k) ps) (form_snapshots (head_in x) is.form))
-
-    so : (t : Bool) → get_or x.fresh k false ≡ t → ((k == 0) || get_or x.fresh k false) ≡ false
-    so true e = absurd (none e)
-    so false e = ap (λ (t : Bool). t || get_or x.fresh k false) zero_not ∙ e
-
-pub unwritten_past : (slot : ℕ) (x : VolumeState) → IsLabelled slot x → (v : ℕ) → x.span + map_blocks x.span ≤ v → is_map_written x v ≡ false
-unwritten_past slot x is v past = so (is_map_written x v) refl
-  where
-    so : (t : Bool) → is_map_written x v ≡ t → t ≡ false
+    so : (t : Bool) → get_or x.fresh k false ≡ t → t ≡ false
+    so true waits = absurd (true≢false (sym (is.waits k waits) ∙ ap (λ (ps : List Snap). list_any (λ p. p.slot == k) ps) empty))
     so false e = refl
-    so true e =
-        let parts = written_parts x v e in
-        let inside = parts.1.0 in
-        let later : 1 ≤ map_slot x.span v = le-div 1 (v - x.span) (map_blocks x.span) (omega (arith, inside, past)) (omega (arith, past)) in
-        absurd (true≢false (sym parts.1.1 ∙ rewritten_first slot x is (map_slot x.span v) (omega (arith, later))))

@@ -1,10 +1,9 @@
 -- A loaded volume stays loaded in an image that has the blocks which its slot holds.
-use Rattle.std.proofs.Common.{◌≡◌, ℕ, ◌*◌, ◌<◌, ◌≤◌, false, length, refl, sym, ap, subst, ◌∙◌, arith}
+use Rattle.std.proofs.Common.{Bool, ◌≡◌, ℕ, ◌*◌, ◌<◌, ◌≤◌, false, length, refl, sym, ap, subst, ◌∙◌, arith}
 use Rattle.std.specs.Prelude.{Option, Some, None, IfSome, ◌&&◌, nat_lt}
 use Rattle.std.specs.Option.{option_map}
 use Rattle.fv_disk.specs.Shown.{Image}
 use Rattle.fv_bits.specs.Bits.{bit_of_area}
-use Rattle.fv_bits.specs.Members.{is_member}
 use Rattle.fv_codec.specs.declared.label.Label.{Label}
 use Rattle.fv_model.specs.Space.{map_blocks}
 use Rattle.fv_image.specs.Layout.{block_bits}
@@ -25,9 +24,8 @@ use Rattle.fv_image.proofs.Named.{node_held, slot_in}
 use Rattle.fv_container.specs.Mapped.{Mapped}
 use Rattle.fv_root.specs.declared.find.Found.{Found}
 use Rattle.fv_root.specs.Finding.{root_found}
-use Rattle.fv_volmap.specs.Slots.{active_of}
 use Rattle.fv_volume.specs.declared.state.VolumeState.{VolumeState}
-use Rattle.fv_volume.specs.Loading.{IsContainerOf, IsLoaded, label_of}
+use Rattle.fv_volume.specs.Loading.{HaveBits, IsContainerOf, IsLoaded, is_used_slot, label_of}
 use Rattle.fv_volume.specs.UnderRoot.{StandsUnder}
 use Rattle.fv_volume.proofs.LoadedBlocks.{loaded_holds}
 use Rattle.fv_volume.proofs.Spelling.{spelled_kept}
@@ -63,9 +61,9 @@ module _ (found next : Found) (i j : Image) (s : ℕ) (inside : s < 64) (place :
   unfolding layout_at view_at
   same_entry v = ap (λ (p : ℕ). entry_from (label_in (lying_at j p)) j v) place ∙ ap (λ (y : Layout). y.view.entry s v) same_images
 
-  same_bit : (span v : ℕ) → volume_bit (view_at (root_found next) j) s span 0 v ≡ volume_bit (view_at (root_found found) i) s span 0 v
+  same_bit : (span k v : ℕ) → volume_bit (view_at (root_found next) j) s span k v ≡ volume_bit (view_at (root_found found) i) s span k v
   unfolding volume_bit
-  same_bit span v = λ k. nat_lt v (block_bits * map_blocks span) && bit_of_area (λ b. block_in (same_entry (map_vvbn span 0 b) k)) v
+  same_bit span k v = λ n. nat_lt v (block_bits * map_blocks span) && bit_of_area (λ b. block_in (same_entry (map_vvbn span k b) n)) v
 
   container_kept : (o : Option Label) (c : Option Mapped) → label_of found i s ≡ o → IsContainerOf i o c → IsContainerOf j o c
   container_kept None None there is = tt
@@ -84,10 +82,9 @@ module _ (found next : Found) (i j : Image) (s : ℕ) (inside : s < 64) (place :
     changed = is.changed;
   }
     where
-      bits_kept : (o : Option VolumeState) → IfSome o (λ x. (v : ℕ) → is_member (active_of x.map) v ≡ volume_bit (view_at (root_found found) i) s x.span 0 v)
-          → IfSome o (λ x. (v : ℕ) → is_member (active_of x.map) v ≡ volume_bit (view_at (root_found next) j) s x.span 0 v)
+      bits_kept : (o : Option VolumeState) → IfSome o (λ x. HaveBits (view_at (root_found found) i) s x.span x.map) → IfSome o (λ x. HaveBits (view_at (root_found next) j) s x.span x.map)
       bits_kept None are = tt
-      bits_kept (Some x) are = λ v. are v ∙ sym (same_bit x.span v)
+      bits_kept (Some x) are = λ k v low. are k v low ∙ ap (λ (b : Bool). is_used_slot x.map k && b) (sym (same_bit x.span k v))
 
   -- ---- a slot of a sound image
 

@@ -1,9 +1,9 @@
 -- A written volume, as its image has it: it is loaded, and its slot is as the rules on blocks and maps ask.
-use Rattle.std.proofs.Common.{◌≡◌, ◌≢◌, ℕ, ◌+◌, ◌*◌, ◌/◌, ◌%◌, ◌<◌, ◌≤◌, length, Bool, true, false, not, ◌&&◌, List, ◌∷◌, refl, sym, ap, subst, ◌∙◌, arith, ⊎_elim, inr, Ok}
-use Rattle.std.specs.Prelude.{Option, Some, None, IfSome, map, nat_lt, ◌==◌, if◌then◌else◌}
+use Rattle.std.proofs.Common.{◌≡◌, ◌≢◌, ℕ, ◌+◌, ◌*◌, ◌/◌, ◌%◌, ◌<◌, ◌≤◌, length, Bool, true, false, not, ◌&&◌, List, refl, sym, ap, subst, ◌∙◌, arith, ⊎_elim, inr, Ok}
+use Rattle.std.specs.Prelude.{Option, Some, None, IfSome, get_or, nat_lt, take, ◌==◌, ◌||◌, if◌then◌else◌}
 use Rattle.std.specs.List.{list_all, range_with_len}
 use Rattle.std.specs.Option.{is_some, option_map}
-use Rattle.std.proofs.lemmas.Bool.{and_from, and_left, and_right, both_ways, cases_lt}
+use Rattle.std.proofs.lemmas.Bool.{and_from, and_left, and_right, both_ways, cases_eq, cases_lt}
 use Rattle.std.proofs.lemmas.Bool.Decides.{nat_tests}
 use Rattle.fv_disk.specs.Shown.{Image}
 use Rattle.fv_bits.specs.Bits.{bit_of_area, bit_of_bytes}
@@ -11,11 +11,13 @@ use Rattle.fv_bits.specs.Members.{IsBlockOf, is_member}
 use Rattle.fv_codec.specs.declared.label.Label.{Label}
 use Rattle.fv_codec.specs.Blocks.{label_at}
 use Rattle.fv_model.specs.Space.{map_blocks}
+use Rattle.fv_laws.proofs.Tests.{to_all}
 use Rattle.fv_image.specs.Layout.{block_bits}
 use Rattle.fv_image.specs.NewerRoot.{Taken}
 use Rattle.fv_image.specs.Containers.{shaped, container_entry, height_of, HasNonePast, IsNodePlace, IsWholeTree}
-use Rattle.fv_image.specs.Views.{Placed, Head, Rooted, Snap, head_of, entry_count, map_vvbn, block_in, volume_bit}
-use Rattle.fv_image.specs.Held.{layout_at, view_at, label_place, label_lying, label_in, entry_from, placed}
+use Rattle.fv_image.specs.Views.{Placed, Head, Rooted, head_of, entry_count, map_vvbn, block_in, volume_bit}
+use Rattle.fv_image.specs.Held.{AgreeOnHeld, layout_at, view_at, label_place, label_lying, label_in, entry_from, placed}
+use Rattle.fv_image.specs.Seen.{roots_of}
 use Rattle.fv_image.specs.Sound.{kind_at}
 use Rattle.fv_image.specs.Whole.{is_held_by}
 use Rattle.fv_image.specs.Reclaimed.{IsAllocatable, IsEntryPlace, IsHeldPlace, IsNodeOf, entry_at}
@@ -29,30 +31,82 @@ use Rattle.fv_root.specs.Finding.{root_found}
 use Rattle.fv_container.specs.declared.entry.Entry.{Entry}
 use Rattle.fv_container.specs.Mapped.{IsMapped, Mapped, entry_under}
 use Rattle.fv_container.specs.Spelled.{Spelled, names, pair_of}
-use Rattle.fv_volmap.specs.Slots.{active_of, stored_count}
+use Rattle.fv_volmap.specs.Slots.{Slot, has, slot_at, stored_count, taken_in}
 use Rattle.fv_volume.specs.declared.state.VolumeState.{VolumeState}
 use Rattle.fv_volume.specs.Files.{IsLabelled}
-use Rattle.fv_volume.proofs.MapSlots.{one_labelled}
 use Rattle.fv_volume.specs.Housed.{as_written}
 use Rattle.fv_volume.specs.Labels.{label_said}
-use Rattle.fv_volume.specs.Loading.{has_delayed, is_delayed_entry, is_kept_vvbn, IsContainerOf, IsLoaded}
+use Rattle.fv_volume.specs.Loading.{HaveBits, has_delayed, is_delayed_entry, is_kept_in, is_used_slot, IsContainerOf, IsLoaded}
 use Rattle.fv_volume.specs.States.{head_in}
-use Rattle.fv_volume.specs.UnderRoot.{StandsUnder}
-use Rattle.fv_volume.specs.Stored.{IsStored, is_of, is_rewritten, leads, map_index, place_at, place_in, slot_map}
+use Rattle.fv_volume.specs.UnderRoot.{StandMaps, StandsUnder}
+use Rattle.fv_volume.specs.Stored.{IsStored, has_stored_map, is_map_written, is_of, is_rewritten, leads, map_entry, map_index, map_slot, place_at, place_in, slot_map}
 use Rattle.fv_volume.proofs.SlotBlocks.{HasKinds, entry_kinds, entry_leads, held_is_of, to_test}
-use Rattle.fv_image.proofs.LoneTables.{form_snapshots}
 use Rattle.fv_volume.proofs.Labels.{label_head}
 use Rattle.fv_volume.proofs.Delayed.{none_delayed}
-use Rattle.fv_volume.proofs.StayingMaps.{index_there, slot_there, stays_alone, unwritten_past, written_at, written_low}
+use Rattle.fv_volume.proofs.KeptSlots.{found_snap}
+use Rattle.fv_volume.proofs.SlotReads.{has_or_empty}
+use Rattle.fv_volume.proofs.SlotRoots.{root_slot, slot_stored}
+use Rattle.fv_volume.proofs.StayingMaps.{index_there, slot_there, slot_within, stored_stays, written_at, written_low, written_parts}
+use Rattle.fv_image.specs.Volumes.{snap_at}
 
--- past the blocks of the active map no bit of it is set
-pub clear_past : (t : Taken) (i : Image) (s span v : ℕ) → block_bits * map_blocks span ≤ v → volume_bit (view_at t i) s span 0 v ≡ false
+-- past the blocks of the map of a slot no bit of it is set
+clear_past : (t : Taken) (i : Image) (s span k v : ℕ) → block_bits * map_blocks span ≤ v → volume_bit (view_at t i) s span k v ≡ false
 unfolding volume_bit
-clear_past t i s span v past =
+clear_past t i s span k v past =
     let test : nat_lt v (block_bits * map_blocks span) ≡ false = grind (arith, nat_tests, past) in
-    ap (λ (b : Bool). b && bit_of_area (λ k. block_in ((view_at t i).entry s (map_vvbn span 0 k))) v) test
+    ap (λ (b : Bool). b && bit_of_area (λ j. block_in ((view_at t i).entry s (map_vvbn span k j))) v) test
 
-module _ (found : Found) (i : Image) (s : ℕ) (x : VolumeState) (old : Mapped) (label : ℕ) (new : Mapped) (is : IsStored x old label new i) (at : label_place (root_found found) s ≡ label) (state : IsLabelled s x) (valid : IsMapped new) where
+-- no stored slot of a volume's maps has a number past the span
+abbrev pub HaveNonePast : VolumeState → Type 0
+HaveNonePast x = (k v : ℕ) → k < stored_count → x.span ≤ v → has v (slot_at x.map k) ≡ false
+
+-- a slot that isn't used has no number
+free_has : (b : Bool) (o : Slot) (v : ℕ) → (b || is_some o) ≡ false → has v o ≡ false
+free_has b None v free = refl
+free_has true (Some map) v free = absurd cc
+free_has false (Some map) v free = absurd cc
+
+-- where the map of a used slot isn't written, it stands on the disk
+left_over : (a b c d : Bool) → a ≡ true → (b || c) ≡ true → (b || d) ≡ false → (a && (c && not (b || d))) ≡ true
+left_over true false true false low used none = refl
+left_over true false true true low used none = absurd cc
+left_over true false false d low used none = absurd cc
+left_over true true c d low used none = absurd cc
+left_over false b c d low used none = absurd cc
+
+-- a map that is written is that of a used slot
+written_used : (s : ℕ) (x : VolumeState) → IsLabelled s x → (k : ℕ) → k < stored_count → is_rewritten x k ≡ true → is_used_slot x.map k ≡ true
+unfolding snap_at
+written_used s x state k low on = ⊎_elim
+    (λ (first : k ≡ 0). ap (λ (b : Bool). b || is_some (slot_at x.map k)) (let test : (k == 0) ≡ true = grind (arith, nat_tests, first) in test))
+    (λ (other : k ≢ 0).
+    let later : (k == 0) ≡ false = grind (arith, nat_tests, other) in
+    let waits : get_or x.fresh k false ≡ true = ap (λ (b : Bool). b || get_or x.fresh k false) (sym later) ∙ on in
+    ap (λ (b : Bool). b || is_some (slot_at x.map k)) later
+    ∙ state.slots.each k other (λ e. absurd (omega (arith, low, e))) ∙ found_snap (head_in x).snapshots k ∙ state.waits k waits)
+    (cases_eq k 0)
+
+-- the map of a slot that isn't used neither stays nor is written
+free_map : (s : ℕ) (x : VolumeState) → IsLabelled s x → (v : ℕ) → (nat_lt (map_slot x.span v) stored_count && is_used_slot x.map (map_slot x.span v)) ≡ false
+    → (has_stored_map x (map_slot x.span v) ≡ false) × (is_map_written x v ≡ false)
+free_map s x state v none = (unstored (nat_lt (map_slot x.span v) stored_count) (map_slot x.span v == 0) (is_some (slot_at x.map (map_slot x.span v))) (not (is_rewritten x (map_slot x.span v))) none, so (is_map_written x v) refl)
+  where
+    unstored : (a b c d : Bool) → (a && (b || c)) ≡ false → (a && (c && d)) ≡ false
+    unstored false b c d e = refl
+    unstored true b false d e = refl
+    unstored true true true d e = absurd cc
+    unstored true false true d e = absurd cc
+
+    so : (t : Bool) → is_map_written x v ≡ t → t ≡ false
+    so false e = refl
+    so true e =
+        let parts = written_parts x v e in
+        let low = slot_within x.span v parts.0 parts.1.0 in
+        let test : nat_lt (map_slot x.span v) stored_count ≡ true = grind (arith, nat_tests, low) in
+        absurd (both_ways _ none (and_from (nat_lt (map_slot x.span v) stored_count) _ test (written_used s x state (map_slot x.span v) low parts.1.1)))
+
+module _ (found : Found) (i : Image) (s : ℕ) (x : VolumeState) (old : Mapped) (label : ℕ) (new : Mapped) (is : IsStored x old label new i) (at : label_place (root_found found) s ≡ label) (state : IsLabelled s x) (valid : IsMapped new)
+    (first : Image) (was : Found) (stand : StandMaps first was x old) (same : AgreeOnHeld (root_found was) first i) where
   abbrev u : Taken
   u = root_found found
 
@@ -89,78 +143,109 @@ module _ (found : Found) (i : Image) (s : ℕ) (x : VolumeState) (old : Mapped) 
 
   -- ---- it is loaded
 
-  -- block k of the map of a slot that was written
-  abbrev block_at : ℕ → ℕ → ℕ
-  block_at j k = place_at new (map_vvbn x.span j k)
+  -- block j of the map of a slot has its bits where it stands
+  record StandsThere (k j : ℕ) : Type 0 where
+    place : ℕ
+    there : entry_under new (map_vvbn x.span k j) ≡ Some (map_entry place)
+    bits : (b : ℕ) → b < block_bits → bit_of_bytes (i place) b ≡ is_member (slot_map x k) (block_bits * j + b)
 
-  slot_entry : (j k : ℕ) → is_rewritten x j ≡ true → j < stored_count → k < map_blocks x.span → (view_at u i).entry s (map_vvbn x.span j k) ≡ Some (record { pvbn = block_at j k; kind = 8; block = i (block_at j k) })
+  -- so it is where the map was written,
+  new_there : (k j : ℕ) → is_rewritten x k ≡ true → k < stored_count → j < map_blocks x.span → StandsThere k j
+  new_there k j on few within = record {
+    place = place_at new (map_vvbn x.span k j);
+    there = is.maps (map_vvbn x.span k j) (written_at x k j on few within);
+    bits = block.bits;
+  }
+    where
+      block : IsBlockOf (slot_map x k) j (i (place_at new (map_vvbn x.span k j)))
+      block = subst (λ (n : ℕ). IsBlockOf (slot_map x k) n (i (place_at new (map_vvbn x.span k j)))) (index_there x.span k j within)
+          (subst (λ (n : ℕ). IsBlockOf (slot_map x n) (map_index x.span (map_vvbn x.span k j)) (i (place_at new (map_vvbn x.span k j)))) (slot_there x.span k j within) (is.bits (map_vvbn x.span k j) (written_at x k j on few within)))
+
+  -- and where it was left, since what the root on the disk holds is as it was
+  old_there : (k j : ℕ) → has_stored_map x k ≡ true → j < map_blocks x.span → StandsThere k j
+  old_there k j on within =
+      let one = stand k j on within in
+      record {
+        place = one.place;
+        there = is.kept (map_vvbn x.span k j) (stored_stays x k j on within) ∙ one.there;
+        bits = λ b few. ap (λ (block : List ℕ). bit_of_bytes block b) (same one.place one.held) ∙ one.bits b few;
+      }
+
+  used_there : (k j : ℕ) → k < stored_count → is_used_slot x.map k ≡ true → j < map_blocks x.span → StandsThere k j
+  used_there k j few used within = so (is_rewritten x k) refl
+    where
+      low : nat_lt k stored_count ≡ true
+      low = grind (arith, nat_tests, few)
+
+      so : (t : Bool) → is_rewritten x k ≡ t → StandsThere k j
+      so true e = new_there k j e few within
+      so false e = old_there k j (left_over (nat_lt k stored_count) (k == 0) (is_some (slot_at x.map k)) (get_or x.fresh k false) low used e) within
+
+  slot_entry : (k j : ℕ) → (there : StandsThere k j) → (view_at u i).entry s (map_vvbn x.span k j) ≡ Some (record { pvbn = there.place; kind = 8; block = i there.place })
   unfolding view_at entry_from
-  slot_entry j k on few within =
-      ap (λ (o : Option Label). entry_from o i (map_vvbn x.span j k)) label_now
-      ∙ ap (placed i) (entry_is (map_vvbn x.span j k) ∙ ap pair_of (is.maps (map_vvbn x.span j k) (written_at x j k on few within)))
+  slot_entry k j there =
+      ap (λ (o : Option Label). entry_from o i (map_vvbn x.span k j)) label_now
+      ∙ ap (placed i) (entry_is (map_vvbn x.span k j) ∙ ap pair_of there.there)
 
-  slot_block : (j k : ℕ) → is_rewritten x j ≡ true → j < stored_count → k < map_blocks x.span → IsBlockOf (slot_map x j) k (i (block_at j k))
-  slot_block j k on few within =
-      subst (λ (n : ℕ). IsBlockOf (slot_map x j) n (i (block_at j k))) (index_there x.span j k within)
-      (subst (λ (n : ℕ). IsBlockOf (slot_map x n) (map_index x.span (map_vvbn x.span j k)) (i (block_at j k))) (slot_there x.span j k within) (is.bits (map_vvbn x.span j k) (written_at x j k on few within)))
-
-  map_entry : (k : ℕ) → k < map_blocks x.span → (view_at u i).entry s (map_vvbn x.span 0 k) ≡ Some (record { pvbn = block_at 0 k; kind = 8; block = i (block_at 0 k) })
-  map_entry k within = slot_entry 0 k refl (omega arith) within
-
-  map_bit : (v : ℕ) → v < block_bits * map_blocks x.span → volume_bit (view_at u i) s x.span 0 v ≡ is_member (active_of x.map) v
+  map_bit : (k v : ℕ) → k < stored_count → is_used_slot x.map k ≡ true → v < block_bits * map_blocks x.span → volume_bit (view_at u i) s x.span k v ≡ is_member (slot_map x k) v
   unfolding volume_bit bit_of_area
-  map_bit v within =
+  map_bit k v few used within =
       let block : v / 32768 < map_blocks x.span = omega (arith, within) in
       let bit : v % 32768 < block_bits = omega arith in
       let back : block_bits * (v / 32768) + v % 32768 ≡ v = omega arith in
       let test : nat_lt v (block_bits * map_blocks x.span) ≡ true = grind (arith, nat_tests, within) in
-      ap (λ (t : Bool). t && bit_of_bytes (block_in ((view_at u i).entry s (map_vvbn x.span 0 (v / 32768)))) (v % 32768)) test
-      ∙ ap (λ (o : Option Placed). bit_of_bytes (block_in o) (v % 32768)) (map_entry (v / 32768) block)
-      ∙ (slot_block 0 (v / 32768) refl (omega arith) block).bits (v % 32768) bit ∙ ap (is_member (active_of x.map)) back
+      let there : StandsThere k (v / 32768) = used_there k (v / 32768) few used block in
+      ap (λ (t : Bool). t && bit_of_bytes (block_in ((view_at u i).entry s (map_vvbn x.span k (v / 32768)))) (v % 32768)) test
+      ∙ ap (λ (o : Option Placed). bit_of_bytes (block_in o) (v % 32768)) (slot_entry k (v / 32768) there)
+      ∙ there.bits (v % 32768) bit ∙ ap (is_member (slot_map x k)) back
 
-  pub stored_bits : ((v : ℕ) → x.span ≤ v → is_member (active_of x.map) v ≡ false) → (v : ℕ) → is_member (active_of x.map) v ≡ volume_bit (view_at u i) s x.span 0 v
-  stored_bits low v = ⊎_elim
-      (λ (inside : v < block_bits * map_blocks x.span). sym (map_bit v inside))
-      (λ (past : block_bits * map_blocks x.span ≤ v). low v (omega (arith, past)) ∙ sym (clear_past u i s x.span v past))
-      (cases_lt v (block_bits * map_blocks x.span))
-
-  pub no_delay : has_delayed (active_of x.map) new x.span ≡ false
-  no_delay = none_delayed (active_of x.map) new x.span (λ v within. so v (is_kept_vvbn (active_of x.map) x.span v) refl)
+  -- each used slot has the bits of its blocks
+  stored_maps : HaveNonePast x → HaveBits (view_at u i) s x.span x.map
+  stored_maps clear k v few = so (is_used_slot x.map k) refl
     where
-      hole : (v : ℕ) → entry_under new v ≡ None → is_delayed_entry (active_of x.map) new x.span v ≡ false
+      used : is_used_slot x.map k ≡ true → has v (slot_at x.map k) ≡ volume_bit (view_at u i) s x.span k v
+      used on = ⊎_elim
+          (λ (inside : v < block_bits * map_blocks x.span). has_or_empty x.map.span v (slot_at x.map k) ∙ sym (map_bit k v few on inside))
+          (λ (past : block_bits * map_blocks x.span ≤ v). clear k v few (omega (arith, past)) ∙ sym (clear_past u i s x.span k v past))
+          (cases_lt v (block_bits * map_blocks x.span))
+
+      so : (t : Bool) → is_used_slot x.map k ≡ t → has v (slot_at x.map k) ≡ (is_used_slot x.map k && volume_bit (view_at u i) s x.span k v)
+      so true e = used e ∙ sym (ap (λ (b : Bool). b && volume_bit (view_at u i) s x.span k v) e)
+      so false e = free_has (k == 0) (slot_at x.map k) v e ∙ sym (ap (λ (b : Bool). b && volume_bit (view_at u i) s x.span k v) e)
+
+  pub no_delay : has_delayed x.map new x.span ≡ false
+  no_delay = none_delayed x.map new x.span (λ v within. so v (is_kept_in x.map x.span v) refl)
+    where
+      hole : (v : ℕ) → entry_under new v ≡ None → is_delayed_entry x.map new x.span v ≡ false
       hole v none = and_left (is_some (entry_under new v)) _ (ap (λ (o : Option Entry). is_some o) none)
 
-      lower : (a b : ℕ) → a < b → nat_lt a b ≡ true
-      lower a b lt = grind (arith, nat_tests)
+      chosen : (v : ℕ) (t : Bool) → nat_lt v x.span ≡ t → is_kept_in x.map x.span v
+          ≡ (if t then taken_in (take stored_count x.map.slots) v else nat_lt (map_slot x.span v) stored_count && is_used_slot x.map (map_slot x.span v))
+      chosen v t e = ap (λ (b : Bool). if b then taken_in (take stored_count x.map.slots) v else nat_lt (map_slot x.span v) stored_count && is_used_slot x.map (map_slot x.span v)) e
 
-      not_lower : (a b : ℕ) → b ≤ a → nat_lt a b ≡ false
-      not_lower a b le = grind (arith, nat_tests)
-
-      at_least : (a b : ℕ) → nat_lt a b ≡ false → b ≤ a
-      at_least a b none = grind (arith, nat_tests, none)
-
-      chosen : (v : ℕ) (t : Bool) → nat_lt v x.span ≡ t → is_kept_vvbn (active_of x.map) x.span v ≡ (if t then is_member (active_of x.map) v else nat_lt v (x.span + map_blocks x.span))
-      chosen v t e = ap (λ (b : Bool). if b then is_member (active_of x.map) v else nat_lt v (x.span + map_blocks x.span)) e
-
-      gone : (v : ℕ) → is_kept_vvbn (active_of x.map) x.span v ≡ false → entry_under new v ≡ None
+      gone : (v : ℕ) → is_kept_in x.map x.span v ≡ false → entry_under new v ≡ None
       gone v off = ⊎_elim
-          (λ (low : v < x.span). is.holes v (stays_alone x (one_labelled s x state) v ∙ and_right (nat_lt v x.span) _ (sym (chosen v true (lower v x.span low)) ∙ off)) (written_low x v low))
-          (λ (past : x.span ≤ v). is.holes v (stays_alone x (one_labelled s x state) v ∙ and_left (nat_lt v x.span) _ (not_lower v x.span past))
-          (unwritten_past s x state v (at_least v (x.span + map_blocks x.span) (sym (chosen v false (not_lower v x.span past)) ∙ off))))
+          (λ (low : v < x.span).
+          let test : nat_lt v x.span ≡ true = grind (arith, nat_tests, low) in
+          is.holes v (ap (λ (b : Bool). if b then taken_in (take stored_count x.map.slots) v else has_stored_map x (map_slot x.span v)) test ∙ sym (chosen v true test) ∙ off) (written_low x v low))
+          (λ (past : x.span ≤ v).
+          let test : nat_lt v x.span ≡ false = grind (arith, nat_tests, past) in
+          let none = free_map s x state v (sym (chosen v false test) ∙ off) in
+          is.holes v (ap (λ (b : Bool). if b then taken_in (take stored_count x.map.slots) v else has_stored_map x (map_slot x.span v)) test ∙ none.0) none.1)
           (cases_lt v x.span)
 
-      so : (v : ℕ) (t : Bool) → is_kept_vvbn (active_of x.map) x.span v ≡ t → is_delayed_entry (active_of x.map) new x.span v ≡ false
+      so : (v : ℕ) (t : Bool) → is_kept_in x.map x.span v ≡ t → is_delayed_entry x.map new x.span v ≡ false
       so v true e = and_right (is_some (entry_under new v)) _ (ap not e)
       so v false e = hole v (gone v e)
 
   -- The volume is as the root with its new label has it.
-  pub stored_loaded : ((v : ℕ) → x.span ≤ v → is_member (active_of x.map) v ≡ false) → IsLoaded i found s (Some (as_written x label)) (Some new)
+  pub stored_loaded : HaveNonePast x → IsLoaded i found s (Some (as_written x label)) (Some new)
   unfolding label_said
-  stored_loaded low = record {
+  stored_loaded clear = record {
     head = ap Some (sym head_said) ∙ ap (option_map head_of) (sym label_now);
     tree = subst (λ (o : Option Label). IsContainerOf i o (Some new)) (sym label_now) (spelled_here, (long_here, valid));
     label = sym at;
-    bits = stored_bits low;
+    bits = stored_maps clear;
     changed = sym no_delay;
   }
 
@@ -206,12 +291,12 @@ module _ (found : Found) (i : Image) (s : ℕ) (x : VolumeState) (old : Mapped) 
     places = λ b held. lies b (to_of b held);
   }
     where
-      one : (k : ℕ) → k < map_blocks x.span → (kind_at ((view_at u i).entry s (map_vvbn x.span 0 k)) == 8) ≡ true
-      one k low = ap (λ (o : Option Placed). kind_at o == 8) (map_entry k low)
-
       maps_here : has_maps_there (view_at u i) s (head_in x) ≡ true
-      maps_here = subst (λ (ps : List Snap). list_all (λ (r : ℕ × Rooted). list_all (λ k. kind_at ((view_at u i).entry s (map_vvbn x.span r.0 k)) == 8) (range_with_len 0 (map_blocks x.span))) ((0, (head_in x).active) ∷ map (λ p. (p.slot, p.table)) ps) ≡ true) (sym (form_snapshots (head_in x) state.form))
-          (and_from _ true (all_between (λ k. kind_at ((view_at u i).entry s (map_vvbn x.span 0 k)) == 8) 0 (map_blocks x.span) (λ k low high. one k (omega (arith, high)))) refl)
+      maps_here = to_all (λ (r : ℕ × Rooted). list_all (λ j. kind_at ((view_at u i).entry s (map_vvbn x.span r.0 j)) == 8) (range_with_len 0 (map_blocks x.span))) (roots_of (head_in x)) (λ r one.
+          let few = slot_stored (head_in x) state.snapshots.slots r one in
+          let used = root_slot (view_at u i) s (head_in x) x.map state.slots state.snapshots.slots r one in
+          all_between (λ j. kind_at ((view_at u i).entry s (map_vvbn x.span r.0 j)) == 8) 0 (map_blocks x.span)
+          (λ j low high. ap (λ (o : Option Placed). kind_at o == 8) (slot_entry r.0 j (used_there r.0 j few used (omega (arith, high))))))
 
   node_named : (b : ℕ) → IsNodeOf i said b → names new.tree b ≡ true
   unfolding label_said
@@ -246,10 +331,10 @@ module _ (found : Found) (i : Image) (s : ℕ) (x : VolumeState) (old : Mapped) 
           so (Some y) e some = let zero_place : y.pvbn ≡ 0 = sym (ap place_in e) ∙ none in omega (arith, some, zero_place)
 
   -- The slot stands under the root.
-  pub stored_stands : ((v : ℕ) → x.span ≤ v → is_member (active_of x.map) v ≡ false) → ((b : ℕ) → is_of x label new b ≡ true → IsAllocatable u.blocks b) → StandsUnder i found s (Some (as_written x label)) (Some new)
-  stored_stands low lies =
+  pub stored_stands : HaveNonePast x → ((b : ℕ) → is_of x label new b ≡ true → IsAllocatable u.blocks b) → StandsUnder i found s (Some (as_written x label)) (Some new)
+  stored_stands clear lies =
       let slot = stored_slot lies in record {
-        loaded = stored_loaded low;
+        loaded = stored_loaded clear;
         sound = stored_is_sound u i s said slot;
         once = stored_once u i s said slot stored_apart;
         holds = stored_holds;

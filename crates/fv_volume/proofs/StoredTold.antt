@@ -1,11 +1,11 @@
 -- Volumes that stand in an image under new labels: it tells what they told, and stands for the same machine, with nothing delayed.
-use Rattle.std.proofs.Common.{◌≡◌, ℕ, ◌-◌, ◌*◌, ◌<◌, ◌≤◌, Bool, true, false, List, ◌∷◌, get_or, refl, sym, ap, subst, ◌∙◌, arith, ⊎_elim}
-use Rattle.std.specs.Prelude.{Option, Some, None, IfSome, map, nat_lt, if◌then◌else◌}
+use Rattle.std.proofs.Common.{◌≡◌, ℕ, ◌-◌, ◌*◌, ◌<◌, ◌≤◌, Bool, true, false, List, get_or, take, refl, sym, ap, subst, ◌∙◌, arith, ⊎_elim}
+use Rattle.std.specs.Prelude.{Option, Some, None, IfSome, ◌&&◌, nat_lt, if◌then◌else◌}
 use Rattle.std.specs.List.{list_all, range_with_len}
 use Rattle.std.specs.Option.{option_map}
 use Rattle.std.specs.FinMap as fin
 use Rattle.std.specs.Ordering.{nat_cmp}
-use Rattle.std.proofs.lemmas.Bool.{and_from, cases_lt}
+use Rattle.std.proofs.lemmas.Bool.{cases_lt}
 use Rattle.std.proofs.lemmas.Bool.Decides.{nat_tests}
 use Rattle.std.proofs.lemmas.List.{get_or_past}
 use Rattle.std.proofs.lemmas.Option.{none-some, same_Some}
@@ -13,26 +13,27 @@ use Rattle.fv_disk.specs.Shown.{Image}
 use Rattle.fv_bits.specs.Members.{is_member}
 use Rattle.fv_model.specs.Machines.{first_block}
 use Rattle.fv_model.specs.Space.{map_blocks}
+use Rattle.fv_laws.proofs.Lists.{In}
+use Rattle.fv_laws.proofs.Tests.{to_all}
 use Rattle.fv_tables.specs.Reached.{items, is_listed}
 use Rattle.fv_image.specs.Layout.{block_bits}
 use Rattle.fv_image.specs.NewerRoot.{Taken}
-use Rattle.fv_image.specs.Views.{Footing, Head, Rooted, Snap, View, delayed, head_of, volume_bit}
+use Rattle.fv_image.specs.Views.{Footing, Head, Rooted, View, delayed, head_of, volume_bit}
 use Rattle.fv_image.specs.Held.{Layout, label_in, label_place, layout_at, lying_at, view_at, with_bits}
 use Rattle.fv_image.specs.Sound.{agree}
 use Rattle.fv_image.specs.SoundSlots.{IsSoundSlot}
 use Rattle.fv_image.specs.Whole.{is_held_by}
 use Rattle.fv_image.specs.Volumes.{standing_of, told}
-use Rattle.fv_image.specs.Seen.{seen}
+use Rattle.fv_image.specs.Seen.{roots_of, seen}
 use Rattle.fv_image.specs.Soundness.{AreMaps, AreTables}
-use Rattle.fv_image.specs.Staying.{StaysHeld, items_of, own_items}
+use Rattle.fv_image.specs.Staying.{StaysHeld, own_items}
 use Rattle.fv_image.specs.WholeMachine.{is_built, machine_from}
 use Rattle.fv_image.proofs.Counted.{HasHeads}
 use Rattle.fv_image.proofs.LabelNumbers.{label_numbers}
-use Rattle.fv_image.proofs.LoneTables.{form_base, form_snapshots}
+use Rattle.fv_image.proofs.LoneTables.{form_base}
 use Rattle.fv_image.proofs.OwnBases.{uses_own}
 use Rattle.fv_image.proofs.OwnUses.{HasLabelNumbers}
 use Rattle.fv_image.proofs.Points.{Ends, end_machine, has_bits_of, maps_from, room_from_commits}
-use Rattle.fv_image.proofs.Reaching.{alone_listed, reached_below}
 use Rattle.fv_image.proofs.Rewritten.{heads_with_bits, slot_with_bits, times_with_bits}
 use Rattle.fv_image.proofs.SameSeen.{same_seen}
 use Rattle.fv_image.proofs.SoundSlots.{blocks_from_slots, kinds_from_slots, maps_from_slots, slot_stays_sound}
@@ -43,22 +44,22 @@ use Rattle.fv_container.specs.Mapped.{Mapped}
 use Rattle.fv_root.specs.declared.find.Found.{Found}
 use Rattle.fv_root.specs.Finding.{root_found}
 use Rattle.fv_root.specs.Formatted.{IsSize}
-use Rattle.fv_volmap.specs.Slots.{active_of}
+use Rattle.fv_volmap.specs.Slots.{stored_count, taken_in}
 use Rattle.fv_volume.specs.declared.pool.Pool.{Pool}
 use Rattle.fv_volume.specs.declared.state.VolumeState.{VolumeState}
-use Rattle.fv_volume.specs.Files.{AreNamed, IsLabelled, has_form}
+use Rattle.fv_volume.specs.Files.{AreNamed, IsLabelled}
 use Rattle.fv_volume.specs.Housed.{AreHoused, HaveReaches, ReachesAll, settled_as, settled_at}
 use Rattle.fv_volume.specs.Labels.{label_said}
-use Rattle.fv_volume.specs.Loading.{label_of}
-use Rattle.fv_volume.specs.States.{States, head_in, state_at, table_in, view_over}
-use Rattle.fv_volume.specs.Stored.{has_block, stays}
+use Rattle.fv_volume.specs.Loading.{HaveBits, label_of}
+use Rattle.fv_volume.specs.States.{States, head_in, state_at, view_over}
+use Rattle.fv_volume.specs.Stored.{has_block, has_stored_map, map_slot, stays}
 use Rattle.fv_volume.specs.UnderRoot.{AllStandUnder}
 use Rattle.fv_volume.proofs.Delaying.{loaded_undelayed}
 use Rattle.fv_volume.proofs.Distinct.{same_names}
 use Rattle.fv_volume.proofs.Labels.{label_head}
-use Rattle.fv_volume.proofs.Reaches.{active_reaches}
-use Rattle.fv_volume.proofs.Settled.{is_settled, same_head, settled_back}
-use Rattle.fv_volume.proofs.StayingMaps.{active_stays}
+use Rattle.fv_volume.proofs.Settled.{is_settled, same_head, settled_back, settled_slots}
+use Rattle.fv_volume.proofs.SlotRoots.{none_past, own_below, own_taken, root_has, root_slot, slot_stored}
+use Rattle.fv_volume.proofs.StoredSlot.{HaveNonePast}
 use Rattle.fv_volume.proofs.Told.{is_inside}
 use Rattle.fv_volume.proofs.Viewed.{entry_of}
 
@@ -73,16 +74,14 @@ module _ (pool : Pool) (states : States) (before : Image) (housed : AreHoused po
   labelled : (s : ℕ) (x : VolumeState) → state_at states s ≡ Some x → IsLabelled s x
   labelled s x there = subst (λ (o : Option VolumeState). IfSome o (IsLabelled s)) there (housed.volumes s)
 
-  reaches : (s : ℕ) (x : VolumeState) → s < 64 → state_at states s ≡ Some x → (v : ℕ) → is_member (active_of x.map) v ≡ is_listed (items (standing_of w s (table_in x.active))) v
-  reaches s x inside there = active_reaches w s x (subst (λ (o : Option VolumeState). IfSome o (ReachesAll w s)) there (reach s inside))
+  reaches : (s : ℕ) (x : VolumeState) → s < 64 → state_at states s ≡ Some x → ReachesAll w s x
+  reaches s x inside there = subst (λ (o : Option VolumeState). IfSome o (ReachesAll w s)) there (reach s inside)
 
-  -- no number past the span is in the active map
-  pub past_clear : (s : ℕ) (x : VolumeState) → s < 64 → state_at states s ≡ Some x → (v : ℕ) → x.span ≤ v → is_member (active_of x.map) v ≡ false
-  past_clear s x inside there v past = so (is_member (active_of x.map) v) refl
-    where
-      so : (t : Bool) → is_member (active_of x.map) v ≡ t → t ≡ false
-      so true e = let low = reached_below w s (head_in x) v tables.ranges inside (head_there s x there) (sym (reaches s x inside there v) ∙ e) in absurd (omega (arith, low, past))
-      so false e = refl
+  -- no number past the span is in a stored map
+  pub past_clear : (s : ℕ) (x : VolumeState) → s < 64 → state_at states s ≡ Some x → HaveNonePast x
+  past_clear s x inside there =
+      let state = labelled s x there in
+      none_past w s x (reaches s x inside there) state.snapshots.slots state.slots tables.ranges inside (head_there s x there)
 
   state_of : (s : ℕ) (h : Head) → w.head s ≡ Some h → (x : VolumeState) × (state_at states s ≡ Some x) × (head_in x ≡ h)
   unfolding view_over
@@ -92,13 +91,13 @@ module _ (pool : Pool) (states : States) (before : Image) (housed : AreHoused po
       so None there e = absurd (none-some h e)
       so (Some x) there e = (x, there, same_Some (head_in x) h e)
 
-  -- what the roots of a volume reach, its active root does, and so it stays
+  -- what the roots of a volume reach, its maps have, and so it stays
   reached_stays : (s : ℕ) (x : VolumeState) (v : ℕ) → s < 64 → state_at states s ≡ Some x → is_listed (own_items w s (head_in x)) v ≡ true → stays x v ≡ true
   reached_stays s x v inside there listed =
-      let active = alone_listed (items (standing_of w s (table_in x.active))) v
-      (subst (λ (ps : List Snap). is_listed (items_of w s ((0, table_in x.active) ∷ map (λ p. (p.slot, p.table)) ps)) v ≡ true) (form_snapshots (head_in x) (labelled s x there).form) listed) in
-      let low = reached_below w s (head_in x) v tables.ranges inside (head_there s x there) active in
-      active_stays x v low (reaches s x inside there v ∙ active)
+      let low = own_below w s (head_in x) v tables.ranges inside (head_there s x there) listed in
+      let test : nat_lt v x.span ≡ true = grind (arith, nat_tests, low) in
+      ap (λ (t : Bool). if t then taken_in (take stored_count x.map.slots) v else has_stored_map x (map_slot x.span v)) test
+      ∙ own_taken w s x (reaches s x inside there) (labelled s x there).snapshots.slots v listed
 
   -- no volume stands on another
   no_footing : (s : ℕ) (h : Head) (b : Footing) → w.head s ≡ Some h → h.base ≡ Some b → ⊥
@@ -184,12 +183,18 @@ module _ (pool : Pool) (states : States) (before : Image) (housed : AreHoused po
 
     -- ---- the maps
 
-    bits_are : (s : ℕ) (x : VolumeState) → s < 64 → state_at states s ≡ Some x → (v : ℕ) → volume_bit y.view s x.span 0 v ≡ is_listed (items (standing_of w s (table_in x.active))) v
+    bits_are : (s : ℕ) (x : VolumeState) → s < 64 → state_at states s ≡ Some x → (r : ℕ × Rooted) → In r (roots_of (head_in x)) → (v : ℕ) → volume_bit y.view s x.span r.0 v ≡ is_listed (items (standing_of w s r.1)) v
     unfolding layout_at
-    bits_are s x inside there v = sym (settled_back HasBits x (get_or labels s 0) (λ are. are) (of_state (state_at states s) there (is.each s inside).loaded.bits) v) ∙ reaches s x inside there v
+    bits_are s x inside there r one v =
+        let state = labelled s x there in
+        let order = state.snapshots.slots in
+        let used = root_slot w s (head_in x) x.map state.slots order r one in
+        ap (λ (b : Bool). b && volume_bit (view_at u i) s x.span r.0 v) (sym used)
+        ∙ sym (settled_back HasBits x (get_or labels s 0) (λ are. are) (of_state (state_at states s) there (is.each s inside).loaded.bits) r.0 v (slot_stored (head_in x) order r one))
+        ∙ root_has w s x (reaches s x inside there) order r one v
       where
         HasBits : VolumeState → Type 0
-        HasBits z = (v : ℕ) → is_member (active_of z.map) v ≡ volume_bit (view_at u i) s z.span 0 v
+        HasBits z = HaveBits (view_at u i) s z.span z.map
 
         of_state : (o : Option VolumeState) → o ≡ Some x → IfSome (option_map (settled_as (get_or labels s 0)) o) HasBits → HasBits (settled_as (get_or labels s 0) x)
         of_state o at are = subst (λ (p : Option VolumeState). IfSome (option_map (settled_as (get_or labels s 0)) p) HasBits) at are
@@ -205,9 +210,8 @@ module _ (pool : Pool) (states : States) (before : Image) (housed : AreHoused po
         agreed false true e = absurd cc
 
         with_state : (x : VolumeState) → state_at states s ≡ Some x → has_bits_of w y.view s (head_in x) ≡ true
-        with_state x there = subst (λ (ps : List Snap). list_all (λ (r : ℕ × Rooted). list_all (λ v. agree (volume_bit y.view s x.span r.0 v) (is_listed (items (standing_of w s r.1)) v)) (range_with_len 0 (block_bits * map_blocks x.span))) ((0, table_in x.active) ∷ map (λ p. (p.slot, p.table)) ps) ≡ true)
-            (sym (form_snapshots (head_in x) (labelled s x there).form))
-            (and_from _ true (all_between (λ v. agree (volume_bit y.view s x.span 0 v) (is_listed (items (standing_of w s (table_in x.active))) v)) 0 (block_bits * map_blocks x.span) (λ v low high. agreed _ _ (bits_are s x inside there v))) refl)
+        with_state x there = to_all (λ (r : ℕ × Rooted). list_all (λ v. agree (volume_bit y.view s x.span r.0 v) (is_listed (items (standing_of w s r.1)) v)) (range_with_len 0 (block_bits * map_blocks x.span))) (roots_of (head_in x))
+            (λ r one. all_between (λ v. agree (volume_bit y.view s x.span r.0 v) (is_listed (items (standing_of w s r.1)) v)) 0 (block_bits * map_blocks x.span) (λ v low high. agreed _ _ (bits_are s x inside there r one v)))
 
     -- ---- soundness
 
@@ -231,8 +235,8 @@ module _ (pool : Pool) (states : States) (before : Image) (housed : AreHoused po
     unfolding layout_at
     none_delayed = nothing_delayed y.view (λ s h v inside is_head within.
         let x = state_of s h (sym (stays_there.heads s) ∙ is_head) in
-        loaded_undelayed f i s h v (subst (λ (g : Head). has_form g ≡ true) x.2 (labelled s x.0 x.1).form) within is_head (settled_at labels states s) (container s) (is.each s inside).loaded
-        (is_settled (state_at states s) (get_or labels s 0)))
+        loaded_undelayed f i s h v within is_head (settled_at labels states s) (container s) (is.each s inside).loaded
+        (is_settled (state_at states s) (get_or labels s 0)) (settled_slots s (state_at states s) (get_or labels s 0) (housed.volumes s)))
 
     -- no entry is delayed
     pub undelayed : delayed (view_at u i) ≡ 0

@@ -4,12 +4,12 @@ use Rattle.std.specs.Prelude.{IfSome, ◌==◌, Bool}
 use Rattle.std.specs.Option.{option_map, option_map_or}
 use Rattle.std.specs.FinMap as fin
 use Rattle.std.specs.Ordering.{nat_cmp}
+use Rattle.std.proofs.lemmas.List.{length-map}
 use Rattle.std.proofs.lemmas.Bool.{cases_eq, cases_lt}
 use Rattle.std.proofs.lemmas.Bool.Decides.{nat_tests}
 use Rattle.std.proofs.lemmas.List.{get_or_past}
 use Rattle.std.proofs.lemmas.List.Elements.{All-get_or}
 use Rattle.fv_disk.specs.Shown.{Image}
-use Rattle.fv_bits.specs.Members.{is_member}
 use Rattle.fv_codec.specs.declared.label.Label.{Label}
 use Rattle.fv_model.specs.Machines.{Machine}
 use Rattle.fv_model.specs.Spelling.{is_same_name}
@@ -18,14 +18,14 @@ use Rattle.fv_laws.specs.WellFormed.{IsWellTable}
 use Rattle.fv_laws.specs.Positions.{HasNoReserve}
 use Rattle.fv_laws.proofs.Changes.{itself}
 use Rattle.fv_image.specs.Containers.{container_entry}
-use Rattle.fv_image.specs.Views.{Head, Placed, View, head_of, volume_bit}
+use Rattle.fv_image.specs.Views.{Head, Placed, View, head_of}
 use Rattle.fv_image.specs.Held.{entry_from, label_in, label_place, layout_at, lying_at, placed, view_at}
 use Rattle.fv_image.specs.Sound.{share_name}
 use Rattle.fv_image.specs.Volumes.{table_at, volume_with, volume_told, told}
 use Rattle.fv_image.specs.Seen.{seen}
 use Rattle.fv_image.specs.Soundness.{AreTables, AreMaps}
 use Rattle.fv_image.specs.WholeMachine.{Tells}
-use Rattle.fv_image.proofs.LoneTables.{built_reserves, form_snapshots, form_base, lone_reserves}
+use Rattle.fv_image.proofs.LoneTables.{built_reserves, form_base, lone_reserves}
 use Rattle.fv_image.proofs.WellLabels.{names_apart, numbers_at, volumes_are_well}
 use Rattle.fv_charge.specs.Ledgers.{IsLedgerOf}
 use Rattle.fv_container.specs.declared.entry.Entry.{Entry}
@@ -34,13 +34,12 @@ use Rattle.fv_container.specs.Mapped.{IsHeld, IsMapped, Mapped, entry_under}
 use Rattle.fv_container.specs.Spelled.{pair_of}
 use Rattle.fv_root.specs.declared.find.Found.{Found}
 use Rattle.fv_root.specs.Finding.{root_found}
-use Rattle.fv_volmap.specs.Slots.{active_of}
 use Rattle.fv_volume.specs.declared.pool.Pool.{Pool}
 use Rattle.fv_volume.specs.declared.state.VolumeState.{VolumeState}
 use Rattle.fv_volume.specs.Files.{AreNamed, AreStates, IsLabelled, IsState}
 use Rattle.fv_volume.specs.Keeping.{Blocks, kept_or}
-use Rattle.fv_volume.specs.Loading.{IsContainerOf, IsCounted, KeptTo, LoadedTo, label_of}
-use Rattle.fv_volume.specs.States.{States, head_in, placed_in, state_at, view_over}
+use Rattle.fv_volume.specs.Loading.{HasCounted, HaveBits, IsContainerOf, IsCounted, KeptTo, LoadedTo, label_of}
+use Rattle.fv_volume.specs.States.{States, head_in, snap_in, placed_in, state_at, view_over}
 use Rattle.fv_volume.specs.Trees.{active_in, machine_in, no_trees}
 use Rattle.fv_volume.proofs.Counted.{counted_ledger}
 use Rattle.fv_volume.proofs.Made.{from_pairs}
@@ -146,8 +145,8 @@ module _ (pool : Pool) (i : Image) (states : States) (kept : KeptTo slot_count s
     is_counted : IsCounted x
     is_counted = subst (λ (o : Option VolumeState). IfSome o IsCounted) there (kept.counted s)
 
-    bits : (v : ℕ) → is_member (active_of x.map) v ≡ volume_bit w s x.span 0 v
-    bits = subst (λ (o : Option VolumeState). IfSome o (λ x. (v : ℕ) → is_member (active_of x.map) v ≡ volume_bit w s x.span 0 v)) there (loaded.each s small).bits
+    bits : HaveBits w s x.span x.map
+    bits = subst (λ (o : Option VolumeState). IfSome o (λ x. HaveBits w s x.span x.map)) there (loaded.each s small).bits
 
     tables : AreTables (seen w)
     unfolding layout_at
@@ -166,9 +165,9 @@ module _ (pool : Pool) (i : Image) (states : States) (kept : KeptTo slot_count s
     table = (volumes_are_well (root_found pool.found) i whole tables s (head_in x) small there_is).active
 
     ledger : IsLedgerOf (volume_told w s (head_in x)) x.ledger
-    ledger = subst (IsLedgerOf (volume_told w s (head_in x))) (sym is_counted.ledger)
-        (counted_ledger w s (head_in x) small there_is tables maps (numbers_at (root_found pool.found) i whole s (head_in x) there_is) (form_snapshots (head_in x) labelled.form) (form_base (head_in x) labelled.form) reserves
-        (active_of x.map) (is_counted.long ∙ labelled.map) bits)
+    ledger = counted_ledger w s (head_in x) small there_is tables maps (numbers_at (root_found pool.found) i whole s (head_in x) there_is) (form_base (head_in x) labelled.form)
+        x.map is_counted.valid labelled.map labelled.slots labelled.snapshots.slots bits x.ledger
+        (subst (λ (n : ℕ). HasCounted x.map n x.span x.size x.kind x.ledger) (sym (length-map x.snapshots snap_in)) is_counted.ledger) reserves
 
     active_is : active_in w no_trees s ≡ table_at w s (head_in x).active
     active_is = ap (λ (o : Option Head). option_map_or (λ h. table_at w s h.active) o empty_table) there_is

@@ -10,6 +10,7 @@ use Rattle.fv_laws.specs.WellFormed.{IsWellTable}
 use Rattle.fv_laws.specs.Positions.{HasNoReserve}
 use Rattle.fv_image.specs.Views.{Head, View}
 use Rattle.fv_image.specs.Volumes.{snap_at}
+use Rattle.fv_image.specs.Mapped.{AreInSlots}
 use Rattle.fv_charge.specs.Ledgers.{IsLedgerOf}
 use Rattle.fv_volmap.specs.Slots.{Volume as Maps, slot_at, slot_of_base}
 use Rattle.fv_volume.specs.declared.state.VolumeState.{VolumeState}
@@ -29,6 +30,10 @@ pub record HasSlotsOf (h : Head) (maps : Maps) : Type 0 where
 -- The active one alone is used.
 abbrev pub IsOneMap : Maps → Type 0
 IsOneMap maps = (k : ℕ) → k ≢ 0 → slot_at maps k ≡ None
+
+-- A volume's snapshots stand in their slots, and each has its map.
+abbrev pub HasOwnSlots : VolumeState → Type 0
+HasOwnSlots x = HasSlotsOf (head_in x) x.map × AreInSlots (head_in x)
 
 -- What a volume's label and its commit rest on, whatever its tables hold: its numbers, its name, its snapshots, that each has its map, and that no
 -- map waits but a snapshot's. It looks at no image.

@@ -1,8 +1,8 @@
 -- One volume of a session between points, whatever of its files is in memory, and what the placing of its files leaves.
-use Rattle.std.specs.Prelude.{◌≡◌, ◌≤◌, ◌<◌, ◌+◌, ℕ, true, false, length, List, [], ◌∷◌, Option, Some, None, IfSome, is_some, replicate}
+use Rattle.std.specs.Prelude.{◌≡◌, ◌≤◌, ◌<◌, ◌+◌, ℕ, true, false, List, [], ◌∷◌, Option, Some, None, IfSome, is_some, replicate}
 use Rattle.fv_disk.specs.Shown.{Shown}
 use Rattle.fv_model.specs.Volumes.{Volume}
-use Rattle.fv_volmap.specs.Slots.{active_of, empty_volume, stored_count}
+use Rattle.fv_volmap.specs.Slots.{IsVolume, empty_volume, stored_count}
 use Rattle.fv_aggmap.specs.Space.{free_blocks}
 use Rattle.fv_volume.specs.declared.pool.Pool.{Pool}
 use Rattle.fv_volume.specs.declared.state.VolumeState.{VolumeState}
@@ -39,9 +39,9 @@ named_held disk pool (Some x) = (x.name, volume_for disk pool x) ∷ []
 abbrev pub HasNoFiles : Option VolumeState → Type 0
 HasNoFiles state = IfSome state (λ x. x.files ≡ None)
 
--- The active map of a volume has each number of its span.
+-- The maps of a volume are whole: the active slot is used, and each used one has each number of its span.
 abbrev pub HasWholeMap : Option VolumeState → Type 0
-HasWholeMap state = IfSome state (λ x. length (active_of x.map) ≡ x.map.span)
+HasWholeMap state = IfSome state (λ x. IsVolume x.map)
 
 -- What of a volume neither the placing of its files nor a point changes: all but its active root, the numbers in use, the trees in memory,
 -- whether it changed, where its label lies, and which maps wait.

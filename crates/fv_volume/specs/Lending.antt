@@ -175,8 +175,8 @@ pub record KeepsSlots (slot : ℕ) (old new : Lent) : Type 0 where
 
 -- Blocks were read, placed and given up for one volume. The disk is only read, and the root on it holds what it held. A block
 -- that the next root held it goes on holding unless an entry of the volume led to it, and what it holds anew is an entry's. No
--- block is kept anew, and no entry leads to a block, that couldn't be taken. All of other volumes stays. While some of the room is left, it tells
--- what was taken.
+-- block is kept anew, and no entry leads to a block, that couldn't be taken. The entries behind the span stay, and all of other volumes. While
+-- some of the room is left, it tells what was taken.
 pub record GoesOver (old new : Lent) : Type 0 where
   pub home : new.home ≡ old.home
   pub found : new.pool.found ≡ old.pool.found
@@ -191,6 +191,7 @@ pub record GoesOver (old new : Lent) : Type 0 where
       ⊎ ((is_member old.pool.map.next b ≡ true) × (IsOwn old.pool.containers old.home.slot b → IsOwn new.pool.containers old.home.slot b))
   pub entries : (v : ℕ) → (own_entry (container_at new.pool.containers old.home.slot) v ≡ own_entry (container_at old.pool.containers old.home.slot) v)
       ⊎ IsNewEntry old.pool.map old.pool.containers new.pool.containers old.home.slot v
+  pub beyond : (v : ℕ) → old.map.span ≤ v → own_entry (container_at new.pool.containers old.home.slot) v ≡ own_entry (container_at old.pool.containers old.home.slot) v
   pub kept : (b : ℕ) → (fin.get new.pool.kept b ≡ fin.get old.pool.kept b) ⊎ MayTake old.pool.map old.pool.containers old.home.slot b
   pub shape : HasShapeOf (container_at old.pool.containers old.home.slot) (container_at new.pool.containers old.home.slot)
   pub others : (s : ℕ) → s ≢ old.home.slot → container_at new.pool.containers s ≡ container_at old.pool.containers s

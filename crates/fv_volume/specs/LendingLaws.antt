@@ -98,6 +98,7 @@ reads_goes old new reads =
       loses = λ b was is. let isnt : true ≡ false = sym was ∙ sym (next b) ∙ is in cc;
       gains = λ b is. inr (sym (next b) ∙ is, λ own. subst (λ s. IsOwn s old.home.slot b) (sym reads.containers) own);
       entries = λ v. inl (ap (λ (s : Slots). own_entry (container_at s old.home.slot) v) reads.containers);
+      beyond = λ v past. ap (λ (s : Slots). own_entry (container_at s old.home.slot) v) reads.containers;
       kept = λ b. inl (ap (λ kept. fin.get kept b) reads.kept);
       shape = record {
         there = ap (λ (s : Slots). is_some (container_at s old.home.slot)) reads.containers;
@@ -276,6 +277,7 @@ module _ (old mid new : Lent) (first : GoesOver old mid) (second : GoesOver mid 
     loses = loses_then;
     gains = gains_then;
     entries = entries_then;
+    beyond = λ v past. at_slot (λ s. own_entry (container_at after s) v ≡ own_entry (container_at between s) v) (second.beyond v (omega (arith, first.span, past))) ∙ first.beyond v past;
     kept = kept_then;
     shape = shape_then (at_slot (λ s. HasShapeOf (container_at between s) (container_at after s)) second.shape);
     others = λ s other. second.others s (λ same. other (same ∙ same_slot)) ∙ first.others s other;

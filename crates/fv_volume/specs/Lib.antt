@@ -19,7 +19,6 @@ pub mod Dropping
 pub mod DroppingLaws
 pub mod Putting
 pub mod PuttingLaws
-pub mod Flushed
 pub mod Flushing
 pub mod Stored
 pub mod Writing

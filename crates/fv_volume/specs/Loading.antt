@@ -1,17 +1,18 @@
 -- Volumes as they are read from their labels.
-use Rattle.std.specs.Prelude.{◌≡◌, ◌≢◌, ◌<◌, ◌≤◌, ◌+◌, ◌-◌, ◌⊎◌, ◌*◌, ℕ, Bool, false, not, ◌&&◌, ◌==◌, nat_lt, if◌then◌else◌, List, [], length, find, Option, Some, None, IfSome, Ok, Err, replicate}
+use Rattle.std.specs.Prelude.{◌≡◌, ◌≢◌, ◌<◌, ◌≤◌, ◌-◌, ◌/◌, ◌⊎◌, ℕ, Bool, true, false, not, ◌&&◌, ◌||◌, ◌==◌, nat_lt, if◌then◌else◌, List, [], length, find, take, Option, Some, None, IfSome, Ok, Err, replicate}
 use Rattle.std.specs.List.{list_any, range_with_len}
 use Rattle.std.specs.Option.{is_some, option_map}
 use Rattle.fv_disk.specs.Shown.{Image}
-use Rattle.fv_bits.specs.Bits.{bit_of_area, block_bits}
-use Rattle.fv_bits.specs.Members.{IsFirstPast, is_member}
+use Rattle.fv_bits.specs.Members.{IsFirstPast}
 use Rattle.fv_codec.specs.declared.label.Label.{Label}
 use Rattle.fv_codec.specs.declared.label.SnapRecord.{SnapRecord}
 use Rattle.fv_codec.specs.Blocks.{label_at}
 use Rattle.fv_image.specs.Containers.{IsNodeFault}
-use Rattle.fv_image.specs.Views.{entry_count, head_of, volume_bit}
+use Rattle.fv_image.specs.Views.{View, entry_count, head_of, map_vvbn, used_slots, volume_bit}
+use Rattle.fv_model.specs.declared.commands.Kind.{Kind}
+use Rattle.fv_model.specs.Numbers.{most_snapshots}
 use Rattle.fv_model.specs.Space.{map_blocks}
-use Rattle.fv_volmap.specs.Slots.{Volume, active_of, stored_count}
+use Rattle.fv_volmap.specs.Slots.{AreUnited, IsVolume, Volume, has, slot_at, stored_count, taken_in}
 use Rattle.fv_image.specs.Held.{label_in, label_lying, label_place, view_at}
 use Rattle.fv_container.specs.declared.entry.Entry.{Entry}
 use Rattle.fv_container.specs.Mapped.{IsMapped, Mapped, entry_under}
@@ -22,7 +23,9 @@ use Rattle.fv_disk.specs.declared.fault.BlockFault.{BlockFault}
 use Rattle.fv_disk.specs.declared.fault.BlockFault.TheVariants.{DiskFault, Damaged, Memory}
 use Rattle.fv_charge.specs.declared.ledger.Ledger.{Ledger}
 use Rattle.fv_charge.specs.Counted.{charge_counted}
+use Rattle.fv_volume.specs.declared.state.Snap.{Snap}
 use Rattle.fv_volume.specs.declared.state.VolumeState.{VolumeState}
+use Rattle.fv_volume.specs.Snapshots.{has_slot}
 use Rattle.fv_container.specs.Chains.{Slots, container_at, parent_at, slot_count}
 use Rattle.fv_volume.specs.States.{States, head_in, label_in_state, parent_in, state_at}
 use Rattle.fv_volume.specs.Files.{IsLabelled}
@@ -52,20 +55,31 @@ IsBadLabel block place (Damaged at want number) = (at ≡ place) × ((label_at b
 IsBadLabel block place DiskFault = Unit {0}
 IsBadLabel block place Memory = ⊥
 
--- a block of the active map has a bit set past the span: its place, the last VVBN of the span, and the bit's number
-pub record IsPastSpan (i : Image) (map : Mapped) (span at want number : ℕ) : Type 0 where
+-- a block of the map of a slot has a bit set past the span: its place, the last VVBN of the span, and the bit's number
+pub record IsPastSpan (i : Image) (map : Mapped) (span slot at want number : ℕ) : Type 0 where
   pub index : ℕ
   pub within : index < map_blocks span
   pub entry : Entry
-  pub there : entry_under map (span + index) ≡ Some entry
+  pub there : entry_under map (map_vvbn span slot index) ≡ Some entry
   pub place : at ≡ entry.pvbn
   pub last : want ≡ span - 1
   pub past : IsFirstPast span index (i entry.pvbn) number
 
-abbrev pub IsBadMap : Image → Mapped → ℕ → BlockFault → Type 0
-IsBadMap i map span (Damaged at want number) = IsPastSpan i map span at want number
-IsBadMap i map span DiskFault = Unit {0}
-IsBadMap i map span Memory = Unit {0}
+-- why the map of a slot isn't read
+abbrev pub IsBadSlot : Image → Mapped → ℕ → ℕ → BlockFault → Type 0
+IsBadSlot i map span slot (Damaged at want number) = IsPastSpan i map span slot at want number
+IsBadSlot i map span slot DiskFault = Unit {0}
+IsBadSlot i map span slot Memory = Unit {0}
+
+-- whether a map slot is the active table's, or that of one of these snapshots
+abbrev pub is_slot_with : List Snap → ℕ → Bool
+is_slot_with snaps k = (k == 0) || has_slot snaps k
+
+-- why the maps of a volume with these snapshots aren't read
+abbrev pub IsBadMap : Image → Mapped → ℕ → List Snap → BlockFault → Type 0
+IsBadMap i map span snaps (Damaged at want number) = (k : ℕ) × ((is_slot_with snaps k ≡ true) × IsPastSpan i map span k at want number)
+IsBadMap i map span snaps DiskFault = Unit {0}
+IsBadMap i map span snaps Memory = Unit {0}
 
 -- the label of a slot in an image, where it has its shape
 abbrev pub label_of : Found → Image → ℕ → Option Label
@@ -85,19 +99,22 @@ pub record IsTreeFault (i : Image) (found : Found) (at want number : ℕ) : Type
   pub lies : label_of found i slot ≡ Some label
   pub fault : IsNodeFault i label.container label.height (entry_count label.span) at want number
 
--- the active map of a slot has a bit set past the span
-pub record IsActiveFault (i : Image) (found : Found) (at want number : ℕ) : Type 0 where
+-- a map of a slot, that of the active table or of a snapshot, has a bit set past the span
+pub record IsMapFault (i : Image) (found : Found) (at want number : ℕ) : Type 0 where
   pub slot : ℕ
   pub label : Label
   pub lies : label_of found i slot ≡ Some label
   pub map : Mapped
   pub spelled : Spelled i label.container label.height map
   pub long : length map.entries ≡ entry_count label.span
-  pub fault : IsPastSpan i map label.span at want number
+  pub valid : IsMapped map
+  pub map_slot : ℕ
+  pub used : list_any (λ k. k == map_slot) (used_slots (head_of label)) ≡ true
+  pub fault : IsPastSpan i map label.span map_slot at want number
 
 -- why volumes aren't loaded, where the disk didn't fail and memory didn't run out
 abbrev pub IsLoadFault : Image → Found → BlockFault → Type 0
-IsLoadFault i found (Damaged at want number) = IsLabelFault i found at want number ⊎ (IsTreeFault i found at want number ⊎ IsActiveFault i found at want number)
+IsLoadFault i found (Damaged at want number) = IsLabelFault i found at want number ⊎ (IsTreeFault i found at want number ⊎ IsMapFault i found at want number)
 IsLoadFault i found DiskFault = Unit {0}
 IsLoadFault i found Memory = Unit {0}
 
@@ -115,50 +132,51 @@ abbrev pub entry_block : Image → Option Entry → List ℕ
 entry_block i None = []
 entry_block i (Some e) = i e.pvbn
 
--- so many blocks of the active map were read, and no number behind them is a member yet
-pub record HasRead (i : Image) (map : Mapped) (span count : ℕ) (volume : Volume) : Type 0 where
-  pub size : volume.span ≡ span
-  pub bits : (v : ℕ) → v < block_bits * count → is_member (active_of volume) v ≡ bit_of_area (λ k. entry_block i (entry_under map (span + k))) v
-  pub clear : (v : ℕ) → block_bits * count ≤ v → is_member (active_of volume) v ≡ false
+-- whether a slot of a volume's maps is used; the active one always is
+abbrev pub is_used_slot : Volume → ℕ → Bool
+is_used_slot maps k = (k == 0) || is_some (slot_at maps k)
 
--- a bit of the active map that a container names
-unfoldable pub active_bit : Image → Mapped → ℕ → ℕ → Bool
-active_bit i map span v = nat_lt v (block_bits * map_blocks span) && bit_of_area (λ k. entry_block i (entry_under map (span + k))) v
+-- Whether the stored slots hold a VVBN: one of the span is held where some slot has it, and that of a map block where its slot is used.
+abbrev pub is_kept_in : Volume → ℕ → ℕ → Bool
+is_kept_in maps span v = if nat_lt v span then taken_in (take stored_count maps.slots) v
+    else nat_lt ((v - span) / map_blocks span) stored_count && is_used_slot maps ((v - span) / map_blocks span)
 
--- Whether the active map of a volume without snapshots holds a VVBN: one of the span is held where it is a member, and beyond the span the
--- blocks of the active map are.
-abbrev pub is_kept_vvbn : List Bool → ℕ → ℕ → Bool
-is_kept_vvbn active span v = if nat_lt v span then is_member active v else nat_lt v (span + map_blocks span)
-
--- an entry that isn't a hole, under a VVBN that the active map doesn't hold
-abbrev pub is_delayed_entry : List Bool → Mapped → ℕ → ℕ → Bool
-is_delayed_entry active map span v = is_some (entry_under map v) && not (is_kept_vvbn active span v)
+-- an entry that isn't a hole, under a VVBN that the stored slots don't hold
+abbrev pub is_delayed_entry : Volume → Mapped → ℕ → ℕ → Bool
+is_delayed_entry maps map span v = is_some (entry_under map v) && not (is_kept_in maps span v)
 
 -- Whether there is such an entry: its block was freed in the volume and not yet in the aggregate, so the next consistency point gives it
 -- back.
-unfoldable pub has_delayed : List Bool → Mapped → ℕ → Bool
-has_delayed active map span = list_any (is_delayed_entry active map span) (range_with_len 0 (length map.entries))
+unfoldable pub has_delayed : Volume → Mapped → ℕ → Bool
+has_delayed maps map span = list_any (is_delayed_entry maps map span) (range_with_len 0 (length map.entries))
 
--- the ledger of a volume without snapshots, base and reserves, counted from its active map
-abbrev pub ledger_by : VolumeState → Ledger
-ledger_by x = record { charge = charge_counted (active_of x.map) None 0 x.span; need = 0; size = x.size; kind = x.kind; span = x.span }
+-- The ledger of a volume with so many snapshots, without base and reserves, was counted from the union of the slots of its maps.
+pub record HasCounted (maps : Volume) (snapshots span size : ℕ) (kind : Kind) (ledger : Ledger) : Type 0 where
+  pub union : List Bool
+  pub united : AreUnited maps union
+  pub ledger_is : ledger ≡ record { charge = charge_counted union None snapshots span; need = 0; size = size; kind = kind; span = span }
 
--- A volume's ledger is counted from its active map, which has each number of its span, none of its files is in memory, and no map waits.
+-- A volume has at most 24 snapshots, its ledger is counted from its maps, none of its files is in memory, and no map waits.
 pub record IsCounted (x : VolumeState) : Type 0 where
-  pub ledger : x.ledger ≡ ledger_by x
-  pub long : length (active_of x.map) ≡ x.map.span
+  pub valid : IsVolume x.map
+  pub few : length x.snapshots ≤ most_snapshots
+  pub ledger : HasCounted x.map (length x.snapshots) x.span x.size x.kind x.ledger
   pub none : x.files ≡ None
   pub numbers : x.numbers ≡ None
   pub fresh : x.fresh ≡ replicate stored_count false
 
+-- Each used slot of a volume's maps has the bits of its blocks, and no other stored slot has a bit. Which slots are used says `IsLabelled.slots`.
+abbrev pub HaveBits : View → ℕ → ℕ → Volume → Type 0
+HaveBits w s span maps = (k v : ℕ) → k < stored_count → has v (slot_at maps k) ≡ (is_used_slot maps k && volume_bit w s span k v)
+
 -- A slot's volume has the head that its label says, with the place of that label, and its container is the one that the label names.
--- Its active map has the bits of its blocks. It is as the root on the disk has it, and has changed where an entry is delayed.
+-- Its maps have the bits of their blocks. It is as the root on the disk has it, and has changed where an entry is delayed.
 pub record IsLoaded (i : Image) (found : Found) (s : ℕ) (state : Option VolumeState) (container : Option Mapped) : Type 0 where
   pub head : option_map head_in state ≡ option_map head_of (label_of found i s)
   pub tree : IsContainerOf i (label_of found i s) container
   pub label : label_in_state state ≡ label_place (root_found found) s
-  pub bits : IfSome state (λ x. (v : ℕ) → is_member (active_of x.map) v ≡ volume_bit (view_at (root_found found) i) s x.span 0 v)
-  pub changed : IfSome state (λ x. IfSome container (λ map. x.changed ≡ has_delayed (active_of x.map) map x.span))
+  pub bits : IfSome state (λ x. HaveBits (view_at (root_found found) i) s x.span x.map)
+  pub changed : IfSome state (λ x. IfSome container (λ map. x.changed ≡ has_delayed x.map map x.span))
 
 -- the volumes of the first slots are loaded
 pub record LoadedTo (i : Image) (found : Found) (count : ℕ) (states : States) (containers : Slots) : Type 0 where

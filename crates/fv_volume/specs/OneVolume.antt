@@ -3,7 +3,6 @@ use Rattle.std.specs.Prelude.{◌≡◌, ◌≢◌, ◌≤◌, ◌+◌, ℕ, fal
 use Rattle.std.specs.Option.{option_map, option_and_then}
 use Rattle.std.specs.FinMap as fin
 use Rattle.fv_disk.specs.Shown.{Shown as Disk}
-use Rattle.fv_model.specs.Numbers.{greatest_span}
 use Rattle.fv_model.specs.Spelling.{name_cmp}
 use Rattle.fv_model.specs.Tables.{Table}
 use Rattle.fv_model.specs.Volumes.{Volume}
@@ -97,9 +96,13 @@ pub record IsTableIn (blocks : Under) (uses : ℕ → Option Use) (slot : Slot) 
   pub well : IsStoredUnder blocks root.levels root.root
   pub reach : (v : ℕ) → has v slot ≡ is_listed (items (standing_at blocks root.levels root.root)) v
 
--- The table of a snapshot lies whole in its slot, which isn't the active table's.
+-- The table of a root of a volume lies whole in a slot of its maps, with nothing of it in memory.
+abbrev pub RootStands : Disk → Pool → VolumeState → ℕ → Rooted → Type 0
+RootStands disk pool x k root = IsTableIn (blocks_in disk pool x k) (uses_in pool x k) (slot_at x.map k) x.now root
+
+-- So the table of a snapshot lies in its slot, which isn't the active table's.
 abbrev pub IsKeptTable : Disk → Pool → VolumeState → Snap → Type 0
-IsKeptTable disk pool x q = (q.slot ≢ 0) × IsTableIn (blocks_in disk pool x q.slot) (uses_in pool x q.slot) (slot_at x.map q.slot) x.now q.table
+IsKeptTable disk pool x q = (q.slot ≢ 0) × RootStands disk pool x q.slot q.table
 
 -- ---- the volume
 
@@ -130,13 +133,17 @@ content_for disk pool x = record { active = table_for disk pool x; snapshots = s
 abbrev pub volume_for : Disk → Pool → VolumeState → Volume
 volume_for disk pool x = volume_as x (content_for disk pool x)
 
--- the numbers of its ledger are those of the volume, and its charge is one that a volume can have
+-- the most blocks that a ledger counts: a number for each of the greatest span, and 24 maps of 32 blocks
+abbrev pub greatest_charge : ℕ
+greatest_charge = 1049344
+
+-- the numbers of its ledger are those of the volume, and its charge is one that a ledger can have
 pub record IsBooked (x : VolumeState) : Type 0 where
   pub size : x.ledger.size ≡ x.size
   pub kind : x.ledger.kind ≡ x.kind
   pub span : x.ledger.span ≡ x.span
   pub need : x.ledger.need ≡ 0
-  pub charge : x.ledger.charge ≤ greatest_span
+  pub charge : x.ledger.charge ≤ greatest_charge
 
 -- A volume that calls can be made on, whatever the disk tells: its blocks can be lent, its label and its ledger have numbers in their
 -- ranges, and so has the aggregate. Where trees of its table are in memory, or maps of it wait, it has changed.

@@ -6,10 +6,7 @@ use Rattle.fv_disk.specs.declared.fault.BlockFault.TheVariants as block
 use Rattle.fv_codec.specs.declared.pointer.Pointer.{Pointer}
 use Rattle.fv_codec.specs.Blocks.{IsPointer}
 use Rattle.fv_image.specs.Layout.{root_place}
-use Rattle.fv_bits.specs.Members.{is_member}
-use Rattle.fv_image.specs.Volumes.{standing_of}
 use Rattle.fv_tables.specs.Kept.{IsPlacedTable}
-use Rattle.fv_tables.specs.Reached.{items, is_listed}
 use Rattle.fv_tables.specs.Spelled.{Under}
 use Rattle.fv_tables.specs.Told.{standing_at}
 use Rattle.fv_tree.specs.Sources.{Shown, Use}
@@ -21,16 +18,17 @@ use Rattle.fv_files.specs.Tables.{changed, loaded_trees, table_in, AreReached, A
 use Rattle.fv_files.specs.Trees.{standing_in}
 use Rattle.fv_container.specs.declared.entry.Entry.{Entry}
 use Rattle.fv_container.specs.Chains.{Slots, container_at, own_entry, parent_at}
-use Rattle.fv_volmap.specs.Slots.{Volume, active_of}
+use Rattle.fv_volmap.specs.Slots.{Volume}
 use Rattle.fv_volume.specs.declared.fault.VolumeFault.{VolumeFault}
 use Rattle.fv_volume.specs.declared.fault.VolumeFault.TheVariants.{Refused, DiskFault, Damaged, Memory}
 use Rattle.fv_volume.specs.declared.pool.Pool.{Pool}
 use Rattle.fv_volume.specs.declared.state.Rooted.{Rooted as Rooting}
 use Rattle.fv_volume.specs.declared.state.VolumeState.{VolumeState}
 use Rattle.fv_volume.specs.Files.{IsState}
+use Rattle.fv_volume.specs.Housed.{ReachesAll}
 use Rattle.fv_volume.specs.Lending.{Lent, GoesLent, IsOwn, LacksOne}
 use Rattle.fv_volume.specs.OneVolume.{shows, table_for, volume_for, IsStanding}
-use Rattle.fv_volume.specs.States.{States, state_at, table_in as root_of, view_over}
+use Rattle.fv_volume.specs.States.{States, state_at, view_over}
 use Rattle.fv_volume.specs.Trees.{active_in, no_trees}
 
 -- ---- what is pending
@@ -104,8 +102,8 @@ LeavesOthers disk pool slot after left = (y : VolumeState) → y.slot ≢ slot �
 pub record IsSeenIn (disk : Disk) (pool : Pool) (states : States) (x : VolumeState) : Type 0 where
   pub table : active_in (view_over pool states disk.reads) no_trees x.slot ≡ table_for disk pool x
   pub state : IsState (view_over pool states disk.reads) no_trees x.slot x
-  -- and its active map is what its table reaches, where what is in use is led to
-  pub reach : IsLedTo disk pool x → (v : ℕ) → is_member (active_of x.map) v ≡ is_listed (items (standing_of (view_over pool states disk.reads) x.slot (root_of x.active))) v
+  -- and each slot of its maps has what its root reaches, where what is in use is led to
+  pub reach : IsLedTo disk pool x → ReachesAll (view_over pool states disk.reads) x.slot x
 
 -- So does each view of a session in which it lies, where it has no base.
 abbrev pub IsSeen : Disk → Pool → VolumeState → Type 0

@@ -21,6 +21,10 @@ use Rattle.fv_volume.specs.SnapRecords.{hole}
 abbrev pub table_in : Rooted → Table
 table_in t = record { levels = t.levels; root = t.root }
 
+-- a root as a volume in memory has it
+abbrev pub rooted_as : Table → Rooted
+rooted_as r = record { levels = r.levels; root = r.root }
+
 abbrev pub footing_in : Base → Footing
 footing_in b = record { parent = b.parent; slot = b.slot; splitting = b.splitting }
 

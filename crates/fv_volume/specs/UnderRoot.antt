@@ -1,18 +1,20 @@
 -- Volumes in memory beside what a root on the disk names.
-use Rattle.std.specs.Prelude.{◌≡◌, ◌≢◌, ◌≤◌, ◌<◌, ℕ, Bool, true, false, List, length, Option, Some, None}
+use Rattle.std.specs.Prelude.{◌≡◌, ◌≢◌, ◌≤◌, ◌<◌, ◌+◌, ◌*◌, ℕ, Bool, true, false, List, length, Option, Some, None}
 use Rattle.std.specs.FinMap as fin
 use Rattle.fv_disk.specs.Shown.{Image}
+use Rattle.fv_bits.specs.Bits.{bit_of_bytes, block_bits}
 use Rattle.fv_bits.specs.Members.{is_member}
 use Rattle.fv_codec.specs.declared.label.Label.{Label}
 use Rattle.fv_image.specs.Containers.{IsNodePlace}
 use Rattle.fv_image.specs.Maps.{map_bit}
-use Rattle.fv_image.specs.Views.{entry_count}
-use Rattle.fv_image.specs.Held.{label_place, layout_at}
+use Rattle.fv_image.specs.Views.{entry_count, map_vvbn}
+use Rattle.fv_image.specs.Held.{is_held, label_place, layout_at}
+use Rattle.fv_model.specs.Space.{map_blocks}
 use Rattle.fv_image.specs.Whole.{is_held_by, times_held}
 use Rattle.fv_image.specs.SoundSlots.{IsSoundSlot}
 use Rattle.fv_root.specs.declared.find.Found.{Found}
 use Rattle.fv_root.specs.Finding.{root_found}
-use Rattle.fv_container.specs.Mapped.{Mapped}
+use Rattle.fv_container.specs.Mapped.{Mapped, entry_under}
 use Rattle.fv_container.specs.Spelled.{names}
 use Rattle.fv_container.specs.Chains.{container_at, own_entry, slot_count}
 use Rattle.fv_aggmap.specs.Space.{Space}
@@ -21,19 +23,33 @@ use Rattle.fv_volume.specs.declared.state.VolumeState.{VolumeState}
 use Rattle.fv_volume.specs.Housed.{settled_at}
 use Rattle.fv_volume.specs.Loading.{IsLoaded, label_of}
 use Rattle.fv_volume.specs.States.{States, placed_in, state_at}
-use Rattle.fv_volume.specs.Stored.{AreApartIn, AreSpacedIn, has_block, stays}
+use Rattle.fv_volume.specs.Stored.{AreApartIn, AreSpacedIn, has_block, has_stored_map, map_entry, slot_map, stays}
 
 -- the map of the root on the disk is the one that its area spells; the next one may differ
 pub record IsMapOf (i : Image) (found : Found) (space : Space) : Type 0 where
   pub len : length space.committed ≡ found.blocks
   pub bits : (b : ℕ) → is_member space.committed b ≡ map_bit (root_found found) i b
 
+-- Block j of the map of a slot stands on the disk under its VVBN, in a block that the root there holds, and has the bits of the slot.
+pub record StandsMap (i : Image) (found : Found) (x : VolumeState) (map : Mapped) (k j : ℕ) : Type 0 where
+  pub place : ℕ
+  pub some : 1 ≤ place
+  pub there : entry_under map (map_vvbn x.span k j) ≡ Some (map_entry place)
+  pub held : is_held (layout_at (root_found found) i) place ≡ true
+  pub bits : (b : ℕ) → b < block_bits → bit_of_bytes (i place) b ≡ is_member (slot_map x k) (block_bits * j + b)
+
+-- so it is with each map that a point leaves where it stands
+abbrev pub StandMaps : Image → Found → VolumeState → Mapped → Type 0
+StandMaps i found x map = (k j : ℕ) → has_stored_map x k ≡ true → j < map_blocks x.span → StandsMap i found x map k j
+
 -- A volume that is lent: its label, if it has one, and the nodes of its container are those that the root on the disk names. A new one has neither,
--- also where that root still names a volume of its slot that was removed. Its blocks are apart. Without a change it is as that root has it.
+-- also where that root still names a volume of its slot that was removed. Its blocks are apart, and the maps that
+-- a point leaves stand there. Without a change it is as that root has it.
 pub record IsLentSlot (i : Image) (found : Found) (s : ℕ) (x : VolumeState) (map : Mapped) : Type 0 where
   pub label : x.label ≢ 0 → x.label ≡ label_place (root_found found) s
   pub nodes : (b : ℕ) → names map.tree b ≡ true → (l : Label) × (label_of found i s ≡ Some l) × IsNodePlace i l.container l.height (entry_count l.span) b
   pub apart : AreApartIn x map
+  pub maps : StandMaps i found x map
   pub unchanged : x.changed ≡ false → IsLoaded i found s (Some x) (Some map)
 
 -- a slot, with or without a volume; without one the root on the disk may still have the one that was removed

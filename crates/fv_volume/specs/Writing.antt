@@ -102,9 +102,13 @@ map_writes x count = count_by (is_map_written x) (range_with_len 0 count)
 unfoldable pub map_count : List Bool → ℕ
 map_count fresh = count_by (λ k. (k == 0) || get_or fresh k false) (range_with_len 0 stored_count)
 
--- the blocks that a volume asks for: its overhead, which counts the active map, and the other maps that are written
+-- the blocks of the maps that wait
+abbrev pub map_wait : VolumeState → ℕ
+map_wait x = (map_count x.fresh - 1) * map_blocks x.span
+
+-- the blocks that a volume asks for: its overhead, which counts the active map, and those of the maps that wait
 abbrev pub asked : VolumeState → ℕ
-asked x = overhead x.span + (map_count x.fresh - 1) * map_blocks x.span
+asked x = overhead x.span + map_wait x
 
 -- As many blocks are free as a volume asks for beside its label.
 pub record HasRoomFor (x : VolumeState) (space : Space) : Type 0 where

@@ -18,7 +18,7 @@ ghost use Rattle.fv_volume.specs.declared.fault.VolumeFault.TheVariants.{Refused
 ghost use Rattle.fv_volume.specs.Calls.{BlockCause, CallCause, Changes, HasBeside, KeepsHead, Reads};
 ghost use Rattle.fv_volume.specs.Changing.{AcceptsPut, AltersTable, FitsLedger, KeepsTable, RefusedIn, SpaceSays};
 ghost use Rattle.fv_volume.specs.Lending.{lent_for};
-ghost use Rattle.fv_volume.specs.OneVolume.{home_in, standing_for, volume_for, IsReady, IsStanding};
+ghost use Rattle.fv_volume.specs.OneVolume.{greatest_charge, home_in, standing_for, volume_for, IsReady, IsStanding};
 
 use crate::asking::find_file;
 use crate::blocks::Home;
@@ -98,7 +98,7 @@ impl VolumeState {
 
 /// A change of a ledger by so many blocks more.
 pub(crate) fn more_blocks(ledger: &Ledger, count: u32) -> Delta
-    requires charge { ledger.now.charge ≤ greatest_span }
+    requires charge { ledger.now.charge ≤ greatest_charge }
     requires need { ledger.now.need ≡ 0 }
     requires few { count ≤ 6 }
     ensures charge { result.charge ≡ pos count }

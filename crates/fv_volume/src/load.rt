@@ -1,6 +1,7 @@
-//! Reading the volumes of a root: labels, containers and active maps.
+//! Reading the volumes of a root: labels, containers and maps.
 
-ghost use Rattle.std.specs.Prelude.{◌≡◌, ◌<◌, ◌≤◌, ◌+◌, ◌*◌, length, None, Some, IfOk, IfErr, OnOk, OnErr, IsTrue, get_or, ◌++◌, ◌∷◌, []};
+ghost use Rattle.std.specs.Prelude.{◌≡◌, ◌<◌, ◌≤◌, ◌+◌, ◌*◌, length, replicate, None, Some, IfOk, IfErr, OnOk, OnErr, IsTrue, get_or, ◌++◌, ◌∷◌, []};
+ghost use Rattle.fv_bits.specs.Bits.{block_bits};
 ghost use Rattle.fv_codec.specs.Blocks.{IsLabel, label_at};
 ghost use Rattle.fv_container.specs.Chains.{container_at, no_containers, parent_at, slot_count, with_container, with_parent};
 ghost use Rattle.fv_container.specs.Mapped.{IsMapped};
@@ -11,14 +12,14 @@ ghost use Rattle.fv_image.specs.Views.{entry_count, head_of};
 ghost use Rattle.fv_model.specs.Numbers.{greatest_span};
 ghost use Rattle.fv_model.specs.Space.{map_blocks};
 ghost use Rattle.fv_store.specs.Held.{StandsOn};
-ghost use Rattle.fv_volume.specs.Files.{IsOneMap};
-ghost use Rattle.fv_volume.specs.Loading.{HasRead, IsBadLabel, IsBadMap, IsFilled, IsLoadFault, IsLoaded, KeptTo, LeavesOthers, LoadedTo, form_in, has_delayed, is_delayed_entry, is_kept_vvbn};
+ghost use Rattle.fv_volmap.specs.Slots.{IsVolume, Loads, slot_count as map_slot_count, stored_count};
+ghost use Rattle.fv_volume.specs.Loading.{IsBadLabel, IsBadMap, IsBadSlot, IsFilled, IsLoadFault, IsLoaded, KeptTo, LeavesOthers, LoadedTo, form_in, has_delayed, is_delayed_entry, is_kept_in, is_used_slot};
+ghost use Rattle.fv_volume.specs.SlotReads.{AreUsedTo, HasReadSlot, HaveRead, TakesSlot};
 ghost use Rattle.fv_volume.specs.States.{head_in, state_at};
 
 use crate::label::read_label;
-use crate::sizes::entry_count;
+use crate::sizes::{entry_count, map_blocks, map_vvbn};
 use crate::state::{Snapshots, VolumeState};
-use fv_bits::BitMap;
 use fv_codec::Label;
 use fv_container::{Container, Containers};
 use fv_disk::{Block, BlockFault, Disk, ZERO};
@@ -27,13 +28,25 @@ use fv_store::Store;
 use fv_volmap::VolMap;
 use std::alloc::{AllocError, Global};
 
-/// Takes block `index` of the active map, where the container has it.
+/// Takes zeros as block `index` of the map of a slot. The one error is want of memory.
+fn take_zeros(map: &mut VolMap, slot: u8, index: u32) -> Result<(), AllocError>
+    requires slot { slot < map_slot_count }
+    requires within { block_bits * index < map.old.span }
+    ensures taken { OnOk result (Loads map.old slot index (replicate 4096 0) map.new) }
+    ensures valid { IsVolume map.new }
+{
+    map.load_slot(slot, index, &ZERO)?;
+    Ok(())
+}
+
+/// Takes block `index` of the map of a slot; a hole is taken as a block of zeros.
 fn read_map_block<D: Disk>(
     store: &mut Store,
     disk: &mut D,
     container: &Container,
     map: &mut VolMap,
     span: u32,
+    slot: u8,
     index: u32,
 ) -> Result<(), BlockFault>
     requires stands { StandsOn (D.shown disk.old) store.old.pairs }
@@ -41,22 +54,23 @@ fn read_map_block<D: Disk>(
     requires least { 1 ≤ span }
     requires map { map.old.span ≡ span }
     requires entries { length container.now.entries ≡ entry_count span }
+    requires slot { slot < stored_count }
     requires within { index < map_blocks span }
-    ensures map { map.new.span ≡ map.old.span }
-    ensures one { OnOk result (IsOneMap map.old → IsOneMap map.new) }
-    ensures read { IsTrue (D.shown disk.old).tells → HasRead (D.shown disk.old).reads container.now span index map.old
-        → OnOk result (HasRead (D.shown disk.old).reads container.now span (index + 1) map.new) }
-    ensures fault { IsTrue (D.shown disk.old).tells → IfErr result (IsBadMap (D.shown disk.old).reads container.now span) }
+    ensures takes { OnOk result (TakesSlot map.old slot 1 map.new) }
+    ensures read { IsTrue (D.shown disk.old).tells → HasReadSlot (D.shown disk.old).reads container.now span slot index map.old
+        → OnOk result (HasReadSlot (D.shown disk.old).reads container.now span slot (index + 1) map.new) }
+    ensures fault { IsTrue (D.shown disk.old).tells → IfErr result (IsBadSlot (D.shown disk.old).reads container.now span slot) }
     ensures only_reads { OnlyReads (D.shown disk.old) (D.shown disk.new) }
     ensures stands { StandsOn (D.shown disk.new) store.new.pairs }
     ensures cause { HasBlockCause (D.shown disk.old).faults (D.shown disk.new).faults result }
 {
-    let Some(entry) = container.entry_at(span + index) else {
+    let Some(entry) = container.entry_at(map_vvbn(span, slot, index)) else {
+        take_zeros(map, slot, index)?;
         return Ok(());
     };
     let mut block = ZERO;
     store.get(disk, entry.pvbn, &mut block)?;
-    match map.load_slot(0, index, &block)? {
+    match map.load_slot(slot, index, &block)? {
         None => Ok(()),
         Some(number) => Err(BlockFault::Damaged {
             at: u64::from(entry.pvbn),
@@ -66,12 +80,75 @@ fn read_map_block<D: Disk>(
     }
 }
 
-/// Reads the active map of a volume with this span.
+/// Takes all blocks of the map of a slot.
+fn read_slot<D: Disk>(
+    store: &mut Store,
+    disk: &mut D,
+    container: &Container,
+    map: &mut VolMap,
+    span: u32,
+    slot: u8,
+) -> Result<(), BlockFault>
+    requires stands { StandsOn (D.shown disk.old) store.old.pairs }
+    requires span { span ≤ greatest_span }
+    requires least { 1 ≤ span }
+    requires map { map.old.span ≡ span }
+    requires entries { length container.now.entries ≡ entry_count span }
+    requires slot { slot < stored_count }
+    ensures takes { OnOk result (TakesSlot map.old slot (map_blocks span) map.new) }
+    ensures read { IsTrue (D.shown disk.old).tells → HasReadSlot (D.shown disk.old).reads container.now span slot 0 map.old
+        → OnOk result (HasReadSlot (D.shown disk.old).reads container.now span slot (map_blocks span) map.new) }
+    ensures fault { IsTrue (D.shown disk.old).tells → IfErr result (IsBadSlot (D.shown disk.old).reads container.now span slot) }
+    ensures only_reads { OnlyReads (D.shown disk.old) (D.shown disk.new) }
+    ensures stands { StandsOn (D.shown disk.new) store.new.pairs }
+    ensures cause { HasBlockCause (D.shown disk.old).faults (D.shown disk.new).faults result }
+{
+    for index in 0..map_blocks(span) {
+        read_map_block(store, disk, container, map, span, slot, index)?;
+    }
+    Ok(())
+}
+
+/// Takes the map of a slot, if it is a snapshot's.
+fn read_next_slot<D: Disk>(
+    store: &mut Store,
+    disk: &mut D,
+    container: &Container,
+    snapshots: &Snapshots,
+    map: &mut VolMap,
+    span: u32,
+    slot: u8,
+) -> Result<(), BlockFault>
+    requires stands { StandsOn (D.shown disk.old) store.old.pairs }
+    requires span { span ≤ greatest_span }
+    requires least { 1 ≤ span }
+    requires map { map.old.span ≡ span }
+    requires entries { length container.now.entries ≡ entry_count span }
+    requires slot { slot < stored_count }
+    requires above { 1 ≤ slot }
+    requires used { AreUsedTo snapshots.now slot map.old }
+    ensures map { OnOk result (map.new.span ≡ span) }
+    ensures used { OnOk result (AreUsedTo snapshots.now (slot + 1) map.new) }
+    ensures read { IsTrue (D.shown disk.old).tells → HaveRead (D.shown disk.old).reads container.now span slot map.old
+        → OnOk result (HaveRead (D.shown disk.old).reads container.now span (slot + 1) map.new) }
+    ensures fault { IsTrue (D.shown disk.old).tells → IfErr result (IsBadMap (D.shown disk.old).reads container.now span snapshots.now) }
+    ensures only_reads { OnlyReads (D.shown disk.old) (D.shown disk.new) }
+    ensures stands { StandsOn (D.shown disk.new) store.new.pairs }
+    ensures cause { HasBlockCause (D.shown disk.old).faults (D.shown disk.new).faults result }
+{
+    if !snapshots.has_slot(slot) {
+        return Ok(());
+    }
+    read_slot(store, disk, container, map, span, slot)
+}
+
+/// Reads the maps of a volume with this span: that of the active table, and that of each of its snapshots.
 fn read_map<D: Disk>(
     alloc: Global,
     store: &mut Store,
     disk: &mut D,
     container: &Container,
+    snapshots: &Snapshots,
     span: u32,
 ) -> Result<VolMap, BlockFault>
     requires stands { StandsOn (D.shown disk.old) store.old.pairs }
@@ -79,78 +156,61 @@ fn read_map<D: Disk>(
     requires least { 1 ≤ span }
     requires entries { length container.now.entries ≡ entry_count span }
     ensures map { IfOk result (λ map. map.span ≡ span) }
-    ensures one { IfOk result IsOneMap }
-    ensures read { IsTrue (D.shown disk.old).tells → IfOk result (HasRead (D.shown disk.old).reads container.now span (map_blocks span)) }
-    ensures fault { IsTrue (D.shown disk.old).tells → IfErr result (IsBadMap (D.shown disk.old).reads container.now span) }
+    ensures used { IfOk result (AreUsedTo snapshots.now stored_count) }
+    ensures read { IsTrue (D.shown disk.old).tells → IfOk result (HaveRead (D.shown disk.old).reads container.now span stored_count) }
+    ensures fault { IsTrue (D.shown disk.old).tells → IfErr result (IsBadMap (D.shown disk.old).reads container.now span snapshots.now) }
     ensures only_reads { OnlyReads (D.shown disk.old) (D.shown disk.new) }
     ensures stands { StandsOn (D.shown disk.new) store.new.pairs }
     ensures cause { HasBlockCause (D.shown disk.old).faults (D.shown disk.new).faults result }
 {
     let mut map = VolMap::new(alloc, span)?;
-    read_map_blocks(store, disk, container, &mut map, span)?;
+    read_slot(store, disk, container, &mut map, span, 0)?;
+    for slot in 1..25 {
+        read_next_slot(store, disk, container, snapshots, &mut map, span, slot)?;
+    }
     Ok(map)
 }
 
-/// Takes all blocks of the active map.
-fn read_map_blocks<D: Disk>(
-    store: &mut Store,
-    disk: &mut D,
-    container: &Container,
-    map: &mut VolMap,
-    span: u32,
-) -> Result<(), BlockFault>
-    requires stands { StandsOn (D.shown disk.old) store.old.pairs }
-    requires span { span ≤ greatest_span }
-    requires least { 1 ≤ span }
-    requires map { map.old.span ≡ span }
-    requires entries { length container.now.entries ≡ entry_count span }
-    ensures map { map.new.span ≡ map.old.span }
-    ensures one { OnOk result (IsOneMap map.old → IsOneMap map.new) }
-    ensures read { IsTrue (D.shown disk.old).tells → HasRead (D.shown disk.old).reads container.now span 0 map.old
-        → OnOk result (HasRead (D.shown disk.old).reads container.now span (map_blocks span) map.new) }
-    ensures fault { IsTrue (D.shown disk.old).tells → IfErr result (IsBadMap (D.shown disk.old).reads container.now span) }
-    ensures only_reads { OnlyReads (D.shown disk.old) (D.shown disk.new) }
-    ensures stands { StandsOn (D.shown disk.new) store.new.pairs }
-    ensures cause { HasBlockCause (D.shown disk.old).faults (D.shown disk.new).faults result }
+/// Whether a slot is used; the active one always is.
+fn is_used(map: &VolMap, slot: u8) -> bool
+    requires { slot < stored_count }
+    ensures { result ≡ is_used_slot map.now slot }
 {
-    for index in 0..span.div_ceil(32_768) {
-        read_map_block(store, disk, container, map, span, index)?;
-    }
-    Ok(())
+    slot == 0 || map.snapshot(slot).is_some()
 }
 
-/// Whether the active map holds a VVBN: one of the span where it is a member, and beyond the span a block of the map.
-fn is_kept(active: &BitMap, span: u32, vvbn: u32) -> bool
+/// Whether the stored slots hold a VVBN: one of the span where some slot has it, and that of a map block where its slot is used.
+#[tactic(auto, using(crate::proofs::StayingMaps::slot_within))]
+fn is_kept(map: &VolMap, span: u32, vvbn: u32) -> bool
     requires span { span ≤ greatest_span }
-    requires long { length active.now ≡ span }
-    ensures { result ≡ is_kept_vvbn active.now span vvbn }
+    requires within { vvbn < entry_count span }
+    ensures { result ≡ is_kept_in map.now span vvbn }
 {
     if vvbn < span {
-        active.get(vvbn)
+        map.held(vvbn)
     } else {
-        vvbn < span + span.div_ceil(32_768)
+        is_used(map, ((vvbn - span) / map_blocks(span)) as u8)
     }
 }
 
-/// Whether the entry of a VVBN isn't a hole though the active map doesn't hold the VVBN.
-fn is_delayed(active: &BitMap, container: &Container, span: u32, vvbn: u32) -> bool
+/// Whether the entry of a VVBN isn't a hole though the stored slots don't hold the VVBN.
+fn is_delayed(map: &VolMap, container: &Container, span: u32, vvbn: u32) -> bool
     requires span { span ≤ greatest_span }
-    requires long { length active.now ≡ span }
-    requires within { vvbn < length container.now.entries }
-    ensures { result ≡ is_delayed_entry active.now container.now span vvbn }
+    requires entries { length container.now.entries ≡ entry_count span }
+    requires within { vvbn < entry_count span }
+    ensures { result ≡ is_delayed_entry map.now container.now span vvbn }
 {
-    container.entry_at(vvbn).is_some() && !is_kept(active, span, vvbn)
+    container.entry_at(vvbn).is_some() && !is_kept(map, span, vvbn)
 }
 
 /// Whether an entry is delayed: there is something to give back.
-fn has_delayed(active: &BitMap, container: &Container, span: u32) -> bool
+fn has_delayed(map: &VolMap, container: &Container, span: u32) -> bool
     requires span { span ≤ greatest_span }
-    requires long { length active.now ≡ span }
     requires entries { length container.now.entries ≡ entry_count span }
-    ensures { result ≡ has_delayed active.now container.now span }
+    ensures { result ≡ has_delayed map.now container.now span }
 {
     for vvbn in 0..entry_count(span) {
-        if is_delayed(active, container, span, vvbn) {
+        if is_delayed(map, container, span, vvbn) {
             return true;
         }
     }
@@ -214,9 +274,9 @@ fn load_volume<D: Disk>(
     }
     let label = read_label(store, disk, place)?;
     let container = read_container(alloc, store, disk, &label)?;
-    let map = read_map(alloc, store, disk, &container, label.span)?;
-    let delayed = has_delayed(map.active(), &container, label.span);
     let snapshots = Snapshots::of_records(alloc, &label.snapshots)?;
+    let map = read_map(alloc, store, disk, &container, &snapshots, label.span)?;
+    let delayed = has_delayed(&map, &container, label.span);
     containers.put(slot, container, None);
     let state = VolumeState::of_label(slot, place, &label, snapshots, map, delayed);
     Ok(Some(state))

@@ -10,7 +10,7 @@ ghost use Rattle.fv_model.specs.Refusals.{first_of, space};
 ghost use Rattle.fv_charge.specs.Changes.{IsLeft};
 ghost use Rattle.fv_root.specs.Formatted.{IsSize};
 ghost use Rattle.fv_volume.specs.Files.{IsLabelled};
-ghost use Rattle.fv_volume.specs.OneVolume.{IsBooked};
+ghost use Rattle.fv_volume.specs.OneVolume.{IsBooked, greatest_charge};
 ghost use Rattle.fv_volume.specs.Promising.{FitsBeside, Promises, PromisesAt, PromisesOne, promised, promised_ledger, refusal_of};
 ghost use Rattle.fv_volume.specs.Slots.{committed_by, sum_of};
 ghost use Rattle.fv_volume.specs.States.{state_at};
@@ -206,7 +206,7 @@ fn admit_promise(
     size: u32,
     kind: Kind,
 ) -> Result<(), Refusal>
-    requires charge { ledger.now.charge ≤ greatest_span }
+    requires charge { ledger.now.charge ≤ greatest_charge }
     requires need { ledger.now.need ≡ 0 }
     requires span { ledger.now.span ≤ greatest_span }
     requires blocks { IsSize blocks }

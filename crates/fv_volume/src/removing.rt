@@ -2,7 +2,7 @@
 
 ghost use Rattle.std.specs.Prelude.{◌≡◌, ◌≤◌, ◌<◌, ◌+◌, ◌^◌, pos, ◌+ℤ◌, ◌≤ℤ◌, IfOk, IfErr, OnOk};
 ghost use Rattle.fv_charge.specs.Changes.{CanChange};
-ghost use Rattle.fv_model.specs.Numbers.{greatest_span, most_changes};
+ghost use Rattle.fv_model.specs.Numbers.{most_changes};
 ghost use Rattle.fv_model.specs.declared.commands.Command.TheVariants.{Cut, Remove};
 ghost use Rattle.fv_inode.specs.Files.{IsInfo};
 ghost use Rattle.fv_files.specs.Calls.{CutsFile, RemovesFile, TakesByCut, TakesByRemoval};
@@ -10,7 +10,7 @@ ghost use Rattle.fv_files.specs.Tables.{IsInfoOf};
 ghost use Rattle.fv_volume.specs.Calls.{BlockCause, CallCause, Changes, Has, HasWithin, KeepsHead, Reads};
 ghost use Rattle.fv_volume.specs.Changing.{AcceptsCut, AcceptsRemoval, AltersTable, KeepsTable, RefusedIn};
 ghost use Rattle.fv_volume.specs.Lending.{lent_for};
-ghost use Rattle.fv_volume.specs.OneVolume.{home_in, standing_for, volume_for, IsReady, IsStanding};
+ghost use Rattle.fv_volume.specs.OneVolume.{greatest_charge, home_in, standing_for, volume_for, IsReady, IsStanding};
 
 use crate::asking::find_file;
 use crate::blocks::Home;
@@ -185,7 +185,7 @@ pub(crate) fn judge_removal<D: Disk>(
 
 /// A change of a ledger by so many blocks fewer, down to none.
 pub(crate) fn fewer_blocks(ledger: &Ledger, count: u32) -> Delta
-    requires charge { ledger.now.charge ≤ greatest_span }
+    requires charge { ledger.now.charge ≤ greatest_charge }
     requires need { ledger.now.need ≡ 0 }
     ensures charge { count ≤ ledger.now.charge → (result.charge +ℤ pos count) ≡ pos 0 }
     ensures need { result.need ≡ pos 0 }

@@ -2,16 +2,16 @@
 
 ghost use Rattle.std.specs.Prelude.{◌≡◌, ◌<◌, ◌≤◌, ◌+◌, ◌*◌, ◌-◌, ◌∷◌, ◌++◌, [], Bool, false, true, nat_lt, length, position, take, drop, All, None, IfSome, IfNone, IfOk, OnOk, OnErr, option_copied, replicate};
 ghost use Rattle.std.specs.List.{position_or_len};
-ghost use Rattle.fv_model.specs.Numbers.{greatest_span};
+ghost use Rattle.fv_model.specs.Numbers.{greatest_span, most_snapshots};
 ghost use Rattle.fv_codec.specs.Blocks.{IsLabel, IsSnapRecord};
 ghost use Rattle.fv_image.specs.Views.{head_of, snaps_from};
 ghost use Rattle.fv_model.specs.Spelling.{is_name};
-ghost use Rattle.fv_volmap.specs.Slots.{empty_volume, stored_count};
+ghost use Rattle.fv_volmap.specs.Slots.{IsVolume, empty_volume, stored_count};
 ghost use Rattle.fv_volume.specs.Asking.{snap_named};
 ghost use Rattle.fv_volume.specs.Labels.{label_said};
 ghost use Rattle.fv_volume.specs.Files.{has_form};
 ghost use Rattle.fv_volume.specs.Snapshots.{FindsSnap, IsLeastFree, AreSlotsFull, has_slot, added};
-ghost use Rattle.fv_volume.specs.Loading.{IsCounted, form_in};
+ghost use Rattle.fv_volume.specs.Loading.{HasCounted, IsCounted, form_in};
 ghost use Rattle.fv_volume.specs.SnapRecords.{snaps_recorded};
 ghost use Rattle.fv_volume.specs.States.{empty_head, head_in, ledger_of_empty, snaps_in, IsLaid};
 ghost use Rattle.fv_volume.specs.Stored.{is_rewritten};
@@ -152,8 +152,8 @@ impl Snapshots {
         self.snaps.iter().find(|snap| *name == snap.name)
     }
 
-    /// Whether a snapshot has this slot.
-    fn has_slot(&self, slot: u8) -> bool
+    /// Whether a snapshot has this slot. Costs a step for each snapshot.
+    pub(crate) fn has_slot(&self, slot: u8) -> bool
         ensures { result ≡ has_slot self.now slot }
     {
         self.snaps.iter().any(|snap| snap.slot == slot)
@@ -305,7 +305,7 @@ impl VolumeState {
         })
     }
 
-    /// The volume that a label at this PVBN says, for a slot, with its snapshots, with the map of its active table, from which
+    /// The volume that a label at this PVBN says, for a slot, with its snapshots, with the maps of its tables, from which
     /// its ledger is counted, and whether the next consistency point has something to do for it. The label has no form that
     /// can't be loaded.
     pub(crate) fn of_label(
@@ -313,11 +313,12 @@ impl VolumeState {
         place: u32,
         label: &Label,
         snapshots: Snapshots,
-        map: VolMap,
+        mut map: VolMap,
         changed: bool,
     ) -> VolumeState
         requires range { IsLabel label.now }
         requires form { form_in label.now ≡ None }
+        requires few { length snapshots ≤ most_snapshots }
         requires said { snaps_in snapshots ≡ snaps_from 1 label.now.snapshots }
         requires map { map.span ≡ label.now.span }
         ensures laid { IsLaid result slot place map changed }
@@ -332,7 +333,8 @@ impl VolumeState {
         ensures ledger { result.ledger.span ≡ label.entry.now.span }
     {
         let kind = kind_of(label);
-        let ledger = Ledger::counted(map.active(), None, 0, 0, label.span, label.size, kind);
+        let count = snapshots.len() as u32;
+        let ledger = count_ledger(&mut map, count, label.span, label.size, kind);
         VolumeState {
             slot,
             name: name_of(label),
@@ -450,6 +452,18 @@ impl VolumeState {
         self.changed = false;
         self.fresh = [false; 25];
     }
+}
+
+/// The ledger of a volume without base and reserves, counted from what the slots of its maps have together; they stay.
+fn count_ledger(map: &mut VolMap, snapshots: u32, span: u32, size: u32, kind: Kind) -> Ledger
+    requires map { map.old.span ≡ span }
+    requires span { span ≤ greatest_span }
+    requires few { snapshots ≤ most_snapshots }
+    ensures same { map.new ≡ map.old }
+    ensures valid { IsVolume map.old }
+    ensures counted { HasCounted map.old snapshots span size kind result }
+{
+    Ledger::counted(map.united(), None, snapshots, 0, span, size, kind)
 }
 
 /// The ledger of an empty volume.

@@ -63,19 +63,20 @@ impl Volumes {
     ghost use Rattle.fv_volume.specs.contracts.volumes.Volumes.{the_row};
     ghost use Rattle.fv_volume.specs.Rows.{state_row};
 
-    /// Reads the labels of the pool's root with their containers and active maps, and puts the containers
-    /// into the pool. It writes nothing.
+    /// Reads the labels of the pool's root with their containers and the maps of their used slots, and puts the
+    /// containers into the pool. It writes nothing.
     ///
     /// # Errors
     /// `Damaged` comes only where a block that this call read isn't as it has to be: a label without its
     /// shape, or with a base, an unknown place or a snapshot, none of which can be loaded yet; a node
-    /// of a container without its shape, whatever position it names; or a block of an active map with a bit
-    /// set past the span. `DiskFault` comes only where a read failed in this call, and `Memory` where memory ran out. The
+    /// of a container without its shape, whatever position it names; or a block of a map with a bit set
+    /// past the span. `DiskFault` comes only where a read failed in this call, and `Memory` where memory ran out. The
     /// pool's containers stay then.
     ///
-    /// Each label, each node of the containers and each block of the active maps is read once, and each entry
-    /// of the containers is looked at once more. Memory is taken for each entry and each node of the
-    /// containers, and for the bits of the maps.
+    /// Each label, each node of the containers and each block of the maps is read once. Each entry of the
+    /// containers is looked at once more, up to 25 map slots for one that is no hole, and each word of each used
+    /// slot's map, for the ledgers. Memory is taken for each entry and each node of the containers, and for
+    /// the bits of the maps.
     pub fn open<D: Disk>(
         alloc: Global,
         pool: &mut Pool,

@@ -1,12 +1,12 @@
-use Rattle.std.proofs.Common.{◌≡◌, ◌∙◌, length, Some, None, Result, Err, rules, sym, ap, subst}
-use Rattle.std.specs.Prelude.{IfErr, IsTrue}
+use Rattle.std.proofs.Common.{◌≡◌, ◌∙◌, Some, None, Result, Err, rules, sym, ap, subst}
+use Rattle.std.specs.Prelude.{IfErr, IsTrue, false, replicate}
 use Rattle.fv_disk.specs.declared.fault.BlockFault.{BlockFault}
 use Rattle.fv_aggregate.specs.declared.fault.OpenFault.{OpenFault}
 use Rattle.fv_aggregate.specs.declared.session.Session.{Session}
 use Rattle.fv_aggregate.specs.Causes.{IsOpenFault, of_block}
 use Rattle.fv_model.specs.Machines.{Machine}
 use Rattle.fv_root.specs.Formatted.{IsSize}
-use Rattle.fv_volmap.specs.Slots.{active_of}
+use Rattle.fv_volmap.specs.Slots.{IsVolume, stored_count}
 use Rattle.fv_aggregate.proofs.Opened.{counted_each, fits_opened, found_tells, load_fault, ready_each}
 use Rattle.fv_disk.specs.Shown.{Image}
 use Rattle.fv_root.specs.declared.find.Found.{Found}
@@ -78,7 +78,8 @@ returns-clause-each g c =
       fit = fits_opened c.in_ok-found.found c.in_ok-pool.pool pool states c.in_ok-found.ensures.range was.size was.found was.empty e.states e.map e.kept e.found;
       ready = ready_each disk pool states e.states.each (e.ready (subst (λ (f : Found). IsSize f.blocks) (sym was.found) c.in_ok-found.ensures.range.size));
       none = counted_each (λ x. x.files ≡ None) (λ x is. is.none) states e.states.counted;
-      maps = counted_each (λ x. length (active_of x.map) ≡ x.map.span) (λ x is. is.long) states e.states.counted;
+      waiting = counted_each (λ x. x.fresh ≡ replicate stored_count false) (λ x is. is.fresh) states e.states.counted;
+      maps = counted_each (λ x. IsVolume x.map) (λ x is. is.valid) states e.states.counted;
       standing = λ m tells machine. e.standing (told tells) was.empty (map tells) m (means m tells machine);
       led = λ m tells machine. e.led (told tells) was.empty m (means m tells machine);
       well = λ m tells machine. e.well (told tells) was.empty m (means m tells machine);
@@ -86,7 +87,8 @@ returns-clause-each g c =
 
 pub returns-clause-asked : goal.returns-clause-asked
 returns-clause-asked g c = λ tells.
-    asked_opened c.open-2.new.pool c.in_ok-volumes.volumes (g.D.Disk.shown c.args.disk.now).reads c.in_ok-volumes.ensures.states.long c.in_ok-volumes.ensures.states.each (returns-clause-loaded g c tells).view
+    asked_opened c.open-2.new.pool c.in_ok-volumes.volumes (g.D.Disk.shown c.args.disk.now).reads c.in_ok-volumes.ensures.states.long
+    (counted_each (λ x. x.fresh ≡ replicate stored_count false) (λ x is. is.fresh) c.in_ok-volumes.volumes c.in_ok-volumes.ensures.states.counted) (returns-clause-loaded g c tells).view
 
 pub returns-in_err-volumes-clause-fault : goal.returns-in_err-volumes-clause-fault
 returns-in_err-volumes-clause-fault g c = λ tells.

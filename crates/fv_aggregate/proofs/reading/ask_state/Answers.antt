@@ -1,12 +1,13 @@
 use Rattle.std.proofs.Common.{◌≡◌, Ok, rules, refl, ap, sym, subst, ◌∙◌, option_copied}
 use Rattle.std.specs.Prelude.{ℕ}
+use Rattle.fv_model.specs.Numbers.{is_index}
 use Rattle.fv_model.specs.declared.answers.Reply.TheVariants.{Content, Number, Names}
 use Rattle.fv_model.specs.declared.commands.Command.TheVariants.{Get, Len, Ls}
 use Rattle.fv_volume.proofs.KnownSteps.{known_get}
 use Rattle.fv_aggregate.specs.Commands.{has_range, snapshot_asked}
 use Rattle.fv_aggregate.specs.Looking.{AsksState}
 use Rattle.fv_aggregate.proofs.Asked.{of_get, of_len, of_ls, state_answered, state_failed}
-use Rattle.fv_aggregate.proofs.Lost.{none_answered, refused_lost}
+use Rattle.fv_aggregate.proofs.Lost.{lost_alone, lost_within, none_answered, refused_lost}
 use Rattle.fv_aggregate.proofs.Missing.{not_get}
 use Rattle.fv_aggregate.proofs.reading.ask_state.Goals as goal
 
@@ -103,3 +104,21 @@ returns-in-Err-list-clause-lost g c = λ near none.
     let snapshot = option_copied c.as_ref-in-Ls.result in
     let is = c.in-Ls.is ∙ ap (λ s. Ls c.in-Ls.volume s) (sym c.as_ref-in-Ls.ensures.value) in
     refused_lost _ c.args.state.now c.args.disk.now c.list.new.disk c.args.pool.now c.list.new.pool c.args.command.now snapshot (ap snapshot_asked is) none _ _ c.in-Err-list.ensures.snapshot
+
+pub returns-in-Err-clause-only : goal.returns-in-Err-clause-only
+returns-in-Err-clause-only g c = λ answer.
+    let snapshot = option_copied c.as_ref.result in
+    let is = c.in-Get.is ∙ ap (λ s. Get c.in-Get.volume s c.in-Get.file c.in-Get.index) (sym c.as_ref.ensures.value) in
+    lost_within _ c.args.state.now c.args.disk.now c.get.new.disk c.args.pool.now c.get.new.pool c.args.command.now snapshot (ap snapshot_asked is) _ c.in-Err.fault answer (is_index c.in-Get.index) c.in-Err.ensures.range c.in-Err.ensures.snapshot
+
+pub returns-in-Err-length-clause-only : goal.returns-in-Err-length-clause-only
+returns-in-Err-length-clause-only g c = λ answer.
+    let snapshot = option_copied c.as_ref-in-Len.result in
+    let is = c.in-Len.is ∙ ap (λ s. Len c.in-Len.volume s c.in-Len.file) (sym c.as_ref-in-Len.ensures.value) in
+    lost_alone _ c.args.state.now c.args.disk.now c.length.new.disk c.args.pool.now c.length.new.pool c.args.command.now snapshot (ap snapshot_asked is) _ c.in-Err-length.fault answer c.in-Err-length.ensures.snapshot
+
+pub returns-in-Err-list-clause-only : goal.returns-in-Err-list-clause-only
+returns-in-Err-list-clause-only g c = λ answer.
+    let snapshot = option_copied c.as_ref-in-Ls.result in
+    let is = c.in-Ls.is ∙ ap (λ s. Ls c.in-Ls.volume s) (sym c.as_ref-in-Ls.ensures.value) in
+    lost_alone _ c.args.state.now c.args.disk.now c.list.new.disk c.args.pool.now c.list.new.pool c.args.command.now snapshot (ap snapshot_asked is) _ c.in-Err-list.fault answer c.in-Err-list.ensures.snapshot

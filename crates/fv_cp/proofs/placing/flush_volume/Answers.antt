@@ -4,7 +4,7 @@ use Rattle.fv_volume.specs.declared.fault.VolumeFault.{VolumeFault}
 use Rattle.fv_volume.specs.declared.fault.VolumeFault.TheVariants.{Memory}
 use Rattle.fv_volume.specs.OneVolume.{IsStanding}
 use Rattle.fv_volume.specs.Placing.{pending_of}
-use Rattle.fv_volume.proofs.Spending.{spends, whole_map}
+use Rattle.fv_volume.proofs.Spending.{spends}
 use Rattle.fv_cp.specs.Placing.{MayFail}
 use Rattle.fv_cp.proofs.placing.flush_volume.Goals as goal
 
@@ -36,4 +36,4 @@ returns-clause-fails g c = by c.flush-flushed.result (λ is. (c.flush-flushed.en
     by (Err e) enough filed = (filed, λ is numbers blocks. enough is (let exact = c.room-room.ensures.exact in omega (arith, exact, numbers, blocks)))
 
 pub returns-clause-whole : goal.returns-clause-whole
-returns-clause-whole g c = whole_map _ c.active.ensures.valid
+returns-clause-whole g c = c.active.ensures.valid

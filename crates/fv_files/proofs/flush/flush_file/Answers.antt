@@ -1,11 +1,18 @@
-use Rattle.std.proofs.Common.{not, ◌≡◌, true, Err, Ok, ap, ◌∙◌}
+use Rattle.std.proofs.Common.{◌≡◌, true, Err, Ok, ap, sym, subst, ◌∙◌}
 use Rattle.std.specs.Prelude.{is_some}
+use Rattle.std.specs.FinMap as fin
 use Rattle.std.proofs.lemmas.Result.{err_from_is_err_and}
+use Rattle.fv_tables.specs.Told.{file_at}
+use Rattle.fv_tree.specs.Standing.{standing}
+use Rattle.fv_inode.specs.Files.{rooted}
 use Rattle.fv_files.specs.Tables.{tree_in}
+use Rattle.fv_files.specs.Flushing.{HasRoot}
+use Rattle.fv_files.proofs.Looked.{Held}
 use Rattle.fv_files.proofs.Changed.{own_ready, with_trees}
 use Rattle.fv_files.proofs.Kept.{stored_on_blocks}
 use Rattle.fv_files.proofs.Laid.{lays_then, stores_then}
 use Rattle.fv_files.proofs.Flushed.{lays_failed, lays_astray, look_lays, look_none, strayed}
+use Rattle.fv_files.proofs.Passed.{root_told}
 use Rattle.fv_files.proofs.flush.flush_file.Goals as goal
 
 pub returns-in_err-look-clause-lays : goal.returns-in_err-look-clause-lays
@@ -18,17 +25,27 @@ returns-in_err-look-clause-lays g c =
     rw (p.1, p.2) (lays_failed g.B.Blocks.told old new f f e (look_lays g.B.Blocks.told old new f (Err e) c.in_err-look.ensures.looks
     (λ told sound. absurd (c.in_err-look.ensures.held told (own_ready old f c.args.number c.requires.kept sound)))))
 
-pub returns-then-is_none-clause-lays : goal.returns-then-is_none-clause-lays
-returns-then-is_none-clause-lays g c =
+pub returns-in-None-clause-lays : goal.returns-in-None-clause-lays
+returns-in-None-clause-lays g c =
     let old = g.B.Blocks.shown c.args.blocks.now in
     let new = g.B.Blocks.shown c.look.new.blocks in
     let f = c.args.files.now in
     let there : is_some (tree_in f c.args.number) ≡ true = c.requires.kept in
     lays_astray g.B.Blocks.told old new f (with_trees f c.forget.new.trees) c.in_ok-look.field-0 c.in_ok-look.ensures.looks.counts
-    (λ told sound. look_none old f c.args.number c.in_ok-look.field-0 (c.is_none.ensures ∙ ap not c.if-is_none.true) (c.in_ok-look.ensures.found told) (strayed old f c.args.number there sound))
+    (λ told sound. look_none old f c.args.number c.in_ok-look.field-0 (ap is_some c.in-None.is) (c.in_ok-look.ensures.found told) (strayed old f c.args.number there sound))
 
-pub returns-clause-lays : goal.returns-clause-lays
-returns-clause-lays g c =
+pub lay_file-requires-clause-there : goal.lay_file-requires-clause-there
+lay_file-requires-clause-there g c = λ told.
+    let old = g.B.Blocks.shown c.args.blocks.now in
+    let new = g.B.Blocks.shown c.look.new.blocks in
+    let n = c.args.number in
+    let info = c.in-Some.info in
+    let f = c.args.files.now in
+    subst (λ (h : Held). HasRoot (file_at (standing (λ v. fin.get h v) f.inode.tree) n) info.levels info.root) (sym c.in_ok-look.ensures.looks.untouched.held)
+    (root_told n info (file_at (rooted old f.inode) n) (sym c.in-Some.is ∙ c.in_ok-look.ensures.found told))
+
+pub returns-in-Some-clause-lays : goal.returns-in-Some-clause-lays
+returns-in-Some-clause-lays g c =
     let old = g.B.Blocks.shown c.args.blocks.now in
     let mid = g.B.Blocks.shown c.look.new.blocks in
     let new = g.B.Blocks.shown c.lay_file.new.blocks in
@@ -40,14 +57,14 @@ pub returns-in_err-look-clause-stored_well : goal.returns-in_err-look-clause-sto
 returns-in_err-look-clause-stored_well g c = λ told known sound led.
     stored_on_blocks c.args.files.now (g.B.Blocks.shown c.args.blocks.now) (g.B.Blocks.shown c.look.new.blocks) c.in_err-look.ensures.looks.untouched.held
 
-pub returns-then-is_none-clause-stored_well : goal.returns-then-is_none-clause-stored_well
-returns-then-is_none-clause-stored_well g c = λ told known sound.
+pub returns-in-None-clause-stored_well : goal.returns-in-None-clause-stored_well
+returns-in-None-clause-stored_well g c = λ told known sound.
     let f = c.args.files.now in
     let there : is_some (tree_in f c.args.number) ≡ true = c.requires.kept in
-    absurd (look_none (g.B.Blocks.shown c.args.blocks.now) f c.args.number c.in_ok-look.field-0 (c.is_none.ensures ∙ ap not c.if-is_none.true) (c.in_ok-look.ensures.found told) (strayed (g.B.Blocks.shown c.args.blocks.now) f c.args.number there sound))
+    absurd (look_none (g.B.Blocks.shown c.args.blocks.now) f c.args.number c.in_ok-look.field-0 (ap is_some c.in-None.is) (c.in_ok-look.ensures.found told) (strayed (g.B.Blocks.shown c.args.blocks.now) f c.args.number there sound))
 
-pub returns-clause-stored_well : goal.returns-clause-stored_well
-returns-clause-stored_well g c = λ told known.
+pub returns-in-Some-clause-stored_well : goal.returns-in-Some-clause-stored_well
+returns-in-Some-clause-stored_well g c = λ told known.
     let old = g.B.Blocks.shown c.args.blocks.now in
     let mid = g.B.Blocks.shown c.look.new.blocks in
     let f = c.args.files.now in

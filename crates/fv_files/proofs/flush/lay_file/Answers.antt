@@ -1,11 +1,14 @@
-use Rattle.std.proofs.Common.{Err, Ok, ap}
+use Rattle.std.proofs.Common.{Err, Ok, ap, ◌∙◌}
 use Rattle.std.specs.Prelude.{is_some}
 use Rattle.std.proofs.lemmas.Result.{err_from_is_err_and}
+use Rattle.fv_tables.specs.Told.{file_at}
 use Rattle.fv_inode.specs.Files.{rooted}
+use Rattle.fv_files.specs.Flushing.{HasRoot}
 use Rattle.fv_files.proofs.Tables.{alike}
 use Rattle.fv_files.proofs.Changed.{own_ready, with_trees, with_inode}
 use Rattle.fv_files.proofs.Laid.{lays_then, stores_then}
 use Rattle.fv_files.proofs.Flushed.{kept_lays, kept_stores, lay_done, lay_stores, lays_failed, ready_lays, ready_stores}
+use Rattle.fv_files.proofs.Passed.{pass_done, pass_stores, same_root}
 use Rattle.fv_files.proofs.flush.lay_file.Goals as goal
 
 pub returns-in_err-root-clause-lays : goal.returns-in_err-root-clause-lays
@@ -33,8 +36,8 @@ returns-in_err-set_root-clause-lays g c =
 
 pub returns-clause-lays : goal.returns-clause-lays
 returns-clause-lays g c =
-    lay_done g.B.Blocks.told (g.B.Blocks.shown c.args.blocks.now) (g.B.Blocks.shown c.flush_kept.new.blocks) (g.B.Blocks.shown c.set_root.new.blocks) c.args.files.now c.flush_kept.new.trees c.forget.new.trees c.set_root.new.self c.args.number c.kept_levels-levels.result c.in_ok-root.root
-    c.in_ok-root.ensures.flushes c.kept_levels-levels.ensures.levels c.in_ok-set_root.ensures.alters c.in_ok-set_root.ensures.set c.in_ok-set_root.ensures.pending c.forget.ensures.gone c.forget.ensures.cost
+    lay_done g.B.Blocks.told (g.B.Blocks.shown c.args.blocks.now) (g.B.Blocks.shown c.flush_kept.new.blocks) (g.B.Blocks.shown c.set_root.new.blocks) c.args.files.now c.flush_kept.new.trees c.forget-2.new.trees c.set_root.new.self c.args.number c.kept_levels-levels.result c.in_ok-root.root
+    c.in_ok-root.ensures.flushes c.kept_levels-levels.ensures.levels c.in_ok-set_root.ensures.alters c.in_ok-set_root.ensures.set c.in_ok-set_root.ensures.pending c.forget-2.ensures.gone c.forget-2.ensures.cost
 
 pub returns-in_err-root-clause-stored_well : goal.returns-in_err-root-clause-stored_well
 returns-in_err-root-clause-stored_well g c = λ told known.
@@ -58,5 +61,23 @@ returns-in_err-set_root-clause-stored_well g c = λ told known.
 
 pub returns-clause-stored_well : goal.returns-clause-stored_well
 returns-clause-stored_well g c = λ told known.
-    lay_stores g.B.Blocks.told (g.B.Blocks.shown c.args.blocks.now) (g.B.Blocks.shown c.flush_kept.new.blocks) (g.B.Blocks.shown c.set_root.new.blocks) c.args.files.now c.flush_kept.new.trees c.forget.new.trees c.set_root.new.self c.args.number c.kept_levels-levels.result c.in_ok-root.root
-    c.in_ok-root.ensures.flushes c.kept_levels-levels.ensures.levels c.in_ok-set_root.ensures.alters c.in_ok-set_root.ensures.set c.in_ok-set_root.ensures.pending c.forget.ensures.gone c.forget.ensures.cost told (c.in_ok-root.ensures.places known)
+    lay_stores g.B.Blocks.told (g.B.Blocks.shown c.args.blocks.now) (g.B.Blocks.shown c.flush_kept.new.blocks) (g.B.Blocks.shown c.set_root.new.blocks) c.args.files.now c.flush_kept.new.trees c.forget-2.new.trees c.set_root.new.self c.args.number c.kept_levels-levels.result c.in_ok-root.root
+    c.in_ok-root.ensures.flushes c.kept_levels-levels.ensures.levels c.in_ok-set_root.ensures.alters c.in_ok-set_root.ensures.set c.in_ok-set_root.ensures.pending c.forget-2.ensures.gone c.forget-2.ensures.cost told (c.in_ok-root.ensures.places known)
+
+pub returns-then-has_root-clause-lays : goal.returns-then-has_root-clause-lays
+returns-then-has_root-clause-lays g c =
+    let old = g.B.Blocks.shown c.args.blocks.now in
+    let f = c.args.files.now in
+    let same = c.has_root.ensures c.if-has_root.true in
+    pass_done g.B.Blocks.told old (g.B.Blocks.shown c.flush_kept.new.blocks) f c.flush_kept.new.trees c.forget.new.trees c.args.number c.kept_levels-levels.result c.in_ok-root.root
+    c.in_ok-root.ensures.flushes c.kept_levels-levels.ensures.levels
+    (λ told. same_root (file_at (rooted old f.inode) c.args.number) c.args.info.now c.kept_levels-levels.result c.in_ok-root.root same.0 same.1 (c.requires.there told)) c.forget.ensures.gone c.forget.ensures.cost
+
+pub returns-then-has_root-clause-stored_well : goal.returns-then-has_root-clause-stored_well
+returns-then-has_root-clause-stored_well g c = λ told known.
+    let old = g.B.Blocks.shown c.args.blocks.now in
+    let f = c.args.files.now in
+    let same = c.has_root.ensures c.if-has_root.true in
+    pass_stores g.B.Blocks.told old (g.B.Blocks.shown c.flush_kept.new.blocks) f c.flush_kept.new.trees c.forget.new.trees c.args.number c.kept_levels-levels.result c.in_ok-root.root
+    c.in_ok-root.ensures.flushes c.kept_levels-levels.ensures.levels
+    (λ tells. same_root (file_at (rooted old f.inode) c.args.number) c.args.info.now c.kept_levels-levels.result c.in_ok-root.root same.0 same.1 (c.requires.there tells)) c.forget.ensures.gone c.forget.ensures.cost told (c.in_ok-root.ensures.places known)

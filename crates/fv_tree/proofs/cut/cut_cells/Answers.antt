@@ -32,7 +32,7 @@ loop-index-init g c =
     let cells = c.as_slice-index-items.result.now in
     let now = c.in_ok-cells.ensures in
     let are : g.B.Blocks.told → Collects s 0 c.args.most cells = λ told. subst (Collects s 0 c.args.most) (sym c.as_slice-index-items.ensures.value) (now.cells told) in record {
-      removes = λ told. removes_nothing a b t u (listed cells 0) c.args.start c.args.stamp now.untouched now.counts.calm (now.same told) (now.blocks told) (now.stands told) (λ i _. none_listed cells i);
+      removes = λ told. removes_nothing a b t u (listed cells 0) c.args.start c.args.stamp now.untouched now.counts.calm (now.same told) (now.blocks told) (now.stands told) (now.leaves told) (λ i _. none_listed cells i);
       count = λ told. let same = alike_count (standing (under a) t) (standing (under a) u) (same_alike (standing (under a) t) (standing (under a) u) (same_over (under a) (under b) t u (ap (λ h v. fin.get h v) now.untouched.held) (now.same told))) in omega (arith, same);
       few = omega arith;
       marks = λ told level place changed. inl (now.marks told level place changed);
@@ -114,3 +114,6 @@ returns-clause-pending g c = λ told stands holds.
       | inl none ↦ (let less = was.none none in let cells = was.cells in omega (arith, less, cells))
       | inr ordered ↦ few_differ (under a) a.used t u c.args.most c.args.start c.args.stamp (removes.erased holds) (removes.sound stands) (was.marks told) ordered was.cells
     ]
+
+pub returns-in_err-cells-clause-leaves : goal.returns-in_err-cells-clause-leaves
+returns-in_err-cells-clause-leaves g c = λ told. at_err c.from_residual.result (c.keep_past.ensures.leaves told)

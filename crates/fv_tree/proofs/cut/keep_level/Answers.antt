@@ -9,6 +9,8 @@ use Rattle.fv_tree.specs.Collecting.{IsRising, AreBelow, Extends, IsHeld}
 use Rattle.fv_tree.proofs.Causes.{calm_then, fails_same, fails_later, untouched_then}
 use Rattle.fv_tree.proofs.Collected.{past_up, one_more_range, ranges_under, all_ranges, all_held, IsUnderOne}
 use Rattle.fv_tree.proofs.Held.{but_then}
+use Rattle.fv_tree.specs.Flushing.{loaded}
+use Rattle.fv_tree.proofs.Altered.{leaves_then}
 use Rattle.fv_tree.proofs.Released.{keeps_then}
 use Rattle.fv_tree.proofs.Ways.{same_then}
 use Rattle.fv_tree.proofs.cut.keep_level.Goals as goal
@@ -60,6 +62,7 @@ loop-place-preserved g c =
       still = λ told level place held. now.nodes told level place (was.still told level place held);
       same = λ told. same_then s t u (was.same told) (now.same told);
       blocks = λ told. keeps_then (under old) c.args.tree.now c.loop-place.tree c.keep_range.new.tree (was.blocks told) (subst (λ b. KeepsBlocks b c.loop-place.tree c.keep_range.new.tree) (ap (λ h v. fin.get h v) was.untouched.held) (now.blocks told));
+      leaves = λ told. leaves_then (loaded old c.args.tree.now) (loaded mid c.loop-place.tree) (loaded new c.keep_range.new.tree) (was.leaves told) (now.leaves told);
       stands = λ told stands. now.stands told (was.stands told stands);
       changes = omega (arith, was.changes, now.changes);
       marks = λ told k q changed. was.marks told k q (now.marks told k q changed);

@@ -4,7 +4,8 @@ use Rattle.fv_tree.specs.Keeping.{IsSame}
 use Rattle.fv_tree.specs.Sources.{IsCalm, IsUntouched}
 use Rattle.fv_tree.specs.Standing.{standing, under, IsSameBut}
 use Rattle.fv_tree.specs.Releasing.{KeepsBlocks}
-use Rattle.fv_tree.specs.Flushing.{Stands}
+use Rattle.fv_tree.specs.Flushing.{Stands, loaded}
+use Rattle.fv_tree.specs.Altering.{Leaves}
 use Rattle.fv_tree.specs.Carried.{MarksNoMore}
 use Rattle.fv_tree.specs.Costs.{changes_in}
 use Rattle.fv_tree.specs.Collecting.{IsRising, AreBelow, Extends, IsHeld, StillHeld}
@@ -22,6 +23,7 @@ invariant-loop-place g l = record {
   still : g.B.Blocks.told → StillHeld l.fn.tree l.tree;
   same : g.B.Blocks.told → IsSame (standing (under (g.B.Blocks.shown l.fn.blocks)) l.fn.tree) (standing (under (g.B.Blocks.shown l.blocks)) l.tree);
   blocks : g.B.Blocks.told → KeepsBlocks (under (g.B.Blocks.shown l.fn.blocks)) l.fn.tree l.tree;
+  leaves : g.B.Blocks.told → Leaves (loaded (g.B.Blocks.shown l.fn.blocks) l.fn.tree) (loaded (g.B.Blocks.shown l.blocks) l.tree);
   stands : g.B.Blocks.told → Stands (g.B.Blocks.shown l.fn.blocks) l.fn.tree → Stands (g.B.Blocks.shown l.blocks) l.tree;
   changes : changes_in l.tree.nodes ≤ changes_in l.fn.tree.nodes;
   marks : g.B.Blocks.told → MarksNoMore l.fn.tree l.tree;

@@ -8,6 +8,8 @@ use Rattle.std.proofs.lemmas.Result.{err_from_is_err_and}
 use Rattle.fv_tree.proofs.Causes.{calm_itself, calm_then, fails_same, fails_later, untouched_itself, untouched_then}
 use Rattle.fv_tree.proofs.Collected.{collects_as, collects_back, past_same}
 use Rattle.fv_tree.proofs.Held.{but_then, same_self}
+use Rattle.fv_tree.specs.Flushing.{loaded}
+use Rattle.fv_tree.proofs.Altered.{leaves_itself, leaves_then}
 use Rattle.fv_tree.proofs.Released.{keeps_self, keeps_then}
 use Rattle.fv_tree.proofs.Ways.{same_then}
 use Rattle.fv_tree.proofs.cut.keep_past.Goals as goal
@@ -22,6 +24,7 @@ loop-level-init g c =
       nodes = λ _ k q lt le past. absurd (omega (arith, lt, le));
       same = λ _. same_self (standing old c.args.tree.now);
       blocks = λ _. keeps_self old c.args.tree.now;
+      leaves = λ _. leaves_itself (loaded (g.B.Blocks.shown c.args.blocks.now) c.args.tree.now);
       stands = λ _ stands. stands;
       changes = omega arith;
       marks = λ _ k q changed. changed;
@@ -70,6 +73,7 @@ loop-level-preserved g c =
       nodes = λ told k q lt le past. now.nodes told k q lt (omega (arith, le, was.fields.levels)) (past_same s t k c.args.most q (was.same told) past);
       same = λ told. same_then s t u (was.same told) (now.same told);
       blocks = λ told. keeps_then (under old) c.args.tree.now c.loop-level.tree c.keep_level.new.tree (was.blocks told) (subst (λ b. KeepsBlocks b c.loop-level.tree c.keep_level.new.tree) (ap (λ h v. fin.get h v) was.untouched.held) (now.blocks told));
+      leaves = λ told. leaves_then (loaded old c.args.tree.now) (loaded mid c.loop-level.tree) (loaded new c.keep_level.new.tree) (was.leaves told) (now.leaves told);
       stands = λ told stands. now.stands told (was.stands told stands);
       changes = (let before = was.changes in let less = now.changes in omega (arith, before, less));
       marks = λ told k q changed. was.marks told k q (now.marks told k q changed);

@@ -10,6 +10,7 @@ use Rattle.fv_tree.proofs.Bordered.{brings_marks}
 use Rattle.fv_tree.proofs.Brought.{brings_stands}
 use Rattle.fv_tree.proofs.Causes.{kept_damage, node_fails}
 use Rattle.fv_tree.proofs.Collected.{pointer_in_is, range_within, under_as, under_from, extends_as}
+use Rattle.fv_tree.proofs.Altered.{leaves_brought}
 use Rattle.fv_tree.proofs.Released.{keeps_brought}
 use Rattle.fv_tree.proofs.Ways.{keeps_same}
 use Rattle.fv_tree.proofs.cut.keep_range.Goals as goal
@@ -98,3 +99,23 @@ returns-in_err-children-clause-marks g c = λ told.
 pub returns-clause-marks : goal.returns-clause-marks
 returns-clause-marks g c = λ told.
     brings_marks (under (g.B.Blocks.shown c.args.blocks.now)) c.args.tree.now c.keep_node.new.tree c.args.level c.args.place c.pointer_in-pointer.result (c.keep_node.ensures.brings told)
+
+pub returns-in_err-children-clause-leaves : goal.returns-in_err-children-clause-leaves
+returns-in_err-children-clause-leaves g c = λ told.
+    let old = under (g.B.Blocks.shown c.args.blocks.now) in
+    let new = under (g.B.Blocks.shown c.keep_node.new.blocks) in
+    let s = standing old c.args.tree.now in
+    let u = standing new c.keep_node.new.tree in
+    let is = c.pointer_in-pointer.ensures.is ∙ pointer_in_is old c.args.tree.now c.args.level c.args.place (c.requires.stands told) (c.requires.node told) in
+    leaves_brought old new c.args.tree.now c.keep_node.new.tree c.args.level c.args.place c.pointer_in-pointer.result
+    (keeps_same s u c.args.level c.args.place (subst (λ p. Keeps s u c.args.level c.args.place p) is (c.keep_node.ensures.keeps told))) (sym is) c.keep_node.ensures.fields (c.keep_node.ensures.brings told)
+
+pub returns-clause-leaves : goal.returns-clause-leaves
+returns-clause-leaves g c = λ told.
+    let old = under (g.B.Blocks.shown c.args.blocks.now) in
+    let new = under (g.B.Blocks.shown c.keep_node.new.blocks) in
+    let s = standing old c.args.tree.now in
+    let u = standing new c.keep_node.new.tree in
+    let is = c.pointer_in-pointer.ensures.is ∙ pointer_in_is old c.args.tree.now c.args.level c.args.place (c.requires.stands told) (c.requires.node told) in
+    leaves_brought old new c.args.tree.now c.keep_node.new.tree c.args.level c.args.place c.pointer_in-pointer.result
+    (keeps_same s u c.args.level c.args.place (subst (λ p. Keeps s u c.args.level c.args.place p) is (c.keep_node.ensures.keeps told))) (sym is) c.keep_node.ensures.fields (c.keep_node.ensures.brings told)

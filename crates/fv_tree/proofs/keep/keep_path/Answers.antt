@@ -5,10 +5,11 @@ use Rattle.std.proofs.Math.Nat.{div-eq_of_lt}
 use Rattle.std.proofs.lemmas.Bool.{cases_eq}
 use Rattle.fv_codec.specs.declared.pointer.Pointer.{Pointer}
 use Rattle.fv_tree.specs.Spelled.{pointer_at}
-use Rattle.fv_tree.specs.Flushing.{node_placed, pointer_in}
+use Rattle.fv_tree.specs.Flushing.{loaded, node_placed, pointer_in}
 use Rattle.fv_tree.specs.Carried.{kept_at, IsBlank, Brings}
 use Rattle.std.specs.FinMap as fin
 use Rattle.fv_tree.specs.Releasing.{KeepsBlocks}
+use Rattle.fv_tree.proofs.Altered.{leaves_itself, leaves_then}
 use Rattle.fv_tree.proofs.Released.{keeps_self, keeps_then}
 use Rattle.fv_tree.proofs.Brought.{blank_unplaced, brings_stands}
 use Rattle.fv_tree.proofs.Held.{but_then, at_root, same_self, kept_from}
@@ -40,6 +41,7 @@ loop-level-init g c =
       stands = λ _ stands. stands;
       same = λ _. same_self t;
       blocks = λ _. keeps_self (under (g.B.Blocks.shown c.args.blocks.now)) c.args.tree.now;
+      leaves = λ _. leaves_itself (loaded (g.B.Blocks.shown c.args.blocks.now) c.args.tree.now);
       untouched = untouched_itself _;
       calm = calm_itself _;
       reads = g.met.B.Blocks.reads_nothing c.args.blocks.now;
@@ -75,6 +77,7 @@ loop-level-preserved g c =
           (subst (Brings (under (g.B.Blocks.shown c.loop-level.blocks)) c.loop-level.tree c.keep_step.new.tree c.loop-level.level (c.args.index / fan ^ c.loop-level.level)) (was.pointer told) (now.brings told)) (was.stands told stands);
       same = λ told. same_then s t u (was.same told) (now.same told);
       blocks = λ told. keeps_then old c.args.tree.now c.loop-level.tree c.keep_step.new.tree (was.blocks told) (subst (λ b. KeepsBlocks b c.loop-level.tree c.keep_step.new.tree) (ap (λ h v. fin.get h v) was.untouched.held) (now.blocks told));
+      leaves = λ told. leaves_then (loaded (g.B.Blocks.shown c.args.blocks.now) c.args.tree.now) (loaded (g.B.Blocks.shown c.loop-level.blocks) c.loop-level.tree) (loaded (g.B.Blocks.shown c.keep_step.new.blocks) c.keep_step.new.tree) (was.leaves told) (now.leaves told);
       untouched = untouched_then (g.B.Blocks.shown c.args.blocks.now) (g.B.Blocks.shown c.loop-level.blocks) (g.B.Blocks.shown c.keep_step.new.blocks) was.untouched now.untouched;
       calm = calm_then (g.B.Blocks.shown c.args.blocks.now) (g.B.Blocks.shown c.loop-level.blocks) (g.B.Blocks.shown c.keep_step.new.blocks) was.calm now.counts.calm;
       reads = g.met.B.Blocks.reads_on c.args.blocks.now c.loop-level.blocks c.keep_step.new.blocks was.reads now.reads;
@@ -126,3 +129,8 @@ returns-in_err-pointer-clause-held g c = λ way.
     let node = way level (omega arith) (omega (arith, was.high)) in
     let p = err_from_is_err_and c.from_residual.result c.from_residual.ensures.1 in
     rw (p.1, p.2) (c.in_err-pointer.ensures.held (node_there c.loop-level.tree level place node.0 (was.below level place (omega arith) ∙ node.1)))
+
+pub returns-in_err-pointer-clause-leaves : goal.returns-in_err-pointer-clause-leaves
+returns-in_err-pointer-clause-leaves g c = λ told.
+    leaves_then (loaded (g.B.Blocks.shown c.args.blocks.now) c.args.tree.now) (loaded (g.B.Blocks.shown c.loop-level.blocks) c.loop-level.tree) (loaded (g.B.Blocks.shown c.keep_step.new.blocks) c.keep_step.new.tree)
+    (c.loop-level.invariant.leaves told) (c.keep_step.ensures.leaves told)

@@ -6,7 +6,8 @@ use Rattle.fv_tree.specs.Keeping.{IsKept, IsSame}
 use Rattle.fv_tree.specs.Sources.{IsCalm, IsUntouched}
 use Rattle.fv_tree.specs.Standing.{standing, under, node_in, IsSameBut}
 use Rattle.fv_tree.specs.Readying.{KeepsReady}
-use Rattle.fv_tree.specs.Flushing.{placed_in, pointer_in, Stands}
+use Rattle.fv_tree.specs.Flushing.{loaded, placed_in, pointer_in, Stands}
+use Rattle.fv_tree.specs.Altering.{Leaves}
 use Rattle.fv_tree.specs.Costs.{changes_in}
 use Rattle.fv_tree.proofs.keep.keep_path.Given as goal
 
@@ -25,6 +26,7 @@ invariant-loop-level g l = record {
   stands : g.B.Blocks.told → Stands (g.B.Blocks.shown l.fn.blocks) l.fn.tree → Stands (g.B.Blocks.shown l.blocks) l.tree;
   same : g.B.Blocks.told → IsSame (standing (under (g.B.Blocks.shown l.fn.blocks)) l.fn.tree) (standing (under (g.B.Blocks.shown l.blocks)) l.tree);
   blocks : g.B.Blocks.told → KeepsBlocks (under (g.B.Blocks.shown l.fn.blocks)) l.fn.tree l.tree;
+  leaves : g.B.Blocks.told → Leaves (loaded (g.B.Blocks.shown l.fn.blocks) l.fn.tree) (loaded (g.B.Blocks.shown l.blocks) l.tree);
   untouched : IsUntouched (g.B.Blocks.shown l.fn.blocks) (g.B.Blocks.shown l.blocks);
   calm : IsCalm (g.B.Blocks.shown l.fn.blocks) (g.B.Blocks.shown l.blocks);
   reads : g.B.Blocks.reads l.fn.blocks l.blocks;

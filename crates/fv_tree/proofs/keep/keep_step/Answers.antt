@@ -16,6 +16,7 @@ use Rattle.fv_tree.proofs.Readied.{pointer_low}
 use Rattle.fv_tree.proofs.StillReady.{step_ready}
 use Rattle.fv_tree.proofs.Brought.{leads_on}
 use Rattle.fv_tree.proofs.Causes.{kept_damage, node_fails}
+use Rattle.fv_tree.proofs.Altered.{leaves_brought}
 use Rattle.fv_tree.proofs.Released.{keeps_brought}
 use Rattle.fv_tree.proofs.Ways.{keeps_same}
 use Rattle.fv_tree.proofs.keep.keep_step.Goals as goal
@@ -122,3 +123,19 @@ returns-in_err-children-clause-keeps_ready g c = λ here.
     let place : c.args.index / c.width.result ≡ c.args.index / fan ^ c.args.level = ap (λ w. c.args.index / w) c.width.ensures.is in
     step_ready t c.keep_node.new.tree c.args.level (c.args.index / c.width.result) c.keep_node.ensures.fields c.keep_node.ensures.others
     (λ some there. c.keep_node.ensures.stays (λ none. some ((λ j. (pointer_in t c.args.level (place j)).stamp) ∙ ap (λ (p : Pointer). p.stamp) (sym here) ∙ none)) there)
+
+pub returns-in_err-children-clause-leaves : goal.returns-in_err-children-clause-leaves
+returns-in_err-children-clause-leaves g c = λ told.
+    let old = under (g.B.Blocks.shown c.args.blocks.now) in
+    leaves_brought old (under (g.B.Blocks.shown c.keep_node.new.blocks)) c.args.tree.now c.keep_node.new.tree c.args.level (c.args.index / c.width.result) c.args.pointer.now
+    (stays (standing old c.args.tree.now) _ c.args.level c.args.index c.width.result c.args.pointer.now c.width.ensures.is (c.requires.pointer told) (c.keep_node.ensures.keeps told))
+    (ap (λ w. pointer_at (standing old c.args.tree.now) c.args.level (c.args.index / w)) c.width.ensures.is ∙ sym (c.requires.pointer told))
+    c.keep_node.ensures.fields (c.keep_node.ensures.brings told)
+
+pub returns-clause-leaves : goal.returns-clause-leaves
+returns-clause-leaves g c = λ told.
+    let old = under (g.B.Blocks.shown c.args.blocks.now) in
+    leaves_brought old (under (g.B.Blocks.shown c.keep_node.new.blocks)) c.args.tree.now c.keep_node.new.tree c.args.level (c.args.index / c.width.result) c.args.pointer.now
+    (stays (standing old c.args.tree.now) _ c.args.level c.args.index c.width.result c.args.pointer.now c.width.ensures.is (c.requires.pointer told) (c.keep_node.ensures.keeps told))
+    (ap (λ w. pointer_at (standing old c.args.tree.now) c.args.level (c.args.index / w)) c.width.ensures.is ∙ sym (c.requires.pointer told))
+    c.keep_node.ensures.fields (c.keep_node.ensures.brings told)

@@ -12,7 +12,8 @@ use Rattle.fv_tree.specs.Sources.{Shown}
 use Rattle.fv_tree.specs.Standing.{standing, under, children_in}
 use Rattle.fv_tree.specs.Erasing.{StandsAt}
 use Rattle.fv_tree.specs.Writing.{IsAlike}
-use Rattle.fv_tree.specs.Flushing.{placed_in}
+use Rattle.fv_tree.specs.Flushing.{loaded, placed_in}
+use Rattle.fv_tree.proofs.Altered.{changed_up, leaves_cells, leaves_itself, leaves_then, refill_leaves, way_again}
 use Rattle.fv_tree.proofs.Causes.{at_err}
 use Rattle.fv_tree.proofs.Held.{same_self}
 use Rattle.fv_tree.proofs.Leading.{carries_itself, carries_cells, carries_then}
@@ -136,3 +137,46 @@ pub returns-in_err-pointer-clause-held : goal.returns-in_err-pointer-clause-held
 returns-in_err-pointer-clause-held g c = λ ready.
     let p = err_from_is_err_and c.from_residual.result c.from_residual.ensures.1 in
     rw (p.1, p.2) (c.in_err-pointer.ensures.held (has_way c.args.tree.now c.args.index ready.way))
+
+pub returns-then-index-width-clause-leaves : goal.returns-then-index-width-clause-leaves
+returns-then-index-width-clause-leaves g c = λ _ _ _. leaves_itself (loaded (g.B.Blocks.shown c.args.blocks.now) c.args.tree.now)
+
+pub returns-in_err-pointer-clause-leaves : goal.returns-in_err-pointer-clause-leaves
+returns-in_err-pointer-clause-leaves g c = λ told _ _. c.keep_path.ensures.leaves told
+
+pub returns-in_err-pointer-clause-unchanged : goal.returns-in_err-pointer-clause-unchanged
+returns-in_err-pointer-clause-unchanged g c = λ told. at_err c.from_residual.result (c.keep_path.ensures.leaves told)
+
+pub returns-then-pointer-eq0-clause-leaves : goal.returns-then-pointer-eq0-clause-leaves
+returns-then-pointer-eq0-clause-leaves g c = λ told _ _. c.in_ok-pointer.ensures.leaves told
+
+pub returns-in_err-keep_cell-clause-leaves : goal.returns-in_err-keep_cell-clause-leaves
+returns-in_err-keep_cell-clause-leaves g c = λ told _ _.
+    let new : Shown = g.B.Blocks.shown c.keep_path.new.blocks in
+    leaves_then (loaded (g.B.Blocks.shown c.args.blocks.now) c.args.tree.now) (loaded new c.keep_path.new.tree) (loaded new c.keep_cell.new.tree) (c.keep_path.ensures.leaves told)
+    (leaves_cells (under new) c.keep_path.new.tree c.keep_cell.new.tree c.keep_cell.ensures.fields c.in_err-keep_cell.ensures.same)
+
+pub returns-in_err-keep_cell-clause-unchanged : goal.returns-in_err-keep_cell-clause-unchanged
+returns-in_err-keep_cell-clause-unchanged g c = λ told.
+    let new : Shown = g.B.Blocks.shown c.keep_path.new.blocks in
+    at_err c.from_residual-in_err-keep_cell.result (leaves_then (loaded (g.B.Blocks.shown c.args.blocks.now) c.args.tree.now) (loaded new c.keep_path.new.tree) (loaded new c.keep_cell.new.tree) (c.keep_path.ensures.leaves told)
+    (leaves_cells (under new) c.keep_path.new.tree c.keep_cell.new.tree c.keep_cell.ensures.fields c.in_err-keep_cell.ensures.same))
+
+pub returns-clause-leaves : goal.returns-clause-leaves
+returns-clause-leaves g c = λ told stood own.
+    let old : Shown = g.B.Blocks.shown c.args.blocks.now in
+    let new : Shown = g.B.Blocks.shown c.keep_path.new.blocks in
+    let i = c.args.index in
+    let t = c.args.tree.now in
+    let v = c.keep_path.new.tree in
+    let w = c.keep_cell.new.tree in
+    let u = c.mark_path.new.tree in
+    let path = c.in_ok-pointer.ensures in
+    let cell = c.in_ok-keep_cell.ensures in
+    let marked = c.mark_path.ensures in
+    let levels : w.levels ≡ t.levels = cell.fields.levels ∙ path.fields.levels in
+    let stands : StandsAt (standing (under old) t) 0 i = λ none. c.if-pointer-eq0.false (ap (λ (p : Pointer). p.stamp) (path.pointer told) ∙ none) in
+    let there : StandsAt (standing (under new) v) 0 i = λ none. stands (ap (λ (p : Pointer). p.stamp) (sym ((path.same told).pointers 0 i)) ∙ none) in
+    leaves_then (loaded old t) (loaded new v) (loaded new u) (path.leaves told)
+    (refill_leaves (under new) v w u i cell.fields cell.own cell.others marked.fields marked.nodes marked.marks (λ level low high. cell_kept (under new) v w i true cell.fields cell.own cell.others level (path.kept told level low (omega (arith, high, levels)))) cell.changed
+    (way_again (loaded old t) (loaded new v) i (path.leaves told) there (changed_up (loaded old t) old.used stood i stands own)))

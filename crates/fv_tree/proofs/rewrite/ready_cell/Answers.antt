@@ -11,6 +11,8 @@ use Rattle.fv_codec.specs.declared.pointer.Pointer.{Pointer}
 use Rattle.fv_tree.specs.Spelled.{pointer_at, block_at}
 use Rattle.fv_tree.specs.Standing.{standing, under, children_in}
 use Rattle.fv_tree.specs.Writing.{IsAlike}
+use Rattle.fv_tree.specs.Flushing.{loaded}
+use Rattle.fv_tree.proofs.Altered.{leaves_cells, leaves_held, leaves_itself, leaves_then, leaves_untouched}
 use Rattle.fv_tree.proofs.Causes.{cell_fails, fails_later, fails_same}
 use Rattle.fv_tree.proofs.Flushes.{alike_then}
 use Rattle.fv_tree.proofs.Held.{same_self}
@@ -160,3 +162,31 @@ returns-clause-carries g c = λ told.
     let block : block_at (standing (under d) v) i ≡ Some content =
     ap (λ (h : fin.FinMap nat_cmp (List ℕ)). block_at (standing (λ w. fin.get h w) v) i) held ∙ read.cell told ∙ ap (λ there. cond {A = Option (List ℕ)} there (Some content) None) (read.there ∙ is_stamped c.in_ok-pointer.pointer c.if-pointer-eq0.false) in
     carries_then a b d c.args.tree.now v u (path.carries told) (carries_then b d d v v u (carries_untouched b d v c.read_cell.ensures.untouched) (carries_held d v u i content c.in_ok-hold_cell.ensures.holds some block))
+
+pub returns-then-index-width-clause-leaves : goal.returns-then-index-width-clause-leaves
+returns-then-index-width-clause-leaves g c = λ _. leaves_itself (loaded (g.B.Blocks.shown c.args.blocks.now) c.args.tree.now)
+
+pub returns-in_err-read_cell-clause-leaves : goal.returns-in_err-read_cell-clause-leaves
+returns-in_err-read_cell-clause-leaves g c = λ told.
+    let b = g.B.Blocks.shown c.keep_path.new.blocks in
+    let d = g.B.Blocks.shown c.read_cell.new.blocks in
+    let v = c.keep_path.new.tree in
+    leaves_then (loaded (g.B.Blocks.shown c.args.blocks.now) c.args.tree.now) (loaded b v) (loaded d v) (c.keep_path.ensures.leaves told) (leaves_untouched b d v c.read_cell.ensures.untouched)
+
+pub returns-in_err-hold_cell-clause-leaves : goal.returns-in_err-hold_cell-clause-leaves
+returns-in_err-hold_cell-clause-leaves g c = λ told.
+    let b = g.B.Blocks.shown c.keep_path.new.blocks in
+    let d = g.B.Blocks.shown c.read_cell.new.blocks in
+    let v = c.keep_path.new.tree in
+    let u = c.hold_cell.new.tree in
+    leaves_then (loaded (g.B.Blocks.shown c.args.blocks.now) c.args.tree.now) (loaded b v) (loaded d u) (c.keep_path.ensures.leaves told)
+    (leaves_then (loaded b v) (loaded d v) (loaded d u) (leaves_untouched b d v c.read_cell.ensures.untouched) (leaves_cells (under d) v u c.hold_cell.ensures.fields c.in_err-hold_cell.ensures.same))
+
+pub returns-clause-leaves : goal.returns-clause-leaves
+returns-clause-leaves g c = λ told.
+    let b = g.B.Blocks.shown c.keep_path.new.blocks in
+    let d = g.B.Blocks.shown c.read_cell.new.blocks in
+    let v = c.keep_path.new.tree in
+    let u = c.hold_cell.new.tree in
+    leaves_then (loaded (g.B.Blocks.shown c.args.blocks.now) c.args.tree.now) (loaded b v) (loaded d u) (c.in_ok-pointer.ensures.leaves told)
+    (leaves_then (loaded b v) (loaded d v) (loaded d u) (leaves_untouched b d v c.read_cell.ensures.untouched) (leaves_held (under d) v u c.args.index c.read_cell.new.into c.in_ok-hold_cell.ensures.holds))

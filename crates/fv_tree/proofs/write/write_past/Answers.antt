@@ -10,11 +10,13 @@ use Rattle.fv_tree.specs.Writing.{IsAlike, HasNewLevels}
 use Rattle.fv_tree.proofs.Causes.{at_err}
 use Rattle.fv_tree.specs.Flushing.{loaded_over, changed_in}
 use Rattle.fv_tree.specs.Leading.{KeepsHints, LeadsNoMore}
-use Rattle.fv_tree.proofs.Grows.{grows_hints, grows_sound, grows_leads, grows_keeps, grows_ready}
+use Rattle.fv_tree.specs.Altering.{Leaves}
+use Rattle.fv_tree.proofs.Altered.{cell_marked, only_leaves}
+use Rattle.fv_tree.proofs.Grows.{grows_alters, grows_hints, grows_sound, grows_leads, grows_keeps, grows_ready}
 use Rattle.fv_tree.proofs.GrownReady.{ungrown_ready}
 use Rattle.fv_tree.proofs.StillReady.{cells_same, ready_then}
 use Rattle.fv_tree.proofs.Ready.{cells_again, cells_loaded}
-use Rattle.fv_tree.proofs.Ungrown.{still_hints, still_sound, still_leads, still_keeps}
+use Rattle.fv_tree.proofs.Ungrown.{still_hints, still_same, still_sound, still_leads, still_keeps}
 use Rattle.fv_tree.proofs.Past.{Raises, past_base}
 use Rattle.fv_tree.proofs.Steps.{stamps_way, stamped_cells, moved}
 use Rattle.fv_tree.proofs.Writes.{same_alike, same_standing, hidden_same, levels_grow, written_is}
@@ -204,3 +206,44 @@ returns-clause-hints c =
     grows_hints c.args.tree.now c.keep_new_levels.new.tree c.keep_cell.new.tree c.raise.new.tree c.stamp_path.new.tree c.args.index c.args.stamp c.levels_over-levels.result c.args.block.now
     c.requires.past c.levels_over-levels.ensures.least c.levels_over-levels.ensures.covers grown.fields grown.grows grown.brings grown.blank grown.tops cell.fields cell.cell cell.changed cell.own cell.others
     c.raise.ensures.owner c.raise.ensures.nodes c.raise.ensures.cells c.raise.ensures.levels c.raise.ensures.root c.stamp_path.ensures.stamps c.stamp_path.ensures.marks c.requires.stamp
+
+pub returns-in_err-keep_new_levels-clause-leaves : goal.returns-in_err-keep_new_levels-clause-leaves
+returns-in_err-keep_new_levels-clause-leaves c = λ blocks.
+    let fields = c.keep_new_levels.ensures.fields in
+    let t = c.args.tree.now in
+    let v = c.keep_new_levels.new.tree in
+    at_err c.from_residual.result (still_same blocks t v c.args.index c.requires.past fields (hidden_same blocks t v c.args.index c.requires.past fields c.in_err-keep_new_levels.ensures.failed) c.keep_new_levels.ensures.brings)
+
+pub returns-in_err-keep_new_levels-clause-alters : goal.returns-in_err-keep_new_levels-clause-alters
+returns-in_err-keep_new_levels-clause-alters c = λ blocks.
+    let fields = c.keep_new_levels.ensures.fields in
+    let t = c.args.tree.now in
+    let v = c.keep_new_levels.new.tree in
+    only_leaves c.args.stamp (loaded_over blocks t) (loaded_over blocks v) (still_same blocks t v c.args.index c.requires.past fields (hidden_same blocks t v c.args.index c.requires.past fields c.in_err-keep_new_levels.ensures.failed) c.keep_new_levels.ensures.brings)
+
+pub returns-in_err-keep_cell-clause-leaves : goal.returns-in_err-keep_cell-clause-leaves
+returns-in_err-keep_cell-clause-leaves c = λ blocks.
+    let fields = c.keep_new_levels.ensures.fields in
+    let t = c.args.tree.now in
+    let v = c.keep_new_levels.new.tree in
+    at_err c.from_residual-in_err-keep_cell.result (subst (Leaves (loaded_over blocks t)) (sym (cells_loaded blocks v c.keep_cell.new.tree c.keep_cell.ensures.fields c.in_err-keep_cell.ensures.same))
+    (still_same blocks t v c.args.index c.requires.past fields (hidden_same blocks t v c.args.index c.requires.past fields c.in_ok-keep_new_levels.ensures.grows.old_nodes) c.keep_new_levels.ensures.brings))
+
+pub returns-in_err-keep_cell-clause-alters : goal.returns-in_err-keep_cell-clause-alters
+returns-in_err-keep_cell-clause-alters c = λ blocks.
+    let fields = c.keep_new_levels.ensures.fields in
+    let t = c.args.tree.now in
+    let v = c.keep_new_levels.new.tree in
+    only_leaves c.args.stamp (loaded_over blocks t) (loaded_over blocks c.keep_cell.new.tree) (subst (Leaves (loaded_over blocks t)) (sym (cells_loaded blocks v c.keep_cell.new.tree c.keep_cell.ensures.fields c.in_err-keep_cell.ensures.same))
+    (still_same blocks t v c.args.index c.requires.past fields (hidden_same blocks t v c.args.index c.requires.past fields c.in_ok-keep_new_levels.ensures.grows.old_nodes) c.keep_new_levels.ensures.brings))
+
+pub returns-clause-alters : goal.returns-clause-alters
+returns-clause-alters c =
+    let grown = c.in_ok-keep_new_levels.ensures in
+    let cell = c.in_ok-keep_cell.ensures in
+    grows_alters c.args.tree.now c.keep_new_levels.new.tree c.keep_cell.new.tree c.raise.new.tree c.stamp_path.new.tree c.args.index c.args.stamp c.levels_over-levels.result c.args.block.now
+    c.requires.past c.levels_over-levels.ensures.least c.levels_over-levels.ensures.covers grown.fields grown.grows grown.brings grown.blank grown.tops cell.fields cell.cell cell.changed cell.own cell.others
+    c.raise.ensures.owner c.raise.ensures.nodes c.raise.ensures.cells c.raise.ensures.levels c.raise.ensures.root c.stamp_path.ensures.stamps c.stamp_path.ensures.marks c.requires.stamp
+
+pub returns-clause-marked : goal.returns-clause-marked
+returns-clause-marked c = cell_marked c.keep_cell.new.tree c.stamp_path.new.tree c.args.index (c.stamp_path.ensures.stamps.cells ∙ c.raise.ensures.cells) c.in_ok-keep_cell.ensures.changed

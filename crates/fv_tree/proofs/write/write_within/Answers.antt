@@ -3,11 +3,12 @@ use Rattle.fv_codec.specs.declared.pointer.Pointer.{Pointer}
 use Rattle.fv_model.specs.Trees.{fan}
 use Rattle.fv_tree.specs.Spelled.{pointer_at}
 use Rattle.fv_tree.specs.Sources.{Shown}
-use Rattle.fv_tree.specs.Flushing.{placed_in}
+use Rattle.fv_tree.specs.Flushing.{loaded, placed_in}
 use Rattle.fv_tree.proofs.Leading.{carries_cells, carries_then}
 use Rattle.fv_tree.proofs.Ready.{marked_is, cell_kept, unstamped, is_stamped}
 use Rattle.fv_tree.specs.Standing.{standing, under}
 use Rattle.fv_tree.specs.Writing.{IsAlike}
+use Rattle.fv_tree.proofs.Altered.{cell_marked, leaves_alters, leaves_cells, leaves_then, only_leaves, way_alters}
 use Rattle.fv_tree.proofs.Causes.{at_err}
 use Rattle.fv_tree.proofs.Steps.{stamps_way, stamped_cells}
 use Rattle.fv_tree.proofs.StillReady.{cells_put, cells_same, ready_then, stamps_ready}
@@ -80,3 +81,45 @@ returns-clause-keeps_ready g c =
     ready_then c.args.tree.now w u c.keep_path.ensures.keeps_ready (ready_then w v u
     (cells_put w v c.args.index c.args.block.now c.keep_cell.ensures.fields c.in_ok-keep_cell.ensures.cell)
     (stamps_ready v u c.args.index c.args.stamp c.stamp_path.ensures.stamps (λ e. absurd (omega (arith, e, c.requires.stamp)))))
+
+pub returns-in_err-pointer-clause-leaves : goal.returns-in_err-pointer-clause-leaves
+returns-in_err-pointer-clause-leaves g c = λ told. at_err c.from_residual.result (c.keep_path.ensures.leaves told)
+
+pub returns-in_err-pointer-clause-alters : goal.returns-in_err-pointer-clause-alters
+returns-in_err-pointer-clause-alters g c = λ told.
+    only_leaves c.args.stamp (loaded (g.B.Blocks.shown c.args.blocks.now) c.args.tree.now) (loaded (g.B.Blocks.shown c.keep_path.new.blocks) c.keep_path.new.tree) (c.keep_path.ensures.leaves told)
+
+pub returns-in_err-keep_cell-clause-leaves : goal.returns-in_err-keep_cell-clause-leaves
+returns-in_err-keep_cell-clause-leaves g c = λ told.
+    let new : Shown = g.B.Blocks.shown c.keep_path.new.blocks in
+    let w = c.keep_path.new.tree in
+    let v = c.keep_cell.new.tree in
+    at_err c.from_residual-in_err-keep_cell.result (leaves_then (loaded (g.B.Blocks.shown c.args.blocks.now) c.args.tree.now) (loaded new w) (loaded new v) (c.keep_path.ensures.leaves told)
+    (leaves_cells (under new) w v c.keep_cell.ensures.fields c.in_err-keep_cell.ensures.same))
+
+pub returns-in_err-keep_cell-clause-alters : goal.returns-in_err-keep_cell-clause-alters
+returns-in_err-keep_cell-clause-alters g c = λ told.
+    let new : Shown = g.B.Blocks.shown c.keep_path.new.blocks in
+    let w = c.keep_path.new.tree in
+    let v = c.keep_cell.new.tree in
+    only_leaves c.args.stamp (loaded (g.B.Blocks.shown c.args.blocks.now) c.args.tree.now) (loaded new v)
+    (leaves_then (loaded (g.B.Blocks.shown c.args.blocks.now) c.args.tree.now) (loaded new w) (loaded new v) (c.keep_path.ensures.leaves told)
+    (leaves_cells (under new) w v c.keep_cell.ensures.fields c.in_err-keep_cell.ensures.same))
+
+pub returns-clause-alters : goal.returns-clause-alters
+returns-clause-alters g c = λ told.
+    let new : Shown = g.B.Blocks.shown c.keep_path.new.blocks in
+    let i = c.args.index in
+    let w = c.keep_path.new.tree in
+    let v = c.keep_cell.new.tree in
+    let u = c.stamp_path.new.tree in
+    let path = c.in_ok-pointer.ensures in
+    let cell = c.in_ok-keep_cell.ensures in
+    let named : Bool = not (c.in_ok-pointer.pointer.stamp == 0) in
+    let levels : v.levels ≡ c.args.tree.now.levels = cell.fields.levels ∙ path.fields.levels in
+    leaves_alters c.args.stamp (loaded (g.B.Blocks.shown c.args.blocks.now) c.args.tree.now) (loaded new w) (loaded new u) (path.leaves told)
+    (way_alters (under new) w v u i c.args.stamp named cell.fields cell.own cell.others c.stamp_path.ensures.stamps c.stamp_path.ensures.marks (omega (arith, c.requires.stamp)) (subst (λ n. i < fan ^ n) (sym levels) c.requires.index)
+    (λ level low high. cell_kept (under new) w v i named cell.fields cell.own cell.others level (path.kept told level low (omega (arith, high, levels)))) cell.changed)
+
+pub returns-clause-marked : goal.returns-clause-marked
+returns-clause-marked g c = cell_marked c.keep_cell.new.tree c.stamp_path.new.tree c.args.index c.stamp_path.ensures.stamps.cells c.in_ok-keep_cell.ensures.changed

@@ -9,7 +9,7 @@ use Rattle.fv_cp.specs.Lent.{FitTogether, blocks_asked}
 use Rattle.fv_volume.proofs.Housing.{housed_with}
 use Rattle.fv_aggregate.specs.declared.session.Session.{Session}
 use Rattle.fv_aggregate.proofs.Added.{added_as}
-use Rattle.fv_aggregate.proofs.Asking.{asked_made, overheads_made, pending_made}
+use Rattle.fv_aggregate.proofs.Asking.{asked_made, overheads_made, pending_made, waiting_made}
 use Rattle.fv_aggregate.proofs.session.Session.add.Goals as goal
 
 pub invariant_of-self-2 : goal.invariant_of-self-2
@@ -48,5 +48,6 @@ returns-clause-added c =
       asked = asked;
       overheads = omega (arith, overheads_made c.self.inside.volumes slot c.args.name.now c.args.size c.args.kind c.create.new.self long e.slot e.made, room);
       files = pending_made c.self.inside.volumes slot c.args.name.now c.args.size c.args.kind c.create.new.self _ long e.slot e.made e.new;
+      waiting = waiting_made c.self.inside.volumes slot c.args.name.now c.args.size c.args.kind c.create.new.self long e.slot e.made e.each;
       failed = refl;
     })

@@ -9,7 +9,7 @@ use Rattle.fv_aggregate.specs.Calls.{IsUntouched}
 use Rattle.fv_aggregate.specs.Commands.{snapshot_asked}
 use Rattle.fv_aggregate.specs.Looking.{AsksSlot, Replied}
 use Rattle.fv_aggregate.proofs.Asked.{known_by, looks_by, slot_asked}
-use Rattle.fv_aggregate.proofs.Lost.{over_slot, replied_lost}
+use Rattle.fv_aggregate.proofs.Lost.{over_slot, replied_lost, replied_only}
 use Rattle.fv_aggregate.proofs.Missing.{asked_closed}
 use Rattle.fv_aggregate.proofs.Keeping.{replied_volumes}
 use Rattle.fv_aggregate.proofs.session.Session.ask.Goals as goal
@@ -79,3 +79,11 @@ returns-clause-lost g c = λ near.
     let is = replied_lost e r (record s { pool = q }) c.replied.new.self c.replied.result at.answer replied in
     (is.0, (at.same_disk, is.1 ∙ (λ j. record s { pool = at.same_pool j }))))
     (state_at s.volumes c.args.slot) said
+
+pub returns-clause-only : goal.returns-clause-only
+returns-clause-only g c = λ answer.
+    let e = g.D.Disk.shown c.ask_slot-asked.new.disk in
+    let s = c.args.self.now in
+    let r = c.ask_slot-asked.result in
+    let refused = replied_only e r _ c.replied.new.self c.replied.result c.ask_slot-asked.ensures.told c.replied.ensures answer in
+    subst (λ (n : Session). IfSome (state_at n.volumes c.args.slot) (λ x. table_named x (snapshot_asked c.args.command.now) ≡ None)) c.self.view_is (c.ask_slot-asked.ensures.only refused)

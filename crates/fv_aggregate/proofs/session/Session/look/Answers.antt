@@ -7,7 +7,7 @@ use Rattle.fv_aggregate.specs.Commands.{has_range}
 use Rattle.fv_aggregate.proofs.Asked.{asked_at, looks_done, looks_missing}
 use Rattle.fv_aggregate.proofs.Calls.{reads_itself}
 use Rattle.fv_aggregate.proofs.Looked.{reads_alone}
-use Rattle.fv_aggregate.proofs.Lost.{of_lacking}
+use Rattle.fv_aggregate.proofs.Lost.{lacking, of_lacking}
 use Rattle.fv_aggregate.proofs.Missing.{asked_far, refused_allows}
 use Rattle.fv_model.specs.declared.answers.Reply.TheVariants.{Refused}
 use Rattle.fv_aggregate.proofs.session.Session.look.Goals as goal
@@ -51,3 +51,9 @@ pub returns-in-None-clause-lost : goal.returns-in-None-clause-lost
 returns-in-None-clause-lost g c = λ near lacks.
     let none = subst (λ (n : Session). NoneHasName n.volumes c.args.volume.now) c.self.view_is c.in-None.ensures.none in
     absurd (true≢false (sym lacks.named.named ∙ none.none lacks.slot lacks.within))
+
+pub returns-in-Some-clause-only : goal.returns-in-Some-clause-only
+returns-in-Some-clause-only g c = λ answer.
+    let found = c.in-Some.ensures.some in
+    let named = subst (λ (n : Session). HasName n.volumes c.in-Some.slot c.args.volume.now) c.self.view_is found.1 in
+    lacking c.args.self.now.volumes c.in-Some.slot c.args.volume.now c.args.command.now found.0 named (c.look_at.ensures.only answer)

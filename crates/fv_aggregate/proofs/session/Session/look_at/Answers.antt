@@ -1,9 +1,12 @@
-use Rattle.std.proofs.Common.{◌≡◌, true, rules, Err, sym, subst, ◌∙◌}
+use Rattle.std.proofs.Common.{◌≡◌, true, rules, Err, Option, None, sym, subst, ◌∙◌}
+use Rattle.std.specs.Prelude.{IfSome}
+use Rattle.fv_volume.specs.declared.state.VolumeState.{VolumeState}
+use Rattle.fv_volume.specs.Asking.{table_named}
 use Rattle.fv_volume.specs.States.{state_at}
-use Rattle.fv_aggregate.specs.Commands.{finds_file}
+use Rattle.fv_aggregate.specs.Commands.{finds_file, snapshot_asked}
 use Rattle.fv_aggregate.specs.Looking.{Looks}
 use Rattle.fv_aggregate.proofs.Asked.{asked_read, damaged_at}
-use Rattle.fv_aggregate.proofs.Lost.{finds_active, none_lost}
+use Rattle.fv_aggregate.proofs.Lost.{active_there, finds_active, no_refusal, none_lost}
 use Rattle.fv_aggregate.proofs.Numbered.{known_numbered, look_numbered, look_unnumbered}
 use Rattle.fv_aggregate.proofs.session.Session.look_at.Goals as goal
 
@@ -47,3 +50,16 @@ returns-clause-lost g c = λ near.
     let of = c.requires.asked in
     let finds : finds_file c.args.command.now ≡ true = sym c.finds.ensures ∙ c.if-not-finds.false in
     none_lost (state_at c.args.self.now.volumes c.args.slot) c.args.command.now (finds_active c.args.command.now of.state.name of.asks finds) _
+
+pub returns-in_err-read_numbers-clause-only : goal.returns-in_err-read_numbers-clause-only
+returns-in_err-read_numbers-clause-only g c = λ answer.
+    let failed : c.from_residual.result ≡ Err c.in_err-read_numbers.field-0.0 = search rules in
+    no_refusal _ c.in_err-read_numbers.field-0.0 c.from_residual.result failed answer
+
+pub returns-clause-only : goal.returns-clause-only
+returns-clause-only g c = λ answer.
+    let of = c.requires.asked in
+    let finds : finds_file c.args.command.now ≡ true = sym c.finds.ensures ∙ c.if-not-finds.false in
+    let after = asked_read (g.D.Disk.shown c.args.disk.now) c.args.self.now (g.D.Disk.shown c.read_numbers.new.disk) c.read_numbers.new.self c.args.slot c.args.command.now c.in_ok-read_numbers.ensures.numbered.read of in
+    let none = subst (λ (o : Option VolumeState). IfSome o (λ x. table_named x (snapshot_asked c.args.command.now) ≡ None)) after.there (c.ask-2.ensures.only answer) in
+    active_there _ after.state c.args.command.now (finds_active c.args.command.now of.state.name of.asks finds) none

@@ -1,6 +1,8 @@
 use Rattle.std.proofs.Common.{false, nat_eq, Ok, refl, arith}
 use Rattle.fv_tree.specs.Standing.{standing, under}
 use Rattle.fv_tree.specs.Releasing.{Removes}
+use Rattle.fv_tree.specs.Flushing.{loaded}
+use Rattle.fv_tree.proofs.Altered.{leaves_itself}
 use Rattle.fv_tree.proofs.Causes.{calm_itself, untouched_itself}
 use Rattle.fv_tree.proofs.Held.{same_self}
 use Rattle.fv_tree.proofs.Readied.{has_way, ready_cell}
@@ -20,11 +22,11 @@ returns-clause-removal g c =
     let stands = ready_cell (under a) t i c.requires.ready in
     let calm = did.calm in
     let goes : Removes a b t u (nat_eq i) c.args.start c.args.stamp = removes_then a a b t t u (λ _. false) (nat_eq i) i c.args.start c.args.stamp
-    (removes_nothing a a t t (λ _. false) c.args.start c.args.stamp (untouched_itself a) (calm_itself a) (same_self (standing (under a) t)) (keeps_self (under a) t) (λ stands. stands) (λ _ _. refl))
+    (removes_nothing a a t t (λ _. false) c.args.start c.args.stamp (untouched_itself a) (calm_itself a) (same_self (standing (under a) t)) (keeps_self (under a) t) (λ stands. stands) (leaves_itself (loaded a t)) (λ _ _. refl))
     (did.goes way (under a) stands) (did.released way (under a) stands) (did.strays way (under a) stands) (λ _. refl) (λ holds. holds) in
     removal_after g.B.Blocks.told (g.B.Blocks.goes c.args.blocks.now c.erase_cell.new.blocks) (Ok c.erase_cell.result) a b t u (nat_eq i) c.args.start c.args.stamp
     (λ _. goes) (λ _. tt) did.owner (λ _. tt) tt did.room tt did.calls (record { faults = omega (arith, calm.faults); damages = omega (arith, calm.damages); spent = calm.spent; calm = calm })
-    (λ _. did.count way (under a) stands) tt
+    (λ _. did.count way (under a) stands) (λ _. tt) tt
 
 pub returns-clause-others_ready : goal.returns-clause-others_ready
 returns-clause-others_ready g c = c.erase_cell.ensures.others_ready c.requires.ready

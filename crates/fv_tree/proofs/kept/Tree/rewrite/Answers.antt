@@ -3,7 +3,8 @@ use Rattle.fv_tree.specs.Flushing.{loaded_over}
 use Rattle.fv_tree.proofs.Stored.{stored_on}
 use Rattle.fv_tree.specs.Costs.{cells_changed, changes_in}
 use Rattle.fv_tree.specs.Standing.{standing}
-use Rattle.fv_tree.proofs.Rewritten.{rewritten, rewritten_hints, rewritten_leads, rewritten_keeps, rewritten_sound, still_ready}
+use Rattle.fv_tree.proofs.Altered.{cell_marked}
+use Rattle.fv_tree.proofs.Rewritten.{rewritten, rewritten_alters, rewritten_hints, rewritten_leads, rewritten_keeps, rewritten_sound, still_ready}
 use Rattle.fv_tree.proofs.Seen.{writes}
 use Rattle.fv_tree.proofs.kept.Tree.rewrite.Goals as goal
 
@@ -64,3 +65,12 @@ returns-clause-stored_well c = λ held.
     stored_on (loaded_over held w) (loaded_over held u) (c.stamp_path.ensures.stamps.owner ∙ put.fields.owner) refl
     (rewritten_leads w v u c.args.index c.args.stamp c.args.block.now c.requires.ready c.requires.stamp put.fields put.cell put.changed put.own put.others c.stamp_path.ensures.stamps c.stamp_path.ensures.marks held)
     (rewritten_hints w v u c.args.index c.args.stamp c.args.block.now c.requires.ready c.requires.stamp put.fields put.cell put.changed put.own put.others c.stamp_path.ensures.stamps c.stamp_path.ensures.marks held)
+
+pub returns-clause-alters : goal.returns-clause-alters
+returns-clause-alters c =
+    let put = c.put_content.ensures in
+    rewritten_alters c.args.self.now c.put_content.new.tree c.stamp_path.new.tree c.args.index c.args.stamp c.args.block.now c.requires.ready c.requires.stamp
+    put.fields put.cell put.changed put.own put.others c.stamp_path.ensures.stamps c.stamp_path.ensures.marks
+
+pub returns-clause-marked : goal.returns-clause-marked
+returns-clause-marked c = cell_marked c.put_content.new.tree c.stamp_path.new.tree c.args.index c.stamp_path.ensures.stamps.cells c.put_content.ensures.changed

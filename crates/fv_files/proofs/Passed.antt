@@ -1,0 +1,117 @@
+-- A file's tree is placed, and its record has its root already: the tree goes from memory, and the inode block stays.
+use Rattle.std.proofs.Common.{◌≡◌, ◌+◌, ℕ, true, false, cond, nat_eq, Ok, refl, sym, ap, subst, ◌∙◌, arith}
+use Rattle.std.specs.Prelude.{Option, Some, None, is_some}
+use Rattle.std.specs.Option.{option_map}
+use Rattle.std.specs.Ordering.{nat_cmp}
+use Rattle.std.specs.BTreeMap as maps
+use Rattle.fv_disk.specs.declared.fault.BlockFault.{BlockFault}
+use Rattle.fv_codec.specs.declared.inode.InodeRecord.{InodeRecord}
+use Rattle.fv_codec.specs.declared.pointer.Pointer.{Pointer}
+use Rattle.fv_tables.specs.Spelled.{Under, stored}
+use Rattle.fv_tables.specs.Told.{file_at}
+use Rattle.fv_tables.specs.Kept.{IsPlacedTable}
+use Rattle.fv_tree.specs.declared.kept.Tree.{Tree}
+use Rattle.fv_tree.specs.Sources.{Shown}
+use Rattle.fv_tree.specs.Standing.{standing, under}
+use Rattle.fv_tree.specs.Flushing.{ReachesOnce, Stands}
+use Rattle.fv_tree.specs.Stored.{KeepsPlaces}
+use Rattle.fv_inode.specs.declared.info.Info.{Info}
+use Rattle.fv_inode.specs.Files.{rooted, info_of}
+use Rattle.fv_inode.proofs.Slots.{alike_files}
+use Rattle.fv_files.specs.declared.files.Files.{Files}
+use Rattle.fv_files.specs.Tables.{table_in, AreStanding, IsLed, IsStored}
+use Rattle.fv_files.specs.Calls.{KeepsStored, SparesOthers}
+use Rattle.fv_files.specs.Flushing.{FlushesKept, HasRoot, LaysTrees}
+use Rattle.fv_files.specs.Pending.{pending_trees, tree_cost, FitsTable}
+use Rattle.fv_files.proofs.Tables.{placed_then, some_same}
+use Rattle.fv_files.proofs.Looked.{counts_done}
+use Rattle.fv_files.proofs.Changed.{with_trees, owned_stands, kept_inode}
+use Rattle.fv_files.proofs.Flushed.{kept_lays, kept_stores}
+use Rattle.fv_files.proofs.Laid.{flushed_spares, gone_led, gone_placed, gone_spares, gone_stands, gone_stored, table_spares_then}
+
+-- what is known of a file says its root
+pub root_told : (n : ℕ) (info : Info) (o : Option InodeRecord) → Some info ≡ option_map (info_of n) o → HasRoot o info.levels info.root
+root_told n info None is = let wrong : true ≡ false = ap is_some is in cc
+root_told n info (Some r) is = let same : info ≡ info_of n r = some_same info (info_of n r) is in record {
+  file = r;
+  is = refl;
+  levels_is = ap (λ (i : Info). i.levels) (sym same);
+  root_is = ap (λ (i : Info). i.root) (sym same);
+}
+
+-- the same root, of as many levels
+pub same_root : (o : Option InodeRecord) (info : Info) (levels : ℕ) (root : Pointer) → info.levels ≡ levels → info.root ≡ root → HasRoot o info.levels info.root → HasRoot o levels root
+same_root o info levels root levels_is root_is has = record { file = has.file; is = has.is; levels_is = has.levels_is ∙ levels_is; root_is = has.root_is ∙ root_is }
+
+module _ (told : Type 0) (old mid : Shown) (f : Files) (m last : maps.BTreeMap ℕ Tree) (n levels : ℕ) (root : Pointer) (kept : FlushesKept told old mid f.trees m n (Ok root)) (levels_is : (t : Tree) → maps.get nat_cmp f.trees n ≡ Some t → levels ≡ t.levels)
+    (was : told → HasRoot (file_at (rooted old f.inode) n) levels root) (gone : (k : ℕ) → maps.get nat_cmp last k ≡ cond (nat_eq k n) None (maps.get nat_cmp m k)) (cost : (t : Tree) → maps.get nat_cmp m n ≡ Some t → pending_trees last + tree_cost t ≡ pending_trees m) where
+  abbrev two : Files
+  two = with_trees f m
+
+  abbrev three : Files
+  three = with_trees two last
+
+  first : LaysTrees told old mid f two (Ok root)
+  first = kept_lays told old mid f m n (Ok root) kept
+
+  module _ (tells : told) (sound : AreStanding old f) where
+    stood : Stands old kept.tree
+    stood = owned_stands old f n kept.tree kept.becomes.was sound
+
+    own : HasRoot (file_at (rooted mid f.inode) n) levels root
+    own = let has = was tells in record {
+      file = has.file;
+      is = alike_files (rooted old f.inode) (rooted mid f.inode) (kept_inode old mid f m n kept.tree kept.next kept.becomes sound (flushed_spares old mid kept.tree kept.next stood (kept.flushes tells stood))) n ∙ has.is;
+      levels_is = has.levels_is;
+      root_is = has.root_is;
+    }
+
+    same_spelling : (blocks : Under) → stored blocks kept.tree.owner kept.tree.levels root ≡ stored blocks n levels root
+    same_spelling blocks = λ j. stored blocks ((sound.owners n kept.tree kept.becomes.was).0 j) (sym (levels_is kept.tree kept.becomes.was) j) root
+
+    spelled : standing (under mid) kept.next ≡ stored (under mid) n levels root
+    spelled = kept.spelled ∙ same_spelling (under mid)
+
+    reached : ReachesOnce mid.used (stored (under mid) n levels root)
+    reached = subst (ReachesOnce mid.used) (same_spelling (under mid)) (kept.reaches tells stood)
+
+    placed_two : AreStanding mid two
+    placed_two = first.stands tells sound
+
+    all_placed : IsPlacedTable (table_in old f) (table_in mid three)
+    all_placed = placed_then (table_in old f) (table_in mid two) (table_in mid three) (first.placed tells sound) (gone_placed mid two last n levels root kept.next kept.becomes.now gone placed_two own spelled reached)
+
+    all_led : IsLed old f → IsLed mid three
+    all_led led = gone_led mid two last n levels root kept.next kept.becomes.now gone placed_two own spelled reached (first.led tells sound led)
+
+    all_spares : SparesOthers old mid f three
+    all_spares = table_spares_then old mid mid f two three (first.spares tells sound) (gone_spares mid two last n levels root kept.next kept.becomes.now gone placed_two own spelled reached)
+
+    all_stored : KeepsPlaces old mid → IsLed old f → IsStored old f → IsStored mid three
+    all_stored places led well = gone_stored mid two last n levels root kept.next kept.becomes.now gone placed_two own spelled reached
+        (kept_stores told old mid f m n (Ok root) kept tells places sound led well)
+
+    all_fits : FitsTable old f mid three
+    all_fits =
+        let fits = kept.fits tells stood in
+        let fewer = fits.fewer in
+        let room = fits.room in
+        let sum = kept.becomes.sum in
+        let out = cost kept.next kept.becomes.now in record { fewer = omega (arith, fewer, sum, out); room = omega (arith, room, sum, out) }
+
+  pub pass_done : LaysTrees {T = Unit {0}} told old mid f three (Ok tt)
+  pass_done = record {
+    placed = all_placed;
+    stands = λ tells sound. gone_stands mid two last n levels root kept.next kept.becomes.now gone (placed_two tells sound) (own tells sound) (spelled tells sound) (reached tells sound);
+    led = all_led;
+    spares = all_spares;
+    strays = λ tells sound. first.strays tells sound;
+    fits = all_fits;
+    enough = λ tells sound room. tt;
+    source = λ tells sound. tt;
+    counts = counts_done old mid root tt first.counts;
+    cause = tt;
+  }
+
+  pub pass_stores : told → KeepsPlaces old mid → KeepsStored old mid f three
+  pass_stores tells places sound = all_stored tells sound places

@@ -1,0 +1,44 @@
+-- What a change does to the places of a tree.
+--
+-- An example: a file has the blocks 0 and 1 under one node. A write of block 0 with the stamp 7 gives the stamp 7 to block 0 and to the node,
+-- and both differ from their blocks then. Block 1 leads where it did, and differs from its block only if it did.
+use Rattle.std.specs.Prelude.{◌≡◌, ◌⊎◌, ℕ, true, false, Option, None}
+use Rattle.fv_tree.specs.Spelled.{pointer_at}
+use Rattle.fv_tree.specs.Sources.{Use}
+use Rattle.fv_tree.specs.Flushing.{Loaded, IsReplaced}
+
+-- nothing leads to a place
+abbrev pub IsHole : Loaded → ℕ → ℕ → Type 0
+IsHole s level place = (pointer_at s.tree level place).stamp ≡ 0
+
+-- a place has the stamp of a change, and differs from its block
+pub record IsChanged (stamp : ℕ) (new : Loaded) (level place : ℕ) : Type 0 where
+  pub stamped : (pointer_at new.tree level place).stamp ≡ stamp
+  pub changed : new.changed level place ≡ true
+
+-- a place has the pointer that it had, and differs from its block only if it did
+pub record IsAsBefore (old new : Loaded) (level place : ℕ) : Type 0 where
+  pub pointer : pointer_at new.tree level place ≡ pointer_at old.tree level place
+  pub changed : new.changed level place ≡ old.changed level place
+
+-- Nothing changed: the levels and the root are as before, and so is each place to which a pointer leads.
+pub record Leaves (old new : Loaded) : Type 0 where
+  pub levels : new.tree.levels ≡ old.tree.levels
+  pub root : new.tree.root ≡ old.tree.root
+  pub places : (level place : ℕ) → IsHole new level place ⊎ IsAsBefore old new level place
+
+-- A change with this stamp: each place to which a pointer leads has the stamp and differs from its block, or is as before.
+abbrev pub Alters : ℕ → Loaded → Loaded → Type 0
+Alters stamp old new = (level place : ℕ) → IsHole new level place ⊎ (IsChanged stamp new level place ⊎ IsAsBefore old new level place)
+
+-- a place that differed from its block was placed, under the stamp that it has: where no block was and no VVBN in use, but for that of a
+-- block that was replaced
+pub record IsPlacedAnew (old : Loaded) (used : ℕ → Option Use) (new : Loaded) (level place : ℕ) : Type 0 where
+  pub stamp : (pointer_at new.tree level place).stamp ≡ (pointer_at old.tree level place).stamp
+  pub was : old.changed level place ≡ true
+  pub done : new.changed level place ≡ false
+  pub fresh : (IsReplaced old new (pointer_at new.tree level place).vvbn → ⊥) → (old.tree.under (pointer_at new.tree level place).vvbn ≡ None) × (used (pointer_at new.tree level place).vvbn ≡ None)
+
+-- A flush: each place to which a pointer leads was placed anew, or is as before.
+abbrev pub PlacesAnew : Loaded → (ℕ → Option Use) → Loaded → Type 0
+PlacesAnew old used new = (level place : ℕ) → IsHole new level place ⊎ (IsPlacedAnew old used new level place ⊎ IsAsBefore old new level place)
