@@ -1,11 +1,12 @@
 -- Blocks that are given back, one after another.
 use Rattle.std.proofs.Common.{◌≡◌, ◌≢◌, ℕ, ◌<◌, ◌≤◌, length, Bool, true, false, not, ◌&&◌, ◌||◌, ◌==◌, cond, refl, sym, ap, ◌∙◌, arith, ⊎_elim}
 use Rattle.std.specs.Prelude.{slice_set}
-use Rattle.std.proofs.lemmas.Bool.{cases_Bool, true≢false}
+use Rattle.std.proofs.lemmas.Bool.{cases_Bool}
 use Rattle.std.proofs.lemmas.Bool.Decides.{nat_tests}
 use Rattle.fv_bits.specs.Members.{is_member}
 use Rattle.fv_bits.proofs.Laws.{is_member-set, is_member_past}
 use Rattle.fv_container.specs.Spelled.{is_at}
+use Rattle.fv_container.proofs.Named.{at_means}
 use Rattle.fv_aggmap.specs.Giving.{HasGiven}
 use Rattle.fv_aggmap.specs.Space.{Space, blocks_of}
 use Rattle.fv_aggmap.proofs.Room.{no_fewer}
@@ -16,29 +17,9 @@ and_true : (t : Bool) → (t && true) ≡ t
 and_true true = refl
 and_true false = refl
 
-pub or_false : (t : Bool) → (t || false) ≡ t
-or_false true = refl
-or_false false = refl
-
-pub or_assoc : (a b c : Bool) → (a || (b || c)) ≡ ((a || b) || c)
-or_assoc true b c = refl
-or_assoc false b c = refl
-
 pub not_so : (a : Bool) → (a ≡ true → ⊥) → a ≡ false
 not_so true = λ no. absurd (no refl)
 not_so false = λ no. refl
-
-pub at_itself : (b : ℕ) → b ≢ 0 → is_at b b ≡ true
-at_itself b some = grind (arith, nat_tests, some)
-
-pub at_means : (b place : ℕ) → is_at b place ≡ true → (place ≡ b) × (b ≢ 0)
-at_means b place at = (grind (arith, nat_tests, at), grind (arith, nat_tests, at))
-
-pub at_other : (b place : ℕ) → b ≢ place → is_at b place ≡ false
-at_other b place ne = not_so (is_at b place) (λ at. ne (sym (at_means b place at).0))
-
-pub at_none : (b : ℕ) → is_at b 0 ≡ false
-at_none b = not_so (is_at b 0) (λ at. (at_means b 0 at).1 (sym (at_means b 0 at).0))
 
 -- ---- giving back
 

@@ -1,8 +1,8 @@
 -- Which numbers one of two sets has.
-use Rattle.std.proofs.Common.{◌≡◌, ℕ, ◌<◌, ◌≤◌, List, length, Bool, true, false, ◌||◌, refl, ap, ◌∙◌, ⊎_elim, arith}
+use Rattle.std.proofs.Common.{◌≡◌, ℕ, ◌<◌, ◌≤◌, List, Bool, true, false, ◌||◌, refl, ⊎_elim}
 use Rattle.std.proofs.lemmas.Bool.{cases_lt}
-use Rattle.fv_bits.specs.Members.{is_member, IsFirstFree, IsFullFrom}
-use Rattle.fv_aggmap.specs.Space.{is_held, IsFreeIn, AreHeldFrom}
+use Rattle.fv_bits.specs.Members.{is_member, IsFullFrom}
+use Rattle.fv_aggmap.specs.Space.{is_held, AreHeldFrom}
 
 pub or_true : (x : Bool) → (x || true) ≡ true
 or_true true = refl

@@ -5,6 +5,8 @@ ghost use Rattle.fv_disk.specs.DiskCalls.{OnlyReads};
 ghost use Rattle.fv_disk.specs.Faults.{HasBlockCause};
 ghost use Rattle.fv_root.specs.Finding.{IsInRange};
 ghost use Rattle.fv_root.specs.Formatted.{IsSize};
+ghost use Rattle.fv_container.specs.Spelled.{is_at};
+ghost use Rattle.fv_aggmap.specs.Giving.{HasGiven};
 ghost use Rattle.fv_aggmap.specs.Loading.{IsFault, IsLoaded};
 ghost use Rattle.std.specs.FinSet as set;
 ghost use Rattle.fv_aggmap.specs.Freeing.{room_of};
@@ -123,6 +125,16 @@ impl AggMap {
     {
         self.free += freed(&self.committed, &self.next, self.first, pvbn);
         self.next.clear(pvbn);
+    }
+
+    /// Gives a block back: the next root won't hold it, as `release_after_commit` says. 0 is no block, and neither is a number past the
+    /// last one; nothing changes then. It costs a step and takes no memory.
+    pub fn give_back(&mut self, place: u32)
+        ensures { HasGiven self.old (λ b. is_at b place) self.new }
+    {
+        if place != 0 && place < self.blocks() {
+            self.release_after_commit(place);
+        }
     }
 
     /// Says that the next root is on the disk: the set that it holds is the committed one, too. It costs

@@ -50,7 +50,8 @@ use Rattle.fv_volume.proofs.Housing.{housed_with}
 use Rattle.fv_volume.proofs.Made.{from_pairs, to_pair}
 use Rattle.fv_volume.proofs.NewStanding.{made_standing, made_volume, made_well}
 use Rattle.fv_volume.proofs.Others.{entries_led, entries_standing, entries_volume, entries_well}
-use Rattle.fv_volume.proofs.SlotBlocks.{any_in_range, at_is}
+use Rattle.fv_container.proofs.Leading.{any_in_range}
+use Rattle.fv_volume.proofs.SlotBlocks.{at_is}
 use Rattle.fv_volume.proofs.Told.{find_set, is_inside, named_from, none_named as none_found, same_named}
 use Rattle.fv_cp.specs.Held.{machine_held, IsHeld, IsHeldIn}
 use Rattle.fv_cp.specs.Lent.{FitTogether, IsLentAt, IsLentSlot}

@@ -45,7 +45,8 @@ use Rattle.fv_volume.proofs.LentSlots.{lent_from_loaded}
 use Rattle.fv_volume.proofs.EachRoot.{root_there}
 use Rattle.fv_volume.proofs.KeptSlots.{root_bits, root_few}
 use Rattle.fv_volume.proofs.LoadedBlocks.{loaded_holds, span_of}
-use Rattle.fv_volume.proofs.SlotBlocks.{HasKinds, any_in_range, at_is, entry_kinds}
+use Rattle.fv_container.proofs.Leading.{any_in_range}
+use Rattle.fv_volume.proofs.SlotBlocks.{HasKinds, at_is, entry_kinds}
 
 -- ---- the blocks of one volume
 

@@ -197,14 +197,14 @@ pub record LacksSnapshot (states : States) (name : List ℕ) (command : Command)
   pub there : state_at states slot ≡ Some state
   pub none : table_named state (snapshot_asked command) ≡ None
 
--- What a command on files does beside. Whatever the disk holds, out of range it is refused as that and leaves all as it was, without its volume
--- it is refused for want of it, without the snapshot that it asks, and only then, it is refused as that, and leaves all as it was, and one that
+-- What a command on files does beside. Whatever the disk holds, it is refused out of range, without its volume, and without the snapshot that it
+-- asks, in this order, and leaves all as it was then. It is refused for want of a snapshot only where the volume lacks that snapshot. One that
 -- asks leaves all but the cache and the numbers of files in memory where it is answered. So does a change that is refused, where the session
 -- stands for a machine. Once a command that finds a file of the active table of a volume by its name is answered, refused or not, the numbers of
 -- the volume's files are in memory.
 pub record IsOnFiles {D : Type 0} (command : Command) (shown : Shown) (before : D) (old : Session) (shown_after : Shown) (after : D) (new : Session) (result : Result Reply Fault) : Type 0 where
   pub range : IsNone old.failed → has_range command ≡ false → (result ≡ Ok (Refused Range)) × IsUntouched before old after new
-  pub missing : IsNone old.failed → has_range command ≡ true → (name : List ℕ) → (changed_by command ≡ Some name) ⊎ (volume_asked command ≡ Some name) → NoneHasName old.volumes name → result ≡ Ok (Refused NoVolume)
+  pub missing : IsNone old.failed → has_range command ≡ true → (name : List ℕ) → (changed_by command ≡ Some name) ⊎ (volume_asked command ≡ Some name) → NoneHasName old.volumes name → (result ≡ Ok (Refused NoVolume)) × IsUntouched before old after new
   pub lost : IsNone old.failed → has_range command ≡ true → (name : List ℕ) → volume_asked command ≡ Some name → LacksSnapshot old.volumes name command → (result ≡ Ok (Refused NoSnapshot)) × IsUntouched before old after new
   pub only : IsNone old.failed → (name : List ℕ) → volume_asked command ≡ Some name → result ≡ Ok (Refused NoSnapshot) → LacksSnapshot old.volumes name command
   pub asked : IsSome (volume_asked command) → OnOk result (WasRead shown old shown_after new)

@@ -77,7 +77,7 @@ impl Session {
         requires change { changed_by command.now ≡ Some volume.now }
         ensures makes { Makes (D.shown disk.old) self.old command.now (D.shown disk.new) self.new result }
         ensures range { has_range command.now ≡ false → (result ≡ Ok (Refused Range)) × IsUntouched disk.old self.old disk.new self.new }
-        ensures missing { has_range command.now ≡ true → NoneHasName self.old.volumes volume.now → result ≡ Ok (Refused NoVolume) }
+        ensures missing { has_range command.now ≡ true → NoneHasName self.old.volumes volume.now → (result ≡ Ok (Refused NoVolume)) × IsUntouched disk.old self.old disk.new self.new }
         ensures kept { IsNone self.new.failed → KeepsNumbersBut (MayLose command.now self.old.volumes) self.old.volumes self.new.volumes }
         ensures finds { finds_file command.now ≡ true → has_range command.now ≡ true → OnOk result (KnowsNamed self.old.volumes volume.now self.new.volumes) }
     {

@@ -54,7 +54,7 @@ impl Session {
         requires asks { volume_asked command.now ≡ Some volume.now }
         ensures looks { Looks (D.shown disk.old) self.old command.now (D.shown disk.new) self.new result }
         ensures range { has_range command.now ≡ false → (result ≡ Ok (Refused Range)) × IsUntouched disk.old self.old disk.new self.new }
-        ensures missing { has_range command.now ≡ true → NoneHasName self.old.volumes volume.now → result ≡ Ok (Refused NoVolume) }
+        ensures missing { has_range command.now ≡ true → NoneHasName self.old.volumes volume.now → (result ≡ Ok (Refused NoVolume)) × IsUntouched disk.old self.old disk.new self.new }
         ensures lost { has_range command.now ≡ true → LacksSnapshot self.old.volumes volume.now command.now → (result ≡ Ok (Refused NoSnapshot)) × IsUntouched disk.old self.old disk.new self.new }
         ensures only { result ≡ Ok (Refused NoSnapshot) → LacksSnapshot self.old.volumes volume.now command.now }
         ensures steps { is_get command.now ≡ false → steps.new ≡ steps.old }

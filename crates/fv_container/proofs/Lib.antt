@@ -1,7 +1,8 @@
 mod Chains
 mod Nodes
 mod Reading
-mod Named
+pub mod Named
+pub mod Leading
 mod Trees
 mod Walks
 mod Regions

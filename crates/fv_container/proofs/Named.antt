@@ -12,6 +12,13 @@ at_itself b some = grind (arith, nat_tests, some)
 pub at_means : (b place : ℕ) → is_at b place ≡ true → (place ≡ b) × (b ≢ 0)
 at_means b place at = (grind (arith, nat_tests, at), grind (arith, nat_tests, at))
 
+pub at_other : (b place : ℕ) → b ≢ place → is_at b place ≡ false
+at_other b place other = grind (arith, nat_tests, other)
+
+-- 0 is no place
+pub at_none : (b : ℕ) → is_at b 0 ≡ false
+at_none b = grind (arith, nat_tests)
+
 -- a place that isn't 0 is named
 pub named_at : (places : List ℕ) (m b : ℕ) → m < length places → get_or places m 0 ≡ b → b ≢ 0 → names places b ≡ true
 named_at places m b within is some = list_any_at (is_at b) places m 0 within (rw is (at_itself b some))

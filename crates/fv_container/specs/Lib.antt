@@ -3,6 +3,7 @@ pub mod Chains
 pub mod Kept
 pub mod Rows
 pub mod Spelled
+pub mod Leading
 pub mod Reading
 pub mod Freeing
 pub mod Written

@@ -102,7 +102,7 @@ fn reclaimed<D: Disk>(alloc: Global, disk: &mut D) -> Option<([u32; 3], [u32; 3]
     pool_map.committed();
     let before = delayed(&container, &map);
     let free = pool_map.free_count();
-    let count = reclaim(&mut container, &map, 1, &mut pool_map).ok()?;
+    let count = reclaim(&mut container, &map, 1, &mut pool_map);
     let soon = pool_map.free_count();
     pool_map.committed();
     Some((

@@ -10,8 +10,8 @@ use Rattle.fv_model.specs.Space.{map_blocks}
 use Rattle.fv_image.specs.Views.{Head, View, entry_count, is_held_in, used_slots, volume_bit}
 use Rattle.fv_image.specs.Views as views
 use Rattle.fv_container.specs.Mapped.{Mapped, entry_under}
-use Rattle.fv_volmap.specs.Slots.{IsVolume, Slot, Volume, active_of, slot_at, stored_count, taken_in}
-use Rattle.fv_delay.specs.Delay.{is_delayed, is_held, is_used}
+use Rattle.fv_volmap.specs.Slots.{IsVolume, Slot, Volume, active_of, stored_count, taken_in}
+use Rattle.fv_delay.specs.Delay.{is_delayed, is_held, is_used, is_used_slot}
 use Rattle.fv_delay.specs.Holding.{AreMapsOf, Holding, IsHoldingOf}
 
 -- the active map has a bit for each number of the span
@@ -34,7 +34,7 @@ held_behind map v le =
 -- The number of an entry is behind no slot of a base. So a VVBN that has an entry is held where some stored map has it, or where the slot is in
 -- use of whose map it has a block.
 pub held_within : (map : Volume) (v : ℕ) → v < entry_count map.span
-    → is_held map v ≡ (if nat_lt v map.span then taken_in (take stored_count map.slots) v else is_some (slot_at map ((v - map.span) / map_blocks map.span)))
+    → is_held map v ≡ (if nat_lt v map.span then taken_in (take stored_count map.slots) v else is_used_slot map ((v - map.span) / map_blocks map.span))
 held_within map v within = so (nat_lt v map.span) refl
   where
     slot_below : (span v : ℕ) → span ≤ v → v < entry_count span → (v - span) / map_blocks span < stored_count
@@ -42,13 +42,13 @@ held_within map v within = so (nat_lt v map.span) refl
         let some : 0 < map_blocks span = omega (arith, within, past) in
         (div-lt_iff_lt-mul some).1 (let low : v - span < stored_count * map_blocks span = omega (arith, within, past) in low)
 
-    so : (t : Bool) → nat_lt v map.span ≡ t → is_held map v ≡ (if t then taken_in (take stored_count map.slots) v else is_some (slot_at map ((v - map.span) / map_blocks map.span)))
+    so : (t : Bool) → nat_lt v map.span ≡ t → is_held map v ≡ (if t then taken_in (take stored_count map.slots) v else is_used_slot map ((v - map.span) / map_blocks map.span))
     so true below = held_below map v (grind (arith, nat_tests, below))
     so false behind =
         let past : map.span ≤ v = grind (arith, nat_tests, behind) in
         let stored : (v - map.span) / map_blocks map.span < stored_count = slot_below map.span v past within in
         let test : nat_lt ((v - map.span) / map_blocks map.span) stored_count ≡ true = grind (arith, nat_tests, stored) in
-        held_behind map v past ∙ ap (λ (t : Bool). t && is_some (slot_at map ((v - map.span) / map_blocks map.span))) test
+        held_behind map v past ∙ ap (λ (t : Bool). t && is_used_slot map ((v - map.span) / map_blocks map.span)) test
 
 pub blocks_are : (span : ℕ) → div_ceil span 32768 ≡ map_blocks span
 blocks_are span = omega arith

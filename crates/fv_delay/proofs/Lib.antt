@@ -1,5 +1,6 @@
 mod Rows
 pub mod AllVolumes
+pub mod AnyDelayed
 pub mod Enough
 pub mod Giving
 pub mod Held

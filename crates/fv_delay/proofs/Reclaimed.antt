@@ -8,11 +8,14 @@ use Rattle.std.proofs.lemmas.Bool.Decides.{nat_tests}
 use Rattle.std.proofs.lemmas.List.{get_or-set_same, get_or-set_other}
 use Rattle.fv_image.specs.Containers.{fan}
 use Rattle.fv_aggmap.specs.Space.{Space}
+use Rattle.fv_aggmap.proofs.Giving.{given_none, given_same, given_then}
+use Rattle.fv_container.specs.Leading.{place_at, place_in}
 use Rattle.fv_container.specs.Mapped.{Mapped, entry_under, with_entry}
+use Rattle.fv_container.specs.Spelled.{is_at}
+use Rattle.fv_container.proofs.Leading.{any_either, any_none, any_same, lead_part}
 use Rattle.fv_volmap.specs.Slots.{Volume}
 use Rattle.fv_delay.specs.Delay.{is_delayed, is_held, region_of}
-use Rattle.fv_delay.specs.Reclaims.{HasEmptied, HasGiven, HasReclaimed, goes_with, lead_to, leads_to}
-use Rattle.fv_delay.proofs.Giving.{any_either, any_none, any_same, given_none, given_same, given_then, lead_part}
+use Rattle.fv_delay.specs.Reclaims.{HasEmptied, HasGiven, HasReclaimed, goes_with, lead_to}
 use Rattle.fv_delay.proofs.Parts.{in_region, none_past}
 
 -- ---- the entries, one after another
@@ -165,8 +168,8 @@ reclaimed_none map container space = record {
     long = refl;
     tree = refl;
   };
-  blocks = given_none space (lead_to container (goes_with map container (λ r. false)) 0 (length container.entries)) (λ b. any_none (λ v. goes_with map container (λ r. false) v && leads_to b (entry_under container v)) 0 (length container.entries) (λ v low high.
-      ap (λ t. t && leads_to b (entry_under container v)) (and_false (is_delayed map container v))));
+  blocks = given_none space (lead_to container (goes_with map container (λ r. false)) 0 (length container.entries)) (λ b. any_none (λ v. goes_with map container (λ r. false) v && is_at b (place_at container v)) 0 (length container.entries) (λ v low high.
+      ap (λ t. t && is_at b (place_at container v)) (and_false (is_delayed map container v))));
 }
 
 -- One reclaim and then another make one of both.
@@ -180,8 +183,8 @@ reclaimed_then map f g both same old mid new space between left first second = r
     tree = second.entries.tree ∙ first.entries.tree;
   };
   blocks = given_then space between left (lead_to old (goes_with map old f) 0 (length old.entries)) (lead_to mid (goes_with map mid g) 0 (length mid.entries)) (lead_to old (goes_with map old both) 0 (length old.entries))
-      (λ b. any_either (λ v. goes_with map old f v && leads_to b (entry_under old v)) (λ v. goes_later v && leads_to b (entry_under old v)) (λ v. goes_with map old both v && leads_to b (entry_under old v)) 0 (length old.entries)
-      (λ v. ap (λ (t : Bool). t && leads_to b (entry_under old v)) (goes_both v) ∙ shared (goes_with map old f v) (goes_later v) (leads_to b (entry_under old v)))
+      (λ b. any_either (λ v. goes_with map old f v && is_at b (place_at old v)) (λ v. goes_later v && is_at b (place_at old v)) (λ v. goes_with map old both v && is_at b (place_at old v)) 0 (length old.entries)
+      (λ v. ap (λ (t : Bool). t && is_at b (place_at old v)) (goes_both v) ∙ shared (goes_with map old f v) (goes_later v) (is_at b (place_at old v)))
       ∙ ap (λ (t : Bool). lead_to old (goes_with map old f) 0 (length old.entries) b || t) (later_leads b)) first.blocks second.blocks;
 }
   where
@@ -213,21 +216,21 @@ reclaimed_then map f g both same old mid new space between left first second = r
     shared true false false = refl
     shared false t l = refl
 
-    later_leads : (b : ℕ) → list_any (λ v. goes_later v && leads_to b (entry_under old v)) (range_with_len 0 (length old.entries)) ≡ lead_to mid (goes_with map mid g) 0 (length mid.entries) b
+    later_leads : (b : ℕ) → list_any (λ v. goes_later v && is_at b (place_at old v)) (range_with_len 0 (length old.entries)) ≡ lead_to mid (goes_with map mid g) 0 (length mid.entries) b
     later_leads b =
-        any_same (λ v. goes_later v && leads_to b (entry_under old v)) (λ v. goes_with map mid g v && leads_to b (entry_under mid v)) 0 (length old.entries) (λ v low high. here v (f (region_of v)) refl)
-        ∙ ap (λ (n : ℕ). list_any (λ v. goes_with map mid g v && leads_to b (entry_under mid v)) (range_with_len 0 n)) (sym first.entries.long)
+        any_same (λ v. goes_later v && is_at b (place_at old v)) (λ v. goes_with map mid g v && is_at b (place_at mid v)) 0 (length old.entries) (λ v low high. here v (f (region_of v)) refl)
+        ∙ ap (λ (n : ℕ). list_any (λ v. goes_with map mid g v && is_at b (place_at mid v)) (range_with_len 0 n)) (sym first.entries.long)
       where
         never : (d t l m : Bool) → (((d && not true) && t) && l) ≡ (((d && not true) && t) && m)
         never true t l m = refl
         never false t l m = refl
 
-        here : (v : ℕ) (t : Bool) → f (region_of v) ≡ t → (goes_later v && leads_to b (entry_under old v)) ≡ (goes_with map mid g v && leads_to b (entry_under mid v))
+        here : (v : ℕ) (t : Bool) → f (region_of v) ≡ t → (goes_later v && is_at b (place_at old v)) ≡ (goes_with map mid g v && is_at b (place_at mid v))
         here v true e =
-            ap (λ (t : Bool). ((is_delayed map old v && not t) && g (region_of v)) && leads_to b (entry_under old v)) e
-            ∙ never (is_delayed map old v) (g (region_of v)) (leads_to b (entry_under old v)) (leads_to b (entry_under mid v))
-            ∙ ap (λ (t : Bool). ((is_delayed map old v && not t) && g (region_of v)) && leads_to b (entry_under mid v)) (sym e)
-            ∙ ap (λ (t : Bool). t && leads_to b (entry_under mid v)) (sym (goes_then v))
+            ap (λ (t : Bool). ((is_delayed map old v && not t) && g (region_of v)) && is_at b (place_at old v)) e
+            ∙ never (is_delayed map old v) (g (region_of v)) (is_at b (place_at old v)) (is_at b (place_at mid v))
+            ∙ ap (λ (t : Bool). ((is_delayed map old v && not t) && g (region_of v)) && is_at b (place_at mid v)) (sym e)
+            ∙ ap (λ (t : Bool). t && is_at b (place_at mid v)) (sym (goes_then v))
         here v false e =
-            ap (λ entry. goes_later v && leads_to b entry) (sym (region_stays map f old mid space between first v e))
-            ∙ ap (λ (t : Bool). t && leads_to b (entry_under mid v)) (sym (goes_then v))
+            ap (λ entry. goes_later v && is_at b (place_in entry)) (sym (region_stays map f old mid space between first v e))
+            ∙ ap (λ (t : Bool). t && is_at b (place_at mid v)) (sym (goes_then v))

@@ -1,15 +1,19 @@
 -- Delayed entries: those whose block was freed in its volume and not yet in the aggregate. And the regions of a container.
-use Rattle.std.specs.Prelude.{ℕ, ◌-◌, ◌*◌, ◌/◌, Bool, not, ◌&&◌, List, length, take, count_by, nat_lt, if◌then◌else◌}
-use Rattle.std.specs.List.{range_with_len}
+use Rattle.std.specs.Prelude.{ℕ, ◌-◌, ◌*◌, ◌/◌, Bool, not, ◌&&◌, ◌||◌, ◌==◌, List, length, take, count_by, nat_lt, if◌then◌else◌}
+use Rattle.std.specs.List.{list_any, range_with_len}
 use Rattle.std.specs.Option.{is_some}
 use Rattle.fv_model.specs.Space.{map_blocks}
 use Rattle.fv_image.specs.Containers.{fan}
 use Rattle.fv_container.specs.Mapped.{Mapped, entry_under}
 use Rattle.fv_volmap.specs.Slots.{Volume, slot_at, stored_count, taken_in}
 
+-- whether a slot is in use; that of the active table always is
+abbrev pub is_used_slot : Volume → ℕ → Bool
+is_used_slot map slot = (slot == 0) || is_some (slot_at map slot)
+
 -- whether a slot is in use whose map stands on the disk; that of a clone's base doesn't
 abbrev pub is_used : Volume → ℕ → Bool
-is_used map slot = nat_lt slot stored_count && is_some (slot_at map slot)
+is_used map slot = nat_lt slot stored_count && is_used_slot map slot
 
 -- Whether a VVBN is held: one of the span where it is in some map. Behind the span stand the blocks of the maps, slot after slot, and their
 -- VVBNs are held exactly while the slot is in use.
@@ -19,6 +23,10 @@ is_held map v = if nat_lt v map.span then taken_in (take stored_count map.slots)
 -- an entry is delayed where it isn't a hole and its VVBN isn't held
 abbrev pub is_delayed : Volume → Mapped → ℕ → Bool
 is_delayed map container v = is_some (entry_under container v) && not (is_held map v)
+
+-- Whether there is such an entry: its block was freed in the volume and not yet in the aggregate, so a consistency point can give it back.
+unfoldable pub has_delayed : Volume → Mapped → Bool
+has_delayed map container = list_any (is_delayed map container) (range_with_len 0 (length container.entries))
 
 -- ---- regions
 

@@ -4,7 +4,7 @@ ghost use Rattle.std.specs.Prelude.{◌≡◌, ◌<◌, ◌≤◌, ◌*◌, ◌+
 ghost use Rattle.fv_image.specs.Containers.{fan, most_entries};
 ghost use Rattle.fv_image.specs.Views.{entry_count};
 ghost use Rattle.fv_model.specs.Numbers.{greatest_span};
-ghost use Rattle.fv_delay.specs.Delay.{delayed_in, is_delayed, is_held, is_used};
+ghost use Rattle.fv_delay.specs.Delay.{delayed_in, has_delayed, is_delayed, is_held, is_used};
 
 use fv_container::Container;
 use fv_volmap::VolMap;
@@ -32,6 +32,23 @@ pub fn delayed_by_region(container: &Container, map: &VolMap, region: u32) -> u3
     count
 }
 
+/// Whether an entry of a volume's container is delayed: there is something to give back. The container has an entry for each VVBN of the
+/// map's span and for each block of 25 maps.
+///
+/// Costs a step for a hole, and one for each slot for another entry. It takes no memory.
+pub fn has_delayed(container: &Container, map: &VolMap) -> bool
+    requires span { map.now.span ≤ greatest_span }
+    requires entries { length container.now.entries ≡ entry_count map.now.span }
+    ensures { result ≡ has_delayed map.now container.now }
+{
+    for vvbn in 0..entry_count(map) {
+        if is_delayed(container, map, vvbn) {
+            return true;
+        }
+    }
+    false
+}
+
 /// Whether the entry of a VVBN is delayed.
 fn is_delayed(container: &Container, map: &VolMap, vvbn: u32) -> bool
     requires within { vvbn < length container.now.entries }
@@ -54,11 +71,11 @@ pub(crate) fn is_held(map: &VolMap, vvbn: u32) -> bool
     }
 }
 
-/// Whether a slot is in use whose map stands on the disk.
+/// Whether a slot is in use whose map stands on the disk; that of the active table always is.
 fn is_used(map: &VolMap, slot: u32) -> bool
     ensures { result ≡ is_used map.now slot }
 {
-    slot < STORED && map.snapshot(slot as u8).is_some()
+    slot < STORED && (slot == 0 || map.snapshot(slot as u8).is_some())
 }
 
 /// The span of a volume's maps.

@@ -1,37 +1,29 @@
 //! The reclaim of a region.
 
-ghost use Rattle.std.specs.Prelude.{◌≡◌, ◌<◌, ◌≤◌, ◌==◌, true, false, None, length, IfOk, IsOk, OnOk};
-ghost use Rattle.fv_aggmap.specs.Space.{blocks_of};
-ghost use Rattle.fv_container.specs.Mapped.{entry_under, with_entry};
+ghost use Rattle.std.specs.Prelude.{◌≡◌, ◌<◌, ◌≤◌, ◌==◌, true, false, None, length};
+ghost use Rattle.fv_container.specs.Leading.{place_at};
+ghost use Rattle.fv_container.specs.Mapped.{with_entry};
 ghost use Rattle.fv_container.specs.Spelled.{is_at};
 ghost use Rattle.fv_image.specs.Views.{entry_count};
 ghost use Rattle.fv_model.specs.Numbers.{greatest_span};
 ghost use Rattle.fv_delay.specs.Delay.{delayed_in, is_delayed};
-ghost use Rattle.fv_delay.specs.Reclaims.{HasGiven, HasReclaimed, leads_to};
+ghost use Rattle.fv_delay.specs.Reclaims.{HasGiven, HasReclaimed};
 
 use crate::delayed::{end_of, entry_count, first_of, is_held};
 use fv_aggmap::AggMap;
 use fv_container::Container;
 use fv_volmap::VolMap;
-use std::alloc::AllocError;
 
 /// Reclaims a region of a volume's container: its delayed entries become holes, and their blocks are given back, so that the next root won't
 /// hold them. No block is taken of those that the root on the disk holds until the next one is committed. Every other entry stays. It answers
 /// how many became holes. The container has an entry for each VVBN of the map's span and for each block of 25 maps. A region behind its last
 /// entry has none.
 ///
-/// A container in memory needs no memory for it, so the error doesn't come. Costs a step for each of the at most 256 entries and each slot.
-/// `docs/SPACE.md` says when the blocks can be used again.
-pub fn reclaim(
-    container: &mut Container,
-    map: &VolMap,
-    region: u32,
-    pool_map: &mut AggMap,
-) -> Result<u32, AllocError>
+/// It takes no memory. Costs a step for each of the at most 256 entries and each slot. `docs/SPACE.md` says when the blocks can be used again.
+pub fn reclaim(container: &mut Container, map: &VolMap, region: u32, pool_map: &mut AggMap) -> u32
     requires span { map.now.span ≤ greatest_span }
     requires entries { length container.old.entries ≡ entry_count map.now.span }
-    ensures done { IsOk result }
-    ensures count { IfOk result (λ count. count ≡ delayed_in map.now container.old region) }
+    ensures count { result ≡ delayed_in map.now container.old region }
     ensures reclaimed { HasReclaimed map.now (λ r. r == region) container.old pool_map.old container.new pool_map.new }
 {
     let entries = entry_count(map);
@@ -41,7 +33,7 @@ pub fn reclaim(
     for vvbn in first..end {
         count += u32::from(reclaim_entry(container, map, vvbn, pool_map));
     }
-    Ok(count)
+    count
 }
 
 /// Makes an entry a hole where it is delayed, gives its block back, and says whether it was.
@@ -51,7 +43,7 @@ fn reclaim_entry(container: &mut Container, map: &VolMap, vvbn: u32, pool_map: &
     ensures delayed { result ≡ is_delayed map.now container.old vvbn }
     ensures same { result ≡ false → (container.new ≡ container.old) × (pool_map.new ≡ pool_map.old) }
     ensures hole { result ≡ true → container.new ≡ with_entry container.old vvbn None }
-    ensures given { result ≡ true → HasGiven pool_map.old (λ b. leads_to b (entry_under container.old vvbn)) pool_map.new }
+    ensures given { result ≡ true → HasGiven pool_map.old (λ b. is_at b (place_at container.old vvbn)) pool_map.new }
 {
     let Some(entry) = container.entry_at(vvbn) else {
         return false;
@@ -60,15 +52,6 @@ fn reclaim_entry(container: &mut Container, map: &VolMap, vvbn: u32, pool_map: &
         return false;
     }
     container.make_hole(vvbn);
-    give_back(pool_map, entry.pvbn);
+    pool_map.give_back(entry.pvbn);
     true
-}
-
-/// Gives a block back; 0 is none, and neither is a number past the last block.
-fn give_back(pool_map: &mut AggMap, place: u32)
-    ensures { HasGiven pool_map.old (λ b. is_at b place) pool_map.new }
-{
-    if place != 0 && place < pool_map.blocks() {
-        pool_map.release_after_commit(place);
-    }
 }

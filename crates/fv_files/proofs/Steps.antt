@@ -116,7 +116,7 @@ module _ (told well : Type 0) (old new : Shown) (f : Files) (m : maps.BTreeMap â
         (puts.stands tells (owned_stands old f n puts.tree puts.becomes.was sound)) is.keeps (put_goes tells) put_uses led
 
     pub put_pending : pending_trees m â‰¤ pending_trees f.trees + 6
-    put_pending = let sum = puts.becomes.sum in let most = puts.pending in omega (arith, sum, most)
+    put_pending = let sum = puts.becomes.sum in let most = puts.rises.pending in omega (arith, sum, most)
 
 -- ---- cells are removed
 

@@ -18,7 +18,7 @@ use Rattle.fv_tree.specs.Leading.{LeadsNoMore}
 use Rattle.fv_tree.specs.Stored.{IsStoredWell}
 use Rattle.fv_tree.specs.Removal.{Removal}
 use Rattle.fv_tree.specs.Erasing.{HoldsCells}
-use Rattle.fv_tree.specs.Costs.{pending}
+use Rattle.fv_tree.specs.Costs.{pending, Rises}
 use Rattle.fv_inode.specs.declared.info.Info.{Info}
 use Rattle.fv_inode.specs.Files.{rooted}
 use Rattle.fv_inode.specs.Readying.{IsReadyFile}
@@ -169,7 +169,7 @@ pub record PutsKept (told : Type 0) (old new : Shown) (m n : maps.BTreeMap ℕ T
   pub leads : told → LeadsNoMore (loaded old tree) (loaded new next)
   pub keeps : told → LeadsNoMore (loaded new next) (loaded old tree)
   pub stored_well : told → IsStoredWell (loaded old tree) → IsStoredWell (loaded new next)
-  pub pending : pending next ≤ pending tree + 6
+  pub rises : Rises tree next 6 1
   pub failed : told → OnErr result (Remains (standing (under old) tree) (standing (under new) next))
   pub untouched : IsUntouched old new
   pub counts : Counts old new result

@@ -10,7 +10,7 @@ ghost use Rattle.fv_tree.specs.Flushing.{loaded_over, IsSound};
 ghost use Rattle.fv_tree.specs.Stored.{IsStoredWell};
 ghost use Rattle.fv_tree.specs.Leading.{LeadsNoMore};
 ghost use Rattle.fv_tree.specs.Readying.{KeepsReady};
-ghost use Rattle.fv_tree.specs.Costs.{pending};
+ghost use Rattle.fv_tree.specs.Costs.{Rises};
 ghost use Rattle.fv_inode.specs.Files.{rooted, with_info, IsInfo};
 ghost use Rattle.fv_inode.specs.Failing.{Alters};
 ghost use Rattle.fv_inode.specs.Readying.{IsReadyFile};
@@ -42,7 +42,7 @@ impl InodeFile {
         requires info { IsInfo info.now }
         ensures changed { B.told → OnOk result (Rewrites (rooted (B.shown blocks.old) self.old) (rooted (B.shown blocks.new) self.new) info.now.number stamp (option_map (with_info info.now) (file_at (rooted (B.shown blocks.old) self.old) info.now.number))) }
         ensures alters { Alters B.told (B.shown blocks.old) (B.shown blocks.new) self.old.tree self.new.tree result }
-        ensures pending { pending self.new.tree ≤ pending self.old.tree + 4 }
+        ensures rises { Rises self.old.tree self.new.tree 4 1 }
         ensures reads { B.reads blocks.old blocks.new }
     {
         let there = self.ready(blocks, info.number)?;
@@ -68,7 +68,7 @@ impl InodeFile {
         ensures leads { (blocks : Under) → LeadsNoMore (loaded_over blocks self.old.tree) (loaded_over blocks self.new.tree) }
         ensures keeps { (blocks : Under) → LeadsNoMore (loaded_over blocks self.new.tree) (loaded_over blocks self.old.tree) }
         ensures stored_well { (blocks : Under) → IsStoredWell (loaded_over blocks self.old.tree) → IsStoredWell (loaded_over blocks self.new.tree) }
-        ensures pending { pending self.new.tree ≤ pending self.old.tree + 4 }
+        ensures rises { Rises self.old.tree self.new.tree 4 0 }
     {
         let cell = info.number / EACH;
         let slot = (info.number % EACH) as usize;

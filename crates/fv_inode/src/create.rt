@@ -11,7 +11,7 @@ ghost use Rattle.fv_tables.specs.Told.{records_each, free_record, used_record, f
 ghost use Rattle.fv_tree.specs.Standing.{standing, under};
 ghost use Rattle.fv_tree.specs.Counting.{added_at, staying_at};
 ghost use Rattle.fv_tree.specs.Flushing.{loaded};
-ghost use Rattle.fv_tree.specs.Costs.{pending};
+ghost use Rattle.fv_tree.specs.Costs.{Rises};
 ghost use Rattle.fv_inode.specs.Files.{rooted, IsFirstFree, IsFreeNumber, IsInfo, IsLeastFree, IsNumberIf, new_record};
 ghost use Rattle.fv_inode.specs.Failing.{Alters, Looks};
 ghost use Rattle.fv_inode.specs.Changing.{Makes};
@@ -55,7 +55,7 @@ impl InodeFile {
         ensures made { B.told → IfOk result (Makes (rooted (B.shown blocks.old) self.old) (rooted (B.shown blocks.new) self.new) name.now reserve stamp) }
         ensures range { IfOk result IsInfo }
         ensures alters { Alters B.told (B.shown blocks.old) (B.shown blocks.new) self.old.tree self.new.tree result }
-        ensures pending { pending self.new.tree ≤ pending self.old.tree + 6 }
+        ensures rises { Rises self.old.tree self.new.tree 6 1 }
         ensures reads { B.reads blocks.old blocks.new }
     {
         let mut files = read_files(&self.tree, blocks, number / EACH)?;

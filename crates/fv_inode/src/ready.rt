@@ -6,7 +6,7 @@ ghost use Rattle.fv_tables.specs.Told.{records_each, file_at};
 ghost use Rattle.fv_tree.specs.Standing.{standing, under};
 ghost use Rattle.fv_tree.specs.Writing.{IsAlike, Remains};
 ghost use Rattle.fv_tree.specs.Readying.{IsReady};
-ghost use Rattle.fv_tree.specs.Costs.{pending};
+ghost use Rattle.fv_tree.specs.Costs.{Rises};
 ghost use Rattle.fv_inode.specs.Files.{rooted};
 ghost use Rattle.fv_inode.specs.Failing.{Alters};
 ghost use Rattle.fv_inode.specs.Readying.{HoldsFile, IsReadyFile};
@@ -33,7 +33,7 @@ impl InodeFile {
         ensures files { B.told → (n : ℕ) → file_at (rooted (B.shown blocks.new) self.new) n ≡ file_at (rooted (B.shown blocks.old) self.old) n }
         ensures levels { self.new.tree.levels ≡ self.old.tree.levels }
         ensures alters { Alters B.told (B.shown blocks.old) (B.shown blocks.new) self.old.tree self.new.tree result }
-        ensures pending { pending self.new.tree ≤ pending self.old.tree }
+        ensures rises { Rises self.old.tree self.new.tree 0 1 }
         ensures reads { B.reads blocks.old blocks.new }
     {
         ready_file(&mut self.tree, blocks, number)
@@ -47,7 +47,7 @@ fn ready_file<B: Blocks>(tree: &mut Tree, blocks: &mut B, number: u32) -> Result
     ensures alike { B.told → IsAlike (standing (under (B.shown blocks.old)) tree.old) (standing (under (B.shown blocks.new)) tree.new) }
     ensures levels { tree.new.levels ≡ tree.old.levels }
     ensures alters { Alters B.told (B.shown blocks.old) (B.shown blocks.new) tree.old tree.new result }
-    ensures pending { pending tree.new ≤ pending tree.old }
+    ensures rises { Rises tree.old tree.new 0 1 }
     ensures reads { B.reads blocks.old blocks.new }
 {
     let files = read_files(tree, blocks, number / EACH)?;
@@ -64,7 +64,7 @@ fn hold<B: Blocks>(tree: &mut Tree, blocks: &mut B, number: u32) -> Result<bool,
     ensures alike { B.told → IsAlike (standing (under (B.shown blocks.old)) tree.old) (standing (under (B.shown blocks.new)) tree.new) }
     ensures levels { tree.new.levels ≡ tree.old.levels }
     ensures alters { Alters B.told (B.shown blocks.old) (B.shown blocks.new) tree.old tree.new result }
-    ensures pending { pending tree.new ≤ pending tree.old }
+    ensures rises { Rises tree.old tree.new 0 1 }
     ensures reads { B.reads blocks.old blocks.new }
 {
     let there = tree.ready(blocks, number / EACH)?;

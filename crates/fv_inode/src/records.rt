@@ -15,7 +15,7 @@ ghost use Rattle.fv_tree.specs.Flushing.{loaded_over, IsSound};
 ghost use Rattle.fv_tree.specs.Stored.{IsStoredWell};
 ghost use Rattle.fv_tree.specs.Leading.{LeadsNoMore};
 ghost use Rattle.fv_tree.specs.Readying.{IsReady, KeepsReady};
-ghost use Rattle.fv_tree.specs.Costs.{pending, way_cost};
+ghost use Rattle.fv_tree.specs.Costs.{way_cost, Rises};
 ghost use Rattle.fv_inode.specs.Files.{AreRecords, blank_record, has_name};
 ghost use Rattle.fv_inode.specs.Failing.{Alters, Looks};
 ghost use Rattle.fv_inode.specs.Changing.{WritesFiles};
@@ -169,7 +169,7 @@ pub fn write_files<B: Blocks>(
     requires some { all_free files.now ≡ false }
     ensures written { B.told → OnOk result (WritesFiles (standing (under (B.shown blocks.old)) tree.old) (standing (under (B.shown blocks.new)) tree.new) cell stamp files.now) }
     ensures alters { Alters B.told (B.shown blocks.old) (B.shown blocks.new) tree.old tree.new result }
-    ensures pending { pending tree.new ≤ pending tree.old + 6 }
+    ensures rises { Rises tree.old tree.new 6 1 }
     ensures reads { B.reads blocks.old blocks.new }
 {
     let block = spelled(cell, files);
@@ -191,7 +191,7 @@ pub fn rewrite_files(tree: &mut Tree, cell: u32, files: &[InodeRecord; 16], stam
     ensures leads { (blocks : Under) → LeadsNoMore (loaded_over blocks tree.old) (loaded_over blocks tree.new) }
     ensures keeps { (blocks : Under) → LeadsNoMore (loaded_over blocks tree.new) (loaded_over blocks tree.old) }
     ensures stored_well { (blocks : Under) → IsStoredWell (loaded_over blocks tree.old) → IsStoredWell (loaded_over blocks tree.new) }
-    ensures pending { pending tree.new ≤ pending tree.old + 4 }
+    ensures rises { Rises tree.old tree.new 4 0 }
 {
     let block = spelled(cell, files);
     tree.rewrite(cell, &block, stamp);

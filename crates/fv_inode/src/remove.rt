@@ -3,7 +3,7 @@
 ghost use Rattle.std.specs.Prelude.{◌≡◌, ◌≢◌, ◌≤◌, ◌+◌, ◌/◌, ℕ, true, is_some, Ok};
 ghost use Rattle.fv_tables.specs.Told.{records_each, file_at};
 ghost use Rattle.fv_tree.specs.Readying.{IsReady};
-ghost use Rattle.fv_tree.specs.Costs.{pending};
+ghost use Rattle.fv_tree.specs.Costs.{Rises};
 ghost use Rattle.fv_inode.specs.Files.{rooted};
 ghost use Rattle.fv_inode.specs.Readying.{IsReadyFile};
 ghost use Rattle.fv_inode.specs.Changing.{TakesFile};
@@ -33,7 +33,7 @@ impl InodeFile {
         requires stamp { 1 ≤ stamp }
         requires there { B.told → is_some (file_at (rooted (B.shown blocks.old) self.old) number) ≡ true }
         ensures takes { TakesFile B.told (B.goes blocks.old blocks.new) (B.shown blocks.old) (B.shown blocks.new) self.old.tree self.new.tree number stamp result }
-        ensures pending { pending self.new.tree ≤ pending self.old.tree + 4 }
+        ensures rises { Rises self.old.tree self.new.tree 4 1 }
     {
         let there = self.ready(blocks, number)?;
         if !there {
@@ -49,7 +49,7 @@ impl InodeFile {
         requires ready { IsReadyFile self.old number }
         ensures takes { TakesFile B.told (B.goes blocks.old blocks.new) (B.shown blocks.old) (B.shown blocks.new) self.old.tree self.new.tree number stamp (Ok result) }
         ensures others_ready { (m : ℕ) → m ≢ number → IsReadyFile self.old m → IsReady self.new.tree (m / records_each) }
-        ensures pending { pending self.new.tree ≤ pending self.old.tree + 4 }
+        ensures rises { Rises self.old.tree self.new.tree 4 0 }
     {
         let cell = number / EACH;
         let mut files = held_files(&self.tree, cell);

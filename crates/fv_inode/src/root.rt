@@ -9,7 +9,7 @@ ghost use Rattle.fv_tree.specs.Standing.{standing, under};
 ghost use Rattle.fv_disk.specs.declared.fault.BlockFault.TheVariants.{Memory};
 ghost use Rattle.fv_tree.specs.Readying.{IsReady};
 ghost use Rattle.fv_inode.specs.Readying.{IsReadyFile};
-ghost use Rattle.fv_tree.specs.Costs.{pending};
+ghost use Rattle.fv_tree.specs.Costs.{pending, Rises};
 ghost use Rattle.fv_inode.specs.Files.{rooted, with_root};
 ghost use Rattle.fv_inode.specs.Failing.{Alters};
 ghost use Rattle.fv_inode.specs.Changing.{FillsFiles, SetsRoot};
@@ -42,7 +42,7 @@ impl InodeFile {
         ensures set { B.told → is_some (file_at (rooted (B.shown blocks.old) self.old) number) ≡ true → OnOk result (SetsRoot (rooted (B.shown blocks.old) self.old) (rooted (B.shown blocks.new) self.new) number levels root) }
         ensures alters { Alters B.told (B.shown blocks.old) (B.shown blocks.new) self.old.tree self.new.tree result }
         ensures held { B.told → IsReadyFile self.old number → IfErr result (λ e. e ≡ Memory) }
-        ensures pending { pending self.new.tree ≤ pending self.old.tree + 4 }
+        ensures rises { Rises self.old.tree self.new.tree 4 1 }
         ensures still { OnErr result (pending self.new.tree ≤ pending self.old.tree) }
         ensures reads { B.reads blocks.old blocks.new }
     {
@@ -84,7 +84,7 @@ fn refill_files<B: Blocks>(
     ensures filled { B.told → OnOk result (FillsFiles (standing (under (B.shown blocks.old)) tree.old) (standing (under (B.shown blocks.new)) tree.new) cell files.now) }
     ensures alters { Alters B.told (B.shown blocks.old) (B.shown blocks.new) tree.old tree.new result }
     ensures held { IsReady tree.old cell → IfErr result (λ e. e ≡ Memory) }
-    ensures pending { pending tree.new ≤ pending tree.old + 4 }
+    ensures rises { Rises tree.old tree.new 4 1 }
     ensures still { OnErr result (pending tree.new ≤ pending tree.old) }
     ensures reads { B.reads blocks.old blocks.new }
 {

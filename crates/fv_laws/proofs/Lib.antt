@@ -39,3 +39,5 @@ pub mod Exact
 pub mod Snapshots
 pub mod Settled
 pub mod SettledFiles
+pub mod ExactLevels
+pub mod SettledCells

@@ -185,7 +185,7 @@ module _ (x : Volume) where
   tree_within now start cells t well p some = let test = (and_parts (nat_le p.0 t.levels) (holds_one cells p) (sym (well.exact p) ∙ some)).0 in grind (arith, nat_tests, test)
 
   module _ (now : ℕ) (well : IsWellTable now x.active) where
-    inode_staying : (i : ℕ) → staying x (map (placed InodeFile) (written_spots x.active.inode i)) ≡ settled_over x InodeFile x.active.inode.levels i
+    pub inode_staying : (i : ℕ) → staying x (map (placed InodeFile) (written_spots x.active.inode i)) ≡ settled_over x InodeFile x.active.inode.levels i
     inode_staying i = written_staying InodeFile x.active.inode (λ p. get-stamps_of x.active InodeFile p)
         (tree_within now 0 (map inode_cell (fin.keys x.active.files)) x.active.inode well.inode) i
 

@@ -30,7 +30,7 @@ widths a (suc k) =
     let up : a + suc k ≡ suc (a + k) = omega arith in
     ap (λ n. fan ^ n) up ∙ pow-suc fan (a + k) ∙ ap (λ n. n * fan) (widths a k) ∙ mul_assoc (fan ^ a) (fan ^ k) fan ∙ ap (λ n. fan ^ a * n) (sym (pow-suc fan k))
 
-below : (i levels k : ℕ) → k ≤ levels → i < fan ^ levels → i / fan ^ k < fan ^ (levels - k)
+pub below : (i levels k : ℕ) → k ≤ levels → i < fan ^ levels → i / fan ^ k < fan ^ (levels - k)
 below i levels k le lt =
     let up : levels - k + k ≡ levels = omega (arith, le) in
     let wide : fan ^ levels ≡ fan ^ (levels - k) * fan ^ k = sym (ap (λ n. fan ^ n) up) ∙ widths (levels - k) k in

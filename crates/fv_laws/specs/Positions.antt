@@ -2,7 +2,7 @@
 --
 -- A position is a place of a table where a cell or a mark stands. A volume without snapshots and base is charged for its positions.
 -- A stamp that changes leaves a position one, so it isn't counted.
-use Rattle.std.specs.Prelude.{◌≡◌, ℕ, ◌+◌, ◌-◌, ◌/◌, ◌^◌, true, false, not, cond, nat_lt, nat_le, List, [], ◌∷◌, ◌++◌, map, filter, flat_map, sum_by, count_by, Some, None}
+use Rattle.std.specs.Prelude.{◌≡◌, ℕ, ◌+◌, ◌-◌, ◌/◌, ◌^◌, true, false, not, ◌&&◌, cond, nat_lt, nat_le, List, [], ◌∷◌, ◌++◌, map, filter, flat_map, sum_by, count_by, Some, None}
 use Rattle.std.specs.List.{list_any, range_with_len}
 use Rattle.std.specs.Option.{option_map_or}
 use Rattle.std.specs.Ordering.{eq_by_cmp}
@@ -37,6 +37,11 @@ added_by t i =
 -- how many positions go with the cells `gone`: the different places on the paths over them, of which the range holds no cell of `left`
 unfoldable pub taken_by : Tree → List ℕ → List ℕ → ℕ
 taken_by t gone left = set.len (set.from_list {R = spot_cmp} (filter (λ p. not (holds_one left p)) (flat_map (spots_over t.levels) gone)))
+
+-- The same, counted level by level, in a tree of so many levels: the places over cells that go, and over none that is left.
+abbrev pub taken_over : ℕ → List ℕ → List ℕ → ℕ
+taken_over levels gone left =
+    sum_by (λ k. count_by (λ p. holds_one gone (k, p) && not (holds_one left (k, p))) (range_with_len 0 (fan ^ (levels - k)))) (range_with_len 0 (levels + 1))
 
 -- the cells of a file that a cut to a length takes, and those that it leaves
 abbrev pub cells_cut : File → ℕ → List ℕ

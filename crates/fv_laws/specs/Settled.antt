@@ -1,10 +1,10 @@
 -- Whether the id at a place stays charged, or wasn't, when a change replaces or removes it; and how many do over a cell.
-use Rattle.std.specs.Prelude.{ℕ, ◌+◌, ◌-◌, ◌/◌, ◌^◌, Bool, false, count_by, sum_by}
+use Rattle.std.specs.Prelude.{ℕ, ◌+◌, ◌-◌, ◌/◌, ◌^◌, Bool, false, ◌&&◌, count_by, sum_by, List}
 use Rattle.std.specs.List.{range_with_len}
 use Rattle.std.specs.Option.{option_map_or}
 use Rattle.std.specs.FinMap as fin
 use Rattle.std.specs.FinSet as set
-use Rattle.fv_model.specs.Trees.{fan}
+use Rattle.fv_model.specs.Trees.{fan, holds_one}
 use Rattle.fv_model.specs.Places.{Owner, placed, Place, stamps_of}
 use Rattle.fv_model.specs.Volumes.{Volume}
 use Rattle.fv_laws.specs.Positions.{settled_ids}
@@ -20,3 +20,8 @@ settled_over x o levels i = count_by (λ k. is_settled x (placed o (k, i / fan ^
 -- how many do of all places of a tree of so many levels
 abbrev pub settled_all : Volume → Owner → ℕ → ℕ
 settled_all x o levels = sum_by (λ k. count_by (λ p. is_settled x (placed o (k, p))) (range_with_len 0 (fan ^ (levels - k)))) (range_with_len 0 (levels + 1))
+
+-- how many do of the places over these cells, in a tree of so many levels
+abbrev pub settled_with : Volume → Owner → ℕ → List ℕ → ℕ
+settled_with x o levels cells =
+    sum_by (λ k. count_by (λ p. holds_one cells (k, p) && is_settled x (placed o (k, p))) (range_with_len 0 (fan ^ (levels - k)))) (range_with_len 0 (levels + 1))

@@ -22,7 +22,7 @@ use Rattle.fv_tree.specs.Erasing.{IsErased}
 use Rattle.fv_tree.specs.Carried.{Brings, MarksNoMore, kept_at}
 use Rattle.fv_tree.specs.Unlinking.{IsOver, MarksOnly}
 use Rattle.fv_tree.specs.Collecting.{IsOverPast}
-use Rattle.fv_tree.specs.Costs.{cells_changed, changes_in, pending}
+use Rattle.fv_tree.specs.Costs.{cells_changed, cells_held, changes_in, pending}
 use Rattle.fv_tree.proofs.Collected.{far_up}
 use Rattle.fv_tree.proofs.Differing.{node_mark}
 use Rattle.fv_tree.proofs.MapMarks.{counted_in, counted_more}
@@ -151,10 +151,11 @@ module _ (blocks : Under) (used : ℕ → Option Use) (t u : Tree) (most start s
 -- ---- one cell goes
 
 -- a tree that is cleared
-pub cleared_marks : (t u : Tree) (i : ℕ) → ((level place : ℕ) → maps.get spot_cmp u.nodes (level, place) ≡ None) → pending u ≡ 0 → maps.IsOrdered spot_cmp u.nodes → MarksOnly t u i
-cleared_marks t u i none empty ordered = record {
+pub cleared_marks : (t u : Tree) (i : ℕ) → ((level place : ℕ) → maps.get spot_cmp u.nodes (level, place) ≡ None) → pending u ≡ 0 → cells_held u ≡ 0 → maps.IsOrdered spot_cmp u.nodes → MarksOnly t u i
+cleared_marks t u i none empty clear ordered = record {
   marks = λ level place changed. absurd (let wrong : true ≡ false = sym changed ∙ ap node_changed (none level place) in cc);
   cells = omega (arith, empty);
+  held = omega (arith, clear);
   ordered = ordered;
 }
 

@@ -19,7 +19,7 @@ use Rattle.fv_tree.specs.Flushing.{Leads, IsSound, Stands, loaded, loaded_over}
 use Rattle.fv_tree.specs.Leading.{KeepsHints, LeadsNoMore, Carries}
 use Rattle.fv_tree.specs.Counting.{positions_of}
 use Rattle.fv_tree.specs.Removal.{Removal}
-use Rattle.fv_tree.specs.Costs.{pending}
+use Rattle.fv_tree.specs.Costs.{cells_held, pending}
 use Rattle.fv_tree.specs.Unlinking.{HasWay, CellGoes}
 use Rattle.fv_tree.proofs.Counts.{alike_count}
 use Rattle.fv_tree.proofs.Erased.{nothing_erased, erased_then, erased_as, holds_cells, stands_as, no_choice, choice}
@@ -244,10 +244,10 @@ remains_after (Err e) t u same = λ seen contents shows.
 
 -- a whole removal, from what it did over the blocks of before
 pub removal_after : (told calls : Type 0) (r : Result ℕ BlockFault) (old new : Shown) (t u : Tree) (gone : ℕ → Bool) (start s : ℕ) → (told → OnOk r (Removes old new t u gone start s))
-    → (told → OnErr r (IsSame (standing (under old) t) (standing (under new) u))) → u.owner ≡ t.owner → (told → OnErr r (Carries old new t u)) → OnErr r (IsUntouched old new) → old.room ≤ new.room → OnErr r (pending u ≤ pending t) → calls → Counts old new r
+    → (told → OnErr r (IsSame (standing (under old) t) (standing (under new) u))) → u.owner ≡ t.owner → (told → OnErr r (Carries old new t u)) → OnErr r (IsUntouched old new) → old.room ≤ new.room → OnErr r (pending u ≤ pending t) → cells_held u ≤ cells_held t → calls → Counts old new r
     → (told → IfOk r (λ count. positions_of (standing (under old) t) ≡ positions_of (standing (under old) u) + count)) → (told → OnErr r (Leaves (loaded old t) (loaded new u)))
     → IfErr r (Fails told (standing (under old) t) old new) → Removal told calls old new t u gone start s r
-removal_after told calls r old new t u gone start s done same owner stays untouched room still called counts count leaves cause = record {
+removal_after told calls r old new t u gone start s done same owner stays untouched room still held called counts count leaves cause = record {
   erased = λ tells. on_ok_weaker r (removed_seen old new t u gone start s) (done tells);
   place_by_place = λ tells. on_ok_weaker r (removed old new t u gone start s) (done tells);
   strays = λ tells. strays_after r old new t u gone start s (done tells) untouched;
@@ -265,6 +265,7 @@ removal_after told calls r old new t u gone start s done same owner stays untouc
   untouched = untouched;
   room = room;
   pending = still;
+  cells = held;
   called = called;
   counts = counts;
   cause = cause;

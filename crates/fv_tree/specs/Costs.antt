@@ -46,6 +46,19 @@ cells_changed cells = count_by (λ (kept : KeptCell). kept.changed) (maps.values
 abbrev pub pending : Tree → ℕ
 pending t = cells_changed t.cells + changes_in t.nodes
 
+-- ---- what is in memory
+
+-- how many cells are in memory
+abbrev pub cells_held : Tree → ℕ
+cells_held t = maps.btree_map_len t.cells
+
+-- At most so many more cells and nodes differ from their blocks, and at most so many more cells are in memory.
+pub record Rises (old new : Tree) (more brought : ℕ) : Type 0 where
+  pub pending : pending new ≤ pending old + more
+  pub cells : cells_held new ≤ cells_held old + brought
+
+-- ---- a flush
+
 -- Of what differs from its block no more is left, and at most so many blocks were placed as fewer are.
 pub record Fits (old : Shown) (t : Tree) (new : Shown) (u : Tree) : Type 0 where
   pub fewer : pending u ≤ pending t

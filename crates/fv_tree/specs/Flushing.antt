@@ -14,6 +14,7 @@ use Rattle.fv_tree.specs.Spelled.{Under, Rooted, hole, pointers_in, pointer_at}
 use Rattle.fv_tree.specs.Sources.{Shown, Use, IsUntouched}
 use Rattle.fv_tree.specs.Standing.{standing, under, node_in}
 use Rattle.fv_tree.specs.Writing.{IsAlike}
+use Rattle.fv_tree.specs.Costs.{cells_held}
 
 -- ---- what is in memory
 
@@ -264,10 +265,11 @@ pub record ForgetsNode (t u : Tree) (level place : ℕ) : Type 0 where
   pub own : tree.get spot_cmp u.nodes (level, place) ≡ None
   pub others : (k q : ℕ) → (k ≢ level) ⊎ (q ≢ place) → tree.get spot_cmp u.nodes (k, q) ≡ tree.get spot_cmp t.nodes (k, q)
 
--- the tree has the same owner and levels
+-- the tree has the same owner and levels, and no cell came into memory
 pub record IsLeft (old new : Tree) : Type 0 where
   pub owner : new.owner ≡ old.owner
   pub levels : new.levels ≡ old.levels
+  pub cells : cells_held new ≤ cells_held old
 
 -- nothing was placed, since the node didn't change or isn't one of the tree's levels
 pub record IsIdle (old : Shown) (t : Tree) (level : ℕ) (changed : Bool) (new : Shown) (u : Tree) : Type 0 where

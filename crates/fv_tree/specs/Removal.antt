@@ -12,7 +12,7 @@ use Rattle.fv_tree.specs.Flushing.{Leads, Stands, loaded}
 use Rattle.fv_tree.specs.Altering.{Alters, Leaves}
 use Rattle.fv_tree.specs.Leading.{LeadsNoMore}
 use Rattle.fv_tree.specs.Stored.{IsStoredWell}
-use Rattle.fv_tree.specs.Costs.{pending}
+use Rattle.fv_tree.specs.Costs.{cells_held, pending}
 
 -- The cells for which `gone` is true were removed by a change with the stamp s; with no cell left the levels became `start`. After a
 -- fault the tree is seen as before, no block was named as gone, and no more of the tree differs from its blocks. The room doesn't fall. `calls` says what the calls to the blocks were, and `told` whether
@@ -37,6 +37,8 @@ pub record Removal (told calls : Type 0) (old new : Shown) (t u : Tree) (gone : 
   pub untouched : OnErr result (IsUntouched old new)
   pub room : old.room ≤ new.room
   pub pending : OnErr result (pending u ≤ pending t)
+  -- no cell came into memory
+  pub cells : cells_held u ≤ cells_held t
   pub called : calls
   pub counts : Counts old new result
   pub cause : IfErr result (Fails told (standing (under old) t) old new)

@@ -12,7 +12,7 @@ use Rattle.fv_tree.specs.Writing.{stamped, stamped_in, slot_of}
 use Rattle.fv_tree.specs.Erasing.{StandsAt, HoldsCells, IsErased}
 use Rattle.fv_tree.specs.Releasing.{KeepsBlocks}
 use Rattle.fv_tree.specs.Altering.{Alters}
-use Rattle.fv_tree.specs.Costs.{cells_changed}
+use Rattle.fv_tree.specs.Costs.{cells_changed, cells_held}
 use Rattle.fv_tree.specs.Flushing.{IsSound, loaded_over, placed_of, changed_in, changed_of, pointer_in}
 
 -- the nodes over a cell are in memory
@@ -76,10 +76,11 @@ pub record IsOver (i level place : ℕ) : Type 0 where
   pub high : level ≤ 3
   pub over : place ≡ i / fan ^ level
 
--- Of what is in memory no more differs from its blocks, but for the nodes over a cell. The nodes stand in their order.
+-- Of what is in memory no more differs from its blocks, but for the nodes over a cell. No cell came into memory. The nodes stand in their order.
 pub record MarksOnly (old new : Tree) (i : ℕ) : Type 0 where
   pub marks : (level place : ℕ) → changed_in new.nodes level place ≡ true → (changed_in old.nodes level place ≡ true) ⊎ IsOver i level place
   pub cells : cells_changed new.cells ≤ cells_changed old.cells
+  pub held : cells_held new ≤ cells_held old
   pub ordered : maps.IsOrdered spot_cmp new.nodes
 
 -- a cell that stood, and over which all nodes are in memory, was removed by a change with the stamp s

@@ -14,7 +14,7 @@ ghost use Rattle.fv_tree.specs.Flushing.{loaded, Stands};
 ghost use Rattle.fv_tree.specs.Counting.{positions_of};
 ghost use Rattle.fv_tree.specs.Leading.{Carries};
 ghost use Rattle.fv_tree.specs.Removal.{Removal};
-ghost use Rattle.fv_tree.specs.Costs.{changes_in, pending};
+ghost use Rattle.fv_tree.specs.Costs.{cells_held, changes_in, pending};
 ghost use Rattle.fv_tree.specs.Collecting.{AreBelow, IsRising, IsPast, Collects, IsHeld, StillHeld, AreHeld, Extends, IsAdded, IsChildPast, IsUnder};
 ghost use Rattle.fv_disk.specs.declared.fault.BlockFault.TheVariants.{Memory};
 
@@ -73,6 +73,7 @@ fn cut_cells<B: Blocks>(
     ensures untouched { OnErr result (IsUntouched (B.shown blocks.old) (B.shown blocks.new)) }
     ensures room { (B.shown blocks.old).room ≤ (B.shown blocks.new).room }
     ensures still { OnErr result (pending tree.new ≤ pending tree.old) }
+    ensures held { cells_held tree.new ≤ cells_held tree.old }
     ensures pending { B.told → OnOk result (Stands (B.shown blocks.old) tree.old → HoldsCells (standing (under (B.shown blocks.old)) tree.old) → pending tree.new ≤ pending tree.old + 3) }
     ensures calls { B.goes blocks.old blocks.new }
     ensures counts { Counts (B.shown blocks.old) (B.shown blocks.new) result }

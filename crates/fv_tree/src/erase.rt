@@ -14,7 +14,7 @@ ghost use Rattle.fv_tree.specs.Erasing.{StandsAt};
 ghost use Rattle.fv_tree.specs.Releasing.{Releases, IsDropped};
 ghost use Rattle.fv_tree.specs.Flushing.{placed_in, placed_of, changed_in, changed_of, IsSound, loaded_over};
 ghost use Rattle.fv_tree.specs.Counting.{positions_of};
-ghost use Rattle.fv_tree.specs.Costs.{cells_changed, changes_in, pending};
+ghost use Rattle.fv_tree.specs.Costs.{cells_changed, cells_held, changes_in, pending};
 ghost use Rattle.fv_tree.specs.Unlinking.{HasWay, HasNoOther, HasOther, AreBare, Unlinks, CellGoes, cleared_in, IsNamed, IsOnWay, IsOver, MarksOnly, NamesOnce};
 ghost use Rattle.fv_tree.specs.Carried.{MarksNoMore};
 ghost use Rattle.fv_tree.specs.Readying.{IsReady, KeepsOthersReady};
@@ -163,6 +163,7 @@ fn clear(tree: &mut Tree, start: u8)
     ensures nodes { (level place : ℕ) → tree_map.get spot_cmp tree.new.nodes (level, place) ≡ None }
     ensures cells { (i : ℕ) → tree_map.get nat_cmp tree.new.cells i ≡ None }
     ensures pending { pending tree.new ≡ 0 }
+    ensures held { cells_held tree.new ≡ 0 }
     ensures ordered { tree_map.IsOrdered spot_cmp tree.new.nodes }
 {
     tree.levels = start;
@@ -209,6 +210,7 @@ fn forget_way(tree: &mut Tree, index: u32, lost: u8)
     ensures pending { pending tree.new ≤ pending tree.old }
     ensures marks { MarksNoMore tree.old tree.new }
     ensures fewer { cells_changed tree.new.cells ≤ cells_changed tree.old.cells }
+    ensures held { cells_held tree.new ≤ cells_held tree.old }
 {
     let _ = tree.cells.remove(&index);
     for below in 0..lost {

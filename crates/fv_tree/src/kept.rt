@@ -41,7 +41,7 @@ pub struct KeptCell {
 }
 
 /// A tree of a file, or of an inode file, of which what changed or was held ready since the last `flush` is in memory,
-/// with the nodes over it: at most five nodes and a cell for each `put`.
+/// with the nodes over it. Each `put`, `ready` or `refill` brings in at most one cell.
 #[derive(Drop)]
 pub struct Tree {
     pub(crate) owner: u64,

@@ -16,7 +16,7 @@ ghost use Rattle.fv_tree.specs.Altering.{Leaves};
 ghost use Rattle.fv_tree.specs.Stored.{IsStoredWell};
 ghost use Rattle.fv_tree.specs.Leading.{Carries, LeadsNoMore};
 ghost use Rattle.fv_tree.specs.Carried.{Marks};
-ghost use Rattle.fv_tree.specs.Costs.{changes_in, pending};
+ghost use Rattle.fv_tree.specs.Costs.{changes_in, pending, Rises};
 
 use crate::blocks::{Blocks, TreeFault};
 use crate::keep::keep_path;
@@ -55,7 +55,7 @@ impl Tree {
         ensures leaves { B.told → Stands (B.shown blocks.old) self.old → changed_of self.old 0 index ≡ true → Leaves (loaded (B.shown blocks.old) self.old) (loaded (B.shown blocks.new) self.new) }
         ensures unchanged { B.told → OnErr result (Leaves (loaded (B.shown blocks.old) self.old) (loaded (B.shown blocks.new) self.new)) }
         ensures stored_well { B.told → IsStoredWell (loaded (B.shown blocks.old) self.old) → IsStoredWell (loaded (B.shown blocks.new) self.new) }
-        ensures pending { pending self.new ≤ pending self.old + 4 }
+        ensures rises { Rises self.old self.new 4 1 }
         ensures still { OnErr result (pending self.new ≤ pending self.old) }
         ensures untouched { IsUntouched (B.shown blocks.old) (B.shown blocks.new) }
         ensures reads { B.reads blocks.old blocks.new }
@@ -83,7 +83,7 @@ pub fn refill_cell<B: Blocks>(
     ensures carries { B.told → Carries (B.shown blocks.old) (B.shown blocks.new) tree.old tree.new }
     ensures leaves { B.told → Stands (B.shown blocks.old) tree.old → changed_of tree.old 0 index ≡ true → Leaves (loaded (B.shown blocks.old) tree.old) (loaded (B.shown blocks.new) tree.new) }
     ensures unchanged { B.told → OnErr result (Leaves (loaded (B.shown blocks.old) tree.old) (loaded (B.shown blocks.new) tree.new)) }
-    ensures pending { pending tree.new ≤ pending tree.old + 4 }
+    ensures rises { Rises tree.old tree.new 4 1 }
     ensures still { OnErr result (pending tree.new ≤ pending tree.old) }
     ensures untouched { IsUntouched (B.shown blocks.old) (B.shown blocks.new) }
     ensures reads { B.reads blocks.old blocks.new }

@@ -11,7 +11,7 @@ ghost use Rattle.fv_tree.specs.Leading.{Carries};
 ghost use Rattle.fv_tree.specs.Counting.{positions_of};
 ghost use Rattle.fv_tree.specs.Readying.{IsReady, KeepsOthersReady};
 ghost use Rattle.fv_tree.specs.Removal.{Removal};
-ghost use Rattle.fv_tree.specs.Costs.{pending};
+ghost use Rattle.fv_tree.specs.Costs.{pending, Rises};
 
 use crate::blocks::{Blocks, TreeFault};
 use crate::erase::erase_cell;
@@ -76,7 +76,7 @@ fn remove_cell<B: Blocks>(
     ensures leaves { B.told → OnErr result (Leaves (loaded (B.shown blocks.old) tree.old) (loaded (B.shown blocks.new) tree.new)) }
     ensures untouched { OnErr result (IsUntouched (B.shown blocks.old) (B.shown blocks.new)) }
     ensures room { (B.shown blocks.old).room ≤ (B.shown blocks.new).room }
-    ensures pending { pending tree.new ≤ pending tree.old + 3 }
+    ensures rises { Rises tree.old tree.new 3 0 }
     ensures still { OnErr result (pending tree.new ≤ pending tree.old) }
     ensures calls { B.goes blocks.old blocks.new }
     ensures counts { Counts (B.shown blocks.old) (B.shown blocks.new) result }

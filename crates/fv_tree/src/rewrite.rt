@@ -15,7 +15,7 @@ ghost use Rattle.fv_tree.specs.Altering.{Alters, Leaves};
 ghost use Rattle.fv_tree.specs.Leading.{Carries, LeadsNoMore};
 ghost use Rattle.fv_tree.specs.Readying.{HoldsCell, IsReady, KeepsReady};
 ghost use Rattle.fv_disk.specs.declared.fault.BlockFault.TheVariants.{Memory};
-ghost use Rattle.fv_tree.specs.Costs.{cells_changed, pending};
+ghost use Rattle.fv_tree.specs.Costs.{cells_changed, cells_held, Rises};
 
 use crate::blocks::{Blocks, TreeFault};
 use crate::keep::keep_path;
@@ -48,7 +48,7 @@ impl Tree {
         ensures keeps { B.told → LeadsNoMore (loaded (B.shown blocks.new) self.new) (loaded (B.shown blocks.old) self.old) }
         ensures stored_well { B.told → IsStoredWell (loaded (B.shown blocks.old) self.old) → IsStoredWell (loaded (B.shown blocks.new) self.new) }
         ensures leaves { B.told → Leaves (loaded (B.shown blocks.old) self.old) (loaded (B.shown blocks.new) self.new) }
-        ensures pending { pending self.new ≤ pending self.old }
+        ensures rises { Rises self.old self.new 0 1 }
         ensures untouched { IsUntouched (B.shown blocks.old) (B.shown blocks.new) }
         ensures reads { B.reads blocks.old blocks.new }
         ensures counts { Counts (B.shown blocks.old) (B.shown blocks.new) result }
@@ -83,7 +83,7 @@ impl Tree {
         ensures alters { (held : Under) → Alters stamp (loaded_over held self.old) (loaded_over held self.new) }
         ensures marked { changed_of self.new 0 index ≡ true }
         ensures memory { cell_in self.new index ≡ Some block.now }
-        ensures pending { pending self.new ≤ pending self.old + 4 }
+        ensures rises { Rises self.old self.new 4 0 }
     {
         put_content(self, index, block);
         stamp_path(self, index, stamp);
@@ -100,7 +100,7 @@ fn ready_cell<B: Blocks>(tree: &mut Tree, blocks: &mut B, index: u32) -> Result<
     ensures levels { tree.new.levels ≡ tree.old.levels }
     ensures carries { B.told → Carries (B.shown blocks.old) (B.shown blocks.new) tree.old tree.new }
     ensures leaves { B.told → Leaves (loaded (B.shown blocks.old) tree.old) (loaded (B.shown blocks.new) tree.new) }
-    ensures pending { pending tree.new ≤ pending tree.old }
+    ensures rises { Rises tree.old tree.new 0 1 }
     ensures untouched { IsUntouched (B.shown blocks.old) (B.shown blocks.new) }
     ensures reads { B.reads blocks.old blocks.new }
     ensures counts { Counts (B.shown blocks.old) (B.shown blocks.new) result }
@@ -125,6 +125,7 @@ fn hold_cell(tree: &mut Tree, index: u32, block: &[u8; 4096]) -> Result<(), Tree
     ensures fields { IsSameButCells tree.old tree.new }
     ensures same { OnErr result ((i : ℕ) → maps.get nat_cmp tree.new.cells i ≡ maps.get nat_cmp tree.old.cells i) }
     ensures changes { cells_changed tree.new.cells ≤ cells_changed tree.old.cells }
+    ensures held { cells_held tree.new ≤ cells_held tree.old + 1 }
     ensures memory { IfErr result (λ e. e ≡ Memory) }
 {
     if tree.cells.contains_key(&index) {
@@ -156,6 +157,7 @@ fn put_content(tree: &mut Tree, index: u32, block: &[u8; 4096])
     requires there { is_some (cell_in tree.old index) ≡ true }
     ensures fields { IsSameButCells tree.old tree.new }
     ensures count { cells_changed tree.new.cells ≤ cells_changed tree.old.cells + 1 }
+    ensures held { cells_held tree.new ≡ cells_held tree.old }
     ensures changed { cell_changed (maps.get nat_cmp tree.new.cells index) ≡ true }
     ensures cell { (i : ℕ) → cell_in tree.new i ≡ cond (nat_eq i index) (Some block.now) (cell_in tree.old i) }
     ensures own { cell_placed (maps.get nat_cmp tree.new.cells index) ≡ cell_placed (maps.get nat_cmp tree.old.cells index) }
@@ -168,6 +170,7 @@ fn put_content(tree: &mut Tree, index: u32, block: &[u8; 4096])
 fn set_content(cells: &mut BTreeMap<u32, KeptCell>, index: u32, block: &[u8; 4096])
     requires there { is_some (maps.get nat_cmp cells.old index) ≡ true }
     ensures count { cells_changed cells.new ≤ cells_changed cells.old + 1 }
+    ensures len { maps.btree_map_len cells.new ≡ maps.btree_map_len cells.old }
     ensures changed { cell_changed (maps.get nat_cmp cells.new index) ≡ true }
     ensures content { (i : ℕ) → option_map (λ (kept : KeptCell). kept.block) (maps.get nat_cmp cells.new i) ≡ cond (nat_eq i index) (Some block.now) (option_map (λ (kept : KeptCell). kept.block) (maps.get nat_cmp cells.old i)) }
     ensures own { cell_placed (maps.get nat_cmp cells.new index) ≡ cell_placed (maps.get nat_cmp cells.old index) }

@@ -15,7 +15,7 @@ ghost use Rattle.fv_tree.specs.Readying.{KeepsReady};
 ghost use Rattle.fv_tree.specs.Altering.{Alters, Leaves};
 ghost use Rattle.fv_tree.specs.Stored.{IsStoredWell};
 ghost use Rattle.fv_tree.specs.Leading.{LeadsNoMore};
-ghost use Rattle.fv_tree.specs.Costs.{pending, way_cost};
+ghost use Rattle.fv_tree.specs.Costs.{pending, way_cost, Rises};
 
 use crate::blocks::{Blocks, TreeFault};
 use crate::kept::{HOLE, Tree};
@@ -114,7 +114,7 @@ impl Tree {
         ensures marked { OnOk result (changed_of self.new 0 index ≡ true) }
         ensures stored_well { B.told → IsStoredWell (loaded (B.shown blocks.old) self.old) → IsStoredWell (loaded (B.shown blocks.new) self.new) }
         ensures keeps_ready { KeepsReady self.old self.new }
-        ensures pending { pending self.new ≤ pending self.old + 6 }
+        ensures rises { Rises self.old self.new 6 1 }
         ensures untouched { IsUntouched (B.shown blocks.old) (B.shown blocks.new) }
         ensures reads { B.reads blocks.old blocks.new }
         ensures counts { Counts (B.shown blocks.old) (B.shown blocks.new) result }

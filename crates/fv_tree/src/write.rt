@@ -14,7 +14,7 @@ ghost use Rattle.fv_tree.specs.Leading.{Carries, KeepsHints, LeadsNoMore};
 ghost use Rattle.fv_tree.specs.Readying.{KeepsReady};
 ghost use Rattle.fv_tree.specs.Carried.{Marks};
 ghost use Rattle.fv_tree.specs.Writing.{stamped, stamped_in, new_child, Stamps, IsAlike, IsWritten};
-ghost use Rattle.fv_tree.specs.Costs.{cells_changed, changes_in, pending};
+ghost use Rattle.fv_tree.specs.Costs.{cells_changed, cells_held, changes_in, Rises};
 ghost use Rattle.fv_disk.specs.declared.fault.BlockFault.TheVariants.{Memory};
 
 use crate::blocks::{Blocks, TreeFault};
@@ -41,6 +41,7 @@ pub fn keep_cell(
     ensures changed { OnOk result (cell_changed (maps.get nat_cmp tree.new.cells index) ≡ true) }
     ensures count { cells_changed tree.new.cells ≤ cells_changed tree.old.cells + 1 }
     ensures still { OnErr result (cells_changed tree.new.cells ≤ cells_changed tree.old.cells) }
+    ensures held { cells_held tree.new ≤ cells_held tree.old + 1 }
     ensures memory { IfErr result (λ e. e ≡ Memory) }
 {
     let cell = KeptCell {
@@ -148,7 +149,7 @@ pub fn write_within<B: Blocks>(
     ensures leaves { B.told → OnErr result (Leaves (loaded (B.shown blocks.old) tree.old) (loaded (B.shown blocks.new) tree.new)) }
     ensures marked { OnOk result (changed_of tree.new 0 index ≡ true) }
     ensures keeps_ready { KeepsReady tree.old tree.new }
-    ensures pending { pending tree.new ≤ pending tree.old + 6 }
+    ensures rises { Rises tree.old tree.new 6 1 }
     ensures untouched { IsUntouched (B.shown blocks.old) (B.shown blocks.new) }
     ensures reads { B.reads blocks.old blocks.new }
     ensures counts { Counts (B.shown blocks.old) (B.shown blocks.new) result }
@@ -181,7 +182,7 @@ pub fn write_past(
     ensures leaves { (blocks : Under) → OnErr result (Leaves (loaded_over blocks tree.old) (loaded_over blocks tree.new)) }
     ensures marked { OnOk result (changed_of tree.new 0 index ≡ true) }
     ensures keeps_ready { KeepsReady tree.old tree.new }
-    ensures pending { pending tree.new ≤ pending tree.old + 6 }
+    ensures rises { Rises tree.old tree.new 6 1 }
     ensures memory { IfErr result (λ e. e ≡ Memory) }
 {
     let levels = levels_over(index);
@@ -223,7 +224,7 @@ pub fn write_cell<B: Blocks>(
     ensures leaves { B.told → OnErr result (Leaves (loaded (B.shown blocks.old) tree.old) (loaded (B.shown blocks.new) tree.new)) }
     ensures marked { OnOk result (changed_of tree.new 0 index ≡ true) }
     ensures keeps_ready { KeepsReady tree.old tree.new }
-    ensures pending { pending tree.new ≤ pending tree.old + 6 }
+    ensures rises { Rises tree.old tree.new 6 1 }
     ensures untouched { IsUntouched (B.shown blocks.old) (B.shown blocks.new) }
     ensures reads { B.reads blocks.old blocks.new }
     ensures counts { Counts (B.shown blocks.old) (B.shown blocks.new) result }

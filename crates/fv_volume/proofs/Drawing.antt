@@ -2,17 +2,19 @@
 use Rattle.std.proofs.Common.{◌≡◌, ◌≢◌, ℕ, zero, suc, ◌+◌, ◌<◌, ◌≤◌, List, length, Bool, true, false, not, ◌&&◌, ◌||◌, ◌==◌, cond, nat_eq, refl, sym, ap, ◌∙◌, arith, ⊎_elim, Option, Some, None}
 use Rattle.std.specs.Prelude.{slice_set, IfSome, IfNone, IsSome}
 use Rattle.std.specs.List.{list_any, range_with_len}
-use Rattle.std.proofs.lemmas.Bool.{and_from, and_parts, cases_Bool, cases_eq, or_cases, or_left, or_right, true≢false}
+use Rattle.std.proofs.lemmas.Bool.{and_from, and_parts, cases_eq, or_cases, or_left, or_right, true≢false}
 use Rattle.std.proofs.lemmas.Bool.Decides.{nat_tests}
 use Rattle.fv_bits.specs.Members.{is_member}
-use Rattle.fv_bits.proofs.Laws.{is_member-set, is_member_past}
+use Rattle.fv_bits.proofs.Laws.{is_member-set}
 use Rattle.fv_container.specs.declared.entry.Entry.{Entry}
 use Rattle.fv_container.specs.Mapped.{Mapped, entry_under}
 use Rattle.fv_container.specs.Spelled.{is_at}
 use Rattle.fv_model.specs.Machines.{first_block}
 use Rattle.fv_aggmap.specs.Space.{Space, IsFree, IsFull, blocks_of, free_blocks}
-pub use Rattle.fv_aggmap.proofs.Giving.{at_itself, at_means, at_none, at_other, given_none, given_one, given_past, given_then, not_so, or_false}
-use Rattle.fv_aggmap.proofs.Giving.{or_assoc}
+pub use Rattle.fv_aggmap.proofs.Giving.{given_none, given_then, not_so}
+pub use Rattle.fv_container.proofs.Named.{at_itself, at_means, at_none}
+pub use Rattle.fv_container.proofs.Leading.{or_false}
+use Rattle.fv_container.proofs.Leading.{any_more, any_same}
 use Rattle.fv_aggmap.proofs.Room.{one_is_found, one_less}
 use Rattle.fv_volume.specs.declared.state.VolumeState.{VolumeState}
 use Rattle.fv_volume.specs.Writing.{HasDrawn, HasGiven, has_maps_at, leads_away}
@@ -27,17 +29,6 @@ or_neither true b is = absurd (true≢false is)
 
 -- ---- what entries lead to
 
-any_more : (p : ℕ → Bool) (from n : ℕ) → list_any p (range_with_len from (suc n)) ≡ (list_any p (range_with_len from n) || p (from + n))
-any_more p from zero = let e : from + 0 ≡ from = omega arith in or_false (p from) ∙ ap p (sym e)
-any_more p from (suc n) =
-    let e : (from + 1) + n ≡ from + suc n = omega arith in
-    ap (λ t. p from || t) (any_more p (from + 1) n) ∙ or_assoc (p from) (list_any p (range_with_len (from + 1) n)) (p ((from + 1) + n))
-    ∙ ap (λ (k : ℕ). (p from || list_any p (range_with_len (from + 1) n)) || p k) e
-
-same_any : (p q : ℕ → Bool) (from n : ℕ) → ((k : ℕ) → from ≤ k → k < from + n → p k ≡ q k) → list_any p (range_with_len from n) ≡ list_any q (range_with_len from n)
-same_any p q from zero same = refl
-same_any p q from (suc n) same = λ i. same from (omega arith) (omega arith) i || same_any p q (from + 1) n (λ k low high. same k (omega (arith, low)) (omega (arith, high))) i
-
 -- of the entries that go, none leads anywhere yet
 pub away_none : (x : VolumeState) (map : Mapped) (b : ℕ) → leads_away x map 0 b ≡ false
 unfolding leads_away
@@ -46,22 +37,20 @@ away_none x map b = refl
 pub away_more : (x : VolumeState) (map : Mapped) (n b : ℕ) → leads_away x map (n + 1) b ≡ (leads_away x map n b || (not (stays x n) && is_at b (place_at map n)))
 unfolding leads_away
 away_more x map n b =
-    let e : n + 1 ≡ suc n = omega arith in
     let first : 0 + n ≡ n = omega arith in
-    rw e (any_more (λ v. not (stays x v) && is_at b (place_at map v)) 0 n ∙ ap (λ (k : ℕ). list_any (λ v. not (stays x v) && is_at b (place_at map v)) (range_with_len 0 n) || (not (stays x k) && is_at b (place_at map k))) first)
+    (any_more (λ v. not (stays x v) && is_at b (place_at map v)) 0 n ∙ ap (λ (k : ℕ). list_any (λ v. not (stays x v) && is_at b (place_at map v)) (range_with_len 0 n) || (not (stays x k) && is_at b (place_at map k))) first)
 
 pub maps_more : (x : VolumeState) (old new : Mapped) (n b : ℕ) → ((v : ℕ) → v < n → place_at new v ≡ place_at old v) → has_maps_at x new (n + 1) b ≡ (has_maps_at x old n b || (is_map_written x n && is_at b (place_at new n)))
 unfolding has_maps_at
 maps_more x old new n b same =
-    let e : n + 1 ≡ suc n = omega arith in
     let first : 0 + n ≡ n = omega arith in
-    rw e (any_more (λ v. is_map_written x v && is_at b (place_at new v)) 0 n
-    ∙ ap (λ (t : Bool). t || (is_map_written x (0 + n) && is_at b (place_at new (0 + n)))) (same_any (λ v. is_map_written x v && is_at b (place_at new v)) (λ v. is_map_written x v && is_at b (place_at old v)) 0 n (λ v low high. ap (λ (p : ℕ). is_map_written x v && is_at b p) (same v (omega (arith, high)))))
+    (any_more (λ v. is_map_written x v && is_at b (place_at new v)) 0 n
+    ∙ ap (λ (t : Bool). t || (is_map_written x (0 + n) && is_at b (place_at new (0 + n)))) (any_same (λ v. is_map_written x v && is_at b (place_at new v)) (λ v. is_map_written x v && is_at b (place_at old v)) 0 n (λ v low high. ap (λ (p : ℕ). is_map_written x v && is_at b p) (same v (omega (arith, high)))))
     ∙ ap (λ (k : ℕ). list_any (λ v. is_map_written x v && is_at b (place_at old v)) (range_with_len 0 n) || (is_map_written x k && is_at b (place_at new k))) first)
 
 pub maps_same : (x : VolumeState) (old new : Mapped) (n b : ℕ) → ((v : ℕ) → place_at new v ≡ place_at old v) → has_maps_at x new n b ≡ has_maps_at x old n b
 unfolding has_maps_at
-maps_same x old new n b same = same_any (λ v. is_map_written x v && is_at b (place_at new v)) (λ v. is_map_written x v && is_at b (place_at old v)) 0 n (λ v low high. ap (λ (p : ℕ). is_map_written x v && is_at b p) (same v))
+maps_same x old new n b same = any_same (λ v. is_map_written x v && is_at b (place_at new v)) (λ v. is_map_written x v && is_at b (place_at old v)) 0 n (λ v low high. ap (λ (p : ℕ). is_map_written x v && is_at b p) (same v))
 
 -- of the blocks of maps, none stands anywhere yet
 pub maps_none : (x : VolumeState) (map : Mapped) (b : ℕ) → has_maps_at x map x.span b ≡ false
@@ -112,9 +101,8 @@ leads_none map b = refl
 pub leads_more : (map : Mapped) (n b : ℕ) → leads map (n + 1) b ≡ (leads map n b || is_at b (place_at map n))
 unfolding leads
 leads_more map n b =
-    let e : n + 1 ≡ suc n = omega arith in
     let first : 0 + n ≡ n = omega arith in
-    rw e (any_more (λ v. is_at b (place_at map v)) 0 n ∙ ap (λ (k : ℕ). list_any (λ v. is_at b (place_at map v)) (range_with_len 0 n) || is_at b (place_at map k)) first)
+    (any_more (λ v. is_at b (place_at map v)) 0 n ∙ ap (λ (k : ℕ). list_any (λ v. is_at b (place_at map v)) (range_with_len 0 n) || is_at b (place_at map k)) first)
 
 -- an entry leads to the block
 pub record LeadsAt (map : Mapped) (n b : ℕ) : Type 0 where

@@ -1,13 +1,12 @@
 -- What the stored slots of a volume's maps hold is what the image's view says is held.
-use Rattle.std.proofs.Common.{◌≡◌, ◌≢◌, ◌<◌, ◌≤◌, ◌-◌, ◌/◌, ℕ, Bool, true, false, List, [], ◌∷◌, map, take, inl, inr, refl, sym, ap, subst, ◌∙◌, ⊎_elim, arith}
+use Rattle.std.proofs.Common.{◌≡◌, ◌≢◌, ◌<◌, ◌≤◌, ◌-◌, ℕ, Bool, true, false, List, [], ◌∷◌, map, take, inl, inr, refl, sym, ap, subst, ◌∙◌, ⊎_elim, arith}
 use Rattle.std.specs.Prelude.{Some, None, ◌&&◌, ◌||◌, ◌==◌, find, get_or, is_some, nat_le, nat_lt, if◌then◌else◌}
 use Rattle.std.specs.List.{list_all, list_any, range_with_len}
-use Rattle.std.proofs.lemmas.Bool.{and_from, and_parts, cases_eq}
+use Rattle.std.proofs.lemmas.Bool.{and_from, and_parts, cases_eq, cases_lt}
 use Rattle.std.proofs.lemmas.Bool.Decides.{nat_tests}
-use Rattle.fv_model.specs.Space.{map_blocks}
 use Rattle.fv_laws.proofs.Lists.{In, from_range, in_map, in_range}
 use Rattle.fv_laws.proofs.Tests.{from_all, from_any, iff, to_any}
-use Rattle.fv_image.specs.Views.{Head, Rooted, Snap, View, entry_count, is_held_in, used_slots, volume_bit}
+use Rattle.fv_image.specs.Views.{Head, Rooted, Snap, View, used_slots, volume_bit}
 use Rattle.fv_image.specs.Seen.{roots_of}
 use Rattle.fv_image.specs.Volumes.{snap_at}
 use Rattle.fv_image.proofs.OwnUses.{HasLabelNumbers}
@@ -15,12 +14,13 @@ use Rattle.fv_image.specs.Mapped.{AreInSlots, stored_slots}
 use Rattle.fv_volmap.specs.Slots.{Slot, Volume as Maps, has, slot_at, slot_of_base, stored_count, taken_in}
 use Rattle.fv_volume.specs.declared.state.Snap.{Snap as StateSnap}
 use Rattle.fv_volume.specs.Files.{HasSlotsOf}
-use Rattle.fv_volume.specs.Loading.{HaveBits, is_kept_in, is_slot_with, is_used_slot}
+use Rattle.fv_delay.specs.Delay.{is_used, is_used_slot}
+use Rattle.fv_delay.specs.Holding.{AreMapsOf}
+use Rattle.fv_volume.specs.Loading.{HaveBits, is_slot_with}
 use Rattle.fv_volume.specs.SlotReads.{AreUsedTo}
 use Rattle.fv_volume.specs.Snapshots.{has_slot}
 use Rattle.fv_volume.specs.States.{snaps_in}
 use Rattle.fv_volume.proofs.CountedMaps.{any_taken}
-use Rattle.fv_volume.proofs.StayingMaps.{slot_within}
 
 -- a snapshot of a slot is found where there is one
 pub found_snap : (ps : List Snap) (k : ℕ) → is_some (find (λ p. p.slot == k) ps) ≡ list_any (λ p. p.slot == k) ps
@@ -184,15 +184,24 @@ module _ (w : View) (s : ℕ) (h : Head) (m : Maps) (slots : HasSlotsOf h m) (or
             let used : is_used_slot m one.0 ≡ true = used_is one.0 low ∙ to_any (λ slot. slot == one.0) one.0 (used_slots h) one.1.0 itself in
             to_any (λ k. has v (get_or m.slots k None)) one.0 (range_with_len 0 stored_count) (in_range 0 stored_count one.0 (omega arith) (omega (arith, low))) (bits one.0 v low ∙ and_from (is_used_slot m one.0) (volume_bit w s h.span one.0 v) used one.1.1)
 
-    -- and a VVBN is kept exactly where the view says that it is held.
-    pub kept_in : (v : ℕ) → v < entry_count h.span → is_kept_in m h.span v ≡ is_held_in w s h v
-    unfolding is_held_in
-    kept_in v inside = so (nat_lt v h.span) refl
+    -- So the maps are those that the view tells.
+    pub maps_of : m.span ≡ h.span → AreMapsOf w s h m
+    maps_of span = record { span = span; used = used_of; bits = λ v low. taken_bits v }
       where
-        so : (b : Bool) → nat_lt v h.span ≡ b → (if b then taken_in (take stored_count m.slots) v else nat_lt ((v - h.span) / map_blocks h.span) stored_count && is_used_slot m ((v - h.span) / map_blocks h.span))
-            ≡ (if b then list_any (λ slot. volume_bit w s h.span slot v) (used_slots h) else list_any (λ slot. slot == (v - h.span) / map_blocks h.span) (used_slots h))
-        so true e = taken_bits v
-        so false e =
-            let past : h.span ≤ v = grind (arith, nat_tests, e) in
-            let low = slot_within h.span v past inside in
-            ap (λ (b : Bool). b && is_used_slot m ((v - h.span) / map_blocks h.span)) (lower ((v - h.span) / map_blocks h.span) low) ∙ used_is ((v - h.span) / map_blocks h.span) low
+        used_of : (slot : ℕ) → is_used m slot ≡ list_any (λ k. k == slot) (used_slots h)
+        used_of slot = ⊎_elim
+            (λ (low : slot < stored_count). ap (λ (b : Bool). b && is_used_slot m slot) (lower slot low) ∙ used_is slot low)
+            (λ (past : stored_count ≤ slot).
+            let test : nat_lt slot stored_count ≡ false = grind (arith, nat_tests, past) in
+            ap (λ (b : Bool). b && is_used_slot m slot) test ∙ sym (none_there slot past))
+            (cases_lt slot stored_count)
+          where
+            none_there : (slot : ℕ) → stored_count ≤ slot → list_any (λ k. k == slot) (used_slots h) ≡ false
+            none_there slot past = so (list_any (λ k. k == slot) (used_slots h)) refl
+              where
+                so : (b : Bool) → list_any (λ k. k == slot) (used_slots h) ≡ b → b ≡ false
+                so false e = refl
+                so true e =
+                    let one = from_any (λ k. k == slot) (used_slots h) e in
+                    let same : one.0 ≡ slot = (let test = one.1.1 in grind (arith, nat_tests, test)) in
+                    absurd (let low = used_low one.0 one.1.0 in omega (arith, low, same, past))

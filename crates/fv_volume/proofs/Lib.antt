@@ -4,7 +4,6 @@ mod Positions
 pub mod Labels
 pub mod Overheads
 pub mod Loaded
-pub mod Delayed
 pub mod Labelled
 pub mod Stepping
 pub mod Viewed

@@ -14,7 +14,7 @@ use Rattle.fv_aggmap.specs.Space.{Space, IsFree, blocks_of}
 use Rattle.fv_volume.specs.declared.state.VolumeState.{VolumeState}
 use Rattle.fv_volume.specs.Writing.{AreTaken, HasDrawn, HasGiven, HasLabel, HasOwnBlocks, IsTaken, IsTakenOther, IsWritten, has_maps_at, leads_away, on_disk}
 use Rattle.fv_volume.specs.Stored.{is_map_written, leads, place_at, place_in, stays}
-use Rattle.fv_volume.proofs.SlotBlocks.{any_in_range, range_has}
+use Rattle.fv_container.proofs.Leading.{any_in_range, range_has}
 use Rattle.fv_volume.proofs.StayingMaps.{stays_unwritten, written_within}
 use Rattle.fv_volume.proofs.Drawing.{LeadsAt, at_itself, at_means, free_before, leads_at, leads_where, maps_at, maps_where, not_so, or_neither}
 

@@ -79,6 +79,11 @@ pub settled_slots : (s : ℕ) (o : Option VolumeState) (label : ℕ) → IfSome 
 settled_slots s None label is = tt
 settled_slots s (Some x) label is = settled_has HasOwnSlots x label (λ e. (is.slots, is.snapshots.slots)) (λ e. (is.slots, is.snapshots.slots))
 
+-- its maps keep its span
+pub settled_span : (s : ℕ) (o : Option VolumeState) (label : ℕ) → IfSome o (IsLabelled s) → IfSome (option_map (settled_as label) o) (λ x. x.map.span ≡ x.span)
+settled_span s None label is = tt
+settled_span s (Some x) label is = settled_has (λ (y : VolumeState). y.map.span ≡ y.span) x label (λ e. is.map) (λ e. is.map)
+
 -- and it keeps its container and its parent
 settled_houses : (o : Option VolumeState) (label : ℕ) (c : Option Mapped) → Houses o c → Houses (option_map (settled_as label) o) c
 settled_houses None label c is = tt

@@ -1,8 +1,7 @@
 -- The blocks that a slot holds in an image, said of its volume in memory.
-use Rattle.std.proofs.Common.{◌≡◌, ◌≢◌, ℕ, zero, suc, ◌+◌, ◌<◌, ◌≤◌, Bool, true, false, not, length, refl, sym, ap, subst, ◌∙◌, arith, ⊎_elim, inl, inr, ◌⊎◌}
+use Rattle.std.proofs.Common.{◌≡◌, ◌≢◌, ℕ, ◌<◌, ◌≤◌, true, false, not, length, refl, sym, ap, subst, ◌∙◌, arith, ⊎_elim, inl, inr, ◌⊎◌}
 use Rattle.std.specs.Prelude.{Option, Some, None, IfSome, ◌||◌, ◌==◌, nat_eq}
-use Rattle.std.specs.List.{list_any, range_with_len}
-use Rattle.std.proofs.lemmas.Bool.{and_parts, both_ways, or_cases, or_left, or_right, cases_eq, cases_lt}
+use Rattle.std.proofs.lemmas.Bool.{and_parts, both_ways, or_cases, or_left, or_right, cases_lt}
 use Rattle.std.proofs.lemmas.List.{get_or_past}
 use Rattle.std.proofs.lemmas.List.Elements.{All-get_or}
 use Rattle.std.proofs.lemmas.Bool.Decides.{nat_tests}
@@ -18,25 +17,12 @@ use Rattle.fv_image.proofs.HeldPlaces.{held_is, block_is_held}
 use Rattle.fv_container.specs.declared.entry.Entry.{Entry}
 use Rattle.fv_container.specs.Mapped.{IsHeld, IsMapped, Mapped, entry_under}
 use Rattle.fv_container.specs.Spelled.{Spelled, names, is_at, pair_of}
+use Rattle.fv_container.proofs.Named.{at_itself}
+use Rattle.fv_container.proofs.Leading.{any_in_range, range_has}
 use Rattle.fv_volume.specs.declared.state.VolumeState.{VolumeState}
-use Rattle.fv_volume.proofs.Drawing.{at_itself}
 use Rattle.fv_volume.specs.Stored.{place_in, leads, is_of}
 
--- ---- numbers of a range
-
-pub any_in_range : (p : ℕ → Bool) (from count : ℕ) → list_any p (range_with_len from count) ≡ true → (k : ℕ) × (from ≤ k) × (k < from + count) × (p k ≡ true)
-any_in_range p from zero there = absurd cc
-any_in_range p from (suc count) there = ⊎_elim
-    (λ (here : p from ≡ true). (from, omega arith, omega arith, here))
-    (λ (later : list_any p (range_with_len (from + 1) count) ≡ true). let k = any_in_range p (from + 1) count later in (k.0, omega (arith, k.1), omega (arith, k.2), k.3))
-    (or_cases (p from) (list_any p (range_with_len (from + 1) count)) there)
-
-pub range_has : (p : ℕ → Bool) (k from count : ℕ) → from ≤ k → k < from + count → p k ≡ true → list_any p (range_with_len from count) ≡ true
-range_has p k from zero low high is = absurd (omega (arith, low, high))
-range_has p k from (suc count) low high is = ⊎_elim
-    (λ (e : k ≡ from). or_left (p from) _ (subst (λ (n : ℕ). p n ≡ true) e is))
-    (λ (ne : k ≢ from). or_right (p from) _ (range_has p k (from + 1) count (omega (arith, low, ne)) (omega (arith, high)) is))
-    (cases_eq k from)
+-- ---- blocks at places
 
 pub at_is : (b place : ℕ) → is_at b place ≡ true → (b ≡ place) × (place ≢ 0)
 at_is b place is =

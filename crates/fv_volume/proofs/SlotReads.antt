@@ -19,7 +19,8 @@ use Rattle.fv_root.specs.declared.find.Found.{Found}
 use Rattle.fv_root.specs.Finding.{root_found}
 use Rattle.fv_volmap.specs.Slots.{IsVolume, Loads, Slot, Volume, empty_volume, has, map_or_empty, slot_at, slot_count, stored_count}
 use Rattle.fv_volume.specs.declared.state.Snap.{Snap}
-use Rattle.fv_volume.specs.Loading.{HaveBits, entry_block, is_slot_with, is_used_slot, label_of}
+use Rattle.fv_delay.specs.Delay.{is_used_slot}
+use Rattle.fv_volume.specs.Loading.{HaveBits, entry_block, is_slot_with, label_of}
 use Rattle.fv_volume.specs.SlotReads.{AreUsedTo, HasReadSlot, HaveRead, TakesSlot, slot_bit}
 use Rattle.fv_volume.specs.Snapshots.{has_slot}
 use Rattle.fv_volume.proofs.MapSlots.{one_empty}

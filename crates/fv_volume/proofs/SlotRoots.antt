@@ -21,7 +21,7 @@ use Rattle.fv_volmap.specs.Slots.{Slot, Volume as Maps, has, slot_at, stored_cou
 use Rattle.fv_volume.specs.declared.state.VolumeState.{VolumeState}
 use Rattle.fv_volume.specs.Files.{HasSlotsOf}
 use Rattle.fv_volume.specs.Housed.{ReachesAll}
-use Rattle.fv_volume.specs.Loading.{is_used_slot}
+use Rattle.fv_delay.specs.Delay.{is_used_slot}
 use Rattle.fv_volume.specs.States.{head_in}
 use Rattle.fv_volume.proofs.CountedMaps.{any_taken}
 use Rattle.fv_volume.proofs.KeptSlots.{root_used, snap_low, used_is}

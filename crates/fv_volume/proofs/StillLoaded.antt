@@ -25,7 +25,8 @@ use Rattle.fv_container.specs.Mapped.{Mapped}
 use Rattle.fv_root.specs.declared.find.Found.{Found}
 use Rattle.fv_root.specs.Finding.{root_found}
 use Rattle.fv_volume.specs.declared.state.VolumeState.{VolumeState}
-use Rattle.fv_volume.specs.Loading.{HaveBits, IsContainerOf, IsLoaded, is_used_slot, label_of}
+use Rattle.fv_delay.specs.Delay.{is_used_slot}
+use Rattle.fv_volume.specs.Loading.{HaveBits, IsContainerOf, IsLoaded, label_of}
 use Rattle.fv_volume.specs.UnderRoot.{StandsUnder}
 use Rattle.fv_volume.proofs.LoadedBlocks.{loaded_holds}
 use Rattle.fv_volume.proofs.Spelling.{spelled_kept}

@@ -36,13 +36,15 @@ use Rattle.fv_volume.specs.declared.state.VolumeState.{VolumeState}
 use Rattle.fv_volume.specs.Files.{IsLabelled}
 use Rattle.fv_volume.specs.Housed.{as_written}
 use Rattle.fv_volume.specs.Labels.{label_said}
-use Rattle.fv_volume.specs.Loading.{HaveBits, has_delayed, is_delayed_entry, is_kept_in, is_used_slot, IsContainerOf, IsLoaded}
+use Rattle.fv_delay.specs.Delay.{has_delayed, is_delayed, is_held, is_used, is_used_slot}
+use Rattle.fv_delay.proofs.AnyDelayed.{none_delayed}
+use Rattle.fv_delay.proofs.Held.{held_behind, held_below}
+use Rattle.fv_volume.specs.Loading.{HaveBits, IsContainerOf, IsLoaded}
 use Rattle.fv_volume.specs.States.{head_in}
 use Rattle.fv_volume.specs.UnderRoot.{StandMaps, StandsUnder}
 use Rattle.fv_volume.specs.Stored.{IsStored, has_stored_map, is_map_written, is_of, is_rewritten, leads, map_entry, map_index, map_slot, place_at, place_in, slot_map}
 use Rattle.fv_volume.proofs.SlotBlocks.{HasKinds, entry_kinds, entry_leads, held_is_of, to_test}
 use Rattle.fv_volume.proofs.Labels.{label_head}
-use Rattle.fv_volume.proofs.Delayed.{none_delayed}
 use Rattle.fv_volume.proofs.KeptSlots.{found_snap}
 use Rattle.fv_volume.proofs.SlotReads.{has_or_empty}
 use Rattle.fv_volume.proofs.SlotRoots.{root_slot, slot_stored}
@@ -213,28 +215,27 @@ module _ (found : Found) (i : Image) (s : ℕ) (x : VolumeState) (old : Mapped) 
       so true e = used e ∙ sym (ap (λ (b : Bool). b && volume_bit (view_at u i) s x.span k v) e)
       so false e = free_has (k == 0) (slot_at x.map k) v e ∙ sym (ap (λ (b : Bool). b && volume_bit (view_at u i) s x.span k v) e)
 
-  pub no_delay : has_delayed x.map new x.span ≡ false
-  no_delay = none_delayed x.map new x.span (λ v within. so v (is_kept_in x.map x.span v) refl)
+  pub no_delay : has_delayed x.map new ≡ false
+  no_delay = none_delayed x.map new (λ v within. so v (is_held x.map v) refl)
     where
-      hole : (v : ℕ) → entry_under new v ≡ None → is_delayed_entry x.map new x.span v ≡ false
+      hole : (v : ℕ) → entry_under new v ≡ None → is_delayed x.map new v ≡ false
       hole v none = and_left (is_some (entry_under new v)) _ (ap (λ (o : Option Entry). is_some o) none)
 
-      chosen : (v : ℕ) (t : Bool) → nat_lt v x.span ≡ t → is_kept_in x.map x.span v
-          ≡ (if t then taken_in (take stored_count x.map.slots) v else nat_lt (map_slot x.span v) stored_count && is_used_slot x.map (map_slot x.span v))
-      chosen v t e = ap (λ (b : Bool). if b then taken_in (take stored_count x.map.slots) v else nat_lt (map_slot x.span v) stored_count && is_used_slot x.map (map_slot x.span v)) e
+      behind : (v : ℕ) → x.span ≤ v → is_held x.map v ≡ is_used x.map (map_slot x.span v)
+      behind v past = held_behind x.map v (subst (λ (n : ℕ). n ≤ v) (sym state.map) past) ∙ ap (λ (n : ℕ). is_used x.map (map_slot n v)) state.map
 
-      gone : (v : ℕ) → is_kept_in x.map x.span v ≡ false → entry_under new v ≡ None
+      gone : (v : ℕ) → is_held x.map v ≡ false → entry_under new v ≡ None
       gone v off = ⊎_elim
           (λ (low : v < x.span).
           let test : nat_lt v x.span ≡ true = grind (arith, nat_tests, low) in
-          is.holes v (ap (λ (b : Bool). if b then taken_in (take stored_count x.map.slots) v else has_stored_map x (map_slot x.span v)) test ∙ sym (chosen v true test) ∙ off) (written_low x v low))
+          is.holes v (ap (λ (b : Bool). if b then taken_in (take stored_count x.map.slots) v else has_stored_map x (map_slot x.span v)) test ∙ sym (held_below x.map v (subst (λ (n : ℕ). v < n) (sym state.map) low)) ∙ off) (written_low x v low))
           (λ (past : x.span ≤ v).
           let test : nat_lt v x.span ≡ false = grind (arith, nat_tests, past) in
-          let none = free_map s x state v (sym (chosen v false test) ∙ off) in
+          let none = free_map s x state v (sym (behind v past) ∙ off) in
           is.holes v (ap (λ (b : Bool). if b then taken_in (take stored_count x.map.slots) v else has_stored_map x (map_slot x.span v)) test ∙ none.0) none.1)
           (cases_lt v x.span)
 
-      so : (v : ℕ) (t : Bool) → is_kept_in x.map x.span v ≡ t → is_delayed_entry x.map new x.span v ≡ false
+      so : (v : ℕ) (t : Bool) → is_held x.map v ≡ t → is_delayed x.map new v ≡ false
       so v true e = and_right (is_some (entry_under new v)) _ (ap not e)
       so v false e = hole v (gone v e)
 

@@ -57,7 +57,7 @@ use Rattle.fv_volume.specs.UnderRoot.{AllStandUnder}
 use Rattle.fv_volume.proofs.Delaying.{loaded_undelayed}
 use Rattle.fv_volume.proofs.Distinct.{same_names}
 use Rattle.fv_volume.proofs.Labels.{label_head}
-use Rattle.fv_volume.proofs.Settled.{is_settled, same_head, settled_back, settled_slots}
+use Rattle.fv_volume.proofs.Settled.{is_settled, same_head, settled_back, settled_slots, settled_span}
 use Rattle.fv_volume.proofs.SlotRoots.{none_past, own_below, own_taken, root_has, root_slot, slot_stored}
 use Rattle.fv_volume.proofs.StoredSlot.{HaveNonePast}
 use Rattle.fv_volume.proofs.Told.{is_inside}
@@ -236,7 +236,7 @@ module _ (pool : Pool) (states : States) (before : Image) (housed : AreHoused po
     none_delayed = nothing_delayed y.view (λ s h v inside is_head within.
         let x = state_of s h (sym (stays_there.heads s) ∙ is_head) in
         loaded_undelayed f i s h v within is_head (settled_at labels states s) (container s) (is.each s inside).loaded
-        (is_settled (state_at states s) (get_or labels s 0)) (settled_slots s (state_at states s) (get_or labels s 0) (housed.volumes s)))
+        (is_settled (state_at states s) (get_or labels s 0)) (settled_slots s (state_at states s) (get_or labels s 0) (housed.volumes s)) (settled_span s (state_at states s) (get_or labels s 0) (housed.volumes s)))
 
     -- no entry is delayed
     pub undelayed : delayed (view_at u i) ≡ 0

@@ -1,7 +1,7 @@
 -- Volumes as they are read from their labels.
-use Rattle.std.specs.Prelude.{◌≡◌, ◌≢◌, ◌<◌, ◌≤◌, ◌-◌, ◌/◌, ◌⊎◌, ℕ, Bool, true, false, not, ◌&&◌, ◌||◌, ◌==◌, nat_lt, if◌then◌else◌, List, [], length, find, take, Option, Some, None, IfSome, Ok, Err, replicate}
-use Rattle.std.specs.List.{list_any, range_with_len}
-use Rattle.std.specs.Option.{is_some, option_map}
+use Rattle.std.specs.Prelude.{◌≡◌, ◌≢◌, ◌<◌, ◌≤◌, ◌-◌, ◌⊎◌, ℕ, Bool, true, false, not, ◌&&◌, ◌||◌, ◌==◌, if◌then◌else◌, List, [], length, find, Option, Some, None, IfSome, Ok, Err, replicate}
+use Rattle.std.specs.List.{list_any}
+use Rattle.std.specs.Option.{option_map}
 use Rattle.fv_disk.specs.Shown.{Image}
 use Rattle.fv_bits.specs.Members.{IsFirstPast}
 use Rattle.fv_codec.specs.declared.label.Label.{Label}
@@ -12,7 +12,8 @@ use Rattle.fv_image.specs.Views.{View, entry_count, head_of, map_vvbn, used_slot
 use Rattle.fv_model.specs.declared.commands.Kind.{Kind}
 use Rattle.fv_model.specs.Numbers.{most_snapshots}
 use Rattle.fv_model.specs.Space.{map_blocks}
-use Rattle.fv_volmap.specs.Slots.{AreUnited, IsVolume, Volume, has, slot_at, stored_count, taken_in}
+use Rattle.fv_volmap.specs.Slots.{AreUnited, IsVolume, Volume, has, slot_at, stored_count}
+use Rattle.fv_delay.specs.Delay.{has_delayed, is_used_slot}
 use Rattle.fv_image.specs.Held.{label_in, label_lying, label_place, view_at}
 use Rattle.fv_container.specs.declared.entry.Entry.{Entry}
 use Rattle.fv_container.specs.Mapped.{IsMapped, Mapped, entry_under}
@@ -132,24 +133,6 @@ abbrev pub entry_block : Image → Option Entry → List ℕ
 entry_block i None = []
 entry_block i (Some e) = i e.pvbn
 
--- whether a slot of a volume's maps is used; the active one always is
-abbrev pub is_used_slot : Volume → ℕ → Bool
-is_used_slot maps k = (k == 0) || is_some (slot_at maps k)
-
--- Whether the stored slots hold a VVBN: one of the span is held where some slot has it, and that of a map block where its slot is used.
-abbrev pub is_kept_in : Volume → ℕ → ℕ → Bool
-is_kept_in maps span v = if nat_lt v span then taken_in (take stored_count maps.slots) v
-    else nat_lt ((v - span) / map_blocks span) stored_count && is_used_slot maps ((v - span) / map_blocks span)
-
--- an entry that isn't a hole, under a VVBN that the stored slots don't hold
-abbrev pub is_delayed_entry : Volume → Mapped → ℕ → ℕ → Bool
-is_delayed_entry maps map span v = is_some (entry_under map v) && not (is_kept_in maps span v)
-
--- Whether there is such an entry: its block was freed in the volume and not yet in the aggregate, so the next consistency point gives it
--- back.
-unfoldable pub has_delayed : Volume → Mapped → ℕ → Bool
-has_delayed maps map span = list_any (is_delayed_entry maps map span) (range_with_len 0 (length map.entries))
-
 -- The ledger of a volume with so many snapshots, without base and reserves, was counted from the union of the slots of its maps.
 pub record HasCounted (maps : Volume) (snapshots span size : ℕ) (kind : Kind) (ledger : Ledger) : Type 0 where
   pub union : List Bool
@@ -176,7 +159,7 @@ pub record IsLoaded (i : Image) (found : Found) (s : ℕ) (state : Option Volume
   pub tree : IsContainerOf i (label_of found i s) container
   pub label : label_in_state state ≡ label_place (root_found found) s
   pub bits : IfSome state (λ x. HaveBits (view_at (root_found found) i) s x.span x.map)
-  pub changed : IfSome state (λ x. IfSome container (λ map. x.changed ≡ has_delayed x.map map x.span))
+  pub changed : IfSome state (λ x. IfSome container (λ map. x.changed ≡ has_delayed x.map map))
 
 -- the volumes of the first slots are loaded
 pub record LoadedTo (i : Image) (found : Found) (count : ℕ) (states : States) (containers : Slots) : Type 0 where

@@ -11,19 +11,11 @@ use Rattle.fv_image.specs.Reclaimed.{IsAllocatable}
 use Rattle.fv_container.specs.Mapped.{Mapped, entry_under}
 use Rattle.fv_container.specs.Spelled.{names, is_at}
 use Rattle.fv_container.specs.Flushed.{IsFlushed}
+pub use Rattle.fv_container.specs.Leading.{place_at, place_in}
 use Rattle.fv_container.specs.declared.entry.Entry.{Entry}
 use Rattle.fv_volmap.specs.Slots.{map_or_empty, slot_at, stored_count, taken_in}
 use Rattle.fv_volume.specs.declared.state.VolumeState.{VolumeState}
 use Rattle.fv_volume.specs.Labels.{label_said}
-
--- the place of an entry; a hole has none
-abbrev pub place_in : Option Entry → ℕ
-place_in None = 0
-place_in (Some entry) = entry.pvbn
-
--- the place under a VVBN; under a hole there is none
-abbrev pub place_at : Mapped → ℕ → ℕ
-place_at map v = place_in (entry_under map v)
 
 -- whether an entry of a container leads to a block
 unfoldable pub leads : Mapped → ℕ → ℕ → Bool

@@ -13,7 +13,7 @@ ghost use Rattle.fv_volume.specs.States.{state_at};
 ghost use Rattle.fv_volume.specs.Stored.{is_of, leads};
 ghost use Rattle.fv_volume.specs.Writing.{HasGiven};
 
-use crate::giving::{give_back_block, place_in};
+use crate::giving::place_in;
 use crate::kept::Kept;
 use crate::pool::Pool;
 use crate::sizes::entry_count;
@@ -87,7 +87,7 @@ fn give_back_volume(state: &VolumeState, container: &Container, map: &mut AggMap
 {
     give_back_entries(container, map, kept, entry_count(state.span));
     give_back_nodes(container, map);
-    give_back_block(map, state.label_place());
+    map.give_back(state.label_place());
 }
 
 /// Gives back the blocks to which entries lead, and keeps none of them.
@@ -98,7 +98,7 @@ fn give_back_entries(container: &Container, map: &mut AggMap, kept: &mut Kept, e
 {
     for vvbn in 0..entries {
         let place = place_in(container.entry_at(vvbn));
-        give_back_block(map, place);
+        map.give_back(place);
         forget_block(kept, place);
     }
 }

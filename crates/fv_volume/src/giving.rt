@@ -12,15 +12,6 @@ use crate::state::VolumeState;
 use fv_aggmap::AggMap;
 use fv_container::{Container, Entry};
 
-/// Gives a block back; 0 is none, and neither is a number past the last block.
-pub(crate) fn give_back_block(map: &mut AggMap, place: u32)
-    ensures { HasGiven map.old (λ b. is_at b place) map.new }
-{
-    if place != 0 && place < map.blocks() {
-        map.release_after_commit(place);
-    }
-}
-
 /// The place of an entry; a hole has none, 0.
 pub(crate) fn place_in(entry: Option<Entry>) -> u32
     ensures { result ≡ place_in entry }
@@ -39,7 +30,7 @@ fn give_back_entry(container: &mut Container, map: &mut AggMap, vvbn: u32)
 {
     let place = place_in(container.entry_at(vvbn));
     container.make_hole(vvbn);
-    give_back_block(map, place);
+    map.give_back(place);
 }
 
 /// Whether the map of a slot stands on the disk, and a consistency point leaves it there.
@@ -76,7 +67,7 @@ fn give_back_unless(state: &VolumeState, container: &mut Container, map: &mut Ag
 
 /// Makes each entry of a volume's container a hole that doesn't stay, and gives its block back. Costs a step for each number, and one
 /// for each entry and slot.
-pub(crate) fn give_back(state: &VolumeState, container: &mut Container, map: &mut AggMap)
+pub(crate) fn give_back_moved(state: &VolumeState, container: &mut Container, map: &mut AggMap)
     requires { HasEntries state.now container.old }
     ensures kept { (v : ℕ) → stays state.entry.now v ≡ true → entry_under container.new v ≡ entry_under container.old v }
     ensures holes { (v : ℕ) → stays state.entry.now v ≡ false → entry_under container.new v ≡ None }

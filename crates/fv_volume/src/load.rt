@@ -13,7 +13,7 @@ ghost use Rattle.fv_model.specs.Numbers.{greatest_span};
 ghost use Rattle.fv_model.specs.Space.{map_blocks};
 ghost use Rattle.fv_store.specs.Held.{StandsOn};
 ghost use Rattle.fv_volmap.specs.Slots.{IsVolume, Loads, slot_count as map_slot_count, stored_count};
-ghost use Rattle.fv_volume.specs.Loading.{IsBadLabel, IsBadMap, IsBadSlot, IsFilled, IsLoadFault, IsLoaded, KeptTo, LeavesOthers, LoadedTo, form_in, has_delayed, is_delayed_entry, is_kept_in, is_used_slot};
+ghost use Rattle.fv_volume.specs.Loading.{IsBadLabel, IsBadMap, IsBadSlot, IsFilled, IsLoadFault, IsLoaded, KeptTo, LeavesOthers, LoadedTo, form_in};
 ghost use Rattle.fv_volume.specs.SlotReads.{AreUsedTo, HasReadSlot, HaveRead, TakesSlot};
 ghost use Rattle.fv_volume.specs.States.{head_in, state_at};
 
@@ -22,6 +22,7 @@ use crate::sizes::{entry_count, map_blocks, map_vvbn};
 use crate::state::{Snapshots, VolumeState};
 use fv_codec::Label;
 use fv_container::{Container, Containers};
+use fv_delay::has_delayed;
 use fv_disk::{Block, BlockFault, Disk, ZERO};
 use fv_root::Found;
 use fv_store::Store;
@@ -171,52 +172,6 @@ fn read_map<D: Disk>(
     Ok(map)
 }
 
-/// Whether a slot is used; the active one always is.
-fn is_used(map: &VolMap, slot: u8) -> bool
-    requires { slot < stored_count }
-    ensures { result ≡ is_used_slot map.now slot }
-{
-    slot == 0 || map.snapshot(slot).is_some()
-}
-
-/// Whether the stored slots hold a VVBN: one of the span where some slot has it, and that of a map block where its slot is used.
-#[tactic(auto, using(crate::proofs::StayingMaps::slot_within))]
-fn is_kept(map: &VolMap, span: u32, vvbn: u32) -> bool
-    requires span { span ≤ greatest_span }
-    requires within { vvbn < entry_count span }
-    ensures { result ≡ is_kept_in map.now span vvbn }
-{
-    if vvbn < span {
-        map.held(vvbn)
-    } else {
-        is_used(map, ((vvbn - span) / map_blocks(span)) as u8)
-    }
-}
-
-/// Whether the entry of a VVBN isn't a hole though the stored slots don't hold the VVBN.
-fn is_delayed(map: &VolMap, container: &Container, span: u32, vvbn: u32) -> bool
-    requires span { span ≤ greatest_span }
-    requires entries { length container.now.entries ≡ entry_count span }
-    requires within { vvbn < entry_count span }
-    ensures { result ≡ is_delayed_entry map.now container.now span vvbn }
-{
-    container.entry_at(vvbn).is_some() && !is_kept(map, span, vvbn)
-}
-
-/// Whether an entry is delayed: there is something to give back.
-fn has_delayed(map: &VolMap, container: &Container, span: u32) -> bool
-    requires span { span ≤ greatest_span }
-    requires entries { length container.now.entries ≡ entry_count span }
-    ensures { result ≡ has_delayed map.now container.now span }
-{
-    for vvbn in 0..entry_count(span) {
-        if is_delayed(map, container, span, vvbn) {
-            return true;
-        }
-    }
-    false
-}
-
 /// Reads the container that a label names.
 fn read_container<D: Disk>(
     alloc: Global,
@@ -276,7 +231,7 @@ fn load_volume<D: Disk>(
     let container = read_container(alloc, store, disk, &label)?;
     let snapshots = Snapshots::of_records(alloc, &label.snapshots)?;
     let map = read_map(alloc, store, disk, &container, &snapshots, label.span)?;
-    let delayed = has_delayed(&map, &container, label.span);
+    let delayed = has_delayed(&container, &map);
     containers.put(slot, container, None);
     let state = VolumeState::of_label(slot, place, &label, snapshots, map, delayed);
     Ok(Some(state))

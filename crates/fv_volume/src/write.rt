@@ -14,7 +14,7 @@ ghost use Rattle.fv_volume.specs.Labels.{label_said};
 ghost use Rattle.fv_volume.specs.Files.{IsLabelled};
 ghost use Rattle.fv_volume.specs.Writing.{AreTaken, HasBlocks, HasEntries, HasLabel, HasOwnBlocks, HasRoomFor, IsOther, IsTaken, IsTakenOther, IsWritten, asked, on_disk};
 
-use crate::giving::{give_back, give_back_block};
+use crate::giving::give_back_moved;
 use crate::sizes::entry_count;
 use crate::state::VolumeState;
 use crate::taking::{take_block, write_maps};
@@ -132,9 +132,9 @@ pub fn write_volume<D: Disk>(
     ensures count { OnOk result (free_blocks map.old ≤ free_blocks map.new + asked state.entry.now) }
     ensures stands { StandsOn (D.shown disk.new) store.new.pairs }
 {
-    give_back(state, container, map);
+    give_back_moved(state, container, map);
     let label = take_block(map);
     write_anew(state, container, store, map, disk, label)?;
-    give_back_block(map, state.label_place());
+    map.give_back(state.label_place());
     Ok(label)
 }

@@ -5,10 +5,12 @@ use Rattle.fv_bits.proofs.Counts.{passing}
 use Rattle.fv_image.proofs.Counts.{one_or_none}
 use Rattle.fv_image.specs.Containers.{fan}
 use Rattle.fv_aggmap.specs.Space.{Space}
+use Rattle.fv_container.specs.Leading.{place_in}
 use Rattle.fv_container.specs.Mapped.{Mapped, entry_under}
+use Rattle.fv_container.specs.Spelled.{is_at}
 use Rattle.fv_volmap.specs.Slots.{Volume}
 use Rattle.fv_delay.specs.Delay.{delayed_in, is_delayed, is_held}
-use Rattle.fv_delay.specs.Reclaims.{HasEmptied, HasGiven, lead_to, leads_to}
+use Rattle.fv_delay.specs.Reclaims.{HasEmptied, HasGiven, lead_to}
 use Rattle.fv_delay.proofs.Giving.{given_more}
 use Rattle.fv_delay.proofs.Parts.{byte_is, count_more, end_within, none_past, region_passing, the_end}
 use Rattle.fv_delay.proofs.Reclaimed.{between, emptied_more, region_reclaimed, still_there}
@@ -38,7 +40,7 @@ loop-vvbn-preserved c =
       most = omega (arith, step, one_or_none (p v), was.most, from);
       entries = emptied_more p old mid c.reclaim_entry.new.container first v from within was.entries (λ off. (went.same (on ∙ off)).0) (λ is. went.hole (on ∙ is));
       blocks = given_more old p first v c.args.pool_map.now c.loop-vvbn.pool_map c.reclaim_entry.new.pool_map from was.blocks (λ off. (went.same (on ∙ off)).1)
-          (λ is. subst (λ entry. HasGiven c.loop-vvbn.pool_map (λ b. leads_to b entry) c.reclaim_entry.new.pool_map) there (went.given (on ∙ is)));
+          (λ is. subst (λ entry. HasGiven c.loop-vvbn.pool_map (λ b. is_at b (place_in entry)) c.reclaim_entry.new.pool_map) there (went.given (on ∙ is)));
     }
 
 pub returns-clause-count : goal.returns-clause-count

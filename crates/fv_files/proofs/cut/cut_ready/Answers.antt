@@ -94,4 +94,4 @@ returns-clause-pending_done g c = λ told sound now well.
     let cuts = c.in_ok-count.ensures in
     let holds = subst HoldsCells (ap (λ o. tree_or (option_map (standing (under old)) o) (stored (under old) info.number is.file.levels is.file.root)) cuts.becomes.was) (tree_holds (table_in old f) info.number is.file is.there now well) in
     let most = cut_pending_done g.B.Blocks.told (g.B.Blocks.goes c.args.blocks.now c.cut_kept.new.blocks) (Unit {0}) (g.B.Blocks.shown c.args.blocks.now) (g.B.Blocks.shown c.cut_kept.new.blocks) c.args.files.now c.cut_kept.new.trees c.args.info.now.number c.args.length c.least_levels-start.result c.args.stamp c.in_ok-count.count cuts told sound holds in
-    omega (arith, most, c.rewrite.ensures.pending)
+    omega (arith, most, c.rewrite.ensures.rises.pending)

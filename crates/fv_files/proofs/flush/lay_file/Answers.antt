@@ -37,7 +37,7 @@ returns-in_err-set_root-clause-lays g c =
 pub returns-clause-lays : goal.returns-clause-lays
 returns-clause-lays g c =
     lay_done g.B.Blocks.told (g.B.Blocks.shown c.args.blocks.now) (g.B.Blocks.shown c.flush_kept.new.blocks) (g.B.Blocks.shown c.set_root.new.blocks) c.args.files.now c.flush_kept.new.trees c.forget-2.new.trees c.set_root.new.self c.args.number c.kept_levels-levels.result c.in_ok-root.root
-    c.in_ok-root.ensures.flushes c.kept_levels-levels.ensures.levels c.in_ok-set_root.ensures.alters c.in_ok-set_root.ensures.set c.in_ok-set_root.ensures.pending c.forget-2.ensures.gone c.forget-2.ensures.cost
+    c.in_ok-root.ensures.flushes c.kept_levels-levels.ensures.levels c.in_ok-set_root.ensures.alters c.in_ok-set_root.ensures.set c.in_ok-set_root.ensures.rises.pending c.forget-2.ensures.gone c.forget-2.ensures.cost
 
 pub returns-in_err-root-clause-stored_well : goal.returns-in_err-root-clause-stored_well
 returns-in_err-root-clause-stored_well g c = λ told known.
@@ -62,7 +62,7 @@ returns-in_err-set_root-clause-stored_well g c = λ told known.
 pub returns-clause-stored_well : goal.returns-clause-stored_well
 returns-clause-stored_well g c = λ told known.
     lay_stores g.B.Blocks.told (g.B.Blocks.shown c.args.blocks.now) (g.B.Blocks.shown c.flush_kept.new.blocks) (g.B.Blocks.shown c.set_root.new.blocks) c.args.files.now c.flush_kept.new.trees c.forget-2.new.trees c.set_root.new.self c.args.number c.kept_levels-levels.result c.in_ok-root.root
-    c.in_ok-root.ensures.flushes c.kept_levels-levels.ensures.levels c.in_ok-set_root.ensures.alters c.in_ok-set_root.ensures.set c.in_ok-set_root.ensures.pending c.forget-2.ensures.gone c.forget-2.ensures.cost told (c.in_ok-root.ensures.places known)
+    c.in_ok-root.ensures.flushes c.kept_levels-levels.ensures.levels c.in_ok-set_root.ensures.alters c.in_ok-set_root.ensures.set c.in_ok-set_root.ensures.rises.pending c.forget-2.ensures.gone c.forget-2.ensures.cost told (c.in_ok-root.ensures.places known)
 
 pub returns-then-has_root-clause-lays : goal.returns-then-has_root-clause-lays
 returns-then-has_root-clause-lays g c =

@@ -38,13 +38,13 @@ returns-clause-prepares g c =
     held_prepares g.B.Blocks.told old new f c.ready.new.self c.hold.new.trees c.args.info.now (subst (λ b. Alters g.B.Blocks.told old new f.inode.tree c.ready.new.self.tree (Ok b)) yes_ is.alters) is.alike c.requires.there (is.ready yes_) c.in_ok-hold.ensures.holds
 
 pub returns-in_err-ready-clause-pending : goal.returns-in_err-ready-clause-pending
-returns-in_err-ready-clause-pending g c = omega (arith, c.in_err-ready.ensures.pending)
+returns-in_err-ready-clause-pending g c = omega (arith, c.in_err-ready.ensures.rises.pending)
 
 pub returns-then-not-branch-clause-pending : goal.returns-then-not-branch-clause-pending
-returns-then-not-branch-clause-pending g c = omega (arith, c.in_ok-ready.ensures.pending)
+returns-then-not-branch-clause-pending g c = omega (arith, c.in_ok-ready.ensures.rises.pending)
 
 pub returns-in_err-hold-clause-pending : goal.returns-in_err-hold-clause-pending
-returns-in_err-hold-clause-pending g c = omega (arith, c.in_ok-ready.ensures.pending, c.in_err-hold.ensures.cost)
+returns-in_err-hold-clause-pending g c = omega (arith, c.in_ok-ready.ensures.rises.pending, c.in_err-hold.ensures.cost)
 
 pub returns-clause-pending : goal.returns-clause-pending
-returns-clause-pending g c = omega (arith, c.in_ok-ready.ensures.pending, c.in_ok-hold.ensures.cost)
+returns-clause-pending g c = omega (arith, c.in_ok-ready.ensures.rises.pending, c.in_ok-hold.ensures.cost)

@@ -54,4 +54,4 @@ returns-in_err-own-clause-pending g c =
 pub returns-clause-pending : goal.returns-clause-pending
 returns-clause-pending g c =
     remove_pending g.B.Blocks.told (g.B.Blocks.goes c.args.blocks.now c.cut_kept.new.blocks) (g.B.Blocks.goes c.cut_kept.new.blocks c.erase-inode.new.blocks) (g.B.Blocks.shown c.args.blocks.now) (g.B.Blocks.shown c.cut_kept.new.blocks) (g.B.Blocks.shown c.erase-inode.new.blocks)
-    c.args.files.now c.cut_kept.new.trees c.forget.new.trees c.erase-inode.new.self c.args.info.now.number c.least_levels-start.result c.args.stamp c.in_ok-own.own c.erase-inode.result c.in_ok-own.ensures c.erase-inode.ensures.takes c.forget.ensures.gone c.erase-inode.ensures.pending c.forget.ensures.cost
+    c.args.files.now c.cut_kept.new.trees c.forget.new.trees c.erase-inode.new.self c.args.info.now.number c.least_levels-start.result c.args.stamp c.in_ok-own.own c.erase-inode.result c.in_ok-own.ensures c.erase-inode.ensures.takes c.forget.ensures.gone c.erase-inode.ensures.rises.pending c.forget.ensures.cost

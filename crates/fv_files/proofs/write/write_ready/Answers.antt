@@ -62,4 +62,4 @@ returns-in_err-put_kept-clause-pending g c =
 pub returns-clause-pending : goal.returns-clause-pending
 returns-clause-pending g c =
     let most = put_pending g.B.Blocks.told (Unit {0}) (g.B.Blocks.shown c.args.blocks.now) (g.B.Blocks.shown c.put_kept.new.blocks) c.args.files.now c.put_kept.new.trees c.args.info.now.number c.args.index c.args.stamp c.args.block.now _ c.in_ok-put_kept.ensures.puts in
-    omega (arith, most, c.rewrite.ensures.pending)
+    omega (arith, most, c.rewrite.ensures.rises.pending)

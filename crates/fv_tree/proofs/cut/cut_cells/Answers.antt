@@ -1,4 +1,4 @@
-use Rattle.std.proofs.Common.{◌≡◌, ◌≤◌, ◌+◌, ◌/◌, ◌^◌, ap, get_or, length, refl, sym, subst, ◌∙◌, arith, nat_le, inl, inr}
+use Rattle.std.proofs.Common.{◌≡◌, ◌≤◌, ◌+◌, ◌/◌, ◌^◌, ap, get_or, length, refl, sym, subst, ◌∙◌, arith, ℕ, nat_le, inl, inr}
 use Rattle.fv_tree.specs.Standing.{standing, under}
 use Rattle.fv_tree.specs.Erasing.{StandsAt}
 use Rattle.fv_tree.specs.Releasing.{Removes}
@@ -7,7 +7,9 @@ use Rattle.fv_model.specs.Trees.{fan}
 use Rattle.std.specs.FinMap as fin
 use Rattle.fv_tree.specs.Counting.{positions_of}
 use Rattle.fv_tree.specs.Collecting.{AreBelow, Collects}
-use Rattle.fv_tree.specs.Costs.{cells_changed}
+use Rattle.std.specs.BTreeMap as maps
+use Rattle.fv_tree.specs.declared.kept.KeptCell.{KeptCell}
+use Rattle.fv_tree.specs.Costs.{cells_changed, cells_held}
 use Rattle.fv_tree.proofs.Bordered.{few_differ}
 use Rattle.fv_tree.proofs.Causes.{at_err, calm_then}
 use Rattle.fv_tree.proofs.Collected.{listed, next_listed, none_listed, not_yet, listed_past, way_held}
@@ -37,6 +39,7 @@ loop-index-init g c =
       few = omega arith;
       marks = λ told level place changed. inl (now.marks told level place changed);
       cells = (let same = ap cells_changed now.fields.cells in omega (arith, same));
+      held = (let same : cells_held u ≡ cells_held t = ap (λ (m : maps.BTreeMap ℕ KeptCell). maps.btree_map_len m) now.fields.cells in omega (arith, same));
       none = λ _. now.changes;
       ordered = inl refl;
       calm = now.counts.calm;
@@ -82,6 +85,7 @@ loop-index-preserved g c =
         | inr over ↦ inr (record { cell = index; far = (let far = ((are told).past at c.loop-index-test.true).far in let first : c.args.most / fan ^ 0 ≡ c.args.most = omega arith in let same : index / fan ^ 0 ≡ index = omega arith in omega (arith, far, first, same)); over = over })
       ];
       cells = (let less = now.differs.cells in let before = was.cells in omega (arith, less, before));
+      held = (let less = now.differs.held in let before = was.held in omega (arith, less, before));
       none = λ e. absurd (omega (arith, e));
       ordered = inr now.differs.ordered;
       calm = calm_then a b d was.calm c.erase_cell-gone.ensures.calm;

@@ -8,7 +8,7 @@ use Rattle.fv_tree.specs.Releasing.{Removes}
 use Rattle.fv_tree.specs.Unlinking.{HasWay}
 use Rattle.fv_tree.specs.Flushing.{changed_in}
 use Rattle.fv_tree.specs.Collecting.{IsOverPast}
-use Rattle.fv_tree.specs.Costs.{cells_changed, changes_in}
+use Rattle.fv_tree.specs.Costs.{cells_changed, cells_held, changes_in}
 use Rattle.fv_tree.proofs.Collected.{listed}
 use Rattle.fv_tree.proofs.cut.cut_cells.Given as goal
 
@@ -20,6 +20,7 @@ invariant-loop-index g l = record {
   calm : IsCalm (g.B.Blocks.shown l.fn.blocks) (g.B.Blocks.shown l.blocks);
   marks : g.B.Blocks.told → (level place : ℕ) → changed_in l.tree.nodes level place ≡ true → (changed_in l.fn.tree.nodes level place ≡ true) ⊎ IsOverPast l.most level place;
   cells : cells_changed l.tree.cells ≤ cells_changed l.fn.tree.cells;
+  held : cells_held l.tree ≤ cells_held l.fn.tree;
   none : l.index-index ≡ 0 → changes_in l.tree.nodes ≤ changes_in l.fn.tree.nodes;
   ordered : (l.index-index ≡ 0) ⊎ maps.IsOrdered spot_cmp l.tree.nodes;
   owner : l.tree.owner ≡ l.fn.tree.owner;

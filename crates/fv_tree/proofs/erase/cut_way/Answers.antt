@@ -1,5 +1,7 @@
-use Rattle.std.proofs.Common.{◌+◌, ap, arith}
-use Rattle.fv_tree.specs.Costs.{cells_changed}
+use Rattle.std.proofs.Common.{◌≡◌, ◌+◌, ℕ, ap, arith}
+use Rattle.std.specs.BTreeMap as tree
+use Rattle.fv_tree.specs.declared.kept.KeptCell.{KeptCell}
+use Rattle.fv_tree.specs.Costs.{cells_changed, cells_held}
 use Rattle.fv_tree.proofs.Bordered.{way_marks}
 use Rattle.fv_tree.proofs.erase.cut_way.Goals as goal
 
@@ -13,5 +15,6 @@ returns-clause-differs c =
     let kept = ap cells_changed c.stamp_above.ensures.cells in record {
       marks = way_marks t v c.stamp_above.new.tree c.clear_slot.new.nodes c.args.index (c.args.lost + 1) c.width.result c.forget_way.ensures.marks (omega arith) (omega (arith, some, few)) c.width.ensures.is c.clear_slot.ensures.others (c.stamp_above.ensures.marks (omega (arith, some, same)));
       cells = omega (arith, kept, c.forget_way.ensures.fewer);
+      held = (let same : cells_held c.stamp_above.new.tree ≡ cells_held v = ap (λ (m : tree.BTreeMap ℕ KeptCell). tree.btree_map_len m) c.stamp_above.ensures.cells in omega (arith, same, c.forget_way.ensures.held));
       ordered = c.stamp_above.ensures.ordered c.clear_slot.ensures.ordered;
     }

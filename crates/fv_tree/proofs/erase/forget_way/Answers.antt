@@ -33,6 +33,7 @@ loop-below-init c =
       pending = omega (arith, less);
       marks = λ level place changed. changed;
       fewer = less;
+      held = omega (arith, c.remove.ensures.len);
       gone = λ level low high. absurd (omega (arith, low, high));
     }
 
@@ -49,6 +50,7 @@ loop-below-preserved c =
       pending = let less = no_more spot_cmp node_mark c.loop-below.tree.nodes c.remove-in-loop-below.new.self (c.loop-below.below + 1, c.args.index / c.width.result) c.remove-in-loop-below.ensures.entries in omega (arith, was.pending, less);
       marks = λ level place changed. was.marks level place (forgotten_marks c.loop-below.tree.nodes c.remove-in-loop-below.new.self (c.loop-below.below + 1) (c.args.index / c.width.result) c.remove-in-loop-below.ensures.updates level place changed);
       fewer = was.fewer;
+      held = was.held;
       gone = λ level low high. elim (cases_eq level (c.loop-below.below + 1)) [
         | inl same ↦
             (λ j. tree.get spot_cmp c.remove-in-loop-below.new.self (same j, c.args.index / fan ^ same j))

@@ -1,6 +1,6 @@
 use Rattle.std.proofs.Common.{◌≡◌, ◌≢◌, ◌<◌, ◌≤◌, ◌⊎◌, ◌/◌, ◌^◌, ℕ, None}
 use Rattle.std.specs.Ordering.{nat_cmp}
-use Rattle.fv_tree.specs.Costs.{cells_changed, pending}
+use Rattle.fv_tree.specs.Costs.{cells_changed, cells_held, pending}
 use Rattle.fv_tree.specs.Carried.{MarksNoMore}
 use Rattle.std.specs.BTreeMap as tree_map
 use Rattle.fv_model.specs.Trees.{fan, spot_cmp}
@@ -16,5 +16,6 @@ invariant-loop-below l = record {
   pending : pending l.tree ≤ pending l.fn.tree;
   marks : MarksNoMore l.fn.tree l.tree;
   fewer : cells_changed l.tree.cells ≤ cells_changed l.fn.tree.cells;
+  held : cells_held l.tree ≤ cells_held l.fn.tree;
   gone : (level : ℕ) → 1 ≤ level → level ≤ l.below → tree_map.get spot_cmp l.tree.nodes (level, l.index / fan ^ level) ≡ None;
 }

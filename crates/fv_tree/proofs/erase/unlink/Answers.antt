@@ -83,4 +83,4 @@ returns-else-lost-tree-clause-unlinks c = λ way.
     }
 
 pub returns-then-lost-tree-clause-differs : goal.returns-then-lost-tree-clause-differs
-returns-then-lost-tree-clause-differs c = cleared_marks c.args.tree.now c.clear.new.tree c.args.index c.clear.ensures.nodes c.clear.ensures.pending c.clear.ensures.ordered
+returns-then-lost-tree-clause-differs c = cleared_marks c.args.tree.now c.clear.new.tree c.args.index c.clear.ensures.nodes c.clear.ensures.pending c.clear.ensures.held c.clear.ensures.ordered

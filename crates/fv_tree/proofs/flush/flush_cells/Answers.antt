@@ -28,7 +28,7 @@ loop-preserved g c =
       strays = λ told stands. now.strays told (was.flushes told stands).sound ∙ was.strays told stands;
       fits = λ told stands. fits_then old mid new c.args.tree.now c.loop.tree c.flush_first_cell.new.tree (was.fits told stands) (now.fits told (was.flushes told stands).sound);
       spent = now.spent ∙ was.spent;
-      left = record { owner = now.left.owner ∙ was.left.owner; levels = now.left.levels ∙ was.left.levels };
+      left = record { owner = now.left.owner ∙ was.left.owner; levels = now.left.levels ∙ was.left.levels; cells = omega (arith, now.left.cells, was.left.cells) };
       count = omega (arith, now.fewer, was.count);
       calm = calm_then old mid new was.calm now.counts.calm;
       places = λ known has. now.places known (was.places known has);

@@ -1,10 +1,11 @@
-use Rattle.std.proofs.Common.{◌≡◌, ◌≤◌, ◌/◌, true, inl, inr, ◌^◌, ◌<◌, cond, Some, nat_eq, sym, ap, refl, ◌∙◌, arith, subst}
+use Rattle.std.proofs.Common.{◌≡◌, ◌≤◌, ◌+◌, ℕ, ◌/◌, true, inl, inr, ◌^◌, ◌<◌, cond, Some, nat_eq, sym, ap, refl, ◌∙◌, arith, subst}
 use Rattle.std.specs.BTreeMap as tree
 use Rattle.std.proofs.Math.Nat.{div-eq_of_lt, pow-le-pow_right}
 use Rattle.std.proofs.lemmas.Bool.{cases_eq, cases_lt}
 use Rattle.fv_model.specs.Trees.{fan, Spot}
 use Rattle.fv_tree.specs.declared.kept.KeptNode.{KeptNode}
-use Rattle.fv_tree.specs.Costs.{cells_changed, changes_in}
+use Rattle.fv_tree.specs.declared.kept.KeptCell.{KeptCell}
+use Rattle.fv_tree.specs.Costs.{cells_changed, cells_held, changes_in, pending}
 use Rattle.fv_tree.specs.Standing.{standing, cell_in, IsSameButCells}
 use Rattle.fv_tree.specs.Writing.{IsAlike, HasNewLevels}
 use Rattle.fv_tree.proofs.Causes.{at_err}
@@ -126,8 +127,8 @@ returns-in_err-keep_cell-clause-keeps c = λ blocks.
     subst (λ s. LeadsNoMore s (loaded_over blocks t)) (sym (cells_loaded blocks v c.keep_cell.new.tree c.keep_cell.ensures.fields c.in_err-keep_cell.ensures.same))
     (still_keeps blocks t v c.args.index c.requires.past fields (hidden_same blocks t v c.args.index c.requires.past fields c.in_ok-keep_new_levels.ensures.grows.old_nodes) c.keep_new_levels.ensures.brings)
 
-pub returns-clause-pending : goal.returns-clause-pending
-returns-clause-pending c =
+pub returns-clause-rises : goal.returns-clause-rises
+returns-clause-rises c =
     let s = c.args.tree.now in
     let t = c.keep_new_levels.new.tree in
     let h = c.keep_cell.new.tree in
@@ -144,7 +145,7 @@ returns-clause-pending c =
     let nodes : v.nodes ≡ t.nodes = c.raise.ensures.nodes ∙ cell.fields.nodes in
     let same : changes_in v.nodes ≡ changes_in t.nodes = ap changes_in nodes in
     let one = cell.count in
-    elim (cases_eq s.root.stamp 0) [
+    let fewest : pending u ≤ pending s + 6 = elim (cases_eq s.root.stamp 0) [
       | inl none ↦
           let still = grown.unchanged none in
           let more = c.stamp_path.ensures.changes in
@@ -164,7 +165,12 @@ returns-clause-pending c =
           let least = c.stamp_path.ensures.top changed in
           let most = grown.changes in
           omega (arith, few, rises, cells, before, same, one, least, most, lt)
-    ]
+    ] in
+    let held : cells_held u ≡ cells_held h = ap (λ (m : tree.BTreeMap ℕ KeptCell). tree.btree_map_len m) (c.stamp_path.ensures.stamps.cells ∙ c.raise.ensures.cells) in
+    let first : cells_held t ≡ cells_held s = ap (λ (m : tree.BTreeMap ℕ KeptCell). tree.btree_map_len m) grown.fields.cells in record {
+      pending = fewest;
+      cells = omega (arith, held, first, cell.held);
+    }
 
 pub returns-in_err-keep_new_levels-clause-keeps_ready : goal.returns-in_err-keep_new_levels-clause-keeps_ready
 returns-in_err-keep_new_levels-clause-keeps_ready c =

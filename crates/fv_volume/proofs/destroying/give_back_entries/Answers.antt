@@ -16,6 +16,6 @@ loop-vvbn-preserved c =
     let n = c.loop-vvbn.vvbn in
     let at : c.place_in-place.result ≡ place_at map n = c.place_in-place.ensures ∙ ap place_in c.entry_at.ensures in
     record {
-      given = entry_given map n c.place_in-place.result c.args.map.now c.loop-vvbn.map c.give_back_block.new.map at c.loop-vvbn.invariant.given c.give_back_block.ensures;
+      given = entry_given map n c.place_in-place.result c.args.map.now c.loop-vvbn.map c.give_back.new.self at c.loop-vvbn.invariant.given c.give_back.ensures;
       kept = entry_forgotten map n c.place_in-place.result c.args.kept.now c.loop-vvbn.kept c.forget_block.new.kept at c.loop-vvbn.invariant.kept c.forget_block.ensures;
     }

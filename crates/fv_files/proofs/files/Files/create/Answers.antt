@@ -68,7 +68,7 @@ returns-in-Err-clause-led g c = λ told sound led.
     readied_led old new f h alters.looks.untouched (alike (rooted old f.inode) (rooted new h.inode) (alters.failed told)) (λ k. refl) (alters.leads told) (alters.keeps told) sound led
 
 pub returns-in-Ok-clause-pending : goal.returns-in-Ok-clause-pending
-returns-in-Ok-clause-pending g c = omega (arith, c.in-Ok.ensures.pending)
+returns-in-Ok-clause-pending g c = omega (arith, c.in-Ok.ensures.rises.pending)
 
 pub returns-in-Err-clause-pending : goal.returns-in-Err-clause-pending
-returns-in-Err-clause-pending g c = omega (arith, c.in-Err.ensures.pending)
+returns-in-Err-clause-pending g c = omega (arith, c.in-Err.ensures.rises.pending)

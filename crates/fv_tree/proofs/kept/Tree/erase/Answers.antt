@@ -25,7 +25,7 @@ returns-clause-removal g c =
     (removes_nothing a a t t (λ _. false) c.args.start c.args.stamp (untouched_itself a) (calm_itself a) (same_self (standing (under a) t)) (keeps_self (under a) t) (λ stands. stands) (leaves_itself (loaded a t)) (λ _ _. refl))
     (did.goes way (under a) stands) (did.released way (under a) stands) (did.strays way (under a) stands) (λ _. refl) (λ holds. holds) in
     removal_after g.B.Blocks.told (g.B.Blocks.goes c.args.blocks.now c.erase_cell.new.blocks) (Ok c.erase_cell.result) a b t u (nat_eq i) c.args.start c.args.stamp
-    (λ _. goes) (λ _. tt) did.owner (λ _. tt) tt did.room tt did.calls (record { faults = omega (arith, calm.faults); damages = omega (arith, calm.damages); spent = calm.spent; calm = calm })
+    (λ _. goes) (λ _. tt) did.owner (λ _. tt) tt did.room tt did.differs.held did.calls (record { faults = omega (arith, calm.faults); damages = omega (arith, calm.damages); spent = calm.spent; calm = calm })
     (λ _. did.count way (under a) stands) (λ _. tt) tt
 
 pub returns-clause-others_ready : goal.returns-clause-others_ready

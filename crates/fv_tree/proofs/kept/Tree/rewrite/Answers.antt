@@ -1,7 +1,9 @@
-use Rattle.std.proofs.Common.{◌≡◌, refl, ap, ◌∙◌, arith}
+use Rattle.std.proofs.Common.{◌≡◌, ℕ, refl, ap, ◌∙◌, arith}
+use Rattle.std.specs.BTreeMap as maps
+use Rattle.fv_tree.specs.declared.kept.KeptCell.{KeptCell}
 use Rattle.fv_tree.specs.Flushing.{loaded_over}
 use Rattle.fv_tree.proofs.Stored.{stored_on}
-use Rattle.fv_tree.specs.Costs.{cells_changed, changes_in}
+use Rattle.fv_tree.specs.Costs.{cells_changed, cells_held, changes_in}
 use Rattle.fv_tree.specs.Standing.{standing}
 use Rattle.fv_tree.proofs.Altered.{cell_marked}
 use Rattle.fv_tree.proofs.Rewritten.{rewritten, rewritten_alters, rewritten_hints, rewritten_leads, rewritten_keeps, rewritten_sound, still_ready}
@@ -45,8 +47,8 @@ returns-clause-ready c =
     still_ready c.args.self.now c.put_content.new.tree c.stamp_path.new.tree c.args.index c.args.stamp c.args.block.now c.requires.ready c.requires.stamp
     put.fields put.cell put.changed put.own put.others c.stamp_path.ensures.stamps c.stamp_path.ensures.marks
 
-pub returns-clause-pending : goal.returns-clause-pending
-returns-clause-pending c =
+pub returns-clause-rises : goal.returns-clause-rises
+returns-clause-rises c =
     let v = c.put_content.new.tree in
     let put = c.put_content.ensures in
     let cells : cells_changed c.stamp_path.new.tree.cells ≡ cells_changed v.cells = ap cells_changed c.stamp_path.ensures.stamps.cells in
@@ -54,7 +56,10 @@ returns-clause-pending c =
     let more = c.stamp_path.ensures.changes in
     let one = put.count in
     let few = v.few in
-    omega (arith, cells, same, more, one, few)
+    let held : cells_held c.stamp_path.new.tree ≡ cells_held v = ap (λ (m : maps.BTreeMap ℕ KeptCell). maps.btree_map_len m) c.stamp_path.ensures.stamps.cells in record {
+      pending = omega (arith, cells, same, more, one, few);
+      cells = omega (arith, held, put.held);
+    }
 
 pub returns-clause-stored_well : goal.returns-clause-stored_well
 returns-clause-stored_well c = λ held.

@@ -1,5 +1,5 @@
 use Rattle.fv_volume.specs.Writing.{HasGiven, HasGone, leads_away}
-use Rattle.fv_volume.proofs.giving.give_back.Given as goal
+use Rattle.fv_volume.proofs.giving.give_back_moved.Given as goal
 
 abbrev pub invariant-loop-vvbn : goal.invariant-loop-vvbn
 invariant-loop-vvbn l = record {

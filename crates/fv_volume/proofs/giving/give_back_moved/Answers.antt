@@ -4,7 +4,7 @@ use Rattle.fv_container.specs.Spelled.{is_at}
 use Rattle.fv_volume.specs.Writing.{HasGiven, leads_away}
 use Rattle.fv_volume.proofs.Drawing.{away_none, given_more, given_none}
 use Rattle.fv_volume.proofs.Gone.{all_gone, gone_more, next_place, none_gone}
-use Rattle.fv_volume.proofs.giving.give_back.Goals as goal
+use Rattle.fv_volume.proofs.giving.give_back_moved.Goals as goal
 
 pub loop-vvbn-init : goal.loop-vvbn-init
 loop-vvbn-init c = record {
