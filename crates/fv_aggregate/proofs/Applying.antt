@@ -149,7 +149,7 @@ module _ (c : Command) (name : List ℕ) (asks : volume_asked c ≡ Some name) (
 
 -- ---- a command that changes a file
 
-module _ (c : Command) (name : List ℕ) (of : changed_by c ≡ Some name) (d : Shown) (s : Session) (e : Shown) (n : Session) (r : Result Reply Fault) (makes : Makes d s c e n r) where
+module _ (c : Command) (name : List ℕ) (of : changed_by c ≡ Some name) (d : Shown) (s : Session) (e : Shown) (n : Session) (r : Result Reply Fault) (makes : Makes file_room d s c e n r) where
   change : IsChangeOf name c
   change = change_of_volume name c of
 

@@ -1,6 +1,6 @@
 -- The label of a volume without a base: its fields are in range, and it says what the volume is.
 use Rattle.std.proofs.Common.{◌≡◌, ℕ, ◌-◌, ◌≤◌, Bool, true, false, List, ◌++◌, length, get_or, take, replicate, Option, Some, None, refl, sym, ap, subst, ◌∙◌, arith}
-use Rattle.std.specs.Prelude.{◌&&◌, ◌%◌, ◌==◌, min}
+use Rattle.std.specs.Prelude.{◌%◌, ◌==◌, min}
 use Rattle.std.specs.List.{list_any}
 use Rattle.std.specs.Option.{is_none}
 use Rattle.std.proofs.Math.Seq.{take-append_seam}
@@ -10,7 +10,6 @@ use Rattle.fv_model.specs.declared.commands.Kind.{Kind}
 use Rattle.fv_model.specs.declared.commands.Kind.TheVariants.{Volume as Whole, File as ByFile, Thin}
 use Rattle.fv_model.specs.Spelling.{is_name}
 use Rattle.fv_image.specs.Views.{Footing, Head, head_of, kind_named}
-use Rattle.fv_image.specs.Told.{has_none}
 use Rattle.fv_model.specs.Numbers.{greatest_span}
 use Rattle.fv_charge.specs.declared.ledger.Ledger.{Ledger}
 use Rattle.fv_volmap.specs.Slots.{Volume as MapSlots}
@@ -88,8 +87,7 @@ pub label_head : (x : VolumeState) → has_form (head_in x) ≡ true → is_name
 unfolding head_of label_said
 label_head x form named said container height =
     let name : take (length x.name) (x.name ++ replicate (64 - length x.name) 0) ≡ x.name = take-append_seam x.name (replicate (64 - length x.name) 0) in
-    let more = and_parts (has_none (head_in x).snapshots) (is_none (head_in x).base && x.known) form in
-    let last = and_parts (is_none (head_in x).base) x.known more.1 in
+    let last = and_parts (is_none (head_in x).base) x.known form in
     (λ i. record {
       name = name i;
       kind = kind_again x.kind i;

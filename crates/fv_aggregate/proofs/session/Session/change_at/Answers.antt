@@ -10,7 +10,7 @@ returns-in_err-read_numbers-clause-makes g c =
     let d = g.D.Disk.shown c.args.disk.now in
     let e = g.D.Disk.shown c.read_numbers.new.disk in
     let failed : c.from_residual.result ≡ Err c.in_err-read_numbers.field-0.0 = search rules in
-    subst (Makes d c.args.self.now c.args.command.now e c.read_numbers.new.self) (sym failed)
+    subst (Makes file_room d c.args.self.now c.args.command.now e c.read_numbers.new.self) (sym failed)
     (make_unnumbered d c.args.self.now c.args.command.now e c.read_numbers.new.self c.in_err-read_numbers.field-0.0 c.in_err-read_numbers.ensures.numbered)
 
 pub decide-requires-clause-aimed : goal.decide-requires-clause-aimed

@@ -1,6 +1,8 @@
 use Rattle.std.proofs.Common.{arith}
 use Rattle.fv_files.proofs.Sums.{no_cost}
-use Rattle.fv_files.proofs.Whole.{stored_in, stored_led, stored_sound, stored_wells}
+use Rattle.fv_files.specs.declared.files.Files.{Files}
+use Rattle.fv_files.proofs.Altered.{none_laid}
+use Rattle.fv_files.proofs.Whole.{no_trees, stored_in, stored_led, stored_sound, stored_wells}
 use Rattle.fv_files.proofs.files.Files.at.Goals as goal
 
 pub returns-clause-stored : goal.returns-clause-stored
@@ -17,3 +19,6 @@ returns-clause-well c = stored_wells (record { inode = c.at.result; trees = c.ne
 
 pub returns-clause-pending : goal.returns-clause-pending
 returns-clause-pending c = let inode = c.at.ensures.pending in let trees = no_cost c.new.result c.new.ensures.len in omega (arith, inode, trees)
+
+pub returns-clause-laid : goal.returns-clause-laid
+returns-clause-laid c = let f : Files = record { inode = c.at.result; trees = c.new.result; alloc = c.args.alloc } in λ blocks. none_laid blocks f (no_trees f c.new.ensures.len)

@@ -1,0 +1,20 @@
+-- The first step of a command on snapshots in a session: whether it is refused before room is made for it, and for how many blocks room is made.
+use Rattle.std.specs.Prelude.{◌≡◌, ℕ, List, Option, Some, None, Result, Ok, OnOk}
+use Rattle.fv_model.specs.declared.answers.Refusal.{Refusal}
+use Rattle.fv_model.specs.declared.commands.Command.{Command}
+use Rattle.fv_model.specs.declared.commands.Command.TheVariants.{SnapCreate}
+use Rattle.fv_model.specs.Space.{map_blocks}
+use Rattle.fv_volume.specs.declared.state.VolumeState.{VolumeState}
+use Rattle.fv_snapshot.specs.Creating.{JudgesCreation, refusal_in}
+
+-- A snapshot that is made is refused as it is judged, and else adds the blocks of its map; each other command adds none.
+pub record IsJudged (x : VolumeState) (blocks others : ℕ) (name : List ℕ) (result : Result ℕ Refusal) : Type 0 where
+  pub judged : Result ℕ Refusal
+  pub judges : JudgesCreation x blocks others name judged
+  pub refused : refusal_in result ≡ refusal_in judged
+  pub room : OnOk result (result ≡ Ok (map_blocks x.span))
+
+abbrev pub HasRoomFor : Option VolumeState → ℕ → ℕ → Command → Result ℕ Refusal → Type 0
+HasRoomFor None blocks others command result = ⊥
+HasRoomFor (Some x) blocks others (SnapCreate volume snapshot) result = IsJudged x blocks others snapshot result
+HasRoomFor (Some x) blocks others command result = result ≡ Ok 0

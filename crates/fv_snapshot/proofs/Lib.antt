@@ -1,0 +1,14 @@
+pub mod Told
+pub mod Snapped
+pub mod Removing
+pub mod Unsnapped
+pub mod Turned
+pub mod Counting
+pub mod Recounted
+pub mod Full
+pub mod Judging
+pub mod Placing
+pub mod Creating
+pub mod Finding
+pub mod Deleting
+pub mod Restoring

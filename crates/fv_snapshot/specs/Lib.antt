@@ -1,0 +1,4 @@
+pub mod OwnIds
+pub mod Creating
+pub mod Deleting
+pub mod Restoring
