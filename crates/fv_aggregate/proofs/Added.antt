@@ -92,7 +92,7 @@ module _ (session : Session) (name : List ℕ) (size : ℕ) (kind : Kind) (room 
           settled = stands.settled;
           pending = omega (arith, none, over, pending, stands.pending);
           files = omega (arith, none, pending, stands.files);
-          few = omega (arith, none, stands.few);
+          few = (let files = added.files in omega (arith, files, stands.few));
           room = subst (λ (n : ℕ). overheads (view_at (root_found session.pool.found) disk.reads) + max 256 n ≤ clear_blocks session.pool.map) (sym pending) enough;
         })
 

@@ -19,7 +19,7 @@ use Rattle.fv_aggregate.specs.declared.fault.Fault.{Fault}
 use Rattle.fv_aggregate.specs.declared.fault.Fault.TheVariants.{Memory}
 use Rattle.fv_aggregate.specs.declared.session.Session.{Session}
 use Rattle.fv_aggregate.specs.Calls.{Goes, GoesFor, IsNoDamage, IsPlain, KeepsAsking}
-use Rattle.fv_aggregate.specs.Commands.{Replies, RepliesBy, volume_asked, changed_by, is_built, machine_after, managed_by, reads_files, room_of}
+use Rattle.fv_aggregate.specs.Commands.{Replies, RepliesBy, volume_asked, changed_by, is_built, machine_after, managed_by, reads_files, room_of, snapped_by}
 use Rattle.fv_aggregate.specs.Standing.{StandsAfter, StandsFor}
 use Rattle.fv_aggregate.specs.Telling.{names_from}
 use Rattle.fv_aggregate.proofs.Standing.{rests_for_last, stays_for}
@@ -88,6 +88,15 @@ module _ (command : Command) (name : List ℕ) (size : ℕ) (kind : Kind) (is : 
   pub create_no_whole : (X : Type 0) (other : List ℕ) → managed_by command ≡ Some other → X
   create_no_whole X other of = absurd (some_none other (sym of ∙ ap managed_by is))
 
+  pub create_no_snap : (X : Type 0) (other : List ℕ) → snapped_by command ≡ Some other → X
+  create_no_snap X other of = absurd (some_none other (sym of ∙ ap snapped_by is))
+
+  pub create_no_names : (X : Type 0) (other : List ℕ) → command ≡ SnapList other → X
+  create_no_names X other names = absurd (apart (sym is ∙ names))
+    where
+      apart : VolCreate name size kind ≡ SnapList other → ⊥
+      apart e = cc
+
   pub create_room : room_of command ≡ overhead (span_of size 0 0)
   unfolding room_of
   create_room = ap room_of is
@@ -123,12 +132,21 @@ list_no_point X command is cp = absurd (apart (sym is ∙ cp))
 list_no_whole : (X : Type 0) (command : Command) → command ≡ VolList → (name : List ℕ) → managed_by command ≡ Some name → X
 list_no_whole X command is name of = absurd (some_none name (sym of ∙ ap managed_by is))
 
+list_no_snap : (X : Type 0) (command : Command) → command ≡ VolList → (name : List ℕ) → snapped_by command ≡ Some name → X
+list_no_snap X command is name of = absurd (some_none name (sym of ∙ ap snapped_by is))
+
+list_no_names : (X : Type 0) (command : Command) → command ≡ VolList → (name : List ℕ) → command ≡ SnapList name → X
+list_no_names X command is name names = absurd (apart (sym is ∙ names))
+  where
+    apart : VolList ≡ SnapList name → ⊥
+    apart e = cc
+
 pub list_fails : {D : Type 0} (command : Command) → command ≡ VolList → (shown : Shown) (disk : D) (session : Session) → IsPlain command shown disk session shown disk session (Err Memory)
 list_fails command is shown disk session = record {
   refused = tt;
   calm = λ other few. refl;
-  map = λ other stays few. refl;
-  wanting = λ other few same. refl;
+  map = λ other stays places few. refl;
+  wanting = λ other places few same. refl;
   damage = tt;
   unbuilt = λ fresh none. list_built _ command is none;
   listed = λ list. tt;
@@ -136,14 +154,16 @@ list_fails command is shown disk session = record {
   pointed = λ cp. tt;
   memory = λ cp. list_no_point _ command is cp;
   managed = λ fresh name of. list_no_whole _ command is name of;
+  snapped = λ fresh name of. list_no_snap _ command is name of;
+  snapshots = λ fresh name names. list_no_names _ command is name names;
 }
 
 pub list_done : {D : Type 0} (command : Command) → command ≡ VolList → (shown : Shown) (disk : D) (session : Session) (names : List (List ℕ)) → names ≡ names_from session.volumes 0 64 → IsPlain command shown disk session shown disk session (Ok (Names names))
 list_done command is shown disk session names told = record {
   refused = λ refused. (refl, refl);
   calm = λ other few. refl;
-  map = λ other stays few. refl;
-  wanting = λ other few. tt;
+  map = λ other stays places few. refl;
+  wanting = λ other places few. tt;
   damage = tt;
   unbuilt = λ fresh none. list_built _ command is none;
   listed = λ list. ap Names told;
@@ -151,6 +171,8 @@ list_done command is shown disk session names told = record {
   pointed = λ cp. list_no_point _ command is cp;
   memory = λ cp none. tt;
   managed = λ fresh name of. list_no_whole _ command is name of;
+  snapped = λ fresh name of. list_no_snap _ command is name of;
+  snapshots = λ fresh name names. list_no_names _ command is name names;
 }
 
 -- ---- cp
@@ -164,6 +186,15 @@ cp_no_list X command is list = list_no_point X command list is
 
 pub cp_no_whole : (X : Type 0) (command : Command) → command ≡ Cp → (name : List ℕ) → managed_by command ≡ Some name → X
 cp_no_whole X command is name of = absurd (some_none name (sym of ∙ ap managed_by is))
+
+pub cp_no_snap : (X : Type 0) (command : Command) → command ≡ Cp → (name : List ℕ) → snapped_by command ≡ Some name → X
+cp_no_snap X command is name of = absurd (some_none name (sym of ∙ ap snapped_by is))
+
+pub cp_no_names : (X : Type 0) (command : Command) → command ≡ Cp → (name : List ℕ) → command ≡ SnapList name → X
+cp_no_names X command is name names = absurd (apart (sym is ∙ names))
+  where
+    apart : Cp ≡ SnapList name → ⊥
+    apart e = cc
 
 pub cp_no_files : (X : Type 0) (command : Command) → command ≡ Cp → reads_files command ≡ true → X
 unfolding reads_files
@@ -193,33 +224,33 @@ none_if true v none = absurd (some_none v none)
 none_if false v none = refl
 
 -- a command that is about a whole volume, or isn't built
-pub managed_or_unbuilt : (command : Command) → ((name : List ℕ) (size : ℕ) (kind : Kind) → command ≢ VolCreate name size kind) → command ≢ VolList → command ≢ Cp → volume_asked command ≡ None → changed_by command ≡ None → (is_some (managed_by command) ≡ true) ⊎ (is_built command ≡ false)
+pub managed_or_unbuilt : (command : Command) → ((name : List ℕ) (size : ℕ) (kind : Kind) → command ≢ VolCreate name size kind) → command ≢ VolList → command ≢ Cp → ((name : List ℕ) → command ≢ SnapList name) → volume_asked command ≡ None → changed_by command ≡ None → snapped_by command ≡ None → (is_some (managed_by command) ≡ true) ⊎ (is_built command ≡ false)
 unfolding is_built
-managed_or_unbuilt (VolCreate v size kind) a b c asked changed = absurd (a v size kind refl)
-managed_or_unbuilt (VolDestroy v) a b c asked changed = inl refl
-managed_or_unbuilt (VolResize v size) a b c asked changed = inl refl
-managed_or_unbuilt (VolGuarantee v kind) a b c asked changed = inl refl
-managed_or_unbuilt VolList a b c asked changed = absurd (b refl)
-managed_or_unbuilt (VolStat v) a b c asked changed = inl refl
-managed_or_unbuilt (New v f reserve) a b c asked changed = inr (none_if (reserve == 0) v changed)
-managed_or_unbuilt (Put v f i block) a b c asked changed = absurd (some_none v changed)
-managed_or_unbuilt (Get v s f i) a b c asked changed = absurd (some_none v asked)
-managed_or_unbuilt (Len v s f) a b c asked changed = absurd (some_none v asked)
-managed_or_unbuilt (Cut v f length) a b c asked changed = absurd (some_none v changed)
-managed_or_unbuilt (Remove v f) a b c asked changed = absurd (some_none v changed)
-managed_or_unbuilt (Ls v s) a b c asked changed = absurd (some_none v asked)
-managed_or_unbuilt (SnapCreate v s) a b c asked changed = inr refl
-managed_or_unbuilt (SnapDelete v s) a b c asked changed = inr refl
-managed_or_unbuilt (SnapRestore v s) a b c asked changed = inr refl
-managed_or_unbuilt (SnapList v) a b c asked changed = inr refl
-managed_or_unbuilt (CloneCreate x v s size kind) a b c asked changed = inr refl
-managed_or_unbuilt (SplitStart x) a b c asked changed = inr refl
-managed_or_unbuilt (SplitFinish x) a b c asked changed = inr refl
-managed_or_unbuilt (Mirror v s w size kind) a b c asked changed = inr refl
-managed_or_unbuilt (Clean v) a b c asked changed = inr refl
-managed_or_unbuilt (Probe v f i) a b c asked changed = inr refl
-managed_or_unbuilt (Work n) a b c asked changed = inr refl
-managed_or_unbuilt Cp a b c asked changed = absurd (c refl)
+managed_or_unbuilt (VolCreate v size kind) a b c d asked changed snaps = absurd (a v size kind refl)
+managed_or_unbuilt (VolDestroy v) a b c d asked changed snaps = inl refl
+managed_or_unbuilt (VolResize v size) a b c d asked changed snaps = inl refl
+managed_or_unbuilt (VolGuarantee v kind) a b c d asked changed snaps = inl refl
+managed_or_unbuilt VolList a b c d asked changed snaps = absurd (b refl)
+managed_or_unbuilt (VolStat v) a b c d asked changed snaps = inl refl
+managed_or_unbuilt (New v f reserve) a b c d asked changed snaps = inr (none_if (reserve == 0) v changed)
+managed_or_unbuilt (Put v f i block) a b c d asked changed snaps = absurd (some_none v changed)
+managed_or_unbuilt (Get v s f i) a b c d asked changed snaps = absurd (some_none v asked)
+managed_or_unbuilt (Len v s f) a b c d asked changed snaps = absurd (some_none v asked)
+managed_or_unbuilt (Cut v f length) a b c d asked changed snaps = absurd (some_none v changed)
+managed_or_unbuilt (Remove v f) a b c d asked changed snaps = absurd (some_none v changed)
+managed_or_unbuilt (Ls v s) a b c d asked changed snaps = absurd (some_none v asked)
+managed_or_unbuilt (SnapCreate v s) a b c d asked changed snaps = absurd (some_none v snaps)
+managed_or_unbuilt (SnapDelete v s) a b c d asked changed snaps = absurd (some_none v snaps)
+managed_or_unbuilt (SnapRestore v s) a b c d asked changed snaps = absurd (some_none v snaps)
+managed_or_unbuilt (SnapList v) a b c d asked changed snaps = absurd (d v refl)
+managed_or_unbuilt (CloneCreate x v s size kind) a b c d asked changed snaps = inr refl
+managed_or_unbuilt (SplitStart x) a b c d asked changed snaps = inr refl
+managed_or_unbuilt (SplitFinish x) a b c d asked changed snaps = inr refl
+managed_or_unbuilt (Mirror v s w size kind) a b c d asked changed snaps = inr refl
+managed_or_unbuilt (Clean v) a b c d asked changed snaps = inr refl
+managed_or_unbuilt (Probe v f i) a b c d asked changed snaps = inr refl
+managed_or_unbuilt (Work n) a b c d asked changed snaps = inr refl
+managed_or_unbuilt Cp a b c d asked changed snaps = absurd (c refl)
 
 -- a command that neither asks for files nor changes one reads none
 pub no_files : (command : Command) → volume_asked command ≡ None → changed_by command ≡ None → reads_files command ≡ false

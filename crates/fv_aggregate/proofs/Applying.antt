@@ -18,7 +18,7 @@ use Rattle.fv_aggregate.specs.declared.fault.Fault.{Fault}
 use Rattle.fv_aggregate.specs.declared.session.Session.{Session}
 use Rattle.fv_aggregate.specs.Adding.{IsPointed}
 use Rattle.fv_aggregate.specs.Calls.{Goes, GoesFor, KeepsAsking, WasRead}
-use Rattle.fv_aggregate.specs.Commands.{volume_asked, changed_by, changes_volume, dirty_limit, is_refusal, machine_after, room_of, Replies}
+use Rattle.fv_aggregate.specs.Commands.{changed_by, changes_volume, dirty_limit, file_room, is_refusal, machine_after, room_of, volume_asked, Replies}
 use Rattle.fv_aggregate.specs.Looking.{Looks, Makes}
 use Rattle.fv_aggregate.specs.Standing.{HoldsAsCommitted, IsWithoutFiles, Stands, StandsFor}
 use Rattle.fv_aggregate.proofs.Calls.{reads_itself}
@@ -149,7 +149,7 @@ module _ (c : Command) (name : List ℕ) (asks : volume_asked c ≡ Some name) (
 
 -- ---- a command that changes a file
 
-module _ (c : Command) (name : List ℕ) (of : changed_by c ≡ Some name) (d : Shown) (s : Session) (e : Shown) (n : Session) (r : Result Reply Fault) (makes : Makes d s c e n r) where
+module _ (c : Command) (name : List ℕ) (of : changed_by c ≡ Some name) (d : Shown) (s : Session) (e : Shown) (n : Session) (r : Result Reply Fault) (makes : Makes file_room d s c e n r) where
   change : IsChangeOf name c
   change = change_of_volume name c of
 

@@ -51,7 +51,7 @@ use Rattle.fv_volume.proofs.Made.{from_pairs, to_pair}
 use Rattle.fv_volume.proofs.NewStanding.{made_standing, made_volume, made_well}
 use Rattle.fv_volume.proofs.Others.{entries_led, entries_standing, entries_volume, entries_well}
 use Rattle.fv_container.proofs.Leading.{any_in_range}
-use Rattle.fv_volume.proofs.SlotBlocks.{at_is}
+use Rattle.fv_container.proofs.Named.{at_none}
 use Rattle.fv_volume.proofs.Told.{find_set, is_inside, named_from, none_named as none_found, same_named}
 use Rattle.fv_cp.specs.Held.{machine_held, IsHeld, IsHeldIn}
 use Rattle.fv_cp.specs.Lent.{FitTogether, IsLentAt, IsLentSlot}
@@ -66,13 +66,6 @@ no_entry : (n v : ℕ) → entry_under (empty_map n) v ≡ None
 no_entry zero v = refl
 no_entry (suc n) zero = refl
 no_entry (suc n) (suc v) = no_entry n v
-
-at_none : (b : ℕ) → is_at b 0 ≡ false
-at_none b = so (is_at b 0) refl
-  where
-    so : (r : Bool) → is_at b 0 ≡ r → r ≡ false
-    so true e = absurd ((at_is b 0 e).1 refl)
-    so false e = refl
 
 none_named : (n b : ℕ) → names (replicate n 0) b ≡ false
 none_named zero b = refl

@@ -28,7 +28,7 @@ use Rattle.fv_aggregate.specs.declared.fault.Fault.{Fault}
 use Rattle.fv_aggregate.specs.declared.fault.Fault.TheVariants.{DiskFault, Damaged, Memory}
 use Rattle.fv_aggregate.specs.declared.session.Session.{Session}
 use Rattle.fv_aggregate.specs.Calls.{GoesFor}
-use Rattle.fv_aggregate.specs.Commands.{changed_by, has_range}
+use Rattle.fv_aggregate.specs.Commands.{changed_by, file_room, has_range}
 use Rattle.fv_aggregate.specs.Looking.{done_as, ChangesSlot, ChangesState, HasJudged, IsSlotChanged, JudgesSlot, JudgesState, IsAimed, Makes, Replied}
 use Rattle.fv_aggregate.specs.Standing.{Stands, StandsFor}
 use Rattle.fv_aggregate.proofs.Asked.{calm_damage, calm_memory, damaged_at, rose_by}
@@ -95,8 +95,8 @@ module _ (d e : Shown) (laws : IsDisk d) (s : Session) (q : Pool) (c : Command) 
     abbrev after : Session
     after = record s { volumes = with_state s.volumes slot (Some y); pool = q; pending = s.pending + more }
 
-    makes_as : (new : Session) (result wanted : Result Reply Fault) (was : Session) → new ≡ was → result ≡ wanted → Makes d s c e was wanted → Makes d s c e new result
-    makes_as new result wanted was same is makes = subst (λ (r : Result Reply Fault). Makes d s c e new r) (sym is) (subst (λ (n : Session). Makes d s c e n wanted) (sym same) makes)
+    makes_as : (new : Session) (result wanted : Result Reply Fault) (was : Session) → new ≡ was → result ≡ wanted → Makes file_room d s c e was wanted → Makes file_room d s c e new result
+    makes_as new result wanted was same is makes = subst (λ (r : Result Reply Fault). Makes file_room d s c e new r) (sym is) (subst (λ (n : Session). Makes file_room d s c e n wanted) (sym same) makes)
 
     few_added : s.pending + more ≤ s.pending + 16
     few_added = omega (arith, more_is)
@@ -130,7 +130,7 @@ module _ (d e : Shown) (laws : IsDisk d) (s : Session) (q : Pool) (c : Command) 
         let nothing : s.pending + more ≡ s.pending = omega (arith, none) in
         λ j. record s { volumes = states j; pool = q; pending = nothing j }
 
-    pub makes_by : (r : Result Unit VolumeFault) → ChangesState d s.pool x (beside s.volumes slot) c e q y r → (new : Session) (result : Result Reply Fault) → Replied e (done_as r) after new result → Makes d s c e new result
+    pub makes_by : (r : Result Unit VolumeFault) → ChangesState d s.pool x (beside s.volumes slot) c e q y r → (new : Session) (result : Result Reply Fault) → Replied e (done_as r) after new result → Makes file_room d s c e new result
     makes_by (Ok u) did new result is = makes_as new result (Ok Done) after is.1 is.0 (record {
       goes = goes_done d e laws s after 16 did.reads.only_reads fresh fresh (stand (Ok u) did) Done did.cause few_added;
       goes_for = λ tells last m is. goes_for_done d e laws s after 16 did.reads.only_reads fresh fresh (stand (Ok u) did) Done last m (next m c) is (for_done u did last m is);
@@ -189,7 +189,7 @@ counted_as states stay slot x y long there row before after more before_is after
 -- ---- before a volume is asked
 
 -- what the machine refuses is refused at once
-pub refused_at_once : (d : Shown) → IsDisk d → (s : Session) → IsNone s.failed → Stands d s → (c : Command) (r : Refusal) → ((last m : Machine) → StandsFor d s last m → refusal m c ≡ Some r) → Makes d s c d s (Ok (Refused r))
+pub refused_at_once : (d : Shown) → IsDisk d → (s : Session) → IsNone s.failed → Stands d s → (c : Command) (r : Refusal) → ((last m : Machine) → StandsFor d s last m → refusal m c ≡ Some r) → Makes file_room d s c d s (Ok (Refused r))
 refused_at_once d laws s fresh stands c r why = record {
   goes = goes_done d d laws s s 16 (reads_itself d) fresh fresh stands (Refused r) refl (omega arith);
   goes_for = λ tells last m is. subst (λ (n : Machine). GoesFor d last m n d s (Ok (Refused r))) (sym (refused_next m c r (why last m is)))

@@ -34,3 +34,14 @@ mod Removing
 mod Managed
 mod ManagedCalls
 mod Keeping
+mod Stepped
+mod SnapSteps
+mod SnapSessions
+mod SnapDone
+mod SnapCommands
+mod SnapCarried
+mod SnapRoom
+mod SnapListed
+mod SnapApplied
+mod SnapFits
+mod SnapNow

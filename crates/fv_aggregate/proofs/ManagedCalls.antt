@@ -1,10 +1,10 @@
 -- A command on a whole volume as `apply` has it: it reaches no disk, and the session's last point stays.
-use Rattle.std.proofs.Common.{◌≡◌, ◌≢◌, ℕ, Ok, false, inl, refl, sym, ap, subst, arith}
+use Rattle.std.proofs.Common.{◌≡◌, ◌≢◌, ℕ, List, Some, None, Ok, false, inl, refl, sym, ap, subst, ◌∙◌, arith}
 use Rattle.std.specs.Prelude.{IsNone}
 use Rattle.fv_disk.specs.Shown.{IsDisk, Shown}
 use Rattle.fv_model.specs.declared.answers.Reply.{Reply}
 use Rattle.fv_model.specs.declared.commands.Command.{Command}
-use Rattle.fv_model.specs.declared.commands.Command.TheVariants.{Cp, VolList}
+use Rattle.fv_model.specs.declared.commands.Command.TheVariants.{Cp, SnapList, VolList}
 use Rattle.fv_model.specs.Machines.{Machine}
 use Rattle.fv_image.specs.Held.{view_at}
 use Rattle.fv_image.specs.Sound.{overheads}
@@ -12,11 +12,14 @@ use Rattle.fv_root.specs.declared.find.Found.{Found}
 use Rattle.fv_root.specs.Finding.{root_found}
 use Rattle.fv_aggregate.specs.declared.session.Session.{Session}
 use Rattle.fv_aggregate.specs.Calls.{Goes, GoesFor, IsPlain, KeepsAsking}
-use Rattle.fv_aggregate.specs.Commands.{changes_volume, machine_after}
+use Rattle.fv_aggregate.specs.Commands.{changes_volume, machine_after, snapped_by}
 use Rattle.fv_aggregate.specs.Standing.{Stands, StandsFor}
 use Rattle.fv_aggregate.proofs.Calls.{same_counts, same_ends}
 use Rattle.fv_aggregate.proofs.Managed.{IsManagedOver}
 use Rattle.fv_aggregate.proofs.Standing.{rests_for_last}
+
+some_none : (v : List ℕ) → Some v ≡ None → ⊥
+some_none v e = cc
 
 module _ (disk : Shown) (old : Session) (c : Command) (new : Session) (reply : Reply) (over : IsManagedOver disk old c new reply) where
   pub managed_goes : (room : ℕ) → IsNone old.failed → Stands disk old → Goes room disk old disk new (Ok reply)
@@ -43,12 +46,12 @@ module _ (disk : Shown) (old : Session) (c : Command) (new : Session) (reply : R
     whole = tt;
   }
 
-  pub managed_plain : {D : Type 0} (at : D) → c ≢ VolList → c ≢ Cp → IsPlain c disk at old disk at new (Ok reply)
-  managed_plain at no_list no_point = record {
+  pub managed_plain : {D : Type 0} (at : D) → c ≢ VolList → c ≢ Cp → ((name : List ℕ) → c ≢ SnapList name) → snapped_by c ≡ None → IsPlain c disk at old disk at new (Ok reply)
+  managed_plain at no_list no_point no_names no_snap = record {
     refused = λ refused. (refl, over.refused refused);
     calm = λ other few. refl;
-    map = λ other stays few. over.map stays;
-    wanting = λ other few. tt;
+    map = λ other stays places few. over.map stays;
+    wanting = λ other places few. tt;
     damage = tt;
     unbuilt = λ fresh none. ap Ok (over.unbuilt none);
     listed = λ list. absurd (no_list list);
@@ -56,4 +59,6 @@ module _ (disk : Shown) (old : Session) (c : Command) (new : Session) (reply : R
     pointed = λ cp. absurd (no_point cp);
     memory = λ cp. absurd (no_point cp);
     managed = λ fresh name of. record { reply = reply; is = refl; managed = over.managed name of };
+    snapped = λ fresh name of. absurd (some_none name (sym of ∙ no_snap));
+    snapshots = λ fresh name is. absurd (no_names name is);
   }

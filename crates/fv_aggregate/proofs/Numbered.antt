@@ -15,7 +15,7 @@ use Rattle.fv_cp.specs.Placing.{HasNoFiles, HaveNoFiles}
 use Rattle.fv_aggregate.specs.declared.fault.Fault.{Fault}
 use Rattle.fv_aggregate.specs.declared.session.Session.{Session}
 use Rattle.fv_aggregate.specs.Calls.{but_numbers, GoesFor, HasDamage, KeepsAsking, SameButNumbers, WasRead}
-use Rattle.fv_aggregate.specs.Commands.{is_refusal}
+use Rattle.fv_aggregate.specs.Commands.{file_room, is_refusal}
 use Rattle.fv_aggregate.specs.Looking.{Looks, Makes}
 use Rattle.fv_aggregate.specs.Numbering.{HasNumbered}
 use Rattle.fv_aggregate.specs.Standing.{StandsFor}
@@ -73,7 +73,7 @@ module _ (d : Shown) (s : Session) (c : Command) (e : Shown) (n : Session) (f : 
     read = tt;
   }
 
-  pub make_unnumbered : Makes d s c e n (Err f)
+  pub make_unnumbered : Makes file_room d s c e n (Err f)
   make_unnumbered = record {
     goes = goes_wider 16 d s e n f failed.goes;
     goes_for = λ tells last m is. fails_early d last m (next m c) e n f (failed.goes_for tells last m is);
@@ -126,7 +126,7 @@ module _ (d : Shown) (s : Session) (c : Command) (damage : (new : Session) (at w
     read = read_both r looks.read;
   }
 
-  pub make_numbered : Makes e n c g new r → Makes d s c g new r
+  pub make_numbered : Makes file_room e n c g new r → Makes file_room d s c g new r
   make_numbered makes = record {
     goes = goes_on_read u 0 16 d s e n read.goes none_added g new r read.only_reads same_pending (damage new) makes.goes;
     goes_for = for_then (λ m. next m c) makes.goes_for;

@@ -143,7 +143,7 @@ module _ (d e : Shown) (s : Session) (q : Pool) (slot : ℕ) (x y : VolumeState)
         let clear : clear_blocks q.map ≡ clear_blocks s.pool.map = clear_read d e s q reads in
         let pending : pending_files s.volumes + maps_waiting s.volumes + taken_since s.pool.map + overheads_in s.volumes ≤ overheads (view_at (root_found s.pool.found) d.reads) + s.pending = is.pending in
         let files : pending_files s.volumes + maps_waiting s.volumes + taken_since s.pool.map ≤ s.pending = is.files in
-        let few : pending_files s.volumes + maps_waiting s.volumes + taken_since s.pool.map < 256 = is.few in
+        let few : pending_files s.volumes + taken_since s.pool.map < 256 = is.few in
         let fits : overheads (view_at (root_found s.pool.found) d.reads) + max 256 s.pending ≤ clear_blocks s.pool.map = is.room in
         record {
           held = held;

@@ -225,7 +225,7 @@ module _ (before : Shown) (old : Session) (after : Shown) (new : Session) (still
         settled = settled_after_reads before after reads stands.settled;
         pending = omega (arith, same, fewer, over, pending_same, stands.pending);
         files = omega (arith, fewer, pending_same, stands.files);
-        few = omega (arith, fewer, stands.few);
+        few = omega (arith, spent.blocks, clear, free_and_placed old.pool.map, free_and_placed new.pool.map, stands.few);
         room = omega (arith, same, clear, pending_same, stands.room);
       }
 
@@ -287,6 +287,8 @@ pointed_left before old after new pool states none same_pool same_states long go
       same = λ tells. (goes.loaded tells).same;
       cores = cores;
       admits = admits_still old new long goes.fit.housed.long cores (goes.blocks ∙ ap (λ (p : Pool). p.found.blocks) same_pool);
+      none = goes.none;
+      blocks = goes.blocks ∙ ap (λ (p : Pool). p.found.blocks) same_pool;
     }
 
 -- ---- after a point

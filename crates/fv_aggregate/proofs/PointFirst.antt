@@ -17,7 +17,7 @@ use Rattle.fv_volume.specs.Changing.{IsChangeOf}
 use Rattle.fv_aggregate.specs.declared.fault.Fault.{Fault}
 use Rattle.fv_aggregate.specs.declared.session.Session.{Session}
 use Rattle.fv_aggregate.specs.Calls.{Goes, GoesFor, HasDamage, WasRead}
-use Rattle.fv_aggregate.specs.Commands.{dirty_limit, is_refusal}
+use Rattle.fv_aggregate.specs.Commands.{dirty_limit, file_room, is_refusal}
 use Rattle.fv_aggregate.specs.Looking.{refusal_in, HasJudged, IsAimed, Makes}
 use Rattle.fv_aggregate.specs.Standing.{StandsFor}
 use Rattle.fv_aggregate.proofs.CallEnds.{fails_early, goes_after, goes_for_after, goes_wider, replies_wider}
@@ -28,7 +28,7 @@ use Rattle.fv_aggregate.proofs.Numbered.{still_there}
 -- ---- it ends where it was judged
 
 module _ (d : Shown) (s : Session) (c : Command) (e : Shown) (n : Session) where
-  pub judging_failed : (f : Fault) → HasJudged d s c e n (Err f) → Makes d s c e n (Err f)
+  pub judging_failed : (f : Fault) → HasJudged d s c e n (Err f) → Makes file_room d s c e n (Err f)
   judging_failed f judged = record {
     goes = goes_wider 16 d s e n f judged.goes;
     goes_for = λ tells last m is. fails_early d last m (next m c) e n f (judged.goes_for tells last m is);
@@ -37,7 +37,7 @@ module _ (d : Shown) (s : Session) (c : Command) (e : Shown) (n : Session) where
     calm = λ low. judged.only_reads;
   }
 
-  pub judged_refused : (r : Refusal) → HasJudged d s c e n (Ok (Refused r)) → Makes d s c e n (Ok (Refused r))
+  pub judged_refused : (r : Refusal) → HasJudged d s c e n (Ok (Refused r)) → Makes file_room d s c e n (Ok (Refused r))
   judged_refused r judged = record {
     goes = replies_wider (Refused r) (Refused r) 16 d s e n judged.goes;
     goes_for = λ tells last m is. subst (λ (k : Machine). GoesFor d last m k e n (Ok (Refused r))) (sym (refused_next m c r (judged.judges tells last m is))) (judged.goes_for tells last m is);
@@ -56,7 +56,7 @@ module _ (d : Shown) (s : Session) (c : Command) (past : dirty_limit < s.pending
   told : IsTrue d.tells → IsTrue e.tells
   told tells = subst IsTrue (sym judged.goes.ends.tells) tells
 
-  pub room_failed : (f : Fault) → Goes {T = Unit {0}} 16 e n g p (Err f) → (IsTrue e.tells → (last m : Machine) → StandsFor e n last m → GoesFor {T = Unit {0}} e last m m g p (Err f)) → Makes d s c g p (Err f)
+  pub room_failed : (f : Fault) → Goes {T = Unit {0}} 16 e n g p (Err f) → (IsTrue e.tells → (last m : Machine) → StandsFor e n last m → GoesFor {T = Unit {0}} e last m m g p (Err f)) → Makes file_room d s c g p (Err f)
   room_failed f goes goes_for = record {
     goes = goes_after reply 16 16 d s e n (replies_wider reply reply 16 d s e n judged.goes) none_added g p (Err f) past (damage p) (fails_as goes);
     goes_for = λ tells last m is.
@@ -88,7 +88,7 @@ module _ (d : Shown) (s : Session) (c : Command) (past : dirty_limit < s.pending
     not_refused m accepted (Err f) allowed = tt
     not_refused m accepted (Ok y) allowed = λ refused. absurd (true≢false (sym refused ∙ ap is_refusal (change_done name c change m y accepted allowed)))
 
-    pub made_after : (result : Result Reply Fault) → Makes g p c h new result → Makes d s c h new result
+    pub made_after : (result : Result Reply Fault) → Makes file_room g p c h new result → Makes file_room d s c h new result
     made_after result makes = record {
       goes = goes_after u 16 16 d s g p both (omega (arith, less, none_added)) h new result past (damage new) makes.goes;
       goes_for = λ tells last m is.

@@ -1,6 +1,6 @@
 -- An image that stands for a machine is damaged nowhere.
-use Rattle.std.proofs.Common.{◌≡◌, ◌≢◌, ◌<◌, ◌+◌, ◌-◌, ◌*◌, ◌/◌, ◌%◌, ℕ, zero, suc, Bool, true, false, not, List, [], ◌∷◌, length, Option, Some, None, Result, Ok, Err, true≢false, refl, sym, ap, subst, ◌∙◌, ⊎_elim, inl, inr, arith}
-use Rattle.std.specs.Prelude.{◌⊎◌, ◌&&◌, ◌==◌, IfErr, IsErr, find, nat_lt, take, if◌then◌else◌}
+use Rattle.std.proofs.Common.{◌≡◌, ◌≢◌, ◌<◌, ◌-◌, ◌*◌, ◌/◌, ◌%◌, ℕ, zero, suc, Bool, true, false, length, Option, Some, None, Result, Ok, Err, true≢false, refl, sym, ap, subst, ◌∙◌, ⊎_elim, inl, inr, arith}
+use Rattle.std.specs.Prelude.{◌⊎◌, ◌&&◌, ◌==◌, IfErr, IsErr, nat_lt, if◌then◌else◌}
 use Rattle.std.specs.List.{list_any}
 use Rattle.std.specs.Option.{is_none, option_map}
 use Rattle.std.proofs.lemmas.Bool.{and_parts}
@@ -11,7 +11,6 @@ use Rattle.fv_codec.specs.declared.shape.Shape.{Shape}
 use Rattle.fv_codec.specs.declared.superblock.Super.{Super}
 use Rattle.fv_codec.specs.declared.root.Root.{Root}
 use Rattle.fv_codec.specs.declared.label.Label.{Label}
-use Rattle.fv_codec.specs.declared.label.SnapRecord.{SnapRecord}
 use Rattle.fv_codec.specs.Blocks.{gate_open, label_at, root_at, super_at}
 use Rattle.fv_codec.specs.Fields.{Verdict}
 use Rattle.fv_model.specs.Machines.{Machine}
@@ -20,8 +19,7 @@ use Rattle.fv_image.specs.Layout.{block_bits, gate_place, root_place, superblock
 use Rattle.fv_image.specs.NewerRoot.{Taken, behind, newer, root_of, taken_of}
 use Rattle.fv_image.specs.Maps.{area_bits, map_bit}
 use Rattle.fv_image.specs.Containers.{node_of, node_shape, shaped}
-use Rattle.fv_image.specs.Views.{Footing, View, block_in, head_of, map_vvbn, snaps_from, used_slots, volume_bit}
-use Rattle.fv_image.specs.Told.{has_none}
+use Rattle.fv_image.specs.Views.{Footing, View, block_in, head_of, map_vvbn, used_slots, volume_bit}
 use Rattle.fv_image.specs.Held.{is_held, label_in, label_place, layout_at, lying_at, node_from, view_at}
 use Rattle.fv_image.specs.SoundSlots.{IsSoundSlot, IsSoundVolume}
 use Rattle.fv_image.specs.Soundness.{IsSound}
@@ -41,7 +39,7 @@ use Rattle.fv_image.proofs.Stands.{stands_for}
 use Rattle.fv_root.specs.declared.find.Found.{Found}
 use Rattle.fv_root.specs.Finding.{IsDamaged, IsNoAggregate, root_found}
 use Rattle.fv_aggmap.specs.Loading.{IsPastMap}
-use Rattle.fv_volume.specs.Loading.{IsLabelFault, IsMapFault, IsTreeFault, entry_block, first_used, form_in, is_used, label_of}
+use Rattle.fv_volume.specs.Loading.{IsLabelFault, IsMapFault, IsTreeFault, entry_block, form_in, label_of}
 use Rattle.fv_volume.proofs.KeptSlots.{root_few, root_used}
 use Rattle.fv_volume.proofs.Mapping.{block_there}
 use Rattle.fv_aggregate.specs.declared.fault.OpenFault.{OpenFault}
@@ -150,25 +148,13 @@ module _ (i : Image) (found : Found) (m : Machine) (tells : Tells (layout_at (ro
   unfolding layout_at view_at
   built_label s l there = built_forms (view_at (root_found found) i) tells.built s (head_of l) (slot_inside (root_found found) i s l there) (ap (option_map head_of) there)
 
-  no_first : (records : List SnapRecord) (j : ℕ) → has_none (snaps_from j records) ≡ true → first_used records ≡ None
-  unfolding snaps_from
-  no_first [] j none = refl
-  no_first (r ∷ rs) j none = so (r.name_length == 0) (no_first rs (j + 1)) none
-    where
-      so : (b : Bool) → (has_none (snaps_from (j + 1) rs) ≡ true → first_used rs ≡ None)
-          → has_none (if b then snaps_from (j + 1) rs else record { slot = j; name = take r.name_length r.name; table = record { levels = r.levels; root = r.root } } ∷ snaps_from (j + 1) rs) ≡ true
-          → option_map {U = ℕ × ℕ} (λ (x : SnapRecord). (0, x.name_length)) (if not b then Some r else find is_used rs) ≡ None
-      so true rest e = rest e
-      so false rest e = absurd cc
-
   no_form : (l : Label) → has_form (head_of l) ≡ true → form_in l ≡ None
   unfolding form_in head_of
   no_form l form =
-      let b = and_parts (has_none (snaps_from 1 l.snapshots)) _ form in
-      let c = and_parts _ (l.known == 1) b.1 in
+      let c = and_parts _ (l.known == 1) form in
       let parent : (l.parent == 0) ≡ true = base (l.parent == 0) c.0 in
       let known : (l.known == 0) ≡ false = let one : (l.known == 1) ≡ true = c.1 in grind (arith, nat_tests, one) in
-      rw (parent, known) (no_first l.snapshots 1 b.0)
+      rw (parent, known) refl
     where
       base : (none : Bool) → is_none {T = Footing} (if none then None else Some (record { parent = l.parent - 1; slot = l.base_slot; splitting = l.splitting == 1 })) ≡ true → none ≡ true
       base true e = refl

@@ -11,7 +11,7 @@ use Rattle.fv_volume.specs.Slots.{IsFirstFree}
 use Rattle.fv_volume.specs.States.{state_at}
 use Rattle.fv_volume.specs.Files.{IsLabelled}
 use Rattle.fv_cp.specs.Lent.{FitTogether, blocks_asked, maps_waiting}
-use Rattle.fv_cp.specs.Placing.{pending_files, KeepCores}
+use Rattle.fv_cp.specs.Placing.{pending_files, HaveNoFiles, KeepCores}
 use Rattle.fv_aggregate.specs.declared.session.Session.{Session}
 use Rattle.fv_aggregate.specs.Standing.{clear_blocks, overheads_in, IsWithoutFiles}
 
@@ -31,6 +31,9 @@ pub record IsPointed (before : Shown) (old new : Session) : Type 0 where
   pub same : IsTrue before.tells → new.pool.map.next ≡ new.pool.map.committed
   pub cores : KeepCores old.volumes new.volumes
   pub admits : StillAdmits old new
+  -- whatever the disk tells, no file is in memory, and the aggregate has as many blocks
+  pub none : HaveNoFiles new.volumes
+  pub blocks : new.pool.found.blocks ≡ old.pool.found.blocks
 
 -- a new volume was added to a session, with this room
 pub record IsAdded (old : Session) (name : List ℕ) (size : ℕ) (kind : Kind) (room : ℕ) (new : Session) : Type 0 where

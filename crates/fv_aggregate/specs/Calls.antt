@@ -1,5 +1,5 @@
 -- What every call of a session does: to the disk and to the session, and to the machines that the two stand for.
-use Rattle.std.specs.Prelude.{◌≡◌, ◌≢◌, ◌<◌, ◌≤◌, ◌+◌, ◌⊎◌, ℕ, max, IsTrue, IsNone, IsSome, Some, None, Result, Ok, OnOk, OnErr, IfOk, IfErr, List, false, true}
+use Rattle.std.specs.Prelude.{◌≡◌, ◌≢◌, ◌<◌, ◌≤◌, ◌+◌, ◌⊎◌, ℕ, max, IsTrue, IsNone, IsSome, IfSome, Some, None, Result, Ok, OnOk, OnErr, IfOk, IfErr, List, false, true}
 use Rattle.std.specs.Option.{option_map}
 use Rattle.fv_disk.specs.Shown.{Shown, Rose}
 use Rattle.fv_disk.specs.Crash.{Leaves}
@@ -8,7 +8,7 @@ use Rattle.fv_model.specs.declared.answers.Refusal.TheVariants.{NoSnapshot, NoVo
 use Rattle.fv_model.specs.declared.answers.Reply.{Reply}
 use Rattle.fv_model.specs.declared.answers.Reply.TheVariants.{Names, Refused}
 use Rattle.fv_model.specs.declared.commands.Command.{Command}
-use Rattle.fv_model.specs.declared.commands.Command.TheVariants.{Cp, VolList}
+use Rattle.fv_model.specs.declared.commands.Command.TheVariants.{Cp, SnapList, VolList}
 use Rattle.fv_model.specs.Machines.{Machine}
 use Rattle.fv_image.specs.Layout.{root_place}
 use Rattle.fv_aggmap.specs.Space.{free_blocks}
@@ -17,6 +17,7 @@ use Rattle.fv_volume.specs.Asking.{table_named}
 use Rattle.fv_volume.specs.BlocksOver.{LeavesPool}
 use Rattle.fv_volume.specs.declared.state.VolumeState.{VolumeState}
 use Rattle.fv_volume.specs.Slots.{HasName, NoneHasName}
+use Rattle.fv_volume.specs.Snaps.{names_kept}
 use Rattle.fv_volume.specs.States.{States, state_at}
 use Rattle.fv_cp.specs.Lent.{blocks_asked}
 use Rattle.fv_cp.specs.Placing.{HaveNoFiles}
@@ -26,7 +27,7 @@ use Rattle.fv_aggregate.specs.declared.session.Session.{Session}
 use Rattle.fv_aggregate.specs.Adding.{IsPointed}
 use Rattle.fv_aggregate.specs.Asking.{AsksWithin, IsShort}
 use Rattle.fv_aggregate.specs.Causes.{KeepsEnds}
-use Rattle.fv_aggregate.specs.Commands.{changed_by, dirty_limit, finds_file, has_range, is_built, is_get, is_refusal, managed_by, removes_volume, room_of, snapshot_asked, volume_asked}
+use Rattle.fv_aggregate.specs.Commands.{changed_by, dirty_limit, finds_file, has_range, is_built, is_get, is_refusal, managed_by, places_files, removes_volume, room_of, snapped_by, snapshot_asked, volume_asked}
 use Rattle.fv_aggregate.specs.Known.{KnowsNamed}
 use Rattle.fv_aggregate.specs.Managing.{IsManaged}
 use Rattle.fv_aggregate.specs.Standing.{taken_since, OneOf, Stands, StandsAfter, StandsFor}
@@ -170,16 +171,23 @@ pub record IsAnswered (old : Session) (command : Command) (name : List ℕ) (new
 abbrev pub IsWithinLimit : Session → Command → Type 0
 IsWithinLimit session command = (room_of command ≡ 0) ⊎ (session.pending + room_of command ≤ dirty_limit)
 
--- What a command that reads no file does beside, whatever the disk holds. Refused it leaves all as it was, and one that isn't built is refused as
--- no command. One that adds no block, or whose room stays within the dirty limit, doesn't reach the disk, but for a `cp`; and then it leaves the
--- session where memory ran out, and takes no block and gives none back, but for a removal. `vol list` answers the names of the session's volumes
--- and leaves all as it was. A `cp` that is done leaves nothing pending and no file in memory; where none was there it has no want of memory.
--- Damage comes for want of blocks alone. A command on a whole volume is answered, without a fault.
+-- the names of the snapshots of a volume are told, in byte order, or that no volume has the name
+abbrev pub TellsSnapshots : Session → List ℕ → Reply → Type 0
+TellsSnapshots session name reply =
+    (NoneHasName session.volumes name × (reply ≡ Refused NoVolume))
+    ⊎ ((slot : ℕ) × ((slot < slot_count) × (HasName session.volumes slot name × IfSome (state_at session.volumes slot) (λ x. reply ≡ Names (names_kept x.snapshots)))))
+
+-- What a command that reads no file does beside, whatever the disk holds. Refused it leaves all as it was, and one that isn't built is refused as no
+-- command. One that adds no block, or whose room stays within the dirty limit, doesn't reach the disk, but for a `cp`; and then it leaves the session
+-- where memory ran out, and takes no block and gives none back, but for a removal and for one that places files. `vol list` answers the names of the
+-- session's volumes, and `snap list` those of a volume's snapshots, and both leave all as it was. A `cp` that is done leaves nothing pending and no
+-- file in memory; where none was there it has no want of memory. Damage comes for want of blocks alone. A command on a whole volume is answered,
+-- without a fault.
 pub record IsPlain {D : Type 0} (command : Command) (shown : Shown) (before : D) (old : Session) (shown_after : Shown) (after : D) (new : Session) (result : Result Reply Fault) : Type 0 where
   pub refused : IfOk result (λ reply. IsTrue (is_refusal reply) → IsUntouched before old after new)
   pub calm : command ≢ Cp → IsWithinLimit old command → after ≡ before
-  pub map : command ≢ Cp → removes_volume command ≡ false → IsWithinLimit old command → new.pool.map ≡ old.pool.map
-  pub wanting : command ≢ Cp → IsWithinLimit old command → IfErr result (λ e. e ≡ Memory → new ≡ old)
+  pub map : command ≢ Cp → removes_volume command ≡ false → places_files command ≡ false → IsWithinLimit old command → new.pool.map ≡ old.pool.map
+  pub wanting : command ≢ Cp → places_files command ≡ false → IsWithinLimit old command → IfErr result (λ e. e ≡ Memory → new ≡ old)
   pub damage : IfErr result (IsForWant shown old shown_after new)
   pub unbuilt : IsNone old.failed → is_built command ≡ false → result ≡ Ok (Refused Syntax)
   pub listed : command ≡ VolList → IfOk result (λ reply. reply ≡ Names (names_from old.volumes 0 slot_count))
@@ -187,6 +195,8 @@ pub record IsPlain {D : Type 0} (command : Command) (shown : Shown) (before : D)
   pub pointed : command ≡ Cp → OnOk result (IsPointed shown old new)
   pub memory : command ≡ Cp → HaveNoFiles old.volumes → IfErr result (λ e. e ≢ Memory)
   pub managed : IsNone old.failed → (name : List ℕ) → managed_by command ≡ Some name → IsAnswered old command name new result
+  pub snapped : IsNone old.failed → (name : List ℕ) → snapped_by command ≡ Some name → NoneHasName old.volumes name → result ≡ Ok (Refused NoVolume)
+  pub snapshots : IsNone old.failed → (name : List ℕ) → command ≡ SnapList name → IsUntouched before old after new × IfOk result (TellsSnapshots old name)
 
 -- the volume of a name hasn't the snapshot that a command asks
 pub record LacksSnapshot (states : States) (name : List ℕ) (command : Command) : Type 0 where

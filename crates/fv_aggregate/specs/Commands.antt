@@ -1,11 +1,11 @@
 -- Which commands are carried out so far, what a session answers to each, and how many blocks it may add.
-use Rattle.std.specs.Prelude.{◌≡◌, ℕ, ◌==◌, List, Option, Some, None, Bool, true, false, if◌then◌else◌}
+use Rattle.std.specs.Prelude.{◌≡◌, ℕ, ◌==◌, List, Option, Some, None, Bool, true, false, ◌||◌, if◌then◌else◌}
 use Rattle.std.specs.Option.{is_none, is_some}
 use Rattle.fv_model.specs.declared.answers.Refusal.TheVariants.{Syntax}
 use Rattle.fv_model.specs.declared.answers.Reply.{Reply}
 use Rattle.fv_model.specs.declared.answers.Reply.TheVariants.{Refused}
 use Rattle.fv_model.specs.declared.commands.Command.{Command}
-use Rattle.fv_model.specs.declared.commands.Command.TheVariants.{VolCreate, VolDestroy, VolResize, VolGuarantee, VolList, VolStat, New, Put, Get, Len, Cut, Remove, Ls, Cp}
+use Rattle.fv_model.specs.declared.commands.Command.TheVariants.{VolCreate, VolDestroy, VolResize, VolGuarantee, VolList, VolStat, New, Put, Get, Len, Cut, Remove, Ls, SnapCreate, SnapDelete, SnapRestore, SnapList, Cp}
 use Rattle.fv_model.specs.Machines.{Machine}
 use Rattle.fv_model.specs.Numbers.{is_index, is_reserve, is_size}
 use Rattle.fv_model.specs.Refusals.{next}
@@ -27,6 +27,10 @@ is_built (Len volume snapshot file) = true
 is_built (Cut volume file length) = true
 is_built (Remove volume file) = true
 is_built (Ls volume snapshot) = true
+is_built (SnapCreate volume snapshot) = true
+is_built (SnapDelete volume snapshot) = true
+is_built (SnapRestore volume snapshot) = true
+is_built (SnapList volume) = true
 is_built Cp = true
 is_built command = false
 
@@ -79,11 +83,24 @@ managed_by (VolGuarantee volume kind) = Some volume
 managed_by (VolStat volume) = Some volume
 managed_by command = None
 
+-- the volume of which a command makes, removes or restores a snapshot
+abbrev pub snapped_by : Command → Option (List ℕ)
+snapped_by (SnapCreate volume snapshot) = Some volume
+snapped_by (SnapDelete volume snapshot) = Some volume
+snapped_by (SnapRestore volume snapshot) = Some volume
+snapped_by command = None
+
+-- whether a command places what changed of a volume's files, for which it takes blocks and numbers
+abbrev pub places_files : Command → Bool
+places_files (SnapCreate volume snapshot) = true
+places_files (SnapDelete volume snapshot) = true
+places_files command = false
+
 -- whether a command changes a volume that was there before it and is there after it, so that the next consistency point writes that volume
 abbrev pub changes_volume : Command → Bool
 changes_volume (VolResize volume size) = true
 changes_volume (VolGuarantee volume kind) = true
-changes_volume command = is_some (changed_by command)
+changes_volume command = is_some (changed_by command) || is_some (snapped_by command)
 
 -- whether a command removes a volume, which gives all its blocks back in memory
 abbrev pub removes_volume : Command → Bool
@@ -113,11 +130,13 @@ finds_file (Len volume snapshot file) = is_none snapshot
 finds_file (Cut volume file length) = true
 finds_file command = false
 
--- the volume that may lose the numbers of its files: a file of it is made or removed, for which memory can lack, or it is removed itself
+-- the volume that may lose the numbers of its files: a file of it is made or removed, for which memory can lack, its active table becomes another
+-- one, or it is removed itself
 abbrev pub loses_numbers : Command → Option (List ℕ)
 loses_numbers (New volume file reserve) = Some volume
 loses_numbers (Remove volume file) = Some volume
 loses_numbers (VolDestroy volume) = Some volume
+loses_numbers (SnapRestore volume snapshot) = Some volume
 loses_numbers command = None
 
 -- whether the number of a command on a volume that is there is in its range
@@ -132,6 +151,10 @@ has_range command = true
 abbrev pub file_room : ℕ
 file_room = 16
 
+-- so many blocks the map of a snapshot has at most
+abbrev pub snap_room : ℕ
+snap_room = 32
+
 -- the room of a command: so many blocks it may add, which the next consistency point writes
 unfoldable pub room_of : Command → ℕ
 room_of (VolCreate volume size kind) = overhead (span_of size 0 0)
@@ -139,6 +162,7 @@ room_of (New volume file reserve) = if reserve == 0 then file_room else 0
 room_of (Put volume file index block) = file_room
 room_of (Cut volume file length) = file_room
 room_of (Remove volume file) = file_room
+room_of (SnapCreate volume snapshot) = snap_room
 room_of command = 0
 
 -- so many blocks may be pending, with the room of the next command, before a consistency point makes room for it

@@ -11,3 +11,4 @@ pub mod Numbering
 pub mod Opening
 pub mod Adding
 pub mod Telling
+pub mod Snapping

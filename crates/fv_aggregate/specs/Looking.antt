@@ -1,5 +1,5 @@
 -- What commands on files do in a session: those that ask, and those that change.
-use Rattle.std.specs.Prelude.{◌≡◌, ◌<◌, ◌≤◌, ◌+◌, ℕ, Option, Some, None, true, IsTrue, IsNone, Result, Ok, Err, OnOk, IfOk, IfErr}
+use Rattle.std.specs.Prelude.{◌≡◌, ◌<◌, ◌≤◌, ◌+◌, ◌⊎◌, ℕ, false, Option, Some, None, true, IsTrue, IsNone, Result, Ok, Err, OnOk, IfOk, IfErr}
 use Rattle.fv_disk.specs.Shown.{Shown, Rose}
 use Rattle.fv_disk.specs.DiskCalls.{OnlyReads}
 use Rattle.fv_container.specs.Chains.{slot_count}
@@ -7,6 +7,7 @@ use Rattle.fv_model.specs.declared.answers.Refusal.{Refusal}
 use Rattle.fv_model.specs.declared.answers.Reply.{Reply}
 use Rattle.fv_model.specs.declared.answers.Reply.TheVariants.{Done, Refused}
 use Rattle.fv_model.specs.declared.commands.Command.{Command}
+use Rattle.fv_model.specs.declared.commands.Command.TheVariants.{SnapCreate, SnapDelete, SnapRestore}
 use Rattle.fv_model.specs.Machines.{Machine}
 use Rattle.fv_model.specs.Refusals.{next, refusal}
 use Rattle.fv_model.specs.Replies.{Allows}
@@ -24,12 +25,16 @@ use Rattle.fv_volume.specs.declared.fault.VolumeFault.TheVariants as volume
 use Rattle.fv_aggregate.specs.declared.fault.Fault.{Fault}
 use Rattle.fv_aggregate.specs.declared.fault.Fault.TheVariants.{DiskFault, Damaged, Memory}
 use Rattle.fv_aggregate.specs.declared.session.Session.{Session}
-use Rattle.fv_aggregate.specs.Calls.{Goes, GoesFor, KeepsAsking, WasRead}
-use Rattle.fv_aggregate.specs.Commands.{dirty_limit, file_room, is_refusal, snapshot_asked, volume_asked}
-use Rattle.fv_aggregate.specs.Standing.{StandsFor}
+use Rattle.fv_aggregate.specs.Calls.{Goes, GoesFor, IsForWant, IsUntouched, IsWithinLimit, KeepsAsking, WasRead}
+use Rattle.fv_snapshot.specs.Creating.{Creates, TellsCreation}
+use Rattle.fv_snapshot.specs.Deleting.{Deletes}
+use Rattle.fv_snapshot.specs.Restoring.{Restores}
+use Rattle.fv_aggregate.specs.Commands.{dirty_limit, is_refusal, places_files, room_of, snapped_by, snapshot_asked, volume_asked}
+use Rattle.fv_aggregate.specs.Known.{KeepsNumbersBut, MayLose}
+use Rattle.fv_aggregate.specs.Standing.{HoldsAsCommitted, IsWithoutFiles, StandsFor}
 
--- A command that asks was answered as the machine answers it, and nothing changed but the cache and the numbers of files in memory. After a fault the session stands for what it
--- stood for.
+-- A command that asks was answered as the machine answers it, and nothing changed but the cache and the numbers of files in memory. After a fault the
+-- session stands for what it stood for.
 pub record Looks (before : Shown) (old : Session) (command : Command) (after : Shown) (new : Session) (result : Result Reply Fault) : Type 0 where
   pub goes : Goes 0 before old after new result
   pub asks : KeepsAsking 0 before old after new
@@ -38,14 +43,14 @@ pub record Looks (before : Shown) (old : Session) (command : Command) (after : S
   pub only_reads : OnlyReads before after
   pub read : OnOk result (WasRead before old after new)
 
--- A command that changes a file was carried out as the machine carries it out. One with room within the dirty limit wrote nothing. A refused one
--- changed nothing but the cache and the numbers of files in memory, where the session stands for a machine.
-pub record Makes (before : Shown) (old : Session) (command : Command) (after : Shown) (new : Session) (result : Result Reply Fault) : Type 0 where
-  pub goes : Goes file_room before old after new result
+-- A command that changes a volume, for which it may add `room` blocks, was carried out as the machine carries it out. One with room within the dirty
+-- limit wrote nothing. A refused one changed nothing but the cache and the numbers of files in memory, where the session stands for a machine.
+pub record Makes (room : ℕ) (before : Shown) (old : Session) (command : Command) (after : Shown) (new : Session) (result : Result Reply Fault) : Type 0 where
+  pub goes : Goes room before old after new result
   pub goes_for : IsTrue before.tells → (last m : Machine) → StandsFor before old last m → GoesFor before last m (next m command) after new result
   pub reply : IsTrue before.tells → (last m : Machine) → StandsFor before old last m → IfOk result (Allows m command)
   pub refused : IsTrue before.tells → (last m : Machine) → StandsFor before old last m → IfOk result (λ reply. IsTrue (is_refusal reply) → WasRead before old after new)
-  pub calm : old.pending + file_room ≤ dirty_limit → OnlyReads before after
+  pub calm : old.pending + room ≤ dirty_limit → OnlyReads before after
 
 -- ---- a volume that is asked
 
@@ -99,6 +104,48 @@ pub record IsSlotChanged (before : Shown) (pool : Pool) (states : States) (slot 
 abbrev pub ChangesSlot : Shown → Pool → States → ℕ → Option VolumeState → ℕ → Command → Shown → Pool → States → Result Unit VolumeFault → Type 0
 ChangesSlot before pool states slot None others command after left stay result = ⊥
 ChangesSlot before pool states slot (Some x) others command after left stay result = IsSlotChanged before pool states slot x others command after left stay result
+
+-- ---- a volume whose snapshots change
+
+-- A snapshot of a volume was made, removed or restored, beside volumes that commit so much.
+abbrev pub SnapsState : Shown → Pool → VolumeState → ℕ → Command → Pool → VolumeState → Result Unit VolumeFault → Type 0
+SnapsState disk pool x others (SnapCreate volume snapshot) left y result = (volume ≡ x.name) × (Creates disk pool x others snapshot left y result × TellsCreation pool x others snapshot y result)
+SnapsState disk pool x others (SnapDelete volume snapshot) left y result = (volume ≡ x.name) × Deletes disk pool x snapshot left y result
+SnapsState disk pool x others (SnapRestore volume snapshot) left y result = (volume ≡ x.name) × ((left ≡ pool) × Restores disk pool x others snapshot y result)
+SnapsState disk pool x others command left y result = ⊥
+
+-- So it is of the volume of a slot, and the other volumes are as they were. Calls can be made on it still.
+pub record IsSlotSnapped (disk : Shown) (pool : Pool) (states : States) (slot : ℕ) (x : VolumeState) (others : ℕ) (command : Command) (left : Pool) (stay : States) (result : Result Unit VolumeFault) : Type 0 where
+  pub now : VolumeState
+  pub row : stay ≡ with_state states slot (Some now)
+  pub ready : IsReady disk left now
+  pub snaps : SnapsState disk pool x others command left now result
+
+abbrev pub SnapsSlot : Shown → Pool → States → ℕ → Option VolumeState → ℕ → Command → Pool → States → Result Unit VolumeFault → Type 0
+SnapsSlot disk pool states slot None others command left stay result = ⊥
+SnapsSlot disk pool states slot (Some x) others command left stay result = IsSlotSnapped disk pool states slot x others command left stay result
+
+-- a command makes, removes or restores a snapshot of the volume of a slot
+pub record IsSnapAimed (states : States) (slot : ℕ) (command : Command) : Type 0 where
+  pub within : slot < slot_count
+  pub state : VolumeState
+  pub there : state_at states slot ≡ Some state
+  pub snaps : snapped_by command ≡ Some state.name
+
+-- What a command that makes, removes or restores a snapshot does in a session beside. Refused it leaves all as it was. With room within the dirty
+-- limit it doesn't reach the disk, and takes no block and gives none back, but where it places files; one that places none is always answered. No
+-- file comes into memory. Beside blocks of files nothing is taken that the next root wouldn't hold, and the numbers of files stay in memory, but for
+-- a table that is no longer the active one.
+pub record HasSnapped {D : Type 0} (before : Shown) (disk : D) (old : Session) (command : Command) (after : Shown) (left : D) (new : Session) (result : Result Reply Fault) : Type 0 where
+  pub makes : Makes (room_of command) before old command after new result
+  pub damage : IfErr result (IsForWant before old after new)
+  pub refused : IfOk result (λ reply. IsTrue (is_refusal reply) → IsUntouched disk old left new)
+  pub calm : IsWithinLimit old command → left ≡ disk
+  pub map : places_files command ≡ false → new.pool.map ≡ old.pool.map
+  pub sure : places_files command ≡ false → IfErr result (λ e. ⊥)
+  pub files : IsTrue before.tells → IsWithoutFiles old → OnOk result (IsWithoutFiles new)
+  pub same : IsTrue before.tells → (places_files command ≡ false) ⊎ IsWithoutFiles old → HoldsAsCommitted old → OnOk result (HoldsAsCommitted new)
+  pub numbers : IsNone new.failed → KeepsNumbersBut (MayLose command old.volumes) old.volumes new.volumes
 
 -- the refusal that a reply is, if it is one
 abbrev pub refusal_in : Reply → Option Refusal

@@ -75,7 +75,7 @@ impl Session {
         requires fresh { IsNone self.old.failed }
         requires stands { Stands (D.shown disk.old) self.old }
         requires change { changed_by command.now ≡ Some volume.now }
-        ensures makes { Makes (D.shown disk.old) self.old command.now (D.shown disk.new) self.new result }
+        ensures makes { Makes file_room (D.shown disk.old) self.old command.now (D.shown disk.new) self.new result }
         ensures range { has_range command.now ≡ false → (result ≡ Ok (Refused Range)) × IsUntouched disk.old self.old disk.new self.new }
         ensures missing { has_range command.now ≡ true → NoneHasName self.old.volumes volume.now → (result ≡ Ok (Refused NoVolume)) × IsUntouched disk.old self.old disk.new self.new }
         ensures kept { IsNone self.new.failed → KeepsNumbersBut (MayLose command.now self.old.volumes) self.old.volumes self.new.volumes }
@@ -100,7 +100,7 @@ impl Session {
         requires fresh { IsNone self.old.failed }
         requires stands { Stands (D.shown disk.old) self.old }
         requires aimed { IsAimed self.old.volumes slot command.now }
-        ensures makes { Makes (D.shown disk.old) self.old command.now (D.shown disk.new) self.new result }
+        ensures makes { Makes file_room (D.shown disk.old) self.old command.now (D.shown disk.new) self.new result }
         ensures kept { IsNone self.new.failed → KeepsNumbersBut (λ s. (s ≡ slot) × (keeps_numbers command.now ≡ false)) self.old.volumes self.new.volumes }
         ensures finds { finds_file command.now ≡ true → OnOk result (KnowsNumbers (state_at self.new.volumes slot)) }
     {
@@ -114,7 +114,7 @@ impl Session {
         requires fresh { IsNone self.old.failed }
         requires stands { Stands (D.shown disk.old) self.old }
         requires aimed { IsAimed self.old.volumes slot command.now }
-        ensures makes { Makes (D.shown disk.old) self.old command.now (D.shown disk.new) self.new result }
+        ensures makes { Makes file_room (D.shown disk.old) self.old command.now (D.shown disk.new) self.new result }
         ensures kept { IsNone self.new.failed → KeepsNumbersBut (λ s. (s ≡ slot) × (keeps_numbers command.now ≡ false)) self.old.volumes self.new.volumes }
     {
         if self.has_room(FILE_ROOM) {
@@ -162,7 +162,7 @@ impl Session {
         requires stands { Stands (D.shown disk.old) self.old }
         requires few { self.old.pending + file_room ≤ max dirty_limit file_room }
         requires aimed { IsAimed self.old.volumes slot command.now }
-        ensures makes { Makes (D.shown disk.old) self.old command.now (D.shown disk.new) self.new result }
+        ensures makes { Makes file_room (D.shown disk.old) self.old command.now (D.shown disk.new) self.new result }
         ensures reads { OnlyReads (D.shown disk.old) (D.shown disk.new) }
         ensures kept { KeepsNumbersBut (λ s. (s ≡ slot) × (keeps_numbers command.now ≡ false)) self.old.volumes self.new.volumes }
     {
@@ -193,7 +193,7 @@ fn refused_by(reply: Reply) -> Option<Refusal>
 }
 
 /// What a session answers to a command that was done.
-fn done(made: Result<(), VolumeFault>) -> Result<Reply, VolumeFault>
+pub(crate) fn done(made: Result<(), VolumeFault>) -> Result<Reply, VolumeFault>
     ensures { result ≡ done_as made }
 {
     match made {

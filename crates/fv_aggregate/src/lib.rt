@@ -10,6 +10,7 @@ mod opening;
 mod points;
 mod reading;
 mod session;
+mod snapshots;
 mod volumes;
 
 pub use fault::{Fault, OpenFault};

@@ -15,7 +15,7 @@ ghost use Rattle.fv_aggregate.specs.Asking.{AsksWithin};
 ghost use Rattle.fv_disk.specs.DiskCalls.{OnlyReads};
 ghost use Rattle.fv_aggregate.specs.Calls.{CountsSteps, Goes, GoesFor, IsForWant, IsOnFiles, IsPlain, IsWithinLimit, KeepsAsking, SameCounts};
 ghost use Rattle.fv_aggregate.specs.Causes.{HasOpenCause, IsUnwritten, OpenFails};
-ghost use Rattle.fv_aggregate.specs.Commands.{Replies, changed_by, changes_volume, machine_after, reads_files, removes_volume, room_of};
+ghost use Rattle.fv_aggregate.specs.Commands.{Replies, changed_by, changes_volume, machine_after, places_files, reads_files, removes_volume, room_of};
 ghost use Rattle.fv_aggregate.specs.Opening.{IsFresh, IsOpened};
 ghost use Rattle.fv_aggregate.specs.Known.{KeepsNumbers, KeepsNumbersBut, MayLose};
 ghost use Rattle.fv_aggregate.specs.Standing.{HoldsAsCommitted, IsWithoutFiles, Stands, StandsFor, charged_in};
@@ -25,6 +25,7 @@ use crate::fault::{Fault, OpenFault};
 use crate::files::changed_volume;
 use crate::opening::load;
 use crate::reading::asked_volume;
+use crate::snapshots::snapped_volume;
 use crate::volumes::{names_of, sum_charges};
 use fv_container::Steps;
 use fv_disk::Disk;
@@ -95,8 +96,8 @@ impl Session {
 
     /// Applies a command, and answers the machine's reply, refusals included. A command whose room, in blocks, would pass the dirty
     /// limit of 256 together with the blocks pending is preceded by a consistency point; one that is refused is refused before that, and
-    /// changes nothing but the cache and the numbers of files in memory. So far the commands that begin with `vol`, `cp`, `new` without a
-    /// reserve, `put`, `get`, `len`, `cut`, `rm` and `ls` are built, and every other command is refused as none.
+    /// changes nothing but the cache and the numbers of files in memory. So far the commands that begin with `vol` or `snap`, `cp`, `new` without
+    /// a reserve, `put`, `get`, `len`, `cut`, `rm` and `ls` are built, and every other command is refused as none.
     ///
     /// `steps` counts the unknown pointers that a `get` passes; there are none in what a session stands for yet.
     ///
@@ -115,8 +116,9 @@ impl Session {
     /// Where room has to be made the command is judged first, which costs its reads twice, from the cache where they fit there. `vol create`
     /// costs a step for each VVBN of the new volume, and holds an entry for each. `vol stat`, `vol resize` and `vol guarantee` take no memory
     /// and walk nothing but the slots; `vol destroy` takes none, either, and costs a step for each entry and each node of the volume's
-    /// container. Where a consistency point runs it costs what `consistency_point` does. `docs/SPACE.md` has the dirty limit, and
-    /// `docs/MACHINE.md` the commands.
+    /// container. `snap create`, `snap delete` and `snap restore` cost what the calls of `fv_snapshot` do, and `snap list` memory for the
+    /// names; none of them reaches the disk but by a point. Where a consistency point runs it costs what `consistency_point` does.
+    /// `docs/SPACE.md` has the dirty limit, and `docs/MACHINE.md` the commands.
     pub fn apply<D: Disk, L: Ledger>(
         &mut self,
         disk: &mut D,
@@ -136,7 +138,7 @@ impl Session {
             → OnOk result (StandsFor (D.shown disk.new) self.new m m) }
         ensures calm { command.now ≢ Cp → IsWithinLimit self.old command.now → OnlyReads (D.shown disk.old) (D.shown disk.new) }
         ensures files { IsTrue (D.shown disk.old).tells → changed_by command.now ≡ None → IsWithoutFiles self.old → OnOk result (IsWithoutFiles self.new) }
-        ensures same { IsTrue (D.shown disk.old).tells → changed_by command.now ≡ None → removes_volume command.now ≡ false → HoldsAsCommitted self.old
+        ensures same { IsTrue (D.shown disk.old).tells → changed_by command.now ≡ None → removes_volume command.now ≡ false → (places_files command.now ≡ false) ⊎ IsWithoutFiles self.old → HoldsAsCommitted self.old
             → OnOk result (HoldsAsCommitted self.new) }
         ensures steps { CountsSteps command.now (D.shown disk.old) self.old steps.old steps.new result }
         ensures numbers { IsNone self.new.failed → KeepsNumbersBut (MayLose command.now self.old.volumes) self.old.volumes self.new.volumes }
@@ -149,11 +151,15 @@ impl Session {
             Command::VolCreate { volume, size, kind } => self.create(disk, volume, *size, *kind),
             Command::VolList => Ok(Reply::Names(names_of(self.alloc, &self.volumes)?)),
             Command::Cp => self.reclaim(disk),
+            Command::SnapList { volume } => Ok(self.snapshots(volume)?),
             _ => match asked_volume(command) {
                 Some(volume) => self.look(disk, volume, command, steps),
                 None => match changed_volume(command) {
                     Some(volume) => self.change(disk, volume, command),
-                    None => Ok(self.manage(command)),
+                    None => match snapped_volume(command) {
+                        Some(volume) => self.snap(disk, volume, command),
+                        None => Ok(self.manage(command)),
+                    },
                 },
             },
         }

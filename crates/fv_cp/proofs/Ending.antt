@@ -1,6 +1,7 @@
 -- What a consistency point leaves at a crash, and what it ends with: once all slots are passed the volumes stand under the labels of the new
 -- root, and then that counts.
-use Rattle.std.proofs.Common.{◌≡◌, ℕ, ◌<◌, false, List, length, get_or, refl, sym, ap, subst, ◌∙◌, Ok, Bool, true, inl}
+use Rattle.std.proofs.Common.{◌≡◌, ℕ, ◌<◌, ◌≤◌, false, List, length, get_or, refl, sym, ap, subst, ◌∙◌, Ok, Bool, true, inl, arith}
+use Rattle.std.proofs.lemmas.Bool.{both_ways}
 use Rattle.std.specs.Prelude.{Option, Some, None, IfSome, IsTrue, Result}
 use Rattle.std.specs.FinMap as fin
 use Rattle.std.specs.Option.{option_map}
@@ -50,9 +51,9 @@ use Rattle.fv_volume.proofs.StoredTold.{entry_stays, stays_in, undelayed, past_c
 use Rattle.fv_volume.proofs.Told.{head_at, is_inside}
 use Rattle.fv_volume.proofs.Viewed.{entry_of}
 use Rattle.fv_volume.proofs.Waiting.{none_waits}
-use Rattle.fv_cp.specs.Course.{HasCome, IsOnCourse, as_lent, found_with, label_lent, renewed, IsCourse, StaysFrom}
+use Rattle.fv_cp.specs.Course.{HasCome, IsOnCourse, all_regions, as_lent, found_with, label_lent, renewed, IsCourse, StaysFrom}
 use Rattle.fv_cp.specs.Lent.{FitTogether, IsLent, IsLentAt}
-use Rattle.fv_cp.specs.Points.{GoesOn, IsPoint, IsSwitched, OldOrLent, machine_lent}
+use Rattle.fv_cp.specs.Points.{GoesOn, IsPoint, IsSwitched, LeavesEntries, OldOrLent, machine_lent}
 use Rattle.fv_volume.proofs.RootFound.{found_still, map_now, next_in_range, fixed_taken}
 use Rattle.std.proofs.lemmas.Option.{none-some, same_Some}
 use Rattle.fv_image.specs.Reclaimed.{IsAllocatable}
@@ -61,6 +62,8 @@ use Rattle.fv_volume.specs.UnderRoot.{AllStandUnder, StandsUnder}
 use Rattle.fv_volume.proofs.Emptied.{none_stands}
 use Rattle.fv_volume.proofs.Staying.{entry_kept, kept_stands, place_is}
 use Rattle.fv_volume.proofs.StoredSlot.{stored_stands}
+use Rattle.fv_volume.proofs.Reclaiming.{left_undelayed, maps_left, stays_left}
+use Rattle.fv_volume.proofs.StayingMaps.{stays_unwritten}
 use Rattle.fv_disk.specs.declared.Failed.{Failed}
 use Rattle.fv_disk.specs.Sparing.{LeftBefore, Spares}
 use Rattle.fv_disk.proofs.Moments.{started, then, weaken}
@@ -114,7 +117,7 @@ root_with pool labels = record pool.found.root { labels = labels }
 
 -- ---- whatever the disk tells
 
-module _ (disk : Shown) (pool : Pool) (states : States) (fit : FitTogether pool states) (labels : List ℕ) (left : Pool) (mid : Shown) (come : HasCome disk pool states 64 labels left mid) where
+module _ (disk : Shown) (pool : Pool) (states : States) (fit : FitTogether pool states) (labels : List ℕ) (left : Pool) (mid : Shown) (come : HasCome all_regions disk pool states 64 labels left mid) where
   -- what was found counts until the switch
   pub found_left : (IsTrue disk.tells → IsFoundOn disk pool.found) → IsTrue mid.tells → IsFoundOn mid left.found
   found_left found told =
@@ -152,7 +155,7 @@ module _ (disk : Shown) (pool : Pool) (states : States) (fit : FitTogether pool 
 
 -- ---- over a disk
 
-module _ (disk : Shown) (pool : Pool) (states : States) (before : Machine) (lent : IsLent disk pool states before) (fit : FitTogether pool states) (labels : List ℕ) (left : Pool) (mid : Shown) (come : HasCome disk pool states 64 labels left mid) (tells : IsTrue disk.tells) where
+module _ (disk : Shown) (pool : Pool) (states : States) (before : Machine) (lent : IsLent disk pool states before) (fit : FitTogether pool states) (labels : List ℕ) (left : Pool) (mid : Shown) (come : HasCome all_regions disk pool states 64 labels left mid) (tells : IsTrue disk.tells) where
   abbrev root : Root
   root = root_with pool labels
 
@@ -173,7 +176,7 @@ module _ (disk : Shown) (pool : Pool) (states : States) (before : Machine) (lent
 
   -- ---- all slots are passed
 
-  pub is : IsCourse pool states (seen pool.kept disk.reads) 64 labels left.map.next left.containers mid.reads
+  pub is : IsCourse all_regions pool states (seen pool.kept disk.reads) 64 labels left.map.next left.containers mid.reads
   is = come.written tells before lent
 
   agrees : AgreeOnHeld (root_found pool.found) disk.reads mid.reads
@@ -183,9 +186,12 @@ module _ (disk : Shown) (pool : Pool) (states : States) (before : Machine) (lent
   pub settled_is : (s : ℕ) → s < 64 → settled_at labels states s ≡ is.now s
   settled_is s inside = by (is.each s inside)
     where
-      by : IsOnCourse pool states (seen pool.kept disk.reads) 64 s (is.now s) (get_or labels s 0) (container_at left.containers s) mid.reads → settled_at labels states s ≡ is.now s
+      by : IsOnCourse all_regions pool states (seen pool.kept disk.reads) 64 s (is.now s) (get_or labels s 0) (container_at left.containers s) mid.reads → settled_at labels states s ≡ is.now s
       by (renewed x low there changed now r) = settled_written (state_at states s) x (get_or labels s 0) there changed ∙ sym now
       by (as_lent waits at) = settled_same (state_at states s) (get_or labels s 0) (none_waits (state_at states s) s inside waits) ∙ sym at.state
+
+  labelled : (s : ℕ) (x : VolumeState) → state_at states s ≡ Some x → IsLabelled s x
+  labelled s x there = subst (λ (o : Option VolumeState). IfSome o (IsLabelled s)) there (fit.housed.volumes s)
 
   stands : (s : ℕ) → s < 64 → StandsUnder mid.reads f s (settled_at labels states s) (container_at left.containers s)
   stands s inside = subst (λ (o : Option VolumeState). StandsUnder mid.reads f s o (container_at left.containers s)) (sym (settled_is s inside)) (by (is.each s inside))
@@ -197,13 +203,13 @@ module _ (disk : Shown) (pool : Pool) (states : States) (before : Machine) (lent
       as_it_was (Some x) (Some map) named slot unchanged =
           still_stands pool.found f disk.reads mid.reads s inside (place_is f s inside ∙ named ∙ sym (place_is pool.found s inside)) agrees lent.tells.sound refl (Some x) (Some map) (slot.unchanged unchanged)
 
-      by : IsOnCourse pool states (seen pool.kept disk.reads) 64 s (is.now s) (get_or labels s 0) (container_at left.containers s) mid.reads → StandsUnder mid.reads f s (is.now s) (container_at left.containers s)
+      by : IsOnCourse all_regions pool states (seen pool.kept disk.reads) 64 s (is.now s) (get_or labels s 0) (container_at left.containers s) mid.reads → StandsUnder mid.reads f s (is.now s) (container_at left.containers s)
       by (renewed x low there changed now r) =
           let lies : (b : ℕ) → is_of x (get_or labels s 0) r.new b ≡ true → IsAllocatable u.blocks b = λ b of. (is.spaced.held s b inside ((λ k. has_block (now k) (r.now k) b) ∙ of)).1 in
           subst (λ (o : Option VolumeState). StandsUnder mid.reads f s o (container_at left.containers s)) (sym now) (subst (λ (c : Option Mapped). StandsUnder mid.reads f s (Some (as_written x (get_or labels s 0))) c) (sym r.now)
-          (stored_stands f mid.reads s x r.old (get_or labels s 0) r.new r.stored (place_is f s inside) (subst (λ (o : Option VolumeState). IfSome o (IsLabelled s)) there (fit.housed.volumes s)) r.valid
-          disk.reads pool.found (lent_slot disk.reads pool.found s (state_at states s) (container_at pool.containers s) x r.old there r.was (lent.slots s inside)).maps agrees
-          (past_clear pool states disk.reads fit.housed lent.tables lent.reach s x inside there) lies))
+          (stored_stands f mid.reads s x r.mid (get_or labels s 0) r.new r.stored (place_is f s inside) (labelled s x there) r.valid disk.reads pool.found
+          (maps_left s x (labelled s x there) (all_regions s) r.old r.mid r.reclaimed disk.reads pool.found (lent_slot disk.reads pool.found s (state_at states s) (container_at pool.containers s) x r.old there r.was (lent.slots s inside)).maps) agrees
+          (past_clear pool states disk.reads fit.housed lent.tables lent.reach s x inside there) (left_undelayed s x (labelled s x there) (all_regions s) r.old r.mid r.reclaimed (λ r. refl) r.new r.stored.kept) lies))
       by (as_lent waits at) =
           subst (λ (o : Option VolumeState). StandsUnder mid.reads f s o (container_at left.containers s)) (sym at.state) (subst (λ (c : Option Mapped). StandsUnder mid.reads f s (state_at states s) c) (sym at.lies)
           (as_it_was (state_at states s) (container_at pool.containers s) at.named (lent.slots s inside) (none_waits (state_at states s) s inside waits)))
@@ -219,10 +225,11 @@ module _ (disk : Shown) (pool : Pool) (states : States) (before : Machine) (lent
       of_container None lies stay = refl
       of_container (Some map) lies stay = of_map map lies (stay map lies)
 
-      by : IsOnCourse pool states (seen pool.kept disk.reads) 64 s (is.now s) (get_or labels s 0) (container_at left.containers s) mid.reads → placed_in fin.empty mid.reads (own_entry (container_at left.containers s) v) ≡ placed_in pool.kept disk.reads (own_entry (container_at pool.containers s) v)
+      by : IsOnCourse all_regions pool states (seen pool.kept disk.reads) 64 s (is.now s) (get_or labels s 0) (container_at left.containers s) mid.reads → placed_in fin.empty mid.reads (own_entry (container_at left.containers s) v) ≡ placed_in pool.kept disk.reads (own_entry (container_at pool.containers s) v)
       by (renewed y low here changed now r) =
           let same : y ≡ x = same_Some y x (sym here ∙ there) in
-          let stayed : entry_under r.new v ≡ entry_under r.old v = r.stored.kept v (ap (λ (z : VolumeState). stays z v) same ∙ on) in
+          let stay : stays y v ≡ true = ap (λ (z : VolumeState). stays z v) same ∙ on in
+          let stayed : entry_under r.new v ≡ entry_under r.old v = r.stored.kept v (stays_unwritten y v stay) ∙ stays_left s y (labelled s y here) (all_regions s) r.old r.mid r.reclaimed v stay in
           ap (λ (c : Option Mapped). placed_in fin.empty mid.reads (own_entry c v)) r.now ∙ ap (placed_in fin.empty mid.reads) stayed
           ∙ of_map r.old r.was (subst (λ (z : VolumeState). StaysFrom z r.old (seen pool.kept disk.reads) mid.reads) same r.stay)
           ∙ sym (ap (λ (c : Option Mapped). placed_in pool.kept disk.reads (own_entry c v)) r.was)
@@ -295,7 +302,7 @@ module _ (disk : Shown) (pool : Pool) (states : States) (before : Machine) (lent
     apart_now : (s : ℕ) → s < 64 → IfSome (settled_at labels states s) (λ x. IfSome (container_at left.containers s) (AreApartIn x))
     apart_now s inside = subst (λ (o : Option VolumeState). IfSome o (λ x. IfSome (container_at left.containers s) (AreApartIn x))) (sym (settled_is s inside)) (by (is.each s inside))
       where
-        by : IsOnCourse pool states (block_seen pool.kept disk.reads) 64 s (is.now s) (get_or labels s 0) (container_at left.containers s) mid.reads → IfSome (is.now s) (λ x. IfSome (container_at left.containers s) (AreApartIn x))
+        by : IsOnCourse all_regions pool states (block_seen pool.kept disk.reads) 64 s (is.now s) (get_or labels s 0) (container_at left.containers s) mid.reads → IfSome (is.now s) (λ x. IfSome (container_at left.containers s) (AreApartIn x))
         by (renewed x low there changed now r) = subst (λ (o : Option VolumeState). IfSome o (λ x. IfSome (container_at left.containers s) (AreApartIn x))) (sym now) (subst (λ (c : Option Mapped). IfSome c (AreApartIn (as_written x (get_or labels s 0)))) (sym r.now) r.stored.apart)
         by (as_lent waits at) = subst (λ (o : Option VolumeState). IfSome o (λ x. IfSome (container_at left.containers s) (AreApartIn x))) (sym at.state) (subst (λ (c : Option Mapped). IfSome (state_at states s) (λ x. IfSome c (AreApartIn x))) (sym at.lies) (lent_apart disk.reads pool.found s (state_at states s) (container_at pool.containers s) (lent.slots s inside)))
 
@@ -332,6 +339,34 @@ module _ (disk : Shown) (pool : Pool) (states : States) (before : Machine) (lent
     tables_stay : (s : ℕ) → IfSome (state_at states s) (λ x. active_in (view_over last stay new.reads) no_trees s ≡ active_in w no_trees s)
     tables_stay = of_each states fit.housed.volumes (λ s o. IfSome o (λ x. active_in (view_over last stay new.reads) no_trees s ≡ active_in w no_trees s)) (λ s. tt) (λ x there. active_same w (view_over last stay new.reads) states fit.housed.long (head_at pool states disk.reads) stays_now lent.tables x.slot x there)
 
+    -- ---- the entries
+
+    container_now : (s : ℕ) → container_at last.containers s ≡ container_at left.containers s
+    container_now s = ap (λ (c : Slots). container_at c s) containers
+
+    entries_left : (s : ℕ) (x : VolumeState) (map : Mapped) → s < 64 → state_at states s ≡ Some x → x.changed ≡ true → container_at pool.containers s ≡ Some map
+        → (after : Mapped) × ((container_at last.containers s ≡ Some after) × LeavesEntries (all_regions s) x map after)
+    entries_left s x map inside there changed was = by (is.each s inside)
+      where
+        by : IsOnCourse all_regions pool states (block_seen pool.kept disk.reads) 64 s (is.now s) (get_or labels s 0) (container_at left.containers s) mid.reads
+            → (after : Mapped) × ((container_at last.containers s ≡ Some after) × LeavesEntries (all_regions s) x map after)
+        by (renewed y low here differs now r) =
+            let same : y ≡ x = same_Some y x (sym here ∙ there) in
+            let first : r.old ≡ map = same_Some r.old map (sym r.was ∙ was) in
+            let leaves : LeavesEntries (all_regions s) y r.old r.new = record { reclaimed = λ v off. r.stored.kept v off ∙ r.reclaimed.entries v; written = r.stored.maps } in
+            (r.new, (container_now s ∙ r.now, subst (λ (z : VolumeState). LeavesEntries (all_regions s) z map r.new) same (subst (λ (m : Mapped). LeavesEntries (all_regions s) y m r.new) first leaves)))
+        by (as_lent waits at) =
+            let late : x.changed ≡ true → 64 ≤ s = subst (λ (o : Option VolumeState). IfSome o (λ z. z.changed ≡ true → 64 ≤ s)) there waits in
+            let past = late changed in
+            absurd (omega (arith, inside, past))
+
+    container_stays : (s : ℕ) → s < 64 → IfSome (state_at states s) (λ x. x.changed ≡ false) → container_at last.containers s ≡ container_at pool.containers s
+    container_stays s inside unchanged = container_now s ∙ by (is.each s inside)
+      where
+        by : IsOnCourse all_regions pool states (block_seen pool.kept disk.reads) 64 s (is.now s) (get_or labels s 0) (container_at left.containers s) mid.reads → container_at left.containers s ≡ container_at pool.containers s
+        by (renewed y low here differs now r) = absurd (both_ways _ (subst (λ (o : Option VolumeState). IfSome o (λ z. z.changed ≡ false)) here unchanged) differs)
+        by (as_lent waits at) = at.lies
+
     pub point : IsPoint disk pool states new last stay
     point = record {
       settled = done.settled;
@@ -343,6 +378,8 @@ module _ (disk : Shown) (pool : Pool) (states : States) (before : Machine) (lent
       unchanged = unchanged_stay states stay labels settled;
       reclaimed = subst (λ (x : Found). delayed (view_at (root_found x) new.reads) ≡ 0) (sym found) (ap delayed same_now
           ∙ undelayed pool states disk.reads fit.housed lent.tables lent.reach f labels left.map.next (container_at left.containers) mid.reads refl refl all_stand);
+      entries = entries_left;
+      containers = container_stays;
       blocks = ap (λ (x : Found). x.blocks) found;
       same = same_stay states stay labels settled;
       label_same = λ s. subst (λ (t : Found). IfSome (state_at states s) (λ x. x.changed ≡ false → label_place (root_found t) s ≡ label_place (root_found pool.found) s)) (sym found) (places_stay s);

@@ -1,6 +1,6 @@
 -- Volumes that are held, with no file in memory and stored well, can be lent to a point, and volumes that could be lent are held.
-use Rattle.std.proofs.Common.{◌≡◌, ℕ, ◌<◌, Bool, true, not, ◌||◌, List, Option, Some, None, refl, ap, subst, arith, length, false}
-use Rattle.std.specs.Prelude.{IfSome, map, ◌==◌, IsTrue}
+use Rattle.std.proofs.Common.{◌≡◌, ℕ, ◌<◌, Bool, true, not, ◌||◌, Option, Some, None, refl, ap, subst, arith, length, false}
+use Rattle.std.specs.Prelude.{IfSome, ◌==◌, IsTrue}
 use Rattle.std.specs.List.{list_all}
 use Rattle.std.specs.Option.{option_map, option_map_or}
 use Rattle.std.specs.FinMap as fin
@@ -13,15 +13,15 @@ use Rattle.fv_model.specs.Spelling.{name_cmp}
 use Rattle.fv_laws.proofs.Lists.{In}
 use Rattle.fv_tables.proofs.Lists.{all_of_range, same_parts}
 use Rattle.fv_image.specs.HintRules.{has_known_places, has_split_places, has_true_hints, is_based, is_copied, is_in_label, is_known, leads_unknown, leaves_base, rests_on_base}
-use Rattle.fv_image.specs.ReachRules.{all_volumes, are_distinct, has_distinct_files, has_pointers_in_range, has_reached_kinds, has_reached_positions, has_reached_shapes, reaches_once}
+use Rattle.fv_image.specs.ReachRules.{all_volumes, has_distinct_files, has_pointers_in_range, has_reached_kinds, has_reached_positions, has_reached_shapes, reaches_once}
 use Rattle.fv_image.specs.Seen.{Reached, Root, VolumeSeen, roots_of, seen, volume_seen}
 use Rattle.fv_image.specs.Soundness.{AreTables}
 use Rattle.fv_image.specs.TableRules.{has_cells_within, has_levels, has_marks_over, has_one_to_one, has_stamps_past}
 use Rattle.fv_image.specs.VolumeRules.{comes_to_end, commits_seen, has_bases, has_commits_in_capacity, has_distinct_snapshots, has_footing, has_use_in_size, has_wide_spans}
-use Rattle.fv_image.specs.Views.{Footing, Rooted, Snap, View, slots}
+use Rattle.fv_image.specs.Views.{Footing, Rooted, View, slots}
 use Rattle.fv_image.specs.Volumes.{active_at, named_with, told_with, volumes_with}
 use Rattle.fv_image.specs.WholeMachine.{has_no_reserves, is_built}
-use Rattle.fv_image.proofs.LoneTables.{form_base, form_snapshots}
+use Rattle.fv_image.proofs.LoneTables.{form_base}
 use Rattle.fv_volmap.specs.Slots.{IsVolume}
 use Rattle.fv_volume.specs.declared.pool.Pool.{Pool}
 use Rattle.fv_volume.specs.declared.state.VolumeState.{VolumeState}
@@ -99,7 +99,7 @@ module _ (disk : Shown) (pool : Pool) (states : States) (before : Machine) (held
     ranges = all_held _ (λ x e. rule.ranges w x.slot (head_in x) (led x e) (ruled x e));
     spans = all_held _ (λ x e. alone.wide_rule disk pool states fit.housed held.slots held.spaced x e (one x e) (no_files x e) (whole x e));
     bases = all_held _ (λ x e. and_from (comes_to_end (seen w) 64 x.slot) _ (alone.footing_rule disk pool states fit.housed held.slots held.spaced x e (one x e) (no_files x e) (whole x e)) (ap (λ (o : Option Footing). option_map_or (has_footing (seen w) (volume_seen w x.slot (head_in x))) o true) (base x e)));
-    snapshots = all_held _ (λ x e. ap (λ (ps : List Snap). are_distinct (map (λ p. p.name) ps)) (form_snapshots (head_in x) (form x e)));
+    snapshots = all_held _ (λ x e. alone.names_rule disk pool states fit.housed held.slots held.spaced x e (one x e) (no_files x e) (whole x e));
     files = all_held _ (λ x e. alone.files_rule disk pool states fit.housed held.slots held.spaced x e (one x e) (no_files x e) (whole x e));
     positions = all_held _ (λ x e. rule.positions w x.slot (head_in x) (led x e) (ruled x e));
     once = all_held _ (λ x e. rule.once w x.slot (head_in x) (led x e) (ruled x e));

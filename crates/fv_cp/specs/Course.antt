@@ -13,7 +13,9 @@ use Rattle.fv_root.specs.Commits.{next_found}
 use Rattle.fv_store.specs.Held.{StandsOn}
 use Rattle.fv_container.specs.Mapped.{IsMapped, Mapped}
 use Rattle.fv_container.specs.Chains.{Slots, container_at, slot_count, with_container}
-use Rattle.fv_aggmap.specs.Space.{blocks_of, free_blocks}
+use Rattle.fv_container.specs.Leading.{HasEmptied}
+use Rattle.fv_aggmap.specs.Space.{Space, blocks_of, free_blocks}
+use Rattle.fv_delay.specs.Reclaims.{HasReclaimed, goes_with}
 use Rattle.fv_volume.specs.declared.pool.Pool.{Pool}
 use Rattle.fv_volume.specs.declared.state.VolumeState.{VolumeState}
 use Rattle.fv_volume.specs.Keeping.{seen}
@@ -25,11 +27,19 @@ use Rattle.fv_volume.specs.Writing.{HasOwnBlocks, IsTaken, IsWritten, on_disk}
 
 -- ---- one slot
 
--- the slot's volume was written, and the labels name it
-pub record IsSlotWritten (x : VolumeState) (s : ℕ) (labels : List ℕ) (pool : Pool) (disk : Shown) (now : List ℕ) (left : Pool) (after : Shown) : Type 0 where
+-- the regions of each slot that a point reclaims: all of them
+abbrev pub all_regions : ℕ → ℕ → Bool
+all_regions s r = true
+
+-- some regions of the slot's volume were reclaimed, then it was written, and the labels name it
+pub record IsSlotWritten (regions : ℕ → Bool) (x : VolumeState) (s : ℕ) (labels : List ℕ) (pool : Pool) (disk : Shown) (now : List ℕ) (left : Pool) (after : Shown) : Type 0 where
   pub old : Mapped
   pub there : container_at pool.containers s ≡ Some old
   pub few : length pool.containers.containers ≡ slot_count
+  -- the container and the space once the regions were reclaimed
+  pub mid : Mapped
+  pub space : Space
+  pub reclaimed : HasReclaimed x.map regions old pool.map mid space
   pub new : Mapped
   pub long : length new.entries ≡ entry_count x.span
   pub valid : IsMapped new
@@ -37,7 +47,7 @@ pub record IsSlotWritten (x : VolumeState) (s : ℕ) (labels : List ℕ) (pool :
   pub within : label < blocks_of pool.map
   pub named : now ≡ slice_set labels s label
   pub containers : left.containers ≡ with_container pool.containers s (Some new)
-  pub written : IsTrue disk.tells → HasOwnBlocks x old pool.map → IsWritten x old disk.reads pool.map label new after.reads left.map
+  pub written : IsTrue disk.tells → HasOwnBlocks x mid space → IsWritten x mid disk.reads space label new after.reads left.map
 
 -- nothing was written
 pub record IsPassed (labels : List ℕ) (pool : Pool) (disk : Shown) (now : List ℕ) (left : Pool) (after : Shown) : Type 0 where
@@ -46,9 +56,9 @@ pub record IsPassed (labels : List ℕ) (pool : Pool) (disk : Shown) (now : List
   pub map : left.map ≡ pool.map
   pub reads : after.reads ≡ disk.reads
 
-abbrev pub GoesPast : Option VolumeState → ℕ → List ℕ → Pool → Shown → List ℕ → Pool → Shown → Type 0
-GoesPast None s labels pool disk now left after = IsPassed labels pool disk now left after
-GoesPast (Some x) s labels pool disk now left after = cond x.changed (IsSlotWritten x s labels pool disk now left after) (IsPassed labels pool disk now left after)
+abbrev pub GoesPast : (ℕ → ℕ → Bool) → Option VolumeState → ℕ → List ℕ → Pool → Shown → List ℕ → Pool → Shown → Type 0
+GoesPast regions None s labels pool disk now left after = IsPassed labels pool disk now left after
+GoesPast regions (Some x) s labels pool disk now left after = cond x.changed (IsSlotWritten (regions s) x s labels pool disk now left after) (IsPassed labels pool disk now left after)
 
 -- ---- the first slots
 
@@ -60,14 +70,17 @@ found_with found labels = next_found found (record found.root { labels = labels 
 abbrev pub StaysFrom : VolumeState → Mapped → Image → Image → Type 0
 StaysFrom x map first i = (v : ℕ) → stays x v ≡ true → place_at map v ≢ 0 → i (place_at map v) ≡ first (place_at map v)
 
--- the volume of a slot was written, and stands in an image, where the entries that stay have the blocks that they had in the first
-pub record IsRenewed (pool : Pool) (first : Image) (s : ℕ) (x : VolumeState) (label : ℕ) (container : Option Mapped) (i : Image) : Type 0 where
+-- Some regions of a slot's volume were reclaimed, and then it was written. It stands in an image, where the entries that stay have the blocks
+-- that they had in the first.
+pub record IsRenewed (regions : ℕ → Bool) (pool : Pool) (first : Image) (s : ℕ) (x : VolumeState) (label : ℕ) (container : Option Mapped) (i : Image) : Type 0 where
   pub old : Mapped
   pub was : container_at pool.containers s ≡ Some old
+  pub mid : Mapped
+  pub reclaimed : HasEmptied old (goes_with x.map old regions) mid
   pub new : Mapped
   pub now : container ≡ Some new
   pub valid : IsMapped new
-  pub stored : IsStored x old label new i
+  pub stored : IsStored x mid label new i
   pub stay : StaysFrom x old first i
 
 -- the place of a label that the new root names before a point writes anything: that of the root on the disk, and none for a slot without a volume
@@ -97,22 +110,22 @@ pub record IsAsLent (pool : Pool) (states : States) (first : Image) (s : ℕ) (n
 
 -- What a slot is in the course, by its volume, the place of its label and its container: its volume was written, if it is one of the first
 -- and it changed, and else the slot is as it was lent.
-pub data IsOnCourse (pool : Pool) (states : States) (first : Image) (count s : ℕ) (now : Option VolumeState) (label : ℕ) (container : Option Mapped) (i : Image) : Type 0 where
-  renewed : (x : VolumeState) → s < count → state_at states s ≡ Some x → x.changed ≡ true → now ≡ Some (as_written x label) → IsRenewed pool first s x label container i → IsOnCourse pool states first count s now label container i
-  as_lent : IfSome (state_at states s) (λ x. x.changed ≡ true → count ≤ s) → IsAsLent pool states first s now label container i → IsOnCourse pool states first count s now label container i
+pub data IsOnCourse (regions : ℕ → ℕ → Bool) (pool : Pool) (states : States) (first : Image) (count s : ℕ) (now : Option VolumeState) (label : ℕ) (container : Option Mapped) (i : Image) : Type 0 where
+  renewed : (x : VolumeState) → s < count → state_at states s ≡ Some x → x.changed ≡ true → now ≡ Some (as_written x label) → IsRenewed (regions s) pool first s x label container i → IsOnCourse regions pool states first count s now label container i
+  as_lent : IfSome (state_at states s) (λ x. x.changed ≡ true → count ≤ s) → IsAsLent pool states first s now label container i → IsOnCourse regions pool states first count s now label container i
 
 -- The first slots are written: the volumes are spaced, and each slot is on its course since the blocks that waited were written.
-pub record IsCourse (pool : Pool) (states : States) (first : Image) (count : ℕ) (labels : List ℕ) (next : List Bool) (containers : Slots) (i : Image) : Type 0 where
+pub record IsCourse (regions : ℕ → ℕ → Bool) (pool : Pool) (states : States) (first : Image) (count : ℕ) (labels : List ℕ) (next : List Bool) (containers : Slots) (i : Image) : Type 0 where
   pub now : ℕ → Option VolumeState
   pub spaced : AreSpacedIn pool.found.blocks next now (container_at containers)
-  pub each : (s : ℕ) → s < 64 → IsOnCourse pool states first count s (now s) (get_or labels s 0) (container_at containers s) i
+  pub each : (s : ℕ) → s < 64 → IsOnCourse regions pool states first count s (now s) (get_or labels s 0) (container_at containers s) i
 
 -- the blocks that the volumes of the slots from one on ask for
 abbrev pub asked_from : ℕ → States → ℕ
 asked_from slot states = sum_by asked_by (drop slot states)
 
 -- The volumes of the first slots are written: what holds of any disk, and what holds of one on which they stood.
-pub record HasCome (disk : Shown) (pool : Pool) (states : States) (count : ℕ) (labels : List ℕ) (left : Pool) (now : Shown) : Type 0 where
+pub record HasCome (regions : ℕ → ℕ → Bool) (disk : Shown) (pool : Pool) (states : States) (count : ℕ) (labels : List ℕ) (left : Pool) (now : Shown) : Type 0 where
   pub long : length labels ≡ 64
   pub places : All (λ place. place ≤ last_place) labels
   pub free : (s : ℕ) → s < 64 → state_at states s ≡ None → get_or labels s 0 ≡ 0
@@ -123,4 +136,4 @@ pub record HasCome (disk : Shown) (pool : Pool) (states : States) (count : ℕ) 
   pub found : left.found ≡ pool.found
   pub kept : left.kept ≡ fin.empty
   pub spares : Spares (IsTaken (on_disk pool.map)) disk now (Ok tt)
-  pub written : IsTrue disk.tells → (before : Machine) → IsLent disk pool states before → IsCourse pool states (seen pool.kept disk.reads) count labels left.map.next left.containers now.reads
+  pub written : IsTrue disk.tells → (before : Machine) → IsLent disk pool states before → IsCourse regions pool states (seen pool.kept disk.reads) count labels left.map.next left.containers now.reads

@@ -1,19 +1,14 @@
 -- What the placing of files leaves of a session: of one volume, and of all.
-use Rattle.std.specs.Prelude.{◌≡◌, ◌<◌, ◌≤◌, ◌+◌, ℕ, true, Option, Some, None, is_some, IfSome}
+use Rattle.std.specs.Prelude.{◌≡◌, ◌<◌, ◌≤◌, ◌+◌, ℕ, Option, Some, None, IfSome}
 use Rattle.std.specs.List.{sum_by}
 use Rattle.std.specs.Option.{option_map}
 use Rattle.fv_disk.specs.Shown.{Shown}
 use Rattle.fv_disk.specs.DiskCalls.{OnlyReads}
 use Rattle.fv_model.specs.Machines.{Machine}
-use Rattle.fv_volume.specs.declared.fault.VolumeFault.{VolumeFault}
-use Rattle.fv_volume.specs.declared.fault.VolumeFault.TheVariants.{Refused, DiskFault, Damaged, Memory}
 use Rattle.fv_volume.specs.declared.pool.Pool.{Pool}
 use Rattle.fv_volume.specs.declared.state.VolumeState.{VolumeState}
 use Rattle.fv_aggmap.specs.Space.{free_blocks}
-use Rattle.fv_volume.specs.BlocksOver.{free_numbers}
-pub use Rattle.fv_volume.specs.Held.{core_of, pending_by, HasNoFiles, HasNumbers, HasSpent, HasWholeMap, IsPlacedAs, IsReadyIn}
-use Rattle.fv_volume.specs.OneVolume.{IsStanding}
-use Rattle.fv_volume.specs.Placing.{pending_of}
+pub use Rattle.fv_volume.specs.Held.{core_of, pending_by, HasNoFiles, HasNumbers, HasSpent, HasWholeMap, IsPlaceFault, IsPlacedAs, IsReadyIn, MayFail}
 use Rattle.fv_volume.specs.States.{States, state_at, with_state}
 use Rattle.fv_cp.specs.Held.{machine_held, IsHeld}
 use Rattle.fv_cp.specs.Lent.{blocks_asked, maps_waiting, FitTogether}
@@ -30,11 +25,6 @@ pub record IsSlotPlaced (disk : Shown) (pool : Pool) (states : States) (s : ℕ)
 abbrev pub PlacesSlot : Shown → Pool → States → ℕ → Option VolumeState → Shown → Pool → States → Type 0
 PlacesSlot disk pool states s None after left stay = Unit {0}
 PlacesSlot disk pool states s (Some x) after left stay = IsSlotPlaced disk pool states s x after left stay
-
--- With a number and a block more than are pending, only memory can be lacking. Nothing fails without a volume that has files in memory.
-abbrev pub MayFail : Shown → Pool → Option VolumeState → VolumeFault → Type 0
-MayFail disk pool None e = ⊥
-MayFail disk pool (Some x) e = (is_some x.files ≡ true) × (IsStanding disk pool x → pending_of x.files < free_numbers x.map → pending_of x.files < free_blocks pool.map → e ≡ Memory)
 
 -- ---- all volumes
 
@@ -81,10 +71,3 @@ pub record ArePlaced (disk : Shown) (pool : Pool) (states : States) (after : Sho
   pub spent : (before : Machine) → IsHeld disk pool states before → HaveRoom pool states → HaveSpent pool states left stay
   pub only_reads : OnlyReads disk after
   pub idle : HaveNoFiles states → (left ≡ pool) × (stay ≡ states)
-
--- Nothing is refused or read.
-abbrev pub IsPlaceFault : VolumeFault → Type 0
-IsPlaceFault (Refused r) = ⊥
-IsPlaceFault DiskFault = ⊥
-IsPlaceFault (Damaged at want found) = Unit {0}
-IsPlaceFault Memory = Unit {0}

@@ -1,5 +1,5 @@
 -- What a consistency point does, and why it isn't done.
-use Rattle.std.specs.Prelude.{◌≡◌, ◌<◌, ◌⊎◌, ℕ, List, Some, None, Result, IfSome, IsTrue, false}
+use Rattle.std.specs.Prelude.{◌≡◌, ◌<◌, ◌⊎◌, ℕ, Bool, List, Some, None, Result, IfSome, IsTrue, true, false, if◌then◌else◌}
 use Rattle.std.specs.Option.{option_map}
 use Rattle.std.specs.FinMap as fin
 use Rattle.fv_disk.specs.Shown.{Image, Shown, IsSettled}
@@ -15,14 +15,20 @@ use Rattle.fv_image.specs.WholeMachine.{machine_of}
 use Rattle.fv_root.specs.Finding.{root_found}
 use Rattle.fv_root.specs.Commits.{IsFoundOn, next_found}
 use Rattle.fv_store.specs.Held.{StandsOn}
-use Rattle.fv_container.specs.Chains.{parent_at, slot_count}
+use Rattle.fv_container.specs.Chains.{container_at, parent_at, slot_count}
+use Rattle.fv_container.specs.Leading.{place_at}
+use Rattle.fv_container.specs.Mapped.{Mapped, entry_under}
+use Rattle.fv_delay.specs.Reclaims.{goes_with}
 use Rattle.fv_aggmap.specs.Loading.{IsLoaded as IsMapLoaded}
 use Rattle.fv_aggmap.specs.Space.{blocks_of, free_blocks}
 use Rattle.fv_volume.specs.declared.pool.Pool.{Pool}
+use Rattle.fv_volume.specs.declared.state.VolumeState.{VolumeState}
+use Rattle.fv_volume.specs.Stored.{is_map_written, map_entry}
 use Rattle.fv_volume.specs.States.{States, state_at, head_in, view_over}
 use Rattle.fv_volume.specs.Trees.{active_in, no_trees}
 use Rattle.fv_disk.specs.declared.fault.BlockFault.{BlockFault}
 use Rattle.fv_disk.specs.declared.fault.BlockFault.TheVariants.{DiskFault, Damaged, Memory}
+use Rattle.fv_cp.specs.Course.{all_regions}
 use Rattle.fv_cp.specs.Lent.{FitTogether, IsLent, blocks_asked}
 pub use Rattle.fv_volume.specs.Housed.{AreSettled}
 
@@ -33,6 +39,12 @@ machine_lent disk pool states = told (view_over pool states disk.reads)
 -- an image stands for the machine of the last point, or for that of the volumes lent
 abbrev pub OldOrLent : Shown → Pool → States → Machine → Image → List ℕ → Type 0
 OldOrLent disk pool states before c g = ((machine_of c ≡ Some before) ⊎ (machine_of c ≡ Some (machine_lent disk pool states))) × (g ≡ disk.given)
+
+-- What a point makes of the container of a volume that it writes, some regions of which it reclaims: each delayed entry of these regions is a
+-- hole now, the blocks of the maps that are written have new places, and every other entry stays.
+pub record LeavesEntries (regions : ℕ → Bool) (x : VolumeState) (old new : Mapped) : Type 0 where
+  pub reclaimed : (v : ℕ) → is_map_written x v ≡ false → entry_under new v ≡ (if goes_with x.map old regions v then None else entry_under old v)
+  pub written : (v : ℕ) → is_map_written x v ≡ true → entry_under new v ≡ Some (map_entry (place_at new v))
 
 -- What a point that was done leaves: a settled disk that stands for the volumes lent, which are as they were, with nothing new and
 -- nothing delayed.
@@ -45,6 +57,10 @@ pub record IsPoint (old : Shown) (pool : Pool) (states : States) (new : Shown) (
   pub tables : (s : ℕ) → IfSome (state_at states s) (λ x. active_in (view_over left stay new.reads) no_trees s ≡ active_in (view_over pool states old.reads) no_trees s)
   pub unchanged : (s : ℕ) → IfSome (state_at stay s) (λ x. x.changed ≡ false)
   pub reclaimed : delayed (view_at (root_found left.found) new.reads) ≡ 0
+  -- of a volume that changed the entries are as the writing leaves them, once all its regions were reclaimed; another keeps its container
+  pub entries : (s : ℕ) (x : VolumeState) (before : Mapped) → s < slot_count → state_at states s ≡ Some x → x.changed ≡ true → container_at pool.containers s ≡ Some before
+      → (after : Mapped) × ((container_at left.containers s ≡ Some after) × LeavesEntries (all_regions s) x before after)
+  pub containers : (s : ℕ) → s < slot_count → IfSome (state_at states s) (λ x. x.changed ≡ false) → container_at left.containers s ≡ container_at pool.containers s
   pub blocks : left.found.blocks ≡ pool.found.blocks
   -- a volume without changes isn't written: it stays as it is, and the root names the label for it that it had
   pub same : (s : ℕ) → IfSome (state_at states s) (λ x. x.changed ≡ false → state_at stay s ≡ Some x)

@@ -6,6 +6,7 @@ mod fault;
 mod full;
 mod placing;
 mod point;
+mod reclaiming;
 
 pub use fault::CpFault;
 pub use full::full_point;

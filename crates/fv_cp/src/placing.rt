@@ -3,8 +3,6 @@
 ghost use Rattle.std.specs.Prelude.{◌≡◌, ◌<◌, ℕ, Some, None, IfErr, IfSome, OnOk};
 ghost use Rattle.fv_container.specs.Chains.{slot_count};
 ghost use Rattle.fv_store.specs.Held.{StandsOn};
-ghost use Rattle.fv_volmap.specs.Slots.{IsVolume};
-ghost use Rattle.fv_volume.specs.OneVolume.{IsReady};
 ghost use Rattle.fv_volume.specs.States.{state_at};
 ghost use Rattle.fv_cp.specs.Lent.{FitTogether};
 ghost use Rattle.fv_model.specs.Machines.{Machine};
@@ -13,7 +11,7 @@ ghost use Rattle.fv_cp.specs.Held.{IsHeld};
 ghost use Rattle.fv_cp.specs.Placing.{ArePlaced, AreReady, HasNoFiles, HasWholeMap, HaveNoFiles, HaveRoom, IsPlaceFault, IsPlacedAs, IsReadyIn, MayFail, PlacesSlot};
 
 use fv_disk::Disk;
-use fv_volume::{Pool, VolumeFault, VolumeState, Volumes};
+use fv_volume::{Pool, VolumeFault, Volumes};
 
 /// How many volumes there can be.
 const SLOTS: u8 = 64;
@@ -64,27 +62,7 @@ fn flush_slot<D: Disk>(
     ensures cause { IfErr result IsPlaceFault }
 {
     match volumes.get_mut(slot) {
-        Some(state) => flush_volume(state, pool, disk),
+        Some(state) => state.place_files(pool, disk),
         None => Ok(()),
     }
-}
-
-/// Places what changed of the files of a volume, with all the room that there is for it.
-fn flush_volume<D: Disk>(
-    state: &mut VolumeState,
-    pool: &mut Pool,
-    disk: &D,
-) -> Result<(), VolumeFault>
-    requires ready { IsReady (D.shown disk.now) pool.old state.old }
-    ensures placed { IsPlacedAs (D.shown disk.now) pool.old state.old (D.shown disk.now) pool.new state.new }
-    ensures none { OnOk result (state.new.files ≡ None) }
-    ensures whole { IsVolume state.new.map }
-    ensures fails { IfErr result (MayFail (D.shown disk.now) pool.old (Some state.old)) }
-    ensures cause { IfErr result IsPlaceFault }
-{
-    let mut room = state.room(pool);
-    let flushed = state.flush(pool, disk, &mut room);
-    // What is known of every map is needed of this one.
-    let _ = state.map.active();
-    flushed
 }

@@ -20,9 +20,10 @@ ghost use Rattle.fv_cp.specs.Lent.{AreKept, FitTogether, IsLent, asked_by, block
 ghost use Rattle.fv_cp.specs.Points.{Counts, GoesOn, IsCalm, IsPoint, IsSwitched, LacksRoom, LeavesAll, OldOrLent};
 ghost use Rattle.fv_volume.specs.Writing.{IsTaken, on_disk};
 ghost use Rattle.fv_codec.specs.Blocks.{last_place};
-ghost use Rattle.fv_cp.specs.Course.{AreNamedFor, GoesPast, HasCome, label_lent};
+ghost use Rattle.fv_cp.specs.Course.{AreNamedFor, GoesPast, HasCome, all_regions, label_lent};
 
 use crate::fault::CpFault;
+use crate::reclaiming::reclaim_all;
 use fv_codec::Root;
 use fv_disk::{Disk, Failed};
 use fv_root::{commit, first_block, next_found, root_place};
@@ -142,7 +143,7 @@ fn write_volumes<D: Disk>(
     requires map { blocks_of pool.old.map ≡ pool.old.found.blocks }
     requires kept { AreKept pool.old }
     requires room { blocks_asked volumes.now ≤ free_blocks pool.old.map }
-    ensures come { OnOk result (HasCome (D.shown disk.old) pool.old volumes.entry.now slot_count labels.new pool.new (D.shown disk.new)) }
+    ensures come { OnOk result (HasCome all_regions (D.shown disk.old) pool.old volumes.entry.now slot_count labels.new pool.new (D.shown disk.new)) }
     ensures spares { Spares (IsTaken (on_disk pool.old.map)) (D.shown disk.old) (D.shown disk.new) result }
 {
     pool.write_kept(disk)?;
@@ -152,7 +153,7 @@ fn write_volumes<D: Disk>(
     Ok(())
 }
 
-/// Writes the volume of a slot, if it changed.
+/// Reclaims the delayed entries of the volume of a slot and writes it, if it changed.
 fn write_slot<D: Disk>(
     volumes: &Volumes,
     pool: &mut Pool,
@@ -164,7 +165,7 @@ fn write_slot<D: Disk>(
     requires stands { StandsOn (D.shown disk.old) pool.old.store.pairs }
     requires housed { AreHoused pool.old.containers volumes.now }
     requires room { asked_by (state_at volumes.now slot) ≤ free_blocks pool.old.map }
-    ensures past { OnOk result (GoesPast (state_at volumes.entry.now slot) slot labels.old pool.old (D.shown disk.old) labels.new pool.new (D.shown disk.new)) }
+    ensures past { OnOk result (GoesPast all_regions (state_at volumes.entry.now slot) slot labels.old pool.old (D.shown disk.old) labels.new pool.new (D.shown disk.new)) }
     ensures count { OnOk result (free_blocks pool.old.map ≤ free_blocks pool.new.map + asked_by (state_at volumes.entry.now slot)) }
     ensures spares { Spares (IsTaken (on_disk pool.old.map)) (D.shown disk.old) (D.shown disk.new) result }
     ensures committed { pool.new.map.committed ≡ pool.old.map.committed }
@@ -181,6 +182,7 @@ fn write_slot<D: Disk>(
     let Some(container) = pool.containers.get_mut(slot) else {
         return Ok(());
     };
+    reclaim_all(container, &state.map, &mut pool.map);
     let label = write_volume(state, container, &mut pool.store, &mut pool.map, disk)?;
     labels[slot as usize] = label;
     Ok(())

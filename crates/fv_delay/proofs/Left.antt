@@ -16,7 +16,7 @@ use Rattle.fv_delay.proofs.Reclaimed.{delayed_now}
 
 -- a reclaim leaves a volume so
 pub left_by : (x : Holding) (regions : ℕ → Bool) (space left : Space) (new : Mapped) → HasReclaimed x.map regions x.container space new left → IsLeft regions x (record { map = x.map; container = new })
-left_by x regions space left new has = record { long = has.entries.long; delayed = delayed_now x.map regions x.container new space left has }
+left_by x regions space left new has = record { long = has.entries.long; delayed = delayed_now x.map regions x.container new has.entries }
 
 -- it is left so still where only entries change whose VVBNs are held, as those of a map's blocks are
 pub left_still : (regions : ℕ → Bool) (x : Holding) (map : Volume) (mid new : Mapped) → IsLeft regions x (record { map = map; container = mid }) → length new.entries ≡ length mid.entries

@@ -1,7 +1,7 @@
 -- The regions of a container part it: a count over all regions is a count over the container.
 use Rattle.std.proofs.Common.{◌≡◌, ℕ, zero, suc, ◌+◌, ◌-◌, ◌*◌, ◌/◌, ◌<◌, ◌≤◌, min, Bool, true, false, cond, not, ◌&&◌, length, sum_by, refl, sym, ap, ap₂, ◌∙◌, ⊎_elim, add-zero, arith}
 use Rattle.std.specs.Prelude.{◌==◌, nat_le, nat_lt, None}
-use Rattle.std.specs.Int.{from_bool}
+use Rattle.std.specs.Int.{div_ceil, from_bool}
 use Rattle.std.specs.List.{range_with_len}
 use Rattle.std.specs.Option.{is_some}
 use Rattle.std.proofs.lemmas.Bool.{cases_lt}
@@ -14,6 +14,14 @@ use Rattle.fv_image.proofs.Counts.{none_between}
 use Rattle.fv_container.specs.Mapped.{Mapped}
 use Rattle.fv_volmap.specs.Slots.{Volume}
 use Rattle.fv_delay.specs.Delay.{delayed_in, delayed_of, is_delayed, is_held}
+
+-- how many regions there are
+pub regions_are : (entries : ℕ) → div_ceil entries 256 ≡ level_width entries 0
+regions_are entries = omega arith
+
+-- the region of an entry is one of them
+pub region_within : (entries v : ℕ) → v < entries → v / fan < level_width entries 0
+region_within entries v within = omega (arith, within)
 
 -- behind the last entry none is delayed
 pub none_past : (map : Volume) (container : Mapped) (v : ℕ) → length container.entries ≤ v → is_delayed map container v ≡ false

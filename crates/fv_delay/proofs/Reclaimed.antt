@@ -6,7 +6,7 @@ use Rattle.std.specs.Option.{is_some}
 use Rattle.std.proofs.lemmas.Bool.{cases_eq, cases_lt}
 use Rattle.std.proofs.lemmas.Bool.Decides.{nat_tests}
 use Rattle.std.proofs.lemmas.List.{get_or-set_same, get_or-set_other}
-use Rattle.fv_image.specs.Containers.{fan}
+use Rattle.fv_image.specs.Containers.{fan, level_width}
 use Rattle.fv_aggmap.specs.Space.{Space}
 use Rattle.fv_aggmap.proofs.Giving.{given_none, given_same, given_then}
 use Rattle.fv_container.specs.Leading.{place_at, place_in}
@@ -16,7 +16,7 @@ use Rattle.fv_container.proofs.Leading.{any_either, any_none, any_same, lead_par
 use Rattle.fv_volmap.specs.Slots.{Volume}
 use Rattle.fv_delay.specs.Delay.{is_delayed, is_held, region_of}
 use Rattle.fv_delay.specs.Reclaims.{HasEmptied, HasGiven, HasReclaimed, goes_with, lead_to}
-use Rattle.fv_delay.proofs.Parts.{in_region, none_past}
+use Rattle.fv_delay.proofs.Parts.{in_region, none_past, region_within}
 
 -- ---- the entries, one after another
 
@@ -132,10 +132,10 @@ module _ (map : Volume) (old : Mapped) (region first end : ℕ) (start : first �
 
 -- ---- what holds afterwards
 
-module _ (map : Volume) (regions : ℕ → Bool) (old new : Mapped) (space left : Space) (has : HasReclaimed map regions old space new left) where
+module _ (map : Volume) (regions : ℕ → Bool) (old new : Mapped) (has : HasEmptied old (goes_with map old regions) new) where
   -- an entry that didn't go stays
   pub others_stay : (v : ℕ) → goes_with map old regions v ≡ false → entry_under new v ≡ entry_under old v
-  others_stay v stays = has.entries.entries v ∙ ap (λ (t : Bool). if t then None else entry_under old v) stays
+  others_stay v stays = has.entries v ∙ ap (λ (t : Bool). if t then None else entry_under old v) stays
 
   -- an entry whose VVBN is held stays
   pub held_stays : (v : ℕ) → is_held map v ≡ true → entry_under new v ≡ entry_under old v
@@ -147,7 +147,7 @@ module _ (map : Volume) (regions : ℕ → Bool) (old new : Mapped) (space left 
 
   -- an entry that is delayed now was so before, and its region wasn't reclaimed
   pub delayed_now : (v : ℕ) → is_delayed map new v ≡ (is_delayed map old v && not (regions (region_of v)))
-  delayed_now v = ap (λ entry. is_some entry && not (is_held map v)) (has.entries.entries v) ∙ so (is_delayed map old v) (regions (region_of v)) refl refl
+  delayed_now v = ap (λ entry. is_some entry && not (is_held map v)) (has.entries v) ∙ so (is_delayed map old v) (regions (region_of v)) refl refl
     where
       so : (s t : Bool) → is_delayed map old v ≡ s → regions (region_of v) ≡ t
           → (is_some (if is_delayed map old v && regions (region_of v) then None else entry_under old v) && not (is_held map v)) ≡ (is_delayed map old v && not (regions (region_of v)))
@@ -157,6 +157,24 @@ module _ (map : Volume) (regions : ℕ → Bool) (old new : Mapped) (space left 
           ap₂ (λ (s t : Bool). is_some (if s && t then None else entry_under old v) && not (is_held map v)) e f ∙ e ∙ sym (ap₂ (λ (s t : Bool). s && not t) e f)
       so false t e f =
           ap (λ (k : Bool). is_some (if k && regions (region_of v) then None else entry_under old v) && not (is_held map v)) e ∙ e ∙ sym (ap (λ (k : Bool). k && not (regions (region_of v))) e)
+
+-- the same of other regions, where they agree on those of the container
+pub reclaimed_same : (map : Volume) (f g : ℕ → Bool) (old new : Mapped) (space left : Space) → ((r : ℕ) → r < level_width (length old.entries) 0 → g r ≡ f r) → HasReclaimed map f old space new left → HasReclaimed map g old space new left
+reclaimed_same map f g old new space left same has = record {
+  entries = record {
+    entries = λ v. has.entries.entries v ∙ sym (ap (λ (t : Bool). if t then None else entry_under old v) (goes v));
+    long = has.entries.long;
+    tree = has.entries.tree;
+  };
+  blocks = given_same space left (lead_to old (goes_with map old f) 0 (length old.entries)) (lead_to old (goes_with map old g) 0 (length old.entries))
+      (λ b. any_same (λ v. goes_with map old g v && is_at b (place_at old v)) (λ v. goes_with map old f v && is_at b (place_at old v)) 0 (length old.entries) (λ v low high. ap (λ (t : Bool). t && is_at b (place_at old v)) (goes v))) has.blocks;
+}
+  where
+    goes : (v : ℕ) → goes_with map old g v ≡ goes_with map old f v
+    goes v = ⊎_elim
+        (λ (within : v < length old.entries). ap (λ t. is_delayed map old v && t) (same (region_of v) (region_within (length old.entries) v within)))
+        (λ (past : length old.entries ≤ v). ap (λ t. t && g (region_of v)) (none_past map old v past) ∙ sym (ap (λ t. t && f (region_of v)) (none_past map old v past)))
+        (cases_lt v (length old.entries))
 
 -- ---- several regions
 
@@ -193,7 +211,7 @@ reclaimed_then map f g both same old mid new space between left first second = r
     goes_later v = (is_delayed map old v && not (f (region_of v))) && g (region_of v)
 
     goes_then : (v : ℕ) → goes_with map mid g v ≡ goes_later v
-    goes_then v = ap (λ t. t && g (region_of v)) (delayed_now map f old mid space between first v)
+    goes_then v = ap (λ t. t && g (region_of v)) (delayed_now map f old mid first.entries v)
 
     goes_both : (v : ℕ) → goes_with map old both v ≡ (goes_with map old f v || goes_later v)
     goes_both v = ap (λ t. is_delayed map old v && t) (same (region_of v)) ∙ split (is_delayed map old v) (f (region_of v)) (g (region_of v))
@@ -232,5 +250,5 @@ reclaimed_then map f g both same old mid new space between left first second = r
             ∙ ap (λ (t : Bool). ((is_delayed map old v && not t) && g (region_of v)) && is_at b (place_at mid v)) (sym e)
             ∙ ap (λ (t : Bool). t && is_at b (place_at mid v)) (sym (goes_then v))
         here v false e =
-            ap (λ entry. goes_later v && is_at b (place_in entry)) (sym (region_stays map f old mid space between first v e))
+            ap (λ entry. goes_later v && is_at b (place_in entry)) (sym (region_stays map f old mid first.entries v e))
             ∙ ap (λ (t : Bool). t && is_at b (place_at mid v)) (sym (goes_then v))

@@ -1,7 +1,7 @@
 //! Which entries of a container are delayed.
 
 ghost use Rattle.std.specs.Prelude.{◌≡◌, ◌<◌, ◌≤◌, ◌*◌, ◌+◌, ◌-◌, length, min};
-ghost use Rattle.fv_image.specs.Containers.{fan, most_entries};
+ghost use Rattle.fv_image.specs.Containers.{fan, level_width, most_entries};
 ghost use Rattle.fv_image.specs.Views.{entry_count};
 ghost use Rattle.fv_model.specs.Numbers.{greatest_span};
 ghost use Rattle.fv_delay.specs.Delay.{delayed_in, has_delayed, is_delayed, is_held, is_used};
@@ -30,6 +30,16 @@ pub fn delayed_by_region(container: &Container, map: &VolMap, region: u32) -> u3
         count += u32::from(is_delayed(container, map, vvbn));
     }
     count
+}
+
+/// How many regions a volume's container has, which has an entry for each VVBN of the map's span and for each block of 25 maps. From that
+/// number on no region has an entry.
+#[tactic(auto, using(crate::proofs::Parts::regions_are))]
+pub fn region_count(map: &VolMap) -> u32
+    requires { map.now.span ≤ greatest_span }
+    ensures { result ≡ level_width (entry_count map.now.span) 0 }
+{
+    entry_count(map).div_ceil(256)
 }
 
 /// Whether an entry of a volume's container is delayed: there is something to give back. The container has an entry for each VVBN of the

@@ -13,6 +13,6 @@ mod regions;
 
 pub use choosing::choose_regions;
 pub use counts::{Count, Counts};
-pub use delayed::{delayed_by_region, has_delayed};
+pub use delayed::{delayed_by_region, has_delayed, region_count};
 pub use reclaiming::reclaim;
 pub use regions::{Region, Regions};

@@ -34,7 +34,7 @@ leads_is n = so (n == 0)
     so true = refl
     so false = refl
 
-stands_is : (t : Rooted) (level place : ℕ) → fin.contains_key (tree_told t).stamps (level, place) ≡ not ((pointer_at t level place).stamp == 0)
+pub stands_is : (t : Rooted) (level place : ℕ) → fin.contains_key (tree_told t).stamps (level, place) ≡ not ((pointer_at t level place).stamp == 0)
 stands_is t level place = ap is_some (stamps_told t level place) ∙ leads_is (pointer_at t level place).stamp
 
 -- The positions over a cell are the pointers over it.

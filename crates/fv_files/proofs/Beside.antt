@@ -16,12 +16,13 @@ use Rattle.fv_tree.specs.Standing.{standing, under}
 use Rattle.fv_tree.specs.Writing.{IsAlike}
 use Rattle.fv_tree.specs.Flushing.{Loaded, Leads, IsSound, loaded_over}
 use Rattle.fv_tree.specs.Beside.{IsLaid, loaded_on, unread, LeadsTo, Spares}
-use Rattle.fv_tree.proofs.Beside.{tree_laid, unread_laid, unread_sound, other_alike, other_keeps, other_leads, other_sound, still_apart}
+use Rattle.fv_tree.proofs.Beside.{tree_laid, unread_laid, unread_sound, other_alike, other_keeps, other_leads, other_leaves, other_sound, still_apart}
 use Rattle.fv_tree.proofs.Cases.{none_some, some_none}
 use Rattle.fv_tree.proofs.Whole.{hole_reaches}
 use Rattle.fv_tree.proofs.Writes.{none_at}
 use Rattle.fv_files.specs.declared.files.Files.{Files}
 use Rattle.fv_files.specs.Apart.{Trees, LeadsAny, LeadsIn, LeadsFrom, StandsIn, AreApart, AreLed}
+use Rattle.fv_files.specs.Altering.{LeavesIn}
 use Rattle.fv_files.specs.Tables.{tree_in, file_loaded, loaded_trees}
 
 -- ---- numbers of trees
@@ -203,7 +204,15 @@ module _ (old new : Shown) (x y : Trees) (a : Option ℕ) (laid : (b : Option �
   moved_apart b differs None is v one led = led
   moved_apart b differs (Some r) is v one led = let h = other_in b differs (Some r) is in still_apart old new (LeadsFrom x a) (LeadsFrom y a) r spares h.0.0 h.0.1 h.1 h.2 v one led
 
-  -- Another tree is seen as before.
+  -- Nothing of another tree changed,
+  pub moved_leaves : (b : Option ℕ) → b ≢ a → (o : Option Loaded) → x b ≡ o → LeavesIn o (option_map (loaded_on (under new)) o)
+  moved_leaves b differs None is = tt
+  moved_leaves b differs (Some r) is = let h = other_in b differs (Some r) is in other_leaves old new (LeadsFrom x a) (LeadsFrom y a) r spares h.0.0 h.0.1 h.1 h.2
+
+  pub other_in_leaves : (b : Option ℕ) → b ≢ a → y b ≡ option_map (loaded_on (under new)) (x b) → LeavesIn (x b) (y b)
+  other_in_leaves b differs is = subst (LeavesIn (x b)) (sym is) (moved_leaves b differs (x b) refl)
+
+  -- and it is seen as before.
   pub other_tree : (b : Option ℕ) → b ≢ a → (r : Loaded) → x b ≡ Some r → IsAlike r.tree (over (under new) r.tree)
   other_tree b differs r is = let h = other_in b differs (Some r) is in other_alike old new (LeadsFrom x a) (LeadsFrom y a) r spares h.0.0 h.0.1 h.1 h.2
 

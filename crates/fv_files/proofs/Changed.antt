@@ -1,9 +1,10 @@
 -- A table of which the tree of one file in memory changed, and then its record.
-use Rattle.std.proofs.Common.{◌≡◌, ◌≢◌, ℕ, ◌/◌, true, false, cond, nat_eq, inl, refl, sym, ap, subst, ◌∙◌, arith}
+use Rattle.std.proofs.Common.{◌≡◌, ◌≢◌, ℕ, ◌/◌, true, false, cond, nat_eq, inl, inr, refl, sym, ap, subst, ◌∙◌, ⊎_elim, arith}
 use Rattle.std.specs.Prelude.{Option, Some, None, is_some}
 use Rattle.std.specs.Option.{option_map}
 use Rattle.std.specs.BTreeMap as maps
 use Rattle.std.specs.FinMap as fin
+use Rattle.std.proofs.lemmas.Bool.{cases_eq}
 use Rattle.std.proofs.lemmas.Bool.Decides.{nat_tests}
 use Rattle.fv_codec.specs.declared.inode.InodeRecord.{InodeRecord}
 use Rattle.fv_tables.specs.Spelled.{Under, stored}
@@ -13,7 +14,8 @@ use Rattle.fv_tree.specs.declared.kept.Tree.{Tree}
 use Rattle.fv_tree.specs.Sources.{Shown, Use}
 use Rattle.fv_tree.specs.Standing.{standing, under}
 use Rattle.fv_tree.specs.Writing.{IsAlike, Remains}
-use Rattle.fv_tree.specs.Flushing.{IsSound, loaded, loaded_over, Stands}
+use Rattle.fv_tree.specs.Flushing.{IsSound, changed_of, loaded, loaded_over, Stands}
+use Rattle.fv_tree.specs.Altering.{Alters, Leaves, PlacesAnew}
 use Rattle.fv_tree.specs.Leading.{LeadsNoMore}
 use Rattle.fv_tree.specs.Readying.{KeepsReady}
 use Rattle.fv_tree.specs.Beside.{loaded_on, LeadsTo, Spares}
@@ -33,8 +35,10 @@ use Rattle.fv_files.specs.Tables.{table_in, tree_in, file_loaded, loaded_trees, 
 use Rattle.fv_files.specs.Calls.{Becomes, SparesOthers}
 use Rattle.fv_files.proofs.Looked.{Held}
 use Rattle.fv_files.proofs.Tables.{alike, some_same, placed_alike}
-use Rattle.fv_files.proofs.Beside.{IsOther, LetsGo, UsesNoMore, loading_lets_go, loading_uses, spares_as}
-use Rattle.fv_files.proofs.Kept.{own_tree_is, inode_alike, files_same, others_told, file_led, file_spares, file_stands, file_stored, inode_led, inode_spares, inode_stands, inode_stored}
+use Rattle.fv_files.specs.Altering.{AltersTrees, AreLaid, LeavesIn, LeavesTrees, MatchesRecord, PlacesIn, PlacesTrees}
+use Rattle.fv_files.proofs.Altered.{AltersBoth, IsLeftLaid, both_as, both_in, both_then, laid_by, leaves_as, leaves_both, leaves_match, leaves_of, leaves_places, places_as, still_changed}
+use Rattle.fv_files.proofs.Beside.{some_differ, same_or, IsOther, LetsGo, UsesNoMore, loading_lets_go, loading_uses, spares_as}
+use Rattle.fv_files.proofs.Kept.{others_leave, rest_leave, own_tree_is, inode_alike, files_same, others_told, file_led, file_spares, file_stands, file_stored, inode_led, inode_spares, inode_stands, inode_stored}
 
 -- a table with other trees, or with another inode file
 abbrev pub with_trees : Files → maps.BTreeMap ℕ Tree → Files
@@ -54,7 +58,7 @@ has_record (Some r) e = record { file = r; is = refl }
 -- ---- the tree of a file that is in memory
 
 -- it is that of the table, where there is a record
-kept_tree_is : (blocks : Under) (f : Files) (n : ℕ) (t : Tree) (r : InodeRecord) → tree_in f n ≡ Some t → file_at (standing blocks f.inode.tree) n ≡ Some r → loaded_trees blocks f (Some n) ≡ Some (loaded_over blocks t)
+pub kept_tree_is : (blocks : Under) (f : Files) (n : ℕ) (t : Tree) (r : InodeRecord) → tree_in f n ≡ Some t → file_at (standing blocks f.inode.tree) n ≡ Some r → loaded_trees blocks f (Some n) ≡ Some (loaded_over blocks t)
 kept_tree_is blocks f n t r is at = own_tree_is blocks f n r at ∙ ap (λ o. Some (file_loaded blocks n r o)) is
 
 -- the table leads with it nowhere else
@@ -146,6 +150,59 @@ module _ (old new : Shown) (f : Files) (m : maps.BTreeMap ℕ Tree) (n : ℕ) (t
     pub kept_stored : IsStoredWell (loaded new u) → IsStored old f → IsStored new g
     kept_stored well = file_stored old new f g n refl becomes.others sound own_spares (subst StoredIn (sym now_tree) well)
 
+    -- what happens to the places of that tree happens to the table's
+    pub kept_leave : Leaves (loaded old t) (loaded new u) → LeavesTrees (loaded_trees (under old) f) (loaded_trees (under new) g)
+    kept_leave is b = ⊎_elim
+        (λ (same : b ≡ Some n). subst (λ a. LeavesIn (loaded_trees (under old) f a) (loaded_trees (under new) g a)) (sym same) (leaves_as (loaded_trees (under old) f (Some n)) (loaded_trees (under new) g (Some n)) (loaded old t) (loaded new u) was_tree now_tree is))
+        (λ (differs : b ≢ Some n). others_leave old new f g n refl becomes.others sound own_spares b differs)
+        (same_or b (Some n))
+
+    pub kept_alter : (s : ℕ) → Alters s (loaded old t) (loaded new u) → (b : Option ℕ) → AltersBoth s (loaded_trees (under old) f b) (loaded_trees (under new) g b)
+    kept_alter s is b = ⊎_elim
+        (λ (same : b ≡ Some n). subst (λ a. AltersBoth s (loaded_trees (under old) f a) (loaded_trees (under new) g a)) (sym same) (both_as s (loaded_trees (under old) f (Some n)) (loaded_trees (under new) g (Some n)) (loaded old t) (loaded new u) was_tree now_tree is))
+        (λ (differs : b ≢ Some n). leaves_both s (loaded_trees (under old) f b) (loaded_trees (under new) g b) (others_leave old new f g n refl becomes.others sound own_spares b differs))
+        (same_or b (Some n))
+
+    pub kept_place : (free : ℕ → Type 0) → PlacesAnew (loaded old t) free (loaded new u) → PlacesTrees free (loaded_trees (under old) f) (loaded_trees (under new) g)
+    kept_place free is b = ⊎_elim
+        (λ (same : b ≡ Some n). subst (λ a. PlacesIn free (loaded_trees (under old) f a) (loaded_trees (under new) g a)) (sym same) (places_as free (loaded_trees (under old) f (Some n)) (loaded_trees (under new) g (Some n)) (loaded old t) (loaded new u) was_tree now_tree is))
+        (λ (differs : b ≢ Some n). leaves_places free (loaded_trees (under old) f b) (loaded_trees (under new) g b) (others_leave old new f g n refl becomes.others sound own_spares b differs))
+        (same_or b (Some n))
+
+    -- the tree of another file
+    kept_files : (k : ℕ) → file_at (rooted new f.inode) k ≡ file_at (rooted old f.inode) k
+    kept_files = files_same old new f g n refl becomes.others sound own_spares
+
+    pub kept_other : (k : ℕ) (w : Tree) (q : InodeRecord) → k ≢ n → tree_in g k ≡ Some w → file_at (rooted new f.inode) k ≡ Some q → IsLeftLaid (under old) (under new) f g k w q
+    kept_other k w q differs is at =
+        let was = sym (becomes.others k differs) ∙ is in
+        let file = sym (kept_files k) ∙ at in record {
+          tree = w;
+          was = was;
+          file = file;
+          leaves = leaves_of (loaded_trees (under old) f (Some k)) (loaded_trees (under new) g (Some k)) (loaded old w) (loaded new w) (kept_tree_is (under old) f k w q was file) (kept_tree_is (under new) g k w q is at)
+              (others_leave old new f g n refl becomes.others sound own_spares (Some k) (some_differ k n differs));
+          cell = λ before. before;
+        }
+
+    -- Each tree in memory is as its record says, or its inode cell changed.
+    pub kept_laid : ((q : InodeRecord) → MatchesRecord (loaded old t) q → MatchesRecord (loaded new u) q) → AreLaid (under old) f → AreLaid (under new) g
+    kept_laid own laid k w q is at = ⊎_elim
+        (λ (same : k ≡ n).
+        let here : file_at (rooted old f.inode) n ≡ Some q = sym (kept_files n) ∙ ap (file_at (rooted new f.inode)) (sym same) ∙ at in
+        let it : u ≡ w = some_same u w (sym becomes.now ∙ ap (tree_in g) (sym same) ∙ is) in
+        ⊎_elim
+        (λ before. inl (ap (λ m. changed_of f.inode.tree 0 (m / records_each)) same ∙ before))
+        (λ matches. inr (subst (λ (v : Tree). MatchesRecord (loaded new v) q) it (own q matches)))
+        (laid n t q becomes.was here))
+        (λ (differs : k ≢ n).
+        let left = kept_other k w q differs is at in
+        ⊎_elim
+        (λ before. inl before)
+        (λ matches. inr (leaves_match (loaded old left.tree) (loaded new w) q left.leaves matches))
+        (laid k left.tree q left.was left.file))
+        (cases_eq k n)
+
     pub kept_spares : SparesOthers old new f g
     kept_spares = file_spares old new f g n refl becomes.others sound own_spares
 
@@ -213,6 +270,16 @@ module _ (source : Shown) (f : Files) (i : InodeFile) (n s : ℕ) (u : Tree) (ke
 
 -- ---- both, one after the other
 
+-- the record changed, and all trees of files are as before
+pub record_alter : (source : Shown) (f : Files) (i : InodeFile) (n s : ℕ) (u : Tree) → tree_in f n ≡ Some u → (change : InodeRecord → InodeRecord)
+    → ((k : ℕ) → file_at (rooted source i) k ≡ cond (nat_eq k n) (option_map change (file_at (rooted source f.inode) n)) (file_at (rooted source f.inode) k)) → LeadsNoMore (loaded source f.inode.tree) (loaded source i.tree) → Alters s (loaded source f.inode.tree) (loaded source i.tree)
+    → AreStanding source f → (b : Option ℕ) → AltersBoth s (loaded_trees (under source) f b) (loaded_trees (under source) (with_inode f i) b)
+record_alter source f i n s u kept change files no_more alters sound None = alters
+record_alter source f i n s u kept change files no_more alters sound (Some k) =
+    leaves_both s (loaded_trees (under source) f (Some k)) (loaded_trees (under source) (with_inode f i) (Some k)) (rest_leave source source f (with_inode f i) n (λ k differs. refl) (other_records source f i n s u kept change files) sound
+    (loading_spares source source (LeadsTo (loaded source f.inode.tree)) (LeadsTo (loaded source i.tree)) refl refl (λ v led. record { level = led.level; place = led.place; leads = no_more led.level led.place v led.leads }))
+    (own_moved source f i n s u kept change files) k)
+
 module _ (old new : Shown) (f : Files) (m : maps.BTreeMap ℕ Tree) (n : ℕ) (t u : Tree) (becomes : Becomes f.trees m n t u) (i : InodeFile) (s : ℕ) (change : InodeRecord → InodeRecord)
     (rewrites : (blocks : Under) → Rewrites (standing blocks f.inode.tree) (standing blocks i.tree) n s (option_map change (file_at (standing blocks f.inode.tree) n))) (owner : i.tree.owner ≡ f.inode.tree.owner)
     (sound_i : (blocks : Under) (used : ℕ → Option Use) → IsSound used (loaded_over blocks f.inode.tree) → IsSound used (loaded_over blocks i.tree)) (leads : (blocks : Under) → LeadsNoMore (loaded_over blocks f.inode.tree) (loaded_over blocks i.tree)) (keeps_ready : KeepsReady f.inode.tree i.tree) where
@@ -232,3 +299,23 @@ module _ (old new : Shown) (f : Files) (m : maps.BTreeMap ℕ Tree) (n : ℕ) (t
   both_stored sound spares same stands record_well well was =
       let half = kept_stored old new f m n t u becomes sound spares well was in
       record_stored new (with_trees f m) i n s u becomes.now change (rewrites (under new)).files (record_well (under new) (half.trees None)) (rewritten_indexes (rooted new f.inode) (rooted new i) n s _ (rewrites (under new))) (leads (under new)) (kept_stands old new f m n t u becomes sound spares same stands) half
+
+  -- the places of the tree and of the inode file got the stamp, or are as before
+  pub both_alter : AreStanding old f → Spares old new (LeadsTo (loaded old t)) (LeadsTo (loaded new u)) → u.owner ≡ t.owner → Stands new u → Alters s (loaded old t) (loaded new u) → Alters s (loaded new f.inode.tree) (loaded new i.tree)
+      → AltersTrees s (loaded_trees (under old) f) (loaded_trees (under new) (record { inode = i; trees = m; alloc = f.alloc }))
+  both_alter sound spares same stands own inode b =
+      let x = loaded_trees (under old) f in
+      let y = loaded_trees (under new) (with_trees f m) in
+      let z = loaded_trees (under new) (record { inode = i; trees = m; alloc = f.alloc }) in
+      both_in s (x b) (z b) (both_then s (x b) (y b) (z b) (kept_alter old new f m n t u becomes sound spares s own b)
+      (record_alter new (with_trees f m) i n s u becomes.now change (rewrites (under new)).files (leads (under new)) inode (kept_stands old new f m n t u becomes sound spares same stands) b))
+
+  -- and as the inode cell of the file changed, each tree in memory is still as its record says, or its inode cell changed
+  pub both_laid : AreStanding old f → Spares old new (LeadsTo (loaded old t)) (LeadsTo (loaded new u)) → Alters s (loaded new f.inode.tree) (loaded new i.tree) → changed_of i.tree 0 (n / records_each) ≡ true → AreLaid (under old) f
+      → AreLaid (under new) (record { inode = i; trees = m; alloc = f.alloc })
+  both_laid sound spares inode marked laid = laid_by (under old) (under new) f (record { inode = i; trees = m; alloc = f.alloc }) laid (λ k w q is at. ⊎_elim
+      (λ (here : k ≡ n). inl (ap (λ j. changed_of i.tree 0 (j / records_each)) here ∙ marked))
+      (λ (differs : k ≢ n).
+      let left = kept_other old new f m n t u becomes sound spares k w q differs is (sym (other_records new (with_trees f m) i n s u becomes.now change (rewrites (under new)).files k differs) ∙ at) in
+      inr (record { tree = left.tree; was = left.was; file = left.file; leaves = left.leaves; cell = still_changed s (under new) (under new) f.inode.tree i.tree k q inode at }))
+      (cases_eq k n))

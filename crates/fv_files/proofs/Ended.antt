@@ -29,12 +29,15 @@ use Rattle.fv_files.specs.Flushing.{FlushesTable, LaysTrees}
 use Rattle.fv_files.specs.Pending.{FitsTable}
 use Rattle.fv_files.proofs.Tables.{placed_alike}
 use Rattle.fv_files.proofs.Stored.{places_of, reread_stored}
-use Rattle.fv_files.proofs.Kept.{moved_tree, same_trees, records_told, inode_led, inode_spares, inode_stands, inode_stored}
+use Rattle.fv_files.proofs.Kept.{moved_tree, same_trees, records_told, inode_led, inode_spares, inode_stands, inode_stored, rest_leave}
 use Rattle.fv_files.proofs.Changed.{with_inode}
 use Rattle.fv_files.proofs.Beside.{reread_leads, unread_leads}
 use Rattle.fv_files.proofs.Laid.{flush_goes, flush_uses, flushed_spares, lays_then, stores_then}
 use Rattle.fv_files.proofs.Sums.{no_cost}
 use Rattle.fv_files.proofs.Whole.{no_trees, none_there}
+use Rattle.fv_tree.specs.Altering.{PlacesAnew}
+use Rattle.fv_files.specs.Altering.{PlacesIn, FlushesPlaces}
+use Rattle.fv_files.proofs.Altered.{leaves_places, none_laid}
 
 -- what the flush of an inode file answers and does
 pub record Places (told : Type 0) (old new : Shown) (i j : InodeFile) (r : Result Pointer BlockFault) : Type 0 where
@@ -106,6 +109,18 @@ module _ (told : Type 0) (old new : Shown) (f : Files) (i : InodeFile) (r : Resu
     cause = IfErr-weaker r _ _ (λ e cause. inl cause) is.cause;
     source = λ tells sound. is.cause;
   }
+
+  -- what it does to the places of the table's trees
+  pub last_places : (free : ℕ → Type 0) → (told → Stands old f.inode.tree → PlacesAnew (loaded old f.inode.tree) free (loaded new i.tree)) → FlushesPlaces told free old new f h
+  last_places free anew = record {
+    anew = λ tells sound laid a. at tells sound a;
+    laid = λ tells sound laid. none_laid (under new) h (no_trees h empty);
+  }
+    where
+      at : told → AreStanding old f → (a : Option ℕ) → PlacesIn free (loaded_trees (under old) f a) (loaded_trees (under new) h a)
+      at tells sound None = anew tells (sound.trees None)
+      at tells sound (Some k) = leaves_places free (loaded_trees (under old) f (Some k)) (loaded_trees (under new) h (Some k))
+          (rest_leave old new f h 0 (λ k differs. refl) (λ k differs. files tells sound k) sound (flushed_spares old new f.inode.tree i.tree (sound.trees None) (is.flushes tells (sound.trees None))) (moved_tree (under old) (under new) f h 0 refl (files tells sound 0)) k)
 
 -- ---- at Ok
 

@@ -1,5 +1,5 @@
 -- The flush of a table, step by step: a file's tree, the root of it, and last the inode file.
-use Rattle.std.proofs.Common.{◌≡◌, ◌≤◌, ◌+◌, ℕ, true, false, cond, nat_eq, inl, Ok, Err, Result, refl, sym, ap, subst, ◌∙◌, ⊎_elim, arith}
+use Rattle.std.proofs.Common.{◌≡◌, ◌≤◌, ◌+◌, ℕ, true, false, cond, nat_eq, inl, Ok, Err, Result, refl, sym, ap, subst, ◌∙◌, ⊎_elim, arith, ◌/◌}
 use Rattle.std.specs.Prelude.{Option, Some, None, is_some, IfErr}
 use Rattle.std.specs.Option.{option_map}
 use Rattle.std.specs.Ordering.{nat_cmp}
@@ -12,38 +12,42 @@ use Rattle.fv_disk.specs.declared.fault.BlockFault.TheVariants.{DiskFault, Damag
 use Rattle.fv_codec.specs.declared.pointer.Pointer.{Pointer}
 use Rattle.fv_codec.specs.declared.inode.InodeRecord.{InodeRecord}
 use Rattle.fv_tables.specs.Spelled.{Under, Rooted, stored}
-use Rattle.fv_tables.specs.Told.{file_at}
+use Rattle.fv_tables.specs.Told.{file_at, records_each}
 use Rattle.fv_tables.specs.Kept.{IsPlacedTable}
 use Rattle.fv_tree.specs.declared.kept.Tree.{Tree}
 use Rattle.fv_tree.specs.Sources.{Shown, Counts, HasCause, IsDamaged}
 use Rattle.fv_tree.specs.Standing.{standing, under}
 use Rattle.fv_tree.specs.Writing.{IsAlike}
 use Rattle.fv_tree.specs.Costs.{pending}
-use Rattle.fv_tree.specs.Flushing.{ReachesOnce, Stands}
+use Rattle.fv_tree.specs.Flushing.{ReachesOnce, Stands, changed_of, loaded}
 use Rattle.fv_tree.specs.Stored.{KeepsPlaces}
 use Rattle.fv_tree.proofs.Causes.{calm_itself, counts_then}
 use Rattle.fv_inode.specs.declared.file.InodeFile.{InodeFile}
 use Rattle.fv_inode.specs.Files.{rooted, info_of, with_root}
 use Rattle.fv_inode.specs.declared.info.Info.{Info}
-use Rattle.fv_inode.specs.Failing.{Alters}
+use Rattle.fv_inode.specs.Failing.{OnlyLoads}
 use Rattle.fv_inode.specs.Failing as inodes
 use Rattle.fv_inode.proofs.Alike.{alike_itself}
-use Rattle.fv_inode.proofs.Looked.{alters_none}
+use Rattle.fv_inode.proofs.Looked.{loads_none, loads_leaves}
 use Rattle.fv_inode.specs.Changing.{SetsRoot}
 use Rattle.fv_files.specs.declared.files.Files.{Files}
 use Rattle.fv_files.specs.Tables.{table_in, tree_in, loaded_trees, AreStanding, IsLed, IsStored}
 use Rattle.fv_tree.proofs.Beside.{loading_spares}
 use Rattle.fv_files.specs.Apart.{LeadsAny}
 use Rattle.fv_files.specs.Calls.{KeepsStored, SparesOthers}
-use Rattle.fv_files.specs.Flushing.{FlushesKept, HasRoot, LaysTrees}
+use Rattle.fv_files.specs.Flushing.{FlushesKept, HasRoot, LaysTrees, KeptAnew}
 use Rattle.fv_files.specs.Pending.{pending_trees, tree_cost, FitsTable}
 use Rattle.fv_files.proofs.Looked.{Held, counts_done, counts_failed}
 use Rattle.fv_files.proofs.Tables.{placed_then}
 use Rattle.fv_files.proofs.Stored.{places_of}
-use Rattle.fv_files.proofs.Changed.{with_trees, with_inode, owned_stands, owned_stored, has_record}
-use Rattle.fv_files.proofs.Prepared.{readied_led, readied_placed, readied_spares, readied_stands, readied_stored}
+use Rattle.fv_files.proofs.Changed.{with_trees, with_inode, owned_stands, owned_stored, has_record, kept_laid, kept_place}
+use Rattle.fv_files.proofs.Prepared.{readied_led, readied_placed, readied_spares, readied_stands, readied_stored, readied_laid, readied_leave}
 use Rattle.fv_files.proofs.Sums.{most_cost}
-use Rattle.fv_files.proofs.Laid.{kept_flush_led, kept_flush_spares, kept_flush_stored, kept_placed, kept_stood, root_led, root_placed, root_spares, root_stands, root_stored, gone_led, gone_placed, gone_spares, gone_stands, gone_stored, lay_failed, table_spares_then}
+use Rattle.fv_files.proofs.Laid.{kept_flush_led, kept_flush_spares, kept_flush_stored, kept_placed, kept_stood, root_led, root_placed, root_spares, root_stands, root_stored, gone_led, gone_placed, gone_spares, gone_stands, gone_stored, lay_failed, table_spares_then, flushed_spares, gone_laid, gone_leave, root_laid, root_leave}
+use Rattle.fv_tree.specs.Altering.{Leaves}
+use Rattle.fv_tree.proofs.Stays.{unchanged}
+use Rattle.fv_files.specs.Altering.{AreLaid, FlushesPlaces}
+use Rattle.fv_files.proofs.Altered.{leaves_in_itself, leaves_places, leaves_places_trees, leaves_trees_then, places_match, places_trees_then}
 
 -- ---- no memory
 
@@ -58,35 +62,50 @@ memory_cause told t old new (Err e) is fails = subst (HasCause old new) (sym is)
 
 -- ---- the inode file holds more in memory, or a call of it failed
 
-module _ {T : Type 0} (told : Type 0) (old new : Shown) (f : Files) (i : InodeFile) (r : Result T BlockFault) (alters : Alters told old new f.inode.tree i.tree r) (alike : told → IsAlike (rooted old f.inode) (rooted new i))
+module _ {T : Type 0} (told : Type 0) (old new : Shown) (f : Files) (i : InodeFile) (r : Result T BlockFault) (loads : OnlyLoads told old new f.inode.tree i.tree r) (alike : told → IsAlike (rooted old f.inode) (rooted new i))
     (fewer : pending i.tree ≤ pending f.inode.tree) (memory : told → AreStanding old f → IfErr r (λ e. e ≡ Memory)) where
   abbrev h : Files
   h = with_inode f i
 
   pub ready_lays : LaysTrees told old new f h r
   ready_lays = record {
-    placed = λ tells sound. readied_placed old new f h alters.looks.untouched (alike tells) (λ k. refl);
-    stands = λ tells sound. readied_stands old new f h alters.looks.untouched (alike tells) (λ k. refl) alters.owner (alters.stands tells) (alters.leads tells) alters.keeps_ready sound;
-    led = λ tells sound led. readied_led old new f h alters.looks.untouched (alike tells) (λ k. refl) (alters.leads tells) (alters.keeps tells) sound led;
-    spares = λ tells sound. readied_spares old new f h alters.looks.untouched (alike tells) (λ k. refl) (alters.leads tells) sound;
-    strays = λ tells sound. alters.looks.untouched.strays;
-    fits = λ tells sound. let same = alters.looks.untouched.room in record { fewer = omega (arith, fewer); room = omega (arith, fewer, same) };
+    placed = λ tells sound. readied_placed old new f h loads.looks.untouched (alike tells) (λ k. refl);
+    stands = λ tells sound. readied_stands old new f h loads.looks.untouched (alike tells) (λ k. refl) loads.owner (loads.stands tells) (loads.leads tells) loads.keeps_ready sound;
+    led = λ tells sound led. readied_led old new f h loads.looks.untouched (alike tells) (λ k. refl) (loads.leads tells) (loads.keeps tells) sound led;
+    spares = λ tells sound. readied_spares old new f h loads.looks.untouched (alike tells) (λ k. refl) (loads.leads tells) sound;
+    strays = λ tells sound. loads.looks.untouched.strays;
+    fits = λ tells sound. let same = loads.looks.untouched.room in record { fewer = omega (arith, fewer); room = omega (arith, fewer, same) };
     enough = λ tells sound room. IfErr-weaker r _ _ memory_alone (memory tells sound);
-    counts = alters.looks.counts;
-    cause = IfErr-weaker r _ _ (λ e fails. lay_failed told old old new f f e (calm_itself old) (λ tells sound. placed_self) (inl fails)) alters.looks.cause;
-    source = λ tells sound. memory_cause told (rooted old f.inode) old new r (memory tells sound) alters.looks.cause;
+    counts = loads.looks.counts;
+    cause = IfErr-weaker r _ _ (λ e fails. lay_failed told old old new f f e (calm_itself old) (λ tells sound. placed_self) (inl fails)) loads.looks.cause;
+    source = λ tells sound. memory_cause told (rooted old f.inode) old new r (memory tells sound) loads.looks.cause;
   }
     where
       placed_self : IsPlacedTable (table_in old f) (table_in old f)
       placed_self = readied_placed old old f f (record { held = refl; used = refl; strays = refl; room = refl; cost = refl }) (record { levels = refl; stamps = λ level place. refl; blocks = λ index. refl }) (λ k. refl)
 
+  pub ready_places : (free : ℕ → Type 0) → (told → Leaves (loaded old f.inode.tree) (loaded new i.tree)) → FlushesPlaces told free old new f h
+  ready_places free leaves = record {
+    anew = λ tells sound laid. leaves_places_trees free (loaded_trees (under old) f) (loaded_trees (under new) h) (readied_leave old new f h loads.looks.untouched (alike tells) (λ k. refl) (leaves tells) (loads.leads tells) sound);
+    laid = λ tells. readied_laid old new f h loads.looks.untouched (alike tells) (λ k. refl) (leaves tells) (loads.leads tells);
+  }
+
   pub ready_stores : told → KeepsStored old new f h
-  ready_stores tells sound led = readied_stored old new f h alters.looks.untouched (alike tells) (λ k. refl) (alters.stored_well tells) (alters.leads tells) sound
+  ready_stores tells sound led = readied_stored old new f h loads.looks.untouched (alike tells) (λ k. refl) (loads.stored_well tells) (loads.leads tells) sound
 
 -- the inode file was only read
 pub look_lays : {T : Type 0} (told : Type 0) (old new : Shown) (f : Files) (r : Result T BlockFault) → inodes.Looks told (rooted old f.inode) old new r → (told → AreStanding old f → IfErr r (λ e. e ≡ Memory)) → LaysTrees told old new f f r
-look_lays told old new f r looks memory = ready_lays told old new f f.inode r (alters_none told f.inode.tree old new r looks)
+look_lays told old new f r looks memory = ready_lays told old new f f.inode r (loads_none told f.inode.tree old new r looks)
     (λ tells. subst (λ (h : Held). IsAlike (rooted old f.inode) (standing (λ v. fin.get h v) f.inode.tree)) (sym looks.untouched.held) (alike_itself (rooted old f.inode))) (omega arith) memory
+
+pub look_places : {T : Type 0} (told : Type 0) (free : ℕ → Type 0) (old new : Shown) (f : Files) (r : Result T BlockFault) → inodes.Looks told (rooted old f.inode) old new r → FlushesPlaces told free old new f f
+look_places told free old new f r looks =
+    let loads = loads_none told f.inode.tree old new r looks in
+    let alike : IsAlike (rooted old f.inode) (rooted new f.inode) = subst (λ (h : Held). IsAlike (rooted old f.inode) (standing (λ v. fin.get h v) f.inode.tree)) (sym looks.untouched.held) (alike_itself (rooted old f.inode)) in
+    let leaves = loads_leaves f.inode.tree old new looks.untouched.held in record {
+      anew = λ tells sound laid. leaves_places_trees free (loaded_trees (under old) f) (loaded_trees (under new) f) (readied_leave old new f f looks.untouched alike (λ k. refl) leaves (loads.leads tells) sound);
+      laid = λ tells. readied_laid old new f f looks.untouched alike (λ k. refl) leaves (loads.leads tells);
+    }
 
 -- and it has no file of a number
 pub look_none : (old : Shown) (f : Files) (n : ℕ) (o : Option Info) → is_some o ≡ false → o ≡ option_map (info_of n) (file_at (rooted old f.inode) n) → is_some (file_at (rooted old f.inode) n) ≡ true → ⊥
@@ -110,6 +129,15 @@ lays_self told old f = record {
   counts = record { faults = omega arith; damages = omega arith; spent = omega arith; calm = calm_itself old };
   cause = tt;
 }
+
+pub places_self : (told : Type 0) (free : ℕ → Type 0) (old : Shown) (f : Files) → FlushesPlaces told free old old f f
+places_self told free old f = record {
+  anew = λ tells sound laid a. leaves_places free (loaded_trees (under old) f a) (loaded_trees (under old) f a) (leaves_in_itself (loaded_trees (under old) f a));
+  laid = λ tells sound laid. laid;
+}
+
+pub places_astray : (told : Type 0) (free : ℕ → Type 0) (old new : Shown) (f g : Files) → (told → AreStanding old f → ⊥) → FlushesPlaces told free old new f g
+places_astray told free old new f g never = record { anew = λ tells sound. absurd (never tells sound); laid = λ tells sound. absurd (never tells sound) }
 
 -- under another answer
 pub lays_done : {S T : Type 0} (told : Type 0) (old new : Shown) (f g : Files) (x : S) (y : T) → LaysTrees told old new f g (Ok x) → LaysTrees told old new f g (Ok y)
@@ -170,6 +198,18 @@ module _ (told : Type 0) (old mid : Shown) (f : Files) (m : maps.BTreeMap ℕ Tr
     cause = IfErr-weaker r _ _ (λ e fails. inl fails) kept.cause;
   }
 
+  pub kept_places : (free : ℕ → Type 0) → (told → KeptAnew free old mid f.trees m n) → FlushesPlaces told free old mid f g
+  kept_places free anew = record {
+    anew = λ tells sound laid.
+        let stood = owned_stands old f n kept.tree kept.becomes.was sound in
+        kept_place old mid f m n kept.tree kept.next kept.becomes sound (flushed_spares old mid kept.tree kept.next stood (kept.flushes tells stood)) free (anew tells kept.tree kept.next kept.becomes.was kept.becomes.now stood);
+    laid = λ tells sound.
+        let stood = owned_stands old f n kept.tree kept.becomes.was sound in
+        let flushes = kept.flushes tells stood in
+        kept_laid old mid f m n kept.tree kept.next kept.becomes sound (flushed_spares old mid kept.tree kept.next stood flushes)
+        (λ q. places_match (loaded old kept.tree) (loaded mid kept.next) free q kept.left.levels flushes.stamps kept.left.root (anew tells kept.tree kept.next kept.becomes.was kept.becomes.now stood));
+  }
+
   pub kept_stores : told → KeepsPlaces old mid → KeepsStored old mid f g
   kept_stores tells places sound led was =
       let stood = owned_stands old f n kept.tree kept.becomes.was sound in
@@ -178,7 +218,7 @@ module _ (told : Type 0) (old mid : Shown) (f : Files) (m : maps.BTreeMap ℕ Tr
 
 -- its root was laid, and it goes from memory
 module _ (told : Type 0) (old mid new : Shown) (f : Files) (m last : maps.BTreeMap ℕ Tree) (i : InodeFile) (n levels : ℕ) (root : Pointer) (kept : FlushesKept told old mid f.trees m n (Ok root)) (levels_is : (t : Tree) → maps.get nat_cmp f.trees n ≡ Some t → levels ≡ t.levels)
-    (alters : Alters {T = Unit {0}} told mid new f.inode.tree i.tree (Ok tt)) (set : told → is_some (file_at (rooted mid f.inode) n) ≡ true → SetsRoot (rooted mid f.inode) (rooted new i) n levels root) (more : pending i.tree ≤ pending f.inode.tree + 4)
+    (loads : OnlyLoads {T = Unit {0}} told mid new f.inode.tree i.tree (Ok tt)) (set : told → is_some (file_at (rooted mid f.inode) n) ≡ true → SetsRoot (rooted mid f.inode) (rooted new i) n levels root) (more : pending i.tree ≤ pending f.inode.tree + 4)
     (gone : (k : ℕ) → maps.get nat_cmp last k ≡ cond (nat_eq k n) None (maps.get nat_cmp m k)) (cost : (t : Tree) → maps.get nat_cmp m n ≡ Some t → pending_trees last + tree_cost t ≡ pending_trees m) where
   abbrev two : Files
   two = with_trees f m
@@ -216,36 +256,36 @@ module _ (told : Type 0) (old mid new : Shown) (f : Files) (m last : maps.BTreeM
     same_spelling blocks = λ j. stored blocks ((sound.owners n kept.tree kept.becomes.was).0 j) (sym (levels_is kept.tree kept.becomes.was) j) root
 
     spelled : standing (under new) kept.next ≡ stored (under new) n levels root
-    spelled = subst (λ (h : Held). standing (λ v. fin.get h v) kept.next ≡ stored (λ v. fin.get h v) n levels root) (sym alters.looks.untouched.held) (kept.spelled ∙ same_spelling (under mid))
+    spelled = subst (λ (h : Held). standing (λ v. fin.get h v) kept.next ≡ stored (λ v. fin.get h v) n levels root) (sym loads.looks.untouched.held) (kept.spelled ∙ same_spelling (under mid))
 
     reached : ReachesOnce new.used (stored (under new) n levels root)
     reached =
-        subst (λ (h : Held). ReachesOnce new.used (stored (λ v. fin.get h v) n levels root)) (sym alters.looks.untouched.held)
-        (subst (λ used. ReachesOnce used (stored (under mid) n levels root)) (sym alters.looks.untouched.used) (subst (ReachesOnce mid.used) (same_spelling (under mid)) (kept.reaches tells stood)))
+        subst (λ (h : Held). ReachesOnce new.used (stored (λ v. fin.get h v) n levels root)) (sym loads.looks.untouched.held)
+        (subst (λ used. ReachesOnce used (stored (under mid) n levels root)) (sym loads.looks.untouched.used) (subst (ReachesOnce mid.used) (same_spelling (under mid)) (kept.reaches tells stood)))
 
     placed_two : AreStanding mid two
     placed_two = first.stands tells sound
 
     placed_three : AreStanding new three
-    placed_three = root_stands mid new two i n levels root kept.next kept.becomes.now alters.looks.untouched sets alters.owner (alters.stands tells) (alters.leads tells) alters.keeps_ready placed_two
+    placed_three = root_stands mid new two i n levels root kept.next kept.becomes.now loads.looks.untouched sets loads.owner (loads.stands tells) (loads.leads tells) loads.keeps_ready placed_two
 
     all_placed : IsPlacedTable (table_in old f) (table_in new four)
     all_placed = placed_then (table_in old f) (table_in new three) (table_in new four)
-        (placed_then (table_in old f) (table_in mid two) (table_in new three) (first.placed tells sound) (root_placed mid new two i n levels root kept.next kept.becomes.now alters.looks.untouched sets))
+        (placed_then (table_in old f) (table_in mid two) (table_in new three) (first.placed tells sound) (root_placed mid new two i n levels root kept.next kept.becomes.now loads.looks.untouched sets))
         (gone_placed new three last n levels root kept.next kept.becomes.now gone placed_three own spelled reached)
 
     all_led : IsLed old f → IsLed new four
     all_led led = gone_led new three last n levels root kept.next kept.becomes.now gone placed_three own spelled reached
-        (root_led mid new two i n levels root kept.next kept.becomes.now alters.looks.untouched sets (alters.leads tells) (alters.keeps tells) placed_two (first.led tells sound led))
+        (root_led mid new two i n levels root kept.next kept.becomes.now loads.looks.untouched sets (loads.leads tells) (loads.keeps tells) placed_two (first.led tells sound led))
 
     all_spares : SparesOthers old new f four
     all_spares = table_spares_then old new new f three four
-        (table_spares_then old mid new f two three (first.spares tells sound) (root_spares mid new two i n levels root kept.next kept.becomes.now alters.looks.untouched sets (alters.leads tells) placed_two))
+        (table_spares_then old mid new f two three (first.spares tells sound) (root_spares mid new two i n levels root kept.next kept.becomes.now loads.looks.untouched sets (loads.leads tells) placed_two))
         (gone_spares new three last n levels root kept.next kept.becomes.now gone placed_three own spelled reached)
 
     all_stored : KeepsPlaces old mid → IsLed old f → IsStored old f → IsStored new four
     all_stored places led was = gone_stored new three last n levels root kept.next kept.becomes.now gone placed_three own spelled reached
-        (root_stored mid new two i n levels root kept.next kept.becomes.now alters.looks.untouched sets (alters.stored_well tells) (alters.leads tells) placed_two
+        (root_stored mid new two i n levels root kept.next kept.becomes.now loads.looks.untouched sets (loads.stored_well tells) (loads.leads tells) placed_two
         (kept_stores told old mid f m n (Ok root) kept tells places sound led was))
 
     all_fits : FitsTable old f new four
@@ -253,7 +293,7 @@ module _ (told : Type 0) (old mid new : Shown) (f : Files) (m last : maps.BTreeM
         let fits = kept.fits tells stood in
         let fewer = fits.fewer in
         let room = fits.room in
-        let same = alters.looks.untouched.room in
+        let same = loads.looks.untouched.room in
         let sum = kept.becomes.sum in
         let out = cost kept.next kept.becomes.now in record { fewer = omega (arith, sum, out, more); room = omega (arith, room, same, sum, out, more) }
 
@@ -263,13 +303,56 @@ module _ (told : Type 0) (old mid new : Shown) (f : Files) (m last : maps.BTreeM
     stands = λ tells sound. gone_stands new three last n levels root kept.next kept.becomes.now gone (placed_three tells sound) (own tells sound) (spelled tells sound) (reached tells sound);
     led = all_led;
     spares = all_spares;
-    strays = λ tells sound. alters.looks.untouched.strays ∙ first.strays tells sound;
+    strays = λ tells sound. loads.looks.untouched.strays ∙ first.strays tells sound;
     fits = all_fits;
     enough = λ tells sound room. tt;
     source = λ tells sound. tt;
-    counts = counts_then old mid new (Ok tt) first.counts.calm alters.looks.counts;
+    counts = counts_then old mid new (Ok tt) first.counts.calm loads.looks.counts;
     cause = tt;
   }
 
   pub lay_stores : told → KeepsPlaces old mid → KeepsStored old new f four
   lay_stores tells places sound = all_stored tells sound places
+
+  -- What it does to the places of the table's trees: where the tree isn't as its record said, the inode cell had changed.
+  module _ (first_free free : ℕ → Type 0) (anew : told → KeptAnew first_free old mid f.trees m n) (sooner : (v : ℕ) → first_free v → free v) (other : (r : InodeRecord) → file_at (rooted old f.inode) n ≡ Some r → r.levels ≡ levels → r.root ≡ root → told → ⊥)
+      (leaves : told → Stands mid f.inode.tree → changed_of f.inode.tree 0 (n / records_each) ≡ true → Leaves (loaded mid f.inode.tree) (loaded new i.tree)) where
+    first_places : FlushesPlaces told first_free old mid f two
+    first_places = kept_places told old mid f m n (Ok root) kept first_free anew
+
+    module _ (tells : told) (sound : AreStanding old f) (laid : AreLaid (under old) f) where
+      marked : changed_of f.inode.tree 0 (n / records_each) ≡ true
+      marked =
+          let was = has_record (file_at (rooted old f.inode) n) (strayed old f n (ap is_some kept.becomes.was) sound) in
+          let stands = stood tells sound in
+          let flushes = kept.flushes tells stands in
+          ⊎_elim (λ before. before)
+          (λ matches.
+          let now = places_match (loaded old kept.tree) (loaded mid kept.next) first_free was.file kept.left.levels flushes.stamps kept.left.root (anew tells kept.tree kept.next kept.becomes.was kept.becomes.now stands) matches in
+          let same_levels : was.file.levels ≡ levels = sym now.levels ∙ kept.left.levels ∙ sym (levels_is kept.tree kept.becomes.was) in
+          let same_root : was.file.root ≡ root = sym now.root ∙ ap (λ (s : Rooted). s.root) kept.spelled in
+          absurd (other was.file was.is same_levels same_root tells))
+          (laid n kept.tree was.file kept.becomes.was was.is)
+
+      inode_leaves : Leaves (loaded mid f.inode.tree) (loaded new i.tree)
+      inode_leaves = leaves tells ((placed_two tells sound).trees None) marked
+
+      done : (level place : ℕ) → changed_of kept.next level place ≡ false
+      done = unchanged kept.next kept.nothing
+
+      two_laid : AreLaid (under mid) two
+      two_laid = first_places.laid tells sound laid
+
+    pub lay_places : FlushesPlaces told free old new f four
+    lay_places = record {
+      anew = λ tells sound laid.
+          let x = loaded_trees (under old) f in
+          let y = loaded_trees (under mid) two in
+          let z = loaded_trees (under new) three in
+          let w = loaded_trees (under new) four in
+          places_trees_then first_free first_free free sooner sooner x y w (first_places.anew tells sound laid)
+          (leaves_places_trees first_free y w (leaves_trees_then y z w (root_leave mid new two i n levels root kept.next kept.becomes.now loads.looks.untouched (sets tells sound) (inode_leaves tells sound laid) (loads.leads tells) (placed_two tells sound))
+          (gone_leave new three last n levels root kept.next kept.becomes.now gone (placed_three tells sound) (own tells sound) (spelled tells sound) (reached tells sound) (done tells sound laid))));
+      laid = λ tells sound laid. gone_laid new three last n levels root kept.next kept.becomes.now gone (placed_three tells sound) (own tells sound) (spelled tells sound) (reached tells sound)
+          (root_laid mid new two i n levels root kept.next kept.becomes.now loads.looks.untouched (sets tells sound) (inode_leaves tells sound laid) (loads.leads tells) (placed_two tells sound) (marked tells sound laid) (two_laid tells sound laid));
+    }

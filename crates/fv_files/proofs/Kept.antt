@@ -24,10 +24,11 @@ use Rattle.fv_files.specs.declared.files.Files.{Files}
 use Rattle.fv_files.specs.Apart.{LeadsFrom, StandsIn, StoredIn, AreLed}
 use Rattle.fv_files.specs.Tables.{table_in, tree_in, file_loaded, loaded_trees, AreSound, AreStanding, IsLed, IsStored, IsStoredOn}
 use Rattle.fv_tree.specs.Stored.{IsStoredWell}
+use Rattle.fv_files.specs.Altering.{LeavesIn}
 use Rattle.fv_files.specs.Calls.{SparesOthers}
 use Rattle.fv_files.proofs.Stored.{stored_still}
 use Rattle.fv_files.proofs.Looked.{Held}
-use Rattle.fv_files.proofs.Beside.{IsOther, KeepsIn, LetsGo, UsesNoMore, led_on, some_differ, spares_all, trees_laid, other_tree, stand_still, lie_apart}
+use Rattle.fv_files.proofs.Beside.{IsOther, KeepsIn, LetsGo, UsesNoMore, led_on, other_in_leaves, some_differ, spares_all, trees_laid, other_tree, stand_still, lie_apart}
 
 pub sound_on : (f : Files) (old new : Shown) → new.held ≡ old.held → new.used ≡ old.used → AreStanding old f → AreStanding new f
 sound_on f old new held used stands =
@@ -94,6 +95,14 @@ module _ (old new : Shown) (f g : Files) (n : ℕ) (inode : g.inode ≡ f.inode)
   keeps None differs = inl (λ i. Some (loaded new (inode i).tree))
   keeps (Some k) differs = inl (moved_tree (under old) (under new) f g k (trees k (λ e. differs (ap (λ m. Some m) e))) (files_same k))
 
+  -- nothing of the other trees changed,
+  moved : (b : Option ℕ) → b ≢ Some n → loaded_trees (under new) g b ≡ option_map (loaded_on (under new)) (loaded_trees (under old) f b)
+  moved None differs = λ i. Some (loaded new (inode i).tree)
+  moved (Some k) differs = moved_tree (under old) (under new) f g k (trees k (λ e. differs (ap (λ m. Some m) e))) (files_same k)
+
+  pub others_leave : (b : Option ℕ) → b ≢ Some n → LeavesIn (loaded_trees (under old) f b) (loaded_trees (under new) g b)
+  others_leave b differs = other_in_leaves old new (loaded_trees (under old) f) (loaded_trees (under new) g) (Some n) (trees_laid (under old) f) sound.trees sound.apart spares b differs (moved b differs)
+
   -- what is in use is led to,
   pub file_led : LetsGo new (LeadsFrom (loaded_trees (under old) f) (Some n)) (LeadsFrom (loaded_trees (under new) g) (Some n)) → UsesNoMore old new (LeadsFrom (loaded_trees (under old) f) (Some n)) (LeadsFrom (loaded_trees (under new) g) (Some n)) → IsLed old f → IsLed new g
   file_led = led_on old new (loaded_trees (under old) f) (loaded_trees (under new) g) (Some n) (trees_laid (under old) f) sound.trees sound.apart spares keeps
@@ -133,6 +142,17 @@ module _ (old new : Shown) (f g : Files) (n : ℕ) (trees : (k : ℕ) → k ≢ 
   pub records_told : KeepsOthers (table_in old f) (table_in new g) n
   records_told k differs r at = told_tree (under old) (under new) k r (tree_in f k) (tree_in g k) (trees k differs)
       (other_tree old new (loaded_trees (under old) f) (loaded_trees (under new) g) None (trees_laid (under old) f) sound.trees sound.apart spares (Some k) (λ e. cc) (file_loaded (under old) k r (tree_in f k)) (own_tree_is (under old) f k r at))
+
+  -- nothing of their trees changed,
+  pub records_leave : (k : ℕ) → k ≢ n → LeavesIn (loaded_trees (under old) f (Some k)) (loaded_trees (under new) g (Some k))
+  records_leave k differs = other_in_leaves old new (loaded_trees (under old) f) (loaded_trees (under new) g) None (trees_laid (under old) f) sound.trees sound.apart spares (Some k) (λ e. cc) (moved_tree (under old) (under new) f g k (trees k differs) (files k differs))
+
+  pub rest_leave : loaded_trees (under new) g (Some n) ≡ option_map (loaded_on (under new)) (loaded_trees (under old) f (Some n)) → (k : ℕ) → LeavesIn (loaded_trees (under old) f (Some k)) (loaded_trees (under new) g (Some k))
+  rest_leave own k = ⊎_elim
+      (λ (same : k ≡ n). subst (λ m. LeavesIn (loaded_trees (under old) f (Some m)) (loaded_trees (under new) g (Some m))) (sym same)
+      (other_in_leaves old new (loaded_trees (under old) f) (loaded_trees (under new) g) None (trees_laid (under old) f) sound.trees sound.apart spares (Some n) (λ e. cc) own))
+      (λ (differs : k ≢ n). records_leave k differs)
+      (cases_eq k n)
 
   -- what is in use is led to,
   module _ (own : KeepsIn (under new) (loaded_trees (under old) f (Some n)) (loaded_trees (under new) g (Some n))) where

@@ -1,5 +1,5 @@
 -- A file's tree is placed, its root laid into an inode block, and the tree goes from memory.
-use Rattle.std.proofs.Common.{◌≡◌, ◌≢◌, ℕ, true, false, cond, nat_eq, inl, inr, Ok, Result, refl, sym, ap, subst, ◌∙◌, ⊎_elim, arith}
+use Rattle.std.proofs.Common.{◌≡◌, ◌≢◌, ℕ, true, false, cond, nat_eq, inl, inr, Ok, Result, refl, sym, ap, subst, ◌∙◌, ⊎_elim, arith, ◌/◌}
 use Rattle.std.specs.Prelude.{Option, Some, None, is_some}
 use Rattle.std.specs.Option.{option_map}
 use Rattle.std.specs.Ordering.{nat_cmp}
@@ -11,17 +11,17 @@ use Rattle.fv_disk.specs.declared.fault.BlockFault.{BlockFault}
 use Rattle.fv_disk.specs.declared.fault.BlockFault.TheVariants.{DiskFault, Damaged, Memory}
 use Rattle.fv_codec.specs.declared.pointer.Pointer.{Pointer}
 use Rattle.fv_codec.specs.declared.inode.InodeRecord.{InodeRecord}
-use Rattle.fv_tables.specs.Spelled.{stored, pointer_at}
-use Rattle.fv_tables.specs.Told.{AreTold, file_at, tree_or, tree_of}
+use Rattle.fv_tables.specs.Spelled.{stored, pointer_at, Rooted}
+use Rattle.fv_tables.specs.Told.{AreTold, file_at, tree_or, tree_of, records_each}
 use Rattle.fv_tables.specs.Kept.{IsPlacedTable}
 use Rattle.fv_tree.specs.declared.kept.Tree.{Tree}
 use Rattle.fv_tree.specs.Sources.{Shown, HasCause, IsCalm, IsUntouched}
 use Rattle.fv_tree.specs.Standing.{standing, under}
-use Rattle.fv_tree.specs.Flushing.{ReachesOnce, Flushes, IsPlaced, Stands, loaded, loaded_over}
+use Rattle.fv_tree.specs.Flushing.{ReachesOnce, Flushes, IsPlaced, Stands, loaded, loaded_over, changed_of}
 use Rattle.fv_tree.specs.Leading.{LeadsNoMore}
 use Rattle.fv_tree.specs.Stored.{IsStoredWell}
 use Rattle.fv_tree.specs.Readying.{KeepsReady}
-use Rattle.fv_tree.specs.Beside.{unread, LeadsTo, Spares}
+use Rattle.fv_tree.specs.Beside.{unread, LeadsTo, Spares, loaded_on}
 use Rattle.fv_tree.proofs.Beside.{flush_spares, loading_spares, unread_sound}
 use Rattle.fv_tree.proofs.Causes.{calm_then, counts_then}
 use Rattle.fv_tree.proofs.Unchanged.{unchanged_placed}
@@ -44,10 +44,15 @@ use Rattle.fv_files.proofs.Looked.{Held, fails_after}
 use Rattle.fv_files.proofs.Tables.{placed_alike, placed_then, some_same}
 use Rattle.fv_files.proofs.Beside.{LetsGo, UsesNoMore, loading_lets_go, loading_uses, reread_leads, spares_on, spares_then, unread_leads}
 use Rattle.fv_files.proofs.Stored.{reread_stored}
-use Rattle.fv_files.proofs.Kept.{own_tree_is, file_led, file_spares, file_stands, file_stored, led_on_blocks, sound_on, stored_on_blocks}
-use Rattle.fv_files.proofs.Changed.{with_trees, with_inode, kept_inode, kept_led, kept_others, kept_spares, kept_stands, kept_stored, own_told, record_led, record_spares, record_stands, record_stored}
+use Rattle.fv_files.proofs.Kept.{own_tree_is, file_led, file_spares, file_stands, file_stored, led_on_blocks, sound_on, stored_on_blocks, rest_leave}
+use Rattle.fv_files.proofs.Changed.{with_trees, with_inode, kept_inode, kept_led, kept_others, kept_spares, kept_stands, kept_stored, own_told, record_led, record_spares, record_stands, record_stored, kept_tree_is}
 use Rattle.fv_files.proofs.Steps.{none_some}
 use Rattle.fv_files.proofs.Whole.{none_there}
+use Rattle.std.proofs.lemmas.Bool.{both_ways, cases_eq}
+use Rattle.fv_tree.specs.Altering.{Leaves}
+use Rattle.fv_tree.proofs.Altered.{leaves_itself, only_leaves}
+use Rattle.fv_files.specs.Altering.{AreLaid, LeavesIn, LeavesTrees, FlushesPlaces}
+use Rattle.fv_files.proofs.Altered.{laid_by, leaves_as, leaves_in_itself, leaves_of, places_trees_then, still_changed}
 
 -- ---- a tree is flushed
 
@@ -147,6 +152,45 @@ module _ (old new : Shown) (f : Files) (i : InodeFile) (n levels : ℕ) (root : 
       (sound_on f old new untouched.held untouched.used sound)
       (stored_on_blocks f old new untouched.held was)
 
+  -- where the inode cell had changed, nothing of the table's trees changed
+  pub root_leave : Leaves (loaded old f.inode.tree) (loaded new i.tree) → LeadsNoMore (loaded old f.inode.tree) (loaded new i.tree) → AreStanding old f → LeavesTrees (loaded_trees (under old) f) (loaded_trees (under new) h)
+  root_leave inode no_more sound None = inode
+  root_leave inode no_more sound (Some k) =
+      rest_leave old new f h n (λ k differs. refl) other_files sound
+      (loading_spares old new (LeadsTo (loaded old f.inode.tree)) (LeadsTo (loaded new i.tree)) untouched.held untouched.used (λ v led. record { level = led.level; place = led.place; leads = no_more led.level led.place v led.leads }))
+      own_root k
+    where
+      other_files : (k : ℕ) → k ≢ n → file_at (rooted new i) k ≡ file_at (rooted old f.inode) k
+      other_files k differs = sets.files k ∙ (let test : nat_eq k n ≡ false = grind (arith, nat_tests, differs) in ap (λ b. cond b (option_map (with_root levels root) (file_at (rooted old f.inode) n)) (file_at (rooted old f.inode) k)) test)
+
+      moved : (o : Option InodeRecord) → option_map (λ r. file_loaded (under new) n r (Some u)) (option_map (with_root levels root) o) ≡ option_map (loaded_on (under new)) (option_map (λ r. file_loaded (under old) n r (Some u)) o)
+      moved None = refl
+      moved (Some r) = refl
+
+      own_root : loaded_trees (under new) h (Some n) ≡ option_map (loaded_on (under new)) (loaded_trees (under old) f (Some n))
+      own_root =
+          let test : nat_eq n n ≡ true = grind (arith, nat_tests) in
+          let at : file_at (rooted new i) n ≡ option_map (with_root levels root) (file_at (rooted old f.inode) n) = sets.files n ∙ ap (λ b. cond b (option_map (with_root levels root) (file_at (rooted old f.inode) n)) (file_at (rooted old f.inode) n)) test in
+          subst (λ o. option_map (λ r. file_loaded (under new) n r o) (file_at (rooted new i) n) ≡ option_map (loaded_on (under new)) (option_map (λ r. file_loaded (under old) n r o) (file_at (rooted old f.inode) n))) (sym kept)
+          (ap (option_map (λ r. file_loaded (under new) n r (Some u))) at ∙ moved (file_at (rooted old f.inode) n))
+
+  pub root_laid : Leaves (loaded old f.inode.tree) (loaded new i.tree) → LeadsNoMore (loaded old f.inode.tree) (loaded new i.tree) → AreStanding old f → changed_of f.inode.tree 0 (n / records_each) ≡ true → AreLaid (under old) f → AreLaid (under new) h
+  root_laid inode no_more sound marked laid = laid_by (under old) (under new) f h laid (λ k w q is at.
+      let still = still_changed 0 (under old) (under new) f.inode.tree i.tree k q (only_leaves 0 (loaded old f.inode.tree) (loaded new i.tree) inode) at in
+      ⊎_elim
+      (λ (same : k ≡ n). inl (still (ap (λ m. changed_of f.inode.tree 0 (m / records_each)) same ∙ marked)))
+      (λ (differs : k ≢ n).
+      let test : nat_eq k n ≡ false = grind (arith, nat_tests, differs) in
+      let file : file_at (rooted old f.inode) k ≡ Some q = sym (sets.files k ∙ ap (λ b. cond b (option_map (with_root levels root) (file_at (rooted old f.inode) n)) (file_at (rooted old f.inode) k)) test) ∙ at in
+      inr (record {
+        tree = w;
+        was = is;
+        file = file;
+        leaves = leaves_of (loaded_trees (under old) f (Some k)) (loaded_trees (under new) h (Some k)) (loaded old w) (loaded new w) (kept_tree_is (under old) f k w q is file) (kept_tree_is (under new) h k w q is at) (root_leave inode no_more sound (Some k));
+        cell = still;
+      }))
+      (cases_eq k n))
+
 -- ---- it goes from memory
 
 module _ (source : Shown) (f : Files) (m : maps.BTreeMap ℕ Tree) (n levels : ℕ) (root : Pointer) (u : Tree) (kept : tree_in f n ≡ Some u) (gone : (k : ℕ) → maps.get nat_cmp m k ≡ cond (nat_eq k n) None (maps.get nat_cmp f.trees k))
@@ -199,6 +243,31 @@ module _ (source : Shown) (f : Files) (m : maps.BTreeMap ℕ Tree) (n levels : �
       (loading_spares source source (LeadsFrom (loaded_trees (under source) f) (Some n)) (LeadsFrom (loaded_trees (under source) g) (Some n)) refl refl
       (λ v led. subst (λ o. LeadsIn o v) (sym was_tree) (reread_leads (under source) u n levels root is v (subst (λ o. LeadsIn o v) now_tree led))))
       (subst StoredIn (sym now_tree) (reread_stored (under source) u n levels root is (subst StoredIn was_tree (was.trees (Some n))))) was
+
+  -- nothing of the table's trees changed, where no place of it differed from its block
+  still_there : (o p : Option Tree) (k : ℕ) → p ≡ o → LeavesIn (option_map (λ r. file_loaded (under source) k r o) (file_at (rooted source f.inode) k)) (option_map (λ r. file_loaded (under source) k r p) (file_at (rooted source f.inode) k))
+  still_there o p k same = subst (λ (q : Option Tree). LeavesIn (option_map (λ r. file_loaded (under source) k r o) (file_at (rooted source f.inode) k)) (option_map (λ r. file_loaded (under source) k r q) (file_at (rooted source f.inode) k))) (sym same) (leaves_in_itself (option_map (λ r. file_loaded (under source) k r o) (file_at (rooted source f.inode) k)))
+
+  reread_leaves : ((level place : ℕ) → changed_of u level place ≡ false) → Leaves (loaded_over (under source) u) (unread (stored (under source) n levels root))
+  reread_leaves done = record {
+    levels = ap (λ (s : Rooted). s.levels) (sym is);
+    root = ap (λ (s : Rooted). s.root) (sym is);
+    places = λ level place. inr (record { pointer = ap (λ (s : Rooted). pointer_at s level place) (sym is); changed = sym (done level place) });
+  }
+
+  pub gone_leave : ((level place : ℕ) → changed_of u level place ≡ false) → LeavesTrees (loaded_trees (under source) f) (loaded_trees (under source) g)
+  gone_leave done None = leaves_itself (loaded source f.inode.tree)
+  gone_leave done (Some k) = ⊎_elim
+      (λ (same : k ≡ n). subst (λ m. LeavesIn (loaded_trees (under source) f (Some m)) (loaded_trees (under source) g (Some m))) (sym same)
+      (leaves_as (loaded_trees (under source) f (Some n)) (loaded_trees (under source) g (Some n)) (loaded_over (under source) u) (unread (stored (under source) n levels root)) was_tree now_tree (reread_leaves done)))
+      (λ (differs : k ≢ n). still_there (tree_in f k) (tree_in g k) k (others k differs))
+      (cases_eq k n)
+
+  pub gone_laid : AreLaid (under source) f → AreLaid (under source) g
+  gone_laid laid k w q at file = ⊎_elim
+      (λ (same : k ≡ n). absurd (both_ways (is_some (tree_in g n)) (ap is_some none) (ap (λ j. is_some (tree_in g j)) (sym same) ∙ ap is_some at)))
+      (λ (differs : k ≢ n). laid k w q (sym (others k differs) ∙ at) file)
+      (cases_eq k n)
 
   pub gone_stands : AreStanding source g
   gone_stands = file_stands source source f g n refl others sound
@@ -259,6 +328,14 @@ module _ (told : Type 0) (old mid new : Shown) (f g h : Files) where
 
   pub stores_then : {S : Type 0} (x : S) → LaysTrees told old mid f g (Ok x) → told → KeepsStored old mid f g → KeepsStored mid new g h → KeepsStored old new f h
   stores_then x lays tells first second sound led was = second (lays.stands tells sound) (lays.led tells sound led) (first sound led was)
+
+-- what happens to the places of the table's trees
+pub places_then : {S : Type 0} (told : Type 0) (first_free next_free free : ℕ → Type 0) → ((v : ℕ) → first_free v → free v) → ((v : ℕ) → next_free v → free v) → (old mid new : Shown) (f g h : Files) (x : S)
+    → LaysTrees told old mid f g (Ok x) → FlushesPlaces told first_free old mid f g → FlushesPlaces told next_free mid new g h → FlushesPlaces told free old new f h
+places_then told first_free next_free free sooner later old mid new f g h x lays first second = record {
+  anew = λ tells sound laid. places_trees_then first_free next_free free sooner later (loaded_trees (under old) f) (loaded_trees (under mid) g) (loaded_trees (under new) h) (first.anew tells sound laid) (second.anew tells (lays.stands tells sound) (first.laid tells sound laid));
+  laid = λ tells sound laid. second.laid tells (lays.stands tells sound) (first.laid tells sound laid);
+}
 
 -- a call of the inode file that failed in the middle
 pub laid_failed : (told : Type 0) (old mid new : Shown) (f h : Files) (e : BlockFault) → IsCalm old mid → (told → AreStanding old f → IsPlacedTable (table_in old f) (table_in mid h)) → FilesFail told (table_in mid h) mid new e → LayFails told old new f e

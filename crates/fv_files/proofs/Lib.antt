@@ -1,13 +1,14 @@
+pub mod Altered
 pub mod Sums
 pub mod Tables
 pub mod Looked
 pub mod Whole
 pub mod Wrote
-pub mod Made
 pub mod Beside
 pub mod Stored
 pub mod Kept
 pub mod Changed
+pub mod Made
 pub mod Steps
 pub mod Prepared
 pub mod Removed
@@ -20,3 +21,5 @@ pub mod Counted
 pub mod Numbering
 pub mod Stays
 pub mod Settled
+pub mod Alike
+pub mod TakenCells

@@ -55,6 +55,10 @@ counts_failed old new r e is = record { faults = is.faults; damages = is.damages
 pub counts_done : {S T : Type 0} (old new : Shown) (x : S) (y : T) → Counts {E = BlockFault} old new (Ok x) → Counts {E = BlockFault} old new (Ok y)
 counts_done old new x y is = record { faults = is.faults; damages = is.damages; spent = is.spent; calm = is.calm }
 
+-- and what a failed call leaves, under another answer
+pub looks_failed : {S T : Type 0} (told : Type 0) (x : Standing) (old new : Shown) (e : BlockFault) → Looks {T = S} told x old new (Err e) → Looks {T = T} told x old new (Err e)
+looks_failed told x old new e is = record { untouched = is.untouched; counts = counts_failed old new (Err e) e is.counts; cause = is.cause }
+
 -- a call that reads, after another that only read
 pub looks_then : {S T : Type 0} (told : Type 0) (f : Files) (old mid new : Shown) (x : S) (r : Result T BlockFault) → Looks told (table_in old f) old mid (Ok x) → Looks told (table_in mid f) mid new r → Looks told (table_in old f) old new r
 looks_then told f old mid new x r first second = record {

@@ -1,5 +1,5 @@
 -- A table in which a file was made.
-use Rattle.std.proofs.Common.{◌≡◌, ◌≢◌, ℕ, ◌/◌, true, false, cond, nat_eq, List, refl, sym, ap, subst, ◌∙◌, arith, inr}
+use Rattle.std.proofs.Common.{◌≡◌, ◌≢◌, ℕ, ◌/◌, true, false, cond, nat_eq, List, refl, sym, ap, subst, ◌∙◌, arith, inr, ⊎_elim}
 use Rattle.std.specs.Prelude.{Option, Some, None, is_some}
 use Rattle.std.specs.Option.{option_map}
 use Rattle.std.specs.FinMap as fin
@@ -30,8 +30,13 @@ use Rattle.fv_files.specs.Apart.{LeadsIn}
 use Rattle.fv_files.specs.Tables.{table_in, tree_in, file_loaded, loaded_trees, AreStanding, IsLed, IsStored}
 use Rattle.fv_tree.specs.Stored.{IsStoredWell}
 use Rattle.fv_files.proofs.Beside.{IsBare, loading_lets_go, loading_uses}
-use Rattle.fv_files.proofs.Kept.{inode_led, inode_stands, inode_stored}
+use Rattle.fv_files.proofs.Kept.{inode_led, inode_stands, inode_stored, records_leave}
 use Rattle.fv_files.proofs.Whole.{not_some}
+use Rattle.std.proofs.lemmas.Bool.{cases_eq}
+use Rattle.fv_tree.specs.Altering.{Alters}
+use Rattle.fv_files.specs.Altering.{AltersIn, AltersTrees, AreLaid, LeavesIn}
+use Rattle.fv_files.proofs.Altered.{blank_alters, both_in, laid_by, leaves_both, leaves_of, still_changed}
+use Rattle.fv_files.proofs.Changed.{kept_tree_is}
 
 -- no tree is in memory where no file is
 no_tree : (source : Shown) (f : Files) (n : ℕ) → file_at (rooted source f.inode) n ≡ None → AreStanding source f → (o : Option Tree) → tree_in f n ≡ o → o ≡ None
@@ -96,3 +101,32 @@ module _ (old now : Shown) (f : Files) (i : InodeFile) (name : List ℕ) (reserv
     where
       no_file : loaded_trees (under old) f (Some n) ≡ None
       no_file = ap (option_map (λ r. file_loaded (under old) n r (tree_in f n))) makes.number.free
+
+  others_leave : now.used ≡ old.used → LeadsNoMore (loaded old f.inode.tree) (loaded now i.tree) → (k : ℕ) → k ≢ n → LeavesIn (loaded_trees (under old) f (Some k)) (loaded_trees (under now) g (Some k))
+  others_leave used no_more = records_leave old now f g n (λ k differs. refl) others sound
+      (loading_spares old now (LeadsTo (loaded old f.inode.tree)) (LeadsTo (loaded now i.tree)) held used (λ v led. record { level = led.level; place = led.place; leads = no_more led.level led.place v led.leads }))
+
+  -- The places of the inode file got the stamp, or are as before; the new tree has none, and nothing of the others changed.
+  pub made_alters : now.used ≡ old.used → LeadsNoMore (loaded old f.inode.tree) (loaded now i.tree) → Alters s (loaded old f.inode.tree) (loaded now i.tree) → AltersTrees s (loaded_trees (under old) f) (loaded_trees (under now) g)
+  made_alters used no_more inode None = inode
+  made_alters used no_more inode (Some k) = ⊎_elim
+      (λ (same : k ≡ n).
+      let is : loaded_trees (under now) g (Some n) ≡ Some (unread (stored (under now) n (least_levels reserve) hole)) = (λ j. option_map (λ r. file_loaded (under now) n r (none j)) (own j)) in
+      subst (λ m. AltersIn s (loaded_trees (under old) f (Some m)) (loaded_trees (under now) g (Some m))) (sym same)
+      (subst (AltersIn s (loaded_trees (under old) f (Some n))) (sym is) (blank_alters s (loaded_trees (under old) f (Some n)) (stored (under now) n (least_levels reserve) hole) refl)))
+      (λ (differs : k ≢ n). both_in s (loaded_trees (under old) f (Some k)) (loaded_trees (under now) g (Some k)) (leaves_both s (loaded_trees (under old) f (Some k)) (loaded_trees (under now) g (Some k)) (others_leave used no_more k differs)))
+      (cases_eq k n)
+
+  pub made_laid : now.used ≡ old.used → LeadsNoMore (loaded old f.inode.tree) (loaded now i.tree) → Alters s (loaded old f.inode.tree) (loaded now i.tree) → AreLaid (under old) f → AreLaid (under now) g
+  made_laid used no_more inode laid = laid_by (under old) (under now) f g laid (λ k u q is at. ⊎_elim
+      (λ (same : k ≡ n). absurd (not_some (tree_in f n) u none (ap (tree_in f) (sym same) ∙ is)))
+      (λ (differs : k ≢ n).
+      let file = sym (others k differs) ∙ at in
+      inr (record {
+        tree = u;
+        was = is;
+        file = file;
+        leaves = leaves_of (loaded_trees (under old) f (Some k)) (loaded_trees (under now) g (Some k)) (loaded old u) (loaded now u) (kept_tree_is (under old) f k u q is file) (kept_tree_is (under now) g k u q is at) (others_leave used no_more k differs);
+        cell = still_changed s (under old) (under now) f.inode.tree i.tree k q inode at;
+      }))
+      (cases_eq k n))

@@ -4,7 +4,6 @@ use Rattle.std.specs.Prelude.{Option, Some, None, is_some}
 use Rattle.std.specs.Option.{option_map}
 use Rattle.std.specs.Ordering.{nat_cmp}
 use Rattle.std.specs.BTreeMap as maps
-use Rattle.fv_disk.specs.declared.fault.BlockFault.{BlockFault}
 use Rattle.fv_codec.specs.declared.inode.InodeRecord.{InodeRecord}
 use Rattle.fv_codec.specs.declared.pointer.Pointer.{Pointer}
 use Rattle.fv_tables.specs.Spelled.{Under, stored}
@@ -19,15 +18,18 @@ use Rattle.fv_inode.specs.declared.info.Info.{Info}
 use Rattle.fv_inode.specs.Files.{rooted, info_of}
 use Rattle.fv_inode.proofs.Slots.{alike_files}
 use Rattle.fv_files.specs.declared.files.Files.{Files}
-use Rattle.fv_files.specs.Tables.{table_in, AreStanding, IsLed, IsStored}
+use Rattle.fv_files.specs.Tables.{table_in, AreStanding, IsLed, IsStored, loaded_trees}
 use Rattle.fv_files.specs.Calls.{KeepsStored, SparesOthers}
-use Rattle.fv_files.specs.Flushing.{FlushesKept, HasRoot, LaysTrees}
+use Rattle.fv_files.specs.Flushing.{FlushesKept, HasRoot, LaysTrees, KeptAnew}
 use Rattle.fv_files.specs.Pending.{pending_trees, tree_cost, FitsTable}
 use Rattle.fv_files.proofs.Tables.{placed_then, some_same}
 use Rattle.fv_files.proofs.Looked.{counts_done}
 use Rattle.fv_files.proofs.Changed.{with_trees, owned_stands, kept_inode}
-use Rattle.fv_files.proofs.Flushed.{kept_lays, kept_stores}
-use Rattle.fv_files.proofs.Laid.{flushed_spares, gone_led, gone_placed, gone_spares, gone_stands, gone_stored, table_spares_then}
+use Rattle.fv_files.proofs.Flushed.{kept_lays, kept_stores, kept_places}
+use Rattle.fv_files.proofs.Laid.{flushed_spares, gone_led, gone_placed, gone_spares, gone_stands, gone_stored, table_spares_then, gone_laid, gone_leave}
+use Rattle.fv_tree.proofs.Stays.{unchanged}
+use Rattle.fv_files.specs.Altering.{FlushesPlaces}
+use Rattle.fv_files.proofs.Altered.{leaves_places_trees, places_trees_then}
 
 -- what is known of a file says its root
 pub root_told : (n : ℕ) (info : Info) (o : Option InodeRecord) → Some info ≡ option_map (info_of n) o → HasRoot o info.levels info.root
@@ -115,3 +117,13 @@ module _ (told : Type 0) (old mid : Shown) (f : Files) (m last : maps.BTreeMap �
 
   pub pass_stores : told → KeepsPlaces old mid → KeepsStored old mid f three
   pass_stores tells places sound = all_stored tells sound places
+
+  -- what it does to the places of the table's trees
+  pub pass_places : (free : ℕ → Type 0) → (told → KeptAnew free old mid f.trees m n) → FlushesPlaces told free old mid f three
+  pass_places free anew =
+      let first_places = kept_places told old mid f m n (Ok root) kept free anew in
+      let done = unchanged kept.next kept.nothing in record {
+        anew = λ tells sound laid. places_trees_then free free free (λ v is. is) (λ v is. is) (loaded_trees (under old) f) (loaded_trees (under mid) two) (loaded_trees (under mid) three) (first_places.anew tells sound laid)
+            (leaves_places_trees free (loaded_trees (under mid) two) (loaded_trees (under mid) three) (gone_leave mid two last n levels root kept.next kept.becomes.now gone (placed_two tells sound) (own tells sound) (spelled tells sound) (reached tells sound) done));
+        laid = λ tells sound laid. gone_laid mid two last n levels root kept.next kept.becomes.now gone (placed_two tells sound) (own tells sound) (spelled tells sound) (reached tells sound) (first_places.laid tells sound laid);
+      }

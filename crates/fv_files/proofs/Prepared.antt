@@ -12,7 +12,7 @@ use Rattle.fv_disk.specs.declared.fault.BlockFault.{BlockFault}
 use Rattle.fv_codec.specs.declared.inode.InodeRecord.{InodeRecord}
 use Rattle.fv_model.specs.Tables.{Table, put, cut, rm}
 use Rattle.fv_laws.specs.WellFormed.{IsWellTable}
-use Rattle.fv_tables.specs.Spelled.{Under, Rooted, stored}
+use Rattle.fv_tables.specs.Spelled.{Under, Rooted, stored, pointer_at}
 use Rattle.fv_tables.specs.Told.{AreTold, records_each, file_at, Standing, tree_or, tree_of, file_in, table_told}
 use Rattle.fv_tables.specs.Kept.{IsPlacedTable}
 use Rattle.fv_tables.proofs.Tables.{files_told, placed_table}
@@ -29,7 +29,7 @@ use Rattle.fv_tree.proofs.Causes.{counts_then, fails_later, untouched_then}
 use Rattle.fv_inode.specs.declared.info.Info.{Info}
 use Rattle.fv_inode.specs.declared.file.InodeFile.{InodeFile}
 use Rattle.fv_inode.specs.Files.{rooted}
-use Rattle.fv_inode.specs.Failing.{Alters}
+use Rattle.fv_inode.specs.Failing.{OnlyLoads}
 use Rattle.fv_inode.specs.Readying.{IsReadyFile}
 use Rattle.fv_inode.proofs.Alike.{alike_itself}
 use Rattle.fv_inode.proofs.Indexed.{alike_indexes}
@@ -45,10 +45,15 @@ use Rattle.fv_files.specs.Calls.{WritesCell, CutsFile, RemovesFile, TakesByCut, 
 use Rattle.fv_files.proofs.Beside.{loading_lets_go, loading_uses, reread_leads, unread_leads}
 use Rattle.fv_files.proofs.Looked.{Held, counts_failed, counts_done, looks_inode}
 use Rattle.fv_files.proofs.Tables.{file_tree, kept_known, placed_alike, same_placed, some_same, stored_known}
-use Rattle.fv_files.proofs.Kept.{own_tree_is, moved_tree, same_trees, file_led, file_stands, file_stored, inode_led, inode_spares, inode_stands, inode_stored}
+use Rattle.fv_files.proofs.Kept.{own_tree_is, moved_tree, same_trees, file_led, file_stands, file_stored, inode_led, inode_spares, inode_stands, inode_stored, rest_leave}
 use Rattle.fv_files.proofs.Stored.{unread_stored}
-use Rattle.fv_files.proofs.Changed.{with_trees, with_inode}
+use Rattle.fv_files.proofs.Changed.{with_trees, with_inode, kept_tree_is}
 use Rattle.fv_files.proofs.Steps.{same_room}
+use Rattle.fv_tree.specs.Altering.{Leaves}
+use Rattle.fv_files.specs.Altering.{AltersPlaces, AreLaid, LeavesIn, LeavesTrees, MatchesRecord}
+use Rattle.fv_tree.proofs.Altered.{leaves_itself, only_leaves}
+use Rattle.fv_tree.proofs.Stays.{unchanged}
+use Rattle.fv_files.proofs.Altered.{laid_by, leaves_alters_trees, leaves_as, leaves_in_itself, leaves_of, leaves_trees_then, only_leaves_trees, still_changed}
 
 -- ---- what is said of a table that is told as another is said of that one
 
@@ -132,6 +137,29 @@ module _ (told well : Type 0) (old mid : Shown) (f g : Files) (info : Info) wher
       cause = IfErr-weaker r _ _ (λ e fails. tree_failed e fails) second.cause;
     }
 
+-- what happens to the places of the table's trees
+module _ (told well : Type 0) (old mid : Shown) (f g : Files) (info : Info) (s : ℕ) where
+  pub table_failed : {T : Type 0} (e : BlockFault) → Prepares told old mid f g info (Err e) → AltersPlaces {T = T} told well old mid f g s (Err e)
+  table_failed e first = record {
+    alters = λ tells asked sound. only_leaves_trees s (loaded_trees (under old) f) (loaded_trees (under mid) g) (first.leaves tells sound);
+    leaves = first.leaves;
+    laid = λ tells asked. first.laid tells;
+  }
+
+  pub table_alone : {T : Type 0} (there : Bool) (x : T) → Prepares told old mid f g info (Ok there) → AltersPlaces told well old mid f g s (Ok x)
+  table_alone there x first = record {
+    alters = λ tells asked sound. only_leaves_trees s (loaded_trees (under old) f) (loaded_trees (under mid) g) (first.leaves tells sound);
+    leaves = λ tells. tt;
+    laid = λ tells asked. first.laid tells;
+  }
+
+  pub table_then : {T : Type 0} (new : Shown) (h : Files) (there : Bool) → Prepares told old mid f g info (Ok there) → (after : Type 0) → (told → well → after) → (r : Result T BlockFault) → AltersPlaces told after mid new g h s r → AltersPlaces told well old new f h s r
+  table_then new h there first after so r second = record {
+    alters = λ tells asked sound. leaves_alters_trees s (loaded_trees (under old) f) (loaded_trees (under mid) g) (loaded_trees (under new) h) (first.leaves tells sound) (second.alters tells (so tells asked) (first.stands tells sound));
+    leaves = λ tells. on_err_weaker r (λ is sound. leaves_trees_then (loaded_trees (under old) f) (loaded_trees (under mid) g) (loaded_trees (under new) h) (first.leaves tells sound) (is (first.stands tells sound))) (second.leaves tells);
+    laid = λ tells asked sound laid. second.laid tells (so tells asked) (first.stands tells sound) (first.laid tells sound laid);
+  }
+
 -- ---- the inode file holds more in memory
 
 module _ (old new : Shown) (f g : Files) (untouched : IsUntouched old new) (alike : IsAlike (rooted old f.inode) (rooted new g.inode)) (trees : (k : ℕ) → tree_in g k ≡ tree_in f k) where
@@ -172,6 +200,27 @@ module _ (old new : Shown) (f g : Files) (untouched : IsUntouched old new) (alik
       (inl (moved_tree (under old) (under new) f g 0 (trees 0) (files 0)))
       (loading_lets_go new (LeadsTo (loaded old f.inode.tree)) (LeadsTo (loaded new g.inode.tree)) (λ v led. record { level = led.level; place = led.place; leads = keeps led.level led.place v led.leads }))
       (loading_uses old new (LeadsTo (loaded old f.inode.tree)) (LeadsTo (loaded new g.inode.tree)) untouched.used)
+
+  -- nothing of the table's trees changed
+  pub readied_leave : Leaves (loaded old f.inode.tree) (loaded new g.inode.tree) → LeadsNoMore (loaded old f.inode.tree) (loaded new g.inode.tree) → AreStanding old f → LeavesTrees (loaded_trees (under old) f) (loaded_trees (under new) g)
+  readied_leave inode no_more sound None = inode
+  readied_leave inode no_more sound (Some k) =
+      let files = alike_files (rooted old f.inode) (rooted new g.inode) alike in
+      rest_leave old new f g 0 (λ k differs. trees k) (λ k differs. files k) sound
+      (loading_spares old new (LeadsTo (loaded old f.inode.tree)) (LeadsTo (loaded new g.inode.tree)) untouched.held untouched.used (λ v led. record { level = led.level; place = led.place; leads = no_more led.level led.place v led.leads }))
+      (moved_tree (under old) (under new) f g 0 (trees 0) (files 0)) k
+
+  pub readied_laid : Leaves (loaded old f.inode.tree) (loaded new g.inode.tree) → LeadsNoMore (loaded old f.inode.tree) (loaded new g.inode.tree) → AreStanding old f → AreLaid (under old) f → AreLaid (under new) g
+  readied_laid inode no_more sound laid = laid_by (under old) (under new) f g laid (λ k u q is at.
+      let was = sym (trees k) ∙ is in
+      let file = sym (alike_files (rooted old f.inode) (rooted new g.inode) alike k) ∙ at in
+      inr (record {
+        tree = u;
+        was = was;
+        file = file;
+        leaves = leaves_of (loaded_trees (under old) f (Some k)) (loaded_trees (under new) g (Some k)) (loaded old u) (loaded new u) (kept_tree_is (under old) f k u q was file) (kept_tree_is (under new) g k u q is at) (readied_leave inode no_more sound (Some k));
+        cell = still_changed 0 (under old) (under new) f.inode.tree g.inode.tree k q (only_leaves 0 (loaded old f.inode.tree) (loaded new g.inode.tree) inode) at;
+      }))
 
 -- ---- the tree of a file comes into memory
 
@@ -233,6 +282,38 @@ module _ (source : Shown) (f : Files) (m : maps.BTreeMap ℕ Tree) (info : Info)
       (λ v led. subst (λ o. LeadsIn o v) (sym now_tree) (reread_leads (under source) t n is.file.levels is.file.root (own_stored (under source)) v (subst (λ o. LeadsIn o v) was_tree led))))
       (loading_uses source source (LeadsFrom (loaded_trees (under source) f) (Some n)) (LeadsFrom (loaded_trees (under source) g) (Some n)) refl)
 
+  -- nothing of the table's trees changed
+  still_there : (o p : Option Tree) (k : ℕ) → p ≡ o → LeavesIn (option_map (λ r. file_loaded (under source) k r o) (file_at (rooted source f.inode) k)) (option_map (λ r. file_loaded (under source) k r p) (file_at (rooted source f.inode) k))
+  still_there o p k same = subst (λ (q : Option Tree). LeavesIn (option_map (λ r. file_loaded (under source) k r o) (file_at (rooted source f.inode) k)) (option_map (λ r. file_loaded (under source) k r q) (file_at (rooted source f.inode) k))) (sym same) (leaves_in_itself (option_map (λ r. file_loaded (under source) k r o) (file_at (rooted source f.inode) k)))
+
+  unread_leaves : Leaves (unread (stored (under source) n is.file.levels is.file.root)) (loaded_over (under source) t)
+  unread_leaves = record {
+    levels = ap (λ (s : Rooted). s.levels) (own_stored (under source));
+    root = ap (λ (s : Rooted). s.root) (own_stored (under source));
+    places = λ level place. inr (record { pointer = ap (λ (s : Rooted). pointer_at s level place) (own_stored (under source)); changed = unchanged t stored_is.pending level place });
+  }
+
+  pub held_leave : LeavesTrees (loaded_trees (under source) f) (loaded_trees (under source) g)
+  held_leave None = leaves_itself (loaded source f.inode.tree)
+  held_leave (Some k) = ⊎_elim
+      (λ (same : k ≡ n). subst (λ m. LeavesIn (loaded_trees (under source) f (Some m)) (loaded_trees (under source) g (Some m))) (sym same)
+      (leaves_as (loaded_trees (under source) f (Some n)) (loaded_trees (under source) g (Some n)) (unread (stored (under source) n is.file.levels is.file.root)) (loaded_over (under source) t) was_tree now_tree unread_leaves))
+      (λ (differs : k ≢ n). still_there (tree_in f k) (tree_in g k) k (others k differs))
+      (cases_eq k n)
+
+  pub held_laid : AreLaid (under source) f → AreLaid (under source) g
+  held_laid laid k u q at file = ⊎_elim
+      (λ (same : k ≡ n).
+      let it : t ≡ u = some_same t u (sym now ∙ ap (tree_in g) (sym same) ∙ at) in
+      let own : is.file ≡ q = some_same is.file q (sym is.there ∙ ap (file_at (rooted source f.inode)) (sym same) ∙ file) in
+      inr (subst (λ (w : Tree). MatchesRecord (loaded_over (under source) w) q) it (subst (MatchesRecord (loaded_over (under source) t)) own (record {
+        levels = ap (λ (s : Rooted). s.levels) (own_stored (under source));
+        root = ap (λ (s : Rooted). s.root) (own_stored (under source));
+        still = λ level place. inr (unchanged t stored_is.pending level place);
+      }))))
+      (λ (differs : k ≢ n). laid k u q (sym (others k differs) ∙ at) file)
+      (cases_eq k n)
+
 -- ---- holding a tree
 
 holds_found : (m : maps.BTreeMap ℕ Tree) (info : Info) (o : Option Tree) → maps.get nat_cmp m info.number ≡ o → is_some o ≡ true → Holds m m info
@@ -258,22 +339,28 @@ holds_new m n info t none unread inserted = record {
 -- ---- a file is held ready
 
 -- The inode file holds it ready, or a call of it failed.
-module _ {T : Type 0} (told : Type 0) (old new : Shown) (f : Files) (i : InodeFile) (m : maps.BTreeMap ℕ Tree) (info : Info) (r : Result T BlockFault) (alters : Alters told old new f.inode.tree i.tree r)
-    (alike : told → IsAlike (rooted old f.inode) (rooted new i)) (trees : (k : ℕ) → maps.get nat_cmp m k ≡ maps.get nat_cmp f.trees k) (is : told → IsInfoOf (rooted old f.inode) info) where
+module _ {T : Type 0} (told : Type 0) (old new : Shown) (f : Files) (i : InodeFile) (m : maps.BTreeMap ℕ Tree) (info : Info) (r : Result T BlockFault) (loads : OnlyLoads told old new f.inode.tree i.tree r)
+    (alike : told → IsAlike (rooted old f.inode) (rooted new i)) (leaves : told → Leaves (loaded old f.inode.tree) (loaded new i.tree)) (trees : (k : ℕ) → maps.get nat_cmp m k ≡ maps.get nat_cmp f.trees k) (is : told → IsInfoOf (rooted old f.inode) info) where
   abbrev half : Files
   half = record { inode = i; trees = m; alloc = f.alloc }
 
   pub half_same : told → IsTold old f new half
-  half_same tells = readied_told old new f half alters.looks.untouched (alike tells) trees
+  half_same tells = readied_told old new f half loads.looks.untouched (alike tells) trees
 
   pub half_stands : told → AreStanding old f → AreStanding new half
-  half_stands tells = readied_stands old new f half alters.looks.untouched (alike tells) trees alters.owner (alters.stands tells) (alters.leads tells) alters.keeps_ready
+  half_stands tells = readied_stands old new f half loads.looks.untouched (alike tells) trees loads.owner (loads.stands tells) (loads.leads tells) loads.keeps_ready
 
   pub half_stored : told → AreStanding old f → IsStored old f → IsStored new half
-  half_stored tells = readied_stored old new f half alters.looks.untouched (alike tells) trees (alters.stored_well tells) (alters.leads tells)
+  half_stored tells = readied_stored old new f half loads.looks.untouched (alike tells) trees (loads.stored_well tells) (loads.leads tells)
 
   pub half_led : told → KeepsLed old new f half
-  half_led tells sound led = readied_led old new f half alters.looks.untouched (alike tells) trees (alters.leads tells) (alters.keeps tells) sound led
+  half_led tells sound led = readied_led old new f half loads.looks.untouched (alike tells) trees (loads.leads tells) (loads.keeps tells) sound led
+
+  pub half_leave : told → AreStanding old f → LeavesTrees (loaded_trees (under old) f) (loaded_trees (under new) half)
+  half_leave tells = readied_leave old new f half loads.looks.untouched (alike tells) trees (leaves tells) (loads.leads tells)
+
+  pub half_laid : told → AreStanding old f → AreLaid (under old) f → AreLaid (under new) half
+  half_laid tells = readied_laid old new f half loads.looks.untouched (alike tells) trees (leaves tells) (loads.leads tells)
 
   pub half_known : told → IsInfoOf (rooted new i) info
   half_known tells = let known = is tells in record { file = known.file; there = alike_files (rooted old f.inode) (rooted new i) (alike tells) info.number ∙ known.there; told = known.told }
@@ -290,6 +377,8 @@ module _ {T : Type 0} (told : Type 0) (old new : Shown) (f : Files) (i : InodeFi
     stands = half_stands;
     stored = half_stored;
     led = half_led;
+    leaves = half_leave;
+    laid = half_laid;
     looks = looks;
     found = found;
     known = half_known;
@@ -299,13 +388,13 @@ module _ {T : Type 0} (told : Type 0) (old new : Shown) (f : Files) (i : InodeFi
   }
 
 -- and the tree is held
-module _ (told : Type 0) (old new : Shown) (f : Files) (i : InodeFile) (m : maps.BTreeMap ℕ Tree) (info : Info) (alters : Alters told old new f.inode.tree i.tree (Ok true)) (alike : told → IsAlike (rooted old f.inode) (rooted new i))
+module _ (told : Type 0) (old new : Shown) (f : Files) (i : InodeFile) (m : maps.BTreeMap ℕ Tree) (info : Info) (loads : OnlyLoads told old new f.inode.tree i.tree (Ok true)) (alike : told → IsAlike (rooted old f.inode) (rooted new i)) (leaves : told → Leaves (loaded old f.inode.tree) (loaded new i.tree))
     (is : told → IsInfoOf (rooted old f.inode) info) (ready : IsReadyFile i info.number) (holds : Holds f.trees m info) where
   abbrev whole : Files
   whole = record { inode = i; trees = m; alloc = f.alloc }
 
   done : Looks {T = Bool} told (table_in old f) old new (Ok true)
-  done = looks_inode told (table_in old f) old new (Ok true) alters.looks
+  done = looks_inode told (table_in old f) old new (Ok true) loads.looks
 
   kept_so : is_some (maps.get nat_cmp m info.number) ≡ true
   kept_so = ap is_some holds.now
@@ -314,7 +403,7 @@ module _ (told : Type 0) (old new : Shown) (f : Files) (i : InodeFile) (m : maps
   held_prepares = ⊎_elim already first holds.from
     where
       already : maps.get nat_cmp f.trees info.number ≡ Some holds.tree → Prepares told old new f whole info (Ok true)
-      already was = half_prepares told old new f i m info (Ok true) alters alike same is (Ok true) done (λ tells. refl) (λ yes_. ready) (λ yes_. kept_so)
+      already was = half_prepares told old new f i m info (Ok true) loads alike leaves same is (Ok true) done (λ tells. refl) (λ yes_. ready) (λ yes_. kept_so)
         where
           same : (k : ℕ) → maps.get nat_cmp m k ≡ maps.get nat_cmp f.trees k
           same k = ⊎_elim (λ (here : k ≡ info.number). ap (maps.get nat_cmp m) here ∙ holds.now ∙ sym was ∙ ap (maps.get nat_cmp f.trees) (sym here)) (λ (differs : k ≢ info.number). holds.others k differs) (cases_eq k info.number)
@@ -322,14 +411,17 @@ module _ (told : Type 0) (old new : Shown) (f : Files) (i : InodeFile) (m : maps
       first : (maps.get nat_cmp f.trees info.number ≡ None) × IsUnread holds.tree info → Prepares told old new f whole info (Ok true)
       first new_one =
           let half_way = with_inode f i in
-          let known = half_known told old new f i f.trees info (Ok true) alters alike (λ k. refl) is in record {
-            same = λ tells. held_told new half_way m info holds.tree (known tells) new_one.0 new_one.1 holds.now holds.others ∙ half_same told old new f i f.trees info (Ok true) alters alike (λ k. refl) is tells;
+          let known = half_known told old new f i f.trees info (Ok true) loads alike leaves (λ k. refl) is in record {
+            same = λ tells. held_told new half_way m info holds.tree (known tells) new_one.0 new_one.1 holds.now holds.others ∙ half_same told old new f i f.trees info (Ok true) loads alike leaves (λ k. refl) is tells;
             alike = alike;
-            stands = λ tells sound. held_stands new half_way m info holds.tree (known tells) new_one.0 new_one.1 holds.now holds.others ready.way (half_stands told old new f i f.trees info (Ok true) alters alike (λ k. refl) is tells sound);
-            stored = λ tells sound was. held_stored new half_way m info holds.tree (known tells) new_one.0 new_one.1 holds.now holds.others (half_stands told old new f i f.trees info (Ok true) alters alike (λ k. refl) is tells sound)
-                (half_stored told old new f i f.trees info (Ok true) alters alike (λ k. refl) is tells sound was);
-            led = λ tells sound led. held_led new half_way m info holds.tree (known tells) new_one.0 new_one.1 holds.now holds.others (half_stands told old new f i f.trees info (Ok true) alters alike (λ k. refl) is tells sound)
-                (half_led told old new f i f.trees info (Ok true) alters alike (λ k. refl) is tells sound led);
+            stands = λ tells sound. held_stands new half_way m info holds.tree (known tells) new_one.0 new_one.1 holds.now holds.others ready.way (half_stands told old new f i f.trees info (Ok true) loads alike leaves (λ k. refl) is tells sound);
+            stored = λ tells sound was. held_stored new half_way m info holds.tree (known tells) new_one.0 new_one.1 holds.now holds.others (half_stands told old new f i f.trees info (Ok true) loads alike leaves (λ k. refl) is tells sound)
+                (half_stored told old new f i f.trees info (Ok true) loads alike leaves (λ k. refl) is tells sound was);
+            led = λ tells sound led. held_led new half_way m info holds.tree (known tells) new_one.0 new_one.1 holds.now holds.others (half_stands told old new f i f.trees info (Ok true) loads alike leaves (λ k. refl) is tells sound)
+                (half_led told old new f i f.trees info (Ok true) loads alike leaves (λ k. refl) is tells sound led);
+            leaves = λ tells sound. leaves_trees_then (loaded_trees (under old) f) (loaded_trees (under new) half_way) (loaded_trees (under new) whole) (half_leave told old new f i f.trees info (Ok true) loads alike leaves (λ k. refl) is tells sound)
+                (held_leave new half_way m info holds.tree (known tells) new_one.0 new_one.1 holds.now holds.others);
+            laid = λ tells sound laid. held_laid new half_way m info holds.tree (known tells) new_one.0 new_one.1 holds.now holds.others (half_laid told old new f i f.trees info (Ok true) loads alike leaves (λ k. refl) is tells sound laid);
             looks = done;
             found = λ tells. refl;
             known = known;

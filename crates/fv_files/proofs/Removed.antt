@@ -5,7 +5,7 @@ use Rattle.std.specs.Option.{option_map}
 use Rattle.std.specs.Ordering.{nat_cmp}
 use Rattle.std.specs.BTreeMap as maps
 use Rattle.std.specs.FinMap as fin
-use Rattle.std.proofs.lemmas.Bool.{cases_eq}
+use Rattle.std.proofs.lemmas.Bool.{cases_eq, both_ways}
 use Rattle.std.proofs.lemmas.Bool.Decides.{nat_tests}
 use Rattle.fv_model.specs.Trees.{fan}
 use Rattle.fv_model.specs.Tables.{inode_cell}
@@ -43,13 +43,17 @@ use Rattle.fv_files.specs.Apart.{LeadsFrom}
 use Rattle.fv_files.specs.Pending.{pending_in, pending_trees, tree_cost}
 use Rattle.fv_files.specs.Calls.{Becomes, Changes, CutsKept, KeptFails, RemovesFile, TakesByRemoval}
 use Rattle.fv_files.proofs.Beside.{IsBare, LetsGo, UsesNoMore}
-use Rattle.fv_files.proofs.Kept.{records_told, inode_led, inode_stands, inode_stored}
+use Rattle.fv_files.proofs.Kept.{records_told, inode_led, inode_stands, inode_stored, records_leave}
 use Rattle.fv_files.proofs.Looked.{counts_done}
 use Rattle.fv_files.proofs.Adding.{grown_holds}
 use Rattle.fv_files.proofs.Counted.{few_positions, nothing_left, removal_counted, tree_holds}
 use Rattle.fv_files.proofs.Whole.{none_there}
-use Rattle.fv_files.proofs.Changed.{has_record, own_ready, with_trees, kept_inode, kept_leads, kept_led, kept_others, kept_stands, kept_stored, owned_stored}
+use Rattle.fv_files.proofs.Changed.{has_record, own_ready, with_trees, kept_inode, kept_leads, kept_led, kept_others, kept_stands, kept_stored, owned_stored, kept_alter, kept_other, kept_tree_is}
 use Rattle.fv_files.proofs.Steps.{cut_spares, cut_stood, none_some, removal_goes, removal_uses}
+use Rattle.fv_tree.specs.Altering.{Alters}
+use Rattle.fv_tree.proofs.Altered.{leaves_then}
+use Rattle.fv_files.specs.Altering.{AltersIn, AltersPlaces, AltersTrees, AreLaid}
+use Rattle.fv_files.proofs.Altered.{both_in, both_in_then, laid_by, leaves_both, leaves_of, still_changed}
 
 -- the inode file of a well-formed table has no mark over holes alone
 
@@ -115,6 +119,31 @@ module _ (old mid new : Shown) (f : Files) (m last : maps.BTreeMap ℕ Tree) (i 
     pub removed_led : ((v : ℕ) → LeadsFrom (loaded_trees (under mid) g) (Some n) v → ⊥) → LetsGo new (LeadsTo (loaded mid f.inode.tree)) (LeadsTo (loaded new i.tree)) → UsesNoMore mid new (LeadsTo (loaded mid f.inode.tree)) (LeadsTo (loaded new i.tree)) → IsLed mid g → IsLed new h
     removed_led none = inode_led mid new g h n other_trees other_files middle second (inr none)
 
+    -- the places of the inode file got the stamp, or are as before, and nothing of the other trees changed,
+    pub removed_alters : Alters s (loaded mid f.inode.tree) (loaded new i.tree) → (b : Option ℕ) → AltersIn s (loaded_trees (under mid) g b) (loaded_trees (under new) h b)
+    removed_alters inode None = inode
+    removed_alters inode (Some k) = ⊎_elim
+        (λ (same : k ≡ n). subst (λ m. AltersIn s (loaded_trees (under mid) g (Some m)) (loaded_trees (under new) h (Some m))) (sym same) (subst (AltersIn s (loaded_trees (under mid) g (Some n))) (sym nothing) tt))
+        (λ (differs : k ≢ n). both_in s (loaded_trees (under mid) g (Some k)) (loaded_trees (under new) h (Some k)) (leaves_both s (loaded_trees (under mid) g (Some k)) (loaded_trees (under new) h (Some k)) (records_leave mid new g h n other_trees other_files middle second k differs)))
+        (cases_eq k n)
+
+    pub removed_laid : Alters s (loaded mid f.inode.tree) (loaded new i.tree) → AreLaid (under old) f → AreLaid (under new) h
+    removed_laid inode laid = laid_by (under old) (under new) f h laid (λ k w q is at. ⊎_elim
+        (λ (same : k ≡ n). absurd (both_ways (is_some (tree_in h n)) (ap is_some no_tree) (ap (λ j. is_some (tree_in h j)) (sym same) ∙ ap is_some is)))
+        (λ (differs : k ≢ n).
+        let there : tree_in g k ≡ Some w = sym (other_trees k differs) ∙ is in
+        let file : file_at (rooted mid f.inode) k ≡ Some q = sym (other_files k differs) ∙ at in
+        let left = kept_other old mid f m n t u becomes sound first k w q differs there file in
+        inr (record {
+          tree = left.tree;
+          was = left.was;
+          file = left.file;
+          leaves = leaves_then (loaded old left.tree) (loaded mid w) (loaded new w) left.leaves
+              (leaves_of (loaded_trees (under mid) g (Some k)) (loaded_trees (under new) h (Some k)) (loaded mid w) (loaded new w) (kept_tree_is (under mid) g k w q there file) (kept_tree_is (under new) h k w q is at) (records_leave mid new g h n other_trees other_files middle second k differs));
+          cell = still_changed s (under mid) (under new) f.inode.tree i.tree k q inode at;
+        }))
+        (cases_eq k n))
+
     others_stay : KeepsOthers (table_in old f) (table_in new h) n
     others_stay k differs r at =
         let one = kept_others old mid f m n t u becomes sound first k differs r at in
@@ -157,6 +186,17 @@ module _ (told cut_calls take_calls : Type 0) (old mid new : Shown) (f : Files) 
         removed_stored old mid new f m last i n s cuts.tree cuts.next cuts.becomes sound first cuts.removal.owner (cuts.removal.stands tells stood) gone second (takes.removed tells) holds
         (takes.stored_well tells (half_way.trees None) (half.trees None)) half
 
+    remove_alters : HoldsCells (rooted old f.inode) → AltersTrees s (loaded_trees (under old) f) (loaded_trees (under new) (record { inode = i; trees = last; alloc = f.alloc }))
+    remove_alters holds b =
+        let x = loaded_trees (under old) f in
+        let y = loaded_trees (under mid) (with_trees f m) in
+        let z = loaded_trees (under new) (record { inode = i; trees = last; alloc = f.alloc }) in
+        both_in_then s (x b) (y b) (z b) (kept_alter old mid f m n cuts.tree cuts.next cuts.becomes sound first s (cuts.removal.alters tells stood) b)
+        (removed_alters old mid new f m last i n s cuts.tree cuts.next cuts.becomes sound first cuts.removal.owner (cuts.removal.stands tells stood) gone second (takes.removed tells) holds (takes.alters tells (half_way.trees None)) b)
+
+    remove_laid : HoldsCells (rooted old f.inode) → AreLaid (under old) f → AreLaid (under new) (record { inode = i; trees = last; alloc = f.alloc })
+    remove_laid holds = removed_laid old mid new f m last i n s cuts.tree cuts.next cuts.becomes sound first cuts.removal.owner (cuts.removal.stands tells stood) gone second (takes.removed tells) holds (takes.alters tells (half_way.trees None))
+
     -- what is in use is led to
     pub remove_led : is_some (file_at (rooted old f.inode) n) ≡ true → (now : ℕ) → IsWellTable now (table_told (table_in old f)) → IsLed old f → IsLed new (record { inode = i; trees = last; alloc = f.alloc })
     remove_led there now well led =
@@ -195,6 +235,13 @@ module _ (told cut_calls take_calls : Type 0) (old mid new : Shown) (f : Files) 
         let gone_there = cuts.removal.count tells stood in
         let gone_here = takes.count tells (half_way.trees None) in
         omega (arith, one, two, gone_there, gone_here)
+
+  pub remove_table_done : {T : Type 0} (x : T) → AltersPlaces told (HoldsCells (rooted old f.inode)) old new f (record { inode = i; trees = last; alloc = f.alloc }) s (Ok x)
+  remove_table_done x = record {
+    alters = λ tells holds sound. remove_alters tells sound holds;
+    leaves = λ tells. tt;
+    laid = λ tells holds sound. remove_laid tells sound holds;
+  }
 
   pub remove_done : {T : Type 0} (x : T) → ((k : ℕ) → k ≢ n → IsReadyFile f.inode k → IsReady i.tree (k / records_each)) → Changes told (HoldsCells (rooted old f.inode)) old new f (record { inode = i; trees = last; alloc = f.alloc }) (KeptFails told old new f n) (Ok x)
   remove_done x others_ready =

@@ -50,7 +50,7 @@ module _ (x : Volume) (blocks : Under) (f : Files) (shared : ℕ → Bool) (told
   inode_levels : x.active.inode.levels ≡ f.inode.tree.levels
   inode_levels = ap (λ t. t.inode.levels) told ∙ ap (λ t. t.levels) (sym (inode_told table)) ∙ levels_told (standing blocks f.inode.tree)
 
-  over_inode : (n : ℕ) → staying_in (loaded_trees blocks f None) shared (inode_cell n) ≡ settled_over x InodeFile x.active.inode.levels (inode_cell n)
+  pub over_inode : (n : ℕ) → staying_in (loaded_trees blocks f None) shared (inode_cell n) ≡ settled_over x InodeFile x.active.inode.levels (inode_cell n)
   over_inode n = over None _ refl x.active.inode.levels inode_levels (inode_cell n)
 
   -- in a whole tree
@@ -76,17 +76,17 @@ module _ (x : Volume) (blocks : Under) (f : Files) (shared : ℕ → Bool) (told
     there_in : file_in table n ≡ Some file
     there_in = sym (files_told table n) ∙ ap (λ t. fin.get t.files n) (sym told) ∙ there
 
-    abbrev own : Loaded
+    abbrev pub own : Loaded
     own = file_loaded blocks n r (tree_in f n)
 
-    here : loaded_trees blocks f (Some n) ≡ Some own
+    pub here : loaded_trees blocks f (Some n) ≡ Some own
     here = ap (option_map (λ r. file_loaded blocks n r (tree_in f n))) at
 
-    tree_is : (o : Option Tree) → (file_loaded blocks n r o).tree ≡ tree_or (option_map (standing blocks) o) (stored blocks n r.levels r.root)
+    pub tree_is : (o : Option Tree) → (file_loaded blocks n r o).tree ≡ tree_or (option_map (standing blocks) o) (stored blocks n r.levels r.root)
     tree_is None = refl
     tree_is (Some t) = refl
 
-    levels_are : file.tree.levels ≡ own.tree.levels
+    pub levels_are : file.tree.levels ≡ own.tree.levels
     levels_are = ap (λ t. t.levels) (file_tree_is table n r at file there_in) ∙ levels_told (tree_of table n r) ∙ ap (λ (t : Rooted). t.levels) (sym (tree_is (tree_in f n)))
 
     over_file : (i : ℕ) → staying_in (loaded_trees blocks f (Some n)) shared i ≡ settled_over x (OfFile n) file.tree.levels i

@@ -1,19 +1,17 @@
 -- What calls of a tree in memory, with a change of its file's record, leave of a table.
-use Rattle.std.proofs.Common.{◌≡◌, ◌≤◌, ℕ, ◌+◌, Bool, true, nat_le, List, Result, Ok, Err, sym, ap, subst, ◌∙◌, ⊎_elim, arith}
+use Rattle.std.proofs.Common.{◌≡◌, ◌≤◌, ℕ, ◌+◌, Bool, true, nat_le, List, Result, Ok, Err, sym, ap, subst, ◌∙◌, ⊎_elim, arith, ◌/◌}
 use Rattle.std.specs.Prelude.{Option, Some, None, is_some}
 use Rattle.std.specs.Option.{option_map}
 use Rattle.std.specs.BTreeMap as maps
 use Rattle.fv_disk.specs.declared.fault.BlockFault.{BlockFault}
 use Rattle.fv_codec.specs.declared.inode.InodeRecord.{InodeRecord}
 use Rattle.fv_tables.specs.Spelled.{Under}
-use Rattle.fv_tables.specs.Told.{file_at}
+use Rattle.fv_tables.specs.Told.{file_at, records_each}
 use Rattle.fv_tree.specs.declared.kept.Tree.{Tree}
-use Rattle.fv_tree.specs.Sources.{Shown, IsUntouched, Use}
+use Rattle.fv_tree.specs.Sources.{Shown, IsUntouched}
 use Rattle.fv_tree.specs.Standing.{standing, under, Fails}
-use Rattle.fv_tree.specs.Flushing.{IsSound, Stands, loaded, loaded_over}
+use Rattle.fv_tree.specs.Flushing.{Stands, loaded, changed_of}
 use Rattle.fv_tree.specs.Leading.{LeadsNoMore}
-use Rattle.fv_tree.specs.Stored.{IsStoredWell}
-use Rattle.fv_tree.specs.Readying.{KeepsReady}
 use Rattle.fv_tree.specs.Removal.{Removal}
 use Rattle.fv_tree.specs.Erasing.{HoldsCells}
 use Rattle.fv_tree.specs.Beside.{LeadsTo, Spares}
@@ -21,13 +19,16 @@ use Rattle.fv_tree.proofs.Beside.{loading_spares, removal_spares}
 use Rattle.fv_inode.specs.declared.file.InodeFile.{InodeFile}
 use Rattle.fv_inode.specs.Changing.{Rewrites}
 use Rattle.fv_files.specs.declared.files.Files.{Files}
-use Rattle.fv_files.specs.Tables.{tree_in, AreStanding}
+use Rattle.fv_files.specs.Tables.{tree_in, AreStanding, loaded_trees}
 use Rattle.fv_files.specs.Calls.{Changes, KeepsLed, KeptFails, PutsKept, CutsKept}
 use Rattle.fv_files.specs.Pending.{pending_trees}
 use Rattle.fv_files.proofs.Beside.{LetsGo, UsesNoMore, loading_lets_go, loading_uses}
 use Rattle.fv_files.proofs.Looked.{counts_failed}
 use Rattle.fv_files.proofs.Tables.{some_same}
-use Rattle.fv_files.proofs.Changed.{with_trees, failed_told, kept_led, kept_stands, both_led, both_stand, owned_stands, owned_stored, kept_stored, both_stored}
+use Rattle.fv_files.proofs.Changed.{with_trees, failed_told, kept_led, kept_stands, both_led, both_stand, owned_stands, owned_stored, kept_stored, both_stored, both_alter, both_laid, kept_laid, kept_leave}
+use Rattle.fv_tree.specs.Altering.{AltersHeld}
+use Rattle.fv_files.specs.Altering.{AltersPlaces}
+use Rattle.fv_files.proofs.Altered.{leaves_match, only_leaves_trees}
 
 -- a call of a tree that only loads
 pub loaded_spares : (old new : Shown) (t u : Tree) → IsUntouched old new → LeadsNoMore (loaded old t) (loaded new u) → Spares old new (LeadsTo (loaded old t)) (LeadsTo (loaded new u))
@@ -41,12 +42,8 @@ at_tree f n t P is fact w at = subst P (some_same t w (sym is ∙ at)) fact
 -- a change of the record of a file, over any blocks
 pub record Restates (f : Files) (i : InodeFile) (n s : ℕ) (change : InodeRecord → InodeRecord) : Type 0 where
   pub rewrites : (blocks : Under) → Rewrites (standing blocks f.inode.tree) (standing blocks i.tree) n s (option_map change (file_at (standing blocks f.inode.tree) n))
-  pub owner : i.tree.owner ≡ f.inode.tree.owner
-  pub sound : (blocks : Under) (used : ℕ → Option Use) → IsSound used (loaded_over blocks f.inode.tree) → IsSound used (loaded_over blocks i.tree)
-  pub leads : (blocks : Under) → LeadsNoMore (loaded_over blocks f.inode.tree) (loaded_over blocks i.tree)
-  pub keeps : (blocks : Under) → LeadsNoMore (loaded_over blocks i.tree) (loaded_over blocks f.inode.tree)
-  pub keeps_ready : KeepsReady f.inode.tree i.tree
-  pub stored_well : (blocks : Under) → IsStoredWell (loaded_over blocks f.inode.tree) → IsStoredWell (loaded_over blocks i.tree)
+  pub alters : AltersHeld f.inode.tree i.tree s
+  pub marked : changed_of i.tree 0 (n / records_each) ≡ true
 
 pub none_some : {X : Type 0} (o : Option X) → o ≡ None → is_some o ≡ true → ⊥
 none_some o none some = let wrong : is_some o ≡ true = some in absurd (so (sym wrong ∙ ap is_some none))
@@ -90,15 +87,34 @@ module _ (told well : Type 0) (old new : Shown) (f : Files) (m : maps.BTreeMap �
   put_done i change x puts is = record {
     failed = λ tells. tt;
     untouched = tt;
-    stands = λ tells asked sound. both_stand old new f m n puts.tree puts.next puts.becomes i s change is.rewrites is.owner is.sound is.leads is.keeps_ready sound (loaded_spares old new puts.tree puts.next puts.untouched (puts.leads tells)) puts.owner
+    stands = λ tells asked sound. both_stand old new f m n puts.tree puts.next puts.becomes i s change is.rewrites is.alters.owner is.alters.sound is.alters.leads is.alters.keeps_ready sound (loaded_spares old new puts.tree puts.next puts.untouched (puts.leads tells)) puts.owner
         (puts.stands tells (owned_stands old f n puts.tree puts.becomes.was sound));
-    stored = λ tells asked sound was. both_stored old new f m n puts.tree puts.next puts.becomes i s change is.rewrites is.owner is.sound is.leads is.keeps_ready sound (loaded_spares old new puts.tree puts.next puts.untouched (puts.leads tells)) puts.owner
-        (puts.stands tells (owned_stands old f n puts.tree puts.becomes.was sound)) is.stored_well (puts.stored_well tells (owned_stored old f n puts.tree puts.becomes.was sound was)) was;
+    stored = λ tells asked sound was. both_stored old new f m n puts.tree puts.next puts.becomes i s change is.rewrites is.alters.owner is.alters.sound is.alters.leads is.alters.keeps_ready sound (loaded_spares old new puts.tree puts.next puts.untouched (puts.leads tells)) puts.owner
+        (puts.stands tells (owned_stands old f n puts.tree puts.becomes.was sound)) is.alters.stored_well (puts.stored_well tells (owned_stored old f n puts.tree puts.becomes.was sound was)) was;
     strays = λ tells sound. puts.untouched.strays;
     room = same_room old new puts.untouched;
     counts = puts.counts;
     cause = tt;
   }
+
+  -- what happens to the places of the table's trees
+  pub put_table_failed : (e : BlockFault) → PutsKept told old new f.trees m n index s block (Err e) → AltersPlaces {T = Unit {0}} told well old new f (with_trees f m) s (Err e)
+  put_table_failed e puts =
+      let spares = λ (tells : told). loaded_spares old new puts.tree puts.next puts.untouched (puts.leads tells) in record {
+        alters = λ tells asked sound. only_leaves_trees s (loaded_trees (under old) f) (loaded_trees (under new) (with_trees f m)) (kept_leave old new f m n puts.tree puts.next puts.becomes sound (spares tells) (puts.leaves tells));
+        leaves = λ tells sound. kept_leave old new f m n puts.tree puts.next puts.becomes sound (spares tells) (puts.leaves tells);
+        laid = λ tells asked sound. kept_laid old new f m n puts.tree puts.next puts.becomes sound (spares tells) (λ q. leaves_match (loaded old puts.tree) (loaded new puts.next) q (puts.leaves tells));
+      }
+
+  pub put_table_done : (i : InodeFile) (change : InodeRecord → InodeRecord) (x : Unit {0}) → PutsKept told old new f.trees m n index s block (Ok x) → Restates f i n s change
+      → AltersPlaces {T = Unit {0}} told well old new f (record { inode = i; trees = m; alloc = f.alloc }) s (Ok x)
+  put_table_done i change x puts is =
+      let spares = λ (tells : told). loaded_spares old new puts.tree puts.next puts.untouched (puts.leads tells) in record {
+        alters = λ tells asked sound. both_alter old new f m n puts.tree puts.next puts.becomes i s change is.rewrites is.alters.owner is.alters.sound is.alters.leads is.alters.keeps_ready sound (spares tells) puts.owner
+            (puts.stands tells (owned_stands old f n puts.tree puts.becomes.was sound)) (puts.alters tells) (is.alters.alters (under new));
+        leaves = λ tells. tt;
+        laid = λ tells asked sound. both_laid old new f m n puts.tree puts.next puts.becomes i s change is.rewrites is.alters.owner is.alters.sound is.alters.leads is.alters.keeps_ready sound (spares tells) (is.alters.alters (under new)) is.marked;
+      }
 
   -- what is in use is led to, and what differs is little more
   module _ (r : Result Unit BlockFault) (puts : PutsKept told old new f.trees m n index s block r) where
@@ -112,8 +128,8 @@ module _ (told well : Type 0) (old new : Shown) (f : Files) (m : maps.BTreeMap �
     put_led_alone tells sound led = kept_led old new f m n puts.tree puts.next puts.becomes sound (loaded_spares old new puts.tree puts.next puts.untouched (puts.leads tells)) (put_goes tells) put_uses led
 
     pub put_led : (i : InodeFile) (change : InodeRecord → InodeRecord) → Restates f i n s change → told → KeepsLed old new f (record { inode = i; trees = m; alloc = f.alloc })
-    put_led i change is tells sound led = both_led old new f m n puts.tree puts.next puts.becomes i s change is.rewrites is.owner is.sound is.leads is.keeps_ready sound (loaded_spares old new puts.tree puts.next puts.untouched (puts.leads tells)) puts.owner
-        (puts.stands tells (owned_stands old f n puts.tree puts.becomes.was sound)) is.keeps (put_goes tells) put_uses led
+    put_led i change is tells sound led = both_led old new f m n puts.tree puts.next puts.becomes i s change is.rewrites is.alters.owner is.alters.sound is.alters.leads is.alters.keeps_ready sound (loaded_spares old new puts.tree puts.next puts.untouched (puts.leads tells)) puts.owner
+        (puts.stands tells (owned_stands old f n puts.tree puts.becomes.was sound)) is.alters.keeps (put_goes tells) put_uses led
 
     pub put_pending : pending_trees m ≤ pending_trees f.trees + 6
     put_pending = let sum = puts.becomes.sum in let most = puts.rises.pending in omega (arith, sum, most)
@@ -149,13 +165,32 @@ module _ (told calls well : Type 0) (old new : Shown) (f : Files) (m : maps.BTre
   cut_done i change count cuts is = record {
     failed = λ tells. tt;
     untouched = tt;
-    stands = λ tells asked sound. both_stand old new f m n cuts.tree cuts.next cuts.becomes i s change is.rewrites is.owner is.sound is.leads is.keeps_ready sound (cut_spares count cuts tells sound) cuts.removal.owner (cuts.removal.stands tells (cut_stood count cuts tells sound));
-    stored = λ tells asked sound was. both_stored old new f m n cuts.tree cuts.next cuts.becomes i s change is.rewrites is.owner is.sound is.leads is.keeps_ready sound (cut_spares count cuts tells sound) cuts.removal.owner (cuts.removal.stands tells (cut_stood count cuts tells sound))
-        is.stored_well (cuts.removal.stored_well tells (cut_stood count cuts tells sound) (owned_stored old f n cuts.tree cuts.becomes.was sound was)) was;
+    stands = λ tells asked sound. both_stand old new f m n cuts.tree cuts.next cuts.becomes i s change is.rewrites is.alters.owner is.alters.sound is.alters.leads is.alters.keeps_ready sound (cut_spares count cuts tells sound) cuts.removal.owner (cuts.removal.stands tells (cut_stood count cuts tells sound));
+    stored = λ tells asked sound was. both_stored old new f m n cuts.tree cuts.next cuts.becomes i s change is.rewrites is.alters.owner is.alters.sound is.alters.leads is.alters.keeps_ready sound (cut_spares count cuts tells sound) cuts.removal.owner (cuts.removal.stands tells (cut_stood count cuts tells sound))
+        is.alters.stored_well (cuts.removal.stored_well tells (cut_stood count cuts tells sound) (owned_stored old f n cuts.tree cuts.becomes.was sound was)) was;
     strays = λ tells sound. cuts.removal.strays tells (cut_stood count cuts tells sound);
     room = cuts.removal.room;
     counts = cuts.removal.counts;
     cause = tt;
+  }
+
+  -- what happens to the places of the table's trees
+  pub cut_table_failed : {T : Type 0} (e : BlockFault) → CutsKept told calls old new f.trees m n length start s (Err e) → AltersPlaces {T = T} told well old new f (with_trees f m) s (Err e)
+  cut_table_failed e cuts =
+      let is = cuts.removal in
+      let spares = λ (tells : told) (sound : AreStanding old f). loaded_spares old new cuts.tree cuts.next is.untouched (is.leads tells (owned_stands old f n cuts.tree cuts.becomes.was sound)) in record {
+        alters = λ tells asked sound. only_leaves_trees s (loaded_trees (under old) f) (loaded_trees (under new) (with_trees f m)) (kept_leave old new f m n cuts.tree cuts.next cuts.becomes sound (spares tells sound) (is.leaves tells));
+        leaves = λ tells sound. kept_leave old new f m n cuts.tree cuts.next cuts.becomes sound (spares tells sound) (is.leaves tells);
+        laid = λ tells asked sound. kept_laid old new f m n cuts.tree cuts.next cuts.becomes sound (spares tells sound) (λ q. leaves_match (loaded old cuts.tree) (loaded new cuts.next) q (is.leaves tells));
+      }
+
+  pub cut_table_done : (i : InodeFile) (change : InodeRecord → InodeRecord) (count : ℕ) → CutsKept told calls old new f.trees m n length start s (Ok count) → Restates f i n s change
+      → AltersPlaces {T = ℕ} told well old new f (record { inode = i; trees = m; alloc = f.alloc }) s (Ok count)
+  cut_table_done i change count cuts is = record {
+    alters = λ tells asked sound. both_alter old new f m n cuts.tree cuts.next cuts.becomes i s change is.rewrites is.alters.owner is.alters.sound is.alters.leads is.alters.keeps_ready sound (cut_spares count cuts tells sound) cuts.removal.owner
+        (cuts.removal.stands tells (cut_stood count cuts tells sound)) (cuts.removal.alters tells (cut_stood count cuts tells sound)) (is.alters.alters (under new));
+    leaves = λ tells. tt;
+    laid = λ tells asked sound. both_laid old new f m n cuts.tree cuts.next cuts.becomes i s change is.rewrites is.alters.owner is.alters.sound is.alters.leads is.alters.keeps_ready sound (cut_spares count cuts tells sound) (is.alters.alters (under new)) is.marked;
   }
 
   -- what is in use is led to, and what differs is little more
@@ -172,7 +207,7 @@ module _ (told calls well : Type 0) (old new : Shown) (f : Files) (m : maps.BTre
 
   pub cut_led : (i : InodeFile) (change : InodeRecord → InodeRecord) (count : ℕ) → CutsKept told calls old new f.trees m n length start s (Ok count) → Restates f i n s change → told → KeepsLed old new f (record { inode = i; trees = m; alloc = f.alloc })
   cut_led i change count cuts is tells sound led =
-      both_led old new f m n cuts.tree cuts.next cuts.becomes i s change is.rewrites is.owner is.sound is.leads is.keeps_ready sound (cut_spares count cuts tells sound) cuts.removal.owner (cuts.removal.stands tells (cut_stood count cuts tells sound)) is.keeps
+      both_led old new f m n cuts.tree cuts.next cuts.becomes i s change is.rewrites is.alters.owner is.alters.sound is.alters.leads is.alters.keeps_ready sound (cut_spares count cuts tells sound) cuts.removal.owner (cuts.removal.stands tells (cut_stood count cuts tells sound)) is.alters.keeps
       (removal_goes told calls old new cuts.tree cuts.next (nat_le length) start s count cuts.removal tells (cut_stood count cuts tells sound))
       (removal_uses told calls old new cuts.tree cuts.next (nat_le length) start s count cuts.removal tells) led
 

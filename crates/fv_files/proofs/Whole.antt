@@ -14,13 +14,16 @@ use Rattle.fv_tree.specs.Sources.{Use}
 use Rattle.fv_tree.specs.Standing.{standing}
 use Rattle.fv_tree.specs.Flushing.{loaded_over, IsSound, ReachesOnce}
 use Rattle.fv_tree.specs.Beside.{unread}
+use Rattle.fv_tree.specs.Costs.{pending}
 use Rattle.fv_tree.proofs.Beside.{unread_sound}
+use Rattle.fv_tree.proofs.Stays.{unchanged}
 use Rattle.fv_files.specs.declared.files.Files.{Files}
 use Rattle.fv_files.specs.Trees.{standing_in}
 use Rattle.fv_inode.specs.Files.{NamesIndexes}
-use Rattle.fv_files.specs.Apart.{LeadsIn, LeadsFrom, StandsIn, StoredIn, AreLed, stored_trees}
+use Rattle.fv_files.specs.Apart.{LeadsIn, LeadsFrom, StandsIn, StoredIn, AlikeIn, AreAlike, AreLed, stored_trees}
 use Rattle.fv_files.specs.Tables.{changed, tree_in, file_loaded, loaded_trees, AreSound, AreReached, IsStoredOn, IsStoredUnder}
 use Rattle.fv_files.proofs.Stored.{unread_stored}
+use Rattle.fv_files.proofs.Alike.{alike_itself}
 use Rattle.fv_files.proofs.Beside.{reread_leads, unread_leads}
 
 none_in : {K X : Type 0} (test : K → Bool) (es : List (K × X)) → length es ≡ 0 → lookup test es ≡ None
@@ -44,6 +47,11 @@ module _ (f : Files) (levels : ℕ) (root : Pointer) (is : (blocks : Under) → 
   -- a file's tree is the stored one
   file_is : maps.btree_map_len f.trees ≡ 0 → (blocks : Under) (n : ℕ) → loaded_trees blocks f (Some n) ≡ stored_trees blocks levels root (Some n)
   file_is none blocks n = λ i. option_map (λ r. file_loaded blocks n r (no_trees f none n i)) (file_at (is blocks i) n)
+
+  -- each tree is as the stored one
+  pub stored_alike : maps.btree_map_len f.trees ≡ 0 → pending f.inode.tree ≡ 0 → (blocks : Under) → AreAlike (loaded_trees blocks f) (stored_trees blocks levels root)
+  stored_alike none still blocks None = record { tree = is blocks; changed = unchanged f.inode.tree still }
+  stored_alike none still blocks (Some n) = subst (λ o. AlikeIn o (stored_trees blocks levels root (Some n))) (sym (file_is none blocks n)) (alike_itself (stored_trees blocks levels root (Some n)))
 
   led_there : maps.btree_map_len f.trees ≡ 0 → (blocks : Under) (a : Option ℕ) (v : ℕ) → LeadsFrom (loaded_trees blocks f) a v → LeadsFrom (stored_trees blocks levels root) a v
   led_there none blocks None v led = unread_leads blocks f.inode.tree (stored blocks greatest_word levels root) (is blocks) v led

@@ -56,3 +56,21 @@ AreStoredWell x = (a : Option ℕ) → StoredIn (x a)
 abbrev pub stored_trees : Under → ℕ → Pointer → Trees
 stored_trees blocks levels root None = Some (unread (stored blocks greatest_word levels root))
 stored_trees blocks levels root (Some n) = option_map (λ r. unread (stored blocks n r.levels r.root)) (file_at (stored blocks greatest_word levels root) n)
+
+-- ---- trees alike
+
+-- A tree stands to its blocks as another does: with the same pointers, and the same places of both differ from their blocks.
+pub record IsAlike (s r : Loaded) : Type 0 where
+  pub tree : s.tree ≡ r.tree
+  pub changed : (level place : ℕ) → s.changed level place ≡ r.changed level place
+
+-- a tree, where there is one, is as another, where there is one
+abbrev pub AlikeIn : Option Loaded → Option Loaded → Type 0
+AlikeIn None None = Unit {0}
+AlikeIn (Some s) (Some r) = IsAlike s r
+AlikeIn None (Some r) = ⊥
+AlikeIn (Some s) None = ⊥
+
+-- so is each tree of a table
+abbrev pub AreAlike : Trees → Trees → Type 0
+AreAlike x y = (a : Option ℕ) → AlikeIn (x a) (y a)

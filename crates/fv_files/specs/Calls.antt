@@ -14,6 +14,7 @@ use Rattle.fv_tree.specs.Sources.{Shown, Counts, IsUntouched, Use}
 use Rattle.fv_tree.specs.Standing.{standing, under, Fails}
 use Rattle.fv_tree.specs.Writing.{IsAlike, Writes, Remains}
 use Rattle.fv_tree.specs.Flushing.{IsSound, ReachesOnce, Stands, loaded, loaded_over}
+use Rattle.fv_tree.specs.Altering.{Alters, Leaves}
 use Rattle.fv_tree.specs.Leading.{LeadsNoMore}
 use Rattle.fv_tree.specs.Stored.{IsStoredWell}
 use Rattle.fv_tree.specs.Removal.{Removal}
@@ -26,6 +27,7 @@ use Rattle.fv_files.specs.declared.files.Files.{Files}
 use Rattle.fv_tree.specs.Beside.{Spares}
 use Rattle.fv_files.specs.Apart.{LeadsAny}
 use Rattle.fv_files.specs.Tables.{table_in, tree_in, tree_known, loaded_trees, AreStanding, IsInfoOf, IsLed, IsStored, IsTold}
+use Rattle.fv_files.specs.Altering.{AreLaid, LeavesTrees}
 use Rattle.fv_files.specs.Failing.{Looks}
 use Rattle.fv_files.specs.Pending.{pending_trees}
 
@@ -129,6 +131,8 @@ pub record Prepares (told : Type 0) (old new : Shown) (f g : Files) (info : Info
   pub stands : told → AreStanding old f → AreStanding new g
   pub stored : told → AreStanding old f → IsStored old f → IsStored new g
   pub led : told → KeepsLed old new f g
+  pub leaves : told → AreStanding old f → LeavesTrees (loaded_trees (under old) f) (loaded_trees (under new) g)
+  pub laid : told → AreStanding old f → AreLaid (under old) f → AreLaid (under new) g
   pub looks : Looks told (table_in old f) old new result
   pub found : told → IfOk result (λ there. there ≡ true)
   pub known : told → IsInfoOf (rooted new g.inode) info
@@ -142,6 +146,7 @@ pub record Prepares (told : Type 0) (old new : Shown) (f g : Files) (info : Info
 pub record IsUnread (t : Tree) (info : Info) : Type 0 where
   pub is : (blocks : Under) → standing blocks t ≡ stored blocks info.number info.levels info.root
   pub stands : (blocks : Under) (used : ℕ → Option Use) → ReachesOnce used (stored blocks info.number info.levels info.root) → IsSound used (loaded_over blocks t)
+  pub pending : pending t ≡ 0
 
 -- The tree of a file is in memory: the one that was there, or else that to which its record leads. The others stay.
 pub record Holds (m n : maps.BTreeMap ℕ Tree) (info : Info) : Type 0 where
@@ -169,6 +174,9 @@ pub record PutsKept (told : Type 0) (old new : Shown) (m n : maps.BTreeMap ℕ T
   pub leads : told → LeadsNoMore (loaded old tree) (loaded new next)
   pub keeps : told → LeadsNoMore (loaded new next) (loaded old tree)
   pub stored_well : told → IsStoredWell (loaded old tree) → IsStoredWell (loaded new next)
+  -- each place got the stamp, or is as before; after a fault nothing changed
+  pub alters : told → Alters s (loaded old tree) (loaded new next)
+  pub leaves : told → OnErr result (Leaves (loaded old tree) (loaded new next))
   pub rises : Rises tree next 6 1
   pub failed : told → OnErr result (Remains (standing (under old) tree) (standing (under new) next))
   pub untouched : IsUntouched old new

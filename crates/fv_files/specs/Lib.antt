@@ -7,3 +7,5 @@ pub mod Calls
 pub mod Flushing
 pub mod Numbering
 pub mod Sharing
+pub mod Altering
+pub mod Taking

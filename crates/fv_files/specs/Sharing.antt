@@ -40,7 +40,7 @@ owner_in (Some n) = OfFile n
 
 -- Of a volume the ids that stay charged are those whose blocks are shared: the id at a place of a tree is settled exactly where its block is
 -- shared and the place doesn't differ from it. So it is where each place that differs from its block got another stamp. A flush lays a root into
--- an inode block under the stamp that this has, and only where its record has another root. That the block had changed before, by the
--- change of the file, no clause says yet; where it hadn't, this need not hold.
+-- an inode block under the stamp that this has, and only where its record has another root; the block had changed then, by the change of the
+-- file (`AreLaid` in specs/Altering).
 pub record SettlesShared (x : Volume) (trees : Trees) (shared : ℕ → Bool) : Type 0 where
   pub each : (o : Option ℕ) (s : Loaded) → trees o ≡ Some s → (level place : ℕ) → is_settled x (placed (owner_in o) (level, place)) ≡ is_staying s shared level place

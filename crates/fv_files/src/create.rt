@@ -11,6 +11,7 @@ ghost use Rattle.fv_files.specs.Tables.{table_in, AreStanding};
 ghost use Rattle.fv_files.specs.Failing.{FilesFail};
 ghost use Rattle.fv_files.specs.Calls.{Changes, KeepsLed};
 ghost use Rattle.fv_files.specs.Pending.{pending_in};
+ghost use Rattle.fv_files.specs.Altering.{AltersPlaces};
 
 use crate::files::{Files, FilesFault};
 use fv_model::Name;
@@ -39,6 +40,7 @@ impl Files {
         requires free { B.told → IsLeastFree (rooted (B.shown blocks.old) self.old.inode) number }
         ensures made { B.told → OnOk result (AreStanding (B.shown blocks.old) self.old → table_told (table_in (B.shown blocks.new) self.new) ≡ new (table_told (table_in (B.shown blocks.old) self.old)) name.now reserve stamp) }
         ensures changes { Changes B.told (Unit {0}) (B.shown blocks.old) (B.shown blocks.new) self.old self.new (FilesFail B.told (table_in (B.shown blocks.old) self.old) (B.shown blocks.old) (B.shown blocks.new)) result }
+        ensures alters { AltersPlaces B.told (Unit {0}) (B.shown blocks.old) (B.shown blocks.new) self.old self.new stamp result }
         ensures led { B.told → KeepsLed (B.shown blocks.old) (B.shown blocks.new) self.old self.new }
         ensures pending { pending_in self.new ≤ pending_in self.old + 14 }
         ensures untouched { IsUntouched (B.shown blocks.old) (B.shown blocks.new) }

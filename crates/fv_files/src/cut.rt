@@ -12,6 +12,7 @@ ghost use Rattle.fv_files.specs.Tables.{table_in, tree_in, AreStanding, IsInfoOf
 ghost use Rattle.fv_files.specs.Failing.{FilesFail};
 ghost use Rattle.fv_files.specs.Calls.{shortened, Changes, CutsFile, CutsKept, KeepsLed, KeptFails, TakesByCut};
 ghost use Rattle.fv_files.specs.Pending.{pending_in};
+ghost use Rattle.fv_files.specs.Altering.{AltersPlaces};
 
 use crate::files::{Files, FilesFault};
 use crate::hold::prepare;
@@ -42,6 +43,7 @@ impl Files {
         requires there { B.told → IsInfoOf (rooted (B.shown blocks.old) self.old.inode) info.now }
         ensures cut { B.told → OnOk result (AreStanding (B.shown blocks.old) self.old → CutsFile (table_in (B.shown blocks.old) self.old) (table_in (B.shown blocks.new) self.new) info.now.number length stamp) }
         ensures counted { B.told → IfOk result (λ count. AreStanding (B.shown blocks.old) self.old → TakesByCut (table_in (B.shown blocks.old) self.old) info.now.number length stamp count) }
+        ensures alters { AltersPlaces B.told (Unit {0}) (B.shown blocks.old) (B.shown blocks.new) self.old self.new stamp result }
         ensures led { B.told → KeepsLed (B.shown blocks.old) (B.shown blocks.new) self.old self.new }
         ensures pending { OnErr result (pending_in self.new ≤ pending_in self.old + 14) }
         ensures pending_done { B.told → OnOk result (AreStanding (B.shown blocks.old) self.old → (now : ℕ) → IsWellTable now (table_told (table_in (B.shown blocks.old) self.old)) → pending_in self.new ≤ pending_in self.old + 14) }
@@ -71,6 +73,7 @@ fn cut_ready<B: Blocks>(
     requires kept { is_some (tree_in files.old info.now.number) ≡ true }
     ensures cut { B.told → OnOk result (AreStanding (B.shown blocks.old) files.old → CutsFile (table_in (B.shown blocks.old) files.old) (table_in (B.shown blocks.new) files.new) info.now.number length stamp) }
     ensures counted { B.told → IfOk result (λ count. AreStanding (B.shown blocks.old) files.old → TakesByCut (table_in (B.shown blocks.old) files.old) info.now.number length stamp count) }
+    ensures alters { AltersPlaces B.told (Unit {0}) (B.shown blocks.old) (B.shown blocks.new) files.old files.new stamp result }
     ensures led { B.told → KeepsLed (B.shown blocks.old) (B.shown blocks.new) files.old files.new }
     ensures pending { OnErr result (pending_in files.new ≤ pending_in files.old) }
     ensures pending_done { B.told → OnOk result (AreStanding (B.shown blocks.old) files.old → (now : ℕ) → IsWellTable now (table_told (table_in (B.shown blocks.old) files.old)) → pending_in files.new ≤ pending_in files.old + 7) }

@@ -6,9 +6,10 @@ ghost use Rattle.fv_tables.specs.Spelled.{Under, hole};
 ghost use Rattle.fv_tables.specs.Told.{standing_at};
 ghost use Rattle.fv_tree.specs.Sources.{Use};
 ghost use Rattle.fv_files.specs.Trees.{standing_in};
-ghost use Rattle.fv_files.specs.Apart.{AreLed, stored_trees};
+ghost use Rattle.fv_files.specs.Apart.{AreAlike, AreLed, stored_trees};
 ghost use Rattle.fv_files.specs.Tables.{changed, loaded_trees, tree_in, AreReached, AreSound, IsStoredOn, IsStoredUnder};
 ghost use Rattle.fv_files.specs.Pending.{pending_in};
+ghost use Rattle.fv_files.specs.Altering.{AreLaid};
 
 use fv_codec::Pointer;
 use fv_disk::BlockFault;
@@ -36,6 +37,7 @@ impl Files {
         ensures stored { (blocks : Under) → standing_in blocks (changed result) ≡ standing_at blocks 0 hole }
         ensures none { (n : ℕ) → tree_in result n ≡ None }
         ensures well { (blocks : Under) → IsStoredOn blocks result }
+        ensures laid { (blocks : Under) → AreLaid blocks result }
         ensures pending { pending_in result ≡ 0 }
     {
         Files {
@@ -52,8 +54,10 @@ impl Files {
         ensures stored { (blocks : Under) → standing_in blocks (changed result) ≡ standing_at blocks levels root }
         ensures none { (n : ℕ) → tree_in result n ≡ None }
         ensures stands { (blocks : Under) (used : ℕ → Option Use) → AreReached blocks used levels root → AreSound blocks used result }
+        ensures alike { (blocks : Under) → AreAlike (loaded_trees blocks result) (stored_trees blocks levels root) }
         ensures led { (blocks : Under) (used : ℕ → Option Use) → AreLed used (stored_trees blocks levels root) → AreLed used (loaded_trees blocks result) }
         ensures well { (blocks : Under) → IsStoredUnder blocks levels root → IsStoredOn blocks result }
+        ensures laid { (blocks : Under) → AreLaid blocks result }
         ensures pending { pending_in result ≡ 0 }
     {
         Files {

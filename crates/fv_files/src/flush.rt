@@ -1,16 +1,18 @@
 //! Placing what changed of a table: its files by number, and the inode file last.
 
-ghost use Rattle.std.specs.Prelude.{◌≡◌, ◌≤◌, ◌+◌, ◌-◌, ℕ, true, Some, is_some, IfNone, IfOk, IfSome, OnOk};
+ghost use Rattle.std.specs.Prelude.{◌≡◌, ◌≤◌, ◌+◌, ◌-◌, ℕ, true, false, Some, is_some, IfNone, IfOk, IfSome, OnOk};
 ghost use Rattle.std.specs.Ordering.{nat_cmp};
 ghost use Rattle.std.specs.BTreeMap as maps;
 ghost use Rattle.fv_tables.specs.Told.{file_at};
 ghost use Rattle.fv_tree.specs.declared.kept.Tree as kept;
+ghost use Rattle.fv_tree.specs.Sources.{WasFree};
 ghost use Rattle.fv_tree.specs.Standing.{under};
 ghost use Rattle.fv_tree.specs.Stored.{KeepsPlaces};
 ghost use Rattle.fv_inode.specs.Files.{rooted};
 ghost use Rattle.fv_files.specs.Tables.{tree_in, AreStanding, IsLed, IsStored, IsStoredUnder};
 ghost use Rattle.fv_files.specs.Calls.{KeepsStored};
-ghost use Rattle.fv_files.specs.Flushing.{FlushesKept, FlushesTable, HasRoot, LaysTrees};
+ghost use Rattle.fv_files.specs.Flushing.{FlushesKept, FlushesTable, HasRoot, KeptAnew, LaysTrees};
+ghost use Rattle.fv_files.specs.Altering.{FlushesPlaces};
 
 use crate::files::{Files, FilesFault};
 use crate::remove::forget;
@@ -33,6 +35,7 @@ impl Files {
     /// As `place` of the `Blocks` answers them, and as `InodeFile::set_root`.
     pub fn flush<B: Blocks>(&mut self, blocks: &mut B) -> Result<Pointer, FilesFault>
         ensures flushes { FlushesTable B.told (B.shown blocks.old) (B.shown blocks.new) self.old self.new result }
+        ensures places { FlushesPlaces B.told (WasFree B.shown B.goes blocks.old blocks.new) (B.shown blocks.old) (B.shown blocks.new) self.old self.new }
         ensures stored_well { B.told → B.known → KeepsStored (B.shown blocks.old) (B.shown blocks.new) self.old self.new }
         ensures stored_under { B.told → B.known → IfOk result (λ root. AreStanding (B.shown blocks.old) self.old → IsLed (B.shown blocks.old) self.old → IsStored (B.shown blocks.old) self.old → IsStoredUnder (under (B.shown blocks.new)) self.new.inode.tree.levels root) }
         ensures calls { B.goes blocks.old blocks.new }
@@ -45,6 +48,7 @@ impl Files {
 /// Places the trees of all files that are in memory.
 fn flush_trees<B: Blocks>(files: &mut Files, blocks: &mut B) -> Result<(), FilesFault>
     ensures lays { LaysTrees B.told (B.shown blocks.old) (B.shown blocks.new) files.old files.new result }
+    ensures places { FlushesPlaces B.told (WasFree B.shown B.goes blocks.old blocks.new) (B.shown blocks.old) (B.shown blocks.new) files.old files.new }
     ensures stored_well { B.told → B.known → KeepsStored (B.shown blocks.old) (B.shown blocks.new) files.old files.new }
     ensures none { OnOk result (maps.btree_map_len files.new.trees ≡ 0) }
     ensures calls { B.goes blocks.old blocks.new }
@@ -58,6 +62,7 @@ fn flush_trees<B: Blocks>(files: &mut Files, blocks: &mut B) -> Result<(), Files
 /// Places the tree in memory with the least number.
 fn flush_first<B: Blocks>(files: &mut Files, blocks: &mut B) -> Result<(), FilesFault>
     ensures lays { LaysTrees B.told (B.shown blocks.old) (B.shown blocks.new) files.old files.new result }
+    ensures places { FlushesPlaces B.told (WasFree B.shown B.goes blocks.old blocks.new) (B.shown blocks.old) (B.shown blocks.new) files.old files.new }
     ensures stored_well { B.told → B.known → KeepsStored (B.shown blocks.old) (B.shown blocks.new) files.old files.new }
     ensures fewer { OnOk result (maps.btree_map_len files.new.trees ≡ maps.btree_map_len files.old.trees - 1) }
     ensures calls { B.goes blocks.old blocks.new }
@@ -84,6 +89,7 @@ fn first_number(trees: &BTreeMap<u32, Tree>) -> Option<u32>
 fn flush_file<B: Blocks>(files: &mut Files, blocks: &mut B, number: u32) -> Result<(), FilesFault>
     requires kept { is_some (tree_in files.old number) ≡ true }
     ensures lays { LaysTrees B.told (B.shown blocks.old) (B.shown blocks.new) files.old files.new result }
+    ensures places { FlushesPlaces B.told (WasFree B.shown B.goes blocks.old blocks.new) (B.shown blocks.old) (B.shown blocks.new) files.old files.new }
     ensures stored_well { B.told → B.known → KeepsStored (B.shown blocks.old) (B.shown blocks.new) files.old files.new }
     ensures fewer { OnOk result (maps.btree_map_len files.new.trees + 1 ≡ maps.btree_map_len files.old.trees) }
     ensures calls { B.goes blocks.old blocks.new }
@@ -108,6 +114,7 @@ fn lay_file<B: Blocks>(
     requires kept { is_some (tree_in files.old number) ≡ true }
     requires there { B.told → HasRoot (file_at (rooted (B.shown blocks.old) files.old.inode) number) info.now.levels info.now.root }
     ensures lays { LaysTrees B.told (B.shown blocks.old) (B.shown blocks.new) files.old files.new result }
+    ensures places { FlushesPlaces B.told (WasFree B.shown B.goes blocks.old blocks.new) (B.shown blocks.old) (B.shown blocks.new) files.old files.new }
     ensures stored_well { B.told → B.known → KeepsStored (B.shown blocks.old) (B.shown blocks.new) files.old files.new }
     ensures fewer { OnOk result (maps.btree_map_len files.new.trees + 1 ≡ maps.btree_map_len files.old.trees) }
     ensures calls { B.goes blocks.old blocks.new }
@@ -125,7 +132,8 @@ fn lay_file<B: Blocks>(
 
 /// Whether the record of a file has this root, of a tree of so many levels.
 fn has_root(info: &Info, levels: u8, root: &Pointer) -> bool
-    ensures { result ≡ true → (info.now.levels ≡ levels) × (info.now.root ≡ root.now) }
+    ensures same { result ≡ true → (info.now.levels ≡ levels) × (info.now.root ≡ root.now) }
+    ensures other { result ≡ false → info.now.levels ≡ levels → info.now.root ≡ root.now → ⊥ }
 {
     info.levels == levels && info.root == *root
 }
@@ -149,6 +157,7 @@ fn flush_kept<B: Blocks>(
 ) -> Result<Pointer, FilesFault>
     requires kept { is_some (maps.get nat_cmp trees.old number) ≡ true }
     ensures flushes { FlushesKept B.told (B.shown blocks.old) (B.shown blocks.new) trees.old trees.new number result }
+    ensures anew { B.told → KeptAnew (WasFree B.shown B.goes blocks.old blocks.new) (B.shown blocks.old) (B.shown blocks.new) trees.old trees.new number }
     ensures places { B.known → KeepsPlaces (B.shown blocks.old) (B.shown blocks.new) }
     ensures len { maps.btree_map_len trees.new ≡ maps.btree_map_len trees.old }
     ensures calls { B.goes blocks.old blocks.new }

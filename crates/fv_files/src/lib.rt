@@ -17,6 +17,7 @@ mod read;
 mod remove;
 mod staying;
 mod taken;
+mod taking;
 mod write;
 
 pub use files::{Files, FilesFault};

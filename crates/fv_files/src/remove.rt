@@ -13,6 +13,7 @@ ghost use Rattle.fv_files.specs.Tables.{table_in, tree_in, AreStanding, IsInfoOf
 ghost use Rattle.fv_files.specs.Failing.{FilesFail};
 ghost use Rattle.fv_files.specs.Calls.{Changes, KeepsLed, KeptFails, RemovesFile, TakesByRemoval};
 ghost use Rattle.fv_files.specs.Pending.{pending_in, pending_trees, tree_cost};
+ghost use Rattle.fv_files.specs.Altering.{AltersPlaces};
 
 use crate::cut::cut_kept;
 use crate::files::{Files, FilesFault};
@@ -43,6 +44,7 @@ impl Files {
         ensures removed { B.told → OnOk result (AreStanding (B.shown blocks.old) self.old → RemovesFile (table_in (B.shown blocks.old) self.old) (table_in (B.shown blocks.new) self.new) info.now.number stamp) }
         ensures counted { B.told → IfOk result (λ count. AreStanding (B.shown blocks.old) self.old → TakesByRemoval (table_in (B.shown blocks.old) self.old) info.now.number stamp count) }
         ensures led { B.told → (now : ℕ) → IsWellTable now (table_told (table_in (B.shown blocks.old) self.old)) → KeepsLed (B.shown blocks.old) (B.shown blocks.new) self.old self.new }
+        ensures alters { AltersPlaces B.told (HoldsCells (rooted (B.shown blocks.old) self.old.inode)) (B.shown blocks.old) (B.shown blocks.new) self.old self.new stamp result }
         ensures pending { pending_in self.new ≤ pending_in self.old + 14 }
         ensures changes { Changes B.told (HoldsCells (rooted (B.shown blocks.old) self.old.inode)) (B.shown blocks.old) (B.shown blocks.new) self.old self.new (FilesFail B.told (table_in (B.shown blocks.old) self.old) (B.shown blocks.old) (B.shown blocks.new)) result }
         ensures calls { B.goes blocks.old blocks.new }
@@ -69,6 +71,7 @@ fn remove_ready<B: Blocks>(
     ensures removed { B.told → OnOk result (AreStanding (B.shown blocks.old) files.old → RemovesFile (table_in (B.shown blocks.old) files.old) (table_in (B.shown blocks.new) files.new) info.now.number stamp) }
     ensures counted { B.told → IfOk result (λ count. AreStanding (B.shown blocks.old) files.old → TakesByRemoval (table_in (B.shown blocks.old) files.old) info.now.number stamp count) }
     ensures led { B.told → (now : ℕ) → IsWellTable now (table_told (table_in (B.shown blocks.old) files.old)) → KeepsLed (B.shown blocks.old) (B.shown blocks.new) files.old files.new }
+    ensures alters { AltersPlaces B.told (HoldsCells (rooted (B.shown blocks.old) files.old.inode)) (B.shown blocks.old) (B.shown blocks.new) files.old files.new stamp result }
     ensures pending { pending_in files.new ≤ pending_in files.old + 4 }
     ensures changes { Changes B.told (HoldsCells (rooted (B.shown blocks.old) files.old.inode)) (B.shown blocks.old) (B.shown blocks.new) files.old files.new (KeptFails B.told (B.shown blocks.old) (B.shown blocks.new) files.old info.now.number) result }
     ensures calls { B.goes blocks.old blocks.new }

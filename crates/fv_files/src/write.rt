@@ -10,6 +10,7 @@ ghost use Rattle.fv_files.specs.Tables.{table_in, tree_in, IsInfoOf};
 ghost use Rattle.fv_files.specs.Failing.{FilesFail};
 ghost use Rattle.fv_files.specs.Calls.{longer, Changes, KeepsLed, KeptFails, PutsKept, WritesCell};
 ghost use Rattle.fv_files.specs.Pending.{pending_in};
+ghost use Rattle.fv_files.specs.Altering.{AltersPlaces};
 
 use crate::files::{Files, FilesFault};
 use crate::hold::prepare;
@@ -40,6 +41,7 @@ impl Files {
         requires there { B.told → IsInfoOf (rooted (B.shown blocks.old) self.old.inode) info.now }
         ensures written { B.told → OnOk result (WritesCell (table_in (B.shown blocks.old) self.old) (table_in (B.shown blocks.new) self.new) info.now.number index stamp block.now) }
         ensures changes { Changes B.told (Unit {0}) (B.shown blocks.old) (B.shown blocks.new) self.old self.new (FilesFail B.told (table_in (B.shown blocks.old) self.old) (B.shown blocks.old) (B.shown blocks.new)) result }
+        ensures alters { AltersPlaces B.told (Unit {0}) (B.shown blocks.old) (B.shown blocks.new) self.old self.new stamp result }
         ensures led { B.told → KeepsLed (B.shown blocks.old) (B.shown blocks.new) self.old self.new }
         ensures pending { pending_in self.new ≤ pending_in self.old + 14 }
         ensures untouched { IsUntouched (B.shown blocks.old) (B.shown blocks.new) }
@@ -69,6 +71,7 @@ fn write_ready<B: Blocks>(
     requires kept { is_some (tree_in files.old info.now.number) ≡ true }
     ensures written { B.told → OnOk result (WritesCell (table_in (B.shown blocks.old) files.old) (table_in (B.shown blocks.new) files.new) info.now.number index stamp block.now) }
     ensures changes { Changes B.told (Unit {0}) (B.shown blocks.old) (B.shown blocks.new) files.old files.new (KeptFails B.told (B.shown blocks.old) (B.shown blocks.new) files.old info.now.number) result }
+    ensures alters { AltersPlaces B.told (Unit {0}) (B.shown blocks.old) (B.shown blocks.new) files.old files.new stamp result }
     ensures led { B.told → KeepsLed (B.shown blocks.old) (B.shown blocks.new) files.old files.new }
     ensures pending { pending_in files.new ≤ pending_in files.old + 10 }
     ensures untouched { IsUntouched (B.shown blocks.old) (B.shown blocks.new) }

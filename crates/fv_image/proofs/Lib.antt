@@ -70,6 +70,7 @@ pub mod Committed
 pub mod Different
 pub mod CountedCharge
 pub mod TurnedViews
+pub mod SnapTables
 pub mod SnapCommands
 pub mod MapSteps
 pub mod TurnedSound

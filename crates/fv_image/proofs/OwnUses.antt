@@ -36,6 +36,7 @@ use Rattle.fv_image.specs.TableRules.{all_items, has_same_id, has_one_to_one}
 use Rattle.fv_image.specs.VolumeRules.{has_distinct_snapshots}
 use Rattle.fv_image.specs.Soundness.{AreTables, AreMaps}
 use Rattle.fv_image.specs.Staying.{items_of, own_items}
+use Rattle.fv_image.proofs.SnapTables as tables
 use Rattle.fv_image.proofs.SoundFacts.{of_slot}
 use Rattle.fv_image.proofs.SameSeen.{of_volume}
 use Rattle.fv_image.proofs.Counts.{within_two, none_between}
@@ -70,23 +71,11 @@ bit_is_listed w s h v within (r ∷ rs) all there =
 
 -- no snapshot of a list has a name that stands before it
 no_other : (w : View) (s : ℕ) (name : List ℕ) (ps : List Snap) → list_any (is_same_name name) (map (λ p. p.name) ps) ≡ false → find name_cmp name (map (snap_told w s) ps) ≡ None
-no_other w s name [] none = refl
-no_other w s name (p ∷ ps) none = so (no_other w s name ps) (is_same_name name p.name) refl none
-  where
-    so : (list_any (is_same_name name) (map (λ p. p.name) ps) ≡ false → find name_cmp name (map (snap_told w s) ps) ≡ None) → (here : Bool) → is_same_name name p.name ≡ here → (here || list_any (is_same_name name) (map (λ p. p.name) ps)) ≡ false
-        → cond (is_same_name name p.name) (Some (table_at w s p.table)) (find name_cmp name (map (snap_told w s) ps)) ≡ None
-    so rest true e none = absurd cc
-    so rest false e none = rw e (rest none)
+no_other w s = tables.no_other (λ p. table_at w s p.table)
 
 -- as many snapshots are told as there are, where no two have one name
 pub snap_count : (w : View) (s : ℕ) (ps : List Snap) → are_distinct (map (λ p. p.name) ps) ≡ true → fin.len (fin.from_entries {R = name_cmp} (map (snap_told w s) ps)) ≡ length ps
-snap_count w s [] distinct = fin.len-empty name_cmp Table
-snap_count w s (p ∷ ps) distinct =
-    let parts = and_parts (not (list_any (is_same_name p.name) (map (λ p. p.name) ps))) _ distinct in
-    let rest = snap_count w s ps parts.1 in
-    let m = fin.from_entries {R = name_cmp} (map (snap_told w s) ps) in
-    let none : fin.get m p.name ≡ None = fin.get-from_entries name_total (map (snap_told w s) ps) p.name ∙ no_other w s p.name ps (not-true _ parts.0) in
-    fin.len-insert name_total m p.name (table_at w s p.table) ∙ ap (λ (o : Option Table). cond (is_some o) (fin.len m) (fin.len m + 1)) none ∙ omega (arith, rest)
+snap_count w s = tables.count_told (λ p. table_at w s p.table)
 
 -- a value that is found is one of a map's
 value_listed : (test : Table → Bool) (es : List (List ℕ × Table)) (name : List ℕ) (t : Table) → find name_cmp name es ≡ Some t → test t ≡ true → list_any test (map (λ (e : List ℕ × Table). e.1) es) ≡ true

@@ -189,7 +189,7 @@ module _ (y : Layout) (heads : HasHeads y) (empty : plain.is_all_plain y.view �
     pub built_plain : is_built y.view ≡ true
     unfolding is_built has_no_reserves plain.is_all_plain plain.is_plain
     built_plain = and_from (list_all (λ s. option_map_or has_form (y.view.head s) true) slots) (has_no_reserves (seen y.view))
-        (from_each y.view.head (λ s h. has_form h) (λ s h inside e. (and_parts (h.active.root.stamp == 0) _ (of_each y.view.head (λ s h. plain.is_plain h) s h empty inside e)).1))
+        (from_each y.view.head (λ s h. has_form h) (λ s h inside e. (and_parts (plain.has_none h.snapshots) _ (and_parts (h.active.root.stamp == 0) _ (of_each y.view.head (λ s h. plain.is_plain h) s h empty inside e)).1).1))
         (all_plain y.view heads_by (λ s x. list_all (λ (r : Root). list_all (λ (f : ℕ × InodeRecord). f.1.reserve == 0) r.files) x.roots) (λ s h inside e. refl))
 
 -- ---- the machine

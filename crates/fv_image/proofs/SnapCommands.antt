@@ -1,88 +1,35 @@
 -- A snapshot that is made, removed or restored in a view is the machine's command on what the view tells.
-use Rattle.std.proofs.Common.{◌≡◌, ◌≢◌, ℕ, ◌<◌, Bool, true, false, cond, not, List, [], ◌∷◌, map, refl, sym, ap, ◌∙◌}
-use Rattle.std.specs.Prelude.{Option, Some, None, nat_lt, if◌then◌else◌}
+use Rattle.std.proofs.Common.{◌≡◌, ◌≢◌, ℕ, ◌<◌, false, List, map, refl, sym, ap, ◌∙◌}
+use Rattle.std.specs.Prelude.{Option, Some, None}
 use Rattle.std.specs.List.{list_any}
 use Rattle.std.specs.Option.{option_map_or}
 use Rattle.std.specs.Ordering.{eq_by_cmp}
 use Rattle.std.specs.FinMap as fin
-use Rattle.std.proofs.lemmas.Bool.{both_ways, or_parts}
 use Rattle.fv_model.specs.declared.commands.Command.TheVariants.{SnapCreate, SnapDelete, SnapRestore}
 use Rattle.fv_model.specs.Spelling.{name_cmp, is_same_name}
 use Rattle.fv_model.specs.Tables.{Table, empty_table}
 use Rattle.fv_model.specs.Volumes.{Volume}
 use Rattle.fv_model.specs.Machines.{Machine}
 use Rattle.fv_model.specs.Effects.{Change, Stays, Becomes, changed, at_snapshot, effect, change_of}
-use Rattle.fv_laws.proofs.Changes.{same_name}
-use Rattle.fv_laws.proofs.Orders.{name_total, name_ties}
+use Rattle.fv_laws.proofs.Orders.{name_total}
 use Rattle.fv_image.specs.Views.{Rooted, Snap, Head, View}
 use Rattle.fv_image.specs.Volumes.{table_at, active_at, snap_told, volume_with, told_with, told}
 use Rattle.fv_image.specs.Turned.{turned, Turns, KeepsBases, added, without}
+use Rattle.fv_image.proofs.SnapTables as tables
 use Rattle.fv_image.proofs.TurnedViews.{turned_table, turned_with, volume_there}
 
 -- ---- what a list of snapshots tells
 
 module _ (w : View) (s : ℕ) where
-  -- two tests that don't pass together come in either order
-  either : (p q : Bool) (b c d : Option Table) → (p ≡ true → q ≡ true → ⊥) → cond p b (cond q c d) ≡ cond q c (cond p b d)
-  either true true b c d apart = absurd (apart refl refl)
-  either true false b c d apart = refl
-  either false true b c d apart = refl
-  either false false b c d apart = refl
-
-  -- two names that differ aren't one name
-  apart : (p q n : List ℕ) → is_same_name p q ≡ false → eq_by_cmp name_cmp n q ≡ true → eq_by_cmp name_cmp n p ≡ true → ⊥
-  apart p q n differ first second = both_ways (is_same_name p q) differ (ap (λ (m : List ℕ). is_same_name m q) (sym (same_name n p second)) ∙ first)
-
-  find_added : (p : Snap) (ps : List Snap) → list_any (is_same_name p.name) (map (λ p. p.name) ps) ≡ false → (n : List ℕ)
-      → fin.find name_cmp n (map (snap_told w s) (added p ps)) ≡ cond (eq_by_cmp name_cmp n p.name) (Some (table_at w s p.table)) (fin.find name_cmp n (map (snap_told w s) ps))
-  unfolding added
-  find_added p [] none n = refl
-  find_added p (q ∷ qs) none n = so (nat_lt p.slot q.slot) (or_parts (is_same_name p.name q.name) _ none) (λ f. find_added p qs f n)
-    where
-      so : (first : Bool) → (is_same_name p.name q.name ≡ false) × (list_any (is_same_name p.name) (map (λ p. p.name) qs) ≡ false)
-          → (list_any (is_same_name p.name) (map (λ p. p.name) qs) ≡ false → fin.find name_cmp n (map (snap_told w s) (added p qs)) ≡ cond (eq_by_cmp name_cmp n p.name) (Some (table_at w s p.table)) (fin.find name_cmp n (map (snap_told w s) qs)))
-          → fin.find name_cmp n (map (snap_told w s) (if first then p ∷ (q ∷ qs) else q ∷ added p qs)) ≡ cond (eq_by_cmp name_cmp n p.name) (Some (table_at w s p.table)) (fin.find name_cmp n (map (snap_told w s) (q ∷ qs)))
-      so true parts rest = refl
-      so false parts rest = ap (λ (o : Option Table). cond (eq_by_cmp name_cmp n q.name) (Some (table_at w s q.table)) o) (rest parts.1)
-          ∙ either (eq_by_cmp name_cmp n q.name) (eq_by_cmp name_cmp n p.name) (Some (table_at w s q.table)) (Some (table_at w s p.table)) (fin.find name_cmp n (map (snap_told w s) qs)) (apart p.name q.name n parts.0)
-
   -- One more is told under its name,
   pub told_added : (p : Snap) (ps : List Snap) → list_any (is_same_name p.name) (map (λ p. p.name) ps) ≡ false
       → fin.from_entries {R = name_cmp} (map (snap_told w s) (added p ps)) ≡ fin.insert (fin.from_entries {R = name_cmp} (map (snap_told w s) ps)) p.name (table_at w s p.table)
-  told_added p ps none = fin.same_map name_total name_ties _ _ (λ n.
-      fin.get-from_entries name_total (map (snap_told w s) (added p ps)) n ∙ find_added p ps none n
-      ∙ sym (fin.get-insert name_total (fin.from_entries {R = name_cmp} (map (snap_told w s) ps)) p.name (table_at w s p.table) n
-      ∙ ap (λ (o : Option Table). cond (eq_by_cmp name_cmp n p.name) (Some (table_at w s p.table)) o) (fin.get-from_entries name_total (map (snap_told w s) ps) n)))
-
-  find_without : (name : List ℕ) (ps : List Snap) (n : List ℕ)
-      → fin.find name_cmp n (map (snap_told w s) (without name ps)) ≡ cond (eq_by_cmp name_cmp n name) None (fin.find name_cmp n (map (snap_told w s) ps))
-  find_without name [] n = never (eq_by_cmp name_cmp n name)
-    where
-      never : (b : Bool) → ◌≡◌ {A = Option Table} None (cond b None None)
-      never true = refl
-      never false = refl
-  find_without name (p ∷ ps) n = so (is_same_name p.name name) refl (find_without name ps n)
-    where
-      gone : (b c : Bool) (o : Option Table) → (c ≡ true → b ≡ true) → cond b None o ≡ cond b None (cond c (Some (table_at w s p.table)) o)
-      gone true c o both = refl
-      gone false true o both = absurd (both_ways false refl (both refl))
-      gone false false o both = refl
-
-      so : (same : Bool) → is_same_name p.name name ≡ same → fin.find name_cmp n (map (snap_told w s) (without name ps)) ≡ cond (eq_by_cmp name_cmp n name) None (fin.find name_cmp n (map (snap_told w s) ps))
-          → fin.find name_cmp n (map (snap_told w s) (cond (not same) (p ∷ without name ps) (without name ps))) ≡ cond (eq_by_cmp name_cmp n name) None (fin.find name_cmp n (map (snap_told w s) (p ∷ ps)))
-      so true is rest = rest ∙ gone (eq_by_cmp name_cmp n name) (eq_by_cmp name_cmp n p.name) (fin.find name_cmp n (map (snap_told w s) ps))
-          (λ here. ap (λ (m : List ℕ). eq_by_cmp name_cmp m name) (same_name n p.name here) ∙ is)
-      so false is rest = ap (λ (o : Option Table). cond (eq_by_cmp name_cmp n p.name) (Some (table_at w s p.table)) o) rest
-          ∙ either (eq_by_cmp name_cmp n p.name) (eq_by_cmp name_cmp n name) (Some (table_at w s p.table)) None (fin.find name_cmp n (map (snap_told w s) ps))
-          (λ first second. apart p.name name n is second first)
+  told_added = tables.told_added (λ p. table_at w s p.table)
 
   -- and without one its name is gone.
   pub told_without : (name : List ℕ) (ps : List Snap)
       → fin.from_entries {R = name_cmp} (map (snap_told w s) (without name ps)) ≡ fin.remove (fin.from_entries {R = name_cmp} (map (snap_told w s) ps)) name
-  told_without name ps = fin.same_map name_total name_ties _ _ (λ n.
-      fin.get-from_entries name_total (map (snap_told w s) (without name ps)) n ∙ find_without name ps n
-      ∙ sym (fin.get-remove name_total (fin.from_entries {R = name_cmp} (map (snap_told w s) ps)) name n
-      ∙ ap (λ (o : Option Table). cond (eq_by_cmp name_cmp n name) None o) (fin.get-from_entries name_total (map (snap_told w s) ps) n)))
+  told_without = tables.told_without (λ p. table_at w s p.table)
 
 -- ---- the commands, with active tables that may stand in memory
 

@@ -7,16 +7,15 @@ use Rattle.fv_codec.specs.declared.inode.InodeRecord.{InodeRecord}
 use Rattle.fv_model.specs.Machines.{Machine}
 use Rattle.fv_image.specs.NewerRoot.{Taken, root_of}
 use Rattle.fv_image.specs.Views.{Head, View, slots}
-use Rattle.fv_image.specs.Told.{has_none}
 use Rattle.fv_image.specs.Held.{Layout, layout_at}
 use Rattle.fv_image.specs.Volumes.{told}
 use Rattle.fv_image.specs.Seen.{Seen, seen}
 use Rattle.fv_image.specs.ReachRules.{all_roots}
 use Rattle.fv_image.specs.Soundness.{IsSound, is_sound}
 
--- The forms of volumes by what a label says of them: no snapshot, no base and no unknown place.
+-- The forms of volumes by what a label says of them: any snapshots, no base and no unknown place.
 abbrev pub has_form : Head → Bool
-has_form h = has_none h.snapshots && (is_none h.base && h.known)
+has_form h = is_none h.base && h.known
 
 -- no file has a reserve
 unfoldable pub has_no_reserves : Seen → Bool

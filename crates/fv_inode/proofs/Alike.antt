@@ -14,14 +14,16 @@ use Rattle.fv_tree.specs.Writing.{IsAlike, IsWritten}
 use Rattle.fv_tree.specs.Erasing.{HoldsCells, Erases}
 use Rattle.fv_tree.specs.Releasing.{IsDropped, Releases}
 use Rattle.fv_tree.specs.Flushing.{loaded}
+use Rattle.fv_tree.specs.Altering.{Leaves}
 use Rattle.fv_tree.specs.Leading.{LeadsNoMore}
+use Rattle.fv_tree.proofs.Altered.{leaves_alters, only_leaves}
 use Rattle.fv_tree.proofs.Causes.{counts_then}
 use Rattle.fv_tree.proofs.Counts.{alike_count}
 use Rattle.fv_tree.proofs.Erased.{hole_of}
 use Rattle.fv_tree.proofs.Held.{at_root}
 use Rattle.fv_tree.proofs.Levels.{fan_pos}
 use Rattle.fv_tree.proofs.Seen.{remains}
-use Rattle.fv_inode.specs.Failing.{Alters}
+use Rattle.fv_inode.specs.Failing.{OnlyLoads}
 use Rattle.fv_inode.specs.Changing.{Rewrites, HasNeighbor, Takes, TakesFile}
 use Rattle.fv_inode.proofs.Indexed.{alike_indexes}
 use Rattle.fv_inode.proofs.Looked.{earlier, loaded_as, released_on}
@@ -110,9 +112,9 @@ drops_as : (old : Shown) (t u w : Tree) (v : ℕ) → LeadsNoMore (loaded old t)
 drops_as old t u w v leads drops = record { level = drops.level; place = drops.place; led = leads drops.level drops.place v drops.led; goes = drops.goes }
 
 -- a removal after a call that only loaded
-pub takes_then : {S : Type 0} (told before calls : Type 0) (old mid new : Shown) (t u w : Tree) (n s count : ℕ) (x : S) → Alters told old mid t u (Ok x) → (told → IsAlike (standing (under old) t) (standing (under mid) u))
+pub takes_then : {S : Type 0} (told before calls : Type 0) (old mid new : Shown) (t u w : Tree) (n s count : ℕ) (x : S) → OnlyLoads told old mid t u (Ok x) → (told → IsAlike (standing (under old) t) (standing (under mid) u)) → (told → Leaves (loaded old t) (loaded mid u))
     → calls → TakesFile told before mid new u w n s (Ok count) → TakesFile told calls old new t w n s (Ok count)
-takes_then told before calls old mid new t u w n s count x first alike called second = record {
+takes_then told before calls old mid new t u w n s count x first alike leaves called second = record {
   removed = λ is sound holds. takes_after (standing (under old) t) (standing (under mid) u) (alike is) (standing (under new) w) n s
       (second.removed is (first.stands is sound) (holds_after (standing (under old) t) (standing (under mid) u) (alike is) holds));
   count = λ is sound. sym (alike_count (standing (under old) t) (standing (under mid) u) (alike is)) ∙ second.count is (first.stands is sound);
@@ -126,6 +128,8 @@ takes_then told before calls old mid new t u w n s count x first alike called se
   leads = λ is sound level place v led. first.leads is level place v (second.leads is (first.stands is sound) level place v led);
   stored_well = λ is sound was. second.stored_well is (first.stands is sound) (first.stored_well is was);
   lets_go = λ is sound level place v led. second.lets_go is (first.stands is sound) level place v (first.keeps is level place v led);
+  alters = λ is sound. leaves_alters s (loaded old t) (loaded mid u) (loaded new w) (leaves is) (second.alters is (first.stands is sound));
+  leaves = λ is. tt;
   failed = λ is. tt;
   owner = second.owner ∙ first.owner;
   stands = λ is sound. second.stands is (first.stands is sound);
@@ -136,7 +140,7 @@ takes_then told before calls old mid new t u w n s count x first alike called se
 }
 
 -- a call that failed before it
-pub takes_failed : {S : Type 0} (told calls : Type 0) (old new : Shown) (t u : Tree) (n s : ℕ) (e : BlockFault) → Alters {T = S} told old new t u (Err e) → calls → TakesFile told calls old new t u n s (Err e)
+pub takes_failed : {S : Type 0} (told calls : Type 0) (old new : Shown) (t u : Tree) (n s : ℕ) (e : BlockFault) → OnlyLoads {T = S} told old new t u (Err e) → calls → TakesFile told calls old new t u n s (Err e)
 takes_failed told calls old new t u n s e first called = record {
   removed = λ is. tt;
   count = λ is. tt;
@@ -146,6 +150,8 @@ takes_failed told calls old new t u n s e first called = record {
   leads = λ is sound. first.leads is;
   stored_well = λ is sound. first.stored_well is;
   lets_go = λ is sound level place v led. inl (first.keeps is level place v led);
+  alters = λ is sound. only_leaves s (loaded old t) (loaded new u) (first.leaves is);
+  leaves = first.leaves;
   failed = first.failed;
   owner = first.owner;
   stands = first.stands;
@@ -156,7 +162,7 @@ takes_failed told calls old new t u n s e first called = record {
 }
 
 -- over content that isn't told, no file had the number
-pub takes_none : {S : Type 0} (told calls : Type 0) (old new : Shown) (t u : Tree) (n s : ℕ) (x : S) → Alters told old new t u (Ok x) → (told → ⊥) → calls → TakesFile told calls old new t u n s (Ok 0)
+pub takes_none : {S : Type 0} (told calls : Type 0) (old new : Shown) (t u : Tree) (n s : ℕ) (x : S) → OnlyLoads told old new t u (Ok x) → (told → ⊥) → calls → TakesFile told calls old new t u n s (Ok 0)
 takes_none told calls old new t u n s x first silent called = record {
   removed = λ is. absurd (silent is);
   count = λ is. absurd (silent is);
@@ -166,6 +172,8 @@ takes_none told calls old new t u n s x first silent called = record {
   leads = λ is sound. first.leads is;
   stored_well = λ is sound. first.stored_well is;
   lets_go = λ is sound level place v led. inl (first.keeps is level place v led);
+  alters = λ is sound. absurd (silent is);
+  leaves = λ is. tt;
   failed = λ is. tt;
   owner = first.owner;
   stands = first.stands;

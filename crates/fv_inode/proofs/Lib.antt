@@ -15,3 +15,4 @@ pub mod Gone
 pub mod Cuts
 pub mod Readied
 pub mod Alike
+pub mod Lost

@@ -1,6 +1,6 @@
 -- Why calls of an inode file fail, over several calls of its source.
 use Rattle.std.proofs.Common.{refl, ◌≡◌, ℕ, inl, inr, subst, sym, ap, ◌∙◌, List, Result, Ok, Err, OnOk, OnErr, ⊎_elim, arith}
-use Rattle.std.specs.Prelude.{Option, Some, IfErr}
+use Rattle.std.specs.Prelude.{Some, IfErr}
 use Rattle.std.specs.Ordering.{nat_cmp}
 use Rattle.std.specs.FinMap as fin
 use Rattle.std.proofs.lemmas.Result.{IfErr-weaker}
@@ -8,9 +8,9 @@ use Rattle.fv_disk.specs.declared.fault.BlockFault.{BlockFault}
 use Rattle.fv_disk.specs.declared.fault.BlockFault.TheVariants.{Damaged}
 use Rattle.fv_codec.specs.declared.shape.Shape.{Shape}
 use Rattle.fv_codec.specs.Blocks.{inodes_at}
-use Rattle.fv_tables.specs.Spelled.{Under, Rooted, block_at}
+use Rattle.fv_tables.specs.Spelled.{Rooted, block_at}
 use Rattle.fv_tree.specs.declared.kept.Tree.{Tree}
-use Rattle.fv_tree.specs.Sources.{Shown, Counts, IsCalm, IsUntouched, Use}
+use Rattle.fv_tree.specs.Sources.{Shown, Counts, IsCalm, IsUntouched}
 use Rattle.fv_tree.specs.Standing.{standing, under, Fails}
 use Rattle.fv_tree.specs.Reading.{cell_read_at}
 use Rattle.fv_tree.specs.Writing.{Remains}
@@ -19,9 +19,11 @@ use Rattle.fv_tree.specs.Readying.{KeepsReady}
 use Rattle.fv_tree.specs.Stored.{IsStoredWell}
 use Rattle.fv_tree.specs.Leading.{LeadsNoMore}
 use Rattle.fv_tree.specs.Releasing.{IsDropped, Releases}
+use Rattle.fv_tree.specs.Altering.{AltersHeld, Leaves}
+use Rattle.fv_tree.proofs.Altered.{leaves_itself}
 use Rattle.fv_tree.proofs.Causes.{at_err, calm_itself, calm_then, counts_then, fails_later, untouched_itself, untouched_then}
 use Rattle.fv_tree.proofs.Leading.{leads_then}
-use Rattle.fv_inode.specs.Failing.{Alters, InodeFails, Looks}
+use Rattle.fv_inode.specs.Failing.{OnlyLoads, InodeFails, Looks}
 
 abbrev pub Held : Type 0
 Held = fin.FinMap nat_cmp (List ℕ)
@@ -115,10 +117,11 @@ looks_judged told t old new r cell at block untouched calm lies place damage = r
 -- ---- changes of a tree that only load
 
 -- a call of the tree
-pub alters_at : {T : Type 0} (told : Type 0) (t u : Tree) (old new : Shown) (r : Result T BlockFault) → (told → OnErr r (Remains (standing (under old) t) (standing (under new) u))) → u.owner ≡ t.owner → (told → Stands old t → Stands new u)
-    → (told → LeadsNoMore (loaded old t) (loaded new u)) → (told → LeadsNoMore (loaded new u) (loaded old t)) → (told → IsStoredWell (loaded old t) → IsStoredWell (loaded new u)) → KeepsReady t u → IsUntouched old new → Counts old new r → IfErr r (Fails told (standing (under old) t) old new) → Alters told old new t u r
-alters_at told t u old new r failed owner stands leads keeps stored_well keeps_ready untouched counts cause = record {
+pub loads_at : {T : Type 0} (told : Type 0) (t u : Tree) (old new : Shown) (r : Result T BlockFault) → (told → OnErr r (Remains (standing (under old) t) (standing (under new) u))) → (told → OnErr r (Leaves (loaded old t) (loaded new u))) → u.owner ≡ t.owner → (told → Stands old t → Stands new u)
+    → (told → LeadsNoMore (loaded old t) (loaded new u)) → (told → LeadsNoMore (loaded new u) (loaded old t)) → (told → IsStoredWell (loaded old t) → IsStoredWell (loaded new u)) → KeepsReady t u → IsUntouched old new → Counts old new r → IfErr r (Fails told (standing (under old) t) old new) → OnlyLoads told old new t u r
+loads_at told t u old new r failed leaves owner stands leads keeps stored_well keeps_ready untouched counts cause = record {
   failed = failed;
+  leaves = leaves;
   owner = owner;
   stands = stands;
   leads = leads;
@@ -132,10 +135,15 @@ alters_at told t u old new r failed owner stands leads keeps stored_well keeps_r
 abbrev pub loaded_as : Tree → Rooted → Loaded
 loaded_as t v = record { tree = v; changed = changed_of t; placed = placed_of t }
 
+-- nothing of it changes over the same blocks
+pub loads_leaves : (t : Tree) (old new : Shown) → new.held ≡ old.held → Leaves (loaded old t) (loaded new t)
+loads_leaves t old new held = later (λ v. Leaves (loaded old t) (loaded_as t v)) t old new held (leaves_itself (loaded old t))
+
 -- a call that only reads
-pub alters_none : {T : Type 0} (told : Type 0) (t : Tree) (old new : Shown) (r : Result T BlockFault) → Looks told (standing (under old) t) old new r → Alters told old new t t r
-alters_none told t old new r looks = record {
+pub loads_none : {T : Type 0} (told : Type 0) (t : Tree) (old new : Shown) (r : Result T BlockFault) → Looks told (standing (under old) t) old new r → OnlyLoads told old new t t r
+loads_none told t old new r looks = record {
   failed = λ is. at_err r (later (λ v. Remains (standing (under old) t) v) t old new looks.untouched.held (λ seen contents shows. shows));
+  leaves = λ is. at_err r (loads_leaves t old new looks.untouched.held);
   owner = refl;
   stands = λ is. stands_on t old new looks.untouched.held looks.untouched.used;
   leads = λ is. later (λ v. LeadsNoMore (loaded old t) (loaded_as t v)) t old new looks.untouched.held (λ level place v leads. leads);
@@ -146,9 +154,10 @@ alters_none told t old new r looks = record {
 }
 
 -- a call that reads, and then a change of the tree
-pub alters_then : {S T : Type 0} (told : Type 0) (t u : Tree) (old mid new : Shown) (x : S) (r : Result T BlockFault) → Looks told (standing (under old) t) old mid (Ok x) → Alters told mid new t u r → Alters told old new t u r
-alters_then told t u old mid new x r first second = record {
+pub loads_then : {S T : Type 0} (told : Type 0) (t u : Tree) (old mid new : Shown) (x : S) (r : Result T BlockFault) → Looks told (standing (under old) t) old mid (Ok x) → OnlyLoads told mid new t u r → OnlyLoads told old new t u r
+loads_then told t u old mid new x r first second = record {
   failed = λ is. earlier (λ v. OnErr r (Remains v (standing (under new) u))) t old mid first.untouched.held (second.failed is);
+  leaves = λ is. earlier (λ v. OnErr r (Leaves (loaded_as t v) (loaded new u))) t old mid first.untouched.held (second.leaves is);
   owner = second.owner;
   stands = λ is sound. second.stands is (stands_on t old mid first.untouched.held first.untouched.used sound);
   leads = λ is. earlier (λ v. LeadsNoMore (loaded_as t v) (loaded new u)) t old mid first.untouched.held (second.leads is);
@@ -159,41 +168,42 @@ alters_then told t u old mid new x r first second = record {
 }
 
 -- of a change that failed, or was done, another answer
-pub alters_failed : {S T : Type 0} (told : Type 0) (t u : Tree) (old new : Shown) (e : BlockFault) → Alters {T = S} told old new t u (Err e) → Alters {T = T} told old new t u (Err e)
-alters_failed told t u old new e alters = record {
-  failed = alters.failed;
-  owner = alters.owner;
-  stands = alters.stands;
-  leads = alters.leads;
-  keeps = alters.keeps;
-  stored_well = alters.stored_well;
-  keeps_ready = alters.keeps_ready;
-  looks = looks_failed told (standing (under old) t) old new e alters.looks;
+pub loads_failed : {S T : Type 0} (told : Type 0) (t u : Tree) (old new : Shown) (e : BlockFault) → OnlyLoads {T = S} told old new t u (Err e) → OnlyLoads {T = T} told old new t u (Err e)
+loads_failed told t u old new e loads = record {
+  failed = loads.failed;
+  leaves = loads.leaves;
+  owner = loads.owner;
+  stands = loads.stands;
+  leads = loads.leads;
+  keeps = loads.keeps;
+  stored_well = loads.stored_well;
+  keeps_ready = loads.keeps_ready;
+  looks = looks_failed told (standing (under old) t) old new e loads.looks;
 }
 
-pub alters_done : {S T : Type 0} (told : Type 0) (t u : Tree) (old new : Shown) (x : S) (y : T) → Alters told old new t u (Ok x) → Alters told old new t u (Ok y)
-alters_done told t u old new x y alters = record {
+pub loads_done : {S T : Type 0} (told : Type 0) (t u : Tree) (old new : Shown) (x : S) (y : T) → OnlyLoads told old new t u (Ok x) → OnlyLoads told old new t u (Ok y)
+loads_done told t u old new x y loads = record {
   failed = λ is. tt;
-  owner = alters.owner;
-  stands = alters.stands;
-  leads = alters.leads;
-  keeps = alters.keeps;
-  stored_well = alters.stored_well;
-  keeps_ready = alters.keeps_ready;
-  looks = looks_done told (standing (under old) t) old new x y alters.looks;
+  leaves = λ is. tt;
+  owner = loads.owner;
+  stands = loads.stands;
+  leads = loads.leads;
+  keeps = loads.keeps;
+  stored_well = loads.stored_well;
+  keeps_ready = loads.keeps_ready;
+  looks = looks_done told (standing (under old) t) old new x y loads.looks;
 }
 
 -- and then a change in memory
-pub alters_more : {S T : Type 0} (told : Type 0) (t u w : Tree) (old new : Shown) (x : S) (y : T) → Alters told old new t u (Ok x) → w.owner ≡ u.owner
-    → ((blocks : Under) (used : ℕ → Option Use) → IsSound used (loaded_over blocks u) → IsSound used (loaded_over blocks w))
-    → ((blocks : Under) → LeadsNoMore (loaded_over blocks u) (loaded_over blocks w)) → ((blocks : Under) → LeadsNoMore (loaded_over blocks w) (loaded_over blocks u)) → ((blocks : Under) → IsStoredWell (loaded_over blocks u) → IsStoredWell (loaded_over blocks w)) → KeepsReady u w → Alters told old new t w (Ok y)
-alters_more told t u w old new x y first owner sound leads keeps stored_well keeps_ready = record {
+pub loads_more : {S T : Type 0} (told : Type 0) (t u w : Tree) (old new : Shown) (stamp : ℕ) (x : S) (y : T) → OnlyLoads told old new t u (Ok x) → AltersHeld u w stamp → OnlyLoads told old new t w (Ok y)
+loads_more told t u w old new stamp x y first second = record {
   failed = λ is. tt;
-  owner = owner ∙ first.owner;
-  stands = λ is before. sound (under new) new.used (first.stands is before);
-  leads = λ is. leads_then (loaded old t) (loaded new u) (loaded new w) (first.leads is) (leads (under new));
-  keeps = λ is. leads_then (loaded new w) (loaded new u) (loaded old t) (keeps (under new)) (first.keeps is);
-  stored_well = λ is was. stored_well (under new) (first.stored_well is was);
-  keeps_ready = λ i ready. keeps_ready i (first.keeps_ready i ready);
+  leaves = λ is. tt;
+  owner = second.owner ∙ first.owner;
+  stands = λ is before. second.sound (under new) new.used (first.stands is before);
+  leads = λ is. leads_then (loaded old t) (loaded new u) (loaded new w) (first.leads is) (second.leads (under new));
+  keeps = λ is. leads_then (loaded new w) (loaded new u) (loaded old t) (second.keeps (under new)) (first.keeps is);
+  stored_well = λ is was. second.stored_well (under new) (first.stored_well is was);
+  keeps_ready = λ i ready. second.keeps_ready i (first.keeps_ready i ready);
   looks = looks_done told (standing (under old) t) old new x y first.looks;
 }

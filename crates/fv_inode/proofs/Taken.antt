@@ -17,9 +17,7 @@ use Rattle.fv_tree.specs.Standing.{standing, under}
 use Rattle.fv_tree.specs.Writing.{IsWritten}
 use Rattle.fv_tree.specs.Erasing.{Erases, IsErased}
 use Rattle.fv_tree.specs.Releasing.{IsDropped}
-use Rattle.fv_tree.specs.Flushing.{loaded, Stands}
-use Rattle.fv_tree.specs.Stored.{IsStoredWell}
-use Rattle.fv_tree.specs.Leading.{LeadsNoMore}
+use Rattle.fv_tree.specs.Altering.{AltersHeld}
 use Rattle.fv_tree.specs.Readying.{IsReady}
 use Rattle.fv_tree.specs.Removal.{Removal}
 use Rattle.fv_tree.proofs.Causes.{calm_itself, untouched_itself}
@@ -99,7 +97,7 @@ module _ (t : Rooted) (n : ℕ) (fs : List InodeRecord) (r : InodeRecord) (long 
   nameless : r.name_length ≡ 0
   nameless = ap (λ (q : InodeRecord). q.name_length) free
 
-  neighbor : all_free (slice_set fs (n % 16) r) ≡ false → HasNeighbor t n
+  pub neighbor : all_free (slice_set fs (n % 16) r) ≡ false → HasNeighbor t n
   neighbor some =
       let at : IsUsedAt left = used_at left some in
       let small : at.slot < 16 = omega (arith, at.within, length_left) in
@@ -122,7 +120,7 @@ module _ (t : Rooted) (n : ℕ) (fs : List InodeRecord) (r : InodeRecord) (long 
       ap (λ (q : InodeRecord). q.name_length) (sym (get_or-set_other fs (n % 16) (k % 16) r free_record slots)) ∙ free_at left (k % 16) all (omega (arith, length_left)) in
       sym (own_record t k fs (λ q lt. are q lt ∙ ap (λ c. file_at t (16 * c + q)) (sym beside))) ∙ free_none (get_or fs (k % 16) free_record) nothing
 
-  no_neighbor : all_free (slice_set fs (n % 16) r) ≡ true → HasNeighbor t n → ⊥
+  pub no_neighbor : all_free (slice_set fs (n % 16) r) ≡ true → HasNeighbor t n → ⊥
   no_neighbor all has = both_ways (is_some (file_at t has.other)) (ap is_some (none_beside all has.other has.apart has.beside)) (ap is_some has.there)
 
   gone_in : (u : Rooted) (k : ℕ) → block_at u (k / 16) ≡ None → file_at u k ≡ None
@@ -171,6 +169,8 @@ takes_last told calls old new t u n s count fs r long are free all removal = rec
   leads = removal.leads;
   stored_well = removal.stored_well;
   lets_go = removal.lets_go;
+  alters = removal.alters;
+  leaves = λ is. tt;
   failed = λ is. tt;
   owner = removal.owner;
   stands = removal.stands;
@@ -181,24 +181,25 @@ takes_last told calls old new t u n s count fs r long are free all removal = rec
 }
 
 pub takes_with : (told calls : Type 0) (source : Shown) (t u : Tree) (n s : ℕ) (fs : List InodeRecord) (r : InodeRecord) → length fs ≡ 16 → AreRecords (standing (under source) t) (n / 16) fs → r ≡ blank_record
-    → all_free (slice_set fs (n % 16) r) ≡ false → WritesFiles (standing (under source) t) (standing (under source) u) (n / 16) s (slice_set fs (n % 16) r) → IsReady t (n / 16) → u.levels ≡ t.levels → u.owner ≡ t.owner → (Stands source t → Stands source u)
-    → LeadsNoMore (loaded source t) (loaded source u) → LeadsNoMore (loaded source u) (loaded source t) → (IsStoredWell (loaded source t) → IsStoredWell (loaded source u)) → calls → TakesFile told calls source source t u n s (Ok 0)
-takes_with told calls source t u n s fs r long are free some wrote ready levels owner sound leads keeps stored_well called = record {
+    → all_free (slice_set fs (n % 16) r) ≡ false → WritesFiles (standing (under source) t) (standing (under source) u) (n / 16) s (slice_set fs (n % 16) r) → IsReady t (n / 16) → AltersHeld t u s → calls → TakesFile told calls source source t u n s (Ok 0)
+takes_with told calls source t u n s fs r long are free some wrote ready held called = record {
   removed = λ is stands holds. taken_with (standing (under source) t) n fs r long are free some (standing (under source) u) s wrote;
   count = λ is stands.
-      let same = written_count (standing (under source) t) (standing (under source) u) (n / 16) s wrote.block wrote.place_by_place levels (ready_stands (under source) t (n / 16) ready) in
+      let same = written_count (standing (under source) t) (standing (under source) u) (n / 16) s wrote.block wrote.place_by_place held.levels (ready_stands (under source) t (n / 16) ready) in
       omega (arith, same);
   strays = λ is stands. refl;
   room = omega arith;
   released = λ is. releases_none source source (IsDropped (under source) t u)
       (λ v drops. still_stands (standing (under source) t) (standing (under source) u) (n / 16) s wrote.block wrote.place_by_place drops.level drops.place drops.led.some drops.goes)
       (untouched_itself source) (calm_itself source);
-  leads = λ is stands. leads;
-  stored_well = λ is stands. stored_well;
-  lets_go = λ is stands level place v led. inl (keeps level place v led);
+  leads = λ is stands. held.leads (under source);
+  stored_well = λ is stands. held.stored_well (under source);
+  lets_go = λ is stands level place v led. inl (held.keeps (under source) level place v led);
+  alters = λ is stands. held.alters (under source);
+  leaves = λ is. tt;
   failed = λ is. tt;
-  owner = owner;
-  stands = λ is. sound;
+  owner = held.owner;
+  stands = λ is. held.sound (under source) source.used;
   untouched = tt;
   called = called;
   counts = record { faults = omega arith; damages = omega arith; spent = omega arith; calm = calm_itself source };

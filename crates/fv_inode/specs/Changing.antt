@@ -15,6 +15,7 @@ use Rattle.fv_tree.specs.Refilling.{IsRefilled, Refills}
 use Rattle.fv_tree.specs.Erasing.{Erases, HoldsCells}
 use Rattle.fv_tree.specs.Releasing.{IsDropped, Releases}
 use Rattle.fv_tree.specs.Flushing.{Leads, loaded, Stands}
+use Rattle.fv_tree.specs.Altering.{Alters, Leaves}
 use Rattle.fv_tree.specs.Leading.{LeadsNoMore}
 use Rattle.fv_tree.specs.Stored.{IsStoredWell}
 use Rattle.fv_tree.specs.Counting.{positions_of}
@@ -72,6 +73,9 @@ pub record TakesFile (told calls : Type 0) (old new : Shown) (t u : Tree) (n s :
   pub stored_well : told → Stands old t → IsStoredWell (loaded old t) → IsStoredWell (loaded new u)
   -- what the tree doesn't lead to any more is out of use
   pub lets_go : told → Stands old t → (level place v : ℕ) → Leads (loaded old t) level place v → Leads (loaded new u) level place v ⊎ (new.used v ≡ None)
+  -- each place that still stands got the stamp, or is as before; after a fault nothing changed
+  pub alters : told → Stands old t → Alters s (loaded old t) (loaded new u)
+  pub leaves : told → OnErr result (Leaves (loaded old t) (loaded new u))
   pub failed : told → OnErr result (Remains (standing (under old) t) (standing (under new) u))
   pub owner : u.owner ≡ t.owner
   pub stands : told → Stands old t → Stands new u

@@ -11,6 +11,7 @@ use Rattle.fv_tree.specs.Standing.{standing, under, Fails}
 use Rattle.fv_tree.specs.Reading.{cell_read_at}
 use Rattle.fv_tree.specs.Writing.{Remains}
 use Rattle.fv_tree.specs.Flushing.{loaded, Stands}
+use Rattle.fv_tree.specs.Altering.{Leaves}
 use Rattle.fv_tree.specs.Leading.{LeadsNoMore}
 use Rattle.fv_tree.specs.Stored.{IsStoredWell}
 use Rattle.fv_tree.specs.Readying.{KeepsReady}
@@ -37,9 +38,11 @@ pub record Looks {T : Type 0} (told : Type 0) (t : Rooted) (old new : Shown) (re
   pub counts : Counts old new result
   pub cause : IfErr result (InodeFails told t old new)
 
--- What a call leaves that changes a tree and only loads, whether it was done or failed. After a fault the tree is seen as before.
-pub record Alters {T : Type 0} (told : Type 0) (old new : Shown) (t u : Tree) (result : Result T BlockFault) : Type 0 where
+-- What a call leaves that changes a tree and only loads, whether it was done or failed. After a fault the tree is seen as before, and no
+-- place of it changed.
+pub record OnlyLoads {T : Type 0} (told : Type 0) (old new : Shown) (t u : Tree) (result : Result T BlockFault) : Type 0 where
   pub failed : told → OnErr result (Remains (standing (under old) t) (standing (under new) u))
+  pub leaves : told → OnErr result (Leaves (loaded old t) (loaded new u))
   pub owner : u.owner ≡ t.owner
   pub stands : told → Stands old t → Stands new u
   -- it leads to the same blocks

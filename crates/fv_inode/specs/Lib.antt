@@ -3,3 +3,4 @@ pub mod Failing
 pub mod Changing
 pub mod Listing
 pub mod Readying
+pub mod Losing

@@ -1,18 +1,15 @@
 //! Changing what is known of a file.
 
-ghost use Rattle.std.specs.Prelude.{◌≡◌, ◌≤◌, ◌+◌, ℕ, Option, true, is_some, OnOk};
+ghost use Rattle.std.specs.Prelude.{◌≡◌, ◌≤◌, ◌/◌, ◌+◌, ℕ, Option, true, is_some, OnOk};
 ghost use Rattle.std.specs.Option.{option_map};
 ghost use Rattle.fv_tables.specs.Spelled.{Under};
-ghost use Rattle.fv_tables.specs.Told.{file_at};
-ghost use Rattle.fv_tree.specs.Sources.{Use};
+ghost use Rattle.fv_tables.specs.Told.{records_each, file_at};
 ghost use Rattle.fv_tree.specs.Standing.{standing};
-ghost use Rattle.fv_tree.specs.Flushing.{loaded_over, IsSound};
-ghost use Rattle.fv_tree.specs.Stored.{IsStoredWell};
-ghost use Rattle.fv_tree.specs.Leading.{LeadsNoMore};
-ghost use Rattle.fv_tree.specs.Readying.{KeepsReady};
 ghost use Rattle.fv_tree.specs.Costs.{Rises};
+ghost use Rattle.fv_tree.specs.Altering.{Alters, AltersHeld};
+ghost use Rattle.fv_tree.specs.Flushing.{changed_of, loaded};
 ghost use Rattle.fv_inode.specs.Files.{rooted, with_info, IsInfo};
-ghost use Rattle.fv_inode.specs.Failing.{Alters};
+ghost use Rattle.fv_inode.specs.Failing.{OnlyLoads};
 ghost use Rattle.fv_inode.specs.Readying.{IsReadyFile};
 ghost use Rattle.fv_inode.specs.Changing.{Rewrites};
 
@@ -41,7 +38,8 @@ impl InodeFile {
         requires there { B.told → is_some (file_at (rooted (B.shown blocks.old) self.old) info.now.number) ≡ true }
         requires info { IsInfo info.now }
         ensures changed { B.told → OnOk result (Rewrites (rooted (B.shown blocks.old) self.old) (rooted (B.shown blocks.new) self.new) info.now.number stamp (option_map (with_info info.now) (file_at (rooted (B.shown blocks.old) self.old) info.now.number))) }
-        ensures alters { Alters B.told (B.shown blocks.old) (B.shown blocks.new) self.old.tree self.new.tree result }
+        ensures loads { OnlyLoads B.told (B.shown blocks.old) (B.shown blocks.new) self.old.tree self.new.tree result }
+        ensures alters { B.told → Alters stamp (loaded (B.shown blocks.old) self.old.tree) (loaded (B.shown blocks.new) self.new.tree) }
         ensures rises { Rises self.old.tree self.new.tree 4 1 }
         ensures reads { B.reads blocks.old blocks.new }
     {
@@ -61,13 +59,8 @@ impl InodeFile {
         requires info { IsInfo info.now }
         ensures rewrites { (blocks : Under) → Rewrites (standing blocks self.old.tree) (standing blocks self.new.tree) info.now.number stamp (option_map (with_info info.now) (file_at (standing blocks self.old.tree) info.now.number)) }
         ensures ready { IsReadyFile self.new info.now.number }
-        ensures keeps_ready { KeepsReady self.old.tree self.new.tree }
-        ensures owner { self.new.tree.owner ≡ self.old.tree.owner }
-        ensures levels { self.new.tree.levels ≡ self.old.tree.levels }
-        ensures sound { (blocks : Under) (used : ℕ → Option Use) → IsSound used (loaded_over blocks self.old.tree) → IsSound used (loaded_over blocks self.new.tree) }
-        ensures leads { (blocks : Under) → LeadsNoMore (loaded_over blocks self.old.tree) (loaded_over blocks self.new.tree) }
-        ensures keeps { (blocks : Under) → LeadsNoMore (loaded_over blocks self.new.tree) (loaded_over blocks self.old.tree) }
-        ensures stored_well { (blocks : Under) → IsStoredWell (loaded_over blocks self.old.tree) → IsStoredWell (loaded_over blocks self.new.tree) }
+        ensures alters { AltersHeld self.old.tree self.new.tree stamp }
+        ensures marked { changed_of self.new.tree 0 (info.now.number / records_each) ≡ true }
         ensures rises { Rises self.old.tree self.new.tree 4 0 }
     {
         let cell = info.number / EACH;

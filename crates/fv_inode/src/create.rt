@@ -12,8 +12,9 @@ ghost use Rattle.fv_tree.specs.Standing.{standing, under};
 ghost use Rattle.fv_tree.specs.Counting.{added_at, staying_at};
 ghost use Rattle.fv_tree.specs.Flushing.{loaded};
 ghost use Rattle.fv_tree.specs.Costs.{Rises};
+ghost use Rattle.fv_tree.specs.Altering.{Alters};
 ghost use Rattle.fv_inode.specs.Files.{rooted, IsFirstFree, IsFreeNumber, IsInfo, IsLeastFree, IsNumberIf, new_record};
-ghost use Rattle.fv_inode.specs.Failing.{Alters, Looks};
+ghost use Rattle.fv_inode.specs.Failing.{Looks, OnlyLoads};
 ghost use Rattle.fv_inode.specs.Changing.{Makes};
 
 use crate::file::InodeFile;
@@ -54,7 +55,8 @@ impl InodeFile {
         requires reserve { reserve ≤ most_cells }
         ensures made { B.told → IfOk result (Makes (rooted (B.shown blocks.old) self.old) (rooted (B.shown blocks.new) self.new) name.now reserve stamp) }
         ensures range { IfOk result IsInfo }
-        ensures alters { Alters B.told (B.shown blocks.old) (B.shown blocks.new) self.old.tree self.new.tree result }
+        ensures loads { OnlyLoads B.told (B.shown blocks.old) (B.shown blocks.new) self.old.tree self.new.tree result }
+        ensures alters { B.told → Alters stamp (loaded (B.shown blocks.old) self.old.tree) (loaded (B.shown blocks.new) self.new.tree) }
         ensures rises { Rises self.old.tree self.new.tree 6 1 }
         ensures reads { B.reads blocks.old blocks.new }
     {

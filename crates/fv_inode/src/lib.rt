@@ -7,6 +7,7 @@ mod file;
 mod find;
 mod info;
 mod list;
+mod losing;
 mod ready;
 mod records;
 mod remove;

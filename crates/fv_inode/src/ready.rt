@@ -7,8 +7,10 @@ ghost use Rattle.fv_tree.specs.Standing.{standing, under};
 ghost use Rattle.fv_tree.specs.Writing.{IsAlike, Remains};
 ghost use Rattle.fv_tree.specs.Readying.{IsReady};
 ghost use Rattle.fv_tree.specs.Costs.{Rises};
+ghost use Rattle.fv_tree.specs.Altering.{Leaves};
+ghost use Rattle.fv_tree.specs.Flushing.{loaded};
 ghost use Rattle.fv_inode.specs.Files.{rooted};
-ghost use Rattle.fv_inode.specs.Failing.{Alters};
+ghost use Rattle.fv_inode.specs.Failing.{OnlyLoads};
 ghost use Rattle.fv_inode.specs.Readying.{HoldsFile, IsReadyFile};
 
 use crate::file::InodeFile;
@@ -32,7 +34,8 @@ impl InodeFile {
         ensures remains { B.told → Remains (rooted (B.shown blocks.old) self.old) (rooted (B.shown blocks.new) self.new) }
         ensures files { B.told → (n : ℕ) → file_at (rooted (B.shown blocks.new) self.new) n ≡ file_at (rooted (B.shown blocks.old) self.old) n }
         ensures levels { self.new.tree.levels ≡ self.old.tree.levels }
-        ensures alters { Alters B.told (B.shown blocks.old) (B.shown blocks.new) self.old.tree self.new.tree result }
+        ensures loads { OnlyLoads B.told (B.shown blocks.old) (B.shown blocks.new) self.old.tree self.new.tree result }
+        ensures leaves { B.told → Leaves (loaded (B.shown blocks.old) self.old.tree) (loaded (B.shown blocks.new) self.new.tree) }
         ensures rises { Rises self.old.tree self.new.tree 0 1 }
         ensures reads { B.reads blocks.old blocks.new }
     {
@@ -46,7 +49,8 @@ fn ready_file<B: Blocks>(tree: &mut Tree, blocks: &mut B, number: u32) -> Result
     ensures there { B.told → IfOk result (λ there. is_some (file_at (standing (under (B.shown blocks.old)) tree.old) number) ≡ there) }
     ensures alike { B.told → IsAlike (standing (under (B.shown blocks.old)) tree.old) (standing (under (B.shown blocks.new)) tree.new) }
     ensures levels { tree.new.levels ≡ tree.old.levels }
-    ensures alters { Alters B.told (B.shown blocks.old) (B.shown blocks.new) tree.old tree.new result }
+    ensures loads { OnlyLoads B.told (B.shown blocks.old) (B.shown blocks.new) tree.old tree.new result }
+    ensures leaves { B.told → Leaves (loaded (B.shown blocks.old) tree.old) (loaded (B.shown blocks.new) tree.new) }
     ensures rises { Rises tree.old tree.new 0 1 }
     ensures reads { B.reads blocks.old blocks.new }
 {
@@ -63,7 +67,8 @@ fn hold<B: Blocks>(tree: &mut Tree, blocks: &mut B, number: u32) -> Result<bool,
     ensures there { B.told → IfOk result (λ there. is_some (file_at (standing (under (B.shown blocks.old)) tree.old) number) ≡ there) }
     ensures alike { B.told → IsAlike (standing (under (B.shown blocks.old)) tree.old) (standing (under (B.shown blocks.new)) tree.new) }
     ensures levels { tree.new.levels ≡ tree.old.levels }
-    ensures alters { Alters B.told (B.shown blocks.old) (B.shown blocks.new) tree.old tree.new result }
+    ensures loads { OnlyLoads B.told (B.shown blocks.old) (B.shown blocks.new) tree.old tree.new result }
+    ensures leaves { B.told → Leaves (loaded (B.shown blocks.old) tree.old) (loaded (B.shown blocks.new) tree.new) }
     ensures rises { Rises tree.old tree.new 0 1 }
     ensures reads { B.reads blocks.old blocks.new }
 {

@@ -1,6 +1,6 @@
 //! The records of one inode block.
 
-ghost use Rattle.std.specs.Prelude.{◌≡◌, ◌≤◌, ◌<◌, ◌^◌, ◌+◌, ◌/◌, ℕ, Option, Some, false, IfOk, IfErr, OnOk, OnErr, Ok, Err, length, replicate};
+ghost use Rattle.std.specs.Prelude.{◌≡◌, ◌≤◌, ◌<◌, ◌^◌, ◌+◌, ◌/◌, ℕ, Option, Some, true, false, IfOk, IfErr, OnOk, OnErr, Ok, Err, length, replicate};
 ghost use Rattle.std.specs.List.{All};
 ghost use Rattle.fv_codec.specs.declared.shape.Shape.{Shape};
 ghost use Rattle.fv_disk.specs.declared.fault.BlockFault.TheVariants.{Damaged};
@@ -9,15 +9,13 @@ ghost use Rattle.fv_model.specs.Spelling.{is_same_name};
 ghost use Rattle.fv_model.specs.Trees.{fan};
 ghost use Rattle.fv_tables.specs.Told.{records_each, used_record, records_in};
 ghost use Rattle.fv_tables.specs.Spelled.{Under};
-ghost use Rattle.fv_tree.specs.Sources.{Use};
 ghost use Rattle.fv_tree.specs.Standing.{standing, under};
-ghost use Rattle.fv_tree.specs.Flushing.{loaded_over, IsSound};
-ghost use Rattle.fv_tree.specs.Stored.{IsStoredWell};
-ghost use Rattle.fv_tree.specs.Leading.{LeadsNoMore};
-ghost use Rattle.fv_tree.specs.Readying.{IsReady, KeepsReady};
+ghost use Rattle.fv_tree.specs.Readying.{IsReady};
 ghost use Rattle.fv_tree.specs.Costs.{way_cost, Rises};
+ghost use Rattle.fv_tree.specs.Altering.{Alters, AltersHeld};
+ghost use Rattle.fv_tree.specs.Flushing.{changed_of, loaded};
 ghost use Rattle.fv_inode.specs.Files.{AreRecords, blank_record, has_name};
-ghost use Rattle.fv_inode.specs.Failing.{Alters, Looks};
+ghost use Rattle.fv_inode.specs.Failing.{Looks, OnlyLoads};
 ghost use Rattle.fv_inode.specs.Changing.{WritesFiles};
 ghost use Rattle.fv_inode.specs.Readying.{HoldsFile};
 
@@ -168,7 +166,8 @@ pub fn write_files<B: Blocks>(
     requires range { All IsInodeRecord files.now }
     requires some { all_free files.now ≡ false }
     ensures written { B.told → OnOk result (WritesFiles (standing (under (B.shown blocks.old)) tree.old) (standing (under (B.shown blocks.new)) tree.new) cell stamp files.now) }
-    ensures alters { Alters B.told (B.shown blocks.old) (B.shown blocks.new) tree.old tree.new result }
+    ensures loads { OnlyLoads B.told (B.shown blocks.old) (B.shown blocks.new) tree.old tree.new result }
+    ensures alters { B.told → Alters stamp (loaded (B.shown blocks.old) tree.old) (loaded (B.shown blocks.new) tree.new) }
     ensures rises { Rises tree.old tree.new 6 1 }
     ensures reads { B.reads blocks.old blocks.new }
 {
@@ -184,13 +183,8 @@ pub fn rewrite_files(tree: &mut Tree, cell: u32, files: &[InodeRecord; 16], stam
     requires some { all_free files.now ≡ false }
     ensures written { (blocks : Under) → WritesFiles (standing blocks tree.old) (standing blocks tree.new) cell stamp files.now }
     ensures ready { IsReady tree.new cell }
-    ensures keeps_ready { KeepsReady tree.old tree.new }
-    ensures owner { tree.new.owner ≡ tree.old.owner }
-    ensures levels { tree.new.levels ≡ tree.old.levels }
-    ensures sound { (blocks : Under) (used : ℕ → Option Use) → IsSound used (loaded_over blocks tree.old) → IsSound used (loaded_over blocks tree.new) }
-    ensures leads { (blocks : Under) → LeadsNoMore (loaded_over blocks tree.old) (loaded_over blocks tree.new) }
-    ensures keeps { (blocks : Under) → LeadsNoMore (loaded_over blocks tree.new) (loaded_over blocks tree.old) }
-    ensures stored_well { (blocks : Under) → IsStoredWell (loaded_over blocks tree.old) → IsStoredWell (loaded_over blocks tree.new) }
+    ensures alters { AltersHeld tree.old tree.new stamp }
+    ensures marked { changed_of tree.new 0 cell ≡ true }
     ensures rises { Rises tree.old tree.new 4 0 }
 {
     let block = spelled(cell, files);

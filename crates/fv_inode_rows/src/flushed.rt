@@ -28,7 +28,7 @@ fn since(blocks: &MemBlocks, before: &[u64; 4]) -> [u64; 4] {
 }
 
 /// A stored table with 17 files, so with two inode blocks under a node. The first and the last file have two blocks under a node.
-fn two_files(alloc: Global, blocks: &mut MemBlocks) -> Result<Files, Wrong> {
+pub(crate) fn two_files(alloc: Global, blocks: &mut MemBlocks) -> Result<Files, Wrong> {
     let mut table = Files::new(alloc);
     for number in 0..17_u8 {
         make(&mut table, blocks, &name(number)?, 0, 1)?;

@@ -16,6 +16,10 @@ mod shared;
 #[cfg(test)]
 mod stored;
 mod tables;
+#[cfg(test)]
+mod taken;
 
 pub use calls::{change, create, remove, set_root};
-pub use tables::{length, make, read, staying, staying_by_removal, write};
+pub use tables::{
+    length, make, read, staying, staying_by_removal, taken_by_cut, taken_by_removal, write,
+};

@@ -1,9 +1,11 @@
 //! How many blocks of a stored table stay charged, where another table has all of them, too.
 
 use crate::beside::Wrong;
+use crate::calls::{change, create};
 use crate::stored::{full, name, stored, table_at};
 use crate::tables::{staying, staying_by_removal, write};
 use fv_files::Files;
+use fv_inode::InodeFile;
 use fv_tree_rows::MemBlocks;
 use std::alloc::Global;
 use std::test::Fail;
@@ -42,6 +44,37 @@ fn blocks_of_a_table_that_stay(rt: HostRuntime) -> Result<(), Fail> {
     let before = [4, 4, 3, 2, 1, 6, 1, 0].map(Some);
     let after = [0, 2, 0, 0, 0, 2, 0, 0].map(Some);
     assert_eq!(rt; shared(rt.alloc()), Ok([before, after]));
+    Ok(())
+}
+
+/// What stays of an inode file of 17 files, so with two inode blocks under a node, where another table has all of it: with a change of the
+/// first file, of the last, and of one in an inode block that isn't there; before and after a change of the first.
+fn inode_blocks(alloc: Global) -> Result<[[u32; 3]; 2], Wrong> {
+    let mut blocks = MemBlocks::new(alloc);
+    let mut file = InodeFile::new(alloc);
+    for number in 0..17_u8 {
+        create(&mut file, &mut blocks, &name(number)?, 0, 1)?;
+    }
+    file.flush(&mut blocks)?;
+    blocks.share();
+    let before = over_blocks(&file, &mut blocks)?;
+    change(&mut file, &mut blocks, &name(0)?, 5, 2)?;
+    Ok([before, over_blocks(&file, &mut blocks)?])
+}
+
+/// What stays over those three inode blocks.
+fn over_blocks(file: &InodeFile, blocks: &mut MemBlocks) -> Result<[u32; 3], Wrong> {
+    Ok([
+        file.staying(blocks, 0)?,
+        file.staying(blocks, 16)?,
+        file.staying(blocks, 32)?,
+    ])
+}
+
+/// The changed inode block and the node over it differ from what is shared afterwards; the other inode block doesn't.
+#[test]
+fn inode_blocks_that_stay(rt: HostRuntime) -> Result<(), Fail> {
+    assert_eq!(rt; inode_blocks(rt.alloc()), Ok([[2, 2, 1], [0, 1, 0]]));
     Ok(())
 }
 

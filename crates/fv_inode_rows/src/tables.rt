@@ -2,7 +2,7 @@
 
 use fv_files::{Files, FilesFault};
 use fv_model::Name;
-use fv_tree::{Blocks, Sharing};
+use fv_tree::{Blocks, Sharing, Taken};
 
 /// The most cells that a file has.
 const MOST_CELLS: u32 = 2_097_152;
@@ -127,5 +127,40 @@ pub fn staying_by_removal<B: Sharing>(
     match table.find(blocks, name)? {
         None => Ok(None),
         Some(info) => Ok(Some(table.staying_by_removal(blocks, &info)?)),
+    }
+}
+
+/// What a cut of a file to a length takes; `None` where there is no such file.
+///
+/// # Errors
+///
+/// As `Files::find` and `Files::taken_by_cut`.
+#[tactic(auto, using(fv_files::proofs::Tables::first_info))]
+pub fn taken_by_cut<B: Sharing>(
+    table: &mut Files,
+    blocks: &mut B,
+    name: &Name,
+    length: u32,
+) -> Result<Option<Taken>, FilesFault> {
+    match table.find(blocks, name)? {
+        None => Ok(None),
+        Some(info) => Ok(Some(table.taken_by_cut(blocks, &info, length)?)),
+    }
+}
+
+/// What the removal of a file takes; `None` where there is no such file.
+///
+/// # Errors
+///
+/// As `Files::find` and `Files::taken_by_removal`.
+#[tactic(auto, using(fv_files::proofs::Tables::first_info))]
+pub fn taken_by_removal<B: Sharing>(
+    table: &mut Files,
+    blocks: &mut B,
+    name: &Name,
+) -> Result<Option<Taken>, FilesFault> {
+    match table.find(blocks, name)? {
+        None => Ok(None),
+        Some(info) => Ok(Some(table.taken_by_removal(blocks, &info)?)),
     }
 }

@@ -22,6 +22,45 @@ const ASKED: Lines = &[
     b"get a g 0",
     b"get b f 0",
     b"get b f 2097151",
+    b"snap list a",
+    b"ls a@s",
+    b"get a@s f 0",
+    b"get a@s f 130",
+    b"get a@t f 0",
+    b"get a@t f 1",
+];
+
+/// Snapshots are made, changes follow, and each is removed or restored between points; a map slot is left and taken anew in one of them.
+const SNAPS: Lines = &[
+    b"vol create a 200 none",
+    b"vol create b 100 none",
+    b"new a f",
+    b"put a f 0 01",
+    b"put a f 130 02",
+    b"cp",
+    b"snap create a s",
+    b"put a f 0 03",
+    b"new b f",
+    b"put b f 0 09",
+    b"cp",
+    b"snap create a t",
+    b"put a f 1 04",
+    b"cut a f 1",
+    b"snap delete a s",
+    b"cp",
+    b"snap create a s",
+    b"rm a f",
+    b"cp",
+    b"snap restore a t",
+    b"cp",
+    b"put a f 0 05",
+    b"snap delete a t",
+    b"snap create a t",
+    b"cp",
+    b"snap delete a s",
+    b"snap delete a t",
+    b"rm b f",
+    b"cp",
 ];
 
 /// Adds the line of what volumes answer to a command.
@@ -274,5 +313,11 @@ fn see(alloc: Global, lines: Lines) -> Result<(), Wrong> {
 #[test]
 fn each_image_of_a_point(rt: HostRuntime) -> Result<(), Fail> {
     assert_eq!(rt; see(rt.alloc(), SCRIPT), Ok(()));
+    Ok(())
+}
+
+#[test]
+fn each_image_of_a_point_with_snapshots(rt: HostRuntime) -> Result<(), Fail> {
+    assert_eq!(rt; see(rt.alloc(), SNAPS), Ok(()));
     Ok(())
 }

@@ -24,7 +24,7 @@ use Rattle.fv_aggregate.specs.declared.fault.Fault.TheVariants as session_fault
 use Rattle.fv_aggregate.specs.declared.session.Session.{Session}
 use Rattle.fv_aggregate.specs.Calls.{Goes, GoesFor, KeepsAsking}
 use Rattle.fv_aggregate.specs.Calls as calls
-use Rattle.fv_aggregate.specs.Commands.{changed_by, changes_volume, dirty_limit, is_built, machine_after, reads_files, Replies, RepliesBy, room_of}
+use Rattle.fv_aggregate.specs.Commands.{changed_by, changes_volume, dirty_limit, is_built, machine_after, reads_files, Replies, RepliesBy, room_of, snapped_by}
 use Rattle.fv_aggregate.specs.Standing.{IsWithoutFiles, OneOf, StandsAfter, StandsFor}
 use Rattle.fv_run.specs.declared.ending.Fault.{Fault}
 use Rattle.fv_run.specs.declared.ending.Fault.TheVariants.{Disk, Memory, Damaged}
@@ -96,6 +96,7 @@ unbuilt_room (New v f reserve) e = rw e refl
 unbuilt_room (Put v f i block) e = absurd cc
 unbuilt_room (Cut v f length) e = absurd cc
 unbuilt_room (Remove v f) e = absurd cc
+unbuilt_room (SnapCreate v s) e = absurd cc
 unbuilt_room c e = refl
 
 unbuilt_change : (c : Command) → is_built c ≡ false → changes_volume c ≡ false
@@ -106,6 +107,9 @@ unbuilt_change (New v f reserve) e = rw e refl
 unbuilt_change (Put v f i block) e = absurd cc
 unbuilt_change (Cut v f length) e = absurd cc
 unbuilt_change (Remove v f) e = absurd cc
+unbuilt_change (SnapCreate v s) e = absurd cc
+unbuilt_change (SnapDelete v s) e = absurd cc
+unbuilt_change (SnapRestore v s) e = absurd cc
 unbuilt_change c e = refl
 
 cp_built : is_built Cp ≡ true
@@ -187,11 +191,11 @@ changes_said c none = so (is_built c) refl none
 changes_none : (c : Command) → changes_volume c ≡ false → changed_by c ≡ None
 changes_none (VolResize v size) none = refl
 changes_none (VolGuarantee v kind) none = refl
-changes_none c none = so (changed_by c) none
+changes_none c none = so (changed_by c) (is_some (snapped_by c)) none
   where
-    so : (volume : Option (List ℕ)) → is_some volume ≡ false → volume ≡ None
-    so None e = refl
-    so (Some v) e = absurd cc
+    so : (volume : Option (List ℕ)) (snaps : Bool) → (is_some volume || snaps) ≡ false → volume ≡ None
+    so None snaps e = refl
+    so (Some v) snaps e = absurd cc
 
 -- ---- what a line says
 

@@ -16,9 +16,8 @@ use Rattle.fv_tree.specs.Keeping.{IsKept, IsSame}
 use Rattle.fv_tree.specs.Writing.{Stamps}
 use Rattle.fv_tree.specs.Carried.{Brings, Marks}
 use Rattle.fv_tree.specs.Readying.{HoldsCell}
-use Rattle.fv_tree.specs.Flushing.{Loaded, Flushes, IsSound, loaded, loaded_over, changed_in, changed_of, node_changed, cell_changed, cell_placed}
-use Rattle.fv_tree.specs.Altering.{Alters, IsAsBefore, IsChanged, IsHole, Leaves, PlacesAnew}
-use Rattle.fv_tree.proofs.Cases.{bit}
+use Rattle.fv_tree.specs.Flushing.{Loaded, IsSound, loaded, loaded_over, changed_in, changed_of, node_changed, cell_changed, cell_placed}
+use Rattle.fv_tree.specs.Altering.{Alters, IsAsBefore, IsChanged, IsHole, Leaves}
 use Rattle.fv_tree.proofs.Gone.{changed_cell, spot_changed}
 use Rattle.fv_tree.proofs.HeldCells.{held_changed, held_pointers}
 use Rattle.fv_tree.proofs.Ready.{cell_pointers, cells_loaded, changed_off, marked_pointers, nodes_alone, others_changed, way_changed}
@@ -31,7 +30,7 @@ use Rattle.fv_tree.proofs.Ways.{past, spot_is}
 pub leaves_itself : (s : Loaded) → Leaves s s
 leaves_itself s = record { levels = refl; root = refl; places = λ level place. inr (record { pointer = refl; changed = refl }) }
 
-before_then : (a b c : Loaded) (level place : ℕ) → IsAsBefore a b level place → IsAsBefore b c level place → IsAsBefore a c level place
+pub before_then : (a b c : Loaded) (level place : ℕ) → IsAsBefore a b level place → IsAsBefore b c level place → IsAsBefore a c level place
 before_then a b c level place first second = record { pointer = second.pointer ∙ first.pointer; changed = second.changed ∙ first.changed }
 
 pub leaves_then : (a b c : Loaded) → Leaves a b → Leaves b c → Leaves a c
@@ -135,30 +134,6 @@ leaves_brought old new t u level place p same at fields brings = record {
 -- a cell that was written differs from its block
 pub cell_marked : (v u : Tree) (i : ℕ) → u.cells ≡ v.cells → cell_changed (tree.get nat_cmp v.cells i) ≡ true → changed_of u 0 i ≡ true
 cell_marked v u i cells changed = changed_cell u 0 i refl ∙ ap (λ (m : tree.BTreeMap ℕ KeptCell). cell_changed (tree.get nat_cmp m i)) cells ∙ changed
-
--- ---- a flush
-
-pub flush_places : (old : Loaded) (used : ℕ → Option Use) (new : Loaded) (uses : ℕ → Option Use) → Flushes old used new uses → PlacesAnew old used new
-flush_places old used new uses is level place = elim (cases_eq (pointer_at new.tree level place).stamp 0) [
-  | inl none ↦ inl none
-  | inr some ↦ inr (elim (bit (new.changed level place)) [
-    | inr now ↦ inr (record { pointer = is.stays level place (inl now); changed = now ∙ sym (is.fewer level place now).0 })
-    | inl done ↦ elim (bit (old.changed level place)) [
-      | inl same ↦ inr (record { pointer = is.stays level place (inr same); changed = done ∙ sym same })
-      | inr was ↦ inl (record {
-        stamp = is.stamps level place;
-        was = was;
-        done = done;
-        fresh = is.fresh (pointer_at new.tree level place).vvbn (record {
-          level = level;
-          place = place;
-          flushed = record { was = was; done = done; some = λ none. some (is.stamps level place ∙ none) };
-          vvbn = refl;
-        });
-      })
-    ]
-  ])
-]
 
 -- ---- the way to a cell gets a stamp
 

@@ -20,6 +20,7 @@ use Rattle.fv_tree.specs.Standing.{under}
 use Rattle.fv_tree.specs.Erasing.{StandsAt}
 use Rattle.fv_tree.specs.Writing.{IsAlike}
 use Rattle.fv_tree.specs.Releasing.{IsDropped, Releases}
+use Rattle.fv_tree.specs.Altering.{Leaves}
 use Rattle.fv_tree.specs.Beside.{IsLaid, loaded_on, unread, LeadsTo, Spares, LieApart}
 use Rattle.fv_tree.specs.Flushing.{Loaded, Leads, IsSound, ReachesOnce, IsRight, Flushes, IsPlaced, IsReplaced, loaded, loaded_over, node_placed, cell_placed, kind_for}
 use Rattle.fv_tree.proofs.Below.{no_pointers, kept_pointers, read_pointers}
@@ -232,6 +233,10 @@ module _ (old new : Shown) (before after : ℕ → Type 0) (r : Loaded) (spares 
   -- It is seen as before,
   pub other_alike : IsAlike r.tree (over (under new) r.tree)
   other_alike = beside_alike r (under new) laid stay
+
+  -- by the same pointers,
+  pub other_leaves : Leaves r (loaded_on (under new) r)
+  other_leaves = record { levels = refl; root = refl; places = λ level place. inr (record { pointer = beside_pointers r (under new) laid stay level place; changed = refl }) }
 
   -- leads to the same blocks,
   pub other_leads : (v : ℕ) → LeadsTo (loaded_on (under new) r) v → LeadsTo r v

@@ -6,7 +6,7 @@ use Rattle.std.proofs.lemmas.List.{get_or-set_same, get_or-set_other}
 use Rattle.fv_codec.specs.declared.pointer.Pointer.{Pointer}
 use Rattle.fv_model.specs.Trees.{fan}
 use Rattle.fv_tree.specs.Sources.{Use}
-use Rattle.fv_tree.specs.Spelled.{Rooted, hole, pointers_at, pointers_in, pointer_at, block_at}
+use Rattle.fv_tree.specs.Spelled.{hole, pointers_at, pointers_in, pointer_at, block_at}
 use Rattle.fv_tree.specs.Flushing.{Loaded, Leads, IsRight, IsSound, IsEmptyNode, IsFlushed, IsReplaced, IsPlaced, HoldsUnknown, IsNodeOf, NamesPosition, Flushes, kind_for, use_told, HasKind}
 use Rattle.fv_tree.proofs.Below.{no_pointers, kept_pointers, read_pointers}
 use Rattle.fv_tree.proofs.Cases.{false_is_true, none_some, some_none, there}
@@ -461,8 +461,8 @@ module _ (s : Loaded) (used : ℕ → Option Use) (u : Loaded) (uses : ℕ → O
       (subst (λ (n : ℕ). IsNodeOf s.tree.owner n c (u.tree.under p.vvbn)) (sym at.0)
       (subst (λ (n : ℕ). IsNodeOf s.tree.owner k n (u.tree.under p.vvbn)) (sym at.1) (is.names (omega (arith, low, at.0))))))
 
-  fresh : (v : ℕ) → IsPlaced s u v → (s.tree.under v ≡ None) × (used v ≡ None)
-  fresh v placed =
+  pub placed_fresh : (v : ℕ) → IsPlaced s u v → (s.tree.under v ≡ None) × (used v ≡ None)
+  placed_fresh v placed =
       let at = only_flushed placed.level placed.place placed.flushed in
       let own : p.vvbn ≡ v = ap (λ (p : Pointer). p.vvbn) (sym ((λ i. pointer_at u.tree (at.0 i) (at.1 i)) ∙ pointer_here)) ∙ placed.vvbn in
       (ap s.tree.under (sym own) ∙ is.fresh, ap used (sym own) ∙ is.unused)
@@ -477,7 +477,7 @@ module _ (s : Loaded) (used : ℕ → Option Use) (u : Loaded) (uses : ℕ → O
     stays = stays;
     blocks = λ v block not_replaced there. (is.others v (λ e. some_none (s.tree.under v) block (ap s.tree.under e ∙ is.fresh) there) (λ leads. not_replaced (replaced_here v leads))).0 ∙ there;
     others = λ v not_replaced not_placed. is.others v (λ e. not_placed (placed_here v e)) (λ leads. not_replaced (replaced_here v leads));
-    fresh = λ v placed _. fresh v placed;
+    fresh = λ v placed _. placed_fresh v placed;
     gone = gone;
     unknown = unknown;
     told = told;

@@ -171,7 +171,7 @@ module _ (s u : Loaded) (used : ℕ → Option Use) (k q : ℕ) (sound : IsSound
   }
 
   -- nothing was placed
-  none_flushed : {P : Type 0} (j c : ℕ) → IsFlushed s u j c → P
+  pub none_flushed : {P : Type 0} (j c : ℕ) → IsFlushed s u j c → P
   none_flushed j c flushed = elim (spot_is j c k q) [
     | inl at ↦ false_is_true (s.changed j c) ((λ i. s.changed (at.0 i) (at.1 i)) ∙ unchanged (λ e. flushed.some ((λ i. (pointer_at s.tree (at.0 i) (at.1 i)).stamp) ∙ e))) flushed.was
     | inr other ↦ false_is_true (s.changed j c) (sym (is.changed_others j c other) ∙ flushed.done) flushed.was

@@ -63,3 +63,5 @@ pub mod Bordered
 pub mod Stays
 pub mod Spans
 pub mod Altered
+pub mod Anew
+pub mod Taking

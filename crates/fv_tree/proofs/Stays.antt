@@ -75,10 +75,10 @@ all_unread blocks t shared none = λ j. staying_all (record { tree = standing bl
 -- ---- all places under one
 
 -- a place, by the pointer to it
-here : (s : Loaded) (shared : ℕ → Bool) (level place n : ℕ) (p : Pointer) → p ≡ pointer_at s.tree level place → n ≡ cond (not (p.stamp == 0) && (not (s.changed level place) && shared p.vvbn)) 1 0 → n ≡ cond (is_staying s shared level place) 1 0
+pub here : (s : Loaded) (shared : ℕ → Bool) (level place n : ℕ) (p : Pointer) → p ≡ pointer_at s.tree level place → n ≡ cond (not (p.stamp == 0) && (not (s.changed level place) && shared p.vvbn)) 1 0 → n ≡ cond (is_staying s shared level place) 1 0
 here s shared level place n p is counts = counts ∙ ap (λ (q : Pointer). cond {A = ℕ} (not (q.stamp == 0) && (not (s.changed level place) && shared q.vvbn)) 1 0) is
 
-hole_here : (s : Loaded) (shared : ℕ → Bool) (level place : ℕ) → (pointer_at s.tree level place).stamp ≡ 0 → cond {A = ℕ} (is_staying s shared level place) 1 0 ≡ 0
+pub hole_here : (s : Loaded) (shared : ℕ → Bool) (level place : ℕ) → (pointer_at s.tree level place).stamp ≡ 0 → cond {A = ℕ} (is_staying s shared level place) 1 0 ≡ 0
 hole_here s shared level place none =
     let test : ((pointer_at s.tree level place).stamp == 0) ≡ true = grind (arith, nat_tests, none) in
     ap (λ b. cond {A = ℕ} (not b && (not (s.changed level place) && shared (pointer_at s.tree level place).vvbn)) 1 0) test

@@ -1,22 +1,23 @@
 -- One step of a flush, from its calls.
-use Rattle.std.proofs.Common.{◌≡◌, ◌≤◌, ◌<◌, ℕ, ◌+◌, ◌/◌, ◌%◌, ◌⊎◌, inl, inr, Bool, true, false, List, [], ◌∷◌, Option, Some, None, length, is_some, slice_set, refl, sym, ap, subst, ◌∙◌, arith}
+use Rattle.std.proofs.Common.{◌≡◌, ◌≤◌, ◌<◌, ℕ, ◌+◌, ◌/◌, ◌%◌, ◌⊎◌, inl, inr, Bool, true, false, List, [], ◌∷◌, Option, Some, None, length, is_some, slice_set, refl, sym, ap, subst, ◌∙◌, arith, ◌≢◌, ◌&&◌, ◌==◌, if◌then◌else◌, nat_lt}
 use Rattle.std.specs.Map.{lookup}
 use Rattle.std.specs.Ordering.{nat_cmp}
 use Rattle.std.specs.Option.{option_map}
 use Rattle.std.specs.BTreeMap as tree
 use Rattle.std.proofs.lemmas.Bool.{cases_eq, cases_lt}
+use Rattle.std.proofs.lemmas.Bool.Decides.{nat_tests}
 use Rattle.fv_codec.specs.declared.pointer.Pointer.{Pointer}
 use Rattle.fv_model.specs.Trees.{fan, Spot, spot_cmp}
 use Rattle.fv_tree.specs.declared.kept.Tree.{Tree}
 use Rattle.fv_tree.specs.declared.kept.KeptNode.{KeptNode}
 use Rattle.fv_tree.specs.declared.kept.KeptCell.{KeptCell}
-use Rattle.fv_tree.specs.Spelled.{pointer_at}
+use Rattle.fv_tree.specs.Spelled.{hole, pointer_at}
 use Rattle.fv_tree.specs.Sources.{Shown}
 use Rattle.fv_tree.specs.Standing.{standing, under, children_in, node_in}
-use Rattle.fv_tree.specs.Flushing.{Stands, Flushes, HoldsAsMuch, Points, IsHidden, IsMoved, IsCellStep, IsNodeStep, ForgetsCell, ForgetsNode, loaded, changed_of, cell_changed, node_changed, node_placed, cell_placed, all_known}
+use Rattle.fv_tree.specs.Flushing.{Stands, Flushes, IsPlaced, HoldsAsMuch, Points, IsHidden, IsMoved, IsCellStep, IsNodeStep, ForgetsCell, ForgetsNode, loaded, changed_of, cell_changed, node_changed, node_placed, cell_placed, all_known, child_of, pointer_in}
 use Rattle.fv_tree.proofs.Cases.{bit, false_is_true}
-use Rattle.fv_tree.proofs.Flushed.{flushes_placed}
-use Rattle.fv_tree.proofs.Forgotten.{flushes_none}
+use Rattle.fv_tree.proofs.Flushed.{flushes_placed, placed_fresh}
+use Rattle.fv_tree.proofs.Forgotten.{flushes_none, none_flushed}
 use Rattle.fv_tree.proofs.Gone.{Goes, cell_goes, node_goes, is_memory, changed_cell, spot_changed, cell_led, spot_led, forgets_is}
 use Rattle.fv_tree.proofs.Moved.{hidden_is, no_stray, replaces_is, spells, one_unknown, unknown_in}
 use Rattle.fv_tree.proofs.Ways.{past, spot_is}
@@ -31,22 +32,32 @@ no_cell t none i = none_in (tree.is_at (nat_cmp i)) t.cells.entries none
 pub no_node : (t : Tree) → tree.btree_map_len t.nodes ≡ 0 → (k q : ℕ) → tree.get spot_cmp t.nodes (k, q) ≡ None
 no_node t none k q = none_in (tree.is_at (spot_cmp (k, q))) t.nodes.entries none
 
+-- One step of a flush. What it places was free before.
+pub record Step (old new : Shown) (t u : Tree) : Type 0 where
+  pub flushes : Flushes (loaded old t) old.used (loaded new u) new.used
+  pub fresh : (v : ℕ) → IsPlaced (loaded old t) (loaded new u) v → (under old v ≡ None) × (old.used v ≡ None)
+
 -- what goes out of memory and needs no place
 idle_step : (old new : Shown) (t u : Tree) (k q : ℕ) → Stands old t → new.held ≡ old.held → new.used ≡ old.used → Goes t u k q → (changed_of t k q ≡ false) ⊎ ((pointer_at (standing (under old) t) k q).stamp ≡ 0)
-    → Flushes (loaded old t) old.used (loaded new u) new.used
+    → Step old new t u
 idle_step old new t u k q stands held used goes why =
-    subst (Flushes (loaded old t) old.used (loaded new u)) (sym used) (flushes_none (loaded old t) (loaded new u) old.used k q stands (is_memory old t) (forgets_is old new t u k q held goes why))
+    let forgets = forgets_is old new t u k q held goes why in record {
+      flushes = subst (Flushes (loaded old t) old.used (loaded new u)) (sym used) (flushes_none (loaded old t) (loaded new u) old.used k q stands (is_memory old t) forgets);
+      fresh = λ v placed. absurd (none_flushed (loaded old t) (loaded new u) old.used k q stands (is_memory old t) forgets placed.level placed.place placed.flushed);
+    }
 
 cell_written : (old new : Shown) (t mid u : Tree) (q : ℕ) (cell : KeptCell) → Stands old t → tree.get nat_cmp t.cells q ≡ Some cell → changed_of t 0 q ≡ true → IsHidden old t 0 q new mid ⊎ IsMoved old t 0 q cell.block cell.placed true new mid → ForgetsCell mid u q
-    → Flushes (loaded old t) old.used (loaded new u) new.used
+    → Step old new t u
 cell_written old new t mid u q cell stands held was (inl hidden) forgets =
     idle_step old new t u 0 q stands hidden.untouched.held hidden.untouched.used (cell_goes t u q (subst (λ v. ForgetsCell v u q) hidden.tree forgets)) (inr (hidden_is old t stands 0 q was hidden.none))
 cell_written old new t mid u q cell stands held was (inr moved) forgets =
-    flushes_placed (loaded old t) old.used (loaded new u) new.used 0 q moved.pointer stands (is_memory old t)
-    (replaces_is old new t mid u 0 q cell.block cell.placed true stands was (sym (cell_led t 0 q refl ∙ ap cell_placed held)) (λ j c e. absurd (omega (arith, e))) moved (cell_goes mid u q forgets)
-    (λ low. absurd (omega (arith, low))) (λ low. absurd (omega (arith, low))) (λ e. ap (option_map (λ (kept : KeptCell). kept.block)) held) (λ hidden. false_is_true true hidden refl))
+    let replaces = replaces_is old new t mid u 0 q cell.block cell.placed true stands was (sym (cell_led t 0 q refl ∙ ap cell_placed held)) (λ j c e. absurd (omega (arith, e))) moved (cell_goes mid u q forgets)
+    (λ low. absurd (omega (arith, low))) (λ low. absurd (omega (arith, low))) (λ e. ap (option_map (λ (kept : KeptCell). kept.block)) held) (λ hidden. false_is_true true hidden refl) in record {
+      flushes = flushes_placed (loaded old t) old.used (loaded new u) new.used 0 q moved.pointer stands (is_memory old t) replaces;
+      fresh = placed_fresh (loaded old t) old.used (loaded new u) new.used 0 q moved.pointer stands (is_memory old t) replaces;
+    }
 
-pub cell_step : (old new : Shown) (t mid u : Tree) (q : ℕ) (cell : KeptCell) → Stands old t → tree.get nat_cmp t.cells q ≡ Some cell → IsCellStep old t q cell new mid → ForgetsCell mid u q → Flushes (loaded old t) old.used (loaded new u) new.used
+pub cell_step : (old new : Shown) (t mid u : Tree) (q : ℕ) (cell : KeptCell) → Stands old t → tree.get nat_cmp t.cells q ≡ Some cell → IsCellStep old t q cell new mid → ForgetsCell mid u q → Step old new t u
 cell_step old new t mid u q cell stands held (inl idle) forgets =
     idle_step old new t u 0 q stands idle.untouched.held idle.untouched.used (cell_goes t u q (subst (λ v. ForgetsCell v u q) idle.tree forgets)) (inl (changed_cell t 0 q refl ∙ ap cell_changed held ∙ idle.why))
 cell_step old new t mid u q cell stands held (inr is) forgets = cell_written old new t mid u q cell stands held (changed_cell t 0 q refl ∙ ap cell_changed held ∙ is.changed) is.moved forgets
@@ -87,11 +98,11 @@ module _ (old new : Shown) (t mid u : Tree) (k q : ℕ) (node : KeptNode) (stand
   ]
 
   unchanged_or : (1 ≤ k → changed_of t k q ≡ true → (pointer_at (standing (under old) t) k q).stamp ≡ 0) → (changed_of t k q ≡ false) ⊎ ((pointer_at (standing (under old) t) k q).stamp ≡ 0)
-  unchanged_or then = elim (cases_eq k 0) [
+  unchanged_or so = elim (cases_eq k 0) [
     | inl e ↦ inl (no_change e)
     | inr low ↦ elim (bit (changed_of t k q)) [
       | inl same ↦ inl same
-      | inr changed ↦ inr (then (omega arith) changed)
+      | inr changed ↦ inr (so (omega arith) changed)
     ]
   ]
 
@@ -110,24 +121,41 @@ module _ (old new : Shown) (t mid u : Tree) (k q : ℕ) (node : KeptNode) (stand
     | inr low ↦ spot_changed t j c (omega arith) ∙ ap node_changed (lowest j c (omega (arith, up)))
   ]
 
-  pub node_step : ((j c : ℕ) → j < k → tree.get spot_cmp t.nodes (j, c) ≡ None) → IsNodeStep old t k q node new mid → ForgetsNode mid u k q → Flushes (loaded old t) old.used (loaded new u) new.used
+  pub node_step : ((j c : ℕ) → j < k → tree.get spot_cmp t.nodes (j, c) ≡ None) → IsNodeStep old t k q node new mid → ForgetsNode mid u k q → Step old new t u
   node_step lowest (inl idle) forgets =
       idle_step old new t u k q stands idle.untouched.held idle.untouched.used (goes_at (subst (λ v. ForgetsNode v u k q) idle.tree forgets)) (idle_why idle.why)
   node_step lowest (inr (inl hidden)) forgets =
       idle_step old new t u k q stands hidden.untouched.held hidden.untouched.used (goes_at (subst (λ v. ForgetsNode v u k q) hidden.tree forgets)) (unchanged_or (λ _ changed. hidden_is old t stands k q changed hidden.none))
   node_step lowest (inr (inr is)) forgets =
       let was : changed_of t k q ≡ true = spot_changed t k q is.low ∙ ap node_changed held ∙ is.changed in
-      flushes_placed (loaded old t) old.used (loaded new u) new.used k q is.moved.pointer stands (is_memory old t)
-      (replaces_is old new t mid u k q is.block node.placed (all_known node.children) stands was (sym (spot_led t k q is.low ∙ ap node_placed held)) (first lowest) is.moved (node_goes mid u k q is.low forgets)
+      let replaces = replaces_is old new t mid u k q is.block node.placed (all_known node.children) stands was (sym (spot_led t k q is.low ∙ ap node_placed held)) (first lowest) is.moved (node_goes mid u k q is.low forgets)
       (λ low. (node.children, ap (option_map (λ (kept : KeptNode). kept.children)) held, spells t.owner k q node.children is.block is.spells, one_unknown node.children))
       (λ _. record { block = is.block; lies = refl; children = node.children; spells = is.spells })
-      (λ e. absurd (omega (arith, e, is.low))) (λ hidden. (is.low, unknown_in node (node_in t k q) (ap (option_map (λ (kept : KeptNode). kept.children)) held) hidden)))
+      (λ e. absurd (omega (arith, e, is.low))) (λ hidden. (is.low, unknown_in node (node_in t k q) (ap (option_map (λ (kept : KeptNode). kept.children)) held) hidden)) in record {
+        flushes = flushes_placed (loaded old t) old.used (loaded new u) new.used k q is.moved.pointer stands (is_memory old t) replaces;
+        fresh = placed_fresh (loaded old t) old.used (loaded new u) new.used k q is.moved.pointer stands (is_memory old t) replaces;
+      }
+
+-- from the levels on only the root leads anywhere
+top_hole : (t : Tree) (level place : ℕ) → t.levels ≤ level → t.root.stamp ≡ 0 → (pointer_in t level place).stamp ≡ 0
+unfolding pointer_in
+top_hole t level place top none =
+    let test : nat_lt level t.levels ≡ false = grind (arith, nat_tests, top) in
+    ap (λ b. (if b then child_of (node_in t (level + 1) (place / fan)) (place % fan) else if level == t.levels && place == 0 then t.root else hole).stamp) test ∙ either (level == t.levels && place == 0)
+  where
+    either : (b : Bool) → (if b then t.root else hole).stamp ≡ 0
+    either true = none
+    either false = refl
 
 -- another pointer in a node
-pub holds_as_much : (t u : Tree) (level place : ℕ) (p : Pointer) → Points t u level place p → HoldsAsMuch t u
-holds_as_much t u level place p points = record {
+pub holds_as_much : (t u : Tree) (level place : ℕ) (p : Pointer) → (pointer_in t level place).stamp ≢ 0 → Points t u level place p → HoldsAsMuch t u
+holds_as_much t u level place p some points = record {
   owner = points.owner;
   levels = points.levels;
+  root = λ none. elim (cases_lt level t.levels) [
+    | inl low ↦ points.low low
+    | inr top ↦ absurd (some (top_hole t level place top none))
+  ];
   cells = points.cells;
   len = points.len;
   there = λ k q. seen (tree.get spot_cmp u.nodes (k, q)) ∙ there k q ∙ sym (seen (tree.get spot_cmp t.nodes (k, q)));

@@ -2,10 +2,14 @@
 --
 -- An example: a file has the blocks 0 and 1 under one node. A write of block 0 with the stamp 7 gives the stamp 7 to block 0 and to the node,
 -- and both differ from their blocks then. Block 1 leads where it did, and differs from its block only if it did.
-use Rattle.std.specs.Prelude.{◌≡◌, ◌⊎◌, ℕ, true, false, Option, None}
-use Rattle.fv_tree.specs.Spelled.{pointer_at}
+use Rattle.std.specs.Prelude.{◌≡◌, ◌⊎◌, ℕ, true, false, Option}
+use Rattle.fv_tree.specs.declared.kept.Tree.{Tree}
+use Rattle.fv_tree.specs.Spelled.{Under, pointer_at}
 use Rattle.fv_tree.specs.Sources.{Use}
-use Rattle.fv_tree.specs.Flushing.{Loaded, IsReplaced}
+use Rattle.fv_tree.specs.Flushing.{Loaded, loaded_over, IsSound}
+use Rattle.fv_tree.specs.Leading.{LeadsNoMore}
+use Rattle.fv_tree.specs.Stored.{IsStoredWell}
+use Rattle.fv_tree.specs.Readying.{KeepsReady}
 
 -- nothing leads to a place
 abbrev pub IsHole : Loaded → ℕ → ℕ → Type 0
@@ -31,14 +35,24 @@ pub record Leaves (old new : Loaded) : Type 0 where
 abbrev pub Alters : ℕ → Loaded → Loaded → Type 0
 Alters stamp old new = (level place : ℕ) → IsHole new level place ⊎ (IsChanged stamp new level place ⊎ IsAsBefore old new level place)
 
--- a place that differed from its block was placed, under the stamp that it has: where no block was and no VVBN in use, but for that of a
--- block that was replaced
-pub record IsPlacedAnew (old : Loaded) (used : ℕ → Option Use) (new : Loaded) (level place : ℕ) : Type 0 where
+-- A change with this stamp in memory alone. Over whatever blocks, a tree that stands on them still does, and leads to the same ones.
+pub record AltersHeld (old new : Tree) (stamp : ℕ) : Type 0 where
+  pub owner : new.owner ≡ old.owner
+  pub levels : new.levels ≡ old.levels
+  pub sound : (held : Under) (used : ℕ → Option Use) → IsSound used (loaded_over held old) → IsSound used (loaded_over held new)
+  pub leads : (held : Under) → LeadsNoMore (loaded_over held old) (loaded_over held new)
+  pub keeps : (held : Under) → LeadsNoMore (loaded_over held new) (loaded_over held old)
+  pub stored_well : (held : Under) → IsStoredWell (loaded_over held old) → IsStoredWell (loaded_over held new)
+  pub keeps_ready : KeepsReady old new
+  pub alters : (held : Under) → Alters stamp (loaded_over held old) (loaded_over held new)
+
+-- a place that differed from its block was placed, under the stamp that it has and a VVBN that was free
+pub record IsPlacedAnew (old : Loaded) (free : ℕ → Type 0) (new : Loaded) (level place : ℕ) : Type 0 where
   pub stamp : (pointer_at new.tree level place).stamp ≡ (pointer_at old.tree level place).stamp
   pub was : old.changed level place ≡ true
   pub done : new.changed level place ≡ false
-  pub fresh : (IsReplaced old new (pointer_at new.tree level place).vvbn → ⊥) → (old.tree.under (pointer_at new.tree level place).vvbn ≡ None) × (used (pointer_at new.tree level place).vvbn ≡ None)
+  pub fresh : free (pointer_at new.tree level place).vvbn
 
--- A flush: each place to which a pointer leads was placed anew, or is as before.
-abbrev pub PlacesAnew : Loaded → (ℕ → Option Use) → Loaded → Type 0
-PlacesAnew old used new = (level place : ℕ) → IsHole new level place ⊎ (IsPlacedAnew old used new level place ⊎ IsAsBefore old new level place)
+-- A flush: each place to which a pointer leads was placed anew, or is as before. `free` says which VVBNs new blocks got.
+abbrev pub PlacesAnew : Loaded → (ℕ → Type 0) → Loaded → Type 0
+PlacesAnew old free new = (level place : ℕ) → IsHole new level place ⊎ (IsPlacedAnew old free new level place ⊎ IsAsBefore old new level place)

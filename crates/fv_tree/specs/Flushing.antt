@@ -213,10 +213,11 @@ pub record Points (old new : Tree) (level place : ℕ) (p : Pointer) : Type 0 wh
   pub placed : (k q : ℕ) → placed_in new.nodes k q ≡ placed_in old.nodes k q
   pub changed : (k q : ℕ) → ((k ≢ level + 1) ⊎ (q ≢ place / fan)) ⊎ (changed_in old.nodes k q ≡ true) → changed_in new.nodes k q ≡ changed_in old.nodes k q
 
--- as much is in memory: the same cells, and nodes of the same places
+-- as much is in memory: the same cells, and nodes of the same places; where the tree leads nowhere it has the root that it had
 pub record HoldsAsMuch (old new : Tree) : Type 0 where
   pub owner : new.owner ≡ old.owner
   pub levels : new.levels ≡ old.levels
+  pub root : old.root.stamp ≡ 0 → new.root ≡ old.root
   pub cells : new.cells ≡ old.cells
   pub len : tree.btree_map_len new.nodes ≡ tree.btree_map_len old.nodes
   pub there : (k q : ℕ) → is_some (tree.get spot_cmp new.nodes (k, q)) ≡ is_some (tree.get spot_cmp old.nodes (k, q))
@@ -265,10 +266,11 @@ pub record ForgetsNode (t u : Tree) (level place : ℕ) : Type 0 where
   pub own : tree.get spot_cmp u.nodes (level, place) ≡ None
   pub others : (k q : ℕ) → (k ≢ level) ⊎ (q ≢ place) → tree.get spot_cmp u.nodes (k, q) ≡ tree.get spot_cmp t.nodes (k, q)
 
--- the tree has the same owner and levels, and no cell came into memory
+-- the tree has the same owner and levels, where it leads nowhere the same root, and no cell came into memory
 pub record IsLeft (old new : Tree) : Type 0 where
   pub owner : new.owner ≡ old.owner
   pub levels : new.levels ≡ old.levels
+  pub root : old.root.stamp ≡ 0 → new.root ≡ old.root
   pub cells : cells_held new ≤ cells_held old
 
 -- nothing was placed, since the node didn't change or isn't one of the tree's levels

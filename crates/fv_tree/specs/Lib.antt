@@ -20,3 +20,4 @@ pub mod Seeking
 pub mod Beside
 pub mod Costs
 pub mod Altering
+pub mod Taking

@@ -134,3 +134,12 @@ pub record Drops (old : Shown) (vvbn : ℕ) (new : Shown) : Type 0 where
 pub record IsKind (kind : ℕ) : Type 0 where
   pub least : 1 ≤ kind
   pub greatest : kind ≤ 7
+
+-- A VVBN was free at some moment between two states of a source: no block was held under it then, and it wasn't in use. So it is none that
+-- another table has all the while. `goes` says what calls leave of the source.
+pub record WasFree {B : Type 0} (shown : B → Shown) (goes : B → B → Type 0) (old new : B) (v : ℕ) : Type 0 where
+  pub moment : B
+  pub before : goes old moment
+  pub after : goes moment new
+  pub held : fin.get (shown moment).held v ≡ None
+  pub used : (shown moment).used v ≡ None

@@ -5,7 +5,7 @@ ghost use Rattle.std.specs.BTreeMap as maps;
 ghost use Rattle.fv_codec.specs.Blocks.{IsPointer};
 ghost use Rattle.fv_model.specs.Trees.{fan, spot_cmp};
 ghost use Rattle.fv_tree.specs.Spelled.{stored};
-ghost use Rattle.fv_tree.specs.Sources.{Counts, HasCause, IsDamaged, IsUntouched};
+ghost use Rattle.fv_tree.specs.Sources.{Counts, HasCause, IsDamaged, IsUntouched, WasFree};
 ghost use Rattle.fv_tree.specs.Standing.{standing, under};
 ghost use Rattle.fv_tree.specs.Writing.{Remains};
 ghost use Rattle.fv_tree.specs.Flushing.{changed_in, loaded, pointer_in, Flushes, HoldsAsMuch, IsCellStep, IsLeft, IsNodeStep, ReachesOnce, Stands};
@@ -23,6 +23,7 @@ use fv_codec::Pointer;
 /// Places the cells in memory that changed.
 fn flush_cells<B: Blocks>(tree: &mut Tree, blocks: &mut B) -> Result<(), TreeFault>
     ensures flushes { B.told → Stands (B.shown blocks.old) tree.old → Flushes (loaded (B.shown blocks.old) tree.old) (B.shown blocks.old).used (loaded (B.shown blocks.new) tree.new) (B.shown blocks.new).used }
+    ensures anew { B.told → Stands (B.shown blocks.old) tree.old → PlacesAnew (loaded (B.shown blocks.old) tree.old) (WasFree B.shown B.goes blocks.old blocks.new) (loaded (B.shown blocks.new) tree.new) }
     ensures strays { B.told → Stands (B.shown blocks.old) tree.old → (B.shown blocks.new).strays ≡ (B.shown blocks.old).strays }
     ensures left { IsLeft tree.old tree.new }
     ensures fits { B.told → Stands (B.shown blocks.old) tree.old → Fits (B.shown blocks.old) tree.old (B.shown blocks.new) tree.new }
@@ -44,6 +45,7 @@ fn flush_cells<B: Blocks>(tree: &mut Tree, blocks: &mut B) -> Result<(), TreeFau
 fn flush_nodes<B: Blocks>(tree: &mut Tree, blocks: &mut B) -> Result<(), TreeFault>
     requires { maps.btree_map_len tree.old.cells ≡ 0 }
     ensures flushes { B.told → Stands (B.shown blocks.old) tree.old → Flushes (loaded (B.shown blocks.old) tree.old) (B.shown blocks.old).used (loaded (B.shown blocks.new) tree.new) (B.shown blocks.new).used }
+    ensures anew { B.told → Stands (B.shown blocks.old) tree.old → PlacesAnew (loaded (B.shown blocks.old) tree.old) (WasFree B.shown B.goes blocks.old blocks.new) (loaded (B.shown blocks.new) tree.new) }
     ensures strays { B.told → Stands (B.shown blocks.old) tree.old → (B.shown blocks.new).strays ≡ (B.shown blocks.old).strays }
     ensures left { IsLeft tree.old tree.new }
     ensures fits { B.told → Stands (B.shown blocks.old) tree.old → Fits (B.shown blocks.old) tree.old (B.shown blocks.new) tree.new }
@@ -65,6 +67,7 @@ fn flush_nodes<B: Blocks>(tree: &mut Tree, blocks: &mut B) -> Result<(), TreeFau
 /// Places the first cell in memory, where it changed.
 fn flush_first_cell<B: Blocks>(tree: &mut Tree, blocks: &mut B) -> Result<(), TreeFault>
     ensures flushes { B.told → Stands (B.shown blocks.old) tree.old → Flushes (loaded (B.shown blocks.old) tree.old) (B.shown blocks.old).used (loaded (B.shown blocks.new) tree.new) (B.shown blocks.new).used }
+    ensures anew { B.told → Stands (B.shown blocks.old) tree.old → PlacesAnew (loaded (B.shown blocks.old) tree.old) (WasFree B.shown B.goes blocks.old blocks.new) (loaded (B.shown blocks.new) tree.new) }
     ensures strays { B.told → Stands (B.shown blocks.old) tree.old → (B.shown blocks.new).strays ≡ (B.shown blocks.old).strays }
     ensures left { IsLeft tree.old tree.new }
     ensures fits { B.told → Stands (B.shown blocks.old) tree.old → Fits (B.shown blocks.old) tree.old (B.shown blocks.new) tree.new }
@@ -119,6 +122,7 @@ fn flush_cell<B: Blocks>(
 fn flush_first_node<B: Blocks>(tree: &mut Tree, blocks: &mut B) -> Result<(), TreeFault>
     requires { maps.btree_map_len tree.old.cells ≡ 0 }
     ensures flushes { B.told → Stands (B.shown blocks.old) tree.old → Flushes (loaded (B.shown blocks.old) tree.old) (B.shown blocks.old).used (loaded (B.shown blocks.new) tree.new) (B.shown blocks.new).used }
+    ensures anew { B.told → Stands (B.shown blocks.old) tree.old → PlacesAnew (loaded (B.shown blocks.old) tree.old) (WasFree B.shown B.goes blocks.old blocks.new) (loaded (B.shown blocks.new) tree.new) }
     ensures strays { B.told → Stands (B.shown blocks.old) tree.old → (B.shown blocks.new).strays ≡ (B.shown blocks.old).strays }
     ensures left { IsLeft tree.old tree.new }
     ensures fits { B.told → Stands (B.shown blocks.old) tree.old → Fits (B.shown blocks.old) tree.old (B.shown blocks.new) tree.new }
@@ -188,7 +192,7 @@ impl Tree {
     /// As `place` of the `Blocks` answers them.
     pub fn flush<B: Blocks>(&mut self, blocks: &mut B) -> Result<Pointer, TreeFault>
         ensures flushes { B.told → Stands (B.shown blocks.old) self.old → Flushes (loaded (B.shown blocks.old) self.old) (B.shown blocks.old).used (loaded (B.shown blocks.new) self.new) (B.shown blocks.new).used }
-        ensures anew { B.told → Stands (B.shown blocks.old) self.old → PlacesAnew (loaded (B.shown blocks.old) self.old) (B.shown blocks.old).used (loaded (B.shown blocks.new) self.new) }
+        ensures anew { B.told → Stands (B.shown blocks.old) self.old → PlacesAnew (loaded (B.shown blocks.old) self.old) (WasFree B.shown B.goes blocks.old blocks.new) (loaded (B.shown blocks.new) self.new) }
         ensures strays { B.told → Stands (B.shown blocks.old) self.old → (B.shown blocks.new).strays ≡ (B.shown blocks.old).strays }
         ensures remains { B.told → Stands (B.shown blocks.old) self.old → Remains (standing (under (B.shown blocks.old)) self.old) (standing (under (B.shown blocks.new)) self.new) }
         ensures left { IsLeft self.old self.new }

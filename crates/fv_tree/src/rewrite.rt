@@ -6,12 +6,12 @@ ghost use Rattle.std.specs.Ordering.{nat_cmp};
 ghost use Rattle.std.specs.Option.{option_map};
 ghost use Rattle.fv_tree.specs.declared.kept.KeptCell.{KeptCell};
 ghost use Rattle.fv_tree.specs.Spelled.{Under, pointer_at, stamp_in, block_at};
-ghost use Rattle.fv_tree.specs.Sources.{Counts, Use, IsUntouched};
+ghost use Rattle.fv_tree.specs.Sources.{Counts, IsUntouched};
 ghost use Rattle.fv_tree.specs.Standing.{standing, under, cell_in, Fails, IsSameButCells};
 ghost use Rattle.fv_tree.specs.Writing.{IsAlike, IsWritten, Remains, Writes};
-ghost use Rattle.fv_tree.specs.Flushing.{cell_changed, cell_placed, changed_of, loaded, loaded_over, IsSound, Stands};
+ghost use Rattle.fv_tree.specs.Flushing.{cell_changed, cell_placed, changed_of, loaded, Stands};
 ghost use Rattle.fv_tree.specs.Stored.{IsStoredWell};
-ghost use Rattle.fv_tree.specs.Altering.{Alters, Leaves};
+ghost use Rattle.fv_tree.specs.Altering.{AltersHeld, Leaves};
 ghost use Rattle.fv_tree.specs.Leading.{Carries, LeadsNoMore};
 ghost use Rattle.fv_tree.specs.Readying.{HoldsCell, IsReady, KeepsReady};
 ghost use Rattle.fv_disk.specs.declared.fault.BlockFault.TheVariants.{Memory};
@@ -73,14 +73,7 @@ impl Tree {
         requires stamp { 1 ≤ stamp }
         ensures written { (held : Under) → Writes (standing held self.old) (standing held self.new) index stamp block.now }
         ensures place_by_place { (held : Under) → IsWritten (standing held self.old) (standing held self.new) index stamp block.now }
-        ensures owner { self.new.owner ≡ self.old.owner }
-        ensures levels { self.new.levels ≡ self.old.levels }
-        ensures sound { (held : Under) (used : ℕ → Option Use) → IsSound used (loaded_over held self.old) → IsSound used (loaded_over held self.new) }
-        ensures leads { (held : Under) → LeadsNoMore (loaded_over held self.old) (loaded_over held self.new) }
-        ensures keeps { (held : Under) → LeadsNoMore (loaded_over held self.new) (loaded_over held self.old) }
-        ensures stored_well { (held : Under) → IsStoredWell (loaded_over held self.old) → IsStoredWell (loaded_over held self.new) }
-        ensures ready { (i : ℕ) → IsReady self.old i → IsReady self.new i }
-        ensures alters { (held : Under) → Alters stamp (loaded_over held self.old) (loaded_over held self.new) }
+        ensures alters { AltersHeld self.old self.new stamp }
         ensures marked { changed_of self.new 0 index ≡ true }
         ensures memory { cell_in self.new index ≡ Some block.now }
         ensures rises { Rises self.old self.new 4 0 }

@@ -107,7 +107,13 @@ fn stays<B: Sharing>(tree: &Tree, blocks: &B, level: u8, index: u32, pointer: &P
 }
 
 /// 1 where a place, with this pointer to it, leads to a block that is shared and that it doesn't differ from, and else 0.
-fn stays_at<B: Sharing>(tree: &Tree, blocks: &B, level: u8, place: u32, pointer: &Pointer) -> u32
+pub fn stays_at<B: Sharing>(
+    tree: &Tree,
+    blocks: &B,
+    level: u8,
+    place: u32,
+    pointer: &Pointer,
+) -> u32
     ensures exact { result ≡ cond (not (pointer.now.stamp == 0) && (not (changed_of tree.now level place) && B.shared blocks.now pointer.now.vvbn)) 1 0 }
     ensures few { result ≤ 1 }
 {

@@ -13,6 +13,8 @@ mod silent;
 #[cfg(test)]
 mod spelled;
 #[cfg(test)]
+mod taken;
+#[cfg(test)]
 mod walk;
 
 pub use memory::MemBlocks;

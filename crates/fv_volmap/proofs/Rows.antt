@@ -1,11 +1,11 @@
 -- Slots in a row.
-use Rattle.std.proofs.Common.{◌≡◌, ℕ, zero, suc, ◌+◌, ◌-◌, ◌<◌, Bool, true, false, ◌||◌, List, [], ◌∷◌, ◌++◌, length, take, drop, get_or, set, Some, None, All, refl, sym, ap, ◌∙◌, ◌==◌, cond, arith, length-set}
+use Rattle.std.proofs.Common.{◌≡◌, ℕ, zero, suc, ◌+◌, ◌-◌, ◌<◌, ◌≤◌, Bool, true, false, ◌||◌, List, [], ◌∷◌, ◌++◌, length, take, drop, get_or, set, Some, None, All, refl, sym, ap, ◌∙◌, ◌==◌, cond, arith, length-set}
 use Rattle.std.proofs.lemmas.Bool.Decides.{nat_tests}
 use Rattle.std.proofs.lemmas.List.Folds.{list_any_more, list_any_at, list_any-append}
 use Rattle.std.proofs.lemmas.List.{length-take-le, set_split}
 use Rattle.std.proofs.lemmas.List.Elements.{All-set}
 use Rattle.fv_bits.specs.Members.{is_member}
-use Rattle.fv_bits.proofs.Laws.{is_member-set}
+use Rattle.fv_bits.proofs.Laws.{is_member-set, is_member_past}
 use Rattle.fv_volmap.specs.Slots.{Slot, has, taken_in}
 use Rattle.fv_volmap.specs.Kept.{IsLong, IsKept, Unites}
 
@@ -120,3 +120,13 @@ module _ (span : ℕ) (active : List Bool) (others : List Slot) (union : List Bo
 -- the 24 slots of snapshots
 pub stored_slots : (slots items : List Slot) → slots ≡ items → length items ≡ 25 → 24 ≡ length (take 24 slots)
 stored_slots slots items same count = sym (length-take-le 24 slots (omega (arith, ap length same)))
+
+-- no slot has a number from the span on
+pub past_none : (span v n : ℕ) (slots : List Slot) → All (IsLong span) slots → span ≤ v → taken_in (take n slots) v ≡ false
+past_none span v zero slots long past = refl
+past_none span v (suc n) [] long past = refl
+past_none span v (suc n) (s ∷ ss) long past = (λ j. one s (long 0 None (omega arith)) j || past_none span v n ss (λ i d lt. long (suc i) d (omega (arith, lt))) past j)
+  where
+    one : (s : Slot) → IsLong span s → has v s ≡ false
+    one None fits = refl
+    one (Some map) fits = is_member_past map v (omega (arith, fits, past))

@@ -217,11 +217,14 @@ impl VolMap {
 
     /// Whether the slot of a snapshot, 1 to 24, has this number, whatever number it is; none has one from the
     /// span on. Costs a step for each slot. `docs/DECISIONS.md` has how what stays charged is counted.
-    #[tactic(auto, using(crate::proofs::Rows::stored_slots))]
-    pub fn in_snapshot(&self, vvbn: u32) -> bool
+    #[tactic(auto, using(crate::proofs::Rows::stored_slots, crate::proofs::Rows::past_none))]
+    pub fn in_snapshot(&self, vvbn: u64) -> bool
         ensures { result ≡ is_in_snapshot self.now vvbn }
     {
-        slots::any_has(&self.others[..24], vvbn)
+        if vvbn >= u64::from(self.span) {
+            return false;
+        }
+        slots::any_has(&self.others[..24], vvbn as u32)
     }
 
     /// Whether a slot from 0 to 24 has this number; none has one from the span on. Costs a step for each

@@ -25,11 +25,13 @@ use Rattle.fv_volume.specs.Causes.{of_block}
 use Rattle.fv_volume.specs.Changing.{AltersTable, FitsLedger, KeepsButTable, KeepsTable, RefusedIn}
 use Rattle.fv_volume.specs.Placing.{pending_of, IsLedTo, IsStoredWell}
 use Rattle.fv_volume.specs.Labels.{label_said}
-use Rattle.fv_volume.specs.OneVolume.{shows, standing_for, table_for, volume_for, AreSoundBy, IsReady, IsStanding}
+use Rattle.fv_volume.specs.OneVolume.{shows, standing_for, table_for, trees_for, volume_for, AreLaidBy, AreSoundBy, IsReady, IsStanding}
+use Rattle.fv_files.specs.Altering.{AltersTrees}
 use Rattle.fv_volume.proofs.CallCauses.{not_refused}
 use Rattle.fv_volume.proofs.Changed.{failed_standing, failed_volume}
 use Rattle.fv_volume.proofs.OneVolumes.{still_ready, still_standing, still_volume}
 use Rattle.fv_volume.proofs.ReadyAgain.{ready_again}
+use Rattle.fv_volume.proofs.SharedChanges.{PlacesAltered}
 use Rattle.fv_volume.proofs.Standings.{still_led, still_well}
 
 -- a fault of blocks is no refusal
@@ -169,8 +171,14 @@ module _ (d e f : Disk) (p q r : Pool) (first : Reads d p e q) (x v y : VolumeSt
     its_table : table_for e q its_left ≡ table_for e q x
     its_table = subst (λ (z : VolumeState). table_for e q z ≡ table_for e q x) its_alters.same (its_alters.failed now_standing)
 
+    its_places : PlacesAltered e q x y.map y.files
+    its_places = record {
+      alters = subst (λ (z : VolumeState). AltersTrees (x.now + 1) (trees_for e q x) (trees_for e q z)) its_alters.same (its_alters.alters now_standing);
+      laid = subst (λ (z : VolumeState). AreLaidBy (under (shows e q z)) z.files) its_alters.same (its_alters.laid now_standing);
+    }
+
     pub failed_stands : IsStanding f r y
-    failed_stands = subst (λ (z : VolumeState). IsStanding f r z) (sym its_alters.same) (failed_standing d e f p q r first its_alters.reads x is y.map its_alters.maps.snapshots y.files its_told its_trees its_table)
+    failed_stands = subst (λ (z : VolumeState). IsStanding f r z) (sym its_alters.same) (failed_standing d e f p q r first its_alters.reads x is y.map its_alters.maps.snapshots y.files its_told its_trees its_table its_places)
 
     pub failed_changes : (has : Machine → Type 0) (c : Command) (res : Result Unit VolumeFault) → res ≡ Err (of_block b) → Changes has c x.name (volume_for d p x) (volume_for f r y) res
     failed_changes has c res failed = subst (λ (z : VolumeState). Changes has c x.name (volume_for d p x) (volume_for f r z) res) (sym its_alters.same)
@@ -274,6 +282,13 @@ module _ {T : Type 0} (d e f : Disk) (p q r : Pool) (x v w y : VolumeState) (res
 
     pub done_trees : AreSoundBy (under (shows e q left_so)) (shows e q left_so).used x.active w.files
     done_trees = subst (λ (z : VolumeState). AreSoundBy (under (shows e q z)) (shows e q z).used z.active z.files) is_left (parts.alters.trees stood)
+
+    pub done_places : PlacesAltered e q x w.map w.files
+    done_places = record {
+      alters = subst (λ (z : VolumeState). AltersTrees (x.now + 1) (trees_for e q x) (trees_for e q z)) is_left
+          (subst (λ (z : VolumeState). AltersTrees (z.now + 1) (trees_for e q z) (trees_for e q w)) parts.same (parts.alters.alters stood));
+      laid = subst (λ (z : VolumeState). AreLaidBy (under (shows e q z)) z.files) is_left (parts.alters.laid stood);
+    }
 
     -- what is said of the table before and after its change
     pub done_says : (says : Standing → Standing → ℕ → Type 0) → (IsStanding e q v → says (standing_for e q v) (standing_for e q w) (v.now + 1)) → says (standing_for e q x) (standing_for e q left_so) (x.now + 1)

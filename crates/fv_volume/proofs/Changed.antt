@@ -19,6 +19,8 @@ use Rattle.fv_tree.specs.Sources.{Use}
 use Rattle.fv_tree.specs.Standing.{under}
 use Rattle.fv_files.specs.declared.files.Files.{Files}
 use Rattle.fv_files.specs.declared.numbers.FileNumbers.{FileNumbers}
+use Rattle.fv_files.specs.Apart.{Trees}
+use Rattle.fv_files.specs.Altering.{AltersTrees}
 use Rattle.fv_files.specs.Numbering.{AreNumbersIf}
 use Rattle.fv_container.specs.Chains.{Slots}
 use Rattle.fv_volmap.specs.Slots.{Volume as Maps, has, slot_at}
@@ -32,10 +34,12 @@ use Rattle.fv_volume.specs.declared.state.VolumeState.{VolumeState}
 use Rattle.fv_volume.specs.BlocksOver.{block_of, held_block, held_entry}
 use Rattle.fv_volume.specs.Calls.{HasBeside, Reads}
 use Rattle.fv_volume.specs.Lending.{IsTold}
-use Rattle.fv_volume.specs.OneVolume.{shows, standing_by, table_for, volume_as, volume_for, AreSoundBy, IsStanding}
+use Rattle.fv_volume.specs.OneVolume.{blocks_in, shows, standing_by, table_for, trees_for, volume_as, volume_for, AreLaidBy, AreSoundBy, IsStanding}
+use Rattle.fv_volume.specs.Sharing.{trees_by, AreShared}
 use Rattle.fv_volume.proofs.Charging.{left_by}
 use Rattle.fv_volume.proofs.Holding.{same_entry}
-use Rattle.fv_volume.proofs.KeptTables.{kept_snaps, kept_tables}
+use Rattle.fv_volume.proofs.KeptTables.{kept_shared, kept_snaps, kept_tables}
+use Rattle.fv_volume.proofs.SharedChanges.{shared_altered, PlacesAltered}
 use Rattle.fv_volume.proofs.OneVolumes.{still_table, still_under, still_used}
 
 -- ---- what is said of the space
@@ -97,7 +101,20 @@ module _ (d e f : Disk) (p q r : Pool) (first : Reads d p e q) (second : Reads e
   abbrev its_table : Table
   its_table = table_told (standing_by (under (shows e q with_map)) x.active files)
 
+  -- its trees over what was read before the change
+  abbrev its_trees : Trees
+  its_trees = trees_by (under (shows e q with_map)) x.active files
+
   module _ (told : IsTold f r map x.slot) (trees : AreSoundBy (under (shows e q with_map)) (shows e q with_map).used x.active files) where
+    -- what it shares with its snapshots
+    shared_now : AltersTrees (x.now + 1) (trees_for e q x) its_trees → AreShared (trees_by (under (shows f r with_map)) x.active files) (blocks_in d p x) x.snapshots
+    shared_now alters = subst (λ (u : Under). AreShared (trees_by u x.active files) (blocks_in d p x) x.snapshots) (sym (still_under e f q r second with_map))
+        (shared_altered x.now (x.now + 1) (trees_for e q x) its_trees (blocks_in d p x) x.snapshots (omega arith) (λ n s lt. (is.kept n s lt).1.table) alters
+        (subst (λ (u : Under). AreShared (trees_by u x.active x.files) (blocks_in d p x) x.snapshots) (sym (still_under d e p q first x)) is.shared))
+
+    laid_now : AreLaidBy (under (shows e q with_map)) files → AreLaidBy (under (shows f r with_map)) files
+    laid_now laid = subst (λ (u : Under). AreLaidBy u files) (sym (still_under e f q r second with_map)) laid
+
     sound_now : AreSoundBy (under (shows f r with_map)) (shows f r with_map).used x.active files
     sound_now = subst (λ (u : ℕ → Option Use). AreSoundBy (under (shows f r with_map)) u x.active files) (sym (still_used e f q r second with_map))
         (subst (λ (u : Under). AreSoundBy u (shows e q with_map).used x.active files) (sym (still_under e f q r second with_map)) trees)
@@ -111,16 +128,19 @@ module _ (d e f : Disk) (p q r : Pool) (first : Reads d p e q) (second : Reads e
       pub failed_volume : volume_for f r with_files ≡ volume_for d p x
       failed_volume = λ i. volume_as x (record { active = (table_now ∙ same ∙ ap table_told (still_table d e p q first x)) i; snapshots = kept_snaps d f p r x with_files (omega arith) slots kept_entries kept_blocks x.snapshots is.kept i })
 
-      pub failed_standing : IsStanding f r with_files
-      failed_standing =
+      pub failed_standing : PlacesAltered e q x map files → IsStanding f r with_files
+      failed_standing places =
           let table : table_for f r with_files ≡ table_for d p x = ap (λ (v : Volume). v.active) failed_volume in
           record {
             told = told;
             table = subst (IsWellTable x.now) (sym table) is.table;
             reserves = subst HasNoReserve (sym table) is.reserves;
             kept = kept_tables d f p r x with_files (omega arith) slots kept_entries kept_blocks x.snapshots is.kept;
+            names = is.names;
+            shared = kept_shared d f p r x with_files (omega arith) slots kept_entries kept_blocks (trees_by (under (shows f r with_map)) x.active files) x.snapshots is.kept (shared_now places.alters);
             ledger = subst (λ v. IsLedgerOf v x.ledger) (sym failed_volume) is.ledger;
             trees = sound_now;
+            laid = laid_now places.laid;
             numbers = subst (AreNumbersIf x.numbers) (sym table) is.numbers;
           }
 
@@ -135,13 +155,16 @@ module _ (d e f : Disk) (p q r : Pool) (first : Reads d p e q) (second : Reads e
       pub made_volume : volume_for f r counted ≡ stamped (volume_for d p x) table
       made_volume = λ j. record (volume_for d p x) { now = next j; active = (table_now ∙ made) j; snapshots = kept_snaps d f p r x counted later slots kept_entries kept_blocks x.snapshots is.kept j }
 
-      pub made_standing : IsWellTable (x.now + 1) (table (x.now + 1)) → HasNoReserve (table (x.now + 1)) → IsLedgerOf (stamped (volume_for d p x) table) ledger → AreNumbersIf numbers (table (x.now + 1)) → IsStanding f r counted
-      made_standing well unreserved is_ledger numbered = record {
+      pub made_standing : PlacesAltered e q x map files → IsWellTable (x.now + 1) (table (x.now + 1)) → HasNoReserve (table (x.now + 1)) → IsLedgerOf (stamped (volume_for d p x) table) ledger → AreNumbersIf numbers (table (x.now + 1)) → IsStanding f r counted
+      made_standing places well unreserved is_ledger numbered = record {
         told = told;
         table = subst (λ n. IsWellTable n (table_for f r counted)) (sym next) (subst (IsWellTable (x.now + 1)) (sym (table_now ∙ made)) well);
         reserves = subst HasNoReserve (sym (table_now ∙ made)) unreserved;
         kept = kept_tables d f p r x counted later slots kept_entries kept_blocks x.snapshots is.kept;
+        names = is.names;
+        shared = kept_shared d f p r x counted later slots kept_entries kept_blocks (trees_by (under (shows f r with_map)) x.active files) x.snapshots is.kept (shared_now places.alters);
         ledger = subst (λ v. IsLedgerOf v ledger) (sym made_volume) is_ledger;
         trees = sound_now;
+        laid = laid_now places.laid;
         numbers = subst (AreNumbersIf numbers) (sym (table_now ∙ made)) numbered;
       }

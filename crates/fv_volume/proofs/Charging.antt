@@ -1,46 +1,76 @@
 -- How the ledger of a volume alone changes by each command, what the machine says of the space for it, and how the members of a map are counted.
-use Rattle.std.proofs.Common.{◌≡◌, ℕ, ◌+◌, ◌-◌, pos, ◌+ℤ◌, Bool, List, length, Option, Some, refl, sym, ap, ◌∙◌, arith}
+use Rattle.std.proofs.Common.{◌≡◌, ℕ, ◌+◌, ◌-◌, pos, ◌+ℤ◌, Bool, false, List, length, Option, Some, refl, sym, ap, ◌∙◌, ◌||◌, arith}
 use Rattle.std.specs.Option.{option_map_or}
 use Rattle.std.specs.FinMap as fin
+use Rattle.std.specs.FinSet as set
 use Rattle.std.proofs.lemmas.Int.{ints}
 use Rattle.fv_bits.specs.Members.{is_member, count_of, count_between}
 use Rattle.fv_bits.proofs.Counts.{passing, passing_same}
 use Rattle.fv_model.specs.declared.commands.Command.{Command}
 use Rattle.fv_model.specs.declared.commands.Command.TheVariants.{New, Put, Cut, Remove}
 use Rattle.fv_model.specs.Tables.{File, Table, inode_cell, free_number, file_named, new, put, cut, rm}
+use Rattle.fv_model.specs.Places.{Id}
 use Rattle.fv_model.specs.Volumes.{Volume}
 use Rattle.fv_model.specs.Machines.{Machine, capacity}
-use Rattle.fv_model.specs.Space.{charge, need, commit, commits}
+use Rattle.fv_model.specs.Space.{charge, need, commit, commits, ids_left_out, kept_ids}
 use Rattle.fv_model.specs.Effects.{Change, Stays, Becomes, changed, change_of, at_file, stamped}
 use Rattle.fv_laws.specs.WellFormed.{IsWellTable}
-use Rattle.fv_laws.specs.Positions.{added_by, taken_by_cut, taken_by_rm, IsAlone, HasNoReserve}
+use Rattle.fv_laws.specs.Paths.{cut_path, new_path, put_path}
+use Rattle.fv_laws.specs.Positions.{positions, added_by, rm_places, staying, taken_by_cut, taken_by_rm, settled_ids, IsAlone, IsNextNew, HasNoReserve}
+use Rattle.fv_laws.proofs.Along.{cut_along, new_along, put_along, rm_along}
+use Rattle.fv_laws.proofs.Charges.{charge_after, kept_none, out_none}
 use Rattle.fv_laws.proofs.Commits.{now_there, commits_put}
-use Rattle.fv_laws.proofs.Moves.{new_charge, put_charge, cut_charge, rm_charge}
+use Rattle.fv_laws.proofs.Moves.{new_positions, put_positions, cut_positions, rm_positions}
+use Rattle.fv_laws.proofs.Orders.{id_total}
 use Rattle.fv_laws.proofs.PathCharges.{no_need, new_unreserved, put_unreserved, cut_unreserved, rm_unreserved}
 use Rattle.fv_charge.specs.declared.ledger.Ledger.{Ledger}
 use Rattle.fv_charge.specs.declared.delta.Delta.{Delta}
 use Rattle.fv_charge.specs.Ledgers.{IsLedgerOf}
 use Rattle.fv_charge.specs.Changes.{IsDeltaOf, IsLeft}
-use Rattle.fv_volume.specs.Charging.{AddsBlocks, TakesBlocks}
+use Rattle.fv_volume.specs.Charging.{MovesBlocks}
+
+-- ---- what a change charges
+
+-- by its active table alone, where no settled id has the stamp of the next change
+module _ (x : Volume) (is : IsWellTable x.now x.active) (fresh : IsNextNew x) where
+  abbrev t : Table
+  t = x.active
+
+  more : (c p d q a st : ℕ) → d + p ≡ c + q + st → q ≡ p + a → d + 0 ≡ c + a + st
+  more c p d q a st e f = omega (arith, e, f)
+
+  less : (c p d q a st : ℕ) → d + p ≡ c + q + st → q + a ≡ p → d + a ≡ c + 0 + st
+  less c p d q a st e f = omega (arith, e, f)
+
+  new_charges : (name : List ℕ) (reserve : ℕ) → charge (stamped x (new t name reserve)) + 0 ≡ charge x + added_by t.inode (inode_cell (free_number t)) + staying x (new_path t)
+  new_charges name reserve = more (charge x) (positions t) (charge (stamped x (new t name reserve))) (positions (new t name reserve (x.now + 1))) (added_by t.inode (inode_cell (free_number t))) (staying x (new_path t))
+      (charge_after x (new t name reserve) (new_path t) (new_along t name reserve (x.now + 1)) fresh) (new_positions x.now (x.now + 1) t is name reserve)
+
+  put_charges : (n : ℕ) (f : File) (i : ℕ) (block : List ℕ) → fin.get t.files n ≡ Some f → charge (stamped x (put t n f i block)) + 0 ≡ charge x + added_by f.tree i + staying x (put_path t n f i)
+  put_charges n f i block there = more (charge x) (positions t) (charge (stamped x (put t n f i block))) (positions (put t n f i block (x.now + 1))) (added_by f.tree i) (staying x (put_path t n f i))
+      (charge_after x (put t n f i block) (put_path t n f i) (put_along t n f i block (x.now + 1) there) fresh) (put_positions x.now (x.now + 1) t is n f i block there)
+
+  pub cut_charges : (n : ℕ) (f : File) (most : ℕ) → fin.get t.files n ≡ Some f → charge (stamped x (cut t n f most)) + taken_by_cut f most ≡ charge x + 0 + staying x (cut_path t n f most)
+  cut_charges n f most there = less (charge x) (positions t) (charge (stamped x (cut t n f most))) (positions (cut t n f most (x.now + 1))) (taken_by_cut f most) (staying x (cut_path t n f most))
+      (charge_after x (cut t n f most) (cut_path t n f most) (cut_along x.now (x.now + 1) t is n f there most) fresh) (cut_positions x.now (x.now + 1) t is (omega arith) n f most there)
+
+  pub rm_charges : (n : ℕ) (f : File) → fin.get t.files n ≡ Some f → charge (stamped x (rm t n)) + taken_by_rm t n f ≡ charge x + 0 + staying x (rm_places t n f)
+  rm_charges n f there = less (charge x) (positions t) (charge (stamped x (rm t n))) (positions (rm t n (x.now + 1))) (taken_by_rm t n f) (staying x (rm_places t n f))
+      (charge_after x (rm t n) (rm_places t n f) (rm_along x.now (x.now + 1) t is n f there) fresh) (rm_positions x.now (x.now + 1) t is (omega arith) n f there)
+
+-- a volume alone has no settled id
+pub alone_none : (x : Volume) → IsAlone x → (q : Id) → set.contains (settled_ids x) q ≡ false
+alone_none x alone q = set.contains-union id_total (kept_ids x) (ids_left_out x.base) q ∙ (λ i. kept_none x alone q i || out_none x alone q i)
+
+pub alone_new : (x : Volume) → IsAlone x → IsNextNew x
+alone_new x alone p = alone_none x alone (p, x.now + 1)
 
 -- ---- as changes of a ledger
 
-more_blocks : (a b n : ℕ) → b ≡ a + n → pos b ≡ (pos a +ℤ pos n)
-more_blocks a b n e = omega (arith, ints, e)
-
-module _ (x : Volume) (alone : IsAlone x) (is : IsWellTable x.now x.active) (none : HasNoReserve x.active) (d : Delta) where
+module _ (x : Volume) (is : IsWellTable x.now x.active) (fresh : IsNextNew x) (none : HasNoReserve x.active) (d : Delta) where
   -- a change of the active table, of which the volume's charge is known, needs nothing where no file has a reserve
-  adds : (table : ℕ → Table) (count : ℕ) → AddsBlocks x count d → charge (stamped x table) ≡ charge x + count → HasNoReserve (table (x.now + 1)) → IsDeltaOf x (stamped x table) d
-  adds table count by charge_is still = record {
-    charge = more_blocks (charge x) (charge (stamped x table)) count charge_is ∙ ap (λ z. pos (charge x) +ℤ z) (sym by.charge);
-    need = (let before = no_need x none in let after = no_need (stamped x table) still in let e : pos (need (stamped x table)) ≡ (pos (need x) +ℤ pos 0) = omega (arith, ints, before, after) in e) ∙ ap (λ z. pos (need x) +ℤ z) (sym by.need);
-    size = by.size;
-    kind = by.kind;
-    span = refl;
-  }
-
-  takes : (table : ℕ → Table) (count : ℕ) → TakesBlocks x count d → charge (stamped x table) + count ≡ charge x → HasNoReserve (table (x.now + 1)) → IsDeltaOf x (stamped x table) d
-  takes table count by charge_is still = record {
+  moves : (table : ℕ → Table) (added staying taken : ℕ) → MovesBlocks x added staying taken d → charge (stamped x table) + taken ≡ charge x + added + staying → HasNoReserve (table (x.now + 1)) → IsDeltaOf x (stamped x table) d
+  moves table added staying taken by charge_is still = record {
     charge = (let moved = by.charge in let e : pos (charge (stamped x table)) ≡ (pos (charge x) +ℤ d.charge) = omega (arith, ints, charge_is, moved) in e);
     need = (let before = no_need x none in let after = no_need (stamped x table) still in let e : pos (need (stamped x table)) ≡ (pos (need x) +ℤ pos 0) = omega (arith, ints, before, after) in e) ∙ ap (λ z. pos (need x) +ℤ z) (sym by.need);
     size = by.size;
@@ -48,17 +78,17 @@ module _ (x : Volume) (alone : IsAlone x) (is : IsWellTable x.now x.active) (non
     span = refl;
   }
 
-  pub new_delta : (name : List ℕ) → AddsBlocks x (added_by x.active.inode (inode_cell (free_number x.active))) d → IsDeltaOf x (stamped x (new x.active name 0)) d
-  new_delta name by = adds (new x.active name 0) (added_by x.active.inode (inode_cell (free_number x.active))) by (new_charge x alone is name 0) (new_unreserved x.active none name (x.now + 1))
+  pub new_delta : (name : List ℕ) → MovesBlocks x (added_by x.active.inode (inode_cell (free_number x.active))) (staying x (new_path x.active)) 0 d → IsDeltaOf x (stamped x (new x.active name 0)) d
+  new_delta name by = moves (new x.active name 0) (added_by x.active.inode (inode_cell (free_number x.active))) (staying x (new_path x.active)) 0 by (new_charges x is fresh name 0) (new_unreserved x.active none name (x.now + 1))
 
-  pub put_delta : (n : ℕ) (f : File) (i : ℕ) (block : List ℕ) → fin.get x.active.files n ≡ Some f → AddsBlocks x (added_by f.tree i) d → IsDeltaOf x (stamped x (put x.active n f i block)) d
-  put_delta n f i block there by = adds (put x.active n f i block) (added_by f.tree i) by (put_charge x alone is n f i block there) (put_unreserved x.active none n f i block (x.now + 1) there)
+  pub put_delta : (n : ℕ) (f : File) (i : ℕ) (block : List ℕ) → fin.get x.active.files n ≡ Some f → MovesBlocks x (added_by f.tree i) (staying x (put_path x.active n f i)) 0 d → IsDeltaOf x (stamped x (put x.active n f i block)) d
+  put_delta n f i block there by = moves (put x.active n f i block) (added_by f.tree i) (staying x (put_path x.active n f i)) 0 by (put_charges x is fresh n f i block there) (put_unreserved x.active none n f i block (x.now + 1) there)
 
-  pub cut_delta : (n : ℕ) (f : File) (most : ℕ) → fin.get x.active.files n ≡ Some f → TakesBlocks x (taken_by_cut f most) d → IsDeltaOf x (stamped x (cut x.active n f most)) d
-  cut_delta n f most there by = takes (cut x.active n f most) (taken_by_cut f most) by (cut_charge x alone is n f most there) (cut_unreserved x.active none n f most (x.now + 1) there)
+  pub cut_delta : (n : ℕ) (f : File) (most : ℕ) → fin.get x.active.files n ≡ Some f → MovesBlocks x 0 (staying x (cut_path x.active n f most)) (taken_by_cut f most) d → IsDeltaOf x (stamped x (cut x.active n f most)) d
+  cut_delta n f most there by = moves (cut x.active n f most) 0 (staying x (cut_path x.active n f most)) (taken_by_cut f most) by (cut_charges x is fresh n f most there) (cut_unreserved x.active none n f most (x.now + 1) there)
 
-  pub rm_delta : (n : ℕ) (f : File) → fin.get x.active.files n ≡ Some f → TakesBlocks x (taken_by_rm x.active n f) d → IsDeltaOf x (stamped x (rm x.active n)) d
-  rm_delta n f there by = takes (rm x.active n) (taken_by_rm x.active n f) by (rm_charge x alone is n f there) (rm_unreserved x.active none n (x.now + 1))
+  pub rm_delta : (n : ℕ) (f : File) → fin.get x.active.files n ≡ Some f → MovesBlocks x 0 (staying x (rm_places x.active n f)) (taken_by_rm x.active n f) d → IsDeltaOf x (stamped x (rm x.active n)) d
+  rm_delta n f there by = moves (rm x.active n) 0 (staying x (rm_places x.active n f)) (taken_by_rm x.active n f) by (rm_charges x is fresh n f there) (rm_unreserved x.active none n (x.now + 1))
 
 -- ---- what the machine says
 

@@ -6,8 +6,9 @@ use Rattle.std.specs.Option.{option_map_or}
 use Rattle.std.proofs.Math.Nat.{mul-le-mul_left}
 use Rattle.fv_bits.specs.Members.{is_member, count_of}
 use Rattle.fv_bits.proofs.Laws.{count_of-le}
+use Rattle.fv_model.specs.declared.commands.Kind.{Kind}
 use Rattle.fv_model.specs.Numbers.{greatest_span}
-use Rattle.fv_model.specs.Space.{map_blocks, charge}
+use Rattle.fv_model.specs.Space.{map_blocks}
 use Rattle.fv_laws.specs.Positions.{HasNoReserve}
 use Rattle.fv_laws.proofs.PathCharges.{no_need}
 use Rattle.fv_tables.specs.Reached.{is_listed}
@@ -67,12 +68,14 @@ module _ (w : View) (s : ℕ) (h : Head) (small : s < 64) (there : w.head s ≡ 
     })
 
 -- A ledger that is counted has no more blocks than the span has numbers, and the maps of 24 snapshots blocks.
-pub counted_within : (x : VolumeState) → IsCounted x → x.map.span ≡ x.span → x.span ≤ greatest_span → x.ledger.charge ≤ greatest_charge
-counted_within x is same most =
-    let c = is.ledger in
-    let count : x.ledger.charge ≡ count_of c.union + map_blocks x.span * length x.snapshots = ap (λ (l : Ledger). l.charge) c.ledger_is in
-    let few : map_blocks x.span ≤ 32 = omega (arith, most) in
-    let first : map_blocks x.span * length x.snapshots ≤ map_blocks x.span * 24 = mul-le-mul_left (map_blocks x.span) is.few in
+pub charge_within : (m : Maps) (snapshots span size : ℕ) (kind : Kind) (ledger : Ledger) → HasCounted m snapshots span size kind ledger → snapshots ≤ 24 → m.span ≡ span → span ≤ greatest_span → ledger.charge ≤ greatest_charge
+charge_within m snapshots span size kind ledger c most_snaps same most =
+    let count : ledger.charge ≡ count_of c.union + map_blocks span * snapshots = ap (λ (l : Ledger). l.charge) c.ledger_is in
+    let few : map_blocks span ≤ 32 = omega (arith, most) in
+    let first : map_blocks span * snapshots ≤ map_blocks span * 24 = mul-le-mul_left (map_blocks span) most_snaps in
     let held = count_of-le c.union in
     let long = c.united.len in
     omega (arith, count, few, first, held, long, same, most)
+
+pub counted_within : (x : VolumeState) → IsCounted x → x.map.span ≡ x.span → x.span ≤ greatest_span → x.ledger.charge ≤ greatest_charge
+counted_within x is = charge_within x.map (length x.snapshots) x.span x.size x.kind x.ledger is.ledger is.few

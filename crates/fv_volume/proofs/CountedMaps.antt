@@ -56,7 +56,7 @@ and_true : (b : Bool) → b ≡ (b && not false)
 and_true true = refl
 and_true false = refl
 
-members : (held : List Bool) → count_of held ≡ passing (is_member held) 0 (length held)
+pub members : (held : List Bool) → count_of held ≡ passing (is_member held) 0 (length held)
 unfolding count_of count_between
 members held = ap (λ (n : ℕ). passing (is_member held) 0 n) (let e : length held - 0 ≡ length held = omega arith in e)
 

@@ -1,24 +1,23 @@
 -- Blocks that are given back and blocks that are taken, one after another.
-use Rattle.std.proofs.Common.{◌≡◌, ◌≢◌, ℕ, zero, suc, ◌+◌, ◌<◌, ◌≤◌, List, length, Bool, true, false, not, ◌&&◌, ◌||◌, ◌==◌, cond, nat_eq, refl, sym, ap, ◌∙◌, arith, ⊎_elim, Option, Some, None}
+use Rattle.std.proofs.Common.{◌≡◌, ◌≢◌, ℕ, zero, suc, ◌+◌, ◌<◌, ◌≤◌, List, length, Bool, true, false, ◌&&◌, ◌||◌, ◌==◌, cond, refl, sym, ap, ◌∙◌, arith, ⊎_elim, Option, Some, None}
 use Rattle.std.specs.Prelude.{slice_set, IfSome, IfNone, IsSome}
 use Rattle.std.specs.List.{list_any, range_with_len}
-use Rattle.std.proofs.lemmas.Bool.{and_from, and_parts, cases_eq, or_cases, or_left, or_right, true≢false}
+use Rattle.std.proofs.lemmas.Bool.{cases_eq, or_cases, or_left, or_right, true≢false}
 use Rattle.std.proofs.lemmas.Bool.Decides.{nat_tests}
 use Rattle.fv_bits.specs.Members.{is_member}
 use Rattle.fv_bits.proofs.Laws.{is_member-set}
-use Rattle.fv_container.specs.declared.entry.Entry.{Entry}
-use Rattle.fv_container.specs.Mapped.{Mapped, entry_under}
+use Rattle.fv_container.specs.Mapped.{Mapped}
 use Rattle.fv_container.specs.Spelled.{is_at}
 use Rattle.fv_model.specs.Machines.{first_block}
 use Rattle.fv_aggmap.specs.Space.{Space, IsFree, IsFull, blocks_of, free_blocks}
-pub use Rattle.fv_aggmap.proofs.Giving.{given_none, given_then, not_so}
+pub use Rattle.fv_aggmap.proofs.Giving.{given_none, given_same, given_then, not_so}
 pub use Rattle.fv_container.proofs.Named.{at_itself, at_means, at_none}
 pub use Rattle.fv_container.proofs.Leading.{or_false}
-use Rattle.fv_container.proofs.Leading.{any_more, any_same}
+use Rattle.fv_container.proofs.Leading.{any_more, any_none, any_same, lead_at, lead_where}
 use Rattle.fv_aggmap.proofs.Room.{one_is_found, one_less}
 use Rattle.fv_volume.specs.declared.state.VolumeState.{VolumeState}
-use Rattle.fv_volume.specs.Writing.{HasDrawn, HasGiven, has_maps_at, leads_away}
-use Rattle.fv_volume.specs.Stored.{is_map_written, leads, place_at, place_in, stays}
+use Rattle.fv_volume.specs.Writing.{HasDrawn, HasGiven, has_maps_at}
+use Rattle.fv_volume.specs.Stored.{is_map_written, leads, place_at}
 use Rattle.fv_volume.proofs.StayingMaps.{written_low}
 
 -- ---- tests
@@ -28,17 +27,6 @@ or_neither false b is = (refl, is)
 or_neither true b is = absurd (true≢false is)
 
 -- ---- what entries lead to
-
--- of the entries that go, none leads anywhere yet
-pub away_none : (x : VolumeState) (map : Mapped) (b : ℕ) → leads_away x map 0 b ≡ false
-unfolding leads_away
-away_none x map b = refl
-
-pub away_more : (x : VolumeState) (map : Mapped) (n b : ℕ) → leads_away x map (n + 1) b ≡ (leads_away x map n b || (not (stays x n) && is_at b (place_at map n)))
-unfolding leads_away
-away_more x map n b =
-    let first : 0 + n ≡ n = omega arith in
-    (any_more (λ v. not (stays x v) && is_at b (place_at map v)) 0 n ∙ ap (λ (k : ℕ). list_any (λ v. not (stays x v) && is_at b (place_at map v)) (range_with_len 0 n) || (not (stays x k) && is_at b (place_at map k))) first)
 
 pub maps_more : (x : VolumeState) (old new : Mapped) (n b : ℕ) → ((v : ℕ) → v < n → place_at new v ≡ place_at old v) → has_maps_at x new (n + 1) b ≡ (has_maps_at x old n b || (is_map_written x n && is_at b (place_at new n)))
 unfolding has_maps_at
@@ -55,14 +43,7 @@ maps_same x old new n b same = any_same (λ v. is_map_written x v && is_at b (pl
 -- of the blocks of maps, none stands anywhere yet
 pub maps_none : (x : VolumeState) (map : Mapped) (b : ℕ) → has_maps_at x map x.span b ≡ false
 unfolding has_maps_at
-maps_none x map b = low x.span (omega arith)
-  where
-    low : (n : ℕ) → n ≤ x.span → has_maps_at x map n b ≡ false
-    low zero within = refl
-    low (suc n) within =
-        let e : n + 1 ≡ suc n = omega arith in
-        ap (λ (k : ℕ). has_maps_at x map k b) (sym e) ∙ maps_more x map map n b (λ v lt. refl)
-        ∙ ap (λ (t : Bool). has_maps_at x map n b || (t && is_at b (place_at map n))) (written_low x n (omega (arith, within))) ∙ or_false (has_maps_at x map n b) ∙ low n (omega (arith, within))
+maps_none x map b = any_none (λ v. is_map_written x v && is_at b (place_at map v)) 0 x.span (λ v low high. ap (λ (t : Bool). t && is_at b (place_at map v)) (written_low x v (omega (arith, high))))
 
 -- a block of a map that is written stands on the block
 pub record StandsAt (x : VolumeState) (map : Mapped) (n b : ℕ) : Type 0 where
@@ -74,25 +55,11 @@ pub record StandsAt (x : VolumeState) (map : Mapped) (n b : ℕ) : Type 0 where
 
 pub maps_where : (x : VolumeState) (map : Mapped) (n b : ℕ) → has_maps_at x map n b ≡ true → StandsAt x map n b
 unfolding has_maps_at
-maps_where x map zero b is = absurd (true≢false (sym is))
-maps_where x map (suc n) b is =
-    let e : n + 1 ≡ suc n = omega arith in
-    ⊎_elim
-    (λ (before : has_maps_at x map n b ≡ true). let at = maps_where x map n b before in record { vvbn = at.vvbn; within = omega (arith, at.within); on = at.on; place = at.place; some = at.some })
-    (λ (here : (is_map_written x n && is_at b (place_at map n)) ≡ true).
-    let parts = and_parts (is_map_written x n) (is_at b (place_at map n)) here in
-    let means = at_means b (place_at map n) parts.1 in
-    record { vvbn = n; within = omega arith; on = parts.0; place = means.0; some = means.1 })
-    (or_cases (has_maps_at x map n b) (is_map_written x n && is_at b (place_at map n)) (sym (maps_more x map map n b (λ v lt. refl)) ∙ ap (λ (k : ℕ). has_maps_at x map k b) e ∙ is))
+maps_where x map n b is = let at = lead_where map (is_map_written x) 0 n b is in record { vvbn = at.vvbn; within = omega (arith, at.within); on = at.on; place = at.place; some = at.some }
 
 pub maps_at : (x : VolumeState) (map : Mapped) (n v b : ℕ) → v < n → is_map_written x v ≡ true → place_at map v ≡ b → b ≢ 0 → has_maps_at x map n b ≡ true
-maps_at x map zero v b within on is some = absurd (omega (arith, within))
-maps_at x map (suc n) v b within on is some =
-    let e : n + 1 ≡ suc n = omega arith in
-    ap (λ (k : ℕ). has_maps_at x map k b) (sym e) ∙ maps_more x map map n b (λ v lt. refl) ∙ ⊎_elim
-    (λ (here : v ≡ n). or_right (has_maps_at x map n b) _ (ap (λ (k : ℕ). is_map_written x k && is_at b (place_at map k)) (sym here) ∙ and_from (is_map_written x v) (is_at b (place_at map v)) on (ap (is_at b) is ∙ at_itself b some)))
-    (λ (before : v ≢ n). or_left (has_maps_at x map n b) _ (maps_at x map n v b (omega (arith, within, before)) on is some))
-    (cases_eq v n)
+unfolding has_maps_at
+maps_at x map n v b within on is some = lead_at map (is_map_written x) 0 n v b (omega arith) (omega (arith, within)) on is some
 
 pub leads_none : (map : Mapped) (b : ℕ) → leads map 0 b ≡ false
 unfolding leads
@@ -131,25 +98,17 @@ leads_at map (suc n) v b within is some =
 
 -- ---- giving back
 
--- one entry more: it stays, or it is given back
--- a hole has no block that could be given back
-pub hole_given : (space : Space) (map : Mapped) (v : ℕ) → entry_under map v ≡ None → HasGiven space (λ b. is_at b (place_at map v)) space
-hole_given space map v none = given_none space (λ b. is_at b (place_at map v)) (λ b. ap (λ (o : Option Entry). is_at b (place_in o)) none ∙ nowhere (nat_eq b 0))
+-- one VVBN more: its block stays, or it is one of a map that is written, and given back
+pub maps_given : (x : VolumeState) (map : Mapped) (n : ℕ) (old mid new : Space) → HasGiven old (has_maps_at x map n) mid → (is_map_written x n ≡ false → new ≡ mid) → (is_map_written x n ≡ true → HasGiven mid (λ b. is_at b (place_at map n)) new)
+    → HasGiven old (has_maps_at x map (n + 1)) new
+maps_given x map n old mid new before same gave = so (is_map_written x n) refl
   where
-    nowhere : (t : Bool) → (t && false) ≡ false
-    nowhere true = refl
-    nowhere false = refl
+    more : (t : Bool) → is_map_written x n ≡ t → (b : ℕ) → has_maps_at x map (n + 1) b ≡ (has_maps_at x map n b || (t && is_at b (place_at map n)))
+    more t e b = maps_more x map map n b (λ v lt. refl) ∙ ap (λ (s : Bool). has_maps_at x map n b || (s && is_at b (place_at map n))) e
 
-pub given_more : (x : VolumeState) (map : Mapped) (n : ℕ) (old mid new : Space) → HasGiven old (leads_away x map n) mid → (stays x n ≡ true → new ≡ mid) → (stays x n ≡ false → HasGiven mid (λ b. is_at b (place_at map n)) new)
-    → HasGiven old (leads_away x map (n + 1)) new
-given_more x map n old mid new before same gave = so (stays x n) refl
-  where
-    so : (t : Bool) → stays x n ≡ t → HasGiven old (leads_away x map (n + 1)) new
-    so true e = given_then old mid new (leads_away x map n) (λ b. false) (leads_away x map (n + 1)) (λ b. away_more x map n b ∙ ap (λ (t : Bool). leads_away x map n b || (not t && is_at b (place_at map n))) e) before (given_same (same e))
-      where
-        given_same : new ≡ mid → HasGiven mid (λ b. false) new
-        given_same is = rw is (given_none mid (λ b. false) (λ b. refl))
-    so false e = given_then old mid new (leads_away x map n) (λ b. is_at b (place_at map n)) (leads_away x map (n + 1)) (λ b. away_more x map n b ∙ ap (λ (t : Bool). leads_away x map n b || (not t && is_at b (place_at map n))) e) before (gave e)
+    so : (t : Bool) → is_map_written x n ≡ t → HasGiven old (has_maps_at x map (n + 1)) new
+    so true e = given_then old mid new (has_maps_at x map n) (λ b. is_at b (place_at map n)) (has_maps_at x map (n + 1)) (more true e) before (gave e)
+    so false e = rw (same e) (given_same old mid (has_maps_at x map n) (has_maps_at x map (n + 1)) (λ b. more false e b ∙ or_false (has_maps_at x map n b)) before)
 
 -- ---- taking
 

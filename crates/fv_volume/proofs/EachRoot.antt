@@ -3,7 +3,7 @@ use Rattle.std.proofs.Common.{◌≡◌, ℕ, ◌==◌, Bool, true, false, List,
 use Rattle.std.specs.Prelude.{All, find, if◌then◌else◌, map}
 use Rattle.std.specs.Option.{option_map}
 use Rattle.std.proofs.lemmas.Bool.Decides.{nat_tests}
-use Rattle.std.proofs.lemmas.List.Elements.{All-head, All-tail}
+use Rattle.std.proofs.lemmas.List.Elements.{All-cons, All-head, All-nil, All-tail}
 use Rattle.fv_laws.proofs.Lists.{In}
 use Rattle.fv_image.specs.Mapped.{root_at}
 use Rattle.fv_image.specs.Seen.{roots_of}
@@ -13,6 +13,21 @@ use Rattle.fv_volume.specs.declared.state.Rooted.{Rooted}
 use Rattle.fv_volume.specs.declared.state.Snap.{Snap as Kept}
 use Rattle.fv_volume.specs.declared.state.VolumeState.{VolumeState}
 use Rattle.fv_volume.specs.States.{head_in, rooted_as, snap_in}
+
+-- ---- lists of snapshots
+
+-- what holds of each snapshot of a list holds of all
+pub all_among : (P : Kept → Type 0) (snaps : List Kept) → ((q : Kept) → In q snaps → P q) → All P snaps
+all_among P [] each = All-nil P
+all_among P (q ∷ qs) each = All-cons P q qs (each q (inl refl)) (all_among P qs (λ p there. each p (inr there)))
+
+-- and what holds of all, of each
+pub all_in : (P : Kept → Type 0) (snaps : List Kept) → All P snaps → (q : Kept) → In q snaps → P q
+all_in P [] all q there = absurd there
+all_in P (s ∷ ss) all q (inl e) = subst P e (All-head P s ss all)
+all_in P (s ∷ ss) all q (inr there) = all_in P ss (All-tail P s ss all) q there
+
+-- ---- roots
 
 -- the root of a slot is one of the roots of its head
 pub root_there : (h : Head) (k : ℕ) (r : Table) → root_at h k ≡ Some r → In {X = ℕ × Table} (k, r) (roots_of h)

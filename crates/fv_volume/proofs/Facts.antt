@@ -16,17 +16,19 @@ use Rattle.fv_model.specs.Numbers.{most_files}
 use Rattle.fv_model.specs.Trees.{fan}
 use Rattle.fv_laws.specs.WellFormed.{IsTree, IsWellTable}
 use Rattle.fv_tables.specs.Reached.{Item, item_of, items}
-use Rattle.fv_tables.specs.Spelled.{Rooted as Tree, Under, hole, pointer_at, position, stamp_in, stored}
+use Rattle.fv_tables.specs.Spelled.{Rooted as Tree, Under, hole, pointer_at, position, stored}
 use Rattle.fv_tables.specs.Told.{Standing, file_at, file_in, file_told, records_each, standing_at, table_told, tree_of, tree_told}
 use Rattle.fv_tables.specs.Kept.{AgreeOnTable}
 use Rattle.fv_tables.proofs.Items.{from_trees, kept_items}
 use Rattle.fv_tables.proofs.Pointers.{none_under}
+use Rattle.fv_tables.proofs.TablePlaces.{pointer_in}
 use Rattle.fv_tables.proofs.Tables.{files_told, stamps_told}
 use Rattle.fv_tree.specs.Beside.{unread}
 use Rattle.fv_tree.specs.Flushing.{IsRight, NamesPosition, ReachesOnce, kind_for}
 use Rattle.fv_tree.specs.Sources.{Use}
 use Rattle.fv_inode.specs.Files.{IsInodesOf}
 use Rattle.fv_files.specs.Apart.{LeadsFrom, LeadsIn, stored_trees}
+use Rattle.fv_files.specs.Sharing.{owner_in}
 use Rattle.fv_files.specs.Tables.{AreReached, IsStoredUnder}
 use Rattle.fv_files.proofs.Stored.{inodes_under, known_under, node_under}
 use Rattle.fv_image.specs.Chains.{place, under}
@@ -50,6 +52,7 @@ use Rattle.fv_volume.specs.OneVolume.{blocks_in, uses_in, RootStands}
 use Rattle.fv_volume.specs.States.{States, head_in, placed_in, state_at, table_in, view_over}
 use Rattle.fv_volume.proofs.Standings.{held_own, root_agrees}
 use Rattle.fv_volume.proofs.Told.{head_there}
+use Rattle.fv_volume.proofs.KeptStamps.{stamp_some}
 use Rattle.fv_volume.proofs.Ruled.{AreRuled, IsRuled, owner_number}
 
 -- ---- what a block says
@@ -120,9 +123,6 @@ module _ (top : Pointer) (t : Tree) (block : List ℕ) where
 
 -- ---- stamps
 
-stamp_some : (p : Pointer) → p.stamp ≢ 0 → stamp_in p ≡ Some p.stamp
-stamp_some p some = let test : (p.stamp == 0) ≡ false = grind (arith, nat_tests, some) in rw test refl
-
 module _ (now start : ℕ) (cells : List ℕ) (t : Tree) (is : IsTree now start cells (tree_told t)) where
   stamp_at : (level index : ℕ) → (pointer_at t level index).stamp ≢ 0 → (pointer_at t level index).stamp ≤ now
   stamp_at level index some = is.stamps (level, index) (pointer_at t level index).stamp (stamps_told t level index ∙ stamp_some (pointer_at t level index) some)
@@ -145,6 +145,10 @@ module _ (now start : ℕ) (cells : List ℕ) (t : Tree) (is : IsTree now start 
 abbrev pub led_by : Under → Rooted → Option ℕ → ℕ → ℕ → Pointer
 led_by blocks root None level index = pointer_at (stored blocks greatest_word root.levels root.root) level index
 led_by blocks root (Some n) level index = option_map_or (λ (r : InodeRecord). pointer_at (stored blocks n r.levels r.root) level index) (file_at (stored blocks greatest_word root.levels root.root) n) hole
+
+pub led_place : (blocks : Under) (root : Rooted) (a : Option ℕ) (level index : ℕ) → pointer_in blocks root.levels root.root (owner_in a) level index ≡ led_by blocks root a level index
+led_place blocks root None level index = refl
+led_place blocks root (Some n) level index = refl
 
 module _ (disk : Disk) (pool : Pool) (states : States) (x : VolumeState) (k : ℕ) (root : Rooted) (is : RootStands disk pool x k root) (there : state_at states x.slot ≡ Some x) (alone : parent_at pool.containers x.slot ≡ None) (base : (head_in x).base ≡ None)
     (below : (v : ℕ) → has v (slot_at x.map k) ≡ true → v < x.span)

@@ -1,6 +1,6 @@
 -- A volume of a session that has nothing in memory: with all its roots it keeps the rules of soundness, and what a view tells of it is the volume.
-use Rattle.std.proofs.Common.{◌≡◌, ◌≢◌, ℕ, ◌+◌, ◌<◌, ◌≤◌, Bool, true, false, not, ◌&&◌, ◌||◌, List, [], ◌∷◌, Option, Some, None, inl, inr, refl, sym, ap, subst, ◌∙◌, arith, length}
-use Rattle.std.specs.Prelude.{IfSome, nat_le, nat_lt, map, take, ◌==◌}
+use Rattle.std.proofs.Common.{◌≡◌, ◌≢◌, ℕ, ◌+◌, ◌<◌, ◌≤◌, Bool, true, false, not, ◌&&◌, ◌||◌, List, [], ◌∷◌, Option, Some, None, inl, refl, sym, ap, subst, ◌∙◌, arith, length}
+use Rattle.std.specs.Prelude.{All, IfSome, nat_le, nat_lt, map, slice_index_or, take, ◌==◌}
 use Rattle.std.specs.List.{list_all}
 use Rattle.std.specs.Option.{option_and_then, option_map_or}
 use Rattle.std.specs.FinSet as set
@@ -21,7 +21,11 @@ use Rattle.fv_tables.specs.Spelled.{Under, hole, pointer_at, stored}
 use Rattle.fv_tables.specs.Told.{file_at, file_told, records, standing_at, table_told}
 use Rattle.fv_tables.proofs.Lists.{all_of_range}
 use Rattle.fv_tables.proofs.Tables.{kept_records}
+use Rattle.fv_tree.specs.Standing.{under as blocks_of}
+use Rattle.fv_files.specs.declared.files.Files.{Files}
+use Rattle.fv_files.specs.Apart.{Trees, stored_trees}
 use Rattle.fv_files.specs.Numbering.{AreNumbersIf}
+use Rattle.fv_files.specs.Sharing.{owner_in}
 use Rattle.fv_laws.proofs.Lists.{In}
 use Rattle.fv_laws.specs.WellFormed.{IsWellTable}
 use Rattle.fv_image.specs.Chains.{under}
@@ -31,32 +35,38 @@ use Rattle.fv_image.specs.Seen.{Reached, Root, VolumeSeen, reached_at, root_seen
 use Rattle.fv_image.specs.Soundness.{AreTables}
 use Rattle.fv_image.specs.TableRules.{are_levels, is_cell_of}
 use Rattle.fv_image.specs.VolumeRules.{comes_to_end, commits_seen, has_commits_in_capacity, has_use_in_size, has_wide_spans}
-use Rattle.fv_image.specs.Views.{Footing, Head, Rooted, Snap, View, slots}
+use Rattle.fv_image.specs.Views.{Footing, Head, Rooted, Snap as HeadSnap, View, slots}
 use Rattle.fv_image.specs.Volumes.{active_at, named_with, standing_of, table_at, volume_told, volume_with}
 use Rattle.fv_image.proofs.Committed.{commits_told}
-use Rattle.fv_image.proofs.LoneTables.{form_base, form_snapshots}
+use Rattle.fv_image.proofs.LoneTables.{form_base}
 use Rattle.fv_image.proofs.SameSeen.{seen_at}
 use Rattle.fv_root.specs.Finding.{root_found}
 use Rattle.fv_container.specs.declared.entry.Entry.{Entry}
 use Rattle.fv_container.specs.Chains.{container_at, own_entry, parent_at}
 use Rattle.fv_volmap.specs.Slots.{IsVolume, has, slot_at}
 use Rattle.fv_volume.specs.declared.pool.Pool.{Pool}
+use Rattle.fv_volume.specs.declared.state.Snap.{Snap}
 use Rattle.fv_volume.specs.declared.state.VolumeState.{VolumeState}
 use Rattle.fv_volume.specs.Files.{AreStates, IsState, has_form}
 use Rattle.fv_volume.specs.Numbering.{AreNumbersSeen}
-use Rattle.fv_volume.specs.OneVolume.{blocks_in, table_for, volume_for, IsReady, IsStanding, RootStands}
+use Rattle.fv_volume.specs.OneVolume.{blocks_in, shows, table_for, volume_for, IsReady, IsStanding, RootStands}
 use Rattle.fv_volume.specs.Placing.{IsLedTo, IsStoredWell}
+use Rattle.fv_volume.specs.Sharing.{differs_in, pointer_in, trees_by, trees_kept, AreShared, SharesWith}
 use Rattle.fv_volume.specs.Slots.{sum_of}
 use Rattle.fv_volume.specs.States.{States, head_in, parent_in, rooted_as, state_at, view_over}
 use Rattle.fv_volume.specs.Trees.{active_in, no_trees}
 use Rattle.fv_volume.proofs.Distinct.{same_names}
 use Rattle.fv_volume.proofs.Made.{commits_are}
-use Rattle.fv_volume.proofs.Reached.{roots_stand, standing_reach}
+use Rattle.fv_volume.proofs.EachRoot.{each_root}
+use Rattle.fv_volume.proofs.LoadedTables.{same_place}
+use Rattle.fv_volume.proofs.Reached.{agrees, roots_stand, standing_reach}
+use Rattle.fv_volume.proofs.Shared.{shares_back}
+use Rattle.fv_volume.proofs.SharedRoots.{alike_shares, stored_place, stored_same}
 use Rattle.fv_volume.proofs.Shows.{slot_below}
-use Rattle.fv_volume.proofs.Standings.{root_agrees, standing_state, standing_table, standing_volume}
+use Rattle.fv_volume.proofs.Standings.{names_in, root_agrees, standing_state, standing_table, standing_volume}
 use Rattle.fv_volume.proofs.Told.{head_there, is_inside}
 use Rattle.fv_volume.proofs.Trees.{unchanged_machine}
-use Rattle.fv_volume.proofs.Facts.{are_ruled, led_by}
+use Rattle.fv_volume.proofs.Facts.{are_ruled, led_by, led_place}
 use Rattle.fv_volume.proofs.PlacedIn.{alone_by, own_has}
 use Rattle.fv_volume.proofs.Records.{all_records, cell_below, file_levels, file_there, inode_levels, names_apart}
 use Rattle.fv_volume.proofs.Ruled.{AreOneToOne, AreRuled, IsRuled, of_roots, one_itself, owner_number}
@@ -155,13 +165,54 @@ module _ (disk : Shown) (pool : Pool) (states : States) (housed : AreHoused pool
   pub ruled : (k : ℕ) (r : Rooted) → IsRoot k r → AreRuled w s h r (led k r)
   ruled k r is = are_ruled disk pool states x k (rooted_as r) (stood k r is) there alone base (in_span k) own
 
-  -- ids of one table are those of its VVBNs, and without snapshots there is one table
+  -- ---- what they share
+
+  abbrev active_trees : Trees
+  active_trees = stored_trees (blocks_of (shows disk pool x)) x.active.levels x.active.root
+
+  abbrev snap_trees : Snap → Trees
+  snap_trees = trees_kept (blocks_in disk pool x)
+
+  shared : AreShared active_trees (blocks_in disk pool x) x.snapshots
+  shared = subst (λ (o : Option Files). AreShared (trees_by (blocks_of (shows disk pool x)) x.active o) (blocks_in disk pool x) x.snapshots) no_files one.stands.shared
+
+  active_place : (o : Option ℕ) (level index : ℕ) → pointer_in (active_trees o) level index ≡ led 0 h.active o level index
+  active_place o level index =
+      stored_place (blocks_of (shows disk pool x)) x.active.levels x.active.root o level index
+      ∙ sym (same_place (blocks_of (shows disk pool x)) (blocks_in disk pool x 0) x.active.levels x.active.root (agrees disk pool x one.stands no_files) (owner_in o) level index)
+      ∙ led_place (blocks_in disk pool x 0) x.active o level index
+
+  snap_place : (q : Snap) (o : Option ℕ) (level index : ℕ) → pointer_in (snap_trees q o) level index ≡ led_by (blocks_in disk pool x q.slot) q.table o level index
+  snap_place q o level index = stored_place (blocks_in disk pool x q.slot) q.table.levels q.table.root o level index ∙ led_place (blocks_in disk pool x q.slot) q.table o level index
+
+  active_same : (o : Option ℕ) (level index : ℕ) → differs_in (active_trees o) level index ≡ false
+  active_same = stored_same (blocks_of (shows disk pool x)) x.active.levels x.active.root
+
+  snap_same : (q : Snap) (o : Option ℕ) (level index : ℕ) → differs_in (snap_trees q o) level index ≡ false
+  snap_same q = stored_same (blocks_in disk pool x q.slot) q.table.levels q.table.root
+
+  -- the pointers of the active table and those of any root are one to one,
+  with_active : (j : ℕ) (r : Rooted) → IsRoot j r → AreOneToOne (led 0 h.active) (led j r)
+  with_active = each_root x (λ j r. AreOneToOne (led 0 h.active) (led_by (blocks_in disk pool x j) r)) (one_itself w s h h.active (led 0 h.active) (ruled 0 h.active (inl refl)))
+      (λ n q lt. alike_shares active_trees (snap_trees (slice_index_or x.snapshots n q)) (led 0 h.active) (led_by (blocks_in disk pool x (slice_index_or x.snapshots n q).slot) (slice_index_or x.snapshots n q).table)
+      active_place (snap_place (slice_index_or x.snapshots n q)) active_same (snap_same (slice_index_or x.snapshots n q)) (shared.active n q lt))
+
+  -- and so are those of a snapshot's
+  with_snap : (p : Snap) → SharesWith active_trees (snap_trees p) → All (λ (q : Snap). SharesWith (snap_trees p) (snap_trees q)) x.snapshots → (j : ℕ) (r : Rooted) → IsRoot j r → AreOneToOne (led_by (blocks_in disk pool x p.slot) p.table) (led j r)
+  with_snap p active kept = each_root x (λ j r. AreOneToOne (led_by (blocks_in disk pool x p.slot) p.table) (led_by (blocks_in disk pool x j) r))
+      (alike_shares (snap_trees p) active_trees (led_by (blocks_in disk pool x p.slot) p.table) (led 0 h.active) (snap_place p) active_place (snap_same p) active_same (shares_back active_trees (snap_trees p) active))
+      (λ n q lt. alike_shares (snap_trees p) (snap_trees (slice_index_or x.snapshots n q)) (led_by (blocks_in disk pool x p.slot) p.table)
+      (led_by (blocks_in disk pool x (slice_index_or x.snapshots n q).slot) (slice_index_or x.snapshots n q).table)
+      (snap_place p) (snap_place (slice_index_or x.snapshots n q)) (snap_same p) (snap_same (slice_index_or x.snapshots n q)) (kept n q lt))
+
+  -- Pointers of two roots lead to one VVBN exactly where they have one id.
   pub one_to_one : (k : ℕ) (r : Rooted) (j : ℕ) (q : Rooted) → IsRoot k r → IsRoot j q → AreOneToOne (led k r) (led j q)
-  one_to_one k r j q one two = subst (λ (p : ℕ × Rooted). AreOneToOne (led k r) (led p.0 p.1)) (sym (only k r one) ∙ only j q two) (one_itself w s h r (led k r) (ruled k r one))
-    where
-      only : (k : ℕ) (r : Rooted) → IsRoot k r → ◌≡◌ {A = ℕ × Rooted} (0, h.active) (k, r)
-      only k r (inl same) = same
-      only k r (inr there) = absurd (subst (λ (ps : List Snap). In {X = ℕ × Rooted} (k, r) (map (λ (p : Snap). (p.slot, p.table)) ps)) (form_snapshots h form) there)
+  one_to_one k r j q one two = each_root x (λ k r. AreOneToOne (led_by (blocks_in disk pool x k) r) (led j q)) (with_active j q two)
+      (λ n p lt. with_snap (slice_index_or x.snapshots n p) (shared.active n p lt) (shared.kept n p lt) j q two) k r one
+
+  -- The names of its snapshots differ.
+  pub names_rule : are_distinct (map (λ (p : HeadSnap). p.name) h.snapshots) ≡ true
+  names_rule = ap are_distinct (sym (names_in x.snapshots)) ∙ one.stands.names
 
   -- ---- the table of a root
 

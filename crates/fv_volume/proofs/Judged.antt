@@ -1,5 +1,5 @@
 -- Whether a change of a volume's files is accepted, as the machine judges it.
-use Rattle.std.proofs.Common.{◌≡◌, ℕ, ◌+◌, ◌<◌, ◌≤◌, true, false, List, Some, refl, sym, ap, subst, ◌∙◌, arith, ℤ, pos, ◌+ℤ◌, ◌≤ℤ◌}
+use Rattle.std.proofs.Common.{◌≡◌, ℕ, ◌+◌, ◌<◌, ◌≤◌, true, false, List, Some, refl, sym, subst, ◌∙◌, arith, ℤ, pos, ◌+ℤ◌, ◌≤ℤ◌}
 use Rattle.std.specs.Prelude.{Result, Ok, Err}
 use Rattle.std.specs.FinMap as fin
 use Rattle.std.proofs.lemmas.Int.{ints}
@@ -11,12 +11,12 @@ use Rattle.fv_model.specs.Numbers.{is_index, most_changes}
 use Rattle.fv_model.specs.Tables.{File, file_named, put}
 use Rattle.fv_model.specs.Machines.{Machine, capacity}
 use Rattle.fv_model.specs.Effects.{stamped}
-use Rattle.fv_laws.specs.Positions.{added_by}
+use Rattle.fv_laws.specs.Paths.{put_path}
+use Rattle.fv_laws.specs.Positions.{added_by, staying}
 use Rattle.fv_tables.specs.Told.{Standing, file_in, table_told}
 use Rattle.fv_tables.proofs.Tables.{files_told}
 use Rattle.fv_inode.specs.declared.info.Info.{Info}
 use Rattle.fv_inode.specs.Files.{HasNone, IsFirst}
-use Rattle.fv_files.specs.Calls.{AddsCell}
 use Rattle.fv_charge.specs.declared.delta.Delta.{Delta}
 use Rattle.fv_charge.specs.declared.ledger.Ledger.{Ledger}
 use Rattle.fv_charge.specs.Changes.{CanChange, IsChanged, IsDeltaOf, IsLeft}
@@ -27,7 +27,7 @@ use Rattle.fv_volume.specs.declared.state.VolumeState.{VolumeState}
 use Rattle.fv_root.specs.declared.find.Found.{Found}
 use Rattle.fv_volume.specs.Calls.{HasBeside, Reads}
 use Rattle.fv_volume.specs.Changing.{AcceptsPut, FitsLedger, RefusedIn, SpaceSays}
-use Rattle.fv_volume.specs.Charging.{AddsBlocks}
+use Rattle.fv_volume.specs.Charging.{CostsPut, MovesBlocks}
 use Rattle.fv_volume.specs.Labels.{label_said}
 use Rattle.fv_volume.specs.OneVolume.{greatest_charge, standing_for, volume_for, IsReady, IsStanding}
 use Rattle.fv_volume.proofs.Answered.{put_changes, put_far, put_none, put_space}
@@ -35,7 +35,7 @@ use Rattle.fv_volume.proofs.Asked.{file, file_there, found}
 use Rattle.fv_volume.proofs.Changed.{leaves_ledger}
 use Rattle.fv_volume.proofs.Charging.{put_change, put_delta}
 use Rattle.fv_volume.proofs.Lookups.{named_none}
-use Rattle.fv_volume.proofs.KeptTables.{ready_alone}
+use Rattle.fv_volume.proofs.SettledTables.{next_is_new}
 
 -- ---- ledgers
 
@@ -58,7 +58,7 @@ pub record IsMore (l : Ledger) (count : ℕ) (by : Delta) : Type 0 where
   pub can : CanChange l by
 
 -- a ledger without a need can be changed by few blocks more, or by some fewer
-pub can_more : (l : Ledger) (d : Delta) (r : ℤ) → d.charge ≡ r → (count : ℕ) → l.charge ≤ greatest_charge → l.need ≡ 0 → count ≤ 6 → r ≡ pos count → d.need ≡ pos 0 → CanChange l d
+pub can_more : (l : Ledger) (d : Delta) (r : ℤ) → d.charge ≡ r → (count : ℕ) → l.charge ≤ greatest_charge → l.need ≡ 0 → count ≤ 14 → r ≡ pos count → d.need ≡ pos 0 → CanChange l d
 can_more l d r same count low none few charge need = record {
   charge = record { least = omega (arith, ints, same, charge); most = omega (arith, ints, same, low, few, charge) };
   need = record { least = omega (arith, ints, need); most = omega (arith, ints, none, need) };
@@ -69,6 +69,15 @@ can_fewer l d r same count low none within falls need = record {
   charge = record { least = omega (arith, ints, same, within, falls); most = omega (arith, ints, same, low, falls) };
   need = record { least = omega (arith, ints, need); most = omega (arith, ints, none, need) };
 }
+
+pub can_move : (l : Ledger) (d : Delta) (r : ℤ) → d.charge ≡ r → (more fewer : ℕ) → l.charge ≤ greatest_charge → l.need ≡ 0 → more < 8388608 → fewer ≤ l.charge + more → (r +ℤ pos fewer) ≡ pos more → d.need ≡ pos 0 → CanChange l d
+can_move l d r same more fewer low none few within moves need = record {
+  charge = record { least = omega (arith, ints, same, within, moves); most = omega (arith, ints, same, low, few, moves) };
+  need = record { least = omega (arith, ints, need); most = omega (arith, ints, none, need) };
+}
+
+pub moves_by : (z r : ℤ) → z ≡ r → (m n more : ℕ) → m ≡ n → (r +ℤ pos m) ≡ pos more → (z +ℤ pos n) ≡ pos (0 + more)
+moves_by z r same m n more equal moves = omega (arith, ints, same, equal, moves)
 
 pub falls_by : (z r : ℤ) → z ≡ r → (m n : ℕ) → m ≡ n → (r +ℤ pos m) ≡ pos 0 → (z +ℤ pos n) ≡ pos 0
 falls_by z r same m n equal falls = omega (arith, ints, same, equal, falls)
@@ -104,6 +113,10 @@ more_fits d p x by count ready more can need size kind within = record {
   };
 }
 
+-- so many blocks come, and so many stay
+pub moved : (a b count : ℕ) (z : ℤ) → count ≡ a + b → z ≡ pos count → (z +ℤ pos 0) ≡ pos (a + b)
+moved a b count z sum is = omega (arith, ints, sum, is)
+
 -- ---- a write
 
 module _ (d : Disk) (p : Pool) (x : VolumeState) (others : ℕ) where
@@ -132,17 +145,17 @@ module _ (d : Disk) (p : Pool) (x : VolumeState) (others : ℕ) where
     pub put_counted : (block : List ℕ) → most_changes ≤ x.now → RefusedIn beside (Put x.name f i block) (Refused TooMany)
     put_counted block all m has = put_changes m x.name (volume_for d p x) has.there f info.number its its_name i block near all
 
-    module _ (more : x.now < most_changes) (by : Delta) (count : ℕ) (ready : IsReady d p x) (adds : AddsCell table info.number i count) (charge : by.charge ≡ pos count) (need : by.need ≡ pos 0) (size : by.size ≡ x.ledger.size) (kind : by.kind ≡ x.ledger.kind) where
-      count_is : (g : File) → file_in table info.number ≡ Some g → AddsBlocks (volume_for d p x) (added_by g.tree i) by
+    module _ (more : x.now < most_changes) (by : Delta) (count : ℕ) (ready : IsReady d p x) (costs : CostsPut d p x info.number i count) (charge : by.charge ≡ pos count) (need : by.need ≡ pos 0) (size : by.size ≡ x.ledger.size) (kind : by.kind ≡ x.ledger.kind) where
+      count_is : (g : File) → file_in table info.number ≡ Some g → MovesBlocks (volume_for d p x) (added_by g.tree i) (staying (volume_for d p x) (put_path (table_told table) info.number g i)) 0 by
       count_is g there = record {
-        charge = charge ∙ ap pos (adds x.now g is.table there);
+        charge = moved (added_by g.tree i) (staying (volume_for d p x) (put_path (table_told table) info.number g i)) count by.charge (costs g there) charge;
         need = need;
         size = size ∙ ready.booked.size;
         kind = kind ∙ ready.booked.kind;
       }
 
       its_delta : (block : List ℕ) → IsDeltaOf (volume_for d p x) (stamped (volume_for d p x) (put (table_told table) info.number its i block)) by
-      its_delta block = put_delta (volume_for d p x) (ready_alone d p x ready) is.table is.reserves by info.number its i block its_there (count_is its (file_there d p x is f info first))
+      its_delta block = put_delta (volume_for d p x) is.table (next_is_new d p x is ready.labelled) is.reserves by info.number its i block its_there (count_is its (file_there d p x is f info first))
 
       abbrev its_ledger : Ledger
       its_ledger = record x.ledger { charge = x.ledger.charge + count }
@@ -167,6 +180,6 @@ module _ (d : Disk) (p : Pool) (x : VolumeState) (others : ℕ) where
       put_accepted says = record {
         near = near;
         first = first;
-        adds = count_is;
+        moves = count_is;
         accepted = λ block m has. put_space m x.name (volume_for d p x) has.there f info.number its its_name i block near more ∙ said (Ok tt) says block m has;
       }

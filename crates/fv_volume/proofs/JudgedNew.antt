@@ -13,7 +13,8 @@ use Rattle.fv_model.specs.Tables.{File, file_named, free_number, inode_cell, new
 use Rattle.fv_model.specs.Machines.{Machine, capacity}
 use Rattle.fv_model.specs.Space.{is_file_kind}
 use Rattle.fv_model.specs.Effects.{stamped}
-use Rattle.fv_laws.specs.Positions.{added_by}
+use Rattle.fv_laws.specs.Paths.{new_path}
+use Rattle.fv_laws.specs.Positions.{added_by, staying}
 use Rattle.fv_tables.specs.Told.{Standing, table_told}
 use Rattle.fv_inode.specs.declared.info.Info.{Info}
 use Rattle.fv_inode.specs.Files.{HasNone, IsFirst}
@@ -25,19 +26,18 @@ use Rattle.fv_volume.specs.declared.fault.VolumeFault.{VolumeFault}
 use Rattle.fv_volume.specs.declared.fault.VolumeFault.TheVariants.{Refused, DiskFault, Damaged, Memory}
 use Rattle.fv_volume.specs.declared.pool.Pool.{Pool}
 use Rattle.fv_volume.specs.declared.state.VolumeState.{VolumeState}
-use Rattle.fv_files.specs.Calls.{AddsFile}
 use Rattle.fv_volume.specs.Calls.{HasBeside}
 use Rattle.fv_volume.specs.Changing.{AcceptsNew, RefusedIn, SpaceSays}
-use Rattle.fv_volume.specs.Charging.{AddsBlocks}
+use Rattle.fv_volume.specs.Charging.{CostsNew, MovesBlocks}
 use Rattle.fv_volume.specs.OneVolume.{standing_for, volume_for, IsReady, IsStanding}
 use Rattle.fv_volume.proofs.Answered.{new_changes, new_far, new_files, new_kind, new_space, new_taken}
 use Rattle.fv_volume.proofs.Asked.{file, found}
 use Rattle.fv_volume.proofs.Changed.{leaves_ledger}
 use Rattle.fv_volume.proofs.Charging.{new_change, new_delta}
 use Rattle.fv_volume.proofs.FileCounts.{least_is, none_free, none_told, some_free, some_told}
-use Rattle.fv_volume.proofs.Judged.{more_ledger}
+use Rattle.fv_volume.proofs.Judged.{more_ledger, moved}
 use Rattle.fv_volume.proofs.Lookups.{named_none}
-use Rattle.fv_volume.proofs.KeptTables.{ready_alone}
+use Rattle.fv_volume.proofs.SettledTables.{next_is_new}
 
 pub some_is : {T : Type 0} (o : Option T) → is_some o ≡ true → (x : T) × (o ≡ Some x)
 some_is None is = absurd cc
@@ -93,10 +93,11 @@ module _ (d : Disk) (p : Pool) (x : VolumeState) (others : ℕ) where
           pub new_counted : most_changes ≤ x.now → RefusedIn beside (New x.name f reserve) (Refused TooMany)
           new_counted all m has = new_changes m x.name (volume_for d p x) has.there f reserve near missing fits few all
 
-          module _ (more : x.now < most_changes) (by : Delta) (count : ℕ) (ready : IsReady d p x) (adds : AddsFile table n count) (charge : by.charge ≡ pos count) (need : by.need ≡ pos 0) (size : by.size ≡ x.ledger.size) (kind : by.kind ≡ x.ledger.kind) where
-            count_is : AddsBlocks (volume_for d p x) (added_by (table_told table).inode (inode_cell (free_number (table_told table)))) by
+          module _ (more : x.now < most_changes) (by : Delta) (count : ℕ) (ready : IsReady d p x) (costs : CostsNew d p x n count) (charge : by.charge ≡ pos count) (need : by.need ≡ pos 0) (size : by.size ≡ x.ledger.size) (kind : by.kind ≡ x.ledger.kind) where
+            count_is : MovesBlocks (volume_for d p x) (added_by (table_told table).inode (inode_cell (free_number (table_told table)))) (staying (volume_for d p x) (new_path (table_told table))) 0 by
             count_is = record {
-              charge = charge ∙ ap pos (adds x.now is.table ∙ ap (λ k. added_by (table_told table).inode (inode_cell k)) (sym number_is));
+              charge = moved (added_by (table_told table).inode (inode_cell (free_number (table_told table)))) (staying (volume_for d p x) (new_path (table_told table))) count by.charge
+                  (costs free ∙ ap (λ k. added_by (table_told table).inode (inode_cell k) + staying (volume_for d p x) (new_path (table_told table))) (sym number_is)) charge;
               need = need;
               size = size ∙ ready.booked.size;
               kind = kind ∙ ready.booked.kind;
@@ -104,7 +105,7 @@ module _ (d : Disk) (p : Pool) (x : VolumeState) (others : ℕ) where
 
             its_delta : IsDeltaOf (volume_for d p x) (stamped (volume_for d p x) (new (table_told table) f reserve)) by
             its_delta = subst (λ k. IsDeltaOf (volume_for d p x) (stamped (volume_for d p x) (new (table_told table) f k)) by) (sym zero_is)
-                (new_delta (volume_for d p x) (ready_alone d p x ready) is.table is.reserves by f count_is)
+                (new_delta (volume_for d p x) is.table (next_is_new d p x is ready.labelled) is.reserves by f count_is)
 
             its_left : (m : Machine) → beside m → IsLeft m (New x.name f reserve) x.name (record x.ledger { charge = x.ledger.charge + count }) others (capacity p.found.blocks)
             its_left m has = leaves_ledger d p x is others m has (New x.name f reserve) (stamped (volume_for d p x) (new (table_told table) f reserve)) by (record x.ledger { charge = x.ledger.charge + count })
@@ -128,6 +129,6 @@ module _ (d : Disk) (p : Pool) (x : VolumeState) (others : ℕ) where
               none = missing;
               few = few;
               free = free;
-              adds = count_is;
+              moves = count_is;
               accepted = λ m has. new_space m x.name (volume_for d p x) has.there f reserve near missing fits few more ∙ said (Ok tt) says m has;
             }

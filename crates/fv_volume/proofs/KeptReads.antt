@@ -65,7 +65,7 @@ of_snap x P all root (Some name, named) = by (snap_named x.snapshots name) refl 
     by (Some q) is at = record { snap = q; table = same_root q.table root at; has = found_among P (λ (q : Snap). is_same_name name q.name) x.snapshots all q is }
 
 -- what a label says of each snapshot
-each_sayable : (snaps : List Snap) → All IsSayableSnap (map snap_in snaps) → All (λ (q : Snap). IsSayableSnap (snap_in q)) snaps
+pub each_sayable : (snaps : List Snap) → All IsSayableSnap (map snap_in snaps) → All (λ (q : Snap). IsSayableSnap (snap_in q)) snaps
 each_sayable [] all = All-nil (λ (q : Snap). IsSayableSnap (snap_in q))
 each_sayable (q ∷ qs) all = All-cons (λ (q : Snap). IsSayableSnap (snap_in q)) q qs (All-head IsSayableSnap (snap_in q) (map snap_in qs) all) (each_sayable qs (All-tail IsSayableSnap (snap_in q) (map snap_in qs) all))
 

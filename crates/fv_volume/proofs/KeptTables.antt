@@ -11,30 +11,23 @@ use Rattle.fv_laws.proofs.Tables.{later_table}
 use Rattle.fv_laws.specs.Positions.{IsAlone}
 use Rattle.fv_tables.specs.Spelled.{Under}
 use Rattle.fv_tree.specs.Sources.{Use}
-use Rattle.fv_image.proofs.LoneTables.{form_snapshots}
+use Rattle.fv_files.specs.Apart.{Trees, stored_trees}
 use Rattle.fv_container.specs.declared.entry.Entry.{Entry}
 use Rattle.fv_volmap.specs.Slots.{Slot, has, slot_at}
 use Rattle.fv_volume.specs.declared.pool.Pool.{Pool}
 use Rattle.fv_volume.specs.declared.state.Snap.{Snap}
 use Rattle.fv_volume.specs.declared.state.VolumeState.{VolumeState}
 use Rattle.fv_volume.specs.BlocksOver.{held_block, held_entry}
-use Rattle.fv_volume.specs.Files.{has_form}
 use Rattle.fv_volume.specs.Lending.{use_of}
-use Rattle.fv_volume.specs.OneVolume.{blocks_in, snap_by, snaps_by, uses_in, volume_for, IsKeptTable, IsReady, IsTableIn}
-use Rattle.fv_volume.specs.States.{head_in, snap_in}
+use Rattle.fv_volume.specs.OneVolume.{blocks_in, snap_by, snaps_by, uses_in, volume_for, IsKeptTable, IsTableIn}
+use Rattle.fv_volume.specs.Sharing.{trees_kept, AreShared, SharesWith}
+use Rattle.fv_volume.specs.States.{snap_in}
 
 -- ---- a volume without snapshots
 
 pub snaps_none : (snaps : List Snap) → map snap_in snaps ≡ [] → snaps ≡ []
 snaps_none [] is = refl
 snaps_none (s ∷ ss) is = absurd cc
-
--- a volume whose head has a form has none
-pub no_snaps : (x : VolumeState) → has_form (head_in x) ≡ true → x.snapshots ≡ []
-no_snaps x form = snaps_none x.snapshots (form_snapshots (head_in x) form)
-
-pub ready_snaps : (d : Disk) (p : Pool) (x : VolumeState) → IsReady d p x → x.snapshots ≡ []
-ready_snaps d p x ready = no_snaps x ready.labelled.form
 
 -- what holds of each snapshot holds then
 pub none_kept : (P : Snap → Type 0) (snaps : List Snap) → snaps ≡ [] → All P snaps
@@ -48,13 +41,10 @@ none_told blocks snaps none = ap (snaps_by blocks) none
 pub is_alone : (disk : Disk) (pool : Pool) (x : VolumeState) → x.snapshots ≡ [] → IsAlone (volume_for disk pool x)
 is_alone disk pool x none = record { snapshots = none_told (blocks_in disk pool x) x.snapshots none; base = refl }
 
-pub ready_alone : (disk : Disk) (pool : Pool) (x : VolumeState) → IsReady disk pool x → IsAlone (volume_for disk pool x)
-ready_alone disk pool x ready = is_alone disk pool x (ready_snaps disk pool x ready)
-
 -- ---- what a slot has
 
 -- what stands by a test that is the same, and where it passes is the same
-by_test : {X : Type 0} (a b : Bool) (x y : Option X) → a ≡ b → (b ≡ true → x ≡ y) → cond a x None ≡ cond b y None
+pub by_test : {X : Type 0} (a b : Bool) (x y : Option X) → a ≡ b → (b ≡ true → x ≡ y) → cond a x None ≡ cond b y None
 by_test a true x y same is = ap (λ (t : Bool). cond t x None) same ∙ is refl
 by_test a false x y same is = ap (λ (t : Bool). cond t x None) same
 
@@ -79,7 +69,19 @@ module _ (d e : Disk) (p q : Pool) (x y : VolumeState) (later : x.now ≤ y.now)
       each [] all = refl
       each (s ∷ ss) all = ap₂ (λ t ts. t ∷ ts) (ap (λ (u : Under). snap_by (λ k. u) s) (same_blocks s.slot (All-head (IsKeptTable d p x) s ss all).0)) (each ss (All-tail (IsKeptTable d p x) s ss all))
 
-  -- and lies whole in its slot.
+  -- So are its trees.
+  kept_trees : (s : Snap) → s.slot ≢ 0 → trees_kept (blocks_in d p x) s ≡ trees_kept (blocks_in e q y) s
+  kept_trees s other = ap (λ (u : Under). stored_trees u s.table.levels s.table.root) (sym (same_blocks s.slot other))
+
+  -- What is shared with it is so still,
+  pub kept_shared : (a : Trees) (snaps : List Snap) → All (IsKeptTable d p x) snaps → AreShared a (blocks_in d p x) snaps → AreShared a (blocks_in e q y) snaps
+  kept_shared a snaps all is = record {
+    active = λ n s lt. subst (SharesWith a) (kept_trees (slice_index_or snaps n s) (all n s lt).0) (is.active n s lt);
+    kept = λ n s lt m r more. subst (λ (t : Trees). SharesWith t (trees_kept (blocks_in e q y) (slice_index_or snaps m r))) (kept_trees (slice_index_or snaps n s) (all n s lt).0)
+        (subst (SharesWith (trees_kept (blocks_in d p x) (slice_index_or snaps n s))) (kept_trees (slice_index_or snaps m r) (all m r more).0) (is.kept n s lt m r more));
+  }
+
+  -- and it lies whole in its slot.
   pub kept_tables : (snaps : List Snap) → All (IsKeptTable d p x) snaps → All (IsKeptTable e q y) snaps
   kept_tables snaps all = λ k s lt. one (slice_index_or snaps k s) (all k s lt)
     where

@@ -1,24 +1,25 @@
 -- The label of a volume without a base: its fields are in range, and it says what the volume is.
 use Rattle.std.proofs.Common.{◌≡◌, ℕ, ◌-◌, ◌≤◌, Bool, true, false, List, ◌++◌, length, get_or, take, replicate, Option, Some, None, refl, sym, ap, subst, ◌∙◌, arith}
-use Rattle.std.specs.Prelude.{◌&&◌, ◌%◌, ◌==◌, min}
+use Rattle.std.specs.Prelude.{All, ◌%◌, ◌==◌, min}
 use Rattle.std.specs.List.{list_any}
 use Rattle.std.specs.Option.{is_none}
 use Rattle.std.proofs.Math.Seq.{take-append_seam}
 use Rattle.std.proofs.lemmas.Bool.{and_parts, true≢false}
-use Rattle.fv_codec.specs.Blocks.{IsLabel, IsPointer, last_place, most_stamps}
+use Rattle.fv_codec.specs.Blocks.{IsLabel, IsPointer, IsSnapRecord, last_place, most_stamps}
 use Rattle.fv_model.specs.declared.commands.Kind.{Kind}
 use Rattle.fv_model.specs.declared.commands.Kind.TheVariants.{Volume as Whole, File as ByFile, Thin}
 use Rattle.fv_model.specs.Spelling.{is_name}
 use Rattle.fv_image.specs.Views.{Footing, Head, head_of, kind_named}
-use Rattle.fv_image.specs.Told.{has_none}
 use Rattle.fv_model.specs.Numbers.{greatest_span}
 use Rattle.fv_charge.specs.declared.ledger.Ledger.{Ledger}
 use Rattle.fv_volmap.specs.Slots.{Volume as MapSlots}
+use Rattle.fv_volume.specs.declared.state.Rooted.{Rooted}
+use Rattle.fv_volume.specs.declared.state.Snap.{Snap}
 use Rattle.fv_volume.specs.declared.state.VolumeState.{VolumeState}
 use Rattle.fv_volume.specs.Labels.{kind_number, label_said}
 use Rattle.fv_volume.specs.SnapRecords.{records_said, AreSayable}
 use Rattle.fv_volume.specs.Files.{HasSlotsOf, IsLabelled, has_form}
-use Rattle.fv_volume.specs.States.{head_in}
+use Rattle.fv_volume.specs.States.{head_in, snaps_in}
 use Rattle.fv_volume.proofs.Naming.{filled, parts}
 use Rattle.fv_volume.proofs.SnapRecords.{all_said, snaps_again}
 
@@ -88,8 +89,7 @@ pub label_head : (x : VolumeState) → has_form (head_in x) ≡ true → is_name
 unfolding head_of label_said
 label_head x form named said container height =
     let name : take (length x.name) (x.name ++ replicate (64 - length x.name) 0) ≡ x.name = take-append_seam x.name (replicate (64 - length x.name) 0) in
-    let more = and_parts (has_none (head_in x).snapshots) (is_none (head_in x).base && x.known) form in
-    let last = and_parts (is_none (head_in x).base) x.known more.1 in
+    let last = and_parts (is_none (head_in x).base) x.known form in
     (λ i. record {
       name = name i;
       kind = kind_again x.kind i;
@@ -126,6 +126,36 @@ same_label x y head container height = (λ i. record {
   root = (head i).active.root;
   snapshots = records_said (head i).snapshots;
 })
+
+-- A label can be said with another root and other snapshots, where these can be said.
+pub label_turned : (x : VolumeState) (active : Rooted) (snapshots : List Snap) (container height : ℕ) → IsLabel (label_said x container height)
+    → active.levels ≤ 2 → IsPointer active.root → All IsSnapRecord (records_said (snaps_in snapshots)) → IsLabel (label_said (record x { active = active; snapshots = snapshots }) container height)
+unfolding label_said
+label_turned x active snapshots container height is few fits said = record {
+  name_least = is.name_least;
+  name_greatest = is.name_greatest;
+  name = is.name;
+  kind = is.kind;
+  size_least = is.size_least;
+  size_greatest = is.size_greatest;
+  most_least = is.most_least;
+  most_greatest = is.most_greatest;
+  span_least = is.span_least;
+  span_greatest = is.span_greatest;
+  span_step = is.span_step;
+  now = is.now;
+  parent = is.parent;
+  base_least = is.base_least;
+  base_greatest = is.base_greatest;
+  splitting = is.splitting;
+  known = is.known;
+  container = is.container;
+  height_least = is.height_least;
+  height_greatest = is.height_greatest;
+  levels = few;
+  root = fits;
+  snapshots = said;
+}
 
 -- what holds of a volume's numbers and name holds of one with its head, its map and its ledger
 pub same_labelled : (slot : ℕ) (x y : VolumeState) → head_in y ≡ head_in x → y.slot ≡ x.slot → y.map ≡ x.map → y.ledger ≡ x.ledger → y.fresh ≡ x.fresh → IsLabelled slot x → IsLabelled slot y

@@ -1,6 +1,6 @@
 mod Naming
 pub mod MapSlots
-mod Positions
+pub mod Positions
 pub mod Labels
 pub mod Overheads
 pub mod Loaded
@@ -12,10 +12,10 @@ mod Writing
 pub mod Told
 pub mod Made
 mod Lent
-mod Holding
+pub mod Holding
 pub mod Trees
 pub mod Charging
-mod Shows
+pub mod Shows
 mod PlaceShown
 mod Going
 mod Failing
@@ -29,7 +29,6 @@ mod Counting
 pub mod Drawing
 pub mod StayingMaps
 pub mod MapCounts
-mod Gone
 mod MapBlocks
 pub mod SlotBlocks
 pub mod Renewing
@@ -42,6 +41,7 @@ pub mod StillLoaded
 pub mod Delaying
 pub mod LoadedBlocks
 pub mod Spacing
+pub mod Reclaiming
 pub mod Settled
 pub mod Reaches
 pub mod StaysStates
@@ -55,6 +55,14 @@ pub mod StoredTold
 pub mod Lookups
 pub mod Answered
 pub mod KeptTables
+pub mod Shared
+pub mod SharedRoots
+mod KeptStamps
+mod TakenTrees
+mod SharedChanges
+mod PlacedShared
+mod SnapIds
+pub mod SettledTables
 pub mod OneVolumes
 pub mod Numbered
 pub mod SnapReads
@@ -62,6 +70,7 @@ pub mod Asked
 mod CallCauses
 mod Followed
 pub mod Changed
+pub mod Charged
 mod FileCounts
 mod MadePut
 mod MadeNew
@@ -111,6 +120,9 @@ pub mod Emptied
 pub mod CountedMaps
 pub mod SnapRecords
 pub mod SnapSlots
+pub mod SnapNames
+pub mod ActiveRoot
+pub mod SlotMoves
 pub mod SlotReads
 pub mod SlotRoots
 pub mod KeptSlots

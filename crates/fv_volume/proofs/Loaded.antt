@@ -1,10 +1,9 @@
 -- What is loaded from a label, as a volume.
-use Rattle.std.proofs.Common.{◌≡◌, ℕ, Bool, nat_eq, map, subst, true, false, List, [], ◌∷◌, length, suc, ◌≤◌, Some, None, refl, sym, ap, ◌∙◌, arith}
-use Rattle.std.specs.Prelude.{not, ◌==◌, ◌+◌, ◌-◌, ◌&&◌, find, take, replicate, if◌then◌else◌}
-use Rattle.std.specs.Option.{is_none, option_map}
+use Rattle.std.proofs.Common.{◌≡◌, ℕ, Bool, nat_eq, map, subst, true, false, List, [], ◌∷◌, length, suc, ◌≤◌, Option, Some, None, refl, sym, ap, ◌∙◌, arith}
+use Rattle.std.specs.Prelude.{not, ◌==◌, ◌+◌, ◌-◌, ◌&&◌, take, replicate, if◌then◌else◌}
+use Rattle.std.specs.Option.{is_none}
 use Rattle.fv_model.specs.declared.commands.Kind.{Kind}
 use Rattle.fv_model.specs.Spelling.{is_name}
-use Rattle.fv_image.specs.Told.{has_none}
 use Rattle.fv_codec.proofs.Numbers.{up_to-le}
 use Rattle.fv_volume.specs.declared.state.Snap.{Snap as StateSnap}
 use Rattle.fv_volume.specs.declared.state.VolumeState.{VolumeState}
@@ -24,42 +23,28 @@ use Rattle.fv_volume.proofs.SnapRecords.{label_sayable}
 use Rattle.fv_volume.proofs.KeptSlots.{slots_read}
 use Rattle.fv_volume.specs.SlotReads.{AreUsedTo}
 use Rattle.fv_image.proofs.LabelSlots.{label_slots}
-use Rattle.fv_volume.specs.Loading.{first_used, form_in, is_used}
+use Rattle.fv_volume.specs.Loading.{form_in}
 
--- a label without forms
+-- a label without the forms that can't be loaded
 pub record IsBare (l : Label) : Type 0 where
   pub parent : (l.parent == 0) ≡ true
   pub known : (l.known == 0) ≡ false
-  pub snapshots : first_used l.snapshots ≡ None
 
 pub bare : (l : Label) → form_in l ≡ None → IsBare l
 unfolding form_in
 bare l none = either (l.parent == 0) refl none
   where
-    mid : (b : Bool) → (l.known == 0) ≡ b → (l.parent == 0) ≡ true → (if b then Some (1, 0) else first_used l.snapshots) ≡ None → IsBare l
+    mid : (b : Bool) → (l.known == 0) ≡ b → (l.parent == 0) ≡ true → if◌then◌else◌ {A = Option (ℕ × ℕ)} b (Some (1, 0)) None ≡ None → IsBare l
     mid true is p e = cc
-    mid false is p e = record { parent = p; known = is; snapshots = e }
+    mid false is p e = record { parent = p; known = is }
 
-    either : (b : Bool) → (l.parent == 0) ≡ b → (if not b then Some (0, l.parent) else if l.known == 0 then Some (1, 0) else first_used l.snapshots) ≡ None → IsBare l
+    either : (b : Bool) → (l.parent == 0) ≡ b → if◌then◌else◌ {A = Option (ℕ × ℕ)} (not b) (Some (0, l.parent)) (if◌then◌else◌ {A = Option (ℕ × ℕ)} (l.known == 0) (Some (1, 0)) None) ≡ None → IsBare l
     either true is e = mid (l.known == 0) refl is e
     either false is e = cc
-
-no_snaps : (records : List SnapRecord) (j : ℕ) → first_used records ≡ None → snaps_from j records ≡ []
-unfolding snaps_from
-no_snaps [] j none = refl
-no_snaps (r ∷ rs) j none = either (r.name_length == 0) (no_snaps rs (j + 1)) none
-  where
-    either : (b : Bool) → (first_used rs ≡ None → snaps_from (j + 1) rs ≡ []) → option_map {U = ℕ × ℕ} (λ (x : SnapRecord). (0, x.name_length)) (if not b then Some r else find is_used rs) ≡ None
-        → (if b then snaps_from (j + 1) rs else record { slot = j; name = take r.name_length r.name; table = record { levels = r.levels; root = r.root } } ∷ snaps_from (j + 1) rs) ≡ []
-    either true rest e = rest e
-    either false rest e = cc
 
 -- the parts of its head that forms would set
 pub no_footing : (l : Label) → IsBare l → footing_of l ≡ None
 no_footing l is = ap (λ t. if t then None else Some (record { parent = l.parent - 1; slot = l.base_slot; splitting = l.splitting == 1 })) is.parent
-
-pub no_snapshots : (l : Label) → IsBare l → snaps_from 1 l.snapshots ≡ []
-no_snapshots l is = no_snaps l.snapshots 1 is.snapshots
 
 is_known : (l : Label) → IsLabel l → IsBare l → (l.known == 1) ≡ true
 is_known l range is =
@@ -69,7 +54,7 @@ is_known l range is =
 -- such a label's head has a form that there is
 pub head_bare : (l : Label) → IsLabel l → IsBare l → has_form (head_of l) ≡ true
 unfolding head_of
-head_bare l range is = (λ i. has_none (no_snapshots l is i) && (is_none (no_footing l is i) && is_known l range is i))
+head_bare l range is = (λ i. is_none (no_footing l is i) && is_known l range is i)
 
 -- the head of a volume that is made of such a label
 abbrev pub head_with : Label → List ℕ → Kind → List StateSnap → Head

@@ -3,7 +3,7 @@
 use Rattle.std.proofs.Common.{◌≡◌, ◌≢◌, ℕ, ◌<◌, ◌≤◌, Bool, true, cond, List, Option, Some, None, is_some, inl, inr, refl, sym, ap, subst, ◌∙◌, arith, length}
 use Rattle.std.specs.Prelude.{◌⊎◌, ◌==◌, flat_map, map, nat_le, IfSome}
 use Rattle.std.specs.List.{list_all}
-use Rattle.std.specs.Option.{is_none, option_map, option_map_or}
+use Rattle.std.specs.Option.{option_map, option_map_or}
 use Rattle.std.specs.FinMap as fin
 use Rattle.std.proofs.lemmas.Bool.{and_parts}
 use Rattle.std.proofs.lemmas.Bool.Decides.{nat_tests}
@@ -34,11 +34,10 @@ use Rattle.fv_image.specs.Held.{layout_at, view_at}
 use Rattle.fv_image.specs.Seen.{Based, Reached, Root, base_seen, reached_at, root_seen, roots_of, seen, volume_seen}
 use Rattle.fv_image.specs.Soundness.{AreTables, AreMaps}
 use Rattle.fv_image.specs.TableRules.{all_items, has_stamps_past}
-use Rattle.fv_image.specs.Told.{has_none}
 use Rattle.fv_image.specs.Views.{Placed, Head, Rooted, View, volume_bit}
 use Rattle.fv_image.specs.Volumes.{standing_of, table_at}
 use Rattle.fv_image.specs.WholeMachine.{Tells, has_no_reserves}
-use Rattle.fv_image.proofs.LoneTables.{built_reserves, form_base, place_own, no_parent, kind_led, IsLedEntry}
+use Rattle.fv_image.proofs.LoneTables.{built_reserves, form_base, form_known, place_own, no_parent, kind_led, IsLedEntry}
 use Rattle.fv_image.proofs.OwnUses.{HasLabelNumbers}
 use Rattle.fv_image.proofs.RootTables.{led_below, led_entry, root_bit, root_led, root_led_once, root_reach}
 use Rattle.fv_image.proofs.SameSeen.{of_volume}
@@ -51,7 +50,7 @@ use Rattle.fv_volmap.specs.Slots.{has, slot_at}
 use Rattle.fv_volume.specs.declared.pool.Pool.{Pool}
 use Rattle.fv_volume.specs.declared.state.VolumeState.{VolumeState}
 use Rattle.fv_volume.specs.BlocksOver.{block_of, held_block, held_entry}
-use Rattle.fv_volume.specs.Files.{has_form, HasOwnSlots, IsLabelled}
+use Rattle.fv_volume.specs.Files.{HasOwnSlots, IsLabelled}
 use Rattle.fv_volume.specs.Lending.{use_of}
 use Rattle.fv_volume.specs.Loading.{HaveBits, KeptTo, LoadedTo}
 use Rattle.fv_volume.specs.OneVolume.{blocks_in, uses_in}
@@ -61,10 +60,6 @@ use Rattle.fv_volume.proofs.KeptSlots.{root_bits, root_few}
 use Rattle.fv_volume.proofs.PlacedIn.{alone_by}
 use Rattle.fv_volume.proofs.Told.{head_there, is_inside}
 use Rattle.fv_volume.proofs.Viewed.{viewed}
-
--- a volume of a form that there is has known places alone
-form_known : (h : Head) → has_form h ≡ true → h.known ≡ true
-form_known h form = (and_parts (is_none h.base) h.known (and_parts (has_none h.snapshots) _ form).1).1
 
 pub chain_own : (slots : Slots) (slot v : ℕ) → parent_at slots slot ≡ None → chain_entry slots slot v ≡ own_entry (container_at slots slot) v
 unfolding along

@@ -1,5 +1,5 @@
 -- A cut that was made is the machine's.
-use Rattle.std.proofs.Common.{◌≡◌, ◌≢◌, ℕ, ◌+◌, ◌≤◌, true, List, Option, Some, refl, sym, ap, subst, ◌∙◌, arith, pos, ◌+ℤ◌}
+use Rattle.std.proofs.Common.{◌≡◌, ◌≢◌, ℕ, ◌+◌, ◌≤◌, true, List, [], Option, Some, refl, sym, ap, subst, ◌∙◌, arith}
 use Rattle.std.specs.Prelude.{Ok}
 use Rattle.std.specs.FinMap as fin
 use Rattle.fv_disk.specs.Shown.{Shown as Disk}
@@ -8,9 +8,10 @@ use Rattle.fv_model.specs.Tables.{File, Table, file_cut, file_named, cut}
 use Rattle.fv_model.specs.Volumes.{Volume}
 use Rattle.fv_model.specs.Effects.{Becomes, stamped}
 use Rattle.fv_laws.specs.WellFormed.{IsWellTable}
-use Rattle.fv_laws.specs.Positions.{taken_by_cut}
+use Rattle.fv_laws.specs.Paths.{cut_path}
+use Rattle.fv_laws.specs.Positions.{staying, taken_by_cut}
 use Rattle.fv_laws.proofs.Moves.{cut_charge}
-use Rattle.fv_laws.proofs.PathCharges.{cut_unreserved}
+use Rattle.fv_laws.proofs.PathCharges.{none_stay, cut_unreserved}
 use Rattle.fv_laws.proofs.Tables.{cut_well}
 use Rattle.fv_tables.specs.Told.{Standing, file_in, table_told}
 use Rattle.fv_tables.proofs.Tables.{files_told}
@@ -28,22 +29,25 @@ use Rattle.fv_volmap.specs.Slots.{Volume as Maps, slot_at}
 use Rattle.fv_volume.specs.declared.pool.Pool.{Pool}
 use Rattle.fv_volume.specs.declared.state.VolumeState.{VolumeState}
 use Rattle.fv_volume.specs.Calls.{Changes, HasWithin, Reads}
-use Rattle.fv_volume.specs.Changing.{AcceptsCut}
+use Rattle.fv_volume.specs.Changing.{AcceptsCut, IsDeltaBy}
 use Rattle.fv_volume.specs.Lending.{IsTold}
 use Rattle.fv_volume.specs.OneVolume.{shows, standing_by, standing_for, volume_for, AreSoundBy, IsReady, IsStanding}
 use Rattle.fv_volume.proofs.Asked.{file, file_there, found}
-use Rattle.fv_volume.proofs.Calling.{done_moves, done_next, done_says, done_told, done_trees, is_done, left_numbers, left_slots, Parts}
+use Rattle.fv_volume.proofs.Calling.{done_moves, done_next, done_places, done_says, done_told, done_trees, is_done, left_numbers, left_slots, Parts}
 use Rattle.fv_volume.proofs.Changed.{made_standing, made_volume}
 use Rattle.fv_volume.proofs.Charging.{cut_change, cut_delta}
 use Rattle.fv_volume.proofs.Numbered.{cut_files, still_numbered}
-use Rattle.fv_volume.proofs.KeptTables.{ready_alone}
+use Rattle.fv_volume.proofs.Charged.{made_moves}
+use Rattle.fv_volume.proofs.SettledTables.{next_is_new}
+use Rattle.fv_volume.proofs.KeptTables.{is_alone}
 use Rattle.fv_volume.proofs.OneVolumes.{still_table}
+use Rattle.fv_volume.proofs.SharedChanges.{PlacesAltered}
 
-module _ (d e f : Disk) (p q r : Pool) (first : Reads d p e q) (second : Reads e q f r) (x : VolumeState) (is : IsStanding d p x) (ready : IsReady d p x) (others : ℕ) (name : List ℕ) (most : ℕ) (info : Info)
-    (accepts : AcceptsCut d p x name most info) (map : Maps) (slots : (k : ℕ) → k ≢ 0 → slot_at map k ≡ slot_at x.map k) (files : Option Files) (told : IsTold f r map x.slot)
+module _ (d e f : Disk) (p q r : Pool) (first : Reads d p e q) (second : Reads e q f r) (x : VolumeState) (is : IsStanding d p x) (ready : IsReady d p x) (others : ℕ) (name : List ℕ) (most : ℕ) (info : Info) (known : Option Delta)
+    (accepts : AcceptsCut d p x others name most info known) (map : Maps) (slots : (k : ℕ) → k ≢ 0 → slot_at map k ≡ slot_at x.map k) (files : Option Files) (told : IsTold f r map x.slot)
     (trees : AreSoundBy (under (shows e q (record x { map = map }))) (shows e q (record x { map = map })).used x.active files)
     (cuts : CutsFile (standing_for e q x) (standing_by (under (shows e q (record x { map = map }))) x.active files) info.number most (x.now + 1)) (count : ℕ)
-    (takes : TakesByCut (standing_for e q x) info.number most (x.now + 1) count) (by : Delta) (falls : count ≤ x.ledger.charge → (by.charge +ℤ pos count) ≡ pos 0) (need : by.need ≡ pos 0) (size : by.size ≡ x.ledger.size) (kind : by.kind ≡ x.ledger.kind) where
+    (takes : TakesByCut (standing_for e q x) info.number most (x.now + 1) count) (by : Delta) (is_by : IsDeltaBy x.ledger known count by) where
   abbrev its : File
   its = file d p x is name info accepts.first
 
@@ -71,20 +75,17 @@ module _ (d e f : Disk) (p q r : Pool) (first : Reads d p e q) (second : Reads e
   taken_is : count ≡ taken_by_cut its most
   taken_is = takes x.now its (omega arith) well_now there_now
 
-  low : count ≤ x.ledger.charge
-  low =
-      let left = cut_charge (volume_for d p x) (ready_alone d p x ready) is.table info.number its most in_table in
+  low : x.snapshots ≡ [] → count ≤ x.ledger.charge
+  low none =
+      let left = cut_charge (volume_for d p x) (is_alone d p x none) is.table info.number its most in_table in
       let same = is.ledger.charged in
       let taken = taken_is in
       omega (arith, left, same, taken)
 
   its_delta : IsDeltaOf (volume_for d p x) (stamped (volume_for d p x) table) by
-  its_delta = cut_delta (volume_for d p x) (ready_alone d p x ready) is.table is.reserves by info.number its most in_table (record {
-    charge = subst (λ n. (by.charge +ℤ pos n) ≡ pos 0) taken_is (falls low);
-    need = need;
-    size = size ∙ ready.booked.size;
-    kind = kind ∙ ready.booked.kind;
-  })
+  its_delta = cut_delta (volume_for d p x) is.table (next_is_new d p x is ready.labelled) is.reserves by info.number its most in_table
+      (made_moves d p x ready known count (staying (volume_for d p x) (cut_path (table_told (standing_for d p x)) info.number its most)) (taken_by_cut its most) by (accepts.moves its its_there) is_by
+      (λ none. none_stay (volume_for d p x) (is_alone d p x none) (cut_path (table_told (standing_for d p x)) info.number its most)) taken_is low)
 
   module _ (now : ℕ) (ledger : Ledger) (numbers : Option FileNumbers) (same : numbers ≡ x.numbers) (next : now ≡ x.now + 1) where
     abbrev done : VolumeState
@@ -97,8 +98,8 @@ module _ (d e f : Disk) (p q r : Pool) (first : Reads d p e q) (second : Reads e
     pub cut_volume : volume_for f r done ≡ stamped (volume_for d p x) table
     cut_volume = made_volume d e f p q r first second x is map slots files told trees now ledger numbers table next made
 
-    pub cut_standing : ((v w : Volume) → IsLedgerOf v x.ledger → IsDeltaOf v w by → IsLedgerOf w ledger) → IsStanding f r done
-    cut_standing moves = made_standing d e f p q r first second x is map slots files told trees now ledger numbers table next made
+    pub cut_standing : PlacesAltered e q x map files → ((v w : Volume) → IsLedgerOf v x.ledger → IsDeltaOf v w by → IsLedgerOf w ledger) → IsStanding f r done
+    cut_standing places moves = made_standing d e f p q r first second x is map slots files told trees now ledger numbers table next made places
         (cut_well x.now (x.now + 1) (table_told (standing_for d p x)) info.number its most accepts.near (omega arith) is.table in_table)
         (cut_unreserved (table_told (standing_for d p x)) is.reserves info.number its most (x.now + 1) in_table)
         (moves (volume_for d p x) (stamped (volume_for d p x) table) is.ledger its_delta)
@@ -106,15 +107,15 @@ module _ (d e f : Disk) (p q r : Pool) (first : Reads d p e q) (second : Reads e
 
     pub cut_changes : Changes (HasWithin x.name (volume_for d p x) others p.found.blocks) (Cut x.name name most) x.name (volume_for d p x) (volume_for f r done) (Ok tt)
     cut_changes = record {
-      agrees = λ m has. accepts.accepted others m has;
+      agrees = λ m has. accepts.accepted m has;
       becomes = λ m has. cut_change m x.name name (volume_for d p x) has info.number its its_name most ∙ ap (λ v. Becomes x.name v) (sym cut_volume);
       stays = tt;
     }
 
 -- the parts of a cut
-module _ (d e f : Disk) (p q r : Pool) (x v w y : VolumeState) (by : Delta) (count : ℕ) (parts : Parts {T = ℕ} d e f p q r x v w y (Ok count) by) (is : IsStanding d p x) (ready : IsReady d p x) (others : ℕ) (name : List ℕ) (most : ℕ) (info : Info)
-    (accepts : AcceptsCut d p x name most info) (cuts : IsStanding e q v → CutsFile (standing_for e q v) (standing_for e q w) info.number most (v.now + 1)) (takes : IsStanding e q v → TakesByCut (standing_for e q v) info.number most (v.now + 1) count)
-    (falls : count ≤ x.ledger.charge → (by.charge +ℤ pos count) ≡ pos 0) (need : by.need ≡ pos 0) (size : by.size ≡ x.ledger.size) (kind : by.kind ≡ x.ledger.kind) (kept : y.numbers ≡ w.numbers) where
+module _ (d e f : Disk) (p q r : Pool) (x v w y : VolumeState) (by : Delta) (count : ℕ) (parts : Parts {T = ℕ} d e f p q r x v w y (Ok count) by) (is : IsStanding d p x) (ready : IsReady d p x) (others : ℕ) (name : List ℕ) (most : ℕ) (info : Info) (known : Option Delta)
+    (accepts : AcceptsCut d p x others name most info known) (cuts : IsStanding e q v → CutsFile (standing_for e q v) (standing_for e q w) info.number most (v.now + 1)) (takes : IsStanding e q v → TakesByCut (standing_for e q v) info.number most (v.now + 1) count)
+    (is_by : IsDeltaBy x.ledger known count by) (kept : y.numbers ≡ w.numbers) where
   same_numbers : y.numbers ≡ x.numbers
   same_numbers = kept ∙ left_numbers d e f p q r x v w y (Ok count) by parts
 
@@ -138,9 +139,9 @@ module _ (d e f : Disk) (p q r : Pool) (x v w y : VolumeState) (by : Delta) (cou
 
   pub cut_stands : IsStanding f r y
   cut_stands = subst (λ (z : VolumeState). IsStanding f r z) (sym (is_done d e f p q r x v w y (Ok count) by parts))
-      (cut_standing d e f p q r parts.first parts.alters.reads x is ready others name most info accepts w.map same_slots w.files is_told its_trees shorter count fewer by falls need size kind y.now y.ledger y.numbers same_numbers its_next
-      (done_moves d e f p q r x v w y (Ok count) by parts))
+      (cut_standing d e f p q r parts.first parts.alters.reads x is ready others name most info known accepts w.map same_slots w.files is_told its_trees shorter count fewer by is_by y.now y.ledger y.numbers same_numbers its_next
+      (done_places d e f p q r x v w y (Ok count) by parts is) (done_moves d e f p q r x v w y (Ok count) by parts))
 
   pub cut_is : Changes (HasWithin x.name (volume_for d p x) others p.found.blocks) (Cut x.name name most) x.name (volume_for d p x) (volume_for f r y) (Ok tt)
   cut_is = subst (λ (z : VolumeState). Changes (HasWithin x.name (volume_for d p x) others p.found.blocks) (Cut x.name name most) x.name (volume_for d p x) (volume_for f r z) (Ok tt)) (sym (is_done d e f p q r x v w y (Ok count) by parts))
-      (cut_changes d e f p q r parts.first parts.alters.reads x is ready others name most info accepts w.map same_slots w.files is_told its_trees shorter count fewer by falls need size kind y.now y.ledger y.numbers same_numbers its_next)
+      (cut_changes d e f p q r parts.first parts.alters.reads x is ready others name most info known accepts w.map same_slots w.files is_told its_trees shorter count fewer by is_by y.now y.ledger y.numbers same_numbers its_next)

@@ -26,12 +26,13 @@ use Rattle.fv_volume.specs.Changing.{AcceptsNew}
 use Rattle.fv_volume.specs.Lending.{IsTold}
 use Rattle.fv_volume.specs.Numbering.{TellsFile}
 use Rattle.fv_volume.specs.OneVolume.{shows, standing_by, standing_for, table_for, volume_for, AreSoundBy, IsReady, IsStanding}
-use Rattle.fv_volume.proofs.Calling.{done_moves, done_next, done_says, done_told, done_trees, is_done, left_numbers, left_slots, Parts}
+use Rattle.fv_volume.proofs.Calling.{done_moves, done_next, done_places, done_says, done_told, done_trees, is_done, left_numbers, left_slots, Parts}
 use Rattle.fv_volume.proofs.Changed.{made_standing, made_volume}
 use Rattle.fv_volume.proofs.Charging.{new_change, new_delta}
 use Rattle.fv_volume.proofs.Numbered.{made_numbered}
-use Rattle.fv_volume.proofs.KeptTables.{ready_alone}
+use Rattle.fv_volume.proofs.SettledTables.{next_is_new}
 use Rattle.fv_volume.proofs.OneVolumes.{still_table}
+use Rattle.fv_volume.proofs.SharedChanges.{PlacesAltered}
 
 module _ (d e f : Disk) (p q r : Pool) (first : Reads d p e q) (second : Reads e q f r) (x : VolumeState) (is : IsStanding d p x) (ready : IsReady d p x) (others : ℕ) (name : List ℕ) (reserve number : ℕ) (none : reserve ≡ 0) (by : Delta)
     (accepts : AcceptsNew d p x others name reserve number by) (map : Maps) (slots : (k : ℕ) → k ≢ 0 → slot_at map k ≡ slot_at x.map k) (files : Option Files) (told : IsTold f r map x.slot)
@@ -45,7 +46,7 @@ module _ (d e f : Disk) (p q r : Pool) (first : Reads d p e q) (second : Reads e
 
   its_delta : IsDeltaOf (volume_for d p x) (stamped (volume_for d p x) table) by
   its_delta = subst (λ k. IsDeltaOf (volume_for d p x) (stamped (volume_for d p x) (new (table_for d p x) name k)) by) (sym none)
-      (new_delta (volume_for d p x) (ready_alone d p x ready) is.table is.reserves by name accepts.adds)
+      (new_delta (volume_for d p x) is.table (next_is_new d p x is ready.labelled) is.reserves by name accepts.moves)
 
   module _ (now : ℕ) (ledger : Ledger) (numbers : Option FileNumbers) (tells : TellsFile x.numbers numbers name number) (next : now ≡ x.now + 1) where
     abbrev done : VolumeState
@@ -58,8 +59,8 @@ module _ (d e f : Disk) (p q r : Pool) (first : Reads d p e q) (second : Reads e
     pub new_volume : volume_for f r done ≡ stamped (volume_for d p x) table
     new_volume = made_volume d e f p q r first second x is map slots files told trees now ledger numbers table next made
 
-    pub new_standing : ((v w : Volume) → IsLedgerOf v x.ledger → IsDeltaOf v w by → IsLedgerOf w ledger) → IsStanding f r done
-    new_standing moves = made_standing d e f p q r first second x is map slots files told trees now ledger numbers table next made
+    pub new_standing : PlacesAltered e q x map files → ((v w : Volume) → IsLedgerOf v x.ledger → IsDeltaOf v w by → IsLedgerOf w ledger) → IsStanding f r done
+    new_standing places moves = made_standing d e f p q r first second x is map slots files told trees now ledger numbers table next made places
         (new_well x.now (x.now + 1) (table_for d p x) name reserve accepts.near (omega arith) is.table accepts.none accepts.few)
         (subst (λ k. HasNoReserve (new (table_for d p x) name k (x.now + 1))) (sym none) (new_unreserved (table_for d p x) is.reserves name (x.now + 1)))
         (moves (volume_for d p x) (stamped (volume_for d p x) table) is.ledger its_delta)
@@ -95,7 +96,7 @@ module _ (d e f : Disk) (p q r : Pool) (x v w y : VolumeState) (by : Delta) (par
 
   pub new_stands : IsStanding f r y
   new_stands = subst (λ (z : VolumeState). IsStanding f r z) (sym (is_done d e f p q r x v w y (Ok tt) by parts))
-      (new_standing d e f p q r parts.first parts.alters.reads x is ready others name reserve number none by accepts w.map same_slots w.files told trees its_table y.now y.ledger y.numbers tells_now next (done_moves d e f p q r x v w y (Ok tt) by parts))
+      (new_standing d e f p q r parts.first parts.alters.reads x is ready others name reserve number none by accepts w.map same_slots w.files told trees its_table y.now y.ledger y.numbers tells_now next (done_places d e f p q r x v w y (Ok tt) by parts is) (done_moves d e f p q r x v w y (Ok tt) by parts))
 
   pub new_is : Changes (HasBeside x.name (volume_for d p x) others p.found.blocks) (New x.name name reserve) x.name (volume_for d p x) (volume_for f r y) (Ok tt)
   new_is = subst (λ (z : VolumeState). Changes (HasBeside x.name (volume_for d p x) others p.found.blocks) (New x.name name reserve) x.name (volume_for d p x) (volume_for f r z) (Ok tt)) (sym (is_done d e f p q r x v w y (Ok tt) by parts))

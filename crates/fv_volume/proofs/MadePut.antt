@@ -29,12 +29,13 @@ use Rattle.fv_volume.specs.Changing.{AcceptsPut}
 use Rattle.fv_volume.specs.Lending.{IsTold}
 use Rattle.fv_volume.specs.OneVolume.{shows, standing_by, standing_for, volume_for, AreSoundBy, IsReady, IsStanding}
 use Rattle.fv_volume.proofs.Asked.{file, file_there, found}
-use Rattle.fv_volume.proofs.Calling.{done_moves, done_next, done_says, done_told, done_trees, is_done, left_numbers, left_slots, Parts}
+use Rattle.fv_volume.proofs.Calling.{done_moves, done_next, done_places, done_says, done_told, done_trees, is_done, left_numbers, left_slots, Parts}
 use Rattle.fv_volume.proofs.Changed.{made_standing, made_volume}
 use Rattle.fv_volume.proofs.Charging.{put_change, put_delta}
 use Rattle.fv_volume.proofs.Numbered.{put_files, still_numbered}
-use Rattle.fv_volume.proofs.KeptTables.{ready_alone}
+use Rattle.fv_volume.proofs.SettledTables.{next_is_new}
 use Rattle.fv_volume.proofs.OneVolumes.{still_table}
+use Rattle.fv_volume.proofs.SharedChanges.{PlacesAltered}
 
 module _ (d e f : Disk) (p q r : Pool) (first : Reads d p e q) (second : Reads e q f r) (x : VolumeState) (is : IsStanding d p x) (ready : IsReady d p x) (others : ℕ) (name : List ℕ) (i : ℕ) (content : List ℕ) (info : Info) (by : Delta)
     (accepts : AcceptsPut d p x others name i info by) (map : Maps) (slots : (k : ℕ) → k ≢ 0 → slot_at map k ≡ slot_at x.map k) (files : Option Files) (told : IsTold f r map x.slot)
@@ -61,7 +62,7 @@ module _ (d e f : Disk) (p q r : Pool) (first : Reads d p e q) (second : Reads e
       ∙ ap (λ (s : Standing). put (table_told s) info.number its i content (x.now + 1)) (still_table d e p q first x)
 
   its_delta : IsDeltaOf (volume_for d p x) (stamped (volume_for d p x) table) by
-  its_delta = put_delta (volume_for d p x) (ready_alone d p x ready) is.table is.reserves by info.number its i content in_table (accepts.adds its its_there)
+  its_delta = put_delta (volume_for d p x) is.table (next_is_new d p x is ready.labelled) is.reserves by info.number its i content in_table (accepts.moves its its_there)
 
   module _ (now : ℕ) (ledger : Ledger) (numbers : Option FileNumbers) (same : numbers ≡ x.numbers) (next : now ≡ x.now + 1) where
     abbrev done : VolumeState
@@ -74,8 +75,8 @@ module _ (d e f : Disk) (p q r : Pool) (first : Reads d p e q) (second : Reads e
     pub put_volume : volume_for f r done ≡ stamped (volume_for d p x) table
     put_volume = made_volume d e f p q r first second x is map slots files told trees now ledger numbers table next made
 
-    pub put_standing : ((v w : Volume) → IsLedgerOf v x.ledger → IsDeltaOf v w by → IsLedgerOf w ledger) → IsStanding f r done
-    put_standing moves = made_standing d e f p q r first second x is map slots files told trees now ledger numbers table next made
+    pub put_standing : PlacesAltered e q x map files → ((v w : Volume) → IsLedgerOf v x.ledger → IsDeltaOf v w by → IsLedgerOf w ledger) → IsStanding f r done
+    put_standing places moves = made_standing d e f p q r first second x is map slots files told trees now ledger numbers table next made places
         (put_well x.now (x.now + 1) (table_told (standing_for d p x)) info.number its i content accepts.near (omega arith) is.table in_table)
         (put_unreserved (table_told (standing_for d p x)) is.reserves info.number its i content (x.now + 1) in_table)
         (moves (volume_for d p x) (stamped (volume_for d p x) table) is.ledger its_delta)
@@ -111,7 +112,7 @@ module _ (d e f : Disk) (p q r : Pool) (x v w y : VolumeState) (by : Delta) (par
 
   pub put_stands : IsStanding f r y
   put_stands = subst (λ (z : VolumeState). IsStanding f r z) (sym (is_done d e f p q r x v w y (Ok tt) by parts))
-      (put_standing d e f p q r parts.first parts.alters.reads x is ready others name i content info by accepts w.map same_slots w.files told trees cell y.now y.ledger y.numbers same_numbers next (done_moves d e f p q r x v w y (Ok tt) by parts))
+      (put_standing d e f p q r parts.first parts.alters.reads x is ready others name i content info by accepts w.map same_slots w.files told trees cell y.now y.ledger y.numbers same_numbers next (done_places d e f p q r x v w y (Ok tt) by parts is) (done_moves d e f p q r x v w y (Ok tt) by parts))
 
   pub put_is : Changes (HasBeside x.name (volume_for d p x) others p.found.blocks) (Put x.name name i content) x.name (volume_for d p x) (volume_for f r y) (Ok tt)
   put_is = subst (λ (z : VolumeState). Changes (HasBeside x.name (volume_for d p x) others p.found.blocks) (Put x.name name i content) x.name (volume_for d p x) (volume_for f r z) (Ok tt)) (sym (is_done d e f p q r x v w y (Ok tt) by parts))

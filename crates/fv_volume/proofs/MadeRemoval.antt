@@ -1,5 +1,5 @@
 -- A removal of a file that was made is the machine's.
-use Rattle.std.proofs.Common.{◌≡◌, ◌≢◌, ℕ, ◌+◌, ◌≤◌, true, List, Option, Some, sym, ap, subst, ◌∙◌, arith, pos, ◌+ℤ◌}
+use Rattle.std.proofs.Common.{◌≡◌, ◌≢◌, ℕ, ◌+◌, ◌≤◌, true, List, [], Option, Some, sym, ap, subst, ◌∙◌, arith}
 use Rattle.std.specs.Prelude.{Ok}
 use Rattle.std.specs.FinMap as fin
 use Rattle.fv_disk.specs.Shown.{Shown as Disk}
@@ -8,9 +8,9 @@ use Rattle.fv_model.specs.Tables.{File, Table, file_named, rm}
 use Rattle.fv_model.specs.Volumes.{Volume}
 use Rattle.fv_model.specs.Effects.{Becomes, stamped}
 use Rattle.fv_laws.specs.WellFormed.{IsWellTable}
-use Rattle.fv_laws.specs.Positions.{taken_by_rm}
+use Rattle.fv_laws.specs.Positions.{rm_places, staying, taken_by_rm}
 use Rattle.fv_laws.proofs.Moves.{rm_charge}
-use Rattle.fv_laws.proofs.PathCharges.{rm_unreserved}
+use Rattle.fv_laws.proofs.PathCharges.{none_stay, rm_unreserved}
 use Rattle.fv_laws.proofs.Tables.{rm_well}
 use Rattle.fv_tables.specs.Told.{Standing, file_in, table_told}
 use Rattle.fv_tables.proofs.Tables.{files_told}
@@ -28,23 +28,26 @@ use Rattle.fv_volmap.specs.Slots.{Volume as Maps, slot_at}
 use Rattle.fv_volume.specs.declared.pool.Pool.{Pool}
 use Rattle.fv_volume.specs.declared.state.VolumeState.{VolumeState}
 use Rattle.fv_volume.specs.Calls.{Changes, HasWithin, Reads}
-use Rattle.fv_volume.specs.Changing.{AcceptsRemoval}
+use Rattle.fv_volume.specs.Changing.{AcceptsRemoval, IsDeltaBy}
 use Rattle.fv_volume.specs.Lending.{IsTold}
 use Rattle.fv_volume.specs.Numbering.{LacksFile}
 use Rattle.fv_volume.specs.OneVolume.{shows, standing_by, standing_for, volume_for, AreSoundBy, IsReady, IsStanding}
 use Rattle.fv_volume.proofs.Asked.{file, file_there, found}
-use Rattle.fv_volume.proofs.Calling.{done_moves, done_next, done_says, done_told, done_trees, is_done, left_numbers, left_slots, Parts}
+use Rattle.fv_volume.proofs.Calling.{done_moves, done_next, done_places, done_says, done_told, done_trees, is_done, left_numbers, left_slots, Parts}
 use Rattle.fv_volume.proofs.Changed.{made_standing, made_volume}
 use Rattle.fv_volume.proofs.Charging.{rm_change, rm_delta}
 use Rattle.fv_volume.proofs.Numbered.{first_named, removed_numbered, rm_files}
-use Rattle.fv_volume.proofs.KeptTables.{ready_alone}
+use Rattle.fv_volume.proofs.Charged.{made_moves}
+use Rattle.fv_volume.proofs.SettledTables.{next_is_new}
+use Rattle.fv_volume.proofs.KeptTables.{is_alone}
 use Rattle.fv_volume.proofs.OneVolumes.{still_table}
+use Rattle.fv_volume.proofs.SharedChanges.{PlacesAltered}
 
-module _ (d e f : Disk) (p q r : Pool) (first : Reads d p e q) (second : Reads e q f r) (x : VolumeState) (is : IsStanding d p x) (ready : IsReady d p x) (others : ℕ) (name : List ℕ) (info : Info)
-    (accepts : AcceptsRemoval d p x name info) (map : Maps) (slots : (k : ℕ) → k ≢ 0 → slot_at map k ≡ slot_at x.map k) (files : Option Files) (told : IsTold f r map x.slot)
+module _ (d e f : Disk) (p q r : Pool) (first : Reads d p e q) (second : Reads e q f r) (x : VolumeState) (is : IsStanding d p x) (ready : IsReady d p x) (others : ℕ) (name : List ℕ) (info : Info) (known : Option Delta)
+    (accepts : AcceptsRemoval d p x others name info known) (map : Maps) (slots : (k : ℕ) → k ≢ 0 → slot_at map k ≡ slot_at x.map k) (files : Option Files) (told : IsTold f r map x.slot)
     (trees : AreSoundBy (under (shows e q (record x { map = map }))) (shows e q (record x { map = map })).used x.active files)
     (removes : RemovesFile (standing_for e q x) (standing_by (under (shows e q (record x { map = map }))) x.active files) info.number (x.now + 1)) (count : ℕ)
-    (takes : TakesByRemoval (standing_for e q x) info.number (x.now + 1) count) (by : Delta) (falls : count ≤ x.ledger.charge → (by.charge +ℤ pos count) ≡ pos 0) (need : by.need ≡ pos 0) (size : by.size ≡ x.ledger.size) (kind : by.kind ≡ x.ledger.kind) where
+    (takes : TakesByRemoval (standing_for e q x) info.number (x.now + 1) count) (by : Delta) (is_by : IsDeltaBy x.ledger known count by) where
   abbrev its : File
   its = file d p x is name info accepts.first
 
@@ -75,20 +78,17 @@ module _ (d e f : Disk) (p q r : Pool) (first : Reads d p e q) (second : Reads e
   taken_is : count ≡ taken_by_rm (table_told (standing_for d p x)) info.number its
   taken_is = takes x.now its (omega arith) well_now there_now ∙ ap (λ (s : Standing). taken_by_rm (table_told s) info.number its) (still_table d e p q first x)
 
-  low : count ≤ x.ledger.charge
-  low =
-      let left = rm_charge (volume_for d p x) (ready_alone d p x ready) is.table info.number its in_table in
+  low : x.snapshots ≡ [] → count ≤ x.ledger.charge
+  low none =
+      let left = rm_charge (volume_for d p x) (is_alone d p x none) is.table info.number its in_table in
       let same = is.ledger.charged in
       let taken = taken_is in
       omega (arith, left, same, taken)
 
   its_delta : IsDeltaOf (volume_for d p x) (stamped (volume_for d p x) table) by
-  its_delta = rm_delta (volume_for d p x) (ready_alone d p x ready) is.table is.reserves by info.number its in_table (record {
-    charge = subst (λ n. (by.charge +ℤ pos n) ≡ pos 0) taken_is (falls low);
-    need = need;
-    size = size ∙ ready.booked.size;
-    kind = kind ∙ ready.booked.kind;
-  })
+  its_delta = rm_delta (volume_for d p x) is.table (next_is_new d p x is ready.labelled) is.reserves by info.number its in_table
+      (made_moves d p x ready known count (staying (volume_for d p x) (rm_places (table_told (standing_for d p x)) info.number its)) (taken_by_rm (table_told (standing_for d p x)) info.number its) by (accepts.moves its its_there) is_by
+      (λ none. none_stay (volume_for d p x) (is_alone d p x none) (rm_places (table_told (standing_for d p x)) info.number its)) taken_is low)
 
   module _ (now : ℕ) (ledger : Ledger) (numbers : Option FileNumbers) (lacks : LacksFile x.numbers numbers name info.number) (next : now ≡ x.now + 1) where
     abbrev done : VolumeState
@@ -101,8 +101,8 @@ module _ (d e f : Disk) (p q r : Pool) (first : Reads d p e q) (second : Reads e
     pub rm_volume : volume_for f r done ≡ stamped (volume_for d p x) table
     rm_volume = made_volume d e f p q r first second x is map slots files told trees now ledger numbers table next made
 
-    pub rm_standing : ((v w : Volume) → IsLedgerOf v x.ledger → IsDeltaOf v w by → IsLedgerOf w ledger) → IsStanding f r done
-    rm_standing moves = made_standing d e f p q r first second x is map slots files told trees now ledger numbers table next made
+    pub rm_standing : PlacesAltered e q x map files → ((v w : Volume) → IsLedgerOf v x.ledger → IsDeltaOf v w by → IsLedgerOf w ledger) → IsStanding f r done
+    rm_standing places moves = made_standing d e f p q r first second x is map slots files told trees now ledger numbers table next made places
         (rm_well x.now (x.now + 1) (table_told (standing_for d p x)) info.number (omega arith) is.table)
         (rm_unreserved (table_told (standing_for d p x)) is.reserves info.number (x.now + 1))
         (moves (volume_for d p x) (stamped (volume_for d p x) table) is.ledger its_delta)
@@ -110,15 +110,15 @@ module _ (d e f : Disk) (p q r : Pool) (first : Reads d p e q) (second : Reads e
 
     pub rm_changes : Changes (HasWithin x.name (volume_for d p x) others p.found.blocks) (Remove x.name name) x.name (volume_for d p x) (volume_for f r done) (Ok tt)
     rm_changes = record {
-      agrees = λ m has. accepts.accepted others m has;
+      agrees = λ m has. accepts.accepted m has;
       becomes = λ m has. rm_change m x.name name (volume_for d p x) has info.number its its_name ∙ ap (λ v. Becomes x.name v) (sym rm_volume);
       stays = tt;
     }
 
 -- the parts of a removal
-module _ (d e f : Disk) (p q r : Pool) (x v w y : VolumeState) (by : Delta) (count : ℕ) (parts : Parts {T = ℕ} d e f p q r x v w y (Ok count) by) (is : IsStanding d p x) (ready : IsReady d p x) (others : ℕ) (name : List ℕ) (info : Info)
-    (accepts : AcceptsRemoval d p x name info) (removes : IsStanding e q v → RemovesFile (standing_for e q v) (standing_for e q w) info.number (v.now + 1)) (takes : IsStanding e q v → TakesByRemoval (standing_for e q v) info.number (v.now + 1) count)
-    (falls : count ≤ x.ledger.charge → (by.charge +ℤ pos count) ≡ pos 0) (need : by.need ≡ pos 0) (size : by.size ≡ x.ledger.size) (kind : by.kind ≡ x.ledger.kind) (lacks : LacksFile w.numbers y.numbers name info.number) where
+module _ (d e f : Disk) (p q r : Pool) (x v w y : VolumeState) (by : Delta) (count : ℕ) (parts : Parts {T = ℕ} d e f p q r x v w y (Ok count) by) (is : IsStanding d p x) (ready : IsReady d p x) (others : ℕ) (name : List ℕ) (info : Info) (known : Option Delta)
+    (accepts : AcceptsRemoval d p x others name info known) (removes : IsStanding e q v → RemovesFile (standing_for e q v) (standing_for e q w) info.number (v.now + 1)) (takes : IsStanding e q v → TakesByRemoval (standing_for e q v) info.number (v.now + 1) count)
+    (is_by : IsDeltaBy x.ledger known count by) (lacks : LacksFile w.numbers y.numbers name info.number) where
   lacks_now : LacksFile x.numbers y.numbers name info.number
   lacks_now = subst (λ (o : Option FileNumbers). LacksFile o y.numbers name info.number) (left_numbers d e f p q r x v w y (Ok count) by parts) lacks
 
@@ -142,9 +142,9 @@ module _ (d e f : Disk) (p q r : Pool) (x v w y : VolumeState) (by : Delta) (cou
 
   pub rm_stands : IsStanding f r y
   rm_stands = subst (λ (z : VolumeState). IsStanding f r z) (sym (is_done d e f p q r x v w y (Ok count) by parts))
-      (rm_standing d e f p q r parts.first parts.alters.reads x is ready others name info accepts w.map same_slots w.files is_told its_trees gone count fewer by falls need size kind y.now y.ledger y.numbers lacks_now its_next
-      (done_moves d e f p q r x v w y (Ok count) by parts))
+      (rm_standing d e f p q r parts.first parts.alters.reads x is ready others name info known accepts w.map same_slots w.files is_told its_trees gone count fewer by is_by y.now y.ledger y.numbers lacks_now its_next
+      (done_places d e f p q r x v w y (Ok count) by parts is) (done_moves d e f p q r x v w y (Ok count) by parts))
 
   pub rm_is : Changes (HasWithin x.name (volume_for d p x) others p.found.blocks) (Remove x.name name) x.name (volume_for d p x) (volume_for f r y) (Ok tt)
   rm_is = subst (λ (z : VolumeState). Changes (HasWithin x.name (volume_for d p x) others p.found.blocks) (Remove x.name name) x.name (volume_for d p x) (volume_for f r z) (Ok tt)) (sym (is_done d e f p q r x v w y (Ok count) by parts))
-      (rm_changes d e f p q r parts.first parts.alters.reads x is ready others name info accepts w.map same_slots w.files is_told its_trees gone count fewer by falls need size kind y.now y.ledger y.numbers lacks_now its_next)
+      (rm_changes d e f p q r parts.first parts.alters.reads x is ready others name info known accepts w.map same_slots w.files is_told its_trees gone count fewer by is_by y.now y.ledger y.numbers lacks_now its_next)

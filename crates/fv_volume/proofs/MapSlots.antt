@@ -6,14 +6,11 @@ use Rattle.std.proofs.lemmas.Bool.{cases_eq}
 use Rattle.fv_image.specs.Views.{Head, Snap}
 use Rattle.fv_image.specs.Volumes.{snap_at}
 use Rattle.fv_image.specs.Mapped.{is_rising, stored_slots}
-use Rattle.fv_image.proofs.LoneTables.{form_snapshots}
 use Rattle.fv_volmap.specs.Slots.{Slot, Volume as Maps, empty_volume, slot_at, slot_of_base}
-use Rattle.fv_volume.specs.declared.state.VolumeState.{VolumeState}
-use Rattle.fv_volume.specs.Files.{HasSlotsOf, IsLabelled, IsOneMap}
+use Rattle.fv_volume.specs.Files.{HasSlotsOf, IsOneMap}
 use Rattle.fv_volume.specs.SnapRecords.{AreSayable, IsSayableSnap}
-use Rattle.fv_volume.specs.States.{head_in}
 
-is_free : (slot : Slot) → is_some slot ≡ false → slot ≡ None
+pub is_free : (slot : Slot) → is_some slot ≡ false → slot ≡ None
 is_free None none = refl
 is_free (Some map) none = absurd cc
 
@@ -27,9 +24,6 @@ one_map h maps empty is k other = ⊎_elim
     (λ (base : k ≡ slot_of_base). ap (slot_at maps) base ∙ is.base)
     (λ (not_base : k ≢ slot_of_base). is_free (slot_at maps k) (is.each k other not_base ∙ no_snap h empty k))
     (cases_eq k slot_of_base)
-
-pub one_labelled : (s : ℕ) (x : VolumeState) → IsLabelled s x → IsOneMap x.map
-one_labelled s x is = one_map (head_in x) x.map (form_snapshots (head_in x) is.form) is.slots
 
 pub slots_of_one : (h : Head) (maps : Maps) → h.snapshots ≡ [] → IsOneMap maps → HasSlotsOf h maps
 slots_of_one h maps empty one = record {

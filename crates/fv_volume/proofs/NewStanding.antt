@@ -36,10 +36,11 @@ use Rattle.fv_files.specs.declared.numbers.FileNumbers.{FileNumbers}
 use Rattle.fv_files.specs.Numbering.{AreNumbersIf}
 use Rattle.fv_volume.specs.declared.pool.Pool.{Pool}
 use Rattle.fv_volume.specs.declared.state.VolumeState.{VolumeState}
-use Rattle.fv_volume.specs.OneVolume.{blocks_in, shows, standing_by, table_for, volume_as, volume_for, AreSoundBy, IsKeptTable, IsStanding}
+use Rattle.fv_volume.specs.OneVolume.{blocks_in, shows, standing_by, table_for, trees_for, volume_as, volume_for, AreLaidBy, AreSoundBy, IsKeptTable, IsStanding}
 use Rattle.fv_volume.specs.Placing.{AreStoredBy, IsStoredWell}
 use Rattle.fv_volume.specs.States.{empty_head, head_in, ledger_of_empty}
 use Rattle.fv_volume.proofs.KeptTables.{none_kept, none_told, snaps_none}
+use Rattle.fv_volume.proofs.Shared.{none_named, none_shared}
 use Rattle.fv_volume.proofs.Made.{ledger_new}
 use Rattle.fv_volume.proofs.Standings.{apart_alone}
 use Rattle.fv_volume.proofs.Stepping.{none_in}
@@ -127,8 +128,11 @@ module _ (disk : Disk) (pool : Pool) (x : VolumeState) (size : ℕ) (kind : Kind
     table = subst (IsWellTable x.now) (sym made_table) (empty_well x.now);
     reserves = subst HasNoReserve (sym made_table) no_reserve;
     kept = none_kept (IsKeptTable disk pool x) x.snapshots no_snapshots;
+    names = none_named x.snapshots no_snapshots;
+    shared = none_shared (trees_for disk pool x) (blocks_in disk pool x) x.snapshots no_snapshots;
     ledger = subst (λ v. IsLedgerOf v x.ledger) (sym made_volume) (subst (IsLedgerOf (empty_volume size kind)) (sym ledger) (ledger_new size kind));
     trees = subst (AreSoundBy (under (shows disk pool x)) (shows disk pool x).used x.active) (sym none) (bare_reached (under (shows disk pool x)) (shows disk pool x).used x.active.levels x.active.root bare);
+    laid = subst (AreLaidBy (under (shows disk pool x))) (sym none) tt;
     numbers = subst (λ (o : Option FileNumbers). AreNumbersIf o (table_for disk pool x)) (sym unnumbered) tt;
   }
     where

@@ -26,7 +26,7 @@ use Rattle.fv_volume.proofs.Lookups.{name_told, none_passes, not_both}
 
 module _ (d : Disk) (p : Pool) (x : VolumeState) (n : Option FileNumbers) where
   pub standing_with : IsStanding d p x → AreNumbersIf n (table_for d p x) → IsStanding d p (record x { numbers = n })
-  standing_with is numbered = record { told = is.told; table = is.table; reserves = is.reserves; kept = is.kept; ledger = is.ledger; trees = is.trees; numbers = numbered }
+  standing_with is numbered = record { told = is.told; table = is.table; reserves = is.reserves; kept = is.kept; names = is.names; shared = is.shared; ledger = is.ledger; trees = is.trees; laid = is.laid; numbers = numbered }
 
   labelled_with : IsLabelled x.slot x → IsLabelled x.slot (record x { numbers = n })
   unfolding label_said

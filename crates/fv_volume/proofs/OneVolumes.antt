@@ -27,7 +27,8 @@ use Rattle.fv_volume.specs.Calls.{Reads}
 use Rattle.fv_volume.specs.Labels.{label_said}
 use Rattle.fv_volume.specs.Lending.{IsTold, use_of, use_under}
 use Rattle.fv_volume.specs.LendingLaws.{apart_by}
-use Rattle.fv_volume.specs.OneVolume.{blocks_in, shows, snaps_by, standing_by, standing_for, uses_in, volume_as, volume_for, AreSoundBy, IsKeptTable, IsReady, IsStanding, IsTableIn}
+use Rattle.fv_volume.specs.OneVolume.{blocks_in, shows, snaps_by, standing_by, standing_for, trees_for, uses_in, volume_as, volume_for, AreLaidBy, AreSoundBy, IsKeptTable, IsReady, IsStanding, IsTableIn}
+use Rattle.fv_volume.specs.Sharing.{trees_by, AreShared}
 use Rattle.fv_volume.proofs.Failing.{blocks_of}
 
 -- what its label says of its table's root fits a pointer
@@ -78,6 +79,10 @@ module _ (d e : Disk) (p q : Pool) (x : VolumeState) (spaces : q.map ≡ p.map) 
   same_kept all = subst (λ (u : ℕ → Under). All (λ (s : Snap). (s.slot ≢ 0) × IsTableIn (u s.slot) (uses_in q x s.slot) (slot_at x.map s.slot) x.now s.table) x.snapshots) (sym same_slots)
       (subst (λ (u : ℕ → ℕ → Option Use). All (λ (s : Snap). (s.slot ≢ 0) × IsTableIn (blocks_in d p x s.slot) (u s.slot) (slot_at x.map s.slot) x.now s.table) x.snapshots) (sym same_uses) all)
 
+  same_shared : AreShared (trees_for d p x) (blocks_in d p x) x.snapshots → AreShared (trees_for e q x) (blocks_in e q x) x.snapshots
+  same_shared is = subst (λ (u : Under). AreShared (trees_by u x.active x.files) (blocks_in e q x) x.snapshots) (sym same_under)
+      (subst (λ (u : ℕ → Under). AreShared (trees_for d p x) u x.snapshots) (sym same_slots) is)
+
   -- the volume that it stands for
   same_volume : volume_for e q x ≡ volume_for d p x
   same_volume = λ i. volume_as x (record { active = table_told (same_standing_for i); snapshots = snaps_by (same_slots i) x.snapshots })
@@ -91,9 +96,12 @@ module _ (d e : Disk) (p q : Pool) (x : VolumeState) (spaces : q.map ≡ p.map) 
     table = subst (λ (s : Standing). IsWellTable x.now (table_told s)) (sym same_standing_for) is.table;
     reserves = subst (λ (s : Standing). HasNoReserve (table_told s)) (sym same_standing_for) is.reserves;
     kept = same_kept is.kept;
+    names = is.names;
+    shared = same_shared is.shared;
     ledger = subst (λ (v : Model). IsLedgerOf v x.ledger) (sym same_volume) is.ledger;
     trees = subst (λ (u : ℕ → Option Use). AreSoundBy (under (shows e q x)) u x.active x.files) (sym same_used)
         (subst (λ (u : Under). AreSoundBy u (shows d p x).used x.active x.files) (sym same_under) is.trees);
+    laid = subst (λ (u : Under). AreLaidBy u x.files) (sym same_under) is.laid;
     numbers = subst (λ (s : Standing). AreNumbersIf x.numbers (table_told s)) (sym same_standing_for) is.numbers;
   }
 

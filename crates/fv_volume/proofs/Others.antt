@@ -24,8 +24,9 @@ use Rattle.fv_volume.specs.declared.state.VolumeState.{VolumeState}
 use Rattle.fv_volume.specs.BlocksOver.{block_of, held_block, held_entry}
 use Rattle.fv_volume.specs.Keeping.{kept_or}
 use Rattle.fv_volume.specs.Lending.{GoesOver, Lent, MayTake, lent_by, lent_for, use_of}
-use Rattle.fv_volume.specs.OneVolume.{blocks_in, home_in, shows, snaps_by, standing_by, standing_for, uses_in, volume_as, volume_for, AreSoundBy, IsKeptTable, IsStanding, IsTableIn}
+use Rattle.fv_volume.specs.OneVolume.{blocks_in, home_in, shows, snaps_by, standing_by, standing_for, trees_for, uses_in, volume_as, volume_for, AreLaidBy, AreSoundBy, IsKeptTable, IsStanding, IsTableIn}
 use Rattle.fv_volume.specs.Placing.{AreLedBy, AreStoredBy, Goes, IsLedTo, IsStoredWell, LeavesOthers, LiesApart, StaysBeside}
+use Rattle.fv_volume.specs.Sharing.{trees_by, AreShared}
 use Rattle.fv_volume.proofs.Shows.{get_held}
 use Rattle.fv_volume.proofs.Standings.{apart_alone, held_alone, held_own}
 
@@ -64,6 +65,10 @@ module _ (d e : Disk) (p q : Pool) (y : VolumeState) (alone : parent_at p.contai
   same_kept all = subst (λ (u : ℕ → Under). All (λ (s : Snap). (s.slot ≢ 0) × IsTableIn (u s.slot) (uses_in q y s.slot) (slot_at y.map s.slot) y.now s.table) y.snapshots) (sym same_slots)
       (subst (λ (u : ℕ → ℕ → Option Use). All (λ (s : Snap). (s.slot ≢ 0) × IsTableIn (blocks_in d p y s.slot) (u s.slot) (slot_at y.map s.slot) y.now s.table) y.snapshots) (sym same_uses) all)
 
+  same_shared : AreShared (trees_for d p y) (blocks_in d p y) y.snapshots → AreShared (trees_for e q y) (blocks_in e q y) y.snapshots
+  same_shared is = subst (λ (u : Under). AreShared (trees_by u y.active y.files) (blocks_in e q y) y.snapshots) (sym same_under)
+      (subst (λ (u : ℕ → Under). AreShared (trees_for d p y) u y.snapshots) (sym same_slots) is)
+
   pub entries_volume : volume_for e q y ≡ volume_for d p y
   entries_volume = λ i. volume_as y (record { active = table_told (same_standing i); snapshots = snaps_by (same_slots i) y.snapshots })
 
@@ -76,9 +81,12 @@ module _ (d e : Disk) (p q : Pool) (y : VolumeState) (alone : parent_at p.contai
     table = subst (λ (s : Standing). IsWellTable y.now (table_told s)) (sym same_standing) is.table;
     reserves = subst (λ (s : Standing). HasNoReserve (table_told s)) (sym same_standing) is.reserves;
     kept = same_kept is.kept;
+    names = is.names;
+    shared = same_shared is.shared;
     ledger = subst (λ (v : Model). IsLedgerOf v y.ledger) (sym entries_volume) is.ledger;
     trees = subst (λ (u : ℕ → Option Use). AreSoundBy (under (shows e q y)) u y.active y.files) (sym same_used)
         (subst (λ (u : Under). AreSoundBy u (shows d p y).used y.active y.files) (sym same_under) is.trees);
+    laid = subst (λ (u : Under). AreLaidBy u y.files) (sym same_under) is.laid;
     numbers = subst (λ (s : Standing). AreNumbersIf y.numbers (table_told s)) (sym same_standing) is.numbers;
   }
 

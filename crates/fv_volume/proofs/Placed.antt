@@ -20,8 +20,8 @@ use Rattle.fv_tree.specs.Standing.{under}
 use Rattle.fv_files.specs.declared.files.Files.{Files}
 use Rattle.fv_files.specs.Numbering.{AreNumbersIf}
 use Rattle.fv_files.specs.Pending.{pending_in}
-use Rattle.fv_files.specs.Tables.{table_in, AreReached, AreStanding, IsLed, IsStored, IsStoredUnder}
-use Rattle.fv_files.specs.Apart.{AreLed, stored_trees}
+use Rattle.fv_files.specs.Tables.{loaded_trees, table_in, AreReached, AreStanding, IsLed, IsStored, IsStoredUnder}
+use Rattle.fv_files.specs.Apart.{AreLed, Trees, stored_trees}
 use Rattle.fv_charge.specs.Ledgers.{IsLedgerOf}
 use Rattle.fv_volmap.specs.Slots.{Volume as Maps, has, slot_at}
 use Rattle.fv_volume.specs.declared.pool.Pool.{Pool}
@@ -30,44 +30,21 @@ use Rattle.fv_volume.specs.declared.state.VolumeState.{VolumeState}
 use Rattle.fv_volume.specs.BlocksOver.{held_block}
 use Rattle.fv_volume.specs.Files.{IsLabelled}
 use Rattle.fv_volume.specs.States.{head_in}
+use Rattle.fv_volume.proofs.Labels.{label_turned}
 use Rattle.fv_volume.proofs.MapSlots.{same_sayable, same_slots, slots_kept}
 use Rattle.fv_volume.specs.Labels.{label_said}
 use Rattle.fv_volume.specs.Lending.{IsTold, KeepsSlots, lent_by, lent_for, sees}
-use Rattle.fv_volume.specs.OneVolume.{blocks_in, home_in, shows, snaps_by, standing_by, standing_for, table_for, volume_for, AreSoundBy, IsKeptTable, IsReady, IsStanding}
-use Rattle.fv_volume.specs.Placing.{AreLedBy, AreStoredBy, Goes, IsLedTo, IsStoredWell, PlacesTable, pending_of}
-use Rattle.fv_volume.proofs.KeptTables.{kept_snaps, kept_tables}
+use Rattle.fv_volume.specs.OneVolume.{blocks_in, home_in, shows, snaps_by, standing_by, standing_for, table_for, volume_for, AreLaidBy, AreSoundBy, IsKeptTable, IsReady, IsStanding}
+use Rattle.fv_volume.specs.Placing.{AreLedBy, AreStoredBy, Goes, IsLedTo, IsStoredWell, IsUnkept, PlacesTable, pending_of}
+use Rattle.fv_volume.specs.Sharing.{trees_by, AreShared}
+use Rattle.fv_volume.proofs.KeptTables.{kept_shared, kept_snaps, kept_tables}
+use Rattle.fv_volume.proofs.SnapRecords.{all_said}
+use Rattle.fv_volume.proofs.PlacedShared.{placed_shared, was_laid}
+use Rattle.fv_volume.proofs.TakenTrees.{stored_now}
 
 -- ---- calls can be made on it
 
 module _ (x : VolumeState) (active : Rooted) (few : active.levels ≤ 2) (fits : IsPointer active.root) where
-  label_placed : (container height : ℕ) → IsLabel (label_said x container height) → IsLabel (label_said (record x { active = active }) container height)
-  unfolding label_said
-  label_placed container height is = record {
-    name_least = is.name_least;
-    name_greatest = is.name_greatest;
-    name = is.name;
-    kind = is.kind;
-    size_least = is.size_least;
-    size_greatest = is.size_greatest;
-    most_least = is.most_least;
-    most_greatest = is.most_greatest;
-    span_least = is.span_least;
-    span_greatest = is.span_greatest;
-    span_step = is.span_step;
-    now = is.now;
-    parent = is.parent;
-    base_least = is.base_least;
-    base_greatest = is.base_greatest;
-    splitting = is.splitting;
-    known = is.known;
-    container = is.container;
-    height_least = is.height_least;
-    height_greatest = is.height_greatest;
-    levels = few;
-    root = fits;
-    snapshots = is.snapshots;
-  }
-
   labelled_placed : (map : Maps) (files : Option Files) → map.span ≡ x.map.span → ((k : ℕ) → k ≢ 0 → slot_at map k ≡ slot_at x.map k) → IsLabelled x.slot x → IsLabelled x.slot (record x { active = active; map = map; files = files; changed = true })
   unfolding label_said
   labelled_placed map files span slots is = record {
@@ -81,7 +58,7 @@ module _ (x : VolumeState) (active : Rooted) (few : active.levels ≤ 2) (fits :
     counts = is.counts;
     levels = few;
     named = is.named;
-    label = λ container height low least most. label_placed container height (is.label container height low least most);
+    label = λ container height low least most. label_turned x active x.snapshots container height (is.label container height low least most) few fits (all_said (head_in x) is.snapshots);
   }
 
 -- Its blocks were placed, and its root is one that a label can say.
@@ -160,14 +137,18 @@ module _ (d : Disk) (p : Pool) (x : VolumeState) (f : Files) (held : x.files ≡
     pub left_volume : IsStanding d p x → volume_for e q left ≡ volume_for d p x
     left_volume is = λ i. record (volume_for d p x) { active = left_table i; snapshots = left_snaps is i }
 
-    pub left_standing : IsStanding d p x → IsTold e q map x.slot → AreSoundBy (under (sees q map e (home_in x))) (sees q map e (home_in x)).used active files → IsStanding e q left
-    left_standing is told trees = record {
+    pub left_standing : IsStanding d p x → IsTold e q map x.slot → AreSoundBy (under (sees q map e (home_in x))) (sees q map e (home_in x)).used active files
+        → AreShared (trees_by (under (sees q map e (home_in x))) active files) (blocks_in d p x) x.snapshots → AreLaidBy (under (sees q map e (home_in x))) files → IsStanding e q left
+    left_standing is told trees shared laid = record {
       told = told;
       table = subst (IsWellTable x.now) (sym left_table) is.table;
       reserves = subst HasNoReserve (sym left_table) is.reserves;
       kept = left_kept is;
+      names = is.names;
+      shared = kept_shared d e p q x left (omega arith) slots (keeps is).entries (blocks is) (trees_by (under (sees q map e (home_in x))) active files) x.snapshots is.kept shared;
       ledger = subst (λ v. IsLedgerOf v x.ledger) (sym (left_volume is)) is.ledger;
       trees = trees;
+      laid = laid;
       numbers = subst (AreNumbersIf x.numbers) (sym left_table) is.numbers;
     }
 
@@ -216,7 +197,7 @@ module _ (d e : Disk) (p q : Pool) (x : VolumeState) (f : Files) (held : x.files
 
   -- placed whole
   module _ (root : Pointer) (active : Rooted) (files : Option Files) (rooted : active ≡ record { levels = min g.inode.tree.levels 2; root = root }) (none : files ≡ None)
-      (table : PlacesTable (Told d p x f) (shows d p x) (under after) after.used f g (Ok root)) (is : IsStanding d p x) where
+      (table : PlacesTable (Told d p x f) (shows d p x) (under after) after.used (IsUnkept d p x.map x.slot) f g (Ok root)) (is : IsStanding d p x) where
     told : Told d p x f
     told = was_told d p x f held is
 
@@ -226,11 +207,21 @@ module _ (d e : Disk) (p q : Pool) (x : VolumeState) (f : Files) (held : x.files
     tells : standing_by (under after) active files ≡ table_in after g
     tells = root_tells after g root active files rooted none few (table.stored told told.1)
 
+    -- its trees are those under the root
+    trees_now : loaded_trees (under after) g ≡ trees_by (under after) active files
+    trees_now =
+        stored_now (under after) g g.inode.tree.levels root (table.stored told told.1)
+        ∙ ap (λ (n : ℕ). stored_trees (under after) n root) (sym few)
+        ∙ (λ i. trees_by (under after) (sym rooted i) (sym none i))
+
+    shared_now : AreShared (trees_by (under after) active files) (blocks_in d p x) x.snapshots
+    shared_now = subst (λ (t : Trees). AreShared t (blocks_in d p x) x.snapshots) trees_now (placed_shared d p x f held is (loaded_trees (under after) g) (table.anew told told.1 (was_laid d p x f held is)))
+
     pub done_volume : volume_for e q (record x { active = active; map = map; files = files; changed = true }) ≡ volume_for d p x
     done_volume = left_volume d p x f held e q map g (table.placed told told.1) active files tells room less goes is
 
     pub done_standing : (Told d p x f → IsTold e q map x.slot) → IsStanding e q (record x { active = active; map = map; files = files; changed = true })
-    done_standing still = left_standing d p x f held e q map g (table.placed told told.1) active files tells room less goes is (still told) (root_stands after g root active files rooted none few (table.reached told told.1))
+    done_standing still = left_standing d p x f held e q map g (table.placed told told.1) active files tells room less goes is (still told) (root_stands after g root active files rooted none few (table.reached told told.1)) shared_now (subst (AreLaidBy (under after)) (sym none) tt)
 
     pub done_led : IsLedTo d p x → IsLedTo e q (record x { active = active; map = map; files = files; changed = true })
     done_led led = subst (λ (o : Option Files). AreLedBy (under after) after.used active o) (sym none)
@@ -243,7 +234,7 @@ module _ (d e : Disk) (p q : Pool) (x : VolumeState) (f : Files) (held : x.files
         (subst (λ n. IsStoredUnder (under after) n root) (sym few) (table.stored_well told told.1 (was_led d p x f held led) (was_well d p x f held well))))
 
   -- placed in part
-  module _ (fault : BlockFault) (table : PlacesTable (Told d p x f) (shows d p x) (under after) after.used f g (Err fault)) (is : IsStanding d p x) where
+  module _ (fault : BlockFault) (table : PlacesTable (Told d p x f) (shows d p x) (under after) after.used (IsUnkept d p x.map x.slot) f g (Err fault)) (is : IsStanding d p x) where
     told_then : Told d p x f
     told_then = was_told d p x f held is
 
@@ -252,6 +243,7 @@ module _ (d e : Disk) (p q : Pool) (x : VolumeState) (f : Files) (held : x.files
 
     pub failed_standing : (Told d p x f → IsTold e q map x.slot) → IsStanding e q (record x { map = map; files = Some g; changed = true })
     failed_standing still = left_standing d p x f held e q map g (table.placed told_then told_then.1) x.active (Some g) refl room less goes is (still told_then) (table.stands told_then told_then.1)
+        (placed_shared d p x f held is (loaded_trees (under after) g) (table.anew told_then told_then.1 (was_laid d p x f held is))) (table.laid told_then told_then.1 (was_laid d p x f held is))
 
     pub failed_led : IsLedTo d p x → IsLedTo e q (record x { map = map; files = Some g; changed = true })
     failed_led led = table.led told_then told_then.1 (was_led d p x f held led)

@@ -252,8 +252,11 @@ module _ (x : VolumeState) (size : ℕ) (kind : Kind) where
     table = is.table;
     reserves = is.reserves;
     kept = is.kept;
+    names = is.names;
+    shared = is.shared;
     ledger = promised_books (content_for d p x) (can_have d p is);
     trees = is.trees;
+    laid = is.laid;
     numbers = is.numbers;
   }
 

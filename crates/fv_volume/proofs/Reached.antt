@@ -81,7 +81,7 @@ module _ (disk : Disk) (pool : Pool) (x : VolumeState) (is : IsStanding disk poo
   in_slot : (v : ℕ) → is_member (active_of x.map) v ≡ true → blocks v ≡ blocks_of shown v
   in_slot v member = ap (λ (t : Bool). cond t (held_block x.map pool x.slot disk.reads v) None) (active_has x.map v ∙ member) ∙ sym (get_held x.map pool x.slot disk.reads v)
 
-  agrees : AgreeOnTable (blocks_of shown) blocks x.active.levels x.active.root
+  pub agrees : AgreeOnTable (blocks_of shown) blocks x.active.levels x.active.root
   agrees = record {
     inode = λ level place some. in_slot (pointer_at inodes level place).vvbn (member_at _ _ (pointer_at inodes level place) (reached.inode.used level place some));
     files = λ n r found level place some. in_slot (pointer_at (stored (blocks_of shown) n r.levels r.root) level place).vvbn (member_at _ _ (pointer_at (stored (blocks_of shown) n r.levels r.root) level place) ((reached.files n r found).used level place some));

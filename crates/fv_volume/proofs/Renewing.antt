@@ -1,8 +1,6 @@
--- A volume that was written: what went is given back, and what is new was free.
-use Rattle.std.proofs.Common.{◌≡◌, ◌≢◌, ℕ, zero, suc, ◌+◌, ◌<◌, ◌≤◌, List, length, Bool, true, false, not, ◌&&◌, ◌||◌, refl, sym, ap, ap₂, subst, ◌∙◌, arith, ⊎_elim, inl, inr, ◌⊎◌}
-use Rattle.std.specs.Prelude.{None}
-use Rattle.std.specs.List.{list_any, range_with_len}
-use Rattle.std.proofs.lemmas.Bool.{and_parts, and_from, cases_Bool, cases_eq, cases_lt, not-true, or_cases, or_left, or_right, true≢false}
+-- A volume that was written: the old blocks of its maps are given back, and what is new was free.
+use Rattle.std.proofs.Common.{◌≡◌, ◌≢◌, ℕ, ◌<◌, ◌≤◌, List, length, Bool, true, false, not, ◌&&◌, ◌||◌, refl, sym, ap, ap₂, subst, ◌∙◌, arith, ⊎_elim, inl, inr, ◌⊎◌}
+use Rattle.std.proofs.lemmas.Bool.{cases_eq, cases_lt, not-true, or_cases, or_left, or_right, true≢false}
 use Rattle.fv_bits.specs.Members.{is_member}
 use Rattle.fv_disk.specs.Shown.{Image}
 use Rattle.fv_model.specs.Machines.{first_block}
@@ -12,11 +10,12 @@ use Rattle.fv_container.specs.Mapped.{Mapped, entry_under}
 use Rattle.fv_container.specs.Spelled.{is_at, names}
 use Rattle.fv_aggmap.specs.Space.{Space, IsFree, blocks_of}
 use Rattle.fv_volume.specs.declared.state.VolumeState.{VolumeState}
-use Rattle.fv_volume.specs.Writing.{AreTaken, HasDrawn, HasGiven, HasLabel, HasOwnBlocks, IsTaken, IsTakenOther, IsWritten, has_maps_at, leads_away, on_disk}
-use Rattle.fv_volume.specs.Stored.{is_map_written, leads, place_at, place_in, stays}
-use Rattle.fv_container.proofs.Leading.{any_in_range, range_has}
-use Rattle.fv_volume.proofs.StayingMaps.{stays_unwritten, written_within}
-use Rattle.fv_volume.proofs.Drawing.{LeadsAt, at_itself, at_means, free_before, leads_at, leads_where, maps_at, maps_where, not_so, or_neither}
+use Rattle.fv_volume.specs.Writing.{AreTaken, HasDrawn, HasGiven, HasLabel, HasOwnBlocks, IsTaken, IsTakenOther, IsWritten, has_maps_at, on_disk}
+use Rattle.fv_volume.specs.Stored.{is_map_written, leads}
+use Rattle.fv_container.specs.Leading.{lead_to, place_at, place_in}
+use Rattle.fv_container.proofs.Leading.{any_either, lead_at, lead_where}
+use Rattle.fv_volume.proofs.StayingMaps.{written_within}
+use Rattle.fv_volume.proofs.Drawing.{LeadsAt, StandsAt, at_itself, at_means, free_before, leads_at, leads_where, maps_at, maps_where, not_so, or_neither}
 
 -- a block that is free in a space is free where the next root holds no other than the one on the disk
 free_moved : (old new : Space) (b : ℕ) → new.committed ≡ old.committed → IsFree old b → is_member new.next b ≡ false → IsFree new b
@@ -59,7 +58,7 @@ module _ (old given_back drawn : Space) (entries : ℕ → Bool) (label : ℕ) (
   pub spared : (b : ℕ) → IsTaken (on_disk old) b → IsTakenOther drawn label b
   spared b is = (λ free. is (free_on_disk drawn old b drawn_committed free), λ same. is (subst (λ (k : ℕ). IsFree (on_disk old) k) (sym same) (free_on_disk given_back old label gave.committed label_free)))
 
-  -- what couldn't be written once the entries were given back can't be now
+  -- what couldn't be written once the old blocks were given back can't be now
   pub given_spared : (b : ℕ) → IsTaken given_back b → IsTakenOther drawn label b
   given_spared b is = (λ free. is (free_before given_back drawn (λ b. is_at b label) 1 b took free).0, λ same. is (subst (λ (k : ℕ). IsFree given_back k) (sym same) label_free))
 
@@ -68,8 +67,8 @@ module _ (old given_back drawn : Space) (entries : ℕ → Bool) (label : ℕ) (
 
 -- ---- which blocks the next root holds
 
--- By these tests: the new label, the new nodes, the new blocks of the active map, the blocks that stay; those that go, the old label, the old
--- nodes; and what the next root held. What is new is none of the old; what stays is no other of the old, and was held.
+-- By these tests: the new label, the new nodes, the new blocks of the maps that are written, the blocks of other entries; the old blocks of those
+-- maps, the old label, the old nodes; and what the next root held. What is new is none of the old; what stays is no other of the old, and was held.
 renewed : (l n m s a o t k : Bool) → (l ≡ true → (o ≡ false) × (t ≡ false)) → (n ≡ true → o ≡ false) → (m ≡ true → o ≡ false)
     → (s ≡ true → (k ≡ true) × ((a ≡ false) × ((t ≡ false) × (o ≡ false))))
     → (((n || m) || ((l || (k && not a)) && not t)) && not o) ≡ ((l || (n || (s || m))) || (k && not (o || (t || (s || a)))))
@@ -98,66 +97,42 @@ renewed false false false false false false false true fl fn fm fs = refl
 
 -- ---- what the entries of a volume lead to, once its map blocks have new places
 
--- whether an entry that stays leads to a block
+-- whether an entry that isn't of a map that is written leads to a block
 unfoldable pub leads_on : VolumeState → Mapped → ℕ → ℕ → Bool
-leads_on x map entries b = list_any (λ v. stays x v && is_at b (place_at map v)) (range_with_len 0 entries)
+leads_on x map entries b = lead_to map (λ v. not (is_map_written x v)) 0 entries b
 
-any_parts : (test on : ℕ → Bool) (from n : ℕ) → list_any test (range_with_len from n) ≡ (list_any (λ v. on v && test v) (range_with_len from n) || list_any (λ v. not (on v) && test v) (range_with_len from n))
-any_parts test on from zero = refl
-any_parts test on from (suc n) = ap (λ (t : Bool). test from || t) (any_parts test on (from + 1) n) ∙ joined (test from) (on from) (list_any (λ v. on v && test v) (range_with_len (from + 1) n)) (list_any (λ v. not (on v) && test v) (range_with_len (from + 1) n))
+leads_parts : (x : VolumeState) (map : Mapped) (n b : ℕ) → leads map n b ≡ (leads_on x map n b || has_maps_at x map n b)
+unfolding leads leads_on has_maps_at
+leads_parts x map n b = any_either (λ v. not (is_map_written x v) && is_at b (place_at map v)) (λ v. is_map_written x v && is_at b (place_at map v)) (λ v. is_at b (place_at map v)) 0 n (λ v. parted (is_map_written x v) (is_at b (place_at map v)))
   where
-    joined : (t o a b : Bool) → (t || (a || b)) ≡ (((o && t) || a) || ((not o && t) || b))
-    joined true true a b = refl
-    joined true false true b = refl
-    joined true false false b = refl
-    joined false true a b = refl
-    joined false false a b = refl
+    parted : (o t : Bool) → t ≡ ((not o && t) || (o && t))
+    parted true t = refl
+    parted false true = refl
+    parted false false = refl
 
-leads_parts : (x : VolumeState) (map : Mapped) (n b : ℕ) → leads map n b ≡ (leads_on x map n b || leads_away x map n b)
-unfolding leads leads_on leads_away
-leads_parts x map n b = any_parts (λ v. is_at b (place_at map v)) (stays x) 0 n
-
--- an entry that stays leads to the block
+-- an entry that isn't written leads to the block
 record StaysAt (x : VolumeState) (map : Mapped) (n b : ℕ) : Type 0 where
   vvbn : ℕ
   within : vvbn < n
-  on : stays x vvbn ≡ true
+  on : is_map_written x vvbn ≡ false
   place : place_at map vvbn ≡ b
   some : b ≢ 0
 
 on_where : (x : VolumeState) (map : Mapped) (n b : ℕ) → leads_on x map n b ≡ true → StaysAt x map n b
 unfolding leads_on
 on_where x map n b is =
-    let one = any_in_range (λ v. stays x v && is_at b (place_at map v)) 0 n is in
-    let parts = and_parts (stays x one.0) (is_at b (place_at map one.0)) one.3 in
-    let means = at_means b (place_at map one.0) parts.1 in
-    record { vvbn = one.0; within = omega (arith, one.2); on = parts.0; place = means.0; some = means.1 }
+    let at = lead_where map (λ v. not (is_map_written x v)) 0 n b is in
+    record { vvbn = at.vvbn; within = omega (arith, at.within); on = not-true _ at.on; place = at.place; some = at.some }
 
-on_at : (x : VolumeState) (map : Mapped) (n v b : ℕ) → v < n → stays x v ≡ true → place_at map v ≡ b → b ≢ 0 → leads_on x map n b ≡ true
+on_at : (x : VolumeState) (map : Mapped) (n v b : ℕ) → v < n → is_map_written x v ≡ false → place_at map v ≡ b → b ≢ 0 → leads_on x map n b ≡ true
 unfolding leads_on
-on_at x map n v b within on place some = range_has (λ v. stays x v && is_at b (place_at map v)) v 0 n (omega arith) (omega (arith, within)) (and_from _ _ on (ap (is_at b) place ∙ at_itself b some))
+on_at x map n v b within on place some = lead_at map (λ k. not (is_map_written x k)) 0 n v b (omega arith) (omega (arith, within)) (ap not on) place some
 
-pub away_where : (x : VolumeState) (map : Mapped) (n b : ℕ) → leads_away x map n b ≡ true → (v : ℕ) × (v < n) × (stays x v ≡ false) × (place_at map v ≡ b)
-unfolding leads_away
-away_where x map n b is =
-    let one = any_in_range (λ v. not (stays x v) && is_at b (place_at map v)) 0 n is in
-    let parts = and_parts (not (stays x one.0)) (is_at b (place_at map one.0)) one.3 in
-    let means = at_means b (place_at map one.0) parts.1 in
-    (one.0, omega (arith, one.2), not-true _ parts.0, means.0)
-
--- and that block is one
-pub away_place : (x : VolumeState) (map : Mapped) (n b : ℕ) → leads_away x map n b ≡ true → b ≢ 0
-unfolding leads_away
-away_place x map n b is =
-    let one = any_in_range (λ v. not (stays x v) && is_at b (place_at map v)) 0 n is in
-    (at_means b (place_at map one.0) (and_parts (not (stays x one.0)) (is_at b (place_at map one.0)) one.3).1).1
-
-module _ (x : VolumeState) (old new : Mapped)
-    (kept : (v : ℕ) → stays x v ≡ true → entry_under new v ≡ entry_under old v) (holes : (v : ℕ) → stays x v ≡ false → is_map_written x v ≡ false → entry_under new v ≡ None) where
+module _ (x : VolumeState) (old new : Mapped) (kept : (v : ℕ) → is_map_written x v ≡ false → entry_under new v ≡ entry_under old v) where
   abbrev all : ℕ
   all = entry_count x.span
 
-  -- The new entries are those that stay and those of the blocks of maps that are written.
+  -- The new entries are those that aren't written and those of the blocks of maps that are.
   pub leads_new : (b : ℕ) → leads new all b ≡ (leads_on x old all b || has_maps_at x new all b)
   leads_new b = same_truth (leads new all b) (leads_on x old all b || has_maps_at x new all b) (λ is. to (leads_where new all b is)) (λ is. ⊎_elim
       (λ (on : leads_on x old all b ≡ true).
@@ -167,35 +142,27 @@ module _ (x : VolumeState) (old new : Mapped)
       (or_cases (leads_on x old all b) (has_maps_at x new all b) is))
     where
       to : LeadsAt new all b → (leads_on x old all b || has_maps_at x new all b) ≡ true
-      to at = so (stays x at.vvbn) refl
+      to at = so (is_map_written x at.vvbn) refl
         where
-          so : (t : Bool) → stays x at.vvbn ≡ t → (leads_on x old all b || has_maps_at x new all b) ≡ true
-          so true on = or_left _ _ (on_at x old all at.vvbn b at.within on (ap place_in (sym (kept at.vvbn on)) ∙ at.place) at.some)
-          so false off = ⊎_elim
-              (λ (written : is_map_written x at.vvbn ≡ true). or_right (leads_on x old all b) _ (maps_at x new all at.vvbn b at.within written at.place at.some))
-              (λ (none : is_map_written x at.vvbn ≡ false). absurd (at.some (sym at.place ∙ ap place_in (holes at.vvbn off none))))
-              (cases_Bool (is_map_written x at.vvbn))
+          so : (t : Bool) → is_map_written x at.vvbn ≡ t → (leads_on x old all b || has_maps_at x new all b) ≡ true
+          so true written = or_right (leads_on x old all b) _ (maps_at x new all at.vvbn b at.within written at.place at.some)
+          so false on = or_left _ _ (on_at x old all at.vvbn b at.within on (ap place_in (sym (kept at.vvbn on)) ∙ at.place) at.some)
 
 -- ---- the volume
 
-module _ (x : VolumeState) (before after : Image) (space given_back drawn stored left : Space) (label : ℕ) (old mid new : Mapped) (own : HasOwnBlocks x old space)
-    (gave : HasGiven space (leads_away x old (entry_count x.span)) given_back) (took : HasDrawn given_back (λ b. is_at b label) 1 drawn) (some : 1 ≤ label)
-    (has : HasLabel x mid drawn label new after stored) (released : HasGiven stored (λ b. is_at b x.label) left) (same : stored.committed ≡ drawn.committed)
-    (long : length new.entries ≡ entry_count x.span) (tree : mid.tree ≡ old.tree)
-    (kept : (v : ℕ) → stays x v ≡ true → entry_under mid v ≡ entry_under old v) (holes : (v : ℕ) → stays x v ≡ false → entry_under mid v ≡ None)
-    (others : (b : ℕ) → IsTakenOther drawn label b → after b ≡ before b)
+module _ (x : VolumeState) (before after : Image) (space given_back drawn stored left : Space) (label : ℕ) (old new : Mapped) (own : HasOwnBlocks x old space)
+    (gave : HasGiven space (has_maps_at x old (entry_count x.span)) given_back) (took : HasDrawn given_back (λ b. is_at b label) 1 drawn) (some : 1 ≤ label)
+    (has : HasLabel x old drawn label new after stored) (released : HasGiven stored (λ b. is_at b x.label) left) (same : stored.committed ≡ drawn.committed)
+    (long : length new.entries ≡ entry_count x.span) (others : (b : ℕ) → IsTakenOther drawn label b → after b ≡ before b)
   where
-    kept_now : (v : ℕ) → stays x v ≡ true → entry_under new v ≡ entry_under old v
-    kept_now v on = has.blocks.map.others v (inr (stays_unwritten x v on)) ∙ kept v on
-
-    holes_now : (v : ℕ) → stays x v ≡ false → is_map_written x v ≡ false → entry_under new v ≡ None
-    holes_now v off none = has.blocks.map.others v (inr none) ∙ holes v off
+    kept_now : (v : ℕ) → is_map_written x v ≡ false → entry_under new v ≡ entry_under old v
+    kept_now v on = has.blocks.map.others v (inr on)
 
     given_free : (b : ℕ) → IsFree drawn b → IsFree given_back b
-    given_free b free = free_then space given_back drawn (leads_away x old (entry_count x.span)) label gave took some b free
+    given_free b free = free_then space given_back drawn (has_maps_at x old (entry_count x.span)) label gave took some b free
 
     label_is_free : IsFree given_back label
-    label_is_free = label_free space given_back drawn (leads_away x old (entry_count x.span)) label gave took some
+    label_is_free = label_free space given_back drawn (has_maps_at x old (entry_count x.span)) label gave took some
 
     -- what is free isn't the root's on the disk
     not_old : (b : ℕ) → IsFree given_back b → (is_at b x.label ≡ false) × (names old.tree b ≡ false)
@@ -211,7 +178,7 @@ module _ (x : VolumeState) (before after : Image) (space given_back drawn stored
       where
         so : (t : Bool) → names old.tree b ≡ t → (names old.tree b ≡ true) ⊎ (IsFree given_back b)
         so true e = inl e
-        so false e = inr (given_free b (has.blocks.fresh_nodes b named (ap (λ (t : List ℕ). names t b) tree ∙ e)))
+        so false e = inr (given_free b (has.blocks.fresh_nodes b named e))
 
     not_label : (b : ℕ) → names new.tree b ≡ true → is_at b x.label ≡ false
     not_label b named = ⊎_elim
@@ -227,14 +194,14 @@ module _ (x : VolumeState) (before after : Image) (space given_back drawn stored
 
     -- a block that stays is none of the others
     stays_apart : (b : ℕ) → leads_on x old (entry_count x.span) b ≡ true
-        → (is_member space.next b ≡ true) × ((leads_away x old (entry_count x.span) b ≡ false) × ((names old.tree b ≡ false) × (is_at b x.label ≡ false)))
+        → (is_member space.next b ≡ true) × ((has_maps_at x old (entry_count x.span) b ≡ false) × ((names old.tree b ≡ false) × (is_at b x.label ≡ false)))
     stays_apart b on =
         let at = on_where x old (entry_count x.span) b on in
         let led : leads old (entry_count x.span) b ≡ true = leads_at old (entry_count x.span) at.vvbn b at.within at.place at.some in (
           own.held b (or_right (is_at b x.label) _ (or_right (names old.tree b) _ led)),
           (
-            not_so (leads_away x old (entry_count x.span) b) (λ away.
-                let w = away_where x old (entry_count x.span) b away in
+            not_so (has_maps_at x old (entry_count x.span) b) (λ map.
+                let w = maps_where x old (entry_count x.span) b map in
                 two at w),
             (
               not_so (names old.tree b) (λ named. true≢false (sym led ∙ own.nodes b named)),
@@ -243,14 +210,14 @@ module _ (x : VolumeState) (before after : Image) (space given_back drawn stored
           ),
         )
       where
-        two : StaysAt x old (entry_count x.span) b → ((w : ℕ) × (w < entry_count x.span) × (stays x w ≡ false) × (place_at old w ≡ b)) → ⊥
+        two : StaysAt x old (entry_count x.span) b → StandsAt x old (entry_count x.span) b → ⊥
         two at w = ⊎_elim
-            (λ (same : at.vvbn ≡ w.0). true≢false (sym at.on ∙ ap (stays x) same ∙ w.2))
-            (λ (other : at.vvbn ≢ w.0). ⊎_elim
-            (λ (less : at.vvbn < w.0). own.entries at.vvbn w.0 less w.1 (λ none. at.some (sym at.place ∙ none)) (at.place ∙ sym w.3))
-            (λ (more : w.0 ≤ at.vvbn). own.entries w.0 at.vvbn (omega (arith, more, other)) at.within (λ none. at.some (sym w.3 ∙ none)) (w.3 ∙ sym at.place))
-            (cases_lt at.vvbn w.0))
-            (cases_eq at.vvbn w.0)
+            (λ (same : at.vvbn ≡ w.vvbn). true≢false (sym w.on ∙ ap (is_map_written x) (sym same) ∙ at.on))
+            (λ (other : at.vvbn ≢ w.vvbn). ⊎_elim
+            (λ (less : at.vvbn < w.vvbn). own.entries at.vvbn w.vvbn less w.within (λ none. at.some (sym at.place ∙ none)) (at.place ∙ sym w.place))
+            (λ (more : w.vvbn ≤ at.vvbn). own.entries w.vvbn at.vvbn (omega (arith, more, other)) at.within (λ none. at.some (sym w.place ∙ none)) (w.place ∙ sym at.place))
+            (cases_lt at.vvbn w.vvbn))
+            (cases_eq at.vvbn w.vvbn)
 
     pub renewed_volume : IsWritten x old before space label new after left
     renewed_volume = record {
@@ -263,41 +230,37 @@ module _ (x : VolumeState) (before after : Image) (space given_back drawn stored
       kept = kept_now;
       maps = λ v is. has.blocks.map.maps v (written_within x v is) is;
       placed = λ v is. has.blocks.map.some v (written_within x v is) is;
-      holes = holes_now;
       bits = λ v is. has.blocks.bits v (written_within x v is) is;
       given = given_back;
       gave = gave;
       some = some;
       fresh_label = label_is_free;
-      fresh_nodes = λ b named lacks. given_free b (has.blocks.fresh_nodes b named (ap (λ (t : List ℕ). names t b) tree ∙ lacks));
+      fresh_nodes = λ b named lacks. given_free b (has.blocks.fresh_nodes b named lacks);
       fresh_maps = λ v is. given_free (place_at new v) (has.blocks.fresh_maps (place_at new v) (map_led v is));
-      alone = not_so (names new.tree label) (λ named. label_taken space given_back drawn (leads_away x old (entry_count x.span)) label gave took some
-          (has.blocks.fresh_nodes label named (ap (λ (t : List ℕ). names t label) tree ∙ (not_old label label_is_free).1)));
+      alone = not_so (names new.tree label) (λ named. label_taken space given_back drawn (has_maps_at x old (entry_count x.span)) label gave took some
+          (has.blocks.fresh_nodes label named (not_old label label_is_free).1));
       apart = λ v is.
           let free = has.blocks.fresh_maps (place_at new v) (map_led v is) in
-          (λ same. label_taken space given_back drawn (leads_away x old (entry_count x.span)) label gave took some (subst (λ (b : ℕ). IsFree drawn b) same free), has.blocks.apart (place_at new v) (map_led v is));
+          (λ same. label_taken space given_back drawn (has_maps_at x old (entry_count x.span)) label gave took some (subst (λ (b : ℕ). IsFree drawn b) same free), has.blocks.apart (place_at new v) (map_led v is));
       once = λ v w lt is too. has.blocks.map.once v w lt (written_within x w too) is too;
       held = λ b.
           released.held b ∙ ap (λ t. t && not (is_at b x.label)) (has.blocks.held b)
-          ∙ ap (λ t. ((names new.tree b || has_maps_at x new (entry_count x.span) b) || (t && not (names mid.tree b))) && not (is_at b x.label)) (took.held b ∙ ap (λ t. is_at b label || t) (gave.held b))
-          ∙ ap (λ (ts : List ℕ). ((names new.tree b || has_maps_at x new (entry_count x.span) b) || ((is_at b label || (is_member space.next b && not (leads_away x old (entry_count x.span) b))) && not (names ts b))) && not (is_at b x.label)) tree
-          ∙ renewed (is_at b label) (names new.tree b) (has_maps_at x new (entry_count x.span) b) (leads_on x old (entry_count x.span) b) (leads_away x old (entry_count x.span) b) (is_at b x.label) (names old.tree b) (is_member space.next b)
+          ∙ ap (λ t. ((names new.tree b || has_maps_at x new (entry_count x.span) b) || (t && not (names old.tree b))) && not (is_at b x.label)) (took.held b ∙ ap (λ t. is_at b label || t) (gave.held b))
+          ∙ renewed (is_at b label) (names new.tree b) (has_maps_at x new (entry_count x.span) b) (leads_on x old (entry_count x.span) b) (has_maps_at x old (entry_count x.span) b) (is_at b x.label) (names old.tree b) (is_member space.next b)
           (λ at. not_old b (took.free b at))
           (not_label b)
           (λ map. (not_old b (given_free b (has.blocks.fresh_maps b map))).0)
           (stays_apart b)
           ∙ ap₂ (λ (p q : Bool). (is_at b label || (names new.tree b || p)) || (is_member space.next b && not (is_at b x.label || (names old.tree b || q))))
-          (sym (leads_new x old new kept_now holes_now b)) (sym (leads_parts x old (entry_count x.span) b));
+          (sym (leads_new x old new kept_now b)) (sym (leads_parts x old (entry_count x.span) b));
       committed = released.committed ∙ same ∙ took.committed ∙ gave.committed;
-      others = λ b is. others b (given_spared space given_back drawn (leads_away x old (entry_count x.span)) label gave took some b is);
+      others = λ b is. others b (given_spared space given_back drawn (has_maps_at x old (entry_count x.span)) label gave took some b is);
     }
 
--- a block that is free once the entries were given back is no old node
-pub no_old_node : (x : VolumeState) (space given_back : Space) (old kept : Mapped) (b : ℕ) → given_back.committed ≡ space.committed → kept.tree ≡ old.tree → HasOwnBlocks x old space → IsFree given_back b → names kept.tree b ≡ false
-no_old_node x space given_back old kept b same tree own free = not_so (names kept.tree b) (λ named. true≢false (sym (ap (λ (c : List Bool). is_member c b) same ∙ own.old_nodes b (ap (λ (t : List ℕ). names t b) (sym tree) ∙ named)) ∙ uncommitted given_back b free))
+-- a block that is free once the old blocks of maps were given back is no old node
+pub no_old_node : (x : VolumeState) (space given_back : Space) (old : Mapped) (b : ℕ) → given_back.committed ≡ space.committed → HasOwnBlocks x old space → IsFree given_back b → names old.tree b ≡ false
+no_old_node x space given_back old b same own free = not_so (names old.tree b) (λ named. true≢false (sym (ap (λ (c : List Bool). is_member c b) same ∙ own.old_nodes b named) ∙ uncommitted given_back b free))
 
 -- the old nodes can't be written before the next commit
-pub nodes_taken : (x : VolumeState) (space drawn : Space) (old kept : Mapped) → drawn.committed ≡ space.committed → kept.tree ≡ old.tree → HasOwnBlocks x old space → AreTaken drawn kept.tree
-nodes_taken x space drawn old kept same tree own b named =
-    let was : names old.tree b ≡ true = ap (λ (t : List ℕ). names t b) (sym tree) ∙ named in
-    committed_taken drawn b (ap (λ (c : List Bool). is_member c b) same ∙ own.old_nodes b was)
+pub nodes_taken : (x : VolumeState) (space drawn : Space) (old : Mapped) → drawn.committed ≡ space.committed → HasOwnBlocks x old space → AreTaken drawn old.tree
+nodes_taken x space drawn old same own b named = committed_taken drawn b (ap (λ (c : List Bool). is_member c b) same ∙ own.old_nodes b named)

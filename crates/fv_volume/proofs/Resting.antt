@@ -12,8 +12,9 @@ use Rattle.fv_files.specs.Numbering.{AreNumbersIf}
 use Rattle.fv_volume.specs.declared.pool.Pool.{Pool}
 use Rattle.fv_volume.specs.declared.state.VolumeState.{VolumeState}
 use Rattle.fv_volume.specs.Held.{named_held, IsHeldIn, IsReadyIn}
-use Rattle.fv_volume.specs.OneVolume.{shows, table_for, volume_for, AreSoundBy, IsKeptTable, IsReady, IsStanding}
+use Rattle.fv_volume.specs.OneVolume.{blocks_in, shows, table_for, trees_for, volume_for, AreLaidBy, AreSoundBy, IsKeptTable, IsReady, IsStanding}
 use Rattle.fv_volume.specs.Placing.{AreLedBy, AreStoredBy, IsLedTo, IsStoredWell}
+use Rattle.fv_volume.specs.Sharing.{AreShared}
 
 module _ (d e : Shown) (stays : Stays d e) (pool : Pool) where
   -- the disk with another image to read
@@ -39,8 +40,11 @@ module _ (d e : Shown) (stays : Stays d e) (pool : Pool) where
     table = subst (λ (i : Image). IsWellTable x.now (table_for (over i) pool x)) (sym stays.reads) is.table;
     reserves = subst (λ (i : Image). HasNoReserve (table_for (over i) pool x)) (sym stays.reads) is.reserves;
     kept = subst (λ (i : Image). All (IsKeptTable (over i) pool x) x.snapshots) (sym stays.reads) is.kept;
+    names = is.names;
+    shared = subst (λ (i : Image). AreShared (trees_for (over i) pool x) (blocks_in (over i) pool x) x.snapshots) (sym stays.reads) is.shared;
     ledger = subst (λ (i : Image). IsLedgerOf (volume_for (over i) pool x) x.ledger) (sym stays.reads) is.ledger;
     trees = subst (λ (i : Image). AreSoundBy (under (shows (over i) pool x)) (shows d pool x).used x.active x.files) (sym stays.reads) is.trees;
+    laid = subst (λ (i : Image). AreLaidBy (under (shows (over i) pool x)) x.files) (sym stays.reads) is.laid;
     numbers = subst (λ (i : Image). AreNumbersIf x.numbers (table_for (over i) pool x)) (sym stays.reads) is.numbers;
   }
 

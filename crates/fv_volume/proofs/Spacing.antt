@@ -5,16 +5,16 @@ use Rattle.fv_disk.specs.Shown.{Image}
 use Rattle.std.proofs.lemmas.Bool.{and_parts, and_from, both_ways, cases_eq, or_cases, or_left, or_right}
 use Rattle.fv_bits.specs.Members.{is_member}
 use Rattle.fv_image.specs.Reclaimed.{IsAllocatable}
+use Rattle.fv_container.specs.Leading.{place_at}
 use Rattle.fv_container.specs.Mapped.{Mapped}
 use Rattle.fv_volume.specs.declared.state.VolumeState.{VolumeState}
 use Rattle.fv_image.specs.Views.{entry_count}
 use Rattle.fv_container.specs.Spelled.{is_at, names}
 use Rattle.fv_aggmap.specs.Space.{Space, blocks_of}
 use Rattle.fv_volume.specs.Housed.{as_written}
-use Rattle.fv_volume.specs.Stored.{AreApartIn, AreSpacedIn, has_block, is_of, place_at, stays}
-use Rattle.fv_volume.specs.Writing.{HasOwnBlocks, IsWritten, leads_away}
-use Rattle.fv_volume.proofs.Drawing.{leads_at, or_neither}
-use Rattle.fv_volume.proofs.Renewing.{away_place, away_where}
+use Rattle.fv_volume.specs.Stored.{AreApartIn, AreSpacedIn, has_block, is_map_written, is_of}
+use Rattle.fv_volume.specs.Writing.{HasOwnBlocks, IsWritten, has_maps_at}
+use Rattle.fv_volume.proofs.Drawing.{leads_at, maps_where, or_neither}
 use Rattle.fv_volume.proofs.Stored.{from_old, new_lies, stay_taken}
 
 -- they are spaced alike where they are the same
@@ -87,11 +87,11 @@ module _ (blocks : ℕ) (next after : List Bool) (state now : ℕ → Option Vol
 -- ---- a volume that was written
 
 -- What the writing of one slot's volume leaves: the volumes stay spaced, a block of another one isn't written, and neither is the block of
--- an entry that stays.
+-- an entry that isn't of a map that is written.
 pub record LeavesSpaced (blocks : ℕ) (after : Space) (state now : ℕ → Option VolumeState) (container left : ℕ → Option Mapped) (s : ℕ) (x : VolumeState) (old : Mapped) (i j : Image) : Type 0 where
   pub spaced : AreSpacedIn blocks after.next now left
   pub others : (k b : ℕ) → k < 64 → k ≢ s → has_block (state k) (container k) b ≡ true → j b ≡ i b
-  pub own : (v : ℕ) → stays x v ≡ true → place_at old v ≢ 0 → j (place_at old v) ≡ i (place_at old v)
+  pub own : (v : ℕ) → is_map_written x v ≡ false → place_at old v ≢ 0 → j (place_at old v) ≡ i (place_at old v)
 
 module _ (blocks : ℕ) (space after : Space) (state now : ℕ → Option VolumeState) (container left : ℕ → Option Mapped) (s : ℕ) (inside : s < 64) (is : AreSpacedIn blocks space.next state container) (size : blocks_of space ≡ blocks)
     (x : VolumeState) (old new : Mapped) (label : ℕ) (there : state s ≡ Some x) (lies : container s ≡ Some old) (there_now : now s ≡ Some (as_written x label)) (lies_now : left s ≡ Some new)
@@ -113,12 +113,12 @@ module _ (blocks : ℕ) (space after : Space) (state now : ℕ → Option Volume
   other_stays : (k b : ℕ) → k < 64 → k ≢ s → has_block (state k) (container k) b ≡ true → j b ≡ i b
   other_stays k b small other has = w.others b (λ free.
       let none = (or_neither (is_member w.given.committed b) (is_member w.given.next b) free.free).1 in
-      by (is_member space.next b) (leads_away x old (entry_count x.span) b) refl refl (is.held k b small has).0 (sym (w.gave.held b) ∙ none))
+      by (is_member space.next b) (has_maps_at x old (entry_count x.span) b) refl refl (is.held k b small has).0 (sym (w.gave.held b) ∙ none))
     where
-      by : (m a : Bool) → is_member space.next b ≡ m → leads_away x old (entry_count x.span) b ≡ a → is_member space.next b ≡ true → (m && not a) ≡ false → ⊥
+      by : (m a : Bool) → is_member space.next b ≡ m → has_maps_at x old (entry_count x.span) b ≡ a → is_member space.next b ≡ true → (m && not a) ≡ false → ⊥
       by true true e f held g =
-          let at = away_where x old (entry_count x.span) b f in
-          let led = leads_at old (entry_count x.span) at.0 b at.1 at.3 (away_place x old (entry_count x.span) b f) in
+          let at = maps_where x old (entry_count x.span) b f in
+          let led = leads_at old (entry_count x.span) at.vvbn b at.within at.place at.some in
           is.apart k s b small inside other has (has_old b ∙ or_right (is_at b x.label) _ (or_right (names old.tree b) _ led))
       by true false e f held g = both_ways true g refl
       by false a e f held g = both_ways _ e held

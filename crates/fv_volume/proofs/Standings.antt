@@ -5,7 +5,7 @@ use Rattle.std.specs.Option.{ForSome, option_map, option_map_or}
 use Rattle.std.specs.FinMap as fin
 use Rattle.std.proofs.lemmas.Bool.{and_parts}
 use Rattle.std.proofs.lemmas.Bool.Decides.{nat_tests}
-use Rattle.std.proofs.lemmas.List.Elements.{All-cons, All-head, All-nil, All-tail}
+use Rattle.std.proofs.lemmas.List.Elements.{All-head, All-tail}
 use Rattle.fv_disk.specs.Shown.{Shown as Disk}
 use Rattle.fv_bits.specs.Members.{is_member}
 use Rattle.fv_codec.specs.declared.pointer.Pointer.{Pointer}
@@ -27,13 +27,17 @@ use Rattle.fv_tree.specs.Sources.{Shown, Use}
 use Rattle.fv_tree.specs.Standing.{under as blocks_of}
 use Rattle.fv_files.specs.declared.files.Files.{Files}
 use Rattle.fv_files.specs.Apart.{LeadsFrom, LeadsIn, stored_trees}
+use Rattle.fv_files.specs.Sharing.{owner_in}
 use Rattle.fv_files.specs.Tables.{AreReached}
 use Rattle.fv_image.specs.Chains.{under}
 use Rattle.fv_image.specs.Mapped.{stored_slots}
-use Rattle.fv_image.specs.Seen.{roots_of}
+use Rattle.fv_image.specs.ReachRules.{are_distinct}
+use Rattle.fv_image.specs.Seen.{roots_of, volume_seen}
+use Rattle.fv_image.specs.VolumeRules.{has_distinct_snapshots}
 use Rattle.fv_image.specs.Views.{Head, Placed, Rooted as Root, Snap, View}
 use Rattle.fv_image.specs.Volumes.{base_from, snap_told, table_at, volume_with}
 use Rattle.fv_image.proofs.LoneTables.{no_parent, place_own}
+use Rattle.fv_image.proofs.SameSeen.{of_volume}
 use Rattle.fv_charge.specs.Ledgers.{IsLedgerOf}
 use Rattle.fv_container.specs.declared.entry.Entry.{Entry}
 use Rattle.fv_container.specs.Chains.{Slots, chain_entry, container_at, own_entry, parent_at}
@@ -46,15 +50,20 @@ use Rattle.fv_volume.specs.declared.state.VolumeState.{VolumeState}
 use Rattle.fv_volume.specs.BlocksOver.{AreApart, IsKeptBack, OtherPlace, block_of, held_entry}
 use Rattle.fv_volume.specs.Calls.{Reads}
 use Rattle.fv_volume.specs.Files.{IsLabelled, IsState}
-use Rattle.fv_volume.specs.OneVolume.{blocks_in, shows, snap_by, snaps_by, standing_by, table_for, uses_in, volume_as, volume_for, AreSoundBy, IsKeptTable, IsStanding, RootStands}
+use Rattle.fv_volume.specs.OneVolume.{blocks_in, shows, snap_by, snaps_by, standing_by, table_for, uses_in, volume_as, volume_for, AreLaidBy, AreSoundBy, IsKeptTable, IsStanding, RootStands}
 use Rattle.fv_volume.specs.Placing.{AreLedBy, AreStoredBy, IsLedTo, IsStoredWell}
+use Rattle.fv_volume.specs.Sharing.{pointer_in, trees_by, AreShared, SharesWith}
 use Rattle.fv_volume.specs.States.{States, head_in, placed_in, rooted_as, snap_in, state_at, table_in, view_over}
 use Rattle.fv_volume.specs.Trees.{active_in, no_trees}
+use Rattle.fv_volume.proofs.EachRoot.{all_among}
 use Rattle.fv_volume.proofs.LoadedStored.{stands_indexes, stands_stored}
-use Rattle.fv_volume.proofs.LoadedTables.{StandsInView, chain_own, led, stands_file, stands_inode, stands_led, stands_once, stands_reach, stands_reserves, stands_told, stands_well}
+use Rattle.fv_volume.proofs.LoadedTables.{StandsInView, at as view_at, chain_own, here as view_here, led, led_is, same_place, stands_file, stands_inode, stands_led, stands_once, stands_reach, stands_reserves, stands_told, stands_well}
+use Rattle.fv_volume.proofs.KeptSlots.{root_few}
 use Rattle.fv_volume.proofs.OneVolumes.{still_under, still_used}
 use Rattle.fv_volume.proofs.OverBlocks.{over_keeps, over_reached, over_stored}
 use Rattle.fv_volume.proofs.Reaches.{active_has, active_uses}
+use Rattle.fv_volume.proofs.Ruled.{AreOneToOne}
+use Rattle.fv_volume.proofs.SharedRoots.{Places, roots_one, same_number, shares_alike, stored_place, stored_same}
 use Rattle.fv_volume.proofs.Shows.{get_held, use_none}
 use Rattle.fv_volume.proofs.SnapReads.{kept_by, slot_held}
 use Rattle.fv_volume.proofs.Told.{head_there}
@@ -89,6 +98,11 @@ apart_alone pool map slot alone kept apart = record {
 }
 
 -- ---- the volume of a head
+
+-- a head has the names of its snapshots
+pub names_in : (snaps : List Kept) → map (λ (q : Kept). q.name) snaps ≡ map (λ (p : Snap). p.name) (map snap_in snaps)
+names_in [] = refl
+names_in (q ∷ qs) = ap (λ (ns : List (List ℕ)). q.name ∷ ns) (names_in qs)
 
 -- its table is that of its head's root
 pub active_is : (w : View) (s : ℕ) (h : Head) → w.head s ≡ Some h → active_in w no_trees s ≡ table_at w s h.active
@@ -192,16 +206,6 @@ module _ (disk : Disk) (pool : Pool) (states : States) (x : VolumeState) (there 
 
 -- ---- from the view
 
-abbrev owner_for : Option ℕ → Owner
-owner_for None = InodeFile
-owner_for (Some n) = OfFile n
-
-same_number : (a b : Option ℕ) → owner_for b ≡ owner_for a → a ≡ b
-same_number None None e = refl
-same_number None (Some n) e = absurd cc
-same_number (Some n) None e = absurd cc
-same_number (Some n) (Some k) e = let same : k ≡ n = cc in ap (λ (j : ℕ). Some j) (sym same)
-
 module _ (disk : Disk) (pool : Pool) (states : States) (x : VolumeState) (is : StandsInView disk pool states x) where
   abbrev w : View
   w = view_over pool states disk.reads
@@ -222,8 +226,8 @@ module _ (disk : Disk) (pool : Pool) (states : States) (x : VolumeState) (is : S
     record LedAt (a : Option ℕ) (v : ℕ) : Type 0 where
       level : ℕ
       index : ℕ
-      some : (led disk pool states x is k r one (owner_for a) level index).stamp ≢ 0
-      vvbn : (led disk pool states x is k r one (owner_for a) level index).vvbn ≡ v
+      some : (led disk pool states x is k r one (owner_in a) level index).stamp ≢ 0
+      vvbn : (led disk pool states x is k r one (owner_in a) level index).vvbn ≡ v
 
     led_at : (a : Option ℕ) (v : ℕ) → LeadsFrom (stored_trees blocks r.levels r.root) a v → LedAt a v
     led_at None v leads = record { level = leads.level; index = leads.place; some = leads.leads.some; vvbn = leads.leads.vvbn }
@@ -249,7 +253,7 @@ module _ (disk : Disk) (pool : Pool) (states : States) (x : VolumeState) (is : S
       apart = λ a b v other first second.
           let here = led_at a v first in
           let there = led_at b v second in
-          other (same_number a b (stands_once disk pool states x is k r one (owner_for a) (owner_for b) here.level here.index there.level there.index here.some there.some (there.vvbn ∙ sym here.vvbn)).0);
+          other (same_number a b (stands_once disk pool states x is k r one (owner_in a) (owner_in b) here.level here.index there.level there.index here.some there.some (there.vvbn ∙ sym here.vvbn)).0);
     }
 
     -- so its table lies whole in its slot.
@@ -281,24 +285,48 @@ module _ (disk : Disk) (pool : Pool) (states : States) (x : VolumeState) (is : S
     slot_led : (v : ℕ) → has v (slot_at x.map k) ≡ true → (a : Option ℕ) × LeadsFrom (stored_trees blocks r.levels r.root) a v
     slot_led v member = let at = stands_led disk pool states x is k r one v member in leads_from at.owner at.level at.index v at.some at.vvbn
 
+  -- ---- two of its roots
+
+  -- the pointers of a root's table over the blocks of its slot are those of the view
+  led_seen : (k : ℕ) (r : Root) (one : In {X = ℕ × Root} (k, r) (roots_of (head_in x))) → ◌≡◌ {A = Places} (λ o. led disk pool states x is k r one (owner_in o)) (λ o. view_at disk pool states x is k r one (owner_in o))
+  led_seen k r one = λ i o level index. led_is disk pool states x is k r one (owner_in o) level index i
+
+  module _ (k : ℕ) (r : Root) (one : In {X = ℕ × Root} (k, r) (roots_of (head_in x))) (j : ℕ) (q : Root) (two : In {X = ℕ × Root} (j, q) (roots_of (head_in x))) where
+    -- Their pointers are one to one,
+    seen_one : AreOneToOne (λ o. led disk pool states x is k r one (owner_in o)) (λ o. led disk pool states x is j q two (owner_in o))
+    seen_one = subst (λ (first : Places). AreOneToOne first (λ o. led disk pool states x is j q two (owner_in o))) (sym (led_seen k r one))
+        (subst (λ (second : Places). AreOneToOne (λ o. view_at disk pool states x is k r one (owner_in o)) second) (sym (led_seen j q two))
+        (roots_one w x.slot (head_in x) is.small (view_here disk pool states x is) is.tables.ids k r one j q two (root_few (head_in x) is.numbers k r one) (root_few (head_in x) is.numbers j q two)))
+
+    -- so their tables share what they may, over any blocks that agree.
+    seen_shares : (n : Under) → ((o : Option ℕ) (level index : ℕ) → pointer_in (stored_trees n r.levels r.root o) level index ≡ led disk pool states x is k r one (owner_in o) level index)
+        → SharesWith (stored_trees n r.levels r.root) (stored_trees (blocks_in disk pool x j) q.levels q.root)
+    seen_shares n same = shares_alike (stored_trees n r.levels r.root) (stored_trees (blocks_in disk pool x j) q.levels q.root)
+        (λ o. led disk pool states x is k r one (owner_in o)) (λ o. led disk pool states x is j q two (owner_in o))
+        same (stored_place (blocks_in disk pool x j) q.levels q.root) (stored_same n r.levels r.root) (stored_same (blocks_in disk pool x j) q.levels q.root) seen_one
+
   -- ---- its snapshots
+
+  snap_root : (q : Kept) → In q x.snapshots → In {X = ℕ × Root} (q.slot, table_in q.table) (roots_of (head_in x))
+  snap_root q there = inr (in_map (λ (p : Snap). (p.slot, p.table)) (snap_in q) (head_in x).snapshots (in_map snap_in q x.snapshots there))
+
+  -- Their names differ.
+  seen_names : are_distinct (map (λ (q : Kept). q.name) x.snapshots) ≡ true
+  unfolding has_distinct_snapshots volume_seen
+  seen_names = ap are_distinct (names_in x.snapshots) ∙ of_volume w (λ s y. are_distinct (map (λ p. p.name) y.head.snapshots)) x.slot (head_in x) is.tables.snapshots is.small (view_here disk pool states x is)
 
   each_kept : (q : Kept) → In q x.snapshots → IsKeptTable disk pool x q
   each_kept q there =
       let snap : In (snap_in q) (head_in x).snapshots = in_map snap_in q x.snapshots there in
       let bounds = and_parts (nat_le 1 q.slot) _ (from_all (λ (p : Snap). nat_le 1 p.slot && nat_lt p.slot stored_slots) (head_in x).snapshots is.slots.1.within (snap_in q) snap) in
-      (later q.slot bounds.0, seen_root q.slot (table_in q.table) (inr (in_map (λ (p : Snap). (p.slot, p.table)) (snap_in q) (head_in x).snapshots snap)))
+      (later q.slot bounds.0, seen_root q.slot (table_in q.table) (snap_root q there))
     where
       later : (n : ℕ) → nat_le 1 n ≡ true → n ≢ 0
       later n test = grind (arith, nat_tests, test)
 
   -- The table of each snapshot lies whole in its slot.
   pub seen_kept : All (IsKeptTable disk pool x) x.snapshots
-  seen_kept = all_of x.snapshots each_kept
-    where
-      all_of : (snaps : List Kept) → ((q : Kept) → In q snaps → IsKeptTable disk pool x q) → All (IsKeptTable disk pool x) snaps
-      all_of [] each = All-nil (IsKeptTable disk pool x)
-      all_of (q ∷ qs) each = All-cons (IsKeptTable disk pool x) q qs (each q (inl refl)) (all_of qs (λ p there. each p (inr there)))
+  seen_kept = all_among (IsKeptTable disk pool x) x.snapshots each_kept
 
   -- ---- its active table, over all blocks that it holds
 
@@ -314,6 +342,15 @@ module _ (disk : Disk) (pool : Pool) (states : States) (x : VolumeState) (is : S
   active_reached : AreReached (blocks_of source) source.used x.active.levels x.active.root
   active_reached = over_reached (blocks_in disk pool x 0) (blocks_of source) x.active.levels x.active.root held_agrees source.used
       (subst (λ (uses : ℕ → Option Use). AreReached (blocks_in disk pool x 0) uses x.active.levels x.active.root) (active_uses disk pool x) active.trees)
+
+  -- It shares with those of the snapshots what it may, and they with one another.
+  active_shared : AreShared (stored_trees (blocks_of source) x.active.levels x.active.root) (blocks_in disk pool x) x.snapshots
+  active_shared = record {
+    active = all_among _ x.snapshots (λ q there. seen_shares 0 (table_in x.active) (inl refl) q.slot (table_in q.table) (snap_root q there) (blocks_of source)
+        (λ o level index. stored_place (blocks_of source) x.active.levels x.active.root o level index ∙ same_place (blocks_in disk pool x 0) (blocks_of source) x.active.levels x.active.root held_agrees (owner_in o) level index));
+    kept = all_among _ x.snapshots (λ q there. all_among _ x.snapshots (λ p here. seen_shares q.slot (table_in q.table) (snap_root q there) p.slot (table_in p.table) (snap_root p here) (blocks_in disk pool x q.slot)
+        (stored_place (blocks_in disk pool x q.slot) q.table.levels q.table.root)));
+  }
 
   module _ (none : x.files ≡ None) where
     -- The table of the volume is told as by the view.
@@ -346,8 +383,11 @@ module _ (disk : Disk) (pool : Pool) (states : States) (x : VolumeState) (is : S
           table = subst (IsWellTable x.now) told state.table;
           reserves = subst HasNoReserve told state.reserves;
           kept = seen_kept;
+          names = seen_names;
+          shared = subst (λ (o : Option Files). AreShared (trees_by (blocks_of source) x.active o) (blocks_in disk pool x) x.snapshots) (sym none) active_shared;
           ledger = subst (λ v. IsLedgerOf v x.ledger) (ap (volume_with w x.slot (head_in x)) told ∙ seen_volume disk pool states x is.there is.alone is.base seen_kept (table_for disk pool x)) state.ledger;
           trees = subst (AreSoundBy (blocks_of source) source.used x.active) (sym none) active_reached;
+          laid = subst (AreLaidBy (blocks_of source)) (sym none) tt;
           numbers = numbered;
         }
 

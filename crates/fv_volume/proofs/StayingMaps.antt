@@ -12,6 +12,8 @@ use Rattle.fv_bits.proofs.Counts.{none_pass, passing, passing-add, passing-suc, 
 use Rattle.fv_model.specs.Space.{map_blocks}
 use Rattle.fv_image.specs.Views.{Snap, entry_count, map_vvbn}
 use Rattle.fv_volmap.specs.Slots.{Slot, slot_at, stored_count, taken_in}
+use Rattle.fv_delay.specs.Delay.{is_held, is_used}
+use Rattle.fv_delay.proofs.Held.{held_behind, held_below}
 use Rattle.fv_volume.specs.declared.state.VolumeState.{VolumeState}
 use Rattle.fv_volume.specs.Files.{IsLabelled, IsOneMap}
 use Rattle.fv_volume.specs.States.{head_in}
@@ -57,6 +59,25 @@ stays_within x v is = by (nat_lt v x.span) refl is
     by : (t : Bool) → nat_lt v x.span ≡ t → (if t then taken_in (take stored_count x.map.slots) v else has_stored_map x (map_slot x.span v)) ≡ true → v < entry_count x.span
     by true e has = let low : v < x.span = grind (arith, nat_tests, e) in omega (arith, low)
     by false e has = later has
+
+-- what stays is held
+pub stays_held : (x : VolumeState) → x.map.span ≡ x.span → (v : ℕ) → stays x v ≡ true → is_held x.map v ≡ true
+stays_held x span v on = by (nat_lt v x.span) refl on
+  where
+    used : (a b c d : Bool) → (a && (b && c)) ≡ true → (a && (d || b)) ≡ true
+    used true true c true is = refl
+    used true true c false is = refl
+    used true false c d is = absurd (true≢false (sym is))
+    used false b c d is = absurd (true≢false (sym is))
+
+    by : (t : Bool) → nat_lt v x.span ≡ t → (if t then taken_in (take stored_count x.map.slots) v else has_stored_map x (map_slot x.span v)) ≡ true → is_held x.map v ≡ true
+    by true e has =
+        let low : v < x.span = grind (arith, nat_tests, e) in
+        held_below x.map v (omega (arith, low, span)) ∙ has
+    by false e has =
+        let past : x.span ≤ v = grind (arith, nat_tests, e) in
+        held_behind x.map v (omega (arith, past, span)) ∙ ap (λ (n : ℕ). is_used x.map (map_slot n v)) span
+        ∙ used (nat_lt (map_slot x.span v) stored_count) (is_some (slot_at x.map (map_slot x.span v))) (not (is_rewritten x (map_slot x.span v))) (map_slot x.span v == 0) has
 
 -- ---- where no slot but the active one is used
 

@@ -1,7 +1,8 @@
 -- A volume once it was written: what it has now, that it stands in the image, and that it stays there.
 use Rattle.std.proofs.Common.{◌≡◌, ◌≢◌, ℕ, ◌<◌, ◌≤◌, length, Bool, true, false, not, ◌&&◌, ◌||◌, List, refl, sym, ap, subst, ◌∙◌, arith, ⊎_elim, inl, inr, ◌⊎◌}
-use Rattle.std.specs.Prelude.{Option, IfSome}
-use Rattle.std.proofs.lemmas.Bool.{cases_Bool, cases_eq, cases_lt, or_cases, or_left, or_right, true≢false}
+use Rattle.std.specs.Prelude.{Option, None, IfSome}
+use Rattle.std.proofs.lemmas.List.{get_or_past}
+use Rattle.std.proofs.lemmas.Bool.{cases_eq, cases_lt, or_cases, or_left, or_right, true≢false}
 use Rattle.fv_disk.specs.Shown.{Image}
 use Rattle.fv_bits.specs.Members.{is_member}
 use Rattle.fv_codec.specs.Blocks.{label_at}
@@ -10,66 +11,69 @@ use Rattle.fv_image.specs.Containers.{height_of}
 use Rattle.fv_image.specs.Views.{entry_count}
 use Rattle.fv_image.specs.Reclaimed.{IsAllocatable}
 use Rattle.fv_container.specs.declared.entry.Entry.{Entry}
+use Rattle.fv_container.specs.Leading.{place_at, place_in}
 use Rattle.fv_container.specs.Mapped.{Mapped, entry_under}
 use Rattle.fv_container.specs.Spelled.{is_at, names}
 use Rattle.fv_aggmap.specs.Space.{Space, IsFree, blocks_of}
 use Rattle.fv_volume.specs.declared.state.VolumeState.{VolumeState}
-use Rattle.fv_volume.specs.Writing.{HasOwnBlocks, IsTaken, IsWritten, leads_away}
-use Rattle.fv_volume.specs.Stored.{IsStored, is_map_written, is_of, leads, place_at, place_in, stays}
-use Rattle.fv_volume.proofs.Drawing.{LeadsAt, at_itself, at_means, leads_at, leads_where, not_so, or_neither}
-use Rattle.fv_volume.proofs.Renewing.{away_place, away_where}
+use Rattle.fv_volume.specs.Writing.{HasOwnBlocks, IsTaken, IsWritten, has_maps_at}
+use Rattle.fv_volume.specs.Stored.{IsStored, is_map_written, is_of, leads}
+use Rattle.fv_volume.proofs.Drawing.{LeadsAt, StandsAt, at_itself, at_means, leads_at, leads_where, maps_where, not_so, or_neither}
 use Rattle.fv_volume.proofs.Spelling.{flushed_still}
-use Rattle.fv_volume.proofs.StayingMaps.{stays_within, written_within}
+use Rattle.fv_volume.proofs.StayingMaps.{written_within}
 
--- which entry of a written volume leads to a block: one that stayed, or one of a map that was written
+-- an entry of a written volume: one that isn't written, as it was, or one of a map that is written
 data Led (x : VolumeState) (old new : Mapped) (v : ℕ) : Type 0 where
-  stayed : stays x v ≡ true → place_at new v ≡ place_at old v → Led x old new v
+  stayed : is_map_written x v ≡ false → place_at new v ≡ place_at old v → Led x old new v
   mapped : is_map_written x v ≡ true → Led x old new v
 
 module _ (x : VolumeState) (old : Mapped) (before : Image) (space : Space) (label : ℕ) (new : Mapped) (after : Image) (left : Space) (is : IsWritten x old before space label new after left) (own : HasOwnBlocks x old space) (some_old : (v : ℕ) → IfSome (entry_under old v) (λ e. 1 ≤ e.pvbn)) where
-  led : (v : ℕ) → place_at new v ≢ 0 → Led x old new v
-  led v some = so (stays x v) refl
+  led : (v : ℕ) → Led x old new v
+  led v = so (is_map_written x v) refl
     where
-      so : (t : Bool) → stays x v ≡ t → Led x old new v
-      so true e = stayed e (ap place_in (is.kept v e))
-      so false e = ⊎_elim
-          (λ (written : is_map_written x v ≡ true). mapped written)
-          (λ (none : is_map_written x v ≡ false). absurd (some (ap place_in (is.holes v e none))))
-          (cases_Bool (is_map_written x v))
+      so : (t : Bool) → is_map_written x v ≡ t → Led x old new v
+      so true e = mapped e
+      so false e = stayed e (ap place_in (is.kept v e))
 
-  -- a block that stays isn't free once the others were given back
-  pub stay_taken : (v : ℕ) → stays x v ≡ true → place_at old v ≢ 0 → IsTaken is.given (place_at old v)
+  -- an entry that isn't written and leads to a block is one of the container
+  within_old : (v : ℕ) → is_map_written x v ≡ false → place_at old v ≢ 0 → v < entry_count x.span
+  within_old v on some = ⊎_elim
+      (λ (low : v < entry_count x.span). low)
+      (λ (past : entry_count x.span ≤ v). absurd (some (ap place_in (sym (is.kept v on) ∙ get_or_past new.entries v None (omega (arith, past, is.long))))))
+      (cases_lt v (entry_count x.span))
+
+  -- the block of one that isn't written isn't free once the old blocks of maps were given back
+  pub stay_taken : (v : ℕ) → is_map_written x v ≡ false → place_at old v ≢ 0 → IsTaken is.given (place_at old v)
   stay_taken v on some free =
-      let low = stays_within x v on in
+      let low = within_old v on some in
       let led : leads old (entry_count x.span) (place_at old v) ≡ true = leads_at old (entry_count x.span) v (place_at old v) low refl some in
       let held : is_member space.next (place_at old v) ≡ true = own.held (place_at old v) (or_right (is_at (place_at old v) x.label) _ (or_right (names old.tree (place_at old v)) _ led)) in
       let none = or_neither (is_member is.given.committed (place_at old v)) (is_member is.given.next (place_at old v)) free.free in
-      let gone : leads_away x old (entry_count x.span) (place_at old v) ≡ true = by (is_member space.next (place_at old v)) (leads_away x old (entry_count x.span) (place_at old v)) held (sym (is.gave.held (place_at old v)) ∙ none.1) in
-      let w = away_where x old (entry_count x.span) (place_at old v) gone in
-      two w low
+      let gone : has_maps_at x old (entry_count x.span) (place_at old v) ≡ true = by (is_member space.next (place_at old v)) (has_maps_at x old (entry_count x.span) (place_at old v)) held (sym (is.gave.held (place_at old v)) ∙ none.1) in
+      two (maps_where x old (entry_count x.span) (place_at old v) gone) low
     where
       by : (m a : Bool) → m ≡ true → (m && not a) ≡ false → a ≡ true
       by true true e f = refl
       by true false e f = sym f
       by false a e f = absurd (true≢false (sym e))
 
-      two : ((w : ℕ) × (w < entry_count x.span) × (stays x w ≡ false) × (place_at old w ≡ place_at old v)) → v < entry_count x.span → ⊥
+      two : StandsAt x old (entry_count x.span) (place_at old v) → v < entry_count x.span → ⊥
       two w low = ⊎_elim
-          (λ (same : v ≡ w.0). true≢false (sym on ∙ ap (stays x) same ∙ w.2))
-          (λ (other : v ≢ w.0). ⊎_elim
-          (λ (less : v < w.0). own.entries v w.0 less w.1 some (sym w.3))
-          (λ (more : w.0 ≤ v). own.entries w.0 v (omega (arith, more, other)) low (λ none. some (sym w.3 ∙ none)) w.3)
-          (cases_lt v w.0))
-          (cases_eq v w.0)
+          (λ (same : v ≡ w.vvbn). true≢false (sym w.on ∙ ap (is_map_written x) (sym same) ∙ on))
+          (λ (other : v ≢ w.vvbn). ⊎_elim
+          (λ (less : v < w.vvbn). own.entries v w.vvbn less w.within some (sym w.place))
+          (λ (more : w.vvbn ≤ v). own.entries w.vvbn v (omega (arith, more, other)) low (λ none. some (sym w.place ∙ none)) w.place)
+          (cases_lt v w.vvbn))
+          (cases_eq v w.vvbn)
 
   -- no two lead to one
   differ : (v w : ℕ) → v < w → w < entry_count x.span → place_at new v ≢ 0 → place_at new v ≢ place_at new w
-  differ v w lt within some same = elim (led v some) [
-    | stayed on at ↦ elim (led w (λ none. some (same ∙ none))) [
+  differ v w lt within some same = elim (led v) [
+    | stayed on at ↦ elim (led w) [
       | stayed too here ↦ own.entries v w lt within (λ none. some (at ∙ none)) (sym at ∙ same ∙ here)
       | mapped here ↦ stay_taken v on (λ none. some (at ∙ none)) (subst (λ (b : ℕ). IsFree is.given b) (sym same ∙ at) (is.fresh_maps w here))
     ]
-    | mapped at ↦ elim (led w (λ none. some (same ∙ none))) [
+    | mapped at ↦ elim (led w) [
       | stayed too here ↦ stay_taken w too (λ none. some (same ∙ here ∙ none)) (subst (λ (b : ℕ). IsFree is.given b) (same ∙ here) (is.fresh_maps v at))
       | mapped here ↦ is.once v w lt at here same
     ]
@@ -79,7 +83,7 @@ module _ (x : VolumeState) (old : Mapped) (before : Image) (space : Space) (labe
   not_led : (b : ℕ) → IsFree is.given b → ((v : ℕ) → is_map_written x v ≡ true → place_at new v ≢ b) → leads new (entry_count x.span) b ≡ false
   not_led b free other = not_so (leads new (entry_count x.span) b) (λ is_led.
       let at = leads_where new (entry_count x.span) b is_led in
-      let some : place_at new at.vvbn ≢ 0 = λ none. at.some (sym at.place ∙ none) in elim (led at.vvbn some) [
+      let some : place_at new at.vvbn ≢ 0 = λ none. at.some (sym at.place ∙ none) in elim (led at.vvbn) [
         | stayed on same ↦ stay_taken at.vvbn on (λ none. some (same ∙ none)) (subst (λ (c : ℕ). IsFree is.given c) (sym at.place ∙ same) free)
         | mapped here ↦ other at.vvbn here at.place
       ])
@@ -87,7 +91,7 @@ module _ (x : VolumeState) (old : Mapped) (before : Image) (space : Space) (labe
   -- and neither is an old node
   node_not_led : (b : ℕ) → names old.tree b ≡ true → leads new (entry_count x.span) b ≡ false
   node_not_led b node = not_so (leads new (entry_count x.span) b) (λ is_led.
-      let at = leads_where new (entry_count x.span) b is_led in elim (led at.vvbn (λ none. at.some (sym at.place ∙ none))) [
+      let at = leads_where new (entry_count x.span) b is_led in elim (led at.vvbn) [
         | stayed on same ↦ true≢false (sym (leads_at old (entry_count x.span) at.vvbn b at.within (sym same ∙ at.place) at.some) ∙ own.nodes b node)
         | mapped here ↦ old_taken (subst (λ (c : ℕ). IsFree is.given c) at.place (is.fresh_maps at.vvbn here))
       ])
@@ -97,14 +101,11 @@ module _ (x : VolumeState) (old : Mapped) (before : Image) (space : Space) (labe
 
   -- each entry leads to a block
   kept_some : (v : ℕ) → IfSome (entry_under new v) (λ e. 1 ≤ e.pvbn)
-  kept_some v = so (stays x v) refl
+  kept_some v = so (is_map_written x v) refl
     where
-      so : (t : Bool) → stays x v ≡ t → IfSome (entry_under new v) (λ e. 1 ≤ e.pvbn)
-      so true e = subst (λ (o : Option Entry). IfSome o (λ e. 1 ≤ e.pvbn)) (sym (is.kept v e)) (some_old v)
-      so false e = ⊎_elim
-          (λ (written : is_map_written x v ≡ true). subst (λ (o : Option Entry). IfSome o (λ e. 1 ≤ e.pvbn)) (sym (is.maps v written)) (is.placed v written))
-          (λ (none : is_map_written x v ≡ false). subst (λ (o : Option Entry). IfSome o (λ e. 1 ≤ e.pvbn)) (sym (is.holes v e none)) tt)
-          (cases_Bool (is_map_written x v))
+      so : (t : Bool) → is_map_written x v ≡ t → IfSome (entry_under new v) (λ e. 1 ≤ e.pvbn)
+      so false e = subst (λ (o : Option Entry). IfSome o (λ e. 1 ≤ e.pvbn)) (sym (is.kept v e)) (some_old v)
+      so true e = subst (λ (o : Option Entry). IfSome o (λ e. 1 ≤ e.pvbn)) (sym (is.maps v e)) (is.placed v e)
 
   -- a node of the new tree is one of the old, or was free
   node_cases : (b : ℕ) → names new.tree b ≡ true → (names old.tree b ≡ true) ⊎ (IsFree is.given b)
@@ -127,7 +128,6 @@ module _ (x : VolumeState) (old : Mapped) (before : Image) (space : Space) (labe
     kept = is.kept;
     maps = is.maps;
     placed = is.placed;
-    holes = is.holes;
     bits = is.bits;
     alone = is.alone;
     apart = record {
@@ -151,7 +151,7 @@ module _ (x : VolumeState) (old : Mapped) (before : Image) (space : Space) (labe
       (or_cases (is_at b label) (names new.tree b || leads new (entry_count x.span) b) of)
     where
       by : LeadsAt new (entry_count x.span) b → (is_of x x.label old b ≡ true) ⊎ (IsFree is.given b)
-      by at = elim (led at.vvbn (λ none. at.some (sym at.place ∙ none))) [
+      by at = elim (led at.vvbn) [
         | stayed on same ↦ inl (or_right (is_at b x.label) _ (or_right (names old.tree b) _ (leads_at old (entry_count x.span) at.vvbn b at.within (sym same ∙ at.place) at.some)))
         | mapped here ↦ inr (subst (λ (c : ℕ). IsFree is.given c) at.place (is.fresh_maps at.vvbn here))
       ]
@@ -162,15 +162,13 @@ module _ (x : VolumeState) (old : Mapped) (before : Image) (space : Space) (labe
       (λ (was : is_of x x.label old b ≡ true). inl was)
       (λ (free : IsFree is.given b).
       let none = (or_neither (is_member is.given.committed b) (is_member is.given.next b) free.free).1 in
-      by (is_member space.next b) (leads_away x old (entry_count x.span) b) refl refl (sym (is.gave.held b) ∙ none))
+      by (is_member space.next b) (has_maps_at x old (entry_count x.span) b) refl refl (sym (is.gave.held b) ∙ none))
       (from_before b of)
     where
-      by : (m a : Bool) → is_member space.next b ≡ m → leads_away x old (entry_count x.span) b ≡ a → (m && not a) ≡ false → (is_of x x.label old b ≡ true) ⊎ (is_member space.next b ≡ false)
-      by true true e f g = let w = away_where x old (entry_count x.span) b f in
-          inl (or_right (is_at b x.label) _ (or_right (names old.tree b) _ (leads_at old (entry_count x.span) w.0 b w.1 w.3 (away_some f))))
-        where
-          away_some : leads_away x old (entry_count x.span) b ≡ true → b ≢ 0
-          away_some f = away_place x old (entry_count x.span) b f
+      by : (m a : Bool) → is_member space.next b ≡ m → has_maps_at x old (entry_count x.span) b ≡ a → (m && not a) ≡ false → (is_of x x.label old b ≡ true) ⊎ (is_member space.next b ≡ false)
+      by true true e f g =
+          let w = maps_where x old (entry_count x.span) b f in
+          inl (or_right (is_at b x.label) _ (or_right (names old.tree b) _ (leads_at old (entry_count x.span) w.vvbn b w.within w.place w.some)))
       by true false e f g = absurd (true≢false g)
       by false a e f g = inr e
 
@@ -196,7 +194,6 @@ stored_still x old label new i j is same = record {
   kept = is.kept;
   maps = is.maps;
   placed = is.placed;
-  holes = is.holes;
   bits = λ v written.
       let place = is.placed v written in
       let led : leads new (entry_count x.span) (place_at new v) ≡ true = leads_at new (entry_count x.span) v (place_at new v) (written_within x v written) refl (λ none. omega (arith, place, none)) in

@@ -1,9 +1,9 @@
 -- A written volume, as its image has it: it is loaded, and its slot is as the rules on blocks and maps ask.
 use Rattle.std.proofs.Common.{◌≡◌, ◌≢◌, ℕ, ◌+◌, ◌*◌, ◌/◌, ◌%◌, ◌<◌, ◌≤◌, length, Bool, true, false, not, ◌&&◌, List, refl, sym, ap, subst, ◌∙◌, arith, ⊎_elim, inr, Ok}
-use Rattle.std.specs.Prelude.{Option, Some, None, IfSome, get_or, nat_lt, take, ◌==◌, ◌||◌, if◌then◌else◌}
+use Rattle.std.specs.Prelude.{Option, Some, None, IfSome, get_or, nat_lt, ◌==◌, ◌||◌}
 use Rattle.std.specs.List.{list_all, range_with_len}
 use Rattle.std.specs.Option.{is_some, option_map}
-use Rattle.std.proofs.lemmas.Bool.{and_from, and_left, and_right, both_ways, cases_eq, cases_lt}
+use Rattle.std.proofs.lemmas.Bool.{and_from, both_ways, cases_eq, cases_lt}
 use Rattle.std.proofs.lemmas.Bool.Decides.{nat_tests}
 use Rattle.fv_disk.specs.Shown.{Image}
 use Rattle.fv_bits.specs.Bits.{bit_of_area, bit_of_bytes}
@@ -31,14 +31,13 @@ use Rattle.fv_root.specs.Finding.{root_found}
 use Rattle.fv_container.specs.declared.entry.Entry.{Entry}
 use Rattle.fv_container.specs.Mapped.{IsMapped, Mapped, entry_under}
 use Rattle.fv_container.specs.Spelled.{Spelled, names, pair_of}
-use Rattle.fv_volmap.specs.Slots.{Slot, has, slot_at, stored_count, taken_in}
+use Rattle.fv_volmap.specs.Slots.{Slot, has, slot_at, stored_count}
 use Rattle.fv_volume.specs.declared.state.VolumeState.{VolumeState}
 use Rattle.fv_volume.specs.Files.{IsLabelled}
 use Rattle.fv_volume.specs.Housed.{as_written}
 use Rattle.fv_volume.specs.Labels.{label_said}
-use Rattle.fv_delay.specs.Delay.{has_delayed, is_delayed, is_held, is_used, is_used_slot}
-use Rattle.fv_delay.proofs.AnyDelayed.{none_delayed}
-use Rattle.fv_delay.proofs.Held.{held_behind, held_below}
+use Rattle.fv_delay.specs.Delay.{has_delayed, is_held, is_used, is_used_slot}
+use Rattle.fv_delay.proofs.Held.{held_behind}
 use Rattle.fv_volume.specs.Loading.{HaveBits, IsContainerOf, IsLoaded}
 use Rattle.fv_volume.specs.States.{head_in}
 use Rattle.fv_volume.specs.UnderRoot.{StandMaps, StandsUnder}
@@ -48,7 +47,7 @@ use Rattle.fv_volume.proofs.Labels.{label_head}
 use Rattle.fv_volume.proofs.KeptSlots.{found_snap}
 use Rattle.fv_volume.proofs.SlotReads.{has_or_empty}
 use Rattle.fv_volume.proofs.SlotRoots.{root_slot, slot_stored}
-use Rattle.fv_volume.proofs.StayingMaps.{index_there, slot_there, slot_within, stored_stays, written_at, written_low, written_parts}
+use Rattle.fv_volume.proofs.StayingMaps.{index_there, slot_there, slot_within, stays_unwritten, stored_stays, written_at, written_parts}
 use Rattle.fv_image.specs.Volumes.{snap_at}
 
 -- past the blocks of the map of a slot no bit of it is set
@@ -88,24 +87,14 @@ written_used s x state k low on = ⊎_elim
     ∙ state.slots.each k other (λ e. absurd (omega (arith, low, e))) ∙ found_snap (head_in x).snapshots k ∙ state.waits k waits)
     (cases_eq k 0)
 
--- the map of a slot that isn't used neither stays nor is written
-free_map : (s : ℕ) (x : VolumeState) → IsLabelled s x → (v : ℕ) → (nat_lt (map_slot x.span v) stored_count && is_used_slot x.map (map_slot x.span v)) ≡ false
-    → (has_stored_map x (map_slot x.span v) ≡ false) × (is_map_written x v ≡ false)
-free_map s x state v none = (unstored (nat_lt (map_slot x.span v) stored_count) (map_slot x.span v == 0) (is_some (slot_at x.map (map_slot x.span v))) (not (is_rewritten x (map_slot x.span v))) none, so (is_map_written x v) refl)
-  where
-    unstored : (a b c d : Bool) → (a && (b || c)) ≡ false → (a && (c && d)) ≡ false
-    unstored false b c d e = refl
-    unstored true b false d e = refl
-    unstored true true true d e = absurd cc
-    unstored true false true d e = absurd cc
-
-    so : (t : Bool) → is_map_written x v ≡ t → t ≡ false
-    so false e = refl
-    so true e =
-        let parts = written_parts x v e in
-        let low = slot_within x.span v parts.0 parts.1.0 in
-        let test : nat_lt (map_slot x.span v) stored_count ≡ true = grind (arith, nat_tests, low) in
-        absurd (both_ways _ none (and_from (nat_lt (map_slot x.span v) stored_count) _ test (written_used s x state (map_slot x.span v) low parts.1.1)))
+-- so its blocks are held
+pub written_held : (s : ℕ) (x : VolumeState) → IsLabelled s x → (v : ℕ) → is_map_written x v ≡ true → is_held x.map v ≡ true
+written_held s x state v is =
+    let parts = written_parts x v is in
+    let low = slot_within x.span v parts.0 parts.1.0 in
+    let test : nat_lt (map_slot x.span v) stored_count ≡ true = grind (arith, nat_tests, low) in
+    held_behind x.map v (subst (λ (n : ℕ). n ≤ v) (sym state.map) parts.0) ∙ ap (λ (n : ℕ). is_used x.map (map_slot n v)) state.map
+    ∙ and_from (nat_lt (map_slot x.span v) stored_count) _ test (written_used s x state (map_slot x.span v) low parts.1.1)
 
 module _ (found : Found) (i : Image) (s : ℕ) (x : VolumeState) (old : Mapped) (label : ℕ) (new : Mapped) (is : IsStored x old label new i) (at : label_place (root_found found) s ≡ label) (state : IsLabelled s x) (valid : IsMapped new)
     (first : Image) (was : Found) (stand : StandMaps first was x old) (same : AgreeOnHeld (root_found was) first i) where
@@ -169,7 +158,7 @@ module _ (found : Found) (i : Image) (s : ℕ) (x : VolumeState) (old : Mapped) 
       let one = stand k j on within in
       record {
         place = one.place;
-        there = is.kept (map_vvbn x.span k j) (stored_stays x k j on within) ∙ one.there;
+        there = is.kept (map_vvbn x.span k j) (stays_unwritten x (map_vvbn x.span k j) (stored_stays x k j on within)) ∙ one.there;
         bits = λ b few. ap (λ (block : List ℕ). bit_of_bytes block b) (same one.place one.held) ∙ one.bits b few;
       }
 
@@ -215,39 +204,15 @@ module _ (found : Found) (i : Image) (s : ℕ) (x : VolumeState) (old : Mapped) 
       so true e = used e ∙ sym (ap (λ (b : Bool). b && volume_bit (view_at u i) s x.span k v) e)
       so false e = free_has (k == 0) (slot_at x.map k) v e ∙ sym (ap (λ (b : Bool). b && volume_bit (view_at u i) s x.span k v) e)
 
-  pub no_delay : has_delayed x.map new ≡ false
-  no_delay = none_delayed x.map new (λ v within. so v (is_held x.map v) refl)
-    where
-      hole : (v : ℕ) → entry_under new v ≡ None → is_delayed x.map new v ≡ false
-      hole v none = and_left (is_some (entry_under new v)) _ (ap (λ (o : Option Entry). is_some o) none)
-
-      behind : (v : ℕ) → x.span ≤ v → is_held x.map v ≡ is_used x.map (map_slot x.span v)
-      behind v past = held_behind x.map v (subst (λ (n : ℕ). n ≤ v) (sym state.map) past) ∙ ap (λ (n : ℕ). is_used x.map (map_slot n v)) state.map
-
-      gone : (v : ℕ) → is_held x.map v ≡ false → entry_under new v ≡ None
-      gone v off = ⊎_elim
-          (λ (low : v < x.span).
-          let test : nat_lt v x.span ≡ true = grind (arith, nat_tests, low) in
-          is.holes v (ap (λ (b : Bool). if b then taken_in (take stored_count x.map.slots) v else has_stored_map x (map_slot x.span v)) test ∙ sym (held_below x.map v (subst (λ (n : ℕ). v < n) (sym state.map) low)) ∙ off) (written_low x v low))
-          (λ (past : x.span ≤ v).
-          let test : nat_lt v x.span ≡ false = grind (arith, nat_tests, past) in
-          let none = free_map s x state v (sym (behind v past) ∙ off) in
-          is.holes v (ap (λ (b : Bool). if b then taken_in (take stored_count x.map.slots) v else has_stored_map x (map_slot x.span v)) test ∙ none.0) none.1)
-          (cases_lt v x.span)
-
-      so : (v : ℕ) (t : Bool) → is_held x.map v ≡ t → is_delayed x.map new v ≡ false
-      so v true e = and_right (is_some (entry_under new v)) _ (ap not e)
-      so v false e = hole v (gone v e)
-
-  -- The volume is as the root with its new label has it.
-  pub stored_loaded : HaveNonePast x → IsLoaded i found s (Some (as_written x label)) (Some new)
+  -- Where no entry is delayed the volume is as the root with its new label has it.
+  pub stored_loaded : HaveNonePast x → has_delayed x.map new ≡ false → IsLoaded i found s (Some (as_written x label)) (Some new)
   unfolding label_said
-  stored_loaded clear = record {
+  stored_loaded clear undelayed = record {
     head = ap Some (sym head_said) ∙ ap (option_map head_of) (sym label_now);
     tree = subst (λ (o : Option Label). IsContainerOf i o (Some new)) (sym label_now) (spelled_here, (long_here, valid));
     label = sym at;
     bits = stored_maps clear;
-    changed = sym no_delay;
+    changed = sym undelayed;
   }
 
   -- ---- its slot
@@ -332,10 +297,10 @@ module _ (found : Found) (i : Image) (s : ℕ) (x : VolumeState) (old : Mapped) 
           so (Some y) e some = let zero_place : y.pvbn ≡ 0 = sym (ap place_in e) ∙ none in omega (arith, some, zero_place)
 
   -- The slot stands under the root.
-  pub stored_stands : HaveNonePast x → ((b : ℕ) → is_of x label new b ≡ true → IsAllocatable u.blocks b) → StandsUnder i found s (Some (as_written x label)) (Some new)
-  stored_stands clear lies =
+  pub stored_stands : HaveNonePast x → has_delayed x.map new ≡ false → ((b : ℕ) → is_of x label new b ≡ true → IsAllocatable u.blocks b) → StandsUnder i found s (Some (as_written x label)) (Some new)
+  stored_stands clear undelayed lies =
       let slot = stored_slot lies in record {
-        loaded = stored_loaded clear;
+        loaded = stored_loaded clear undelayed;
         sound = stored_is_sound u i s said slot;
         once = stored_once u i s said slot stored_apart;
         holds = stored_holds;

@@ -1,6 +1,6 @@
 -- What a change of a volume's table by a call over what is lent leaves: the table was taken, changed and put back.
-use Rattle.std.proofs.Common.{◌≡◌, ℕ, Some, IfOk, OnErr, OnOk, true, refl, sym, subst, arith}
-use Rattle.std.specs.Prelude.{Result}
+use Rattle.std.proofs.Common.{◌≡◌, ◌+◌, ℕ, Some, IfOk, OnErr, OnOk, true, refl, sym, subst, arith}
+use Rattle.std.specs.Prelude.{Result, IfSome}
 use Rattle.fv_disk.specs.Shown.{Shown as Disk}
 use Rattle.fv_disk.specs.declared.fault.BlockFault.{BlockFault}
 use Rattle.fv_laws.specs.WellFormed.{IsWellTable}
@@ -8,7 +8,10 @@ use Rattle.fv_tables.specs.Told.{Standing, table_told}
 use Rattle.fv_inode.specs.Files.{rooted}
 use Rattle.fv_inode.specs.declared.info.Info.{Info}
 use Rattle.fv_files.specs.declared.files.Files.{Files}
-use Rattle.fv_files.specs.Tables.{table_in, AreStanding, IsInfoOf, IsLed, IsStored}
+use Rattle.fv_files.specs.Apart.{Trees}
+use Rattle.fv_files.specs.Tables.{loaded_trees, table_in, AreStanding, IsInfoOf, IsLed, IsStored}
+use Rattle.fv_tree.specs.Standing.{under}
+use Rattle.fv_files.specs.Altering.{AltersTrees}
 use Rattle.fv_files.specs.Pending.{pending_in}
 use Rattle.fv_volmap.specs.Slots.{Volume as Maps}
 use Rattle.fv_volume.specs.declared.pool.Pool.{Pool}
@@ -20,6 +23,7 @@ use Rattle.fv_volume.specs.OneVolume.{home_in, shows, standing_for, IsStanding}
 use Rattle.fv_volume.specs.Placing.{pending_of, IsLedTo, IsStoredWell}
 use Rattle.fv_volume.proofs.CallCauses.{cause_for}
 use Rattle.fv_volume.proofs.Calling.{ifok_with, onok_with}
+use Rattle.fv_volume.proofs.TakenTrees.{taken_laid, taken_trees}
 
 module _ (d : Disk) (p : Pool) (x : VolumeState) (f : Files) (info : Info) (table : table_in (shows d p x) f ≡ standing_for d p x) (there : IsStanding d p x → IsInfoOf (standing_for d p x).inode info) where
   -- what is told of the table that was taken
@@ -42,15 +46,17 @@ module _ (d : Disk) (p : Pool) (x : VolumeState) (f : Files) (info : Info) (tabl
     taken_counts says made is = subst (λ (s : Standing). IfOk result (says s)) table (ifok_with _ result (sound is) (made (is_given is)))
 
     -- the volume with the table and the map that the call left
-    pub taken_alters : (led : IsLedTo d p x → IsLed (shows d p x) f) (well : IsStoredWell d p x → IsStored (shows d p x) f) (taken : pending_in f ≡ pending_of x.files) (e : Disk) (q : Pool) (map : Maps) (g : Files)
-        → LeavesTable IsGiven (shows d p x) (sees p map d (home_in x)) f g result → GivesUp x.map map → Reads d p e q → (IsGiven → IsTold e q map x.slot)
+    pub taken_alters : (held : IfSome x.files (λ g. f ≡ g)) (led : IsLedTo d p x → IsLed (shows d p x) f) (well : IsStoredWell d p x → IsStored (shows d p x) f) (taken : pending_in f ≡ pending_of x.files) (e : Disk) (q : Pool) (map : Maps) (g : Files)
+        → LeavesTable IsGiven (shows d p x) (sees p map d (home_in x)) f g (x.now + 1) result → GivesUp x.map map → Reads d p e q → (IsGiven → IsTold e q map x.slot)
         → AltersTable d p e q x (record x { map = map; files = Some g; changed = true }) result
-    taken_alters led well taken e q map g leaves maps reads told = record {
+    taken_alters held led well taken e q map g leaves maps reads told = record {
       same = refl;
       maps = maps;
       reads = reads;
       told = λ is. told (is_given is);
       trees = λ is. leaves.stands (is_given is) (sound is);
+      alters = λ is. subst (λ (t : Trees). AltersTrees (x.now + 1) t (loaded_trees (under (sees p map d (home_in x))) g)) (taken_trees (under (shows d p x)) x.active x.files f table held) (leaves.alters (is_given is) (sound is));
+      laid = λ is. leaves.laid (is_given is) (sound is) (taken_laid (under (shows d p x)) x.active x.files f table held is.laid);
       failed = λ is. subst (λ (s : Standing). OnErr result (table_told (table_in (sees p map d (home_in x)) g) ≡ table_told s)) table (leaves.failed (is_given is));
       led = λ is was. leaves.led (is_given is) (sound is) (led was);
       well = λ is was. leaves.well (is_given is) (sound is) (well was);

@@ -4,6 +4,8 @@ use Rattle.fv_disk.specs.Shown.{Shown}
 use Rattle.fv_model.specs.Volumes.{Volume}
 use Rattle.fv_volmap.specs.Slots.{IsVolume, empty_volume, stored_count}
 use Rattle.fv_aggmap.specs.Space.{free_blocks}
+use Rattle.fv_volume.specs.declared.fault.VolumeFault.{VolumeFault}
+use Rattle.fv_volume.specs.declared.fault.VolumeFault.TheVariants.{Refused, DiskFault, Damaged, Memory}
 use Rattle.fv_volume.specs.declared.pool.Pool.{Pool}
 use Rattle.fv_volume.specs.declared.state.VolumeState.{VolumeState}
 use Rattle.fv_volume.specs.BlocksOver.{free_numbers}
@@ -81,3 +83,17 @@ pub record IsPlacedAs (disk : Shown) (pool : Pool) (x : VolumeState) (after : Sh
   pub rest : ℕ
   pub goes : Goes (lent_for pool x.map disk 0 (home_in x) room) left y.map after rest
   pub spent : IsStanding disk pool x → pending_of x.files < free_numbers x.map → pending_of x.files < free_blocks pool.map → HasSpent pool x left y
+
+-- ---- why it isn't done
+
+-- With a number and a block more than are pending, only memory can be lacking. Nothing fails without a volume that has files in memory.
+abbrev pub MayFail : Shown → Pool → Option VolumeState → VolumeFault → Type 0
+MayFail disk pool None e = ⊥
+MayFail disk pool (Some x) e = (is_some x.files ≡ true) × (IsStanding disk pool x → pending_of x.files < free_numbers x.map → pending_of x.files < free_blocks pool.map → e ≡ Memory)
+
+-- Nothing is refused or read.
+abbrev pub IsPlaceFault : VolumeFault → Type 0
+IsPlaceFault (Refused r) = ⊥
+IsPlaceFault DiskFault = ⊥
+IsPlaceFault (Damaged at want found) = Unit {0}
+IsPlaceFault Memory = Unit {0}

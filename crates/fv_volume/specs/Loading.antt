@@ -1,11 +1,10 @@
 -- Volumes as they are read from their labels.
-use Rattle.std.specs.Prelude.{◌≡◌, ◌≢◌, ◌<◌, ◌≤◌, ◌-◌, ◌⊎◌, ℕ, Bool, true, false, not, ◌&&◌, ◌||◌, ◌==◌, if◌then◌else◌, List, [], length, find, Option, Some, None, IfSome, Ok, Err, replicate}
+use Rattle.std.specs.Prelude.{◌≡◌, ◌≢◌, ◌<◌, ◌≤◌, ◌-◌, ◌⊎◌, ℕ, Bool, true, false, not, ◌&&◌, ◌||◌, ◌==◌, if◌then◌else◌, List, [], length, Option, Some, None, IfSome, Ok, Err, replicate}
 use Rattle.std.specs.List.{list_any}
 use Rattle.std.specs.Option.{option_map}
 use Rattle.fv_disk.specs.Shown.{Image}
 use Rattle.fv_bits.specs.Members.{IsFirstPast}
 use Rattle.fv_codec.specs.declared.label.Label.{Label}
-use Rattle.fv_codec.specs.declared.label.SnapRecord.{SnapRecord}
 use Rattle.fv_codec.specs.Blocks.{label_at}
 use Rattle.fv_image.specs.Containers.{IsNodeFault}
 use Rattle.fv_image.specs.Views.{View, entry_count, head_of, map_vvbn, used_slots, volume_bit}
@@ -33,20 +32,13 @@ use Rattle.fv_volume.specs.Files.{IsLabelled}
 
 -- ---- forms that can't be loaded yet
 
-abbrev pub is_used : SnapRecord → Bool
-is_used r = not (r.name_length == 0)
-
--- the first used record of a snapshot, with the value of a free one and its own
-abbrev pub first_used : List SnapRecord → Option (ℕ × ℕ)
-first_used records = option_map (λ r. (0, r.name_length)) (find is_used records)
-
--- The first field of a label that is set by a form which can't be loaded yet: a base, an unknown place, a snapshot. It comes
--- with the value that it has without the form, and the one that it has.
+-- The first field of a label that is set by a form which can't be loaded yet: a base, an unknown place. It comes with the
+-- value that it has without the form, and the one that it has.
 unfoldable pub form_in : Label → Option (ℕ × ℕ)
 form_in l =
     if not (l.parent == 0) then Some (0, l.parent)
     else if l.known == 0 then Some (1, 0)
-    else first_used l.snapshots
+    else None
 
 -- ---- faults
 

@@ -1,5 +1,5 @@
 -- What one volume is seen as, in its pool, over what the disk reads and with the trees that are in memory.
-use Rattle.std.specs.Prelude.{◌≡◌, ◌≢◌, ◌≤◌, ◌+◌, ℕ, false, cond, List, map, Option, Some, None, All, replicate}
+use Rattle.std.specs.Prelude.{◌≡◌, ◌≢◌, ◌≤◌, ◌+◌, ℕ, true, false, cond, List, map, Option, Some, None, All, replicate}
 use Rattle.std.specs.Option.{option_map, option_and_then}
 use Rattle.std.specs.FinMap as fin
 use Rattle.fv_disk.specs.Shown.{Shown as Disk}
@@ -16,10 +16,13 @@ use Rattle.fv_tables.specs.Told.{Standing, standing_at, table_told}
 use Rattle.fv_tree.specs.Sources.{Shown, Use}
 use Rattle.fv_tree.specs.Standing.{under}
 use Rattle.fv_files.specs.declared.files.Files.{Files}
+use Rattle.fv_files.specs.Altering.{AreLaid}
+use Rattle.fv_files.specs.Apart.{Trees as LoadedTrees}
 use Rattle.fv_files.specs.Numbering.{AreNumbersIf}
 use Rattle.fv_files.specs.Tables.{changed, AreReached, AreSound, IsStoredUnder}
 use Rattle.fv_files.specs.Trees.{standing_in}
 use Rattle.fv_charge.specs.Ledgers.{IsLedgerOf, committed}
+use Rattle.fv_image.specs.ReachRules.{are_distinct}
 use Rattle.fv_volmap.specs.Slots.{Slot, has, slot_at, stored_count}
 use Rattle.fv_volume.specs.declared.blocks.Home.{Home}
 use Rattle.fv_volume.specs.declared.pool.Pool.{Pool}
@@ -29,6 +32,7 @@ use Rattle.fv_volume.specs.declared.state.VolumeState.{VolumeState}
 use Rattle.fv_volume.specs.BlocksOver.{held_block, held_entry}
 use Rattle.fv_volume.specs.Files.{IsLabelled}
 use Rattle.fv_volume.specs.Lending.{CanLend, IsTold, sees, use_of}
+use Rattle.fv_volume.specs.Sharing.{trees_by, AreShared}
 use Rattle.fv_volume.specs.States.{States, state_at}
 use Rattle.fv_volume.specs.Trees.{Trees}
 
@@ -54,10 +58,19 @@ standing_for disk pool x = standing_by (under (shows disk pool x)) x.active x.fi
 abbrev pub table_for : Disk → Pool → VolumeState → Table
 table_for disk pool x = table_told (standing_for disk pool x)
 
+-- its trees
+abbrev pub trees_for : Disk → Pool → VolumeState → LoadedTrees
+trees_for disk pool x = trees_by (under (shows disk pool x)) x.active x.files
+
 -- each of its trees stands on its blocks
 abbrev pub AreSoundBy : Under → (ℕ → Option Use) → Rooted → Option Files → Type 0
 AreSoundBy blocks used root None = AreReached blocks used root.levels root.root
 AreSoundBy blocks used root (Some files) = AreSound blocks used files
+
+-- where a tree in memory isn't as the record of its file says, its inode block differs from its block, too
+abbrev pub AreLaidBy : Under → Option Files → Type 0
+AreLaidBy blocks None = Unit {0}
+AreLaidBy blocks (Some files) = AreLaid blocks files
 
 -- the trees that volumes have in memory, by slot
 abbrev pub files_in : Option VolumeState → Option Files
@@ -156,15 +169,19 @@ pub record IsReady (disk : Disk) (pool : Pool) (x : VolumeState) : Type 0 where
   pub fresh : x.changed ≡ false → x.fresh ≡ replicate stored_count false
 
 -- Where content is told, the volume stands for one of the machine: its active table is well-formed after the changes that it counts, no file
--- of it has a reserve, the tables of its snapshots lie whole in their slots, its ledger is right, each tree of the active table stands on its
--- blocks, and the numbers of its files in memory are those of that table.
+-- of it has a reserve, the tables of its snapshots lie whole in their slots, under names that differ, and these tables share a block exactly where
+-- it is one place with one stamp. Its ledger is right, each tree of the active table stands on its blocks, those in memory are as their files'
+-- records say or their inode blocks have changed, and the numbers of its files in memory are those of that table.
 pub record IsStanding (disk : Disk) (pool : Pool) (x : VolumeState) : Type 0 where
   pub told : IsTold disk pool x.map x.slot
   pub table : IsWellTable x.now (table_for disk pool x)
   pub reserves : HasNoReserve (table_for disk pool x)
   pub kept : All (IsKeptTable disk pool x) x.snapshots
+  pub names : are_distinct (map (λ q. q.name) x.snapshots) ≡ true
+  pub shared : AreShared (trees_for disk pool x) (blocks_in disk pool x) x.snapshots
   pub ledger : IsLedgerOf (volume_for disk pool x) x.ledger
   pub trees : AreSoundBy (under (shows disk pool x)) (shows disk pool x).used x.active x.files
+  pub laid : AreLaidBy (under (shows disk pool x)) x.files
   pub numbers : AreNumbersIf x.numbers (table_for disk pool x)
 
 -- The volume uses at most its size, and it and the others, which commit so much, commit at most what the aggregate has room for.

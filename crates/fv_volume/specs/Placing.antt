@@ -1,5 +1,5 @@
 -- What the flush of one volume leaves, and why it isn't done.
-use Rattle.std.specs.Prelude.{◌≡◌, ◌≢◌, ◌≤◌, ◌+◌, ℕ, Option, Some, None, Result, IfErr, IfOk, OnOk}
+use Rattle.std.specs.Prelude.{◌≡◌, ◌≢◌, ◌≤◌, ◌+◌, ℕ, true, Option, Some, None, Result, IfErr, IfOk, OnOk}
 use Rattle.fv_disk.specs.Shown.{Shown as Disk}
 use Rattle.fv_disk.specs.declared.fault.BlockFault.{BlockFault}
 use Rattle.fv_disk.specs.declared.fault.BlockFault.TheVariants as block
@@ -18,12 +18,14 @@ use Rattle.fv_files.specs.Tables.{changed, loaded_trees, table_in, AreReached, A
 use Rattle.fv_files.specs.Trees.{standing_in}
 use Rattle.fv_container.specs.declared.entry.Entry.{Entry}
 use Rattle.fv_container.specs.Chains.{Slots, container_at, own_entry, parent_at}
-use Rattle.fv_volmap.specs.Slots.{Volume}
+use Rattle.fv_volmap.specs.Slots.{Volume, has, slot_at}
 use Rattle.fv_volume.specs.declared.fault.VolumeFault.{VolumeFault}
 use Rattle.fv_volume.specs.declared.fault.VolumeFault.TheVariants.{Refused, DiskFault, Damaged, Memory}
 use Rattle.fv_volume.specs.declared.pool.Pool.{Pool}
 use Rattle.fv_volume.specs.declared.state.Rooted.{Rooted as Rooting}
 use Rattle.fv_volume.specs.declared.state.VolumeState.{VolumeState}
+use Rattle.fv_files.specs.Altering.{AreLaid, PlacesTrees}
+use Rattle.fv_volume.specs.BlocksOver.{held_block}
 use Rattle.fv_volume.specs.Files.{IsState}
 use Rattle.fv_volume.specs.Housed.{ReachesAll}
 use Rattle.fv_volume.specs.Lending.{Lent, GoesLent, IsOwn, LacksOne}
@@ -62,13 +64,20 @@ IsStoredWell disk pool x = AreStoredBy (under (shows disk pool x)) x.active x.fi
 
 -- ---- the table
 
--- A table was placed, or a part of it. It is told as before and stands on its blocks in every outcome. Once it was placed whole nothing of it
--- is in memory, and it is the one under the root that is answered.
-pub record PlacesTable (told : Type 0) (before : Shown) (blocks : Under) (uses : ℕ → Option Use) (f g : Files) (result : Result Pointer BlockFault) : Type 0 where
+-- Under a VVBN no slot of a volume's maps but the active one has a block.
+abbrev pub IsUnkept : Disk → Pool → Volume → ℕ → ℕ → Type 0
+IsUnkept disk pool map slot v = (k : ℕ) → k ≢ 0 → has v (slot_at map k) ≡ true → held_block map pool slot disk.reads v ≡ None
+
+-- A table was placed, or a part of it. It is told as before and stands on its blocks in every outcome. A place that differed from its block was
+-- placed under the stamp that it had, and a VVBN that was free, or is as before. Once it was placed whole nothing of it is in memory, and it is the
+-- one under the root that is answered.
+pub record PlacesTable (told : Type 0) (before : Shown) (blocks : Under) (uses : ℕ → Option Use) (free : ℕ → Type 0) (f g : Files) (result : Result Pointer BlockFault) : Type 0 where
   pub placed : told → AreStanding before f → IsPlacedTable (table_in before f) (standing_in blocks (changed g))
   pub stands : told → AreStanding before f → AreSound blocks uses g
   pub led : told → AreStanding before f → IsLed before f → AreLed uses (loaded_trees blocks g)
   pub well : told → AreStanding before f → IsLed before f → IsStored before f → IsStoredOn blocks g
+  pub anew : told → AreStanding before f → AreLaid (under before) f → PlacesTrees free (loaded_trees (under before) f) (loaded_trees blocks g)
+  pub laid : told → AreStanding before f → AreLaid (under before) f → AreLaid blocks g
   pub levels : told → AreStanding before f → g.inode.tree.levels ≡ f.inode.tree.levels
   pub pointer : IfOk result IsPointer
   pub stored : told → IfOk result (λ root. AreStanding before f → standing_in blocks (changed g) ≡ standing_at blocks g.inode.tree.levels root)

@@ -49,8 +49,8 @@ is_map_written x v = nat_le x.span v && (nat_lt v (entry_count x.span) && is_rew
 abbrev pub map_entry : ℕ → Entry
 map_entry place = record { pvbn = place; kind = 8 }
 
--- whether the block under a VVBN stays where the volume is written: of the span one that some map has, and behind it one of a map that
--- isn't written
+-- whether the block under a VVBN is held and stays where the volume is written: of the span one that some map has, and behind it one of a
+-- map that isn't written
 abbrev pub stays : VolumeState → ℕ → Bool
 stays x v = if nat_lt v x.span then taken_in (take stored_count x.map.slots) v else has_stored_map x (map_slot x.span v)
 
@@ -78,8 +78,8 @@ pub record AreSpacedIn (blocks : ℕ) (next : List Bool) (state : ℕ → Option
   pub held : (s b : ℕ) → s < 64 → has_block (state s) (container s) b ≡ true → (is_member next b ≡ true) × IsAllocatable blocks b
   pub set : (b : ℕ) → is_member next b ≡ true → (s : ℕ) × (s < 64) × (has_block (state s) (container s) b ≡ true)
 
--- The volume stands in an image as it was written: its label says it with its tree, the tree spells its container, whose entries are those
--- that stayed and those of the blocks of maps that are written, and each of these has its bits. Its blocks are apart.
+-- The volume stands in an image as it was written: its label says it with its tree, and the tree spells its container. The blocks of the maps
+-- that are written have new entries, each with its bits, and every other entry is as in the container that was written. Its blocks are apart.
 pub record IsStored (x : VolumeState) (old : Mapped) (label : ℕ) (new : Mapped) (i : Image) : Type 0 where
   pub root : ℕ
   pub root_least : 1 ≤ root
@@ -88,10 +88,9 @@ pub record IsStored (x : VolumeState) (old : Mapped) (label : ℕ) (new : Mapped
   pub said : label_at (i label) ≡ Ok (label_said x root (height_of (entry_count x.span)))
   pub tree : IsFlushed i root (height_of (entry_count x.span)) new
   pub long : length new.entries ≡ entry_count x.span
-  pub kept : (v : ℕ) → stays x v ≡ true → entry_under new v ≡ entry_under old v
+  pub kept : (v : ℕ) → is_map_written x v ≡ false → entry_under new v ≡ entry_under old v
   pub maps : (v : ℕ) → is_map_written x v ≡ true → entry_under new v ≡ Some (map_entry (place_at new v))
   pub placed : (v : ℕ) → is_map_written x v ≡ true → 1 ≤ place_at new v
-  pub holes : (v : ℕ) → stays x v ≡ false → is_map_written x v ≡ false → entry_under new v ≡ None
   pub bits : (v : ℕ) → is_map_written x v ≡ true → IsBlockOf (slot_map x (map_slot x.span v)) (map_index x.span v) (i (place_at new v))
   pub alone : names new.tree label ≡ false
   pub apart : AreApartIn (record x { label = label; changed = false; fresh = replicate stored_count false }) new

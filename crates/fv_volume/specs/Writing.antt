@@ -1,6 +1,6 @@
 -- The writing of one volume: what it does to the disk and to the map of free blocks, and the steps by which it is done.
-use Rattle.std.specs.Prelude.{◌≡◌, ◌≢◌, ◌≤◌, ◌<◌, ◌+◌, ◌-◌, ◌*◌, ◌⊎◌, ◌==◌, ℕ, Bool, not, ◌||◌, ◌&&◌, true, false, List, Some, None, Ok, length, get_or, count_by}
-use Rattle.std.specs.List.{list_any, range_with_len}
+use Rattle.std.specs.Prelude.{◌≡◌, ◌≢◌, ◌≤◌, ◌<◌, ◌+◌, ◌-◌, ◌*◌, ◌⊎◌, ◌==◌, ℕ, Bool, not, ◌||◌, ◌&&◌, true, false, List, Some, Ok, length, get_or, count_by}
+use Rattle.std.specs.List.{range_with_len}
 use Rattle.std.specs.FinSet as set
 use Rattle.fv_disk.specs.Shown.{Image}
 use Rattle.fv_codec.specs.Blocks.{label_at, last_place}
@@ -10,7 +10,8 @@ use Rattle.fv_model.specs.Space.{map_blocks, overhead}
 use Rattle.fv_image.specs.Views.{entry_count}
 use Rattle.fv_image.specs.Containers.{height_of}
 use Rattle.fv_container.specs.Mapped.{Mapped, entry_under}
-use Rattle.fv_container.specs.Spelled.{names, is_at}
+use Rattle.fv_container.specs.Leading.{lead_to, place_at}
+use Rattle.fv_container.specs.Spelled.{names}
 use Rattle.fv_container.specs.Flushed.{IsApart, IsFlushed}
 use Rattle.fv_container.specs.Freeing.{Room}
 use Rattle.fv_root.specs.Formatted.{IsSize}
@@ -19,7 +20,7 @@ use Rattle.fv_aggmap.specs.Space.{Space, IsFree, blocks_of, free_blocks}
 use Rattle.fv_volmap.specs.Slots.{stored_count}
 use Rattle.fv_volume.specs.declared.state.VolumeState.{VolumeState}
 use Rattle.fv_volume.specs.Labels.{label_said}
-use Rattle.fv_volume.specs.Stored.{is_map_written, is_of, leads, map_entry, map_index, map_slot, place_at, place_in, slot_map, stays}
+use Rattle.fv_volume.specs.Stored.{is_map_written, is_of, leads, map_entry, map_index, map_slot, slot_map}
 
 -- a block that can't be written: it isn't free
 abbrev pub IsTaken : Space → ℕ → Type 0
@@ -29,9 +30,9 @@ IsTaken space b = IsFree space b → ⊥
 abbrev pub on_disk : Space → Space
 on_disk space = record { committed = space.committed; next = space.committed }
 
--- whether an entry that goes leads to a block: all the others go, the delayed ones and those of the maps that are written
-unfoldable pub leads_away : VolumeState → Mapped → ℕ → ℕ → Bool
-leads_away x map entries b = list_any (λ v. not (stays x v) && is_at b (place_in (entry_under map v))) (range_with_len 0 entries)
+-- whether one of the first VVBNs that have blocks of maps that are written leads to a block
+unfoldable pub has_maps_at : VolumeState → Mapped → ℕ → ℕ → Bool
+has_maps_at x map count b = lead_to map (is_map_written x) 0 count b
 
 -- The blocks of a volume that is to be written: no two entries lead to one, none leads to the label or to a node, the label is no node, the
 -- root on the disk holds label and nodes, and the next root is to hold them all.
@@ -44,9 +45,8 @@ pub record HasOwnBlocks (x : VolumeState) (map : Mapped) (space : Space) : Type 
   pub old_label : x.label ≢ 0 → is_member space.committed x.label ≡ true
   pub held : (b : ℕ) → is_of x x.label map b ≡ true → is_member space.next b ≡ true
 
--- The volume is written: the entries that stay are as before, the blocks of the maps that are written have new places, and all other entries
--- are holes. The blocks of those that went are given back first, and what it has new was free then. A node that didn't change may stand where it
--- stood.
+-- The volume is written: the blocks of the maps that are written have new places, and all other entries are as before, delayed ones, too. The
+-- old blocks of those maps are given back first, and what the volume has new was free then. A node that didn't change may stand where it stood.
 pub record IsWritten (x : VolumeState) (old : Mapped) (before : Image) (space : Space) (label : ℕ) (new : Mapped) (after : Image) (left : Space) : Type 0 where
   pub root : ℕ
   pub root_least : 1 ≤ root
@@ -54,14 +54,13 @@ pub record IsWritten (x : VolumeState) (old : Mapped) (before : Image) (space : 
   pub said : label_at (after label) ≡ Ok (label_said x root (height_of (entry_count x.span)))
   pub tree : IsFlushed after root (height_of (entry_count x.span)) new
   pub long : length new.entries ≡ entry_count x.span
-  pub kept : (v : ℕ) → stays x v ≡ true → entry_under new v ≡ entry_under old v
+  pub kept : (v : ℕ) → is_map_written x v ≡ false → entry_under new v ≡ entry_under old v
   pub maps : (v : ℕ) → is_map_written x v ≡ true → entry_under new v ≡ Some (map_entry (place_at new v))
   pub placed : (v : ℕ) → is_map_written x v ≡ true → 1 ≤ place_at new v
-  pub holes : (v : ℕ) → stays x v ≡ false → is_map_written x v ≡ false → entry_under new v ≡ None
   pub bits : (v : ℕ) → is_map_written x v ≡ true → IsBlockOf (slot_map x (map_slot x.span v)) (map_index x.span v) (after (place_at new v))
-  -- what goes is given back, and what is new is free then
+  -- the old blocks of those maps are given back, and what is new is free then
   pub given : Space
-  pub gave : HasGiven space (leads_away x old (entry_count x.span)) given
+  pub gave : HasGiven space (has_maps_at x old (entry_count x.span)) given
   pub some : 1 ≤ label
   pub fresh_label : IsFree given label
   pub fresh_nodes : (b : ℕ) → names new.tree b ≡ true → names old.tree b ≡ false → IsFree given b
@@ -115,24 +114,12 @@ pub record HasRoomFor (x : VolumeState) (space : Space) : Type 0 where
   pub size : IsSize (blocks_of space)
   pub room : asked x ≤ free_blocks space + 1
 
--- of the first entries those are holes that don't stay; all others are as before
-pub record HasGone (x : VolumeState) (old : Mapped) (count : ℕ) (new : Mapped) : Type 0 where
-  pub long : length new.entries ≡ length old.entries
-  pub tree : new.tree ≡ old.tree
-  pub kept : (v : ℕ) → stays x v ≡ true → entry_under new v ≡ entry_under old v
-  pub holes : (v : ℕ) → v < count → stays x v ≡ false → entry_under new v ≡ None
-  pub rest : (v : ℕ) → count ≤ v → entry_under new v ≡ entry_under old v
-
 -- so many free blocks were taken for the next root
 pub record HasDrawn (old : Space) (taken : ℕ → Bool) (count : ℕ) (new : Space) : Type 0 where
   pub committed : new.committed ≡ old.committed
   pub free : (b : ℕ) → taken b ≡ true → IsFree old b
   pub held : (b : ℕ) → is_member new.next b ≡ (taken b || is_member old.next b)
   pub fewer : free_blocks new + count ≡ free_blocks old
-
--- whether one of these blocks stands on a block
-unfoldable pub has_maps_at : VolumeState → Mapped → ℕ → ℕ → Bool
-has_maps_at x map count b = list_any (λ v. is_map_written x v && is_at b (place_at map v)) (range_with_len 0 count)
 
 -- Of the first VVBNs those of maps that are written have entries, each with a place of its own, and all other entries are as before.
 pub record HasMaps (x : VolumeState) (count : ℕ) (old new : Mapped) : Type 0 where

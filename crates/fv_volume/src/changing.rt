@@ -16,6 +16,7 @@ ghost use Rattle.fv_files.specs.Calls.{AddsCell, WritesCell};
 ghost use Rattle.fv_files.specs.Tables.{IsInfoOf};
 ghost use Rattle.fv_volume.specs.declared.fault.VolumeFault.TheVariants.{Refused};
 ghost use Rattle.fv_volume.specs.Calls.{BlockCause, CallCause, Changes, HasBeside, KeepsHead, Reads};
+ghost use Rattle.fv_volume.specs.Charging.{CostsPut};
 ghost use Rattle.fv_volume.specs.Changing.{AcceptsPut, AltersTable, FitsLedger, KeepsTable, RefusedIn, SpaceSays};
 ghost use Rattle.fv_volume.specs.Lending.{lent_for};
 ghost use Rattle.fv_volume.specs.OneVolume.{greatest_charge, home_in, standing_for, volume_for, IsReady, IsStanding};
@@ -25,6 +26,7 @@ use crate::blocks::Home;
 use crate::fault::VolumeFault;
 use crate::lent_changes::{added_told, write_told};
 use crate::lent_files::{kept_table, take_table};
+use crate::moving::count_staying;
 use crate::pool::Pool;
 use crate::state::VolumeState;
 use fv_charge::{Delta, Ledger};
@@ -100,7 +102,7 @@ impl VolumeState {
 pub(crate) fn more_blocks(ledger: &Ledger, count: u32) -> Delta
     requires charge { ledger.now.charge ≤ greatest_charge }
     requires need { ledger.now.need ≡ 0 }
-    requires few { count ≤ 6 }
+    requires few { count ≤ 14 }
     ensures charge { result.charge ≡ pos count }
     ensures need { result.need ≡ pos 0 }
     ensures size { result.size ≡ ledger.now.size }
@@ -177,10 +179,36 @@ pub(crate) fn judge_put<D: Disk>(
     if volume.now >= MOST_CHANGES {
         return Err(VolumeFault::Refused(Refusal::TooMany));
     }
-    let count = count_added(volume, alloc, pool, disk, &info, index)?;
+    let count = count_put(volume, alloc, pool, disk, &info, index)?;
     let delta = more_blocks(&volume.ledger, count);
     admit_change(&volume.ledger, &delta, others, pool.found.blocks)?;
     Ok(Admission { info, delta })
+}
+
+/// How many blocks more a volume is charged for once a cell of the file of which this is known is written: one for each position that comes, and
+/// one for each block that is replaced though a snapshot has it.
+fn count_put<D: Disk>(
+    volume: &mut VolumeState,
+    alloc: Global,
+    pool: &mut Pool,
+    disk: &mut D,
+    info: &Info,
+    index: u32,
+) -> Result<u32, BlockFault>
+    requires ready { IsReady (D.shown disk.old) pool.old volume.old }
+    requires index { index < 2097152 }
+    requires range { IsInfo info.now }
+    requires there { IsStanding (D.shown disk.old) pool.old volume.old → IsInfoOf (standing_for (D.shown disk.old) pool.old volume.old).inode info.now }
+    ensures costs { IsStanding (D.shown disk.old) pool.old volume.old → IfOk result (CostsPut (D.shown disk.old) pool.old volume.old info.now.number index) }
+    ensures few { IfOk result (λ count. count ≤ 14) }
+    ensures same { volume.new ≡ volume.old }
+    ensures reads { Reads (D.shown disk.old) pool.old (D.shown disk.new) pool.new }
+    ensures cause { BlockCause (IsStanding (D.shown disk.old) pool.old volume.old) (standing_for (D.shown disk.old) pool.old volume.old)
+        (lent_for pool.old volume.old.map (D.shown disk.old) 0 (home_in volume.old) 0) (D.shown disk.new).faults result }
+{
+    let added = count_added(volume, alloc, pool, disk, info, index)?;
+    let staying = count_staying(volume, alloc, pool, disk, info, index)?;
+    Ok(added + staying)
 }
 
 /// How many positions a write of a cell adds to the file of which this is known.

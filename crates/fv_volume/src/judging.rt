@@ -61,13 +61,13 @@ impl VolumeState {
                 }
             }
             Command::Cut { file, length, .. } => {
-                match judge_cut(self, alloc, pool, disk, file, *length) {
+                match judge_cut(self, alloc, pool, disk, others, file, *length) {
                     Ok(_) => Ok(()),
                     Err(fault) => Err(fault),
                 }
             }
             Command::Remove { file, .. } => {
-                match judge_removal(self, alloc, pool, disk, file) {
+                match judge_removal(self, alloc, pool, disk, others, file) {
                     Ok(_) => Ok(()),
                     Err(fault) => Err(fault),
                 }

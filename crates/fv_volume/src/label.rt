@@ -10,7 +10,7 @@ ghost use Rattle.fv_image.specs.Views.{head_of, kind_named};
 ghost use Rattle.fv_model.specs.Spelling.{is_name};
 ghost use Rattle.fv_store.specs.Held.{StandsOn};
 ghost use Rattle.fv_volume.specs.Labels.{kind_number};
-ghost use Rattle.fv_volume.specs.Loading.{IsBadLabel, first_used, form_in, is_used};
+ghost use Rattle.fv_volume.specs.Loading.{IsBadLabel, form_in};
 ghost use Rattle.fv_volume.specs.SnapRecords.{record_said, records_said, snap_said};
 ghost use Rattle.fv_volume.specs.States.{snap_in, snaps_in};
 
@@ -35,18 +35,6 @@ pub(crate) const FREE: SnapRecord = SnapRecord {
     root: HOLE,
 };
 
-/// The name's length of the first used record.
-fn first_used(records: &[SnapRecord]) -> Option<u64>
-    ensures { option_map (λ n. (0, n)) result ≡ first_used records.now }
-{
-    for record in records {
-        if record.name_length != 0 {
-            return Some(u64::from(record.name_length));
-        }
-    }
-    None
-}
-
 /// The first field that is set by a form which can't be loaded: its value without the form, and its own.
 #[tactic(auto, unfolding(crate::specs::Loading::form_in))]
 fn form_in(label: &Label) -> Option<(u64, u64)>
@@ -58,8 +46,7 @@ fn form_in(label: &Label) -> Option<(u64, u64)>
     if label.known == 0 {
         return Some((1, 0));
     }
-    let length = first_used(&label.snapshots)?;
-    Some((0, length))
+    None
 }
 
 /// The label that block `place` spells, where it has no form that can't be loaded.

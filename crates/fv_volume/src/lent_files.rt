@@ -11,7 +11,7 @@ ghost use Rattle.fv_tree.specs.Sources.{Use};
 ghost use Rattle.fv_inode.specs.Files.{rooted, Finds, IsInfo, IsInfoIf};
 ghost use Rattle.fv_inode.specs.Listing.{names_told};
 ghost use Rattle.fv_files.specs.Calls.{GivesCell};
-ghost use Rattle.fv_files.specs.Apart.{AreLed};
+ghost use Rattle.fv_files.specs.Apart.{AreAlike, AreLed};
 ghost use Rattle.fv_files.specs.Numbering.{AreNumbersIf, AreNumbersOf};
 ghost use Rattle.fv_files.specs.Pending.{pending_in};
 ghost use Rattle.fv_files.specs.Tables.{changed, loaded_trees, table_in, tree_known, AreSound, IsInfoOf, IsStoredOn};
@@ -20,6 +20,7 @@ ghost use Rattle.fv_volume.specs.Calls.{BlockCause, Reads};
 ghost use Rattle.fv_volume.specs.Lending.{CanLend, IsLedger, IsTold, lent_for, sees};
 ghost use Rattle.fv_volume.specs.OneVolume.{standing_by, AreSoundBy};
 ghost use Rattle.fv_volume.specs.Placing.{pending_of, AreLedBy, AreStoredBy};
+ghost use Rattle.fv_volume.specs.Sharing.{trees_by};
 
 use crate::blocks::Home;
 use crate::noted::Noted;
@@ -42,6 +43,7 @@ pub(crate) fn take_table(files: &mut Option<Files>, active: &Rooted, alloc: Glob
     requires root { IsPointer active.now.root }
     ensures table { (blocks : Under) → standing_in blocks (changed result) ≡ standing_by blocks active.now files.old }
     ensures trees { (blocks : Under) (used : ℕ → Option Use) → AreSoundBy blocks used active.now files.old → AreSound blocks used result }
+    ensures alike { (blocks : Under) → AreAlike (loaded_trees blocks result) (trees_by blocks active.now files.old) }
     ensures led { (blocks : Under) (used : ℕ → Option Use) → AreLedBy blocks used active.now files.old → AreLed used (loaded_trees blocks result) }
     ensures well { (blocks : Under) → AreStoredBy blocks active.now files.old → IsStoredOn blocks result }
     ensures pending { pending_in result ≡ pending_of files.old }

@@ -39,7 +39,7 @@ pub(crate) fn cut_told<K: Guard, D: Disk, L: Ledger>(
     requires stamp { 1 ≤ stamp }
     requires known { KnowsFile K.told (sees pool.old map.old (D.shown disk.old) home.now) files.old info.now }
     ensures cuts { CutsTold K.told (sees pool.old map.old (D.shown disk.old) home.now) (sees pool.old map.new (D.shown disk.old) home.now) files.old files.new info.now.number length stamp result }
-    ensures leaves { LeavesTable K.told (sees pool.old map.old (D.shown disk.old) home.now) (sees pool.old map.new (D.shown disk.old) home.now) files.old files.new result }
+    ensures leaves { LeavesTable K.told (sees pool.old map.old (D.shown disk.old) home.now) (sees pool.old map.new (D.shown disk.old) home.now) files.old files.new stamp result }
     ensures maps { GivesUp map.old map.new }
     ensures reads { Reads (D.shown disk.old) pool.old (D.shown disk.new) pool.new }
     ensures told { K.told → IsTold (D.shown disk.new) pool.new map.new home.now.slot }
@@ -80,7 +80,7 @@ pub(crate) fn remove_told<K: Guard, D: Disk, L: Ledger>(
         → RemovesFile (table_in (sees pool.old map.old (D.shown disk.old) home.now) files.old) (table_in (sees pool.old map.new (D.shown disk.old) home.now) files.new) info.now.number stamp) }
     ensures counted { K.told → IfOk result (λ count. AreStanding (sees pool.old map.old (D.shown disk.old) home.now) files.old
         → TakesByRemoval (table_in (sees pool.old map.old (D.shown disk.old) home.now) files.old) info.now.number stamp count) }
-    ensures leaves { LeavesTable K.told (sees pool.old map.old (D.shown disk.old) home.now) (sees pool.old map.new (D.shown disk.old) home.now) files.old files.new result }
+    ensures leaves { LeavesTable K.told (sees pool.old map.old (D.shown disk.old) home.now) (sees pool.old map.new (D.shown disk.old) home.now) files.old files.new stamp result }
     ensures maps { GivesUp map.old map.new }
     ensures reads { Reads (D.shown disk.old) pool.old (D.shown disk.new) pool.new }
     ensures told { K.told → IsTold (D.shown disk.new) pool.new map.new home.now.slot }

@@ -10,6 +10,7 @@ ghost use Rattle.fv_model.specs.declared.commands.Kind.TheVariants as kinds;
 ghost use Rattle.fv_inode.specs.Files.{IsFreeNumber, IsLeastFree, IsNumberIf};
 ghost use Rattle.fv_files.specs.Calls.{AddsFile};
 ghost use Rattle.fv_volume.specs.Calls.{BlockCause, CallCause, Changes, HasBeside, KeepsHead, Reads};
+ghost use Rattle.fv_volume.specs.Charging.{CostsNew};
 ghost use Rattle.fv_volume.specs.Changing.{AcceptsNew, AltersTable, FitsLedger, KeepsTable, NamesNew, RefusedIn};
 ghost use Rattle.fv_volume.specs.Lending.{lent_for};
 ghost use Rattle.fv_volume.specs.OneVolume.{home_in, standing_for, table_for, volume_for, IsReady, IsStanding};
@@ -20,6 +21,7 @@ use crate::changing::{MOST_CHANGES, admit_change, more_blocks};
 use crate::fault::VolumeFault;
 use crate::lent_changes::{create_told, number_told, room_told};
 use crate::lent_files::{kept_table, take_table};
+use crate::moving::count_staying_new;
 use crate::numbering::count_made;
 use crate::pool::Pool;
 use crate::state::VolumeState;
@@ -111,7 +113,7 @@ pub(crate) fn judge_new<D: Disk>(
         (lent_for pool.old volume.old.map (D.shown disk.old) 0 (home_in volume.old) 0) (D.shown disk.new).faults result }
 {
     let number = judge_name(volume, alloc, pool, disk, file, reserve)?;
-    let count = count_room(volume, alloc, pool, disk, number)?;
+    let count = count_new(volume, alloc, pool, disk, number)?;
     let delta = more_blocks(&volume.ledger, count);
     admit_change(&volume.ledger, &delta, others, pool.found.blocks)?;
     Ok(Making { number, delta })
@@ -211,6 +213,29 @@ fn seek_number<D: Disk>(
     );
     volume.files = kept_table(held, files);
     number
+}
+
+/// How many blocks more a volume is charged for once it has a new file under a number, the least that is free: one for each position that comes, and
+/// one for each block that is replaced though a snapshot has it.
+fn count_new<D: Disk>(
+    volume: &mut VolumeState,
+    alloc: Global,
+    pool: &mut Pool,
+    disk: &mut D,
+    number: u32,
+) -> Result<u32, BlockFault>
+    requires ready { IsReady (D.shown disk.old) pool.old volume.old }
+    requires number { number < 262144 }
+    ensures costs { IsStanding (D.shown disk.old) pool.old volume.old → IfOk result (CostsNew (D.shown disk.old) pool.old volume.old number) }
+    ensures few { IfOk result (λ count. count ≤ 14) }
+    ensures same { volume.new ≡ volume.old }
+    ensures reads { Reads (D.shown disk.old) pool.old (D.shown disk.new) pool.new }
+    ensures cause { BlockCause (IsStanding (D.shown disk.old) pool.old volume.old) (standing_for (D.shown disk.old) pool.old volume.old)
+        (lent_for pool.old volume.old.map (D.shown disk.old) 0 (home_in volume.old) 0) (D.shown disk.new).faults result }
+{
+    let added = count_room(volume, alloc, pool, disk, number)?;
+    let staying = count_staying_new(volume, alloc, pool, disk, number)?;
+    Ok(added + staying)
 }
 
 /// How many positions of the inode file a file of this number adds.

@@ -1,13 +1,15 @@
 //! Placing what changed of the files of a volume.
 
-ghost use Rattle.std.specs.Prelude.{◌≡◌, min, true, None, is_some, OnOk, IfErr};
+ghost use Rattle.std.specs.Prelude.{◌≡◌, min, true, Some, None, is_some, OnOk, IfErr};
 ghost use Rattle.fv_store.specs.Held.{StandsOn};
 ghost use Rattle.fv_tree.specs.Standing.{under};
 ghost use Rattle.fv_files.specs.Tables.{AreStanding};
 ghost use Rattle.fv_volume.specs.BlocksOver.{HasRoom};
+ghost use Rattle.fv_volmap.specs.Slots.{IsVolume};
+ghost use Rattle.fv_volume.specs.Held.{IsPlaceFault, IsPlacedAs, MayFail};
 ghost use Rattle.fv_volume.specs.Lending.{CanLend, IsTold, lent_for, sees};
 ghost use Rattle.fv_volume.specs.OneVolume.{home_in, IsReady, IsStanding};
-ghost use Rattle.fv_volume.specs.Placing.{FlushFails, Goes, KeepsPlaced, LeavesOthers, PlaceFails, PlacesTable, PlacesVolume, TakesRoom};
+ghost use Rattle.fv_volume.specs.Placing.{FlushFails, Goes, IsUnkept, KeepsPlaced, LeavesOthers, PlaceFails, PlacesTable, PlacesVolume, TakesRoom};
 
 use crate::blocks::Home;
 use crate::fault::VolumeFault;
@@ -78,6 +80,29 @@ impl VolumeState {
             }
         }
     }
+
+    /// Places what changed of the files of the volume, as `flush` does, with all the room that there is for it.
+    ///
+    /// # Errors
+    ///
+    /// As `flush`. Where the volume stands and has more free numbers, and the aggregate more free blocks, than are pending, only
+    /// `Memory` comes. Without a file in memory no fault comes.
+    ///
+    /// Costs what `flush` and `room` cost.
+    pub fn place_files<D: Disk>(&mut self, pool: &mut Pool, disk: &D) -> Result<(), VolumeFault>
+        requires ready { IsReady (D.shown disk.now) pool.old self.old }
+        ensures placed { IsPlacedAs (D.shown disk.now) pool.old self.old (D.shown disk.now) pool.new self.new }
+        ensures none { OnOk result (self.new.files ≡ None) }
+        ensures whole { IsVolume self.new.map }
+        ensures fails { IfErr result (MayFail (D.shown disk.now) pool.old (Some self.old)) }
+        ensures cause { IfErr result IsPlaceFault }
+    {
+        let mut room = self.room(pool);
+        let flushed = self.flush(pool, disk, &mut room);
+        // What is known of every map is needed of this one.
+        let _ = self.map.active();
+        flushed
+    }
 }
 
 /// Places what changed of the table of a volume, over the volume's blocks. Answers the root of its inode file.
@@ -94,7 +119,7 @@ fn place_table<K: Guard, D: Disk>(
     requires told { K.told → IsTold (D.shown disk.now) pool.old map.old home.now.slot }
     requires stands { K.told → AreStanding (sees pool.old map.old (D.shown disk.now) home.now) files.old }
     ensures table { PlacesTable K.told (sees pool.old map.old (D.shown disk.now) home.now)
-        (under (sees pool.new map.new (D.shown disk.now) home.now)) (sees pool.new map.new (D.shown disk.now) home.now).used files.old files.new result }
+        (under (sees pool.new map.new (D.shown disk.now) home.now)) (sees pool.new map.new (D.shown disk.now) home.now).used (IsUnkept (D.shown disk.now) pool.old map.old home.now.slot) files.old files.new result }
     ensures goes { Goes (lent_for pool.old map.old (D.shown disk.now) 0 home.now room.old) pool.new map.new (D.shown disk.now) room.new }
     ensures room { TakesRoom K.told files.old files.new room.old room.new result }
     ensures stands { StandsOn (D.shown disk.now) pool.new.store.pairs }

@@ -410,7 +410,7 @@ impl VolumeState {
     }
 
     /// The label that says this volume, with the place of its container's root, 0 where that is all holes, and
-    /// with the container's height. The volume has no base and no snapshot, and knows all places. It takes no memory.
+    /// with the container's height. The volume has no base, and knows all places. It takes no memory.
     #[tactic(auto, unfolding(crate::specs::Labels::label_said))]
     pub fn label(&self, container: u32, height: u8) -> Label
         requires { has_form (head_in self.now) ≡ true }
@@ -455,7 +455,13 @@ impl VolumeState {
 }
 
 /// The ledger of a volume without base and reserves, counted from what the slots of its maps have together; they stay.
-fn count_ledger(map: &mut VolMap, snapshots: u32, span: u32, size: u32, kind: Kind) -> Ledger
+pub(crate) fn count_ledger(
+    map: &mut VolMap,
+    snapshots: u32,
+    span: u32,
+    size: u32,
+    kind: Kind,
+) -> Ledger
     requires map { map.old.span ≡ span }
     requires span { span ≤ greatest_span }
     requires few { snapshots ≤ most_snapshots }

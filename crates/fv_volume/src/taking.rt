@@ -53,7 +53,7 @@ fn map_block(maps: &VolMap, slot: u8, index: u32, into: &mut Block)
 
 /// Whether a consistency point writes the block of a map under a VVBN behind the span.
 #[tactic(auto, using(crate::proofs::StayingMaps::slot_within))]
-fn is_map_written(state: &VolumeState, vvbn: u32) -> bool
+pub(crate) fn is_map_written(state: &VolumeState, vvbn: u32) -> bool
     requires past { state.now.span ≤ vvbn }
     requires within { vvbn < entry_count state.now.span }
     ensures { result ≡ is_map_written state.entry.now vvbn }

@@ -16,7 +16,7 @@ use crate::volume_blocks::Guard;
 use fv_codec::Pointer;
 use fv_container::Steps;
 use fv_disk::Disk;
-use fv_tree::{Blocks, Placed, TreeFault};
+use fv_tree::{Blocks, Placed, Sharing, TreeFault};
 use fv_volmap::VolMap;
 use std::marker::PhantomData;
 use std::sync::ledger::Ledger;
@@ -95,5 +95,19 @@ impl<'p, 'd, 'v, 's, K: Guard, D: Disk, L: Ledger> Blocks for VolumeDrops<'p, 'd
 
     fn gone(&mut self, vvbn: u32) {
         drop_number(self.map, &mut self.strays, vvbn)
+    }
+}
+
+impl<'p, 'd, 'v, 's, K: Guard, D: Disk, L: Ledger> Sharing
+    for VolumeDrops<'p, 'd, 'v, 's, K, D, L> {
+    ghost use Rattle.std.proofs.Common.{ap};
+    ghost use Rattle.fv_volmap.specs.Slots.{is_in_snapshot};
+
+    ghost shared = { λ b. is_in_snapshot b.map.now };
+
+    ghost reads_share = { λ a b reads v. ap (λ m. is_in_snapshot m v) reads.4.map };
+
+    fn is_shared(&self, vvbn: u64) -> bool {
+        self.map.in_snapshot(vvbn)
     }
 }

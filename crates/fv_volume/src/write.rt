@@ -14,7 +14,7 @@ ghost use Rattle.fv_volume.specs.Labels.{label_said};
 ghost use Rattle.fv_volume.specs.Files.{IsLabelled};
 ghost use Rattle.fv_volume.specs.Writing.{AreTaken, HasBlocks, HasEntries, HasLabel, HasOwnBlocks, HasRoomFor, IsOther, IsTaken, IsTakenOther, IsWritten, asked, on_disk};
 
-use crate::giving::give_back_moved;
+use crate::giving::give_back_maps;
 use crate::sizes::entry_count;
 use crate::state::VolumeState;
 use crate::taking::{take_block, write_maps};
@@ -73,7 +73,7 @@ fn write_label<D: Disk>(
     store.put(disk, label, &block)
 }
 
-/// Writes a volume whose container has no entry that goes, with its label at a place that was taken for it.
+/// Writes a volume with its label at a place that was taken for it.
 fn write_anew<D: Disk>(
     state: &VolumeState,
     container: &mut Container,
@@ -104,12 +104,11 @@ fn write_anew<D: Disk>(
 }
 
 /// Writes a volume: the blocks of its active map, and of each snapshot's that waits, to new places, its container and its label, whose
-/// PVBN it answers. Delayed entries become holes. Their blocks, and the old places of maps, container and label, are given back; the
-/// blocks of all entries that some map has stay, and those of the other maps. As many blocks are free as it asks for: its overhead, and
-/// those of the snapshots' maps that wait. It takes no memory and reads nothing.
+/// PVBN it answers. The old places of those maps, of container and label are given back; every other entry stays, a delayed one, too. As many
+/// blocks are free as it asks for: its overhead, and those of the snapshots' maps that wait. It takes no memory and reads nothing.
 ///
-/// The one error is a failed write: the blocks that were taken are then lost to the map, and the container isn't as before. Costs a
-/// step for each entry, up to 25 more for one that is no hole, a map slot each, and a write for each block.
+/// The one error is a failed write: the blocks that were taken are then lost to the map, and the container isn't as before. Costs a step
+/// for each block of 25 maps, one for each entry where the container is flushed (`Container::flush`), and a write for each block.
 pub fn write_volume<D: Disk>(
     state: &VolumeState,
     container: &mut Container,
@@ -132,7 +131,7 @@ pub fn write_volume<D: Disk>(
     ensures count { OnOk result (free_blocks map.old ≤ free_blocks map.new + asked state.entry.now) }
     ensures stands { StandsOn (D.shown disk.new) store.new.pairs }
 {
-    give_back_moved(state, container, map);
+    give_back_maps(state, container, map);
     let label = take_block(map);
     write_anew(state, container, store, map, disk, label)?;
     map.give_back(state.label_place());

@@ -1,12 +1,11 @@
 -- Volumes that a point can be made of, after a call on one of them.
-use Rattle.std.proofs.Common.{◌≡◌, ◌≢◌, ◌<◌, ◌≤◌, ℕ, Bool, List, length, Option, Some, None, Result, Ok, Err, refl, sym, ap, subst, ◌∙◌, inl, inr, ⊎_elim, arith, length-set}
-use Rattle.std.specs.Prelude.{◌⊎◌, IfOk, IfSome, IsTrue, OnErr, OnOk, is_some, slice_index_or}
-use Rattle.std.specs.Ordering.{nat_cmp}
+use Rattle.std.proofs.Common.{◌≡◌, ◌≢◌, ◌<◌, ◌≤◌, ℕ, Bool, List, length, Option, Some, None, Result, Ok, Err, sym, ap, subst, ◌∙◌, inl, inr, ⊎_elim, arith, length-set}
+use Rattle.std.specs.Prelude.{IfOk, IfSome, IsTrue, OnErr, OnOk, is_some, slice_index_or}
 use Rattle.std.specs.FinMap as fin
 use Rattle.std.proofs.lemmas.Bool.{cases_eq, or_from}
 use Rattle.std.proofs.lemmas.List.{get_or-set_other, get_or-set_same}
 use Rattle.fv_disk.specs.Shown.{Image, Shown as Disk, IsSettled}
-use Rattle.fv_disk.specs.DiskCalls.{OnlyReads, Stays}
+use Rattle.fv_disk.specs.DiskCalls.{OnlyReads}
 use Rattle.fv_disk.proofs.Resting.{reads_then, settled_image}
 use Rattle.fv_model.specs.declared.commands.Kind.{Kind}
 use Rattle.fv_bits.specs.Members.{is_member}
@@ -30,19 +29,13 @@ use Rattle.fv_volume.specs.Keeping.{Blocks, IsUnkept}
 use Rattle.fv_volume.specs.Lending.{GoesOver, MayTake, lent_by, lent_for}
 use Rattle.fv_volume.specs.Loading.{Houses}
 use Rattle.fv_volume.specs.OneVolume.{home_in, IsReady}
-use Rattle.fv_volume.specs.Placing.{Goes}
+use Rattle.fv_volume.specs.Placing.{Goes, KeepsPlaced}
 use Rattle.fv_volume.specs.States.{States, parent_in, state_at, with_state}
 use Rattle.fv_volume.specs.Writing.{IsTaken, on_disk}
 use Rattle.fv_cp.specs.Placing.{AreReady, IsReadyIn}
-use Rattle.fv_volume_rows.specs.Held.{AreFit, AreHeld}
+use Rattle.fv_volume_rows.specs.Held.{AreFit, AreHeld, KeepsPlace, LeavesRoot}
 
 -- ---- one volume
-
--- it keeps its slot, its span, and what it stands on
-pub record KeepsPlace (x y : VolumeState) : Type 0 where
-  pub slot : y.slot ≡ x.slot
-  pub span : y.span ≡ x.span
-  pub base : y.base ≡ x.base
 
 -- what a fact of each slot says of its volume
 there_at : (P : VolumeState → Type 0) (o : Option VolumeState) (x : VolumeState) → o ≡ Some x → IfSome o P → P x
@@ -62,18 +55,6 @@ housed_still x y (Some m) None span there count is = absurd cc
 housed_still x y (Some m) (Some n) span there count is = count ∙ is ∙ ap entry_count (sym span)
 
 -- ---- a call on one of them
-
--- Of the pool the root and its map stay, of the containers those of other slots, and a block that is kept anew lies where the root on the disk
--- holds nothing.
-record LeavesRoot (d e : Disk) (p q : Pool) (slot : ℕ) : Type 0 where
-  stays : Stays d e
-  found : q.found ≡ p.found
-  committed : q.map.committed ≡ p.map.committed
-  kept : (b : ℕ) → (fin.get q.kept b ≡ fin.get p.kept b) ⊎ (IsTaken (on_disk p.map) b → ⊥)
-  others : (s : ℕ) → s ≢ slot → container_at q.containers s ≡ container_at p.containers s
-  there : is_some (container_at q.containers slot) ≡ is_some (container_at p.containers slot)
-  count : length (entries_in (container_at q.containers slot)) ≡ length (entries_in (container_at p.containers slot))
-  parents : q.containers.parents ≡ p.containers.parents
 
 module _ (d e : Disk) (p q : Pool) (xs : States) (slot : ℕ) (was : AreFit d p xs) (leaves : LeavesRoot d e p q slot) where
   parent_same : (s : ℕ) → parent_at q.containers s ≡ parent_at p.containers s
@@ -134,20 +115,40 @@ fit_read d e p q xs slot x y was within there same labelled reads =
       parents = ap (λ (c : Slots). c.parents) reads.leaves.containers;
     }) x y within there same labelled
 
--- What changed of one was placed: calls can be made on each.
-pub held_placed : (d e : Disk) (p q : Pool) (xs : States) (slot room left : ℕ) (x y : VolumeState) → AreHeld d p xs → slot < slot_count → state_at xs slot ≡ Some x → y.slot ≡ x.slot → IsReady e q y
-    → Goes (lent_for p x.map d 0 (home_in x) room) q y.map e left → AreHeld e q (with_state xs slot (Some y))
-held_placed d e p q xs slot room left x y was within there same ready goes = record {
-  long = length-set xs slot (Some y) ∙ was.long;
-  size = subst (λ (f : Found). IsSize f.blocks) (sym over.found) was.size;
-  stands = ready.lent.stands;
-  labelled = with_at (λ s o. IfSome o (IsLabelled s)) xs slot y inside (subst (λ n. IsLabelled n y) (same ∙ mine.slot_is) ready.labelled) (λ s other. was.labelled s);
-  ready = with_at (λ s o. IfSome o (IsReady e q)) xs slot y inside ready (λ s other. beside s other (state_at xs s) (was.labelled s) (was.ready s));
+-- What was placed of one leaves it where it was,
+pub placed_place : (x y : VolumeState) → KeepsPlaced x y → KeepsPlace x y
+placed_place x y keeps = record {
+  slot = ap (λ (z : VolumeState). z.slot) keeps;
+  span = ap (λ (z : VolumeState). z.span) keeps;
+  base = ap (λ (z : VolumeState). z.base) keeps;
+}
+
+-- and it leaves the root.
+pub placed_root : (d e : Disk) (p q : Pool) (x y : VolumeState) (room left : ℕ) → Goes (lent_for p x.map d 0 (home_in x) room) q y.map e left → LeavesRoot d e p q x.slot
+placed_root d e p q x y room left goes = record {
+  stays = over.only_reads.stays;
+  found = over.found;
+  committed = over.committed;
+  kept = λ b. ⊎_elim (λ still. inl still) (λ (may : MayTake p.map p.containers x.slot b). inr (λ taken. taken (record { after = may.lies.0; within = may.lies.1; free = or_from (is_member p.map.committed b) (is_member p.map.committed b) may.spare may.spare }))) (over.kept b);
+  others = over.others;
+  there = over.shape.there;
+  count = over.shape.count;
+  parents = over.parents;
 }
   where
     over : GoesOver (lent_for p x.map d 0 (home_in x) room) (lent_by q y.map e goes.steps (home_in x) left goes.goes.strays goes.goes.noted)
     over = goes.goes.goes
 
+-- Where a call on one leaves the root, calls can be made on each.
+pub held_left : (d e : Disk) (p q : Pool) (xs : States) (slot : ℕ) (x y : VolumeState) → AreHeld d p xs → slot < slot_count → state_at xs slot ≡ Some x → y.slot ≡ x.slot → IsReady e q y → LeavesRoot d e p q x.slot → AreHeld e q (with_state xs slot (Some y))
+held_left d e p q xs slot x y was within there same ready leaves = record {
+  long = length-set xs slot (Some y) ∙ was.long;
+  size = subst (λ (f : Found). IsSize f.blocks) (sym leaves.found) was.size;
+  stands = ready.lent.stands;
+  labelled = with_at (λ s o. IfSome o (IsLabelled s)) xs slot y inside (subst (λ n. IsLabelled n y) (same ∙ mine.slot_is) ready.labelled) (λ s other. was.labelled s);
+  ready = with_at (λ s o. IfSome o (IsReady e q)) xs slot y inside ready (λ s other. beside s other (state_at xs s) (was.labelled s) (was.ready s));
+}
+  where
     inside : slot < length xs
     inside = let long = was.long in omega (arith, within, long)
 
@@ -161,33 +162,19 @@ held_placed d e p q xs slot room left x y was within there same ready goes = rec
         within = before.lent.within;
         stands = ready.lent.stands;
         few = before.lent.few;
-        entries = subst (λ (c : Option Mapped). w.map.span ≤ length (entries_in c)) (sym (over.others w.slot (λ is. other (sym labelled.slot_is ∙ is ∙ mine.slot_is)))) before.lent.entries;
+        entries = subst (λ (c : Option Mapped). w.map.span ≤ length (entries_in c)) (sym (leaves.others w.slot (λ is. other (sym labelled.slot_is ∙ is ∙ mine.slot_is)))) before.lent.entries;
       };
       labelled = before.labelled;
       booked = before.booked;
-      blocks = subst (λ (f : Found). IsSize f.blocks) (sym over.found) before.blocks;
+      blocks = subst (λ (f : Found). IsSize f.blocks) (sym leaves.found) before.blocks;
       changed = before.changed;
       fresh = before.fresh;
     }
 
 -- And a point can be made.
-pub fit_placed : (d e : Disk) (p q : Pool) (xs : States) (slot room left : ℕ) (x y : VolumeState) → AreFit d p xs → slot < slot_count → state_at xs slot ≡ Some x → KeepsPlace x y → IsLabelled y.slot y
-    → Goes (lent_for p x.map d 0 (home_in x) room) q y.map e left → AreFit e q (with_state xs slot (Some y))
-fit_placed d e p q xs slot room left x y was within there same labelled goes =
-    fit_with d e p q xs slot was (record {
-      stays = over.only_reads.stays;
-      found = over.found;
-      committed = over.committed;
-      kept = λ b. ⊎_elim (λ still. inl still) (λ (may : MayTake p.map p.containers x.slot b). inr (λ taken. taken (record { after = may.lies.0; within = may.lies.1; free = or_from (is_member p.map.committed b) (is_member p.map.committed b) may.spare may.spare }))) (over.kept b);
-      others = λ s other. over.others s (λ is. other (is ∙ here));
-      there = subst (λ (n : ℕ). is_some (container_at q.containers n) ≡ is_some (container_at p.containers n)) here over.shape.there;
-      count = subst (λ (n : ℕ). length (entries_in (container_at q.containers n)) ≡ length (entries_in (container_at p.containers n))) here over.shape.count;
-      parents = over.parents;
-    }) x y within there same labelled
+pub fit_left : (d e : Disk) (p q : Pool) (xs : States) (slot : ℕ) (x y : VolumeState) → AreFit d p xs → slot < slot_count → state_at xs slot ≡ Some x → KeepsPlace x y → IsLabelled y.slot y → LeavesRoot d e p q x.slot → AreFit e q (with_state xs slot (Some y))
+fit_left d e p q xs slot x y was within there same labelled leaves = fit_with d e p q xs slot was (subst (LeavesRoot d e p q) here leaves) x y within there same labelled
   where
-    over : GoesOver (lent_for p x.map d 0 (home_in x) room) (lent_by q y.map e goes.steps (home_in x) left goes.goes.strays goes.goes.noted)
-    over = goes.goes.goes
-
     here : x.slot ≡ slot
     here = (there_at (IsLabelled slot) (state_at xs slot) x there (was.fit.housed.volumes slot)).slot_is
 

@@ -6,12 +6,13 @@ ghost use Rattle.fv_model.specs.Numbers.{greatest_span};
 ghost use Rattle.fv_volume.specs.Calls.{Reads};
 ghost use Rattle.fv_volume.specs.OneVolume.{IsReady};
 ghost use Rattle.fv_volume.specs.States.{state_at};
-ghost use Rattle.fv_volume_rows.specs.Held.{AreFit, AreHeld};
+ghost use Rattle.fv_volume_rows.specs.Held.{AreFit, AreHeld, LeavesPlace};
 
 use crate::opened::Opened;
 use fv_container::Steps;
 use fv_disk::{Block, Disk};
 use fv_model::{Command, Kind, Name, Refusal, Reply};
+use fv_snapshot::{create as create_snapshot, delete, restore};
 use fv_volume::{Pool, VolumeFault, VolumeState, Volumes};
 use std::alloc::Global;
 use std::marker::Brand;
@@ -49,7 +50,56 @@ fn answer<D: Disk>(
         Command::VolCreate { volume, size, kind } => {
             create(volumes, pool, disk, volume, *size, *kind)
         }
+        Command::SnapCreate { volume, .. } => on_snapshots(volumes, pool, disk, volume, command),
+        Command::SnapDelete { volume, .. } => on_snapshots(volumes, pool, disk, volume, command),
+        Command::SnapRestore { volume, .. } => on_snapshots(volumes, pool, disk, volume, command),
         _ => ask(volumes, alloc, pool, disk, command),
+    }
+}
+
+/// What the volume of a name answers to a command that changes its snapshots.
+fn on_snapshots<D: Disk>(
+    volumes: &mut Volumes,
+    pool: &mut Pool,
+    disk: &mut D,
+    name: &Name,
+    command: &Command,
+) -> Result<Reply, VolumeFault>
+    requires held { AreHeld (D.shown disk.old) pool.old volumes.old }
+    requires fit { AreFit (D.shown disk.old) pool.old volumes.old }
+    ensures held { AreHeld (D.shown disk.new) pool.new volumes.new }
+    ensures fit { AreFit (D.shown disk.new) pool.new volumes.new }
+{
+    let Some(slot) = volumes.find(name) else {
+        return Err(VolumeFault::Refused(Refusal::NoVolume));
+    };
+    let others = commits_beside(volumes, slot);
+    match volumes.get_mut(slot) {
+        None => Err(VolumeFault::Refused(Refusal::NoVolume)),
+        Some(volume) => done(change_snapshots(volume, pool, disk, others, command)),
+    }
+}
+
+/// Makes, removes or restores a snapshot of a volume.
+fn change_snapshots<D: Disk>(
+    volume: &mut VolumeState,
+    pool: &mut Pool,
+    disk: &mut D,
+    others: u64,
+    command: &Command,
+) -> Result<(), VolumeFault>
+    requires ready { IsReady (D.shown disk.old) pool.old volume.old }
+    requires others { others ≤ 2 ^ 62 }
+    ensures ready { IsReady (D.shown disk.new) pool.new volume.new }
+    ensures leaves { LeavesPlace (D.shown disk.old) (D.shown disk.new) pool.old pool.new volume.old volume.new }
+{
+    match command {
+        Command::SnapCreate { snapshot, .. } => create_snapshot(
+            volume, pool, disk, others, snapshot,
+        ),
+        Command::SnapDelete { snapshot, .. } => delete(volume, pool, disk, snapshot),
+        Command::SnapRestore { snapshot, .. } => restore(volume, pool, disk, others, snapshot),
+        _ => Err(VolumeFault::Refused(Refusal::Syntax)),
     }
 }
 
@@ -87,6 +137,7 @@ fn volume_of(command: &Command) -> Option<&Name> {
         Command::Cut { volume, .. } => Some(volume),
         Command::Remove { volume, .. } => Some(volume),
         Command::Ls { volume, .. } => Some(volume),
+        Command::SnapList { volume } => Some(volume),
         _ => None,
     }
 }
@@ -267,6 +318,10 @@ fn tell<D: Disk>(
 {
     match command {
         Command::VolStat { .. } => Ok(Reply::Stat(volume.stat())),
+        Command::SnapList { .. } => match volume.snapshot_names(alloc) {
+            Ok(names) => Ok(Reply::Names(names)),
+            Err(_) => Err(VolumeFault::Memory),
+        },
         Command::Len { snapshot, file, .. } => {
             let length = volume.length(alloc, pool, disk, snapshot.as_ref(), file)?;
             Ok(Reply::Number(u64::from(length)))

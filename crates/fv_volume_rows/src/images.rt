@@ -118,6 +118,48 @@ const DEEP: [Part; 34] = [
     (16, 191, b"\x07\0\0\0\0\0\0\0\x02"),
 ];
 
+/// A file with a snapshot of it, written over since, in an aggregate of 1024 blocks.
+const KEPT: [Part; 34] = [
+    (0, 0, b"FVAGGR01\0\0\0\0\0\0\x04"),
+    (1, 0, b"GATEOPEN"),
+    (2, 0, b"GATEOPEN"),
+    (3, 0, b"FVROOT00\0\0\0\0\0\0\0\x01\0\0\0\0\0\0\0\x01"),
+    (4, 0, b"FVROOT00\0\0\0\0\0\0\0\x02\0\0\0\0\0\0\0\x01"),
+    (4, 71, b"\x10"),
+    (6, 0, b"\x80\xff\x01"),
+    (7, 0, b"FVINODES"),
+    (7, 256, b"\x01f"),
+    (7, 335, b"\x01"),
+    (7, 359, b"\x02\0\0\0\0\0\0\0\x09\0\0\0\0\0\0\0\x02"),
+    (8, 0, b"FVINODES"),
+    (8, 256, b"\x01f"),
+    (8, 335, b"\x01"),
+    (8, 359, b"\x03\0\0\0\0\0\0\0\x0a\0\0\0\0\0\0\0\x03"),
+    (9, 0, b"hi"),
+    (10, 0, b"z"),
+    (11, 0, b"\x0a"),
+    (12, 0, b"\x05"),
+    (13, 0, b"FVCLEAF0"),
+    (
+        13,
+        1031,
+        b"\x07\0\0\0\x05\0\0\0\0\0\0\0\x08\0\0\0\x05\0\0\0\0\0\0\0\x09\0\0\0\x01",
+    ),
+    (13, 1067, b"\x0a\0\0\0\x01"),
+    (14, 0, b"FVCLEAF0\0\0\0\0\0\0\0\x10"),
+    (14, 1031, b"\x0b\0\0\0\x08\0\0\0\0\0\0\0\x0c\0\0\0\x08"),
+    (15, 0, b"FVCINNER\0\0\0\0\0\0\0\x01"),
+    (15, 1031, b"\x0d"),
+    (15, 1159, b"\x0e"),
+    (16, 0, b"FVLABEL0\0\0\0\0\0\0\0\x01a"),
+    (16, 95, b"d\0\0\0\0\0\0\0\xc8\0\0\0\0\0\0\x10"),
+    (16, 119, b"\x03"),
+    (16, 151, b"\x01\0\0\0\0\0\0\0\x0f\0\0\0\0\0\0\0\x01"),
+    (16, 183, b"\x01\0\0\0\0\0\0\0\x08\0\0\0\0\0\0\0\x03"),
+    (16, 263, b"\x01s"),
+    (16, 351, b"\x07\0\0\0\0\0\0\0\x02"),
+];
+
 /// The lines after which the images stand for the machine.
 const LEVELS_LINES: [&[u8]; 5] = [
     b"vol create a 100 volume",
@@ -133,11 +175,22 @@ const DEEP_LINES: [&[u8]; 3] = [
     b"put a f 2097151 01",
 ];
 
+const KEPT_LINES: [&[u8]; 5] = [
+    b"vol create a 100 volume",
+    b"new a f",
+    b"put a f 0 6869",
+    b"snap create a s",
+    b"put a f 0 7a",
+];
+
 /// An image, with the lines that lead to it.
 pub(crate) type Laid = (&'static [Part], &'static [&'static [u8]]);
 
 /// The two images.
 pub(crate) const LAID: [Laid; 2] = [(&LEVELS, &LEVELS_LINES), (&DEEP, &DEEP_LINES)];
+
+/// The image with a snapshot.
+const LAID_KEPT: Laid = (&KEPT, &KEPT_LINES);
 
 /// Applies a command to a machine.
 fn apply_to(alloc: Global, machine: &mut Machine, command: &Command) -> Result<(), Wrong> {
@@ -235,6 +288,27 @@ const READ_DEEP: [Row; 10] = [
     ),
 ];
 
+/// The same of the image with a snapshot, which stays as it is.
+const READ_KEPT: [Row; 14] = [
+    (
+        b"vol stat a",
+        b"size 100 used 5 need 0 commit 140 kind volume clean yes",
+    ),
+    (b"snap list a", b"s"),
+    (b"ls a@s", b"f"),
+    (b"len a@s f", b"1"),
+    (b"get a@s f 0", b"6869"),
+    (b"get a f 0", b"7a"),
+    (b"put a f 0 02", b"ok"),
+    (b"put a f 1 03", b"ok"),
+    (b"new a g", b"ok"),
+    (b"get a@s f 0", b"6869"),
+    (b"get a@s f 1", b"err 10 number out of range"),
+    (b"get a@s g 0", b"err 4 no such file"),
+    (b"rm a f", b"ok"),
+    (b"get a@s f 0", b"6869"),
+];
+
 /// Whether an image answers rows as they say.
 fn reads(alloc: Global, image: &Laid, rows: &[Row]) -> Result<(), Wrong> {
     let mut pair = laid(alloc, image)?;
@@ -245,6 +319,7 @@ fn reads(alloc: Global, image: &Laid, rows: &[Row]) -> Result<(), Wrong> {
 fn images_are_read_and_changed(rt: HostRuntime) -> Result<(), Fail> {
     assert_eq!(rt; reads(rt.alloc(), &LAID[0], &READ_LEVELS), Ok(()));
     assert_eq!(rt; reads(rt.alloc(), &LAID[1], &READ_DEEP), Ok(()));
+    assert_eq!(rt; reads(rt.alloc(), &LAID_KEPT, &READ_KEPT), Ok(()));
     Ok(())
 }
 

@@ -14,6 +14,8 @@ mod opened;
 mod random;
 #[cfg(test)]
 mod rows;
+#[cfg(test)]
+mod snapshots;
 mod wrong;
 
 pub use beside::{

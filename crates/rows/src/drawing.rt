@@ -33,6 +33,14 @@ impl Lot {
     }
 }
 
+/// What scripts are drawn: how many lines each has, over how many volumes, two to four where that is 0, and whether these have snapshots.
+#[derive(Clone, Copy)]
+pub struct Drawing {
+    pub lines: u64,
+    pub over: u64,
+    pub snapshots: bool,
+}
+
 /// A script over a few volumes, with its aggregate's blocks and the lines that ask for what these volumes hold.
 #[derive(Drop)]
 pub struct Drawn {
@@ -75,12 +83,12 @@ const OTHERS: [&str; 13] = [
     "\n",
 ];
 
-/// The script of a seed, with so many lines, over so many volumes; over two to four where `over` is 0.
-pub fn draw(alloc: Global, seed: u64, lines: u64, over: u64) -> Result<Drawn, AllocError> {
+/// The script of a seed.
+pub fn draw(alloc: Global, seed: u64, kind: Drawing) -> Result<Drawn, AllocError> {
     let mut lot = lot_of(seed);
-    let wide = over > 4 || lot.below(4) == 0;
-    let volumes = if over != 0 {
-        over.saturating_sub(1)
+    let wide = kind.over > 4 || lot.below(4) == 0;
+    let volumes = if kind.over != 0 {
+        kind.over.saturating_sub(1)
     } else if wide {
         3
     } else {
@@ -89,13 +97,13 @@ pub fn draw(alloc: Global, seed: u64, lines: u64, over: u64) -> Result<Drawn, Al
     let mut script = Vec::new(alloc);
     let capacity = if wide { 761 } else { 249 };
     add_volumes(alloc, &mut lot, capacity, volumes, &mut script)?;
-    for _ in lines_in(script.as_slice())..lines {
-        add_command(alloc, &mut lot, volumes, &mut script)?;
+    for _ in lines_in(script.as_slice())..kind.lines {
+        add_command(alloc, &mut lot, volumes, kind.snapshots, &mut script)?;
     }
     Ok(Drawn {
         blocks: if wide { 1024 } else { 512 },
         script,
-        looks: looks_at(alloc, volumes)?,
+        looks: looks_at(alloc, volumes, kind.snapshots)?,
     })
 }
 
@@ -164,11 +172,12 @@ fn add_content(alloc: Global, lot: &mut Lot, script: &mut Vec<u8>) -> Result<(),
     }
 }
 
-/// A line on a file, on names, on a volume, or another one. Some name a volume that isn't there.
+/// A line on a file, on names, on a volume, perhaps on a snapshot, or another one. Some name a volume that isn't there.
 fn add_command(
     alloc: Global,
     lot: &mut Lot,
     volumes: u64,
+    snapshots: bool,
     script: &mut Vec<u8>,
 ) -> Result<(), AllocError> {
     let volume = if lot.below(40) == 0 {
@@ -176,7 +185,9 @@ fn add_command(
     } else {
         lot.below(volumes.saturating_add(1))
     };
-    let line = if lot.below(4) == 0 {
+    let line = if snapshots && lot.below(3) == 0 {
+        snapshot_line(alloc, lot, volume)?
+    } else if lot.below(4) == 0 {
         volume_line(alloc, lot, volume)?
     } else {
         file_line(alloc, lot, volume)?
@@ -209,6 +220,22 @@ fn volume_line(alloc: Global, lot: &mut Lot, volume: u64) -> Result<String, Allo
     }
 }
 
+/// A line on a snapshot, or one that reads it. A volume has a few, so that a name is taken and gone in turn.
+fn snapshot_line(alloc: Global, lot: &mut Lot, volume: u64) -> Result<String, AllocError> {
+    let snapshot = lot.below(3);
+    let file = lot.one_of(&FILES);
+    let index = lot.one_of(&INDEXES);
+    match lot.below(16) {
+        0..=5 => format!(in alloc; "snap create v{volume} s{snapshot}\n"),
+        6..=8 => format!(in alloc; "snap delete v{volume} s{snapshot}\n"),
+        9..=10 => format!(in alloc; "snap restore v{volume} s{snapshot}\n"),
+        11 => format!(in alloc; "snap list v{volume}\n"),
+        12..=13 => format!(in alloc; "get v{volume}@s{snapshot} f{file} {index}\n"),
+        14 => format!(in alloc; "len v{volume}@s{snapshot} f{file}\n"),
+        _ => format!(in alloc; "ls v{volume}@s{snapshot}\n"),
+    }
+}
+
 /// A line on a file or on names, or another one; a `put` without its content.
 fn file_line(alloc: Global, lot: &mut Lot, volume: u64) -> Result<String, AllocError> {
     let file = lot.one_of(&FILES);
@@ -236,29 +263,45 @@ fn other(lot: &mut Lot) -> &'static str {
     }
 }
 
-/// What is asked of a disk: the volumes, what each tells of itself, its files, and of two files the lengths and three blocks.
-fn looks_at(alloc: Global, volumes: u64) -> Result<Vec<u8>, AllocError> {
+/// What is asked of a disk: the volumes, what each tells of itself, its files, and of two files the lengths and three blocks; and of snapshots
+/// the same.
+fn looks_at(alloc: Global, volumes: u64, snapshots: bool) -> Result<Vec<u8>, AllocError> {
     let mut looks = Vec::new(alloc);
     add(&mut looks, "vol list\n")?;
     for volume in 0..=volumes {
         add(
             &mut looks,
-            format!(in alloc; "vol stat v{volume}\nls v{volume}\n")?.as_str(),
+            format!(in alloc; "vol stat v{volume}\n")?.as_str(),
         )?;
-        for file in 0..2 {
-            add(
-                &mut looks,
-                format!(in alloc; "len v{volume} f{file}\n")?.as_str(),
-            )?;
-            add(
-                &mut looks,
-                format!(in alloc; "get v{volume} f{file} 0\n")?.as_str(),
-            )?;
+        look_at_table(alloc, &mut looks, format!(in alloc; "v{volume}")?.as_str())?;
+        if snapshots {
+            look_at_snapshots(alloc, &mut looks, volume)?;
         }
-        add(
-            &mut looks,
-            format!(in alloc; "get v{volume} f0 128\n")?.as_str(),
-        )?;
     }
     Ok(looks)
+}
+
+/// What is asked of the snapshots of a volume.
+fn look_at_snapshots(alloc: Global, looks: &mut Vec<u8>, volume: u64) -> Result<(), AllocError> {
+    add(looks, format!(in alloc; "snap list v{volume}\n")?.as_str())?;
+    for snapshot in 0..3 {
+        look_at_table(
+            alloc,
+            looks,
+            format!(in alloc; "v{volume}@s{snapshot}")?.as_str(),
+        )?;
+    }
+    Ok(())
+}
+
+/// What is asked of a table.
+fn look_at_table(alloc: Global, looks: &mut Vec<u8>, table: &str) -> Result<(), AllocError> {
+    add(looks, format!(in alloc; "ls {table}\n")?.as_str())?;
+    for file in 0..2 {
+        add(
+            looks,
+            format!(in alloc; "len {table} f{file}\nget {table} f{file} 0\n")?.as_str(),
+        )?;
+    }
+    add(looks, format!(in alloc; "get {table} f0 128\n")?.as_str())
 }

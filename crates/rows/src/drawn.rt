@@ -2,7 +2,7 @@
 
 use crate::bench::{Bench, Program};
 use crate::cause::{Cause, because, unread};
-use crate::drawing::{Lot, draw, lot_of};
+use crate::drawing::{Drawing, Lot, draw, lot_of};
 use crate::lines::{number, split_lines};
 use crate::playing::{aggregate, begin_run, begin_walks, end_run};
 use crate::walking::see_torn;
@@ -11,40 +11,35 @@ use std::alloc::AllocError;
 /// How many tears are drawn from.
 const TEARS: u64 = 12;
 
-/// Plays the script of each seed of a range, each on a new aggregate. The row says how many lines each has, perhaps over how many volumes, at
-/// how many moments by lot it is stopped, and which refusals have to come among all replies.
+/// Plays the script of each seed of a range, each on a new aggregate. The row says how many lines each has, perhaps over how many volumes and
+/// that they have snapshots, at how many moments by lot it is stopped, and which refusals have to come among all replies.
 pub fn play_drawn(bench: &mut Bench, text: &str) -> Result<(), Cause> {
     let words: Vec<&str> = text.split(' ').collect(bench.alloc)?;
-    match words.as_slice() {
-        [first, "to", last, "lines", lines, "over", over, rest @ ..] => play_seeds(
-            bench,
-            number(first)?,
-            number(last)?,
-            number(lines)?,
-            number(over)?,
-            rest,
-        ),
-        [first, "to", last, "lines", lines, rest @ ..] => {
-            play_seeds(
-                bench,
-                number(first)?,
-                number(last)?,
-                number(lines)?,
-                0,
-                rest,
-            )
-        }
-        _ => Err(unread()),
-    }
+    let [first, "to", last, "lines", lines, rest @ ..] = words.as_slice() else {
+        return Err(unread());
+    };
+    let (over, rest) = match rest {
+        ["over", over, rest @ ..] => (number(over)?, rest),
+        rest => (0, rest),
+    };
+    let (snapshots, rest) = match rest {
+        ["with", "snapshots", rest @ ..] => (true, rest),
+        rest => (false, rest),
+    };
+    let kind = Drawing {
+        lines: number(lines)?,
+        over,
+        snapshots,
+    };
+    play_seeds(bench, number(first)?, number(last)?, kind, rest)
 }
 
-/// Plays the scripts of these seeds over so many volumes, two to four where `over` is 0. The words are the rest of the row.
+/// Plays the scripts of these seeds. The words are the rest of the row.
 fn play_seeds(
     bench: &mut Bench,
     first: u64,
     last: u64,
-    lines: u64,
-    over: u64,
+    kind: Drawing,
     words: &[&str],
 ) -> Result<(), Cause> {
     let ["stopped", stops, "refused", wanted @ ..] = words else {
@@ -53,17 +48,15 @@ fn play_seeds(
     let stops = number(stops)?;
     let mut seen = [false; 17];
     for seed in first..=last {
-        play_seed(bench, seed, lines, over, stops).map_err(|cause| because(
-            cause.what, seed, cause.at,
-        ))?;
+        play_seed(bench, seed, kind, stops).map_err(|cause| because(cause.what, seed, cause.at))?;
         mark_refusals(bench.host.given(), &mut seen);
     }
     all_came(wanted, &seen)
 }
 
 /// Plays the script of a seed: its replies are those of the plain machine, and so is what the disk then stands for.
-fn play_seed(bench: &mut Bench, seed: u64, lines: u64, over: u64, stops: u64) -> Result<(), Cause> {
-    let drawn = draw(bench.alloc, seed, lines, over)?;
+fn play_seed(bench: &mut Bench, seed: u64, kind: Drawing, stops: u64) -> Result<(), Cause> {
+    let drawn = draw(bench.alloc, seed, kind)?;
     aggregate(bench, format!(in bench.alloc; "{}", drawn.blocks)?.as_str())?;
     begin_run(bench, Program::Flexvol, "run")?;
     bench.run.script = drawn.script;

@@ -1,19 +1,25 @@
-use Rattle.std.proofs.Common.{refl, sym, ◌∙◌}
+use Rattle.std.proofs.Common.{◌≡◌, length, refl, sym, ap, ◌∙◌, arith}
+use Rattle.fv_aggmap.specs.Space.{blocks_of}
+use Rattle.fv_cp.specs.Course.{all_regions}
 use Rattle.fv_cp.proofs.Stepping.{past_written}
 use Rattle.fv_cp.proofs.point.write_slot.Goals as goal
 
 pub returns-clause-past : goal.returns-clause-past
 returns-clause-past g c =
     let wrote = c.in_ok-label.ensures in
-    past_written _ c.in-Some.state.now c.args.slot c.args.labels.now c.args.pool.now (g.D.Disk.shown c.args.disk.now) _ _ (g.D.Disk.shown c.write_volume.new.disk) (sym c.in-Some.ensures) (sym c.is_changed.ensures ∙ c.if-not-is_changed.false) (record {
+    let size : blocks_of c.reclaim_all.new.pool_map ≡ blocks_of c.args.pool.now.map = ap length c.reclaim_all.ensures.blocks.committed in
+    past_written all_regions _ c.in-Some.state.now c.args.slot c.args.labels.now c.args.pool.now (g.D.Disk.shown c.args.disk.now) _ _ (g.D.Disk.shown c.write_volume.new.disk) (sym c.in-Some.ensures) (sym c.is_changed.ensures ∙ c.if-not-is_changed.false) (record {
       old = c.in-Some-get_mut.container.now;
       there = sym c.in-Some-get_mut.ensures.container;
       few = c.get_mut.ensures.valid.containers;
+      mid = c.reclaim_all.new.container;
+      space = c.reclaim_all.new.pool_map;
+      reclaimed = c.reclaim_all.ensures;
       new = c.write_volume.new.container;
       long = wrote.entries;
       valid = wrote.valid;
       label = c.in_ok-label.label;
-      within = wrote.label;
+      within = omega (arith, wrote.label, size);
       named = refl;
       containers = refl;
       written = wrote.written;

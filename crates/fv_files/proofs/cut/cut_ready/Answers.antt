@@ -1,4 +1,7 @@
-use Rattle.std.proofs.Common.{ap, subst, arith}
+use Rattle.std.proofs.Common.{ap, subst, arith, ◌/◌, sym, ◌∙◌}
+use Rattle.fv_tables.specs.Told.{records_each}
+use Rattle.fv_tree.specs.Flushing.{changed_of}
+use Rattle.fv_inode.specs.declared.info.Info.{Info}
 use Rattle.std.specs.Option.{option_map}
 use Rattle.std.proofs.lemmas.Result.{err_from_is_err_and}
 use Rattle.fv_tables.specs.Spelled.{stored}
@@ -10,7 +13,7 @@ use Rattle.fv_inode.specs.Files.{with_info}
 use Rattle.fv_files.specs.Tables.{table_in}
 use Rattle.fv_files.proofs.Counted.{tree_holds}
 use Rattle.fv_files.specs.Calls.{shortened}
-use Rattle.fv_files.proofs.Steps.{cut_failed, cut_done, cut_led, cut_led_failed, cut_pending, cut_pending_done, cut_spares, cut_stood}
+use Rattle.fv_files.proofs.Steps.{cut_failed, cut_done, cut_led, cut_led_failed, cut_pending, cut_pending_done, cut_spares, cut_stood, cut_table_done, cut_table_failed}
 use Rattle.fv_files.proofs.Wrote.{rewrites_as, cut_table, cut_takes}
 use Rattle.fv_files.proofs.cut.cut_ready.Goals as goal
 
@@ -54,12 +57,8 @@ returns-clause-changes g c =
     cut_done g.B.Blocks.told (g.B.Blocks.goes c.args.blocks.now c.cut_kept.new.blocks) (Unit {0}) (g.B.Blocks.shown c.args.blocks.now) (g.B.Blocks.shown c.cut_kept.new.blocks) f c.cut_kept.new.trees info.number c.args.length
     c.least_levels-start.result c.args.stamp c.rewrite.new.self (with_info (shortened info c.args.length)) c.in_ok-count.count c.in_ok-count.ensures (record {
       rewrites = rewrites_as f.inode c.rewrite.new.self c.args.stamp c.shortened.result (shortened info c.args.length) c.shortened.ensures.is c.rewrite.ensures.rewrites;
-      owner = c.rewrite.ensures.owner;
-      sound = c.rewrite.ensures.sound;
-      leads = c.rewrite.ensures.leads;
-      keeps = c.rewrite.ensures.keeps;
-      keeps_ready = c.rewrite.ensures.keeps_ready;
-      stored_well = c.rewrite.ensures.stored_well;
+      alters = c.rewrite.ensures.alters;
+      marked = ap (λ (v : Info). changed_of c.rewrite.new.self.tree 0 (v.number / records_each)) (sym c.shortened.ensures.is) ∙ c.rewrite.ensures.marked;
     })
 
 pub returns-in_err-count-clause-led : goal.returns-in_err-count-clause-led
@@ -72,12 +71,8 @@ returns-clause-led g c =
     let info = c.args.info.now in
     cut_led g.B.Blocks.told (g.B.Blocks.goes c.args.blocks.now c.cut_kept.new.blocks) (Unit {0}) (g.B.Blocks.shown c.args.blocks.now) (g.B.Blocks.shown c.cut_kept.new.blocks) c.args.files.now c.cut_kept.new.trees c.args.info.now.number c.args.length c.least_levels-start.result c.args.stamp c.rewrite.new.self (with_info (shortened info c.args.length)) c.in_ok-count.count c.in_ok-count.ensures (record {
       rewrites = rewrites_as f.inode c.rewrite.new.self c.args.stamp c.shortened.result (shortened info c.args.length) c.shortened.ensures.is c.rewrite.ensures.rewrites;
-      owner = c.rewrite.ensures.owner;
-      sound = c.rewrite.ensures.sound;
-      leads = c.rewrite.ensures.leads;
-      keeps = c.rewrite.ensures.keeps;
-      keeps_ready = c.rewrite.ensures.keeps_ready;
-      stored_well = c.rewrite.ensures.stored_well;
+      alters = c.rewrite.ensures.alters;
+      marked = ap (λ (v : Info). changed_of c.rewrite.new.self.tree 0 (v.number / records_each)) (sym c.shortened.ensures.is) ∙ c.rewrite.ensures.marked;
     })
 
 pub returns-in_err-count-clause-pending : goal.returns-in_err-count-clause-pending
@@ -95,3 +90,20 @@ returns-clause-pending_done g c = λ told sound now well.
     let holds = subst HoldsCells (ap (λ o. tree_or (option_map (standing (under old)) o) (stored (under old) info.number is.file.levels is.file.root)) cuts.becomes.was) (tree_holds (table_in old f) info.number is.file is.there now well) in
     let most = cut_pending_done g.B.Blocks.told (g.B.Blocks.goes c.args.blocks.now c.cut_kept.new.blocks) (Unit {0}) (g.B.Blocks.shown c.args.blocks.now) (g.B.Blocks.shown c.cut_kept.new.blocks) c.args.files.now c.cut_kept.new.trees c.args.info.now.number c.args.length c.least_levels-start.result c.args.stamp c.in_ok-count.count cuts told sound holds in
     omega (arith, most, c.rewrite.ensures.rises.pending)
+
+pub returns-in_err-count-clause-alters : goal.returns-in_err-count-clause-alters
+returns-in_err-count-clause-alters g c =
+    let p = err_from_is_err_and c.from_residual.result c.from_residual.ensures.1 in
+    rw (p.1, p.2) (cut_table_failed g.B.Blocks.told (g.B.Blocks.goes c.args.blocks.now c.cut_kept.new.blocks) (Unit {0}) (g.B.Blocks.shown c.args.blocks.now) (g.B.Blocks.shown c.cut_kept.new.blocks) c.args.files.now c.cut_kept.new.trees c.args.info.now.number c.args.length
+    c.least_levels-start.result c.args.stamp c.in_err-count.field-0.0 c.in_err-count.ensures)
+
+pub returns-clause-alters : goal.returns-clause-alters
+returns-clause-alters g c =
+    let f = c.args.files.now in
+    let info = c.args.info.now in
+    cut_table_done g.B.Blocks.told (g.B.Blocks.goes c.args.blocks.now c.cut_kept.new.blocks) (Unit {0}) (g.B.Blocks.shown c.args.blocks.now) (g.B.Blocks.shown c.cut_kept.new.blocks) f c.cut_kept.new.trees info.number c.args.length
+    c.least_levels-start.result c.args.stamp c.rewrite.new.self (with_info (shortened info c.args.length)) c.in_ok-count.count c.in_ok-count.ensures (record {
+      rewrites = rewrites_as f.inode c.rewrite.new.self c.args.stamp c.shortened.result (shortened info c.args.length) c.shortened.ensures.is c.rewrite.ensures.rewrites;
+      alters = c.rewrite.ensures.alters;
+      marked = ap (λ (v : Info). changed_of c.rewrite.new.self.tree 0 (v.number / records_each)) (sym c.shortened.ensures.is) ∙ c.rewrite.ensures.marked;
+    })

@@ -3,15 +3,17 @@ use Rattle.std.specs.Prelude.{is_some}
 use Rattle.std.specs.FinMap as fin
 use Rattle.std.proofs.lemmas.Result.{err_from_is_err_and}
 use Rattle.fv_tables.specs.Told.{file_at}
+use Rattle.fv_tree.specs.Sources.{WasFree}
 use Rattle.fv_tree.specs.Standing.{standing}
+use Rattle.fv_tree.proofs.Anew.{free_later}
 use Rattle.fv_inode.specs.Files.{rooted}
 use Rattle.fv_files.specs.Tables.{tree_in}
 use Rattle.fv_files.specs.Flushing.{HasRoot}
 use Rattle.fv_files.proofs.Looked.{Held}
 use Rattle.fv_files.proofs.Changed.{own_ready, with_trees}
 use Rattle.fv_files.proofs.Kept.{stored_on_blocks}
-use Rattle.fv_files.proofs.Laid.{lays_then, stores_then}
-use Rattle.fv_files.proofs.Flushed.{lays_failed, lays_astray, look_lays, look_none, strayed}
+use Rattle.fv_files.proofs.Laid.{lays_then, places_then, stores_then}
+use Rattle.fv_files.proofs.Flushed.{lays_failed, lays_astray, look_lays, look_none, look_places, places_astray, strayed}
 use Rattle.fv_files.proofs.Passed.{root_told}
 use Rattle.fv_files.proofs.flush.flush_file.Goals as goal
 
@@ -70,3 +72,27 @@ returns-in-Some-clause-stored_well g c = λ told known.
     let f = c.args.files.now in
     stores_then g.B.Blocks.told old mid (g.B.Blocks.shown c.lay_file.new.blocks) f f c.lay_file.new.files c.in_ok-look.field-0 (look_lays g.B.Blocks.told old mid f (Ok c.in_ok-look.field-0) c.in_ok-look.ensures.looks (λ told sound. tt)) told
     (λ sound led. stored_on_blocks f old mid c.in_ok-look.ensures.looks.untouched.held) (c.lay_file.ensures.stored_well told known)
+
+pub returns-in_err-look-clause-places : goal.returns-in_err-look-clause-places
+returns-in_err-look-clause-places g c =
+    look_places g.B.Blocks.told (WasFree g.B.Blocks.shown g.B.Blocks.goes c.args.blocks.now c.look.new.blocks) (g.B.Blocks.shown c.args.blocks.now) (g.B.Blocks.shown c.look.new.blocks) c.args.files.now (Err c.in_err-look.field-0.0) c.in_err-look.ensures.looks
+
+pub returns-in-None-clause-places : goal.returns-in-None-clause-places
+returns-in-None-clause-places g c =
+    let old = g.B.Blocks.shown c.args.blocks.now in
+    let f = c.args.files.now in
+    let there : is_some (tree_in f c.args.number) ≡ true = c.requires.kept in
+    places_astray g.B.Blocks.told (WasFree g.B.Blocks.shown g.B.Blocks.goes c.args.blocks.now c.look.new.blocks) old (g.B.Blocks.shown c.look.new.blocks) f (with_trees f c.forget.new.trees)
+    (λ told sound. look_none old f c.args.number c.in_ok-look.field-0 (ap is_some c.in-None.is) (c.in_ok-look.ensures.found told) (strayed old f c.args.number there sound))
+
+pub returns-in-Some-clause-places : goal.returns-in-Some-clause-places
+returns-in-Some-clause-places g c =
+    let old = g.B.Blocks.shown c.args.blocks.now in
+    let mid = g.B.Blocks.shown c.look.new.blocks in
+    let new = g.B.Blocks.shown c.lay_file.new.blocks in
+    let f = c.args.files.now in
+    let free = WasFree g.B.Blocks.shown g.B.Blocks.goes c.args.blocks.now c.lay_file.new.blocks in
+    places_then g.B.Blocks.told free (WasFree g.B.Blocks.shown g.B.Blocks.goes c.look.new.blocks c.lay_file.new.blocks) free (λ v is. is)
+    (free_later g.B.Blocks.shown g.B.Blocks.goes g.met.B.Blocks.goes_on c.args.blocks.now c.look.new.blocks c.lay_file.new.blocks (g.met.B.Blocks.reads_go c.args.blocks.now c.look.new.blocks c.in_ok-look.ensures.reads))
+    old mid new f f c.lay_file.new.files c.in_ok-look.field-0 (look_lays g.B.Blocks.told old mid f (Ok c.in_ok-look.field-0) c.in_ok-look.ensures.looks (λ told sound. tt))
+    (look_places g.B.Blocks.told free old mid f (Ok c.in_ok-look.field-0) c.in_ok-look.ensures.looks) c.lay_file.ensures.places

@@ -1,6 +1,8 @@
 use Rattle.std.proofs.Common.{arith, Err, Ok}
 use Rattle.std.proofs.lemmas.Result.{err_from_is_err_and}
-use Rattle.fv_files.proofs.Laid.{lays_then, stores_then}
+use Rattle.fv_tree.specs.Sources.{WasFree}
+use Rattle.fv_tree.proofs.Anew.{free_later, free_sooner}
+use Rattle.fv_files.proofs.Laid.{lays_then, places_then, stores_then}
 use Rattle.fv_files.proofs.flush.flush_trees.Goals as goal
 
 pub loop-preserved : goal.loop-preserved
@@ -8,6 +10,9 @@ loop-preserved g c =
     let was = c.loop.invariant in
     let now = c.in_ok-flush_first.ensures in record {
       lays = lays_then g.B.Blocks.told (g.B.Blocks.shown c.args.blocks.now) (g.B.Blocks.shown c.loop.blocks) (g.B.Blocks.shown c.flush_first.new.blocks) c.args.files.now c.loop.files c.flush_first.new.files tt (Ok tt) was.lays now.lays;
+      places = places_then g.B.Blocks.told (WasFree g.B.Blocks.shown g.B.Blocks.goes c.args.blocks.now c.loop.blocks) (WasFree g.B.Blocks.shown g.B.Blocks.goes c.loop.blocks c.flush_first.new.blocks) (WasFree g.B.Blocks.shown g.B.Blocks.goes c.args.blocks.now c.flush_first.new.blocks)
+          (free_sooner g.B.Blocks.shown g.B.Blocks.goes g.met.B.Blocks.goes_on c.args.blocks.now c.loop.blocks c.flush_first.new.blocks c.in_ok-flush_first.ensures.calls) (free_later g.B.Blocks.shown g.B.Blocks.goes g.met.B.Blocks.goes_on c.args.blocks.now c.loop.blocks c.flush_first.new.blocks c.loop.invariant.calls)
+          (g.B.Blocks.shown c.args.blocks.now) (g.B.Blocks.shown c.loop.blocks) (g.B.Blocks.shown c.flush_first.new.blocks) c.args.files.now c.loop.files c.flush_first.new.files tt c.loop.invariant.lays c.loop.invariant.places c.in_ok-flush_first.ensures.places;
       stored_well = λ told known. stores_then g.B.Blocks.told (g.B.Blocks.shown c.args.blocks.now) (g.B.Blocks.shown c.loop.blocks) (g.B.Blocks.shown c.flush_first.new.blocks) c.args.files.now c.loop.files c.flush_first.new.files tt was.lays told
           (was.stored_well told known) (now.stored_well told known);
       count = omega (arith, now.fewer, was.count);
@@ -25,3 +30,9 @@ pub returns-in_err-flush_first-clause-stored_well : goal.returns-in_err-flush_fi
 returns-in_err-flush_first-clause-stored_well g c = λ told known.
     stores_then g.B.Blocks.told (g.B.Blocks.shown c.args.blocks.now) (g.B.Blocks.shown c.loop.blocks) (g.B.Blocks.shown c.flush_first.new.blocks) c.args.files.now c.loop.files c.flush_first.new.files tt c.loop.invariant.lays told
     (c.loop.invariant.stored_well told known) (c.in_err-flush_first.ensures.stored_well told known)
+
+pub returns-in_err-flush_first-clause-places : goal.returns-in_err-flush_first-clause-places
+returns-in_err-flush_first-clause-places g c =
+    places_then g.B.Blocks.told (WasFree g.B.Blocks.shown g.B.Blocks.goes c.args.blocks.now c.loop.blocks) (WasFree g.B.Blocks.shown g.B.Blocks.goes c.loop.blocks c.flush_first.new.blocks) (WasFree g.B.Blocks.shown g.B.Blocks.goes c.args.blocks.now c.flush_first.new.blocks)
+    (free_sooner g.B.Blocks.shown g.B.Blocks.goes g.met.B.Blocks.goes_on c.args.blocks.now c.loop.blocks c.flush_first.new.blocks c.in_err-flush_first.ensures.calls) (free_later g.B.Blocks.shown g.B.Blocks.goes g.met.B.Blocks.goes_on c.args.blocks.now c.loop.blocks c.flush_first.new.blocks c.loop.invariant.calls)
+    (g.B.Blocks.shown c.args.blocks.now) (g.B.Blocks.shown c.loop.blocks) (g.B.Blocks.shown c.flush_first.new.blocks) c.args.files.now c.loop.files c.flush_first.new.files tt c.loop.invariant.lays c.loop.invariant.places c.in_err-flush_first.ensures.places

@@ -1,14 +1,16 @@
-use Rattle.std.proofs.Common.{Err, Ok, ap, ◌∙◌}
+use Rattle.std.proofs.Common.{◌≡◌, Err, Ok, sym, ap, ◌∙◌}
+use Rattle.fv_codec.specs.declared.inode.InodeRecord.{InodeRecord}
+use Rattle.fv_tree.specs.Sources.{WasFree}
+use Rattle.fv_tree.proofs.Anew.{free_sooner}
 use Rattle.std.specs.Prelude.{is_some}
 use Rattle.std.proofs.lemmas.Result.{err_from_is_err_and}
 use Rattle.fv_tables.specs.Told.{file_at}
 use Rattle.fv_inode.specs.Files.{rooted}
-use Rattle.fv_files.specs.Flushing.{HasRoot}
-use Rattle.fv_files.proofs.Tables.{alike}
+use Rattle.fv_files.proofs.Tables.{alike, some_same}
 use Rattle.fv_files.proofs.Changed.{own_ready, with_trees, with_inode}
-use Rattle.fv_files.proofs.Laid.{lays_then, stores_then}
-use Rattle.fv_files.proofs.Flushed.{kept_lays, kept_stores, lay_done, lay_stores, lays_failed, ready_lays, ready_stores}
-use Rattle.fv_files.proofs.Passed.{pass_done, pass_stores, same_root}
+use Rattle.fv_files.proofs.Laid.{lays_then, places_then, stores_then}
+use Rattle.fv_files.proofs.Flushed.{kept_lays, kept_places, kept_stores, lay_done, lay_places, lay_stores, lays_failed, ready_lays, ready_places, ready_stores}
+use Rattle.fv_files.proofs.Passed.{pass_done, pass_places, pass_stores, same_root}
 use Rattle.fv_files.proofs.flush.lay_file.Goals as goal
 
 pub returns-in_err-root-clause-lays : goal.returns-in_err-root-clause-lays
@@ -28,16 +30,16 @@ returns-in_err-set_root-clause-lays g c =
     let f = c.args.files.now in
     let two = with_trees f c.flush_kept.new.trees in
     let e = c.in_err-set_root.field-0.0 in
-    let alters = c.in_err-set_root.ensures.alters in
+    let loads = c.in_err-set_root.ensures.loads in
     let p = err_from_is_err_and c.from_residual-in_err-set_root.result c.from_residual-in_err-set_root.ensures.1 in
     rw (p.1, p.2) (lays_then g.B.Blocks.told old mid new f two (with_inode two c.set_root.new.self) c.in_ok-root.root (Err e) (kept_lays g.B.Blocks.told old mid f c.flush_kept.new.trees c.args.number (Ok c.in_ok-root.root) c.in_ok-root.ensures.flushes)
-    (ready_lays g.B.Blocks.told mid new two c.set_root.new.self (Err e) alters (λ told. alike (rooted mid f.inode) (rooted new c.set_root.new.self) (alters.failed told)) c.in_err-set_root.ensures.still
+    (ready_lays g.B.Blocks.told mid new two c.set_root.new.self (Err e) loads (λ told. alike (rooted mid f.inode) (rooted new c.set_root.new.self) (loads.failed told)) c.in_err-set_root.ensures.still
     (λ told sound. c.in_err-set_root.ensures.held told (own_ready mid two c.args.number (ap is_some c.in_ok-root.ensures.flushes.becomes.now) sound))))
 
 pub returns-clause-lays : goal.returns-clause-lays
 returns-clause-lays g c =
     lay_done g.B.Blocks.told (g.B.Blocks.shown c.args.blocks.now) (g.B.Blocks.shown c.flush_kept.new.blocks) (g.B.Blocks.shown c.set_root.new.blocks) c.args.files.now c.flush_kept.new.trees c.forget-2.new.trees c.set_root.new.self c.args.number c.kept_levels-levels.result c.in_ok-root.root
-    c.in_ok-root.ensures.flushes c.kept_levels-levels.ensures.levels c.in_ok-set_root.ensures.alters c.in_ok-set_root.ensures.set c.in_ok-set_root.ensures.rises.pending c.forget-2.ensures.gone c.forget-2.ensures.cost
+    c.in_ok-root.ensures.flushes c.kept_levels-levels.ensures.levels c.in_ok-set_root.ensures.loads c.in_ok-set_root.ensures.set c.in_ok-set_root.ensures.rises.pending c.forget-2.ensures.gone c.forget-2.ensures.cost
 
 pub returns-in_err-root-clause-stored_well : goal.returns-in_err-root-clause-stored_well
 returns-in_err-root-clause-stored_well g c = λ told known.
@@ -53,22 +55,22 @@ returns-in_err-set_root-clause-stored_well g c = λ told known.
     let two = with_trees f c.flush_kept.new.trees in
     let e = c.in_err-set_root.field-0.0 in
     let kept = c.in_ok-root.ensures.flushes in
-    let alters = c.in_err-set_root.ensures.alters in
+    let loads = c.in_err-set_root.ensures.loads in
     stores_then g.B.Blocks.told old mid new f two (with_inode two c.set_root.new.self) c.in_ok-root.root (kept_lays g.B.Blocks.told old mid f c.flush_kept.new.trees c.args.number (Ok c.in_ok-root.root) kept) told
     (kept_stores g.B.Blocks.told old mid f c.flush_kept.new.trees c.args.number (Ok c.in_ok-root.root) kept told (c.in_ok-root.ensures.places known))
-    (ready_stores g.B.Blocks.told mid new two c.set_root.new.self (Err e) alters (λ told. alike (rooted mid f.inode) (rooted new c.set_root.new.self) (alters.failed told)) c.in_err-set_root.ensures.still
+    (ready_stores g.B.Blocks.told mid new two c.set_root.new.self (Err e) loads (λ told. alike (rooted mid f.inode) (rooted new c.set_root.new.self) (loads.failed told)) c.in_err-set_root.ensures.still
     (λ told sound. c.in_err-set_root.ensures.held told (own_ready mid two c.args.number (ap is_some kept.becomes.now) sound)) told)
 
 pub returns-clause-stored_well : goal.returns-clause-stored_well
 returns-clause-stored_well g c = λ told known.
     lay_stores g.B.Blocks.told (g.B.Blocks.shown c.args.blocks.now) (g.B.Blocks.shown c.flush_kept.new.blocks) (g.B.Blocks.shown c.set_root.new.blocks) c.args.files.now c.flush_kept.new.trees c.forget-2.new.trees c.set_root.new.self c.args.number c.kept_levels-levels.result c.in_ok-root.root
-    c.in_ok-root.ensures.flushes c.kept_levels-levels.ensures.levels c.in_ok-set_root.ensures.alters c.in_ok-set_root.ensures.set c.in_ok-set_root.ensures.rises.pending c.forget-2.ensures.gone c.forget-2.ensures.cost told (c.in_ok-root.ensures.places known)
+    c.in_ok-root.ensures.flushes c.kept_levels-levels.ensures.levels c.in_ok-set_root.ensures.loads c.in_ok-set_root.ensures.set c.in_ok-set_root.ensures.rises.pending c.forget-2.ensures.gone c.forget-2.ensures.cost told (c.in_ok-root.ensures.places known)
 
 pub returns-then-has_root-clause-lays : goal.returns-then-has_root-clause-lays
 returns-then-has_root-clause-lays g c =
     let old = g.B.Blocks.shown c.args.blocks.now in
     let f = c.args.files.now in
-    let same = c.has_root.ensures c.if-has_root.true in
+    let same = c.has_root.ensures.same c.if-has_root.true in
     pass_done g.B.Blocks.told old (g.B.Blocks.shown c.flush_kept.new.blocks) f c.flush_kept.new.trees c.forget.new.trees c.args.number c.kept_levels-levels.result c.in_ok-root.root
     c.in_ok-root.ensures.flushes c.kept_levels-levels.ensures.levels
     (λ told. same_root (file_at (rooted old f.inode) c.args.number) c.args.info.now c.kept_levels-levels.result c.in_ok-root.root same.0 same.1 (c.requires.there told)) c.forget.ensures.gone c.forget.ensures.cost
@@ -77,7 +79,56 @@ pub returns-then-has_root-clause-stored_well : goal.returns-then-has_root-clause
 returns-then-has_root-clause-stored_well g c = λ told known.
     let old = g.B.Blocks.shown c.args.blocks.now in
     let f = c.args.files.now in
-    let same = c.has_root.ensures c.if-has_root.true in
+    let same = c.has_root.ensures.same c.if-has_root.true in
     pass_stores g.B.Blocks.told old (g.B.Blocks.shown c.flush_kept.new.blocks) f c.flush_kept.new.trees c.forget.new.trees c.args.number c.kept_levels-levels.result c.in_ok-root.root
     c.in_ok-root.ensures.flushes c.kept_levels-levels.ensures.levels
     (λ tells. same_root (file_at (rooted old f.inode) c.args.number) c.args.info.now c.kept_levels-levels.result c.in_ok-root.root same.0 same.1 (c.requires.there tells)) c.forget.ensures.gone c.forget.ensures.cost told (c.in_ok-root.ensures.places known)
+
+pub returns-in_err-root-clause-places : goal.returns-in_err-root-clause-places
+returns-in_err-root-clause-places g c =
+    kept_places g.B.Blocks.told (g.B.Blocks.shown c.args.blocks.now) (g.B.Blocks.shown c.flush_kept.new.blocks) c.args.files.now c.flush_kept.new.trees c.args.number (Err c.in_err-root.field-0.0) c.in_err-root.ensures.flushes
+    (WasFree g.B.Blocks.shown g.B.Blocks.goes c.args.blocks.now c.flush_kept.new.blocks) c.in_err-root.ensures.anew
+
+pub returns-in_err-set_root-clause-places : goal.returns-in_err-set_root-clause-places
+returns-in_err-set_root-clause-places g c =
+    let old = g.B.Blocks.shown c.args.blocks.now in
+    let mid = g.B.Blocks.shown c.flush_kept.new.blocks in
+    let new = g.B.Blocks.shown c.set_root.new.blocks in
+    let f = c.args.files.now in
+    let two = with_trees f c.flush_kept.new.trees in
+    let e = c.in_err-set_root.field-0.0 in
+    let kept = c.in_ok-root.ensures.flushes in
+    let loads = c.in_err-set_root.ensures.loads in
+    let first = WasFree g.B.Blocks.shown g.B.Blocks.goes c.args.blocks.now c.flush_kept.new.blocks in
+    let free = WasFree g.B.Blocks.shown g.B.Blocks.goes c.args.blocks.now c.set_root.new.blocks in
+    let sooner = free_sooner g.B.Blocks.shown g.B.Blocks.goes g.met.B.Blocks.goes_on c.args.blocks.now c.flush_kept.new.blocks c.set_root.new.blocks (g.met.B.Blocks.reads_go c.flush_kept.new.blocks c.set_root.new.blocks c.in_err-set_root.ensures.reads) in
+    places_then g.B.Blocks.told first first free sooner sooner old mid new f two (with_inode two c.set_root.new.self) c.in_ok-root.root (kept_lays g.B.Blocks.told old mid f c.flush_kept.new.trees c.args.number (Ok c.in_ok-root.root) kept)
+    (kept_places g.B.Blocks.told old mid f c.flush_kept.new.trees c.args.number (Ok c.in_ok-root.root) kept first c.in_ok-root.ensures.anew)
+    (ready_places g.B.Blocks.told mid new two c.set_root.new.self (Err e) loads (λ told. alike (rooted mid f.inode) (rooted new c.set_root.new.self) (loads.failed told)) c.in_err-set_root.ensures.still
+    (λ told sound. c.in_err-set_root.ensures.held told (own_ready mid two c.args.number (ap is_some kept.becomes.now) sound)) first loads.leaves)
+
+pub returns-clause-places : goal.returns-clause-places
+returns-clause-places g c =
+    let old = g.B.Blocks.shown c.args.blocks.now in
+    let mid = g.B.Blocks.shown c.flush_kept.new.blocks in
+    let new = g.B.Blocks.shown c.set_root.new.blocks in
+    let did = c.in_ok-set_root.ensures in
+    lay_places g.B.Blocks.told old mid new c.args.files.now c.flush_kept.new.trees c.forget-2.new.trees c.set_root.new.self c.args.number c.kept_levels-levels.result c.in_ok-root.root
+    c.in_ok-root.ensures.flushes c.kept_levels-levels.ensures.levels did.loads did.set did.rises.pending c.forget-2.ensures.gone c.forget-2.ensures.cost
+    (WasFree g.B.Blocks.shown g.B.Blocks.goes c.args.blocks.now c.flush_kept.new.blocks) (WasFree g.B.Blocks.shown g.B.Blocks.goes c.args.blocks.now c.set_root.new.blocks) c.in_ok-root.ensures.anew
+    (free_sooner g.B.Blocks.shown g.B.Blocks.goes g.met.B.Blocks.goes_on c.args.blocks.now c.flush_kept.new.blocks c.set_root.new.blocks (g.met.B.Blocks.reads_go c.flush_kept.new.blocks c.set_root.new.blocks did.reads))
+    (λ r at levels root told.
+    let has = c.requires.there told in
+    let it : r ≡ has.file = some_same r has.file (sym at ∙ has.is) in
+    c.has_root.ensures.other c.if-has_root.false (sym has.levels_is ∙ ap (λ (q : InodeRecord). q.levels) (sym it) ∙ levels) (sym has.root_is ∙ ap (λ (q : InodeRecord). q.root) (sym it) ∙ root))
+    did.leaves
+
+pub returns-then-has_root-clause-places : goal.returns-then-has_root-clause-places
+returns-then-has_root-clause-places g c =
+    let old = g.B.Blocks.shown c.args.blocks.now in
+    let f = c.args.files.now in
+    let same = c.has_root.ensures.same c.if-has_root.true in
+    pass_places g.B.Blocks.told old (g.B.Blocks.shown c.flush_kept.new.blocks) f c.flush_kept.new.trees c.forget.new.trees c.args.number c.kept_levels-levels.result c.in_ok-root.root
+    c.in_ok-root.ensures.flushes c.kept_levels-levels.ensures.levels
+    (λ told. same_root (file_at (rooted old f.inode) c.args.number) c.args.info.now c.kept_levels-levels.result c.in_ok-root.root same.0 same.1 (c.requires.there told)) c.forget.ensures.gone c.forget.ensures.cost
+    (WasFree g.B.Blocks.shown g.B.Blocks.goes c.args.blocks.now c.flush_kept.new.blocks) c.in_ok-root.ensures.anew

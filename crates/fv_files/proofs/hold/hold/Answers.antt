@@ -14,7 +14,7 @@ returns-then-contains_key-clause-holds c =
 pub returns-clause-holds : goal.returns-clause-holds
 returns-clause-holds c =
     let none : is_some (maps.get nat_cmp c.args.trees.now c.args.info.now.number) ≡ false = search rules in
-    on_ok_weaker c.insert.result (λ inserted. holds_new c.args.trees.now c.insert.new.trees c.args.info.now c.stored_tree.result none (record { is = c.stored_tree.ensures.stored; stands = c.stored_tree.ensures.stands }) inserted) c.insert.ensures.inserted
+    on_ok_weaker c.insert.result (λ inserted. holds_new c.args.trees.now c.insert.new.trees c.args.info.now c.stored_tree.result none (record { is = c.stored_tree.ensures.stored; stands = c.stored_tree.ensures.stands; pending = c.stored_tree.ensures.pending }) inserted) c.insert.ensures.inserted
 
 pub returns-clause-cost : goal.returns-clause-cost
 returns-clause-cost c = let none = c.stored_tree.ensures.pending in omega (arith, none, c.insert.ensures.cost)

@@ -1,6 +1,6 @@
 use Rattle.std.proofs.Common.{Err, Ok, refl, subst, arith}
 use Rattle.std.proofs.lemmas.Result.{err_from_is_err_and}
-use Rattle.fv_inode.specs.Failing.{Alters}
+use Rattle.fv_inode.specs.Failing.{OnlyLoads}
 use Rattle.fv_files.specs.Tables.{table_in}
 use Rattle.fv_files.proofs.Looked.{looks_inode, looks_memory}
 use Rattle.fv_files.proofs.Prepared.{half_prepares, held_prepares}
@@ -14,8 +14,8 @@ returns-in_err-ready-clause-prepares g c =
     let is = c.in_err-ready.ensures in
     let e = c.in_err-ready.field-0.0 in
     let p = err_from_is_err_and c.from_residual.result c.from_residual.ensures.1 in
-    rw (p.1, p.2) (half_prepares g.B.Blocks.told old new f c.ready.new.self f.trees c.args.info.now (Err e) is.alters is.alike (λ k. refl) c.requires.there (Err e)
-    (looks_inode g.B.Blocks.told (table_in old f) old new (Err e) is.alters.looks) (λ told. tt) tt tt)
+    rw (p.1, p.2) (half_prepares g.B.Blocks.told old new f c.ready.new.self f.trees c.args.info.now (Err e) is.loads is.alike is.leaves (λ k. refl) c.requires.there (Err e)
+    (looks_inode g.B.Blocks.told (table_in old f) old new (Err e) is.loads.looks) (λ told. tt) tt tt)
 
 pub returns-in_err-hold-clause-prepares : goal.returns-in_err-hold-clause-prepares
 returns-in_err-hold-clause-prepares g c =
@@ -25,8 +25,8 @@ returns-in_err-hold-clause-prepares g c =
     let is = c.in_ok-ready.ensures in
     let e = c.in_err-hold.field-0.0 in
     let p = err_from_is_err_and c.from_residual-in_err-hold.result c.from_residual-in_err-hold.ensures.1 in
-    rw (p.1, p.2) (half_prepares g.B.Blocks.told old new f c.ready.new.self c.hold.new.trees c.args.info.now (Ok c.in_ok-ready.field-0) is.alters is.alike c.in_err-hold.ensures.failed c.requires.there (Err e)
-    (looks_memory g.B.Blocks.told (table_in old f) old new c.in_ok-ready.field-0 e is.alters.looks.untouched is.alters.looks.counts c.in_err-hold.ensures.memory) (λ told. tt) tt tt)
+    rw (p.1, p.2) (half_prepares g.B.Blocks.told old new f c.ready.new.self c.hold.new.trees c.args.info.now (Ok c.in_ok-ready.field-0) is.loads is.alike is.leaves c.in_err-hold.ensures.failed c.requires.there (Err e)
+    (looks_memory g.B.Blocks.told (table_in old f) old new c.in_ok-ready.field-0 e is.loads.looks.untouched is.loads.looks.counts c.in_err-hold.ensures.memory) (λ told. tt) tt tt)
 
 pub returns-clause-prepares : goal.returns-clause-prepares
 returns-clause-prepares g c =
@@ -35,7 +35,7 @@ returns-clause-prepares g c =
     let f = c.args.files.now in
     let is = c.in_ok-ready.ensures in
     let yes_ = c.if-not-branch.false in
-    held_prepares g.B.Blocks.told old new f c.ready.new.self c.hold.new.trees c.args.info.now (subst (λ b. Alters g.B.Blocks.told old new f.inode.tree c.ready.new.self.tree (Ok b)) yes_ is.alters) is.alike c.requires.there (is.ready yes_) c.in_ok-hold.ensures.holds
+    held_prepares g.B.Blocks.told old new f c.ready.new.self c.hold.new.trees c.args.info.now (subst (λ b. OnlyLoads g.B.Blocks.told old new f.inode.tree c.ready.new.self.tree (Ok b)) yes_ is.loads) is.alike is.leaves c.requires.there (is.ready yes_) c.in_ok-hold.ensures.holds
 
 pub returns-in_err-ready-clause-pending : goal.returns-in_err-ready-clause-pending
 returns-in_err-ready-clause-pending g c = omega (arith, c.in_err-ready.ensures.rises.pending)

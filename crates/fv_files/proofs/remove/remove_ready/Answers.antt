@@ -3,10 +3,10 @@ use Rattle.std.specs.Prelude.{is_some}
 use Rattle.std.proofs.lemmas.Result.{err_from_is_err_and}
 use Rattle.fv_tree.specs.Erasing.{HoldsCells}
 use Rattle.fv_inode.specs.Files.{rooted}
-use Rattle.fv_files.proofs.Steps.{cut_failed, cut_led_failed, cut_pending}
+use Rattle.fv_files.proofs.Steps.{cut_failed, cut_led_failed, cut_pending, cut_table_failed}
 use Rattle.fv_files.specs.Tables.{table_in}
 use Rattle.fv_files.proofs.Counted.{as_many}
-use Rattle.fv_files.proofs.Removed.{remove_table, remove_counts, remove_few, remove_led, remove_pending, remove_done}
+use Rattle.fv_files.proofs.Removed.{remove_table, remove_counts, remove_few, remove_led, remove_pending, remove_done, remove_table_done}
 use Rattle.fv_files.proofs.remove.remove_ready.Goals as goal
 
 pub returns-in_err-own-clause-changes : goal.returns-in_err-own-clause-changes
@@ -55,3 +55,14 @@ pub returns-clause-pending : goal.returns-clause-pending
 returns-clause-pending g c =
     remove_pending g.B.Blocks.told (g.B.Blocks.goes c.args.blocks.now c.cut_kept.new.blocks) (g.B.Blocks.goes c.cut_kept.new.blocks c.erase-inode.new.blocks) (g.B.Blocks.shown c.args.blocks.now) (g.B.Blocks.shown c.cut_kept.new.blocks) (g.B.Blocks.shown c.erase-inode.new.blocks)
     c.args.files.now c.cut_kept.new.trees c.forget.new.trees c.erase-inode.new.self c.args.info.now.number c.least_levels-start.result c.args.stamp c.in_ok-own.own c.erase-inode.result c.in_ok-own.ensures c.erase-inode.ensures.takes c.forget.ensures.gone c.erase-inode.ensures.rises.pending c.forget.ensures.cost
+
+pub returns-in_err-own-clause-alters : goal.returns-in_err-own-clause-alters
+returns-in_err-own-clause-alters g c =
+    let p = err_from_is_err_and c.from_residual.result c.from_residual.ensures.1 in
+    rw (p.1, p.2) (cut_table_failed g.B.Blocks.told (g.B.Blocks.goes c.args.blocks.now c.cut_kept.new.blocks) (HoldsCells (rooted (g.B.Blocks.shown c.args.blocks.now) c.args.files.now.inode)) (g.B.Blocks.shown c.args.blocks.now) (g.B.Blocks.shown c.cut_kept.new.blocks)
+    c.args.files.now c.cut_kept.new.trees c.args.info.now.number 0 c.least_levels-start.result c.args.stamp c.in_err-own.field-0.0 c.in_err-own.ensures)
+
+pub returns-clause-alters : goal.returns-clause-alters
+returns-clause-alters g c =
+    remove_table_done g.B.Blocks.told (g.B.Blocks.goes c.args.blocks.now c.cut_kept.new.blocks) (g.B.Blocks.goes c.cut_kept.new.blocks c.erase-inode.new.blocks) (g.B.Blocks.shown c.args.blocks.now) (g.B.Blocks.shown c.cut_kept.new.blocks) (g.B.Blocks.shown c.erase-inode.new.blocks)
+    c.args.files.now c.cut_kept.new.trees c.forget.new.trees c.erase-inode.new.self c.args.info.now.number c.least_levels-start.result c.args.stamp c.in_ok-own.own c.erase-inode.result c.in_ok-own.ensures c.erase-inode.ensures.takes c.forget.ensures.gone _

@@ -1,8 +1,11 @@
-use Rattle.std.proofs.Common.{arith}
+use Rattle.std.proofs.Common.{arith, ◌/◌, sym, ap, ◌∙◌}
+use Rattle.fv_tables.specs.Told.{records_each}
+use Rattle.fv_tree.specs.Flushing.{changed_of}
+use Rattle.fv_inode.specs.declared.info.Info.{Info}
 use Rattle.std.proofs.lemmas.Result.{err_from_is_err_and}
 use Rattle.fv_inode.specs.Files.{with_info}
 use Rattle.fv_files.specs.Calls.{longer}
-use Rattle.fv_files.proofs.Steps.{put_failed, put_done, put_led, put_led_alone, put_pending}
+use Rattle.fv_files.proofs.Steps.{put_failed, put_done, put_led, put_led_alone, put_pending, put_table_done, put_table_failed}
 use Rattle.fv_files.proofs.Wrote.{rewrites_as, written_table}
 use Rattle.fv_files.proofs.write.write_ready.Goals as goal
 
@@ -27,12 +30,8 @@ returns-clause-changes g c =
     put_done g.B.Blocks.told (Unit {0}) (g.B.Blocks.shown c.args.blocks.now) (g.B.Blocks.shown c.put_kept.new.blocks) f c.put_kept.new.trees info.number c.args.index c.args.stamp c.args.block.now
     c.rewrite.new.self (with_info (longer info c.args.index)) tt c.in_ok-put_kept.ensures.puts (record {
       rewrites = rewrites_as f.inode c.rewrite.new.self c.args.stamp c.longer.result (longer info c.args.index) c.longer.ensures.is c.rewrite.ensures.rewrites;
-      owner = c.rewrite.ensures.owner;
-      sound = c.rewrite.ensures.sound;
-      leads = c.rewrite.ensures.leads;
-      keeps = c.rewrite.ensures.keeps;
-      keeps_ready = c.rewrite.ensures.keeps_ready;
-      stored_well = c.rewrite.ensures.stored_well;
+      alters = c.rewrite.ensures.alters;
+      marked = ap (λ (v : Info). changed_of c.rewrite.new.self.tree 0 (v.number / records_each)) (sym c.longer.ensures.is) ∙ c.rewrite.ensures.marked;
     })
 
 pub returns-in_err-put_kept-clause-led : goal.returns-in_err-put_kept-clause-led
@@ -46,12 +45,8 @@ returns-clause-led g c =
     put_led g.B.Blocks.told (Unit {0}) (g.B.Blocks.shown c.args.blocks.now) (g.B.Blocks.shown c.put_kept.new.blocks) f c.put_kept.new.trees info.number c.args.index c.args.stamp c.args.block.now _ c.in_ok-put_kept.ensures.puts
     c.rewrite.new.self (with_info (longer info c.args.index)) (record {
       rewrites = rewrites_as f.inode c.rewrite.new.self c.args.stamp c.longer.result (longer info c.args.index) c.longer.ensures.is c.rewrite.ensures.rewrites;
-      owner = c.rewrite.ensures.owner;
-      sound = c.rewrite.ensures.sound;
-      leads = c.rewrite.ensures.leads;
-      keeps = c.rewrite.ensures.keeps;
-      keeps_ready = c.rewrite.ensures.keeps_ready;
-      stored_well = c.rewrite.ensures.stored_well;
+      alters = c.rewrite.ensures.alters;
+      marked = ap (λ (v : Info). changed_of c.rewrite.new.self.tree 0 (v.number / records_each)) (sym c.longer.ensures.is) ∙ c.rewrite.ensures.marked;
     })
 
 pub returns-in_err-put_kept-clause-pending : goal.returns-in_err-put_kept-clause-pending
@@ -63,3 +58,20 @@ pub returns-clause-pending : goal.returns-clause-pending
 returns-clause-pending g c =
     let most = put_pending g.B.Blocks.told (Unit {0}) (g.B.Blocks.shown c.args.blocks.now) (g.B.Blocks.shown c.put_kept.new.blocks) c.args.files.now c.put_kept.new.trees c.args.info.now.number c.args.index c.args.stamp c.args.block.now _ c.in_ok-put_kept.ensures.puts in
     omega (arith, most, c.rewrite.ensures.rises.pending)
+
+pub returns-in_err-put_kept-clause-alters : goal.returns-in_err-put_kept-clause-alters
+returns-in_err-put_kept-clause-alters g c =
+    let p = err_from_is_err_and c.from_residual.result c.from_residual.ensures.1 in
+    rw (p.1, p.2) (put_table_failed g.B.Blocks.told (Unit {0}) (g.B.Blocks.shown c.args.blocks.now) (g.B.Blocks.shown c.put_kept.new.blocks) c.args.files.now c.put_kept.new.trees c.args.info.now.number c.args.index c.args.stamp c.args.block.now
+    c.in_err-put_kept.field-0.0 c.in_err-put_kept.ensures.puts)
+
+pub returns-clause-alters : goal.returns-clause-alters
+returns-clause-alters g c =
+    let f = c.args.files.now in
+    let info = c.args.info.now in
+    put_table_done g.B.Blocks.told (Unit {0}) (g.B.Blocks.shown c.args.blocks.now) (g.B.Blocks.shown c.put_kept.new.blocks) f c.put_kept.new.trees info.number c.args.index c.args.stamp c.args.block.now
+    c.rewrite.new.self (with_info (longer info c.args.index)) tt c.in_ok-put_kept.ensures.puts (record {
+      rewrites = rewrites_as f.inode c.rewrite.new.self c.args.stamp c.longer.result (longer info c.args.index) c.longer.ensures.is c.rewrite.ensures.rewrites;
+      alters = c.rewrite.ensures.alters;
+      marked = ap (λ (v : Info). changed_of c.rewrite.new.self.tree 0 (v.number / records_each)) (sym c.longer.ensures.is) ∙ c.rewrite.ensures.marked;
+    })

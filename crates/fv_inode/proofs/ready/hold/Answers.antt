@@ -2,31 +2,31 @@ use Rattle.std.proofs.Common.{Ok, Err, sym, ap, ◌∙◌}
 use Rattle.std.specs.Prelude.{is_some}
 use Rattle.std.proofs.lemmas.Result.{err_from_is_err_and}
 use Rattle.fv_tree.specs.Standing.{standing, under}
-use Rattle.fv_inode.proofs.Looked.{alters_at, alters_failed, alters_done}
+use Rattle.fv_inode.proofs.Looked.{loads_at, loads_failed, loads_done}
 use Rattle.fv_inode.proofs.Slots.{alike_files}
 use Rattle.fv_inode.proofs.Readied.{nothing_held, holds_there, none_without}
 use Rattle.fv_inode.proofs.ready.hold.Goals as goal
 
-pub returns-in_err-there-clause-alters : goal.returns-in_err-there-clause-alters
-returns-in_err-there-clause-alters g c =
+pub returns-in_err-there-clause-loads : goal.returns-in_err-there-clause-loads
+returns-in_err-there-clause-loads g c =
     let did = c.in_err-there.ensures in
     let old = g.B.Blocks.shown c.args.blocks.now in
     let new = g.B.Blocks.shown c.ready.new.blocks in
     let p = err_from_is_err_and c.from_residual.result c.from_residual.ensures.1 in
-    rw (p.1, p.2) (alters_failed g.B.Blocks.told c.args.tree.now c.ready.new.self old new c.in_err-there.field-0.0
-    (alters_at g.B.Blocks.told c.args.tree.now c.ready.new.self old new (Err c.in_err-there.field-0.0) (λ told. did.remains told) did.owner did.stands did.leads did.keeps did.stored_well did.keeps_ready did.untouched did.counts did.cause))
+    rw (p.1, p.2) (loads_failed g.B.Blocks.told c.args.tree.now c.ready.new.self old new c.in_err-there.field-0.0
+    (loads_at g.B.Blocks.told c.args.tree.now c.ready.new.self old new (Err c.in_err-there.field-0.0) (λ told. did.remains told) did.leaves did.owner did.stands did.leads did.keeps did.stored_well did.keeps_ready did.untouched did.counts did.cause))
 
 pub returns-then-not-there-clause-there : goal.returns-then-not-there-clause-there
 returns-then-not-there-clause-there g c = λ told.
     none_without (standing (under (g.B.Blocks.shown c.args.blocks.now)) c.args.tree.now) c.args.number (c.in_ok-there.ensures.there told ∙ c.if-not-there.true)
 
-pub returns-then-not-there-clause-alters : goal.returns-then-not-there-clause-alters
-returns-then-not-there-clause-alters g c =
+pub returns-then-not-there-clause-loads : goal.returns-then-not-there-clause-loads
+returns-then-not-there-clause-loads g c =
     let did = c.in_ok-there.ensures in
     let old = g.B.Blocks.shown c.args.blocks.now in
     let new = g.B.Blocks.shown c.ready.new.blocks in
-    alters_done g.B.Blocks.told c.args.tree.now c.ready.new.self old new c.in_ok-there.there _
-    (alters_at g.B.Blocks.told c.args.tree.now c.ready.new.self old new (Ok c.in_ok-there.there) (λ told. tt) did.owner did.stands did.leads did.keeps did.stored_well did.keeps_ready did.untouched did.counts did.cause)
+    loads_done g.B.Blocks.told c.args.tree.now c.ready.new.self old new c.in_ok-there.there _
+    (loads_at g.B.Blocks.told c.args.tree.now c.ready.new.self old new (Ok c.in_ok-there.there) (λ told. tt) (λ told. tt) did.owner did.stands did.leads did.keeps did.stored_well did.keeps_ready did.untouched did.counts did.cause)
 
 pub returns-clause-ready : goal.returns-clause-ready
 returns-clause-ready g c = λ yes.
@@ -38,10 +38,10 @@ returns-clause-there g c = λ told.
     let new = g.B.Blocks.shown c.ready.new.blocks in
     ap is_some (sym (alike_files (standing (under old) c.args.tree.now) (standing (under new) c.ready.new.self) (c.in_ok-there.ensures.alike told) c.args.number)) ∙ c.has_record.ensures (under new)
 
-pub returns-clause-alters : goal.returns-clause-alters
-returns-clause-alters g c =
+pub returns-clause-loads : goal.returns-clause-loads
+returns-clause-loads g c =
     let did = c.in_ok-there.ensures in
     let old = g.B.Blocks.shown c.args.blocks.now in
     let new = g.B.Blocks.shown c.ready.new.blocks in
-    alters_done g.B.Blocks.told c.args.tree.now c.ready.new.self old new c.in_ok-there.there _
-    (alters_at g.B.Blocks.told c.args.tree.now c.ready.new.self old new (Ok c.in_ok-there.there) (λ told. tt) did.owner did.stands did.leads did.keeps did.stored_well did.keeps_ready did.untouched did.counts did.cause)
+    loads_done g.B.Blocks.told c.args.tree.now c.ready.new.self old new c.in_ok-there.there _
+    (loads_at g.B.Blocks.told c.args.tree.now c.ready.new.self old new (Ok c.in_ok-there.there) (λ told. tt) (λ told. tt) did.owner did.stands did.leads did.keeps did.stored_well did.keeps_ready did.untouched did.counts did.cause)

@@ -4,8 +4,10 @@ use Rattle.std.proofs.lemmas.Result.{err_from_is_err_and}
 use Rattle.std.proofs.lemmas.List.{get_or_default}
 use Rattle.fv_tables.specs.Told.{free_record, used_record, file_at}
 use Rattle.fv_tree.specs.Standing.{standing, under}
+use Rattle.fv_tree.specs.Altering.{Leaves}
+use Rattle.fv_tree.specs.Flushing.{loaded}
 use Rattle.fv_tree.specs.Writing.{IsAlike}
-use Rattle.fv_inode.proofs.Looked.{earlier, later, looks_failed, looks_done, alters_none, alters_then}
+use Rattle.fv_inode.proofs.Looked.{earlier, later, loaded_as, loads_leaves, looks_failed, looks_done, loads_none, loads_then}
 use Rattle.fv_inode.proofs.Slots.{own_record}
 use Rattle.fv_inode.proofs.Readied.{in_use}
 use Rattle.fv_inode.proofs.Alike.{alike_itself}
@@ -16,12 +18,12 @@ returns-in_err-files-clause-alike g c = λ told.
     let old = g.B.Blocks.shown c.args.blocks.now in
     later (IsAlike (standing (under old) c.args.tree.now)) c.args.tree.now old (g.B.Blocks.shown c.read_files.new.blocks) c.in_err-files.ensures.looks.untouched.held (alike_itself _)
 
-pub returns-in_err-files-clause-alters : goal.returns-in_err-files-clause-alters
-returns-in_err-files-clause-alters g c =
+pub returns-in_err-files-clause-loads : goal.returns-in_err-files-clause-loads
+returns-in_err-files-clause-loads g c =
     let old = g.B.Blocks.shown c.args.blocks.now in
     let new = g.B.Blocks.shown c.read_files.new.blocks in
     let p = err_from_is_err_and c.from_residual.result c.from_residual.ensures.1 in
-    rw (p.1, p.2) (alters_none g.B.Blocks.told c.args.tree.now old new _ (looks_failed g.B.Blocks.told (standing (under old) c.args.tree.now) old new c.in_err-files.field-0.0 c.in_err-files.ensures.looks))
+    rw (p.1, p.2) (loads_none g.B.Blocks.told c.args.tree.now old new _ (looks_failed g.B.Blocks.told (standing (under old) c.args.tree.now) old new c.in_err-files.field-0.0 c.in_err-files.ensures.looks))
 
 pub returns-then-files-number-eq0-clause-there : goal.returns-then-files-number-eq0-clause-there
 returns-then-files-number-eq0-clause-there g c = λ told.
@@ -35,11 +37,11 @@ returns-then-files-number-eq0-clause-alike g c = λ told.
     let old = g.B.Blocks.shown c.args.blocks.now in
     later (IsAlike (standing (under old) c.args.tree.now)) c.args.tree.now old (g.B.Blocks.shown c.read_files.new.blocks) c.in_ok-files.ensures.looks.untouched.held (alike_itself _)
 
-pub returns-then-files-number-eq0-clause-alters : goal.returns-then-files-number-eq0-clause-alters
-returns-then-files-number-eq0-clause-alters g c =
+pub returns-then-files-number-eq0-clause-loads : goal.returns-then-files-number-eq0-clause-loads
+returns-then-files-number-eq0-clause-loads g c =
     let old = g.B.Blocks.shown c.args.blocks.now in
     let new = g.B.Blocks.shown c.read_files.new.blocks in
-    alters_none g.B.Blocks.told c.args.tree.now old new _ (looks_done g.B.Blocks.told (standing (under old) c.args.tree.now) old new c.in_ok-files.files _ c.in_ok-files.ensures.looks)
+    loads_none g.B.Blocks.told c.args.tree.now old new _ (looks_done g.B.Blocks.told (standing (under old) c.args.tree.now) old new c.in_ok-files.files _ c.in_ok-files.ensures.looks)
 
 pub returns-clause-there : goal.returns-clause-there
 returns-clause-there g c = λ told.
@@ -49,6 +51,16 @@ pub returns-clause-alike : goal.returns-clause-alike
 returns-clause-alike g c = λ told.
     earlier (λ v. IsAlike v (standing (under (g.B.Blocks.shown c.hold.new.blocks)) c.hold.new.tree)) c.args.tree.now (g.B.Blocks.shown c.args.blocks.now) (g.B.Blocks.shown c.read_files.new.blocks) c.in_ok-files.ensures.looks.untouched.held (c.hold.ensures.alike told)
 
-pub returns-clause-alters : goal.returns-clause-alters
-returns-clause-alters g c =
-    alters_then g.B.Blocks.told c.args.tree.now c.hold.new.tree (g.B.Blocks.shown c.args.blocks.now) (g.B.Blocks.shown c.read_files.new.blocks) (g.B.Blocks.shown c.hold.new.blocks) c.in_ok-files.files c.hold.result c.in_ok-files.ensures.looks c.hold.ensures.alters
+pub returns-clause-loads : goal.returns-clause-loads
+returns-clause-loads g c =
+    loads_then g.B.Blocks.told c.args.tree.now c.hold.new.tree (g.B.Blocks.shown c.args.blocks.now) (g.B.Blocks.shown c.read_files.new.blocks) (g.B.Blocks.shown c.hold.new.blocks) c.in_ok-files.files c.hold.result c.in_ok-files.ensures.looks c.hold.ensures.loads
+
+pub returns-in_err-files-clause-leaves : goal.returns-in_err-files-clause-leaves
+returns-in_err-files-clause-leaves g c = λ told. loads_leaves c.args.tree.now (g.B.Blocks.shown c.args.blocks.now) (g.B.Blocks.shown c.read_files.new.blocks) c.in_err-files.ensures.looks.untouched.held
+
+pub returns-then-files-number-eq0-clause-leaves : goal.returns-then-files-number-eq0-clause-leaves
+returns-then-files-number-eq0-clause-leaves g c = λ told. loads_leaves c.args.tree.now (g.B.Blocks.shown c.args.blocks.now) (g.B.Blocks.shown c.read_files.new.blocks) c.in_ok-files.ensures.looks.untouched.held
+
+pub returns-clause-leaves : goal.returns-clause-leaves
+returns-clause-leaves g c = λ told.
+    earlier (λ v. Leaves (loaded_as c.args.tree.now v) (loaded (g.B.Blocks.shown c.hold.new.blocks) c.hold.new.tree)) c.args.tree.now (g.B.Blocks.shown c.args.blocks.now) (g.B.Blocks.shown c.read_files.new.blocks) c.in_ok-files.ensures.looks.untouched.held (c.hold.ensures.leaves told)

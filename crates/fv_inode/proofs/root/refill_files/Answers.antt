@@ -1,7 +1,7 @@
 use Rattle.std.proofs.Common.{Ok}
 use Rattle.std.proofs.lemmas.Result.{err_from_is_err_and}
 use Rattle.fv_tree.specs.Standing.{standing, under}
-use Rattle.fv_inode.proofs.Looked.{alters_at, alters_failed, alters_done}
+use Rattle.fv_inode.proofs.Looked.{loads_at, loads_failed, loads_done}
 use Rattle.fv_inode.proofs.Rewritten.{fills}
 use Rattle.fv_inode.proofs.root.refill_files.Goals as goal
 
@@ -11,19 +11,19 @@ returns-clause-filled g c = λ told.
     fills (standing (under (g.B.Blocks.shown c.args.blocks.now)) c.args.tree.now) (standing (under (g.B.Blocks.shown c.refill.new.blocks)) c.refill.new.self) c.args.cell c.args.files.now c.spelled-block.result c.in_ok-refill.field-0
     c.spelled-block.ensures (c.requires.there told) (did.refilled told) (did.place_by_place told)
 
-pub returns-clause-alters : goal.returns-clause-alters
-returns-clause-alters g c =
+pub returns-clause-loads : goal.returns-clause-loads
+returns-clause-loads g c =
     let did = c.in_ok-refill.ensures in
     let old = g.B.Blocks.shown c.args.blocks.now in
     let new = g.B.Blocks.shown c.refill.new.blocks in
-    alters_done g.B.Blocks.told c.args.tree.now c.refill.new.self old new c.in_ok-refill.field-0 _
-    (alters_at g.B.Blocks.told c.args.tree.now c.refill.new.self old new (Ok c.in_ok-refill.field-0) did.failed did.owner did.stands did.leads did.keeps did.stored_well did.keeps_ready did.untouched did.counts did.cause)
+    loads_done g.B.Blocks.told c.args.tree.now c.refill.new.self old new c.in_ok-refill.field-0 _
+    (loads_at g.B.Blocks.told c.args.tree.now c.refill.new.self old new (Ok c.in_ok-refill.field-0) did.failed did.unchanged did.owner did.stands did.leads did.keeps did.stored_well did.keeps_ready did.untouched did.counts did.cause)
 
-pub returns-in_err-refill-clause-alters : goal.returns-in_err-refill-clause-alters
-returns-in_err-refill-clause-alters g c =
+pub returns-in_err-refill-clause-loads : goal.returns-in_err-refill-clause-loads
+returns-in_err-refill-clause-loads g c =
     let did = c.in_err-refill.ensures in
     let old = g.B.Blocks.shown c.args.blocks.now in
     let new = g.B.Blocks.shown c.refill.new.blocks in
     let p = err_from_is_err_and c.from_residual.result c.from_residual.ensures.1 in
-    rw (p.1, p.2) (alters_failed g.B.Blocks.told c.args.tree.now c.refill.new.self old new c.in_err-refill.field-0.0
-    (alters_at g.B.Blocks.told c.args.tree.now c.refill.new.self old new _ did.failed did.owner did.stands did.leads did.keeps did.stored_well did.keeps_ready did.untouched did.counts did.cause))
+    rw (p.1, p.2) (loads_failed g.B.Blocks.told c.args.tree.now c.refill.new.self old new c.in_err-refill.field-0.0
+    (loads_at g.B.Blocks.told c.args.tree.now c.refill.new.self old new _ did.failed did.unchanged did.owner did.stands did.leads did.keeps did.stored_well did.keeps_ready did.untouched did.counts did.cause))

@@ -2,6 +2,7 @@ use Rattle.std.proofs.Common.{◌∙◌, arith}
 use Rattle.std.proofs.lemmas.Result.{err_from_is_err_and}
 use Rattle.fv_tree.specs.Sources.{Shown}
 use Rattle.fv_tree.specs.Flushing.{loaded}
+use Rattle.fv_tree.proofs.Anew.{anew_on, left_then}
 use Rattle.fv_tree.proofs.Causes.{calm_then}
 use Rattle.fv_tree.proofs.Flushes.{flushes_then}
 use Rattle.fv_tree.proofs.Gone.{is_memory}
@@ -25,10 +26,11 @@ loop-preserved g c =
     let now = c.in_ok-flush_first_cell.ensures in record {
       flushes = λ told stands. let first = was.flushes told stands in
           flushes_then (loaded old c.args.tree.now) (loaded mid c.loop.tree) (loaded new c.flush_first_cell.new.tree) old.used mid.used new.used (is_memory mid c.loop.tree) first (now.flushes told first.sound);
+      anew = λ told stands. anew_on g.B.Blocks.shown g.B.Blocks.goes g.met.B.Blocks.goes_on c.args.blocks.now c.loop.blocks c.flush_first_cell.new.blocks (loaded old c.args.tree.now) (loaded mid c.loop.tree) (loaded new c.flush_first_cell.new.tree) was.calls now.calls (was.anew told stands) (now.anew told (was.flushes told stands).sound);
       strays = λ told stands. now.strays told (was.flushes told stands).sound ∙ was.strays told stands;
       fits = λ told stands. fits_then old mid new c.args.tree.now c.loop.tree c.flush_first_cell.new.tree (was.fits told stands) (now.fits told (was.flushes told stands).sound);
       spent = now.spent ∙ was.spent;
-      left = record { owner = now.left.owner ∙ was.left.owner; levels = now.left.levels ∙ was.left.levels; cells = omega (arith, now.left.cells, was.left.cells) };
+      left = left_then c.args.tree.now c.loop.tree c.flush_first_cell.new.tree was.left now.left;
       count = omega (arith, now.fewer, was.count);
       calm = calm_then old mid new was.calm now.counts.calm;
       places = λ known has. now.places known (was.places known has);
@@ -49,3 +51,15 @@ returns-in_err-flush_first_cell-clause-enough g c = λ told stands le.
     let fits = was.fits told stands in
     let p = err_from_is_err_and c.from_residual.result c.from_residual.ensures.1 in
     rw (p.1, p.2) (c.in_err-flush_first_cell.ensures.enough told (was.flushes told stands).sound (omega (arith, le, fits.room)))
+
+pub returns-in_err-flush_first_cell-clause-anew : goal.returns-in_err-flush_first_cell-clause-anew
+returns-in_err-flush_first_cell-clause-anew g c = λ told stands.
+    let old : Shown = g.B.Blocks.shown c.args.blocks.now in
+    let mid : Shown = g.B.Blocks.shown c.loop.blocks in
+    let new : Shown = g.B.Blocks.shown c.flush_first_cell.new.blocks in
+    let was = c.loop.invariant in
+    anew_on g.B.Blocks.shown g.B.Blocks.goes g.met.B.Blocks.goes_on c.args.blocks.now c.loop.blocks c.flush_first_cell.new.blocks (loaded old c.args.tree.now) (loaded mid c.loop.tree) (loaded new c.flush_first_cell.new.tree) was.calls c.in_err-flush_first_cell.ensures.calls (was.anew told stands)
+    (c.in_err-flush_first_cell.ensures.anew told (was.flushes told stands).sound)
+
+pub returns-in_err-flush_first_cell-clause-left : goal.returns-in_err-flush_first_cell-clause-left
+returns-in_err-flush_first_cell-clause-left g c = left_then c.args.tree.now c.loop.tree c.flush_first_cell.new.tree c.loop.invariant.left c.in_err-flush_first_cell.ensures.left

@@ -1,6 +1,8 @@
 use Rattle.std.proofs.Common.{is_some, ap, ◌∙◌, arith}
 use Rattle.std.proofs.lemmas.Result.{err_from_is_err_and}
-use Rattle.fv_tree.specs.Flushing.{node_changed}
+use Rattle.fv_tree.specs.Flushing.{loaded, node_changed}
+use Rattle.fv_tree.specs.Sources.{WasFree}
+use Rattle.fv_tree.proofs.Anew.{anew_itself, anew_still, flush_anew}
 use Rattle.fv_tree.proofs.Gone.{flushes_still, spot_changed}
 use Rattle.fv_tree.proofs.Differing.{fits_itself, fits_node, fits_still, marked_over, some_count}
 use Rattle.fv_tree.proofs.Stepped.{node_step, node_strays}
@@ -12,9 +14,8 @@ returns-in_err-flush_node-in-Some-clause-flushes g c = λ told stands.
     flushes_still (g.B.Blocks.shown c.args.blocks.now) (g.B.Blocks.shown c.flush_node.new.blocks) c.args.tree.now c.flush_node.new.tree failed.untouched.held failed.untouched.used failed.failed stands
 
 pub returns-in_ok-flush_node-in-Some-clause-flushes : goal.returns-in_ok-flush_node-in-Some-clause-flushes
-returns-in_ok-flush_node-in-Some-clause-flushes g c = λ told stands.
-    node_step (g.B.Blocks.shown c.args.blocks.now) (g.B.Blocks.shown c.flush_node.new.blocks) c.args.tree.now c.flush_node.new.tree c.forget_node.new.tree c.in-Some.level c.in-Some.place c.in-Some.node
-    stands c.requires c.in-Some.ensures.there c.in-Some.ensures.lowest (c.in_ok-flush_node-in-Some.ensures.node told) c.forget_node.ensures.forgets
+returns-in_ok-flush_node-in-Some-clause-flushes g c = λ told stands. (node_step (g.B.Blocks.shown c.args.blocks.now) (g.B.Blocks.shown c.flush_node.new.blocks) c.args.tree.now c.flush_node.new.tree c.forget_node.new.tree c.in-Some.level c.in-Some.place c.in-Some.node
+    stands c.requires c.in-Some.ensures.there c.in-Some.ensures.lowest (c.in_ok-flush_node-in-Some.ensures.node told) c.forget_node.ensures.forgets).flushes
 
 pub returns-in_ok-flush_node-in-Some-clause-fewer : goal.returns-in_ok-flush_node-in-Some-clause-fewer
 returns-in_ok-flush_node-in-Some-clause-fewer g c =
@@ -50,3 +51,26 @@ returns-in_ok-flush_node-in-Some-clause-fits g c = λ told stands.
     fits_node old (g.B.Blocks.shown c.flush_node.new.blocks) t c.flush_node.new.tree c.forget_node.new.tree c.in-Some.node.changed
     (did.changes (λ low changed some lt. marked_over old t level place stands (spot_changed t level place low ∙ ap node_changed there ∙ changed) some lt))
     did.still.cells c.forget_node.ensures.forgets.cells c.forget_node.ensures.changes (λ changed. c.forget_node.ensures.fewer (did.own ∙ ap node_changed there ∙ changed)) did.still_room did.room
+
+pub returns-in-None-clause-anew : goal.returns-in-None-clause-anew
+returns-in-None-clause-anew g c = λ told stands. anew_itself (loaded (g.B.Blocks.shown c.args.blocks.now) c.args.tree.now) (WasFree g.B.Blocks.shown g.B.Blocks.goes c.args.blocks.now c.args.blocks.now)
+
+pub returns-in_err-flush_node-in-Some-clause-anew : goal.returns-in_err-flush_node-in-Some-clause-anew
+returns-in_err-flush_node-in-Some-clause-anew g c = λ told stands.
+    let failed = c.in_err-flush_node-in-Some.ensures in
+    anew_still (g.B.Blocks.shown c.args.blocks.now) (g.B.Blocks.shown c.flush_node.new.blocks) c.args.tree.now c.flush_node.new.tree (WasFree g.B.Blocks.shown g.B.Blocks.goes c.args.blocks.now c.flush_node.new.blocks) failed.untouched.held failed.failed
+
+pub returns-in_ok-flush_node-in-Some-clause-anew : goal.returns-in_ok-flush_node-in-Some-clause-anew
+returns-in_ok-flush_node-in-Some-clause-anew g c = λ told stands.
+    let old = g.B.Blocks.shown c.args.blocks.now in
+    let new = g.B.Blocks.shown c.flush_node.new.blocks in
+    let step = node_step (g.B.Blocks.shown c.args.blocks.now) (g.B.Blocks.shown c.flush_node.new.blocks) c.args.tree.now c.flush_node.new.tree c.forget_node.new.tree c.in-Some.level c.in-Some.place c.in-Some.node
+    stands c.requires c.in-Some.ensures.there c.in-Some.ensures.lowest (c.in_ok-flush_node-in-Some.ensures.node told) c.forget_node.ensures.forgets in
+    flush_anew (loaded old c.args.tree.now) old.used (loaded new c.forget_node.new.tree) new.used (WasFree g.B.Blocks.shown g.B.Blocks.goes c.args.blocks.now c.flush_node.new.blocks) step.flushes (λ v placed.
+    let at = step.fresh v placed in record {
+      moment = c.args.blocks.now;
+      before = g.met.B.Blocks.goes_nothing c.args.blocks.now;
+      after = c.in_ok-flush_node-in-Some.ensures.calls;
+      held = at.0;
+      used = at.1;
+    })

@@ -1,7 +1,8 @@
 use Rattle.std.proofs.Common.{◌≡◌, ◌-◌}
 use Rattle.std.specs.BTreeMap as maps
-use Rattle.fv_tree.specs.Sources.{IsCalm}
+use Rattle.fv_tree.specs.Sources.{IsCalm, WasFree}
 use Rattle.fv_tree.specs.Flushing.{loaded, Flushes, IsLeft, Stands}
+use Rattle.fv_tree.specs.Altering.{PlacesAnew}
 use Rattle.fv_tree.specs.Stored.{KeepsPlaces}
 use Rattle.fv_tree.specs.Costs.{Fits}
 use Rattle.fv_tree.proofs.flush.flush_nodes.Given as goal
@@ -9,6 +10,7 @@ use Rattle.fv_tree.proofs.flush.flush_nodes.Given as goal
 abbrev pub invariant-loop : goal.invariant-loop
 invariant-loop g l = record {
   flushes : g.B.Blocks.told → Stands (g.B.Blocks.shown l.fn.blocks) l.fn.tree → Flushes (loaded (g.B.Blocks.shown l.fn.blocks) l.fn.tree) (g.B.Blocks.shown l.fn.blocks).used (loaded (g.B.Blocks.shown l.blocks) l.tree) (g.B.Blocks.shown l.blocks).used;
+  anew : g.B.Blocks.told → Stands (g.B.Blocks.shown l.fn.blocks) l.fn.tree → PlacesAnew (loaded (g.B.Blocks.shown l.fn.blocks) l.fn.tree) (WasFree g.B.Blocks.shown g.B.Blocks.goes l.fn.blocks l.blocks) (loaded (g.B.Blocks.shown l.blocks) l.tree);
   strays : g.B.Blocks.told → Stands (g.B.Blocks.shown l.fn.blocks) l.fn.tree → (g.B.Blocks.shown l.blocks).strays ≡ (g.B.Blocks.shown l.fn.blocks).strays;
   fits : g.B.Blocks.told → Stands (g.B.Blocks.shown l.fn.blocks) l.fn.tree → Fits (g.B.Blocks.shown l.fn.blocks) l.fn.tree (g.B.Blocks.shown l.blocks) l.tree;
   spent : (g.B.Blocks.shown l.blocks).spent ≡ (g.B.Blocks.shown l.fn.blocks).spent;

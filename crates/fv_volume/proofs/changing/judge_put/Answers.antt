@@ -9,10 +9,16 @@ use Rattle.fv_volume.specs.Causes.{of_block}
 use Rattle.fv_volume.specs.Lending.{lent_for}
 use Rattle.fv_volume.specs.OneVolume.{home_in, standing_for, IsStanding}
 use Rattle.fv_volume.proofs.Calling.{no_refusal, refused_ready}
-use Rattle.fv_volume.proofs.OneVolumes.{reads_then, said_after, said_before}
+use Rattle.fv_volume.proofs.OneVolumes.{reads_then, said_after}
 use Rattle.fv_charge.specs.declared.ledger.Ledger.{Ledger}
 use Rattle.fv_charge.specs.Changes.{IsChanged}
-use Rattle.fv_files.specs.Calls.{AddsCell}
+use Rattle.std.specs.Prelude.{Some}
+use Rattle.fv_model.specs.Tables.{File}
+use Rattle.fv_model.specs.Volumes.{Volume}
+use Rattle.fv_laws.specs.Paths.{put_path}
+use Rattle.fv_laws.specs.Positions.{added_by, staying}
+use Rattle.fv_tables.specs.Told.{file_in, table_told}
+use Rattle.fv_volume.proofs.Charged.{told_before}
 use Rattle.fv_files.specs.Tables.{IsInfoOf}
 use Rattle.fv_volume.proofs.Asked.{first_info}
 use Rattle.fv_volume.proofs.CallCauses.{fails_later, failed_cause, refused_cause}
@@ -45,11 +51,11 @@ returns-then-volume-ge-MOST_CHANGES-clause-refused g c = λ is block.
     let all : most_changes ≤ c.args.volume.now.now = (let now : c.find_file.new.volume.now ≡ c.args.volume.now.now = ap (λ (z : VolumeState). z.now) c.find_file.ensures.same in omega (arith, now, c.if-volume-ge-MOST_CHANGES.true)) in
     put_counted (g.D.Disk.shown c.args.disk.now) c.args.pool.now c.args.volume.now c.args.others is c.args.file.now c.args.index near c.in-Some.info (subst (Finds (standing_for (g.D.Disk.shown c.args.disk.now) c.args.pool.now c.args.volume.now).inode c.args.file.now) c.in-Some.is (c.in_ok-info.ensures.found is)) block all
 
-pub count_added-requires-clause-ready : goal.count_added-requires-clause-ready
-count_added-requires-clause-ready g c = refused_ready (g.D.Disk.shown c.args.disk.now) (g.D.Disk.shown c.find_file.new.disk) c.args.pool.now c.find_file.new.pool c.find_file.ensures.reads c.args.volume.now c.find_file.new.volume c.find_file.ensures.same c.requires.ready
+pub count_put-requires-clause-ready : goal.count_put-requires-clause-ready
+count_put-requires-clause-ready g c = refused_ready (g.D.Disk.shown c.args.disk.now) (g.D.Disk.shown c.find_file.new.disk) c.args.pool.now c.find_file.new.pool c.find_file.ensures.reads c.args.volume.now c.find_file.new.volume c.find_file.ensures.same c.requires.ready
 
-pub count_added-requires-clause-there : goal.count_added-requires-clause-there
-count_added-requires-clause-there g c = said_after (g.D.Disk.shown c.args.disk.now) (g.D.Disk.shown c.find_file.new.disk) c.args.pool.now c.find_file.new.pool c.find_file.ensures.reads c.args.volume.now c.find_file.new.volume c.find_file.ensures.same (λ (s : Standing). IsInfoOf s.inode c.in-Some.info) (λ is. first_info (standing_for (g.D.Disk.shown c.args.disk.now) c.args.pool.now c.args.volume.now).inode c.args.file.now c.in-Some.info (subst (Finds (standing_for (g.D.Disk.shown c.args.disk.now) c.args.pool.now c.args.volume.now).inode c.args.file.now) c.in-Some.is (c.in_ok-info.ensures.found is)))
+pub count_put-requires-clause-there : goal.count_put-requires-clause-there
+count_put-requires-clause-there g c = said_after (g.D.Disk.shown c.args.disk.now) (g.D.Disk.shown c.find_file.new.disk) c.args.pool.now c.find_file.new.pool c.find_file.ensures.reads c.args.volume.now c.find_file.new.volume c.find_file.ensures.same (λ (s : Standing). IsInfoOf s.inode c.in-Some.info) (λ is. first_info (standing_for (g.D.Disk.shown c.args.disk.now) c.args.pool.now c.args.volume.now).inode c.args.file.now c.in-Some.info (subst (Finds (standing_for (g.D.Disk.shown c.args.disk.now) c.args.pool.now c.args.volume.now).inode c.args.file.now) c.in-Some.is (c.in_ok-info.ensures.found is)))
 
 pub returns-in_err-count-clause-refused : goal.returns-in_err-count-clause-refused
 returns-in_err-count-clause-refused g c =
@@ -57,20 +63,20 @@ returns-in_err-count-clause-refused g c =
     rw (p.1, p.2) (λ is block m has. no_refusal (Unit {0}) m _ c.in_err-count.field-0.0)
 
 pub returns-in_err-count-clause-reads : goal.returns-in_err-count-clause-reads
-returns-in_err-count-clause-reads g c = reads_then (g.D.Disk.shown c.args.disk.now) (g.D.Disk.shown c.find_file.new.disk) (g.D.Disk.shown c.count_added.new.disk) c.args.pool.now c.find_file.new.pool c.count_added.new.pool c.find_file.ensures.reads c.count_added.ensures.reads
+returns-in_err-count-clause-reads g c = reads_then (g.D.Disk.shown c.args.disk.now) (g.D.Disk.shown c.find_file.new.disk) (g.D.Disk.shown c.count_put.new.disk) c.args.pool.now c.find_file.new.pool c.count_put.new.pool c.find_file.ensures.reads c.count_put.ensures.reads
 
 pub returns-in_err-count-clause-cause : goal.returns-in_err-count-clause-cause
 returns-in_err-count-clause-cause g c =
     let e = c.in_err-count.field-0.0 in
     let failed : c.from_residual-in_err-count.result ≡ Err (of_block e) = search rules in
-    let later = subst (λ (z : VolumeState). BlockCause {T = ℕ} (IsStanding (g.D.Disk.shown c.find_file.new.disk) c.find_file.new.pool z) (standing_for (g.D.Disk.shown c.find_file.new.disk) c.find_file.new.pool z) (lent_for c.find_file.new.pool z.map (g.D.Disk.shown c.find_file.new.disk) 0 (home_in z) 0) (g.D.Disk.shown c.count_added.new.disk).faults (Err e)) c.find_file.ensures.same c.in_err-count.ensures.cause in
-    failed_cause (IsStanding (g.D.Disk.shown c.args.disk.now) c.args.pool.now c.args.volume.now) (standing_for (g.D.Disk.shown c.args.disk.now) c.args.pool.now c.args.volume.now) (lent_for c.args.pool.now c.args.volume.now.map (g.D.Disk.shown c.args.disk.now) 0 (home_in c.args.volume.now) 0) (g.D.Disk.shown c.count_added.new.disk).faults e c.from_residual-in_err-count.result failed
-    (fails_later (g.D.Disk.shown c.args.disk.now) (g.D.Disk.shown c.find_file.new.disk) c.args.pool.now c.find_file.new.pool c.find_file.ensures.reads c.args.volume.now c.in_ok-info.ensures.cause 0 {T = ℕ} (g.D.Disk.shown c.count_added.new.disk).faults (Err e) later)
+    let later = subst (λ (z : VolumeState). BlockCause {T = ℕ} (IsStanding (g.D.Disk.shown c.find_file.new.disk) c.find_file.new.pool z) (standing_for (g.D.Disk.shown c.find_file.new.disk) c.find_file.new.pool z) (lent_for c.find_file.new.pool z.map (g.D.Disk.shown c.find_file.new.disk) 0 (home_in z) 0) (g.D.Disk.shown c.count_put.new.disk).faults (Err e)) c.find_file.ensures.same c.in_err-count.ensures.cause in
+    failed_cause (IsStanding (g.D.Disk.shown c.args.disk.now) c.args.pool.now c.args.volume.now) (standing_for (g.D.Disk.shown c.args.disk.now) c.args.pool.now c.args.volume.now) (lent_for c.args.pool.now c.args.volume.now.map (g.D.Disk.shown c.args.disk.now) 0 (home_in c.args.volume.now) 0) (g.D.Disk.shown c.count_put.new.disk).faults e c.from_residual-in_err-count.result failed
+    (fails_later (g.D.Disk.shown c.args.disk.now) (g.D.Disk.shown c.find_file.new.disk) c.args.pool.now c.find_file.new.pool c.find_file.ensures.reads c.args.volume.now c.in_ok-info.ensures.cause 0 {T = ℕ} (g.D.Disk.shown c.count_put.new.disk).faults (Err e) later)
 
 pub returns-in_err-admit_change-clause-refused : goal.returns-in_err-admit_change-clause-refused
 returns-in_err-admit_change-clause-refused g c =
     let p = err_from_is_err_and c.from_residual-in_err-admit_change.result c.from_residual-in_err-admit_change.ensures.1 in
-    let more : IsMore c.args.volume.now.ledger c.in_ok-count.count c.more_blocks-delta.result = subst (λ (z : VolumeState). IsMore z.ledger c.in_ok-count.count c.more_blocks-delta.result) (c.count_added.ensures.same ∙ c.find_file.ensures.same) (record {
+    let more : IsMore c.args.volume.now.ledger c.in_ok-count.count c.more_blocks-delta.result = subst (λ (z : VolumeState). IsMore z.ledger c.in_ok-count.count c.more_blocks-delta.result) (c.count_put.ensures.same ∙ c.find_file.ensures.same) (record {
       charge = c.more_blocks-delta.ensures.charge;
       need = c.more_blocks-delta.ensures.need;
       size = c.more_blocks-delta.ensures.size;
@@ -79,20 +85,20 @@ returns-in_err-admit_change-clause-refused g c =
     }) in
     let few : c.args.volume.now.now < most_changes = (let now : c.find_file.new.volume.now ≡ c.args.volume.now.now = ap (λ (z : VolumeState). z.now) c.find_file.ensures.same in omega (arith, now, c.if-volume-ge-MOST_CHANGES.false)) in
     let near : is_index c.args.index ≡ true = search rules in
-    rw (p.1, p.2) (λ is. put_full (g.D.Disk.shown c.args.disk.now) c.args.pool.now c.args.volume.now c.args.others is c.args.file.now c.args.index near c.in-Some.info (subst (Finds (standing_for (g.D.Disk.shown c.args.disk.now) c.args.pool.now c.args.volume.now).inode c.args.file.now) c.in-Some.is (c.in_ok-info.ensures.found is)) few c.more_blocks-delta.result c.in_ok-count.count c.requires.ready (said_before (g.D.Disk.shown c.args.disk.now) (g.D.Disk.shown c.find_file.new.disk) c.args.pool.now c.find_file.new.pool c.find_file.ensures.reads c.args.volume.now c.find_file.new.volume c.find_file.ensures.same (λ (s : Standing). AddsCell s c.in-Some.info.number c.args.index c.in_ok-count.count) c.in_ok-count.ensures.added is) more.charge more.need more.size more.kind c.in_err-admit_change.field-0.0
-    (said_of (g.D.Disk.shown c.args.disk.now) (g.D.Disk.shown c.count_added.new.disk) c.args.pool.now c.count_added.new.pool (reads_then (g.D.Disk.shown c.args.disk.now) (g.D.Disk.shown c.find_file.new.disk) (g.D.Disk.shown c.count_added.new.disk) c.args.pool.now c.find_file.new.pool c.count_added.new.pool c.find_file.ensures.reads c.count_added.ensures.reads) c.args.volume.now c.count_added.new.volume (c.count_added.ensures.same ∙ c.find_file.ensures.same) c.args.others c.more_blocks-delta.result (Err c.in_err-admit_change.field-0.0) c.in_err-admit_change.ensures.machine))
+    rw (p.1, p.2) (λ is. put_full (g.D.Disk.shown c.args.disk.now) c.args.pool.now c.args.volume.now c.args.others is c.args.file.now c.args.index near c.in-Some.info (subst (Finds (standing_for (g.D.Disk.shown c.args.disk.now) c.args.pool.now c.args.volume.now).inode c.args.file.now) c.in-Some.is (c.in_ok-info.ensures.found is)) few c.more_blocks-delta.result c.in_ok-count.count c.requires.ready (told_before (g.D.Disk.shown c.args.disk.now) (g.D.Disk.shown c.find_file.new.disk) c.args.pool.now c.find_file.new.pool c.find_file.ensures.reads c.args.volume.now c.find_file.new.volume c.find_file.ensures.same (λ (s : Standing) (v : Volume). (f : File) → file_in s c.in-Some.info.number ≡ Some f → c.in_ok-count.count ≡ added_by f.tree c.args.index + staying v (put_path (table_told s) c.in-Some.info.number f c.args.index)) c.in_ok-count.ensures.costs is) more.charge more.need more.size more.kind c.in_err-admit_change.field-0.0
+    (said_of (g.D.Disk.shown c.args.disk.now) (g.D.Disk.shown c.count_put.new.disk) c.args.pool.now c.count_put.new.pool (reads_then (g.D.Disk.shown c.args.disk.now) (g.D.Disk.shown c.find_file.new.disk) (g.D.Disk.shown c.count_put.new.disk) c.args.pool.now c.find_file.new.pool c.count_put.new.pool c.find_file.ensures.reads c.count_put.ensures.reads) c.args.volume.now c.count_put.new.volume (c.count_put.ensures.same ∙ c.find_file.ensures.same) c.args.others c.more_blocks-delta.result (Err c.in_err-admit_change.field-0.0) c.in_err-admit_change.ensures.machine))
 
 pub returns-in_err-admit_change-clause-reads : goal.returns-in_err-admit_change-clause-reads
-returns-in_err-admit_change-clause-reads g c = reads_then (g.D.Disk.shown c.args.disk.now) (g.D.Disk.shown c.find_file.new.disk) (g.D.Disk.shown c.count_added.new.disk) c.args.pool.now c.find_file.new.pool c.count_added.new.pool c.find_file.ensures.reads c.count_added.ensures.reads
+returns-in_err-admit_change-clause-reads g c = reads_then (g.D.Disk.shown c.args.disk.now) (g.D.Disk.shown c.find_file.new.disk) (g.D.Disk.shown c.count_put.new.disk) c.args.pool.now c.find_file.new.pool c.count_put.new.pool c.find_file.ensures.reads c.count_put.ensures.reads
 
 pub returns-in_err-admit_change-clause-cause : goal.returns-in_err-admit_change-clause-cause
 returns-in_err-admit_change-clause-cause g c =
     let failed : c.from_residual-in_err-admit_change.result ≡ Err c.in_err-admit_change.field-0.0 = search rules in
-    refused_cause (IsStanding (g.D.Disk.shown c.args.disk.now) c.args.pool.now c.args.volume.now) (standing_for (g.D.Disk.shown c.args.disk.now) c.args.pool.now c.args.volume.now) (lent_for c.args.pool.now c.args.volume.now.map (g.D.Disk.shown c.args.disk.now) 0 (home_in c.args.volume.now) 0) (g.D.Disk.shown c.count_added.new.disk).faults c.in_err-admit_change.field-0.0 c.from_residual-in_err-admit_change.result failed c.in_err-admit_change.ensures.refusal (c.in_ok-count.ensures.cause ∙ c.in_ok-info.ensures.cause)
+    refused_cause (IsStanding (g.D.Disk.shown c.args.disk.now) c.args.pool.now c.args.volume.now) (standing_for (g.D.Disk.shown c.args.disk.now) c.args.pool.now c.args.volume.now) (lent_for c.args.pool.now c.args.volume.now.map (g.D.Disk.shown c.args.disk.now) 0 (home_in c.args.volume.now) 0) (g.D.Disk.shown c.count_put.new.disk).faults c.in_err-admit_change.field-0.0 c.from_residual-in_err-admit_change.result failed c.in_err-admit_change.ensures.refusal (c.in_ok-count.ensures.cause ∙ c.in_ok-info.ensures.cause)
 
 pub returns-clause-accepted : goal.returns-clause-accepted
 returns-clause-accepted g c = λ is.
-    let more : IsMore c.args.volume.now.ledger c.in_ok-count.count c.more_blocks-delta.result = subst (λ (z : VolumeState). IsMore z.ledger c.in_ok-count.count c.more_blocks-delta.result) (c.count_added.ensures.same ∙ c.find_file.ensures.same) (record {
+    let more : IsMore c.args.volume.now.ledger c.in_ok-count.count c.more_blocks-delta.result = subst (λ (z : VolumeState). IsMore z.ledger c.in_ok-count.count c.more_blocks-delta.result) (c.count_put.ensures.same ∙ c.find_file.ensures.same) (record {
       charge = c.more_blocks-delta.ensures.charge;
       need = c.more_blocks-delta.ensures.need;
       size = c.more_blocks-delta.ensures.size;
@@ -101,12 +107,12 @@ returns-clause-accepted g c = λ is.
     }) in
     let few : c.args.volume.now.now < most_changes = (let now : c.find_file.new.volume.now ≡ c.args.volume.now.now = ap (λ (z : VolumeState). z.now) c.find_file.ensures.same in omega (arith, now, c.if-volume-ge-MOST_CHANGES.false)) in
     let near : is_index c.args.index ≡ true = search rules in
-    put_accepted (g.D.Disk.shown c.args.disk.now) c.args.pool.now c.args.volume.now c.args.others is c.args.file.now c.args.index near c.in-Some.info (subst (Finds (standing_for (g.D.Disk.shown c.args.disk.now) c.args.pool.now c.args.volume.now).inode c.args.file.now) c.in-Some.is (c.in_ok-info.ensures.found is)) few c.more_blocks-delta.result c.in_ok-count.count c.requires.ready (said_before (g.D.Disk.shown c.args.disk.now) (g.D.Disk.shown c.find_file.new.disk) c.args.pool.now c.find_file.new.pool c.find_file.ensures.reads c.args.volume.now c.find_file.new.volume c.find_file.ensures.same (λ (s : Standing). AddsCell s c.in-Some.info.number c.args.index c.in_ok-count.count) c.in_ok-count.ensures.added is) more.charge more.need more.size more.kind
-    (said_of (g.D.Disk.shown c.args.disk.now) (g.D.Disk.shown c.count_added.new.disk) c.args.pool.now c.count_added.new.pool (reads_then (g.D.Disk.shown c.args.disk.now) (g.D.Disk.shown c.find_file.new.disk) (g.D.Disk.shown c.count_added.new.disk) c.args.pool.now c.find_file.new.pool c.count_added.new.pool c.find_file.ensures.reads c.count_added.ensures.reads) c.args.volume.now c.count_added.new.volume (c.count_added.ensures.same ∙ c.find_file.ensures.same) c.args.others c.more_blocks-delta.result (Ok tt) c.in_ok-admit_change.ensures.machine)
+    put_accepted (g.D.Disk.shown c.args.disk.now) c.args.pool.now c.args.volume.now c.args.others is c.args.file.now c.args.index near c.in-Some.info (subst (Finds (standing_for (g.D.Disk.shown c.args.disk.now) c.args.pool.now c.args.volume.now).inode c.args.file.now) c.in-Some.is (c.in_ok-info.ensures.found is)) few c.more_blocks-delta.result c.in_ok-count.count c.requires.ready (told_before (g.D.Disk.shown c.args.disk.now) (g.D.Disk.shown c.find_file.new.disk) c.args.pool.now c.find_file.new.pool c.find_file.ensures.reads c.args.volume.now c.find_file.new.volume c.find_file.ensures.same (λ (s : Standing) (v : Volume). (f : File) → file_in s c.in-Some.info.number ≡ Some f → c.in_ok-count.count ≡ added_by f.tree c.args.index + staying v (put_path (table_told s) c.in-Some.info.number f c.args.index)) c.in_ok-count.ensures.costs is) more.charge more.need more.size more.kind
+    (said_of (g.D.Disk.shown c.args.disk.now) (g.D.Disk.shown c.count_put.new.disk) c.args.pool.now c.count_put.new.pool (reads_then (g.D.Disk.shown c.args.disk.now) (g.D.Disk.shown c.find_file.new.disk) (g.D.Disk.shown c.count_put.new.disk) c.args.pool.now c.find_file.new.pool c.count_put.new.pool c.find_file.ensures.reads c.count_put.ensures.reads) c.args.volume.now c.count_put.new.volume (c.count_put.ensures.same ∙ c.find_file.ensures.same) c.args.others c.more_blocks-delta.result (Ok tt) c.in_ok-admit_change.ensures.machine)
 
 pub returns-clause-fits : goal.returns-clause-fits
 returns-clause-fits g c =
-    let more : IsMore c.args.volume.now.ledger c.in_ok-count.count c.more_blocks-delta.result = subst (λ (z : VolumeState). IsMore z.ledger c.in_ok-count.count c.more_blocks-delta.result) (c.count_added.ensures.same ∙ c.find_file.ensures.same) (record {
+    let more : IsMore c.args.volume.now.ledger c.in_ok-count.count c.more_blocks-delta.result = subst (λ (z : VolumeState). IsMore z.ledger c.in_ok-count.count c.more_blocks-delta.result) (c.count_put.ensures.same ∙ c.find_file.ensures.same) (record {
       charge = c.more_blocks-delta.ensures.charge;
       need = c.more_blocks-delta.ensures.need;
       size = c.more_blocks-delta.ensures.size;
@@ -115,7 +121,7 @@ returns-clause-fits g c =
     }) in
     let few : c.args.volume.now.now < most_changes = (let now : c.find_file.new.volume.now ≡ c.args.volume.now.now = ap (λ (z : VolumeState). z.now) c.find_file.ensures.same in omega (arith, now, c.if-volume-ge-MOST_CHANGES.false)) in
     more_fits (g.D.Disk.shown c.args.disk.now) c.args.pool.now c.args.volume.now c.more_blocks-delta.result c.in_ok-count.count c.requires.ready few more.can more.need more.size more.kind
-    (subst (λ (z : VolumeState). (l : Ledger) → IsChanged z.ledger c.more_blocks-delta.result l → l.charge + l.need ≤ l.size) (c.count_added.ensures.same ∙ c.find_file.ensures.same) c.in_ok-admit_change.ensures.within)
+    (subst (λ (z : VolumeState). (l : Ledger) → IsChanged z.ledger c.more_blocks-delta.result l → l.charge + l.need ≤ l.size) (c.count_put.ensures.same ∙ c.find_file.ensures.same) c.in_ok-admit_change.ensures.within)
 
 pub returns-clause-reads : goal.returns-clause-reads
-returns-clause-reads g c = reads_then (g.D.Disk.shown c.args.disk.now) (g.D.Disk.shown c.find_file.new.disk) (g.D.Disk.shown c.count_added.new.disk) c.args.pool.now c.find_file.new.pool c.count_added.new.pool c.find_file.ensures.reads c.count_added.ensures.reads
+returns-clause-reads g c = reads_then (g.D.Disk.shown c.args.disk.now) (g.D.Disk.shown c.find_file.new.disk) (g.D.Disk.shown c.count_put.new.disk) c.args.pool.now c.find_file.new.pool c.count_put.new.pool c.find_file.ensures.reads c.count_put.ensures.reads

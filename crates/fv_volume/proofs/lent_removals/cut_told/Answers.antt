@@ -32,9 +32,9 @@ returns-clause-leaves g c =
     let after = c.cut.new.blocks in
     let old = lent_for c.args.pool.now c.args.map.now disk c.open-steps.result c.args.home.now 0 in
     let new = lent_by after.pool.now after.map.now (g.D.Disk.shown after.disk.now) after.steps.now after.home 0 after.strays after.noted in
-    subst (λ (m : Volume). LeavesTable told (sees c.args.pool.now c.args.map.now disk c.args.home.now) (sees c.args.pool.now m disk c.args.home.now) c.args.files.now c.cut.new.self c.cut.result) (search rules)
-    (subst (λ (n : ℕ). LeavesTable told (shown_over (lent_for c.args.pool.now c.args.map.now disk n c.args.home.now 0)) (sees c.args.pool.now after.map.now disk c.args.home.now) c.args.files.now c.cut.new.self c.cut.result) c.open-steps.ensures
-    (leaves_table told (Unit {0}) old new c.cut.ensures.calls.4 c.args.files.now c.cut.new.self _ c.cut.result c.cut.ensures.changes (λ t. tt) c.cut.ensures.led
+    subst (λ (m : Volume). LeavesTable told (sees c.args.pool.now c.args.map.now disk c.args.home.now) (sees c.args.pool.now m disk c.args.home.now) c.args.files.now c.cut.new.self c.args.stamp c.cut.result) (search rules)
+    (subst (λ (n : ℕ). LeavesTable told (shown_over (lent_for c.args.pool.now c.args.map.now disk n c.args.home.now 0)) (sees c.args.pool.now after.map.now disk c.args.home.now) c.args.files.now c.cut.new.self c.args.stamp c.cut.result) c.open-steps.ensures
+    (leaves_table told (Unit {0}) old new c.cut.ensures.calls.4 c.args.files.now c.cut.new.self c.args.stamp _ c.cut.result c.cut.ensures.changes c.cut.ensures.alters (λ t. tt) c.cut.ensures.led
     (λ t is. let well = c.requires.known.well t in
     both_sides (pending_in c.cut.new.self ≤ pending_in c.args.files.now + 14) c.cut.result c.cut.ensures.pending
     (onok_well (λ n. IsWellTable n (table_told (table_in (shown_over old) c.args.files.now))) (pending_in c.cut.new.self ≤ pending_in c.args.files.now + 14) c.cut.result is well.0 well.1 (c.cut.ensures.pending_done t)))))

@@ -3,7 +3,9 @@ use Rattle.fv_tables.specs.Told.{Standing, table_told}
 use Rattle.fv_tree.specs.Standing.{under}
 use Rattle.fv_model.specs.Tables.{new}
 use Rattle.fv_volmap.specs.Slots.{Volume}
-use Rattle.fv_files.specs.Tables.{changed}
+use Rattle.fv_files.specs.Apart.{Trees}
+use Rattle.fv_files.specs.Altering.{AltersTrees}
+use Rattle.fv_files.specs.Tables.{changed, loaded_trees}
 use Rattle.fv_files.specs.Trees.{standing_in}
 use Rattle.fv_inode.specs.Files.{rooted, IsLeastFree}
 use Rattle.fv_volume.specs.Lending.{IsTold, lent_for, sees}
@@ -11,6 +13,7 @@ use Rattle.fv_volume.specs.OneVolume.{home_in, shows, standing_for, IsStanding}
 use Rattle.fv_volume.proofs.CallCauses.{cause_for}
 use Rattle.fv_volume.proofs.Calling.{onok_with, same_maps}
 use Rattle.fv_volume.proofs.OneVolumes.{root_fits, still_told}
+use Rattle.fv_volume.proofs.TakenTrees.{taken_laid, taken_trees}
 use Rattle.fv_volume.proofs.making.create_file.Goals as goal
 
 pub take_table-files-requires-clause-root : goal.take_table-files-requires-clause-root
@@ -42,6 +45,9 @@ returns-clause-alters g c =
       reads = c.create_told-made.ensures.reads;
       told = λ is. subst (λ (m : Volume). IsTold (g.D.Disk.shown c.create_told-made.new.disk) c.create_told-made.new.pool m x.slot) (sym c.create_told-made.ensures.map) (still_told disk (g.D.Disk.shown c.create_told-made.new.disk) pool c.create_told-made.new.pool c.create_told-made.ensures.reads x is.told);
       trees = λ is. c.create_told-made.ensures.leaves.stands (given is) (c.take_table-files.ensures.trees (under source) source.used is.trees);
+      alters = λ is. subst (λ (t : Trees). AltersTrees (x.now + 1) t (loaded_trees (under (sees pool c.create_told-made.new.map disk (home_in x))) c.create_told-made.new.files)) (taken_trees (under source) x.active x.files f table c.take_table-files.ensures.held)
+          (c.create_told-made.ensures.leaves.alters (given is) (c.take_table-files.ensures.trees (under source) source.used is.trees));
+      laid = λ is. c.create_told-made.ensures.leaves.laid (given is) (c.take_table-files.ensures.trees (under source) source.used is.trees) (taken_laid (under source) x.active x.files f table c.take_table-files.ensures.held is.laid);
       failed = λ is. subst (λ (s : Standing). OnErr c.create_told-made.result (table_told (standing_in (under (sees pool c.create_told-made.new.map disk (home_in x))) (changed c.create_told-made.new.files)) ≡ table_told s)) table (c.create_told-made.ensures.leaves.failed (given is));
       led = λ is led. c.create_told-made.ensures.leaves.led (given is) (c.take_table-files.ensures.trees (under source) source.used is.trees) (c.take_table-files.ensures.led (under source) source.used led);
       well = λ is well. c.create_told-made.ensures.leaves.well (given is) (c.take_table-files.ensures.trees (under source) source.used is.trees) (c.take_table-files.ensures.well (under source) well);

@@ -7,10 +7,16 @@ use Rattle.fv_volume.specs.Causes.{of_block}
 use Rattle.fv_volume.specs.Lending.{lent_for}
 use Rattle.fv_volume.specs.OneVolume.{home_in, standing_for, IsStanding}
 use Rattle.fv_volume.proofs.Calling.{no_refusal, refused_ready}
-use Rattle.fv_volume.proofs.OneVolumes.{reads_then, said_before}
+use Rattle.fv_volume.proofs.OneVolumes.{reads_then}
 use Rattle.fv_charge.specs.declared.ledger.Ledger.{Ledger}
 use Rattle.fv_charge.specs.Changes.{IsChanged}
-use Rattle.fv_files.specs.Calls.{AddsFile}
+use Rattle.fv_model.specs.Tables.{inode_cell}
+use Rattle.fv_model.specs.Volumes.{Volume}
+use Rattle.fv_laws.specs.Paths.{new_path}
+use Rattle.fv_laws.specs.Positions.{added_by, staying}
+use Rattle.fv_tables.specs.Told.{table_told}
+use Rattle.fv_inode.specs.Files.{IsLeastFree}
+use Rattle.fv_volume.proofs.Charged.{told_before}
 use Rattle.fv_volume.proofs.CallCauses.{fails_later, failed_cause, refused_cause}
 use Rattle.fv_volume.proofs.Judged.{more_fits, said_of, IsMore}
 use Rattle.fv_volume.proofs.JudgedNew.{new_accepted, new_full}
@@ -21,8 +27,8 @@ returns-in_err-number-clause-refused g c =
     let p = err_from_is_err_and c.from_residual.result c.from_residual.ensures.1 in
     rw (p.1, p.2) (λ is. c.in_err-number.ensures.refused is c.args.others)
 
-pub count_room-requires-clause-ready : goal.count_room-requires-clause-ready
-count_room-requires-clause-ready g c = refused_ready (g.D.Disk.shown c.args.disk.now) (g.D.Disk.shown c.judge_name.new.disk) c.args.pool.now c.judge_name.new.pool c.judge_name.ensures.reads c.args.volume.now c.judge_name.new.volume c.judge_name.ensures.same c.requires.ready
+pub count_new-requires-clause-ready : goal.count_new-requires-clause-ready
+count_new-requires-clause-ready g c = refused_ready (g.D.Disk.shown c.args.disk.now) (g.D.Disk.shown c.judge_name.new.disk) c.args.pool.now c.judge_name.new.pool c.judge_name.ensures.reads c.args.volume.now c.judge_name.new.volume c.judge_name.ensures.same c.requires.ready
 
 pub returns-in_err-count-clause-refused : goal.returns-in_err-count-clause-refused
 returns-in_err-count-clause-refused g c =
@@ -30,20 +36,20 @@ returns-in_err-count-clause-refused g c =
     rw (p.1, p.2) (λ is m has. no_refusal (Unit {0}) m _ c.in_err-count.field-0.0)
 
 pub returns-in_err-count-clause-reads : goal.returns-in_err-count-clause-reads
-returns-in_err-count-clause-reads g c = reads_then (g.D.Disk.shown c.args.disk.now) (g.D.Disk.shown c.judge_name.new.disk) (g.D.Disk.shown c.count_room.new.disk) c.args.pool.now c.judge_name.new.pool c.count_room.new.pool c.judge_name.ensures.reads c.count_room.ensures.reads
+returns-in_err-count-clause-reads g c = reads_then (g.D.Disk.shown c.args.disk.now) (g.D.Disk.shown c.judge_name.new.disk) (g.D.Disk.shown c.count_new.new.disk) c.args.pool.now c.judge_name.new.pool c.count_new.new.pool c.judge_name.ensures.reads c.count_new.ensures.reads
 
 pub returns-in_err-count-clause-cause : goal.returns-in_err-count-clause-cause
 returns-in_err-count-clause-cause g c =
     let e = c.in_err-count.field-0.0 in
     let failed : c.from_residual-in_err-count.result ≡ Err (of_block e) = search rules in
-    let later = subst (λ (z : VolumeState). BlockCause {T = ℕ} (IsStanding (g.D.Disk.shown c.judge_name.new.disk) c.judge_name.new.pool z) (standing_for (g.D.Disk.shown c.judge_name.new.disk) c.judge_name.new.pool z) (lent_for c.judge_name.new.pool z.map (g.D.Disk.shown c.judge_name.new.disk) 0 (home_in z) 0) (g.D.Disk.shown c.count_room.new.disk).faults (Err e)) c.judge_name.ensures.same c.in_err-count.ensures.cause in
-    failed_cause (IsStanding (g.D.Disk.shown c.args.disk.now) c.args.pool.now c.args.volume.now) (standing_for (g.D.Disk.shown c.args.disk.now) c.args.pool.now c.args.volume.now) (lent_for c.args.pool.now c.args.volume.now.map (g.D.Disk.shown c.args.disk.now) 0 (home_in c.args.volume.now) 0) (g.D.Disk.shown c.count_room.new.disk).faults e c.from_residual-in_err-count.result failed
-    (fails_later (g.D.Disk.shown c.args.disk.now) (g.D.Disk.shown c.judge_name.new.disk) c.args.pool.now c.judge_name.new.pool c.judge_name.ensures.reads c.args.volume.now c.in_ok-number.ensures.cause 0 {T = ℕ} (g.D.Disk.shown c.count_room.new.disk).faults (Err e) later)
+    let later = subst (λ (z : VolumeState). BlockCause {T = ℕ} (IsStanding (g.D.Disk.shown c.judge_name.new.disk) c.judge_name.new.pool z) (standing_for (g.D.Disk.shown c.judge_name.new.disk) c.judge_name.new.pool z) (lent_for c.judge_name.new.pool z.map (g.D.Disk.shown c.judge_name.new.disk) 0 (home_in z) 0) (g.D.Disk.shown c.count_new.new.disk).faults (Err e)) c.judge_name.ensures.same c.in_err-count.ensures.cause in
+    failed_cause (IsStanding (g.D.Disk.shown c.args.disk.now) c.args.pool.now c.args.volume.now) (standing_for (g.D.Disk.shown c.args.disk.now) c.args.pool.now c.args.volume.now) (lent_for c.args.pool.now c.args.volume.now.map (g.D.Disk.shown c.args.disk.now) 0 (home_in c.args.volume.now) 0) (g.D.Disk.shown c.count_new.new.disk).faults e c.from_residual-in_err-count.result failed
+    (fails_later (g.D.Disk.shown c.args.disk.now) (g.D.Disk.shown c.judge_name.new.disk) c.args.pool.now c.judge_name.new.pool c.judge_name.ensures.reads c.args.volume.now c.in_ok-number.ensures.cause 0 {T = ℕ} (g.D.Disk.shown c.count_new.new.disk).faults (Err e) later)
 
 pub returns-in_err-admit_change-clause-refused : goal.returns-in_err-admit_change-clause-refused
 returns-in_err-admit_change-clause-refused g c =
     let p = err_from_is_err_and c.from_residual-in_err-admit_change.result c.from_residual-in_err-admit_change.ensures.1 in
-    let more : IsMore c.args.volume.now.ledger c.in_ok-count.count c.more_blocks-delta.result = subst (λ (z : VolumeState). IsMore z.ledger c.in_ok-count.count c.more_blocks-delta.result) (c.count_room.ensures.same ∙ c.judge_name.ensures.same) (record {
+    let more : IsMore c.args.volume.now.ledger c.in_ok-count.count c.more_blocks-delta.result = subst (λ (z : VolumeState). IsMore z.ledger c.in_ok-count.count c.more_blocks-delta.result) (c.count_new.ensures.same ∙ c.judge_name.ensures.same) (record {
       charge = c.more_blocks-delta.ensures.charge;
       need = c.more_blocks-delta.ensures.need;
       size = c.more_blocks-delta.ensures.size;
@@ -51,20 +57,20 @@ returns-in_err-admit_change-clause-refused g c =
       can = c.more_blocks-delta.ensures.fits;
     }) in
     rw (p.1, p.2) (λ is. let names = c.in_ok-number.ensures.accepted is in new_full (g.D.Disk.shown c.args.disk.now) c.args.pool.now c.args.volume.now c.args.others c.args.file.now c.args.reserve names.near names.none is c.in_ok-number.ensures.none c.in_ok-number.number c.in_ok-number.ensures.low names.free c.in_ok-number.ensures.more c.more_blocks-delta.result c.in_ok-count.count c.requires.ready
-    (said_before (g.D.Disk.shown c.args.disk.now) (g.D.Disk.shown c.judge_name.new.disk) c.args.pool.now c.judge_name.new.pool c.judge_name.ensures.reads c.args.volume.now c.judge_name.new.volume c.judge_name.ensures.same (λ (s : Standing). AddsFile s c.in_ok-number.number c.in_ok-count.count) c.in_ok-count.ensures.added is) more.charge more.need more.size more.kind c.in_err-admit_change.field-0.0
-    (said_of (g.D.Disk.shown c.args.disk.now) (g.D.Disk.shown c.count_room.new.disk) c.args.pool.now c.count_room.new.pool (reads_then (g.D.Disk.shown c.args.disk.now) (g.D.Disk.shown c.judge_name.new.disk) (g.D.Disk.shown c.count_room.new.disk) c.args.pool.now c.judge_name.new.pool c.count_room.new.pool c.judge_name.ensures.reads c.count_room.ensures.reads) c.args.volume.now c.count_room.new.volume (c.count_room.ensures.same ∙ c.judge_name.ensures.same) c.args.others c.more_blocks-delta.result (Err c.in_err-admit_change.field-0.0) c.in_err-admit_change.ensures.machine))
+    (told_before (g.D.Disk.shown c.args.disk.now) (g.D.Disk.shown c.judge_name.new.disk) c.args.pool.now c.judge_name.new.pool c.judge_name.ensures.reads c.args.volume.now c.judge_name.new.volume c.judge_name.ensures.same (λ (s : Standing) (v : Volume). IsLeastFree s.inode c.in_ok-number.number → c.in_ok-count.count ≡ added_by (table_told s).inode (inode_cell c.in_ok-number.number) + staying v (new_path (table_told s))) c.in_ok-count.ensures.costs is) more.charge more.need more.size more.kind c.in_err-admit_change.field-0.0
+    (said_of (g.D.Disk.shown c.args.disk.now) (g.D.Disk.shown c.count_new.new.disk) c.args.pool.now c.count_new.new.pool (reads_then (g.D.Disk.shown c.args.disk.now) (g.D.Disk.shown c.judge_name.new.disk) (g.D.Disk.shown c.count_new.new.disk) c.args.pool.now c.judge_name.new.pool c.count_new.new.pool c.judge_name.ensures.reads c.count_new.ensures.reads) c.args.volume.now c.count_new.new.volume (c.count_new.ensures.same ∙ c.judge_name.ensures.same) c.args.others c.more_blocks-delta.result (Err c.in_err-admit_change.field-0.0) c.in_err-admit_change.ensures.machine))
 
 pub returns-in_err-admit_change-clause-reads : goal.returns-in_err-admit_change-clause-reads
-returns-in_err-admit_change-clause-reads g c = reads_then (g.D.Disk.shown c.args.disk.now) (g.D.Disk.shown c.judge_name.new.disk) (g.D.Disk.shown c.count_room.new.disk) c.args.pool.now c.judge_name.new.pool c.count_room.new.pool c.judge_name.ensures.reads c.count_room.ensures.reads
+returns-in_err-admit_change-clause-reads g c = reads_then (g.D.Disk.shown c.args.disk.now) (g.D.Disk.shown c.judge_name.new.disk) (g.D.Disk.shown c.count_new.new.disk) c.args.pool.now c.judge_name.new.pool c.count_new.new.pool c.judge_name.ensures.reads c.count_new.ensures.reads
 
 pub returns-in_err-admit_change-clause-cause : goal.returns-in_err-admit_change-clause-cause
 returns-in_err-admit_change-clause-cause g c =
     let failed : c.from_residual-in_err-admit_change.result ≡ Err c.in_err-admit_change.field-0.0 = search rules in
-    refused_cause (IsStanding (g.D.Disk.shown c.args.disk.now) c.args.pool.now c.args.volume.now) (standing_for (g.D.Disk.shown c.args.disk.now) c.args.pool.now c.args.volume.now) (lent_for c.args.pool.now c.args.volume.now.map (g.D.Disk.shown c.args.disk.now) 0 (home_in c.args.volume.now) 0) (g.D.Disk.shown c.count_room.new.disk).faults c.in_err-admit_change.field-0.0 c.from_residual-in_err-admit_change.result failed c.in_err-admit_change.ensures.refusal (c.in_ok-count.ensures.cause ∙ c.in_ok-number.ensures.cause)
+    refused_cause (IsStanding (g.D.Disk.shown c.args.disk.now) c.args.pool.now c.args.volume.now) (standing_for (g.D.Disk.shown c.args.disk.now) c.args.pool.now c.args.volume.now) (lent_for c.args.pool.now c.args.volume.now.map (g.D.Disk.shown c.args.disk.now) 0 (home_in c.args.volume.now) 0) (g.D.Disk.shown c.count_new.new.disk).faults c.in_err-admit_change.field-0.0 c.from_residual-in_err-admit_change.result failed c.in_err-admit_change.ensures.refusal (c.in_ok-count.ensures.cause ∙ c.in_ok-number.ensures.cause)
 
 pub returns-clause-accepted : goal.returns-clause-accepted
 returns-clause-accepted g c = λ is.
-    let more : IsMore c.args.volume.now.ledger c.in_ok-count.count c.more_blocks-delta.result = subst (λ (z : VolumeState). IsMore z.ledger c.in_ok-count.count c.more_blocks-delta.result) (c.count_room.ensures.same ∙ c.judge_name.ensures.same) (record {
+    let more : IsMore c.args.volume.now.ledger c.in_ok-count.count c.more_blocks-delta.result = subst (λ (z : VolumeState). IsMore z.ledger c.in_ok-count.count c.more_blocks-delta.result) (c.count_new.ensures.same ∙ c.judge_name.ensures.same) (record {
       charge = c.more_blocks-delta.ensures.charge;
       need = c.more_blocks-delta.ensures.need;
       size = c.more_blocks-delta.ensures.size;
@@ -73,12 +79,12 @@ returns-clause-accepted g c = λ is.
     }) in
     let names = c.in_ok-number.ensures.accepted is in
     new_accepted (g.D.Disk.shown c.args.disk.now) c.args.pool.now c.args.volume.now c.args.others c.args.file.now c.args.reserve names.near names.none is c.in_ok-number.ensures.none c.in_ok-number.number c.in_ok-number.ensures.low names.free c.in_ok-number.ensures.more c.more_blocks-delta.result c.in_ok-count.count c.requires.ready
-    (said_before (g.D.Disk.shown c.args.disk.now) (g.D.Disk.shown c.judge_name.new.disk) c.args.pool.now c.judge_name.new.pool c.judge_name.ensures.reads c.args.volume.now c.judge_name.new.volume c.judge_name.ensures.same (λ (s : Standing). AddsFile s c.in_ok-number.number c.in_ok-count.count) c.in_ok-count.ensures.added is) more.charge more.need more.size more.kind
-    (said_of (g.D.Disk.shown c.args.disk.now) (g.D.Disk.shown c.count_room.new.disk) c.args.pool.now c.count_room.new.pool (reads_then (g.D.Disk.shown c.args.disk.now) (g.D.Disk.shown c.judge_name.new.disk) (g.D.Disk.shown c.count_room.new.disk) c.args.pool.now c.judge_name.new.pool c.count_room.new.pool c.judge_name.ensures.reads c.count_room.ensures.reads) c.args.volume.now c.count_room.new.volume (c.count_room.ensures.same ∙ c.judge_name.ensures.same) c.args.others c.more_blocks-delta.result (Ok tt) c.in_ok-admit_change.ensures.machine)
+    (told_before (g.D.Disk.shown c.args.disk.now) (g.D.Disk.shown c.judge_name.new.disk) c.args.pool.now c.judge_name.new.pool c.judge_name.ensures.reads c.args.volume.now c.judge_name.new.volume c.judge_name.ensures.same (λ (s : Standing) (v : Volume). IsLeastFree s.inode c.in_ok-number.number → c.in_ok-count.count ≡ added_by (table_told s).inode (inode_cell c.in_ok-number.number) + staying v (new_path (table_told s))) c.in_ok-count.ensures.costs is) more.charge more.need more.size more.kind
+    (said_of (g.D.Disk.shown c.args.disk.now) (g.D.Disk.shown c.count_new.new.disk) c.args.pool.now c.count_new.new.pool (reads_then (g.D.Disk.shown c.args.disk.now) (g.D.Disk.shown c.judge_name.new.disk) (g.D.Disk.shown c.count_new.new.disk) c.args.pool.now c.judge_name.new.pool c.count_new.new.pool c.judge_name.ensures.reads c.count_new.ensures.reads) c.args.volume.now c.count_new.new.volume (c.count_new.ensures.same ∙ c.judge_name.ensures.same) c.args.others c.more_blocks-delta.result (Ok tt) c.in_ok-admit_change.ensures.machine)
 
 pub returns-clause-fits : goal.returns-clause-fits
 returns-clause-fits g c =
-    let more : IsMore c.args.volume.now.ledger c.in_ok-count.count c.more_blocks-delta.result = subst (λ (z : VolumeState). IsMore z.ledger c.in_ok-count.count c.more_blocks-delta.result) (c.count_room.ensures.same ∙ c.judge_name.ensures.same) (record {
+    let more : IsMore c.args.volume.now.ledger c.in_ok-count.count c.more_blocks-delta.result = subst (λ (z : VolumeState). IsMore z.ledger c.in_ok-count.count c.more_blocks-delta.result) (c.count_new.ensures.same ∙ c.judge_name.ensures.same) (record {
       charge = c.more_blocks-delta.ensures.charge;
       need = c.more_blocks-delta.ensures.need;
       size = c.more_blocks-delta.ensures.size;
@@ -86,7 +92,7 @@ returns-clause-fits g c =
       can = c.more_blocks-delta.ensures.fits;
     }) in
     more_fits (g.D.Disk.shown c.args.disk.now) c.args.pool.now c.args.volume.now c.more_blocks-delta.result c.in_ok-count.count c.requires.ready c.in_ok-number.ensures.more more.can more.need more.size more.kind
-    (subst (λ (z : VolumeState). (l : Ledger) → IsChanged z.ledger c.more_blocks-delta.result l → l.charge + l.need ≤ l.size) (c.count_room.ensures.same ∙ c.judge_name.ensures.same) c.in_ok-admit_change.ensures.within)
+    (subst (λ (z : VolumeState). (l : Ledger) → IsChanged z.ledger c.more_blocks-delta.result l → l.charge + l.need ≤ l.size) (c.count_new.ensures.same ∙ c.judge_name.ensures.same) c.in_ok-admit_change.ensures.within)
 
 pub returns-clause-reads : goal.returns-clause-reads
-returns-clause-reads g c = reads_then (g.D.Disk.shown c.args.disk.now) (g.D.Disk.shown c.judge_name.new.disk) (g.D.Disk.shown c.count_room.new.disk) c.args.pool.now c.judge_name.new.pool c.count_room.new.pool c.judge_name.ensures.reads c.count_room.ensures.reads
+returns-clause-reads g c = reads_then (g.D.Disk.shown c.args.disk.now) (g.D.Disk.shown c.judge_name.new.disk) (g.D.Disk.shown c.count_new.new.disk) c.args.pool.now c.judge_name.new.pool c.count_new.new.pool c.judge_name.ensures.reads c.count_new.ensures.reads

@@ -25,6 +25,7 @@ returns-clause-counted g c = taken_counts (g.D.Disk.shown c.args.disk.now) c.arg
 pub returns-clause-alters : goal.returns-clause-alters
 returns-clause-alters g c = taken_alters (g.D.Disk.shown c.args.disk.now) c.args.pool.now c.args.volume.now c.take_table-files.result c.args.info.now (c.take_table-files.ensures.table (under (shows (g.D.Disk.shown c.args.disk.now) c.args.pool.now c.args.volume.now))) c.requires.there
     (λ is. c.take_table-files.ensures.trees (under (shows (g.D.Disk.shown c.args.disk.now) c.args.pool.now c.args.volume.now)) (shows (g.D.Disk.shown c.args.disk.now) c.args.pool.now c.args.volume.now).used is.trees) c.remove_told-gone.result
+    c.take_table-files.ensures.held
     (λ led. c.take_table-files.ensures.led (under (shows (g.D.Disk.shown c.args.disk.now) c.args.pool.now c.args.volume.now)) (shows (g.D.Disk.shown c.args.disk.now) c.args.pool.now c.args.volume.now).used led)
     (λ well. c.take_table-files.ensures.well (under (shows (g.D.Disk.shown c.args.disk.now) c.args.pool.now c.args.volume.now)) well) c.take_table-files.ensures.pending
     (g.D.Disk.shown c.remove_told-gone.new.disk) c.remove_told-gone.new.pool c.remove_told-gone.new.map c.remove_told-gone.new.files c.remove_told-gone.ensures.leaves c.remove_told-gone.ensures.maps c.remove_told-gone.ensures.reads c.remove_told-gone.ensures.told

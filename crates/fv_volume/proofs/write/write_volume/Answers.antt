@@ -8,7 +8,7 @@ use Rattle.fv_volume.proofs.Sparing.{failed_value, spares_fewer}
 use Rattle.fv_volume.proofs.write.write_volume.Goals as goal
 
 pub take_block-label-requires : goal.take_block-label-requires
-take_block-label-requires g c = room_for_label c.args.state.now _ (omega (arith, c.requires.room, c.give_back_moved.ensures.given.count))
+take_block-label-requires g c = room_for_label c.args.state.now _ (omega (arith, c.requires.room, c.give_back_maps.ensures.count))
 
 pub returns-in_err-write_anew-clause-spares : goal.returns-in_err-write_anew-clause-spares
 returns-in_err-write_anew-clause-spares g c =
@@ -16,7 +16,7 @@ returns-in_err-write_anew-clause-spares g c =
     let took = c.take_block-label.ensures in
     failed_value (IsTaken (on_disk space)) _ _ c.in_err-write_anew.field-0.0 c.from_residual.result
     (spares_fewer (IsTakenOther c.take_block-label.new.map c.take_block-label.result) (IsTaken (on_disk space)) _ _ (Err c.in_err-write_anew.field-0.0)
-    (spared space c.give_back_moved.new.map c.take_block-label.new.map _ c.take_block-label.result c.give_back_moved.ensures.given took.drawn took.least) c.in_err-write_anew.ensures.spares)
+    (spared space c.give_back_maps.new.map c.take_block-label.new.map _ c.take_block-label.result c.give_back_maps.ensures took.drawn took.least) c.in_err-write_anew.ensures.spares)
     c.from_residual.ensures.0
 
 pub returns-clause-spares : goal.returns-clause-spares
@@ -24,7 +24,7 @@ returns-clause-spares g c =
     let space = c.args.map.now in
     let took = c.take_block-label.ensures in
     spares_fewer (IsTakenOther c.take_block-label.new.map c.take_block-label.result) (IsTaken (on_disk space)) _ _ (Ok tt)
-    (spared space c.give_back_moved.new.map c.take_block-label.new.map _ c.take_block-label.result c.give_back_moved.ensures.given took.drawn took.least) c.in_ok-write_anew.ensures.spares
+    (spared space c.give_back_maps.new.map c.take_block-label.new.map _ c.take_block-label.result c.give_back_maps.ensures took.drawn took.least) c.in_ok-write_anew.ensures.spares
 
 pub returns-clause-written : goal.returns-clause-written
 returns-clause-written g c = λ tells own.
@@ -34,10 +34,10 @@ returns-clause-written g c = λ tells own.
     let drawn = c.take_block-label.new.map in
     let took = c.take_block-label.ensures in
     let wrote = c.in_ok-write_anew.ensures in
-    let gave = c.give_back_moved.ensures in
-    let taken = nodes_taken x space drawn old c.give_back_moved.new.container (took.drawn.committed ∙ gave.given.committed) gave.tree own in
-    renewed_volume x (g.D.Disk.shown c.args.disk.now).reads (g.D.Disk.shown c.write_anew.new.disk).reads space c.give_back_moved.new.map drawn c.write_anew.new.map c.give_back.new.self c.take_block-label.result old c.give_back_moved.new.container c.write_anew.new.container own
-    gave.given took.drawn took.least
-    (wrote.written tells taken (no_old_node x space c.give_back_moved.new.map old c.give_back_moved.new.container c.take_block-label.result gave.given.committed gave.tree own (label_free space c.give_back_moved.new.map drawn _ c.take_block-label.result gave.given took.drawn took.least)))
+    let gave = c.give_back_maps.ensures in
+    let taken = nodes_taken x space drawn old (took.drawn.committed ∙ gave.committed) own in
+    renewed_volume x (g.D.Disk.shown c.args.disk.now).reads (g.D.Disk.shown c.write_anew.new.disk).reads space c.give_back_maps.new.map drawn c.write_anew.new.map c.give_back.new.self c.take_block-label.result old c.write_anew.new.container own
+    gave took.drawn took.least
+    (wrote.written tells taken (no_old_node x space c.give_back_maps.new.map old c.take_block-label.result gave.committed own (label_free space c.give_back_maps.new.map drawn _ c.take_block-label.result gave took.drawn took.least)))
     (subst (λ (p : ℕ). HasGiven c.write_anew.new.map (λ b. is_at b p) c.give_back.new.self) c.label_place.ensures c.give_back.ensures)
-    wrote.committed wrote.entries gave.tree gave.kept gave.holes (λ b is. wrote.spares.reads tells b is)
+    wrote.committed wrote.entries (λ b is. wrote.spares.reads tells b is)

@@ -1,4 +1,5 @@
 use Rattle.std.proofs.Common.{◌≡◌, rules, Err, sym, subst}
+use Rattle.fv_aggregate.specs.Commands.{file_room}
 use Rattle.fv_aggregate.specs.Looking.{Makes}
 use Rattle.fv_aggregate.proofs.Asked.{damaged_at}
 use Rattle.fv_aggregate.proofs.Numbered.{make_numbered, make_unnumbered}
@@ -10,7 +11,7 @@ returns-in_err-read_numbers-clause-makes g c =
     let d = g.D.Disk.shown c.args.disk.now in
     let e = g.D.Disk.shown c.read_numbers.new.disk in
     let failed : c.from_residual.result ≡ Err c.in_err-read_numbers.field-0.0 = search rules in
-    subst (Makes d c.args.self.now c.args.command.now e c.read_numbers.new.self) (sym failed)
+    subst (Makes file_room d c.args.self.now c.args.command.now e c.read_numbers.new.self) (sym failed)
     (make_unnumbered d c.args.self.now c.args.command.now e c.read_numbers.new.self c.in_err-read_numbers.field-0.0 c.in_err-read_numbers.ensures.numbered)
 
 pub decide-requires-clause-aimed : goal.decide-requires-clause-aimed

@@ -2,7 +2,7 @@ use Rattle.std.proofs.Common.{◌≡◌, ◌<◌, ◌+◌, rules, arith, Ok, Err
 use Rattle.std.specs.Prelude.{nat_le}
 use Rattle.std.proofs.lemmas.Bool.Decides.{nat_tests}
 use Rattle.fv_model.specs.declared.answers.Reply.{Reply}
-use Rattle.fv_aggregate.specs.Commands.{dirty_limit}
+use Rattle.fv_aggregate.specs.Commands.{dirty_limit, file_room}
 use Rattle.fv_aggregate.specs.Looking.{HasJudged, Makes}
 use Rattle.fv_aggregate.proofs.Asked.{damaged_at}
 use Rattle.fv_aggregate.proofs.Changing.{judged_refusal}
@@ -14,7 +14,7 @@ returns-in_err-judged-clause-makes g c =
     let d = g.D.Disk.shown c.args.disk.now in
     let e = g.D.Disk.shown c.judge.new.disk in
     let failed : c.from_residual.result ≡ Err c.in_err-judged.field-0.0 = search rules in
-    subst (Makes d c.args.self.now c.args.command.now e c.judge.new.self) (sym failed)
+    subst (Makes file_room d c.args.self.now c.args.command.now e c.judge.new.self) (sym failed)
     (judging_failed d c.args.self.now c.args.command.now e c.judge.new.self c.in_err-judged.field-0.0 c.in_err-judged.ensures.judged)
 
 pub returns-in-Some-clause-makes : goal.returns-in-Some-clause-makes
@@ -34,7 +34,7 @@ returns-in_err-make_room-in-None-clause-makes g c =
     let aimed = c.requires.aimed in
     let past : dirty_limit < s.pending + 16 = (let full : nat_le (s.pending + 16) 256 ≡ _ = sym c.has_room.ensures ∙ c.if-has_room.false in grind (arith, nat_tests, full)) in
     let failed : c.from_residual-in_err-make_room-in-None.result ≡ Err c.in_err-make_room-in-None.field-0.0 = search rules in
-    subst (Makes d s c.args.command.now h c.make_room.new.self) (sym failed)
+    subst (Makes file_room d s c.args.command.now h c.make_room.new.self) (sym failed)
     (room_failed d s c.args.command.now past (damaged_at d s c.args.slot aimed.state aimed.there c.requires.fresh) e c.judge.new.self c.in_ok-judged.judged c.in_ok-judged.ensures.judged h c.make_room.new.self c.in_err-make_room-in-None.field-0.0
     c.in_err-make_room-in-None.ensures.goes c.in_err-make_room-in-None.ensures.goes_for)
 

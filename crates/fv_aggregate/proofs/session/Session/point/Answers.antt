@@ -5,7 +5,7 @@ use Rattle.fv_volume.specs.declared.fault.VolumeFault.{VolumeFault}
 use Rattle.fv_volume.specs.declared.fault.VolumeFault.TheVariants.{Damaged, DiskFault, Memory}
 use Rattle.fv_volume.specs.States.{States}
 use Rattle.fv_cp.specs.Placing.{HaveNoFiles}
-use Rattle.fv_cp.specs.Settling.{HaveFullRoom, IsNoDamage, IsStill, StillHeld, WholeCounts, WholeFails}
+use Rattle.fv_cp.specs.Settling.{HaveFullRoom, IsNoDamage, WholeCounts, WholeFails}
 use Rattle.fv_aggregate.specs.declared.session.Session.{Session}
 use Rattle.fv_aggregate.proofs.PointEnds.{done_asks, failed_asks, has_full_room, held_as, point_done, point_failed_for, point_lacks, point_moments, point_room, point_wanting, pointed, pointed_left, still_as, still_asks, still_for, still_said, still_wants}
 use Rattle.fv_aggregate.proofs.Standing.{reads_whole}

@@ -4,7 +4,7 @@ use Rattle.std.proofs.lemmas.Result.{err_from_is_err_and, on_err_weaker, on_ok_w
 use Rattle.fv_tree.proofs.Causes.{at_err}
 use Rattle.fv_laws.specs.WellFormed.{IsWellTable}
 use Rattle.fv_files.specs.Tables.{table_in}
-use Rattle.fv_files.proofs.Prepared.{cuts_from, cut_counts_from, prepared_failed, prepared_alone, prepared_then}
+use Rattle.fv_files.proofs.Prepared.{cuts_from, cut_counts_from, prepared_failed, prepared_alone, prepared_then, table_alone, table_failed, table_then}
 use Rattle.fv_files.proofs.files.Files.cut.Goals as goal
 
 pub returns-in_err-prepare-clause-changes : goal.returns-in_err-prepare-clause-changes
@@ -70,3 +70,17 @@ pub returns-clause-pending_done : goal.returns-clause-pending_done
 returns-clause-pending_done g c = λ told.
     let first = c.in_ok-prepare.ensures.prepares in
     on_ok_weaker c.cut_ready.result (λ is sound now well. let most = is (first.stands told sound) now (subst (IsWellTable now) (sym (first.same told)) well) in omega (arith, c.in_ok-prepare.ensures.pending, most)) (c.cut_ready.ensures.pending_done told)
+
+pub returns-in_err-prepare-clause-alters : goal.returns-in_err-prepare-clause-alters
+returns-in_err-prepare-clause-alters g c =
+    let p = err_from_is_err_and c.from_residual.result c.from_residual.ensures.1 in
+    rw (p.1, p.2) (table_failed g.B.Blocks.told (Unit {0}) (g.B.Blocks.shown c.args.blocks.now) (g.B.Blocks.shown c.prepare.new.blocks) c.args.self.now c.prepare.new.files c.args.info.now c.args.stamp c.in_err-prepare.field-0.0 c.in_err-prepare.ensures.prepares)
+
+pub returns-then-not-branch-clause-alters : goal.returns-then-not-branch-clause-alters
+returns-then-not-branch-clause-alters g c =
+    table_alone g.B.Blocks.told (Unit {0}) (g.B.Blocks.shown c.args.blocks.now) (g.B.Blocks.shown c.prepare.new.blocks) c.args.self.now c.prepare.new.files c.args.info.now c.args.stamp c.in_ok-prepare.field-0 0 c.in_ok-prepare.ensures.prepares
+
+pub returns-clause-alters : goal.returns-clause-alters
+returns-clause-alters g c =
+    table_then g.B.Blocks.told (Unit {0}) (g.B.Blocks.shown c.args.blocks.now) (g.B.Blocks.shown c.prepare.new.blocks) c.args.self.now c.prepare.new.files c.args.info.now c.args.stamp
+    (g.B.Blocks.shown c.cut_ready.new.blocks) c.cut_ready.new.files c.in_ok-prepare.field-0 c.in_ok-prepare.ensures.prepares (Unit {0}) (λ told asked. asked) c.cut_ready.result c.cut_ready.ensures.alters

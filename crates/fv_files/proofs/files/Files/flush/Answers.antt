@@ -1,6 +1,10 @@
 use Rattle.std.proofs.lemmas.Result.{err_from_is_err_and}
+use Rattle.fv_tree.specs.Sources.{WasFree}
+use Rattle.fv_tree.proofs.Anew.{free_later, free_sooner}
+use Rattle.fv_files.proofs.Changed.{with_inode}
+use Rattle.fv_files.proofs.Laid.{places_then}
 use Rattle.fv_files.proofs.Flushed.{lays_failed}
-use Rattle.fv_files.proofs.Ended.{Places, flush_done, flush_failed, flush_stores, flush_under}
+use Rattle.fv_files.proofs.Ended.{Places, last_places, flush_done, flush_failed, flush_stores, flush_under}
 use Rattle.fv_files.proofs.files.Files.flush.Goals as goal
 
 pub returns-in_err-flush_trees-clause-flushes : goal.returns-in_err-flush_trees-clause-flushes
@@ -35,6 +39,10 @@ returns g c =
     } in
     record {
       flushes = flush_done g.B.Blocks.told old mid new c.args.self.now c.flush_trees.new.files c.flush.new.self c.flush.result first.lays first.none last;
+      places = places_then g.B.Blocks.told (WasFree g.B.Blocks.shown g.B.Blocks.goes c.args.blocks.now c.flush_trees.new.blocks) (WasFree g.B.Blocks.shown g.B.Blocks.goes c.flush_trees.new.blocks c.flush.new.blocks) (WasFree g.B.Blocks.shown g.B.Blocks.goes c.args.blocks.now c.flush.new.blocks)
+          (free_sooner g.B.Blocks.shown g.B.Blocks.goes g.met.B.Blocks.goes_on c.args.blocks.now c.flush_trees.new.blocks c.flush.new.blocks is.calls) (free_later g.B.Blocks.shown g.B.Blocks.goes g.met.B.Blocks.goes_on c.args.blocks.now c.flush_trees.new.blocks c.flush.new.blocks first.calls)
+          old mid new c.args.self.now c.flush_trees.new.files (with_inode c.flush_trees.new.files c.flush.new.self) tt first.lays first.places
+          (last_places g.B.Blocks.told mid new c.flush_trees.new.files c.flush.new.self c.flush.result last first.none (WasFree g.B.Blocks.shown g.B.Blocks.goes c.flush_trees.new.blocks c.flush.new.blocks) is.anew);
       stored_well = λ told known. flush_stores g.B.Blocks.told old mid new c.args.self.now c.flush_trees.new.files c.flush.new.self c.flush.result first.lays first.none last told (first.stored_well told known) (is.places known);
       stored_under = λ told known. flush_under g.B.Blocks.told old mid new c.args.self.now c.flush_trees.new.files c.flush.new.self c.flush.result first.lays first.none last told (first.stored_well told known) (is.places known);
       calls = g.met.B.Blocks.goes_on c.args.blocks.now c.flush_trees.new.blocks c.flush.new.blocks first.calls is.calls;

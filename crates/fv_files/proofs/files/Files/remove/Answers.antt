@@ -6,7 +6,7 @@ use Rattle.fv_files.specs.Tables.{table_in}
 use Rattle.fv_tree.specs.Erasing.{HoldsCells}
 use Rattle.fv_inode.specs.Files.{rooted}
 use Rattle.fv_inode.proofs.Alike.{holds_after}
-use Rattle.fv_files.proofs.Prepared.{removes_from, removal_counts_from, prepared_failed, prepared_alone, prepared_then}
+use Rattle.fv_files.proofs.Prepared.{removes_from, removal_counts_from, prepared_failed, prepared_alone, prepared_then, table_alone, table_failed, table_then}
 use Rattle.fv_files.proofs.files.Files.remove.Goals as goal
 
 pub returns-in_err-prepare-clause-changes : goal.returns-in_err-prepare-clause-changes
@@ -68,3 +68,19 @@ returns-then-not-branch-clause-pending g c = omega (arith, c.in_ok-prepare.ensur
 
 pub returns-clause-pending : goal.returns-clause-pending
 returns-clause-pending g c = omega (arith, c.in_ok-prepare.ensures.pending, c.remove_ready.ensures.pending)
+
+pub returns-in_err-prepare-clause-alters : goal.returns-in_err-prepare-clause-alters
+returns-in_err-prepare-clause-alters g c =
+    let p = err_from_is_err_and c.from_residual.result c.from_residual.ensures.1 in
+    rw (p.1, p.2) (table_failed g.B.Blocks.told (HoldsCells (rooted (g.B.Blocks.shown c.args.blocks.now) c.args.self.now.inode)) (g.B.Blocks.shown c.args.blocks.now) (g.B.Blocks.shown c.prepare.new.blocks) c.args.self.now c.prepare.new.files c.args.info.now c.args.stamp c.in_err-prepare.field-0.0 c.in_err-prepare.ensures.prepares)
+
+pub returns-then-not-branch-clause-alters : goal.returns-then-not-branch-clause-alters
+returns-then-not-branch-clause-alters g c =
+    table_alone g.B.Blocks.told (HoldsCells (rooted (g.B.Blocks.shown c.args.blocks.now) c.args.self.now.inode)) (g.B.Blocks.shown c.args.blocks.now) (g.B.Blocks.shown c.prepare.new.blocks) c.args.self.now c.prepare.new.files c.args.info.now c.args.stamp c.in_ok-prepare.field-0 0 c.in_ok-prepare.ensures.prepares
+
+pub returns-clause-alters : goal.returns-clause-alters
+returns-clause-alters g c =
+    table_then g.B.Blocks.told (HoldsCells (rooted (g.B.Blocks.shown c.args.blocks.now) c.args.self.now.inode)) (g.B.Blocks.shown c.args.blocks.now) (g.B.Blocks.shown c.prepare.new.blocks) c.args.self.now c.prepare.new.files c.args.info.now c.args.stamp
+    (g.B.Blocks.shown c.remove_ready.new.blocks) c.remove_ready.new.files c.in_ok-prepare.field-0 c.in_ok-prepare.ensures.prepares (HoldsCells (rooted (g.B.Blocks.shown c.prepare.new.blocks) c.prepare.new.files.inode))
+    (λ told holds. holds_after (rooted (g.B.Blocks.shown c.args.blocks.now) c.args.self.now.inode) (rooted (g.B.Blocks.shown c.prepare.new.blocks) c.prepare.new.files.inode) (c.in_ok-prepare.ensures.prepares.alike told) holds)
+    c.remove_ready.result c.remove_ready.ensures.alters

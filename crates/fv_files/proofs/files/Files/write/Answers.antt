@@ -2,7 +2,7 @@ use Rattle.std.proofs.Common.{arith}
 use Rattle.std.proofs.lemmas.Bool.{both_ways}
 use Rattle.std.proofs.lemmas.Result.{err_from_is_err_and, on_ok_weaker}
 use Rattle.fv_files.specs.Tables.{table_in}
-use Rattle.fv_files.proofs.Prepared.{writes_from, prepared_failed, prepared_alone, prepared_then}
+use Rattle.fv_files.proofs.Prepared.{writes_from, prepared_failed, prepared_alone, prepared_then, table_alone, table_failed, table_then}
 use Rattle.fv_files.proofs.files.Files.write.Goals as goal
 
 pub returns-in_err-prepare-clause-changes : goal.returns-in_err-prepare-clause-changes
@@ -51,3 +51,17 @@ returns-then-not-branch-clause-pending g c = omega (arith, c.in_ok-prepare.ensur
 
 pub returns-clause-pending : goal.returns-clause-pending
 returns-clause-pending g c = omega (arith, c.in_ok-prepare.ensures.pending, c.write_ready.ensures.pending)
+
+pub returns-in_err-prepare-clause-alters : goal.returns-in_err-prepare-clause-alters
+returns-in_err-prepare-clause-alters g c =
+    let p = err_from_is_err_and c.from_residual.result c.from_residual.ensures.1 in
+    rw (p.1, p.2) (table_failed g.B.Blocks.told (Unit {0}) (g.B.Blocks.shown c.args.blocks.now) (g.B.Blocks.shown c.prepare.new.blocks) c.args.self.now c.prepare.new.files c.args.info.now c.args.stamp c.in_err-prepare.field-0.0 c.in_err-prepare.ensures.prepares)
+
+pub returns-then-not-branch-clause-alters : goal.returns-then-not-branch-clause-alters
+returns-then-not-branch-clause-alters g c =
+    table_alone g.B.Blocks.told (Unit {0}) (g.B.Blocks.shown c.args.blocks.now) (g.B.Blocks.shown c.prepare.new.blocks) c.args.self.now c.prepare.new.files c.args.info.now c.args.stamp c.in_ok-prepare.field-0 tt c.in_ok-prepare.ensures.prepares
+
+pub returns-clause-alters : goal.returns-clause-alters
+returns-clause-alters g c =
+    table_then g.B.Blocks.told (Unit {0}) (g.B.Blocks.shown c.args.blocks.now) (g.B.Blocks.shown c.prepare.new.blocks) c.args.self.now c.prepare.new.files c.args.info.now c.args.stamp
+    (g.B.Blocks.shown c.write_ready.new.blocks) c.write_ready.new.files c.in_ok-prepare.field-0 c.in_ok-prepare.ensures.prepares (Unit {0}) (λ told asked. asked) c.write_ready.result c.write_ready.ensures.alters

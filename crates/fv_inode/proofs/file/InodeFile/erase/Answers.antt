@@ -25,7 +25,7 @@ returns-else-all_free-clause-takes g c =
     let did = c.rewrite_files.ensures in
     let old = g.B.Blocks.shown c.args.blocks.now in
     takes_with g.B.Blocks.told (g.B.Blocks.goes c.args.blocks.now c.args.blocks.now) old c.args.self.now.tree c.rewrite_files.new.tree c.args.number c.args.stamp c.held_files-files.result c.free_record.result held.long
-    (held.files (under old)) c.free_record.ensures (sym c.all_free.ensures ∙ c.if-all_free.false) (did.written (under old)) c.requires.ready.way did.levels did.owner (did.sound (under old) old.used) (did.leads (under old)) (did.keeps (under old)) (did.stored_well (under old)) (g.met.B.Blocks.goes_nothing c.args.blocks.now)
+    (held.files (under old)) c.free_record.ensures (sym c.all_free.ensures ∙ c.if-all_free.false) (did.written (under old)) c.requires.ready.way did.alters (g.met.B.Blocks.goes_nothing c.args.blocks.now)
 
 pub returns-then-all_free-clause-others_ready : goal.returns-then-all_free-clause-others_ready
 returns-then-all_free-clause-others_ready g c = λ m differs holds.
@@ -37,4 +37,4 @@ returns-then-all_free-clause-others_ready g c = λ m differs holds.
     holds.way
 
 pub returns-else-all_free-clause-others_ready : goal.returns-else-all_free-clause-others_ready
-returns-else-all_free-clause-others_ready g c = λ m differs holds. c.rewrite_files.ensures.keeps_ready (m / 16) holds.way
+returns-else-all_free-clause-others_ready g c = λ m differs holds. c.rewrite_files.ensures.alters.keeps_ready (m / 16) holds.way

@@ -6,7 +6,7 @@ use Rattle.fv_tree.specs.Sources.{Shown}
 use Rattle.fv_tree.specs.Standing.{under}
 use Rattle.fv_tree.specs.Flushing.{loaded, ReachesOnce}
 use Rattle.fv_tree.specs.declared.kept.KeptCell.{KeptCell}
-use Rattle.fv_tree.proofs.Altered.{flush_places}
+use Rattle.fv_tree.proofs.Anew.{anew_on, left_then}
 use Rattle.fv_tree.proofs.Flushes.{flushes_then}
 use Rattle.fv_tree.proofs.Gone.{is_memory}
 use Rattle.fv_tree.proofs.Differing.{fits_then, none_pending}
@@ -81,20 +81,28 @@ pub returns-clause-stored_well : goal.returns-clause-stored_well
 returns-clause-stored_well g c = λ told stands places was.
     stored_flush (g.B.Blocks.shown c.args.blocks.now) (g.B.Blocks.shown c.flush_nodes.new.blocks) c.args.self.now c.flush_nodes.new.tree stands (returns-clause-flushes g c told stands) was places
 
-pub returns-in_err-flush_cells-clause-anew : goal.returns-in_err-flush_cells-clause-anew
-returns-in_err-flush_cells-clause-anew g c = λ told stands.
-    let old : Shown = g.B.Blocks.shown c.args.blocks.now in
-    let new : Shown = g.B.Blocks.shown c.flush_cells.new.blocks in
-    flush_places (loaded old c.args.self.now) old.used (loaded new c.flush_cells.new.tree) new.used (c.in_err-flush_cells.ensures.flushes told stands)
-
 pub returns-in_err-flush_nodes-clause-anew : goal.returns-in_err-flush_nodes-clause-anew
 returns-in_err-flush_nodes-clause-anew g c = λ told stands.
     let old : Shown = g.B.Blocks.shown c.args.blocks.now in
+    let mid : Shown = g.B.Blocks.shown c.flush_cells.new.blocks in
     let new : Shown = g.B.Blocks.shown c.flush_nodes.new.blocks in
-    flush_places (loaded old c.args.self.now) old.used (loaded new c.flush_nodes.new.tree) new.used (returns-in_err-flush_nodes-clause-flushes g c told stands)
+    let cells = c.in_ok-flush_cells.ensures in
+    let nodes = c.in_err-flush_nodes.ensures in
+    anew_on g.B.Blocks.shown g.B.Blocks.goes g.met.B.Blocks.goes_on c.args.blocks.now c.flush_cells.new.blocks c.flush_nodes.new.blocks (loaded old c.args.self.now) (loaded mid c.flush_cells.new.tree) (loaded new c.flush_nodes.new.tree) cells.calls nodes.calls
+    (cells.anew told stands) (nodes.anew told (cells.flushes told stands).sound)
+
+pub returns-in_err-flush_nodes-clause-left : goal.returns-in_err-flush_nodes-clause-left
+returns-in_err-flush_nodes-clause-left g c = left_then c.args.self.now c.flush_cells.new.tree c.flush_nodes.new.tree c.in_ok-flush_cells.ensures.left c.in_err-flush_nodes.ensures.left
 
 pub returns-clause-anew : goal.returns-clause-anew
 returns-clause-anew g c = λ told stands.
     let old : Shown = g.B.Blocks.shown c.args.blocks.now in
+    let mid : Shown = g.B.Blocks.shown c.flush_cells.new.blocks in
     let new : Shown = g.B.Blocks.shown c.flush_nodes.new.blocks in
-    flush_places (loaded old c.args.self.now) old.used (loaded new c.flush_nodes.new.tree) new.used (returns-clause-flushes g c told stands)
+    let cells = c.in_ok-flush_cells.ensures in
+    let nodes = c.in_ok-flush_nodes.ensures in
+    anew_on g.B.Blocks.shown g.B.Blocks.goes g.met.B.Blocks.goes_on c.args.blocks.now c.flush_cells.new.blocks c.flush_nodes.new.blocks (loaded old c.args.self.now) (loaded mid c.flush_cells.new.tree) (loaded new c.flush_nodes.new.tree) cells.calls nodes.calls
+    (cells.anew told stands) (nodes.anew told (cells.flushes told stands).sound)
+
+pub returns-clause-left : goal.returns-clause-left
+returns-clause-left g c = left_then c.args.self.now c.flush_cells.new.tree c.flush_nodes.new.tree c.in_ok-flush_cells.ensures.left c.in_ok-flush_nodes.ensures.left

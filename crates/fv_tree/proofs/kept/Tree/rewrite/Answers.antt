@@ -23,30 +23,6 @@ returns-clause-place_by_place c =
     rewritten c.args.self.now c.put_content.new.tree c.stamp_path.new.tree c.args.index c.args.stamp c.args.block.now c.requires.ready c.requires.stamp
     put.fields put.cell put.changed put.own put.others c.stamp_path.ensures.stamps c.stamp_path.ensures.marks
 
-pub returns-clause-sound : goal.returns-clause-sound
-returns-clause-sound c =
-    let put = c.put_content.ensures in
-    rewritten_sound c.args.self.now c.put_content.new.tree c.stamp_path.new.tree c.args.index c.args.stamp c.args.block.now c.requires.ready c.requires.stamp
-    put.fields put.cell put.changed put.own put.others c.stamp_path.ensures.stamps c.stamp_path.ensures.marks
-
-pub returns-clause-leads : goal.returns-clause-leads
-returns-clause-leads c =
-    let put = c.put_content.ensures in
-    rewritten_leads c.args.self.now c.put_content.new.tree c.stamp_path.new.tree c.args.index c.args.stamp c.args.block.now c.requires.ready c.requires.stamp
-    put.fields put.cell put.changed put.own put.others c.stamp_path.ensures.stamps c.stamp_path.ensures.marks
-
-pub returns-clause-keeps : goal.returns-clause-keeps
-returns-clause-keeps c =
-    let put = c.put_content.ensures in
-    rewritten_keeps c.args.self.now c.put_content.new.tree c.stamp_path.new.tree c.args.index c.args.stamp c.args.block.now c.requires.ready c.requires.stamp
-    put.fields put.cell put.changed put.own put.others c.stamp_path.ensures.stamps c.stamp_path.ensures.marks
-
-pub returns-clause-ready : goal.returns-clause-ready
-returns-clause-ready c =
-    let put = c.put_content.ensures in
-    still_ready c.args.self.now c.put_content.new.tree c.stamp_path.new.tree c.args.index c.args.stamp c.args.block.now c.requires.ready c.requires.stamp
-    put.fields put.cell put.changed put.own put.others c.stamp_path.ensures.stamps c.stamp_path.ensures.marks
-
 pub returns-clause-rises : goal.returns-clause-rises
 returns-clause-rises c =
     let v = c.put_content.new.tree in
@@ -61,21 +37,21 @@ returns-clause-rises c =
       cells = omega (arith, held, put.held);
     }
 
-pub returns-clause-stored_well : goal.returns-clause-stored_well
-returns-clause-stored_well c = λ held.
-    let put = c.put_content.ensures in
-    let w = c.args.self.now in
-    let v = c.put_content.new.tree in
-    let u = c.stamp_path.new.tree in
-    stored_on (loaded_over held w) (loaded_over held u) (c.stamp_path.ensures.stamps.owner ∙ put.fields.owner) refl
-    (rewritten_leads w v u c.args.index c.args.stamp c.args.block.now c.requires.ready c.requires.stamp put.fields put.cell put.changed put.own put.others c.stamp_path.ensures.stamps c.stamp_path.ensures.marks held)
-    (rewritten_hints w v u c.args.index c.args.stamp c.args.block.now c.requires.ready c.requires.stamp put.fields put.cell put.changed put.own put.others c.stamp_path.ensures.stamps c.stamp_path.ensures.marks held)
+pub returns-clause-marked : goal.returns-clause-marked
+returns-clause-marked c = cell_marked c.put_content.new.tree c.stamp_path.new.tree c.args.index c.stamp_path.ensures.stamps.cells c.put_content.ensures.changed
 
 pub returns-clause-alters : goal.returns-clause-alters
 returns-clause-alters c =
     let put = c.put_content.ensures in
-    rewritten_alters c.args.self.now c.put_content.new.tree c.stamp_path.new.tree c.args.index c.args.stamp c.args.block.now c.requires.ready c.requires.stamp
-    put.fields put.cell put.changed put.own put.others c.stamp_path.ensures.stamps c.stamp_path.ensures.marks
-
-pub returns-clause-marked : goal.returns-clause-marked
-returns-clause-marked c = cell_marked c.put_content.new.tree c.stamp_path.new.tree c.args.index c.stamp_path.ensures.stamps.cells c.put_content.ensures.changed
+    let stamps = c.stamp_path.ensures.stamps in record {
+      owner = stamps.owner ∙ put.fields.owner;
+      levels = stamps.levels ∙ put.fields.levels;
+      sound = rewritten_sound c.args.self.now c.put_content.new.tree c.stamp_path.new.tree c.args.index c.args.stamp c.args.block.now c.requires.ready c.requires.stamp put.fields put.cell put.changed put.own put.others c.stamp_path.ensures.stamps c.stamp_path.ensures.marks;
+      leads = rewritten_leads c.args.self.now c.put_content.new.tree c.stamp_path.new.tree c.args.index c.args.stamp c.args.block.now c.requires.ready c.requires.stamp put.fields put.cell put.changed put.own put.others c.stamp_path.ensures.stamps c.stamp_path.ensures.marks;
+      keeps = rewritten_keeps c.args.self.now c.put_content.new.tree c.stamp_path.new.tree c.args.index c.args.stamp c.args.block.now c.requires.ready c.requires.stamp put.fields put.cell put.changed put.own put.others c.stamp_path.ensures.stamps c.stamp_path.ensures.marks;
+      stored_well = λ held. stored_on (loaded_over held c.args.self.now) (loaded_over held c.stamp_path.new.tree) (stamps.owner ∙ put.fields.owner) refl
+          (rewritten_leads c.args.self.now c.put_content.new.tree c.stamp_path.new.tree c.args.index c.args.stamp c.args.block.now c.requires.ready c.requires.stamp put.fields put.cell put.changed put.own put.others c.stamp_path.ensures.stamps c.stamp_path.ensures.marks held)
+          (rewritten_hints c.args.self.now c.put_content.new.tree c.stamp_path.new.tree c.args.index c.args.stamp c.args.block.now c.requires.ready c.requires.stamp put.fields put.cell put.changed put.own put.others c.stamp_path.ensures.stamps c.stamp_path.ensures.marks held);
+      keeps_ready = still_ready c.args.self.now c.put_content.new.tree c.stamp_path.new.tree c.args.index c.args.stamp c.args.block.now c.requires.ready c.requires.stamp put.fields put.cell put.changed put.own put.others c.stamp_path.ensures.stamps c.stamp_path.ensures.marks;
+      alters = rewritten_alters c.args.self.now c.put_content.new.tree c.stamp_path.new.tree c.args.index c.args.stamp c.args.block.now c.requires.ready c.requires.stamp put.fields put.cell put.changed put.own put.others c.stamp_path.ensures.stamps c.stamp_path.ensures.marks;
+    }

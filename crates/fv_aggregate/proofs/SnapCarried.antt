@@ -1,0 +1,358 @@
+-- Each command on snapshots, carried out by the call of the volume of its slot: what the session answers, and what it stands for then.
+use Rattle.std.proofs.Common.{◌≡◌, ◌<◌, ◌≤◌, ◌+◌, ◌⊎◌, ℕ, Bool, true, false, ◌||◌, List, [], ◌∷◌, length, Option, Some, None, is_some, Result, Ok, Err, inl, inr, ⊎_elim, true≢false, refl, sym, ap, subst, ◌∙◌, arith}
+use Rattle.std.specs.Prelude.{IsNone}
+use Rattle.std.specs.List.{list_any}
+use Rattle.std.specs.Option.{option_map_or}
+use Rattle.std.specs.FinMap as fin
+use Rattle.std.proofs.lemmas.List.{set-get_or}
+use Rattle.fv_disk.specs.Shown.{IsDisk, Shown}
+use Rattle.fv_model.specs.declared.answers.Refusal.{Refusal}
+use Rattle.fv_model.specs.declared.answers.Refusal.TheVariants.{NoSnapshot}
+use Rattle.fv_model.specs.declared.answers.Reply.{Reply}
+use Rattle.fv_model.specs.declared.answers.Reply.TheVariants.{Done, Refused}
+use Rattle.fv_model.specs.declared.commands.Command.{Command}
+use Rattle.fv_model.specs.declared.commands.Command.TheVariants.{SnapCreate, SnapDelete, SnapRestore}
+use Rattle.fv_model.specs.Machines.{Machine}
+use Rattle.fv_model.specs.Effects.{Becomes, change_of}
+use Rattle.fv_model.specs.Refusals.{refusal, some_base}
+use Rattle.fv_model.specs.Replies.{answer, Allows}
+use Rattle.fv_model.specs.Space.{map_blocks}
+use Rattle.fv_model.specs.Volumes.{Base, Volume}
+use Rattle.fv_bits.specs.Members.{is_member}
+use Rattle.fv_laws.proofs.Changes.{itself}
+use Rattle.fv_laws.proofs.Lists.{In}
+use Rattle.fv_laws.proofs.Orders.{name_total}
+use Rattle.fv_laws.proofs.Room.{entry_there}
+use Rattle.fv_volume.specs.declared.fault.VolumeFault.{VolumeFault}
+use Rattle.fv_volume.specs.declared.fault.VolumeFault.TheVariants as volume
+use Rattle.fv_volume.specs.declared.pool.Pool.{Pool}
+use Rattle.fv_volume.specs.declared.state.VolumeState.{VolumeState}
+use Rattle.fv_volume.specs.Held.{MayFail}
+use Rattle.fv_volume.specs.OneVolume.{volume_for, IsReady}
+use Rattle.fv_volume.specs.Placing.{pending_of}
+use Rattle.fv_volume.specs.Slots.{is_named}
+use Rattle.fv_volume.specs.States.{state_at, with_state}
+use Rattle.fv_volume.specs.Writing.{map_wait}
+use Rattle.fv_volume.proofs.Told.{is_inside}
+use Rattle.fv_cp.specs.Held.{machine_held, IsHeldIn}
+use Rattle.fv_cp.specs.Lent.{FitTogether}
+use Rattle.fv_cp.specs.Placing.{pending_by, HasNoFiles, HasNumbers, HaveNoFiles, IsPlacedAs}
+use Rattle.fv_snapshot.specs.Creating.{creation_refusal, Creates, TellsCreation}
+use Rattle.fv_snapshot.specs.Deleting.{Deletes, HasUnused}
+use Rattle.fv_snapshot.specs.Restoring.{Restores}
+use Rattle.fv_aggregate.specs.declared.fault.Fault.{Fault}
+use Rattle.fv_aggregate.specs.declared.fault.Fault.TheVariants.{Damaged, Memory}
+use Rattle.fv_aggregate.specs.declared.session.Session.{Session}
+use Rattle.fv_aggregate.specs.Commands.{places_files, room_of, snapped_by}
+use Rattle.fv_aggregate.specs.Known.{KeepsNumbersBut, KnowsNumbers, MayLose}
+use Rattle.fv_aggregate.specs.Looking.{done_as, Replied, SnapsState}
+use Rattle.fv_aggregate.specs.Snapping.{snap_blocks, IsAccepted}
+use Rattle.fv_aggregate.specs.Standing.{IsWithoutFiles, Stands, StandsFor}
+use Rattle.fv_aggregate.proofs.Asked.{answer_allows}
+use Rattle.fv_aggregate.proofs.Changed.{beside, has_within, mine}
+use Rattle.fv_aggregate.proofs.HeldMachine.{bare, is_there}
+use Rattle.fv_aggregate.proofs.Keeping.{keeps_with}
+use Rattle.fv_aggregate.proofs.PointEnds.{has_full_room}
+use Rattle.fv_aggregate.proofs.SnapCommands.{snap_cases}
+use Rattle.fv_aggregate.proofs.SnapDone.{carried_damaged, carried_done, carried_refused, carried_wanting, IsCarried}
+use Rattle.fv_aggregate.proofs.SnapSessions.{none_with, placed_for, placed_stands, snapped_for, snapped_stands, stepped_for, stepped_stands}
+use Rattle.fv_aggregate.proofs.SnapSteps.{made_waits, removed_waits, restored_step, snapped_step, unsnapped_step}
+use Rattle.fv_aggregate.proofs.Stepped.{IsStepped}
+use Rattle.fv_aggregate.proofs.Sums.{one_pending}
+
+-- ---- by the machine
+
+-- where no volume has a base none passes a test
+unbased : (m : Machine) → ((name : List ℕ) (v : Volume) → fin.get m.volumes name ≡ Some v → v.base ≡ None) → (test : Base → Bool) → some_base m test ≡ false
+unbased m none test = none_of (fin.entries m.volumes) (λ e inside. inside)
+  where
+    of : List ℕ × Volume → Bool
+    of e = option_map_or test e.1.base false
+
+    none_of : (es : List (List ℕ × Volume)) → ((e : List ℕ × Volume) → In e es → In e (fin.entries m.volumes)) → list_any of es ≡ false
+    none_of [] part = refl
+    none_of (e ∷ es) part =
+        let first : of e ≡ false = ap (λ (o : Option Base). option_map_or test o false) (none e.0 e.1 (entry_there name_total m.volumes e (part e (inl refl)))) in
+        ap (λ (t : Bool). t || list_any of es) first ∙ none_of es (λ y inside. part y (inr inside))
+
+made_allows : (m : Machine) (v name : List ℕ) → refusal m (SnapCreate v name) ≡ None → Allows m (SnapCreate v name) Done
+unfolding answer
+made_allows m v name accepted = answer_allows m (SnapCreate v name) Done accepted refl refl
+
+removed_allows : (m : Machine) (v name : List ℕ) → refusal m (SnapDelete v name) ≡ None → Allows m (SnapDelete v name) Done
+unfolding answer
+removed_allows m v name accepted = answer_allows m (SnapDelete v name) Done accepted refl refl
+
+turned_allows : (m : Machine) (v name : List ℕ) → refusal m (SnapRestore v name) ≡ None → Allows m (SnapRestore v name) Done
+unfolding answer
+turned_allows m v name accepted = answer_allows m (SnapRestore v name) Done accepted refl refl
+
+-- the session after a call of a volume of it
+abbrev pub carried_session : Session → ℕ → Pool → VolumeState → ℕ → Session
+carried_session s slot q y room = record s { volumes = with_state s.volumes slot (Some y); pool = q; pending = s.pending + room }
+
+abbrev pub left_session : Session → ℕ → Pool → VolumeState → Session
+left_session s slot q y = record s { volumes = with_state s.volumes slot (Some y); pool = q }
+
+module _ {D : Type 0} (d : Shown) (disk : D) (laws : IsDisk d) (s : Session) (fresh : IsNone s.failed) (stands : Stands d s) (fit : FitTogether s.pool s.volumes) (slot : ℕ) (x : VolumeState) (there : state_at s.volumes slot ≡ Some x) (slot_is : x.slot ≡ slot) (room : ℕ) where
+  long : length s.volumes ≡ 64
+  long = fit.housed.long
+
+  inside : slot < length s.volumes
+  inside = let low = is_inside s.volumes slot x long there in let many = long in omega (arith, low, many)
+
+  -- ---- the volume in the machine
+
+  held : (last m : Machine) → StandsFor d s last m → IsHeldIn d s.pool x.slot x
+  held last m is = subst (λ (n : ℕ). IsHeldIn d s.pool n x) (sym slot_is) (mine d s.pool s.volumes long last is.held slot x there)
+
+  held_at : (q : Pool) (y : VolumeState) → IsHeldIn d q x.slot y → IsHeldIn d q slot y
+  held_at q y = subst (λ (n : ℕ). IsHeldIn d q n y) slot_is
+
+  -- what holds of the machine of its volumes holds of the one that the session stands for
+  for_machine : (P : Machine → Type 0) → (last m : Machine) → StandsFor d s last m → P (machine_held d s.pool s.volumes) → P m
+  for_machine P last m is = subst P is.machine
+
+  -- ---- what stays
+
+  its_files : HaveNoFiles s.volumes → x.files ≡ None
+  its_files none = subst HasNoFiles there (none slot)
+
+  -- the numbers of its files stay
+  numbers_stay : (c : Command) (y : VolumeState) → y.numbers ≡ x.numbers → KeepsNumbersBut (MayLose c s.volumes) s.volumes (with_state s.volumes slot (Some y))
+  numbers_stay c y same = keeps_with (MayLose c s.volumes) s.volumes slot (Some y) inside (λ known stays. ap is_some same ∙ subst (λ (o : Option VolumeState). KnowsNumbers o) there known)
+
+  -- without files in memory nothing is placed
+  module _ (q : Pool) (mid y : VolumeState) (placed : IsPlacedAs d s.pool x d q mid) where
+    pool_stays : IsWithoutFiles s → q ≡ s.pool
+    pool_stays without = (placed.idle (its_files without.none)).0
+
+    files_stay : y.files ≡ None → (room : ℕ) → IsWithoutFiles s → IsWithoutFiles (carried_session s slot q y room)
+    files_stay none room without = record {
+      none = none_with s.volumes slot y inside none without.none;
+      taken = subst (λ (p : Pool). (b : ℕ) → is_member p.map.next b ≡ true → is_member p.map.committed b ≡ true) (sym (pool_stays without)) without.taken;
+    }
+
+  carried_as : (c : Command) (new : Session) (result wanted : Result Reply Fault) (was : Session) → new ≡ was → result ≡ wanted → IsCarried d disk s c room was wanted → IsCarried d disk s c room new result
+  carried_as c new result wanted was same is carried = subst (λ (r : Result Reply Fault). IsCarried d disk s c room new r) (sym is) (subst (λ (n : Session). IsCarried d disk s c room n wanted) (sym same) carried)
+
+  -- ---- files couldn't be placed
+
+  module _ (c : Command) (q : Pool) (y : VolumeState) (placed : IsPlacedAs d s.pool x d q y) (places : places_files c ≡ true) where
+    numbers_left : KeepsNumbersBut (MayLose c s.volumes) s.volumes (with_state s.volumes slot (Some y))
+    numbers_left = numbers_stay c y (ap (λ (z : VolumeState). z.numbers) placed.keeps)
+
+    its_stands : Stands d (left_session s slot q y)
+    its_stands = placed_stands d s q slot x y there slot_is fit placed stands
+
+    pub wanting : IsCarried d disk s c room (left_session s slot q y) (Err Memory)
+    wanting = carried_wanting d disk laws s fresh c room (left_session s slot q y) fresh its_stands (omega arith) numbers_left places (λ last m is. placed_for d s q slot x y there slot_is fit placed last m is)
+
+    pub damaged : (at want found : ℕ) → MayFail d s.pool (Some x) (volume.Damaged at want found) → IsCarried d disk s c room (left_session s slot q y) (Err (Damaged at want found))
+    damaged at want found may = carried_damaged d disk laws s fresh c room (left_session s slot q y) fresh its_stands (omega arith) numbers_left places at want found
+        (λ none. true≢false (sym may.0 ∙ ap is_some (its_files none)))
+        (λ last m is.
+        let full = has_full_room d s last m is in
+        let all = full.free in
+        let part = one_pending s.volumes slot in
+        let own : pending_by (state_at s.volumes slot) ≡ pending_of x.files = ap pending_by there in
+        other (may.1 (held last m is).stands (subst HasNumbers there (full.numbers slot) may.0) (omega (arith, all, part, own))))
+      where
+        other : volume.Damaged at want found ≡ volume.Memory → ⊥
+        other e = cc
+
+  -- ---- a snapshot was made
+
+  module _ (name : List ℕ) (q : Pool) (y : VolumeState) (ready : IsReady d q y) (room_is : room ≡ map_blocks x.span) (few : (room ≡ 0) ⊎ (s.pending + room ≤ 256)) (most : room ≤ room_of (SnapCreate x.name name))
+      (accepted : creation_refusal x.snapshots x.ledger s.pool.found.blocks (beside s.volumes slot) name ≡ None) where
+    pub made : (u : Unit {0}) → Creates d s.pool x (beside s.volumes slot) name q y (Ok u) → TellsCreation s.pool x (beside s.volumes slot) name y (Ok u) → IsCarried d disk s (SnapCreate x.name name) room (carried_session s slot q y room) (Ok Done)
+    made u did tells = carried_done d disk laws s fresh (SnapCreate x.name name) room (carried_session s slot q y room) fresh
+        (snapped_stands d s q slot x did.done.mid y there slot_is fit did.done.placed step ready room stands) (omega (arith, most)) (numbers_stay (SnapCreate x.name name) y numbers)
+        (λ last m is. snapped_for d s q slot x did.done.mid y there slot_is fit did.done.placed step ready room (map_blocks x.span) waits pending enough (held_at q y (did.held (held last m is))) last m (SnapCreate x.name name) is (agreed last m is) (becomes last m is))
+        (λ last m is. made_allows m x.name name (agreed last m is))
+        (files_stay q did.done.mid y did.done.placed (ap (λ (z : VolumeState). z.files) did.done.now ∙ did.done.none) room)
+        (⊎_elim (λ none. absurd (true≢false none)) (λ without. ap (λ (p : Pool). p.map) (pool_stays q did.done.mid y did.done.placed without)))
+      where
+        step : IsStepped did.done.mid y
+        step = snapped_step d s.pool x q name y did.done tells.waits
+
+        waits : map_wait y ≤ map_wait did.done.mid + map_blocks x.span
+        waits =
+            let span : map_blocks did.done.mid.span ≡ map_blocks x.span = ap (λ (z : VolumeState). map_blocks z.span) did.done.placed.keeps in
+            let same : map_wait y ≡ _ = ap (λ (z : VolumeState). map_wait z) did.done.now in
+            let more = made_waits did.done.mid did.done.slot name in
+            omega (arith, span, same, more)
+
+        pending : pending_of y.files ≤ pending_of did.done.mid.files
+        pending = let same : pending_of y.files ≡ pending_of did.done.mid.files = ap (λ (z : VolumeState). pending_of z.files) did.done.now in omega (arith, same)
+
+        enough : ((map_blocks x.span ≡ 0) × (room ≡ 0)) ⊎ ((map_blocks x.span ≤ room) × (s.pending + room ≤ 256))
+        enough = ⊎_elim (λ (none : room ≡ 0). inl (omega (arith, none, room_is), none)) (λ (low : s.pending + room ≤ 256). inr (omega (arith, room_is), low)) few
+
+        numbers : y.numbers ≡ x.numbers
+        numbers = ap (λ (z : VolumeState). z.numbers) did.done.now ∙ ap (λ (z : VolumeState). z.numbers) did.done.placed.keeps
+
+        agreed : (last m : Machine) → StandsFor d s last m → refusal m (SnapCreate x.name name) ≡ None
+        agreed last m is = for_machine (λ (k : Machine). refusal k (SnapCreate x.name name) ≡ None) last m is ((did.changes (held last m is)).agrees _ (has_within d s.pool s.volumes long last is.held slot x there).beside)
+
+        becomes : (last m : Machine) → StandsFor d s last m → change_of m (SnapCreate x.name name) ≡ Becomes x.name (volume_for d q y)
+        becomes last m is = for_machine (λ (k : Machine). change_of k (SnapCreate x.name name) ≡ Becomes x.name (volume_for d q y)) last m is ((did.changes (held last m is)).becomes _ (is_there d s.pool s.volumes long last is.held slot x there))
+
+    -- or not
+    pub unmade : (f : VolumeFault) → Creates d s.pool x (beside s.volumes slot) name q y (Err f) → TellsCreation s.pool x (beside s.volumes slot) name y (Err f) → (new : Session) (result : Result Reply Fault) → Replied d (Err f) (left_session s slot q y) new result
+        → IsCarried d disk s (SnapCreate x.name name) room new result
+    unmade (volume.Refused r) did tells new result is = absurd (both (sym accepted ∙ tells.judged r refl))
+      where
+        both : ◌≡◌ {A = Option Refusal} None (Some r) → ⊥
+        both e = cc
+    unmade volume.DiskFault did tells new result b = absurd did.cause
+    unmade (volume.Damaged at want found) did tells new result b = carried_as (SnapCreate x.name name) new result (Err (Damaged at want found)) (left_session s slot q y) b.1.1.1 (b.1.0 ∙ ap (λ (g : Fault). Err g) b.1.1.0) (damaged (SnapCreate x.name name) q y did.failed refl at want found did.cause)
+    unmade volume.Memory did tells new result b = carried_as (SnapCreate x.name name) new result (Err Memory) (left_session s slot q y) b.1.1.1 (b.1.0 ∙ ap (λ (g : Fault). Err g) b.1.1.0) (wanting (SnapCreate x.name name) q y did.failed refl)
+
+  -- a session that changed nothing
+  as_left : (q : Pool) (y : VolumeState) → q ≡ s.pool → y ≡ x → left_session s slot q y ≡ s
+  as_left q y pool same =
+      let states : with_state s.volumes slot (Some y) ≡ s.volumes = ap (λ (z : VolumeState). with_state s.volumes slot (Some z)) same ∙ ap (λ (o : Option VolumeState). with_state s.volumes slot o) (sym there) ∙ set-get_or s.volumes slot None in
+      λ j. record s { volumes = states j; pool = pool j }
+
+  -- ---- a snapshot was removed
+
+  module _ (name : List ℕ) (q : Pool) (y : VolumeState) (ready : IsReady d q y) (nothing : room ≡ 0) where
+    -- no clone stands on it
+    unused : (last m : Machine) → StandsFor d s last m → HasUnused x.name (volume_for d s.pool x) name (machine_held d s.pool s.volumes)
+    unused last m is = record { there = is_there d s.pool s.volumes long last is.held slot x there; unused = unbased (machine_held d s.pool s.volumes) (bare d s.pool s.volumes long) _ }
+
+    pub removed : (u : Unit {0}) → Deletes d s.pool x name q y (Ok u) → IsCarried d disk s (SnapDelete x.name name) room (carried_session s slot q y room) (Ok Done)
+    removed u did = carried_done d disk laws s fresh (SnapDelete x.name name) room (carried_session s slot q y room) fresh
+        (snapped_stands d s q slot x did.done.mid y there slot_is fit did.done.placed step ready room stands) (omega (arith, nothing)) (numbers_stay (SnapDelete x.name name) y numbers)
+        (λ last m is. snapped_for d s q slot x did.done.mid y there slot_is fit did.done.placed step ready room 0 waits pending (inl (refl, nothing)) (held_at q y (did.held (held last m is))) last m (SnapDelete x.name name) is (agreed last m is) (becomes last m is))
+        (λ last m is. removed_allows m x.name name (agreed last m is))
+        (files_stay q did.done.mid y did.done.placed (ap (λ (z : VolumeState). z.files) did.done.now ∙ did.done.none) room)
+        (⊎_elim (λ none. absurd (true≢false none)) (λ without. ap (λ (p : Pool). p.map) (pool_stays q did.done.mid y did.done.placed without)))
+      where
+        step : IsStepped did.done.mid y
+        step = unsnapped_step d s.pool x q name y did.done
+
+        waits : map_wait y ≤ map_wait did.done.mid + 0
+        waits =
+            let same : map_wait y ≡ _ = ap (λ (z : VolumeState). map_wait z) did.done.now in
+            let less = removed_waits did.done.mid did.done.at did.done.snap.slot did.done.ledger in
+            omega (arith, same, less)
+
+        pending : pending_of y.files ≤ pending_of did.done.mid.files
+        pending = let same : pending_of y.files ≡ pending_of did.done.mid.files = ap (λ (z : VolumeState). pending_of z.files) did.done.now in omega (arith, same)
+
+        numbers : y.numbers ≡ x.numbers
+        numbers = ap (λ (z : VolumeState). z.numbers) did.done.now ∙ ap (λ (z : VolumeState). z.numbers) did.done.placed.keeps
+
+        agreed : (last m : Machine) → StandsFor d s last m → refusal m (SnapDelete x.name name) ≡ None
+        agreed last m is = for_machine (λ (k : Machine). refusal k (SnapDelete x.name name) ≡ None) last m is ((did.changes (held last m is)).agrees _ (unused last m is))
+
+        becomes : (last m : Machine) → StandsFor d s last m → change_of m (SnapDelete x.name name) ≡ Becomes x.name (volume_for d q y)
+        becomes last m is = for_machine (λ (k : Machine). change_of k (SnapDelete x.name name) ≡ Becomes x.name (volume_for d q y)) last m is ((did.changes (held last m is)).becomes _ (is_there d s.pool s.volumes long last is.held slot x there))
+
+    -- or not
+    pub unremoved : (f : VolumeFault) → Deletes d s.pool x name q y (Err f) → (new : Session) (result : Result Reply Fault) → Replied d (Err f) (left_session s slot q y) new result → IsCarried d disk s (SnapDelete x.name name) room new result
+    unremoved (volume.Refused r) did new result is =
+        let left = did.refused r refl in
+        carried_as (SnapDelete x.name name) new result (Ok (Refused r)) s (is.1 ∙ as_left q y left.0 left.1) is.0
+        (carried_refused d disk laws s fresh (SnapDelete x.name name) room stands r
+        (λ last m is. for_machine (λ (k : Machine). refusal k (SnapDelete x.name name) ≡ Some r) last m is ((did.changes (held last m is)).agrees _ (unused last m is))) nothing)
+    unremoved volume.DiskFault did new result b = absurd did.cause
+    unremoved (volume.Damaged at want found) did new result b = carried_as (SnapDelete x.name name) new result (Err (Damaged at want found)) (left_session s slot q y) b.1.1.1 (b.1.0 ∙ ap (λ (g : Fault). Err g) b.1.1.0) (damaged (SnapDelete x.name name) q y did.failed refl at want found did.cause)
+    unremoved volume.Memory did new result b = carried_as (SnapDelete x.name name) new result (Err Memory) (left_session s slot q y) b.1.1.1 (b.1.0 ∙ ap (λ (g : Fault). Err g) b.1.1.0) (wanting (SnapDelete x.name name) q y did.failed refl)
+
+  -- ---- the table of a snapshot became the active one
+
+  module _ (name : List ℕ) (y : VolumeState) (ready : IsReady d s.pool y) (nothing : room ≡ 0) where
+    pub turned : (u : Unit {0}) → Restores d s.pool x (beside s.volumes slot) name y (Ok u) → IsCarried d disk s (SnapRestore x.name name) room (carried_session s slot s.pool y room) (Ok Done)
+    turned u did = carried_done d disk laws s fresh (SnapRestore x.name name) room (carried_session s slot s.pool y room) fresh
+        (stepped_stands d s slot x y there slot_is long step ready room stands) (omega (arith, nothing))
+        (keeps_with (MayLose (SnapRestore x.name name) s.volumes) s.volumes slot (Some y) inside (λ known stays. absurd (stays (x.name, (refl, ap (λ (o : Option VolumeState). is_named o x.name) there ∙ itself x.name)))))
+        (λ last m is. stepped_for d s slot x y there slot_is long step ready room 0 waits pending (inl (refl, nothing)) (held_at s.pool y (did.held (held last m is))) last m (SnapRestore x.name name) is (agreed last m is) (becomes last m is))
+        (λ last m is. turned_allows m x.name name (agreed last m is))
+        (λ without. record { none = none_with s.volumes slot y inside none without.none; taken = without.taken })
+        (λ which. refl)
+      where
+        none : y.files ≡ None
+        none = ap (λ (z : VolumeState). z.files) did.done.now
+
+        step : IsStepped x y
+        step = restored_step x name y did.done
+
+        waits : map_wait y ≤ map_wait x + 0
+        waits = let same : map_wait y ≡ map_wait x = ap (λ (z : VolumeState). map_wait z) did.done.now in omega (arith, same)
+
+        pending : pending_of y.files ≤ pending_of x.files
+        pending = let nothing : pending_of y.files ≡ 0 = ap pending_of none in omega (arith, nothing)
+
+        agreed : (last m : Machine) → StandsFor d s last m → refusal m (SnapRestore x.name name) ≡ None
+        agreed last m is = for_machine (λ (k : Machine). refusal k (SnapRestore x.name name) ≡ None) last m is ((did.changes (held last m is)).agrees _ (has_within d s.pool s.volumes long last is.held slot x there))
+
+        becomes : (last m : Machine) → StandsFor d s last m → change_of m (SnapRestore x.name name) ≡ Becomes x.name (volume_for d s.pool y)
+        becomes last m is = for_machine (λ (k : Machine). change_of k (SnapRestore x.name name) ≡ Becomes x.name (volume_for d s.pool y)) last m is ((did.changes (held last m is)).becomes _ (is_there d s.pool s.volumes long last is.held slot x there))
+
+    -- or no snapshot has the name
+    pub unturned : (f : VolumeFault) → Restores d s.pool x (beside s.volumes slot) name y (Err f) → (new : Session) (result : Result Reply Fault) → Replied d (Err f) (left_session s slot s.pool y) new result → IsCarried d disk s (SnapRestore x.name name) room new result
+    unturned (volume.Refused r) did new result is =
+        carried_as (SnapRestore x.name name) new result (Ok (Refused r)) s (is.1 ∙ as_left s.pool y refl did.failed) is.0
+        (carried_refused d disk laws s fresh (SnapRestore x.name name) room stands r
+        (λ last m is. for_machine (λ (k : Machine). refusal k (SnapRestore x.name name) ≡ Some r) last m is ((did.changes (held last m is)).agrees _ (has_within d s.pool s.volumes long last is.held slot x there))) nothing)
+    unturned volume.DiskFault did new result b = absurd (other did.cause)
+      where
+        other : volume.DiskFault ≡ volume.Refused NoSnapshot → ⊥
+        other e = cc
+    unturned (volume.Damaged at want found) did new result b = absurd (other did.cause)
+      where
+        other : volume.Damaged at want found ≡ volume.Refused NoSnapshot → ⊥
+        other e = cc
+    unturned volume.Memory did new result b = absurd (other did.cause)
+      where
+        other : volume.Memory ≡ volume.Refused NoSnapshot → ⊥
+        other e = cc
+
+  -- ---- each of them
+
+  -- what is pending then: the room of what was done, too
+  abbrev pub pending_after : Result Unit VolumeFault → ℕ
+  pending_after (Ok u) = s.pending + room
+  pending_after (Err f) = s.pending
+
+  abbrev pub after_call : Pool → VolumeState → Result Unit VolumeFault → Session
+  after_call q y r = record s { volumes = with_state s.volumes slot (Some y); pool = q; pending = pending_after r }
+
+  -- what is carried out of a command
+  abbrev Carries : Command → Type 0
+  Carries c = (q : Pool) (y : VolumeState) (r : Result Unit VolumeFault) → IsReady d q y → SnapsState d s.pool x (beside s.volumes slot) c q y r → room ≡ snap_blocks (Some x) c → (room ≡ 0) ⊎ (s.pending + room ≤ 256) → room ≤ room_of c
+      → IsAccepted (Some x) s.pool.found.blocks (beside s.volumes slot) c → (new : Session) (result : Result Reply Fault) → Replied d (done_as r) (after_call q y r) new result → IsCarried d disk s c room new result
+
+  carries_create : (v name : List ℕ) → Carries (SnapCreate v name)
+  carries_create v name q y r ready did room_is few most accepted new result is = subst (λ (n : List ℕ). IsCarried d disk s (SnapCreate n name) room new result) (sym did.0) (by r did.1.0 did.1.1 is)
+    where
+      within : room ≤ room_of (SnapCreate x.name name)
+      within = subst (λ (n : List ℕ). room ≤ room_of (SnapCreate n name)) did.0 most
+
+      by : (r : Result Unit VolumeFault) → Creates d s.pool x (beside s.volumes slot) name q y r → TellsCreation s.pool x (beside s.volumes slot) name y r → Replied d (done_as r) (after_call q y r) new result → IsCarried d disk s (SnapCreate x.name name) room new result
+      by (Ok u) made_so tells is = carried_as (SnapCreate x.name name) new result (Ok Done) (carried_session s slot q y room) is.1 is.0 (made name q y ready room_is few within accepted u made_so tells)
+      by (Err f) made_so tells is = unmade name q y ready room_is few within accepted f made_so tells new result is
+
+  carries_delete : (v name : List ℕ) → Carries (SnapDelete v name)
+  carries_delete v name q y r ready did room_is few most accepted new result is = subst (λ (n : List ℕ). IsCarried d disk s (SnapDelete n name) room new result) (sym did.0) (by r did.1 is)
+    where
+      by : (r : Result Unit VolumeFault) → Deletes d s.pool x name q y r → Replied d (done_as r) (after_call q y r) new result → IsCarried d disk s (SnapDelete x.name name) room new result
+      by (Ok u) gone is = carried_as (SnapDelete x.name name) new result (Ok Done) (carried_session s slot q y room) is.1 is.0 (removed name q y ready room_is u gone)
+      by (Err f) gone is = unremoved name q y ready room_is f gone new result is
+
+  carries_restore : (v name : List ℕ) → Carries (SnapRestore v name)
+  carries_restore v name q y r ready did room_is few most accepted new result is = subst (λ (n : List ℕ). IsCarried d disk s (SnapRestore n name) room new result) (sym did.0)
+      (by r did.1.1 (subst (λ (p : Pool). Replied d (done_as r) (after_call p y r) new result) did.1.0 is))
+    where
+      ready_still : IsReady d s.pool y
+      ready_still = subst (λ (p : Pool). IsReady d p y) did.1.0 ready
+
+      by : (r : Result Unit VolumeFault) → Restores d s.pool x (beside s.volumes slot) name y r → Replied d (done_as r) (after_call s.pool y r) new result → IsCarried d disk s (SnapRestore x.name name) room new result
+      by (Ok u) back is = carried_as (SnapRestore x.name name) new result (Ok Done) (carried_session s slot s.pool y room) is.1 is.0 (turned name y ready_still room_is u back)
+      by (Err f) back is = unturned name y ready_still room_is f back new result is
+
+  pub carried_by : (c : Command) → snapped_by c ≡ Some x.name → Carries c
+  carried_by c of = snap_cases Carries carries_create carries_delete carries_restore x.name c of

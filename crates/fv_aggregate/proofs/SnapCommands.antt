@@ -1,0 +1,100 @@
+-- The commands that make, remove or restore a snapshot: which they are, and what holds of each.
+use Rattle.std.proofs.Common.{◌≡◌, ◌≢◌, ◌≤◌, ℕ, Bool, true, false, List, [], ◌∷◌, Option, Some, None, refl, sym, ap, subst, ◌∙◌, arith}
+use Rattle.std.specs.Prelude.{if◌then◌else◌}
+use Rattle.std.specs.Option.{is_none}
+use Rattle.std.specs.FinMap as fin
+use Rattle.fv_model.specs.declared.answers.Refusal.TheVariants.{NoSnapshot, NoVolume, SnapshotExists, SnapshotInUse, TooMany}
+use Rattle.fv_model.specs.declared.answers.Reply.{Reply}
+use Rattle.fv_model.specs.declared.commands.Command.{Command}
+use Rattle.fv_model.specs.declared.commands.Command.TheVariants.{VolCreate, VolDestroy, VolResize, VolGuarantee, VolList, VolStat, New, Put, Get, Len, Cut, Remove, Ls, SnapCreate, SnapDelete, SnapRestore, SnapList, CloneCreate, SplitStart, SplitFinish, Mirror, Clean, Probe, Work, Cp}
+use Rattle.fv_model.specs.Machines.{Machine}
+use Rattle.fv_model.specs.Refusals.{conditions, first_of, has_all_snapshots, has_snapshot, is_base, lacks_snapshot, next, refusal, space}
+use Rattle.fv_model.specs.Replies.{Allows}
+use Rattle.fv_model.specs.Space.{map_blocks}
+use Rattle.fv_volume.specs.declared.state.VolumeState.{VolumeState}
+use Rattle.fv_aggregate.specs.Commands.{changes_volume, is_built, machine_after, managed_by, reads_files, removes_volume, room_of, snapped_by, Replies, RepliesBy}
+use Rattle.fv_aggregate.specs.Snapping.{snap_blocks}
+
+nothing : {v : List ℕ} → ◌≡◌ {A = Option (List ℕ)} None (Some v) → ⊥
+nothing e = cc
+
+-- what holds of `snap create`, `snap delete` and `snap restore` holds of each command that makes, removes or restores a snapshot
+pub snap_cases : (P : Command → Type 0) → ((v name : List ℕ) → P (SnapCreate v name)) → ((v name : List ℕ) → P (SnapDelete v name)) → ((v name : List ℕ) → P (SnapRestore v name)) → (v : List ℕ) (c : Command) → snapped_by c ≡ Some v → P c
+snap_cases P create delete restore v (SnapCreate w name) is = create w name
+snap_cases P create delete restore v (SnapDelete w name) is = delete w name
+snap_cases P create delete restore v (SnapRestore w name) is = restore w name
+snap_cases P create delete restore v (VolCreate w size kind) is = absurd (nothing is)
+snap_cases P create delete restore v (VolDestroy w) is = absurd (nothing is)
+snap_cases P create delete restore v (VolResize w size) is = absurd (nothing is)
+snap_cases P create delete restore v (VolGuarantee w kind) is = absurd (nothing is)
+snap_cases P create delete restore v VolList is = absurd (nothing is)
+snap_cases P create delete restore v (VolStat w) is = absurd (nothing is)
+snap_cases P create delete restore v (New w f reserve) is = absurd (nothing is)
+snap_cases P create delete restore v (Put w f i block) is = absurd (nothing is)
+snap_cases P create delete restore v (Get w q f i) is = absurd (nothing is)
+snap_cases P create delete restore v (Len w q f) is = absurd (nothing is)
+snap_cases P create delete restore v (Cut w f n) is = absurd (nothing is)
+snap_cases P create delete restore v (Remove w f) is = absurd (nothing is)
+snap_cases P create delete restore v (Ls w q) is = absurd (nothing is)
+snap_cases P create delete restore v (SnapList w) is = absurd (nothing is)
+snap_cases P create delete restore v (CloneCreate x w q size kind) is = absurd (nothing is)
+snap_cases P create delete restore v (SplitStart x) is = absurd (nothing is)
+snap_cases P create delete restore v (SplitFinish x) is = absurd (nothing is)
+snap_cases P create delete restore v (Mirror x q w size kind) is = absurd (nothing is)
+snap_cases P create delete restore v (Clean w) is = absurd (nothing is)
+snap_cases P create delete restore v (Probe w f i) is = absurd (nothing is)
+snap_cases P create delete restore v (Work n) is = absurd (nothing is)
+snap_cases P create delete restore v Cp is = absurd (nothing is)
+
+module _ (v : List ℕ) (c : Command) (is : snapped_by c ≡ Some v) where
+  pub snap_built : is_built c ≡ true
+  unfolding is_built
+  snap_built = snap_cases (λ (k : Command). is_built k ≡ true) (λ w name. refl) (λ w name. refl) (λ w name. refl) v c is
+
+  pub snap_reads : reads_files c ≡ false
+  unfolding reads_files
+  snap_reads = snap_cases (λ (k : Command). reads_files k ≡ false) (λ w name. refl) (λ w name. refl) (λ w name. refl) v c is
+
+  pub snap_changes : changes_volume c ≡ true
+  snap_changes = snap_cases (λ (k : Command). changes_volume k ≡ true) (λ w name. refl) (λ w name. refl) (λ w name. refl) v c is
+
+  pub snap_stays : removes_volume c ≡ false
+  snap_stays = snap_cases (λ (k : Command). removes_volume k ≡ false) (λ w name. refl) (λ w name. refl) (λ w name. refl) v c is
+
+  pub snap_whole : managed_by c ≡ None
+  snap_whole = snap_cases (λ (k : Command). managed_by k ≡ None) (λ w name. refl) (λ w name. refl) (λ w name. refl) v c is
+
+  pub snap_after : (m : Machine) → machine_after m c ≡ next m c
+  unfolding machine_after
+  snap_after m = ap (λ (b : Bool). if b then next m c else m) snap_built
+
+  pub snap_replies : (m : Machine) (reply : Reply) → Allows m c reply → Replies m c reply
+  snap_replies m reply allowed = subst (λ (b : Bool). RepliesBy b m c reply) (sym snap_built) allowed
+
+  -- it is neither a point nor a list
+  pub snap_other : (k : Command) → snapped_by k ≡ None → c ≢ k
+  snap_other k none same = nothing (sym (ap snapped_by same ∙ none) ∙ is)
+
+  -- so many blocks are within its room
+  pub snap_within : (x : VolumeState) → map_blocks x.span ≤ 32 → snap_blocks (Some x) c ≤ room_of c
+  unfolding room_of
+  snap_within x few = snap_cases (λ (k : Command). snap_blocks (Some x) k ≤ room_of k) (λ w name. omega (arith, few)) (λ w name. omega arith) (λ w name. omega arith) v c is
+
+  pub snap_low : room_of c ≤ 32
+  unfolding room_of
+  snap_low = snap_cases (λ (k : Command). room_of k ≤ 32) (λ w name. omega arith) (λ w name. omega arith) (λ w name. omega arith) v c is
+
+  -- a volume that isn't there is refused
+  pub snap_missing : (m : Machine) → fin.get m.volumes v ≡ None → refusal m c ≡ Some NoVolume
+  unfolding conditions
+  snap_missing m none = snap_cases (λ (k : Command). snapped_by k ≡ Some v → refusal m k ≡ Some NoVolume)
+      (λ w name of. let at = absent w of in λ j. first_of ((NoVolume, is_none (at j)) ∷ (SnapshotExists, has_snapshot m w name) ∷ (TooMany, has_all_snapshots m w) ∷ space m (SnapCreate w name) w))
+      (λ w name of. let at = absent w of in λ j. first_of ((NoVolume, is_none (at j)) ∷ (NoSnapshot, lacks_snapshot m w (Some name)) ∷ (SnapshotInUse, is_base m w name) ∷ []))
+      (λ w name of. let at = absent w of in λ j. first_of ((NoVolume, is_none (at j)) ∷ (NoSnapshot, lacks_snapshot m w (Some name)) ∷ space m (SnapRestore w name) w))
+      v c is is
+    where
+      same : (a b : List ℕ) → ◌≡◌ {A = Option (List ℕ)} (Some a) (Some b) → a ≡ b
+      same a b e = cc
+
+      absent : (w : List ℕ) → ◌≡◌ {A = Option (List ℕ)} (Some w) (Some v) → fin.get m.volumes w ≡ None
+      absent w of = ap (fin.get m.volumes) (same w v of) ∙ none

@@ -1,0 +1,58 @@
+-- What a session's parts are after a command on snapshots, whatever the disk tells: they fit together.
+use Rattle.std.proofs.Common.{◌≡◌, ℕ, List, Option, Some, None, Result, Ok, Err, sym, ap, subst, ◌∙◌}
+use Rattle.std.specs.Prelude.{IfSome}
+use Rattle.std.proofs.lemmas.List.{set-get_or}
+use Rattle.fv_disk.specs.Shown.{Shown}
+use Rattle.fv_model.specs.declared.commands.Command.{Command}
+use Rattle.fv_volume.specs.declared.fault.VolumeFault.{VolumeFault}
+use Rattle.fv_volume.specs.declared.pool.Pool.{Pool}
+use Rattle.fv_volume.specs.declared.state.VolumeState.{VolumeState}
+use Rattle.fv_volume.specs.Files.{IsLabelled}
+use Rattle.fv_volume.specs.OneVolume.{IsReady}
+use Rattle.fv_volume.specs.States.{States, state_at, with_state}
+use Rattle.fv_cp.specs.Lent.{FitTogether}
+use Rattle.fv_snapshot.specs.Creating.{Creates, TellsCreation}
+use Rattle.fv_snapshot.specs.Deleting.{Deletes}
+use Rattle.fv_snapshot.specs.Restoring.{Restores}
+use Rattle.fv_aggregate.specs.declared.session.Session.{Session}
+use Rattle.fv_aggregate.specs.Commands.{snapped_by}
+use Rattle.fv_aggregate.specs.Looking.{IsSlotSnapped, IsSnapAimed, SnapsSlot, SnapsState}
+use Rattle.fv_aggregate.proofs.SnapCommands.{snap_cases}
+use Rattle.fv_aggregate.proofs.SnapSessions.{placed_fit, snapped_fit}
+use Rattle.fv_aggregate.proofs.SnapSteps.{restored_step, snapped_step, unsnapped_step}
+use Rattle.fv_aggregate.proofs.Stepped.{fit_stepped}
+
+module _ (d : Shown) (s : Session) (fit : FitTogether s.pool s.volumes) (slot : ℕ) (x : VolumeState) (there : state_at s.volumes slot ≡ Some x) (slot_is : x.slot ≡ slot) (others : ℕ) (q : Pool) (y : VolumeState) (ready : IsReady d q y) where
+  abbrev stay : States
+  stay = with_state s.volumes slot (Some y)
+
+  create_fits : (name : List ℕ) (r : Result Unit VolumeFault) → Creates d s.pool x others name q y r → TellsCreation s.pool x others name y r → FitTogether q stay
+  create_fits name (Ok u) did tells = snapped_fit d s q slot x did.done.mid y there slot_is fit did.done.placed (snapped_step d s.pool x q name y did.done tells.waits) ready 0
+  create_fits name (Err f) did tells = placed_fit d s q slot x y there slot_is fit did.failed
+
+  delete_fits : (name : List ℕ) (r : Result Unit VolumeFault) → Deletes d s.pool x name q y r → FitTogether q stay
+  delete_fits name (Ok u) did = snapped_fit d s q slot x did.done.mid y there slot_is fit did.done.placed (unsnapped_step d s.pool x q name y did.done) ready 0
+  delete_fits name (Err f) did = placed_fit d s q slot x y there slot_is fit did.failed
+
+  restore_fits : (name : List ℕ) (r : Result Unit VolumeFault) → q ≡ s.pool → Restores d s.pool x others name y r → FitTogether q stay
+  restore_fits name (Ok u) same did = subst (λ (p : Pool). FitTogether p stay) (sym same)
+      (fit_stepped d s.pool s.volumes fit.housed.long slot x y there (restored_step x name y did.done) (subst (λ (p : Pool). IsReady d p y) same ready) fit)
+  restore_fits name (Err f) same did =
+      let states : stay ≡ s.volumes = ap (λ (z : VolumeState). with_state s.volumes slot (Some z)) did.failed ∙ ap (λ (o : Option VolumeState). with_state s.volumes slot o) (sym there) ∙ set-get_or s.volumes slot None in
+      subst (λ (p : Pool). FitTogether p stay) (sym same) (subst (FitTogether s.pool) (sym states) fit)
+
+  pub snap_fits : (c : Command) → snapped_by c ≡ Some x.name → (r : Result Unit VolumeFault) → SnapsState d s.pool x others c q y r → FitTogether q stay
+  snap_fits c of r = snap_cases (λ (k : Command). SnapsState d s.pool x others k q y r → FitTogether q stay) (λ v name did. create_fits name r did.1.0 did.1.1) (λ v name did. delete_fits name r did.1) (λ v name did. restore_fits name r did.1.0 did.1.1) x.name c of
+
+-- what the call on the volume of a slot did, by that volume
+pub slot_snapped : (d : Shown) (p : Pool) (states : States) (slot : ℕ) (x : VolumeState) → state_at states slot ≡ Some x → (others : ℕ) (c : Command) (q : Pool) (stay : States) (r : Result Unit VolumeFault)
+    → SnapsSlot d p states slot (state_at states slot) others c q stay r → IsSlotSnapped d p states slot x others c q stay r
+slot_snapped d p states slot x there others c q stay r = subst (λ (o : Option VolumeState). SnapsSlot d p states slot o others c q stay r) there
+
+-- So they are by what the call on the slot at which a command is aimed did.
+pub fits_after : (d : Shown) (s : Session) → FitTogether s.pool s.volumes → (slot : ℕ) (c : Command) → IsSnapAimed s.volumes slot c → (others : ℕ) (q : Pool) (stay : States) (r : Result Unit VolumeFault)
+    → SnapsSlot d s.pool s.volumes slot (state_at s.volumes slot) others c q stay r → FitTogether q stay
+fits_after d s fit slot c aimed others q stay r did =
+    let its = slot_snapped d s.pool s.volumes slot aimed.state aimed.there others c q stay r did in
+    let slot_is = (subst (λ (o : Option VolumeState). IfSome o (IsLabelled slot)) aimed.there (fit.housed.volumes slot)).slot_is in
+    subst (FitTogether q) (sym its.row) (snap_fits d s fit slot aimed.state aimed.there slot_is others q its.now its.ready c aimed.snaps r its.snaps)

@@ -1,0 +1,16 @@
+pub mod Told
+pub mod AllRoots
+pub mod OwnIds
+pub mod Snapped
+pub mod Removing
+pub mod Unsnapped
+pub mod Turned
+pub mod Counting
+pub mod Recounted
+pub mod Full
+pub mod Judging
+pub mod Placing
+pub mod Created
+pub mod Finding
+pub mod Deleted
+pub mod Restored

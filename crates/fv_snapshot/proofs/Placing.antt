@@ -1,0 +1,54 @@
+-- What changed of a volume's files was placed: it is what it was between points. And nothing is placed of a volume that stays.
+use Rattle.std.proofs.Common.{◌≡◌, ◌+◌, ◌≤◌, Bool, true, false, Option, is_some, refl, sym, ap, ◌∙◌, arith}
+use Rattle.std.proofs.lemmas.Bool.{true≢false}
+use Rattle.fv_disk.specs.Shown.{Shown as Disk}
+use Rattle.fv_charge.specs.declared.ledger.Ledger.{Ledger}
+use Rattle.fv_files.specs.declared.files.Files.{Files}
+use Rattle.fv_volume.specs.declared.pool.Pool.{Pool}
+use Rattle.fv_volume.specs.declared.state.VolumeState.{VolumeState}
+use Rattle.fv_volume.specs.Held.{IsHeldIn, IsPlacedAs}
+use Rattle.fv_volume.specs.Lending.{lent_for, no_damage}
+use Rattle.fv_volume.specs.LendingLaws.{goes_itself}
+use Rattle.fv_volume.specs.OneVolume.{home_in, IsReady}
+
+-- A volume between points is one still where what changed of its files was placed.
+pub placed_held : (d : Disk) (p q : Pool) (x y : VolumeState) → IsPlacedAs d p x d q y → IsHeldIn d p x.slot x → IsHeldIn d q x.slot y
+placed_held d p q x y placed held =
+    let wide : x.most + 256 ≤ x.span = held.wide in
+    let most : y.most ≡ x.most = ap (λ (z : VolumeState). z.most) placed.keeps in
+    let span : y.span ≡ x.span = ap (λ (z : VolumeState). z.span) placed.keeps in
+    let ledger : y.ledger ≡ x.ledger = ap (λ (z : VolumeState). z.ledger) placed.keeps in
+    let size : y.size ≡ x.size = ap (λ (z : VolumeState). z.size) placed.keeps in
+    let charge : y.ledger.charge ≡ x.ledger.charge = ap (λ (l : Ledger). l.charge) ledger in
+    let fits = held.within in
+    record {
+      slot = ap (λ (z : VolumeState). z.slot) placed.keeps;
+      ready = placed.ready;
+      stands = placed.standing held.stands;
+      led = placed.led held.stands held.led;
+      well = placed.well held.stands held.led held.well;
+      wide = omega (arith, wide, most, span);
+      within = omega (arith, charge, size, fits);
+    }
+
+-- And of a volume that stays nothing was placed.
+pub none_placed : (d : Disk) (p : Pool) (x : VolumeState) → IsReady d p x → IsPlacedAs d p x d p x
+none_placed d p x ready = record {
+  keeps = refl;
+  ready = ready;
+  changed = λ some. by x.changed refl some;
+  idle = λ none. (refl, refl);
+  standing = λ is. is;
+  volume = λ is. refl;
+  led = λ is led. led;
+  well = λ is led well. well;
+  others = λ y other alone apart is. record { standing = is; volume = refl; led = λ led. led; well = λ well. well };
+  room = 0;
+  rest = 0;
+  goes = record { steps = 0; goes = record { strays = 0; noted = no_damage; goes = goes_itself (lent_for p x.map d 0 (home_in x) 0) } };
+  spent = λ is numbers blocks. record { fewer = omega arith; numbers = omega arith; blocks = omega arith };
+}
+  where
+    by : (b : Bool) → x.changed ≡ b → is_some x.files ≡ true → x.changed ≡ true
+    by true e some = e
+    by false e some = absurd (true≢false (sym some ∙ ap (λ (o : Option Files). is_some o) (ready.changed e)))

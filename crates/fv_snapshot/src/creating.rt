@@ -1,0 +1,121 @@
+//! Making a snapshot.
+
+ghost use Rattle.std.specs.Prelude.{◌≡◌, ◌<◌, ◌≤◌, ◌^◌, None, false, get_or, pos, true, IfErr, OnErr, OnOk};
+ghost use Rattle.fv_charge.specs.Changes.{CanChange};
+ghost use Rattle.fv_model.specs.Numbers.{greatest_span};
+ghost use Rattle.fv_model.specs.Space.{map_blocks};
+ghost use Rattle.fv_model.specs.Spelling.{is_name};
+ghost use Rattle.fv_root.specs.Formatted.{IsSize};
+ghost use Rattle.fv_volmap.specs.Slots.{slot_at, stored_count};
+ghost use Rattle.fv_volume.specs.declared.fault.VolumeFault.TheVariants.{Memory};
+ghost use Rattle.fv_volume.specs.Files.{IsLabelled};
+ghost use Rattle.fv_volume.specs.OneVolume.{greatest_charge, IsBooked, IsReady};
+ghost use Rattle.fv_volume.specs.Snaps.{with_snapshot};
+ghost use Rattle.fv_snapshot.specs.Creating.{Creates, JudgesCreation, TellsCreation};
+
+use fv_charge::{Delta, Ledger};
+use fv_disk::Disk;
+use fv_model::{Name, Refusal};
+use fv_root::capacity;
+use fv_volume::{Pool, VolumeFault, VolumeState};
+
+/// Whether a snapshot of a name is made of a volume, in an aggregate of so many blocks of which the other volumes commit `others`, at most
+/// 2^62: the map slot that it gets, the least that is free.
+///
+/// # Errors
+/// The refusal comes exactly where the machine refuses `snap create`, and is its refusal: a snapshot has the name; there are 24; the volume
+/// would use more than its size with the blocks of the snapshot's map; commits would pass the capacity, in this order.
+///
+/// Costs a step for each slot and snapshot, takes no memory and changes nothing. `docs/MACHINE.md` has the command.
+pub fn judge_create(
+    volume: &VolumeState,
+    blocks: u32,
+    others: u64,
+    name: &Name,
+) -> Result<u8, Refusal>
+    requires booked { IsBooked volume.now }
+    requires labelled { IsLabelled volume.now.slot volume.now }
+    requires blocks { IsSize blocks }
+    requires others { others ≤ 2 ^ 62 }
+    ensures { JudgesCreation volume.entry.now blocks others name.now result }
+{
+    if volume.snapshots.named(name).is_some() {
+        return Err(Refusal::SnapshotExists);
+    }
+    let Some(slot) = volume.snapshots.free_slot() else {
+        return Err(Refusal::TooMany);
+    };
+    let delta = map_more(&volume.ledger, volume.span);
+    volume.ledger.admit(&delta, others, capacity(blocks))?;
+    Ok(slot)
+}
+
+/// A change of a ledger by the blocks of one map more.
+fn map_more(ledger: &Ledger, span: u32) -> Delta
+    requires charge { ledger.now.charge ≤ greatest_charge }
+    requires need { ledger.now.need ≡ 0 }
+    requires span { span ≤ greatest_span }
+    ensures charge { result.charge ≡ pos (map_blocks span) }
+    ensures need { result.need ≡ pos 0 }
+    ensures size { result.size ≡ ledger.now.size }
+    ensures kind { result.kind ≡ ledger.now.kind }
+    ensures fits { CanChange ledger.now result }
+{
+    Delta {
+        charge: i64::from(span.div_ceil(32_768)),
+        need: 0,
+        size: ledger.size,
+        kind: ledger.kind,
+    }
+}
+
+/// Makes a snapshot of the active table of a volume. What changed of its files is placed first, so that the active root spells the table. Of
+/// the snapshot's map no block is placed: it waits for the next consistency point.
+///
+/// `others` is what the other volumes of the aggregate commit together, in blocks, at most 2^62.
+///
+/// # Errors
+/// `Refused` as `judge_create` refuses; nothing changes then. `Damaged` and `Memory` as `VolumeState::place_files`, and `Memory` where there
+/// is none for the snapshot. After each of them the volume stands for what it stood for.
+///
+/// No call is made of the disk. Costs what `VolumeState::place_files` costs and a step for each word of 64 numbers of the span, whatever the
+/// number of files. Nothing is copied but the map.
+pub fn create<D: Disk>(
+    volume: &mut VolumeState,
+    pool: &mut Pool,
+    disk: &D,
+    others: u64,
+    name: &Name,
+) -> Result<(), VolumeFault>
+    requires ready { IsReady (D.shown disk.now) pool.old volume.old }
+    requires others { others ≤ 2 ^ 62 }
+    ensures creates { Creates (D.shown disk.now) pool.old volume.old others name.now pool.new volume.new result }
+    ensures tells { TellsCreation pool.old volume.old others name.now volume.new result }
+    ensures ready { IsReady (D.shown disk.now) pool.new volume.new }
+{
+    let slot = match judge_create(volume, pool.found.blocks, others, name) {
+        Ok(slot) => slot,
+        Err(refusal) => return Err(VolumeFault::Refused(refusal)),
+    };
+    volume.place_files(pool, disk)?;
+    keep(volume, slot, name)
+}
+
+/// Keeps a snapshot of the active table, of which nothing is in memory.
+fn keep(volume: &mut VolumeState, slot: u8, name: &Name) -> Result<(), VolumeFault>
+    requires above { 0 < slot }
+    requires stored { slot < stored_count }
+    requires free { slot_at volume.old.map slot ≡ None }
+    requires charge { volume.old.ledger.charge ≤ greatest_charge }
+    requires span { volume.old.span ≤ greatest_span }
+    ensures kept { OnOk result (volume.new ≡ with_snapshot volume.old slot name.now) }
+    ensures failed { OnErr result (volume.new ≡ volume.old) }
+    ensures waits { OnOk result (get_or volume.new.fresh slot false ≡ true) }
+    ensures fault { IfErr result (λ e. e ≡ Memory) }
+    ensures named { is_name name.now ≡ true }
+{
+    match volume.keep_snapshot(slot, name) {
+        Ok(()) => Ok(()),
+        Err(_) => Err(VolumeFault::Memory),
+    }
+}

@@ -1,0 +1,79 @@
+-- What the active table of a volume shares with those of its snapshots, once its trees were placed.
+use Rattle.std.proofs.Common.{◌≡◌, ℕ, Bool, true, false, cond, Option, Some, None, is_some, inl, inr, refl, sym, ap, subst, ◌∙◌}
+use Rattle.std.specs.Prelude.{slice_index_or}
+use Rattle.std.specs.Option.{option_map}
+use Rattle.std.specs.FinMap as fin
+use Rattle.fv_disk.specs.Shown.{Shown as Disk}
+use Rattle.fv_codec.specs.declared.inode.InodeRecord.{InodeRecord}
+use Rattle.fv_codec.specs.Blocks.{greatest_word}
+use Rattle.fv_tables.specs.Spelled.{pointer_at, stored}
+use Rattle.fv_tables.specs.Told.{file_at}
+use Rattle.fv_tree.specs.Beside.{unread}
+use Rattle.fv_tree.specs.Flushing.{Loaded}
+use Rattle.fv_tree.specs.Standing.{under}
+use Rattle.fv_files.specs.declared.files.Files.{Files}
+use Rattle.fv_files.specs.Apart.{Trees}
+use Rattle.fv_files.specs.Tables.{loaded_trees}
+use Rattle.fv_volmap.specs.Slots.{has, slot_at}
+use Rattle.fv_files.specs.Altering.{AreLaid, PlacesIn, PlacesTrees}
+use Rattle.fv_volume.specs.declared.pool.Pool.{Pool}
+use Rattle.fv_volume.specs.declared.state.Snap.{Snap}
+use Rattle.fv_volume.specs.declared.state.VolumeState.{VolumeState}
+use Rattle.fv_volume.specs.BlocksOver.{held_block, AreApart}
+use Rattle.fv_volume.specs.Lending.{blocks_held, GoesOver, Lent}
+use Rattle.fv_volume.specs.OneVolume.{blocks_in, shows, AreLaidBy, IsKeptTable, IsStanding}
+use Rattle.fv_volume.specs.Placing.{IsUnkept}
+use Rattle.fv_volume.specs.Sharing.{trees_by, trees_kept, AreShared, StandsUnder}
+use Rattle.fv_volume.proofs.SharedChanges.{shared_placed}
+use Rattle.fv_volume.proofs.Shows.{get_held}
+
+-- ---- what was free while blocks were placed
+
+-- Where at some moment no block was held under a VVBN, no other slot had one under it.
+pub was_unkept : (old moment : Lent) → GoesOver old moment → AreApart old.pool old.map old.home.slot → (v : ℕ) → fin.get (blocks_held moment.map moment.pool moment.home.slot moment.disk.reads) v ≡ None → IsUnkept old.disk old.pool old.map old.home.slot v
+was_unkept old moment goes apart v free k other here =
+    sym ((goes.keeps apart).blocks k v other here old.disk.reads)
+    ∙ (λ i. held_block moment.map moment.pool (sym goes.home i).slot (sym goes.only_reads.stays.reads i) v)
+    ∙ sym (get_held moment.map moment.pool moment.home.slot moment.disk.reads v) ∙ free
+
+-- what new blocks got is so, as well
+pub placed_free : (free other : ℕ → Type 0) (x y : Trees) → ((v : ℕ) → free v → other v) → PlacesTrees free x y → PlacesTrees other x y
+placed_free free other x y so places a = by (x a) (y a) (places a)
+  where
+    by : (s t : Option Loaded) → PlacesIn free s t → PlacesIn other s t
+    by None None is = is
+    by None (Some t) is = is
+    by (Some s) None is = is
+    by (Some s) (Some t) is = λ level place. elim (is level place) [
+      | inl none ↦ inl none
+      | inr (inl now) ↦ inr (inl (record { stamp = now.stamp; was = now.was; done = now.done; fresh = so (pointer_at t.tree level place).vvbn now.fresh }))
+      | inr (inr was) ↦ inr (inr was)
+    ]
+
+-- ---- a volume with files in memory
+
+module _ (d : Disk) (p : Pool) (x : VolumeState) (f : Files) (held : x.files ≡ Some f) (is : IsStanding d p x) where
+  -- a snapshot's table stands in blocks of its slot
+  stands_held : (q : Snap) → IsKeptTable d p x q → (u : Option ℕ) (k i v : ℕ) → StandsUnder (trees_kept (blocks_in d p x) q u) k i v → is_some (blocks_in d p x q.slot v) ≡ true
+  stands_held q kept None k i v stands = subst (λ (n : ℕ). is_some (blocks_in d p x q.slot n) ≡ true) stands.vvbn (kept.1.trees.inode.held k i stands.some)
+  stands_held q kept (Some n) k i v stands = by (file_at (stored (blocks_in d p x q.slot) greatest_word q.table.levels q.table.root) n) refl stands
+    where
+      by : (o : Option InodeRecord) → file_at (stored (blocks_in d p x q.slot) greatest_word q.table.levels q.table.root) n ≡ o → StandsUnder (option_map (λ r. unread (stored (blocks_in d p x q.slot) n r.levels r.root)) o) k i v
+          → is_some (blocks_in d p x q.slot v) ≡ true
+      by None e stands = absurd (stands.some refl)
+      by (Some r) e stands = subst (λ (n : ℕ). is_some (blocks_in d p x q.slot n) ≡ true) stands.vvbn ((kept.1.trees.files n r e).held k i stands.some)
+
+  -- so in none that was free
+  stands_apart : (q : Snap) → IsKeptTable d p x q → (v : ℕ) → IsUnkept d p x.map x.slot v → (u : Option ℕ) (k i : ℕ) → StandsUnder (trees_kept (blocks_in d p x) q u) k i v → ⊥
+  stands_apart q kept v free u k i stands = by (has v (slot_at x.map q.slot)) refl (stands_held q kept u k i v stands)
+    where
+      by : (b : Bool) → has v (slot_at x.map q.slot) ≡ b → is_some (cond b (held_block x.map p x.slot d.reads v) None) ≡ true → ⊥
+      by true member some = let none : is_some (held_block x.map p x.slot d.reads v) ≡ false = ap is_some (free q.slot kept.0 member) in cc
+      by false member some = cc
+
+  pub placed_shared : (c : Trees) → PlacesTrees (IsUnkept d p x.map x.slot) (loaded_trees (under (shows d p x)) f) c → AreShared c (blocks_in d p x) x.snapshots
+  placed_shared c places = shared_placed (IsUnkept d p x.map x.slot) (loaded_trees (under (shows d p x)) f) c (blocks_in d p x) x.snapshots (λ n q lt. stands_apart (slice_index_or x.snapshots n q) (is.kept n q lt)) places
+      (subst (λ (o : Option Files). AreShared (trees_by (under (shows d p x)) x.active o) (blocks_in d p x) x.snapshots) held is.shared)
+
+  pub was_laid : AreLaid (under (shows d p x)) f
+  was_laid = subst (AreLaidBy (under (shows d p x))) held is.laid

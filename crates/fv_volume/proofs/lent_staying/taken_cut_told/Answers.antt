@@ -1,0 +1,17 @@
+use Rattle.std.proofs.Common.{ℕ, refl, subst, rules}
+use Rattle.fv_files.specs.Tables.{table_in}
+use Rattle.fv_volume.specs.Calls.{BlockCause}
+use Rattle.fv_volume.specs.Lending.{lent_by, lent_for, sees}
+use Rattle.fv_volume.proofs.CallCauses.{table_cause}
+use Rattle.fv_volume.proofs.lent_staying.taken_cut_told.Goals as goal
+
+pub returns-clause-cause : goal.returns-clause-cause
+returns-clause-cause g c =
+    let told = g.K.Guard.told in
+    let disk = g.D.Disk.shown c.args.disk.now in
+    let x = table_in (sees c.args.pool.now c.args.map.now disk c.args.home.now) c.args.files.now in
+    let after = c.taken_by_cut.new.blocks in
+    let old = lent_for c.args.pool.now c.args.map.now disk c.open-steps.result c.args.home.now 0 in
+    let new = lent_by after.pool.now after.map.now (g.D.Disk.shown after.disk.now) after.steps.now after.home after.room after.strays after.noted in
+    subst (λ (d : g.row.D.Denot). BlockCause told x (lent_for c.args.pool.now c.args.map.now disk 0 c.args.home.now 0) (g.D.Disk.shown d).faults c.taken_by_cut.result) (search rules)
+    (subst (λ (n : ℕ). BlockCause told x (lent_for c.args.pool.now c.args.map.now disk n c.args.home.now 0) (g.D.Disk.shown after.disk.now).faults c.taken_by_cut.result) c.open-steps.ensures (table_cause told x old new c.taken_by_cut.ensures.reads.4 refl c.taken_by_cut.result c.taken_by_cut.ensures.looks))

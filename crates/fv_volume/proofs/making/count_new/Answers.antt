@@ -1,0 +1,40 @@
+use Rattle.std.proofs.Common.{◌≡◌, ◌+◌, ◌∙◌, ℕ, Err, subst}
+use Rattle.std.proofs.lemmas.Result.{err_from_is_err_and}
+use Rattle.fv_model.specs.Volumes.{Volume}
+use Rattle.fv_laws.specs.Paths.{new_path}
+use Rattle.fv_laws.specs.Positions.{staying}
+use Rattle.fv_tables.specs.Told.{Standing, table_told}
+use Rattle.fv_inode.specs.Files.{IsLeastFree}
+use Rattle.fv_volume.specs.declared.state.VolumeState.{VolumeState}
+use Rattle.fv_volume.specs.Calls.{BlockCause}
+use Rattle.fv_volume.specs.Lending.{lent_for}
+use Rattle.fv_volume.specs.OneVolume.{home_in, standing_for, IsStanding}
+use Rattle.fv_volume.proofs.CallCauses.{fails_later}
+use Rattle.fv_volume.proofs.Calling.{refused_ready}
+use Rattle.fv_volume.proofs.Charged.{told_before}
+use Rattle.fv_volume.proofs.OneVolumes.{reads_then}
+use Rattle.fv_volume.proofs.making.count_new.Goals as goal
+
+pub count_staying_new-requires : goal.count_staying_new-requires
+count_staying_new-requires g c = record { ready = refused_ready (g.D.Disk.shown c.args.disk.now) (g.D.Disk.shown c.count_room.new.disk) c.args.pool.now c.count_room.new.pool c.count_room.ensures.reads c.args.volume.now c.count_room.new.volume c.count_room.ensures.same c.requires.ready }
+
+pub returns-in_err-staying-clause-reads : goal.returns-in_err-staying-clause-reads
+returns-in_err-staying-clause-reads g c = reads_then (g.D.Disk.shown c.args.disk.now) (g.D.Disk.shown c.count_room.new.disk) (g.D.Disk.shown c.count_staying_new.new.disk) c.args.pool.now c.count_room.new.pool c.count_staying_new.new.pool c.count_room.ensures.reads c.count_staying_new.ensures.reads
+
+pub returns-in_err-staying-clause-cause : goal.returns-in_err-staying-clause-cause
+returns-in_err-staying-clause-cause g c =
+    let e = c.in_err-staying.field-0.0 in
+    let p = err_from_is_err_and c.from_residual-in_err-staying.result c.from_residual-in_err-staying.ensures.1 in
+    let later = subst (λ (z : VolumeState). BlockCause {T = ℕ} (IsStanding (g.D.Disk.shown c.count_room.new.disk) c.count_room.new.pool z) (standing_for (g.D.Disk.shown c.count_room.new.disk) c.count_room.new.pool z) (lent_for c.count_room.new.pool z.map (g.D.Disk.shown c.count_room.new.disk) 0 (home_in z) 0) (g.D.Disk.shown c.count_staying_new.new.disk).faults (Err e)) c.count_room.ensures.same c.in_err-staying.ensures.cause in
+    rw (p.1, p.2) (fails_later (g.D.Disk.shown c.args.disk.now) (g.D.Disk.shown c.count_room.new.disk) c.args.pool.now c.count_room.new.pool c.count_room.ensures.reads c.args.volume.now c.in_ok-added.ensures.cause 0 {T = ℕ} (g.D.Disk.shown c.count_staying_new.new.disk).faults (Err e) later)
+
+pub returns-clause-costs : goal.returns-clause-costs
+returns-clause-costs g c = λ is free.
+    let stays = told_before (g.D.Disk.shown c.args.disk.now) (g.D.Disk.shown c.count_room.new.disk) c.args.pool.now c.count_room.new.pool c.count_room.ensures.reads c.args.volume.now c.count_room.new.volume c.count_room.ensures.same (λ (s : Standing) (v : Volume). IsLeastFree s.inode c.args.number → c.in_ok-staying.staying ≡ staying v (new_path (table_told s))) c.in_ok-staying.ensures.staying is free in
+    (λ j. c.in_ok-added.ensures.added is c.args.volume.now.now is.table j + stays j)
+
+pub returns-clause-reads : goal.returns-clause-reads
+returns-clause-reads g c = reads_then (g.D.Disk.shown c.args.disk.now) (g.D.Disk.shown c.count_room.new.disk) (g.D.Disk.shown c.count_staying_new.new.disk) c.args.pool.now c.count_room.new.pool c.count_staying_new.new.pool c.count_room.ensures.reads c.count_staying_new.ensures.reads
+
+pub returns-clause-cause : goal.returns-clause-cause
+returns-clause-cause g c = c.in_ok-staying.ensures.cause ∙ c.in_ok-added.ensures.cause

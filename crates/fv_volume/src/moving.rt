@@ -1,0 +1,183 @@
+//! What changes of the files of a volume take, and what of that stays charged because a snapshot has it, before they are made. Of a volume
+//! without snapshots nothing is read for that, since nothing stays.
+
+ghost use Rattle.std.specs.Prelude.{◌≡◌, ◌≤◌, ◌<◌, IfOk};
+ghost use Rattle.fv_tree.specs.Taking.{AreBelow};
+ghost use Rattle.fv_inode.specs.Files.{IsInfo};
+ghost use Rattle.fv_files.specs.Tables.{IsInfoOf};
+ghost use Rattle.fv_volume.specs.Calls.{BlockCause, Reads};
+ghost use Rattle.fv_volume.specs.Charging.{CutMoves, RemovalMoves, StaysByNew, StaysByPut};
+ghost use Rattle.fv_volume.specs.Lending.{lent_for};
+ghost use Rattle.fv_volume.specs.OneVolume.{home_in, standing_for, IsReady, IsStanding};
+
+use crate::blocks::Home;
+use crate::lent_files::{kept_table, take_table};
+use crate::lent_staying::{staying_new_told, staying_told, taken_cut_told, taken_removal_told};
+use crate::pool::Pool;
+use crate::state::VolumeState;
+use fv_disk::{BlockFault, Disk};
+use fv_inode::Info;
+use fv_tree::Taken;
+use std::alloc::Global;
+use std::marker::Brand;
+use std::sync::ledger::Blank;
+
+/// How many blocks that a write of a cell of the file of which this is known replaces stay charged.
+#[tactic(auto, using(crate::proofs::OneVolumes::root_fits, crate::proofs::OneVolumes::levels_fit))]
+pub(crate) fn count_staying<D: Disk>(
+    volume: &mut VolumeState,
+    alloc: Global,
+    pool: &mut Pool,
+    disk: &mut D,
+    info: &Info,
+    index: u32,
+) -> Result<u32, BlockFault>
+    requires ready { IsReady (D.shown disk.old) pool.old volume.old }
+    requires range { IsInfo info.now }
+    requires there { IsStanding (D.shown disk.old) pool.old volume.old → IsInfoOf (standing_for (D.shown disk.old) pool.old volume.old).inode info.now }
+    ensures staying { IsStanding (D.shown disk.old) pool.old volume.old → IfOk result (StaysByPut (D.shown disk.old) pool.old volume.old info.now.number index) }
+    ensures few { IfOk result (λ count. count ≤ 8) }
+    ensures same { volume.new ≡ volume.old }
+    ensures reads { Reads (D.shown disk.old) pool.old (D.shown disk.new) pool.new }
+    ensures cause { BlockCause (IsStanding (D.shown disk.old) pool.old volume.old) (standing_for (D.shown disk.old) pool.old volume.old)
+        (lent_for pool.old volume.old.map (D.shown disk.old) 0 (home_in volume.old) 0) (D.shown disk.new).faults result }
+{
+    if volume.snapshots.len() == 0 {
+        return Ok(0);
+    }
+    let held = volume.files.is_some();
+    let home = Home {
+        slot: volume.slot,
+        label: volume.label,
+    };
+    let mut files = take_table(&mut volume.files, &volume.active, alloc);
+    let counted = staying_told::<Brand, D, Brand>(
+        &mut files,
+        pool,
+        disk,
+        &mut volume.map,
+        &home,
+        Blank::new(1),
+        info,
+        index,
+    );
+    volume.files = kept_table(held, files);
+    counted
+}
+
+/// How many blocks that a new file under a number, the least that is free, replaces stay charged.
+#[tactic(auto, using(crate::proofs::OneVolumes::root_fits, crate::proofs::OneVolumes::levels_fit))]
+pub(crate) fn count_staying_new<D: Disk>(
+    volume: &mut VolumeState,
+    alloc: Global,
+    pool: &mut Pool,
+    disk: &mut D,
+    number: u32,
+) -> Result<u32, BlockFault>
+    requires ready { IsReady (D.shown disk.old) pool.old volume.old }
+    ensures staying { IsStanding (D.shown disk.old) pool.old volume.old → IfOk result (StaysByNew (D.shown disk.old) pool.old volume.old number) }
+    ensures few { IfOk result (λ count. count ≤ 4) }
+    ensures same { volume.new ≡ volume.old }
+    ensures reads { Reads (D.shown disk.old) pool.old (D.shown disk.new) pool.new }
+    ensures cause { BlockCause (IsStanding (D.shown disk.old) pool.old volume.old) (standing_for (D.shown disk.old) pool.old volume.old)
+        (lent_for pool.old volume.old.map (D.shown disk.old) 0 (home_in volume.old) 0) (D.shown disk.new).faults result }
+{
+    if volume.snapshots.len() == 0 {
+        return Ok(0);
+    }
+    let held = volume.files.is_some();
+    let home = Home {
+        slot: volume.slot,
+        label: volume.label,
+    };
+    let mut files = take_table(&mut volume.files, &volume.active, alloc);
+    let counted = staying_new_told::<Brand, D, Brand>(
+        &mut files,
+        pool,
+        disk,
+        &mut volume.map,
+        &home,
+        Blank::new(1),
+        number,
+    );
+    volume.files = kept_table(held, files);
+    counted
+}
+
+/// What a cut of the file of which this is known to a length takes, and what of that stays charged. It walks the nodes over what goes.
+#[tactic(auto, using(crate::proofs::OneVolumes::root_fits, crate::proofs::OneVolumes::levels_fit))]
+pub(crate) fn count_cut<D: Disk>(
+    volume: &mut VolumeState,
+    alloc: Global,
+    pool: &mut Pool,
+    disk: &mut D,
+    info: &Info,
+    length: u32,
+) -> Result<Taken, BlockFault>
+    requires ready { IsReady (D.shown disk.old) pool.old volume.old }
+    requires range { IsInfo info.now }
+    requires there { IsStanding (D.shown disk.old) pool.old volume.old → IsInfoOf (standing_for (D.shown disk.old) pool.old volume.old).inode info.now }
+    ensures taken { IsStanding (D.shown disk.old) pool.old volume.old → IfOk result (CutMoves (D.shown disk.old) pool.old volume.old info.now.number length) }
+    ensures few { IfOk result (AreBelow 8388608) }
+    ensures same { volume.new ≡ volume.old }
+    ensures reads { Reads (D.shown disk.old) pool.old (D.shown disk.new) pool.new }
+    ensures cause { BlockCause (IsStanding (D.shown disk.old) pool.old volume.old) (standing_for (D.shown disk.old) pool.old volume.old)
+        (lent_for pool.old volume.old.map (D.shown disk.old) 0 (home_in volume.old) 0) (D.shown disk.new).faults result }
+{
+    let held = volume.files.is_some();
+    let home = Home {
+        slot: volume.slot,
+        label: volume.label,
+    };
+    let mut files = take_table(&mut volume.files, &volume.active, alloc);
+    let counted = taken_cut_told::<Brand, D, Brand>(
+        &mut files,
+        pool,
+        disk,
+        &mut volume.map,
+        &home,
+        Blank::new(1),
+        info,
+        length,
+    );
+    volume.files = kept_table(held, files);
+    counted
+}
+
+/// What the removal of the file of which this is known takes, and what of that stays charged. It walks the nodes over all of the file.
+#[tactic(auto, using(crate::proofs::OneVolumes::root_fits, crate::proofs::OneVolumes::levels_fit))]
+pub(crate) fn count_removal<D: Disk>(
+    volume: &mut VolumeState,
+    alloc: Global,
+    pool: &mut Pool,
+    disk: &mut D,
+    info: &Info,
+) -> Result<Taken, BlockFault>
+    requires ready { IsReady (D.shown disk.old) pool.old volume.old }
+    requires range { IsInfo info.now }
+    requires there { IsStanding (D.shown disk.old) pool.old volume.old → IsInfoOf (standing_for (D.shown disk.old) pool.old volume.old).inode info.now }
+    ensures taken { IsStanding (D.shown disk.old) pool.old volume.old → IfOk result (RemovalMoves (D.shown disk.old) pool.old volume.old info.now.number) }
+    ensures few { IfOk result (AreBelow 8388608) }
+    ensures same { volume.new ≡ volume.old }
+    ensures reads { Reads (D.shown disk.old) pool.old (D.shown disk.new) pool.new }
+    ensures cause { BlockCause (IsStanding (D.shown disk.old) pool.old volume.old) (standing_for (D.shown disk.old) pool.old volume.old)
+        (lent_for pool.old volume.old.map (D.shown disk.old) 0 (home_in volume.old) 0) (D.shown disk.new).faults result }
+{
+    let held = volume.files.is_some();
+    let home = Home {
+        slot: volume.slot,
+        label: volume.label,
+    };
+    let mut files = take_table(&mut volume.files, &volume.active, alloc);
+    let counted = taken_removal_told::<Brand, D, Brand>(
+        &mut files,
+        pool,
+        disk,
+        &mut volume.map,
+        &home,
+        Blank::new(1),
+        info,
+    );
+    volume.files = kept_table(held, files);
+    counted
+}
