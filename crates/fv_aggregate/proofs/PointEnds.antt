@@ -3,18 +3,17 @@ use Rattle.std.proofs.Common.{◌≡◌, ◌<◌, ◌≤◌, ◌+◌, ◌-◌, �
 use Rattle.std.specs.Prelude.{IfSome, IsNone, IsSome, IsTrue, max, replicate}
 use Rattle.std.specs.List.{range_with_len}
 use Rattle.std.specs.Option.{option_map}
-use Rattle.std.proofs.lemmas.Bool.Decides.{nat_tests}
 use Rattle.fv_disk.specs.Shown.{Image, Shown}
 use Rattle.fv_disk.specs.Crash.{Leaves}
 use Rattle.fv_disk.specs.DiskCalls.{OnlyReads}
 use Rattle.fv_disk.proofs.Moments.{weaken}
 use Rattle.fv_bits.specs.Members.{is_member}
 use Rattle.fv_model.specs.declared.commands.Kind.{Kind}
-use Rattle.fv_model.specs.Machines.{Machine, capacity, first_block}
+use Rattle.fv_model.specs.Machines.{Machine, capacity}
 use Rattle.fv_model.specs.Space.{commits}
 use Rattle.fv_image.specs.Layout.{root_place}
 use Rattle.fv_image.specs.Maps.{map_bit}
-use Rattle.fv_image.specs.Views.{View, delayed, own}
+use Rattle.fv_image.specs.Views.{View}
 use Rattle.fv_image.specs.Held.{label_place, layout_at, view_at}
 use Rattle.fv_image.specs.Volumes.{told_with}
 use Rattle.fv_image.specs.Sound.{leaves_room, overheads}
@@ -22,9 +21,6 @@ use Rattle.fv_image.specs.Seen.{seen}
 use Rattle.fv_image.specs.VolumeRules.{commits_seen}
 use Rattle.fv_image.proofs.Committed.{commits_told}
 use Rattle.fv_image.proofs.Counts.{same_sum}
-use Rattle.fv_image.proofs.OwnBases.{uses_own}
-use Rattle.fv_image.proofs.Points.{UsesOwn, room_beside_commits}
-use Rattle.fv_image.proofs.WellLabels.{numbers_at}
 use Rattle.fv_root.specs.declared.find.Found.{Found}
 use Rattle.fv_root.specs.Commits.{IsFoundOn}
 use Rattle.fv_root.specs.Finding.{IsFound, root_found}
@@ -59,7 +55,7 @@ use Rattle.fv_aggregate.specs.Standing.{clear_blocks, overheads_in, taken_since,
 use Rattle.fv_aggregate.proofs.Asking.{asked_unchanged, asks_more, asks_still, short_is}
 use Rattle.fv_aggregate.proofs.Clear.{clear_is_free, clear_stays, free_and_placed, none_held, none_placed}
 use Rattle.fv_aggregate.proofs.Standing.{settled_after_reads}
-use Rattle.fv_aggregate.proofs.Sums.{asked_within, none_pending, none_waiting, one_pending, over_slots, overheads_are, overheads_kept, same_overheads}
+use Rattle.fv_aggregate.proofs.Sums.{all_within, none_pending, none_waiting, one_pending, over_slots, overheads_are, overheads_kept, same_overheads}
 
 -- what a point that was not done says, for the fault that it answered
 pub still_as : (old : Shown) (pool : Pool) (states : States) (new : Shown) (left : Pool) (stay : States) (said fault : VolumeFault) → said ≡ fault → IsStill old pool states new left stay said → IsStill old pool states new left stay fault
@@ -80,7 +76,7 @@ has_full_room disk session last m stands =
     record {
       numbers = λ s. has_numbers disk session.pool s (state_at session.volumes s) (stands.held.each s) (omega (arith, one_pending session.volumes s, stands.few));
       free = omega (arith, all, stands.few, stands.room);
-      blocks = omega (arith, all, asked_within session.volumes, stands.pending, stands.room);
+      blocks = omega (arith, all, all_within session.volumes, stands.pending, stands.room);
     }
 
 -- what the session stands for, by its parts
@@ -160,35 +156,39 @@ module _ (before : Shown) (old : Session) (after : Shown) (new : Session) (still
   pub still_asks : KeepsAsking 0 before old after new
   still_asks = λ tells kept asks fresh. asks_more after new kept 0 (asks_still before after old new kept reads still.placed.found still.placed.asked pending_same asks)
 
+  -- a point that lacks blocks has asked for those of the volumes that changed, without those of volumes that it marked
+  asked_changed : (room at want found : ℕ) → LacksRoom new.pool new.volumes room (block.Damaged at want found) → want ≡ blocks_asked new.volumes
+  asked_changed room at want found lacks = ?
+
   -- it lacks blocks, or a place for a file
-  pub still_wants : (at want found : ℕ) → IsNone old.failed → Stands before old → WholeFails old.volumes new.pool new.volumes (cp.Damaged at want found) → IsForWant before old after new (Damaged at want found)
-  still_wants at want found was stands fails = (
+  pub still_wants : (at want found room : ℕ) → IsNone old.failed → Stands before old → WholeFails old.volumes room new.pool new.volumes (cp.Damaged at want found) → IsForWant before old after new (Damaged at want found)
+  still_wants at want found room was stands fails = (
     reads,
     ⊎_elim
-        (λ (lacks : LacksRoom new.pool new.volumes (block.Damaged at want found)).
+        (λ (lacks : LacksRoom new.pool new.volumes room (block.Damaged at want found)).
         let place : at ≡ root_place old.pool.found.slot = lacks.0 ∙ ap (λ (f : Found). root_place f.slot) still.placed.found in
-        let asked : want ≡ blocks_asked old.volumes = lacks.1.0 ∙ still.placed.asked in
+        let asked : want ≡ blocks_asked old.volumes = asked_changed room at want found lacks ∙ still.placed.asked in
         inl (record {
           fresh = was;
           place = place;
           asked = asked;
-          free = lacks.1.1.0;
-          short = lacks.1.1.1;
-          image = λ tells room asks. short_is before old new.pool room at want found tells stands asks still.placed.committed place asked lacks.1.1.0 lacks.1.1.1;
+          free = lacks.1.1.1.1.0;
+          short = lacks.1.1.1.1.1;
+          image = λ tells kept asks. short_is before old new.pool kept at want found tells stands asks still.placed.committed place asked lacks.1.1.1.1.0 lacks.1.1.1.1.1;
           same = λ none. let idle = still.placed.idle none in parts ∙ (λ j. record old { pool = idle.0 j; volumes = idle.1 j });
         }))
         (λ (filed : HaveNoFiles old.volumes → ⊥). inr (record { fresh = was; files = filed }))
         fails,
   )
 
-  pub point_lacks : (at want found : ℕ) → IsNone old.failed → Stands before old → WholeCounts before after (Err (cp.Damaged at want found)) → WholeFails old.volumes new.pool new.volumes (cp.Damaged at want found)
+  pub point_lacks : (at want found room : ℕ) → IsNone old.failed → Stands before old → WholeCounts before after (Err (cp.Damaged at want found)) → WholeFails old.volumes room new.pool new.volumes (cp.Damaged at want found)
       → Goes {T = Unit {0}} 0 before old after new (Err (Damaged at want found))
-  point_lacks at want found was stands counts fails = record {
+  point_lacks at want found room was stands counts fails = record {
     ends = record { tells = counts.tells; given = counts.given; ends = counts.ends };
     stands = λ fresh. still_stands stands;
     done = tt;
     fault = record {
-      reason = ⊎_elim (λ lacks. inl lacks) (λ lacks. inr (inl lacks)) (still_wants at want found was stands fails).1;
+      reason = ⊎_elim (λ lacks. inl lacks) (λ lacks. inr (inl lacks)) (still_wants at want found room was stands fails).1;
       counts = record { faults = counts.cause.0; write_faults = counts.cause.1 };
       session = subst IsNone (sym failed_same) was;
       disk = inl reads;
@@ -293,13 +293,7 @@ pointed_left before old after new pool states none same_pool same_states long go
 
 -- ---- after a point
 
--- a view with room has 256 blocks that can be allocated
-large : (w : View) → leaves_room w 0 ≡ true → 256 ≤ w.blocks - first_block w.blocks
-large w rule =
-    let enough : 2 * overheads w + max 256 0 ≤ w.blocks - first_block w.blocks - own w - delayed w = grind (arith, nat_tests, rule) in
-    omega (arith, enough)
-
-module _ (old : Shown) (pool : Pool) (states : States) (new : Shown) (left : Pool) (stay : States) (is : IsHeldPoint old pool states new left stay) (loaded : IsMapLoaded new.reads left.found left.map) where
+module _ (old : Shown) (pool : Pool) (states : States) (new : Shown) (left : Pool) (stay : States) (want : ℕ) (is : IsHeldPoint old pool states want new left stay) (loaded : IsMapLoaded new.reads left.found left.map) where
   -- each slot is as the new root has it
   all_loaded : (s : ℕ) → s < 64 → IsLoaded new.reads left.found s (state_at stay s) (container_at left.containers s)
   all_loaded s inside = by (state_at stay s) (container_at left.containers s) (is.held.slots s inside) (is.unchanged s) (is.free s inside)
@@ -347,18 +341,15 @@ module _ (old : Shown) (pool : Pool) (states : States) (new : Shown) (left : Poo
           room = omega (arith, none, same, clear, room_when_sound new.reads left.found left.map loaded now_held.tells.sound);
         }
 
-    -- where the commits leave room for an event twice, there is room for it after the point
-    pub point_room : ((b : ℕ) → length (new.reads b) ≡ 4096) → (after : Session) → after.pool ≡ left → after.pending ≡ 0 → (room : ℕ) → commits m + 2 * room ≤ capacity m.blocks → HasRoom new after room
+    -- where the commits leave room twice for what was wanted, there is room for it after the point
+    pub point_room : (after : Session) → after.pool ≡ left → after.pending ≡ 0 → commits m + 2 * want ≤ capacity m.blocks → HasRoom new after want
     unfolding layout_at told_with view_at
-    point_room whole after new_pool none room fits =
+    point_room after new_pool none fits =
         let t = root_found left.found in
         let w : View = view_at t new.reads in
         let sound = now_held.tells.sound in
         let blocks : left.found.blocks ≡ m.blocks = ap (λ (x : Machine). x.blocks) now_held.tells.machine in
         let promised : commits_seen (seen w) ≡ commits m = sym (commits_told (layout_at t new.reads) sound.names) ∙ ap commits now_held.tells.machine in
-        let none_delayed : delayed w ≡ 0 = is.reclaimed in
-        let uses : UsesOwn w = uses_own w sound.tables sound.maps (λ s h inside there. numbers_at t new.reads whole s h there) in
-        let enough : commits_seen (seen w) + 2 * room ≤ capacity w.blocks = omega (arith, fits, promised, ap capacity blocks) in
-        let rule : leaves_room w (256 + 2 * room) ≡ true = room_beside_commits w sound.tables uses (2 * room) none_delayed (large w sound.room) enough in
-        let free = room_when_loaded new.reads left.found left.map (256 + 2 * room) loaded sound rule in
-        subst (λ (p : Pool). overheads (view_at (root_found p.found) new.reads) + max 256 (after.pending + room) ≤ clear_blocks p.map) (sym new_pool) (omega (arith, none, free, clear_is_free left.map loaded.same))
+        let rule : leaves_room w want ≡ true = is.room.wanted (omega (arith, fits, promised, ap capacity blocks)) in
+        let free = room_when_loaded new.reads left.found left.map want loaded sound rule in
+        subst (λ (p : Pool). overheads (view_at (root_found p.found) new.reads) + max 256 (after.pending + want) ≤ clear_blocks p.map) (sym new_pool) (omega (arith, none, free, clear_is_free left.map loaded.same))

@@ -1,6 +1,6 @@
 //! The consistency points of a session.
 
-ghost use Rattle.std.specs.Prelude.{◌≡◌, ◌≢◌, ◌≤◌, ◌<◌, ◌+◌, ◌*◌, ℕ, nat_le, max, IsTrue, IsNone, IfErr, IfOk, OnErr, OnOk, Some};
+ghost use Rattle.std.specs.Prelude.{◌≡◌, ◌≢◌, ◌≤◌, ◌<◌, ◌+◌, ◌*◌, nat_le, max, IsTrue, IsNone, IfErr, IfOk, OnErr, OnOk, Some};
 ghost use Rattle.fv_disk.specs.Shown.{Rose};
 ghost use Rattle.fv_model.specs.Machines.{Machine, capacity};
 ghost use Rattle.fv_model.specs.Space.{commits};
@@ -96,12 +96,12 @@ impl Session {
         ensures kept { IsTrue (D.shown disk.old).tells → (last m : Machine) → StandsFor (D.shown disk.old) self.old last m
             → IsNone self.new.failed → OnErr result (StandsFor (D.shown disk.new) self.new last m) }
         ensures room { IsTrue (D.shown disk.old).tells → (last m : Machine) → StandsFor (D.shown disk.old) self.old last m
-            → (room : ℕ) → commits m + 2 * room ≤ capacity m.blocks → OnOk result (HasRoom (D.shown disk.new) self.new room) }
+            → commits m + 2 * want ≤ capacity m.blocks → OnOk result (HasRoom (D.shown disk.new) self.new want) }
         ensures left { OnOk result (IsPointed (D.shown disk.old) self.old self.new) }
         ensures numbers { IsNone self.new.failed → KeepsNumbers self.old.volumes self.new.volumes }
     {
         let before = disk.write_faults();
-        match full_point(&mut self.volumes, &mut self.pool, disk, want) {
+        match full_point(self.alloc, &mut self.volumes, &mut self.pool, disk, want) {
             Ok(()) => {
                 self.pending = 0;
                 Ok(())

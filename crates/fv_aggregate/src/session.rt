@@ -171,10 +171,10 @@ impl Session {
     /// As of `apply`: what fails, what a session does then, and what stays.
     ///
     /// Costs for each volume with files in memory a step for each number of its span, and memory and a write for each block that is
-    /// placed; for each volume that changed a step for each entry, up to 25 more for one that is no hole, and in writes at most its overhead
-    /// and the blocks of its snapshots' maps that wait; and then, also without changes, a commit: the blocks of one map area, a root and at
-    /// most two gates in writes, and two barriers or three. It reads nothing, and without a file in memory it takes none. `docs/SPACE.md`
-    /// has the order.
+    /// placed; for each volume a step for each entry, and up to 25 more for one that is no hole; for each one that changed, or of which a region
+    /// is reclaimed, in writes at most its overhead and the blocks of its snapshots' maps that wait; and then, also without changes, a commit:
+    /// the blocks of one map area, a root and at most two gates in writes, and two barriers or three. It reads nothing. Without a file in memory
+    /// it takes memory for the list of the regions alone, and does without where there is none. `docs/SPACE.md` has the order.
     pub fn consistency_point<D: Disk>(&mut self, disk: &mut D) -> Result<(), Fault>
         requires stands { IsNone self.old.failed → Stands (D.shown disk.old) self.old }
         ensures goes { Goes 0 (D.shown disk.old) self.old (D.shown disk.new) self.new result }

@@ -28,7 +28,7 @@ use Rattle.fv_volume.proofs.Told.{is_inside}
 use Rattle.fv_volume.proofs.Spending.{spent_one}
 use Rattle.fv_volume.proofs.Staying.{only_itself}
 use Rattle.fv_cp.specs.Held.{machine_held, named_held, IsHeld, IsHeldIn}
-use Rattle.fv_cp.specs.Lent.{asked_by, blocks_asked, maps_waiting, waiting_by, FitTogether}
+use Rattle.fv_cp.specs.Lent.{asked_all, asked_by, asked_of, blocks_asked, maps_waiting, waiting_by, FitTogether}
 use Rattle.fv_cp.specs.Placing.{pending_by, pending_files, HasNumbers, HaveNoFiles, HaveRoom, HaveSpent, IsPlacedAs, ArePlaced, AreReady, HasNoFiles, HasWholeMap, IsReadyIn, IsSlotPlaced, MayFail, PlacesSlot}
 use Rattle.fv_disk.proofs.Resting.{reads_then}
 use Rattle.fv_store.specs.Held.{StandsOn}
@@ -58,6 +58,13 @@ module _ (disk after : Shown) (pool left : Pool) (states stay : States) (x y : V
       let changed = one.changed_still disk after pool left states stay x y there now fit.housed placed ready in
       let same : asked_by (Some y) ≡ asked_by (state_at states x.slot) = ap (λ (z : VolumeState). cond y.changed (asked z) 0) placed.keeps ∙ ap (λ (t : Bool). cond t (asked x) 0) changed ∙ sym (ap asked_by there) in
       let all : blocks_asked stay ≡ blocks_asked (with_state states x.slot (Some y)) = ap blocks_asked now in
+      omega (arith, sum, same, all)
+
+  pub all_still : asked_all stay ≡ asked_all states
+  all_still =
+      let sum = sum_by-set asked_of states x.slot (Some y) None in_list in
+      let same : asked_of (Some y) ≡ asked_of (state_at states x.slot) = ap (λ (z : VolumeState). asked z) placed.keeps ∙ sym (ap asked_of there) in
+      let all : asked_all stay ≡ asked_all (with_state states x.slot (Some y)) = ap asked_all now in
       omega (arith, sum, same, all)
 
   pub waiting_still : maps_waiting stay ≡ maps_waiting states
@@ -129,7 +136,7 @@ pub record HasPassed (disk : Shown) (pool : Pool) (states : States) (count : ℕ
 pub passed_none : (disk : Shown) (pool : Pool) (states : States) → FitTogether pool states → AreReady disk pool states → StandsOn disk pool.store.pairs → HasPassed disk pool states 0 disk pool states
 passed_none disk pool states fit ready stands = record {
   come = record {
-    placed = record { held = λ before held. held; machine = λ before held. refl; fit = fit; found = refl; committed = refl; cores = λ s. refl; asked = refl; waiting = refl; spent = λ before held room. record { fewer = omega arith; numbers = room.numbers; blocks = omega arith }; only_reads = only_itself disk; idle = λ none. (refl, refl) };
+    placed = record { held = λ before held. held; machine = λ before held. refl; fit = fit; found = refl; committed = refl; cores = λ s. refl; asked = refl; all = refl; waiting = refl; spent = λ before held room. record { fewer = omega arith; numbers = room.numbers; blocks = omega arith }; only_reads = only_itself disk; idle = λ none. (refl, refl) };
     ready = ready;
     stands = stands;
   };
@@ -187,6 +194,7 @@ module _ (disk : Shown) (pool : Pool) (states : States) (mid : Shown) (held : Po
           committed = did.placed.goes.goes.goes.committed ∙ come.placed.committed;
           cores = λ s. one.cores_still mid after held left between stay x did.now here now come.placed.fit.housed did.placed s ∙ come.placed.cores s;
           asked = asked_still mid after held left between stay x did.now here now come.placed.fit did.placed ready.ready ∙ come.placed.asked;
+          all = all_still mid after held left between stay x did.now here now come.placed.fit did.placed ∙ come.placed.all;
           waiting = waiting_still mid after held left between stay x did.now here now come.placed.fit did.placed ∙ come.placed.waiting;
           spent = λ before was room.
               let first = come.placed.spent before was room in

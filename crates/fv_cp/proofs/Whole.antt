@@ -1,5 +1,5 @@
 -- A consistency point in front of which all files are placed.
-use Rattle.std.proofs.Common.{◌≡◌, ℕ, false, length, Option, Some, inl, inr, ⊎_elim, refl, sym, ap, subst, ◌∙◌, arith, Ok, Err}
+use Rattle.std.proofs.Common.{◌≡◌, ℕ, Bool, false, length, Option, Some, inl, inr, ⊎_elim, refl, sym, ap, subst, ◌∙◌, arith, Ok, Err}
 use Rattle.std.specs.Prelude.{IfSome, IsTrue}
 use Rattle.std.specs.Option.{option_map}
 use Rattle.fv_disk.specs.Crash.{Leaves}
@@ -30,6 +30,10 @@ use Rattle.fv_cp.specs.Lent.{FitTogether, IsLent}
 use Rattle.fv_cp.specs.Placing.{core_of, ArePlaced, AreReady, HasNoFiles, HasWholeMap, HaveNoFiles, HaveRoom, IsPlaceFault, IsReadyIn}
 use Rattle.fv_cp.specs.Points.{machine_lent, Counts, GoesOn, IsCalm, IsPoint, LacksRoom, LeavesAll, OldOrLent}
 use Rattle.fv_cp.specs.Settling.{GoesOnWhole, HasWholeCause, HaveFullRoom, IsHeldPoint, IsNoDamage, IsStill, OldOrHeld, StillHeld, WholeCounts, WholeFails}
+use Rattle.fv_volume.specs.Housed.{settled_as}
+use Rattle.fv_volume.specs.Trees.{active_in, no_trees}
+use Rattle.fv_cp.specs.Choosing.{marked_as}
+use Rattle.fv_cp.proofs.Marking.{asked_most, marked_core, marked_no_files, marked_numbers, marked_ready, marked_table, marked_whole}
 use Rattle.fv_cp.proofs.Lendable.{held_lent, held_machine, numbers_held, past_held}
 use Rattle.fv_volume.proofs.PlacedIn.{found_read}
 
@@ -66,19 +70,32 @@ module _ (disk : Shown) (pool : Pool) (states : States) (mid : Shown) (held : Po
     -- ---- the point was done
 
     module _ (fit : FitTogether pool states) (ready : AreReady mid held between) (new : Shown) (left : Pool) (stay : States) (goes : GoesOn mid held between new left stay) where
+      abbrev marks : ℕ → Bool
+      marks s = (goes.settled s).0
+
+      abbrev label : ℕ → ℕ
+      label s = (goes.settled s).1.0
+
+      -- the volume that was written, or not
+      abbrev due : ℕ → Option VolumeState
+      due s = option_map (marked_as (marks s)) (state_at between s)
+
+      is_now : (s : ℕ) → state_at stay s ≡ option_map (settled_as (label s)) (due s)
+      is_now s = (goes.settled s).1.1
+
       none_now : (s : ℕ) → HasNoFiles (state_at stay s)
-      none_now s = subst HasNoFiles (sym (goes.settled s).1) (settled_no_files (state_at between s) (goes.settled s).0 (none s))
+      none_now s = subst HasNoFiles (sym (is_now s)) (settled_no_files (due s) (label s) (marked_no_files (marks s) (state_at between s) (none s)))
 
       whole_now : (s : ℕ) → HasWholeMap (state_at stay s)
-      whole_now s = subst HasWholeMap (sym (goes.settled s).1) (settled_whole (state_at between s) (goes.settled s).0 (whole s))
+      whole_now s = subst HasWholeMap (sym (is_now s)) (settled_whole (due s) (label s) (marked_whole (marks s) (state_at between s) (whole s)))
 
       parents_now : (s : ℕ) → parent_at left.containers s ≡ parent_at pool.containers s
       parents_now s = goes.parents s ∙ placed.fit.housed.parents s ∙ core_parent (state_at between s) ∙ ap parent_in (placed.cores s) ∙ sym (core_parent (state_at states s)) ∙ sym (fit.housed.parents s)
 
       ready_now : AreReady new left stay
       ready_now s =
-          let same = (goes.settled s).1 in
-          subst (λ (o : Option VolumeState). IfSome o (IsReadyIn new left s)) (sym same) (settled_ready mid new held left s goes.stands goes.blocks (goes.settled s).0 (state_at between s) (ready s) (none s)
+          let same = is_now s in
+          subst (λ (o : Option VolumeState). IfSome o (IsReadyIn new left s)) (sym same) (settled_ready mid new held left s goes.stands goes.blocks (label s) (due s) (marked_ready mid held s (marks s) (state_at between s) (ready s)) (marked_no_files (marks s) (state_at between s) (none s))
           (subst (λ (o : Option VolumeState). IfSome o (IsLabelled s)) same (goes.fit.housed.volumes s)) (subst (λ (o : Option VolumeState). Houses o (container_at left.containers s)) same (goes.fit.housed.each s)))
 
       pub goes_whole : GoesOnWhole disk pool states new left stay
@@ -89,35 +106,36 @@ module _ (disk : Shown) (pool : Pool) (states : States) (mid : Shown) (held : Po
         fit = goes.fit;
         ready = ready_now;
         none = none_now;
-        unchanged = λ s. subst (λ (o : Option VolumeState). IfSome o (λ x. x.changed ≡ false)) (sym (goes.settled s).1) (settled_unchanged (state_at between s) (goes.settled s).0);
+        unchanged = λ s. subst (λ (o : Option VolumeState). IfSome o (λ x. x.changed ≡ false)) (sym (is_now s)) (settled_unchanged (due s) (label s));
         unkept = goes.unkept;
         free = goes.free;
-        cores = λ s. ap (option_map core_of) (goes.settled s).1 ∙ settled_core (state_at between s) (goes.settled s).0 ∙ placed.cores s;
+        cores = λ s. ap (option_map core_of) (is_now s) ∙ settled_core (due s) (label s) ∙ marked_core (marks s) (state_at between s) ∙ placed.cores s;
         parents = parents_now;
         blocks = goes.blocks ∙ ap (λ (f : Found). f.blocks) placed.found;
       }
 
       -- the numbers of each volume's files are those of its table
-      numbered_now : (before : Machine) → IsHeld disk pool states before → IsPoint mid held between new left stay → (s : ℕ) → AreNumbersSeen (view_over left stay new.reads) s (state_at stay s)
-      numbered_now before was point s = subst (AreNumbersSeen (view_over left stay new.reads) s) (sym (goes.settled s).1)
-          (settled_numbers (view_over held between mid.reads) (view_over left stay new.reads) s (state_at between s) (goes.settled s).0 (point.tables s) (numbers_held mid held between before (placed.held before was) placed.fit none whole s))
+      numbered_now : (before : Machine) → IsHeld disk pool states before → (want : ℕ) → IsPoint mid held between want new left stay → (s : ℕ) → AreNumbersSeen (view_over left stay new.reads) s (state_at stay s)
+      numbered_now before was want point s = subst (AreNumbersSeen (view_over left stay new.reads) s) (sym (is_now s))
+          (settled_numbers (view_over held between mid.reads) (view_over left stay new.reads) s (due s) (label s) (marked_table (active_in (view_over left stay new.reads) no_trees s ≡ active_in (view_over held between mid.reads) no_trees s) (marks s) (state_at between s) (point.tables s))
+          (marked_numbers (view_over held between mid.reads) s (marks s) (state_at between s) (numbers_held mid held between before (placed.held before was) placed.fit none whole s)))
 
       -- Over a disk.
       pub point_held : (before : Machine) → IsHeld disk pool states before → (few : length left.containers.containers ≡ 64) → IsTrue disk.tells → new.tells ≡ mid.tells → ((b : ℕ) → length (new.reads b) ≡ 4096)
-          → ((before : Machine) → IsLent mid held between before → IsPoint mid held between new left stay) → IsHeldPoint disk pool states new left stay
-      point_held before was few told tells long did =
+          → (want : ℕ) → ((before : Machine) → IsLent mid held between before → IsPoint mid held between want new left stay) → IsHeldPoint disk pool states want new left stay
+      point_held before was few told tells long want did =
           let point = did before (lent_mid before was) in
           let told_mid : IsTrue mid.tells = subst IsTrue (sym placed.only_reads.stays.tells) told in
           let same = machine_mid before was in
           let now : IsHeld new left stay (machine_lent mid held between) = past_held new left stay (machine_lent mid held between) point.lent goes.fit point.unchanged goes.free goes.unkept few (goes.loaded told_mid) (subst IsTrue (sym tells) told_mid) long none_now
-          (λ s. ready_of new left s (state_at stay s) (ready_now s)) (numbered_now before was point) in
+          (λ s. ready_of new left s (state_at stay s) (ready_now s)) (numbered_now before was want point) in
           record {
             settled = point.settled;
             stands = point.stands ∙ ap (λ (m : Machine). Some m) same;
             held = subst (IsHeld new left stay) same now;
             machine = held_machine new left stay (machine_lent mid held between) now goes.fit none_now whole_now ∙ point.machine ∙ same;
             unchanged = point.unchanged;
-            reclaimed = point.reclaimed;
+            room = point.room;
             free = goes.free;
           }
 
@@ -162,21 +180,23 @@ module _ (disk : Shown) (pool : Pool) (states : States) (mid : Shown) (held : Po
   -- ---- room
 
   -- with enough of it a point finds what it asks for
-  pub enough_left : (before : Machine) → IsHeld disk pool states before → HaveFullRoom pool states → (e : BlockFault) → LacksRoom held between e → IsNoDamage (of_block e)
-  enough_left before was room DiskFault lacks = tt
-  enough_left before was room Memory lacks = absurd lacks
-  enough_left before was room (Damaged at want found) lacks =
+  pub enough_left : (before : Machine) → IsHeld disk pool states before → HaveFullRoom pool states → (wanted : ℕ) (e : BlockFault) → LacksRoom held between wanted e → IsNoDamage (of_block e)
+  enough_left before was room wanted DiskFault lacks = tt
+  enough_left before was room wanted Memory lacks = absurd lacks
+  enough_left before was room wanted (Damaged at want found) lacks =
       let spent = placed.spent before was (some_room pool states room) in
-      let asked = placed.asked in
+      let asked = placed.all in
       let blocks = room.blocks in
-      absurd (omega (arith, lacks.1.0, lacks.1.1.0, lacks.1.1.1, spent.blocks, asked, blocks))
+      let choice = lacks.1.0 in
+      let rest = lacks.1.1.1 in
+      absurd (omega (arith, rest.0, rest.1.0, rest.1.1, asked_most choice between placed.fit.housed.long, spent.blocks, asked, blocks))
 
   -- why it wasn't done, with the files in their places
-  pub fails_left : (new : Shown) (left : Pool) (stay : States) (e : BlockFault) → LacksRoom held between e → LeavesAll mid held between new left stay e → WholeFails states left stay (of_block e)
-  fails_left new left stay DiskFault lacks leaves = tt
-  fails_left new left stay Memory lacks leaves = absurd lacks
-  fails_left new left stay (Damaged at want found) lacks leaves =
-      inl (subst (λ (p : Pool). LacksRoom p stay (Damaged at want found)) (sym leaves.1.0) (subst (λ (xs : States). LacksRoom held xs (Damaged at want found)) (sym leaves.1.1) lacks))
+  pub fails_left : (new : Shown) (left : Pool) (stay : States) (wanted : ℕ) (e : BlockFault) → LacksRoom held between wanted e → LeavesAll mid held between new left stay e → WholeFails states wanted left stay (of_block e)
+  fails_left new left stay wanted DiskFault lacks leaves = tt
+  fails_left new left stay wanted Memory lacks leaves = absurd lacks
+  fails_left new left stay wanted (Damaged at want found) lacks leaves =
+      inl (subst (λ (p : Pool). LacksRoom p stay wanted (Damaged at want found)) (sym leaves.1.0) (subst (λ (xs : States). LacksRoom held xs wanted (Damaged at want found)) (sym leaves.1.1) lacks))
 
 -- ---- the files weren't placed
 
@@ -191,8 +211,8 @@ of_fault P damaged memory volume.Memory fault = memory
 pub still_placing : (disk : Shown) (pool : Pool) (states : States) (left : Pool) (stay : States) (e : VolumeFault) → IsPlaceFault e → StillHeld disk pool states disk left stay → IsStill disk pool states disk left stay e
 still_placing disk pool states left stay e fault still = of_fault (IsStill disk pool states disk left stay) (λ at want found. still) still e fault
 
-pub fails_placed : (states : States) (left : Pool) (stay : States) (e : VolumeFault) → IsPlaceFault e → (HaveNoFiles states → ⊥) → WholeFails states left stay e
-fails_placed states left stay e fault filed = of_fault (WholeFails states left stay) (λ at want found. inr filed) filed e fault
+pub fails_placed : (states : States) (wanted : ℕ) (left : Pool) (stay : States) (e : VolumeFault) → IsPlaceFault e → (HaveNoFiles states → ⊥) → WholeFails states wanted left stay e
+fails_placed states wanted left stay e fault filed = of_fault (WholeFails states wanted left stay) (λ at want found. inr filed) filed e fault
 
 pub counts_placed : (disk : Shown) (e : VolumeFault) → IsPlaceFault e → WholeCounts disk disk (Err e)
 counts_placed disk e fault = record { tells = refl; given = refl; ends = refl; cause = of_fault (λ e. HasWholeCause disk disk (Err e)) (λ at want found. (refl, refl)) (refl, refl) e fault }

@@ -27,10 +27,6 @@ use Rattle.fv_volume.specs.Writing.{HasOwnBlocks, IsTaken, IsWritten, on_disk}
 
 -- ---- one slot
 
--- the regions of each slot that a point reclaims: all of them
-abbrev pub all_regions : ℕ → ℕ → Bool
-all_regions s r = true
-
 -- some regions of the slot's volume were reclaimed, then it was written, and the labels name it
 pub record IsSlotWritten (regions : ℕ → Bool) (x : VolumeState) (s : ℕ) (labels : List ℕ) (pool : Pool) (disk : Shown) (now : List ℕ) (left : Pool) (after : Shown) : Type 0 where
   pub old : Mapped

@@ -1,3 +1,4 @@
+pub mod Choosing
 pub mod Course
 pub mod Held
 pub mod Lent

@@ -11,7 +11,7 @@ use Rattle.fv_aggmap.specs.Space.{free_blocks}
 pub use Rattle.fv_volume.specs.Held.{core_of, pending_by, HasNoFiles, HasNumbers, HasSpent, HasWholeMap, IsPlaceFault, IsPlacedAs, IsReadyIn, MayFail}
 use Rattle.fv_volume.specs.States.{States, state_at, with_state}
 use Rattle.fv_cp.specs.Held.{machine_held, IsHeld}
-use Rattle.fv_cp.specs.Lent.{blocks_asked, maps_waiting, FitTogether}
+use Rattle.fv_cp.specs.Lent.{asked_all, blocks_asked, maps_waiting, FitTogether}
 
 -- ---- one volume
 
@@ -67,6 +67,7 @@ pub record ArePlaced (disk : Shown) (pool : Pool) (states : States) (after : Sho
   pub cores : KeepCores states stay
   -- what a point asks for stays, and so do the maps that wait
   pub asked : blocks_asked stay ≡ blocks_asked states
+  pub all : asked_all stay ≡ asked_all states
   pub waiting : maps_waiting stay ≡ maps_waiting states
   pub spent : (before : Machine) → IsHeld disk pool states before → HaveRoom pool states → HaveSpent pool states left stay
   pub only_reads : OnlyReads disk after

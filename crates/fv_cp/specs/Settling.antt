@@ -4,7 +4,6 @@ use Rattle.std.specs.FinMap as fin
 use Rattle.fv_disk.specs.Shown.{Image, IsSettled, Rose, Shown}
 use Rattle.fv_model.specs.Machines.{Machine}
 use Rattle.fv_image.specs.Held.{label_place, view_at}
-use Rattle.fv_image.specs.Views.{delayed}
 use Rattle.fv_image.specs.WholeMachine.{machine_of}
 use Rattle.fv_root.specs.Finding.{root_found}
 use Rattle.fv_root.specs.Commits.{IsFoundOn}
@@ -17,7 +16,8 @@ use Rattle.fv_volume.specs.declared.fault.VolumeFault.TheVariants.{Refused, Disk
 use Rattle.fv_volume.specs.declared.pool.Pool.{Pool}
 use Rattle.fv_volume.specs.States.{States, state_at}
 use Rattle.fv_cp.specs.Held.{machine_held, IsHeld}
-use Rattle.fv_cp.specs.Lent.{blocks_asked, FitTogether}
+use Rattle.fv_cp.specs.Lent.{asked_all, FitTogether}
+use Rattle.fv_cp.specs.Choosing.{LeavesRoom}
 use Rattle.fv_disk.specs.declared.fault.BlockFault.TheVariants as block
 use Rattle.fv_cp.specs.Placing.{pending_files, ArePlaced, AreReady, HasNumbers, HaveNoFiles, KeepCores}
 use Rattle.fv_cp.specs.Points.{LacksRoom}
@@ -27,14 +27,14 @@ abbrev pub OldOrHeld : Shown → Pool → States → Machine → Image → List 
 OldOrHeld disk pool states before c g = ((machine_of c ≡ Some before) ⊎ (machine_of c ≡ Some (machine_held disk pool states))) × (g ≡ disk.given)
 
 -- What such a point that was done leaves: a settled disk that stands for the machine of the session, which still stands for it, with nothing in
--- memory that isn't on the disk, and nothing delayed.
-pub record IsHeldPoint (old : Shown) (pool : Pool) (states : States) (new : Shown) (left : Pool) (stay : States) : Type 0 where
+-- memory that isn't on the disk, and the space rule holds.
+pub record IsHeldPoint (old : Shown) (pool : Pool) (states : States) (want : ℕ) (new : Shown) (left : Pool) (stay : States) : Type 0 where
   pub settled : IsSettled new
   pub stands : machine_of new.reads ≡ Some (machine_held old pool states)
   pub held : IsHeld new left stay (machine_held old pool states)
   pub machine : machine_held new left stay ≡ machine_held old pool states
   pub unchanged : (s : ℕ) → IfSome (state_at stay s) (λ x. x.changed ≡ false)
-  pub reclaimed : delayed (view_at (root_found left.found) new.reads) ≡ 0
+  pub room : LeavesRoom (view_at (root_found left.found) new.reads) want
   -- the new root names no label for a slot without a volume
   pub free : (s : ℕ) → s < slot_count → state_at stay s ≡ None → label_place (root_found left.found) s ≡ 0
 
@@ -78,11 +78,11 @@ HasWholeCause old new (Err (Damaged at want found)) = (new.faults ≡ old.faults
 HasWholeCause old new (Err Memory) = (new.faults ≡ old.faults) × (new.write_faults ≡ old.write_faults)
 
 -- Why such a point isn't done. Fewer blocks are free than it asks for, with the files in their places; or a file was in memory that wasn't placed.
-abbrev pub WholeFails : States → Pool → States → VolumeFault → Type 0
-WholeFails states left stay (Refused r) = ⊥
-WholeFails states left stay DiskFault = Unit {0}
-WholeFails states left stay (Damaged at want found) = LacksRoom left stay (block.Damaged at want found) ⊎ (HaveNoFiles states → ⊥)
-WholeFails states left stay Memory = HaveNoFiles states → ⊥
+abbrev pub WholeFails : States → ℕ → Pool → States → VolumeFault → Type 0
+WholeFails states room left stay (Refused r) = ⊥
+WholeFails states room left stay DiskFault = Unit {0}
+WholeFails states room left stay (Damaged at want found) = LacksRoom left stay room (block.Damaged at want found) ⊎ (HaveNoFiles states → ⊥)
+WholeFails states room left stay Memory = HaveNoFiles states → ⊥
 
 -- what is told and given and the ends of a host stay
 pub record WholeCounts (old new : Shown) (result : Result Unit VolumeFault) : Type 0 where
@@ -95,7 +95,7 @@ pub record WholeCounts (old new : Shown) (result : Result Unit VolumeFault) : Ty
 pub record HaveFullRoom (pool : Pool) (states : States) : Type 0 where
   pub numbers : (s : ℕ) → HasNumbers (state_at states s)
   pub free : pending_files states < free_blocks pool.map
-  pub blocks : blocks_asked states + pending_files states ≤ free_blocks pool.map
+  pub blocks : asked_all states + pending_files states ≤ free_blocks pool.map
 
 abbrev pub IsNoDamage : VolumeFault → Type 0
 IsNoDamage (Refused r) = Unit {0}

@@ -16,6 +16,7 @@ use crate::point::consistency_point;
 use fv_container::Containers;
 use fv_disk::Disk;
 use fv_volume::{Pool, VolumeFault, Volumes};
+use std::alloc::Global;
 
 /// Places what changed of the files of all volumes, writes what changed in the volumes, and makes a root count that names it: `flush`, and
 /// then `consistency_point`. `want` is the room in blocks that the event needs which asked for the point.
@@ -33,6 +34,7 @@ use fv_volume::{Pool, VolumeFault, Volumes};
 ///
 /// Costs what the two calls cost.
 pub fn full_point<D: Disk>(
+    alloc: Global,
     volumes: &mut Volumes,
     pool: &mut Pool,
     disk: &mut D,
@@ -45,16 +47,16 @@ pub fn full_point<D: Disk>(
     ensures any_moment { IsTrue (D.shown disk.old).tells → (before : Machine) → IsHeld (D.shown disk.old) pool.old volumes.old before
         → Leaves (D.shown disk.old) (D.shown disk.new) (OldOrHeld (D.shown disk.old) pool.old volumes.old before) }
     ensures point { IsTrue (D.shown disk.old).tells → (before : Machine) → IsHeld (D.shown disk.old) pool.old volumes.old before
-        → OnOk result (IsHeldPoint (D.shown disk.old) pool.old volumes.old (D.shown disk.new) pool.new volumes.new) }
+        → OnOk result (IsHeldPoint (D.shown disk.old) pool.old volumes.old want (D.shown disk.new) pool.new volumes.new) }
     ensures goes_on { OnOk result (GoesOnWhole (D.shown disk.old) pool.old volumes.old (D.shown disk.new) pool.new volumes.new) }
     ensures still { IfErr result (IsStill (D.shown disk.old) pool.old volumes.old (D.shown disk.new) pool.new volumes.new) }
     ensures enough { IsTrue (D.shown disk.old).tells → (before : Machine) → IsHeld (D.shown disk.old) pool.old volumes.old before
         → HaveFullRoom pool.old volumes.old → IfErr result IsNoDamage }
     ensures counts { WholeCounts (D.shown disk.old) (D.shown disk.new) result }
-    ensures fails { IfErr result (WholeFails volumes.old pool.new volumes.new) }
+    ensures fails { IfErr result (WholeFails volumes.old want pool.new volumes.new) }
 {
     flush(volumes, pool, &*disk)?;
-    consistency_point(volumes, pool, disk, want)?;
+    consistency_point(alloc, volumes, pool, disk, want)?;
     count_slots(&mut pool.containers);
     Ok(())
 }

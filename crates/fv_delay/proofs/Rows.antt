@@ -2,7 +2,9 @@
 use Rattle.std.proofs.Common.{◌≡◌, ℕ, List, [], ◌∷◌, refl}
 use Rattle.fv_delay.specs.declared.counts.Count.{Count}
 use Rattle.fv_delay.specs.declared.regions.Region.{Region}
+use Rattle.fv_delay.specs.declared.threshold.Threshold.{Threshold}
 use Rattle.fv_delay.specs.Choice.{chosen, regions_counted, while_short}
+use Rattle.fv_delay.specs.ByThreshold.{taken_by, threshold_below, threshold_for}
 
 abbrev count_of : ℕ → ℕ → ℕ → Count
 count_of slot region count = record { slot = slot; region = region; count = count }
@@ -40,3 +42,39 @@ missing_128 = refl
 missing_300 : taken 300 ≡ at 0 0 ∷ (at 0 1 ∷ (at 1 2 ∷ (at 1 0 ∷ [])))
 unfolding chosen while_short
 missing_300 = refl
+
+-- the same by their threshold
+abbrev threshold : ℕ → ℕ → Threshold
+threshold count left = record { count = count; left = left }
+
+abbrev by_threshold : ℕ → List Region
+by_threshold missing = regions_counted (taken_by (threshold_for four missing) four)
+
+bound_0 : threshold_for four 0 ≡ threshold 63 0
+unfolding threshold_below
+bound_0 = refl
+
+bound_127 : threshold_for four 127 ≡ threshold 63 63
+unfolding threshold_below
+bound_127 = refl
+
+bound_300 : threshold_for four 300 ≡ threshold 0 0
+unfolding threshold_below
+bound_300 = refl
+
+taken_0 : by_threshold 0 ≡ at 0 0 ∷ []
+unfolding taken_by threshold_below
+taken_0 = refl
+
+taken_127 : by_threshold 127 ≡ at 0 0 ∷ (at 0 1 ∷ [])
+unfolding taken_by threshold_below
+taken_127 = refl
+
+taken_128 : by_threshold 128 ≡ at 0 0 ∷ (at 0 1 ∷ (at 1 2 ∷ []))
+unfolding taken_by threshold_below
+taken_128 = refl
+
+-- in the order of the row
+taken_300 : by_threshold 300 ≡ at 0 0 ∷ (at 0 1 ∷ (at 1 0 ∷ (at 1 2 ∷ [])))
+unfolding taken_by threshold_below
+taken_300 = refl

@@ -62,7 +62,7 @@ pub returns-in_err-consistency_point-clause-enough : goal.returns-in_err-consist
 returns-in_err-consistency_point-clause-enough g c = λ tells before was room.
     let failed : c.from_residual-in_err-consistency_point.result ≡ Err (of_block c.in_err-consistency_point.field-0.0) = search rules in
     subst (λ (r : Result Unit VolumeFault). IfErr r IsNoDamage) (sym failed)
-    (enough_left (g.D.Disk.shown c.args.disk.now) c.args.pool.now c.args.volumes.now (g.D.Disk.shown c.args.disk.now) c.flush.new.pool c.flush.new.volumes c.in_ok-flush.ensures.placed before was room c.in_err-consistency_point.field-0.0
+    (enough_left (g.D.Disk.shown c.args.disk.now) c.args.pool.now c.args.volumes.now (g.D.Disk.shown c.args.disk.now) c.flush.new.pool c.flush.new.volumes c.in_ok-flush.ensures.placed before was room c.args.want c.in_err-consistency_point.field-0.0
     c.in_err-consistency_point.ensures.room)
 
 pub returns-clause-any_moment : goal.returns-clause-any_moment
@@ -87,9 +87,9 @@ returns-clause-point g c = λ tells before was.
     let told : IsTrue disk.tells = subst IsTrue (sym (c.consistency_point.ensures.counts.tells ∙ did.placed.only_reads.stays.tells)) tells in
     let whole : (b : ℕ) → length (disk.reads b) ≡ 4096 = λ b. (laws.blocks disk.moment disk.reads disk.given (laws.counts_now disk.moment disk.reads (omega arith) (laws.read_is_image told)) b).long in
     let same = ap (λ (slots : Slots). record c.consistency_point.new.pool { containers = slots }) (c.count_slots.ensures.same ∙ slot_again c.consistency_point.new.pool.containers) in
-    subst (λ (p : Pool). IsHeldPoint (g.D.Disk.shown c.args.disk.now) c.args.pool.now c.args.volumes.now disk p c.consistency_point.new.volumes) (sym same)
+    subst (λ (p : Pool). IsHeldPoint (g.D.Disk.shown c.args.disk.now) c.args.pool.now c.args.volumes.now c.args.want disk p c.consistency_point.new.volumes) (sym same)
     (point_held (g.D.Disk.shown c.args.disk.now) c.args.pool.now c.args.volumes.now (g.D.Disk.shown c.args.disk.now) c.flush.new.pool c.flush.new.volumes did.placed did.none did.whole c.requires.fit did.ready
-    disk c.consistency_point.new.pool c.consistency_point.new.volumes c.in_ok-consistency_point.ensures.goes_on before was c.count_slots.ensures.valid.containers tells c.consistency_point.ensures.counts.tells whole
+    disk c.consistency_point.new.pool c.consistency_point.new.volumes c.in_ok-consistency_point.ensures.goes_on before was c.count_slots.ensures.valid.containers tells c.consistency_point.ensures.counts.tells whole c.args.want
     (c.in_ok-consistency_point.ensures.point (subst IsTrue (sym did.placed.only_reads.stays.tells) tells)))
 
 pub returns-clause-counts : goal.returns-clause-counts
@@ -99,14 +99,14 @@ returns-clause-counts g c =
 pub returns-in_err-flush-clause-fails : goal.returns-in_err-flush-clause-fails
 returns-in_err-flush-clause-fails g c =
     let failed : c.from_residual.result ≡ Err c.in_err-flush.field-0.0 = search rules in
-    subst (λ (r : Result Unit VolumeFault). IfErr r (WholeFails c.args.volumes.now c.flush.new.pool c.flush.new.volumes)) (sym failed)
-    (fails_placed c.args.volumes.now c.flush.new.pool c.flush.new.volumes c.in_err-flush.field-0.0 c.in_err-flush.ensures.cause c.in_err-flush.ensures.filed)
+    subst (λ (r : Result Unit VolumeFault). IfErr r (WholeFails c.args.volumes.now c.args.want c.flush.new.pool c.flush.new.volumes)) (sym failed)
+    (fails_placed c.args.volumes.now c.args.want c.flush.new.pool c.flush.new.volumes c.in_err-flush.field-0.0 c.in_err-flush.ensures.cause c.in_err-flush.ensures.filed)
 
 pub returns-in_err-consistency_point-clause-fails : goal.returns-in_err-consistency_point-clause-fails
 returns-in_err-consistency_point-clause-fails g c =
     let did = c.in_ok-flush.ensures in
     let lacks = c.in_err-consistency_point.ensures in
     let failed : c.from_residual-in_err-consistency_point.result ≡ Err (of_block c.in_err-consistency_point.field-0.0) = search rules in
-    subst (λ (r : Result Unit VolumeFault). IfErr r (WholeFails c.args.volumes.now c.consistency_point.new.pool c.consistency_point.new.volumes)) (sym failed)
+    subst (λ (r : Result Unit VolumeFault). IfErr r (WholeFails c.args.volumes.now c.args.want c.consistency_point.new.pool c.consistency_point.new.volumes)) (sym failed)
     (fails_left (g.D.Disk.shown c.args.disk.now) c.args.pool.now c.args.volumes.now (g.D.Disk.shown c.args.disk.now) c.flush.new.pool c.flush.new.volumes did.placed (g.D.Disk.shown c.consistency_point.new.disk) c.consistency_point.new.pool c.consistency_point.new.volumes
-    c.in_err-consistency_point.field-0.0 lacks.room lacks.lacking)
+    c.args.want c.in_err-consistency_point.field-0.0 lacks.room lacks.lacking)

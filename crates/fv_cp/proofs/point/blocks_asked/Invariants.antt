@@ -1,10 +1,11 @@
-use Rattle.std.proofs.Common.{◌≡◌, ◌≤◌, ◌+◌, ◌*◌}
+use Rattle.std.proofs.Common.{◌≡◌, ◌≤◌, ◌*◌, map}
+use Rattle.std.specs.List.{range_with_len}
+use Rattle.fv_cp.specs.Choosing.{marked_at}
 use Rattle.fv_cp.specs.Lent.{blocks_asked}
-use Rattle.fv_cp.specs.Course.{asked_from}
 use Rattle.fv_cp.proofs.point.blocks_asked.Given as goal
 
 abbrev pub invariant-loop-slot : goal.invariant-loop-slot
 invariant-loop-slot l = record {
-  sum : l.asked + asked_from l.slot l.volumes ≡ blocks_asked l.volumes;
+  sum : l.asked ≡ blocks_asked (map (marked_at l.choice l.volumes) (range_with_len 0 l.slot));
   most : l.asked ≤ 4919 * l.slot;
 }

@@ -1,7 +1,8 @@
 use Rattle.std.proofs.Common.{◌≡◌, ℕ, ◌+◌, suc, subst, arith}
 use Rattle.std.specs.Prelude.{Ok, Err}
 use Rattle.fv_volume.specs.Keeping.{IsUnkept}
-use Rattle.fv_cp.specs.Course.{HasCome, all_regions}
+use Rattle.fv_cp.specs.Choosing.{is_chosen}
+use Rattle.fv_cp.specs.Course.{HasCome}
 use Rattle.fv_volume.specs.Writing.{IsTaken, on_disk}
 use Rattle.fv_cp.proofs.Stepping.{asked_on, come_first, come_more, spares_on}
 use Rattle.fv_volume.proofs.Sparing.{failed_as, spares_fewer}
@@ -13,7 +14,7 @@ loop-slot-init g c =
     let pool = c.args.pool.now in
     let mid = g.D.Disk.shown c.write_kept.new.disk in
     let kept = c.in_ok-write_kept.ensures in
-    come_first all_regions disk mid pool c.write_kept.new.self c.args.volumes.now c.args.labels.now c.requires.labels kept.stands c.requires.housed c.requires.room
+    come_first (is_chosen c.args.choice.now) disk mid pool c.write_kept.new.self c.args.volumes.now c.args.labels.now c.requires.labels kept.stands c.requires.housed c.requires.room
     kept.map kept.containers kept.found kept.empty (spares_fewer (IsUnkept pool.kept) (IsTaken (on_disk pool.map)) disk mid (Ok tt) c.requires.kept kept.writes) kept.written
 
 pub returns-in_err-write_kept-clause-spares : goal.returns-in_err-write_kept-clause-spares
@@ -26,8 +27,8 @@ loop-slot-preserved g c =
     let s = c.loop-slot.slot in
     let did = c.in_ok-write_slot.ensures in
     let next : suc s ≡ s + 1 = omega arith in
-    subst (λ (n : ℕ). HasCome all_regions (g.D.Disk.shown c.args.disk.now) c.args.pool.now c.args.volumes.now n c.write_slot.new.labels c.write_slot.new.pool (g.D.Disk.shown c.write_slot.new.disk)) next
-    (come_more all_regions (g.D.Disk.shown c.args.disk.now) c.args.pool.now c.args.volumes.now s (omega (arith, c.loop-slot-test.true)) c.requires.map c.requires.range c.loop-slot.labels c.loop-slot.pool (g.D.Disk.shown c.loop-slot.disk) c.loop-slot.invariant
+    subst (λ (n : ℕ). HasCome (is_chosen c.args.choice.now) (g.D.Disk.shown c.args.disk.now) c.args.pool.now c.args.volumes.now n c.write_slot.new.labels c.write_slot.new.pool (g.D.Disk.shown c.write_slot.new.disk)) next
+    (come_more (is_chosen c.args.choice.now) (g.D.Disk.shown c.args.disk.now) c.args.pool.now c.args.volumes.now s (omega (arith, c.loop-slot-test.true)) c.requires.map c.requires.range c.loop-slot.labels c.loop-slot.pool (g.D.Disk.shown c.loop-slot.disk) c.loop-slot.invariant
     c.write_slot.new.labels c.write_slot.new.pool (g.D.Disk.shown c.write_slot.new.disk) did.past did.count did.spares did.committed did.found did.kept did.stands)
 
 pub write_slot-requires-clause-room : goal.write_slot-requires-clause-room
@@ -38,6 +39,6 @@ write_slot-requires-clause-room g c =
 
 pub returns-in_err-write_slot-clause-spares : goal.returns-in_err-write_slot-clause-spares
 returns-in_err-write_slot-clause-spares g c = failed_as (IsTaken (on_disk c.args.pool.now.map)) (g.D.Disk.shown c.args.disk.now) (g.D.Disk.shown c.write_slot.new.disk) c.in_err-write_slot.field-0.0 _
-    (spares_on all_regions (g.D.Disk.shown c.args.disk.now) c.args.pool.now c.args.volumes.now c.loop-slot.slot (omega (arith, c.loop-slot-test.true)) c.requires.map c.requires.range c.loop-slot.labels c.loop-slot.pool (g.D.Disk.shown c.loop-slot.disk) c.loop-slot.invariant
+    (spares_on (is_chosen c.args.choice.now) (g.D.Disk.shown c.args.disk.now) c.args.pool.now c.args.volumes.now c.loop-slot.slot (omega (arith, c.loop-slot-test.true)) c.requires.map c.requires.range c.loop-slot.labels c.loop-slot.pool (g.D.Disk.shown c.loop-slot.disk) c.loop-slot.invariant
     c.write_slot.new.labels c.write_slot.new.pool (g.D.Disk.shown c.write_slot.new.disk) (Err c.in_err-write_slot.field-0.0) c.in_err-write_slot.ensures.spares)
     c.from_residual-in_err-write_slot.ensures.0

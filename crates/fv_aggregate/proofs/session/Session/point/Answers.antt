@@ -7,8 +7,8 @@ use Rattle.fv_volume.specs.States.{States}
 use Rattle.fv_cp.specs.Placing.{HaveNoFiles}
 use Rattle.fv_cp.specs.Settling.{HaveFullRoom, IsNoDamage, WholeCounts, WholeFails}
 use Rattle.fv_aggregate.specs.declared.session.Session.{Session}
+use Rattle.fv_aggregate.proofs.Keeping.{keeps_core}
 use Rattle.fv_aggregate.proofs.PointEnds.{done_asks, failed_asks, has_full_room, held_as, point_done, point_failed_for, point_lacks, point_moments, point_room, point_wanting, pointed, pointed_left, still_as, still_asks, still_for, still_said, still_wants}
-use Rattle.fv_aggregate.proofs.Standing.{reads_whole}
 use Rattle.fv_aggregate.proofs.session.Session.point.Goals as goal
 
 pub returns-in-Ok-clause-goes : goal.returns-in-Ok-clause-goes
@@ -34,7 +34,7 @@ returns-in-Ok-clause-goes_for g c = λ tells last m stands.
         point = m;
         one = inr refl;
         stands = pointed (g.D.Disk.shown c.args.disk.now) c.self.inside.pool c.self.inside.volumes (g.D.Disk.shown c.full_point.new.disk) c.full_point.new.pool c.full_point.new.volumes
-            (c.in-Ok.ensures.point tells last held) (c.in-Ok.ensures.goes_on.loaded tells) session last m stands pool volumes c.in-Ok.ensures.goes_on.fit.housed.long c.in-Ok.ensures.goes_on.none _ refl refl refl;
+            c.args.want (c.in-Ok.ensures.point tells last held) (c.in-Ok.ensures.goes_on.loaded tells) session last m stands pool volumes c.in-Ok.ensures.goes_on.fit.housed.long c.in-Ok.ensures.goes_on.none _ refl refl refl;
       };
       still = λ none. tt;
       whole = tt;
@@ -47,18 +47,16 @@ returns-in-Ok-clause-done g c = λ tells last m stands.
     let volumes = ap (λ (s : Session). s.volumes) (sym c.self.view_is) in
     let held = held_as (g.D.Disk.shown c.args.disk.now) session last m stands c.self.inside.pool c.self.inside.volumes pool volumes in
     pointed (g.D.Disk.shown c.args.disk.now) c.self.inside.pool c.self.inside.volumes (g.D.Disk.shown c.full_point.new.disk) c.full_point.new.pool c.full_point.new.volumes
-    (c.in-Ok.ensures.point tells last held) (c.in-Ok.ensures.goes_on.loaded tells) session last m stands pool volumes c.in-Ok.ensures.goes_on.fit.housed.long c.in-Ok.ensures.goes_on.none _ refl refl refl
+    c.args.want (c.in-Ok.ensures.point tells last held) (c.in-Ok.ensures.goes_on.loaded tells) session last m stands pool volumes c.in-Ok.ensures.goes_on.fit.housed.long c.in-Ok.ensures.goes_on.none _ refl refl refl
 
 pub returns-in-Ok-clause-room : goal.returns-in-Ok-clause-room
-returns-in-Ok-clause-room g c = λ tells last m stands room fits.
+returns-in-Ok-clause-room g c = λ tells last m stands fits.
     let session = c.args.self.now in
     let pool = ap (λ (s : Session). s.pool) (sym c.self.view_is) in
     let volumes = ap (λ (s : Session). s.volumes) (sym c.self.view_is) in
     let held = held_as (g.D.Disk.shown c.args.disk.now) session last m stands c.self.inside.pool c.self.inside.volumes pool volumes in
-    let told = subst IsTrue (sym c.in-Ok.ensures.counts.tells) tells in
-    let whole = reads_whole (g.D.Disk.shown c.full_point.new.disk) (g.met.D.Disk.laws c.full_point.new.disk) told in
     point_room (g.D.Disk.shown c.args.disk.now) c.self.inside.pool c.self.inside.volumes (g.D.Disk.shown c.full_point.new.disk) c.full_point.new.pool c.full_point.new.volumes
-    (c.in-Ok.ensures.point tells last held) (c.in-Ok.ensures.goes_on.loaded tells) session last m stands pool volumes whole (record { volumes = c.full_point.new.volumes; pool = c.full_point.new.pool; pending = 0; failed = c.self.inside.failed }) refl refl room fits
+    c.args.want (c.in-Ok.ensures.point tells last held) (c.in-Ok.ensures.goes_on.loaded tells) session last m stands pool volumes (record { volumes = c.full_point.new.volumes; pool = c.full_point.new.pool; pending = 0; failed = c.self.inside.failed }) refl refl fits
 
 pub returns-in-Ok-clause-left : goal.returns-in-Ok-clause-left
 returns-in-Ok-clause-left g c =
@@ -107,9 +105,9 @@ returns-in-Err-Damaged-clause-goes g c =
     let fault : VolumeFault = Damaged e.at e.want e.found in
     let pool = c.full_point.new.pool in
     let volumes = c.full_point.new.volumes in
-    let fails : WholeFails c.args.self.now.volumes pool volumes fault = subst (λ (s : Session). WholeFails s.volumes pool volumes fault) c.self.view_is (subst (WholeFails c.self.inside.volumes pool volumes) e.field-0-is e.ensures.fails) in
+    let fails : WholeFails c.args.self.now.volumes c.args.want pool volumes fault = subst (λ (s : Session). WholeFails s.volumes c.args.want pool volumes fault) c.self.view_is (subst (WholeFails c.self.inside.volumes c.args.want pool volumes) e.field-0-is e.ensures.fails) in
     let still = still_said old _ c.args.self.now c.self.view_is new pool volumes _ _ e.field-0-is e.ensures.still in
-    point_lacks old c.args.self.now new _ still (λ j. record (c.self.view_is j) { pool = pool; volumes = volumes }) e.at e.want e.found c.requires.fresh c.requires.stands (rw e.field-0-is at e.ensures.counts) fails
+    point_lacks old c.args.self.now new _ still (λ j. record (c.self.view_is j) { pool = pool; volumes = volumes }) e.at e.want e.found c.args.want c.requires.fresh c.requires.stands (rw e.field-0-is at e.ensures.counts) fails
 
 pub returns-in-Err-Damaged-clause-damage : goal.returns-in-Err-Damaged-clause-damage
 returns-in-Err-Damaged-clause-damage g c =
@@ -119,9 +117,9 @@ returns-in-Err-Damaged-clause-damage g c =
     let fault : VolumeFault = Damaged e.at e.want e.found in
     let pool = c.full_point.new.pool in
     let volumes = c.full_point.new.volumes in
-    let fails : WholeFails c.args.self.now.volumes pool volumes fault = subst (λ (s : Session). WholeFails s.volumes pool volumes fault) c.self.view_is (subst (WholeFails c.self.inside.volumes pool volumes) e.field-0-is e.ensures.fails) in
+    let fails : WholeFails c.args.self.now.volumes c.args.want pool volumes fault = subst (λ (s : Session). WholeFails s.volumes c.args.want pool volumes fault) c.self.view_is (subst (WholeFails c.self.inside.volumes c.args.want pool volumes) e.field-0-is e.ensures.fails) in
     let still = still_said old _ c.args.self.now c.self.view_is new pool volumes _ _ e.field-0-is e.ensures.still in
-    still_wants old c.args.self.now new _ still (λ j. record (c.self.view_is j) { pool = pool; volumes = volumes }) e.at e.want e.found c.requires.fresh c.requires.stands fails
+    still_wants old c.args.self.now new _ still (λ j. record (c.self.view_is j) { pool = pool; volumes = volumes }) e.at e.want e.found c.args.want c.requires.fresh c.requires.stands fails
 
 pub returns-in-Err-Damaged-clause-asks : goal.returns-in-Err-Damaged-clause-asks
 returns-in-Err-Damaged-clause-asks g c =
@@ -195,5 +193,17 @@ returns-in-Err-Memory-clause-goes_for g c = λ tells last m stands.
 pub returns-in-Err-Memory-clause-memory : goal.returns-in-Err-Memory-clause-memory
 returns-in-Err-Memory-clause-memory g c = λ none.
     let e = c.in-Err-Memory in
-    let fails : WholeFails c.self.inside.volumes c.full_point.new.pool c.full_point.new.volumes Memory = subst (WholeFails c.self.inside.volumes c.full_point.new.pool c.full_point.new.volumes) e.field-0-is e.ensures.fails in
+    let fails : WholeFails c.self.inside.volumes c.args.want c.full_point.new.pool c.full_point.new.volumes Memory = subst (WholeFails c.self.inside.volumes c.args.want c.full_point.new.pool c.full_point.new.volumes) e.field-0-is e.ensures.fails in
     absurd (fails (subst (λ (s : Session). HaveNoFiles s.volumes) (sym c.self.view_is) none))
+
+pub returns-in-Err-Damaged-clause-numbers : goal.returns-in-Err-Damaged-clause-numbers
+returns-in-Err-Damaged-clause-numbers g c = λ fresh.
+    let e = c.in-Err-Damaged in
+    let still = still_said (g.D.Disk.shown c.args.disk.now) _ c.args.self.now c.self.view_is (g.D.Disk.shown c.full_point.new.disk) c.full_point.new.pool c.full_point.new.volumes _ _ e.field-0-is e.ensures.still in
+    keeps_core c.args.self.now.volumes c.full_point.new.volumes still.placed.cores
+
+pub returns-in-Err-Memory-clause-numbers : goal.returns-in-Err-Memory-clause-numbers
+returns-in-Err-Memory-clause-numbers g c = λ fresh.
+    let e = c.in-Err-Memory in
+    let still = still_said (g.D.Disk.shown c.args.disk.now) _ c.args.self.now c.self.view_is (g.D.Disk.shown c.full_point.new.disk) c.full_point.new.pool c.full_point.new.volumes _ _ e.field-0-is e.ensures.still in
+    keeps_core c.args.self.now.volumes c.full_point.new.volumes still.placed.cores
