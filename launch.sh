@@ -70,7 +70,7 @@ build() {
     need_rt
     local log=$top/crates/$name/out/build.log crates started=$SECONDS said=$SECONDS
     crates=$(crates_below | wc -l)
-    complain "not built yet: it is proved and built first, $crates crates. From nothing that takes some 70 processor minutes,"
+    complain "not built yet: it is proved and built first, $crates crates. From nothing that takes some 55 processor minutes,"
     complain "and longer beside other work. UNPROVED=1 before the command runs it unproved at once. The log is $log"
     mkdir -p "${log%/*}"
     # Run without words, a program touches nothing. The build has a group of processes of its own, so that an

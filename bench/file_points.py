@@ -10,6 +10,7 @@ those that docs/FORMAT.md asks for: `Expected` counts them, and shares no step w
 limit: a plain loop of as many writes of 4096 bytes and as many fsyncs. Lines that read have their processor time beside: that of two
 scripts of which one has more such lines, the difference divided by how many more; it moves with the load of the machine.
 """
+import collections
 import os
 import random
 import shutil
@@ -35,11 +36,13 @@ BARRIERS = 3  # one behind each of: the gate closed; all else but the gate; the 
 class Expected:
     """Where the file's blocks stand in the volume, by docs/FORMAT.md, and what a `cp` writes of them.
 
-    New blocks take numbers in order, from the least free one on, and in one run no number is taken again. Old numbers go with the point.
+    New blocks take numbers in order, from the least free one on, and in one run no number is taken again. The entry of an old number is delayed,
+    until its leaf has 64 of them; there is room, so that no other is reclaimed.
     """
 
     def __init__(self):
         self.numbers = {"inode": 0}
+        self.delayed = set()
         self.levels = 0
         self.begin()
 
@@ -73,6 +76,7 @@ class Expected:
     def point(self):
         """How many blocks a consistency point writes."""
         held = set(self.numbers.values())
+        self.delayed |= {self.numbers[position] for position in self.changed if position in self.numbers}
         for position in self.changed:
             while self.next in held:
                 self.next += 1
@@ -80,7 +84,10 @@ class Expected:
             self.next += 1
         written = len(self.changed)
         self.changed = set()
-        entries = {*self.numbers.values(), *range(SPAN, SPAN + MAPS)}
+        self.delayed -= set(self.numbers.values())
+        waiting = collections.Counter(number // 256 for number in self.delayed)
+        self.delayed = {number for number in self.delayed if waiting[number // 256] < 64}
+        entries = {*self.numbers.values(), *self.delayed, *range(SPAN, SPAN + MAPS)}
         leaves = {entry // 256 for entry in entries}
         return written + MAPS + len(leaves) + INNER + LABEL + COMMIT
 

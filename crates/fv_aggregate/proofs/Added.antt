@@ -30,7 +30,7 @@ use Rattle.fv_aggregate.specs.Calls.{Goes, GoesFor, KeepsAsking}
 use Rattle.fv_aggregate.specs.Commands.{is_refusal}
 use Rattle.fv_aggregate.specs.Standing.{clear_blocks, unwritten, IsWithoutFiles, Stands, StandsFor}
 use Rattle.fv_aggregate.proofs.Applied.{rests_for}
-use Rattle.fv_aggregate.proofs.Standing.{earlier_moments}
+use Rattle.fv_aggregate.proofs.Standing.{earlier_moments, known_still}
 use Rattle.fv_aggregate.proofs.Admitting.{accepted_held, refused_held, room_held}
 use Rattle.fv_aggregate.proofs.Beside.{held_beside, machine_beside, none_beside, ready_beside}
 
@@ -90,6 +90,7 @@ module _ (session : Session) (name : List ℕ) (size : ℕ) (kind : Kind) (room 
           machine = machine_beside disk session.pool session.volumes added.slot name size kind new.volumes added.fit added.free added.made new_slot added.each last stands.held tells cache added.span (added.place, added.admits)
               ∙ ap (λ (x : Machine). next x (VolCreate name size kind)) stands.machine;
           settled = stands.settled;
+          delays = known_still disk.reads disk.reads session.pool.found session.pool.found session.delays new.delays refl refl added.delays stands.delays;
           pending = omega (arith, none, over, pending, stands.pending);
           files = omega (arith, none, pending, stands.files);
           few = (let files = added.files in omega (arith, files, stands.few));

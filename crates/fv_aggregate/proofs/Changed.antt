@@ -45,7 +45,7 @@ use Rattle.fv_aggregate.specs.Standing.{clear_blocks, overhead_by, overheads_in,
 use Rattle.fv_aggregate.proofs.Becoming.{machine_becomes, machine_stays}
 use Rattle.fv_aggregate.proofs.Called.{but_for_numbers, called_held, IsCalled}
 use Rattle.fv_aggregate.proofs.HeldMachine.{blocks_are, commits_are, is_admitted, is_there, one}
-use Rattle.fv_aggregate.proofs.Looked.{clear_read, last_overheads, placed_read, ready_read, settled_read, stands_read}
+use Rattle.fv_aggregate.proofs.Looked.{clear_read, known_read, last_overheads, placed_read, ready_read, settled_read, stands_read}
 
 -- ---- the volumes, whatever the disk tells
 
@@ -305,6 +305,7 @@ module _ (d e : Shown) (s : Session) (q : Pool) (slot : ℕ) (x y : VolumeState)
         held = held;
         machine = machine;
         settled = settled_read d e s q did.reads is.settled;
+        delays = known_read d e s q did.reads is.delays;
         pending = omega (arith, pending, now, maps, count, same, over, placed);
         files = omega (arith, files, now, maps, count, placed);
         few = omega (arith, files, now, maps, room, few, placed);

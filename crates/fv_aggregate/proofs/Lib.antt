@@ -5,6 +5,7 @@ mod Calls
 mod Standing
 mod Lent
 mod PointEnds
+mod Pointed
 mod HeldMachine
 mod Admitting
 mod Beside

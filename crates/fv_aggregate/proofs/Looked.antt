@@ -28,12 +28,14 @@ use Rattle.fv_volume.specs.Stored.{AreSpacedIn}
 use Rattle.fv_volume.specs.UnderRoot.{IsLentAt, IsMapOf}
 use Rattle.fv_volume.proofs.OneVolumes.{still_ready, still_volume}
 use Rattle.fv_cp.specs.Held.{machine_held, named_held, IsHeld, IsHeldIn}
+use Rattle.fv_cp.specs.Known.{AreKnown}
 use Rattle.fv_cp.specs.Lent.{FitTogether}
 use Rattle.fv_cp.specs.Placing.{AreReady, IsReadyIn}
 use Rattle.fv_aggregate.specs.declared.session.Session.{Session}
 use Rattle.fv_aggregate.specs.Calls.{KeepsAsking, WasRead}
 use Rattle.fv_aggregate.specs.Standing.{clear_blocks, taken_since, Stands, StandsFor}
 use Rattle.fv_aggregate.proofs.Called.{held_in_read}
+use Rattle.fv_aggregate.proofs.Standing.{known_still}
 
 module _ (d e : Shown) (p q : Pool) (reads : Reads d p e q) where
   -- ---- volumes
@@ -116,6 +118,10 @@ module _ (d e : Shown) (s : Session) (q : Pool) (reads : Reads d s.pool e q) whe
   pub settled_read : IsSettled d → IsSettled e
   settled_read is = λ c now a. is c (reads.only_reads.stays.no_more c now) a ∙ ap (λ (i : Image). i a) (sym reads.only_reads.stays.reads)
 
+  -- so nothing is known less of delayed entries
+  pub known_read : AreKnown d.reads s.pool.found s.delays → AreKnown e.reads q.found s.delays
+  known_read = known_still d.reads e.reads s.pool.found q.found s.delays s.delays reads.only_reads.stays.reads reads.leaves.found refl
+
   pub clear_read : clear_blocks q.map ≡ clear_blocks s.pool.map
   clear_read = ap clear_blocks reads.leaves.map
 
@@ -134,6 +140,7 @@ module _ (d e : Shown) (s : Session) (q : Pool) (reads : Reads d s.pool e q) whe
         held = held_read d e s.pool q reads s.volumes last is.held;
         machine = machine_read d e s.pool q reads s.volumes ∙ is.machine;
         settled = settled_read is.settled;
+        delays = known_read is.delays;
         pending = omega (arith, is.pending, was, placed);
         files = omega (arith, is.files, placed);
         few = omega (arith, is.few, placed);

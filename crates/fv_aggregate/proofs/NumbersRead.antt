@@ -43,7 +43,7 @@ use Rattle.fv_aggregate.proofs.Becoming.{machine_stays}
 use Rattle.fv_aggregate.proofs.CallEnds.{goes_broken, goes_damaged, goes_done, goes_for_broken, goes_for_done, goes_for_fault, goes_wanting}
 use Rattle.fv_aggregate.proofs.Called.{called_held, IsCalled}
 use Rattle.fv_aggregate.proofs.Changed.{fit_changed, mine, pending_within, ready_changed, same_overheads, same_waiting}
-use Rattle.fv_aggregate.proofs.Looked.{clear_read, last_overheads, placed_read, settled_read, stands_read}
+use Rattle.fv_aggregate.proofs.Looked.{clear_read, known_read, last_overheads, placed_read, settled_read, stands_read}
 
 -- a volume that is the same but for those numbers is left as a change leaves it, too
 as_left : (x y : VolumeState) → y ≡ record x { numbers = y.numbers } → y ≡ record x { now = y.now; map = y.map; files = y.files; numbers = y.numbers; ledger = y.ledger; changed = y.changed }
@@ -149,6 +149,7 @@ module _ (d e : Shown) (s : Session) (q : Pool) (slot : ℕ) (x y : VolumeState)
           held = held;
           machine = machine;
           settled = settled_read d e s q reads is.settled;
+          delays = known_read d e s q reads is.delays;
           pending = omega (arith, pending, now, maps, no_more, all, over, placed);
           files = omega (arith, files, now, maps, no_more, placed);
           few = omega (arith, few, now, maps, no_more, placed);

@@ -1,8 +1,9 @@
 -- A session that was just opened.
-use Rattle.std.proofs.Common.{◌≡◌, ◌≤◌, ℕ, length, Option, Some, refl, sym, ap, subst, ◌∙◌, inl, inr, arith, Result, Ok, Err, true}
-use Rattle.std.specs.Prelude.{IfOk, IfSome, IsTrue, None}
+use Rattle.std.proofs.Common.{◌≡◌, ◌≤◌, ℕ, Bool, List, length, Option, Some, refl, sym, ap, subst, ◌∙◌, inl, inr, arith, Result, Ok, Err, true}
+use Rattle.std.specs.Prelude.{IfOk, IfSome, IsTrue, None, get_or, replicate}
 use Rattle.std.specs.Ordering.{nat_cmp}
 use Rattle.std.specs.FinMap as fin
+use Rattle.std.proofs.lemmas.List.{get_or-replicate}
 use Rattle.fv_disk.specs.Shown.{Image, Shown, IsSettled}
 use Rattle.fv_disk.specs.DiskCalls.{OnlyReads}
 use Rattle.fv_disk.proofs.Resting.{settled_image}
@@ -22,8 +23,10 @@ use Rattle.fv_store.specs.Held.{StandsOn}
 use Rattle.fv_aggmap.specs.Loading.{IsFault as IsMapFault}
 use Rattle.fv_container.specs.Chains.{slot_count}
 use Rattle.fv_cp.specs.Held.{IsHeld}
+use Rattle.fv_cp.specs.Known.{AreKnown}
 use Rattle.fv_cp.specs.Lent.{FitTogether, IsLent, blocks_asked}
 use Rattle.fv_cp.specs.Placing.{AreReady, IsReadyIn}
+use Rattle.fv_cp.proofs.Known.{known_none}
 use Rattle.fv_cp.proofs.Lendable.{held_machine, lent_held}
 use Rattle.fv_volume.specs.Housed.{HaveReaches}
 use Rattle.fv_aggmap.specs.Space.{blocks_of}
@@ -76,6 +79,12 @@ fits_opened root pool left states range size of none kept map still same = recor
   housed = record { long = kept.long; volumes = kept.each; each = kept.housed; parents = kept.parents };
   kept = λ b taken. ap (λ (k : Blocks). fin.get k b) (still ∙ none) ∙ fin.get-empty nat_cmp b;
 }
+
+-- ---- what is known of delayed entries
+
+-- of an aggregate that was just opened nothing is known
+known_opened : (i : Image) (found : Found) (delays : List Bool) → delays ≡ replicate slot_count true → AreKnown i found delays
+known_opened i found delays all = known_none i found delays (λ s inside. ap (λ (ds : List Bool). get_or ds s true) all ∙ get_or-replicate slot_count s true true inside)
 
 -- ---- what a settled image stands for
 
@@ -141,6 +150,7 @@ opened_for disk session m settled told whole opened each fresh machine =
       held = held;
       machine = held_machine disk session.pool session.volumes m held each.fit each.none each.maps ∙ sym (unchanged_machine session.pool session.volumes no_trees disk.reads (λ s. refl)) ∙ opened.machine m tells;
       settled = settled;
+      delays = known_opened disk.reads found session.delays fresh.delays;
       pending = omega (arith, placed, pending, waiting, over, same);
       files = omega (arith, placed, pending, waiting);
       few = omega (arith, placed, pending, waiting);

@@ -1,20 +1,19 @@
 -- What a session stands for after a consistency point.
-use Rattle.std.proofs.Common.{◌≡◌, ◌<◌, ◌≤◌, ◌+◌, ◌-◌, ◌*◌, ℕ, Bool, true, false, List, Option, Some, None, Ok, Err, refl, sym, ap, subst, ◌∙◌, ⊎_elim, inl, inr, arith, length, sum_by}
+use Rattle.std.proofs.Common.{◌≡◌, ◌<◌, ◌≤◌, ◌+◌, ◌*◌, ℕ, Bool, true, false, List, Option, Some, None, Ok, Err, refl, sym, ap, subst, ◌∙◌, ⊎_elim, inl, inr, arith, length, sum_by}
 use Rattle.std.specs.Prelude.{IfSome, IsNone, IsSome, IsTrue, max, replicate}
 use Rattle.std.specs.List.{range_with_len}
 use Rattle.std.specs.Option.{option_map}
-use Rattle.std.proofs.lemmas.Bool.Decides.{nat_tests}
 use Rattle.fv_disk.specs.Shown.{Image, Shown}
 use Rattle.fv_disk.specs.Crash.{Leaves}
 use Rattle.fv_disk.specs.DiskCalls.{OnlyReads}
 use Rattle.fv_disk.proofs.Moments.{weaken}
 use Rattle.fv_bits.specs.Members.{is_member}
 use Rattle.fv_model.specs.declared.commands.Kind.{Kind}
-use Rattle.fv_model.specs.Machines.{Machine, capacity, first_block}
+use Rattle.fv_model.specs.Machines.{Machine, capacity}
 use Rattle.fv_model.specs.Space.{commits}
 use Rattle.fv_image.specs.Layout.{root_place}
 use Rattle.fv_image.specs.Maps.{map_bit}
-use Rattle.fv_image.specs.Views.{View, delayed, own}
+use Rattle.fv_image.specs.Views.{View}
 use Rattle.fv_image.specs.Held.{label_place, layout_at, view_at}
 use Rattle.fv_image.specs.Volumes.{told_with}
 use Rattle.fv_image.specs.Sound.{leaves_room, overheads}
@@ -22,9 +21,6 @@ use Rattle.fv_image.specs.Seen.{seen}
 use Rattle.fv_image.specs.VolumeRules.{commits_seen}
 use Rattle.fv_image.proofs.Committed.{commits_told}
 use Rattle.fv_image.proofs.Counts.{same_sum}
-use Rattle.fv_image.proofs.OwnBases.{uses_own}
-use Rattle.fv_image.proofs.Points.{UsesOwn, room_beside_commits}
-use Rattle.fv_image.proofs.WellLabels.{numbers_at}
 use Rattle.fv_root.specs.declared.find.Found.{Found}
 use Rattle.fv_root.specs.Commits.{IsFoundOn}
 use Rattle.fv_root.specs.Finding.{IsFound, root_found}
@@ -34,6 +30,7 @@ use Rattle.fv_aggmap.proofs.Room.{room_when_loaded, room_when_sound}
 use Rattle.fv_container.specs.Chains.{container_at}
 use Rattle.fv_container.specs.Mapped.{Mapped}
 use Rattle.fv_cp.specs.Held.{machine_held, IsHeld}
+use Rattle.fv_cp.specs.Known.{AreKnown}
 use Rattle.fv_cp.specs.Lent.{blocks_asked, maps_waiting, HaveNoneWaiting, IsLentAt}
 use Rattle.fv_cp.specs.Placing.{pending_files, core_of, HaveNoFiles, KeepCores}
 use Rattle.fv_cp.specs.Points.{LacksRoom}
@@ -58,8 +55,8 @@ use Rattle.fv_aggregate.specs.Calls.{Goes, GoesFor, IsForWant, KeepsAsking}
 use Rattle.fv_aggregate.specs.Standing.{clear_blocks, overheads_in, taken_since, unwritten, OneOf, Stands, StandsFor}
 use Rattle.fv_aggregate.proofs.Asking.{asked_unchanged, asks_more, asks_still, short_is}
 use Rattle.fv_aggregate.proofs.Clear.{clear_is_free, clear_stays, free_and_placed, none_held, none_placed}
-use Rattle.fv_aggregate.proofs.Standing.{settled_after_reads}
-use Rattle.fv_aggregate.proofs.Sums.{asked_within, none_pending, none_waiting, one_pending, over_slots, overheads_are, overheads_kept, same_overheads}
+use Rattle.fv_aggregate.proofs.Standing.{known_still, settled_after_reads}
+use Rattle.fv_aggregate.proofs.Sums.{all_within, none_pending, none_waiting, one_pending, over_slots, overheads_are, overheads_kept, same_overheads}
 
 -- what a point that was not done says, for the fault that it answered
 pub still_as : (old : Shown) (pool : Pool) (states : States) (new : Shown) (left : Pool) (stay : States) (said fault : VolumeFault) → said ≡ fault → IsStill old pool states new left stay said → IsStill old pool states new left stay fault
@@ -71,6 +68,10 @@ pub still_said : (old : Shown) (before session : Session) → before ≡ session
 still_said old before session same new left stay said fault is still =
     subst (λ (s : Session). IsStill old s.pool s.volumes new left stay fault) same (still_as old before.pool before.volumes new left stay said fault is still)
 
+-- its parts, where the flags stayed
+pub parts_as : (before session : Session) → before ≡ session → (left : Pool) (stay : States) (delays : List Bool) → delays ≡ before.delays → record before { pool = left; volumes = stay; delays = delays } ≡ record session { pool = left; volumes = stay }
+parts_as before session same left stay delays stays = λ j. record (same j) { pool = left; volumes = stay; delays = (stays ∙ ap (λ (s : Session). s.delays) same) j }
+
 -- ---- before a point
 
 -- a session that stands for a machine has the numbers and the blocks that a point asks for
@@ -80,12 +81,19 @@ has_full_room disk session last m stands =
     record {
       numbers = λ s. has_numbers disk session.pool s (state_at session.volumes s) (stands.held.each s) (omega (arith, one_pending session.volumes s, stands.few));
       free = omega (arith, all, stands.few, stands.room);
-      blocks = omega (arith, all, asked_within session.volumes, stands.pending, stands.room);
+      blocks = omega (arith, all, all_within session.volumes, stands.pending, stands.room);
     }
 
 -- what the session stands for, by its parts
 pub held_as : (disk : Shown) (session : Session) (last m : Machine) → StandsFor disk session last m → (pool : Pool) (states : States) → session.pool ≡ pool → session.volumes ≡ states → IsHeld disk pool states last
 held_as disk session last m stands pool states same_pool same_states = subst (λ (p : Pool). IsHeld disk p states last) same_pool (subst (λ (v : States). IsHeld disk session.pool v last) same_states stands.held)
+
+-- what it knows of delayed entries, and the room that a point has
+pub known_as : (disk : Shown) (session : Session) (last m : Machine) → StandsFor disk session last m → (pool : Pool) (delays : List Bool) → session.pool ≡ pool → session.delays ≡ delays → AreKnown disk.reads pool.found delays
+known_as disk session last m stands pool delays same_pool same_delays = known_still disk.reads disk.reads session.pool.found pool.found session.delays delays refl (ap (λ (p : Pool). p.found) (sym same_pool)) (sym same_delays) stands.delays
+
+pub full_as : (disk : Shown) (session : Session) (last m : Machine) → StandsFor disk session last m → (pool : Pool) (states : States) → session.pool ≡ pool → session.volumes ≡ states → HaveFullRoom pool states
+full_as disk session last m stands pool states same_pool same_states = subst (λ (p : Pool). HaveFullRoom p states) same_pool (subst (λ (v : States). HaveFullRoom session.pool v) same_states (has_full_room disk session last m stands))
 
 held_is : (disk : Shown) (session : Session) (last m : Machine) → StandsFor disk session last m → (pool : Pool) (states : States) → session.pool ≡ pool → session.volumes ≡ states → machine_held disk pool states ≡ m
 held_is disk session last m stands pool states same_pool same_states = (λ j. machine_held disk (sym same_pool j) (sym same_states j)) ∙ stands.machine
@@ -135,6 +143,9 @@ module _ (before : Shown) (old : Session) (after : Shown) (new : Session) (still
 
   pending_same : new.pending ≡ old.pending
   pending_same = ap (λ (s : Session). s.pending) parts
+
+  delays_same : new.delays ≡ old.delays
+  delays_same = ap (λ (s : Session). s.delays) parts
 
   failed_same : new.failed ≡ old.failed
   failed_same = ap (λ (s : Session). s.failed) parts
@@ -223,6 +234,7 @@ module _ (before : Shown) (old : Session) (after : Shown) (new : Session) (still
         held = still.placed.held last stands.held;
         machine = still.placed.machine last stands.held ∙ stands.machine;
         settled = settled_after_reads before after reads stands.settled;
+        delays = known_still before.reads after.reads old.pool.found new.pool.found old.delays new.delays reads.stays.reads still.placed.found delays_same stands.delays;
         pending = omega (arith, same, fewer, over, pending_same, stands.pending);
         files = omega (arith, fewer, pending_same, stands.files);
         few = omega (arith, spent.blocks, clear, free_and_placed old.pool.map, free_and_placed new.pool.map, stands.few);
@@ -293,15 +305,9 @@ pointed_left before old after new pool states none same_pool same_states long go
 
 -- ---- after a point
 
--- a view with room has 256 blocks that can be allocated
-large : (w : View) → leaves_room w 0 ≡ true → 256 ≤ w.blocks - first_block w.blocks
-large w rule =
-    let enough : 2 * overheads w + max 256 0 ≤ w.blocks - first_block w.blocks - own w - delayed w = grind (arith, nat_tests, rule) in
-    omega (arith, enough)
-
-module _ (old : Shown) (pool : Pool) (states : States) (new : Shown) (left : Pool) (stay : States) (is : IsHeldPoint old pool states new left stay) (loaded : IsMapLoaded new.reads left.found left.map) where
+module _ (old : Shown) (pool : Pool) (states : States) (new : Shown) (left : Pool) (stay : States) (want : ℕ) (delays : List Bool) (is : IsHeldPoint old pool states want new left stay delays) (loaded : IsMapLoaded new.reads left.found left.map) where
   -- each slot is as the new root has it
-  all_loaded : (s : ℕ) → s < 64 → IsLoaded new.reads left.found s (state_at stay s) (container_at left.containers s)
+  pub all_loaded : (s : ℕ) → s < 64 → IsLoaded new.reads left.found s (state_at stay s) (container_at left.containers s)
   all_loaded s inside = by (state_at stay s) (container_at left.containers s) (is.held.slots s inside) (is.unchanged s) (is.free s inside)
     where
       by : (o : Option VolumeState) (c : Option Mapped) → IsLentAt new.reads left.found s o c → IfSome o (λ x. x.changed ≡ false) → (o ≡ None → label_place (root_found left.found) s ≡ 0) → IsLoaded new.reads left.found s o c
@@ -329,8 +335,8 @@ module _ (old : Shown) (pool : Pool) (states : States) (new : Shown) (left : Poo
         by None held unchanged = tt
         by (Some x) held unchanged = held.ready.fresh unchanged
 
-    pub pointed : length stay ≡ 64 → HaveNoFiles stay → (after : Session) → after.pool ≡ left → after.volumes ≡ stay → after.pending ≡ 0 → StandsFor new after m m
-    pointed long bare after new_pool new_states none =
+    pub pointed : length stay ≡ 64 → HaveNoFiles stay → (after : Session) → after.pool ≡ left → after.volumes ≡ stay → after.delays ≡ delays → after.pending ≡ 0 → StandsFor new after m m
+    pointed long bare after new_pool new_states new_delays none =
         let placed : taken_since after.pool.map ≡ 0 = ap (λ (p : Pool). taken_since p.map) new_pool ∙ none_placed left.map loaded.same in
         let pending : pending_files after.volumes ≡ 0 = ap pending_files new_states ∙ none_pending stay long bare in
         let waiting : maps_waiting after.volumes ≡ 0 = ap maps_waiting new_states ∙ none_waiting stay long none_fresh in
@@ -341,24 +347,22 @@ module _ (old : Shown) (pool : Pool) (states : States) (new : Shown) (left : Poo
           held = subst (λ (p : Pool). IsHeld new p after.volumes m) (sym new_pool) (subst (λ (v : States). IsHeld new left v m) (sym new_states) now_held);
           machine = (λ j. machine_held new (new_pool j) (new_states j)) ∙ is.machine ∙ machine_is;
           settled = is.settled;
+          delays = known_still new.reads new.reads left.found after.pool.found delays after.delays refl (ap (λ (p : Pool). p.found) new_pool) new_delays is.delays;
           pending = omega (arith, placed, pending, waiting, over, same);
           files = omega (arith, placed, pending, waiting);
           few = omega (arith, placed, pending, waiting);
           room = omega (arith, none, same, clear, room_when_sound new.reads left.found left.map loaded now_held.tells.sound);
         }
 
-    -- where the commits leave room for an event twice, there is room for it after the point
-    pub point_room : ((b : ℕ) → length (new.reads b) ≡ 4096) → (after : Session) → after.pool ≡ left → after.pending ≡ 0 → (room : ℕ) → commits m + 2 * room ≤ capacity m.blocks → HasRoom new after room
+    -- where the commits leave room twice for what was wanted, there is room for it after the point
+    pub point_room : (after : Session) → after.pool ≡ left → after.pending ≡ 0 → commits m + 2 * want ≤ capacity m.blocks → HasRoom new after want
     unfolding layout_at told_with view_at
-    point_room whole after new_pool none room fits =
+    point_room after new_pool none fits =
         let t = root_found left.found in
         let w : View = view_at t new.reads in
         let sound = now_held.tells.sound in
         let blocks : left.found.blocks ≡ m.blocks = ap (λ (x : Machine). x.blocks) now_held.tells.machine in
         let promised : commits_seen (seen w) ≡ commits m = sym (commits_told (layout_at t new.reads) sound.names) ∙ ap commits now_held.tells.machine in
-        let none_delayed : delayed w ≡ 0 = is.reclaimed in
-        let uses : UsesOwn w = uses_own w sound.tables sound.maps (λ s h inside there. numbers_at t new.reads whole s h there) in
-        let enough : commits_seen (seen w) + 2 * room ≤ capacity w.blocks = omega (arith, fits, promised, ap capacity blocks) in
-        let rule : leaves_room w (256 + 2 * room) ≡ true = room_beside_commits w sound.tables uses (2 * room) none_delayed (large w sound.room) enough in
-        let free = room_when_loaded new.reads left.found left.map (256 + 2 * room) loaded sound rule in
-        subst (λ (p : Pool). overheads (view_at (root_found p.found) new.reads) + max 256 (after.pending + room) ≤ clear_blocks p.map) (sym new_pool) (omega (arith, none, free, clear_is_free left.map loaded.same))
+        let rule : leaves_room w want ≡ true = is.room.wanted (omega (arith, fits, promised, ap capacity blocks)) in
+        let free = room_when_loaded new.reads left.found left.map want loaded sound rule in
+        subst (λ (p : Pool). overheads (view_at (root_found p.found) new.reads) + max 256 (after.pending + want) ≤ clear_blocks p.map) (sym new_pool) (omega (arith, none, free, clear_is_free left.map loaded.same))

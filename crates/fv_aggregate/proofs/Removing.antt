@@ -44,6 +44,7 @@ use Rattle.fv_aggregate.specs.declared.session.Session.{Session}
 use Rattle.fv_aggregate.specs.Standing.{overhead_by, taken_since, IsWithoutFiles, Stands, StandsFor}
 use Rattle.fv_aggregate.proofs.Clear.{clear_stays}
 use Rattle.fv_aggregate.proofs.HeldMachine.{at_name, not_there, one}
+use Rattle.fv_aggregate.proofs.Standing.{known_still}
 
 -- ---- names
 
@@ -212,6 +213,7 @@ module _ (session : Session) (fit : FitTogether session.pool session.volumes) (n
         held = held_without session.pool session.volumes fit name new left is disk last stands.held;
         machine = machine_without session.pool session.volumes fit name new left is disk last stands.held ∙ ap (λ (k : Machine). changed k (Goes name)) stands.machine;
         settled = stands.settled;
+        delays = known_still disk.reads disk.reads session.pool.found left.found session.delays session.delays refl is.gone.found refl stands.delays;
         pending = omega (arith, files, maps, over, held, taken, stands.pending);
         files = omega (arith, files, maps, taken, stands.files);
         few = omega (arith, files, maps, taken, stands.few);

@@ -109,6 +109,7 @@ module _ (session : Session) (c : Command) (name : List ℕ) (size : VolumeState
         held = held_now disk fit there.cache last stands.held;
         machine = machine_promised disk fit there.cache last stands.held (subst (λ (k : Machine). refusal k c ≡ None) (sym stands.machine) accepted) ∙ ap (λ (k : Machine). next k c) stands.machine;
         settled = stands.settled;
+        delays = stands.delays;
         pending = omega (arith, files, maps, over, stands.pending);
         files = omega (arith, files, maps, stands.files);
         few = omega (arith, files, maps, stands.few);

@@ -1,5 +1,5 @@
 -- A session in which the files of one volume were placed, and one in which its snapshots changed then: what they stand for.
-use Rattle.std.proofs.Common.{◌≡◌, ◌≢◌, ◌<◌, ◌≤◌, ◌+◌, ◌⊎◌, ℕ, List, length, Some, None, ⊎_elim, sym, ap, subst, ◌∙◌, arith, get_or-set_other, get_or-set_same, length-set}
+use Rattle.std.proofs.Common.{◌≡◌, ◌≢◌, ◌<◌, ◌≤◌, ◌+◌, ◌⊎◌, ℕ, List, length, Some, None, ⊎_elim, refl, sym, ap, subst, ◌∙◌, arith, get_or-set_other, get_or-set_same, length-set}
 use Rattle.std.proofs.lemmas.Bool.{cases_eq}
 use Rattle.std.proofs.lemmas.List.{set-set}
 use Rattle.std.proofs.lemmas.List.Sums.{sum_by-set}
@@ -29,6 +29,7 @@ use Rattle.fv_aggregate.specs.declared.session.Session.{Session}
 use Rattle.fv_aggregate.specs.Standing.{overhead_by, unwritten, Stands, StandsFor}
 use Rattle.fv_aggregate.proofs.Clear.{clear_stays, free_and_placed}
 use Rattle.fv_aggregate.proofs.PointEnds.{has_full_room}
+use Rattle.fv_aggregate.proofs.Standing.{known_still}
 use Rattle.fv_aggregate.proofs.Stepped.{fit_stepped, held_now, machine_now, overheads_stepped, pending_stepped, ready_stepped, waiting_stepped, IsStepped}
 
 -- no file comes into memory with a volume that has none there
@@ -91,6 +92,7 @@ module _ (d : Shown) (s : Session) (q : Pool) (slot : ℕ) (x mid : VolumeState)
         held = flushing.held_still d d s.pool q s.volumes between x mid its row fit placed last is.held;
         machine = flushing.machine_still d d s.pool q s.volumes between x mid its row fit placed last is.held ∙ is.machine;
         settled = is.settled;
+        delays = known_still d.reads d.reads s.pool.found q.found s.delays s.delays refl found_same refl is.delays;
         pending = omega (arith, same, fewer, sum, own, is.pending);
         files = omega (arith, fewer, is.files);
         few = omega (arith, spent.fewer, spent.blocks, clear, free_and_placed s.pool.map, free_and_placed q.map, is.few);
@@ -131,6 +133,7 @@ module _ (d : Shown) (s : Session) (slot : ℕ) (x y : VolumeState) (there : sta
         held = held_now d s.pool s.volumes long slot x y there step ready last is.held now c its new;
         machine = machine_now d s.pool s.volumes long slot x y there step ready last is.held now c its new ∙ ap (λ (k : Machine). next k c) is.machine;
         settled = is.settled;
+        delays = is.delays;
         pending = ⊎_elim (λ (none : (more ≡ 0) × (room ≡ 0)). omega (arith, grown, over, is.pending, none.0, none.1)) (λ (some : (more ≤ room) × (s.pending + room ≤ 256)). omega (arith, grown, over, is.pending, some.0)) enough;
         files = ⊎_elim (λ (none : (more ≡ 0) × (room ≡ 0)). omega (arith, grown, is.files, none.0, none.1)) (λ (some : (more ≤ room) × (s.pending + room ≤ 256)). omega (arith, grown, is.files, some.0)) enough;
         few = omega (arith, files, is.few);

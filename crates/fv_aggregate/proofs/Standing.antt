@@ -1,16 +1,19 @@
 -- Disks that change nothing, and images that keep what a session stands for.
-use Rattle.std.proofs.Common.{◌≡◌, ℕ, List, length, Some, refl, sym, ap, subst, ◌∙◌, inl, inr, ⊎_elim, arith}
+use Rattle.std.proofs.Common.{◌≡◌, ℕ, Bool, List, length, Some, refl, sym, ap, subst, ◌∙◌, inl, inr, ⊎_elim, arith}
 use Rattle.std.specs.Prelude.{IsTrue}
 use Rattle.fv_disk.specs.Shown.{Image, Shown, IsDisk, IsSettled}
 use Rattle.fv_disk.specs.DiskCalls.{OnlyReads}
 use Rattle.fv_disk.specs.Crash.{Leaves}
 use Rattle.fv_disk.proofs.Moments.{started, weaken}
 use Rattle.fv_model.specs.Machines.{Machine}
-use Rattle.fv_image.specs.Held.{Layout, layout_at}
+use Rattle.fv_image.specs.Held.{Layout, layout_at, view_at}
 use Rattle.fv_image.specs.WholeMachine.{Tells, machine_of}
 use Rattle.fv_image.proofs.SoundTests.{machine_told, machine_under}
+use Rattle.fv_root.specs.declared.find.Found.{Found}
 use Rattle.fv_root.specs.Finding.{root_found}
 use Rattle.fv_cp.specs.Held.{IsHeld}
+use Rattle.fv_cp.specs.Known.{AreKnown}
+use Rattle.fv_cp.proofs.Known.{known_same}
 use Rattle.fv_volume.specs.declared.pool.Pool.{Pool}
 use Rattle.fv_volume.specs.States.{States}
 use Rattle.fv_aggregate.specs.declared.session.Session.{Session}
@@ -20,6 +23,10 @@ use Rattle.fv_aggregate.specs.Standing.{OneOf, StandsAfter, StandsFor}
 
 pub settled_after_reads : (old new : Shown) → OnlyReads old new → IsSettled old → IsSettled new
 settled_after_reads old new reads settled = λ c now a. settled c (reads.stays.no_more c now) a ∙ ap (λ (i : Image). i a) (sym reads.stays.reads)
+
+-- What is known of delayed entries stays while the root found, what reads give and the flags do.
+pub known_still : (i j : Image) (f g : Found) (old new : List Bool) → j ≡ i → g ≡ f → new ≡ old → AreKnown i f old → AreKnown j g new
+known_still i j f g old new reads found flags known = subst (AreKnown j g) (sym flags) (known_same i j f g old (λ t. view_at (root_found (found t)) (reads t)) known)
 
 -- each block that a disk reads is one of 4096 bytes
 pub reads_whole : (disk : Shown) → IsDisk disk → IsTrue disk.tells → (b : ℕ) → length (disk.reads b) ≡ 4096

@@ -1,7 +1,6 @@
 -- What the volumes of a session sum up to, by slot and by view.
-use Rattle.std.proofs.Common.{◌≡◌, ◌<◌, ◌≤◌, ◌+◌, ℕ, suc, Bool, true, false, cond, [], ◌∷◌, length, Option, Some, None, sum_by, refl, sym, ap, ◌∙◌, ⊎_elim, arith}
+use Rattle.std.proofs.Common.{◌≡◌, ◌<◌, ◌≤◌, ◌+◌, ℕ, Bool, true, false, cond, [], ◌∷◌, length, Option, Some, None, sum_by, refl, sym, ap, ◌∙◌, ⊎_elim, arith}
 use Rattle.std.specs.Prelude.{IfSome, replicate}
-use Rattle.std.specs.List.{range_with_len}
 use Rattle.std.specs.Option.{option_map, option_map_or}
 use Rattle.std.proofs.lemmas.Bool.{cases_lt}
 use Rattle.std.proofs.lemmas.List.{get_or_past}
@@ -11,7 +10,7 @@ use Rattle.fv_model.specs.Space.{overhead}
 use Rattle.fv_image.specs.Views.{Head, View, slots}
 use Rattle.fv_image.specs.Sound.{overheads}
 use Rattle.fv_image.proofs.Counts.{none_sum, same_sum}
-use Rattle.fv_cp.specs.Lent.{asked_by, blocks_asked, maps_waiting, waiting_by, HaveNoneWaiting}
+use Rattle.fv_cp.specs.Lent.{asked_all, asked_by, asked_of, blocks_asked, maps_waiting, waiting_by, HaveNoneWaiting}
 use Rattle.fv_cp.specs.Placing.{core_of, pending_by, pending_files, HaveNoFiles, HasNoFiles, KeepCores}
 use Rattle.fv_volmap.specs.Slots.{stored_count}
 use Rattle.fv_volume.specs.declared.pool.Pool.{Pool}
@@ -20,19 +19,8 @@ use Rattle.fv_volume.specs.States.{States, head_in, state_at, view_over, with_st
 use Rattle.fv_volume.specs.Writing.{asked}
 use Rattle.fv_volume.proofs.MapCounts.{settled_waits}
 use Rattle.fv_aggregate.specs.Standing.{overhead_by, overheads_in}
-
-by_slot : (f : Option VolumeState → ℕ) (g : ℕ → Option VolumeState) (xs : States) (from : ℕ) → ((k : ℕ) → k < length xs → g (from + k) ≡ state_at xs k) → sum_by f xs ≡ sum_by (λ s. f (g s)) (range_with_len from (length xs))
-by_slot f g [] from same = refl
-by_slot f g (x ∷ xs) from same =
-    let first : g from ≡ x = ap g (omega arith) ∙ same 0 (omega arith) in
-    let here : f (g from) ≡ f x = ap f first in
-    let rest : sum_by f xs ≡ sum_by (λ s. f (g s)) (range_with_len (from + 1) (length xs)) = by_slot f g xs (from + 1) (λ k lt. ap g (omega arith) ∙ same (suc k) (omega (arith, lt))) in
-    omega (arith, here, rest, sum_by-cons f x xs, sum_by-cons (λ s. f (g s)) from (range_with_len (from + 1) (length xs)))
-
 -- a sum over all slots
-pub over_slots : (f : Option VolumeState → ℕ) (states : States) → length states ≡ 64 → sum_by f states ≡ sum_by (λ s. f (state_at states s)) (range_with_len 0 64)
-over_slots f states long =
-    by_slot f (state_at states) states 0 (λ k lt. ap (state_at states) (omega arith)) ∙ ap (λ n. sum_by (λ s. f (state_at states s)) (range_with_len 0 n)) long
+pub use Rattle.fv_cp.proofs.Sums.{over_slots}
 
 -- ---- overheads
 
@@ -51,6 +39,18 @@ asked_within states = row states
     row : (xs : States) → sum_by asked_by xs ≤ sum_by overhead_by xs + sum_by waiting_by xs
     row [] = omega arith
     row (x ∷ xs) = omega (arith, so x, row xs, sum_by-cons asked_by x xs, sum_by-cons overhead_by x xs, sum_by-cons waiting_by x xs)
+
+-- so are those that it asks for where each volume is written
+pub all_within : (states : States) → asked_all states ≤ overheads_in states + maps_waiting states
+all_within states = row states
+  where
+    so : (x : Option VolumeState) → asked_of x ≤ overhead_by x + waiting_by x
+    so None = omega arith
+    so (Some x) = omega arith
+
+    row : (xs : States) → sum_by asked_of xs ≤ sum_by overhead_by xs + sum_by waiting_by xs
+    row [] = omega arith
+    row (x ∷ xs) = omega (arith, so x, row xs, sum_by-cons asked_of x xs, sum_by-cons overhead_by x xs, sum_by-cons waiting_by x xs)
 
 -- the overheads of the volumes are those of what they show
 pub overheads_are : (pool : Pool) (states : States) (i : Image) → length states ≡ 64 → overheads_in states ≡ overheads (view_over pool states i)

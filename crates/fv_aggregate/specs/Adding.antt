@@ -53,3 +53,4 @@ pub record IsAdded (old : Session) (name : List ℕ) (size : ℕ) (kind : Kind) 
   pub files : pending_files new.volumes ≡ pending_files old.volumes
   pub waiting : maps_waiting new.volumes ≡ maps_waiting old.volumes
   pub failed : new.failed ≡ old.failed
+  pub delays : new.delays ≡ old.delays

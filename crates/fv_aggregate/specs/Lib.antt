@@ -12,3 +12,4 @@ pub mod Opening
 pub mod Adding
 pub mod Telling
 pub mod Snapping
+pub mod Reclaiming

@@ -1,5 +1,5 @@
 -- What is read when a session is opened.
-use Rattle.std.specs.Prelude.{◌≡◌, ℕ, IfSome, IsNone, IsTrue, Some}
+use Rattle.std.specs.Prelude.{◌≡◌, ℕ, true, IfSome, IsNone, IsTrue, Some, replicate}
 use Rattle.fv_disk.specs.Shown.{Image, Shown}
 use Rattle.fv_model.specs.Machines.{Machine}
 use Rattle.fv_image.specs.Held.{layout_at, view_at}
@@ -38,7 +38,8 @@ pub record AreOpened (disk : Shown) (i : Image) (session : Session) : Type 0 whe
   pub led : (m : Machine) → IsTrue disk.tells → machine_of i ≡ Some m → (s : ℕ) → IfSome (state_at session.volumes s) (IsLedTo disk session.pool)
   pub well : (m : Machine) → IsTrue disk.tells → machine_of i ≡ Some m → (s : ℕ) → IfSome (state_at session.volumes s) (IsStoredWell disk session.pool)
 
--- nothing is pending, and nothing has failed
+-- Nothing is pending, nothing has failed, and entries of each volume may be delayed.
 pub record IsFresh (session : Session) : Type 0 where
   pub pending : session.pending ≡ 0
   pub failed : IsNone session.failed
+  pub delays : session.delays ≡ replicate slot_count true

@@ -1,6 +1,6 @@
 -- What a session is for those who call it.
-use Rattle.std.specs.Prelude.{ℕ, Option, refl}
-use Rattle.std.specs.Coded.{Coded, code_by, coded×, coded_ℕ, coded_list, coded_option}
+use Rattle.std.specs.Prelude.{ℕ, Bool, List, Option, refl}
+use Rattle.std.specs.Coded.{Coded, code_by, coded×, coded_ℕ, coded_bool, coded_list, coded_option}
 use Rattle.fv_volume.specs.declared.pool.Pool.{Pool}
 use Rattle.fv_volume.specs.contracts.pool.Pool as pool
 use Rattle.fv_volume.specs.contracts.state.VolumeState as state
@@ -11,6 +11,8 @@ pub record Parts : Type 0 where
   pub volumes : States
   -- what they share: cache, aggregate map, containers, and the root of the last consistency point
   pub pool : Pool
+  -- by slot, whether entries of its volume may be delayed though it hasn't changed
+  pub delays : List Bool
   -- how many blocks were added since the last consistency point, at most: overheads of new volumes, and blocks of files
   pub pending : ℕ
   -- the disk's count of faults after the call in which a write or a barrier failed, if one did
@@ -19,5 +21,6 @@ pub record Parts : Type 0 where
 -- the parts as a tuple, by which a proof tells sessions apart
 abbrev pub parts_code : Coded Parts
 parts_code =
-    code_by (States × (Pool × (ℕ × Option ℕ))) (coded× (coded_list (coded_option state.the_row.coded)) (coded× pool.the_row.coded (coded× coded_ℕ (coded_option coded_ℕ))))
-    (λ s. (s.volumes, (s.pool, (s.pending, s.failed)))) (λ t. record { volumes = t.0; pool = t.1.0; pending = t.1.1.0; failed = t.1.1.1 }) (λ _. refl)
+    code_by (States × (Pool × (List Bool × (ℕ × Option ℕ))))
+    (coded× (coded_list (coded_option state.the_row.coded)) (coded× pool.the_row.coded (coded× (coded_list coded_bool) (coded× coded_ℕ (coded_option coded_ℕ)))))
+    (λ s. (s.volumes, (s.pool, (s.delays, (s.pending, s.failed))))) (λ t. record { volumes = t.0; pool = t.1.0; delays = t.1.1.0; pending = t.1.1.1.0; failed = t.1.1.1.1 }) (λ _. refl)

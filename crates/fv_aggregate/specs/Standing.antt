@@ -17,6 +17,7 @@ use Rattle.fv_volume.specs.declared.state.VolumeState.{VolumeState}
 use Rattle.fv_volume.specs.States.{States}
 use Rattle.fv_volume.specs.UnderRoot.{IsMapOf}
 use Rattle.fv_cp.specs.Held.{machine_held, IsHeld}
+use Rattle.fv_cp.specs.Known.{AreKnown}
 use Rattle.fv_cp.specs.Lent.{maps_waiting}
 use Rattle.fv_cp.specs.Placing.{pending_files, AreReady, HaveNoFiles}
 use Rattle.fv_aggregate.specs.declared.session.Session.{Session}
@@ -62,11 +63,12 @@ abbrev pub overheads_in : States → ℕ
 overheads_in states = sum_by overhead_by states
 
 -- A session stands for a machine, each volume by its files in memory and in its blocks, and the image of its last consistency point for
--- that point's machine.
+-- that point's machine. It knows of which volumes no entry is delayed there.
 pub record StandsFor (disk : Shown) (session : Session) (last now : Machine) : Type 0 where
   pub held : IsHeld disk session.pool session.volumes last
   pub machine : machine_held disk session.pool session.volumes ≡ now
   pub settled : IsSettled disk
+  pub delays : AreKnown disk.reads session.pool.found session.delays
   -- among the pending blocks are the unwritten ones, and those by which the overheads have passed those of the last point
   pub pending : unwritten session + overheads_in session.volumes ≤ overheads (view_at (root_found session.pool.found) disk.reads) + session.pending
   pub files : unwritten session ≤ session.pending

@@ -35,6 +35,7 @@ pub(crate) fn load<D: Disk>(alloc: Global, disk: &mut D) -> Result<Session, Open
         alloc,
         volumes,
         pool,
+        delays: [true; 64],
         pending: 0,
         failed: None,
     })

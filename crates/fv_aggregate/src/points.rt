@@ -1,6 +1,6 @@
 //! The consistency points of a session.
 
-ghost use Rattle.std.specs.Prelude.{◌≡◌, ◌≢◌, ◌≤◌, ◌<◌, ◌+◌, ◌*◌, ℕ, nat_le, max, IsTrue, IsNone, IfErr, IfOk, OnErr, OnOk, Some};
+ghost use Rattle.std.specs.Prelude.{◌≡◌, ◌≢◌, ◌≤◌, ◌<◌, ◌+◌, ◌*◌, nat_le, max, IsTrue, IsNone, IfErr, IfOk, OnErr, OnOk, Some};
 ghost use Rattle.fv_disk.specs.Shown.{Rose};
 ghost use Rattle.fv_model.specs.Machines.{Machine, capacity};
 ghost use Rattle.fv_model.specs.Space.{commits};
@@ -11,6 +11,7 @@ ghost use Rattle.fv_aggregate.specs.Adding.{HasRoom, IsPointed, StillAdmits};
 ghost use Rattle.fv_aggregate.specs.Calls.{Goes, GoesFor, IsForWant, KeepsAsking};
 ghost use Rattle.fv_aggregate.specs.Commands.{dirty_limit};
 ghost use Rattle.fv_aggregate.specs.Known.{KeepsNumbers};
+ghost use Rattle.fv_aggregate.specs.Reclaiming.{HasPointed};
 ghost use Rattle.fv_aggregate.specs.Standing.{HoldsAsCommitted, IsWithoutFiles, Stands, StandsFor};
 
 use crate::fault::Fault;
@@ -71,7 +72,7 @@ impl Session {
         ensures goes_for { IsTrue (D.shown disk.old).tells → (last m : Machine) → StandsFor (D.shown disk.old) self.old last m
             → GoesFor (D.shown disk.old) last m m (D.shown disk.new) self.new result }
         ensures done { IsTrue (D.shown disk.old).tells → (last m : Machine) → StandsFor (D.shown disk.old) self.old last m
-            → OnOk result (StandsFor (D.shown disk.new) self.new m m) }
+            → OnOk result (HasPointed 0 self.old (D.shown disk.new) self.new m) }
         ensures left { OnOk result (IsPointed (D.shown disk.old) self.old self.new) }
         ensures reply { IfOk result (λ reply. reply ≡ Done) }
         ensures files { IsTrue (D.shown disk.old).tells → OnOk result (IsWithoutFiles self.new) }
@@ -92,16 +93,22 @@ impl Session {
         ensures goes_for { IsTrue (D.shown disk.old).tells → (last m : Machine) → StandsFor (D.shown disk.old) self.old last m
             → GoesFor (D.shown disk.old) last m m (D.shown disk.new) self.new result }
         ensures done { IsTrue (D.shown disk.old).tells → (last m : Machine) → StandsFor (D.shown disk.old) self.old last m
-            → OnOk result (StandsFor (D.shown disk.new) self.new m m) }
+            → OnOk result (HasPointed want self.old (D.shown disk.new) self.new m) }
         ensures kept { IsTrue (D.shown disk.old).tells → (last m : Machine) → StandsFor (D.shown disk.old) self.old last m
             → IsNone self.new.failed → OnErr result (StandsFor (D.shown disk.new) self.new last m) }
         ensures room { IsTrue (D.shown disk.old).tells → (last m : Machine) → StandsFor (D.shown disk.old) self.old last m
-            → (room : ℕ) → commits m + 2 * room ≤ capacity m.blocks → OnOk result (HasRoom (D.shown disk.new) self.new room) }
+            → commits m + 2 * want ≤ capacity m.blocks → OnOk result (HasRoom (D.shown disk.new) self.new want) }
         ensures left { OnOk result (IsPointed (D.shown disk.old) self.old self.new) }
         ensures numbers { IsNone self.new.failed → KeepsNumbers self.old.volumes self.new.volumes }
     {
         let before = disk.write_faults();
-        match full_point(&mut self.volumes, &mut self.pool, disk, want) {
+        match full_point(
+            &mut self.volumes,
+            &mut self.pool,
+            disk,
+            &mut self.delays,
+            want,
+        ) {
             Ok(()) => {
                 self.pending = 0;
                 Ok(())

@@ -18,6 +18,7 @@ ghost use Rattle.fv_aggregate.specs.Causes.{HasOpenCause, IsUnwritten, OpenFails
 ghost use Rattle.fv_aggregate.specs.Commands.{Replies, changed_by, changes_volume, machine_after, places_files, reads_files, removes_volume, room_of};
 ghost use Rattle.fv_aggregate.specs.Opening.{IsFresh, IsOpened};
 ghost use Rattle.fv_aggregate.specs.Known.{KeepsNumbers, KeepsNumbersBut, MayLose};
+ghost use Rattle.fv_aggregate.specs.Reclaiming.{HasPointed};
 ghost use Rattle.fv_aggregate.specs.Standing.{HoldsAsCommitted, IsWithoutFiles, Stands, StandsFor, charged_in};
 ghost use Rattle.fv_aggregate.specs.Telling.{charged_from};
 
@@ -42,6 +43,8 @@ pub struct Session {
     pub(crate) alloc: Global,
     pub(crate) volumes: Volumes,
     pub(crate) pool: Pool,
+    /// By slot: whether entries of its volume may be delayed though it hasn't changed. A point counts those of such a volume, and of one that changed.
+    pub(crate) delays: [bool; 64],
     /// How many blocks were added since the last consistency point, at most: overheads of new volumes, and blocks of files.
     pub(crate) pending: u64,
     /// The disk's count of faults after the call in which a write or a barrier failed.
@@ -57,7 +60,7 @@ impl Model for Session {
 
     ghost coded = { parts_code };
 
-    ghost view = { λ s. record { volumes = s.volumes; pool = s.pool; pending = s.pending; failed = s.failed } };
+    ghost view = { λ s. record { volumes = s.volumes; pool = s.pool; delays = s.delays; pending = s.pending; failed = s.failed } };
 
     ghost invariant = { λ s. IsNone s.failed → FitTogether s.pool s.volumes };
 }
@@ -135,7 +138,7 @@ impl Session {
         ensures plain { reads_files command.now ≡ false → IsPlain command.now (D.shown disk.old) disk.old self.old (D.shown disk.new) disk.new self.new result }
         ensures on_files { reads_files command.now ≡ true → IsOnFiles command.now (D.shown disk.old) disk.old self.old (D.shown disk.new) disk.new self.new result }
         ensures point { IsTrue (D.shown disk.old).tells → (last m : Machine) → StandsFor (D.shown disk.old) self.old last m → command.now ≡ Cp
-            → OnOk result (StandsFor (D.shown disk.new) self.new m m) }
+            → OnOk result (HasPointed 0 self.old (D.shown disk.new) self.new m) }
         ensures calm { command.now ≢ Cp → IsWithinLimit self.old command.now → OnlyReads (D.shown disk.old) (D.shown disk.new) }
         ensures files { IsTrue (D.shown disk.old).tells → changed_by command.now ≡ None → IsWithoutFiles self.old → OnOk result (IsWithoutFiles self.new) }
         ensures same { IsTrue (D.shown disk.old).tells → changed_by command.now ≡ None → removes_volume command.now ≡ false → (places_files command.now ≡ false) ⊎ IsWithoutFiles self.old → HoldsAsCommitted self.old
@@ -170,11 +173,12 @@ impl Session {
     /// # Errors
     /// As of `apply`: what fails, what a session does then, and what stays.
     ///
-    /// Costs for each volume with files in memory a step for each number of its span, and memory and a write for each block that is
-    /// placed; for each volume that changed a step for each entry, up to 25 more for one that is no hole, and in writes at most its overhead
-    /// and the blocks of its snapshots' maps that wait; and then, also without changes, a commit: the blocks of one map area, a root and at
-    /// most two gates in writes, and two barriers or three. It reads nothing, and without a file in memory it takes none. `docs/SPACE.md`
-    /// has the order.
+    /// Costs for each volume a step for each number of its span, and with files in memory also memory and a write for each block that is
+    /// placed; for each volume that changed or may have delayed entries a step for each entry, and up to 25 more for one that is no hole, and up to
+    /// three times as many again where a region of it is reclaimed; for each one that changed, or of which a region is reclaimed, in writes at
+    /// most its overhead and the blocks of its snapshots' maps that wait; and then, also without changes, a commit: the blocks of one map area,
+    /// a root and at most two gates in writes, and two barriers or three. It reads nothing, and without a file in memory it takes none.
+    /// `docs/SPACE.md` has the order.
     pub fn consistency_point<D: Disk>(&mut self, disk: &mut D) -> Result<(), Fault>
         requires stands { IsNone self.old.failed → Stands (D.shown disk.old) self.old }
         ensures goes { Goes 0 (D.shown disk.old) self.old (D.shown disk.new) self.new result }
@@ -184,7 +188,7 @@ impl Session {
         ensures goes_for { IsTrue (D.shown disk.old).tells → (last m : Machine) → StandsFor (D.shown disk.old) self.old last m
             → GoesFor (D.shown disk.old) last m m (D.shown disk.new) self.new result }
         ensures point { IsTrue (D.shown disk.old).tells → (last m : Machine) → StandsFor (D.shown disk.old) self.old last m
-            → OnOk result (StandsFor (D.shown disk.new) self.new m m) }
+            → OnOk result (HasPointed 0 self.old (D.shown disk.new) self.new m) }
         ensures left { OnOk result (IsPointed (D.shown disk.old) self.old self.new) }
         ensures kept { IsTrue (D.shown disk.old).tells → (last m : Machine) → StandsFor (D.shown disk.old) self.old last m
             → IsNone self.new.failed → OnErr result (StandsFor (D.shown disk.new) self.new last m) }

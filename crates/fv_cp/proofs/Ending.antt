@@ -1,7 +1,7 @@
 -- What a consistency point leaves at a crash, and what it ends with: once all slots are passed the volumes stand under the labels of the new
 -- root, and then that counts.
-use Rattle.std.proofs.Common.{◌≡◌, ℕ, ◌<◌, ◌≤◌, false, List, length, get_or, refl, sym, ap, subst, ◌∙◌, Ok, Bool, true, inl, arith}
-use Rattle.std.proofs.lemmas.Bool.{both_ways}
+use Rattle.std.proofs.Common.{◌≡◌, ℕ, ◌<◌, ◌≤◌, false, List, length, get_or, refl, sym, ap, subst, ◌∙◌, Ok, Bool, true, ◌||◌, ◌⊎◌, inl, arith}
+use Rattle.std.proofs.lemmas.Bool.{both_ways, true≢false}
 use Rattle.std.specs.Prelude.{Option, Some, None, IfSome, IsTrue, Result}
 use Rattle.std.specs.FinMap as fin
 use Rattle.std.specs.Option.{option_map}
@@ -13,7 +13,7 @@ use Rattle.fv_bits.specs.Members.{is_member}
 use Rattle.fv_codec.specs.declared.root.Root.{Root}
 use Rattle.fv_model.specs.Machines.{Machine}
 use Rattle.fv_image.specs.NewerRoot.{Taken}
-use Rattle.fv_image.specs.Views.{View, delayed}
+use Rattle.fv_image.specs.Views.{View}
 use Rattle.fv_image.specs.Held.{AgreeOnHeld, Keeps, label_place, layout_at, view_at, with_bits, Layout, is_held}
 use Rattle.fv_image.specs.Soundness.{AreTables}
 use Rattle.fv_image.specs.Staying.{StaysHeld}
@@ -42,27 +42,37 @@ use Rattle.fv_volume.specs.Stored.{AreApartIn, AreSpacedIn, has_block, is_of, st
 use Rattle.fv_volume.specs.Writing.{on_disk, IsTaken}
 use Rattle.fv_volume.proofs.HeldAlone.{of_each}
 use Rattle.fv_volume.proofs.LentSlots.{lent_apart, lent_from_loaded, loaded_from_lent, lent_slot, area_taken, held_taken}
-use Rattle.fv_volume.proofs.Settled.{heads_stay, housed_after, same_stay, settled_same, settled_slots, unchanged_stay, settled_written}
+use Rattle.fv_volume.proofs.Settled.{heads_stay, housed_after, same_stay, settled_same, settled_slots, settled_span, unchanged_stay, settled_written}
 use Rattle.fv_volume.proofs.StandingMaps.{loaded_maps}
 use Rattle.fv_volume.proofs.Spacing.{spaced_same}
 use Rattle.fv_volume.proofs.StaysStates.{active_same, reach_stays, states_stay}
 use Rattle.fv_volume.proofs.StillLoaded.{still_loaded, still_stands}
-use Rattle.fv_volume.proofs.StoredTold.{entry_stays, stays_in, undelayed, past_clear, stands_for}
+use Rattle.fv_volume.proofs.StoredTold.{entry_stays, stays_in, past_clear, stands_for, tables_now, uses_there}
+use Rattle.fv_volume.proofs.StoredTold.{stays_now as stays_now_told}
 use Rattle.fv_volume.proofs.Told.{head_at, is_inside}
 use Rattle.fv_volume.proofs.Viewed.{entry_of}
 use Rattle.fv_volume.proofs.Waiting.{none_waits}
-use Rattle.fv_cp.specs.Course.{HasCome, IsOnCourse, all_regions, as_lent, found_with, label_lent, renewed, IsCourse, StaysFrom}
+use Rattle.fv_cp.specs.Course.{HasCome, IsOnCourse, as_lent, found_with, label_lent, renewed, IsCourse, StaysFrom}
 use Rattle.fv_cp.specs.Lent.{FitTogether, IsLent, IsLentAt}
-use Rattle.fv_cp.specs.Points.{GoesOn, IsPoint, IsSwitched, LeavesEntries, OldOrLent, machine_lent}
+use Rattle.fv_cp.specs.Points.{GoesOn, IsPoint, IsSwitched, LeavesEntries, OldOrLent, is_due, machine_lent}
+use Rattle.fv_cp.specs.Choosing.{LeavesRoom, has_slot, holding_with, holdings, marked_as, marked_at, regions_chosen}
+use Rattle.fv_cp.specs.Known.{AreKnown}
+use Rattle.fv_cp.proofs.Known.{known_left, known_same}
+use Rattle.fv_cp.proofs.LeftDelayed.{delayed_left, holdings_shown}
+use Rattle.fv_cp.proofs.Marking.{chosen_marked, chosen_still, heads_marked, holdings_marked, machine_marked, view_marked}
+use Rattle.fv_cp.proofs.Room.{leaves}
+use Rattle.fv_delay.specs.declared.regions.Region.{Region}
+use Rattle.fv_delay.specs.Delay.{is_delayed, region_of}
+use Rattle.fv_delay.specs.Holding.{AreHoldingsOf, AreLeft, Holding, has_region}
 use Rattle.fv_volume.proofs.RootFound.{found_still, map_now, next_in_range, fixed_taken}
 use Rattle.std.proofs.lemmas.Option.{none-some, same_Some}
 use Rattle.fv_image.specs.Reclaimed.{IsAllocatable}
-use Rattle.fv_volume.specs.Files.{IsLabelled}
+use Rattle.fv_volume.specs.Files.{HasOwnSlots, IsLabelled}
 use Rattle.fv_volume.specs.UnderRoot.{AllStandUnder, StandsUnder}
 use Rattle.fv_volume.proofs.Emptied.{none_stands}
 use Rattle.fv_volume.proofs.Staying.{entry_kept, kept_stands, place_is}
 use Rattle.fv_volume.proofs.StoredSlot.{stored_stands}
-use Rattle.fv_volume.proofs.Reclaiming.{left_undelayed, maps_left, stays_left}
+use Rattle.fv_volume.proofs.Reclaiming.{maps_left, stays_left}
 use Rattle.fv_volume.proofs.StayingMaps.{stays_unwritten}
 use Rattle.fv_disk.specs.declared.Failed.{Failed}
 use Rattle.fv_disk.specs.Sparing.{LeftBefore, Spares}
@@ -117,7 +127,7 @@ root_with pool labels = record pool.found.root { labels = labels }
 
 -- ---- whatever the disk tells
 
-module _ (disk : Shown) (pool : Pool) (states : States) (fit : FitTogether pool states) (labels : List ℕ) (left : Pool) (mid : Shown) (come : HasCome all_regions disk pool states 64 labels left mid) where
+module _ (regions : ℕ → ℕ → Bool) (disk : Shown) (pool : Pool) (states : States) (fit : FitTogether pool states) (labels : List ℕ) (left : Pool) (mid : Shown) (come : HasCome regions disk pool states 64 labels left mid) where
   -- what was found counts until the switch
   pub found_left : (IsTrue disk.tells → IsFoundOn disk pool.found) → IsTrue mid.tells → IsFoundOn mid left.found
   found_left found told =
@@ -128,8 +138,9 @@ module _ (disk : Shown) (pool : Pool) (states : States) (fit : FitTogether pool 
     pub found_last : last.found ≡ found_with pool.found labels
     found_last = switched.found ∙ ap (λ (x : Found). next_found x (root_with pool labels)) come.found
 
-    pub goes_on : (IsTrue mid.tells → IsCommitted mid left.found (root_with pool labels) left.map.next new) → StandsOn new last.store.pairs → length stay ≡ 64 → GoesOn disk pool states new last stay
-    goes_on committed stands long = record {
+    pub goes_on : (given : States) (marks : ℕ → Bool) → ((s : ℕ) → state_at states s ≡ option_map (marked_as (marks s)) (state_at given s))
+        → (IsTrue mid.tells → IsCommitted mid left.found (root_with pool labels) left.map.next new) → StandsOn new last.store.pairs → length stay ≡ 64 → GoesOn disk pool given new last stay
+    goes_on given marks marked committed stands long = record {
       stands = stands;
       found = λ tells. subst (λ (x : Found). IsFoundOn new x) (sym switched.found) (done tells).stands;
       loaded = λ tells. map_now mid left.found (root_with pool labels) left.map.next new (done tells) last.found last.map switched.found switched.map switched.size;
@@ -140,7 +151,7 @@ module _ (disk : Shown) (pool : Pool) (states : States) (fit : FitTogether pool 
         kept = λ b taken. ap (λ (k : Blocks). fin.get k b) (kept ∙ come.kept) ∙ fin.get-empty nat_cmp b;
       };
       unkept = kept ∙ come.kept;
-      settled = λ s. (get_or labels s 0, settled s);
+      settled = λ s. (marks s, (get_or labels s 0, settled s ∙ ap (option_map (settled_as (get_or labels s 0))) (marked s)));
       free = λ s inside none. ap (λ (x : Found). label_place (root_found x) s) found_last ∙ place_is (found_with pool.found labels) s inside ∙ come.free s inside (was (state_at states s) (get_or labels s 0) (sym (settled s) ∙ none));
       parents = λ s. ap (λ (x : Slots). parent_at x s) containers ∙ come.housed.parents s ∙ sym (fit.housed.parents s);
       blocks = ap (λ (x : Found). x.blocks) found_last;
@@ -155,7 +166,15 @@ module _ (disk : Shown) (pool : Pool) (states : States) (fit : FitTogether pool 
 
 -- ---- over a disk
 
-module _ (disk : Shown) (pool : Pool) (states : States) (before : Machine) (lent : IsLent disk pool states before) (fit : FitTogether pool states) (labels : List ℕ) (left : Pool) (mid : Shown) (come : HasCome all_regions disk pool states 64 labels left mid) (tells : IsTrue disk.tells) where
+-- The volumes are those of before, marked where one of the chosen regions is theirs, and these regions are reclaimed.
+module _ (disk : Shown) (pool : Pool) (states : States) (before : Machine) (lent : IsLent disk pool states before) (fit : FitTogether pool states) (labels : List ℕ) (left : Pool) (mid : Shown) (given : States) (want : ℕ)
+    (come : HasCome (has_region (regions_chosen pool given want)) disk pool states 64 labels left mid) (tells : IsTrue disk.tells) (marked : (s : ℕ) → state_at states s ≡ marked_at (has_slot (regions_chosen pool given want)) given s) (housed : length given ≡ 64) where
+  abbrev list : List Region
+  list = regions_chosen pool given want
+
+  abbrev regions : ℕ → ℕ → Bool
+  regions = has_region list
+
   abbrev root : Root
   root = root_with pool labels
 
@@ -176,7 +195,7 @@ module _ (disk : Shown) (pool : Pool) (states : States) (before : Machine) (lent
 
   -- ---- all slots are passed
 
-  pub is : IsCourse all_regions pool states (seen pool.kept disk.reads) 64 labels left.map.next left.containers mid.reads
+  pub is : IsCourse regions pool states (seen pool.kept disk.reads) 64 labels left.map.next left.containers mid.reads
   is = come.written tells before lent
 
   agrees : AgreeOnHeld (root_found pool.found) disk.reads mid.reads
@@ -186,7 +205,7 @@ module _ (disk : Shown) (pool : Pool) (states : States) (before : Machine) (lent
   pub settled_is : (s : ℕ) → s < 64 → settled_at labels states s ≡ is.now s
   settled_is s inside = by (is.each s inside)
     where
-      by : IsOnCourse all_regions pool states (seen pool.kept disk.reads) 64 s (is.now s) (get_or labels s 0) (container_at left.containers s) mid.reads → settled_at labels states s ≡ is.now s
+      by : IsOnCourse regions pool states (seen pool.kept disk.reads) 64 s (is.now s) (get_or labels s 0) (container_at left.containers s) mid.reads → settled_at labels states s ≡ is.now s
       by (renewed x low there changed now r) = settled_written (state_at states s) x (get_or labels s 0) there changed ∙ sym now
       by (as_lent waits at) = settled_same (state_at states s) (get_or labels s 0) (none_waits (state_at states s) s inside waits) ∙ sym at.state
 
@@ -203,13 +222,13 @@ module _ (disk : Shown) (pool : Pool) (states : States) (before : Machine) (lent
       as_it_was (Some x) (Some map) named slot unchanged =
           still_stands pool.found f disk.reads mid.reads s inside (place_is f s inside ∙ named ∙ sym (place_is pool.found s inside)) agrees lent.tells.sound refl (Some x) (Some map) (slot.unchanged unchanged)
 
-      by : IsOnCourse all_regions pool states (seen pool.kept disk.reads) 64 s (is.now s) (get_or labels s 0) (container_at left.containers s) mid.reads → StandsUnder mid.reads f s (is.now s) (container_at left.containers s)
+      by : IsOnCourse regions pool states (seen pool.kept disk.reads) 64 s (is.now s) (get_or labels s 0) (container_at left.containers s) mid.reads → StandsUnder mid.reads f s (is.now s) (container_at left.containers s)
       by (renewed x low there changed now r) =
           let lies : (b : ℕ) → is_of x (get_or labels s 0) r.new b ≡ true → IsAllocatable u.blocks b = λ b of. (is.spaced.held s b inside ((λ k. has_block (now k) (r.now k) b) ∙ of)).1 in
           subst (λ (o : Option VolumeState). StandsUnder mid.reads f s o (container_at left.containers s)) (sym now) (subst (λ (c : Option Mapped). StandsUnder mid.reads f s (Some (as_written x (get_or labels s 0))) c) (sym r.now)
           (stored_stands f mid.reads s x r.mid (get_or labels s 0) r.new r.stored (place_is f s inside) (labelled s x there) r.valid disk.reads pool.found
-          (maps_left s x (labelled s x there) (all_regions s) r.old r.mid r.reclaimed disk.reads pool.found (lent_slot disk.reads pool.found s (state_at states s) (container_at pool.containers s) x r.old there r.was (lent.slots s inside)).maps) agrees
-          (past_clear pool states disk.reads fit.housed lent.tables lent.reach s x inside there) (left_undelayed s x (labelled s x there) (all_regions s) r.old r.mid r.reclaimed (λ r. refl) r.new r.stored.kept) lies))
+          (maps_left s x (labelled s x there) (regions s) r.old r.mid r.reclaimed disk.reads pool.found (lent_slot disk.reads pool.found s (state_at states s) (container_at pool.containers s) x r.old there r.was (lent.slots s inside)).maps) agrees
+          (past_clear pool states disk.reads fit.housed lent.tables lent.reach s x inside there) lies))
       by (as_lent waits at) =
           subst (λ (o : Option VolumeState). StandsUnder mid.reads f s o (container_at left.containers s)) (sym at.state) (subst (λ (c : Option Mapped). StandsUnder mid.reads f s (state_at states s) c) (sym at.lies)
           (as_it_was (state_at states s) (container_at pool.containers s) at.named (lent.slots s inside) (none_waits (state_at states s) s inside waits)))
@@ -225,11 +244,11 @@ module _ (disk : Shown) (pool : Pool) (states : States) (before : Machine) (lent
       of_container None lies stay = refl
       of_container (Some map) lies stay = of_map map lies (stay map lies)
 
-      by : IsOnCourse all_regions pool states (seen pool.kept disk.reads) 64 s (is.now s) (get_or labels s 0) (container_at left.containers s) mid.reads → placed_in fin.empty mid.reads (own_entry (container_at left.containers s) v) ≡ placed_in pool.kept disk.reads (own_entry (container_at pool.containers s) v)
+      by : IsOnCourse regions pool states (seen pool.kept disk.reads) 64 s (is.now s) (get_or labels s 0) (container_at left.containers s) mid.reads → placed_in fin.empty mid.reads (own_entry (container_at left.containers s) v) ≡ placed_in pool.kept disk.reads (own_entry (container_at pool.containers s) v)
       by (renewed y low here changed now r) =
           let same : y ≡ x = same_Some y x (sym here ∙ there) in
           let stay : stays y v ≡ true = ap (λ (z : VolumeState). stays z v) same ∙ on in
-          let stayed : entry_under r.new v ≡ entry_under r.old v = r.stored.kept v (stays_unwritten y v stay) ∙ stays_left s y (labelled s y here) (all_regions s) r.old r.mid r.reclaimed v stay in
+          let stayed : entry_under r.new v ≡ entry_under r.old v = r.stored.kept v (stays_unwritten y v stay) ∙ stays_left s y (labelled s y here) (regions s) r.old r.mid r.reclaimed v stay in
           ap (λ (c : Option Mapped). placed_in fin.empty mid.reads (own_entry c v)) r.now ∙ ap (placed_in fin.empty mid.reads) stayed
           ∙ of_map r.old r.was (subst (λ (z : VolumeState). StaysFrom z r.old (seen pool.kept disk.reads) mid.reads) same r.stay)
           ∙ sym (ap (λ (c : Option Mapped). placed_in pool.kept disk.reads (own_entry c v)) r.was)
@@ -242,23 +261,50 @@ module _ (disk : Shown) (pool : Pool) (states : States) (before : Machine) (lent
     spaced = spaced_same pool.found.blocks left.map.next is.now (settled_at labels states) (container_at left.containers) (container_at left.containers) settled_is (λ s inside. refl) is.spaced;
   }
 
+  -- ---- the space rule
+
+  shown_now : AreHoldingsOf (view_at u mid.reads) (λ s. holding_with (is.now s) (container_at left.containers s))
+  shown_now = holdings_shown f mid.reads is.now (container_at left.containers)
+      (λ s inside. subst (λ (o : Option VolumeState). IsLoaded mid.reads f s o (container_at left.containers s)) (settled_is s inside) (stands s inside).loaded)
+      (λ s inside. subst (λ (o : Option VolumeState). IfSome o HasOwnSlots) (settled_is s inside) (settled_slots s (state_at states s) (get_or labels s 0) (fit.housed.volumes s)))
+      (λ s inside. subst (λ (o : Option VolumeState). IfSome o (λ x. x.map.span ≡ x.span)) (settled_is s inside) (settled_span s (state_at states s) (get_or labels s 0) (fit.housed.volumes s)))
+
+  -- the volumes at the end
+  abbrev now_held : ℕ → Option Holding
+  now_held s = holding_with (is.now s) (container_at left.containers s)
+
+  left_delayed : AreLeft regions (holdings pool.containers states) now_held
+  left_delayed = delayed_left regions pool states fit.housed (chosen_marked list given states marked) (seen pool.kept disk.reads) mid.reads labels left.map.next left.containers is
+
+  stays_written : StaysHeld w (view_at u mid.reads)
+  stays_written = stays_now_told pool states disk.reads fit.housed lent.tables lent.reach f labels left.map.next (container_at left.containers) mid.reads refl refl all_stand
+
+  -- it holds once the chosen regions were reclaimed
+  room_left : LeavesRoom (view_at u mid.reads) want
+  unfolding layout_at view_at
+  room_left = leaves pool states disk.reads fit.housed fit.range.size lent.states (view_at u mid.reads) stays_written.heads (same_seen w (view_at u mid.reads) stays_written lent.tables.bases lent.tables.rests) refl
+      (tables_now pool states disk.reads fit.housed lent.tables lent.reach f labels left.map.next (container_at left.containers) mid.reads refl refl all_stand)
+      (uses_there pool states disk.reads fit.housed lent.tables lent.reach f labels left.map.next (container_at left.containers) mid.reads refl refl all_stand)
+      list want (sym (chosen_still pool given states (has_slot list) marked housed fit.housed.long want)) now_held left_delayed shown_now
+
   -- What lies on the disk is ready for the commit.
   pub ready : machine_from (with_bits (is_member left.map.next) (layout_at u mid.reads)) ≡ Some (machine_lent disk pool states)
-  ready = stands_for pool states disk.reads fit.housed lent.tables lent.reach f labels left.map.next (container_at left.containers) mid.reads refl refl all_stand fit.range.size lent.states.names lent.built
+  unfolding layout_at
+  ready = stands_for pool states disk.reads fit.housed lent.tables lent.reach f labels left.map.next (container_at left.containers) mid.reads refl refl all_stand lent.states.names room_left.rule lent.built
 
   -- ---- the new root
 
   -- The new root was written, too.
-  pub moments : (new : Shown) → (IsTrue mid.tells → Leaves mid new (OldOrNew mid left.found root left.map.next)) → Leaves disk new (OldOrLent disk pool states before)
-  moments new switched = switching disk pool states before lent mid (Ok tt) come.spares left.found root left.map.next new (found_left disk pool states fit labels left mid come (λ t. lent.found) told)
-      (subst (λ (x : Found). IsReadyFor mid x root left.map.next m) (sym come.found) ready) (switched told)
+  pub moments : (new : Shown) → (IsTrue mid.tells → Leaves mid new (OldOrNew mid left.found root left.map.next)) → Leaves disk new (OldOrLent disk pool given before)
+  moments new switched = subst (λ (k : Machine). Leaves disk new (λ c g. ((machine_of c ≡ Some before) ⊎ (machine_of c ≡ Some k)) × (g ≡ disk.given))) (machine_marked given states (has_slot list) marked disk pool) (switching disk pool states before lent mid (Ok tt) come.spares left.found root left.map.next new (found_left regions disk pool states fit labels left mid come (λ t. lent.found) told)
+      (subst (λ (x : Found). IsReadyFor mid x root left.map.next m) (sym come.found) ready) (switched told))
 
   module _ (new : Shown) (committed : IsTrue mid.tells → IsCommitted mid left.found root left.map.next new) (last : Pool) (stay : States) (switched : IsSwitched left root last) (containers : last.containers ≡ left.containers) (kept : last.kept ≡ left.kept) (settled : (s : ℕ) → state_at stay s ≡ settled_at labels states s) where
     done : IsCommitted mid pool.found root left.map.next new
     done = subst (λ (x : Found). IsCommitted mid x root left.map.next new) come.found (committed told)
 
     found : last.found ≡ f
-    found = found_last disk pool states fit labels left mid come new last stay switched containers kept settled
+    found = found_last regions disk pool states fit labels left mid come new last stay switched containers kept settled
 
     now_ready : IsReadyFor mid pool.found root left.map.next m
     now_ready = ready
@@ -302,7 +348,7 @@ module _ (disk : Shown) (pool : Pool) (states : States) (before : Machine) (lent
     apart_now : (s : ℕ) → s < 64 → IfSome (settled_at labels states s) (λ x. IfSome (container_at left.containers s) (AreApartIn x))
     apart_now s inside = subst (λ (o : Option VolumeState). IfSome o (λ x. IfSome (container_at left.containers s) (AreApartIn x))) (sym (settled_is s inside)) (by (is.each s inside))
       where
-        by : IsOnCourse all_regions pool states (block_seen pool.kept disk.reads) 64 s (is.now s) (get_or labels s 0) (container_at left.containers s) mid.reads → IfSome (is.now s) (λ x. IfSome (container_at left.containers s) (AreApartIn x))
+        by : IsOnCourse regions pool states (block_seen pool.kept disk.reads) 64 s (is.now s) (get_or labels s 0) (container_at left.containers s) mid.reads → IfSome (is.now s) (λ x. IfSome (container_at left.containers s) (AreApartIn x))
         by (renewed x low there changed now r) = subst (λ (o : Option VolumeState). IfSome o (λ x. IfSome (container_at left.containers s) (AreApartIn x))) (sym now) (subst (λ (c : Option Mapped). IfSome c (AreApartIn (as_written x (get_or labels s 0)))) (sym r.now) r.stored.apart)
         by (as_lent waits at) = subst (λ (o : Option VolumeState). IfSome o (λ x. IfSome (container_at left.containers s) (AreApartIn x))) (sym at.state) (subst (λ (c : Option Mapped). IfSome (state_at states s) (λ x. IfSome c (AreApartIn x))) (sym at.lies) (lent_apart disk.reads pool.found s (state_at states s) (container_at pool.containers s) (lent.slots s inside)))
 
@@ -345,16 +391,16 @@ module _ (disk : Shown) (pool : Pool) (states : States) (before : Machine) (lent
     container_now s = ap (λ (c : Slots). container_at c s) containers
 
     entries_left : (s : ℕ) (x : VolumeState) (map : Mapped) → s < 64 → state_at states s ≡ Some x → x.changed ≡ true → container_at pool.containers s ≡ Some map
-        → (after : Mapped) × ((container_at last.containers s ≡ Some after) × LeavesEntries (all_regions s) x map after)
+        → (after : Mapped) × ((container_at last.containers s ≡ Some after) × LeavesEntries (regions s) x map after)
     entries_left s x map inside there changed was = by (is.each s inside)
       where
-        by : IsOnCourse all_regions pool states (block_seen pool.kept disk.reads) 64 s (is.now s) (get_or labels s 0) (container_at left.containers s) mid.reads
-            → (after : Mapped) × ((container_at last.containers s ≡ Some after) × LeavesEntries (all_regions s) x map after)
+        by : IsOnCourse regions pool states (block_seen pool.kept disk.reads) 64 s (is.now s) (get_or labels s 0) (container_at left.containers s) mid.reads
+            → (after : Mapped) × ((container_at last.containers s ≡ Some after) × LeavesEntries (regions s) x map after)
         by (renewed y low here differs now r) =
             let same : y ≡ x = same_Some y x (sym here ∙ there) in
             let first : r.old ≡ map = same_Some r.old map (sym r.was ∙ was) in
-            let leaves : LeavesEntries (all_regions s) y r.old r.new = record { reclaimed = λ v off. r.stored.kept v off ∙ r.reclaimed.entries v; written = r.stored.maps } in
-            (r.new, (container_now s ∙ r.now, subst (λ (z : VolumeState). LeavesEntries (all_regions s) z map r.new) same (subst (λ (m : Mapped). LeavesEntries (all_regions s) y m r.new) first leaves)))
+            let leaves : LeavesEntries (regions s) y r.old r.new = record { reclaimed = λ v off. r.stored.kept v off ∙ r.reclaimed.entries v; written = r.stored.maps } in
+            (r.new, (container_now s ∙ r.now, subst (λ (z : VolumeState). LeavesEntries (regions s) z map r.new) same (subst (λ (m : Mapped). LeavesEntries (regions s) y m r.new) first leaves)))
         by (as_lent waits at) =
             let late : x.changed ≡ true → 64 ≤ s = subst (λ (o : Option VolumeState). IfSome o (λ z. z.changed ≡ true → 64 ≤ s)) there waits in
             let past = late changed in
@@ -363,24 +409,73 @@ module _ (disk : Shown) (pool : Pool) (states : States) (before : Machine) (lent
     container_stays : (s : ℕ) → s < 64 → IfSome (state_at states s) (λ x. x.changed ≡ false) → container_at last.containers s ≡ container_at pool.containers s
     container_stays s inside unchanged = container_now s ∙ by (is.each s inside)
       where
-        by : IsOnCourse all_regions pool states (block_seen pool.kept disk.reads) 64 s (is.now s) (get_or labels s 0) (container_at left.containers s) mid.reads → container_at left.containers s ≡ container_at pool.containers s
+        by : IsOnCourse regions pool states (block_seen pool.kept disk.reads) 64 s (is.now s) (get_or labels s 0) (container_at left.containers s) mid.reads → container_at left.containers s ≡ container_at pool.containers s
         by (renewed y low here differs now r) = absurd (both_ways _ (subst (λ (o : Option VolumeState). IfSome o (λ z. z.changed ≡ false)) here unchanged) differs)
         by (as_lent waits at) = at.lies
 
-    pub point : IsPoint disk pool states new last stay
-    point = record {
+    -- ---- of the volumes as they were given
+
+    given_machine : m ≡ machine_lent disk pool given
+    given_machine = machine_marked given states (has_slot list) marked disk pool
+
+    given_view : w ≡ view_over pool given disk.reads
+    given_view = view_marked given states (has_slot list) marked pool disk.reads
+
+    -- what is said of each marked volume, of each as it was given
+    of_marked : (P : Type 0) (b : Bool) (o : Option VolumeState) → IfSome (option_map (marked_as b) o) (λ x. P) → IfSome o (λ x. P)
+    of_marked P b None said = tt
+    of_marked P b (Some x) said = said
+
+    given_tables : (s : ℕ) → IfSome (state_at given s) (λ x. active_in (view_over last stay new.reads) no_trees s ≡ active_in (view_over pool given disk.reads) no_trees s)
+    given_tables s = subst (λ (z : View). IfSome (state_at given s) (λ x. active_in (view_over last stay new.reads) no_trees s ≡ active_in z no_trees s)) given_view
+        (of_marked (active_in (view_over last stay new.reads) no_trees s ≡ active_in w no_trees s) (has_slot list s) (state_at given s) (subst (λ (o : Option VolumeState). IfSome o (λ x. active_in (view_over last stay new.reads) no_trees s ≡ active_in w no_trees s)) (marked s) (tables_stay s)))
+
+    given_entries : (s : ℕ) (x : VolumeState) (map : Mapped) → s < 64 → state_at given s ≡ Some x → is_due list s x ≡ true → container_at pool.containers s ≡ Some map
+        → (after : Mapped) × ((container_at last.containers s ≡ Some after) × LeavesEntries (regions s) x map after)
+    given_entries s x map inside there due was =
+        let left_so = entries_left s (marked_as (has_slot list s) x) map inside (marked s ∙ ap (option_map (marked_as (has_slot list s))) there) due was in
+        (left_so.0, (left_so.1.0, record { reclaimed = left_so.1.1.reclaimed; written = left_so.1.1.written }))
+
+    given_unchanged : (s : ℕ) → IfSome (state_at given s) (λ x. is_due list s x ≡ false) → IfSome (state_at states s) (λ x. x.changed ≡ false)
+    given_unchanged s is_not = subst (λ (o : Option VolumeState). IfSome o (λ x. x.changed ≡ false)) (sym (marked s)) (by (state_at given s) is_not)
+      where
+        by : (o : Option VolumeState) → IfSome o (λ x. is_due list s x ≡ false) → IfSome (option_map (marked_as (has_slot list s)) o) (λ x. x.changed ≡ false)
+        by None e = tt
+        by (Some x) e = e
+
+    given_same : (s : ℕ) → IfSome (state_at given s) (λ x. is_due list s x ≡ false → state_at stay s ≡ Some x)
+    given_same s = by (has_slot list s) (state_at given s) (subst (λ (o : Option VolumeState). IfSome o (λ x. x.changed ≡ false → state_at stay s ≡ Some x)) (marked s) (same_stay states stay labels settled s))
+      where
+        by : (b : Bool) (o : Option VolumeState) → IfSome (option_map (marked_as b) o) (λ x. x.changed ≡ false → state_at stay s ≡ Some x) → IfSome o (λ x. (b || x.changed) ≡ false → state_at stay s ≡ Some x)
+        by b None is_so = tt
+        by true (Some x) is_so = λ e. absurd (true≢false e)
+        by false (Some x) is_so = is_so
+
+    given_places : (s : ℕ) → IfSome (state_at given s) (λ x. is_due list s x ≡ false → label_place u s ≡ label_place (root_found pool.found) s)
+    given_places s = by (has_slot list s) (state_at given s) (subst (λ (o : Option VolumeState). IfSome o (λ x. x.changed ≡ false → label_place u s ≡ label_place (root_found pool.found) s)) (marked s) (places_stay s))
+      where
+        by : (b : Bool) (o : Option VolumeState) → IfSome (option_map (marked_as b) o) (λ x. x.changed ≡ false → label_place u s ≡ label_place (root_found pool.found) s) → IfSome o (λ x. (b || x.changed) ≡ false → label_place u s ≡ label_place (root_found pool.found) s)
+        by b None is_so = tt
+        by true (Some x) is_so = λ e. absurd (true≢false e)
+        by false (Some x) is_so = is_so
+
+    pub point : (delays : List Bool)
+        → ((s : ℕ) (x : Holding) → s < 64 → get_or delays s true ≡ false → holdings pool.containers given s ≡ Some x → (v : ℕ) → is_delayed x.map x.container v ≡ true → has_region list s (region_of v) ≡ true)
+        → IsPoint disk pool given want new last stay delays
+    point delays clear = record {
       settled = done.settled;
-      stands = stands_now;
-      lent = lent_now;
-      heads = heads_stay states stay labels settled;
-      machine = same_told w (view_over last stay new.reads) stays_now lent.tables.bases lent.tables.rests;
-      tables = tables_stay;
+      stands = stands_now ∙ ap Some given_machine;
+      lent = subst (IsLent new last stay) given_machine lent_now;
+      heads = λ s. heads_stay states stay labels settled s ∙ heads_marked given states (has_slot list) marked s;
+      machine = same_told w (view_over last stay new.reads) stays_now lent.tables.bases lent.tables.rests ∙ given_machine;
+      tables = given_tables;
       unchanged = unchanged_stay states stay labels settled;
-      reclaimed = subst (λ (x : Found). delayed (view_at (root_found x) new.reads) ≡ 0) (sym found) (ap delayed same_now
-          ∙ undelayed pool states disk.reads fit.housed lent.tables lent.reach f labels left.map.next (container_at left.containers) mid.reads refl refl all_stand);
-      entries = entries_left;
-      containers = container_stays;
+      room = subst (λ (x : Found). LeavesRoom (view_at (root_found x) new.reads) want) (sym found) (subst (λ (z : View). LeavesRoom z want) (sym same_now) room_left);
+      delays = subst (λ (x : Found). AreKnown new.reads x delays) (sym found) (known_same mid.reads new.reads f f delays same_now
+          (known_left mid.reads f regions (holdings pool.containers states) now_held delays left_delayed shown_now (λ s x inside off there. clear s x inside off (sym (ap (λ (h : ℕ → Option Holding). h s) (holdings_marked pool.containers given states (has_slot list) marked)) ∙ there))));
+      entries = given_entries;
+      containers = λ s inside is_not. container_stays s inside (given_unchanged s is_not);
       blocks = ap (λ (x : Found). x.blocks) found;
-      same = same_stay states stay labels settled;
-      label_same = λ s. subst (λ (t : Found). IfSome (state_at states s) (λ x. x.changed ≡ false → label_place (root_found t) s ≡ label_place (root_found pool.found) s)) (sym found) (places_stay s);
+      same = given_same;
+      label_same = λ s. subst (λ (t : Found). IfSome (state_at given s) (λ x. is_due list s x ≡ false → label_place (root_found t) s ≡ label_place (root_found pool.found) s)) (sym found) (given_places s);
     }

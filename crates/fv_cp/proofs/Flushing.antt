@@ -1,22 +1,28 @@
 -- The files of volumes are placed slot by slot.
-use Rattle.std.proofs.Common.{◌≡◌, ◌≢◌, ℕ, ◌<◌, ◌≤◌, ◌+◌, Bool, List, length, Some, None, is_some, true≢false, ⊎_elim, sym, ap, subst, ◌∙◌, arith, Option, refl, get_or-set_other}
+use Rattle.std.proofs.Common.{◌≡◌, ◌≢◌, ℕ, ◌<◌, ◌≤◌, ◌+◌, Bool, List, length, Some, None, is_some, true≢false, false, ⊎_elim, inl, inr, ◌⊎◌, sym, ap, subst, ◌∙◌, arith, Option, refl, get_or-set_other}
 use Rattle.std.specs.Prelude.{cond, IfSome}
+use Rattle.std.specs.Option.{option_map}
 use Rattle.std.specs.FinMap as fin
 use Rattle.std.proofs.lemmas.Bool.{cases_eq}
 use Rattle.std.proofs.lemmas.List.Sums.{sum_by-set}
 use Rattle.fv_disk.specs.Shown.{Image, Shown}
+use Rattle.fv_bits.specs.Members.{is_member}
 use Rattle.fv_model.specs.Spelling.{name_cmp}
 use Rattle.fv_model.specs.Machines.{Machine, capacity}
 use Rattle.fv_tables.proofs.Lists.{same_parts}
 use Rattle.fv_image.specs.Held.{AllKeep, layout_at}
+use Rattle.fv_image.specs.Reclaimed.{IsAllocatable}
 use Rattle.fv_image.specs.Views.{slots}
 use Rattle.fv_image.specs.WholeMachine.{Tells}
+use Rattle.fv_aggmap.specs.Space.{Space}
 use Rattle.fv_root.specs.declared.find.Found.{Found}
 use Rattle.fv_root.specs.Finding.{IsInRange, root_found}
 use Rattle.fv_root.specs.Commits.{IsFoundOn}
-use Rattle.fv_container.specs.Chains.{container_at}
+use Rattle.fv_container.specs.Chains.{Slots, container_at, own_entry}
+use Rattle.fv_container.specs.Mapped.{Mapped}
 use Rattle.fv_volume.specs.declared.pool.Pool.{Pool}
 use Rattle.fv_volume.specs.declared.state.VolumeState.{VolumeState}
+use Rattle.fv_volume.specs.Lending.{IsNewEntry}
 use Rattle.fv_volume.specs.OneVolume.{IsReady}
 use Rattle.fv_volume.specs.Placing.{pending_of}
 use Rattle.fv_volume.specs.Slots.{sum_of}
@@ -28,8 +34,8 @@ use Rattle.fv_volume.proofs.Told.{is_inside}
 use Rattle.fv_volume.proofs.Spending.{spent_one}
 use Rattle.fv_volume.proofs.Staying.{only_itself}
 use Rattle.fv_cp.specs.Held.{machine_held, named_held, IsHeld, IsHeldIn}
-use Rattle.fv_cp.specs.Lent.{asked_by, blocks_asked, maps_waiting, waiting_by, FitTogether}
-use Rattle.fv_cp.specs.Placing.{pending_by, pending_files, HasNumbers, HaveNoFiles, HaveRoom, HaveSpent, IsPlacedAs, ArePlaced, AreReady, HasNoFiles, HasWholeMap, IsReadyIn, IsSlotPlaced, MayFail, PlacesSlot}
+use Rattle.fv_cp.specs.Lent.{asked_all, asked_by, asked_of, blocks_asked, maps_waiting, waiting_by, FitTogether}
+use Rattle.fv_cp.specs.Placing.{pending_by, pending_files, HasNumbers, HaveNoFiles, HaveRoom, HaveSpent, IsPlacedAs, AreButPlaced, ArePlaced, AreReady, but_placed, HasNoFiles, HasWholeMap, IsReadyIn, IsSlotPlaced, IsSpareEntry, MayFail, PlacesEntries, PlacesSlot}
 use Rattle.fv_disk.proofs.Resting.{reads_then}
 use Rattle.fv_store.specs.Held.{StandsOn}
 use Rattle.fv_volume.specs.declared.fault.VolumeFault.{VolumeFault}
@@ -52,12 +58,40 @@ module _ (disk after : Shown) (pool left : Pool) (states stay : States) (x y : V
     kept = one.kept_still disk after pool left states stay x y there now fit.housed placed fit.kept;
   }
 
+  -- but for what placing changes the volumes are as they were
+  pub others_still : IsReady disk pool x → AreButPlaced states stay
+  others_still ready = one.all_stay disk after pool left states stay x y there now fit.housed placed (option_map but_placed)
+      (ap (λ (z : VolumeState). Some (but_placed z)) placed.keeps ∙ ap (λ (t : Bool). Some (but_placed (record x { changed = t }))) (one.changed_still disk after pool left states stay x y there now fit.housed placed ready))
+
+  -- the entries stay, or lead to blocks that the root on the disk doesn't hold
+  pub entries_still : PlacesEntries pool.map pool.containers left.containers
+  entries_still s v = ⊎_elim
+      (λ (here : s ≡ x.slot). subst (λ (n : ℕ). Placed n) (sym here) own)
+      (λ (differ : s ≢ x.slot). inl (ap (λ (c : Option Mapped). own_entry c v) (placed.goes.goes.goes.others s differ)))
+      (cases_eq s x.slot)
+    where
+      Placed : ℕ → Type 0
+      Placed n = (own_entry (container_at left.containers n) v ≡ own_entry (container_at pool.containers n) v) ⊎ IsSpareEntry pool.map (own_entry (container_at left.containers n) v)
+
+      own : Placed x.slot
+      own = ⊎_elim
+          (λ (same : own_entry (container_at left.containers x.slot) v ≡ own_entry (container_at pool.containers x.slot) v). inl same)
+          (λ (new : IsNewEntry pool.map pool.containers left.containers x.slot v). inr (record { entry = new.entry; stands = new.stands; lies = new.takes.lies; spare = new.takes.spare }))
+          (placed.goes.goes.goes.entries v)
+
   pub asked_still : IsReady disk pool x → blocks_asked stay ≡ blocks_asked states
   asked_still ready =
       let sum = sum_by-set asked_by states x.slot (Some y) None in_list in
       let changed = one.changed_still disk after pool left states stay x y there now fit.housed placed ready in
       let same : asked_by (Some y) ≡ asked_by (state_at states x.slot) = ap (λ (z : VolumeState). cond y.changed (asked z) 0) placed.keeps ∙ ap (λ (t : Bool). cond t (asked x) 0) changed ∙ sym (ap asked_by there) in
       let all : blocks_asked stay ≡ blocks_asked (with_state states x.slot (Some y)) = ap blocks_asked now in
+      omega (arith, sum, same, all)
+
+  pub all_still : asked_all stay ≡ asked_all states
+  all_still =
+      let sum = sum_by-set asked_of states x.slot (Some y) None in_list in
+      let same : asked_of (Some y) ≡ asked_of (state_at states x.slot) = ap (λ (z : VolumeState). asked z) placed.keeps ∙ sym (ap asked_of there) in
+      let all : asked_all stay ≡ asked_all (with_state states x.slot (Some y)) = ap asked_all now in
       omega (arith, sum, same, all)
 
   pub waiting_still : maps_waiting stay ≡ maps_waiting states
@@ -112,6 +146,21 @@ module _ (disk after : Shown) (pool left : Pool) (states stay : States) (x y : V
           (λ k low high. one.named_still disk after pool left states stay x y there now fit.housed placed fit.size held.slots held.spaced held.each k) j);
     }
 
+-- entries are placed one time after the other, under the same root on the disk
+entries_then : (space later : Space) (old mid new : Slots) → later.committed ≡ space.committed → PlacesEntries space old mid → PlacesEntries later mid new → PlacesEntries space old new
+entries_then space later old mid new same first second s v = ⊎_elim
+    (λ (stays : own_entry (container_at new s) v ≡ own_entry (container_at mid s) v). ⊎_elim
+    (λ (stayed : own_entry (container_at mid s) v ≡ own_entry (container_at old s) v). inl (stays ∙ stayed))
+    (λ (placed : IsSpareEntry space (own_entry (container_at mid s) v)). inr (subst (IsSpareEntry space) (sym stays) placed))
+    (first s v))
+    (λ (placed : IsSpareEntry later (own_entry (container_at new s) v)). inr (record {
+      entry = placed.entry;
+      stands = placed.stands;
+      lies = subst (λ (c : List Bool). IsAllocatable (length c) placed.entry.pvbn) same placed.lies;
+      spare = subst (λ (c : List Bool). is_member c placed.entry.pvbn ≡ false) same placed.spare;
+    }))
+    (second s v)
+
 -- ---- slot by slot
 
 -- what the placing of some files leaves
@@ -129,7 +178,7 @@ pub record HasPassed (disk : Shown) (pool : Pool) (states : States) (count : ℕ
 pub passed_none : (disk : Shown) (pool : Pool) (states : States) → FitTogether pool states → AreReady disk pool states → StandsOn disk pool.store.pairs → HasPassed disk pool states 0 disk pool states
 passed_none disk pool states fit ready stands = record {
   come = record {
-    placed = record { held = λ before held. held; machine = λ before held. refl; fit = fit; found = refl; committed = refl; cores = λ s. refl; asked = refl; waiting = refl; spent = λ before held room. record { fewer = omega arith; numbers = room.numbers; blocks = omega arith }; only_reads = only_itself disk; idle = λ none. (refl, refl) };
+    placed = record { held = λ before held. held; machine = λ before held. refl; fit = fit; found = refl; committed = refl; cores = λ s. refl; asked = refl; all = refl; waiting = refl; spent = λ before held room. record { fewer = omega arith; numbers = room.numbers; blocks = omega arith }; others = λ s. refl; entries = λ s v. inl refl; only_reads = only_itself disk; idle = λ none. (refl, refl) };
     ready = ready;
     stands = stands;
   };
@@ -187,11 +236,15 @@ module _ (disk : Shown) (pool : Pool) (states : States) (mid : Shown) (held : Po
           committed = did.placed.goes.goes.goes.committed ∙ come.placed.committed;
           cores = λ s. one.cores_still mid after held left between stay x did.now here now come.placed.fit.housed did.placed s ∙ come.placed.cores s;
           asked = asked_still mid after held left between stay x did.now here now come.placed.fit did.placed ready.ready ∙ come.placed.asked;
+          all = all_still mid after held left between stay x did.now here now come.placed.fit did.placed ∙ come.placed.all;
           waiting = waiting_still mid after held left between stay x did.now here now come.placed.fit did.placed ∙ come.placed.waiting;
           spent = λ before was room.
               let first = come.placed.spent before was room in
               let second = spent_still mid after held left between stay x did.now here now come.placed.fit did.placed before (come.placed.held before was) (room_now first room) in
               record { fewer = omega (arith, first.fewer, second.fewer); numbers = second.numbers; blocks = omega (arith, first.blocks, second.blocks) };
+          others = λ s. others_still mid after held left between stay x did.now here now come.placed.fit did.placed ready.ready s ∙ come.placed.others s;
+          entries = entries_then pool.map held.map pool.containers held.containers left.containers come.placed.committed come.placed.entries
+              (entries_still mid after held left between stay x did.now here now come.placed.fit did.placed);
           only_reads = reads_then disk mid after come.placed.only_reads (one.only_read mid after held left between stay x did.now here now come.placed.fit.housed did.placed);
           idle = λ none.
               let first = come.placed.idle none in

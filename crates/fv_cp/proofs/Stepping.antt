@@ -265,6 +265,7 @@ come_first regions disk mid pool left states labels are stands housed room map c
   free = λ s low none. are.each s low ∙ ap (λ (o : Option VolumeState). label_lent o (get_or pool.found.root.labels s 0)) none;
   stands = stands;
   housed = subst (λ (c : Slots). AreHoused c states) (sym containers) housed;
+  rest = λ s past. ap (λ (c : Slots). container_at c s) containers;
   room = subst (λ (m : Space). blocks_asked states ≤ free_blocks m) (sym map) room;
   committed = ap (λ (m : Space). m.committed) map;
   found = found;
@@ -285,6 +286,11 @@ pub past_written : (regions : ℕ → ℕ → Bool) (o : Option VolumeState) (x 
 past_written regions o x s labels pool disk now left after there changed is = subst (λ (p : Option VolumeState). GoesPast regions p s labels pool disk now left after) (sym there)
     (subst (λ (b : Bool). cond b (IsSlotWritten (regions s) x s labels pool disk now left after) (IsPassed labels pool disk now left after)) (sym changed) is)
 
+-- what is taken of the slot may be said by other regions that are the same there
+pub past_alike : (regions others : ℕ → ℕ → Bool) (o : Option VolumeState) (s : ℕ) (labels : List ℕ) (pool : Pool) (disk : Shown) (now : List ℕ) (left : Pool) (after : Shown) → regions s ≡ others s → GoesPast regions o s labels pool disk now left after → GoesPast others o s labels pool disk now left after
+past_alike regions others None s labels pool disk now left after same is = is
+past_alike regions others (Some x) s labels pool disk now left after same is = subst (λ (f : ℕ → Bool). cond x.changed (IsSlotWritten f x s labels pool disk now left after) (IsPassed labels pool disk now left after)) same is
+
 module _ (regions : ℕ → ℕ → Bool) (disk : Shown) (pool : Pool) (states : States) (s : ℕ) (inside : s < 64) (size : blocks_of pool.map ≡ pool.found.blocks) (range : IsInRange pool.found) (labels : List ℕ) (left : Pool) (mid : Shown) (come : HasCome regions disk pool states s labels left mid)
     (now : List ℕ) (after : Pool) (new : Shown) where
   more_room : free_blocks left.map ≤ free_blocks after.map + asked_by (state_at states s) → asked_from (suc s) states ≤ free_blocks after.map
@@ -299,6 +305,7 @@ module _ (regions : ℕ → ℕ → Bool) (disk : Shown) (pool : Pool) (states :
     pub places : All (λ place. place ≤ last_place) now
     pub free : (k : ℕ) → k < 64 → state_at states k ≡ None → get_or now k 0 ≡ 0
     pub housed : AreHoused after.containers states
+    pub rest : (k : ℕ) → suc s ≤ k → container_at after.containers k ≡ container_at pool.containers k
     pub written : IsTrue disk.tells → (before : Machine) → IsLent disk pool states before → IsCourse regions pool states (seen pool.kept disk.reads) (suc s) now after.map.next after.containers new.reads
 
   passes : IfSome (state_at states s) (λ x. x.changed ≡ false) → IsPassed labels left mid now after new → Leaves
@@ -307,6 +314,7 @@ module _ (regions : ℕ → ℕ → Bool) (disk : Shown) (pool : Pool) (states :
     places = subst (λ (xs : List ℕ). All (λ place. place ≤ last_place) xs) (sym is.named) come.places;
     free = λ k low none. ap (λ (xs : List ℕ). get_or xs k 0) is.named ∙ come.free k low none;
     housed = subst (λ (c : Slots). AreHoused c states) (sym is.containers) come.housed;
+    rest = λ k past. ap (λ (c : Slots). container_at c k) is.containers ∙ come.rest k (omega (arith, past));
     written = λ tells before lent. same_course regions pool states (seen pool.kept disk.reads) (suc s) labels now left.map.next after.map.next left.containers after.containers mid.reads new.reads is.named (ap (λ (m : Space). m.next) is.map) is.containers is.reads
         (course_passes regions pool states (seen pool.kept disk.reads) s labels left.map.next left.containers mid.reads unchanged (come.written tells before lent));
   }
@@ -323,6 +331,7 @@ module _ (regions : ℕ → ℕ → Bool) (disk : Shown) (pool : Pool) (states :
         (λ (differ : k ≢ s). ap (λ (xs : List ℕ). get_or xs k 0) is.named ∙ get_or-set_other labels s k is.label 0 differ ∙ come.free k low none)
         (cases_eq k s);
     housed = subst (λ (c : Slots). AreHoused c states) (sym is.containers) (housed_put left.containers states s x is.new (omega (arith, inside, is.few)) there is.long come.housed);
+    rest = λ k past. ap (λ (c : Slots). container_at c k) is.containers ∙ get_or-set_other left.containers.containers s k (Some is.new) None (omega (arith, past)) ∙ come.rest k (omega (arith, past));
     written = λ tells before lent. course_goes_on regions disk pool states before lent tells s inside labels left mid come size_now x there changed now after new is;
   }
 
@@ -347,6 +356,7 @@ module _ (regions : ℕ → ℕ → Bool) (disk : Shown) (pool : Pool) (states :
         free = l.free;
         stands = stands;
         housed = l.housed;
+        rest = l.rest;
         room = more_room count;
         committed = committed ∙ come.committed;
         found = found ∙ come.found;

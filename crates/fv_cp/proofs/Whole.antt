@@ -1,6 +1,6 @@
 -- A consistency point in front of which all files are placed.
-use Rattle.std.proofs.Common.{◌≡◌, ℕ, false, length, Option, Some, inl, inr, ⊎_elim, refl, sym, ap, subst, ◌∙◌, arith, Ok, Err}
-use Rattle.std.specs.Prelude.{IfSome, IsTrue}
+use Rattle.std.proofs.Common.{◌≡◌, ℕ, Bool, false, length, Option, Some, inl, inr, ⊎_elim, refl, sym, ap, subst, ◌∙◌, arith, Ok, Err, List}
+use Rattle.std.specs.Prelude.{IfSome, IsTrue, None}
 use Rattle.std.specs.Option.{option_map}
 use Rattle.fv_disk.specs.Crash.{Leaves}
 use Rattle.fv_disk.specs.Faults.{HasBlockCause}
@@ -14,6 +14,7 @@ use Rattle.fv_root.specs.Finding.{root_found}
 use Rattle.fv_root.specs.Commits.{IsFoundOn}
 use Rattle.fv_store.specs.Held.{StandsOn}
 use Rattle.fv_container.specs.Chains.{container_at, parent_at}
+use Rattle.fv_volmap.specs.Slots.{Volume}
 use Rattle.fv_volume.specs.declared.fault.VolumeFault.{VolumeFault}
 use Rattle.fv_volume.specs.declared.fault.VolumeFault.TheVariants as volume
 use Rattle.fv_volume.specs.declared.pool.Pool.{Pool}
@@ -23,6 +24,7 @@ use Rattle.fv_volume.specs.Files.{IsLabelled}
 use Rattle.fv_volume.specs.Loading.{Houses}
 use Rattle.fv_volume.specs.Numbering.{AreNumbersSeen}
 use Rattle.fv_volume.specs.States.{States, parent_in, state_at, view_over}
+use Rattle.fv_volume.proofs.Settled.{settled_keeps}
 use Rattle.fv_volume.proofs.Staying.{kept_stands}
 use Rattle.fv_volume.proofs.HeldSettled.{core_parent, ready_of, settled_core, settled_no_files, settled_numbers, settled_ready, settled_unchanged, settled_whole}
 use Rattle.fv_cp.specs.Held.{machine_held, IsHeld}
@@ -30,6 +32,11 @@ use Rattle.fv_cp.specs.Lent.{FitTogether, IsLent}
 use Rattle.fv_cp.specs.Placing.{core_of, ArePlaced, AreReady, HasNoFiles, HasWholeMap, HaveNoFiles, HaveRoom, IsPlaceFault, IsReadyIn}
 use Rattle.fv_cp.specs.Points.{machine_lent, Counts, GoesOn, IsCalm, IsPoint, LacksRoom, LeavesAll, OldOrLent}
 use Rattle.fv_cp.specs.Settling.{GoesOnWhole, HasWholeCause, HaveFullRoom, IsHeldPoint, IsNoDamage, IsStill, OldOrHeld, StillHeld, WholeCounts, WholeFails}
+use Rattle.fv_volume.specs.Housed.{settled_as}
+use Rattle.fv_volume.specs.Trees.{active_in, no_trees}
+use Rattle.fv_cp.specs.Choosing.{CanChoose, has_slot, marked_as, regions_chosen}
+use Rattle.fv_cp.specs.Known.{AreKnown}
+use Rattle.fv_cp.proofs.Marking.{asked_least, asked_most, marked_core, marked_no_files, marked_numbers, marked_ready, marked_table, marked_whole}
 use Rattle.fv_cp.proofs.Lendable.{held_lent, held_machine, numbers_held, past_held}
 use Rattle.fv_volume.proofs.PlacedIn.{found_read}
 
@@ -57,28 +64,54 @@ module _ (disk : Shown) (pool : Pool) (states : States) (mid : Shown) (held : Po
     machine_mid : (before : Machine) → IsHeld disk pool states before → machine_lent mid held between ≡ machine_held disk pool states
     machine_mid before was = sym (held_machine mid held between before (placed.held before was) placed.fit none whole) ∙ placed.machine before was
 
-    pub pointing : IsDisk disk → (new : Shown) (before : Machine) → IsHeld disk pool states before → ((before : Machine) → IsLent mid held between before → Leaves mid new (OldOrLent mid held between before)) → Leaves disk new (OldOrHeld disk pool states before)
-    pointing laws new before was left = then disk mid new (OldOrHeld disk pool states before) (placing laws before was)
+    -- What a point needs is known of the image, and there is room for each choice of regions.
+    can_choose : (before : Machine) → IsHeld disk pool states before → (want : ℕ) (delays : List Bool) → AreKnown mid.reads pool.found delays → HaveFullRoom pool states → CanChoose mid held between want delays
+    can_choose before was want delays known room = record {
+      known = subst (λ (f : Found). AreKnown mid.reads f delays) (sym placed.found) known;
+      room =
+          let spent = placed.spent before was (some_room pool states room) in
+          let most = asked_most (has_slot (regions_chosen held between want)) between placed.fit.housed.long in
+          let asked = placed.all in
+          let blocks = room.blocks in
+          omega (arith, spent.blocks, most, asked, blocks);
+    }
+
+    pub pointing : IsDisk disk → (new : Shown) (before : Machine) → IsHeld disk pool states before → (want : ℕ) (delays : List Bool) → AreKnown mid.reads pool.found delays → HaveFullRoom pool states
+        → ((before : Machine) → IsLent mid held between before → CanChoose mid held between want delays → Leaves mid new (OldOrLent mid held between before)) → Leaves disk new (OldOrHeld disk pool states before)
+    pointing laws new before was want delays known room left = then disk mid new (OldOrHeld disk pool states before) (placing laws before was)
         (weaken mid new (OldOrLent mid held between before) (OldOrHeld disk pool states before)
         (λ c g is. (⊎_elim (λ old. inl old) (λ new. inr (new ∙ ap (λ (m : Machine). Some m) (machine_mid before was))) is.0, is.1 ∙ placed.only_reads.given))
-        (left before (lent_mid before was)))
+        (left before (lent_mid before was) (can_choose before was want delays known room)))
 
     -- ---- the point was done
 
     module _ (fit : FitTogether pool states) (ready : AreReady mid held between) (new : Shown) (left : Pool) (stay : States) (goes : GoesOn mid held between new left stay) where
+      abbrev marks : ℕ → Bool
+      marks s = (goes.settled s).0
+
+      abbrev label : ℕ → ℕ
+      label s = (goes.settled s).1.0
+
+      -- the volume that was written, or not
+      abbrev due : ℕ → Option VolumeState
+      due s = option_map (marked_as (marks s)) (state_at between s)
+
+      is_now : (s : ℕ) → state_at stay s ≡ option_map (settled_as (label s)) (due s)
+      is_now s = (goes.settled s).1.1
+
       none_now : (s : ℕ) → HasNoFiles (state_at stay s)
-      none_now s = subst HasNoFiles (sym (goes.settled s).1) (settled_no_files (state_at between s) (goes.settled s).0 (none s))
+      none_now s = subst HasNoFiles (sym (is_now s)) (settled_no_files (due s) (label s) (marked_no_files (marks s) (state_at between s) (none s)))
 
       whole_now : (s : ℕ) → HasWholeMap (state_at stay s)
-      whole_now s = subst HasWholeMap (sym (goes.settled s).1) (settled_whole (state_at between s) (goes.settled s).0 (whole s))
+      whole_now s = subst HasWholeMap (sym (is_now s)) (settled_whole (due s) (label s) (marked_whole (marks s) (state_at between s) (whole s)))
 
       parents_now : (s : ℕ) → parent_at left.containers s ≡ parent_at pool.containers s
       parents_now s = goes.parents s ∙ placed.fit.housed.parents s ∙ core_parent (state_at between s) ∙ ap parent_in (placed.cores s) ∙ sym (core_parent (state_at states s)) ∙ sym (fit.housed.parents s)
 
       ready_now : AreReady new left stay
       ready_now s =
-          let same = (goes.settled s).1 in
-          subst (λ (o : Option VolumeState). IfSome o (IsReadyIn new left s)) (sym same) (settled_ready mid new held left s goes.stands goes.blocks (goes.settled s).0 (state_at between s) (ready s) (none s)
+          let same = is_now s in
+          subst (λ (o : Option VolumeState). IfSome o (IsReadyIn new left s)) (sym same) (settled_ready mid new held left s goes.stands goes.blocks (label s) (due s) (marked_ready mid held s (marks s) (state_at between s) (ready s)) (marked_no_files (marks s) (state_at between s) (none s))
           (subst (λ (o : Option VolumeState). IfSome o (IsLabelled s)) same (goes.fit.housed.volumes s)) (subst (λ (o : Option VolumeState). Houses o (container_at left.containers s)) same (goes.fit.housed.each s)))
 
       pub goes_whole : GoesOnWhole disk pool states new left stay
@@ -89,35 +122,47 @@ module _ (disk : Shown) (pool : Pool) (states : States) (mid : Shown) (held : Po
         fit = goes.fit;
         ready = ready_now;
         none = none_now;
-        unchanged = λ s. subst (λ (o : Option VolumeState). IfSome o (λ x. x.changed ≡ false)) (sym (goes.settled s).1) (settled_unchanged (state_at between s) (goes.settled s).0);
+        unchanged = λ s. subst (λ (o : Option VolumeState). IfSome o (λ x. x.changed ≡ false)) (sym (is_now s)) (settled_unchanged (due s) (label s));
         unkept = goes.unkept;
         free = goes.free;
-        cores = λ s. ap (option_map core_of) (goes.settled s).1 ∙ settled_core (state_at between s) (goes.settled s).0 ∙ placed.cores s;
+        cores = λ s. ap (option_map core_of) (is_now s) ∙ settled_core (due s) (label s) ∙ marked_core (marks s) (state_at between s) ∙ placed.cores s;
         parents = parents_now;
         blocks = goes.blocks ∙ ap (λ (f : Found). f.blocks) placed.found;
       }
 
+      -- the maps in memory stay
+      maps_now : (s : ℕ) → option_map (λ (x : VolumeState). x.map) (state_at stay s) ≡ option_map (λ (x : VolumeState). x.map) (state_at between s)
+      maps_now s = ap (option_map (λ (x : VolumeState). x.map)) (is_now s) ∙ by (state_at between s)
+        where
+          by : (o : Option VolumeState) → option_map (λ (x : VolumeState). x.map) (option_map (settled_as (label s)) (option_map (marked_as (marks s)) o)) ≡ option_map (λ (x : VolumeState). x.map) o
+          by None = refl
+          by (Some x) = ap (λ (m : Volume). Some m) (settled_keeps (λ (y : VolumeState). y.map) (marked_as (marks s) x) (label s) refl)
+
       -- the numbers of each volume's files are those of its table
-      numbered_now : (before : Machine) → IsHeld disk pool states before → IsPoint mid held between new left stay → (s : ℕ) → AreNumbersSeen (view_over left stay new.reads) s (state_at stay s)
-      numbered_now before was point s = subst (AreNumbersSeen (view_over left stay new.reads) s) (sym (goes.settled s).1)
-          (settled_numbers (view_over held between mid.reads) (view_over left stay new.reads) s (state_at between s) (goes.settled s).0 (point.tables s) (numbers_held mid held between before (placed.held before was) placed.fit none whole s))
+      numbered_now : (before : Machine) → IsHeld disk pool states before → (want : ℕ) (delays : List Bool) → IsPoint mid held between want new left stay delays → (s : ℕ) → AreNumbersSeen (view_over left stay new.reads) s (state_at stay s)
+      numbered_now before was want delays point s = subst (AreNumbersSeen (view_over left stay new.reads) s) (sym (is_now s))
+          (settled_numbers (view_over held between mid.reads) (view_over left stay new.reads) s (due s) (label s) (marked_table (active_in (view_over left stay new.reads) no_trees s ≡ active_in (view_over held between mid.reads) no_trees s) (marks s) (state_at between s) (point.tables s))
+          (marked_numbers (view_over held between mid.reads) s (marks s) (state_at between s) (numbers_held mid held between before (placed.held before was) placed.fit none whole s)))
 
       -- Over a disk.
       pub point_held : (before : Machine) → IsHeld disk pool states before → (few : length left.containers.containers ≡ 64) → IsTrue disk.tells → new.tells ≡ mid.tells → ((b : ℕ) → length (new.reads b) ≡ 4096)
-          → ((before : Machine) → IsLent mid held between before → IsPoint mid held between new left stay) → IsHeldPoint disk pool states new left stay
-      point_held before was few told tells long did =
-          let point = did before (lent_mid before was) in
+          → (want : ℕ) (first delays : List Bool) → AreKnown mid.reads pool.found first → HaveFullRoom pool states
+          → ((before : Machine) → IsLent mid held between before → CanChoose mid held between want first → IsPoint mid held between want new left stay delays) → IsHeldPoint disk pool states want new left stay delays
+      point_held before was few told tells long want first delays known enough did =
+          let point = did before (lent_mid before was) (can_choose before was want first known enough) in
           let told_mid : IsTrue mid.tells = subst IsTrue (sym placed.only_reads.stays.tells) told in
           let same = machine_mid before was in
           let now : IsHeld new left stay (machine_lent mid held between) = past_held new left stay (machine_lent mid held between) point.lent goes.fit point.unchanged goes.free goes.unkept few (goes.loaded told_mid) (subst IsTrue (sym tells) told_mid) long none_now
-          (λ s. ready_of new left s (state_at stay s) (ready_now s)) (numbered_now before was point) in
+          (λ s. ready_of new left s (state_at stay s) (ready_now s)) (numbered_now before was want delays point) in
           record {
             settled = point.settled;
             stands = point.stands ∙ ap (λ (m : Machine). Some m) same;
             held = subst (IsHeld new left stay) same now;
             machine = held_machine new left stay (machine_lent mid held between) now goes.fit none_now whole_now ∙ point.machine ∙ same;
             unchanged = point.unchanged;
-            reclaimed = point.reclaimed;
+            room = point.room;
+            delays = point.delays;
+            entries = record { mid = held; between = between; found = placed.found; others = placed.others; maps = maps_now; housed = placed.fit.housed; placed = placed.entries; containers = record { written = point.entries; stays = point.containers } };
             free = goes.free;
           }
 
@@ -167,9 +212,9 @@ module _ (disk : Shown) (pool : Pool) (states : States) (mid : Shown) (held : Po
   enough_left before was room Memory lacks = absurd lacks
   enough_left before was room (Damaged at want found) lacks =
       let spent = placed.spent before was (some_room pool states room) in
-      let asked = placed.asked in
+      let asked = placed.all in
       let blocks = room.blocks in
-      absurd (omega (arith, lacks.1.0, lacks.1.1.0, lacks.1.1.1, spent.blocks, asked, blocks))
+      absurd (omega (arith, lacks.1.0, lacks.1.1.0, lacks.1.1.1, asked_least between placed.fit.housed.long, spent.blocks, asked, blocks))
 
   -- why it wasn't done, with the files in their places
   pub fails_left : (new : Shown) (left : Pool) (stay : States) (e : BlockFault) → LacksRoom held between e → LeavesAll mid held between new left stay e → WholeFails states left stay (of_block e)

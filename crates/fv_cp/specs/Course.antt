@@ -27,10 +27,6 @@ use Rattle.fv_volume.specs.Writing.{HasOwnBlocks, IsTaken, IsWritten, on_disk}
 
 -- ---- one slot
 
--- the regions of each slot that a point reclaims: all of them
-abbrev pub all_regions : ℕ → ℕ → Bool
-all_regions s r = true
-
 -- some regions of the slot's volume were reclaimed, then it was written, and the labels name it
 pub record IsSlotWritten (regions : ℕ → Bool) (x : VolumeState) (s : ℕ) (labels : List ℕ) (pool : Pool) (disk : Shown) (now : List ℕ) (left : Pool) (after : Shown) : Type 0 where
   pub old : Mapped
@@ -131,6 +127,8 @@ pub record HasCome (regions : ℕ → ℕ → Bool) (disk : Shown) (pool : Pool)
   pub free : (s : ℕ) → s < 64 → state_at states s ≡ None → get_or labels s 0 ≡ 0
   pub stands : StandsOn now left.store.pairs
   pub housed : AreHoused left.containers states
+  -- the containers of the other slots are as they were lent
+  pub rest : (s : ℕ) → count ≤ s → container_at left.containers s ≡ container_at pool.containers s
   pub room : asked_from count states ≤ free_blocks left.map
   pub committed : left.map.committed ≡ pool.map.committed
   pub found : left.found ≡ pool.found

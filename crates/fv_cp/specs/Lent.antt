@@ -65,6 +65,15 @@ asked_by (Some x) = cond x.changed (asked x) 0
 abbrev pub blocks_asked : States → ℕ
 blocks_asked states = sum_by asked_by states
 
+-- the blocks that a volume asks for where it is written
+abbrev pub asked_of : Option VolumeState → ℕ
+asked_of None = 0
+asked_of (Some x) = asked x
+
+-- those of all volumes, changed or not
+abbrev pub asked_all : States → ℕ
+asked_all states = sum_by asked_of states
+
 -- the blocks of a volume's maps that wait
 abbrev pub waiting_by : Option VolumeState → ℕ
 waiting_by None = 0

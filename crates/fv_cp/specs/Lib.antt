@@ -1,6 +1,9 @@
+pub mod Choosing
 pub mod Course
 pub mod Held
+pub mod Known
 pub mod Lent
 pub mod Placing
+pub mod Planning
 pub mod Points
 pub mod Settling

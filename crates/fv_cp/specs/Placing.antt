@@ -1,17 +1,23 @@
 -- What the placing of files leaves of a session: of one volume, and of all.
-use Rattle.std.specs.Prelude.{◌≡◌, ◌<◌, ◌≤◌, ◌+◌, ℕ, Option, Some, None, IfSome}
+use Rattle.std.specs.Prelude.{◌≡◌, ◌<◌, ◌≤◌, ◌+◌, ◌⊎◌, ℕ, false, Option, Some, None, IfSome}
 use Rattle.std.specs.List.{sum_by}
 use Rattle.std.specs.Option.{option_map}
 use Rattle.fv_disk.specs.Shown.{Shown}
 use Rattle.fv_disk.specs.DiskCalls.{OnlyReads}
+use Rattle.fv_bits.specs.Members.{is_member}
 use Rattle.fv_model.specs.Machines.{Machine}
+use Rattle.fv_image.specs.Reclaimed.{IsAllocatable}
+use Rattle.fv_container.specs.declared.entry.Entry.{Entry}
+use Rattle.fv_container.specs.Chains.{Slots, container_at, own_entry}
 use Rattle.fv_volume.specs.declared.pool.Pool.{Pool}
 use Rattle.fv_volume.specs.declared.state.VolumeState.{VolumeState}
-use Rattle.fv_aggmap.specs.Space.{free_blocks}
+use Rattle.fv_aggmap.specs.Space.{Space, blocks_of, free_blocks}
+use Rattle.fv_volmap.specs.Slots.{empty_volume}
 pub use Rattle.fv_volume.specs.Held.{core_of, pending_by, HasNoFiles, HasNumbers, HasSpent, HasWholeMap, IsPlaceFault, IsPlacedAs, IsReadyIn, MayFail}
+use Rattle.fv_volume.specs.SnapRecords.{hole}
 use Rattle.fv_volume.specs.States.{States, state_at, with_state}
 use Rattle.fv_cp.specs.Held.{machine_held, IsHeld}
-use Rattle.fv_cp.specs.Lent.{blocks_asked, maps_waiting, FitTogether}
+use Rattle.fv_cp.specs.Lent.{asked_all, blocks_asked, maps_waiting, FitTogether}
 
 -- ---- one volume
 
@@ -55,6 +61,25 @@ HaveNoFiles states = (s : ℕ) → HasNoFiles (state_at states s)
 abbrev pub KeepCores : States → States → Type 0
 KeepCores states stay = (s : ℕ) → option_map core_of (state_at stay s) ≡ option_map core_of (state_at states s)
 
+-- An entry leads to a block where a volume's can lie, and which the root on the disk doesn't hold: it was placed since the last point.
+pub record IsSpareEntry (space : Space) (now : Option Entry) : Type 0 where
+  pub entry : Entry
+  pub stands : now ≡ Some entry
+  pub lies : IsAllocatable (blocks_of space) entry.pvbn
+  pub spare : is_member space.committed entry.pvbn ≡ false
+
+-- each entry is as it was, or leads to such a block
+abbrev pub PlacesEntries : Space → Slots → Slots → Type 0
+PlacesEntries space old new = (s v : ℕ) → (own_entry (container_at new s) v ≡ own_entry (container_at old s) v) ⊎ IsSpareEntry space (own_entry (container_at new s) v)
+
+-- a volume without what the placing of its files changes: its active root, the numbers in use and the trees in memory
+abbrev pub but_placed : VolumeState → VolumeState
+but_placed x = record x { active = record { levels = 0; root = hole }; map = empty_volume 0; files = None }
+
+-- the volumes are as they were but for that
+abbrev pub AreButPlaced : States → States → Type 0
+AreButPlaced states stay = (s : ℕ) → option_map but_placed (state_at stay s) ≡ option_map but_placed (state_at states s)
+
 -- What changed of the files of volumes was placed, or a part of it. The volumes are what they were between points, and stand for the machine
 -- that they stood for. The disk was only read.
 pub record ArePlaced (disk : Shown) (pool : Pool) (states : States) (after : Shown) (left : Pool) (stay : States) : Type 0 where
@@ -67,7 +92,10 @@ pub record ArePlaced (disk : Shown) (pool : Pool) (states : States) (after : Sho
   pub cores : KeepCores states stay
   -- what a point asks for stays, and so do the maps that wait
   pub asked : blocks_asked stay ≡ blocks_asked states
+  pub all : asked_all stay ≡ asked_all states
   pub waiting : maps_waiting stay ≡ maps_waiting states
   pub spent : (before : Machine) → IsHeld disk pool states before → HaveRoom pool states → HaveSpent pool states left stay
+  pub others : AreButPlaced states stay
+  pub entries : PlacesEntries pool.map pool.containers left.containers
   pub only_reads : OnlyReads disk after
   pub idle : HaveNoFiles states → (left ≡ pool) × (stay ≡ states)

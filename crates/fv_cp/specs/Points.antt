@@ -1,5 +1,5 @@
 -- What a consistency point does, and why it isn't done.
-use Rattle.std.specs.Prelude.{◌≡◌, ◌<◌, ◌⊎◌, ℕ, Bool, List, Some, None, Result, IfSome, IsTrue, true, false, if◌then◌else◌}
+use Rattle.std.specs.Prelude.{◌≡◌, ◌<◌, ◌||◌, ◌⊎◌, ℕ, Bool, List, Some, None, Result, IfSome, IsTrue, true, false, if◌then◌else◌}
 use Rattle.std.specs.Option.{option_map}
 use Rattle.std.specs.FinMap as fin
 use Rattle.fv_disk.specs.Shown.{Image, Shown, IsSettled}
@@ -8,16 +8,17 @@ use Rattle.fv_disk.specs.Faults.{HasBlockCause}
 use Rattle.fv_codec.specs.declared.root.Root.{Root}
 use Rattle.fv_model.specs.Machines.{Machine}
 use Rattle.fv_image.specs.Layout.{root_place}
-use Rattle.fv_image.specs.Views.{delayed}
 use Rattle.fv_image.specs.Volumes.{told}
 use Rattle.fv_image.specs.Held.{label_place, view_at}
 use Rattle.fv_image.specs.WholeMachine.{machine_of}
 use Rattle.fv_root.specs.Finding.{root_found}
 use Rattle.fv_root.specs.Commits.{IsFoundOn, next_found}
 use Rattle.fv_store.specs.Held.{StandsOn}
-use Rattle.fv_container.specs.Chains.{container_at, parent_at, slot_count}
+use Rattle.fv_container.specs.Chains.{Slots, container_at, parent_at, slot_count}
 use Rattle.fv_container.specs.Leading.{place_at}
 use Rattle.fv_container.specs.Mapped.{Mapped, entry_under}
+use Rattle.fv_delay.specs.declared.regions.Region.{Region}
+use Rattle.fv_delay.specs.Holding.{has_region}
 use Rattle.fv_delay.specs.Reclaims.{goes_with}
 use Rattle.fv_aggmap.specs.Loading.{IsLoaded as IsMapLoaded}
 use Rattle.fv_aggmap.specs.Space.{blocks_of, free_blocks}
@@ -28,9 +29,10 @@ use Rattle.fv_volume.specs.States.{States, state_at, head_in, view_over}
 use Rattle.fv_volume.specs.Trees.{active_in, no_trees}
 use Rattle.fv_disk.specs.declared.fault.BlockFault.{BlockFault}
 use Rattle.fv_disk.specs.declared.fault.BlockFault.TheVariants.{DiskFault, Damaged, Memory}
-use Rattle.fv_cp.specs.Course.{all_regions}
+use Rattle.fv_cp.specs.Choosing.{LeavesRoom, has_slot, marked_as, regions_chosen}
+use Rattle.fv_cp.specs.Known.{AreKnown}
 use Rattle.fv_cp.specs.Lent.{FitTogether, IsLent, blocks_asked}
-pub use Rattle.fv_volume.specs.Housed.{AreSettled}
+use Rattle.fv_volume.specs.Housed.{settled_as}
 
 -- the machine of the volumes lent
 abbrev pub machine_lent : Shown → Pool → States → Machine
@@ -46,9 +48,19 @@ pub record LeavesEntries (regions : ℕ → Bool) (x : VolumeState) (old new : M
   pub reclaimed : (v : ℕ) → is_map_written x v ≡ false → entry_under new v ≡ (if goes_with x.map old regions v then None else entry_under old v)
   pub written : (v : ℕ) → is_map_written x v ≡ true → entry_under new v ≡ Some (map_entry (place_at new v))
 
--- What a point that was done leaves: a settled disk that stands for the volumes lent, which are as they were, with nothing new and
--- nothing delayed.
-pub record IsPoint (old : Shown) (pool : Pool) (states : States) (new : Shown) (left : Pool) (stay : States) : Type 0 where
+-- whether a point writes a volume that reclaims some regions
+abbrev pub is_due : List Region → ℕ → VolumeState → Bool
+is_due regions s x = has_slot regions s || x.changed
+
+-- So it is with all volumes, where a point reclaims these regions: one that it doesn't write keeps its container.
+pub record LeavesContainers (regions : List Region) (states : States) (old new : Slots) : Type 0 where
+  pub written : (s : ℕ) (x : VolumeState) (before : Mapped) → s < slot_count → state_at states s ≡ Some x → is_due regions s x ≡ true → container_at old s ≡ Some before
+      → (after : Mapped) × ((container_at new s ≡ Some after) × LeavesEntries (has_region regions s) x before after)
+  pub stays : (s : ℕ) → s < slot_count → IfSome (state_at states s) (λ x. is_due regions s x ≡ false) → container_at new s ≡ container_at old s
+
+-- What a point that was done leaves: a settled disk that stands for the volumes lent, which are as they were, with nothing new. The regions
+-- that are chosen for what was missing are reclaimed, and no other.
+pub record IsPoint (old : Shown) (pool : Pool) (states : States) (want : ℕ) (new : Shown) (left : Pool) (stay : States) (marks : List Bool) : Type 0 where
   pub settled : IsSettled new
   pub stands : machine_of new.reads ≡ Some (machine_lent old pool states)
   pub lent : IsLent new left stay (machine_lent old pool states)
@@ -56,15 +68,21 @@ pub record IsPoint (old : Shown) (pool : Pool) (states : States) (new : Shown) (
   pub machine : machine_lent new left stay ≡ machine_lent old pool states
   pub tables : (s : ℕ) → IfSome (state_at states s) (λ x. active_in (view_over left stay new.reads) no_trees s ≡ active_in (view_over pool states old.reads) no_trees s)
   pub unchanged : (s : ℕ) → IfSome (state_at stay s) (λ x. x.changed ≡ false)
-  pub reclaimed : delayed (view_at (root_found left.found) new.reads) ≡ 0
-  -- of a volume that changed the entries are as the writing leaves them, once all its regions were reclaimed; another keeps its container
-  pub entries : (s : ℕ) (x : VolumeState) (before : Mapped) → s < slot_count → state_at states s ≡ Some x → x.changed ≡ true → container_at pool.containers s ≡ Some before
-      → (after : Mapped) × ((container_at left.containers s ≡ Some after) × LeavesEntries (all_regions s) x before after)
-  pub containers : (s : ℕ) → s < slot_count → IfSome (state_at states s) (λ x. x.changed ≡ false) → container_at left.containers s ≡ container_at pool.containers s
+  pub room : LeavesRoom (view_at (root_found left.found) new.reads) want
+  -- the volumes with delayed entries are marked
+  pub delays : AreKnown new.reads left.found marks
+  -- of a volume that was written the entries are as the writing leaves them, once its chosen regions were reclaimed; another keeps its container
+  pub entries : (s : ℕ) (x : VolumeState) (before : Mapped) → s < slot_count → state_at states s ≡ Some x → is_due (regions_chosen pool states want) s x ≡ true → container_at pool.containers s ≡ Some before
+      → (after : Mapped) × ((container_at left.containers s ≡ Some after) × LeavesEntries (has_region (regions_chosen pool states want) s) x before after)
+  pub containers : (s : ℕ) → s < slot_count → IfSome (state_at states s) (λ x. is_due (regions_chosen pool states want) s x ≡ false) → container_at left.containers s ≡ container_at pool.containers s
   pub blocks : left.found.blocks ≡ pool.found.blocks
-  -- a volume without changes isn't written: it stays as it is, and the root names the label for it that it had
-  pub same : (s : ℕ) → IfSome (state_at states s) (λ x. x.changed ≡ false → state_at stay s ≡ Some x)
-  pub label_same : (s : ℕ) → IfSome (state_at states s) (λ x. x.changed ≡ false → label_place (root_found left.found) s ≡ label_place (root_found pool.found) s)
+  -- a volume without changes and without a chosen region isn't written: it stays as it is, and the root names the label for it that it had
+  pub same : (s : ℕ) → IfSome (state_at states s) (λ x. is_due (regions_chosen pool states want) s x ≡ false → state_at stay s ≡ Some x)
+  pub label_same : (s : ℕ) → IfSome (state_at states s) (λ x. is_due (regions_chosen pool states want) s x ≡ false → label_place (root_found left.found) s ≡ label_place (root_found pool.found) s)
+
+-- The volumes stay as they were, but that each that changed or was to be written is now as the root on the disk names it.
+abbrev pub AreWritten : States → States → Type 0
+AreWritten states stay = (s : ℕ) → (marks : Bool) × ((label : ℕ) × (state_at stay s ≡ option_map (settled_as label) (option_map (marked_as marks) (state_at states s))))
 
 -- The pool once another root counts: that root is the one found, and the map of the next root is the one that it has.
 pub record IsSwitched (pool : Pool) (root : Root) (left : Pool) : Type 0 where
@@ -80,13 +98,13 @@ pub record GoesOn (old : Shown) (pool : Pool) (states : States) (new : Shown) (l
   pub loaded : IsTrue old.tells → IsMapLoaded new.reads left.found left.map
   pub fit : FitTogether left stay
   pub unkept : left.kept ≡ fin.empty
-  pub settled : AreSettled states stay
+  pub settled : AreWritten states stay
   -- the new root names no label for a slot without a volume
   pub free : (s : ℕ) → s < slot_count → state_at stay s ≡ None → label_place (root_found left.found) s ≡ 0
   pub parents : (s : ℕ) → parent_at left.containers s ≡ parent_at pool.containers s
   pub blocks : left.found.blocks ≡ pool.found.blocks
 
--- why a point isn't done: fewer blocks are free than it asks for
+-- why a point isn't done: fewer blocks are free than the volumes ask for that changed
 abbrev pub LacksRoom : Pool → States → BlockFault → Type 0
 LacksRoom pool states DiskFault = Unit {0}
 LacksRoom pool states (Damaged at want found) = (at ≡ root_place pool.found.slot) × ((want ≡ blocks_asked states) × ((found ≡ free_blocks pool.map) × (found < want)))

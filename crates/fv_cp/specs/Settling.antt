@@ -1,10 +1,10 @@
 -- What a consistency point does in front of which the files of all volumes are placed.
-use Rattle.std.specs.Prelude.{◌≡◌, ◌≤◌, ◌<◌, ◌+◌, ◌⊎◌, ℕ, false, List, Some, None, Result, Ok, Err, IfSome, IsTrue}
+use Rattle.std.specs.Prelude.{◌≡◌, ◌≤◌, ◌<◌, ◌+◌, ◌⊎◌, ℕ, Bool, false, List, Some, None, Result, Ok, Err, IfSome, IsTrue}
+use Rattle.std.specs.Option.{option_map}
 use Rattle.std.specs.FinMap as fin
 use Rattle.fv_disk.specs.Shown.{Image, IsSettled, Rose, Shown}
 use Rattle.fv_model.specs.Machines.{Machine}
 use Rattle.fv_image.specs.Held.{label_place, view_at}
-use Rattle.fv_image.specs.Views.{delayed}
 use Rattle.fv_image.specs.WholeMachine.{machine_of}
 use Rattle.fv_root.specs.Finding.{root_found}
 use Rattle.fv_root.specs.Commits.{IsFoundOn}
@@ -15,26 +15,46 @@ use Rattle.fv_aggmap.specs.Space.{free_blocks}
 use Rattle.fv_volume.specs.declared.fault.VolumeFault.{VolumeFault}
 use Rattle.fv_volume.specs.declared.fault.VolumeFault.TheVariants.{Refused, DiskFault, Damaged, Memory}
 use Rattle.fv_volume.specs.declared.pool.Pool.{Pool}
+use Rattle.fv_volume.specs.declared.state.VolumeState.{VolumeState}
+use Rattle.fv_volume.specs.Housed.{AreHoused}
 use Rattle.fv_volume.specs.States.{States, state_at}
 use Rattle.fv_cp.specs.Held.{machine_held, IsHeld}
-use Rattle.fv_cp.specs.Lent.{blocks_asked, FitTogether}
+use Rattle.fv_cp.specs.Lent.{asked_all, FitTogether}
+use Rattle.fv_cp.specs.Choosing.{LeavesRoom, regions_chosen}
+use Rattle.fv_cp.specs.Known.{AreKnown}
 use Rattle.fv_disk.specs.declared.fault.BlockFault.TheVariants as block
-use Rattle.fv_cp.specs.Placing.{pending_files, ArePlaced, AreReady, HasNumbers, HaveNoFiles, KeepCores}
-use Rattle.fv_cp.specs.Points.{LacksRoom}
+use Rattle.fv_cp.specs.Placing.{pending_files, AreButPlaced, ArePlaced, AreReady, HasNumbers, HaveNoFiles, KeepCores, PlacesEntries}
+use Rattle.fv_cp.specs.Points.{LacksRoom, LeavesContainers}
 
 -- an image stands for the machine of the last point, or for that of the session
 abbrev pub OldOrHeld : Shown → Pool → States → Machine → Image → List ℕ → Type 0
 OldOrHeld disk pool states before c g = ((machine_of c ≡ Some before) ⊎ (machine_of c ≡ Some (machine_held disk pool states))) × (g ≡ disk.given)
 
+-- What the placing of files and a point make of the entries of volumes: each stays or leads to a block that the root on the disk doesn't hold, and
+-- then it is as a point leaves it that reclaims the regions which are chosen by what the volumes are then, with the maps that they have behind it.
+pub record LeavesPlaced (pool : Pool) (states : States) (want : ℕ) (left : Pool) (stay : States) : Type 0 where
+  -- the pool and the volumes between the two
+  pub mid : Pool
+  pub between : States
+  pub found : mid.found ≡ pool.found
+  pub others : AreButPlaced states between
+  pub maps : (s : ℕ) → option_map (λ (x : VolumeState). x.map) (state_at stay s) ≡ option_map (λ (x : VolumeState). x.map) (state_at between s)
+  pub housed : AreHoused mid.containers between
+  pub placed : PlacesEntries pool.map pool.containers mid.containers
+  pub containers : LeavesContainers (regions_chosen mid between want) between mid.containers left.containers
+
 -- What such a point that was done leaves: a settled disk that stands for the machine of the session, which still stands for it, with nothing in
--- memory that isn't on the disk, and nothing delayed.
-pub record IsHeldPoint (old : Shown) (pool : Pool) (states : States) (new : Shown) (left : Pool) (stay : States) : Type 0 where
+-- memory that isn't on the disk, and the space rule holds.
+pub record IsHeldPoint (old : Shown) (pool : Pool) (states : States) (want : ℕ) (new : Shown) (left : Pool) (stay : States) (marks : List Bool) : Type 0 where
   pub settled : IsSettled new
   pub stands : machine_of new.reads ≡ Some (machine_held old pool states)
   pub held : IsHeld new left stay (machine_held old pool states)
   pub machine : machine_held new left stay ≡ machine_held old pool states
   pub unchanged : (s : ℕ) → IfSome (state_at stay s) (λ x. x.changed ≡ false)
-  pub reclaimed : delayed (view_at (root_found left.found) new.reads) ≡ 0
+  pub room : LeavesRoom (view_at (root_found left.found) new.reads) want
+  -- the volumes with delayed entries are marked
+  pub delays : AreKnown new.reads left.found marks
+  pub entries : LeavesPlaced pool states want left stay
   -- the new root names no label for a slot without a volume
   pub free : (s : ℕ) → s < slot_count → state_at stay s ≡ None → label_place (root_found left.found) s ≡ 0
 
@@ -95,7 +115,7 @@ pub record WholeCounts (old new : Shown) (result : Result Unit VolumeFault) : Ty
 pub record HaveFullRoom (pool : Pool) (states : States) : Type 0 where
   pub numbers : (s : ℕ) → HasNumbers (state_at states s)
   pub free : pending_files states < free_blocks pool.map
-  pub blocks : blocks_asked states + pending_files states ≤ free_blocks pool.map
+  pub blocks : asked_all states + pending_files states ≤ free_blocks pool.map
 
 abbrev pub IsNoDamage : VolumeFault → Type 0
 IsNoDamage (Refused r) = Unit {0}

@@ -1,12 +1,13 @@
 //! A consistency point of all that changed, files included.
 
-ghost use Rattle.std.specs.Prelude.{◌≡◌, IsTrue, IfErr, OnOk};
+ghost use Rattle.std.specs.Prelude.{◌≡◌, IsTrue, IfErr, OnOk, OnErr};
 ghost use Rattle.fv_disk.specs.Crash.{Leaves};
 ghost use Rattle.fv_model.specs.Machines.{Machine};
 ghost use Rattle.fv_root.specs.Commits.{IsFoundOn};
 ghost use Rattle.fv_store.specs.Held.{StandsOn};
 ghost use Rattle.fv_container.specs.Chains.{IsSlots, container_at, with_container};
 ghost use Rattle.fv_cp.specs.Held.{IsHeld};
+ghost use Rattle.fv_cp.specs.Known.{AreKnown};
 ghost use Rattle.fv_cp.specs.Lent.{FitTogether};
 ghost use Rattle.fv_cp.specs.Placing.{AreReady};
 ghost use Rattle.fv_cp.specs.Settling.{GoesOnWhole, HaveFullRoom, IsHeldPoint, IsNoDamage, IsStill, OldOrHeld, WholeCounts, WholeFails};
@@ -18,10 +19,12 @@ use fv_disk::Disk;
 use fv_volume::{Pool, VolumeFault, Volumes};
 
 /// Places what changed of the files of all volumes, writes what changed in the volumes, and makes a root count that names it: `flush`, and
-/// then `consistency_point`. `want` is the room in blocks that the event needs which asked for the point.
+/// then `consistency_point`. `want` is the room in blocks that the event needs which asked for the point, and `delays` says by slot of which
+/// volumes an entry may be delayed though they haven't changed.
 ///
-/// A crash at any moment leaves an image that stands for the machine of the last point or for that of the volumes with their files in memory,
-/// and after `Ok` the latter, on a settled disk. No file is in memory then.
+/// Where that is right and as many blocks are free as are pending and all volumes ask for, a crash at any moment leaves an image that stands for
+/// the machine of the last point or for that of the volumes with their files in memory, and after `Ok` the latter, on a settled disk. No file is
+/// in memory then, and `delays` is right of the new image. Where no point is done it stays.
 ///
 /// # Errors
 /// `DiskFault` comes only where a write or a barrier failed in this call; of what is in memory nothing is said then, and of images as above.
@@ -36,25 +39,27 @@ pub fn full_point<D: Disk>(
     volumes: &mut Volumes,
     pool: &mut Pool,
     disk: &mut D,
+    delays: &mut [bool; 64],
     want: u64,
 ) -> Result<(), VolumeFault>
     requires stands { StandsOn (D.shown disk.old) pool.old.store.pairs }
     requires found { IsTrue (D.shown disk.old).tells → IsFoundOn (D.shown disk.old) pool.old.found }
     requires fit { FitTogether pool.old volumes.old }
     requires ready { AreReady (D.shown disk.old) pool.old volumes.old }
-    ensures any_moment { IsTrue (D.shown disk.old).tells → (before : Machine) → IsHeld (D.shown disk.old) pool.old volumes.old before
+    ensures any_moment { IsTrue (D.shown disk.old).tells → (before : Machine) → IsHeld (D.shown disk.old) pool.old volumes.old before → AreKnown (D.shown disk.old).reads pool.old.found delays.old → HaveFullRoom pool.old volumes.old
         → Leaves (D.shown disk.old) (D.shown disk.new) (OldOrHeld (D.shown disk.old) pool.old volumes.old before) }
-    ensures point { IsTrue (D.shown disk.old).tells → (before : Machine) → IsHeld (D.shown disk.old) pool.old volumes.old before
-        → OnOk result (IsHeldPoint (D.shown disk.old) pool.old volumes.old (D.shown disk.new) pool.new volumes.new) }
+    ensures point { IsTrue (D.shown disk.old).tells → (before : Machine) → IsHeld (D.shown disk.old) pool.old volumes.old before → AreKnown (D.shown disk.old).reads pool.old.found delays.old → HaveFullRoom pool.old volumes.old
+        → OnOk result (IsHeldPoint (D.shown disk.old) pool.old volumes.old want (D.shown disk.new) pool.new volumes.new delays.new) }
     ensures goes_on { OnOk result (GoesOnWhole (D.shown disk.old) pool.old volumes.old (D.shown disk.new) pool.new volumes.new) }
     ensures still { IfErr result (IsStill (D.shown disk.old) pool.old volumes.old (D.shown disk.new) pool.new volumes.new) }
     ensures enough { IsTrue (D.shown disk.old).tells → (before : Machine) → IsHeld (D.shown disk.old) pool.old volumes.old before
         → HaveFullRoom pool.old volumes.old → IfErr result IsNoDamage }
     ensures counts { WholeCounts (D.shown disk.old) (D.shown disk.new) result }
     ensures fails { IfErr result (WholeFails volumes.old pool.new volumes.new) }
+    ensures delays { OnErr result (delays.new ≡ delays.old) }
 {
     flush(volumes, pool, &*disk)?;
-    consistency_point(volumes, pool, disk, want)?;
+    consistency_point(volumes, pool, disk, delays, want)?;
     count_slots(&mut pool.containers);
     Ok(())
 }

@@ -2,9 +2,11 @@
 //! leaves the volumes of before or those of after. `docs/SPACE.md` has the order of a point.
 #![tactic(auto)]
 
+mod asking;
 mod fault;
 mod full;
 mod placing;
+mod planning;
 mod point;
 mod reclaiming;
 

@@ -1,6 +1,6 @@
 //! The whole of a consistency point.
 
-ghost use Rattle.std.specs.Prelude.{All, ◌≡◌, ◌≤◌, ◌<◌, ◌+◌, ℕ, IsTrue, OnOk, IfErr, IfSome, option_copied, length};
+ghost use Rattle.std.specs.Prelude.{All, ◌≡◌, ◌≤◌, ◌<◌, ◌+◌, ℕ, IsTrue, OnOk, OnErr, IfErr, IfSome, option_copied, length};
 ghost use Rattle.std.specs.Option.{option_map};
 ghost use Rattle.fv_disk.specs.Crash.{Leaves};
 ghost use Rattle.fv_disk.specs.DiskCalls.{Counted};
@@ -20,10 +20,14 @@ ghost use Rattle.fv_cp.specs.Lent.{AreKept, FitTogether, IsLent, asked_by, block
 ghost use Rattle.fv_cp.specs.Points.{Counts, GoesOn, IsCalm, IsPoint, IsSwitched, LacksRoom, LeavesAll, OldOrLent};
 ghost use Rattle.fv_volume.specs.Writing.{IsTaken, on_disk};
 ghost use Rattle.fv_codec.specs.Blocks.{last_place};
-ghost use Rattle.fv_cp.specs.Course.{AreNamedFor, GoesPast, HasCome, all_regions, label_lent};
+ghost use Rattle.fv_cp.specs.Course.{AreNamedFor, GoesPast, HasCome, label_lent};
+ghost use Rattle.fv_cp.specs.Choosing.{CanChoose, holdings};
+ghost use Rattle.fv_cp.specs.Planning.{LeaveDelays, LeavesDelays, taken};
 
+use crate::asking::blocks_asked;
 use crate::fault::CpFault;
-use crate::reclaiming::reclaim_all;
+use crate::planning::{Plan, choose};
+use crate::reclaiming::{mark, reclaim_due};
 use fv_codec::Root;
 use fv_disk::{Disk, Failed};
 use fv_root::{commit, first_block, next_found, root_place};
@@ -36,38 +40,48 @@ const SLOTS: u8 = 64;
 /// to their places, then each volume that changed in the order of slots, to blocks that were free, and then the root is committed. The
 /// blocks of files stay where they are. A volume without changes isn't written. What changed of files in memory isn't either: `full_point`
 /// places it first, and then it waits among the kept blocks. `want` is the room in blocks that the event needs which asked for
-/// the point; so far a point gives all delayed blocks back whatever is wanted, so nothing depends on it.
+/// the point.
 ///
-/// A crash at any moment leaves an image that stands for the machine of before or for that of the volumes lent, and after `Ok` the
-/// latter, on a settled disk. Each slot keeps its parent in the chain of containers. It takes no memory and reads nothing.
+/// Of the containers it reclaims the regions with 64 or more delayed entries, and then those with most while the space rule lacks blocks for
+/// what is used, delayed and wanted; a volume with such a region is written, too. Where with these the volumes ask for more blocks than are
+/// free it reclaims none. `delays` says by slot of which volumes an entry may be delayed though they haven't changed, and after `Ok` of which
+/// one may be that the new root names. Where no point is done it stays.
+///
+/// Where `delays` is right and there is room for the volumes that changed or have a chosen region, a crash at any moment leaves an image that
+/// stands for the machine of before or for that of the volumes lent, and after `Ok` the latter, on a settled disk. Each slot keeps its parent in
+/// the chain of containers. It takes no memory, and reads nothing.
 ///
 /// # Errors
-/// `Damaged` comes only where fewer blocks are free than the volumes that changed ask for: at the place of the root that
+/// `Damaged` comes only where fewer blocks are free than the volumes ask for that changed: at the place of the root that
 /// counts, with both numbers. Nothing changes then. `DiskFault` comes only where a write or a barrier failed in this call; of what is
 /// in memory nothing is said then, of images as above. `Memory` doesn't come.
 ///
-/// Costs a write for each kept block; for each volume that changed, a step for each entry, up to 25 more for one that is no hole, and a
-/// write for each of at most as many blocks as it asks for; beside that a commit, a step for each fixed block, and one for each 64 blocks.
+/// Costs a step for each entry of each volume that changed or of which `delays` says that one may be delayed, and up to 25 more for one that
+/// is no hole, and so again for each volume of which a region is chosen; a write for each kept block, and for each volume that is written one
+/// for each of at most as many blocks as it asks for; beside that a commit, a step for each fixed block, and one for each 64 blocks.
 pub fn consistency_point<D: Disk>(
     volumes: &mut Volumes,
     pool: &mut Pool,
     disk: &mut D,
+    delays: &mut [bool; 64],
     want: u64,
 ) -> Result<(), CpFault>
     requires stands { StandsOn (D.shown disk.old) pool.old.store.pairs }
     requires found { IsTrue (D.shown disk.old).tells → IsFoundOn (D.shown disk.old) pool.old.found }
     requires fit { FitTogether pool.old volumes.old }
-    ensures any_moment { IsTrue (D.shown disk.old).tells → (before : Machine) → IsLent (D.shown disk.old) pool.old volumes.old before
+    ensures any_moment { IsTrue (D.shown disk.old).tells → (before : Machine) → IsLent (D.shown disk.old) pool.old volumes.old before → CanChoose (D.shown disk.old) pool.old volumes.old want delays.old
         → Leaves (D.shown disk.old) (D.shown disk.new) (OldOrLent (D.shown disk.old) pool.old volumes.old before) }
-    ensures point { IsTrue (D.shown disk.old).tells → (before : Machine) → IsLent (D.shown disk.old) pool.old volumes.old before
-        → OnOk result (IsPoint (D.shown disk.old) pool.old volumes.old (D.shown disk.new) pool.new volumes.new) }
+    ensures point { IsTrue (D.shown disk.old).tells → (before : Machine) → IsLent (D.shown disk.old) pool.old volumes.old before → CanChoose (D.shown disk.old) pool.old volumes.old want delays.old
+        → OnOk result (IsPoint (D.shown disk.old) pool.old volumes.old want (D.shown disk.new) pool.new volumes.new delays.new) }
     ensures goes_on { OnOk result (GoesOn (D.shown disk.old) pool.old volumes.old (D.shown disk.new) pool.new volumes.new) }
     ensures room { IfErr result (LacksRoom pool.old volumes.old) }
     ensures lacking { IfErr result (LeavesAll (D.shown disk.old) pool.old volumes.old (D.shown disk.new) pool.new volumes.new) }
     ensures calm { IfErr result (IsCalm disk.old disk.new) }
     ensures counts { Counts (D.shown disk.old) (D.shown disk.new) result }
+    ensures delays { OnErr result (delays.new ≡ delays.old) }
 {
-    let asked = blocks_asked(volumes);
+    let plan = choose(volumes, pool, delays, want);
+    let asked = blocks_asked(volumes, &plan.due);
     let free = u64::from(pool.map.free_count());
     if free < asked {
         return Err(CpFault::Damaged {
@@ -76,37 +90,15 @@ pub fn consistency_point<D: Disk>(
             found: free,
         });
     }
+    mark(volumes, &plan.due);
     let mut root = pool.found.root;
+    let mut left = plan.delays;
     clear_free(volumes, &mut root.labels);
-    write_volumes(volumes, pool, disk, &mut root.labels)?;
+    write_volumes(volumes, &plan, pool, disk, &mut root.labels, &mut left)?;
     switch(pool, disk, &root)?;
     settle(volumes, &root.labels);
+    *delays = left;
     Ok(())
-}
-
-/// The blocks that the volumes ask for that changed.
-fn blocks_asked(volumes: &Volumes) -> u64
-    requires long { length volumes.now ≡ slot_count }
-    requires volumes { (s : ℕ) → IfSome (state_at volumes.now s) (IsLabelled s) }
-    ensures { result ≡ blocks_asked volumes.now }
-{
-    let mut asked = 0;
-    for slot in 0..SLOTS {
-        asked += asked_by(volumes.get(slot));
-    }
-    asked
-}
-
-/// The blocks that the volume of a slot asks for: its overhead, and those of its snapshots' maps that wait.
-fn asked_by(state: Option<&VolumeState>) -> u64
-    requires { IfSome (option_copied state) (λ x. x.span ≤ greatest_span) }
-    ensures value { result ≡ asked_by (option_copied state.entry) }
-    ensures most { result ≤ 4919 }
-{
-    match state {
-        Some(state) if state.is_changed() => state.asked(),
-        _ => 0,
-    }
 }
 
 /// Names no label for a slot without a volume, whatever the root on the disk names there: its volume was removed since.
@@ -129,12 +121,15 @@ fn label_lent(state: Option<&VolumeState>, place: u32) -> u32
     }
 }
 
-/// Writes the kept blocks and each volume that changed, and names it by the labels of the new root.
+/// Writes the kept blocks and each volume that changed, once its regions of a plan are reclaimed, and names it by the labels of the new
+/// root. `delays` says then of each volume that was due whether an entry is delayed.
 fn write_volumes<D: Disk>(
     volumes: &Volumes,
+    plan: &Plan,
     pool: &mut Pool,
     disk: &mut D,
     labels: &mut [u32; 64],
+    delays: &mut [bool; 64],
 ) -> Result<(), Failed>
     requires labels { AreNamedFor volumes.now pool.old.found.root.labels labels.old }
     requires range { IsInRange pool.old.found }
@@ -143,30 +138,34 @@ fn write_volumes<D: Disk>(
     requires map { blocks_of pool.old.map ≡ pool.old.found.blocks }
     requires kept { AreKept pool.old }
     requires room { blocks_asked volumes.now ≤ free_blocks pool.old.map }
-    ensures come { OnOk result (HasCome all_regions (D.shown disk.old) pool.old volumes.entry.now slot_count labels.new pool.new (D.shown disk.new)) }
+    ensures come { OnOk result (HasCome (taken plan.now (holdings pool.old.containers volumes.now)) (D.shown disk.old) pool.old volumes.now slot_count labels.new pool.new (D.shown disk.new)) }
+    ensures delays { OnOk result (LeaveDelays plan.now (holdings pool.old.containers volumes.now) slot_count delays.old delays.new) }
     ensures spares { Spares (IsTaken (on_disk pool.old.map)) (D.shown disk.old) (D.shown disk.new) result }
 {
     pool.write_kept(disk)?;
     for slot in 0..SLOTS {
-        write_slot(volumes, pool, disk, slot, labels)?;
+        write_slot(volumes, plan, pool, disk, slot, labels, delays)?;
     }
     Ok(())
 }
 
-/// Reclaims the delayed entries of the volume of a slot and writes it, if it changed.
+/// Reclaims the regions of a plan in the volume of a slot and writes it, if it changed.
 fn write_slot<D: Disk>(
     volumes: &Volumes,
+    plan: &Plan,
     pool: &mut Pool,
     disk: &mut D,
     slot: u8,
     labels: &mut [u32; 64],
+    delays: &mut [bool; 64],
 ) -> Result<(), Failed>
     requires slot { slot < slot_count }
     requires stands { StandsOn (D.shown disk.old) pool.old.store.pairs }
     requires housed { AreHoused pool.old.containers volumes.now }
     requires room { asked_by (state_at volumes.now slot) ≤ free_blocks pool.old.map }
-    ensures past { OnOk result (GoesPast all_regions (state_at volumes.entry.now slot) slot labels.old pool.old (D.shown disk.old) labels.new pool.new (D.shown disk.new)) }
-    ensures count { OnOk result (free_blocks pool.old.map ≤ free_blocks pool.new.map + asked_by (state_at volumes.entry.now slot)) }
+    ensures past { OnOk result (GoesPast (taken plan.now (holdings pool.old.containers volumes.now)) (state_at volumes.now slot) slot labels.old pool.old (D.shown disk.old) labels.new pool.new (D.shown disk.new)) }
+    ensures delays { OnOk result (LeavesDelays plan.now slot (holdings pool.old.containers volumes.now slot) delays.old delays.new) }
+    ensures count { OnOk result (free_blocks pool.old.map ≤ free_blocks pool.new.map + asked_by (state_at volumes.now slot)) }
     ensures spares { Spares (IsTaken (on_disk pool.old.map)) (D.shown disk.old) (D.shown disk.new) result }
     ensures committed { pool.new.map.committed ≡ pool.old.map.committed }
     ensures found { pool.new.found ≡ pool.old.found }
@@ -182,7 +181,7 @@ fn write_slot<D: Disk>(
     let Some(container) = pool.containers.get_mut(slot) else {
         return Ok(());
     };
-    reclaim_all(container, &state.map, &mut pool.map);
+    reclaim_due(plan, slot, container, &state.map, &mut pool.map, delays);
     let label = write_volume(state, container, &mut pool.store, &mut pool.map, disk)?;
     labels[slot as usize] = label;
     Ok(())

@@ -44,7 +44,7 @@ sums_add a b from (suc count) = omega (
 
 -- a sum over the counts of some regions: those without delayed entries add nothing
 module _ (f : Count → ℕ) (none : (c : Count) → c.count ≡ 0 → f c ≡ 0) where
-  sum_some : (g : ℕ → Count) (rs : List ℕ) → sum_by f (filter has_some (map g rs)) ≡ sum_by (λ r. f (g r)) rs
+  pub sum_some : (g : ℕ → Count) (rs : List ℕ) → sum_by f (filter has_some (map g rs)) ≡ sum_by (λ r. f (g r)) rs
   sum_some g [] = refl
   sum_some g (r ∷ rs) = so (has_some (g r)) refl (sum_some g rs)
     where

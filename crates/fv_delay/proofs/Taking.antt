@@ -10,7 +10,7 @@ use Rattle.fv_delay.specs.Choice.{chosen, is_full, partial, region_counted, regi
 -- ---- those that are taken while something is missing
 
 -- what matters is how much is missing still
-same_short : (a m b n : ℕ) (cs : List Count) → m - a ≡ n - b → while_short a m cs ≡ while_short b n cs
+pub same_short : (a m b n : ℕ) (cs : List Count) → m - a ≡ n - b → while_short a m cs ≡ while_short b n cs
 unfolding while_short
 same_short a m b n [] e = refl
 same_short a m b n (c ∷ cs) e =
@@ -19,14 +19,14 @@ same_short a m b n (c ∷ cs) e =
     let rest = same_short (a + c.count) m (b + c.count) n cs step in
     λ i. cond (test i) (c ∷ rest i) []
 
-short_cons : (left : ℕ) (c : Count) (cs : List Count) → 1 ≤ left → while_short 0 left (c ∷ cs) ≡ c ∷ while_short 0 (left - c.count) cs
+pub short_cons : (left : ℕ) (c : Count) (cs : List Count) → 1 ≤ left → while_short 0 left (c ∷ cs) ≡ c ∷ while_short 0 (left - c.count) cs
 unfolding while_short
 short_cons left c cs some =
     let test : nat_lt 0 left ≡ true = grind (arith, nat_tests, some) in
     ap (λ (t : Bool). cond t (c ∷ while_short (0 + c.count) left cs) []) test
     ∙ ap (λ (rest : List Count). c ∷ rest) (same_short (0 + c.count) left 0 (left - c.count) cs (omega arith))
 
-nothing_short : (cs : List Count) → while_short 0 0 cs ≡ []
+pub nothing_short : (cs : List Count) → while_short 0 0 cs ≡ []
 unfolding while_short
 nothing_short [] = refl
 nothing_short (c ∷ cs) = refl

@@ -16,6 +16,10 @@ pub record Holding : Type 0 where
   pub map : Volume
   pub container : Mapped
 
+-- a volume by its maps and its container
+abbrev pub held_by : Volume → Mapped → Holding
+held_by map container = record { map = map; container = container }
+
 -- a number of each volume, summed over the slots in use
 abbrev pub sum_of : (ℕ → Option Holding) → (ℕ → Holding → ℕ) → ℕ
 sum_of volumes number = sum_by (λ s. option_map_or (number s) (volumes s) 0) slots

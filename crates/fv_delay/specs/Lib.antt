@@ -2,3 +2,4 @@ pub mod Choice
 pub mod Delay
 pub mod Holding
 pub mod Reclaims
+pub mod ByThreshold

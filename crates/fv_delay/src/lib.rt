@@ -2,7 +2,7 @@
 //!
 //! A block that is freed in its volume stays in the container and in the aggregate map until its region is
 //! reclaimed. `specs/Delay.antt` says which entries wait so, `specs/Choice.antt` which regions are chosen,
-//! and `specs/Reclaims.antt` what a reclaim makes of them.
+//! `specs/ByThreshold.antt` how that is found without a list, and `specs/Reclaims.antt` what a reclaim makes of them.
 #![tactic(auto)]
 
 mod choosing;
@@ -10,9 +10,13 @@ mod counts;
 mod delayed;
 mod reclaiming;
 mod regions;
+mod taken;
+mod threshold;
 
 pub use choosing::choose_regions;
 pub use counts::{Count, Counts};
 pub use delayed::{delayed_by_region, has_delayed, region_count};
 pub use reclaiming::reclaim;
 pub use regions::{Region, Regions};
+pub use taken::{reclaim_taken, table_of};
+pub use threshold::{Table, Threshold};

@@ -68,6 +68,7 @@ rests_standing_for old new session last m rests stands = record {
   held = held_still old new rests.stays session.pool session.volumes last stands.held;
   machine = machine_rests old new rests.stays session.pool session.volumes ∙ stands.machine;
   settled = λ c now a. rw rests.stays.reads (stands.settled c (rests.stays.no_more c now) a);
+  delays = rw rests.stays.reads stands.delays;
   pending = rw rests.stays.reads stands.pending;
   files = stands.files;
   few = stands.few;

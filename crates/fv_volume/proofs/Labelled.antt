@@ -1,5 +1,5 @@
 -- The label of a slot, as it was read; what is loaded from it, and why it isn't.
-use Rattle.std.proofs.Common.{◌≡◌, ◌≢◌, ◌<◌, ℕ, zero, suc, true, cond, nat_lt, List, length, Option, Some, None, get_or, inl, inr, refl, sym, ap, subst, ◌∙◌, arith}
+use Rattle.std.proofs.Common.{◌≡◌, ◌≢◌, ◌<◌, ℕ, zero, suc, true, false, cond, nat_lt, List, length, Option, Some, None, get_or, inl, inr, refl, sym, ap, subst, ◌∙◌, arith}
 use Rattle.std.specs.Prelude.{◌⊎◌, IfErr, IfSome, Result, Ok, Err}
 use Rattle.std.specs.Result.{IsErrAnd}
 use Rattle.std.specs.Option.{option_map}
@@ -17,7 +17,6 @@ use Rattle.fv_container.specs.Spelled.{IsFault, Spelled}
 use Rattle.fv_root.specs.declared.find.Found.{Found}
 use Rattle.fv_root.specs.Finding.{root_found}
 use Rattle.fv_volume.specs.declared.state.VolumeState.{VolumeState}
-use Rattle.fv_delay.specs.Delay.{has_delayed}
 use Rattle.fv_volume.specs.Loading.{HaveBits, IsBadLabel, IsBadMap, IsContainerOf, IsLoadFault, IsLoaded, form_in, label_of}
 use Rattle.fv_volume.specs.declared.state.Snap.{Snap}
 use Rattle.fv_volume.specs.States.{head_in, snaps_in}
@@ -56,13 +55,13 @@ module _ (found : Found) (i : Image) (s : ℕ) (lt : s < 64) where
 
   pub loaded_some : (l : Label) (y : VolumeState) (map : Mapped) (c : Option Mapped) → label_of found i s ≡ Some l → head_in y ≡ head_of l → y.label ≡ get_or found.root.labels s 0 → c ≡ Some map
       → Spelled i l.container l.height map → length map.entries ≡ entry_count l.span → IsMapped map
-      → HaveBits (view_at (root_found found) i) s y.span y.map → y.changed ≡ has_delayed y.map map → IsLoaded i found s (Some y) c
+      → HaveBits (view_at (root_found found) i) s y.span y.map → y.changed ≡ false → IsLoaded i found s (Some y) c
   loaded_some l y map c lies head place there spelled size valid bits changed = record {
     head = ap Some head ∙ ap (option_map head_of) (sym lies);
     tree = subst (λ (o : Option Label). IsContainerOf i o c) (sym lies) (subst (IsContainerOf i (Some l)) (sym there) (spelled, (size, valid)));
     label = place ∙ sym place_there;
     bits = bits;
-    changed = subst (λ (o : Option Mapped). IfSome o (λ m. y.changed ≡ has_delayed y.map m)) (sym there) changed;
+    changed = changed;
   }
 
   pub bad_label : (p : ℕ) (e : BlockFault) → p ≡ get_or found.root.labels s 0 → p ≢ 0 → IsBadLabel (i p) p e → IsLoadFault i found e

@@ -38,7 +38,6 @@ mod Storing
 pub mod Stored
 pub mod StoredSlot
 pub mod StillLoaded
-pub mod Delaying
 pub mod LoadedBlocks
 pub mod Spacing
 pub mod Reclaiming

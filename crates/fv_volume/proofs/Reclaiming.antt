@@ -2,7 +2,7 @@
 use Rattle.std.proofs.Common.{◌≡◌, ◌≢◌, ℕ, ◌<◌, ◌≤◌, Bool, true, false, List, length, Some, None, not, ◌&&◌, ◌||◌, refl, sym, ap, subst, ◌∙◌, ⊎_elim, inl, inr, ◌⊎◌, arith}
 use Rattle.std.specs.Prelude.{Option, IfSome, if◌then◌else◌}
 use Rattle.std.specs.Option.{is_some}
-use Rattle.std.proofs.lemmas.Bool.{and_right, both_ways, cases_eq, cases_lt, or_cases, or_left, or_right}
+use Rattle.std.proofs.lemmas.Bool.{both_ways, cases_eq, cases_lt, or_cases, or_left, or_right}
 use Rattle.fv_disk.specs.Shown.{Image}
 use Rattle.fv_bits.specs.Members.{is_member}
 use Rattle.fv_image.specs.Views.{entry_count, map_vvbn}
@@ -14,19 +14,16 @@ use Rattle.fv_container.specs.Spelled.{is_at, names}
 use Rattle.fv_container.proofs.Leading.{lead_at, lead_where}
 use Rattle.fv_aggmap.specs.Giving.{HasGiven}
 use Rattle.fv_aggmap.specs.Space.{Space}
-use Rattle.fv_delay.specs.Delay.{has_delayed, is_delayed, is_held, region_of}
 use Rattle.fv_delay.specs.Reclaims.{goes_with}
-use Rattle.fv_delay.proofs.AnyDelayed.{none_delayed}
-use Rattle.fv_delay.proofs.Reclaimed.{delayed_now, held_stays}
+use Rattle.fv_delay.proofs.Reclaimed.{held_stays}
 use Rattle.fv_volume.specs.declared.state.VolumeState.{VolumeState}
 use Rattle.fv_volume.specs.Files.{IsLabelled}
-use Rattle.fv_volume.specs.Stored.{AreApartIn, AreSpacedIn, has_block, is_map_written, is_of, leads, stays}
+use Rattle.fv_volume.specs.Stored.{AreApartIn, AreSpacedIn, has_block, is_of, leads, stays}
 use Rattle.fv_volume.specs.UnderRoot.{StandMaps}
 use Rattle.fv_volume.specs.Writing.{HasOwnBlocks}
 use Rattle.fv_volume.proofs.Drawing.{LeadsAt, at_means, leads_at, leads_where, not_so}
 use Rattle.fv_volume.proofs.Spacing.{spaced_next}
 use Rattle.fv_volume.proofs.StayingMaps.{stays_held, stored_stays}
-use Rattle.fv_volume.proofs.StoredSlot.{written_held}
 
 -- ---- the blocks of one
 
@@ -191,20 +188,3 @@ module _ (s : ℕ) (x : VolumeState) (state : IsLabelled s x) (regions : ℕ →
         held = one.held;
         bits = one.bits;
       }
-
-  -- Where all regions were reclaimed and none but blocks of maps were written then, no entry is delayed.
-  pub left_undelayed : ((r : ℕ) → regions r ≡ true) → (new : Mapped) → ((v : ℕ) → is_map_written x v ≡ false → entry_under new v ≡ entry_under mid v) → has_delayed x.map new ≡ false
-  left_undelayed all new kept = none_delayed x.map new (λ v within. so v (is_held x.map v) refl)
-    where
-      never : (t : Bool) → (t && not true) ≡ false
-      never true = refl
-      never false = refl
-
-      unwritten : (v : ℕ) → is_held x.map v ≡ false → is_map_written x v ≡ false
-      unwritten v off = not_so (is_map_written x v) (λ written. both_ways _ off (written_held s x state v written))
-
-      so : (v : ℕ) (t : Bool) → is_held x.map v ≡ t → is_delayed x.map new v ≡ false
-      so v true held = and_right (is_some (entry_under new v)) _ (ap not held)
-      so v false off =
-          ap (λ (entry : Option Entry). is_some entry && not (is_held x.map v)) (kept v (unwritten v off))
-          ∙ delayed_now x.map regions old mid is v ∙ ap (λ (t : Bool). is_delayed x.map old v && not t) (all (region_of v)) ∙ never (is_delayed x.map old v)

@@ -36,7 +36,7 @@ use Rattle.fv_volume.specs.declared.state.VolumeState.{VolumeState}
 use Rattle.fv_volume.specs.Files.{IsLabelled}
 use Rattle.fv_volume.specs.Housed.{as_written}
 use Rattle.fv_volume.specs.Labels.{label_said}
-use Rattle.fv_delay.specs.Delay.{has_delayed, is_held, is_used, is_used_slot}
+use Rattle.fv_delay.specs.Delay.{is_held, is_used, is_used_slot}
 use Rattle.fv_delay.proofs.Held.{held_behind}
 use Rattle.fv_volume.specs.Loading.{HaveBits, IsContainerOf, IsLoaded}
 use Rattle.fv_volume.specs.States.{head_in}
@@ -204,15 +204,15 @@ module _ (found : Found) (i : Image) (s : ℕ) (x : VolumeState) (old : Mapped) 
       so true e = used e ∙ sym (ap (λ (b : Bool). b && volume_bit (view_at u i) s x.span k v) e)
       so false e = free_has (k == 0) (slot_at x.map k) v e ∙ sym (ap (λ (b : Bool). b && volume_bit (view_at u i) s x.span k v) e)
 
-  -- Where no entry is delayed the volume is as the root with its new label has it.
-  pub stored_loaded : HaveNonePast x → has_delayed x.map new ≡ false → IsLoaded i found s (Some (as_written x label)) (Some new)
+  -- The volume is as the root with its new label has it.
+  pub stored_loaded : HaveNonePast x → IsLoaded i found s (Some (as_written x label)) (Some new)
   unfolding label_said
-  stored_loaded clear undelayed = record {
+  stored_loaded clear = record {
     head = ap Some (sym head_said) ∙ ap (option_map head_of) (sym label_now);
     tree = subst (λ (o : Option Label). IsContainerOf i o (Some new)) (sym label_now) (spelled_here, (long_here, valid));
     label = sym at;
     bits = stored_maps clear;
-    changed = sym undelayed;
+    changed = refl;
   }
 
   -- ---- its slot
@@ -297,10 +297,10 @@ module _ (found : Found) (i : Image) (s : ℕ) (x : VolumeState) (old : Mapped) 
           so (Some y) e some = let zero_place : y.pvbn ≡ 0 = sym (ap place_in e) ∙ none in omega (arith, some, zero_place)
 
   -- The slot stands under the root.
-  pub stored_stands : HaveNonePast x → has_delayed x.map new ≡ false → ((b : ℕ) → is_of x label new b ≡ true → IsAllocatable u.blocks b) → StandsUnder i found s (Some (as_written x label)) (Some new)
-  stored_stands clear undelayed lies =
+  pub stored_stands : HaveNonePast x → ((b : ℕ) → is_of x label new b ≡ true → IsAllocatable u.blocks b) → StandsUnder i found s (Some (as_written x label)) (Some new)
+  stored_stands clear lies =
       let slot = stored_slot lies in record {
-        loaded = stored_loaded clear undelayed;
+        loaded = stored_loaded clear;
         sound = stored_is_sound u i s said slot;
         once = stored_once u i s said slot stored_apart;
         holds = stored_holds;

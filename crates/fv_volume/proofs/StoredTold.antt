@@ -1,4 +1,4 @@
--- Volumes that stand in an image under new labels: it tells what they told, and stands for the same machine, with nothing delayed.
+-- Volumes that stand in an image under new labels: it tells what they told, and stands for the same machine, where the space rule holds.
 use Rattle.std.proofs.Common.{◌≡◌, ℕ, ◌-◌, ◌*◌, ◌<◌, ◌≤◌, Bool, true, false, List, get_or, take, refl, sym, ap, subst, ◌∙◌, arith, ⊎_elim}
 use Rattle.std.specs.Prelude.{Option, Some, None, IfSome, ◌&&◌, nat_lt, if◌then◌else◌}
 use Rattle.std.specs.List.{list_all, range_with_len}
@@ -18,9 +18,9 @@ use Rattle.fv_laws.proofs.Tests.{to_all}
 use Rattle.fv_tables.specs.Reached.{items, is_listed}
 use Rattle.fv_image.specs.Layout.{block_bits}
 use Rattle.fv_image.specs.NewerRoot.{Taken}
-use Rattle.fv_image.specs.Views.{Footing, Head, Rooted, View, delayed, head_of, volume_bit}
+use Rattle.fv_image.specs.Views.{Footing, Head, Rooted, View, head_of, volume_bit}
 use Rattle.fv_image.specs.Held.{Layout, label_in, label_place, layout_at, lying_at, view_at, with_bits}
-use Rattle.fv_image.specs.Sound.{agree}
+use Rattle.fv_image.specs.Sound.{agree, leaves_room}
 use Rattle.fv_image.specs.SoundSlots.{IsSoundSlot}
 use Rattle.fv_image.specs.Whole.{is_held_by}
 use Rattle.fv_image.specs.Volumes.{standing_of, told}
@@ -33,12 +33,11 @@ use Rattle.fv_image.proofs.LabelNumbers.{label_numbers}
 use Rattle.fv_image.proofs.LoneTables.{form_base}
 use Rattle.fv_image.proofs.OwnBases.{uses_own}
 use Rattle.fv_image.proofs.OwnUses.{HasLabelNumbers}
-use Rattle.fv_image.proofs.Points.{Ends, end_machine, has_bits_of, maps_from, room_from_commits}
+use Rattle.fv_image.proofs.Points.{Ends, UsesOwn, end_machine, has_bits_of, maps_from}
 use Rattle.fv_image.proofs.Rewritten.{heads_with_bits, slot_with_bits, times_with_bits}
 use Rattle.fv_image.proofs.SameSeen.{same_seen}
 use Rattle.fv_image.proofs.SoundSlots.{blocks_from_slots, kinds_from_slots, maps_from_slots, slot_stays_sound}
 use Rattle.fv_image.proofs.Spaced.{AreSpaced}
-use Rattle.fv_image.proofs.Undelayed.{nothing_delayed}
 use Rattle.fv_image.proofs.WholeSlots.{all_between}
 use Rattle.fv_container.specs.Mapped.{Mapped}
 use Rattle.fv_root.specs.declared.find.Found.{Found}
@@ -54,10 +53,9 @@ use Rattle.fv_volume.specs.Loading.{HaveBits, label_of}
 use Rattle.fv_volume.specs.States.{States, head_in, state_at, view_over}
 use Rattle.fv_volume.specs.Stored.{has_block, has_stored_map, map_slot, stays}
 use Rattle.fv_volume.specs.UnderRoot.{AllStandUnder}
-use Rattle.fv_volume.proofs.Delaying.{loaded_undelayed}
 use Rattle.fv_volume.proofs.Distinct.{same_names}
 use Rattle.fv_volume.proofs.Labels.{label_head}
-use Rattle.fv_volume.proofs.Settled.{is_settled, same_head, settled_back, settled_slots, settled_span}
+use Rattle.fv_volume.proofs.Settled.{same_head, settled_back}
 use Rattle.fv_volume.proofs.SlotRoots.{none_past, own_below, own_taken, root_has, root_slot, slot_stored}
 use Rattle.fv_volume.proofs.StoredSlot.{HaveNonePast}
 use Rattle.fv_volume.proofs.Told.{is_inside}
@@ -215,7 +213,7 @@ module _ (pool : Pool) (states : States) (before : Image) (housed : AreHoused po
 
     -- ---- soundness
 
-    tables_now : AreTables (seen y.view)
+    pub tables_now : AreTables (seen y.view)
     tables_now = subst AreTables (sym (same_seen w y.view stays_there tables.bases tables.rests)) tables
 
     maps_now : AreMaps y.view
@@ -231,34 +229,27 @@ module _ (pool : Pool) (states : States) (before : Image) (housed : AreHoused po
         let state = labelled s x.0 x.1 in
         subst HasLabelNumbers (label_head x.0 state.form state.named state.snapshots 0 1 ∙ x.2) (label_numbers (label_said x.0 0 1) (state.label 0 1 (omega arith) (omega arith) (omega arith)))
 
-    none_delayed : delayed y.view ≡ 0
-    unfolding layout_at
-    none_delayed = nothing_delayed y.view (λ s h v inside is_head within.
-        let x = state_of s h (sym (stays_there.heads s) ∙ is_head) in
-        loaded_undelayed f i s h v within is_head (settled_at labels states s) (container s) (is.each s inside).loaded
-        (is_settled (state_at states s) (get_or labels s 0)) (settled_slots s (state_at states s) (get_or labels s 0) (housed.volumes s)) (settled_span s (state_at states s) (get_or labels s 0) (housed.volumes s)))
+    -- no volume has more entries of its own than it uses
+    pub uses_there : UsesOwn y.view
+    uses_there = uses_own y.view tables_now maps_now numbers
 
-    -- no entry is delayed
-    pub undelayed : delayed (view_at u i) ≡ 0
-    unfolding layout_at
-    undelayed = none_delayed
-
-    large : IsSize f.blocks → 256 ≤ y.view.blocks - first_block y.view.blocks
+    -- there are blocks for a point behind the fixed ones
+    pub large : IsSize f.blocks → 256 ≤ y.view.blocks - first_block y.view.blocks
     unfolding layout_at view_at
     large size = omega (arith, size.least, size.greatest)
 
-    ends : IsSize f.blocks → AreNamed states → Ends w y
+    ends : AreNamed states → leaves_room y.view 0 ≡ true → Ends w y
     unfolding view_over
-    ends size names = record {
+    ends names room = record {
       stays = stays_there;
       blocks = blocks_from_slots y heads each_sound spaced;
       there = maps_now.there;
       bits = bits_of;
       kinds = maps_now.kinds;
       names = same_names w y stays_there.heads states (λ s. refl) names;
-      room = room_from_commits y.view tables_now (uses_own y.view tables_now maps_now numbers) none_delayed (large size);
+      room = room;
     }
 
-    -- With the next set as its aggregate map the image stands for the machine that they told.
-    pub stands_for : IsSize f.blocks → AreNamed states → is_built w ≡ true → machine_from y ≡ Some (told w)
-    stands_for size names built = end_machine w y (ends size names) tables built
+    -- With the next set as its aggregate map the image stands for the machine that they told, where the space rule holds.
+    pub stands_for : AreNamed states → leaves_room y.view 0 ≡ true → is_built w ≡ true → machine_from y ≡ Some (told w)
+    stands_for names room built = end_machine w y (ends names room) tables built

@@ -12,7 +12,7 @@ use Rattle.fv_model.specs.declared.commands.Kind.{Kind}
 use Rattle.fv_model.specs.Numbers.{most_snapshots}
 use Rattle.fv_model.specs.Space.{map_blocks}
 use Rattle.fv_volmap.specs.Slots.{AreUnited, IsVolume, Volume, has, slot_at, stored_count}
-use Rattle.fv_delay.specs.Delay.{has_delayed, is_used_slot}
+use Rattle.fv_delay.specs.Delay.{is_used_slot}
 use Rattle.fv_image.specs.Held.{label_in, label_lying, label_place, view_at}
 use Rattle.fv_container.specs.declared.entry.Entry.{Entry}
 use Rattle.fv_container.specs.Mapped.{IsMapped, Mapped, entry_under}
@@ -145,13 +145,13 @@ abbrev pub HaveBits : View → ℕ → ℕ → Volume → Type 0
 HaveBits w s span maps = (k v : ℕ) → k < stored_count → has v (slot_at maps k) ≡ (is_used_slot maps k && volume_bit w s span k v)
 
 -- A slot's volume has the head that its label says, with the place of that label, and its container is the one that the label names.
--- Its maps have the bits of their blocks. It is as the root on the disk has it, and has changed where an entry is delayed.
+-- Its maps have the bits of their blocks. It is as the root on the disk has it, so it hasn't changed. Entries may be delayed.
 pub record IsLoaded (i : Image) (found : Found) (s : ℕ) (state : Option VolumeState) (container : Option Mapped) : Type 0 where
   pub head : option_map head_in state ≡ option_map head_of (label_of found i s)
   pub tree : IsContainerOf i (label_of found i s) container
   pub label : label_in_state state ≡ label_place (root_found found) s
   pub bits : IfSome state (λ x. HaveBits (view_at (root_found found) i) s x.span x.map)
-  pub changed : IfSome state (λ x. IfSome container (λ map. x.changed ≡ has_delayed x.map map))
+  pub changed : IfSome state (λ x. x.changed ≡ false)
 
 -- the volumes of the first slots are loaded
 pub record LoadedTo (i : Image) (found : Found) (count : ℕ) (states : States) (containers : Slots) : Type 0 where

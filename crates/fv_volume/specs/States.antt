@@ -1,5 +1,5 @@
 -- Volumes as they are kept in memory, as heads; and what a pool and volumes tell of together.
-use Rattle.std.specs.Prelude.{◌≡◌, ◌*◌, ℕ, Bool, true, List, [], map, slice_set, slice_index_or, Option, Some, None}
+use Rattle.std.specs.Prelude.{◌≡◌, ◌*◌, ℕ, Bool, true, false, List, [], map, slice_set, slice_index_or, Option, Some, None}
 use Rattle.std.specs.Option.{option_map}
 use Rattle.fv_disk.specs.Shown.{Image}
 use Rattle.fv_model.specs.declared.commands.Kind.{Kind}
@@ -72,12 +72,12 @@ abbrev pub label_in_state : Option VolumeState → ℕ
 label_in_state None = 0
 label_in_state (Some x) = x.label
 
--- a volume of a slot, whose label lies at a place, with its maps, and whether the next consistency point has something to do for it
-pub record IsLaid (x : VolumeState) (at place : ℕ) (maps : Maps) (changes : Bool) : Type 0 where
+-- a volume of a slot, whose label lies at a place, with its maps, as the root on the disk has it
+pub record IsLaid (x : VolumeState) (at place : ℕ) (maps : Maps) : Type 0 where
   pub slot : x.slot ≡ at
   pub label : x.label ≡ place
   pub map : x.map ≡ maps
-  pub changed : x.changed ≡ changes
+  pub changed : x.changed ≡ false
 
 -- the slot of the volume that a volume stands on; a volume without a base has none, and neither has a free slot
 abbrev pub parent_in : Option VolumeState → Option ℕ

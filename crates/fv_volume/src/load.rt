@@ -22,7 +22,6 @@ use crate::sizes::{entry_count, map_blocks, map_vvbn};
 use crate::state::{Snapshots, VolumeState};
 use fv_codec::Label;
 use fv_container::{Container, Containers};
-use fv_delay::has_delayed;
 use fv_disk::{Block, BlockFault, Disk, ZERO};
 use fv_root::Found;
 use fv_store::Store;
@@ -231,9 +230,8 @@ fn load_volume<D: Disk>(
     let container = read_container(alloc, store, disk, &label)?;
     let snapshots = Snapshots::of_records(alloc, &label.snapshots)?;
     let map = read_map(alloc, store, disk, &container, &snapshots, label.span)?;
-    let delayed = has_delayed(&container, &map);
     containers.put(slot, container, None);
-    let state = VolumeState::of_label(slot, place, &label, snapshots, map, delayed);
+    let state = VolumeState::of_label(slot, place, &label, snapshots, map);
     Ok(Some(state))
 }
 

@@ -306,22 +306,20 @@ impl VolumeState {
     }
 
     /// The volume that a label at this PVBN says, for a slot, with its snapshots, with the maps of its tables, from which
-    /// its ledger is counted, and whether the next consistency point has something to do for it. The label has no form that
-    /// can't be loaded.
+    /// its ledger is counted. It hasn't changed. The label has no form that can't be loaded.
     pub(crate) fn of_label(
         slot: u8,
         place: u32,
         label: &Label,
         snapshots: Snapshots,
         mut map: VolMap,
-        changed: bool,
     ) -> VolumeState
         requires range { IsLabel label.now }
         requires form { form_in label.now ≡ None }
         requires few { length snapshots ≤ most_snapshots }
         requires said { snaps_in snapshots ≡ snaps_from 1 label.now.snapshots }
         requires map { map.span ≡ label.now.span }
-        ensures laid { IsLaid result slot place map changed }
+        ensures laid { IsLaid result slot place map }
         ensures head { head_in result ≡ head_of label.entry.now }
         ensures span { result.span ≡ label.entry.now.span }
         ensures base { result.base ≡ None }
@@ -355,7 +353,7 @@ impl VolumeState {
             files: None,
             numbers: None,
             label: place,
-            changed,
+            changed: false,
             fresh: [false; 25],
         }
     }
@@ -367,8 +365,8 @@ impl VolumeState {
         self.label
     }
 
-    /// Whether the next consistency point has something to write: a change since the last one, or an entry
-    /// whose block it gives back.
+    /// Whether the next consistency point has something to write: a change since the last one, or entries whose blocks it was chosen to
+    /// give back (`mark`).
     pub fn is_changed(&self) -> bool
         ensures { result ≡ self.entry.now.changed }
     {
@@ -435,6 +433,13 @@ impl VolumeState {
             root: self.active.root,
             snapshots: records_of(self.snapshots.as_slice()),
         }
+    }
+
+    /// Says that the next consistency point has something to write. Costs one step.
+    pub fn mark(&mut self)
+        ensures { self.new ≡ record self.old { changed = true } }
+    {
+        self.changed = true;
     }
 
     /// Says that the root on the disk names a label of this volume as it is now, at this PVBN. Costs one step, and takes

@@ -73,9 +73,8 @@ impl Volumes {
     /// past the span. `DiskFault` comes only where a read failed in this call, and `Memory` where memory ran out. The
     /// pool's containers stay then.
     ///
-    /// Each label, each node of the containers and each block of the maps is read once. Each entry of the
-    /// containers is looked at once more, up to 25 map slots for one that is no hole, and each word of each used
-    /// slot's map, for the ledgers. Memory is taken for each entry and each node of the containers, and for
+    /// Each label, each node of the containers and each block of the maps is read once. Each word of each used
+    /// slot's map is looked at once more, for the ledgers. Memory is taken for each entry and each node of the containers, and for
     /// the bits of the maps.
     pub fn open<D: Disk>(
         alloc: Global,

@@ -20,6 +20,8 @@ pub struct Opened {
     pub disk: MemHost,
     pub pool: Pool,
     pub volumes: Volumes,
+    /// By slot: whether entries of its volume may be delayed though it hasn't changed.
+    pub delays: [bool; 64],
 }
 
 impl Model for Opened {
@@ -54,6 +56,7 @@ pub fn open(alloc: Global, mut disk: MemHost) -> Result<Opened, Wrong> {
         disk,
         pool,
         volumes,
+        delays: [true; 64],
     })
 }
 

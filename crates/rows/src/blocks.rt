@@ -8,7 +8,7 @@ use fv_memdisk::MemHost;
 use std::alloc::Global;
 
 /// A block as a disk reads it; zeros where the read failed.
-fn block_at(host: &mut MemHost, at: u64) -> Block {
+pub fn block_at(host: &mut MemHost, at: u64) -> Block {
     let mut block = [0; 4096];
     match host.read(at, &mut block) {
         Ok(()) => block,
@@ -17,7 +17,7 @@ fn block_at(host: &mut MemHost, at: u64) -> Block {
 }
 
 /// A word of eight bytes of a block, from its most significant byte on; 0 past the block.
-fn word_in(block: &Block, word: u64) -> u64 {
+pub fn word_in(block: &Block, word: u64) -> u64 {
     match block.chunks(8).nth(word as usize) {
         Some([a, b, c, d, e, f, g, h]) => { u64::from_be_bytes([*a, *b, *c, *d, *e, *f, *g, *h]) }
         _ => 0,

@@ -33,12 +33,14 @@ impl Lot {
     }
 }
 
-/// What scripts are drawn: how many lines each has, over how many volumes, two to four where that is 0, and whether these have snapshots.
+/// What scripts are drawn: how many lines each has, over how many volumes, two to four where that is 0, whether these have snapshots, and
+/// whether most lines write or remove a few blocks.
 #[derive(Clone, Copy)]
 pub struct Drawing {
     pub lines: u64,
     pub over: u64,
     pub snapshots: bool,
+    pub removals: bool,
 }
 
 /// A script over a few volumes, with its aggregate's blocks and the lines that ask for what these volumes hold.
@@ -98,7 +100,7 @@ pub fn draw(alloc: Global, seed: u64, kind: Drawing) -> Result<Drawn, AllocError
     let capacity = if wide { 761 } else { 249 };
     add_volumes(alloc, &mut lot, capacity, volumes, &mut script)?;
     for _ in lines_in(script.as_slice())..kind.lines {
-        add_command(alloc, &mut lot, volumes, kind.snapshots, &mut script)?;
+        add_command(alloc, &mut lot, volumes, kind, &mut script)?;
     }
     Ok(Drawn {
         blocks: if wide { 1024 } else { 512 },
@@ -177,7 +179,7 @@ fn add_command(
     alloc: Global,
     lot: &mut Lot,
     volumes: u64,
-    snapshots: bool,
+    kind: Drawing,
     script: &mut Vec<u8>,
 ) -> Result<(), AllocError> {
     let volume = if lot.below(40) == 0 {
@@ -185,8 +187,10 @@ fn add_command(
     } else {
         lot.below(volumes.saturating_add(1))
     };
-    let line = if snapshots && lot.below(3) == 0 {
+    let line = if kind.snapshots && lot.below(3) == 0 {
         snapshot_line(alloc, lot, volume)?
+    } else if kind.removals && lot.below(6) != 0 {
+        removal_line(alloc, lot, volume)?
     } else if lot.below(4) == 0 {
         volume_line(alloc, lot, volume)?
     } else {
@@ -217,6 +221,19 @@ fn volume_line(alloc: Global, lot: &mut Lot, volume: u64) -> Result<String, Allo
             let (_, kind, _) = shape(lot);
             format!(in alloc; "vol guarantee v{volume} {kind}\n")
         }
+    }
+}
+
+/// A line that writes or removes a few of the first 48 blocks of a file, or makes a point: of a volume few entries at a time are freed.
+fn removal_line(alloc: Global, lot: &mut Lot, volume: u64) -> Result<String, AllocError> {
+    let file = lot.one_of(&FILES);
+    let index = lot.below(48);
+    match lot.below(20) {
+        0..=10 => format!(in alloc; "put v{volume} f{file} {index}"),
+        11..=15 => format!(in alloc; "cut v{volume} f{file} {index}\n"),
+        16 => format!(in alloc; "rm v{volume} f{file}\n"),
+        17..=18 => format!(in alloc; "new v{volume} f{file}\n"),
+        _ => format!(in alloc; "cp\n"),
     }
 }
 

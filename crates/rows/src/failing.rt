@@ -4,7 +4,7 @@ use crate::answers::{look_at, settled, start};
 use crate::bench::Bench;
 use crate::cause::{Cause, because, unread};
 use crate::lines::{number, split_lines};
-use crate::walking::{see, unseen};
+use crate::walking::{TEARS, see, unseen};
 use fv_disk::Disk;
 use fv_memdisk::{Call, MemHost};
 
@@ -176,6 +176,7 @@ fn judge(bench: &Bench, failing: Failing, host: &mut MemHost) -> Result<(), Caus
         bench,
         host,
         host.moments().saturating_sub(1),
+        TEARS,
         &mut unseen(bench)?,
     )?;
     match failing.stands {

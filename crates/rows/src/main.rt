@@ -9,6 +9,7 @@ mod bench;
 mod blocks;
 mod cause;
 mod course;
+mod delayed;
 mod drawing;
 mod drawn;
 mod failing;

@@ -4,11 +4,12 @@ use crate::answers::settled;
 use crate::bench::{Bench, Program, Run};
 use crate::blocks::{copy, is_damaged, is_word, lay, set, zero};
 use crate::cause::{Cause, unread};
+use crate::delayed::{are_delayed, are_free};
 use crate::drawn::play_drawn;
 use crate::failing::try_failing;
 use crate::lines::{add_line, line_of, number, read_spread};
 use crate::playing::{aggregate, begin_run, begin_walks, end_run, image};
-use crate::walking::stopped;
+use crate::walking::{pointed, stopped};
 
 /// Does what a line of a file says: nothing for a remark, and else what each line says for which it stands.
 pub fn read_text(bench: &mut Bench, text: &str) -> Result<(), Cause> {
@@ -37,7 +38,11 @@ fn read_run(bench: &mut Bench, word: &str, rest: &str) -> Result<bool, Cause> {
     match word {
         "stopped" => {
             begin_walks(bench)?;
-            stopped(bench, number(rest)?)?;
+            stopped(bench, rest)?;
+        }
+        "points" => {
+            begin_walks(bench)?;
+            pointed(bench, number(rest)?)?;
         }
         "failing" => {
             begin_walks(bench)?;
@@ -80,6 +85,8 @@ fn read_step(bench: &mut Bench, word: &str, rest: &str) -> Result<(), Cause> {
         "copy" => copy(&mut bench.host, rest),
         "set" => set(&mut bench.host, rest),
         "block" => is_word(&mut bench.host, rest),
+        "delayed" => are_delayed(&mut bench.host, rest),
+        "free" => are_free(&mut bench.host, rest),
         "damage" => is_damaged(bench.alloc, &mut settled(&bench.host)?, rest),
         _ => Err(unread()),
     }

@@ -2,21 +2,52 @@
 
 use crate::answers::{given_by, image_at, look_at};
 use crate::bench::Bench;
-use crate::cause::{Cause, because};
+use crate::cause::{Cause, because, unread};
+use crate::delayed::{generation, has_full_region};
+use crate::lines::number;
 use fv_memdisk::{MemHost, Tear};
 use std::alloc::AllocError;
 
-/// The run is stopped at each moment with each tear; at least so many answers are seen.
-pub fn stopped(bench: &Bench, least: u64) -> Result<(), Cause> {
+/// The run is stopped at each moment with each tear, or with the first so many as `3 with 2 tears` says; at least so many answers are seen.
+pub fn stopped(bench: &Bench, text: &str) -> Result<(), Cause> {
+    let (least, tears) = match text.split_once(" with ") {
+        Some((least, rest)) => (number(least)?, tears_in(rest)?),
+        None => (number(text)?, TEARS),
+    };
     let mut seen = unseen(bench)?;
     for moment in 0..bench.host.moments() {
-        see(bench, &bench.host, moment, &mut seen)?;
+        see(bench, &bench.host, moment, tears, &mut seen)?;
     }
     let count = bench.course.count_seen(seen.as_slice());
     if count < least || count == 0 {
         return Err(because("other states were seen", least, count));
     }
     Ok(())
+}
+
+/// The run makes at least so many points, and after none of them a region has 64 delayed entries. They are seen as the barriers left the disk.
+pub fn pointed(bench: &Bench, least: u64) -> Result<(), Cause> {
+    let mut count: u64 = 0;
+    let mut last = generation(&mut image_at(&bench.host, 0, Tear::Old)?);
+    for moment in 0..bench.host.moments() {
+        let mut image = image_at(&bench.host, moment, Tear::Old)?;
+        let generation = generation(&mut image);
+        if generation != last && has_full_region(&mut image) {
+            return Err(because("a point leaves 64 delayed entries", moment, count));
+        }
+        count = count.saturating_add(u64::from(generation != last));
+        last = generation;
+    }
+    if count < least {
+        return Err(because("so many points were made", least, count));
+    }
+    Ok(())
+}
+
+/// How many tears a text says, as `2 tears` does.
+fn tears_in(text: &str) -> Result<u32, Cause> {
+    let tears = number(text.strip_suffix(" tears").ok_or(unread())?)?;
+    Ok(u32::try_from(tears).unwrap_or(TEARS))
 }
 
 /// For each answer of a run that it wasn't seen.
@@ -29,7 +60,7 @@ pub fn unseen(bench: &Bench) -> Result<Vec<bool>, AllocError> {
 }
 
 /// At most so many tears are told apart, of which the first four tear all blocks in one way.
-const TEARS: u32 = 67;
+pub const TEARS: u32 = 67;
 
 /// What the tear of a number does to the blocks that wait for a barrier.
 fn tear_of(number: u32) -> Tear {
@@ -42,10 +73,16 @@ fn tear_of(number: u32) -> Tear {
     }
 }
 
-/// Looks at the images of a moment with each tear: each stands for a state for which it may stand. Fewer blocks wait for a barrier than
+/// Looks at the images of a moment with so many tears: each stands for a state for which it may stand. Fewer blocks wait for a barrier than
 /// moments went by.
-pub fn see(bench: &Bench, host: &MemHost, moment: u64, seen: &mut Vec<bool>) -> Result<(), Cause> {
-    for number in 0..TEARS {
+pub fn see(
+    bench: &Bench,
+    host: &MemHost,
+    moment: u64,
+    tears: u32,
+    seen: &mut Vec<bool>,
+) -> Result<(), Cause> {
+    for number in 0..tears {
         if number > 3 && u64::from(number) >= moment.saturating_add(3) {
             return Ok(());
         }
@@ -55,11 +92,20 @@ pub fn see(bench: &Bench, host: &MemHost, moment: u64, seen: &mut Vec<bool>) -> 
     Ok(())
 }
 
-/// Looks at the image of a moment with the tear of a number, and answers the number of its answer, which has to be one that it may have.
+/// Looks at the image of a moment with the tear of a number, and answers the number of its answer, which has to be one that it may have. No region
+/// has 64 delayed entries, neither in the image nor once it was asked.
 pub fn see_torn(bench: &Bench, host: &MemHost, moment: u64, number: u32) -> Result<usize, Cause> {
     let mut image = image_at(host, moment, tear_of(number))?;
+    if has_full_region(&mut image) {
+        return Err(because("a region has 64 delayed entries", moment, u64::from(number)));
+    }
     match state_of(bench, &mut image, given_by(host, moment))? {
-        Some(state) => Ok(state),
+        Some(state) if !has_full_region(&mut image) => Ok(state),
+        Some(_) => Err(because(
+            "a point leaves 64 delayed entries",
+            moment,
+            u64::from(number),
+        )),
         None => Err(because("an image stands for other lines", moment, u64::from(number))),
     }
 }

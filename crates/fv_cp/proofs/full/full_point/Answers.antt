@@ -16,7 +16,7 @@ pub consistency_point-requires-clause-fit : goal.consistency_point-requires-clau
 consistency_point-requires-clause-fit g c = c.flush.ensures.placed.fit
 
 pub returns-in_err-flush-clause-any_moment : goal.returns-in_err-flush-clause-any_moment
-returns-in_err-flush-clause-any_moment g c = λ tells before was.
+returns-in_err-flush-clause-any_moment g c = λ tells before was known room.
     placing (g.D.Disk.shown c.args.disk.now) c.args.pool.now c.args.volumes.now (g.D.Disk.shown c.args.disk.now) c.flush.new.pool c.flush.new.volumes c.flush.ensures.placed (g.met.D.Disk.laws c.args.disk.now) before was
 
 pub returns-in_err-flush-clause-still : goal.returns-in_err-flush-clause-still
@@ -37,10 +37,10 @@ returns-in_err-flush-clause-enough g c = λ tells before was room.
     subst (λ (r : Result Unit VolumeFault). IfErr r IsNoDamage) (sym failed) (no_damage c.in_err-flush.field-0.0 (c.in_err-flush.ensures.enough before was (some_room c.args.pool.now c.args.volumes.now room)))
 
 pub returns-in_err-consistency_point-clause-any_moment : goal.returns-in_err-consistency_point-clause-any_moment
-returns-in_err-consistency_point-clause-any_moment g c = λ tells before was.
+returns-in_err-consistency_point-clause-any_moment g c = λ tells before was known room.
     let did = c.in_ok-flush.ensures in
     pointing (g.D.Disk.shown c.args.disk.now) c.args.pool.now c.args.volumes.now (g.D.Disk.shown c.args.disk.now) c.flush.new.pool c.flush.new.volumes did.placed did.none did.whole (g.met.D.Disk.laws c.args.disk.now)
-    (g.D.Disk.shown c.consistency_point.new.disk) before was (c.consistency_point.ensures.any_moment (subst IsTrue (sym did.placed.only_reads.stays.tells) tells))
+    (g.D.Disk.shown c.consistency_point.new.disk) before was c.args.want c.args.delays.now known room (c.consistency_point.ensures.any_moment (subst IsTrue (sym did.placed.only_reads.stays.tells) tells))
 
 pub returns-in_err-consistency_point-clause-still : goal.returns-in_err-consistency_point-clause-still
 returns-in_err-consistency_point-clause-still g c =
@@ -66,10 +66,10 @@ returns-in_err-consistency_point-clause-enough g c = λ tells before was room.
     c.in_err-consistency_point.ensures.room)
 
 pub returns-clause-any_moment : goal.returns-clause-any_moment
-returns-clause-any_moment g c = λ tells before was.
+returns-clause-any_moment g c = λ tells before was known room.
     let did = c.in_ok-flush.ensures in
     pointing (g.D.Disk.shown c.args.disk.now) c.args.pool.now c.args.volumes.now (g.D.Disk.shown c.args.disk.now) c.flush.new.pool c.flush.new.volumes did.placed did.none did.whole (g.met.D.Disk.laws c.args.disk.now)
-    (g.D.Disk.shown c.consistency_point.new.disk) before was (c.consistency_point.ensures.any_moment (subst IsTrue (sym did.placed.only_reads.stays.tells) tells))
+    (g.D.Disk.shown c.consistency_point.new.disk) before was c.args.want c.args.delays.now known room (c.consistency_point.ensures.any_moment (subst IsTrue (sym did.placed.only_reads.stays.tells) tells))
 
 pub returns-clause-goes_on : goal.returns-clause-goes_on
 returns-clause-goes_on g c =
@@ -80,16 +80,16 @@ returns-clause-goes_on g c =
     (g.D.Disk.shown c.consistency_point.new.disk) c.consistency_point.new.pool c.consistency_point.new.volumes c.in_ok-consistency_point.ensures.goes_on)
 
 pub returns-clause-point : goal.returns-clause-point
-returns-clause-point g c = λ tells before was.
+returns-clause-point g c = λ tells before was known room.
     let did = c.in_ok-flush.ensures in
     let disk = g.D.Disk.shown c.consistency_point.new.disk in
     let laws = g.met.D.Disk.laws c.consistency_point.new.disk in
     let told : IsTrue disk.tells = subst IsTrue (sym (c.consistency_point.ensures.counts.tells ∙ did.placed.only_reads.stays.tells)) tells in
     let whole : (b : ℕ) → length (disk.reads b) ≡ 4096 = λ b. (laws.blocks disk.moment disk.reads disk.given (laws.counts_now disk.moment disk.reads (omega arith) (laws.read_is_image told)) b).long in
     let same = ap (λ (slots : Slots). record c.consistency_point.new.pool { containers = slots }) (c.count_slots.ensures.same ∙ slot_again c.consistency_point.new.pool.containers) in
-    subst (λ (p : Pool). IsHeldPoint (g.D.Disk.shown c.args.disk.now) c.args.pool.now c.args.volumes.now disk p c.consistency_point.new.volumes) (sym same)
+    subst (λ (p : Pool). IsHeldPoint (g.D.Disk.shown c.args.disk.now) c.args.pool.now c.args.volumes.now c.args.want disk p c.consistency_point.new.volumes c.consistency_point.new.delays) (sym same)
     (point_held (g.D.Disk.shown c.args.disk.now) c.args.pool.now c.args.volumes.now (g.D.Disk.shown c.args.disk.now) c.flush.new.pool c.flush.new.volumes did.placed did.none did.whole c.requires.fit did.ready
-    disk c.consistency_point.new.pool c.consistency_point.new.volumes c.in_ok-consistency_point.ensures.goes_on before was c.count_slots.ensures.valid.containers tells c.consistency_point.ensures.counts.tells whole
+    disk c.consistency_point.new.pool c.consistency_point.new.volumes c.in_ok-consistency_point.ensures.goes_on before was c.count_slots.ensures.valid.containers tells c.consistency_point.ensures.counts.tells whole c.args.want c.args.delays.now c.consistency_point.new.delays known room
     (c.in_ok-consistency_point.ensures.point (subst IsTrue (sym did.placed.only_reads.stays.tells) tells)))
 
 pub returns-clause-counts : goal.returns-clause-counts

@@ -1,32 +1,94 @@
+use Rattle.std.proofs.Common.{◌≡◌, ◌≤◌, ◌<◌, ℕ, ◌∙◌, arith}
+use Rattle.fv_cp.specs.Choosing.{holdings}
+use Rattle.fv_cp.specs.Planning.{is_set, taken}
 use Rattle.fv_cp.proofs.Ending.{found_left, goes_on, moments, point, rests, writing}
+use Rattle.fv_cp.proofs.Marking.{asked_now, fit_marked, lent_marked}
+use Rattle.fv_cp.proofs.Pointing.{come_chosen, marked_chosen, none_left}
 use Rattle.fv_cp.proofs.point.consistency_point.Goals as goal
 
+-- as many blocks are free as were asked for
+room_enough : {blocks with asked free count : ℕ} → blocks ≡ with → asked ≡ with → asked ≤ free → free ≡ count → blocks ≤ count
+room_enough first second le last = omega (arith, first, second, le, last)
+
+-- fewer are free than the volumes ask for that are written
+too_few : {with asked free count : ℕ} → asked ≡ with → free < asked → free ≡ count → count < with
+too_few second lt last = omega (arith, second, lt, last)
+
 pub returns-then-free-asked-clause-any_moment : goal.returns-then-free-asked-clause-any_moment
-returns-then-free-asked-clause-any_moment g c = λ tells before lent. rests (g.D.Disk.shown c.args.disk.now) c.args.pool.now c.args.volumes.now before lent (g.met.D.Disk.laws c.args.disk.now)
+returns-then-free-asked-clause-any_moment g c = λ tells before lent can. rests (g.D.Disk.shown c.args.disk.now) c.args.pool.now c.args.volumes.now before lent (g.met.D.Disk.laws c.args.disk.now)
+
+pub returns-then-free-asked-clause-room : goal.returns-then-free-asked-clause-room
+returns-then-free-asked-clause-room g c =
+    let few = too_few c.blocks_asked-asked.ensures c.if-free-asked.true (c.from-free.ensures ∙ c.free_count.ensures.value) in
+    (c.root_place.ensures, (c.blocks_asked-asked.ensures ∙ c.choose-plan.ensures.fits few, (c.from-free.ensures ∙ c.free_count.ensures.value, c.if-free-asked.true)))
 
 pub returns-in_err-write_volumes-clause-any_moment : goal.returns-in_err-write_volumes-clause-any_moment
-returns-in_err-write_volumes-clause-any_moment g c = λ tells before lent.
+returns-in_err-write_volumes-clause-any_moment g c = λ tells before lent can.
     writing (g.D.Disk.shown c.args.disk.now) c.args.pool.now c.args.volumes.now before lent (g.D.Disk.shown c.write_volumes.new.disk) _ c.write_volumes.ensures.spares
 
+pub write_volumes-requires-clause-housed : goal.write_volumes-requires-clause-housed
+write_volumes-requires-clause-housed g c =
+    (fit_marked c.args.volumes.now c.mark.new.volumes (is_set c.choose-plan.result.due) c.mark.ensures.marked c.args.pool.now c.mark.ensures.long c.requires.fit).housed
+
+pub write_volumes-requires-clause-room : goal.write_volumes-requires-clause-room
+write_volumes-requires-clause-room g c =
+    room_enough (asked_now (is_set c.choose-plan.result.due) c.args.volumes.now c.mark.new.volumes c.mark.ensures.long c.mark.ensures.marked) c.blocks_asked-asked.ensures c.if-free-asked.false (c.from-free.ensures ∙ c.free_count.ensures.value)
+
 pub switch-requires-clause-found : goal.switch-requires-clause-found
-switch-requires-clause-found g c = found_left (g.D.Disk.shown c.args.disk.now) c.args.pool.now c.args.volumes.now c.requires.fit c.write_volumes.new.labels c.write_volumes.new.pool (g.D.Disk.shown c.write_volumes.new.disk) c.in_ok-write_volumes.ensures.come c.requires.found
+switch-requires-clause-found g c =
+    let plan = c.choose-plan.result in
+    let fit = fit_marked c.args.volumes.now c.mark.new.volumes (is_set plan.due) c.mark.ensures.marked c.args.pool.now c.mark.ensures.long c.requires.fit in
+    found_left (taken plan (holdings c.args.pool.now.containers c.mark.new.volumes)) (g.D.Disk.shown c.args.disk.now) c.args.pool.now c.mark.new.volumes fit c.write_volumes.new.labels c.write_volumes.new.pool (g.D.Disk.shown c.write_volumes.new.disk)
+    c.in_ok-write_volumes.ensures.come c.requires.found
 
 pub returns-in_err-switch-clause-any_moment : goal.returns-in_err-switch-clause-any_moment
-returns-in_err-switch-clause-any_moment g c = λ tells before lent.
-    moments (g.D.Disk.shown c.args.disk.now) c.args.pool.now c.args.volumes.now before lent c.requires.fit c.write_volumes.new.labels c.write_volumes.new.pool (g.D.Disk.shown c.write_volumes.new.disk) c.in_ok-write_volumes.ensures.come tells (g.D.Disk.shown c.switch.new.disk) c.switch.ensures.any_moment
+returns-in_err-switch-clause-any_moment g c = λ tells before lent can.
+    let disk = g.D.Disk.shown c.args.disk.now in
+    let pool = c.args.pool.now in
+    let given = c.args.volumes.now in
+    let now = c.mark.new.volumes in
+    let plan = c.choose-plan.result in
+    let marked = c.mark.ensures.marked in
+    let fit = fit_marked given now (is_set plan.due) marked pool c.mark.ensures.long c.requires.fit in
+    moments disk pool now before (lent_marked given now (is_set plan.due) marked disk pool before lent) fit c.write_volumes.new.labels c.write_volumes.new.pool (g.D.Disk.shown c.write_volumes.new.disk) given c.args.want
+    (come_chosen disk pool given before lent c.requires.fit c.args.want c.args.delays.now can plan c.choose-plan.ensures.planned now marked fit.housed c.write_volumes.new.labels c.write_volumes.new.pool (g.D.Disk.shown c.write_volumes.new.disk) c.in_ok-write_volumes.ensures.come)
+    tells (marked_chosen disk pool given before lent c.requires.fit c.args.want c.args.delays.now can plan c.choose-plan.ensures.planned now marked) c.requires.fit.housed.long (g.D.Disk.shown c.switch.new.disk) c.switch.ensures.any_moment
 
 pub returns-clause-any_moment : goal.returns-clause-any_moment
-returns-clause-any_moment g c = λ tells before lent.
-    moments (g.D.Disk.shown c.args.disk.now) c.args.pool.now c.args.volumes.now before lent c.requires.fit c.write_volumes.new.labels c.write_volumes.new.pool (g.D.Disk.shown c.write_volumes.new.disk) c.in_ok-write_volumes.ensures.come tells (g.D.Disk.shown c.switch.new.disk) c.switch.ensures.any_moment
+returns-clause-any_moment g c = λ tells before lent can.
+    let disk = g.D.Disk.shown c.args.disk.now in
+    let pool = c.args.pool.now in
+    let given = c.args.volumes.now in
+    let now = c.mark.new.volumes in
+    let plan = c.choose-plan.result in
+    let marked = c.mark.ensures.marked in
+    let fit = fit_marked given now (is_set plan.due) marked pool c.mark.ensures.long c.requires.fit in
+    moments disk pool now before (lent_marked given now (is_set plan.due) marked disk pool before lent) fit c.write_volumes.new.labels c.write_volumes.new.pool (g.D.Disk.shown c.write_volumes.new.disk) given c.args.want
+    (come_chosen disk pool given before lent c.requires.fit c.args.want c.args.delays.now can plan c.choose-plan.ensures.planned now marked fit.housed c.write_volumes.new.labels c.write_volumes.new.pool (g.D.Disk.shown c.write_volumes.new.disk) c.in_ok-write_volumes.ensures.come)
+    tells (marked_chosen disk pool given before lent c.requires.fit c.args.want c.args.delays.now can plan c.choose-plan.ensures.planned now marked) c.requires.fit.housed.long (g.D.Disk.shown c.switch.new.disk) c.switch.ensures.any_moment
 
 pub returns-clause-point : goal.returns-clause-point
-returns-clause-point g c = λ tells before lent.
+returns-clause-point g c = λ tells before lent can.
+    let disk = g.D.Disk.shown c.args.disk.now in
+    let pool = c.args.pool.now in
+    let given = c.args.volumes.now in
+    let now = c.mark.new.volumes in
+    let plan = c.choose-plan.result in
+    let marked = c.mark.ensures.marked in
+    let fit = fit_marked given now (is_set plan.due) marked pool c.mark.ensures.long c.requires.fit in
     let did = c.in_ok-switch.ensures in
-    point (g.D.Disk.shown c.args.disk.now) c.args.pool.now c.args.volumes.now before lent c.requires.fit c.write_volumes.new.labels c.write_volumes.new.pool (g.D.Disk.shown c.write_volumes.new.disk) c.in_ok-write_volumes.ensures.come tells (g.D.Disk.shown c.switch.new.disk)
-    did.committed c.switch.new.pool c.settle.new.volumes did.switched did.containers did.kept c.settle.ensures.settled
+    point disk pool now before (lent_marked given now (is_set plan.due) marked disk pool before lent) fit c.write_volumes.new.labels c.write_volumes.new.pool (g.D.Disk.shown c.write_volumes.new.disk) given c.args.want
+    (come_chosen disk pool given before lent c.requires.fit c.args.want c.args.delays.now can plan c.choose-plan.ensures.planned now marked fit.housed c.write_volumes.new.labels c.write_volumes.new.pool (g.D.Disk.shown c.write_volumes.new.disk) c.in_ok-write_volumes.ensures.come)
+    tells (marked_chosen disk pool given before lent c.requires.fit c.args.want c.args.delays.now can plan c.choose-plan.ensures.planned now marked) c.requires.fit.housed.long
+    (g.D.Disk.shown c.switch.new.disk) did.committed c.switch.new.pool c.settle.new.volumes did.switched did.containers did.kept c.settle.ensures.settled
+    c.write_volumes.new.delays (none_left disk pool given before lent c.requires.fit c.args.want c.args.delays.now can plan c.choose-plan.ensures.planned now marked c.write_volumes.new.delays c.in_ok-write_volumes.ensures.delays)
 
 pub returns-clause-goes_on : goal.returns-clause-goes_on
 returns-clause-goes_on g c =
+    let plan = c.choose-plan.result in
+    let marked = c.mark.ensures.marked in
+    let fit = fit_marked c.args.volumes.now c.mark.new.volumes (is_set plan.due) marked c.args.pool.now c.mark.ensures.long c.requires.fit in
     let did = c.in_ok-switch.ensures in
-    goes_on (g.D.Disk.shown c.args.disk.now) c.args.pool.now c.args.volumes.now c.requires.fit c.write_volumes.new.labels c.write_volumes.new.pool (g.D.Disk.shown c.write_volumes.new.disk) c.in_ok-write_volumes.ensures.come (g.D.Disk.shown c.switch.new.disk)
-    c.switch.new.pool c.settle.new.volumes did.switched did.containers did.kept c.settle.ensures.settled did.committed did.stands c.settle.ensures.long
+    goes_on (taken plan (holdings c.args.pool.now.containers c.mark.new.volumes)) (g.D.Disk.shown c.args.disk.now) c.args.pool.now c.mark.new.volumes fit c.write_volumes.new.labels c.write_volumes.new.pool (g.D.Disk.shown c.write_volumes.new.disk)
+    c.in_ok-write_volumes.ensures.come (g.D.Disk.shown c.switch.new.disk)
+    c.switch.new.pool c.settle.new.volumes did.switched did.containers did.kept c.settle.ensures.settled c.args.volumes.now (is_set plan.due) marked did.committed did.stands c.settle.ensures.long

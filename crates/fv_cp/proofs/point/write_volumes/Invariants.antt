@@ -1,5 +1,10 @@
-use Rattle.fv_cp.specs.Course.{HasCome, all_regions}
+use Rattle.fv_cp.specs.Choosing.{holdings}
+use Rattle.fv_cp.specs.Course.{HasCome}
+use Rattle.fv_cp.specs.Planning.{LeaveDelays, taken}
 use Rattle.fv_cp.proofs.point.write_volumes.Given as goal
 
 abbrev pub invariant-loop-slot : goal.invariant-loop-slot
-invariant-loop-slot g l = HasCome all_regions (g.D.Disk.shown l.fn.disk) l.fn.pool l.volumes l.slot l.labels l.pool (g.D.Disk.shown l.disk)
+invariant-loop-slot g l = record {
+  come : HasCome (taken l.plan (holdings l.fn.pool.containers l.volumes)) (g.D.Disk.shown l.fn.disk) l.fn.pool l.volumes l.slot l.labels l.pool (g.D.Disk.shown l.disk);
+  delays : LeaveDelays l.plan (holdings l.fn.pool.containers l.volumes) l.slot l.fn.delays l.delays;
+}

@@ -19,7 +19,7 @@ returns-in_err-reply-in-Ok g c =
 pub returns-in_ok-reply-in-Ok : goal.returns-in_ok-reply-in-Ok
 returns-in_ok-reply-in-Ok g c =
     let done = c.in_ok-reply-in-Ok.ensures in
-    applied _ _ (line_of c.args.line.now) c.in-Ok.command _ _ (said _ _ (sym c.in-Ok.is ∙ c.read_line.ensures)) c.requires _ (λ other few. (done.calm other few).stays.reads) done.goes done.asks done.files done.goes_for done.reply done.point (λ cp. ((done.plain (cp_reads_none c.in-Ok.command cp)).pointed cp).pending)
+    applied _ _ (line_of c.args.line.now) c.in-Ok.command _ _ (said _ _ (sym c.in-Ok.is ∙ c.read_line.ensures)) c.requires _ (λ other few. (done.calm other few).stays.reads) done.goes done.asks done.files done.goes_for done.reply (λ tells last m stands cp. (done.point tells last m stands cp).stands) (λ cp. ((done.plain (cp_reads_none c.in-Ok.command cp)).pointed cp).pending)
 
 pub returns-in-Err-Syntax : goal.returns-in-Err-Syntax
 returns-in-Err-Syntax g c = applied_none _ _ _ (g.met.H.Disk.laws c.args.host.now) c.requires (said_none _ (ap Err (sym c.in-Err-Syntax.field-0-is) ∙ sym c.in-Err-Syntax.is ∙ c.read_line.ensures))

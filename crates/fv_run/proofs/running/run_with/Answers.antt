@@ -37,4 +37,4 @@ returns g c =
     let opened = c.in_ok-session.ensures in
     let point = c.in_ok-consistency_point.ensures in
     ran c.args.limit c.in_ok-session.session _ _ _ (g.met.H.Disk.laws c.args.host.now) opened.unwritten opened.stands opened.machine opened.asks opened.none opened.counts opened.loaded opened.fresh.pending _
-    (ran_whole c.args.limit c.in_ok-session.session _ _ _ _ c.in_ok-count.ensures c.consistency_point.new.self _ point.goes point.goes_for point.point _ _ c.tell_count.ensures)
+    (ran_whole c.args.limit c.in_ok-session.session _ _ _ _ c.in_ok-count.ensures c.consistency_point.new.self _ point.goes point.goes_for (λ tells last m stands. (point.point tells last m stands).stands) _ _ c.tell_count.ensures)

@@ -7,7 +7,6 @@ use Rattle.fv_root.specs.Finding.{root_found}
 use Rattle.fv_disk.proofs.Resting.{reads_then}
 use Rattle.fv_volmap.specs.Slots.{Volume, stored_count}
 use Rattle.fv_container.specs.Spelled.{IsFault, Spelled}
-use Rattle.fv_delay.specs.Delay.{has_delayed}
 use Rattle.fv_volume.specs.Loading.{HaveBits, IsBadMap, IsLoadFault}
 use Rattle.fv_volume.specs.SlotReads.{HaveRead}
 use Rattle.fv_volume.proofs.Labelled.{bad_label, bad_map, bad_tree, handed, is_label, loaded_none, loaded_some}
@@ -75,7 +74,7 @@ returns-clause-loaded g c = λ tells empty.
     let same : y.map ≡ m = c.of_label-state.ensures.laid.map in
     loaded_some found i c.args.slot c.requires.slot l y map _ lies c.of_label-state.ensures.head c.of_label-state.ensures.laid.label c.put.ensures.there spelled c.in_ok-container.ensures.size c.in_ok-container.ensures.valid
     (subst (λ (n : ℕ). HaveBits (view_at (root_found found) i) c.args.slot n y.map) (sym span) (subst (HaveBits (view_at (root_found found) i) c.args.slot l.span) (sym same) bits))
-    (c.of_label-state.ensures.laid.changed ∙ c.has_delayed-delayed.ensures ∙ (λ j. has_delayed (sym same j) map))
+    c.of_label-state.ensures.laid.changed
 
 pub of_label-state-requires-clause-few : goal.of_label-state-requires-clause-few
 of_label-state-requires-clause-few g c = few_snaps c.in_ok-label.label c.in_ok-snapshots.snapshots c.of_records.ensures.long c.in_ok-snapshots.ensures.said

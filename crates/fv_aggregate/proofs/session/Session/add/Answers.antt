@@ -50,4 +50,5 @@ returns-clause-added c =
       files = pending_made c.self.inside.volumes slot c.args.name.now c.args.size c.args.kind c.create.new.self _ long e.slot e.made e.new;
       waiting = waiting_made c.self.inside.volumes slot c.args.name.now c.args.size c.args.kind c.create.new.self long e.slot e.made e.each;
       failed = refl;
+      delays = refl;
     })

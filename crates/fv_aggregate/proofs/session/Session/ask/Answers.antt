@@ -29,8 +29,8 @@ returns-clause-looks g c =
     let long = subst (λ (n : Session). length n.volumes ≡ 64) c.self.view_is (c.self.invariant fresh).housed.long in
     let said = subst (λ (n : Session). AsksSlot d n.pool (state_at n.volumes slot) command c.args.steps.now e q steps r) c.self.view_is c.ask_slot-asked.ensures.asks in
     let asks = slot_asked d e s.pool q s.volumes slot of.state of.there command c.args.steps.now steps r said in
-    let was : ◌≡◌ {A = Session} (record { volumes = c.ask_slot-asked.new.volumes; pool = q; pending = c.self.inside.pending; failed = c.self.inside.failed }) (record s { pool = q }) =
-    λ j. record { volumes = (c.ask_slot-asked.ensures.same ∙ ap (λ (n : Session). n.volumes) c.self.view_is) j; pool = q; pending = (c.self.view_is j).pending; failed = (c.self.view_is j).failed } in
+    let was : ◌≡◌ {A = Session} (record { volumes = c.ask_slot-asked.new.volumes; pool = q; delays = c.self.inside.delays; pending = c.self.inside.pending; failed = c.self.inside.failed }) (record s { pool = q }) =
+    λ j. record { volumes = (c.ask_slot-asked.ensures.same ∙ ap (λ (n : Session). n.volumes) c.self.view_is) j; pool = q; delays = (c.self.view_is j).delays; pending = (c.self.view_is j).pending; failed = (c.self.view_is j).failed } in
     let replied = subst (λ (n : Session). Replied e r n c.replied.new.self c.replied.result) was c.replied.ensures in
     looks_by d e (g.met.D.Disk.laws c.args.disk.now) s q command slot of.state of.there c.args.steps.now steps c.requires.fresh c.requires.stands long
     (asked_closed command of.state.name of.asks) r asks c.replied.new.self c.replied.result replied
@@ -50,8 +50,8 @@ returns-clause-known g c = λ tells last m held.
     let long = subst (λ (n : Session). length n.volumes ≡ 64) c.self.view_is (c.self.invariant fresh).housed.long in
     let said = subst (λ (n : Session). AsksSlot d n.pool (state_at n.volumes slot) command c.args.steps.now e q steps r) c.self.view_is c.ask_slot-asked.ensures.asks in
     let asks = slot_asked d e s.pool q s.volumes slot of.state of.there command c.args.steps.now steps r said in
-    let was : ◌≡◌ {A = Session} (record { volumes = c.ask_slot-asked.new.volumes; pool = q; pending = c.self.inside.pending; failed = c.self.inside.failed }) (record s { pool = q }) =
-    λ j. record { volumes = (c.ask_slot-asked.ensures.same ∙ ap (λ (n : Session). n.volumes) c.self.view_is) j; pool = q; pending = (c.self.view_is j).pending; failed = (c.self.view_is j).failed } in
+    let was : ◌≡◌ {A = Session} (record { volumes = c.ask_slot-asked.new.volumes; pool = q; delays = c.self.inside.delays; pending = c.self.inside.pending; failed = c.self.inside.failed }) (record s { pool = q }) =
+    λ j. record { volumes = (c.ask_slot-asked.ensures.same ∙ ap (λ (n : Session). n.volumes) c.self.view_is) j; pool = q; delays = (c.self.view_is j).delays; pending = (c.self.view_is j).pending; failed = (c.self.view_is j).failed } in
     let replied = subst (λ (n : Session). Replied e r n c.replied.new.self c.replied.result) was c.replied.ensures in
     known_by d e (g.met.D.Disk.laws c.args.disk.now) s q command slot of.state of.there c.args.steps.now steps c.requires.fresh c.requires.stands long
     (asked_closed command of.state.name of.asks) r asks c.replied.new.self c.replied.result replied last m held
@@ -68,8 +68,8 @@ returns-clause-lost g c = λ near.
     let q = c.ask_slot-asked.new.pool in
     let command = c.args.command.now in
     let r = c.ask_slot-asked.result in
-    let was : ◌≡◌ {A = Session} (record { volumes = c.ask_slot-asked.new.volumes; pool = q; pending = c.self.inside.pending; failed = c.self.inside.failed }) (record s { pool = q }) =
-    λ j. record { volumes = (c.ask_slot-asked.ensures.same ∙ ap (λ (n : Session). n.volumes) c.self.view_is) j; pool = q; pending = (c.self.view_is j).pending; failed = (c.self.view_is j).failed } in
+    let was : ◌≡◌ {A = Session} (record { volumes = c.ask_slot-asked.new.volumes; pool = q; delays = c.self.inside.delays; pending = c.self.inside.pending; failed = c.self.inside.failed }) (record s { pool = q }) =
+    λ j. record { volumes = (c.ask_slot-asked.ensures.same ∙ ap (λ (n : Session). n.volumes) c.self.view_is) j; pool = q; delays = (c.self.view_is j).delays; pending = (c.self.view_is j).pending; failed = (c.self.view_is j).failed } in
     let replied = subst (λ (n : Session). Replied e r n c.replied.new.self c.replied.result) was c.replied.ensures in
     let said = subst (λ (n : Session). IfSome (state_at n.volumes c.args.slot) (λ x. table_named x (snapshot_asked command) ≡ None → IsRefusedUnread NoSnapshot c.args.disk.now n.pool c.ask_slot-asked.new.disk q r)) c.self.view_is (c.ask_slot-asked.ensures.lost near) in
     over_slot (λ x. table_named x (snapshot_asked command) ≡ None → IsRefusedUnread NoSnapshot c.args.disk.now s.pool c.ask_slot-asked.new.disk q r)

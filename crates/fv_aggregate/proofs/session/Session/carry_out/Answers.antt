@@ -38,10 +38,10 @@ returns-clause-makes g c =
     let did = slot_changed d s.pool s.volumes slot aimed.state aimed.there c.commits_beside-others.result others command e q r stay said in
     let before = subst (λ (n : Session). c.pending_at-before.result ≡ min (pending_by (state_at n.volumes slot)) (2 ^ 64 - 1)) c.self.view_is c.pending_at-before.ensures in
     let more = counted_as s.volumes stay slot aimed.state did.now long aimed.there did.row c.pending_at-before.result c.pending_at.result c.added.result before c.pending_at.ensures c.added.ensures in
-    let was : ◌≡◌ {A = Session} (record { volumes = stay; pool = q; pending = c.self.inside.pending + c.added.result; failed = c.self.inside.failed }) (record s { volumes = stay; pool = q; pending = s.pending + c.added.result }) =
-    λ j. record { volumes = stay; pool = q; pending = (c.self.view_is j).pending + c.added.result; failed = (c.self.view_is j).failed } in
+    let was : ◌≡◌ {A = Session} (record { volumes = stay; pool = q; delays = c.self.inside.delays; pending = c.self.inside.pending + c.added.result; failed = c.self.inside.failed }) (record s { volumes = stay; pool = q; pending = s.pending + c.added.result }) =
+    λ j. record { volumes = stay; pool = q; delays = (c.self.view_is j).delays; pending = (c.self.view_is j).pending + c.added.result; failed = (c.self.view_is j).failed } in
     let now : ◌≡◌ {A = Session} (record s { volumes = stay; pool = q; pending = s.pending + c.added.result }) _ = ap (λ (xs : States). record s { volumes = xs; pool = q; pending = s.pending + c.added.result }) did.row in
-    let asked = subst (λ a. Replied e a (record { volumes = stay; pool = q; pending = c.self.inside.pending + c.added.result; failed = c.self.inside.failed }) c.replied.new.self c.replied.result) c.done.ensures c.replied.ensures in
+    let asked = subst (λ a. Replied e a (record { volumes = stay; pool = q; delays = c.self.inside.delays; pending = c.self.inside.pending + c.added.result; failed = c.self.inside.failed }) c.replied.new.self c.replied.result) c.done.ensures c.replied.ensures in
     let replied = subst (λ (n : Session). Replied e (done_as r) n c.replied.new.self c.replied.result) (was ∙ now) asked in
     makes_by d e (g.met.D.Disk.laws c.args.disk.now) s q command slot aimed.state aimed.there long c.requires.fresh c.requires.stands did.now c.added.result more (let few = c.requires.few in omega (arith, few)) aimed.change r did.changes
     c.replied.new.self c.replied.result replied

@@ -13,10 +13,10 @@ returns c = record {
     ap (λ (s : Session). s.pool) c.self.view_is,
     subst (λ (s : Session). PromisesOne s.volumes s.pool.found.blocks (VolGuarantee c.args.volume.now c.args.kind) c.args.volume.now (λ x. x.size) (λ x. c.args.kind) c.guarantee.new.self c.guarantee.result) c.self.view_is c.guarantee.ensures,
   );
-  rest = λ j. record { volumes = c.guarantee.new.self; pool = c.self.inside.pool; pending = (c.self.view_is j).pending; failed = (c.self.view_is j).failed };
+  rest = λ j. record { volumes = c.guarantee.new.self; pool = c.self.inside.pool; delays = (c.self.view_is j).delays; pending = (c.self.view_is j).pending; failed = (c.self.view_is j).failed };
 }
 
 pub invariant_of-self : goal.invariant_of-self
 invariant_of-self c = λ fresh.
-    let session : Session = record { volumes = c.self.inside.volumes; pool = c.self.inside.pool; pending = c.self.inside.pending; failed = c.self.inside.failed } in
+    let session : Session = record { volumes = c.self.inside.volumes; pool = c.self.inside.pool; delays = c.self.inside.delays; pending = c.self.inside.pending; failed = c.self.inside.failed } in
     fit_resized session (VolGuarantee c.args.volume.now c.args.kind) c.args.volume.now (λ x. x.size) (λ x. c.args.kind) c.guarantee.new.self (c.self.invariant fresh) c.guarantee.result c.guarantee.ensures

@@ -35,9 +35,9 @@ returns-clause-judged g c =
     let others = subst (λ (n : Session). c.commits_beside-others.result ≡ beside n.volumes slot) c.self.view_is c.commits_beside-others.ensures.sum in
     let said = subst (λ (n : Session). JudgesSlot d n.pool (state_at n.volumes slot) c.commits_beside-others.result command e q r) c.self.view_is c.judge_slot-judged.ensures.judges in
     let did = slot_judged d s.pool s.volumes slot aimed.state aimed.there c.commits_beside-others.result others command e q r said in
-    let was : ◌≡◌ {A = Session} (record { volumes = c.judge_slot-judged.new.volumes; pool = q; pending = c.self.inside.pending; failed = c.self.inside.failed }) (record s { pool = q }) =
-    λ j. record { volumes = (c.judge_slot-judged.ensures.same ∙ ap (λ (n : Session). n.volumes) c.self.view_is) j; pool = q; pending = (c.self.view_is j).pending; failed = (c.self.view_is j).failed } in
-    let asked = subst (λ a. Replied e a (record { volumes = c.judge_slot-judged.new.volumes; pool = q; pending = c.self.inside.pending; failed = c.self.inside.failed }) c.replied.new.self c.replied.result) c.done.ensures c.replied.ensures in
+    let was : ◌≡◌ {A = Session} (record { volumes = c.judge_slot-judged.new.volumes; pool = q; delays = c.self.inside.delays; pending = c.self.inside.pending; failed = c.self.inside.failed }) (record s { pool = q }) =
+    λ j. record { volumes = (c.judge_slot-judged.ensures.same ∙ ap (λ (n : Session). n.volumes) c.self.view_is) j; pool = q; delays = (c.self.view_is j).delays; pending = (c.self.view_is j).pending; failed = (c.self.view_is j).failed } in
+    let asked = subst (λ a. Replied e a (record { volumes = c.judge_slot-judged.new.volumes; pool = q; delays = c.self.inside.delays; pending = c.self.inside.pending; failed = c.self.inside.failed }) c.replied.new.self c.replied.result) c.done.ensures c.replied.ensures in
     let replied = subst (λ (n : Session). Replied e (done_as r) n c.replied.new.self c.replied.result) was asked in
     judged_by d e (g.met.D.Disk.laws c.args.disk.now) s q command slot aimed.state aimed.there long c.requires.fresh c.requires.stands r did c.replied.new.self c.replied.result replied
 

@@ -19,7 +19,7 @@ pub returns-else-has_room-clause-asks : goal.returns-else-has_room-clause-asks
 returns-else-has_room-clause-asks g c = asks_within 0 c.args.room (omega arith) (g.D.Disk.shown c.args.disk.now) c.args.self.now (g.D.Disk.shown c.point.new.disk) c.point.new.self c.point.ensures.asks
 
 pub returns-else-has_room-clause-room : goal.returns-else-has_room-clause-room
-returns-else-has_room-clause-room g c = λ tells last m stands fits. c.point.ensures.room tells last m stands c.args.room fits
+returns-else-has_room-clause-room g c = λ tells last m stands fits. c.point.ensures.room tells last m stands fits
 
 pub returns-then-has_room-clause-cores : goal.returns-then-has_room-clause-cores
 returns-then-has_room-clause-cores g c = λ s. refl

@@ -13,10 +13,10 @@ returns c = record {
     ap (λ (s : Session). s.pool) c.self.view_is,
     subst (λ (s : Session). PromisesOne s.volumes s.pool.found.blocks (VolResize c.args.volume.now c.args.size) c.args.volume.now (λ x. c.args.size) (λ x. x.kind) c.resize.new.self c.resize.result) c.self.view_is c.resize.ensures,
   );
-  rest = λ j. record { volumes = c.resize.new.self; pool = c.self.inside.pool; pending = (c.self.view_is j).pending; failed = (c.self.view_is j).failed };
+  rest = λ j. record { volumes = c.resize.new.self; pool = c.self.inside.pool; delays = (c.self.view_is j).delays; pending = (c.self.view_is j).pending; failed = (c.self.view_is j).failed };
 }
 
 pub invariant_of-self : goal.invariant_of-self
 invariant_of-self c = λ fresh.
-    let session : Session = record { volumes = c.self.inside.volumes; pool = c.self.inside.pool; pending = c.self.inside.pending; failed = c.self.inside.failed } in
+    let session : Session = record { volumes = c.self.inside.volumes; pool = c.self.inside.pool; delays = c.self.inside.delays; pending = c.self.inside.pending; failed = c.self.inside.failed } in
     fit_resized session (VolResize c.args.volume.now c.args.size) c.args.volume.now (λ x. c.args.size) (λ x. x.kind) c.resize.new.self (c.self.invariant fresh) c.resize.result c.resize.ensures

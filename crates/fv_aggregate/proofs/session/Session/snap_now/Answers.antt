@@ -16,13 +16,13 @@ use Rattle.fv_aggregate.proofs.session.Session.snap_now.Goals.{then-is_ok, else-
 
 pub invariant_of-self : goal.invariant_of-self
 invariant_of-self g c = λ none.
-    let v : Session = record { volumes = c.self.inside.volumes; pool = c.self.inside.pool; pending = c.self.inside.pending; failed = c.self.inside.failed } in
+    let v : Session = record { volumes = c.self.inside.volumes; pool = c.self.inside.pool; delays = c.self.inside.delays; pending = c.self.inside.pending; failed = c.self.inside.failed } in
     let aimed = subst (λ (n : Session). IsSnapAimed n.volumes c.args.slot c.args.command.now) (sym c.self.view_is) c.requires.aimed in
     fits_after (g.D.Disk.shown c.args.disk.now) v (c.self.invariant none) c.args.slot c.args.command.now aimed c.args.others c.snap_slot-made.new.pool c.snap_slot-made.new.volumes c.snap_slot-made.result c.snap_slot-made.ensures.snaps
 
 pub invariant_of-self-else-is_ok : goal.invariant_of-self-else-is_ok
 invariant_of-self-else-is_ok g c = λ none.
-    let v : Session = record { volumes = c.self.inside.volumes; pool = c.self.inside.pool; pending = c.self.inside.pending; failed = c.self.inside.failed } in
+    let v : Session = record { volumes = c.self.inside.volumes; pool = c.self.inside.pool; delays = c.self.inside.delays; pending = c.self.inside.pending; failed = c.self.inside.failed } in
     let aimed = subst (λ (n : Session). IsSnapAimed n.volumes c.args.slot c.args.command.now) (sym c.self.view_is) c.requires.aimed in
     fits_after (g.D.Disk.shown c.args.disk.now) v (c.self.invariant none) c.args.slot c.args.command.now aimed c.args.others c.snap_slot-made.new.pool c.snap_slot-made.new.volumes c.snap_slot-made.result c.snap_slot-made.ensures.snaps
 
@@ -34,7 +34,7 @@ returns g c =
     let q = c.snap_slot-made.new.pool in
     let stay = c.snap_slot-made.new.volumes in
     let r = c.snap_slot-made.result in
-    let v : Session = record { volumes = c.self.inside.volumes; pool = c.self.inside.pool; pending = c.self.inside.pending; failed = c.self.inside.failed } in
+    let v : Session = record { volumes = c.self.inside.volumes; pool = c.self.inside.pool; delays = c.self.inside.delays; pending = c.self.inside.pending; failed = c.self.inside.failed } in
     let back = sym c.self.view_is in
     let fresh : IsNone v.failed = subst (λ (n : Session). IsNone n.failed) back c.requires.fresh in
     let stands : Stands d v = subst (Stands d) back c.requires.stands in

@@ -1,0 +1,59 @@
+-- What a consistency point makes of the entries of a session's volumes, as the image shows them.
+use Rattle.std.specs.Prelude.{◌≡◌, ◌<◌, ◌&&◌, ℕ, Bool, true, false, List, Option, Some, None, if◌then◌else◌}
+use Rattle.std.specs.Option.{option_map}
+use Rattle.std.specs.FinMap as fin
+use Rattle.fv_disk.specs.Shown.{Shown}
+use Rattle.fv_model.specs.Machines.{Machine}
+use Rattle.fv_image.specs.Held.{view_at}
+use Rattle.fv_image.specs.Views.{Placed}
+use Rattle.fv_root.specs.Finding.{root_found}
+use Rattle.fv_container.specs.declared.entry.Entry.{Entry}
+use Rattle.fv_container.specs.Chains.{container_at, slot_count}
+use Rattle.fv_container.specs.Mapped.{Mapped, entry_under}
+use Rattle.fv_delay.specs.declared.regions.Region.{Region}
+use Rattle.fv_delay.specs.Holding.{has_region}
+use Rattle.fv_delay.specs.Reclaims.{goes_with}
+use Rattle.fv_volume.specs.declared.pool.Pool.{Pool}
+use Rattle.fv_volume.specs.declared.state.VolumeState.{VolumeState}
+use Rattle.fv_volume.specs.States.{States, placed_in, state_at}
+use Rattle.fv_volume.specs.Stored.{is_map_written, map_entry}
+use Rattle.fv_cp.specs.Choosing.{regions_chosen}
+use Rattle.fv_cp.specs.Placing.{AreButPlaced, PlacesEntries}
+use Rattle.fv_cp.specs.Points.{is_due}
+use Rattle.fv_aggregate.specs.declared.session.Session.{Session}
+use Rattle.fv_aggregate.specs.Standing.{StandsFor}
+
+-- the entry under a VVBN of the volume of a slot, as an image shows it under the root of a session
+abbrev pub entry_shown : Shown → Session → ℕ → ℕ → Option Placed
+entry_shown disk session s v = (view_at (root_found session.pool.found) disk.reads).entry s v
+
+-- an entry of a container with the block that stands in an image at its place
+abbrev pub shown_as : Shown → Option Entry → Option Placed
+shown_as disk entry = placed_in fin.empty disk.reads entry
+
+-- whether a point that reclaims some regions writes the block under a VVBN: it writes the volume, and the map to which the block belongs
+abbrev pub writes_map : List Region → ℕ → VolumeState → ℕ → Bool
+writes_map regions s x v = is_due regions s x && is_map_written x v
+
+-- What a point that wants so many blocks makes of the entries of a session's volumes. First files are placed: each entry stays or leads to a block
+-- that the root on the disk doesn't hold. Regions are chosen by what the volumes are then. Their delayed entries are holes in the image, and
+-- no other entry became one: the blocks of maps that are written have new entries, and each else stays. An entry is delayed where the volume's
+-- maps, which are those behind the point, don't hold its number.
+pub record ReclaimsEntries (want : ℕ) (old : Session) (after : Shown) (new : Session) : Type 0 where
+  -- what the volumes share and the volumes, once the files are placed
+  pub mid : Pool
+  pub between : States
+  pub found : mid.found ≡ old.pool.found
+  pub same : AreButPlaced old.volumes between
+  pub maps : (s : ℕ) → option_map (λ (x : VolumeState). x.map) (state_at new.volumes s) ≡ option_map (λ (x : VolumeState). x.map) (state_at between s)
+  pub placed : PlacesEntries old.pool.map old.pool.containers mid.containers
+  pub there : (s : ℕ) (x : VolumeState) → state_at between s ≡ Some x → (map : Mapped) × (container_at mid.containers s ≡ Some map)
+  pub written : (s v : ℕ) (x : VolumeState) (map : Mapped) → s < slot_count → state_at between s ≡ Some x → container_at mid.containers s ≡ Some map → writes_map (regions_chosen mid between want) s x v ≡ true
+      → (place : ℕ) × (entry_shown after new s v ≡ shown_as after (Some (map_entry place)))
+  pub others : (s v : ℕ) (x : VolumeState) (map : Mapped) → s < slot_count → state_at between s ≡ Some x → container_at mid.containers s ≡ Some map → writes_map (regions_chosen mid between want) s x v ≡ false
+      → entry_shown after new s v ≡ shown_as after (if goes_with x.map map (has_region (regions_chosen mid between want) s) v then None else entry_under map v)
+
+-- What a point leaves that was done in a session that stood for a machine: it stands for that, and so does the image.
+pub record HasPointed (want : ℕ) (old : Session) (after : Shown) (new : Session) (m : Machine) : Type 0 where
+  pub stands : StandsFor after new m m
+  pub entries : ReclaimsEntries want old after new

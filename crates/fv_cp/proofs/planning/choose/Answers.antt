@@ -1,0 +1,28 @@
+use Rattle.std.proofs.Common.{◌≡◌, ◌<◌, ◌≤◌, ◌∙◌, ℕ, false, arith}
+use Rattle.std.specs.Prelude.{replicate}
+use Rattle.std.proofs.lemmas.List.{get_or-replicate}
+use Rattle.fv_cp.specs.Choosing.{has_slot, regions_chosen}
+use Rattle.fv_cp.specs.Planning.{is_set}
+use Rattle.fv_cp.proofs.Marking.{asked_alike, asked_unmarked}
+use Rattle.fv_cp.proofs.Pointing.{due_alike}
+use Rattle.fv_cp.proofs.planning.choose.Goals as goal
+
+-- fewer blocks aren't free than are asked for where there is room
+contrary : {asked with chosen free count : ℕ} → free < asked → asked ≡ with → with ≡ chosen → chosen ≤ count → free ≡ count → ⊥
+contrary lt first second le last = omega (arith, lt, first, second, le, last)
+
+pub returns-then-from-blocks_asked-clause-planned : goal.returns-then-from-blocks_asked-clause-planned
+returns-then-from-blocks_asked-clause-planned c counted room =
+    let states = c.args.volumes.now in
+    let plan = c.plan_for-plan.result in
+    let same = asked_alike (is_set plan.due) (has_slot (regions_chosen c.args.pool.now states c.args.want)) states (due_alike c.args.pool.now states c.requires.housed c.args.want plan (c.plan_for-plan.ensures counted)) in
+    absurd (contrary c.if-from-blocks_asked.true c.blocks_asked.ensures same room (c.from.ensures ∙ c.free_count.ensures.value))
+
+pub returns-then-from-blocks_asked-clause-fits : goal.returns-then-from-blocks_asked-clause-fits
+returns-then-from-blocks_asked-clause-fits c lt = asked_unmarked (is_set (replicate 64 false)) c.args.volumes.now c.requires.housed.long (λ s inside. get_or-replicate 64 s false false inside)
+
+pub returns-else-from-blocks_asked-clause-planned : goal.returns-else-from-blocks_asked-clause-planned
+returns-else-from-blocks_asked-clause-planned c counted room = c.plan_for-plan.ensures counted
+
+pub returns-else-from-blocks_asked-clause-fits : goal.returns-else-from-blocks_asked-clause-fits
+returns-else-from-blocks_asked-clause-fits c lt = absurd (omega (arith, lt, c.if-from-blocks_asked.false, c.blocks_asked.ensures, c.from.ensures, c.free_count.ensures.value))
