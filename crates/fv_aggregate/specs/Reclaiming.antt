@@ -3,6 +3,7 @@ use Rattle.std.specs.Prelude.{◌≡◌, ◌<◌, ◌&&◌, ℕ, Bool, true, fal
 use Rattle.std.specs.Option.{option_map}
 use Rattle.std.specs.FinMap as fin
 use Rattle.fv_disk.specs.Shown.{Shown}
+use Rattle.fv_bits.specs.Members.{is_member}
 use Rattle.fv_model.specs.Machines.{Machine}
 use Rattle.fv_image.specs.Held.{view_at}
 use Rattle.fv_image.specs.Views.{Placed}
@@ -18,7 +19,7 @@ use Rattle.fv_volume.specs.declared.state.VolumeState.{VolumeState}
 use Rattle.fv_volume.specs.States.{States, placed_in, state_at}
 use Rattle.fv_volume.specs.Stored.{is_map_written, map_entry}
 use Rattle.fv_cp.specs.Choosing.{regions_chosen}
-use Rattle.fv_cp.specs.Placing.{AreButPlaced, PlacesEntries}
+use Rattle.fv_cp.specs.Placing.{AreButPlaced, PlacesEntries, RestsPlaced}
 use Rattle.fv_cp.specs.Points.{is_due}
 use Rattle.fv_aggregate.specs.declared.session.Session.{Session}
 use Rattle.fv_aggregate.specs.Standing.{StandsFor}
@@ -47,9 +48,11 @@ pub record ReclaimsEntries (want : ℕ) (old : Session) (after : Shown) (new : S
   pub same : AreButPlaced old.volumes between
   pub maps : (s : ℕ) → option_map (λ (x : VolumeState). x.map) (state_at new.volumes s) ≡ option_map (λ (x : VolumeState). x.map) (state_at between s)
   pub placed : PlacesEntries old.pool.map old.pool.containers mid.containers
+  -- of a volume without files in memory nothing was placed
+  pub rest : RestsPlaced old.pool old.volumes mid between
   pub there : (s : ℕ) (x : VolumeState) → state_at between s ≡ Some x → (map : Mapped) × (container_at mid.containers s ≡ Some map)
   pub written : (s v : ℕ) (x : VolumeState) (map : Mapped) → s < slot_count → state_at between s ≡ Some x → container_at mid.containers s ≡ Some map → writes_map (regions_chosen mid between want) s x v ≡ true
-      → (place : ℕ) × (entry_shown after new s v ≡ shown_as after (Some (map_entry place)))
+      → (place : ℕ) × ((is_member old.pool.map.committed place ≡ false) × (entry_shown after new s v ≡ shown_as after (Some (map_entry place))))
   pub others : (s v : ℕ) (x : VolumeState) (map : Mapped) → s < slot_count → state_at between s ≡ Some x → container_at mid.containers s ≡ Some map → writes_map (regions_chosen mid between want) s x v ≡ false
       → entry_shown after new s v ≡ shown_as after (if goes_with x.map map (has_region (regions_chosen mid between want) s) v then None else entry_under map v)
 

@@ -43,6 +43,8 @@ impl Session {
         ensures cores { OnOk result (KeepCores self.old.volumes self.new.volumes) }
         ensures calm { self.old.pending + room ≤ dirty_limit → (disk.new ≡ disk.old) × (self.new ≡ self.old) }
         ensures pointed { dirty_limit < self.old.pending + room → OnOk result (IsPointed (D.shown disk.old) self.old self.new) }
+        ensures reclaimed { IsTrue (D.shown disk.old).tells → (last m : Machine) → StandsFor (D.shown disk.old) self.old last m
+            → dirty_limit < self.old.pending + room → OnOk result (HasPointed room self.old (D.shown disk.new) self.new m) }
         ensures files { IsTrue (D.shown disk.old).tells → IsWithoutFiles self.old → OnOk result (IsWithoutFiles self.new) }
         ensures same { IsTrue (D.shown disk.old).tells → HoldsAsCommitted self.old → OnOk result (HoldsAsCommitted self.new) }
         ensures numbers { IsNone self.new.failed → KeepsNumbers self.old.volumes self.new.volumes }

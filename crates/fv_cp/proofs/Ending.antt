@@ -391,16 +391,16 @@ module _ (disk : Shown) (pool : Pool) (states : States) (before : Machine) (lent
     container_now s = ap (λ (c : Slots). container_at c s) containers
 
     entries_left : (s : ℕ) (x : VolumeState) (map : Mapped) → s < 64 → state_at states s ≡ Some x → x.changed ≡ true → container_at pool.containers s ≡ Some map
-        → (after : Mapped) × ((container_at last.containers s ≡ Some after) × LeavesEntries (regions s) x map after)
+        → (after : Mapped) × ((container_at last.containers s ≡ Some after) × LeavesEntries pool.map.committed (regions s) x map after)
     entries_left s x map inside there changed was = by (is.each s inside)
       where
         by : IsOnCourse regions pool states (block_seen pool.kept disk.reads) 64 s (is.now s) (get_or labels s 0) (container_at left.containers s) mid.reads
-            → (after : Mapped) × ((container_at last.containers s ≡ Some after) × LeavesEntries (regions s) x map after)
+            → (after : Mapped) × ((container_at last.containers s ≡ Some after) × LeavesEntries pool.map.committed (regions s) x map after)
         by (renewed y low here differs now r) =
             let same : y ≡ x = same_Some y x (sym here ∙ there) in
             let first : r.old ≡ map = same_Some r.old map (sym r.was ∙ was) in
-            let leaves : LeavesEntries (regions s) y r.old r.new = record { reclaimed = λ v off. r.stored.kept v off ∙ r.reclaimed.entries v; written = r.stored.maps } in
-            (r.new, (container_now s ∙ r.now, subst (λ (z : VolumeState). LeavesEntries (regions s) z map r.new) same (subst (λ (m : Mapped). LeavesEntries (regions s) y m r.new) first leaves)))
+            let leaves : LeavesEntries pool.map.committed (regions s) y r.old r.new = record { reclaimed = λ v off. r.stored.kept v off ∙ r.reclaimed.entries v; written = r.stored.maps; spare = r.fresh } in
+            (r.new, (container_now s ∙ r.now, subst (λ (z : VolumeState). LeavesEntries pool.map.committed (regions s) z map r.new) same (subst (λ (m : Mapped). LeavesEntries pool.map.committed (regions s) y m r.new) first leaves)))
         by (as_lent waits at) =
             let late : x.changed ≡ true → 64 ≤ s = subst (λ (o : Option VolumeState). IfSome o (λ z. z.changed ≡ true → 64 ≤ s)) there waits in
             let past = late changed in
@@ -431,10 +431,10 @@ module _ (disk : Shown) (pool : Pool) (states : States) (before : Machine) (lent
         (of_marked (active_in (view_over last stay new.reads) no_trees s ≡ active_in w no_trees s) (has_slot list s) (state_at given s) (subst (λ (o : Option VolumeState). IfSome o (λ x. active_in (view_over last stay new.reads) no_trees s ≡ active_in w no_trees s)) (marked s) (tables_stay s)))
 
     given_entries : (s : ℕ) (x : VolumeState) (map : Mapped) → s < 64 → state_at given s ≡ Some x → is_due list s x ≡ true → container_at pool.containers s ≡ Some map
-        → (after : Mapped) × ((container_at last.containers s ≡ Some after) × LeavesEntries (regions s) x map after)
+        → (after : Mapped) × ((container_at last.containers s ≡ Some after) × LeavesEntries pool.map.committed (regions s) x map after)
     given_entries s x map inside there due was =
         let left_so = entries_left s (marked_as (has_slot list s) x) map inside (marked s ∙ ap (option_map (marked_as (has_slot list s))) there) due was in
-        (left_so.0, (left_so.1.0, record { reclaimed = left_so.1.1.reclaimed; written = left_so.1.1.written }))
+        (left_so.0, (left_so.1.0, record { reclaimed = left_so.1.1.reclaimed; written = left_so.1.1.written; spare = left_so.1.1.spare }))
 
     given_unchanged : (s : ℕ) → IfSome (state_at given s) (λ x. is_due list s x ≡ false) → IfSome (state_at states s) (λ x. x.changed ≡ false)
     given_unchanged s is_not = subst (λ (o : Option VolumeState). IfSome o (λ x. x.changed ≡ false)) (sym (marked s)) (by (state_at given s) is_not)

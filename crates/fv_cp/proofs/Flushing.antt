@@ -35,7 +35,7 @@ use Rattle.fv_volume.proofs.Spending.{spent_one}
 use Rattle.fv_volume.proofs.Staying.{only_itself}
 use Rattle.fv_cp.specs.Held.{machine_held, named_held, IsHeld, IsHeldIn}
 use Rattle.fv_cp.specs.Lent.{asked_all, asked_by, asked_of, blocks_asked, maps_waiting, waiting_by, FitTogether}
-use Rattle.fv_cp.specs.Placing.{pending_by, pending_files, HasNumbers, HaveNoFiles, HaveRoom, HaveSpent, IsPlacedAs, AreButPlaced, ArePlaced, AreReady, but_placed, HasNoFiles, HasWholeMap, IsReadyIn, IsSlotPlaced, IsSpareEntry, MayFail, PlacesEntries, PlacesSlot}
+use Rattle.fv_cp.specs.Placing.{pending_by, pending_files, HasNumbers, HaveNoFiles, HaveRoom, HaveSpent, IsPlacedAs, AreButPlaced, ArePlaced, AreReady, but_placed, HasNoFiles, HasWholeMap, IsReadyIn, IsSlotPlaced, IsSpareEntry, MayFail, PlacesEntries, PlacesSlot, RestsPlaced}
 use Rattle.fv_disk.proofs.Resting.{reads_then}
 use Rattle.fv_store.specs.Held.{StandsOn}
 use Rattle.fv_volume.specs.declared.fault.VolumeFault.{VolumeFault}
@@ -78,6 +78,16 @@ module _ (disk after : Shown) (pool left : Pool) (states stay : States) (x y : V
           (λ (same : own_entry (container_at left.containers x.slot) v ≡ own_entry (container_at pool.containers x.slot) v). inl same)
           (λ (new : IsNewEntry pool.map pool.containers left.containers x.slot v). inr (record { entry = new.entry; stands = new.stands; lies = new.takes.lies; spare = new.takes.spare }))
           (placed.goes.goes.goes.entries v)
+
+  -- a volume without files in memory stays
+  pub rest_still : RestsPlaced pool states left stay
+  rest_still s none = ⊎_elim
+      (λ (here : s ≡ x.slot).
+      let files : x.files ≡ None = subst HasNoFiles (ap (state_at states) here ∙ there) none in
+      let all = one.idle_still disk after pool left states stay x y there now fit.housed placed files in
+      (ap (λ (xs : States). state_at xs s) all.1, ap (λ (p : Pool). container_at p.containers s) all.0))
+      (λ (differ : s ≢ x.slot). (one.other disk after pool left states stay x y there now fit.housed placed s differ, placed.goes.goes.goes.others s differ))
+      (cases_eq s x.slot)
 
   pub asked_still : IsReady disk pool x → blocks_asked stay ≡ blocks_asked states
   asked_still ready =
@@ -178,7 +188,7 @@ pub record HasPassed (disk : Shown) (pool : Pool) (states : States) (count : ℕ
 pub passed_none : (disk : Shown) (pool : Pool) (states : States) → FitTogether pool states → AreReady disk pool states → StandsOn disk pool.store.pairs → HasPassed disk pool states 0 disk pool states
 passed_none disk pool states fit ready stands = record {
   come = record {
-    placed = record { held = λ before held. held; machine = λ before held. refl; fit = fit; found = refl; committed = refl; cores = λ s. refl; asked = refl; all = refl; waiting = refl; spent = λ before held room. record { fewer = omega arith; numbers = room.numbers; blocks = omega arith }; others = λ s. refl; entries = λ s v. inl refl; only_reads = only_itself disk; idle = λ none. (refl, refl) };
+    placed = record { held = λ before held. held; machine = λ before held. refl; fit = fit; found = refl; committed = refl; cores = λ s. refl; asked = refl; all = refl; waiting = refl; spent = λ before held room. record { fewer = omega arith; numbers = room.numbers; blocks = omega arith }; others = λ s. refl; entries = λ s v. inl refl; rest = λ s none. (refl, refl); only_reads = only_itself disk; idle = λ none. (refl, refl) };
     ready = ready;
     stands = stands;
   };
@@ -245,6 +255,10 @@ module _ (disk : Shown) (pool : Pool) (states : States) (mid : Shown) (held : Po
           others = λ s. others_still mid after held left between stay x did.now here now come.placed.fit did.placed ready.ready s ∙ come.placed.others s;
           entries = entries_then pool.map held.map pool.containers held.containers left.containers come.placed.committed come.placed.entries
               (entries_still mid after held left between stay x did.now here now come.placed.fit did.placed);
+          rest = λ s none.
+              let first = come.placed.rest s none in
+              let second = rest_still mid after held left between stay x did.now here now come.placed.fit did.placed s (subst HasNoFiles (sym first.0) none) in
+              (second.0 ∙ first.0, second.1 ∙ first.1);
           only_reads = reads_then disk mid after come.placed.only_reads (one.only_read mid after held left between stay x did.now here now come.placed.fit.housed did.placed);
           idle = λ none.
               let first = come.placed.idle none in

@@ -30,7 +30,7 @@ use Rattle.fv_volume.proofs.HeldSettled.{core_parent, ready_of, settled_core, se
 use Rattle.fv_cp.specs.Held.{machine_held, IsHeld}
 use Rattle.fv_cp.specs.Lent.{FitTogether, IsLent}
 use Rattle.fv_cp.specs.Placing.{core_of, ArePlaced, AreReady, HasNoFiles, HasWholeMap, HaveNoFiles, HaveRoom, IsPlaceFault, IsReadyIn}
-use Rattle.fv_cp.specs.Points.{machine_lent, Counts, GoesOn, IsCalm, IsPoint, LacksRoom, LeavesAll, OldOrLent}
+use Rattle.fv_cp.specs.Points.{machine_lent, Counts, GoesOn, IsCalm, IsPoint, LacksRoom, LeavesAll, LeavesContainers, OldOrLent}
 use Rattle.fv_cp.specs.Settling.{GoesOnWhole, HasWholeCause, HaveFullRoom, IsHeldPoint, IsNoDamage, IsStill, OldOrHeld, StillHeld, WholeCounts, WholeFails}
 use Rattle.fv_volume.specs.Housed.{settled_as}
 use Rattle.fv_volume.specs.Trees.{active_in, no_trees}
@@ -162,7 +162,7 @@ module _ (disk : Shown) (pool : Pool) (states : States) (mid : Shown) (held : Po
             unchanged = point.unchanged;
             room = point.room;
             delays = point.delays;
-            entries = record { mid = held; between = between; found = placed.found; others = placed.others; maps = maps_now; housed = placed.fit.housed; placed = placed.entries; containers = record { written = point.entries; stays = point.containers } };
+            entries = record { mid = held; between = between; found = placed.found; others = placed.others; maps = maps_now; housed = placed.fit.housed; placed = placed.entries; rest = placed.rest; containers = subst (λ (c : List Bool). LeavesContainers c (regions_chosen held between want) between held.containers left.containers) placed.committed (record { written = point.entries; stays = point.containers }) };
             free = goes.free;
           }
 

@@ -5,6 +5,7 @@ use Rattle.std.specs.FinMap as fin
 use Rattle.fv_disk.specs.Shown.{Image, Shown, IsSettled}
 use Rattle.fv_disk.specs.DiskCalls.{OnlyReads}
 use Rattle.fv_disk.specs.Faults.{HasBlockCause}
+use Rattle.fv_bits.specs.Members.{is_member}
 use Rattle.fv_codec.specs.declared.root.Root.{Root}
 use Rattle.fv_model.specs.Machines.{Machine}
 use Rattle.fv_image.specs.Layout.{root_place}
@@ -44,18 +45,19 @@ OldOrLent disk pool states before c g = ((machine_of c ≡ Some before) ⊎ (mac
 
 -- What a point makes of the container of a volume that it writes, some regions of which it reclaims: each delayed entry of these regions is a
 -- hole now, the blocks of the maps that are written have new places, and every other entry stays.
-pub record LeavesEntries (regions : ℕ → Bool) (x : VolumeState) (old new : Mapped) : Type 0 where
+pub record LeavesEntries (set : List Bool) (regions : ℕ → Bool) (x : VolumeState) (old new : Mapped) : Type 0 where
   pub reclaimed : (v : ℕ) → is_map_written x v ≡ false → entry_under new v ≡ (if goes_with x.map old regions v then None else entry_under old v)
   pub written : (v : ℕ) → is_map_written x v ≡ true → entry_under new v ≡ Some (map_entry (place_at new v))
+  pub spare : (v : ℕ) → is_map_written x v ≡ true → is_member set (place_at new v) ≡ false
 
 -- whether a point writes a volume that reclaims some regions
 abbrev pub is_due : List Region → ℕ → VolumeState → Bool
 is_due regions s x = has_slot regions s || x.changed
 
 -- So it is with all volumes, where a point reclaims these regions: one that it doesn't write keeps its container.
-pub record LeavesContainers (regions : List Region) (states : States) (old new : Slots) : Type 0 where
+pub record LeavesContainers (set : List Bool) (regions : List Region) (states : States) (old new : Slots) : Type 0 where
   pub written : (s : ℕ) (x : VolumeState) (before : Mapped) → s < slot_count → state_at states s ≡ Some x → is_due regions s x ≡ true → container_at old s ≡ Some before
-      → (after : Mapped) × ((container_at new s ≡ Some after) × LeavesEntries (has_region regions s) x before after)
+      → (after : Mapped) × ((container_at new s ≡ Some after) × LeavesEntries set (has_region regions s) x before after)
   pub stays : (s : ℕ) → s < slot_count → IfSome (state_at states s) (λ x. is_due regions s x ≡ false) → container_at new s ≡ container_at old s
 
 -- What a point that was done leaves: a settled disk that stands for the volumes lent, which are as they were, with nothing new. The regions
@@ -73,7 +75,7 @@ pub record IsPoint (old : Shown) (pool : Pool) (states : States) (want : ℕ) (n
   pub delays : AreKnown new.reads left.found marks
   -- of a volume that was written the entries are as the writing leaves them, once its chosen regions were reclaimed; another keeps its container
   pub entries : (s : ℕ) (x : VolumeState) (before : Mapped) → s < slot_count → state_at states s ≡ Some x → is_due (regions_chosen pool states want) s x ≡ true → container_at pool.containers s ≡ Some before
-      → (after : Mapped) × ((container_at left.containers s ≡ Some after) × LeavesEntries (has_region (regions_chosen pool states want) s) x before after)
+      → (after : Mapped) × ((container_at left.containers s ≡ Some after) × LeavesEntries pool.map.committed (has_region (regions_chosen pool states want) s) x before after)
   pub containers : (s : ℕ) → s < slot_count → IfSome (state_at states s) (λ x. is_due (regions_chosen pool states want) s x ≡ false) → container_at left.containers s ≡ container_at pool.containers s
   pub blocks : left.found.blocks ≡ pool.found.blocks
   -- a volume without changes and without a chosen region isn't written: it stays as it is, and the root names the label for it that it had

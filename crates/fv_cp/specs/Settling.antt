@@ -23,7 +23,7 @@ use Rattle.fv_cp.specs.Lent.{asked_all, FitTogether}
 use Rattle.fv_cp.specs.Choosing.{LeavesRoom, regions_chosen}
 use Rattle.fv_cp.specs.Known.{AreKnown}
 use Rattle.fv_disk.specs.declared.fault.BlockFault.TheVariants as block
-use Rattle.fv_cp.specs.Placing.{pending_files, AreButPlaced, ArePlaced, AreReady, HasNumbers, HaveNoFiles, KeepCores, PlacesEntries}
+use Rattle.fv_cp.specs.Placing.{pending_files, AreButPlaced, ArePlaced, AreReady, HasNumbers, HaveNoFiles, KeepCores, PlacesEntries, RestsPlaced}
 use Rattle.fv_cp.specs.Points.{LacksRoom, LeavesContainers}
 
 -- an image stands for the machine of the last point, or for that of the session
@@ -41,7 +41,8 @@ pub record LeavesPlaced (pool : Pool) (states : States) (want : ℕ) (left : Poo
   pub maps : (s : ℕ) → option_map (λ (x : VolumeState). x.map) (state_at stay s) ≡ option_map (λ (x : VolumeState). x.map) (state_at between s)
   pub housed : AreHoused mid.containers between
   pub placed : PlacesEntries pool.map pool.containers mid.containers
-  pub containers : LeavesContainers (regions_chosen mid between want) between mid.containers left.containers
+  pub rest : RestsPlaced pool states mid between
+  pub containers : LeavesContainers pool.map.committed (regions_chosen mid between want) between mid.containers left.containers
 
 -- What such a point that was done leaves: a settled disk that stands for the machine of the session, which still stands for it, with nothing in
 -- memory that isn't on the disk, and the space rule holds.
