@@ -27,7 +27,7 @@ WARM = 40  # how often half of the blocks is asked for once more where processor
 
 SPAN = 81920  # the least multiple of 4096 that is at least twice the size and 256
 MAPS = 3  # blocks of 32,768 bits that cover the span
-INNER = 3  # the nodes over the container's 321 leaves: two, and a root over them
+ROOTS = 1  # the root over the two nodes that stand over the 321 leaves of the container
 LABEL = 1
 COMMIT = 5  # the older gate closed, a map area of two blocks, a root, the gate opened
 BARRIERS = 3  # one behind each of: the gate closed; all else but the gate; the gate opened
@@ -82,14 +82,18 @@ class Expected:
                 self.next += 1
             self.numbers[position] = self.next
             self.next += 1
+        dirty = {self.numbers[position] // 256 for position in self.changed}
         written = len(self.changed)
         self.changed = set()
         self.delayed -= set(self.numbers.values())
         waiting = collections.Counter(number // 256 for number in self.delayed)
+        dirty |= {leaf for leaf, count in waiting.items() if count >= 64}
         self.delayed = {number for number in self.delayed if waiting[number // 256] < 64}
-        entries = {*self.numbers.values(), *self.delayed, *range(SPAN, SPAN + MAPS)}
-        leaves = {entry // 256 for entry in entries}
-        return written + MAPS + len(leaves) + INNER + LABEL + COMMIT
+        maps = range(SPAN, SPAN + MAPS)
+        dirty |= {entry // 256 for entry in maps}
+        leaves = dirty & {entry // 256 for entry in [*self.numbers.values(), *self.delayed, *maps]}
+        inner = {leaf // 256 for leaf in dirty}
+        return written + MAPS + len(leaves) + len(inner) + ROOTS + LABEL + COMMIT
 
 
 def content(index, round):

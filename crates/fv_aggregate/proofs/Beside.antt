@@ -28,6 +28,7 @@ use Rattle.fv_image.specs.Views.{Head, entry_count}
 use Rattle.fv_image.proofs.LoneTables.{form_base}
 use Rattle.fv_charge.specs.declared.ledger.Ledger.{Ledger}
 use Rattle.fv_charge.specs.Ledgers.{committed}
+use Rattle.fv_container.proofs.Clean.{clean_none}
 use Rattle.fv_container.specs.Mapped.{Mapped, empty_map, entry_under, node_count}
 use Rattle.fv_container.specs.Spelled.{is_at, names}
 use Rattle.fv_container.specs.Chains.{container_at, own_entry, parent_at}
@@ -277,6 +278,7 @@ module _ (disk : Shown) (pool : Pool) (states : States) (slot : ℕ) (name : Lis
     slot_new = record {
       label = λ some. absurd (some is.label);
       nodes = λ b named. absurd (both_ways (names (empty_map (entry_count x.span)).tree b) (none_named (node_count (entry_count x.span)) b) named);
+      clean = clean_none disk.reads (entry_count x.span);
       apart = record {
         some = λ v. subst (λ o. IfSome o (λ e. 1 ≤ e.pvbn)) (sym (no_entry (entry_count x.span) v)) tt;
         entries = λ v w lt within some same. some (ap place_in (no_entry (entry_count x.span) v));

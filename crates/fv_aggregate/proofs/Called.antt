@@ -100,13 +100,14 @@ module _ (d e : Shown) (p q : Pool) (reads : Reads d p e q) where
     -- ---- its blocks
 
     loaded_with : (map : Mapped) (n : Option FileNumbers) → IsLoaded d.reads p.found s (Some x) (Some map) → IsLoaded d.reads p.found s (Some (record x { numbers = n })) (Some map)
-    loaded_with map n is = record { head = is.head; tree = is.tree; label = is.label; bits = is.bits; changed = is.changed }
+    loaded_with map n is = record { head = is.head; tree = is.tree; clean = is.clean; label = is.label; bits = is.bits; changed = is.changed }
 
     slot_of : (c : Option Mapped) → IsLentAt d.reads p.found s (Some x) c → IsLentAt d.reads p.found s (Some y) c
     slot_of None never = never
     slot_of (Some map) l = record {
       label = λ some. ap (λ (z : VolumeState). z.label) called.same ∙ l.label (λ none. some (ap (λ (z : VolumeState). z.label) called.same ∙ none));
       nodes = l.nodes;
+      clean = l.clean;
       apart = subst (λ (z : VolumeState). AreApartIn z map) (sym called.same) (record { some = l.apart.some; entries = l.apart.entries; nodes = l.apart.nodes; label = l.apart.label });
       maps = maps_still d.reads p.found x y map map (ap (λ (z : VolumeState). z.span) called.same) called.maps.span called.maps.snapshots (ap (λ (z : VolumeState). z.fresh) called.same) (λ v past. refl) l.maps;
       unchanged = λ un. subst (λ (z : VolumeState). IsLoaded d.reads p.found s (Some z) (Some map)) (sym (called.unchanged un)) (loaded_with map y.numbers (l.unchanged (sym (ap (λ (z : VolumeState). z.changed) (called.unchanged un)) ∙ un)));

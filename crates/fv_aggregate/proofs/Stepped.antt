@@ -138,6 +138,7 @@ module _ (d : Shown) (p : Pool) (states : States) (long : length states ≡ 64) 
     slot_of (Some map) l = record {
       label = λ some. ap (λ (z : VolumeState). z.label) step.same ∙ l.label (λ none. some (ap (λ (z : VolumeState). z.label) step.same ∙ none));
       nodes = l.nodes;
+      clean = l.clean;
       apart = subst (λ (z : VolumeState). AreApartIn z map) (sym step.same) (record { some = l.apart.some; entries = l.apart.entries; nodes = l.apart.nodes; label = l.apart.label });
       maps = step.maps d.reads p.found map l.maps;
       unchanged = λ un. absurd (true≢false (sym step.marked ∙ un));

@@ -173,7 +173,7 @@ impl Session {
     /// # Errors
     /// As of `apply`: what fails, what a session does then, and what stays.
     ///
-    /// Costs for each volume a step for each number of its span, and with files in memory also memory and a write for each block that is
+    /// Costs for each volume with files in memory a step for each number of its span, and memory and a write for each block that is
     /// placed; for each volume that changed or may have delayed entries a step for each entry, and up to 25 more for one that is no hole, and up to
     /// three times as many again where a region of it is reclaimed; for each one that changed, or of which a region is reclaimed, in writes at
     /// most its overhead and the blocks of its snapshots' maps that wait; and then, also without changes, a commit: the blocks of one map area,

@@ -30,11 +30,11 @@ use Rattle.fv_container.proofs.Trees.{TreeAt, each_node, spelled}
 range_of : (x y : ℕ) → y ≡ x → in_range x x y ≡ Ok tt
 range_of x y same = let test : nat_lt x x ≡ false = grind (arith, nat_tests) in rw (same, test) refl
 
-leaf_whole : (es : List (Option Entry)) (index : ℕ) (block : List ℕ) → IsLeafOf es index block → node_verdict 0 index block ≡ Ok tt
+pub leaf_whole : (es : List (Option Entry)) (index : ℕ) (block : List ℕ) → IsLeafOf es index block → node_verdict 0 index block ≡ Ok tt
 unfolding leaf_for
 leaf_whole es index block is = rw (is.said, range_of index is.leaf.index is.index_said) refl
 
-inner_whole : (places : List ℕ) (level number from end : ℕ) (block : List ℕ) → IsInnerOf places (suc level) number from end block → node_verdict (suc level) number block ≡ Ok tt
+pub inner_whole : (places : List ℕ) (level number from end : ℕ) (block : List ℕ) → IsInnerOf places (suc level) number from end block → node_verdict (suc level) number block ≡ Ok tt
 unfolding inner_for
 inner_whole places level number from end block is = rw (is.said, range_of (suc level) is.node.level is.level_said, range_of number is.node.place is.number_said) refl
 
@@ -117,7 +117,7 @@ module _ (es : List (Option Entry)) (few : length es ≤ most_entries) where
 
   -- ---- the tree
 
-  module _ (i : Image) (ps : List ℕ) (long : length ps ≡ node_count n) (written : AreWritten es ps (length ps) i)
+  module _ (i : Image) (ps : List ℕ) (dirty : List Bool) (long : length ps ≡ node_count n) (written : AreWritten es ps (length ps) i)
       (placed : (m : ℕ) → m < length ps → is_written es m ≡ true → get_or ps m 0 ≢ 0)
       (absent : (m : ℕ) → m < length ps → is_written es m ≡ false → get_or ps m 0 ≡ 0)
     where
@@ -166,13 +166,13 @@ module _ (es : List (Option Entry)) (few : length es ≤ most_entries) where
           (cases_Bool (has_entry es k))
 
       -- a tree with these places, whose top node ends and is whole
-      flushed : (root height : ℕ) → TreeAt i root height n ps → (height ≡ 2 → (node_verdict 2 0 (i root) ≡ Ok tt) × (has_none_past n 2 0 (i root) ≡ true)) → IsFlushed i root height (map_of es ps)
+      flushed : (root height : ℕ) → TreeAt i root height n ps → (height ≡ 2 → (node_verdict 2 0 (i root) ≡ Ok tt) × (has_none_past n 2 0 (i root) ≡ true)) → IsFlushed i root height (map_of es ps dirty)
       flushed root height tree top =
           let whole : IsWholeTree i root height n = record {
             nodes = each_node i root height es ps tree (λ level number b. node_verdict level number b ≡ Ok tt) leaves_whole inner_all_whole (λ two some. (top two).0);
           } in
           record {
-            spelled = spelled i root height es ps tree (shaped_when_whole i root height n whole) read;
+            spelled = spelled i root height es ps tree (shaped_when_whole i root height n whole) read dirty;
             whole = whole;
             ends = record { nodes = each_node i root height es ps tree (λ level number b. has_none_past n level number b ≡ true) leaves_end inner_end (λ two some. (top two).1) };
           }
@@ -207,7 +207,7 @@ module _ (es : List (Option Entry)) (few : length es ≤ most_entries) where
             alone : nat_lt 1 inner ≡ false
             alone = grind (arith, nat_tests, low_inner low)
 
-        low_flushed : IsFlushed i (get_or ps (root_number n) 0) (height_of n) (map_of es ps)
+        low_flushed : IsFlushed i (get_or ps (root_number n) 0) (height_of n) (map_of es ps dirty)
         low_flushed = rw (low_height, low_root) (flushed (get_or ps leaves 0) 1 low_tree (λ high. absurd (omega (arith, high))))
 
       module _ (high : 256 < leaves) where
@@ -245,20 +245,20 @@ module _ (es : List (Option Entry)) (few : length es ≤ most_entries) where
           top = refl;
         }
 
-        high_flushed : IsFlushed i (get_or ps (root_number n) 0) (height_of n) (map_of es ps)
+        high_flushed : IsFlushed i (get_or ps (root_number n) 0) (height_of n) (map_of es ps dirty)
         high_flushed = rw (high_height, high_root) (flushed (get_or ps (leaves + inner) 0) 2 high_tree (λ two. (
           inner_whole ps 1 0 leaves (leaves + inner) (i (get_or ps (leaves + inner) 0)) top_block,
           inner_ends ps n 1 0 leaves (leaves + inner) (i (get_or ps (leaves + inner) 0)) top_block (λ c past. omega (arith, past)),
         )))
 
-      pub tree_flushed : IsFlushed i (get_or ps (root_number n) 0) (height_of n) (map_of es ps)
+      pub tree_flushed : IsFlushed i (get_or ps (root_number n) 0) (height_of n) (map_of es ps dirty)
       tree_flushed = ⊎_elim high_flushed low_flushed (cases_lt 256 leaves)
 
 -- ---- the map
 
-pub lost : (old mid : Room) (es : List (Option Entry)) (taken : List ℕ) (n : ℕ) → HasTaken old es taken n mid → Loses old mid
-lost old mid es taken n takes = record {
-  free = λ b now. first (set.contains old.free b) (names (take n taken) b) (sym (takes.left b) ∙ now);
+pub lost : (old mid : Room) (es : List (Option Entry)) (fresh : List ℕ) (n : ℕ) → HasTaken old es fresh n mid → Loses old mid
+lost old mid es fresh n takes = record {
+  free = λ b now. first (set.contains old.free b) (names (take n fresh) b) (sym (takes.left b) ∙ now);
   committed = takes.committed;
 }
   where

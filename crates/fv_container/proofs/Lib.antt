@@ -5,7 +5,11 @@ pub mod Named
 pub mod Leading
 mod Trees
 mod Walks
+mod Positions
 mod Regions
 mod Taking
 mod Flushed
+pub mod Clean
+mod Rows
+mod Moving
 pub mod Laws

@@ -17,10 +17,10 @@ said_ok : {X : Type 0} (at : ℕ) (r : Result X Shape) (x : X) → ReadsAs at (�
 said_ok at (Ok y) x is = cc
 said_ok at (Err s) x is = cc
 
-shaped_inner : (i : Image) (at : ℕ) (block : List ℕ) (node : ContainerInner) → block ≡ i at → ReadsAs at (λ n. n) (inner_at block) (Ok node) → inner_at (i at) ≡ Ok node
+pub shaped_inner : (i : Image) (at : ℕ) (block : List ℕ) (node : ContainerInner) → block ≡ i at → ReadsAs at (λ n. n) (inner_at block) (Ok node) → inner_at (i at) ≡ Ok node
 shaped_inner i at block node is said = ap inner_at (sym is) ∙ said_ok at (inner_at block) node said
 
-shaped_leaf : (i : Image) (at : ℕ) (block : List ℕ) (leaf : ContainerLeaf) → block ≡ i at → ReadsAs at (λ n. n) (leaf_at block) (Ok leaf) → leaf_at (i at) ≡ Ok leaf
+pub shaped_leaf : (i : Image) (at : ℕ) (block : List ℕ) (leaf : ContainerLeaf) → block ≡ i at → ReadsAs at (λ n. n) (leaf_at block) (Ok leaf) → leaf_at (i at) ≡ Ok leaf
 shaped_leaf i at block leaf is said = ap leaf_at (sym is) ∙ said_ok at (leaf_at block) leaf said
 
 pub zeros_at : (n c : ℕ) → ◌≡◌ {A = ℕ} (get_or (replicate n 0) c 0) 0

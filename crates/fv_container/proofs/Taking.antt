@@ -94,8 +94,8 @@ written_up es n (suc k) =
     let e : n + suc k ≡ (n + k) + 1 = omega arith in
     rw (e, written_more es (n + k)) (omega (arith, written_up es n k))
 
-pub some_left : (old mid : Room) (es : List (Option Entry)) (ps : List ℕ) (n total : ℕ) → HasTaken old es ps n mid → written_before es total ≤ set.len old.free → n < total → is_written es n ≡ true → 0 < set.len mid.free
-some_left old mid es ps n total taken room within is =
+pub some_left : (old mid : Room) (es : List (Option Entry)) (fresh : List ℕ) (n total : ℕ) → HasTaken old es fresh n mid → written_before es total ≤ set.len old.free → n < total → is_written es n ≡ true → 0 < set.len mid.free
+some_left old mid es fresh n total taken room within is =
     let up : written_before es (n + 1) ≤ written_before es total = rw (sum) (written_up es (n + 1) (total - (n + 1))) in
     let one : written_before es (n + 1) ≡ written_before es n + 1 = written_more es n ∙ ap (λ t. written_before es n + (if t then 1 else 0)) is in
     omega (arith, up, one, room, taken.fewer)
@@ -116,8 +116,6 @@ taken_none room es ps = record {
   left = λ b. sym (and_true (set.contains room.free b));
   free = λ b named. absurd (true≢false (sym named));
   held = λ b. refl;
-  written = λ m lt is. absurd (omega (arith, lt));
-  absent = λ m lt is. absurd (omega (arith, lt));
   bounded = λ m lt. absurd (omega (arith, lt));
   once = λ m k lt below some. absurd (omega (arith, below));
   committed = refl;
@@ -143,7 +141,7 @@ module _ (old mid new : Room) (es : List (Option Entry)) (ps : List ℕ) (n b : 
   unfolding after
   more a = names_more ps n b a within
 
-  module _ (wanted : is_written es n ≡ true) (some : set.contains mid.free b ≡ true) (taken : new.free ≡ set.remove mid.free b) (held : (a : ℕ) → new.held a ≡ (nat_eq a b || mid.held a)) (still : new.committed ≡ mid.committed) where
+  module _ (is : is_written es n ≡ true) (some : set.contains mid.free b ≡ true) (taken : new.free ≡ set.remove mid.free b) (held : (a : ℕ) → new.held a ≡ (nat_eq a b || mid.held a)) (still : new.committed ≡ mid.committed) where
     was_free : (set.contains old.free b && not (names (take n ps) b)) ≡ true
     was_free = sym (so_far.left b) ∙ some
 
@@ -163,7 +161,7 @@ module _ (old mid new : Room) (es : List (Option Entry)) (ps : List ℕ) (n b : 
     taken_one = record {
       fewer =
           let len : set.len new.free ≡ set.len mid.free - 1 = ap set.len taken ∙ set.len-remove nat_cmp_total mid.free b ∙ ap (λ t. cond t (set.len mid.free - 1) (set.len mid.free)) some in
-          let one : written_before es (n + 1) ≡ written_before es n + 1 = written_more es n ∙ ap (λ t. written_before es n + (if t then 1 else 0)) wanted in
+          let one : written_before es (n + 1) ≡ written_before es n + 1 = written_more es n ∙ ap (λ t. written_before es n + (if t then 1 else 0)) is in
           omega (arith, len, one, so_far.fewer, some_in mid.free b some);
       left = λ a.
           ap (λ (s : FinSet nat_cmp). set.contains s a) taken ∙ set.contains-remove nat_cmp_total mid.free b a
@@ -178,14 +176,6 @@ module _ (old mid new : Room) (es : List (Option Entry)) (ps : List ℕ) (n b : 
       held = λ a.
           held a ∙ ap (λ t. t || mid.held a) (sym (at_some a b place)) ∙ ap (λ t. is_at a b || t) (so_far.held a)
           ∙ held_more (is_at a b) (names (take n ps) a) (old.held a) ∙ sym (ap (λ t. t || old.held a) (more a));
-      written = λ m lt is. ⊎_elim
-          (λ (e : m ≡ n). λ none. place (sym here ∙ ap (λ (k : ℕ). get_or after k 0) (sym e) ∙ none))
-          (λ (ne : m ≢ n). λ none. so_far.written m (omega (arith, lt, ne)) is (sym (before m ne) ∙ none))
-          (cases_eq m n);
-      absent = λ m lt is. ⊎_elim
-          (λ (e : m ≡ n). absurd (true≢false (sym wanted ∙ ap (is_written es) (sym e) ∙ is)))
-          (λ (ne : m ≢ n). before m ne ∙ so_far.absent m (omega (arith, lt, ne)) is)
-          (cases_eq m n);
       bounded = λ m lt. ⊎_elim
           (λ (e : m ≡ n). rw (e, here) ((laws.places b old_free).1))
           (λ (ne : m ≢ n). rw (before m ne) (so_far.bounded m (omega (arith, lt, ne))))
@@ -197,7 +187,7 @@ module _ (old mid new : Room) (es : List (Option Entry)) (ps : List ℕ) (n b : 
       committed = still ∙ so_far.committed;
     }
 
-  module _ (unwanted : is_written es n ≡ false) (none : b ≡ 0) (stays : new ≡ mid) where
+  module _ (none : b ≡ 0) (stays : new ≡ mid) where
     no_name : (a : ℕ) → names (take (n + 1) after) a ≡ names (take n ps) a
     no_name a = more a ∙ ap (λ t. names (take n ps) a || t) (at_none a b none) ∙ or_false (names (take n ps) a)
 
@@ -205,19 +195,10 @@ module _ (old mid new : Room) (es : List (Option Entry)) (ps : List ℕ) (n b : 
     taken_nothing = record {
       fewer =
           let same : set.len new.free ≡ set.len mid.free = ap (λ (r : Room). set.len r.free) stays in
-          let zero_more : written_before es (n + 1) ≡ written_before es n + 0 = written_more es n ∙ ap (λ t. written_before es n + (if t then 1 else 0)) unwanted in
-          omega (arith, same, zero_more, so_far.fewer);
+          omega (arith, same, written_up es n 1, so_far.fewer);
       left = λ a. ap (λ (r : Room). set.contains r.free a) stays ∙ so_far.left a ∙ sym (ap (λ t. set.contains old.free a && not t) (no_name a));
       free = λ a named. so_far.free a (sym (no_name a) ∙ named);
       held = λ a. ap (λ (r : Room). r.held a) stays ∙ so_far.held a ∙ sym (ap (λ t. t || old.held a) (no_name a));
-      written = λ m lt is. ⊎_elim
-          (λ (e : m ≡ n). absurd (true≢false (sym is ∙ ap (is_written es) e ∙ unwanted)))
-          (λ (ne : m ≢ n). λ z. so_far.written m (omega (arith, lt, ne)) is (sym (before m ne) ∙ z))
-          (cases_eq m n);
-      absent = λ m lt is. ⊎_elim
-          (λ (e : m ≡ n). ap (λ (k : ℕ). get_or after k 0) e ∙ here ∙ none)
-          (λ (ne : m ≢ n). before m ne ∙ so_far.absent m (omega (arith, lt, ne)) is)
-          (cases_eq m n);
       bounded = λ m lt. ⊎_elim
           (λ (e : m ≡ n). rw (e, here, none) (omega arith))
           (λ (ne : m ≢ n). rw (before m ne) (so_far.bounded m (omega (arith, lt, ne))))
@@ -229,12 +210,12 @@ module _ (old mid new : Room) (es : List (Option Entry)) (ps : List ℕ) (n b : 
       committed = ap (λ (r : Room). r.committed) stays ∙ so_far.committed;
     }
 
-  pub taken_more : TakesIf (is_written es n) mid b new → HasTaken old es (slice_set ps n b) (n + 1) new
+  pub taken_more : (wanted : Bool) → (wanted ≡ true → is_written es n ≡ true) → TakesIf wanted mid b new → HasTaken old es (slice_set ps n b) (n + 1) new
   unfolding after
-  taken_more takes = ⊎_elim
-      (λ (is : is_written es n ≡ true). taken_one is (takes.some is) (takes.taken is) (takes.held is) takes.committed)
-      (λ (not_so : is_written es n ≡ false). taken_nothing not_so (takes.none not_so) (takes.stays not_so))
-      (cases_Bool (is_written es n))
+  taken_more wanted is takes = ⊎_elim
+      (λ (so : wanted ≡ true). taken_one (is so) (takes.some so) (takes.taken so) (takes.held so) takes.committed)
+      (λ (not_so : wanted ≡ false). taken_nothing (takes.none not_so) (takes.stays not_so))
+      (cases_Bool wanted)
 
 -- ---- giving back
 

@@ -1,5 +1,5 @@
 -- A tree whose nodes stand at a row of places: the leaves, the level above them, and a root above that.
-use Rattle.std.proofs.Common.{◌≡◌, ◌≢◌, ℕ, zero, suc, ◌+◌, ◌-◌, ◌/◌, ◌%◌, ◌<◌, ◌≤◌, List, length, get_or, true, false, ◌==◌, if◌then◌else◌, refl, sym, ap, subst, ◌∙◌, arith, ⊎_elim, Ok, Option, None}
+use Rattle.std.proofs.Common.{◌≡◌, ◌≢◌, ℕ, zero, suc, ◌+◌, ◌-◌, ◌/◌, ◌%◌, ◌<◌, ◌≤◌, List, length, get_or, Bool, true, false, ◌==◌, if◌then◌else◌, refl, sym, ap, subst, ◌∙◌, arith, ⊎_elim, Ok, Option, None}
 use Rattle.std.specs.Prelude.{nat_lt, slice_set}
 use Rattle.std.proofs.lemmas.Bool.{cases_eq, cases_lt}
 use Rattle.std.proofs.lemmas.Bool.Decides.{nat_tests}
@@ -140,8 +140,8 @@ module _ (i : Image) (root height : ℕ) (es : List (Option Entry)) (places : Li
       all : (h : ℕ) → h - 0 ≡ h
       all h = omega arith
 
-  pub spelled : IsShapedTree i root height n → ((v : ℕ) → v < n → pair_of (get_or es v None) ≡ entry_in (lying leaf_at i (get_or places (v / 256) 0)) (v % 256)) → Spelled i root height (map_of es places)
-  spelled shaped read = record {
+  pub spelled : IsShapedTree i root height n → ((v : ℕ) → v < n → pair_of (get_or es v None) ≡ entry_in (lying leaf_at i (get_or places (v / 256) 0)) (v % 256)) → (dirty : List Bool) → Spelled i root height (map_of es places dirty)
+  spelled shaped read dirty = record {
     shaped = shaped;
     entries = entry_spelled read;
     nodes = λ b node. named_node node.level node.number b node.below node.within node.place node.some;

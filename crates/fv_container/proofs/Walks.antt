@@ -43,7 +43,7 @@ fault_level i j root height entries level from places (Damaged place want found)
   fault = rw (← same) (bad.fault);
 }
 
-leaf_of : (i : Image) (root height k : ℕ) → 1 ≤ height → child_in (lying inner_at i (node_below i root (height - 1) (k / 256))) (k % 256) ≡ node_of i root height 0 k
+pub leaf_of : (i : Image) (root height k : ℕ) → 1 ≤ height → child_in (lying inner_at i (node_below i root (height - 1) (k / 256))) (k % 256) ≡ node_of i root height 0 k
 unfolding node_below
 leaf_of i root height k least =
     let up : height - 0 ≡ suc (height - 1) = omega (arith, least) in

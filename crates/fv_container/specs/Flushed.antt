@@ -1,5 +1,5 @@
 -- What a flush writes, and what it makes of the map of free blocks.
-use Rattle.std.specs.Prelude.{◌≡◌, ◌≢◌, ◌<◌, ◌≤◌, ◌+◌, ℕ, true, false, not, ◌&&◌, ◌||◌, List, length, get_or, Result, Ok, Err}
+use Rattle.std.specs.Prelude.{◌≡◌, ◌≢◌, ◌<◌, ◌≤◌, ◌+◌, ℕ, true, false, not, ◌&&◌, ◌||◌, if◌then◌else◌, List, length, get_or, Result, Ok, Err}
 use Rattle.std.specs.FinSet as set
 use Rattle.fv_disk.specs.Shown.{Image}
 use Rattle.fv_disk.specs.declared.Failed.{Failed}
@@ -7,7 +7,8 @@ use Rattle.fv_image.specs.Containers.{HasNonePast, IsWholeTree}
 use Rattle.fv_container.specs.Mapped.{Mapped}
 use Rattle.fv_container.specs.Spelled.{Spelled, names}
 use Rattle.fv_container.specs.Freeing.{Room}
-use Rattle.fv_container.specs.Written.{blocks_needed}
+use Rattle.fv_container.specs.Written.{IsSameBelow, blocks_needed, is_written}
+use Rattle.fv_container.specs.Clean.{AreAlone}
 
 -- a tree spells the map, each node of it is the one of its position, and none has anything past the map's entries
 pub record IsFlushed (i : Image) (root height : ℕ) (map : Mapped) : Type 0 where
@@ -27,21 +28,26 @@ WasTaken room b = set.contains room.free b ≡ false
 abbrev pub IsOnce : List ℕ → Type 0
 IsOnce places = (m k : ℕ) → m < k → k < length places → get_or places k 0 ≢ 0 → get_or places m 0 ≢ get_or places k 0
 
--- Some places were taken, which were free. Every other free block stays free, and no other block became free than those that
--- were given back.
-pub record Exchanges (old : Room) (taken given : List ℕ) (new : Room) : Type 0 where
-  pub free : (b : ℕ) → names taken b ≡ true → set.contains old.free b ≡ true
-  pub stay : (b : ℕ) → set.contains old.free b ≡ true → names taken b ≡ false → set.contains new.free b ≡ true
-  pub come : (b : ℕ) → set.contains new.free b ≡ true → names given b ≡ false → (set.contains old.free b ≡ true) × (names taken b ≡ false)
-  pub held : IsApart old given → (b : ℕ) → new.held b ≡ (names taken b || (not (names given b) && old.held b))
+-- What a flush makes of the map, by the places of two trees. Those of the new one that the old one lacks were free, and are held. Those of the
+-- old one that the new one lacks were given back. A place of both trees, and each other block, is held as it was. Every other
+-- free block stays free, and no other block became free than those that were given back.
+pub record Exchanges (old : Room) (before : Mapped) (after : List ℕ) (new : Room) : Type 0 where
+  pub free : (b : ℕ) → names after b ≡ true → names before.tree b ≡ false → set.contains old.free b ≡ true
+  pub stay : (b : ℕ) → set.contains old.free b ≡ true → names after b ≡ false → set.contains new.free b ≡ true
+  pub come : (b : ℕ) → set.contains new.free b ≡ true → names before.tree b ≡ false → (set.contains old.free b ≡ true) × (names after b ≡ false)
+  pub held : IsApart old before.tree → AreAlone before
+      → (b : ℕ) → new.held b ≡ (if names after b then (not (names before.tree b) || old.held b) else (not (names before.tree b) && old.held b))
   pub committed : new.committed ≡ old.committed
 
--- What a flush makes of the map: each node of the new tree has a place of its own, these were taken and those of the old tree were given
--- back, and at most as many fewer blocks are free as the new tree takes.
+-- What a flush makes of the map: each node of the new tree has a place of its own, the places that are new were taken and those that are no
+-- longer wanted were given back, and at most as many fewer blocks are free as the new tree has nodes. A node that isn't dirty stays where
+-- the nodes below it do.
 pub record IsMoved (old : Room) (before after : Mapped) (new : Room) : Type 0 where
-  pub once : IsOnce after.tree
-  pub map : Exchanges old after.tree before.tree new
+  pub once : IsApart old before.tree → AreAlone before → IsOnce after.tree
+  pub map : Exchanges old before after.tree new
   pub count : set.len old.free ≤ set.len new.free + blocks_needed before.entries
+  pub stays : (m : ℕ) → is_written before.entries m ≡ true → get_or before.tree m 0 ≢ 0 → get_or before.dirty m true ≡ false
+      → IsSameBelow (length before.entries) before.tree after.tree m → get_or after.tree m 0 ≡ get_or before.tree m 0
 
 -- no block became free
 pub record Loses (old new : Room) : Type 0 where

@@ -3,8 +3,9 @@ pub mod Chains
 pub mod Kept
 pub mod Rows
 pub mod Spelled
-pub mod Leading
 pub mod Reading
 pub mod Freeing
 pub mod Written
+pub mod Clean
+pub mod Leading
 pub mod Flushed

@@ -1,8 +1,10 @@
 -- Nodes as they are read.
-use Rattle.std.specs.Prelude.{◌≡◌, ◌≢◌, ◌<◌, ◌≤◌, ◌+◌, ◌/◌, ◌%◌, ◌^◌, ◌⊎◌, ℕ, List, length, get_or, Option, None, Result, Ok, Err}
+use Rattle.std.specs.Prelude.{◌≡◌, ◌≢◌, ◌<◌, ◌≤◌, ◌+◌, ◌-◌, ◌*◌, ◌/◌, ◌%◌, ◌^◌, ◌⊎◌, ℕ, List, length, get_or, Option, None, Result, Ok, Err}
 use Rattle.fv_disk.specs.Shown.{Image}
 use Rattle.fv_codec.specs.declared.shape.Shape.{Shape}
-use Rattle.fv_codec.specs.Blocks.{inner_at}
+use Rattle.fv_codec.specs.declared.container.ContainerLeaf.{ContainerLeaf}
+use Rattle.fv_codec.specs.declared.container.ContainerInner.{ContainerInner}
+use Rattle.fv_codec.specs.Blocks.{inner_at, leaf_at}
 use Rattle.fv_image.specs.Containers.{node_shape, lying, child_in, most_entries}
 use Rattle.fv_disk.specs.declared.fault.BlockFault.{BlockFault}
 use Rattle.fv_disk.specs.declared.fault.BlockFault.TheVariants.{DiskFault, Damaged, Memory}
@@ -63,3 +65,34 @@ pub record HasLevels (places : List ℕ) (leaves inner : ℕ) : Type 0 where
   pub few : inner ≤ 256
   pub some : 1 ≤ inner
   pub small : leaves < 2 ^ 32
+
+-- an inner node is the one of a level and number, with so many children
+pub record IsInnerAs (node : ContainerInner) (level number width : ℕ) : Type 0 where
+  pub level_said : node.level ≡ level
+  pub number_said : node.place ≡ number
+  pub ends : (c : ℕ) → width ≤ c → c < 256 → get_or node.children c 0 ≡ 0
+
+-- a leaf is the one of an index, with so many entries
+pub record IsLeafAs (leaf : ContainerLeaf) (index width : ℕ) : Type 0 where
+  pub index_said : leaf.index ≡ index
+  pub pvbns : (c : ℕ) → width ≤ c → c < 256 → get_or leaf.pvbns c 0 ≡ 0
+  pub kinds : (c : ℕ) → width ≤ c → c < 256 → get_or leaf.kinds c 0 ≡ 0
+
+-- at a place stands the inner node of a level and number
+pub record StandsInner (i : Image) (at level number width : ℕ) : Type 0 where
+  pub node : ContainerInner
+  pub said : inner_at (i at) ≡ Ok node
+  pub own : IsInnerAs node level number width
+
+-- at a place stands the leaf of an index
+pub record StandsLeaf (i : Image) (at index width : ℕ) : Type 0 where
+  pub leaf : ContainerLeaf
+  pub said : leaf_at (i at) ≡ Ok leaf
+  pub own : IsLeafAs leaf index width
+
+-- so many leaves, or inner nodes, whose places stand in a row from a number on, are the ones of their positions
+abbrev pub StandLeaves : Image → ℕ → List ℕ → ℕ → Type 0
+StandLeaves i entries places count = (k : ℕ) → k < count → get_or places k 0 ≢ 0 → StandsLeaf i (get_or places k 0) k (entries - 256 * k)
+
+abbrev pub StandInner : Image → List ℕ → ℕ → ℕ → Type 0
+StandInner i places leaves count = (q : ℕ) → q < count → get_or places (leaves + q) 0 ≢ 0 → StandsInner i (get_or places (leaves + q) 0) 1 q (leaves - 256 * q)

@@ -37,17 +37,40 @@ blocks_needed es = written_before es (node_count (length es))
 abbrev pub root_number : ℕ → ℕ
 root_number entries = if nat_lt 1 (level_width entries 1) then level_width entries 0 + level_width entries 1 else level_width entries 0
 
--- each of the first nodes that is written has a place of its own that was free; the others have none
-pub record HasTaken (old : Room) (es : List (Option Entry)) (places : List ℕ) (n : ℕ) (new : Room) : Type 0 where
-  pub fewer : set.len new.free + written_before es n ≡ set.len old.free
-  pub left : (b : ℕ) → set.contains new.free b ≡ (set.contains old.free b && not (names (take n places) b))
-  pub free : (b : ℕ) → names (take n places) b ≡ true → set.contains old.free b ≡ true
-  pub held : (b : ℕ) → new.held b ≡ (names (take n places) b || old.held b)
-  pub written : (m : ℕ) → m < n → is_written es m ≡ true → get_or places m 0 ≢ 0
-  pub absent : (m : ℕ) → m < n → is_written es m ≡ false → get_or places m 0 ≡ 0
-  pub bounded : (m : ℕ) → m < n → get_or places m 0 ≤ last_place
-  pub once : (m k : ℕ) → m < k → k < n → get_or places k 0 ≢ 0 → get_or places m 0 ≢ get_or places k 0
+-- some of the first nodes that are written have new places, each of its own, which were free
+pub record HasTaken (old : Room) (es : List (Option Entry)) (fresh : List ℕ) (n : ℕ) (new : Room) : Type 0 where
+  pub fewer : set.len old.free ≤ set.len new.free + written_before es n
+  pub left : (b : ℕ) → set.contains new.free b ≡ (set.contains old.free b && not (names (take n fresh) b))
+  pub free : (b : ℕ) → names (take n fresh) b ≡ true → set.contains old.free b ≡ true
+  pub held : (b : ℕ) → new.held b ≡ (names (take n fresh) b || old.held b)
+  pub bounded : (m : ℕ) → m < n → get_or fresh m 0 ≤ last_place
+  pub once : (m k : ℕ) → m < k → k < n → get_or fresh k 0 ≢ 0 → get_or fresh m 0 ≢ get_or fresh k 0
   pub committed : new.committed ≡ old.committed
+
+-- the nodes below a node stand in two trees at the same places
+pub record IsSameBelow (entries : ℕ) (tree places : List ℕ) (m : ℕ) : Type 0 where
+  pub inner : level_width entries 0 ≤ m → m < level_width entries 0 + level_width entries 1
+      → (k : ℕ) → 256 * (m - level_width entries 0) ≤ k → k < 256 * (m - level_width entries 0) + 256 → k < level_width entries 0 → get_or places k 0 ≡ get_or tree k 0
+  pub top : m ≡ level_width entries 0 + level_width entries 1
+      → (k : ℕ) → level_width entries 0 ≤ k → k < level_width entries 0 + level_width entries 1 → get_or places k 0 ≡ get_or tree k 0
+
+-- a node stays at its place: it isn't dirty, and the nodes below it stay
+pub record Stays (entries : ℕ) (tree : List ℕ) (dirty : List Bool) (places : List ℕ) (m : ℕ) : Type 0 where
+  pub place : get_or places m 0 ≡ get_or tree m 0
+  pub clean : get_or dirty m true ≡ false
+  pub below : IsSameBelow entries tree places m
+
+-- a node that is written has a new place or stays, and any other has none
+pub record IsPlaced (es : List (Option Entry)) (tree : List ℕ) (dirty : List Bool) (fresh places : List ℕ) (m : ℕ) : Type 0 where
+  pub absent : is_written es m ≡ false → get_or places m 0 ≡ 0
+  pub written : is_written es m ≡ true → get_or places m 0 ≢ 0
+  pub anew : get_or fresh m 0 ≢ 0 → get_or places m 0 ≡ get_or fresh m 0
+  pub stays : get_or fresh m 0 ≡ 0 → get_or places m 0 ≢ 0 → Stays (length es) tree dirty places m
+  pub keeps : is_written es m ≡ true → get_or tree m 0 ≢ 0 → get_or dirty m true ≡ false → IsSameBelow (length es) tree places m → get_or places m 0 ≡ get_or tree m 0
+
+-- so are the first nodes
+abbrev pub ArePlaced : List (Option Entry) → List ℕ → List Bool → List ℕ → List ℕ → ℕ → Type 0
+ArePlaced es tree dirty fresh places n = (m : ℕ) → m < n → IsPlaced es tree dirty fresh places m
 
 -- a place for one node, or none
 pub record TakesIf (wanted : Bool) (old : Room) (place : ℕ) (new : Room) : Type 0 where
@@ -96,6 +119,14 @@ pub record IsNodeOf (es : List (Option Entry)) (places : List ℕ) (m : ℕ) (bl
 -- the first nodes stand at their places
 abbrev pub AreWritten : List (Option Entry) → List ℕ → ℕ → Image → Type 0
 AreWritten es places n i = (m : ℕ) → m < n → get_or places m 0 ≢ 0 → IsNodeOf es places m (i (get_or places m 0))
+
+-- those of the first nodes that have new places stand there
+abbrev pub AreAnew : List (Option Entry) → List ℕ → List ℕ → ℕ → Image → Type 0
+AreAnew es places fresh n i = (m : ℕ) → m < n → get_or fresh m 0 ≢ 0 → IsNodeOf es places m (i (get_or fresh m 0))
+
+-- the places of a tree that another one hasn't for the same node
+abbrev pub AreLeft : List ℕ → List ℕ → List ℕ → ℕ → Type 0
+AreLeft tree places given n = (m : ℕ) → m < n → (get_or places m 0 ≡ get_or tree m 0 → get_or given m 0 ≡ 0) × (get_or places m 0 ≢ get_or tree m 0 → get_or given m 0 ≡ get_or tree m 0)
 
 -- a block that is none of some places
 abbrev pub IsElsewhere : List ℕ → ℕ → Type 0

@@ -1,10 +1,11 @@
 //! A container in memory.
 
-ghost use Rattle.std.specs.Prelude.{◌≡◌, ◌<◌, ◌≤◌, ◌+◌, ℕ, None, Some, length, replicate, IsTrue, IfOk, IfSome, IfErr, OnErr, OnOk};
+ghost use Rattle.std.specs.Prelude.{◌≡◌, ◌≢◌, ◌<◌, ◌≤◌, ◌+◌, ℕ, None, Some, length, replicate, IsTrue, IfOk, IfSome, IfErr, OnErr, OnOk};
 ghost use Rattle.std.specs.FinSet as set;
 ghost use Rattle.fv_codec.specs.Blocks.{last_place};
 ghost use Rattle.fv_disk.specs.Sparing.{Spares};
 ghost use Rattle.fv_container.specs.Written.{HasReleased, blocks_needed};
+ghost use Rattle.fv_container.specs.Clean.{AreClean, IsCleanOn, IsOver};
 ghost use Rattle.fv_container.specs.Flushed.{IsApart, IsFlushed, IsMoved, Loses, WasTaken, without_value};
 ghost use Rattle.fv_disk.specs.Shown.{Shown};
 ghost use Rattle.fv_image.specs.Containers.{height_of, level_width, most_entries};
@@ -18,9 +19,10 @@ use crate::entry::Entry;
 use crate::fault::ContainerFault;
 use crate::flush::flush_tree;
 use crate::free::Free;
-use crate::layout::{filled, node_count};
+use crate::layout::{FAN, fill, filled, node_count};
 use crate::load::read_tree;
 use crate::places::{release_places, root_number};
+use crate::position::{are_places, both};
 use crate::steps::Steps;
 use fv_disk::{Disk, Failed};
 use fv_store::Store;
@@ -30,15 +32,19 @@ use std::sync::ledger::Ledger;
 
 /// Which block stands under each VVBN of a volume.
 ///
-/// Contracts see the entries by VVBN, each an entry or a hole, and the places of the tree's nodes.
+/// Contracts see the entries by VVBN, each an entry or a hole, the places of the tree's nodes, and which of these are dirty.
 #[derive(Drop)]
 pub struct Container {
     entries: Vec<Option<Entry>>,
     /// The places of the tree that the disk has: leaves, the level above, and a root above that; 0 is no
     /// place.
     tree: Vec<u32>,
+    /// Which nodes may say something else on the disk.
+    dirty: Vec<bool>,
     /// Room for the places of the next tree, so that a flush takes no memory.
     next: Vec<u32>,
+    /// And room for those of them that are new.
+    fresh: Vec<u32>,
 }
 
 impl Model for Container {
@@ -48,9 +54,9 @@ impl Model for Container {
 
     ghost Value = { Mapped };
 
-    ghost view = { λ container. map_of container.entries.items container.tree.items };
+    ghost view = { λ container. map_of container.entries.items container.tree.items container.dirty.items };
 
-    ghost invariant = { λ container. IsKept container.entries.items container.tree.items container.next.items };
+    ghost invariant = { λ container. IsKept container.entries.items container.tree.items container.dirty.items container.next.items container.fresh.items };
 }
 
 impl Container {
@@ -64,15 +70,18 @@ impl Container {
         Ok(Container {
             entries: filled(alloc, entries as usize, None)?,
             tree: filled(alloc, nodes, 0)?,
+            dirty: filled(alloc, nodes, true)?,
             next: filled(alloc, nodes, 0)?,
+            fresh: filled(alloc, nodes, 0)?,
         })
     }
 
     /// The map that the tree on the disk spells with this root, height and number of entries: at most
     /// 16,777,216 entries, and one or two levels of inner nodes. A root of 0 is a tree of holes.
     ///
-    /// A node is taken by where the pointer led: the level, the number or the index that it names isn't
-    /// asked, nor whether its place lies past the aggregate, whose size isn't known here.
+    /// A node is taken by where the pointer led: where the level, the number or the index that it names isn't
+    /// that of its position, or it has something past the last entry, all nodes are dirty, and else none is.
+    /// Whether its place lies past the aggregate isn't asked, whose size isn't known here.
     ///
     /// # Errors
     /// `Damaged` comes only where a block of the tree hasn't the shape of a node, and `Ok` never does there:
@@ -92,6 +101,7 @@ impl Container {
         requires greatest { height ≤ 2 }
         requires stands { StandsOn (D.shown disk.old) store.old.pairs }
         ensures spelled { IsTrue (D.shown disk.old).tells → IfOk result (Spelled (D.shown disk.old).reads root height) }
+        ensures clean { IsTrue (D.shown disk.old).tells → IfOk result (IsCleanOn (D.shown disk.old).reads) }
         ensures size { IfOk result (λ container. length container.entries ≡ entries) }
         ensures valid { IfOk result IsMapped }
         ensures fault { IsTrue (D.shown disk.old).tells → IfErr result (IsFault (D.shown disk.old).reads root height entries) }
@@ -102,12 +112,18 @@ impl Container {
         let nodes = node_count(entries as usize);
         let mut table = filled(alloc, entries as usize, None)?;
         let mut tree = filled(alloc, nodes, 0)?;
+        let mut dirty = filled(alloc, nodes, true)?;
         let next = filled(alloc, nodes, 0)?;
-        read_tree(store, disk, &mut tree, &mut table, height, root)?;
+        let fresh = filled(alloc, nodes, 0)?;
+        let whole = read_tree(store, disk, &mut tree, &mut table, height, root)?;
+        let stands = both(whole, are_places(&tree));
+        fill(&mut dirty, !stands);
         Ok(Container {
             entries: table,
             tree,
+            dirty,
             next,
+            fresh,
         })
     }
 
@@ -151,7 +167,7 @@ impl Container {
         ensures stands { StandsOn (D.shown disk.new) store.new.pairs }
         ensures cause { HasBlockCause (D.shown disk.old).faults (D.shown disk.new).faults result }
     {
-        self.entries[vvbn as usize] = entry;
+        self.put(vvbn, entry);
         Ok(())
     }
 
@@ -170,7 +186,7 @@ impl Container {
         requires { vvbn < length self.old.entries }
         ensures { self.new ≡ with_entry self.old vvbn None }
     {
-        self.entries[vvbn as usize] = None;
+        self.put(vvbn, None);
     }
 
     /// Places a block under a VVBN below the number of entries. It takes no memory and makes no disk call.
@@ -180,17 +196,30 @@ impl Container {
         requires entry { IsEntry entry }
         ensures { self.new ≡ with_entry self.old vvbn (Some entry) }
     {
-        self.entries[vvbn as usize] = Some(entry);
+        self.put(vvbn, Some(entry));
     }
 
-    /// Writes the container to blocks that are free in `map`, and answers the root of its tree, which has
+    /// Puts an entry or a hole under a VVBN, and says that its leaf is dirty.
+    #[tactic(auto, using(crate::proofs::Clean::places_still))]
+    fn put(&mut self, vvbn: u32, entry: Option<Entry>)
+        requires within { vvbn < length self.old.entries }
+        requires entry { IfSome entry IsEntry }
+        ensures { self.new ≡ with_entry self.old vvbn entry }
+    {
+        self.entries[vvbn as usize] = entry;
+        self.dirty[vvbn as usize / FAN] = true;
+    }
+
+    /// Writes what is dirty of the container to blocks that are free in `map`, and answers the root of its tree, which has
     /// the least height, at least 1, whose fan-out of 256 covers the leaves. A leaf that holds only holes
-    /// is absent, and no node has anything past the last entry. The blocks of the old tree are given back. `map` has as many free blocks as it writes:
-    /// one for each leaf that has an entry and each inner node, and has at most so many fewer afterwards.
+    /// is absent, and no node has anything past the last entry. A node stays at its place where neither it is dirty
+    /// nor a node below it moves, and where none moves the root is the one that it was. The blocks of the old tree are given back that the new one
+    /// lacks. `map` has as many free blocks as a tree of these entries has nodes, one for each leaf that has an entry and each inner node, and has at most so
+    /// many fewer afterwards.
     ///
     /// It takes no memory and reads nothing, and no block is written that wasn't free in `map` at the
     /// call. The one error is a failed write; the container then stands as before, with its old tree, and
-    /// the blocks that were taken are lost to `map`. Costs a step for each entry and a write for each block.
+    /// the blocks that were taken are lost to `map`. Costs a step for each entry and each node, and a write for each node that moves.
     pub fn flush<D: Disk, F: Free>(
         &mut self,
         store: &mut Store,
@@ -203,16 +232,32 @@ impl Container {
         ensures failed { OnErr result (self.new ≡ self.old) }
         ensures flushed { IsTrue (D.shown disk.old).tells
             → IsApart (F.room map.old) self.old.tree
+            → IsCleanOn (D.shown disk.old).reads self.old
             → IfOk result (λ root. IsFlushed (D.shown disk.new).reads root (height_of (length self.new.entries)) self.new) }
+        ensures over { IsTrue (D.shown disk.old).tells
+            → IsApart (F.room map.old) self.old.tree
+            → IsCleanOn (D.shown disk.old).reads self.old
+            → OnOk result (IsOver (D.shown disk.new).reads self.new) }
+        ensures clean { OnOk result (AreClean self.new) }
         ensures root { IfOk result (λ root. (1 ≤ root) × (root ≤ last_place)) }
         ensures writes { Spares (WasTaken (F.room map.old)) (D.shown disk.old) (D.shown disk.new) (without_value result) }
         ensures moved { OnOk result (IsMoved (F.room map.old) self.old self.new (F.room map.new)) }
         ensures lost { OnErr result (Loses (F.room map.old) (F.room map.new)) }
-        ensures valid { IsMapped self.new }
+        ensures valid { IsMapped self.old × IsMapped self.new }
         ensures stands { StandsOn (D.shown disk.new) store.new.pairs }
     {
-        flush_tree(store, disk, map, &self.entries, &self.tree, &mut self.next)?;
+        flush_tree(
+            store,
+            disk,
+            map,
+            &self.entries,
+            &self.tree,
+            &self.dirty,
+            &mut self.next,
+            &mut self.fresh,
+        )?;
         std::mem::swap(&mut self.tree, &mut self.next);
+        fill(&mut self.dirty, false);
         Ok(self.tree[root_number(self.entries.len())])
     }
 

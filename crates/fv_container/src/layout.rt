@@ -1,6 +1,6 @@
 //! How many nodes a tree has.
 
-ghost use Rattle.std.specs.Prelude.{◌≡◌, ◌≤◌, replicate, IfOk};
+ghost use Rattle.std.specs.Prelude.{◌≡◌, ◌<◌, ◌≤◌, ℕ, true, length, get_or, replicate, IfOk};
 ghost use Rattle.fv_image.specs.Containers.{height_of, level_width, most_entries};
 ghost use Rattle.fv_container.specs.Mapped.{node_count};
 
@@ -60,4 +60,14 @@ pub(crate) fn filled<T: Copy + Drop>(
         items.push(value)?;
     }
     Ok(items)
+}
+
+/// Puts one value into a whole row.
+pub(crate) fn fill(row: &mut [bool], value: bool)
+    ensures len { length row.new ≡ length row.old }
+    ensures all { (m : ℕ) → m < length row.new → get_or row.new m true ≡ value }
+{
+    for n in 0..row.len() {
+        row[n] = value;
+    }
 }

@@ -10,6 +10,7 @@ mod free;
 mod layout;
 mod load;
 mod places;
+mod position;
 mod steps;
 mod write;
 

@@ -1,7 +1,7 @@
 //! Reading the tree of a container, from its root down to the leaves. A node is taken by where the pointer led: its shape alone is
 //! judged, and the position that it names isn't asked.
 
-ghost use Rattle.std.specs.Prelude.{◌≡◌, ◌≢◌, ◌<◌, ◌≤◌, ◌+◌, ◌*◌, ◌/◌, ◌%◌, ◌^◌, ◌-◌, ◌⊎◌, ◌==◌, if◌then◌else◌, ℕ, length, get_or, replicate, IsTrue, Ok, Err, None, IfOk, IfErr, IfSome, OnOk};
+ghost use Rattle.std.specs.Prelude.{◌≡◌, ◌≢◌, ◌<◌, ◌≤◌, ◌+◌, ◌*◌, ◌/◌, ◌%◌, ◌^◌, ◌-◌, ◌⊎◌, ◌==◌, if◌then◌else◌, ℕ, true, length, get_or, replicate, IsTrue, Ok, Err, None, IfOk, IfErr, IfSome, OnOk, List, Bool};
 ghost use Rattle.fv_codec.specs.Blocks.{IsContainerLeaf, IsEntry as IsLeafEntry, inner_at, leaf_at};
 ghost use Rattle.fv_image.specs.Containers.{child_in, entry_in, level_width, lying, most_entries, node_below, node_shape};
 ghost use Rattle.fv_store.specs.Held.{StandsOn};
@@ -10,10 +10,12 @@ ghost use Rattle.fv_disk.specs.Faults.{HasBlockCause};
 ghost use Rattle.fv_container.specs.Kept.{map_of};
 ghost use Rattle.fv_container.specs.Mapped.{IsHeld};
 ghost use Rattle.fv_container.specs.Spelled.{IsFault, Spelled, pair_of};
-ghost use Rattle.fv_container.specs.Reading.{AreChildren, AreShaped, FillsFrom, HasLevels, IsBadNode, IsBlank, IsLevelFault, ReadsAs, StaysOutside};
+ghost use Rattle.fv_container.specs.Reading.{AreChildren, AreShaped, FillsFrom, HasLevels, IsBadNode, IsBlank, IsLevelFault, ReadsAs, StandInner, StandLeaves, StandsInner, StaysOutside};
+ghost use Rattle.fv_container.specs.Written.{AreWritten};
 
 use crate::entry::Entry;
 use crate::layout::{FAN, inner_count, leaf_count};
+use crate::position::{both, is_inner_as, is_leaf_as};
 use fv_codec::{ContainerInner, ContainerLeaf, Shape};
 use fv_disk::{Block, BlockFault, Disk, ZERO};
 use fv_store::Store;
@@ -27,6 +29,17 @@ fn no_entries() -> ContainerLeaf
         index: 0,
         pvbns: [0; 256],
         kinds: [0; 256],
+    }
+}
+
+/// An inner node without children.
+fn no_children() -> ContainerInner
+    ensures { result.children ≡ replicate 256 0 }
+{
+    ContainerInner {
+        level: 1,
+        place: 0,
+        children: [0; 256],
     }
 }
 
@@ -78,12 +91,16 @@ fn leaf_in(block: &Block, at: u32) -> Result<ContainerLeaf, BlockFault>
     }
 }
 
-/// Reads an inner node, and answers the places of its children. Where `at` is 0 the node is absent, and so
-/// are they.
-fn read_inner<D: Disk>(store: &mut Store, disk: &mut D, at: u32) -> Result<[u32; 256], BlockFault>
+/// Reads an inner node. Where `at` is 0 the node is absent, and has no children.
+fn read_inner<D: Disk>(
+    store: &mut Store,
+    disk: &mut D,
+    at: u32,
+) -> Result<ContainerInner, BlockFault>
     requires stands { StandsOn (D.shown disk.old) store.old.pairs }
     ensures children { IsTrue (D.shown disk.old).tells
-        → IfOk result (λ children. (c : ℕ) → get_or children c 0 ≡ child_in (lying inner_at (D.shown disk.old).reads at) c) }
+        → IfOk result (λ node. (c : ℕ) → get_or node.children c 0 ≡ child_in (lying inner_at (D.shown disk.old).reads at) c) }
+    ensures said { IsTrue (D.shown disk.old).tells → IfOk result (λ node. at ≢ 0 → inner_at ((D.shown disk.old).reads at) ≡ Ok node) }
     ensures shaped { IsTrue (D.shown disk.old).tells
         → OnOk result (at ≢ 0 → node_shape 1 ((D.shown disk.old).reads at) ≡ Ok tt) }
     ensures fault { IsTrue (D.shown disk.old).tells → IfErr result (IsBadNode (D.shown disk.old).reads at 1) }
@@ -92,11 +109,11 @@ fn read_inner<D: Disk>(store: &mut Store, disk: &mut D, at: u32) -> Result<[u32;
     ensures cause { HasBlockCause (D.shown disk.old).faults (D.shown disk.new).faults result }
 {
     if at == 0 {
-        return Ok([0; 256]);
+        return Ok(no_children());
     }
     let block = read_block(store, disk, at)?;
     let node = inner_in(&block, at)?;
-    Ok(node.children)
+    Ok(node)
 }
 
 /// Reads a leaf. Where `at` is 0 the leaf is absent, and all of its entries are holes.
@@ -104,6 +121,7 @@ fn read_leaf<D: Disk>(store: &mut Store, disk: &mut D, at: u32) -> Result<Contai
     requires stands { StandsOn (D.shown disk.old) store.old.pairs }
     ensures entries { IsTrue (D.shown disk.old).tells
         → IfOk result (λ leaf. (c : ℕ) → (get_or leaf.pvbns c 0, get_or leaf.kinds c 0) ≡ entry_in (lying leaf_at (D.shown disk.old).reads at) c) }
+    ensures said { IsTrue (D.shown disk.old).tells → IfOk result (λ leaf. at ≢ 0 → leaf_at ((D.shown disk.old).reads at) ≡ Ok leaf) }
     ensures range { IfOk result (λ leaf. (c : ℕ) → c < 256 → IsLeafEntry (get_or leaf.pvbns c 0, get_or leaf.kinds c 0)) }
     ensures shaped { IsTrue (D.shown disk.old).tells
         → OnOk result (at ≢ 0 → node_shape 0 ((D.shown disk.old).reads at) ≡ Ok tt) }
@@ -136,7 +154,8 @@ fn fill_children(places: &mut [u32], from: usize, end: usize, children: &[u32; 2
     }
 }
 
-/// Reads the nodes above the leaves, and puts the places of the leaves into the row.
+/// Reads the nodes above the leaves, and puts the places of the leaves into the row. Answers `true` only where each of them is the one of
+/// its position.
 #[tactic(auto, using(crate::proofs::Reading::reads_none, fv_disk::proofs::Resting::reads_then))]
 fn read_level<D: Disk>(
     store: &mut Store,
@@ -144,7 +163,7 @@ fn read_level<D: Disk>(
     places: &mut [u32],
     leaves: usize,
     inner: usize,
-) -> Result<(), BlockFault>
+) -> Result<bool, BlockFault>
     requires stands { StandsOn (D.shown disk.old) store.old.pairs }
     requires within { leaves + inner ≤ length places.old }
     requires few { inner ≤ 256 }
@@ -154,16 +173,24 @@ fn read_level<D: Disk>(
         → OnOk result (AreChildren (D.shown disk.old).reads places.old places.new leaves leaves) }
     ensures past { (m : ℕ) → leaves ≤ m → get_or places.new m 0 ≡ get_or places.old m 0 }
     ensures shaped { IsTrue (D.shown disk.old).tells → OnOk result (AreShaped (D.shown disk.old).reads 1 places.old leaves inner) }
+    ensures whole { IsTrue (D.shown disk.old).tells
+        → IfOk result (λ whole. whole ≡ true → StandInner (D.shown disk.old).reads places.old leaves inner) }
     ensures fault { IsTrue (D.shown disk.old).tells → IfErr result (IsLevelFault (D.shown disk.old).reads 1 places.old leaves inner) }
     ensures only_reads { OnlyReads (D.shown disk.old) (D.shown disk.new) }
     ensures stands { StandsOn (D.shown disk.new) store.new.pairs }
     ensures cause { HasBlockCause (D.shown disk.old).faults (D.shown disk.new).faults result }
 {
+    let mut whole = true;
     for q in 0..inner {
-        let children = read_inner(store, disk, places[leaves + q])?;
-        fill_children(places, FAN * q, leaves, &children);
+        let at = places[leaves + q];
+        let node = read_inner(store, disk, at)?;
+        fill_children(places, FAN * q, leaves, &node.children);
+        whole = both(
+            whole,
+            is_inner_as(at, &node, 1, q, leaves.saturating_sub(FAN * q)),
+        );
     }
-    Ok(())
+    Ok(whole)
 }
 
 /// An entry of a leaf.
@@ -199,14 +226,14 @@ fn fill_entries(entries: &mut [Option<Entry>], from: usize, leaf: &ContainerLeaf
     }
 }
 
-/// Reads the leaves, and puts their entries into the row.
+/// Reads the leaves, and puts their entries into the row. Answers `true` only where each of them is the one of its position.
 #[tactic(auto, using(crate::proofs::Reading::reads_none, fv_disk::proofs::Resting::reads_then))]
 fn read_leaves<D: Disk>(
     store: &mut Store,
     disk: &mut D,
     places: &[u32],
     entries: &mut [Option<Entry>],
-) -> Result<(), BlockFault>
+) -> Result<bool, BlockFault>
     requires stands { StandsOn (D.shown disk.old) store.old.pairs }
     requires few { length entries.old ≤ most_entries }
     requires within { level_width (length entries.old) 0 ≤ length places.now }
@@ -218,21 +245,30 @@ fn read_leaves<D: Disk>(
     ensures held { (v : ℕ) → IfSome (get_or entries.new v None) IsHeld }
     ensures shaped { IsTrue (D.shown disk.old).tells
         → OnOk result (AreShaped (D.shown disk.old).reads 0 places.now 0 (level_width (length entries.old) 0)) }
+    ensures whole { IsTrue (D.shown disk.old).tells
+        → IfOk result (λ whole. whole ≡ true → StandLeaves (D.shown disk.old).reads (length entries.old) places.now (level_width (length entries.old) 0)) }
     ensures fault { IsTrue (D.shown disk.old).tells
         → IfErr result (IsLevelFault (D.shown disk.old).reads 0 places.now 0 (level_width (length entries.old) 0)) }
     ensures only_reads { OnlyReads (D.shown disk.old) (D.shown disk.new) }
     ensures stands { StandsOn (D.shown disk.new) store.new.pairs }
     ensures cause { HasBlockCause (D.shown disk.old).faults (D.shown disk.new).faults result }
 {
-    for k in 0..leaf_count(entries.len()) {
-        let leaf = read_leaf(store, disk, places[k])?;
+    let count = entries.len();
+    let mut whole = true;
+    for k in 0..leaf_count(count) {
+        let at = places[k];
+        let leaf = read_leaf(store, disk, at)?;
         fill_entries(entries, FAN * k, &leaf);
+        whole = both(
+            whole,
+            is_leaf_as(at, &leaf, k, count.saturating_sub(FAN * k)),
+        );
     }
-    Ok(())
+    Ok(whole)
 }
 
 /// Puts the places of the root and of the level above the leaves into a row of zeros, and reads the root
-/// where it stands above that level.
+/// where it stands above that level. Answers `true` only where it is the one of its position then.
 #[tactic(auto, using(crate::proofs::Reading::reads_none, fv_disk::proofs::Resting::reads_then))]
 fn read_root<D: Disk>(
     store: &mut Store,
@@ -242,7 +278,7 @@ fn read_root<D: Disk>(
     inner: usize,
     height: u8,
     root: u32,
-) -> Result<(), BlockFault>
+) -> Result<bool, BlockFault>
     requires stands { StandsOn (D.shown disk.old) store.old.pairs }
     requires levels { HasLevels places.old leaves inner }
     requires least { 1 ≤ height }
@@ -253,6 +289,8 @@ fn read_root<D: Disk>(
     ensures top { OnOk result (get_or places.new (leaves + inner) 0 ≡ (if height == 2 then root else 0)) }
     ensures shaped { IsTrue (D.shown disk.old).tells
         → OnOk result (height ≡ 2 → root ≢ 0 → node_shape 1 ((D.shown disk.old).reads root) ≡ Ok tt) }
+    ensures whole { IsTrue (D.shown disk.old).tells
+        → IfOk result (λ whole. whole ≡ true → height ≡ 2 → root ≢ 0 → StandsInner (D.shown disk.old).reads root 2 0 inner) }
     ensures fault { IsTrue (D.shown disk.old).tells → IfErr result (λ fault. (height ≡ 2) × IsBadNode (D.shown disk.old).reads root 1 fault) }
     ensures only_reads { OnlyReads (D.shown disk.old) (D.shown disk.new) }
     ensures stands { StandsOn (D.shown disk.new) store.new.pairs }
@@ -260,15 +298,16 @@ fn read_root<D: Disk>(
 {
     if height == 1 {
         places[leaves] = root;
-        return Ok(());
+        return Ok(true);
     }
-    let children = read_inner(store, disk, root)?;
-    fill_children(places, leaves, leaves + inner, &children);
+    let node = read_inner(store, disk, root)?;
+    fill_children(places, leaves, leaves + inner, &node.children);
     places[leaves + inner] = root;
-    Ok(())
+    Ok(is_inner_as(root, &node, 2, 0, inner))
 }
 
-/// Reads a tree into a row of places, all 0 before, and a row of entries, all holes before.
+/// Reads a tree into a row of places, all 0 before, and a row of entries, all holes before. Answers `true` only where each node is the one
+/// of its position, and has nothing past the last entry.
 #[tactic(auto, using(crate::proofs::Reading::reads_none, fv_disk::proofs::Resting::reads_then))]
 pub(crate) fn read_tree<D: Disk>(
     store: &mut Store,
@@ -277,7 +316,7 @@ pub(crate) fn read_tree<D: Disk>(
     entries: &mut [Option<Entry>],
     height: u8,
     root: u32,
-) -> Result<(), BlockFault>
+) -> Result<bool, BlockFault>
     requires stands { StandsOn (D.shown disk.old) store.old.pairs }
     requires blank { IsBlank entries.old places.old }
     requires least { 1 ≤ height }
@@ -286,7 +325,9 @@ pub(crate) fn read_tree<D: Disk>(
     ensures len { length entries.new ≡ length entries.old }
     ensures held { (v : ℕ) → IfSome (get_or entries.new v None) IsHeld }
     ensures spelled { IsTrue (D.shown disk.old).tells
-        → OnOk result (Spelled (D.shown disk.old).reads root height (map_of entries.new places.new)) }
+        → OnOk result ((dirty : List Bool) → Spelled (D.shown disk.old).reads root height (map_of entries.new places.new dirty)) }
+    ensures whole { IsTrue (D.shown disk.old).tells
+        → IfOk result (λ whole. whole ≡ true → AreWritten entries.new places.new (length places.new) (D.shown disk.old).reads) }
     ensures fault { IsTrue (D.shown disk.old).tells → IfErr result (IsFault (D.shown disk.old).reads root height (length entries.old)) }
     ensures only_reads { OnlyReads (D.shown disk.old) (D.shown disk.new) }
     ensures stands { StandsOn (D.shown disk.new) store.new.pairs }
@@ -294,7 +335,9 @@ pub(crate) fn read_tree<D: Disk>(
 {
     let leaves = leaf_count(entries.len());
     let inner = inner_count(entries.len());
-    read_root(store, disk, places, leaves, inner, height, root)?;
-    read_level(store, disk, places, leaves, inner)?;
-    read_leaves(store, disk, places, entries)
+    let top = read_root(store, disk, places, leaves, inner, height, root)?;
+    let level = read_level(store, disk, places, leaves, inner)?;
+    let low = read_leaves(store, disk, places, entries)?;
+    let below = both(level, low);
+    Ok(both(top, below))
 }

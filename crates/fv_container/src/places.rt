@@ -1,11 +1,11 @@
 //! The places of a tree: which nodes have one, taking them and giving them back.
 
-ghost use Rattle.std.specs.Prelude.{◌≡◌, ◌≢◌, ◌<◌, ◌≤◌, ◌+◌, ◌*◌, ◌^◌, ℕ, true, length};
+ghost use Rattle.std.specs.Prelude.{◌≡◌, ◌≢◌, ◌<◌, ◌≤◌, ◌+◌, ◌*◌, ◌^◌, ℕ, true, false, not, ◌&&◌, length, get_or};
 ghost use Rattle.std.specs.FinSet as set;
 ghost use Rattle.fv_image.specs.Containers.{level_width, most_entries};
 ghost use Rattle.fv_container.specs.Mapped.{node_count};
 ghost use Rattle.fv_container.specs.Freeing.{Releases};
-ghost use Rattle.fv_container.specs.Written.{HasReleased, HasTaken, TakesIf, blocks_needed, has_entry, is_written, root_number};
+ghost use Rattle.fv_container.specs.Written.{AreLeft, ArePlaced, HasReleased, HasTaken, IsSameBelow, TakesIf, blocks_needed, has_entry, is_written, root_number};
 
 use crate::entry::Entry;
 use crate::free::Free;
@@ -59,16 +59,114 @@ fn take_place<F: Free>(map: &mut F, wanted: bool) -> u32
     if wanted { map.take_free().unwrap() } else { 0 }
 }
 
-/// Takes a free block for each node that is written, and puts 0 for each other one.
-pub(crate) fn take_places<F: Free>(map: &mut F, entries: &[Option<Entry>], places: &mut [u32])
+/// Whether two rows of places are the same from a number on, up to another one.
+fn is_same_between(tree: &[u32], places: &[u32], from: usize, end: usize) -> bool
+    requires tree { end ≤ length tree.now }
+    requires places { end ≤ length places.now }
+    ensures same { result ≡ true → (k : ℕ) → from ≤ k → k < end → get_or places.now k 0 ≡ get_or tree.now k 0 }
+    ensures differs { result ≡ false → ((k : ℕ) → from ≤ k → k < end → get_or places.now k 0 ≡ get_or tree.now k 0) → ⊥ }
+{
+    for k in from..end {
+        if places[k] != tree[k] {
+            return false;
+        }
+    }
+    true
+}
+
+/// Whether the nodes below a node stay at their places.
+fn is_same_below(entries: usize, tree: &[u32], places: &[u32], node: usize) -> bool
+    requires few { entries ≤ most_entries }
+    requires tree { length tree.now ≡ node_count entries }
+    requires places { length places.now ≡ node_count entries }
+    requires within { node < node_count entries }
+    ensures same { result ≡ true → IsSameBelow entries tree.now places.now node }
+    ensures differs { result ≡ false → IsSameBelow entries tree.now places.now node → ⊥ }
+{
+    let leaves = leaf_count(entries);
+    let inner = inner_count(entries);
+    if node < leaves {
+        true
+    } else if node < leaves + inner {
+        let from = FAN * (node - leaves);
+        is_same_between(tree, places, from, leaves.min(from + FAN))
+    } else {
+        is_same_between(tree, places, leaves, leaves + inner)
+    }
+}
+
+/// Whether a node stays at its place: it is written and has one, it isn't dirty, and the nodes below it stay.
+fn may_stay(
+    entries: &[Option<Entry>],
+    tree: &[u32],
+    dirty: &[bool],
+    places: &[u32],
+    node: usize,
+) -> bool
     requires few { length entries.now ≤ most_entries }
-    requires nodes { length places.old ≡ node_count (length entries.now) }
+    requires tree { length tree.now ≡ node_count (length entries.now) }
+    requires dirty { length dirty.now ≡ node_count (length entries.now) }
+    requires places { length places.now ≡ node_count (length entries.now) }
+    requires within { node < node_count (length entries.now) }
+    ensures written { result ≡ true → is_written entries.now node ≡ true }
+    ensures some { result ≡ true → get_or tree.now node 0 ≢ 0 }
+    ensures clean { result ≡ true → get_or dirty.now node true ≡ false }
+    ensures below { result ≡ true → IsSameBelow (length entries.now) tree.now places.now node }
+    ensures stays { result ≡ false → is_written entries.now node ≡ true → get_or tree.now node 0 ≢ 0 → get_or dirty.now node true ≡ false
+        → IsSameBelow (length entries.now) tree.now places.now node → ⊥ }
+{
+    tree[node] != 0
+        && !dirty[node]
+        && is_written(entries, node)
+        && is_same_below(entries.len(), tree, places, node)
+}
+
+/// Whether a node is written anew: it is written, and doesn't stay.
+fn is_wanted(entries: &[Option<Entry>], node: usize, stays: bool) -> bool
+    requires { length entries.now ≤ most_entries }
+    ensures { result ≡ (not stays && is_written entries.now node) }
+{
+    !stays && is_written(entries, node)
+}
+
+/// Puts the places of the next tree into `places`: a node that is written stays where it can, and else has a free block, which is in `fresh`, too; for each
+/// other node there is 0.
+pub(crate) fn take_places<F: Free>(
+    map: &mut F,
+    entries: &[Option<Entry>],
+    tree: &[u32],
+    dirty: &[bool],
+    places: &mut [u32],
+    fresh: &mut [u32],
+)
+    requires few { length entries.now ≤ most_entries }
+    requires tree { length tree.now ≡ node_count (length entries.now) }
+    requires dirty { length dirty.now ≡ node_count (length entries.now) }
+    requires places { length places.old ≡ node_count (length entries.now) }
+    requires fresh { length fresh.old ≡ node_count (length entries.now) }
     requires room { blocks_needed entries.now ≤ set.len (F.room map.old).free }
     ensures len { length places.new ≡ length places.old }
-    ensures taken { HasTaken (F.room map.old) entries.now places.new (length places.new) (F.room map.new) }
+    ensures anew { length fresh.new ≡ length fresh.old }
+    ensures taken { HasTaken (F.room map.old) entries.now fresh.new (length fresh.new) (F.room map.new) }
+    ensures placed { ArePlaced entries.now tree.now dirty.now fresh.new places.new (length places.new) }
 {
     for n in 0..places.len() {
-        places[n] = take_place(map, is_written(entries, n));
+        let stays = may_stay(entries, tree, dirty, places, n);
+        let place = take_place(map, is_wanted(entries, n, stays));
+        fresh[n] = place;
+        places[n] = if stays { tree[n] } else { place };
+    }
+}
+
+/// Puts the places of a tree that another one hasn't for the same node into a row, and 0 for each other node.
+pub(crate) fn put_left(tree: &[u32], places: &[u32], into: &mut [u32])
+    requires tree { length tree.now ≡ length into.old }
+    requires places { length places.now ≡ length into.old }
+    ensures len { length into.new ≡ length into.old }
+    ensures left { AreLeft tree.now places.now into.new (length into.new) }
+{
+    for n in 0..into.len() {
+        into[n] = if places[n] == tree[n] { 0 } else { tree[n] };
     }
 }
 

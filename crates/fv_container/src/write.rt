@@ -8,7 +8,7 @@ ghost use Rattle.fv_store.specs.Held.{StandsOn};
 ghost use Rattle.fv_disk.specs.Sparing.{Spares};
 ghost use Rattle.fv_container.specs.Mapped.{IsHeld, node_count};
 ghost use Rattle.fv_container.specs.Spelled.{pair_of};
-ghost use Rattle.fv_container.specs.Written.{AreWritten, IsElsewhere, IsInnerOf, IsLeafOf, IsNodeOf, child_from};
+ghost use Rattle.fv_container.specs.Written.{AreAnew, IsElsewhere, IsInnerOf, IsLeafOf, IsNodeOf, child_from};
 
 use crate::entry::Entry;
 use crate::layout::{FAN, inner_count, leaf_count};
@@ -133,57 +133,61 @@ fn node_block(entries: &[Option<Entry>], places: &[u32], node: usize, into: &mut
     }
 }
 
-/// Writes a node to its place; one whose place is 0 is absent.
+/// Writes a node to its new place; one whose new place is 0 stays, or is absent.
 #[tactic(auto, using(fv_disk::proofs::Sparing::spares_none, fv_disk::proofs::Sparing::spares_then))]
 fn write_node<D: Disk>(
     store: &mut Store,
     disk: &mut D,
     entries: &[Option<Entry>],
     places: &[u32],
+    fresh: &[u32],
     node: usize,
 ) -> Result<(), Failed>
     requires stands { StandsOn (D.shown disk.old) store.old.pairs }
     requires few { length entries.now ≤ most_entries }
     requires held { (v : ℕ) → IfSome (get_or entries.now v None) IsHeld }
     requires nodes { length places.now ≡ node_count (length entries.now) }
+    requires fresh { length fresh.now ≡ length places.now }
     requires bounded { (m : ℕ) → get_or places.now m 0 ≤ last_place }
-    requires within { node < length places.now }
+    requires within { node < length fresh.now }
     ensures written { IsTrue (D.shown disk.old).tells
-        → OnOk result (get_or places.now node 0 ≢ 0 → IsNodeOf entries.now places.now node ((D.shown disk.new).reads (get_or places.now node 0))) }
+        → OnOk result (get_or fresh.now node 0 ≢ 0 → IsNodeOf entries.now places.now node ((D.shown disk.new).reads (get_or fresh.now node 0))) }
     ensures others { IsTrue (D.shown disk.old).tells
-        → SameBut (get_or places.now node 0) (D.shown disk.old).reads (D.shown disk.new).reads }
-    ensures spares { Spares (IsElsewhere places.now) (D.shown disk.old) (D.shown disk.new) result }
+        → SameBut (get_or fresh.now node 0) (D.shown disk.old).reads (D.shown disk.new).reads }
+    ensures spares { Spares (IsElsewhere fresh.now) (D.shown disk.old) (D.shown disk.new) result }
     ensures stands { StandsOn (D.shown disk.new) store.new.pairs }
 {
-    if places[node] == 0 {
+    if fresh[node] == 0 {
         return Ok(());
     }
     let mut block = ZERO;
     node_block(entries, places, node, &mut block);
-    store.put(disk, places[node], &block)
+    store.put(disk, fresh[node], &block)
 }
 
-/// Writes each node that has a place.
+/// Writes each node that has a new place.
 #[tactic(auto, using(fv_disk::proofs::Sparing::spares_none, fv_disk::proofs::Sparing::spares_then))]
 pub(crate) fn write_tree<D: Disk>(
     store: &mut Store,
     disk: &mut D,
     entries: &[Option<Entry>],
     places: &[u32],
+    fresh: &[u32],
 ) -> Result<(), Failed>
     requires stands { StandsOn (D.shown disk.old) store.old.pairs }
     requires few { length entries.now ≤ most_entries }
     requires held { (v : ℕ) → IfSome (get_or entries.now v None) IsHeld }
     requires nodes { length places.now ≡ node_count (length entries.now) }
+    requires fresh { length fresh.now ≡ length places.now }
     requires bounded { (m : ℕ) → get_or places.now m 0 ≤ last_place }
-    requires once { (m k : ℕ) → m < k → k < length places.now → get_or places.now k 0 ≢ 0 → get_or places.now m 0 ≢ get_or places.now k 0 }
+    requires once { (m k : ℕ) → m < k → k < length fresh.now → get_or fresh.now k 0 ≢ 0 → get_or fresh.now m 0 ≢ get_or fresh.now k 0 }
     ensures written { IsTrue (D.shown disk.old).tells
-        → OnOk result (AreWritten entries.now places.now (length places.now) (D.shown disk.new).reads) }
-    ensures spares { Spares (IsElsewhere places.now) (D.shown disk.old) (D.shown disk.new) result }
+        → OnOk result (AreAnew entries.now places.now fresh.now (length fresh.now) (D.shown disk.new).reads) }
+    ensures spares { Spares (IsElsewhere fresh.now) (D.shown disk.old) (D.shown disk.new) result }
     ensures stands { StandsOn (D.shown disk.new) store.new.pairs }
 {
-    for n in 0..places.len() {
-        write_node(store, disk, entries, places, n)?;
+    for n in 0..fresh.len() {
+        write_node(store, disk, entries, places, fresh, n)?;
     }
     Ok(())
 }

@@ -79,7 +79,7 @@ fn with_data(alloc: Global, entries: u32, vvbns: &[u32]) -> Result<Container, Al
 }
 
 /// Writes a container with data blocks under these VVBNs, where there are blocks enough, and answers its root.
-#[tactic(auto, using(fv_store::proofs::Laws::stands_at_first, fv_container::proofs::Laws::blocks_at_most))]
+#[tactic(auto, using(fv_store::proofs::Laws::stands_at_first))]
 fn written<D: Disk>(
     alloc: Global,
     disk: &mut D,

@@ -79,6 +79,7 @@ marked_slot : (i : Image) (found : Found) (s : ℕ) (x : VolumeState) (map : Map
 marked_slot i found s x map is = record {
   label = is.label;
   nodes = is.nodes;
+  clean = is.clean;
   apart = record { some = is.apart.some; entries = is.apart.entries; nodes = is.apart.nodes; label = is.apart.label };
   maps = λ k j on within. let one = is.maps k j on within in record { place = one.place; some = one.some; there = one.there; held = one.held; bits = one.bits };
   unchanged = λ e. absurd (true≢false e);

@@ -8,6 +8,9 @@ use Rattle.std.proofs.lemmas.Option.{none-some}
 use Rattle.fv_disk.specs.Shown.{Image, Shown}
 use Rattle.fv_model.specs.Machines.{Machine}
 use Rattle.fv_image.specs.Views.{entry_count}
+use Rattle.fv_image.proofs.Named.{node_held}
+use Rattle.fv_container.specs.Clean.{IsCleanOn}
+use Rattle.fv_container.proofs.Clean.{clean_still}
 use Rattle.fv_container.specs.Leading.{HasEmptied, place_at, place_in}
 use Rattle.fv_container.specs.Mapped.{Mapped, entry_under}
 use Rattle.fv_container.specs.Spelled.{is_at, names}
@@ -31,13 +34,13 @@ use Rattle.fv_volume.proofs.Stored.{stored, stored_still}
 use Rattle.fv_volume.proofs.Waiting.{waits_first, waits_on}
 use Rattle.fv_cp.specs.Lent.{IsLent, IsLentSlot, asked_by, blocks_asked}
 use Rattle.fv_cp.specs.Course.{AreNamedFor, HasCome, IsAsLent, IsCourse, IsOnCourse, IsSlotWritten, as_lent, label_lent, renewed, GoesPast, IsPassed, asked_from}
-use Rattle.fv_volume.proofs.LentSlots.{lent_slot, own_blocks}
+use Rattle.fv_volume.proofs.LentSlots.{held_taken, lent_slot, own_blocks}
 use Rattle.std.specs.FinMap as fin
 use Rattle.std.proofs.lemmas.List.Elements.{All-set}
 use Rattle.fv_disk.specs.declared.Failed.{Failed}
 use Rattle.fv_disk.specs.Sparing.{Spares}
 use Rattle.fv_codec.specs.Blocks.{last_place}
-use Rattle.fv_root.specs.Finding.{IsInRange}
+use Rattle.fv_root.specs.Finding.{IsInRange, root_found}
 use Rattle.fv_store.specs.Held.{StandsOn}
 use Rattle.fv_volume.proofs.Housing.{housed_put}
 use Rattle.fv_volume.proofs.Sparing.{then_spares}
@@ -116,6 +119,12 @@ module _ (regions : ℕ → ℕ → Bool) (disk : Shown) (pool : Pool) (states :
   own_old : HasOwnBlocks x did.old left.map
   own_old = own_blocks disk.reads pool.found pool.map lent.tells.sound lent.map s x did.old left.map inside slot come.committed (λ b of. (is.spaced.held s b inside ((λ k. has_block (was.0 k) (did.there k) b) ∙ of)).0)
 
+  -- nothing is written over its nodes, since the root on the disk holds them
+  clean_old : IsCleanOn i did.old
+  clean_old = clean_still disk.reads i did.old (λ b named.
+      let node = slot.nodes b named in
+      come.spares.reads tells b (held_taken disk.reads pool.found pool.map lent.tells.sound lent.map b (node_held (root_found pool.found) disk.reads s b node.0 inside node.1 node.2))) slot.clean
+
   -- ---- once its regions were reclaimed
 
   abbrev goes : ℕ → Bool
@@ -143,13 +152,16 @@ module _ (regions : ℕ → ℕ → Bool) (disk : Shown) (pool : Pool) (states :
   spaced_mid : AreSpacedIn pool.found.blocks did.space.next is.now mid_at
   spaced_mid = emptied_leaves pool.found.blocks left.map did.space is.now (container_at left.containers) mid_at s inside is.spaced x did.old did.mid was.0 did.there mid_here mid_other slot.apart long_old goes emptied did.reclaimed.blocks
 
+  clean_mid : IsCleanOn i did.mid
+  clean_mid = emptied.clean i clean_old
+
   size_mid : blocks_of did.space ≡ pool.found.blocks
   size_mid = ap length did.reclaimed.blocks.committed ∙ size
 
   -- ---- once it was written
 
   wrote : IsWritten x did.mid i did.space did.label did.new j after.map
-  wrote = did.written (subst IsTrue (sym come.spares.counted.tells) tells) own
+  wrote = did.written (subst IsTrue (sym come.spares.counted.tells) tells) own clean_mid
 
   -- the volumes then
   abbrev then_at : ℕ → Option VolumeState

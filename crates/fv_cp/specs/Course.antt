@@ -11,6 +11,7 @@ use Rattle.fv_image.specs.Views.{entry_count}
 use Rattle.fv_root.specs.declared.find.Found.{Found}
 use Rattle.fv_root.specs.Commits.{next_found}
 use Rattle.fv_store.specs.Held.{StandsOn}
+use Rattle.fv_container.specs.Clean.{IsCleanOn}
 use Rattle.fv_container.specs.Mapped.{IsMapped, Mapped}
 use Rattle.fv_container.specs.Chains.{Slots, container_at, slot_count, with_container}
 use Rattle.fv_container.specs.Leading.{HasEmptied}
@@ -43,7 +44,7 @@ pub record IsSlotWritten (regions : ℕ → Bool) (x : VolumeState) (s : ℕ) (l
   pub within : label < blocks_of pool.map
   pub named : now ≡ slice_set labels s label
   pub containers : left.containers ≡ with_container pool.containers s (Some new)
-  pub written : IsTrue disk.tells → HasOwnBlocks x mid space → IsWritten x mid disk.reads space label new after.reads left.map
+  pub written : IsTrue disk.tells → HasOwnBlocks x mid space → IsCleanOn disk.reads mid → IsWritten x mid disk.reads space label new after.reads left.map
 
 -- nothing was written
 pub record IsPassed (labels : List ℕ) (pool : Pool) (disk : Shown) (now : List ℕ) (left : Pool) (after : Shown) : Type 0 where

@@ -25,7 +25,7 @@ const SLOTS: u8 = 64;
 /// machine, and each with files in memory has more free numbers, and the aggregate more free blocks, than are pending, only `Memory` comes.
 /// Nothing is `Refused`, and `DiskFault` doesn't come. Without a file in memory no fault comes.
 ///
-/// Costs a step for each number of the span of each volume, and what the flush of each volume with files in memory costs.
+/// Costs a step for each slot, and for each volume with files in memory a step for each number of its span and what its flush costs.
 pub fn flush<D: Disk>(volumes: &mut Volumes, pool: &mut Pool, disk: &D) -> Result<(), VolumeFault>
     requires fit { FitTogether pool.old volumes.old }
     requires stands { StandsOn (D.shown disk.now) pool.old.store.pairs }

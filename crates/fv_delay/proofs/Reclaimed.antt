@@ -12,6 +12,7 @@ use Rattle.fv_aggmap.proofs.Giving.{given_none, given_same, given_then}
 use Rattle.fv_container.specs.Leading.{place_at, place_in}
 use Rattle.fv_container.specs.Mapped.{Mapped, entry_under, with_entry}
 use Rattle.fv_container.specs.Spelled.{is_at}
+use Rattle.fv_container.proofs.Clean.{clean_entry, clean_same, clean_then}
 use Rattle.fv_container.proofs.Leading.{any_either, any_none, any_same, lead_part}
 use Rattle.fv_volmap.specs.Slots.{Volume}
 use Rattle.fv_delay.specs.Delay.{is_delayed, is_held, region_of}
@@ -43,6 +44,7 @@ emptied_none p container first = record {
   entries = λ v. sym (ap (λ (t : Bool). if t then None else entry_under container v) (none_between_same p first v));
   long = refl;
   tree = refl;
+  clean = clean_same container;
 }
 
 -- an entry behind those that went is as it was
@@ -75,6 +77,7 @@ emptied_more p old mid new first v from within is same hole = so (p v) refl
           (cases_eq k v);
       long = is.long;
       tree = is.tree;
+      clean = is.clean;
     }
 
     gone : p v ≡ true → HasEmptied old (between p first (v + 1)) (with_entry mid v None)
@@ -86,6 +89,7 @@ emptied_more p old mid new first v from within is same hole = so (p v) refl
           (cases_eq k v);
       long = length-set mid.entries v None ∙ is.long;
       tree = is.tree;
+      clean = clean_then old mid (with_entry mid v None) is.clean (clean_entry mid v None);
     }
 
     so : (t : Bool) → p v ≡ t → HasEmptied old (between p first (v + 1)) new
@@ -109,6 +113,7 @@ module _ (map : Volume) (old : Mapped) (region first end : ℕ) (start : first �
       entries = λ v. emptied.entries v ∙ sym (ap (λ (t : Bool). if t then None else entry_under old v) (region_goes v));
       long = emptied.long;
       tree = emptied.tree;
+      clean = emptied.clean;
     };
     blocks = given_same space left (lead_to old (is_delayed map old) first (end - first)) (lead_to old (goes_with map old (λ r. r == region)) 0 (length old.entries))
         (λ b. lead_part old (is_delayed map old) (goes_with map old (λ r. r == region)) first end (length old.entries) b (omega (arith, stop)) (omega (arith, start, stop)) inside before after) given;
@@ -165,6 +170,7 @@ reclaimed_same map f g old new space left same has = record {
     entries = λ v. has.entries.entries v ∙ sym (ap (λ (t : Bool). if t then None else entry_under old v) (goes v));
     long = has.entries.long;
     tree = has.entries.tree;
+    clean = has.entries.clean;
   };
   blocks = given_same space left (lead_to old (goes_with map old f) 0 (length old.entries)) (lead_to old (goes_with map old g) 0 (length old.entries))
       (λ b. any_same (λ v. goes_with map old g v && is_at b (place_at old v)) (λ v. goes_with map old f v && is_at b (place_at old v)) 0 (length old.entries) (λ v low high. ap (λ (t : Bool). t && is_at b (place_at old v)) (goes v))) has.blocks;
@@ -185,6 +191,7 @@ reclaimed_none map container space = record {
     entries = λ v. sym (ap (λ (t : Bool). if t then None else entry_under container v) (and_false (is_delayed map container v)));
     long = refl;
     tree = refl;
+    clean = clean_same container;
   };
   blocks = given_none space (lead_to container (goes_with map container (λ r. false)) 0 (length container.entries)) (λ b. any_none (λ v. goes_with map container (λ r. false) v && is_at b (place_at container v)) 0 (length container.entries) (λ v low high.
       ap (λ t. t && is_at b (place_at container v)) (and_false (is_delayed map container v))));
@@ -199,6 +206,7 @@ reclaimed_then map f g both same old mid new space between left first second = r
         ∙ twice (goes_with map old f v) (goes_later v) (entry_under old v) ∙ sym (ap (λ (t : Bool). if t then None else entry_under old v) (goes_both v));
     long = second.entries.long ∙ first.entries.long;
     tree = second.entries.tree ∙ first.entries.tree;
+    clean = clean_then old mid new first.entries.clean second.entries.clean;
   };
   blocks = given_then space between left (lead_to old (goes_with map old f) 0 (length old.entries)) (lead_to mid (goes_with map mid g) 0 (length mid.entries)) (lead_to old (goes_with map old both) 0 (length old.entries))
       (λ b. any_either (λ v. goes_with map old f v && is_at b (place_at old v)) (λ v. goes_later v && is_at b (place_at old v)) (λ v. goes_with map old both v && is_at b (place_at old v)) 0 (length old.entries)

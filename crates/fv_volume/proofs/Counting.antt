@@ -6,6 +6,7 @@ use Rattle.fv_root.specs.Formatted.{IsSize}
 use Rattle.fv_image.specs.Views.{entry_count}
 use Rattle.fv_image.proofs.Overheads.{node_count, overhead_holds}
 use Rattle.fv_container.specs.declared.entry.Entry.{Entry}
+use Rattle.fv_container.specs.Mapped.{Mapped}
 use Rattle.fv_container.specs.Flushed.{Exchanges}
 use Rattle.fv_container.specs.Written.{blocks_needed}
 use Rattle.fv_container.proofs.Laws.{blocks_within}
@@ -37,8 +38,8 @@ module _ (x : VolumeState) (es : List (Option Entry)) (long : length es ≡ entr
   pub room_for_tree : asked x ≤ free_blocks old + 1 → blocks_needed es ≤ set.len (room_of mid).free
   room_for_tree room = rw mid_count (omega (arith, nodes_fit es x.span long, writes_fit x, drawn.fewer, room))
 
-  pub blocks_taken : (new : Space) (nodes given : List ℕ) → Exchanges (room_of mid) nodes given (room_of new) → set.len (room_of mid).free ≤ set.len (room_of new).free + blocks_needed es → free_blocks old + 1 ≤ free_blocks new + asked x
-  blocks_taken new nodes given exchanges count =
+  pub blocks_taken : (new : Space) (before : Mapped) (after : List ℕ) → Exchanges (room_of mid) before after (room_of new) → set.len (room_of mid).free ≤ set.len (room_of new).free + blocks_needed es → free_blocks old + 1 ≤ free_blocks new + asked x
+  blocks_taken new before after exchanges count =
       let after : set.len (room_of new).free ≡ free_blocks new = free_counted new (same_size mid new exchanges.committed (same_size old mid drawn.committed size)) in
       let counted : free_blocks mid ≤ free_blocks new + blocks_needed es = rw (← mid_count, ← after) count in
       omega (arith, nodes_fit es x.span long, writes_fit x, drawn.fewer, counted)

@@ -13,6 +13,8 @@ use Rattle.fv_bits.specs.Members.{is_member}
 use Rattle.fv_aggmap.specs.Space.{IsFull, Space, free_blocks}
 use Rattle.fv_aggmap.proofs.Room.{one_is_found}
 use Rattle.fv_container.specs.declared.entry.Entry.{Entry}
+use Rattle.fv_container.specs.Clean.{IsCleanOn}
+use Rattle.fv_container.proofs.Clean.{clean_entry}
 use Rattle.fv_container.specs.Chains.{Slots, container_at, own_entry, with_container}
 use Rattle.fv_container.specs.Mapped.{Mapped, with_entry}
 use Rattle.fv_tree.specs.declared.blocks.Placed.{Placed}
@@ -77,7 +79,7 @@ goes_failed pool map disk steps home room strays noted after cause =
       entries = itself.entries;
       beyond = λ w past. refl;
       kept = itself.kept;
-      shape = record { there = refl; count = refl; tree = refl };
+      shape = record { there = refl; count = refl; tree = refl; clean = λ i was. was };
       others = λ s other. refl;
       parents = refl;
       span = refl;
@@ -105,7 +107,7 @@ goes_dropped pool map after disk steps home room strays less noted v is released
       entries = itself.entries;
       beyond = λ w past. refl;
       kept = itself.kept;
-      shape = record { there = refl; count = refl; tree = refl };
+      shape = record { there = refl; count = refl; tree = refl; clean = λ i was. was };
       others = λ s other. refl;
       parents = refl;
       span = ap (λ (m : Volume). m.span) released;
@@ -231,6 +233,7 @@ module _ (pool new : Pool) (map after : Volume) (slot kind : ℕ) (block : List 
     there = ap is_some container_new ∙ sym (ap is_some there);
     count = ap (λ m. length (entries_in m)) container_new ∙ length-set c.entries v (Some entry_of) ∙ sym (ap (λ m. length (entries_in m)) there);
     tree = ap tree_in container_new ∙ sym (ap tree_in there);
+    clean = λ i was. subst (λ (m : Option Mapped). IfSome m (IsCleanOn i)) (sym container_new) (clean_entry c v (Some entry_of) i (subst (λ (m : Option Mapped). IfSome m (IsCleanOn i)) there was));
   }
 
   entry_placed : (w : ℕ) → (own_entry (container_at new.containers slot) w ≡ own w) ⊎ IsNewEntry pool.map pool.containers new.containers slot w

@@ -12,6 +12,7 @@ use Rattle.fv_image.specs.Views.{entry_count, head_of, snaps_from}
 use Rattle.fv_image.specs.Held.{label_in, label_place, lying_at, view_at}
 use Rattle.fv_disk.specs.declared.fault.BlockFault.{BlockFault}
 use Rattle.fv_disk.specs.declared.fault.BlockFault.TheVariants.{DiskFault, Damaged, Memory}
+use Rattle.fv_container.specs.Clean.{IsCleanOn}
 use Rattle.fv_container.specs.Mapped.{IsMapped, Mapped}
 use Rattle.fv_container.specs.Spelled.{IsFault, Spelled}
 use Rattle.fv_root.specs.declared.find.Found.{Found}
@@ -48,17 +49,19 @@ module _ (found : Found) (i : Image) (s : ℕ) (lt : s < 64) where
   loaded_none c none empty = record {
     head = ap (option_map head_of) (sym (no_label none));
     tree = subst (λ (l : Option Label). IsContainerOf i l c) (sym (no_label none)) (subst (IsContainerOf i None) (sym empty) tt);
+    clean = subst (λ (o : Option Mapped). IfSome o (IsCleanOn i)) (sym empty) tt;
     label = sym (place_there ∙ none);
     bits = tt;
     changed = tt;
   }
 
   pub loaded_some : (l : Label) (y : VolumeState) (map : Mapped) (c : Option Mapped) → label_of found i s ≡ Some l → head_in y ≡ head_of l → y.label ≡ get_or found.root.labels s 0 → c ≡ Some map
-      → Spelled i l.container l.height map → length map.entries ≡ entry_count l.span → IsMapped map
+      → Spelled i l.container l.height map → IsCleanOn i map → length map.entries ≡ entry_count l.span → IsMapped map
       → HaveBits (view_at (root_found found) i) s y.span y.map → y.changed ≡ false → IsLoaded i found s (Some y) c
-  loaded_some l y map c lies head place there spelled size valid bits changed = record {
+  loaded_some l y map c lies head place there spelled clean size valid bits changed = record {
     head = ap Some head ∙ ap (option_map head_of) (sym lies);
     tree = subst (λ (o : Option Label). IsContainerOf i o c) (sym lies) (subst (IsContainerOf i (Some l)) (sym there) (spelled, (size, valid)));
+    clean = subst (λ (o : Option Mapped). IfSome o (IsCleanOn i)) (sym there) clean;
     label = place ∙ sym place_there;
     bits = bits;
     changed = changed;

@@ -67,6 +67,7 @@ lent_from_loaded i found s (Some x) None is apart maps = by (label_of found i s)
 lent_from_loaded i found s (Some x) (Some map) is apart maps = record {
   label = λ some. is.label;
   nodes = nodes_of i found s (label_of found i s) map refl is.tree;
+  clean = is.clean;
   apart = apart;
   maps = maps;
   unchanged = λ unchanged. is;

@@ -22,6 +22,7 @@ use Rattle.fv_container.specs.Chains.{slot_count}
 use Rattle.fv_root.specs.Formatted.{IsSize}
 use Rattle.fv_bits.specs.Members.{is_member}
 use Rattle.fv_container.specs.Chains.{container_at, own_entry, parent_at}
+use Rattle.fv_container.specs.Clean.{IsCleanOn}
 use Rattle.fv_container.specs.Mapped.{Mapped, entry_under}
 use Rattle.fv_container.specs.Spelled.{is_at, names}
 use Rattle.fv_volume.specs.declared.pool.Pool.{Pool}
@@ -308,6 +309,7 @@ module _ (disk after : Shown) (pool left : Pool) (states stay : States) (x y : V
       label = λ some. let same = ap (λ (v : VolumeState). v.label) placed.keeps in same ∙ lent.label (λ none. some (same ∙ none));
       nodes = λ b node. lent.nodes b (subst (λ (t : List ℕ). names t b ≡ true)
           (tree_same disk after pool left x y.active y.map y.files y.changed room less placed.goes.steps placed.goes.goes.strays placed.goes.goes.noted over was.map is.map was.is is.is long lent.apart pool.found.blocks size of_held told) node);
+      clean = subst (λ (c : Option Mapped). IfSome c (IsCleanOn disk.reads)) is.is (over.shape.clean disk.reads (subst (λ (c : Option Mapped). IfSome c (IsCleanOn disk.reads)) (sym was.is) lent.clean));
       apart = subst (λ (v : VolumeState). AreApartIn v is.map) (sym placed.keeps)
           (apart_now disk after pool left x y.active y.map y.files y.changed room less placed.goes.steps placed.goes.goes.strays placed.goes.goes.noted over was.map is.map was.is is.is long lent.apart pool.found.blocks size of_held told);
       maps = maps_still disk.reads pool.found x y was.map is.map (ap (λ (v : VolumeState). v.span) placed.keeps) over.span over.snapshots (ap (λ (v : VolumeState). v.fresh) placed.keeps) behind lent.maps;

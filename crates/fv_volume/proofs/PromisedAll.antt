@@ -121,6 +121,7 @@ module _ (old : States) (blocks : ℕ) (c : Command) (name : List ℕ) (size : V
       by s (Some map) lent = record {
         label = lent.label;
         nodes = lent.nodes;
+        clean = lent.clean;
         apart = record { some = lent.apart.some; entries = lent.apart.entries; nodes = lent.apart.nodes; label = lent.apart.label };
         maps = maps_still i found x y map map refl refl (λ k other. refl) refl (λ v past. refl) lent.maps;
         unchanged = λ isnt. absurd (true≢false isnt);

@@ -10,7 +10,7 @@ use Rattle.fv_container.specs.Mapped.{Mapped, entry_under}
 use Rattle.fv_container.specs.Spelled.{is_at, names}
 use Rattle.fv_aggmap.specs.Space.{Space, IsFree, blocks_of}
 use Rattle.fv_volume.specs.declared.state.VolumeState.{VolumeState}
-use Rattle.fv_volume.specs.Writing.{AreTaken, HasDrawn, HasGiven, HasLabel, HasOwnBlocks, IsTaken, IsTakenOther, IsWritten, has_maps_at, on_disk}
+use Rattle.fv_volume.specs.Writing.{AreNext, HasDrawn, HasGiven, HasLabel, HasOwnBlocks, IsTaken, IsTakenOther, IsWritten, has_maps_at, on_disk}
 use Rattle.fv_volume.specs.Stored.{is_map_written, leads}
 use Rattle.fv_container.specs.Leading.{lead_to, place_at, place_in}
 use Rattle.fv_container.proofs.Leading.{any_either, lead_at, lead_where}
@@ -39,10 +39,6 @@ uncommitted space b free = (or_neither (is_member space.committed b) (is_member 
 
 pub free_on_disk : (space : Space) (old : Space) (b : ℕ) → space.committed ≡ old.committed → IsFree space b → IsFree (on_disk old) b
 free_on_disk space old b same free = free_moved space (on_disk old) b (sym same) free (ap (λ (c : List Bool). is_member c b) (sym same) ∙ uncommitted space b free)
-
--- what is committed isn't free
-committed_taken : (space : Space) (b : ℕ) → is_member space.committed b ≡ true → IsTaken space b
-committed_taken space b is free = true≢false (sym is ∙ uncommitted space b free)
 
 module _ (old given_back drawn : Space) (entries : ℕ → Bool) (label : ℕ) (gave : HasGiven old entries given_back) (took : HasDrawn given_back (λ b. is_at b label) 1 drawn) (some : 1 ≤ label) where
   pub label_free : IsFree given_back label
@@ -226,6 +222,7 @@ module _ (x : VolumeState) (before after : Image) (space given_back drawn stored
       root_greatest = has.root_greatest;
       said = has.said;
       tree = has.blocks.tree;
+      over = has.blocks.over;
       long = long;
       kept = kept_now;
       maps = λ v is. has.blocks.map.maps v (written_within x v is) is;
@@ -261,6 +258,9 @@ module _ (x : VolumeState) (before after : Image) (space given_back drawn stored
 pub no_old_node : (x : VolumeState) (space given_back : Space) (old : Mapped) (b : ℕ) → given_back.committed ≡ space.committed → HasOwnBlocks x old space → IsFree given_back b → names old.tree b ≡ false
 no_old_node x space given_back old b same own free = not_so (names old.tree b) (λ named. true≢false (sym (ap (λ (c : List Bool). is_member c b) same ∙ own.old_nodes b named) ∙ uncommitted given_back b free))
 
--- the old nodes can't be written before the next commit
-pub nodes_taken : (x : VolumeState) (space drawn : Space) (old : Mapped) → drawn.committed ≡ space.committed → HasOwnBlocks x old space → AreTaken drawn old.tree
-nodes_taken x space drawn old same own b named = committed_taken drawn b (ap (λ (c : List Bool). is_member c b) same ∙ own.old_nodes b named)
+-- the old nodes are no blocks of maps, so the next root is to hold them still
+pub nodes_next : (x : VolumeState) (space given_back drawn : Space) (old : Mapped) (label : ℕ) → HasOwnBlocks x old space → HasGiven space (has_maps_at x old (entry_count x.span)) given_back → HasDrawn given_back (λ b. is_at b label) 1 drawn → AreNext drawn old.tree
+nodes_next x space given_back drawn old label own gave took b named =
+    took.held b ∙ or_right (is_at b label) (is_member given_back.next b) (
+    gave.held b ∙ ap₂ (λ (m a : Bool). m && not a) (own.held b (or_right (is_at b x.label) _ (or_left (names old.tree b) _ named)))
+    (not_so (has_maps_at x old (entry_count x.span) b) (λ map. let w = maps_where x old (entry_count x.span) b map in true≢false (sym (leads_at old (entry_count x.span) w.vvbn b w.within w.place w.some) ∙ own.nodes b named))))

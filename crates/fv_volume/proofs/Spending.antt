@@ -1,5 +1,5 @@
 -- What the placing of one volume's files takes of its numbers and of the blocks.
-use Rattle.std.proofs.Common.{◌≡◌, ℕ, ◌+◌, ◌<◌, ◌≤◌, is_some, Option, Some, None, refl, sym, ap, subst, arith}
+use Rattle.std.proofs.Common.{◌≡◌, ℕ, ◌+◌, ◌<◌, ◌≤◌, true, is_some, Option, Some, None, refl, sym, ap, subst, arith}
 use Rattle.std.specs.Prelude.{min}
 use Rattle.fv_disk.specs.Shown.{Shown}
 use Rattle.fv_aggmap.specs.Space.{free_blocks}
@@ -21,6 +21,18 @@ spends disk pool x room left y rest exact goes fits numbers blocks =
     let some : 0 < rest = omega (arith, all, fits.1) in
     let took = goes.goes.goes.spends some in
     record { fewer = fits.0; numbers = omega (arith, all, fits.1, took.numbers); blocks = omega (arith, all, fits.1, took.blocks) }
+
+-- with files in memory or without them, where nothing changed
+pub spends_held : (disk : Shown) (pool : Pool) (x : VolumeState) (room : ℕ) (left : Pool) (y : VolumeState) (rest : ℕ) → (is_some x.files ≡ true → room ≡ min (min (free_blocks pool.map) (pending_of x.files + 1)) (free_numbers x.map))
+    → (x.files ≡ None → (left ≡ pool) × (y ≡ x)) → Goes (lent_for pool x.map disk 0 (home_in x) room) left y.map disk rest → (pending_of y.files ≤ pending_of x.files) × (room + pending_of y.files ≤ rest + pending_of x.files)
+    → pending_of x.files < free_numbers x.map → pending_of x.files < free_blocks pool.map → HasSpent pool x left y
+spends_held disk pool x room left y rest exact idle goes fits numbers blocks = by x.files refl
+  where
+    by : (o : Option Files) → x.files ≡ o → HasSpent pool x left y
+    by None none =
+        let same = idle none in
+        subst (λ (p : Pool). HasSpent pool x p y) (sym same.0) (subst (λ (z : VolumeState). HasSpent pool x pool z) (sym same.1) (record { fewer = omega arith; numbers = omega arith; blocks = omega arith }))
+    by (Some f) some = spends disk pool x room left y rest (exact (ap is_some some)) goes fits numbers blocks
 
 -- with files in memory or without them: what was placed took no more than there is fewer pending, and there are numbers still
 pub spent_one : (disk after : Shown) (pool left : Pool) (x y : VolumeState) → IsPlacedAs disk pool x after left y → IsStanding disk pool x → HasNumbers (Some x) → pending_of x.files < free_blocks pool.map → HasSpent pool x left y × HasNumbers (Some y)

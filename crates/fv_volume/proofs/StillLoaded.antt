@@ -21,6 +21,8 @@ use Rattle.fv_image.proofs.Spaced.{AreSpaced, spaced_from}
 use Rattle.fv_image.proofs.SameContainers.{AgreeOnTree}
 use Rattle.fv_image.proofs.SameLayout.{same_but_bits}
 use Rattle.fv_image.proofs.Named.{node_held, slot_in}
+use Rattle.fv_container.specs.Clean.{IsCleanOn}
+use Rattle.fv_container.proofs.Clean.{clean_still}
 use Rattle.fv_container.specs.Mapped.{Mapped}
 use Rattle.fv_root.specs.declared.find.Found.{Found}
 use Rattle.fv_root.specs.Finding.{root_found}
@@ -37,6 +39,7 @@ unfolding label_in
 none_loaded found i s none = record {
   head = ap (λ (p : ℕ). option_map head_of (label_in (lying_at i p))) (sym none);
   tree = subst (λ (p : ℕ). IsContainerOf i (label_in (lying_at i p)) None) (sym none) tt;
+  clean = tt;
   label = sym none;
   bits = tt;
   changed = tt;
@@ -74,10 +77,18 @@ module _ (found next : Found) (i j : Image) (s : ℕ) (inside : s < 64) (place :
       let agrees : AgreeOnTree i j l.container l.height (length map.entries) = λ b node. agree b (node_held (root_found found) i s b l inside there (subst (λ (n : ℕ). IsNodePlace i l.container l.height n b) is.1.0 node)) in
       (spelled_kept i j l.container l.height map agrees is.0, is.1)
 
+  clean_kept : (o : Option Label) (c : Option Mapped) → label_of found i s ≡ o → IsContainerOf i o c → IfSome c (IsCleanOn i) → IfSome c (IsCleanOn j)
+  clean_kept None None there is clean = tt
+  clean_kept None (Some map) there is clean = absurd is
+  clean_kept (Some l) None there is clean = tt
+  clean_kept (Some l) (Some map) there is clean =
+      clean_still i j map (λ b named. agree b (node_held (root_found found) i s b l inside there (subst (λ (n : ℕ). IsNodePlace i l.container l.height n b) is.1.0 (is.0.places b named)))) clean
+
   pub still_loaded : (state : Option VolumeState) (container : Option Mapped) → IsLoaded i found s state container → IsLoaded j next s state container
   still_loaded state container is = record {
     head = is.head ∙ ap (λ (o : Option Lying). option_map head_of (label_in o)) (sym same_label);
     tree = subst (λ (o : Option Label). IsContainerOf j o container) (sym (ap label_in same_label)) (container_kept (label_of found i s) container refl is.tree);
+    clean = clean_kept (label_of found i s) container refl is.tree is.clean;
     label = is.label ∙ sym place;
     bits = bits_kept state is.bits;
     changed = is.changed;

@@ -12,6 +12,7 @@ use Rattle.fv_image.specs.Views.{entry_count}
 use Rattle.fv_image.specs.Reclaimed.{IsAllocatable}
 use Rattle.fv_container.specs.declared.entry.Entry.{Entry}
 use Rattle.fv_container.specs.Leading.{place_at, place_in}
+use Rattle.fv_container.proofs.Clean.{over_still}
 use Rattle.fv_container.specs.Mapped.{Mapped, entry_under}
 use Rattle.fv_container.specs.Spelled.{is_at, names}
 use Rattle.fv_aggmap.specs.Space.{Space, IsFree, blocks_of}
@@ -124,6 +125,7 @@ module _ (x : VolumeState) (old : Mapped) (before : Image) (space : Space) (labe
     some = is.some;
     said = is.said;
     tree = is.tree;
+    over = is.over;
     long = is.long;
     kept = is.kept;
     maps = is.maps;
@@ -190,6 +192,7 @@ stored_still x old label new i j is same = record {
   some = is.some;
   said = ap label_at (same label (or_left (is_at label label) _ (at_itself label (λ none. omega (arith, is.some, none))))) ∙ is.said;
   tree = flushed_still i j is.root (height_of (entry_count x.span)) new is.tree (λ b named. same b (or_right (is_at b label) _ (or_left (names new.tree b) _ named)));
+  over = over_still i j new (λ b named. same b (or_right (is_at b label) _ (or_left (names new.tree b) _ named))) is.over;
   long = is.long;
   kept = is.kept;
   maps = is.maps;

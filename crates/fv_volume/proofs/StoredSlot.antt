@@ -29,6 +29,7 @@ use Rattle.fv_image.proofs.StoredSlots.{stored_is_sound, stored_once}
 use Rattle.fv_root.specs.declared.find.Found.{Found}
 use Rattle.fv_root.specs.Finding.{root_found}
 use Rattle.fv_container.specs.declared.entry.Entry.{Entry}
+use Rattle.fv_container.proofs.Clean.{over_clean}
 use Rattle.fv_container.specs.Mapped.{IsMapped, Mapped, entry_under}
 use Rattle.fv_container.specs.Spelled.{Spelled, names, pair_of}
 use Rattle.fv_volmap.specs.Slots.{Slot, has, slot_at, stored_count}
@@ -210,6 +211,7 @@ module _ (found : Found) (i : Image) (s : ℕ) (x : VolumeState) (old : Mapped) 
   stored_loaded clear = record {
     head = ap Some (sym head_said) ∙ ap (option_map head_of) (sym label_now);
     tree = subst (λ (o : Option Label). IsContainerOf i o (Some new)) (sym label_now) (spelled_here, (long_here, valid));
+    clean = over_clean i new is.over;
     label = sym at;
     bits = stored_maps clear;
     changed = refl;

@@ -1,8 +1,8 @@
 -- The blocks of a volume after they were written, and after its label was.
 use Rattle.std.proofs.Common.{◌≡◌, ◌≢◌, ℕ, ◌<◌, ◌-◌, List, length, Bool, true, false, not, ◌&&◌, ◌||◌, refl, sym, ap, subst, ◌∙◌, arith, Option, Some, None}
-use Rattle.std.specs.Prelude.{slice_index_or, min}
+use Rattle.std.specs.Prelude.{slice_index_or, min, if◌then◌else◌}
 use Rattle.std.specs.FinSet as set
-use Rattle.std.proofs.lemmas.Bool.{true≢false}
+use Rattle.std.proofs.lemmas.Bool.{or_right, true≢false}
 use Rattle.std.proofs.lemmas.Bool.Decides.{nat_tests}
 use Rattle.fv_bits.specs.Members.{is_member}
 use Rattle.fv_disk.specs.Shown.{Image}
@@ -10,16 +10,18 @@ use Rattle.fv_model.specs.Machines.{first_block}
 use Rattle.fv_image.specs.Containers.{height_of}
 use Rattle.fv_image.specs.Views.{entry_count}
 use Rattle.fv_container.specs.declared.entry.Entry.{Entry}
-use Rattle.fv_container.specs.Mapped.{Mapped, entry_under}
+use Rattle.fv_container.specs.Mapped.{IsMapped, Mapped, entry_under}
 use Rattle.fv_container.specs.Spelled.{names}
+use Rattle.fv_container.specs.Clean.{AreAlone, IsCleanOn, IsOver, StaysClean}
+use Rattle.fv_container.proofs.Clean.{clean_alone, clean_still, over_still}
 use Rattle.fv_container.specs.Flushed.{Exchanges, IsApart, IsFlushed, WasTaken}
 use Rattle.fv_container.specs.Freeing.{Room}
 use Rattle.fv_aggmap.specs.Freeing.{free_has, in_range, is_clear, room_of}
 use Rattle.fv_aggmap.specs.Space.{Space, IsFree, blocks_of, is_held}
 use Rattle.fv_volume.specs.declared.state.VolumeState.{VolumeState}
-use Rattle.fv_volume.specs.Writing.{AreTaken, HasBlocks, HasDrawn, HasMaps, IsTaken, Renews, StandBits, has_maps_at, map_writes}
+use Rattle.fv_volume.specs.Writing.{AreNext, CanFlush, HasBlocks, HasDrawn, HasMaps, IsTaken, Renews, StandBits, has_maps_at, map_writes}
 use Rattle.fv_volume.specs.Stored.{is_map_written, map_entry, place_at, place_in}
-use Rattle.fv_volume.proofs.Drawing.{free_before, maps_at, maps_same, not_so}
+use Rattle.fv_volume.proofs.Drawing.{free_before, maps_at, maps_same, not_so, or_neither}
 use Rattle.fv_volume.proofs.Spelling.{flushed_still}
 
 -- a block of the set of the free ones is free
@@ -59,16 +61,41 @@ module _ (old new : Mapped) (same : new.entries ≡ old.entries) where
     once = λ v w lt below is too e. has.once v w lt below is too (sym (place_same v) ∙ e ∙ place_same w);
   }
 
--- a tree that is written whole renews the old one
-pub renews_whole : (old : Room) (before after : List ℕ) (new : Room) → Exchanges old after before new → Renews old before after new
-renews_whole old before after new is = record { fresh = λ b named lacks. is.free b named; held = is.held; committed = is.committed }
+-- what the next root is to hold isn't free
+pub next_taken : (space : Space) (nodes : List ℕ) → AreNext space nodes → (b : ℕ) → names nodes b ≡ true → IsTaken space b
+next_taken space nodes next b named free = true≢false (sym (next b named) ∙ (or_neither (is_member space.committed b) (is_member space.next b) free.free).1)
+
+-- A flush renews the old tree, whose nodes are held, each at a place of its own where it is clean.
+renews : (old : Room) (before : Mapped) (after : List ℕ) (new : Room) → AreAlone before → ((b : ℕ) → names before.tree b ≡ true → old.held b ≡ true) → Exchanges old before after new → Renews old before.tree after new
+renews old before after new alone was is = record {
+  fresh = is.free;
+  held = λ apart b. is.held apart alone b ∙ same (names after b) (names before.tree b) (old.held b) (was b);
+  committed = is.committed;
+}
+  where
+    same : (a n h : Bool) → (n ≡ true → h ≡ true) → (if a then (not n || h) else (not n && h)) ≡ (a || (not n && h))
+    same true true h on = on refl
+    same true false h on = refl
+    same false n h on = refl
 
 module _ (x : VolumeState) (first : Mapped) (space mid left : Space) (root : ℕ) (old new : Mapped) (before after : Image)
     (map : HasMaps x (entry_count x.span) first old) (bits : StandBits x (entry_count x.span) old before) (drawn : HasDrawn space (has_maps_at x old (entry_count x.span)) (map_writes x (entry_count x.span)) mid)
-    (tree : old.tree ≡ first.tree) (same : new.entries ≡ old.entries) (renews : Renews (room_of mid) old.tree new.tree (room_of left))
-    (flushed : IsApart (room_of mid) old.tree → IsFlushed after root (height_of (length new.entries)) new) (long : length new.entries ≡ entry_count x.span)
-    (still : (b : ℕ) → WasTaken (room_of mid) b → after b ≡ before b) (taken : AreTaken space first.tree)
+    (tree : old.tree ≡ first.tree) (same : new.entries ≡ old.entries) (valid : IsMapped old) (exchanges : Exchanges (room_of mid) old new.tree (room_of left))
+    (flushed : IsApart (room_of mid) old.tree → IsCleanOn before old → IsFlushed after root (height_of (length new.entries)) new) (over : IsApart (room_of mid) old.tree → IsCleanOn before old → IsOver after new)
+    (long : length new.entries ≡ entry_count x.span) (still : (b : ℕ) → WasTaken (room_of mid) b → after b ≡ before b)
+    (start : Image) (can : CanFlush start space first) (stays : StaysClean first old) (since : (b : ℕ) → IsTaken space b → before b ≡ start b)
   where
+    taken : (b : ℕ) → names first.tree b ≡ true → IsTaken space b
+    taken = next_taken space first.tree can.next
+
+    -- the clean nodes stand there still, since no block was written that wasn't free
+    clean : IsCleanOn before old
+    clean = stays before (clean_still start before first (λ b named. since b (taken b named)) can.clean)
+
+    renewed : Renews (room_of mid) old.tree new.tree (room_of left)
+    renewed = renews (room_of mid) old new.tree (room_of left) (clean_alone before old valid clean)
+        (λ b named. drawn.held b ∙ or_right (has_maps_at x old (entry_count x.span) b) (is_member space.next b) (can.next b (ap (λ (t : List ℕ). names t b) (sym tree) ∙ named))) exchanges
+
     abbrev at_maps : Mapped → ℕ → Bool
     at_maps m b = has_maps_at x m (entry_count x.span) b
 
@@ -79,7 +106,7 @@ module _ (x : VolumeState) (first : Mapped) (space mid left : Space) (root : ℕ
     apart b free = not_so (names old.tree b) (λ named. taken b (ap (λ (t : List ℕ). names t b) (sym tree) ∙ named) (from_mid b (free_in mid b free)).0)
 
     node_free : (b : ℕ) → names new.tree b ≡ true → names first.tree b ≡ false → IsFree mid b
-    node_free b named lacks = free_in mid b (renews.fresh b named (ap (λ (t : List ℕ). names t b) tree ∙ lacks))
+    node_free b named lacks = free_in mid b (renewed.fresh b named (ap (λ (t : List ℕ). names t b) tree ∙ lacks))
 
     map_free : (b : ℕ) → at_maps new b ≡ true → IsFree space b
     map_free b led = drawn.free b (sym (maps_still old new same x (entry_count x.span) b) ∙ led)
@@ -108,14 +135,15 @@ module _ (x : VolumeState) (first : Mapped) (space mid left : Space) (root : ℕ
 
     pub blocks_written : HasBlocks x first space root new after left
     blocks_written = record {
-      tree = subst (λ (k : ℕ). IsFlushed after root (height_of k) new) long (flushed apart);
+      tree = subst (λ (k : ℕ). IsFlushed after root (height_of k) new) long (flushed apart clean);
+      over = over apart clean;
       map = map_same old new same x (entry_count x.span) first map;
       bits = bits_still;
       fresh_nodes = λ b named lacks. (from_mid b (node_free b named lacks)).0;
       fresh_maps = map_free;
       apart = map_apart;
       held = λ b.
-          renews.held apart b ∙ ap (λ t. names new.tree b || (not t && is_member mid.next b)) (ap (λ (t : List ℕ). names t b) tree)
+          renewed.held apart b ∙ ap (λ t. names new.tree b || (not t && is_member mid.next b)) (ap (λ (t : List ℕ). names t b) tree)
           ∙ ap (λ t. names new.tree b || (not (names first.tree b) && t)) (drawn.held b ∙ ap (λ t. t || is_member space.next b) (sym (maps_still old new same x (entry_count x.span) b)))
           ∙ held (names new.tree b) (at_maps new b) (names first.tree b) (is_member space.next b) (λ led. not_so (names first.tree b) (λ named. taken b named (map_free b led)));
     }
@@ -128,6 +156,7 @@ blocks_still x first space left root label new before after has taken lacks othe
     let node : (b : ℕ) → names new.tree b ≡ true → b ≢ label = λ b named e. taken (has.fresh_nodes label (ap (names new.tree) (sym e) ∙ named) lacks) in
     record {
       tree = flushed_still before after root (height_of (entry_count x.span)) new has.tree (λ b named. others b (node b named));
+      over = over_still before after new (λ b named. others b (node b named)) has.over;
       map = has.map;
       bits = λ v lt is.
           let some = has.map.some v lt is in

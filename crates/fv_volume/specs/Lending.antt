@@ -1,5 +1,5 @@
 -- One volume's blocks over what a session lends: what they show to a tree, and what the calls of a tree leave of all that was lent.
-use Rattle.std.specs.Prelude.{◌≡◌, ◌≢◌, ◌<◌, ◌≤◌, ◌+◌, ◌⊎◌, ◌==◌, ◌||◌, ℕ, zero, suc, true, false, cond, List, [], length, Option, Some, None, is_some, IsTrue}
+use Rattle.std.specs.Prelude.{◌≡◌, ◌≢◌, ◌<◌, ◌≤◌, ◌+◌, ◌⊎◌, ◌==◌, ◌||◌, ℕ, zero, suc, true, false, cond, List, [], length, Option, Some, None, IfSome, is_some, IsTrue}
 use Rattle.std.specs.Ordering.{nat_cmp}
 use Rattle.std.specs.FinMap as fin
 use Rattle.fv_disk.specs.Shown.{Rose, Image, Shown as Disk}
@@ -12,6 +12,7 @@ use Rattle.fv_image.specs.Layout.{root_place}
 use Rattle.fv_image.specs.Reclaimed.{IsAllocatable}
 use Rattle.fv_aggmap.specs.Space.{Space, blocks_of, free_blocks, is_held}
 use Rattle.fv_container.specs.declared.entry.Entry.{Entry}
+use Rattle.fv_container.specs.Clean.{IsCleanOn}
 use Rattle.fv_container.specs.Chains.{Slots, container_at, own_entry, slot_count}
 use Rattle.fv_container.specs.Mapped.{Mapped}
 use Rattle.fv_store.specs.Held.{StandsOn}
@@ -150,11 +151,12 @@ abbrev pub tree_in : Option Mapped → List ℕ
 tree_in None = []
 tree_in (Some container) = container.tree
 
--- a container has as many entries as before, and the same tree on the disk
+-- a container has as many entries as before, and the same tree on the disk; what was clean of it is clean
 pub record HasShapeOf (old new : Option Mapped) : Type 0 where
   pub there : is_some new ≡ is_some old
   pub count : length (entries_in new) ≡ length (entries_in old)
   pub tree : tree_in new ≡ tree_in old
+  pub clean : (i : Image) → IfSome old (IsCleanOn i) → IfSome new (IsCleanOn i)
 
 -- the last damage came for want of a number or a block, and the room that was made is used up
 pub record IsOutOfRoom (old new : Lent) : Type 0 where

@@ -1,6 +1,6 @@
 -- What calls leave of all that was lent, one after another.
 use Rattle.std.proofs.Common.{◌≡◌, ◌⊎◌, ◌||◌, ℕ, Bool, true, false, List, length, Option, Some, None, refl, sym, ap, ap₂, subst, ◌∙◌, inl, inr, ⊎_elim, arith}
-use Rattle.std.specs.Prelude.{is_some}
+use Rattle.std.specs.Prelude.{IfSome, is_some}
 use Rattle.std.specs.Option.{ForSome}
 use Rattle.std.specs.FinMap as fin
 use Rattle.std.proofs.lemmas.Bool.{cases_Bool}
@@ -12,6 +12,7 @@ use Rattle.fv_image.specs.Layout.{root_place}
 use Rattle.fv_image.specs.Reclaimed.{IsAllocatable}
 use Rattle.fv_aggmap.specs.Space.{Space, blocks_of, free_blocks, is_held}
 use Rattle.fv_container.specs.declared.entry.Entry.{Entry}
+use Rattle.fv_container.specs.Clean.{IsCleanOn}
 use Rattle.fv_container.specs.Chains.{Slots, container_at, own_entry}
 use Rattle.fv_volmap.specs.Slots.{Volume as Maps, has, slot_at}
 use Rattle.fv_volume.specs.declared.blocks.Home.{Home}
@@ -104,6 +105,7 @@ reads_goes old new reads =
         there = ap (λ (s : Slots). is_some (container_at s old.home.slot)) reads.containers;
         count = ap (λ (s : Slots). length (entries_in (container_at s old.home.slot))) reads.containers;
         tree = ap (λ (s : Slots). tree_in (container_at s old.home.slot)) reads.containers;
+        clean = λ i. subst (λ (s : Slots). IfSome (container_at s old.home.slot) (IsCleanOn i)) (sym reads.containers);
       };
       others = λ s other. ap (λ (slots : Slots). container_at slots s) reads.containers;
       parents = ap (λ (slots : Slots). slots.parents) reads.containers;
@@ -249,6 +251,7 @@ module _ (old mid new : Lent) (first : GoesOver old mid) (second : GoesOver mid 
     there = shape.there ∙ first.shape.there;
     count = shape.count ∙ first.shape.count;
     tree = shape.tree ∙ first.shape.tree;
+    clean = λ i was. shape.clean i (first.shape.clean i was);
   }
 
   keeps_then : AreApart old.pool old.map slot → KeepsSlots slot old new

@@ -5,6 +5,7 @@ ghost use Rattle.fv_bits.specs.Bits.{block_bits};
 ghost use Rattle.fv_codec.specs.Blocks.{IsLabel, label_at};
 ghost use Rattle.fv_container.specs.Chains.{container_at, no_containers, parent_at, slot_count, with_container, with_parent};
 ghost use Rattle.fv_container.specs.Mapped.{IsMapped};
+ghost use Rattle.fv_container.specs.Clean.{IsCleanOn};
 ghost use Rattle.fv_container.specs.Spelled.{Spelled, IsFault};
 ghost use Rattle.fv_disk.specs.DiskCalls.{OnlyReads};
 ghost use Rattle.fv_disk.specs.Faults.{HasBlockCause};
@@ -181,6 +182,7 @@ fn read_container<D: Disk>(
     requires stands { StandsOn (D.shown disk.old) store.old.pairs }
     requires range { IsLabel label.now }
     ensures spelled { IsTrue (D.shown disk.old).tells → IfOk result (Spelled (D.shown disk.old).reads label.entry.now.container label.entry.now.height) }
+    ensures clean { IsTrue (D.shown disk.old).tells → IfOk result (IsCleanOn (D.shown disk.old).reads) }
     ensures size { IfOk result (λ container. length container.entries ≡ entry_count label.entry.now.span) }
     ensures valid { IfOk result IsMapped }
     ensures fault { IsTrue (D.shown disk.old).tells → IfErr result (IsFault (D.shown disk.old).reads label.entry.now.container label.entry.now.height (entry_count label.entry.now.span)) }

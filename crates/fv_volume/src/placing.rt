@@ -88,7 +88,7 @@ impl VolumeState {
     /// As `flush`. Where the volume stands and has more free numbers, and the aggregate more free blocks, than are pending, only
     /// `Memory` comes. Without a file in memory no fault comes.
     ///
-    /// Costs what `flush` and `room` cost.
+    /// Costs what `flush` and `room` cost, and a step without a file in memory.
     pub fn place_files<D: Disk>(&mut self, pool: &mut Pool, disk: &D) -> Result<(), VolumeFault>
         requires ready { IsReady (D.shown disk.now) pool.old self.old }
         ensures placed { IsPlacedAs (D.shown disk.now) pool.old self.old (D.shown disk.now) pool.new self.new }
@@ -97,7 +97,7 @@ impl VolumeState {
         ensures fails { IfErr result (MayFail (D.shown disk.now) pool.old (Some self.old)) }
         ensures cause { IfErr result IsPlaceFault }
     {
-        let mut room = self.room(pool);
+        let mut room = self.room_to_place(pool);
         let flushed = self.flush(pool, disk, &mut room);
         // What is known of every map is needed of this one.
         let _ = self.map.active();

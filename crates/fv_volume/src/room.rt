@@ -1,6 +1,6 @@
 //! How much room there is for the flush of a volume.
 
-ghost use Rattle.std.specs.Prelude.{◌≡◌, ◌≤◌, ◌+◌, ◌-◌, ◌^◌, min, not, cond};
+ghost use Rattle.std.specs.Prelude.{◌≡◌, ◌≤◌, ◌+◌, ◌-◌, ◌^◌, true, is_some, min, not, cond};
 ghost use Rattle.fv_aggmap.specs.Space.{free_blocks};
 ghost use Rattle.fv_volmap.specs.Slots.{taken_in};
 ghost use Rattle.fv_volume.specs.BlocksOver.{HasRoom, free_numbers};
@@ -24,6 +24,21 @@ impl VolumeState {
     {
         let blocks = least(pool.map.free_count(), self.pending().saturating_add(1));
         count_free(&self.map, self.span, blocks)
+    }
+
+    /// The room for a `flush` of the volume, as `room` counts it, and none without files in memory, where there is nothing to place.
+    ///
+    /// Costs what `room` costs, and a step without files in memory.
+    pub(crate) fn room_to_place(&self, pool: &Pool) -> u32
+        requires span { self.now.map.span ≡ self.now.span }
+        ensures free { HasRoom pool.now.map self.entry.now.map result }
+        ensures exact { is_some self.entry.now.files ≡ true → result ≡ min (min (free_blocks pool.now.map) (pending_of self.entry.now.files + 1)) (free_numbers self.entry.now.map) }
+    {
+        if self.files.is_some() {
+            self.room(pool)
+        } else {
+            0
+        }
     }
 }
 

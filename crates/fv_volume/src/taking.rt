@@ -8,6 +8,7 @@ ghost use Rattle.fv_image.specs.Views.{entry_count};
 ghost use Rattle.fv_root.specs.Formatted.{IsSize};
 ghost use Rattle.fv_store.specs.Held.{StandsOn};
 ghost use Rattle.fv_aggmap.specs.Space.{IsFree, blocks_of, free_blocks};
+ghost use Rattle.fv_container.specs.Clean.{StaysClean};
 ghost use Rattle.fv_container.specs.Spelled.{is_at};
 ghost use Rattle.fv_volmap.specs.Slots.{map_or_empty, slot_at, slot_count};
 ghost use Rattle.fv_volume.specs.Stored.{is_map_written, map_index, map_slot, slot_map};
@@ -107,6 +108,7 @@ pub(crate) fn write_maps<D: Disk>(
     ensures drawn { OnOk result (HasDrawn map.old (has_maps_at state.entry.now container.new (entry_count state.entry.now.span)) (map_writes state.entry.now (entry_count state.entry.now.span)) map.new) }
     ensures committed { map.new.committed ≡ map.old.committed }
     ensures tree { container.new.tree ≡ container.old.tree }
+    ensures clean { StaysClean container.old container.new }
     ensures entries { length container.new.entries ≡ entry_count state.entry.now.span }
     ensures spares { Spares (IsTaken map.old) (D.shown disk.old) (D.shown disk.new) result }
     ensures stands { StandsOn (D.shown disk.new) store.new.pairs }

@@ -7,12 +7,13 @@ ghost use Rattle.fv_image.specs.Containers.{height_of};
 ghost use Rattle.fv_image.specs.Views.{entry_count};
 ghost use Rattle.fv_store.specs.Held.{StandsOn};
 ghost use Rattle.fv_aggmap.specs.Space.{blocks_of, free_blocks};
+ghost use Rattle.fv_container.specs.Clean.{IsCleanOn};
 ghost use Rattle.fv_container.specs.Flushed.{without_value};
 ghost use Rattle.fv_container.specs.Mapped.{IsMapped};
 ghost use Rattle.fv_container.specs.Spelled.{names};
 ghost use Rattle.fv_volume.specs.Labels.{label_said};
 ghost use Rattle.fv_volume.specs.Files.{IsLabelled};
-ghost use Rattle.fv_volume.specs.Writing.{AreTaken, HasBlocks, HasEntries, HasLabel, HasOwnBlocks, HasRoomFor, IsOther, IsTaken, IsTakenOther, IsWritten, asked, on_disk};
+ghost use Rattle.fv_volume.specs.Writing.{CanFlush, HasBlocks, HasEntries, HasLabel, HasOwnBlocks, HasRoomFor, IsOther, IsTaken, IsTakenOther, IsWritten, asked, on_disk};
 
 use crate::giving::give_back_maps;
 use crate::sizes::entry_count;
@@ -23,7 +24,8 @@ use fv_container::{Container, height_of};
 use fv_disk::{Disk, Failed, ZERO};
 use fv_store::Store;
 
-/// Writes the blocks of the maps that wait and the container, and answers the root of the container's tree. The old tree is given back.
+/// Writes the blocks of the maps that wait and the container, and answers the root of the container's tree. The nodes of the old tree are
+/// given back that the new one lacks.
 fn write_blocks<D: Disk>(
     state: &VolumeState,
     container: &mut Container,
@@ -35,7 +37,7 @@ fn write_blocks<D: Disk>(
     requires entries { HasEntries state.now container.old }
     requires space { HasRoomFor state.now map.old }
     ensures written { IsTrue (D.shown disk.old).tells
-        → AreTaken map.old container.old.tree
+        → CanFlush (D.shown disk.old).reads map.old container.old
         → IfOk result (λ root. HasBlocks state.entry.now container.old map.old root container.new (D.shown disk.new).reads map.new) }
     ensures root { IfOk result (λ root. (1 ≤ root) × (root ≤ last_place)) }
     ensures spares { Spares (IsTaken map.old) (D.shown disk.old) (D.shown disk.new) (without_value result) }
@@ -88,7 +90,7 @@ fn write_anew<D: Disk>(
     requires space { HasRoomFor state.now map.old }
     requires taken { IsTaken map.old label }
     ensures written { IsTrue (D.shown disk.old).tells
-        → AreTaken map.old container.old.tree
+        → CanFlush (D.shown disk.old).reads map.old container.old
         → names container.old.tree label ≡ false
         → OnOk result (HasLabel state.entry.now container.old map.old label container.new (D.shown disk.new).reads map.new) }
     ensures spares { Spares (IsTakenOther map.old label) (D.shown disk.old) (D.shown disk.new) result }
@@ -104,7 +106,8 @@ fn write_anew<D: Disk>(
 }
 
 /// Writes a volume: the blocks of its active map, and of each snapshot's that waits, to new places, its container and its label, whose
-/// PVBN it answers. The old places of those maps, of container and label are given back; every other entry stays, a delayed one, too. As many
+/// PVBN it answers. Nodes of the container that aren't dirty stay where they stand (`Container::flush`). The old places of those maps, of the
+/// other nodes and of the label are given back; every other entry stays, a delayed one, too. As many
 /// blocks are free as it asks for: its overhead, and those of the snapshots' maps that wait. It takes no memory and reads nothing.
 ///
 /// The one error is a failed write: the blocks that were taken are then lost to the map, and the container isn't as before. Costs a step
@@ -122,6 +125,7 @@ pub fn write_volume<D: Disk>(
     requires room { asked state.now ≤ free_blocks map.old }
     ensures written { IsTrue (D.shown disk.old).tells
         → HasOwnBlocks state.entry.now container.old map.old
+        → IsCleanOn (D.shown disk.old).reads container.old
         → IfOk result (λ label. IsWritten state.entry.now container.old (D.shown disk.old).reads map.old label container.new (D.shown disk.new).reads map.new) }
     ensures spares { Spares (IsTaken (on_disk map.old)) (D.shown disk.old) (D.shown disk.new) (without_value result) }
     ensures entries { length container.new.entries ≡ entry_count state.entry.now.span }

@@ -9,4 +9,7 @@ returns-then-height-eq1-clause-inner g c = λ tells q within.
 pub returns-clause-inner : goal.returns-clause-inner
 returns-clause-inner g c = λ tells q within.
     let i = (g.D.Disk.shown c.args.disk.now).reads in
-    root_high i i c.fill_children.new.places c.in_ok-children.children c.args.leaves c.args.inner c.args.root c.args.height q refl c.fill_children.ensures.filled (c.in_ok-children.ensures.children tells) within c.requires.levels.few (omega (arith, c.requires.least, c.requires.greatest, c.if-height-eq1.false))
+    root_high i i c.fill_children.new.places c.in_ok-node.node.children c.args.leaves c.args.inner c.args.root c.args.height q refl c.fill_children.ensures.filled (c.in_ok-node.ensures.children tells) within c.requires.levels.few (omega (arith, c.requires.least, c.requires.greatest, c.if-height-eq1.false))
+
+pub returns-clause-whole : goal.returns-clause-whole
+returns-clause-whole g c = λ tells is high some. record { node = c.in_ok-node.node; said = c.in_ok-node.ensures.said tells some; own = c.is_inner_as.ensures is some }

@@ -1,9 +1,11 @@
 use Rattle.std.proofs.Common.{◌≡◌, length}
-use Rattle.fv_container.specs.Written.{HasTaken}
+use Rattle.fv_container.specs.Written.{ArePlaced, HasTaken}
 use Rattle.fv_container.proofs.places.take_places.Given as goal
 
 abbrev pub invariant-loop-n : goal.invariant-loop-n
 invariant-loop-n g l = record {
   len : length l.places ≡ length l.initial.places;
-  taken : HasTaken (g.F.Free.room l.fn.map) l.entries l.places l.n (g.F.Free.room l.map);
+  anew : length l.fresh ≡ length l.initial.fresh;
+  taken : HasTaken (g.F.Free.room l.fn.map) l.entries l.fresh l.n (g.F.Free.room l.map);
+  placed : ArePlaced l.entries l.tree l.dirty l.fresh l.places l.n;
 }

@@ -6,6 +6,7 @@ use Rattle.fv_image.specs.Held.{view_at}
 use Rattle.fv_root.specs.Finding.{root_found}
 use Rattle.fv_disk.proofs.Resting.{reads_then}
 use Rattle.fv_volmap.specs.Slots.{Volume, stored_count}
+use Rattle.fv_container.specs.Clean.{IsCleanOn}
 use Rattle.fv_container.specs.Spelled.{IsFault, Spelled}
 use Rattle.fv_volume.specs.Loading.{HaveBits, IsBadMap, IsLoadFault}
 use Rattle.fv_volume.specs.SlotReads.{HaveRead}
@@ -65,6 +66,7 @@ returns-clause-loaded g c = λ tells empty.
     let told = subst IsTrue (sym first.tells) tells in
     let lies = is_label found i c.args.slot c.requires.slot (get_or found.root.labels c.args.slot 0) l refl c.if-place-eq0.false (c.in_ok-label.ensures.label tells) in
     let spelled = subst (λ (j : Image). Spelled j l.container l.height map) first.reads (c.in_ok-container.ensures.spelled told) in
+    let clean = subst (λ (j : Image). IsCleanOn j map) first.reads (c.in_ok-container.ensures.clean told) in
     let y = c.of_label-state.result in
     let second = c.read_container.ensures.only_reads.stays in
     let span : y.span ≡ l.span = c.of_label-state.ensures.span in
@@ -72,7 +74,7 @@ returns-clause-loaded g c = λ tells empty.
     let read = subst (λ (j : Image). HaveRead j map l.span stored_count m) (second.reads ∙ first.reads) (c.in_ok-map.ensures.read (subst IsTrue (sym second.tells) told)) in
     let bits = bits_read found i c.args.slot l map lies spelled c.in_ok-container.ensures.size c.in_ok-container.ensures.valid m l.span c.in_ok-snapshots.snapshots c.in_ok-map.ensures.used read in
     let same : y.map ≡ m = c.of_label-state.ensures.laid.map in
-    loaded_some found i c.args.slot c.requires.slot l y map _ lies c.of_label-state.ensures.head c.of_label-state.ensures.laid.label c.put.ensures.there spelled c.in_ok-container.ensures.size c.in_ok-container.ensures.valid
+    loaded_some found i c.args.slot c.requires.slot l y map _ lies c.of_label-state.ensures.head c.of_label-state.ensures.laid.label c.put.ensures.there spelled clean c.in_ok-container.ensures.size c.in_ok-container.ensures.valid
     (subst (λ (n : ℕ). HaveBits (view_at (root_found found) i) c.args.slot n y.map) (sym span) (subst (HaveBits (view_at (root_found found) i) c.args.slot l.span) (sym same) bits))
     c.of_label-state.ensures.laid.changed
 

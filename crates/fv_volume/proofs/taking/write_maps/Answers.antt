@@ -1,9 +1,11 @@
-use Rattle.std.proofs.Common.{◌≡◌, ◌<◌, ℕ, length, refl, sym, ap, ◌∙◌, arith, length-set, true, false}
-use Rattle.std.specs.Prelude.{Ok, Err}
+use Rattle.std.proofs.Common.{◌≡◌, ◌<◌, ℕ, length, refl, sym, ap, subst, ◌∙◌, arith, length-set, true, false}
+use Rattle.std.specs.Prelude.{Ok, Err, Some}
 use Rattle.fv_disk.proofs.Sparing.{spares_none}
-use Rattle.fv_container.specs.Mapped.{Mapped}
+use Rattle.fv_container.specs.Clean.{StaysClean}
+use Rattle.fv_container.specs.Mapped.{Mapped, with_entry}
+use Rattle.fv_container.proofs.Clean.{clean_entry, clean_same, clean_then}
 use Rattle.fv_aggmap.specs.Space.{Space, IsFree}
-use Rattle.fv_volume.specs.Stored.{is_map_written}
+use Rattle.fv_volume.specs.Stored.{is_map_written, map_entry}
 use Rattle.fv_volume.specs.Writing.{HasDrawn, IsOther, IsTaken, has_maps_at, map_writes}
 use Rattle.fv_volume.proofs.Drawing.{free_before}
 use Rattle.fv_volume.proofs.MapBlocks.{bits_more, bits_pass, drawn_more, drawn_passes, map_more, map_passes, no_bits, no_maps, none_written}
@@ -23,6 +25,7 @@ loop-vvbn-init g c =
       past = omega arith;
       long = refl;
       tree = refl;
+      clean = clean_same c.args.container.now;
       map = no_maps x c.args.container.now;
       bits = λ tells. no_bits x c.args.container.now (g.D.Disk.shown c.args.disk.now).reads;
       drawn = none_written x c.args.container.now c.args.map.now;
@@ -69,6 +72,7 @@ loop-vvbn-preserved g c =
             past = omega (arith, kept.past);
             long = ap (λ (m : Mapped). length m.entries) set_so ∙ length-set old.entries k _ ∙ kept.long;
             tree = ap (λ (m : Mapped). m.tree) set_so ∙ kept.tree;
+            clean = subst (StaysClean c.args.container.now) (sym set_so) (clean_then c.args.container.now old (with_entry old k (Some (map_entry p))) kept.clean (clean_entry old k (Some (map_entry p))));
             map = map_more x k p old new within set_so c.args.container.now c.args.map.now c.loop-vvbn.map kept.map kept.drawn took.free here;
             bits = λ tells.
                 bits_more x k p old new within set_so c.args.container.now c.args.map.now c.loop-vvbn.map kept.map kept.drawn took.free here (g.D.Disk.shown c.loop-vvbn.disk).reads (g.D.Disk.shown w.write_bits.new.disk).reads (kept.bits tells)
@@ -85,6 +89,7 @@ loop-vvbn-preserved g c =
             past = omega (arith, kept.past);
             long = kept.long;
             tree = kept.tree;
+            clean = kept.clean;
             map = map_passes x k off c.args.container.now old kept.map;
             bits = λ tells. bits_pass x k off old (g.D.Disk.shown c.loop-vvbn.disk).reads (kept.bits tells);
             drawn = drawn_passes x k off old c.args.map.now c.loop-vvbn.map kept.drawn;

@@ -19,7 +19,7 @@ returns-clause-spares g c =
     then_spares (IsTakenOther space label) (IsTaken space) (IsOther label) _ _ _ (Ok tt) (λ b is. is.0) (λ b is. is.1) c.in_ok-root.ensures.spares c.in_ok-write_label.ensures.spares
 
 pub returns-clause-written : goal.returns-clause-written
-returns-clause-written g c = λ tells taken lacks.
+returns-clause-written g c = λ tells can lacks.
     let blocks = c.in_ok-root.ensures in
     let labelled = c.in_ok-write_label.ensures in
     let tells_on = blocks.spares.counted.tells in
@@ -29,5 +29,5 @@ returns-clause-written g c = λ tells taken lacks.
       root_greatest = blocks.root.1;
       said = labelled.said (rw tells_on tells);
       blocks = blocks_still c.args.state.now c.args.container.now c.args.map.now c.write_blocks.new.map c.in_ok-root.root c.args.label c.write_blocks.new.container (g.D.Disk.shown c.write_blocks.new.disk).reads (g.D.Disk.shown c.write_label.new.disk).reads
-          (blocks.written tells taken) c.requires.taken lacks (λ b other. labelled.spares.reads (rw tells_on tells) b other);
+          (blocks.written tells can) c.requires.taken lacks (λ b other. labelled.spares.reads (rw tells_on tells) b other);
     }

@@ -5,7 +5,7 @@ use Rattle.fv_aggmap.specs.Freeing.{room_of}
 use Rattle.fv_image.specs.Views.{entry_count}
 use Rattle.fv_volume.specs.Writing.{IsTaken, has_maps_at}
 use Rattle.fv_volume.proofs.Counting.{blocks_taken, room_for_maps, room_for_tree}
-use Rattle.fv_volume.proofs.Storing.{blocks_written, renews_whole, was_taken}
+use Rattle.fv_volume.proofs.Storing.{blocks_written, was_taken}
 use Rattle.fv_volume.proofs.Sparing.{failed_value, then_spares}
 use Rattle.fv_volume.proofs.write.write_blocks.Goals as goal
 
@@ -42,13 +42,13 @@ returns-clause-count g c =
     c.flush.new.map _ _ c.in_ok-root.ensures.moved.map c.in_ok-root.ensures.moved.count
 
 pub returns-clause-written : goal.returns-clause-written
-returns-clause-written g c = λ tells taken.
+returns-clause-written g c = λ tells can.
     let x = c.args.state.now in
     let mapped = c.in_ok-write_maps.ensures in
     let flushed = c.in_ok-root.ensures in
     let tells_on = mapped.spares.counted.tells in
     blocks_written x c.args.container.now c.args.map.now c.write_maps.new.map c.flush.new.map c.in_ok-root.root c.write_maps.new.container c.flush.new.self
     (g.D.Disk.shown c.write_maps.new.disk).reads (g.D.Disk.shown c.flush.new.disk).reads
-    mapped.map (mapped.bits tells) mapped.drawn c.write_maps.ensures.tree c.flush.ensures.entries (renews_whole _ _ _ _ flushed.moved.map)
-    (λ apart. flushed.flushed (rw tells_on tells) apart) (ap length c.flush.ensures.entries ∙ c.write_maps.ensures.entries)
-    (λ b is. flushed.writes.reads (rw tells_on tells) b is) taken
+    mapped.map (mapped.bits tells) mapped.drawn c.write_maps.ensures.tree c.flush.ensures.entries c.flush.ensures.valid.0 flushed.moved.map
+    (λ apart clean. flushed.flushed (rw tells_on tells) apart clean) (λ apart clean. flushed.over (rw tells_on tells) apart clean) (ap length c.flush.ensures.entries ∙ c.write_maps.ensures.entries)
+    (λ b is. flushed.writes.reads (rw tells_on tells) b is) (g.D.Disk.shown c.args.disk.now).reads can c.write_maps.ensures.clean (λ b is. mapped.spares.reads tells b is)

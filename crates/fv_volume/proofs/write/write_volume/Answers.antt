@@ -1,9 +1,9 @@
-use Rattle.std.proofs.Common.{ℕ, ◌∙◌, arith, subst}
+use Rattle.std.proofs.Common.{ℕ, arith, subst}
 use Rattle.std.specs.Prelude.{Ok, Err}
 use Rattle.fv_container.specs.Spelled.{is_at}
-use Rattle.fv_volume.specs.Writing.{HasGiven, IsTaken, IsTakenOther, on_disk}
+use Rattle.fv_volume.specs.Writing.{CanFlush, HasGiven, IsTaken, IsTakenOther, on_disk}
 use Rattle.fv_volume.proofs.Counting.{room_for_label}
-use Rattle.fv_volume.proofs.Renewing.{label_free, no_old_node, nodes_taken, renewed_volume, spared}
+use Rattle.fv_volume.proofs.Renewing.{label_free, no_old_node, nodes_next, renewed_volume, spared}
 use Rattle.fv_volume.proofs.Sparing.{failed_value, spares_fewer}
 use Rattle.fv_volume.proofs.write.write_volume.Goals as goal
 
@@ -27,7 +27,7 @@ returns-clause-spares g c =
     (spared space c.give_back_maps.new.map c.take_block-label.new.map _ c.take_block-label.result c.give_back_maps.ensures took.drawn took.least) c.in_ok-write_anew.ensures.spares
 
 pub returns-clause-written : goal.returns-clause-written
-returns-clause-written g c = λ tells own.
+returns-clause-written g c = λ tells own clean.
     let x = c.args.state.now in
     let old = c.args.container.now in
     let space = c.args.map.now in
@@ -35,9 +35,9 @@ returns-clause-written g c = λ tells own.
     let took = c.take_block-label.ensures in
     let wrote = c.in_ok-write_anew.ensures in
     let gave = c.give_back_maps.ensures in
-    let taken = nodes_taken x space drawn old (took.drawn.committed ∙ gave.committed) own in
+    let can : CanFlush (g.D.Disk.shown c.args.disk.now).reads drawn old = record { next = nodes_next x space c.give_back_maps.new.map drawn old c.take_block-label.result own gave took.drawn; clean = clean } in
     renewed_volume x (g.D.Disk.shown c.args.disk.now).reads (g.D.Disk.shown c.write_anew.new.disk).reads space c.give_back_maps.new.map drawn c.write_anew.new.map c.give_back.new.self c.take_block-label.result old c.write_anew.new.container own
     gave took.drawn took.least
-    (wrote.written tells taken (no_old_node x space c.give_back_maps.new.map old c.take_block-label.result gave.committed own (label_free space c.give_back_maps.new.map drawn _ c.take_block-label.result gave took.drawn took.least)))
+    (wrote.written tells can (no_old_node x space c.give_back_maps.new.map old c.take_block-label.result gave.committed own (label_free space c.give_back_maps.new.map drawn _ c.take_block-label.result gave took.drawn took.least)))
     (subst (λ (p : ℕ). HasGiven c.write_anew.new.map (λ b. is_at b p) c.give_back.new.self) c.label_place.ensures c.give_back.ensures)
     wrote.committed wrote.entries (λ b is. wrote.spares.reads tells b is)

@@ -1,0 +1,30 @@
+-- What the nodes on the disk say that aren't dirty.
+use Rattle.std.specs.Prelude.{◌≡◌, ◌≢◌, ◌<◌, ◌/◌, ℕ, true, false, List, length, get_or, Option, None}
+use Rattle.fv_disk.specs.Shown.{Image}
+use Rattle.fv_container.specs.declared.entry.Entry.{Entry}
+use Rattle.fv_container.specs.Mapped.{Mapped}
+use Rattle.fv_container.specs.Written.{AreWritten}
+
+-- The nodes of the tree stand at their places with some entries, each as the node of its position. In a leaf that isn't dirty these
+-- are the container's.
+pub record IsOver (i : Image) (map : Mapped) : Type 0 where
+  pub stored : List (Option Entry)
+  pub long : length stored ≡ length map.entries
+  pub written : AreWritten stored map.tree (length map.tree) i
+  pub same : (v : ℕ) → get_or map.dirty (v / 256) true ≡ false → get_or map.entries v None ≡ get_or stored v None
+
+-- so it is where some node isn't dirty
+abbrev pub IsCleanOn : Image → Mapped → Type 0
+IsCleanOn i map = (m : ℕ) → get_or map.dirty m true ≡ false → IsOver i map
+
+-- what was clean is clean, over each image
+abbrev pub StaysClean : Mapped → Mapped → Type 0
+StaysClean old new = (i : Image) → IsCleanOn i old → IsCleanOn i new
+
+-- no node is dirty
+abbrev pub AreClean : Mapped → Type 0
+AreClean map = (m : ℕ) → m < length map.dirty → get_or map.dirty m true ≡ false
+
+-- a node that isn't dirty has a place of its own
+abbrev pub AreAlone : Mapped → Type 0
+AreAlone map = (m k : ℕ) → m ≢ k → get_or map.dirty m true ≡ false → get_or map.tree m 0 ≢ 0 → get_or map.tree m 0 ≢ get_or map.tree k 0

@@ -1,0 +1,9 @@
+use Rattle.std.proofs.Common.{◌≡◌, length, rules, arith}
+use Rattle.fv_container.proofs.Laws.{blocks_at_most}
+use Rattle.fv_core_rows.proofs.containers.written.Goals as goal
+
+pub flush-requires-clause-room : goal.flush-requires-clause-room
+flush-requires-clause-room g c =
+    let size : length c.in_ok-container.container.entries ≡ c.args.entries = search rules in
+    let most = blocks_at_most c.in_ok-container.container.entries in
+    omega (arith, size, most, c.free_count.ensures.room, c.requires, c.if-free_count-entries.false)
