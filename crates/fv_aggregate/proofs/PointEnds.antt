@@ -103,7 +103,17 @@ pub point_moments : (old new : Shown) (session : Session) (last m : Machine) →
     → Leaves old new (OldOrHeld old pool states last) → Leaves old new (λ c g. OneOf last m m c × (g ≡ old.given))
 point_moments old new session last m stands pool states same_pool same_states left =
     let machine : machine_held old pool states ≡ m = held_is old session last m stands pool states same_pool same_states in
-    weaken old new (OldOrHeld old pool states last) (λ c g. OneOf last m m c × (g ≡ old.given)) (λ c g one. (⊎_elim (λ l. inl l) (λ held. inr (inl (held ∙ ap Some machine))) one.0, one.1)) left
+    weaken old new (OldOrHeld old pool states last) (λ c g. OneOf last m m c × (g ≡ old.given)) (λ c g one. (⊎_elim (λ l. inl l.stands) (λ held. inr (inl (held.stands ∙ ap Some machine))) one.0, one.1)) left
+
+-- it is of the old side or of the new one
+pub point_sides : (old new : Shown) (session : Session) (last m : Machine) → StandsFor old session last m → (pool : Pool) (states : States) (delays : List Bool) → session.pool ≡ pool → session.volumes ≡ states → session.delays ≡ delays
+    → ((before : Machine) → IsHeld old pool states before → AreKnown old.reads pool.found delays → HaveFullRoom pool states → Leaves old new (OldOrHeld old pool states before)) → Leaves old new (OldOrHeld old session.pool session.volumes last)
+point_sides old new session last m stands pool states delays same_pool same_states same_delays left =
+    let held = held_as old session last m stands pool states same_pool same_states in
+    let known = known_as old session last m stands pool delays same_pool same_delays in
+    let full = full_as old session last m stands pool states same_pool same_states in
+    subst (λ (p : Pool). Leaves old new (OldOrHeld old p session.volumes last)) (sym same_pool)
+    (subst (λ (v : States). Leaves old new (OldOrHeld old pool v last)) (sym same_states) (left last held known full))
 
 -- ---- a point as a call
 

@@ -5,6 +5,7 @@ use Rattle.std.specs.FinMap as fin
 use Rattle.std.specs.Ordering.{nat_cmp}
 use Rattle.std.proofs.lemmas.Bool.{and_parts}
 use Rattle.fv_disk.specs.Shown.{Shown}
+use Rattle.fv_bits.specs.Members.{is_member}
 use Rattle.fv_image.specs.Held.{view_at}
 use Rattle.fv_aggmap.specs.Loading.{IsLoaded as IsMapLoaded}
 use Rattle.fv_container.specs.declared.entry.Entry.{Entry}
@@ -64,11 +65,11 @@ module _ (old : Shown) (before : Session) (want : ℕ) (new : Shown) (after : Se
       (all_loaded old before.pool before.volumes new after.pool after.volumes want after.delays is loaded s inside).tree)
 
   module _ (s v : ℕ) (x : VolumeState) (map : Mapped) (inside : s < 64) (there : state_at e.between s ≡ Some x) (lies : container_at e.mid.containers s ≡ Some map) where
-    map_written : writes_map chosen s x v ≡ true → (place : ℕ) × (entry_shown new after s v ≡ shown_as new (Some (map_entry place)))
+    map_written : writes_map chosen s x v ≡ true → (place : ℕ) × ((is_member before.pool.map.committed place ≡ false) × (entry_shown new after s v ≡ shown_as new (Some (map_entry place))))
     map_written writes =
         let both = and_parts (is_due chosen s x) (is_map_written x v) writes in
         let one = e.containers.written s x map inside there both.0 lies in
-        (place_at one.0 v, shown s v inside ∙ ap (λ (c : Option Mapped). shown_as new (own_entry c v)) one.1.0 ∙ ap (λ (o : Option Entry). shown_as new o) (one.1.1.written v both.1))
+        (place_at one.0 v, (one.1.1.spare v both.1, shown s v inside ∙ ap (λ (c : Option Mapped). shown_as new (own_entry c v)) one.1.0 ∙ ap (λ (o : Option Entry). shown_as new o) (one.1.1.written v both.1)))
 
     -- the entry that is left of one that isn't written
     abbrev rest : Option Entry
@@ -98,6 +99,10 @@ module _ (old : Shown) (before : Session) (want : ℕ) (new : Shown) (after : Se
     same = e.others;
     maps = e.maps;
     placed = e.placed;
+    unused = e.unused;
+    rest = e.rest;
+    chosen = e.chosen;
+    missing = is.missing;
     there = λ s x at. housed_there x (container_at e.mid.containers s) (subst (λ (o : Option VolumeState). Houses o (container_at e.mid.containers s)) at (e.housed.each s));
     written = λ s v x map inside there lies writes. map_written s v x map inside there lies writes;
     others = λ s v x map inside there lies stays. other_shown s v x map inside there lies stays;

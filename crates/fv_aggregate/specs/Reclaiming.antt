@@ -3,6 +3,7 @@ use Rattle.std.specs.Prelude.{◌≡◌, ◌<◌, ◌&&◌, ℕ, Bool, true, fal
 use Rattle.std.specs.Option.{option_map}
 use Rattle.std.specs.FinMap as fin
 use Rattle.fv_disk.specs.Shown.{Shown}
+use Rattle.fv_bits.specs.Members.{is_member}
 use Rattle.fv_model.specs.Machines.{Machine}
 use Rattle.fv_image.specs.Held.{view_at}
 use Rattle.fv_image.specs.Views.{Placed}
@@ -17,8 +18,8 @@ use Rattle.fv_volume.specs.declared.pool.Pool.{Pool}
 use Rattle.fv_volume.specs.declared.state.VolumeState.{VolumeState}
 use Rattle.fv_volume.specs.States.{States, placed_in, state_at}
 use Rattle.fv_volume.specs.Stored.{is_map_written, map_entry}
-use Rattle.fv_cp.specs.Choosing.{regions_chosen}
-use Rattle.fv_cp.specs.Placing.{AreButPlaced, PlacesEntries}
+use Rattle.fv_cp.specs.Choosing.{CountsMissing, regions_chosen, LeavesRoom}
+use Rattle.fv_cp.specs.Placing.{AreButPlaced, LeavesUnused, PlacesEntries, RestsPlaced}
 use Rattle.fv_cp.specs.Points.{is_due}
 use Rattle.fv_aggregate.specs.declared.session.Session.{Session}
 use Rattle.fv_aggregate.specs.Standing.{StandsFor}
@@ -37,7 +38,7 @@ writes_map regions s x v = is_due regions s x && is_map_written x v
 
 -- What a point that wants so many blocks makes of the entries of a session's volumes. First files are placed: each entry stays or leads to a block
 -- that the root on the disk doesn't hold. Regions are chosen by what the volumes are then. Their delayed entries are holes in the image, and
--- no other entry became one: the blocks of maps that are written have new entries, and each else stays. An entry is delayed where the volume's
+-- no other entry does: the blocks of maps that are written have new entries, and every other stays. An entry is delayed where the volume's
 -- maps, which are those behind the point, don't hold its number.
 pub record ReclaimsEntries (want : ℕ) (old : Session) (after : Shown) (new : Session) : Type 0 where
   -- what the volumes share and the volumes, once the files are placed
@@ -47,13 +48,23 @@ pub record ReclaimsEntries (want : ℕ) (old : Session) (after : Shown) (new : S
   pub same : AreButPlaced old.volumes between
   pub maps : (s : ℕ) → option_map (λ (x : VolumeState). x.map) (state_at new.volumes s) ≡ option_map (λ (x : VolumeState). x.map) (state_at between s)
   pub placed : PlacesEntries old.pool.map old.pool.containers mid.containers
+  -- What isn't in use then has the entry that it had. So the session's entries and the maps behind the point tell which are delayed.
+  pub unused : LeavesUnused old.pool mid between
+  -- of a volume without files in memory nothing was placed
+  pub rest : RestsPlaced old.pool old.volumes mid between
+  -- So the regions are those that are chosen by the session's entries and the volumes behind the point.
+  pub chosen : regions_chosen mid between want ≡ regions_chosen old.pool new.volumes want
+  -- they are chosen for just what the space rule lacks by the image, with what was delayed once the files were placed
+  pub missing : CountsMissing mid between (view_at (root_found new.pool.found) after.reads) want
   pub there : (s : ℕ) (x : VolumeState) → state_at between s ≡ Some x → (map : Mapped) × (container_at mid.containers s ≡ Some map)
   pub written : (s v : ℕ) (x : VolumeState) (map : Mapped) → s < slot_count → state_at between s ≡ Some x → container_at mid.containers s ≡ Some map → writes_map (regions_chosen mid between want) s x v ≡ true
-      → (place : ℕ) × (entry_shown after new s v ≡ shown_as after (Some (map_entry place)))
+      → (place : ℕ) × ((is_member old.pool.map.committed place ≡ false) × (entry_shown after new s v ≡ shown_as after (Some (map_entry place))))
   pub others : (s v : ℕ) (x : VolumeState) (map : Mapped) → s < slot_count → state_at between s ≡ Some x → container_at mid.containers s ≡ Some map → writes_map (regions_chosen mid between want) s x v ≡ false
       → entry_shown after new s v ≡ shown_as after (if goes_with x.map map (has_region (regions_chosen mid between want) s) v then None else entry_under map v)
 
--- What a point leaves that was done in a session that stood for a machine: it stands for that, and so does the image.
+-- What a point leaves that was done in a session that stood for a machine: it stands for that, and so does the image. The space rule holds, with
+-- the room that was wanted where the commits leave that.
 pub record HasPointed (want : ℕ) (old : Session) (after : Shown) (new : Session) (m : Machine) : Type 0 where
   pub stands : StandsFor after new m m
+  pub room : LeavesRoom (view_at (root_found new.pool.found) after.reads) want
   pub entries : ReclaimsEntries want old after new

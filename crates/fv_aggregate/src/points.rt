@@ -1,11 +1,13 @@
 //! The consistency points of a session.
 
 ghost use Rattle.std.specs.Prelude.{◌≡◌, ◌≢◌, ◌≤◌, ◌<◌, ◌+◌, ◌*◌, nat_le, max, IsTrue, IsNone, IfErr, IfOk, OnErr, OnOk, Some};
+ghost use Rattle.fv_disk.specs.Crash.{Leaves};
 ghost use Rattle.fv_disk.specs.Shown.{Rose};
 ghost use Rattle.fv_model.specs.Machines.{Machine, capacity};
 ghost use Rattle.fv_model.specs.Space.{commits};
 ghost use Rattle.fv_model.specs.declared.answers.Reply.TheVariants.{Done};
 ghost use Rattle.fv_cp.specs.Placing.{HaveNoFiles, KeepCores};
+ghost use Rattle.fv_cp.specs.Settling.{OldOrHeld};
 ghost use Rattle.fv_aggregate.specs.declared.fault.Fault.TheVariants.{Memory};
 ghost use Rattle.fv_aggregate.specs.Adding.{HasRoom, IsPointed, StillAdmits};
 ghost use Rattle.fv_aggregate.specs.Calls.{Goes, GoesFor, IsForWant, KeepsAsking};
@@ -43,6 +45,8 @@ impl Session {
         ensures cores { OnOk result (KeepCores self.old.volumes self.new.volumes) }
         ensures calm { self.old.pending + room ≤ dirty_limit → (disk.new ≡ disk.old) × (self.new ≡ self.old) }
         ensures pointed { dirty_limit < self.old.pending + room → OnOk result (IsPointed (D.shown disk.old) self.old self.new) }
+        ensures reclaimed { IsTrue (D.shown disk.old).tells → (last m : Machine) → StandsFor (D.shown disk.old) self.old last m
+            → dirty_limit < self.old.pending + room → OnOk result (HasPointed room self.old (D.shown disk.new) self.new m) }
         ensures files { IsTrue (D.shown disk.old).tells → IsWithoutFiles self.old → OnOk result (IsWithoutFiles self.new) }
         ensures same { IsTrue (D.shown disk.old).tells → HoldsAsCommitted self.old → OnOk result (HoldsAsCommitted self.new) }
         ensures numbers { IsNone self.new.failed → KeepsNumbers self.old.volumes self.new.volumes }
@@ -73,6 +77,8 @@ impl Session {
             → GoesFor (D.shown disk.old) last m m (D.shown disk.new) self.new result }
         ensures done { IsTrue (D.shown disk.old).tells → (last m : Machine) → StandsFor (D.shown disk.old) self.old last m
             → OnOk result (HasPointed 0 self.old (D.shown disk.new) self.new m) }
+        ensures sides { IsTrue (D.shown disk.old).tells → (last m : Machine) → StandsFor (D.shown disk.old) self.old last m
+            → Leaves (D.shown disk.old) (D.shown disk.new) (OldOrHeld (D.shown disk.old) self.old.pool self.old.volumes last) }
         ensures left { OnOk result (IsPointed (D.shown disk.old) self.old self.new) }
         ensures reply { IfOk result (λ reply. reply ≡ Done) }
         ensures files { IsTrue (D.shown disk.old).tells → OnOk result (IsWithoutFiles self.new) }
@@ -94,6 +100,8 @@ impl Session {
             → GoesFor (D.shown disk.old) last m m (D.shown disk.new) self.new result }
         ensures done { IsTrue (D.shown disk.old).tells → (last m : Machine) → StandsFor (D.shown disk.old) self.old last m
             → OnOk result (HasPointed want self.old (D.shown disk.new) self.new m) }
+        ensures sides { IsTrue (D.shown disk.old).tells → (last m : Machine) → StandsFor (D.shown disk.old) self.old last m
+            → Leaves (D.shown disk.old) (D.shown disk.new) (OldOrHeld (D.shown disk.old) self.old.pool self.old.volumes last) }
         ensures kept { IsTrue (D.shown disk.old).tells → (last m : Machine) → StandsFor (D.shown disk.old) self.old last m
             → IsNone self.new.failed → OnErr result (StandsFor (D.shown disk.new) self.new last m) }
         ensures room { IsTrue (D.shown disk.old).tells → (last m : Machine) → StandsFor (D.shown disk.old) self.old last m

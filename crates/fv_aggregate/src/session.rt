@@ -1,6 +1,7 @@
 //! A session.
 
 ghost use Rattle.std.specs.Prelude.{◌≡◌, ◌≢◌, ◌≤◌, ◌+◌, ◌⊎◌, ℕ, false, true, IsTrue, IsNone, IsSome, IfOk, IfErr, OnErr, OnOk, Some};
+ghost use Rattle.fv_disk.specs.Crash.{Leaves};
 ghost use Rattle.fv_disk.specs.Shown.{IsSettled, Rose};
 ghost use Rattle.fv_container.specs.Chains.{slot_count};
 ghost use Rattle.fv_model.specs.Machines.{Machine};
@@ -9,6 +10,7 @@ ghost use Rattle.fv_image.specs.WholeMachine.{machine_of};
 ghost use Rattle.fv_volume.specs.Trees.{Trees};
 ghost use Rattle.fv_volume.specs.Files.{Over};
 ghost use Rattle.fv_cp.specs.Placing.{HaveNoFiles};
+ghost use Rattle.fv_cp.specs.Settling.{OldOrHeld};
 ghost use Rattle.fv_aggregate.specs.declared.fault.Fault.TheVariants.{Memory};
 ghost use Rattle.fv_aggregate.specs.Adding.{IsPointed};
 ghost use Rattle.fv_aggregate.specs.Asking.{AsksWithin};
@@ -139,6 +141,8 @@ impl Session {
         ensures on_files { reads_files command.now ≡ true → IsOnFiles command.now (D.shown disk.old) disk.old self.old (D.shown disk.new) disk.new self.new result }
         ensures point { IsTrue (D.shown disk.old).tells → (last m : Machine) → StandsFor (D.shown disk.old) self.old last m → command.now ≡ Cp
             → OnOk result (HasPointed 0 self.old (D.shown disk.new) self.new m) }
+        ensures sides { IsTrue (D.shown disk.old).tells → (last m : Machine) → StandsFor (D.shown disk.old) self.old last m → command.now ≡ Cp
+            → Leaves (D.shown disk.old) (D.shown disk.new) (OldOrHeld (D.shown disk.old) self.old.pool self.old.volumes last) }
         ensures calm { command.now ≢ Cp → IsWithinLimit self.old command.now → OnlyReads (D.shown disk.old) (D.shown disk.new) }
         ensures files { IsTrue (D.shown disk.old).tells → changed_by command.now ≡ None → IsWithoutFiles self.old → OnOk result (IsWithoutFiles self.new) }
         ensures same { IsTrue (D.shown disk.old).tells → changed_by command.now ≡ None → removes_volume command.now ≡ false → (places_files command.now ≡ false) ⊎ IsWithoutFiles self.old → HoldsAsCommitted self.old
@@ -174,8 +178,8 @@ impl Session {
     /// As of `apply`: what fails, what a session does then, and what stays.
     ///
     /// Costs for each volume with files in memory a step for each number of its span, and memory and a write for each block that is
-    /// placed; for each volume that changed or may have delayed entries a step for each entry, and up to 25 more for one that is no hole, and up to
-    /// three times as many again where a region of it is reclaimed; for each one that changed, or of which a region is reclaimed, in writes at
+    /// placed; for each volume that changed or may have delayed entries a step for each entry, and up to 25 more for one that is no hole, and so
+    /// again, twice in these regions, where a region of it is reclaimed; for each one that changed, or of which a region is reclaimed, in writes at
     /// most its overhead and the blocks of its snapshots' maps that wait; and then, also without changes, a commit: the blocks of one map area,
     /// a root and at most two gates in writes, and two barriers or three. It reads nothing, and without a file in memory it takes none.
     /// `docs/SPACE.md` has the order.
@@ -189,6 +193,8 @@ impl Session {
             → GoesFor (D.shown disk.old) last m m (D.shown disk.new) self.new result }
         ensures point { IsTrue (D.shown disk.old).tells → (last m : Machine) → StandsFor (D.shown disk.old) self.old last m
             → OnOk result (HasPointed 0 self.old (D.shown disk.new) self.new m) }
+        ensures sides { IsTrue (D.shown disk.old).tells → (last m : Machine) → StandsFor (D.shown disk.old) self.old last m
+            → Leaves (D.shown disk.old) (D.shown disk.new) (OldOrHeld (D.shown disk.old) self.old.pool self.old.volumes last) }
         ensures left { OnOk result (IsPointed (D.shown disk.old) self.old self.new) }
         ensures kept { IsTrue (D.shown disk.old).tells → (last m : Machine) → StandsFor (D.shown disk.old) self.old last m
             → IsNone self.new.failed → OnErr result (StandsFor (D.shown disk.new) self.new last m) }

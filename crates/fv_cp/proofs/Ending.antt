@@ -1,12 +1,12 @@
--- What a consistency point leaves at a crash, and what it ends with: once all slots are passed the volumes stand under the labels of the new
+-- What a consistency point ends with: once all slots are passed the volumes stand under the labels of the new
 -- root, and then that counts.
-use Rattle.std.proofs.Common.{◌≡◌, ℕ, ◌<◌, ◌≤◌, false, List, length, get_or, refl, sym, ap, subst, ◌∙◌, Ok, Bool, true, ◌||◌, ◌⊎◌, inl, arith}
+use Rattle.std.proofs.Common.{◌≡◌, ℕ, ◌<◌, ◌≤◌, false, List, length, get_or, refl, sym, ap, subst, ◌∙◌, Ok, Bool, true, ◌||◌, ◌⊎◌, arith}
 use Rattle.std.proofs.lemmas.Bool.{both_ways, true≢false}
-use Rattle.std.specs.Prelude.{Option, Some, None, IfSome, IsTrue, Result}
+use Rattle.std.specs.Prelude.{Option, Some, None, IfSome, IsTrue}
 use Rattle.std.specs.FinMap as fin
 use Rattle.std.specs.Option.{option_map}
 use Rattle.std.specs.Ordering.{nat_cmp}
-use Rattle.fv_disk.specs.Shown.{Image, Shown, IsDisk}
+use Rattle.fv_disk.specs.Shown.{Image, Shown}
 use Rattle.fv_disk.specs.Crash.{Leaves}
 use Rattle.fv_disk.proofs.Resting.{settled_image}
 use Rattle.fv_bits.specs.Members.{is_member}
@@ -14,12 +14,12 @@ use Rattle.fv_codec.specs.declared.root.Root.{Root}
 use Rattle.fv_model.specs.Machines.{Machine}
 use Rattle.fv_image.specs.NewerRoot.{Taken}
 use Rattle.fv_image.specs.Views.{View}
-use Rattle.fv_image.specs.Held.{AgreeOnHeld, Keeps, label_place, layout_at, view_at, with_bits, Layout, is_held}
-use Rattle.fv_image.specs.Soundness.{AreTables}
+use Rattle.fv_image.specs.Held.{AgreeOnHeld, Keeps, label_place, layout_at, view_at, with_bits}
+use Rattle.fv_image.specs.Soundness.{AreMaps, AreTables}
 use Rattle.fv_image.specs.Staying.{StaysHeld}
 use Rattle.fv_image.specs.WholeMachine.{Tells, machine_of, machine_from}
 use Rattle.fv_image.proofs.Points.{built_stays}
-use Rattle.fv_image.proofs.SameLayout.{held_with_bits, same_view, kept}
+use Rattle.fv_image.proofs.SameLayout.{held_with_bits, same_view}
 use Rattle.fv_image.proofs.SameSeen.{same_seen, same_told}
 use Rattle.fv_image.proofs.SoundSlots.{held_lies}
 use Rattle.fv_image.proofs.SoundTests.{machine_under, tells_from}
@@ -28,7 +28,7 @@ use Rattle.fv_container.specs.Chains.{Slots, container_at, own_entry, parent_at}
 use Rattle.fv_root.specs.declared.find.Found.{Found}
 use Rattle.fv_root.specs.Finding.{IsInRange, root_found}
 use Rattle.fv_root.specs.Commits.{IsCommitted, IsFoundOn, OldOrNew, next_found}
-use Rattle.fv_root.proofs.Crashes.{IsReadyFor, new_machine, old_or_new_machine}
+use Rattle.fv_root.proofs.Crashes.{IsReadyFor, new_machine}
 use Rattle.fv_store.specs.Held.{StandsOn}
 use Rattle.fv_aggmap.specs.Space.{Space}
 use Rattle.fv_volume.specs.declared.pool.Pool.{Pool}
@@ -39,9 +39,9 @@ use Rattle.fv_volume.specs.Loading.{IsLoaded, label_of}
 use Rattle.fv_volume.specs.States.{States, label_in_state, placed_in, state_at, view_over}
 use Rattle.fv_volume.specs.Trees.{active_in, no_trees}
 use Rattle.fv_volume.specs.Stored.{AreApartIn, AreSpacedIn, has_block, is_of, stays}
-use Rattle.fv_volume.specs.Writing.{on_disk, IsTaken}
+use Rattle.fv_volume.specs.Writing.{on_disk}
 use Rattle.fv_volume.proofs.HeldAlone.{of_each}
-use Rattle.fv_volume.proofs.LentSlots.{lent_apart, lent_from_loaded, loaded_from_lent, lent_slot, area_taken, held_taken}
+use Rattle.fv_volume.proofs.LentSlots.{lent_apart, lent_from_loaded, loaded_from_lent, lent_slot}
 use Rattle.fv_volume.proofs.Settled.{heads_stay, housed_after, same_stay, settled_same, settled_slots, settled_span, unchanged_stay, settled_written}
 use Rattle.fv_volume.proofs.StandingMaps.{loaded_maps}
 use Rattle.fv_volume.proofs.Spacing.{spaced_same}
@@ -54,70 +54,27 @@ use Rattle.fv_volume.proofs.Viewed.{entry_of}
 use Rattle.fv_volume.proofs.Waiting.{none_waits}
 use Rattle.fv_cp.specs.Course.{HasCome, IsOnCourse, as_lent, found_with, label_lent, renewed, IsCourse, StaysFrom}
 use Rattle.fv_cp.specs.Lent.{FitTogether, IsLent, IsLentAt}
-use Rattle.fv_cp.specs.Points.{GoesOn, IsPoint, IsSwitched, LeavesEntries, OldOrLent, is_due, machine_lent}
-use Rattle.fv_cp.specs.Choosing.{LeavesRoom, has_slot, holding_with, holdings, marked_as, marked_at, regions_chosen}
+use Rattle.fv_cp.specs.Points.{GoesOn, IsNew, IsOld, IsPoint, IsSwitched, LeavesEntries, OldOrLent, is_due, machine_lent}
+use Rattle.fv_cp.specs.Choosing.{CountsMissing, LeavesRoom, has_slot, holding_with, holdings, lacking, marked_as, marked_at, regions_chosen}
 use Rattle.fv_cp.specs.Known.{AreKnown}
 use Rattle.fv_cp.proofs.Known.{known_left, known_same}
 use Rattle.fv_cp.proofs.LeftDelayed.{delayed_left, holdings_shown}
-use Rattle.fv_cp.proofs.Marking.{chosen_marked, chosen_still, heads_marked, holdings_marked, machine_marked, view_marked}
-use Rattle.fv_cp.proofs.Room.{leaves}
+use Rattle.fv_cp.proofs.Marking.{chosen_marked, chosen_still, heads_marked, holdings_marked, machine_marked, missing_still, view_marked}
+use Rattle.fv_cp.proofs.Room.{counts_missing, leaves}
 use Rattle.fv_delay.specs.declared.regions.Region.{Region}
 use Rattle.fv_delay.specs.Delay.{is_delayed, region_of}
-use Rattle.fv_delay.specs.Holding.{AreHoldingsOf, AreLeft, Holding, has_region}
-use Rattle.fv_volume.proofs.RootFound.{found_still, map_now, next_in_range, fixed_taken}
+use Rattle.fv_delay.specs.Holding.{AreHoldingsOf, AreLeft, Holding, all_delayed, has_region}
+use Rattle.fv_volume.proofs.RootFound.{found_still, map_now, next_in_range}
 use Rattle.std.proofs.lemmas.Option.{none-some, same_Some}
 use Rattle.fv_image.specs.Reclaimed.{IsAllocatable}
 use Rattle.fv_volume.specs.Files.{HasOwnSlots, IsLabelled}
 use Rattle.fv_volume.specs.UnderRoot.{AllStandUnder, StandsUnder}
 use Rattle.fv_volume.proofs.Emptied.{none_stands}
-use Rattle.fv_volume.proofs.Staying.{entry_kept, kept_stands, place_is}
+use Rattle.fv_volume.proofs.Staying.{entry_kept, place_is}
 use Rattle.fv_volume.proofs.StoredSlot.{stored_stands}
 use Rattle.fv_volume.proofs.Reclaiming.{maps_left, stays_left}
 use Rattle.fv_volume.proofs.StayingMaps.{stays_unwritten}
-use Rattle.fv_disk.specs.declared.Failed.{Failed}
-use Rattle.fv_disk.specs.Sparing.{LeftBefore, Spares}
-use Rattle.fv_disk.proofs.Moments.{started, then, weaken}
-use Rattle.fv_image.specs.Layout.{area_place}
-use Rattle.fv_image.specs.MachineOf.{AllStandFor}
-use Rattle.fv_image.proofs.Kept.{slot_is_small}
-
--- ---- what a crash leaves
-
-module _ (disk : Shown) (pool : Pool) (states : States) (before : Machine) (lent : IsLent disk pool states before) where
-  abbrev t : Taken
-  t = root_found pool.found
-
-  pub left_keeps : (c : Image) → LeftBefore (IsTaken (on_disk pool.map)) disk c → Keeps t disk.reads c
-  left_keeps c left =
-      let d : Image = left.0 in
-      let was : Keeps t disk.reads d = lent.keeps d left.1 in
-      let still : Keeps t d c = kept t d c was.root (λ b low. left.2 b (fixed_taken (on_disk pool.map) b low)) (record {
-        area = λ k within. left.2 (area_place t.blocks t.slot k) (area_taken disk.reads pool.found pool.map lent.tells.sound lent.map k (slot_is_small d t was.root) within);
-        held = λ b held. left.2 b (held_taken disk.reads pool.found pool.map lent.tells.sound lent.map b (ap (λ (y : Layout). is_held y b) (sym was.layout) ∙ held));
-      }) in
-      record { root = still.root; layout = still.layout ∙ was.layout }
-
-  -- Nothing was written.
-  pub rests : IsDisk disk → Leaves disk disk (OldOrLent disk pool states before)
-  rests laws = started disk (OldOrLent disk pool states before) laws (λ c now. (inl (kept_stands t disk.reads c before lent.tells (lent.keeps c now)), refl))
-
-  module _ (mid : Shown) (result : Result Unit Failed) (spares : Spares (IsTaken (on_disk pool.map)) disk mid result) where
-    -- Volumes were written.
-    pub writing : Leaves disk mid (OldOrLent disk pool states before)
-    writing = weaken disk mid (λ c g. LeftBefore (IsTaken (on_disk pool.map)) disk c × (g ≡ disk.given)) (OldOrLent disk pool states before) (λ c g left. (inl (kept_stands t disk.reads c before lent.tells (left_keeps c left.0)), left.1)) spares.any_moment
-
-    -- what the root on the disk holds stays
-    pub old_stays : IsTrue disk.tells → AgreeOnHeld t disk.reads mid.reads
-    old_stays tells b held = spares.reads tells b (held_taken disk.reads pool.found pool.map lent.tells.sound lent.map b held)
-
-    pub images_stand : AllStandFor mid before
-    images_stand c now = kept_stands t disk.reads c before lent.tells (left_keeps c (spares.images c now))
-
-    -- The new root was written, too.
-    pub switching : (found : Found) (root : Root) (map : List Bool) (new : Shown) → IsFoundOn mid found → IsReadyFor mid found root map (machine_lent disk pool states) → Leaves mid new (OldOrNew mid found root map) → Leaves disk new (OldOrLent disk pool states before)
-    switching found root map new stands ready left = (then) disk mid new (OldOrLent disk pool states before) writing
-        (weaken mid new (OldOrNew mid found root map) (OldOrLent disk pool states before)
-        (λ c g side. (old_or_new_machine mid found root map before (machine_lent disk pool states) c g stands images_stand ready side, side.1 ∙ spares.counted.given)) left)
+use Rattle.fv_cp.proofs.Crashing.{old_stays, switching}
 
 -- ---- what a point ends with
 
@@ -287,6 +244,15 @@ module _ (disk : Shown) (pool : Pool) (states : States) (before : Machine) (lent
       (uses_there pool states disk.reads fit.housed lent.tables lent.reach f labels left.map.next (container_at left.containers) mid.reads refl refl all_stand)
       list want (sym (chosen_still pool given states (has_slot list) marked housed fit.housed.long want)) now_held left_delayed shown_now
 
+  -- and they were chosen for just what it lacked
+  missing_left : AreMaps (view_at u mid.reads) → CountsMissing pool given (view_at u mid.reads) want
+  unfolding layout_at view_at
+  missing_left maps fits =
+      sym (missing_still pool given states (has_slot list) marked housed fit.housed.long want)
+      ∙ counts_missing pool states disk.reads fit.housed fit.range.size lent.states (view_at u mid.reads) stays_written.heads (same_seen w (view_at u mid.reads) stays_written lent.tables.bases lent.tables.rests) refl
+      (tables_now pool states disk.reads fit.housed lent.tables lent.reach f labels left.map.next (container_at left.containers) mid.reads refl refl all_stand) maps want fits
+      ∙ ap (λ (h : ℕ → Option Holding). lacking (view_at u mid.reads) (all_delayed h) want) (holdings_marked pool.containers given states (has_slot list) marked)
+
   -- What lies on the disk is ready for the commit.
   pub ready : machine_from (with_bits (is_member left.map.next) (layout_at u mid.reads)) ≡ Some (machine_lent disk pool states)
   unfolding layout_at
@@ -296,7 +262,7 @@ module _ (disk : Shown) (pool : Pool) (states : States) (before : Machine) (lent
 
   -- The new root was written, too.
   pub moments : (new : Shown) → (IsTrue mid.tells → Leaves mid new (OldOrNew mid left.found root left.map.next)) → Leaves disk new (OldOrLent disk pool given before)
-  moments new switched = subst (λ (k : Machine). Leaves disk new (λ c g. ((machine_of c ≡ Some before) ⊎ (machine_of c ≡ Some k)) × (g ≡ disk.given))) (machine_marked given states (has_slot list) marked disk pool) (switching disk pool states before lent mid (Ok tt) come.spares left.found root left.map.next new (found_left regions disk pool states fit labels left mid come (λ t. lent.found) told)
+  moments new switched = subst (λ (k : Machine). Leaves disk new (λ c g. (IsOld disk pool before c ⊎ IsNew pool k c) × (g ≡ disk.given))) (machine_marked given states (has_slot list) marked disk pool) (switching disk pool states before lent mid (Ok tt) come.spares left.found root left.map.next new come.found (found_left regions disk pool states fit labels left mid come (λ t. lent.found) told)
       (subst (λ (x : Found). IsReadyFor mid x root left.map.next m) (sym come.found) ready) (switched told))
 
   module _ (new : Shown) (committed : IsTrue mid.tells → IsCommitted mid left.found root left.map.next new) (last : Pool) (stay : States) (switched : IsSwitched left root last) (containers : last.containers ≡ left.containers) (kept : last.kept ≡ left.kept) (settled : (s : ℕ) → state_at stay s ≡ settled_at labels states s) where
@@ -323,6 +289,10 @@ module _ (disk : Shown) (pool : Pool) (states : States) (before : Machine) (lent
 
     same_now : view_at u new.reads ≡ view_at u mid.reads
     same_now = same_view u mid.reads new.reads new_agrees
+
+    missing_now : CountsMissing pool given (view_at u new.reads) want
+    unfolding layout_at
+    missing_now = subst (λ (z : View). CountsMissing pool given z want) (sym same_now) (missing_left (subst AreMaps same_now tells_now.sound.maps))
 
     loaded_then : (s : ℕ) → s < 64 → IsLoaded new.reads f s (settled_at labels states s) (container_at left.containers s)
     loaded_then s inside = still_loaded f f mid.reads new.reads s inside refl new_agrees (settled_at labels states s) (container_at left.containers s) (all_stand.each s inside).loaded
@@ -391,16 +361,16 @@ module _ (disk : Shown) (pool : Pool) (states : States) (before : Machine) (lent
     container_now s = ap (λ (c : Slots). container_at c s) containers
 
     entries_left : (s : ℕ) (x : VolumeState) (map : Mapped) → s < 64 → state_at states s ≡ Some x → x.changed ≡ true → container_at pool.containers s ≡ Some map
-        → (after : Mapped) × ((container_at last.containers s ≡ Some after) × LeavesEntries (regions s) x map after)
+        → (after : Mapped) × ((container_at last.containers s ≡ Some after) × LeavesEntries pool.map.committed (regions s) x map after)
     entries_left s x map inside there changed was = by (is.each s inside)
       where
         by : IsOnCourse regions pool states (block_seen pool.kept disk.reads) 64 s (is.now s) (get_or labels s 0) (container_at left.containers s) mid.reads
-            → (after : Mapped) × ((container_at last.containers s ≡ Some after) × LeavesEntries (regions s) x map after)
+            → (after : Mapped) × ((container_at last.containers s ≡ Some after) × LeavesEntries pool.map.committed (regions s) x map after)
         by (renewed y low here differs now r) =
             let same : y ≡ x = same_Some y x (sym here ∙ there) in
             let first : r.old ≡ map = same_Some r.old map (sym r.was ∙ was) in
-            let leaves : LeavesEntries (regions s) y r.old r.new = record { reclaimed = λ v off. r.stored.kept v off ∙ r.reclaimed.entries v; written = r.stored.maps } in
-            (r.new, (container_now s ∙ r.now, subst (λ (z : VolumeState). LeavesEntries (regions s) z map r.new) same (subst (λ (m : Mapped). LeavesEntries (regions s) y m r.new) first leaves)))
+            let leaves : LeavesEntries pool.map.committed (regions s) y r.old r.new = record { reclaimed = λ v off. r.stored.kept v off ∙ r.reclaimed.entries v; written = r.stored.maps; spare = r.fresh } in
+            (r.new, (container_now s ∙ r.now, subst (λ (z : VolumeState). LeavesEntries pool.map.committed (regions s) z map r.new) same (subst (λ (m : Mapped). LeavesEntries pool.map.committed (regions s) y m r.new) first leaves)))
         by (as_lent waits at) =
             let late : x.changed ≡ true → 64 ≤ s = subst (λ (o : Option VolumeState). IfSome o (λ z. z.changed ≡ true → 64 ≤ s)) there waits in
             let past = late changed in
@@ -431,10 +401,10 @@ module _ (disk : Shown) (pool : Pool) (states : States) (before : Machine) (lent
         (of_marked (active_in (view_over last stay new.reads) no_trees s ≡ active_in w no_trees s) (has_slot list s) (state_at given s) (subst (λ (o : Option VolumeState). IfSome o (λ x. active_in (view_over last stay new.reads) no_trees s ≡ active_in w no_trees s)) (marked s) (tables_stay s)))
 
     given_entries : (s : ℕ) (x : VolumeState) (map : Mapped) → s < 64 → state_at given s ≡ Some x → is_due list s x ≡ true → container_at pool.containers s ≡ Some map
-        → (after : Mapped) × ((container_at last.containers s ≡ Some after) × LeavesEntries (regions s) x map after)
+        → (after : Mapped) × ((container_at last.containers s ≡ Some after) × LeavesEntries pool.map.committed (regions s) x map after)
     given_entries s x map inside there due was =
         let left_so = entries_left s (marked_as (has_slot list s) x) map inside (marked s ∙ ap (option_map (marked_as (has_slot list s))) there) due was in
-        (left_so.0, (left_so.1.0, record { reclaimed = left_so.1.1.reclaimed; written = left_so.1.1.written }))
+        (left_so.0, (left_so.1.0, record { reclaimed = left_so.1.1.reclaimed; written = left_so.1.1.written; spare = left_so.1.1.spare }))
 
     given_unchanged : (s : ℕ) → IfSome (state_at given s) (λ x. is_due list s x ≡ false) → IfSome (state_at states s) (λ x. x.changed ≡ false)
     given_unchanged s is_not = subst (λ (o : Option VolumeState). IfSome o (λ x. x.changed ≡ false)) (sym (marked s)) (by (state_at given s) is_not)
@@ -471,6 +441,7 @@ module _ (disk : Shown) (pool : Pool) (states : States) (before : Machine) (lent
       tables = given_tables;
       unchanged = unchanged_stay states stay labels settled;
       room = subst (λ (x : Found). LeavesRoom (view_at (root_found x) new.reads) want) (sym found) (subst (λ (z : View). LeavesRoom z want) (sym same_now) room_left);
+      missing = subst (λ (x : Found). CountsMissing pool given (view_at (root_found x) new.reads) want) (sym found) missing_now;
       delays = subst (λ (x : Found). AreKnown new.reads x delays) (sym found) (known_same mid.reads new.reads f f delays same_now
           (known_left mid.reads f regions (holdings pool.containers states) now_held delays left_delayed shown_now (λ s x inside off there. clear s x inside off (sym (ap (λ (h : ℕ → Option Holding). h s) (holdings_marked pool.containers given states (has_slot list) marked)) ∙ there))));
       entries = given_entries;

@@ -20,11 +20,12 @@ use Rattle.fv_root.specs.Finding.{IsInRange, root_found}
 use Rattle.fv_root.specs.Commits.{IsFoundOn}
 use Rattle.fv_container.specs.Chains.{Slots, container_at, own_entry}
 use Rattle.fv_container.specs.Mapped.{Mapped}
+use Rattle.fv_volmap.specs.Slots.{active_of}
 use Rattle.fv_volume.specs.declared.pool.Pool.{Pool}
 use Rattle.fv_volume.specs.declared.state.VolumeState.{VolumeState}
 use Rattle.fv_volume.specs.Lending.{IsNewEntry}
 use Rattle.fv_volume.specs.OneVolume.{IsReady}
-use Rattle.fv_volume.specs.Placing.{pending_of}
+use Rattle.fv_volume.specs.Placing.{pending_of, KeepsUnused}
 use Rattle.fv_volume.specs.Slots.{sum_of}
 use Rattle.fv_volume.specs.States.{States, state_at, with_state}
 use Rattle.fv_volume.specs.Stored.{AreSpacedIn}
@@ -35,7 +36,7 @@ use Rattle.fv_volume.proofs.Spending.{spent_one}
 use Rattle.fv_volume.proofs.Staying.{only_itself}
 use Rattle.fv_cp.specs.Held.{machine_held, named_held, IsHeld, IsHeldIn}
 use Rattle.fv_cp.specs.Lent.{asked_all, asked_by, asked_of, blocks_asked, maps_waiting, waiting_by, FitTogether}
-use Rattle.fv_cp.specs.Placing.{pending_by, pending_files, HasNumbers, HaveNoFiles, HaveRoom, HaveSpent, IsPlacedAs, AreButPlaced, ArePlaced, AreReady, but_placed, HasNoFiles, HasWholeMap, IsReadyIn, IsSlotPlaced, IsSpareEntry, MayFail, PlacesEntries, PlacesSlot}
+use Rattle.fv_cp.specs.Placing.{pending_by, pending_files, HasNumbers, HaveNoFiles, HaveRoom, HaveSpent, IsPlacedAs, AreButPlaced, ArePlaced, AreReady, but_placed, HasNoFiles, HasWholeMap, IsReadyIn, IsSlotPlaced, IsSpareEntry, MayFail, LeavesUnused, PlacesEntries, PlacesSlot, RestsPlaced}
 use Rattle.fv_disk.proofs.Resting.{reads_then}
 use Rattle.fv_store.specs.Held.{StandsOn}
 use Rattle.fv_volume.specs.declared.fault.VolumeFault.{VolumeFault}
@@ -78,6 +79,16 @@ module _ (disk after : Shown) (pool left : Pool) (states stay : States) (x y : V
           (λ (same : own_entry (container_at left.containers x.slot) v ≡ own_entry (container_at pool.containers x.slot) v). inl same)
           (λ (new : IsNewEntry pool.map pool.containers left.containers x.slot v). inr (record { entry = new.entry; stands = new.stands; lies = new.takes.lies; spare = new.takes.spare }))
           (placed.goes.goes.goes.entries v)
+
+  -- a volume without files in memory stays
+  pub rest_still : RestsPlaced pool states left stay
+  rest_still s none = ⊎_elim
+      (λ (here : s ≡ x.slot).
+      let files : x.files ≡ None = subst HasNoFiles (ap (state_at states) here ∙ there) none in
+      let all = one.idle_still disk after pool left states stay x y there now fit.housed placed files in
+      (ap (λ (xs : States). state_at xs s) all.1, ap (λ (p : Pool). container_at p.containers s) all.0))
+      (λ (differ : s ≢ x.slot). (one.other disk after pool left states stay x y there now fit.housed placed s differ, placed.goes.goes.goes.others s differ))
+      (cases_eq s x.slot)
 
   pub asked_still : IsReady disk pool x → blocks_asked stay ≡ blocks_asked states
   asked_still ready =
@@ -172,16 +183,24 @@ pub record HasCome (disk : Shown) (pool : Pool) (states : States) (after : Shown
 -- the files of the volumes of the first slots were placed
 pub record HasPassed (disk : Shown) (pool : Pool) (states : States) (count : ℕ) (after : Shown) (left : Pool) (stay : States) : Type 0 where
   pub come : HasCome disk pool states after left stay
+  -- the containers of the other slots are as they were
+  pub ahead : (s : ℕ) → count ≤ s → container_at left.containers s ≡ container_at pool.containers s
   pub done : (s : ℕ) → s < count → HasNoFiles (state_at stay s)
   pub whole : (s : ℕ) → s < count → HasWholeMap (state_at stay s)
+
+-- where no entry changed, none changed under a number that isn't in use
+unused_none : (containers : Slots) (s : ℕ) (o : Option VolumeState) → IfSome o (λ y. KeepsUnused containers containers s y.map)
+unused_none containers s None = tt
+unused_none containers s (Some y) = λ v out. refl
 
 pub passed_none : (disk : Shown) (pool : Pool) (states : States) → FitTogether pool states → AreReady disk pool states → StandsOn disk pool.store.pairs → HasPassed disk pool states 0 disk pool states
 passed_none disk pool states fit ready stands = record {
   come = record {
-    placed = record { held = λ before held. held; machine = λ before held. refl; fit = fit; found = refl; committed = refl; cores = λ s. refl; asked = refl; all = refl; waiting = refl; spent = λ before held room. record { fewer = omega arith; numbers = room.numbers; blocks = omega arith }; others = λ s. refl; entries = λ s v. inl refl; only_reads = only_itself disk; idle = λ none. (refl, refl) };
+    placed = record { held = λ before held. held; machine = λ before held. refl; fit = fit; found = refl; committed = refl; cores = λ s. refl; asked = refl; all = refl; waiting = refl; spent = λ before held room. record { fewer = omega arith; numbers = room.numbers; blocks = omega arith }; others = λ s. refl; entries = λ s v. inl refl; unused = λ before held s. unused_none pool.containers s (state_at states s); rest = λ s none. (refl, refl); only_reads = only_itself disk; idle = λ none. (refl, refl) };
     ready = ready;
     stands = stands;
   };
+  ahead = λ s past. refl;
   done = λ s low. absurd (omega (arith, low));
   whole = λ s low. absurd (omega (arith, low));
 }
@@ -221,9 +240,29 @@ module _ (disk : Shown) (pool : Pool) (states : States) (mid : Shown) (held : Po
       by None fails none = fails
       by (Some x) fails none = true≢false (sym fails.0 ∙ ap is_some none)
 
+  -- the entries of one slot stay under each number that its volume doesn't have then
+  abbrev UnusedAt : ℕ → Option Mapped → Option VolumeState → Type 0
+  UnusedAt s c o = IfSome o (λ y. (v : ℕ) → is_member (active_of y.map) v ≡ false → own_entry c v ≡ own_entry (container_at pool.containers s) v)
+
+  module _ (x : VolumeState) (there : state_at between x.slot ≡ Some x) (did : IsSlotPlaced mid held between slot x after left stay) (now : stay ≡ with_state between x.slot (Some did.now))
+      (before : Machine) (was : IsHeld disk pool states before) (first : container_at held.containers x.slot ≡ container_at pool.containers x.slot) where
+    -- the slot's own were as at first until now
+    unused_here : UnusedAt x.slot (container_at left.containers x.slot) (state_at stay x.slot)
+    unused_here =
+        let own : IsHeldIn mid held x.slot x = subst (λ (o : Option VolumeState). IfSome o (IsHeldIn mid held x.slot)) there ((come.placed.held before was).each x.slot) in
+        subst (UnusedAt x.slot (container_at left.containers x.slot)) (sym (one.here mid after held left between stay x did.now there now come.placed.fit.housed did.placed))
+        (λ v out. did.placed.unused own.stands v out ∙ ap (λ (c : Option Mapped). own_entry c v) first)
+
+    unused_more : LeavesUnused pool left stay
+    unused_more s = ⊎_elim
+        (λ (here : s ≡ x.slot). subst (λ (n : ℕ). UnusedAt n (container_at left.containers n) (state_at stay n)) (sym here) unused_here)
+        (λ (differ : s ≢ x.slot). subst (λ (c : Option Mapped). UnusedAt s c (state_at stay s)) (sym (did.placed.goes.goes.goes.others s differ))
+        (subst (UnusedAt s (container_at held.containers s)) (sym (one.other mid after held left between stay x did.now there now come.placed.fit.housed did.placed s differ)) (come.placed.unused before was s)))
+        (cases_eq s x.slot)
+
   -- a slot with a volume
-  with_volume : (x : VolumeState) → state_at between slot ≡ Some x → IsSlotPlaced mid held between slot x after left stay → HasCome disk pool states after left stay
-  with_volume x there did =
+  with_volume : container_at held.containers slot ≡ container_at pool.containers slot → (x : VolumeState) → state_at between slot ≡ Some x → IsSlotPlaced mid held between slot x after left stay → HasCome disk pool states after left stay
+  with_volume first x there did =
       let ready : IsReadyIn mid held slot x = subst (λ (o : Option VolumeState). IfSome o (IsReadyIn mid held slot)) there (come.ready slot) in
       let here : state_at between x.slot ≡ Some x = ap (state_at between) ready.slot ∙ there in
       let now : stay ≡ with_state between x.slot (Some did.now) = did.row ∙ ap (λ (s : ℕ). with_state between s (Some did.now)) (sym ready.slot) in
@@ -245,6 +284,11 @@ module _ (disk : Shown) (pool : Pool) (states : States) (mid : Shown) (held : Po
           others = λ s. others_still mid after held left between stay x did.now here now come.placed.fit did.placed ready.ready s ∙ come.placed.others s;
           entries = entries_then pool.map held.map pool.containers held.containers left.containers come.placed.committed come.placed.entries
               (entries_still mid after held left between stay x did.now here now come.placed.fit did.placed);
+          unused = λ before was. unused_more x here did now before was (subst (λ (s : ℕ). container_at held.containers s ≡ container_at pool.containers s) (sym ready.slot) first);
+          rest = λ s none.
+              let first = come.placed.rest s none in
+              let second = rest_still mid after held left between stay x did.now here now come.placed.fit did.placed s (subst HasNoFiles (sym first.0) none) in
+              (second.0 ∙ first.0, second.1 ∙ first.1);
           only_reads = reads_then disk mid after come.placed.only_reads (one.only_read mid after held left between stay x did.now here now come.placed.fit.housed did.placed);
           idle = λ none.
               let first = come.placed.idle none in
@@ -261,13 +305,13 @@ module _ (disk : Shown) (pool : Pool) (states : States) (mid : Shown) (held : Po
   without e f g = subst (λ (d : Shown). HasCome disk pool states d left stay) (sym e) (subst (λ (p : Pool). HasCome disk pool states mid p stay) (sym f)
       (subst (λ (xs : States). HasCome disk pool states mid held xs) (sym g) come))
 
-  pub come_more : PlacesSlot mid held between slot (state_at between slot) after left stay → (state_at between slot ≡ None → after ≡ mid) → (state_at between slot ≡ None → (left ≡ held) × (stay ≡ between))
+  pub come_more : container_at held.containers slot ≡ container_at pool.containers slot → PlacesSlot mid held between slot (state_at between slot) after left stay → (state_at between slot ≡ None → after ≡ mid) → (state_at between slot ≡ None → (left ≡ held) × (stay ≡ between))
       → HasCome disk pool states after left stay
-  come_more did same idle = by (state_at between slot) refl did
+  come_more first did same idle = by (state_at between slot) refl did
     where
       by : (o : Option VolumeState) → state_at between slot ≡ o → PlacesSlot mid held between slot o after left stay → HasCome disk pool states after left stay
       by None none did = let all = idle none in without (same none) all.0 all.1
-      by (Some x) there did = with_volume x there did
+      by (Some x) there did = with_volume first x there did
 
   other_slot : (s : ℕ) → s ≢ slot → PlacesSlot mid held between slot (state_at between slot) after left stay → (state_at between slot ≡ None → stay ≡ between) → state_at stay s ≡ state_at between s
   other_slot s differ did idle = by (state_at between slot) refl did
@@ -276,12 +320,23 @@ module _ (disk : Shown) (pool : Pool) (states : States) (mid : Shown) (held : Po
       by None none did = ap (λ (xs : States). state_at xs s) (idle none)
       by (Some x) there did = ap (λ (xs : States). state_at xs s) did.row ∙ get_or-set_other between slot s (Some did.now) None differ
 
-  pub passed_more : ((s : ℕ) → s < slot → HasNoFiles (state_at between s)) → ((s : ℕ) → s < slot → HasWholeMap (state_at between s))
+  -- the container of another slot stays
+  other_container : (s : ℕ) → s ≢ slot → PlacesSlot mid held between slot (state_at between slot) after left stay → (state_at between slot ≡ None → left ≡ held) → container_at left.containers s ≡ container_at held.containers s
+  other_container s differ did idle = by (state_at between slot) refl did
+    where
+      by : (o : Option VolumeState) → state_at between slot ≡ o → PlacesSlot mid held between slot o after left stay → container_at left.containers s ≡ container_at held.containers s
+      by None none did = ap (λ (p : Pool). container_at p.containers s) (idle none)
+      by (Some x) there did =
+          let ready : IsReadyIn mid held slot x = subst (λ (o : Option VolumeState). IfSome o (IsReadyIn mid held slot)) there (come.ready slot) in
+          did.placed.goes.goes.goes.others s (λ same. differ (same ∙ ready.slot))
+
+  pub passed_more : ((s : ℕ) → slot ≤ s → container_at held.containers s ≡ container_at pool.containers s) → ((s : ℕ) → s < slot → HasNoFiles (state_at between s)) → ((s : ℕ) → s < slot → HasWholeMap (state_at between s))
       → HasNoFiles (state_at stay slot) → HasWholeMap (state_at stay slot)
       → PlacesSlot mid held between slot (state_at between slot) after left stay → (state_at between slot ≡ None → after ≡ mid) → (state_at between slot ≡ None → (left ≡ held) × (stay ≡ between))
       → HasPassed disk pool states (slot + 1) after left stay
-  passed_more done whole none long did same idle = record {
-    come = come_more did same idle;
+  passed_more ahead done whole none long did same idle = record {
+    come = come_more (ahead slot (omega arith)) did same idle;
+    ahead = λ s past. other_container s (λ e. absurd (omega (arith, past, e))) did (λ e. (idle e).0) ∙ ahead s (omega (arith, past));
     done = λ s low. also HasNoFiles done none s low;
     whole = λ s low. also HasWholeMap whole long s low;
   }

@@ -1,4 +1,5 @@
 pub mod Stepping
+pub mod Crashing
 pub mod Ending
 pub mod Flushing
 pub mod Lendable
@@ -10,8 +11,10 @@ pub mod Missing
 pub mod Counting
 pub mod Known
 pub mod Plans
+pub mod OwnCharged
 pub mod Planned
 pub mod Pointing
 pub mod Room
+pub mod SameChoice
 pub mod Sums
 mod Clearing

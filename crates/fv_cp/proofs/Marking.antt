@@ -54,7 +54,7 @@ marked_keeps P keeps true (Some x) is = keeps x is
 marked_keeps P keeps false (Some x) is = is
 
 -- what doesn't look at changes is the same
-marked_same : {T : Type 0} (f : Option VolumeState → T) → ((x : VolumeState) → f (Some (record x { changed = true })) ≡ f (Some x)) → (b : Bool) (o : Option VolumeState) → f (option_map (marked_as b) o) ≡ f o
+pub marked_same : {T : Type 0} (f : Option VolumeState → T) → ((x : VolumeState) → f (Some (record x { changed = true })) ≡ f (Some x)) → (b : Bool) (o : Option VolumeState) → f (option_map (marked_as b) o) ≡ f o
 marked_same f same b None = refl
 marked_same f same true (Some x) = same x
 marked_same f same false (Some x) = refl
@@ -347,18 +347,16 @@ holdings_marked containers states now marks marked_is = λ k s. at s k
     at : (s : ℕ) → holdings containers now s ≡ holdings containers states s
     at s = ap (λ (o : Option VolumeState). holding_with o (container_at containers s)) (marked_is s) ∙ marked_same (λ o. holding_with o (container_at containers s)) (same (container_at containers s)) (marks s) (state_at states s)
 
--- So the same regions are chosen for them.
-pub chosen_still : (pool : Pool) (states now : States) (marks : ℕ → Bool) → ((s : ℕ) → state_at now s ≡ marked_at marks states s) → length states ≡ 64 → length now ≡ 64 → (want : ℕ) → regions_chosen pool now want ≡ regions_chosen pool states want
+-- So as many blocks are missing,
+pub missing_still : (pool : Pool) (states now : States) (marks : ℕ → Bool) → ((s : ℕ) → state_at now s ≡ marked_at marks states s) → length states ≡ 64 → length now ≡ 64 → (want : ℕ) → missing_for pool now want ≡ missing_for pool states want
 unfolding missing_for
-chosen_still pool states now marks marked_is long long_too want = λ k. regions_counted (chosen (counts_of (held k)) (lacks k))
+missing_still pool states now marks marked_is long long_too want = λ k. min ((max 256 want + needed k) + total (counts_of (holdings_marked pool.containers states now marks marked_is k))) greatest_number - (pool.found.blocks - first_block pool.found.blocks)
   where
-    held : holdings pool.containers now ≡ holdings pool.containers states
-    held = holdings_marked pool.containers states now marks marked_is
-
     needed : needs now ≡ needs states
     needed = over_slots needs_by now long_too
         ∙ same_sum (λ s. needs_by (state_at now s)) (λ s. needs_by (state_at states s)) 0 64 (λ s low high. ap needs_by (marked_is s) ∙ marked_same needs_by (λ x. refl) (marks s) (state_at states s))
         ∙ sym (over_slots needs_by states long)
 
-    lacks : missing_for pool now want ≡ missing_for pool states want
-    lacks = λ k. min ((max 256 want + needed k) + total (counts_of (held k))) greatest_number - (pool.found.blocks - first_block pool.found.blocks)
+-- and the same regions are chosen for them.
+pub chosen_still : (pool : Pool) (states now : States) (marks : ℕ → Bool) → ((s : ℕ) → state_at now s ≡ marked_at marks states s) → length states ≡ 64 → length now ≡ 64 → (want : ℕ) → regions_chosen pool now want ≡ regions_chosen pool states want
+chosen_still pool states now marks marked_is long long_too want = λ k. regions_counted (chosen (counts_of (holdings_marked pool.containers states now marks marked_is k)) (missing_still pool states now marks marked_is long long_too want k))

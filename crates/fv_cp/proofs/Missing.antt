@@ -1,4 +1,4 @@
--- What the space rule lacks is at most what a point counts as missing.
+-- What the space rule lacks is at most what a point counts as missing, and just that for volumes that use what they need.
 use Rattle.std.proofs.Common.{◌≡◌, ℕ, zero, suc, ◌+◌, ◌-◌, ◌*◌, ◌<◌, ◌≤◌, max, true, length, refl, sym, ap, subst, ◌∙◌, arith}
 use Rattle.std.specs.Prelude.{Option, Some, None, IfSome, nat_le, nat_lt, sum_by}
 use Rattle.std.specs.List.{range_with_len}
@@ -45,6 +45,18 @@ both_within a b c from (suc count) each = omega (
   both_within a b c (from + 1) count (λ k low high. each k (omega (arith, low)) (omega (arith, high))),
 )
 
+-- they are the third where the parts are
+both_are : (a b c : ℕ → ℕ) (from count : ℕ) → ((k : ℕ) → from ≤ k → k < from + count → 2 * a k + b k ≡ c k) → 2 * sum_by a (range_with_len from count) + sum_by b (range_with_len from count) ≡ sum_by c (range_with_len from count)
+both_are a b c from zero each = refl
+both_are a b c from (suc count) each = omega (
+  arith,
+  sum_by-cons a from (range_with_len (from + 1) count),
+  sum_by-cons b from (range_with_len (from + 1) count),
+  sum_by-cons c from (range_with_len (from + 1) count),
+  each from (omega arith) (omega arith),
+  both_are a b c (from + 1) count (λ k low high. each k (omega (arith, low)) (omega (arith, high))),
+)
+
 -- a sum of numbers that are at most those of a container's entries
 sum_few : (f : ℕ → ℕ) (from count : ℕ) → ((k : ℕ) → f k ≤ most_entries) → sum_by f (range_with_len from count) ≤ most_entries * count
 sum_few f from zero each = omega arith
@@ -53,7 +65,7 @@ sum_few f from (suc count) each = omega (arith, sum_by-cons f from (range_with_l
 -- ---- what volumes use
 
 -- a slot without a head shows no volume
-none_seen : (w : View) (s : ℕ) → s < 64 → w.head s ≡ None → (seen w).volume s ≡ None
+pub none_seen : (w : View) (s : ℕ) → s < 64 → w.head s ≡ None → (seen w).volume s ≡ None
 unfolding seen
 none_seen w s inside e = let low : nat_lt s 64 ≡ true = grind (arith, nat_tests, inside) in rw (low, e) refl
 
@@ -88,7 +100,7 @@ module _ (w : View) (tables : AreTables (seen w)) where
           let c : option_map_or (λ x. commit x.volume) ((seen w).volume s) 0 ≡ commit (volume_told w s h) = ap (λ (o : Option VolumeSeen). option_map_or (λ x. commit x.volume) o 0) (seen_at w s h inside e) in
           omega (arith, a, b, c, use_promised s h inside e)
 
--- What the volumes of a view use, with all overheads twice, they need by their ledgers.
+-- What the volumes of a view use, with all overheads twice, is what they need by their ledgers.
 module _ (pool : Pool) (states : States) (i : Image) (long : length states ≡ 64) (are : AreStates (view_over pool states i) no_trees states) where
   abbrev v : View
   v = view_over pool states i
@@ -101,17 +113,18 @@ module _ (pool : Pool) (states : States) (i : Image) (long : length states ≡ 6
   unfolding view_over
   head_none s none = ap (option_map head_in) none
 
-  pub uses_needed : 2 * overheads v + uses_seen (seen v) ≤ needs states
+  pub uses_needed : 2 * overheads v + uses_seen (seen v) ≡ needs states
   unfolding overheads uses_seen slots volume_seen
-  uses_needed = subst (λ (n : ℕ). 2 * overheads v + uses_seen (seen v) ≤ n) (sym (over_slots needs_by states long))
-      (both_within (λ s. option_map_or (λ h. overhead h.span) (v.head s) 0) (λ s. option_map_or (λ x. use_of x.volume) ((seen v).volume s) 0) (λ s. needs_by (state_at states s)) 0 64 (λ s low high. so s (omega (arith, high)) (state_at states s) refl))
+  uses_needed = subst (λ (n : ℕ). 2 * overheads v + uses_seen (seen v) ≡ n) (sym (over_slots needs_by states long))
+      (both_are (λ s. option_map_or (λ h. overhead h.span) (v.head s) 0) (λ s. option_map_or (λ x. use_of x.volume) ((seen v).volume s) 0) (λ s. needs_by (state_at states s)) 0 64 (λ s low high. so s (omega (arith, high)) (state_at states s) refl))
     where
       so : (s : ℕ) → s < 64 → (o : Option VolumeState) → state_at states s ≡ o
-          → 2 * option_map_or (λ h. overhead h.span) (v.head s) 0 + option_map_or (λ x. use_of x.volume) ((seen v).volume s) 0 ≤ needs_by (state_at states s)
+          → 2 * option_map_or (λ h. overhead h.span) (v.head s) 0 + option_map_or (λ x. use_of x.volume) ((seen v).volume s) 0 ≡ needs_by (state_at states s)
       so s inside None e =
           let a : option_map_or (λ h. overhead h.span) (v.head s) 0 ≡ 0 = ap (λ (o : Option Head). option_map_or (λ h. overhead h.span) o 0) (head_none s e) in
           let b : option_map_or (λ x. use_of x.volume) ((seen v).volume s) 0 ≡ 0 = ap (λ (o : Option VolumeSeen). option_map_or (λ x. use_of x.volume) o 0) (none_seen v s inside (head_none s e)) in
-          omega (arith, a, b)
+          let c : needs_by (state_at states s) ≡ 0 = ap needs_by e in
+          omega (arith, a, b, c)
       so s inside (Some x) e =
           let h : Head = head_in x in
           let state : IsState v no_trees s x = subst (λ (o : Option VolumeState). IfSome o (IsState v no_trees s)) e (are.each s) in
@@ -146,3 +159,11 @@ unfolding missing_for
 lacks_missing pool states want room used needed more small =
     let same = counts_total (holdings pool.containers states) in
     omega (arith, needed, more, small, same)
+
+-- It is that where the volumes use just what they need.
+pub missing_is : (pool : Pool) (states : States) (want used : ℕ) → used ≡ needs states → used + all_delayed (holdings pool.containers states) + max 256 want ≤ greatest_number
+    → missing_for pool states want ≡ (used + all_delayed (holdings pool.containers states) + max 256 want) - (pool.found.blocks - first_block pool.found.blocks)
+unfolding missing_for
+missing_is pool states want used needed small =
+    let same = counts_total (holdings pool.containers states) in
+    omega (arith, needed, small, same)

@@ -67,6 +67,7 @@ module _ (f g : ℕ → ℕ → Bool) (pool : Pool) (states : States) (same : (s
         valid = r.valid;
         stored = r.stored;
         stay = r.stay;
+        fresh = r.fresh;
       })
 
   pub come_as : (disk : Shown) (count : ℕ) (labels : List ℕ) (left : Pool) (now : Shown) → HasCome f disk pool states count labels left now → HasCome g disk pool states count labels left now

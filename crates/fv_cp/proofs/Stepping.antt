@@ -1,6 +1,7 @@
 -- The course of a consistency point: its start, a slot that is passed, and a slot that is written, also as the code goes it.
 use Rattle.std.proofs.Common.{◌≡◌, ◌≢◌, ℕ, suc, ◌<◌, ◌≤◌, Bool, true, false, cond, List, get_or, nat_eq, refl, sym, ap, subst, ◌∙◌, arith, ⊎_elim, ◌+◌, length, All, Ok, Result, length-set, drop, drop-cons}
-use Rattle.std.specs.Prelude.{Option, Some, None, IfSome, IsTrue, sum_by}
+use Rattle.fv_bits.specs.Members.{is_member}
+use Rattle.std.specs.Prelude.{◌||◌, Option, Some, None, IfSome, IsTrue, sum_by}
 use Rattle.std.proofs.lemmas.Bool.{cases_eq, or_right}
 use Rattle.std.proofs.lemmas.Bool.Decides.{nat_tests}
 use Rattle.std.proofs.lemmas.List.{get_or-set_same, get_or-set_other}
@@ -64,6 +65,10 @@ same_course regions pool states first count labels named next map containers lef
     (subst (λ (c : Slots). IsCourse regions pool states first count labels next c j) (sym g) (subst (λ (c : Image). IsCourse regions pool states first count labels next containers c) (sym h) is)))
 
 -- ---- a slot more
+
+or_left : (a b : Bool) → (a || b) ≡ false → a ≡ false
+or_left true b is = is
+or_left false b is = refl
 
 module _ (regions : ℕ → ℕ → Bool) (pool : Pool) (states : States) (first : Image) (s k : ℕ) (now : Option VolumeState) (label : ℕ) (container : Option Mapped) (i : Image) (alike : k ≡ s → IfSome (state_at states k) (λ x. x.changed ≡ false)) where
   -- a slot of which nothing is written in the step
@@ -220,6 +225,7 @@ module _ (regions : ℕ → ℕ → Bool) (disk : Shown) (pool : Pool) (states :
             let state : IsLabelled k y = subst (λ (o : Option VolumeState). IfSome o (IsLabelled k)) at (come.housed.volumes k) in
             let kept : entry_under r.new v ≡ entry_under r.old v = r.stored.kept v (stays_unwritten y v on) ∙ stays_left k y state (regions k) r.old r.mid r.reclaimed v on in
             same_at (as_written y (get_or labels k 0)) r.new (place_at r.old v) v same r.now (stays_within y v on) (ap place_in kept) some ∙ r.stay v on some;
+        fresh = r.fresh;
       })
 
   other_on_course : (k : ℕ) → k < 64 → k ≢ s → IsOnCourse regions pool states first (suc s) k (then_at k) (get_or now k 0) (container_at after.containers k) j
@@ -248,6 +254,10 @@ module _ (regions : ℕ → ℕ → Bool) (disk : Shown) (pool : Pool) (states :
           stay = λ v on some.
               let place : place_at did.mid v ≡ place_at did.old v = ap place_in (stays_left s x labelled (regions s) did.old did.mid emptied v on) in
               subst (λ (b : ℕ). j b ≡ i b) place (leaves.own v (stays_unwritten x v on) (λ none. some (sym place ∙ none))) ∙ lent_here.stay x did.old there was.1 v on some;
+          fresh = λ v on.
+              let free = wrote.fresh_maps v on in
+              let none : is_member wrote.given.committed (place_at did.new v) ≡ false = or_left _ _ free.free in
+              sym (ap (λ (c : List Bool). is_member c (place_at did.new v)) (wrote.gave.committed ∙ did.reclaimed.blocks.committed ∙ come.committed)) ∙ none;
         })))
         (λ (other : k ≢ s). other_on_course k small other)
         (cases_eq k s);

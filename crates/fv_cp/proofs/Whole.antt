@@ -1,17 +1,19 @@
 -- A consistency point in front of which all files are placed.
-use Rattle.std.proofs.Common.{◌≡◌, ℕ, Bool, false, length, Option, Some, inl, inr, ⊎_elim, refl, sym, ap, subst, ◌∙◌, arith, Ok, Err, List}
+use Rattle.std.proofs.Common.{◌≡◌, ◌≤◌, ℕ, Bool, false, length, Option, Some, inl, inr, ⊎_elim, refl, sym, ap, subst, ◌∙◌, arith, Ok, Err, List}
 use Rattle.std.specs.Prelude.{IfSome, IsTrue, None}
 use Rattle.std.specs.Option.{option_map}
 use Rattle.fv_disk.specs.Crash.{Leaves}
 use Rattle.fv_disk.specs.Faults.{HasBlockCause}
-use Rattle.fv_disk.specs.Shown.{IsDisk, Rose, Shown}
+use Rattle.fv_disk.specs.Shown.{Image, IsDisk, Rose, Shown}
 use Rattle.fv_disk.specs.declared.fault.BlockFault.{BlockFault}
 use Rattle.fv_disk.specs.declared.fault.BlockFault.TheVariants.{DiskFault, Damaged, Memory}
 use Rattle.fv_disk.proofs.Moments.{goes_on, started, then, weaken}
-use Rattle.fv_model.specs.Machines.{Machine}
+use Rattle.fv_bits.specs.Members.{is_member}
+use Rattle.fv_model.specs.Machines.{Machine, first_block}
+use Rattle.fv_image.specs.NewerRoot.{root_of}
 use Rattle.fv_root.specs.declared.find.Found.{Found}
 use Rattle.fv_root.specs.Finding.{root_found}
-use Rattle.fv_root.specs.Commits.{IsFoundOn}
+use Rattle.fv_root.specs.Commits.{IsFoundOn, next_found}
 use Rattle.fv_store.specs.Held.{StandsOn}
 use Rattle.fv_container.specs.Chains.{container_at, parent_at}
 use Rattle.fv_volmap.specs.Slots.{Volume}
@@ -30,19 +32,25 @@ use Rattle.fv_volume.proofs.HeldSettled.{core_parent, ready_of, settled_core, se
 use Rattle.fv_cp.specs.Held.{machine_held, IsHeld}
 use Rattle.fv_cp.specs.Lent.{FitTogether, IsLent}
 use Rattle.fv_cp.specs.Placing.{core_of, ArePlaced, AreReady, HasNoFiles, HasWholeMap, HaveNoFiles, HaveRoom, IsPlaceFault, IsReadyIn}
-use Rattle.fv_cp.specs.Points.{machine_lent, Counts, GoesOn, IsCalm, IsPoint, LacksRoom, LeavesAll, OldOrLent}
+use Rattle.fv_cp.specs.Points.{machine_lent, Counts, GoesOn, IsCalm, IsNew, IsOld, IsPoint, LacksRoom, LeavesAll, LeavesContainers, OldOrLent}
 use Rattle.fv_cp.specs.Settling.{GoesOnWhole, HasWholeCause, HaveFullRoom, IsHeldPoint, IsNoDamage, IsStill, OldOrHeld, StillHeld, WholeCounts, WholeFails}
 use Rattle.fv_volume.specs.Housed.{settled_as}
 use Rattle.fv_volume.specs.Trees.{active_in, no_trees}
 use Rattle.fv_cp.specs.Choosing.{CanChoose, has_slot, marked_as, regions_chosen}
 use Rattle.fv_cp.specs.Known.{AreKnown}
 use Rattle.fv_cp.proofs.Marking.{asked_least, asked_most, marked_core, marked_no_files, marked_numbers, marked_ready, marked_table, marked_whole}
+use Rattle.fv_cp.proofs.SameChoice.{chosen_before, chosen_behind}
 use Rattle.fv_cp.proofs.Lendable.{held_lent, held_machine, numbers_held, past_held}
 use Rattle.fv_volume.proofs.PlacedIn.{found_read}
 
 -- where there is room for all, there is room for what is pending
 pub some_room : (pool : Pool) (states : States) → HaveFullRoom pool states → HaveRoom pool states
 some_room pool states room = record { numbers = room.numbers; blocks = room.free }
+
+-- where nothing is written the image stays
+pub resting : (disk : Shown) (pool : Pool) (states : States) (before : Machine) → IsDisk disk → IsHeld disk pool states before → Leaves disk disk (OldOrHeld disk pool states before)
+resting disk pool states before laws was = started disk (OldOrHeld disk pool states before) laws
+    (λ c now. (inl (record { stands = kept_stands (root_found pool.found) disk.reads c before was.tells (was.keeps c now); left = (c, now, λ b on. refl) }), refl))
 
 module _ (disk : Shown) (pool : Pool) (states : States) (mid : Shown) (held : Pool) (between : States) (placed : ArePlaced disk pool states mid held between) where
   pub found_mid : (IsTrue disk.tells → IsFoundOn disk pool.found) → IsTrue mid.tells → IsFoundOn mid held.found
@@ -53,9 +61,16 @@ module _ (disk : Shown) (pool : Pool) (states : States) (mid : Shown) (held : Po
   -- while files are placed the image stays
   pub placing : IsDisk disk → (before : Machine) → IsHeld disk pool states before → Leaves disk mid (OldOrHeld disk pool states before)
   placing laws before was = goes_on disk disk mid (OldOrHeld disk pool states before)
-      (started disk (OldOrHeld disk pool states before) laws (λ c now. (inl (kept_stands (root_found pool.found) disk.reads c before was.tells (was.keeps c now)), refl)))
+      (resting disk pool states before laws was)
       placed.only_reads.time
-      (λ c now. (inl (kept_stands (root_found held.found) mid.reads c before (placed.held before was).tells ((placed.held before was).keeps c now)), placed.only_reads.given))
+      (λ c now. (inl (record { stands = kept_stands (root_found held.found) mid.reads c before (placed.held before was).tells ((placed.held before was).keeps c now); left = (c, placed.only_reads.stays.no_more c now, λ b on. refl) }), placed.only_reads.given))
+
+  -- the old side of the point is that of the whole
+  old_whole : (before : Machine) (c : Image) → IsOld mid held before c → IsOld disk pool before c
+  old_whole before c old = record {
+    stands = old.stands;
+    left = (old.left.0, placed.only_reads.stays.no_more old.left.0 old.left.1, λ b on. old.left.2 b (subst (λ (f : Found). first_block f.blocks ≤ b) (sym placed.found) on.0, ap (λ (set : List Bool). is_member set b) placed.committed ∙ on.1));
+  }
 
   module _ (none : (s : ℕ) → HasNoFiles (state_at between s)) (whole : (s : ℕ) → HasWholeMap (state_at between s)) where
     lent_mid : (before : Machine) → IsHeld disk pool states before → IsLent mid held between before
@@ -63,6 +78,14 @@ module _ (disk : Shown) (pool : Pool) (states : States) (mid : Shown) (held : Po
 
     machine_mid : (before : Machine) → IsHeld disk pool states before → machine_lent mid held between ≡ machine_held disk pool states
     machine_mid before was = sym (held_machine mid held between before (placed.held before was) placed.fit none whole) ∙ placed.machine before was
+
+    -- and the new side, too
+    new_whole : (before : Machine) → IsHeld disk pool states before → (c : Image) → IsNew held (machine_lent mid held between) c → IsNew pool (machine_held disk pool states) c
+    new_whole before was c new = record {
+      stands = new.stands ∙ ap (λ (m : Machine). Some m) (machine_mid before was);
+      root = new.root;
+      counts = subst (λ (f : Found). root_of c ≡ Some (root_found (next_found f new.root))) placed.found new.counts;
+    }
 
     -- What a point needs is known of the image, and there is room for each choice of regions.
     can_choose : (before : Machine) → IsHeld disk pool states before → (want : ℕ) (delays : List Bool) → AreKnown mid.reads pool.found delays → HaveFullRoom pool states → CanChoose mid held between want delays
@@ -80,7 +103,7 @@ module _ (disk : Shown) (pool : Pool) (states : States) (mid : Shown) (held : Po
         → ((before : Machine) → IsLent mid held between before → CanChoose mid held between want delays → Leaves mid new (OldOrLent mid held between before)) → Leaves disk new (OldOrHeld disk pool states before)
     pointing laws new before was want delays known room left = then disk mid new (OldOrHeld disk pool states before) (placing laws before was)
         (weaken mid new (OldOrLent mid held between before) (OldOrHeld disk pool states before)
-        (λ c g is. (⊎_elim (λ old. inl old) (λ new. inr (new ∙ ap (λ (m : Machine). Some m) (machine_mid before was))) is.0, is.1 ∙ placed.only_reads.given))
+        (λ c g is. (⊎_elim (λ old. inl (old_whole before c old)) (λ new. inr (new_whole before was c new)) is.0, is.1 ∙ placed.only_reads.given))
         (left before (lent_mid before was) (can_choose before was want delays known room)))
 
     -- ---- the point was done
@@ -144,6 +167,11 @@ module _ (disk : Shown) (pool : Pool) (states : States) (mid : Shown) (held : Po
           (settled_numbers (view_over held between mid.reads) (view_over left stay new.reads) s (due s) (label s) (marked_table (active_in (view_over left stay new.reads) no_trees s ≡ active_in (view_over held between mid.reads) no_trees s) (marks s) (state_at between s) (point.tables s))
           (marked_numbers (view_over held between mid.reads) s (marks s) (state_at between s) (numbers_held mid held between before (placed.held before was) placed.fit none whole s)))
 
+      -- the regions are chosen by the entries of before and the volumes that the point leaves
+      chosen_now : (before : Machine) → IsHeld disk pool states before → (want : ℕ) → regions_chosen held between want ≡ regions_chosen pool stay want
+      chosen_now before was want = chosen_before pool states held between placed.found placed.others (placed.unused before was) whole fit.housed.each placed.fit.housed.each want
+          ∙ sym (chosen_behind pool between stay label marks is_now placed.fit.housed.long goes.fit.housed.long want)
+
       -- Over a disk.
       pub point_held : (before : Machine) → IsHeld disk pool states before → (few : length left.containers.containers ≡ 64) → IsTrue disk.tells → new.tells ≡ mid.tells → ((b : ℕ) → length (new.reads b) ≡ 4096)
           → (want : ℕ) (first delays : List Bool) → AreKnown mid.reads pool.found first → HaveFullRoom pool states
@@ -162,7 +190,8 @@ module _ (disk : Shown) (pool : Pool) (states : States) (mid : Shown) (held : Po
             unchanged = point.unchanged;
             room = point.room;
             delays = point.delays;
-            entries = record { mid = held; between = between; found = placed.found; others = placed.others; maps = maps_now; housed = placed.fit.housed; placed = placed.entries; containers = record { written = point.entries; stays = point.containers } };
+            entries = record { mid = held; between = between; found = placed.found; others = placed.others; maps = maps_now; housed = placed.fit.housed; placed = placed.entries; unused = placed.unused before was; rest = placed.rest; chosen = chosen_now before was want; containers = subst (λ (c : List Bool). LeavesContainers c (regions_chosen held between want) between held.containers left.containers) placed.committed (record { written = point.entries; stays = point.containers }) };
+            missing = point.missing;
             free = goes.free;
           }
 

@@ -7,15 +7,15 @@ use Rattle.fv_aggmap.specs.Space.{free_blocks}
 use Rattle.fv_model.specs.Machines.{capacity, first_block}
 use Rattle.fv_model.specs.Space.{overhead}
 use Rattle.fv_image.specs.Seen.{seen}
-use Rattle.fv_image.specs.Sound.{leaves_room}
-use Rattle.fv_image.specs.Views.{View}
+use Rattle.fv_image.specs.Sound.{leaves_room, overheads}
+use Rattle.fv_image.specs.Views.{View, own}
 use Rattle.fv_image.specs.VolumeRules.{commits_seen}
 use Rattle.fv_container.specs.Chains.{Slots, container_at, slot_count}
 use Rattle.fv_container.specs.Mapped.{Mapped}
 use Rattle.fv_delay.specs.declared.counts.Count.{Count}
 use Rattle.fv_delay.specs.declared.regions.Region.{Region}
 use Rattle.fv_delay.specs.Choice.{chosen, regions_counted, total}
-use Rattle.fv_delay.specs.Holding.{Holding, counts_in, counts_of, held_by}
+use Rattle.fv_delay.specs.Holding.{Holding, all_delayed, counts_in, counts_of, held_by}
 use Rattle.fv_volume.specs.declared.pool.Pool.{Pool}
 use Rattle.fv_volume.specs.declared.state.VolumeState.{VolumeState}
 use Rattle.fv_volume.specs.States.{States, state_at}
@@ -56,6 +56,16 @@ needs states = sum_by needs_by states
 -- is wanted, less the blocks behind the fixed ones. A sum past 64 bits is taken for the greatest number of them.
 unfoldable pub missing_for : Pool → States → ℕ → ℕ
 missing_for pool states want = min ((max 256 want + needs states) + total (counts_of (holdings pool.containers states))) greatest_number - (pool.found.blocks - first_block pool.found.blocks)
+
+-- What the space rule lacks for a view where so many blocks are wanted and so many entries are delayed: all overheads twice, the entries that are
+-- the volumes' own, what is delayed and what is wanted, less the blocks behind the fixed ones.
+unfoldable pub lacking : View → ℕ → ℕ → ℕ
+lacking w delayed want = (2 * overheads w + own w + delayed + max 256 want) - (w.blocks - first_block w.blocks)
+
+-- What is counted as missing by the ledgers of volumes is just what the space rule lacks by the entries of a view, with what the volumes have
+-- delayed. Where less than 2^63 is wanted no sum passes 64 bits.
+abbrev pub CountsMissing : Pool → States → View → ℕ → Type 0
+CountsMissing pool states w want = want < 2 ^ 63 → missing_for pool states want ≡ lacking w (all_delayed (holdings pool.containers states)) want
 
 -- ---- the choice
 

@@ -1,10 +1,11 @@
 -- The course of a consistency point: what waits is written, then slot by slot a volume is written where it changed, and named by the
 -- labels of the new root.
-use Rattle.std.specs.Prelude.{◌≡◌, ◌≢◌, ◌≤◌, ◌<◌, ℕ, true, Bool, List, Option, Some, None, Ok, All, IfSome, IsTrue, length, get_or, drop, cond, slice_set}
+use Rattle.std.specs.Prelude.{◌≡◌, ◌≢◌, ◌≤◌, ◌<◌, ℕ, true, false, Bool, List, Option, Some, None, Ok, All, IfSome, IsTrue, length, get_or, drop, cond, slice_set}
 use Rattle.std.specs.List.{sum_by}
 use Rattle.std.specs.FinMap as fin
 use Rattle.fv_disk.specs.Shown.{Image, Shown}
 use Rattle.fv_disk.specs.Sparing.{Spares}
+use Rattle.fv_bits.specs.Members.{is_member}
 use Rattle.fv_codec.specs.Blocks.{last_place}
 use Rattle.fv_model.specs.Machines.{Machine}
 use Rattle.fv_image.specs.Views.{entry_count}
@@ -21,7 +22,7 @@ use Rattle.fv_volume.specs.declared.pool.Pool.{Pool}
 use Rattle.fv_volume.specs.declared.state.VolumeState.{VolumeState}
 use Rattle.fv_volume.specs.Keeping.{seen}
 use Rattle.fv_volume.specs.States.{States, state_at}
-use Rattle.fv_volume.specs.Stored.{AreSpacedIn, IsStored, place_at, stays}
+use Rattle.fv_volume.specs.Stored.{AreSpacedIn, IsStored, is_map_written, place_at, stays}
 use Rattle.fv_volume.specs.Housed.{AreHoused, as_written}
 use Rattle.fv_cp.specs.Lent.{IsLent, asked_by}
 use Rattle.fv_volume.specs.Writing.{HasOwnBlocks, IsTaken, IsWritten, on_disk}
@@ -79,6 +80,8 @@ pub record IsRenewed (regions : ℕ → Bool) (pool : Pool) (first : Image) (s :
   pub valid : IsMapped new
   pub stored : IsStored x mid label new i
   pub stay : StaysFrom x old first i
+  -- the blocks of the maps that were written have places that the root on the disk doesn't hold
+  pub fresh : (v : ℕ) → is_map_written x v ≡ true → is_member pool.map.committed (place_at new v) ≡ false
 
 -- the place of a label that the new root names before a point writes anything: that of the root on the disk, and none for a slot without a volume
 abbrev pub label_lent : Option VolumeState → ℕ → ℕ

@@ -14,6 +14,7 @@ use Rattle.fv_volume.specs.declared.state.VolumeState.{VolumeState}
 use Rattle.fv_aggmap.specs.Space.{Space, blocks_of, free_blocks}
 use Rattle.fv_volmap.specs.Slots.{empty_volume}
 pub use Rattle.fv_volume.specs.Held.{core_of, pending_by, HasNoFiles, HasNumbers, HasSpent, HasWholeMap, IsPlaceFault, IsPlacedAs, IsReadyIn, MayFail}
+use Rattle.fv_volume.specs.Placing.{KeepsUnused}
 use Rattle.fv_volume.specs.SnapRecords.{hole}
 use Rattle.fv_volume.specs.States.{States, state_at, with_state}
 use Rattle.fv_cp.specs.Held.{machine_held, IsHeld}
@@ -80,6 +81,14 @@ but_placed x = record x { active = record { levels = 0; root = hole }; map = emp
 abbrev pub AreButPlaced : States → States → Type 0
 AreButPlaced states stay = (s : ℕ) → option_map but_placed (state_at stay s) ≡ option_map but_placed (state_at states s)
 
+-- of a volume without files in memory nothing is placed: it stays, and so does its container
+abbrev pub RestsPlaced : Pool → States → Pool → States → Type 0
+RestsPlaced pool states left stay = (s : ℕ) → HasNoFiles (state_at states s) → (state_at stay s ≡ state_at states s) × (container_at left.containers s ≡ container_at pool.containers s)
+
+-- Under each number that the active map of a volume doesn't have once files are placed, its entry stays.
+abbrev pub LeavesUnused : Pool → Pool → States → Type 0
+LeavesUnused pool left stay = (s : ℕ) → IfSome (state_at stay s) (λ y. KeepsUnused pool.containers left.containers s y.map)
+
 -- What changed of the files of volumes was placed, or a part of it. The volumes are what they were between points, and stand for the machine
 -- that they stood for. The disk was only read.
 pub record ArePlaced (disk : Shown) (pool : Pool) (states : States) (after : Shown) (left : Pool) (stay : States) : Type 0 where
@@ -97,5 +106,8 @@ pub record ArePlaced (disk : Shown) (pool : Pool) (states : States) (after : Sho
   pub spent : (before : Machine) → IsHeld disk pool states before → HaveRoom pool states → HaveSpent pool states left stay
   pub others : AreButPlaced states stay
   pub entries : PlacesEntries pool.map pool.containers left.containers
+  pub unused : (before : Machine) → IsHeld disk pool states before → LeavesUnused pool left stay
+  -- a volume without files in memory stays, and so does its container
+  pub rest : RestsPlaced pool states left stay
   pub only_reads : OnlyReads disk after
   pub idle : HaveNoFiles states → (left ≡ pool) × (stay ≡ states)

@@ -1,13 +1,16 @@
 -- What a consistency point does, and why it isn't done.
-use Rattle.std.specs.Prelude.{◌≡◌, ◌<◌, ◌||◌, ◌⊎◌, ℕ, Bool, List, Some, None, Result, IfSome, IsTrue, true, false, if◌then◌else◌}
+use Rattle.std.specs.Prelude.{◌≡◌, ◌<◌, ◌≤◌, ◌||◌, ◌⊎◌, ℕ, Bool, List, Some, None, Result, IfSome, IsTrue, true, false, if◌then◌else◌}
 use Rattle.std.specs.Option.{option_map}
 use Rattle.std.specs.FinMap as fin
 use Rattle.fv_disk.specs.Shown.{Image, Shown, IsSettled}
 use Rattle.fv_disk.specs.DiskCalls.{OnlyReads}
 use Rattle.fv_disk.specs.Faults.{HasBlockCause}
+use Rattle.fv_disk.specs.Sparing.{LeftBefore}
+use Rattle.fv_bits.specs.Members.{is_member}
 use Rattle.fv_codec.specs.declared.root.Root.{Root}
-use Rattle.fv_model.specs.Machines.{Machine}
+use Rattle.fv_model.specs.Machines.{Machine, first_block}
 use Rattle.fv_image.specs.Layout.{root_place}
+use Rattle.fv_image.specs.NewerRoot.{root_of}
 use Rattle.fv_image.specs.Volumes.{told}
 use Rattle.fv_image.specs.Held.{label_place, view_at}
 use Rattle.fv_image.specs.WholeMachine.{machine_of}
@@ -29,7 +32,7 @@ use Rattle.fv_volume.specs.States.{States, state_at, head_in, view_over}
 use Rattle.fv_volume.specs.Trees.{active_in, no_trees}
 use Rattle.fv_disk.specs.declared.fault.BlockFault.{BlockFault}
 use Rattle.fv_disk.specs.declared.fault.BlockFault.TheVariants.{DiskFault, Damaged, Memory}
-use Rattle.fv_cp.specs.Choosing.{LeavesRoom, has_slot, marked_as, regions_chosen}
+use Rattle.fv_cp.specs.Choosing.{CountsMissing, LeavesRoom, has_slot, marked_as, regions_chosen}
 use Rattle.fv_cp.specs.Known.{AreKnown}
 use Rattle.fv_cp.specs.Lent.{FitTogether, IsLent, blocks_asked}
 use Rattle.fv_volume.specs.Housed.{settled_as}
@@ -38,24 +41,41 @@ use Rattle.fv_volume.specs.Housed.{settled_as}
 abbrev pub machine_lent : Shown → Pool → States → Machine
 machine_lent disk pool states = told (view_over pool states disk.reads)
 
--- an image stands for the machine of the last point, or for that of the volumes lent
+-- a block behind the fixed ones that the root on the disk holds
+abbrev pub IsOnDisk : Pool → ℕ → Type 0
+IsOnDisk pool b = (first_block pool.found.blocks ≤ b) × (is_member pool.map.committed b ≡ true)
+
+-- The old side: an image stands for the machine of the last point, and each block that the root on the disk holds is as in an image that a crash
+-- before might have left. So of what that root holds nothing that was given back is written over before another root counts.
+pub record IsOld (disk : Shown) (pool : Pool) (before : Machine) (c : Image) : Type 0 where
+  pub stands : machine_of c ≡ Some before
+  pub left : LeftBefore (IsOnDisk pool) disk c
+
+-- The new side: the root that follows the one on the disk counts, and the image stands for a machine.
+pub record IsNew (pool : Pool) (m : Machine) (c : Image) : Type 0 where
+  pub stands : machine_of c ≡ Some m
+  pub root : Root
+  pub counts : root_of c ≡ Some (root_found (next_found pool.found root))
+
+-- an image is of the old side, or of the new one with the machine of the volumes lent
 abbrev pub OldOrLent : Shown → Pool → States → Machine → Image → List ℕ → Type 0
-OldOrLent disk pool states before c g = ((machine_of c ≡ Some before) ⊎ (machine_of c ≡ Some (machine_lent disk pool states))) × (g ≡ disk.given)
+OldOrLent disk pool states before c g = (IsOld disk pool before c ⊎ IsNew pool (machine_lent disk pool states) c) × (g ≡ disk.given)
 
 -- What a point makes of the container of a volume that it writes, some regions of which it reclaims: each delayed entry of these regions is a
 -- hole now, the blocks of the maps that are written have new places, and every other entry stays.
-pub record LeavesEntries (regions : ℕ → Bool) (x : VolumeState) (old new : Mapped) : Type 0 where
+pub record LeavesEntries (set : List Bool) (regions : ℕ → Bool) (x : VolumeState) (old new : Mapped) : Type 0 where
   pub reclaimed : (v : ℕ) → is_map_written x v ≡ false → entry_under new v ≡ (if goes_with x.map old regions v then None else entry_under old v)
   pub written : (v : ℕ) → is_map_written x v ≡ true → entry_under new v ≡ Some (map_entry (place_at new v))
+  pub spare : (v : ℕ) → is_map_written x v ≡ true → is_member set (place_at new v) ≡ false
 
 -- whether a point writes a volume that reclaims some regions
 abbrev pub is_due : List Region → ℕ → VolumeState → Bool
 is_due regions s x = has_slot regions s || x.changed
 
 -- So it is with all volumes, where a point reclaims these regions: one that it doesn't write keeps its container.
-pub record LeavesContainers (regions : List Region) (states : States) (old new : Slots) : Type 0 where
+pub record LeavesContainers (set : List Bool) (regions : List Region) (states : States) (old new : Slots) : Type 0 where
   pub written : (s : ℕ) (x : VolumeState) (before : Mapped) → s < slot_count → state_at states s ≡ Some x → is_due regions s x ≡ true → container_at old s ≡ Some before
-      → (after : Mapped) × ((container_at new s ≡ Some after) × LeavesEntries (has_region regions s) x before after)
+      → (after : Mapped) × ((container_at new s ≡ Some after) × LeavesEntries set (has_region regions s) x before after)
   pub stays : (s : ℕ) → s < slot_count → IfSome (state_at states s) (λ x. is_due regions s x ≡ false) → container_at new s ≡ container_at old s
 
 -- What a point that was done leaves: a settled disk that stands for the volumes lent, which are as they were, with nothing new. The regions
@@ -69,11 +89,13 @@ pub record IsPoint (old : Shown) (pool : Pool) (states : States) (want : ℕ) (n
   pub tables : (s : ℕ) → IfSome (state_at states s) (λ x. active_in (view_over left stay new.reads) no_trees s ≡ active_in (view_over pool states old.reads) no_trees s)
   pub unchanged : (s : ℕ) → IfSome (state_at stay s) (λ x. x.changed ≡ false)
   pub room : LeavesRoom (view_at (root_found left.found) new.reads) want
+  -- the regions were chosen for what the space rule lacks by the new image, with what was delayed before
+  pub missing : CountsMissing pool states (view_at (root_found left.found) new.reads) want
   -- the volumes with delayed entries are marked
   pub delays : AreKnown new.reads left.found marks
   -- of a volume that was written the entries are as the writing leaves them, once its chosen regions were reclaimed; another keeps its container
   pub entries : (s : ℕ) (x : VolumeState) (before : Mapped) → s < slot_count → state_at states s ≡ Some x → is_due (regions_chosen pool states want) s x ≡ true → container_at pool.containers s ≡ Some before
-      → (after : Mapped) × ((container_at left.containers s ≡ Some after) × LeavesEntries (has_region (regions_chosen pool states want) s) x before after)
+      → (after : Mapped) × ((container_at left.containers s ≡ Some after) × LeavesEntries pool.map.committed (has_region (regions_chosen pool states want) s) x before after)
   pub containers : (s : ℕ) → s < slot_count → IfSome (state_at states s) (λ x. is_due (regions_chosen pool states want) s x ≡ false) → container_at left.containers s ≡ container_at pool.containers s
   pub blocks : left.found.blocks ≡ pool.found.blocks
   -- a volume without changes and without a chosen region isn't written: it stays as it is, and the root names the label for it that it had

@@ -20,18 +20,19 @@ use Rattle.fv_volume.specs.Housed.{AreHoused}
 use Rattle.fv_volume.specs.States.{States, state_at}
 use Rattle.fv_cp.specs.Held.{machine_held, IsHeld}
 use Rattle.fv_cp.specs.Lent.{asked_all, FitTogether}
-use Rattle.fv_cp.specs.Choosing.{LeavesRoom, regions_chosen}
+use Rattle.fv_cp.specs.Choosing.{CountsMissing, LeavesRoom, regions_chosen}
 use Rattle.fv_cp.specs.Known.{AreKnown}
 use Rattle.fv_disk.specs.declared.fault.BlockFault.TheVariants as block
-use Rattle.fv_cp.specs.Placing.{pending_files, AreButPlaced, ArePlaced, AreReady, HasNumbers, HaveNoFiles, KeepCores, PlacesEntries}
-use Rattle.fv_cp.specs.Points.{LacksRoom, LeavesContainers}
+use Rattle.fv_cp.specs.Placing.{pending_files, AreButPlaced, ArePlaced, AreReady, HasNumbers, HaveNoFiles, KeepCores, LeavesUnused, PlacesEntries, RestsPlaced}
+use Rattle.fv_cp.specs.Points.{IsNew, IsOld, LacksRoom, LeavesContainers}
 
--- an image stands for the machine of the last point, or for that of the session
+-- an image is of the old side, or of the new one with the machine of the session
 abbrev pub OldOrHeld : Shown → Pool → States → Machine → Image → List ℕ → Type 0
-OldOrHeld disk pool states before c g = ((machine_of c ≡ Some before) ⊎ (machine_of c ≡ Some (machine_held disk pool states))) × (g ≡ disk.given)
+OldOrHeld disk pool states before c g = (IsOld disk pool before c ⊎ IsNew pool (machine_held disk pool states) c) × (g ≡ disk.given)
 
--- What the placing of files and a point make of the entries of volumes: each stays or leads to a block that the root on the disk doesn't hold, and
--- then it is as a point leaves it that reclaims the regions which are chosen by what the volumes are then, with the maps that they have behind it.
+-- What the placing of files and a point make of the entries of volumes. First each stays or leads to a block that the root on the disk doesn't
+-- hold. Then regions are chosen by what the volumes are, with the maps that they have behind the point, and it leaves each entry as one that reclaims
+-- these regions does.
 pub record LeavesPlaced (pool : Pool) (states : States) (want : ℕ) (left : Pool) (stay : States) : Type 0 where
   -- the pool and the volumes between the two
   pub mid : Pool
@@ -41,7 +42,11 @@ pub record LeavesPlaced (pool : Pool) (states : States) (want : ℕ) (left : Poo
   pub maps : (s : ℕ) → option_map (λ (x : VolumeState). x.map) (state_at stay s) ≡ option_map (λ (x : VolumeState). x.map) (state_at between s)
   pub housed : AreHoused mid.containers between
   pub placed : PlacesEntries pool.map pool.containers mid.containers
-  pub containers : LeavesContainers (regions_chosen mid between want) between mid.containers left.containers
+  pub unused : LeavesUnused pool mid between
+  pub rest : RestsPlaced pool states mid between
+  -- So these regions are those that are chosen by the entries of before and the volumes behind the point.
+  pub chosen : regions_chosen mid between want ≡ regions_chosen pool stay want
+  pub containers : LeavesContainers pool.map.committed (regions_chosen mid between want) between mid.containers left.containers
 
 -- What such a point that was done leaves: a settled disk that stands for the machine of the session, which still stands for it, with nothing in
 -- memory that isn't on the disk, and the space rule holds.
@@ -55,6 +60,8 @@ pub record IsHeldPoint (old : Shown) (pool : Pool) (states : States) (want : ℕ
   -- the volumes with delayed entries are marked
   pub delays : AreKnown new.reads left.found marks
   pub entries : LeavesPlaced pool states want left stay
+  -- the regions were chosen for what the space rule lacks by the new image, with what was delayed once the files were placed
+  pub missing : CountsMissing entries.mid entries.between (view_at (root_found left.found) new.reads) want
   -- the new root names no label for a slot without a volume
   pub free : (s : ℕ) → s < slot_count → state_at stay s ≡ None → label_place (root_found left.found) s ≡ 0
 

@@ -23,8 +23,9 @@ use fv_volume::{Pool, VolumeFault, Volumes};
 /// volumes an entry may be delayed though they haven't changed.
 ///
 /// Where that is right and as many blocks are free as are pending and all volumes ask for, a crash at any moment leaves an image that stands for
-/// the machine of the last point or for that of the volumes with their files in memory, and after `Ok` the latter, on a settled disk. No file is
-/// in memory then, and `delays` is right of the new image. Where no point is done it stays.
+/// the machine of the last point, with each block that the root on the disk holds as it was; or one in which the new root counts and that stands
+/// for the machine of the volumes with their files in memory. After `Ok` it is the latter, on a settled disk. No file is in memory then, and
+/// `delays` is right of the new image. Where no point is done it stays.
 ///
 /// # Errors
 /// `DiskFault` comes only where a write or a barrier failed in this call; of what is in memory nothing is said then, and of images as above.

@@ -48,8 +48,9 @@ const SLOTS: u8 = 64;
 /// one may be that the new root names. Where no point is done it stays.
 ///
 /// Where `delays` is right and there is room for the volumes that changed or have a chosen region, a crash at any moment leaves an image that
-/// stands for the machine of before or for that of the volumes lent, and after `Ok` the latter, on a settled disk. Each slot keeps its parent in
-/// the chain of containers. It takes no memory, and reads nothing.
+/// stands for the machine of before, with each block that the root on the disk holds as it was; or one in which the new root counts and that stands
+/// for the machine of the volumes lent. After `Ok` it is the latter, on a settled disk. Each slot keeps its parent in the chain of containers. It
+/// takes no memory, and reads nothing.
 ///
 /// # Errors
 /// `Damaged` comes only where fewer blocks are free than the volumes ask for that changed: at the place of the root that
@@ -57,8 +58,9 @@ const SLOTS: u8 = 64;
 /// in memory nothing is said then, of images as above. `Memory` doesn't come.
 ///
 /// Costs a step for each entry of each volume that changed or of which `delays` says that one may be delayed, and up to 25 more for one that
-/// is no hole, and so again for each volume of which a region is chosen; a write for each kept block, and for each volume that is written one
-/// for each of at most as many blocks as it asks for; beside that a commit, a step for each fixed block, and one for each 64 blocks.
+/// is no hole, and so again for each volume of which a region is chosen, twice in these regions; a write for each kept block, and for each volume
+/// that is written a step for each entry and a write for each of at most as many blocks as it asks for; beside that a commit, a step for each
+/// fixed block, and one for each 64 blocks.
 pub fn consistency_point<D: Disk>(
     volumes: &mut Volumes,
     pool: &mut Pool,

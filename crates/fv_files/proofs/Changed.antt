@@ -14,7 +14,7 @@ use Rattle.fv_tree.specs.declared.kept.Tree.{Tree}
 use Rattle.fv_tree.specs.Sources.{Shown, Use}
 use Rattle.fv_tree.specs.Standing.{standing, under}
 use Rattle.fv_tree.specs.Writing.{IsAlike, Remains}
-use Rattle.fv_tree.specs.Flushing.{IsSound, changed_of, loaded, loaded_over, Stands}
+use Rattle.fv_tree.specs.Flushing.{IsPlaced, IsSound, changed_of, loaded, loaded_over, Stands}
 use Rattle.fv_tree.specs.Altering.{Alters, Leaves, PlacesAnew}
 use Rattle.fv_tree.specs.Leading.{LeadsNoMore}
 use Rattle.fv_tree.specs.Readying.{KeepsReady}
@@ -35,7 +35,7 @@ use Rattle.fv_files.specs.Tables.{table_in, tree_in, file_loaded, loaded_trees, 
 use Rattle.fv_files.specs.Calls.{Becomes, SparesOthers}
 use Rattle.fv_files.proofs.Looked.{Held}
 use Rattle.fv_files.proofs.Tables.{alike, some_same, placed_alike}
-use Rattle.fv_files.specs.Altering.{AltersTrees, AreLaid, LeavesIn, LeavesTrees, MatchesRecord, PlacesIn, PlacesTrees}
+use Rattle.fv_files.specs.Altering.{AltersTrees, AreLaid, IsPlacedIn, LeavesIn, LeavesTrees, MatchesRecord, PlacesIn, PlacesTrees}
 use Rattle.fv_files.proofs.Altered.{AltersBoth, IsLeftLaid, both_as, both_in, both_then, laid_by, leaves_as, leaves_both, leaves_match, leaves_of, leaves_places, places_as, still_changed}
 use Rattle.fv_files.proofs.Beside.{some_differ, same_or, IsOther, LetsGo, UsesNoMore, loading_lets_go, loading_uses, spares_as}
 use Rattle.fv_files.proofs.Kept.{others_leave, rest_leave, own_tree_is, inode_alike, files_same, others_told, file_led, file_spares, file_stands, file_stored, inode_led, inode_spares, inode_stands, inode_stored}
@@ -168,6 +168,10 @@ module _ (old new : Shown) (f : Files) (m : maps.BTreeMap ℕ Tree) (n : ℕ) (t
         (λ (same : b ≡ Some n). subst (λ a. PlacesIn free (loaded_trees (under old) f a) (loaded_trees (under new) g a)) (sym same) (places_as free (loaded_trees (under old) f (Some n)) (loaded_trees (under new) g (Some n)) (loaded old t) (loaded new u) was_tree now_tree is))
         (λ (differs : b ≢ Some n). leaves_places free (loaded_trees (under old) f b) (loaded_trees (under new) g b) (others_leave old new f g n refl becomes.others sound own_spares b differs))
         (same_or b (Some n))
+
+    -- a block of it that was placed is one of the table's
+    pub kept_there : (v : ℕ) → IsPlaced (loaded old t) (loaded new u) v → IsPlacedIn (loaded_trees (under old) f) (loaded_trees (under new) g) v
+    kept_there v placed = record { tree = Some n; old = loaded old t; new = loaded new u; was = was_tree; now = now_tree; placed = placed }
 
     -- the tree of another file
     kept_files : (k : ℕ) → file_at (rooted new f.inode) k ≡ file_at (rooted old f.inode) k

@@ -35,19 +35,20 @@ use Rattle.fv_files.specs.Tables.{table_in, tree_in, loaded_trees, AreStanding, 
 use Rattle.fv_tree.proofs.Beside.{loading_spares}
 use Rattle.fv_files.specs.Apart.{LeadsAny}
 use Rattle.fv_files.specs.Calls.{KeepsStored, SparesOthers}
-use Rattle.fv_files.specs.Flushing.{FlushesKept, HasRoot, LaysTrees, KeptAnew}
+use Rattle.fv_files.specs.Flushing.{FlushesKept, HasRoot, LaysTrees, KeptAnew, KeptKeeps}
 use Rattle.fv_files.specs.Pending.{pending_trees, tree_cost, FitsTable}
 use Rattle.fv_files.proofs.Looked.{Held, counts_done, counts_failed}
 use Rattle.fv_files.proofs.Tables.{placed_then}
 use Rattle.fv_files.proofs.Stored.{places_of}
-use Rattle.fv_files.proofs.Changed.{with_trees, with_inode, owned_stands, owned_stored, has_record, kept_laid, kept_place}
+use Rattle.fv_files.proofs.Changed.{with_trees, with_inode, owned_stands, owned_stored, has_record, kept_laid, kept_place, kept_there}
 use Rattle.fv_files.proofs.Prepared.{readied_led, readied_placed, readied_spares, readied_stands, readied_stored, readied_laid, readied_leave}
 use Rattle.fv_files.proofs.Sums.{most_cost}
 use Rattle.fv_files.proofs.Laid.{kept_flush_led, kept_flush_spares, kept_flush_stored, kept_placed, kept_stood, root_led, root_placed, root_spares, root_stands, root_stored, gone_led, gone_placed, gone_spares, gone_stands, gone_stored, lay_failed, table_spares_then, flushed_spares, gone_laid, gone_leave, root_laid, root_leave}
 use Rattle.fv_tree.specs.Altering.{Leaves}
 use Rattle.fv_tree.proofs.Stays.{unchanged}
-use Rattle.fv_files.specs.Altering.{AreLaid, FlushesPlaces}
+use Rattle.fv_files.specs.Altering.{AreLaid, FlushesKeep, FlushesPlaces, LeavesTrees}
 use Rattle.fv_files.proofs.Altered.{leaves_in_itself, leaves_places, leaves_places_trees, leaves_trees_then, places_match, places_trees_then}
+use Rattle.fv_files.proofs.Unplaced.{placed_stamps, unplaced_then}
 
 -- ---- no memory
 
@@ -210,6 +211,12 @@ module _ (told : Type 0) (old mid : Shown) (f : Files) (m : maps.BTreeMap ℕ Tr
         (λ q. places_match (loaded old kept.tree) (loaded mid kept.next) free q kept.left.levels flushes.stamps kept.left.root (anew tells kept.tree kept.next kept.becomes.was kept.becomes.now stood));
   }
 
+  pub kept_keeps : (keep : ℕ → Type 0) → (told → KeptKeeps keep old mid f.trees m n) → FlushesKeep told keep old mid f g
+  kept_keeps keep keeps = λ tells sound laid v none.
+      let stood = owned_stands old f n kept.tree kept.becomes.was sound in
+      keeps tells kept.tree kept.next kept.becomes.was kept.becomes.now stood v
+      (λ placed. none (kept_there old mid f m n kept.tree kept.next kept.becomes sound (flushed_spares old mid kept.tree kept.next stood (kept.flushes tells stood)) v placed))
+
   pub kept_stores : told → KeepsPlaces old mid → KeepsStored old mid f g
   kept_stores tells places sound led was =
       let stood = owned_stands old f n kept.tree kept.becomes.was sound in
@@ -269,10 +276,12 @@ module _ (told : Type 0) (old mid new : Shown) (f : Files) (m last : maps.BTreeM
     placed_three : AreStanding new three
     placed_three = root_stands mid new two i n levels root kept.next kept.becomes.now loads.looks.untouched sets loads.owner (loads.stands tells) (loads.leads tells) loads.keeps_ready placed_two
 
-    all_placed : IsPlacedTable (table_in old f) (table_in new four)
-    all_placed = placed_then (table_in old f) (table_in new three) (table_in new four)
-        (placed_then (table_in old f) (table_in mid two) (table_in new three) (first.placed tells sound) (root_placed mid new two i n levels root kept.next kept.becomes.now loads.looks.untouched sets))
+    later_placed : IsPlacedTable (table_in mid two) (table_in new four)
+    later_placed = placed_then (table_in mid two) (table_in new three) (table_in new four) (root_placed mid new two i n levels root kept.next kept.becomes.now loads.looks.untouched sets)
         (gone_placed new three last n levels root kept.next kept.becomes.now gone placed_three own spelled reached)
+
+    all_placed : IsPlacedTable (table_in old f) (table_in new four)
+    all_placed = placed_then (table_in old f) (table_in mid two) (table_in new four) (first.placed tells sound) later_placed
 
     all_led : IsLed old f → IsLed new four
     all_led led = gone_led new three last n levels root kept.next kept.becomes.now gone placed_three own spelled reached
@@ -343,16 +352,27 @@ module _ (told : Type 0) (old mid new : Shown) (f : Files) (m last : maps.BTreeM
       two_laid : AreLaid (under mid) two
       two_laid = first_places.laid tells sound laid
 
+      later_leave : LeavesTrees (loaded_trees (under mid) two) (loaded_trees (under new) four)
+      later_leave = leaves_trees_then (loaded_trees (under mid) two) (loaded_trees (under new) three) (loaded_trees (under new) four)
+          (root_leave mid new two i n levels root kept.next kept.becomes.now loads.looks.untouched (sets tells sound) inode_leaves (loads.leads tells) (placed_two tells sound))
+          (gone_leave new three last n levels root kept.next kept.becomes.now gone (placed_three tells sound) (own tells sound) (spelled tells sound) (reached tells sound) done)
+
     pub lay_places : FlushesPlaces told free old new f four
     lay_places = record {
       anew = λ tells sound laid.
           let x = loaded_trees (under old) f in
           let y = loaded_trees (under mid) two in
-          let z = loaded_trees (under new) three in
           let w = loaded_trees (under new) four in
-          places_trees_then first_free first_free free sooner sooner x y w (first_places.anew tells sound laid)
-          (leaves_places_trees first_free y w (leaves_trees_then y z w (root_leave mid new two i n levels root kept.next kept.becomes.now loads.looks.untouched (sets tells sound) (inode_leaves tells sound laid) (loads.leads tells) (placed_two tells sound))
-          (gone_leave new three last n levels root kept.next kept.becomes.now gone (placed_three tells sound) (own tells sound) (spelled tells sound) (reached tells sound) (done tells sound laid))));
+          places_trees_then first_free first_free free sooner sooner x y w (first_places.anew tells sound laid) (leaves_places_trees first_free y w (later_leave tells sound laid));
       laid = λ tells sound laid. gone_laid new three last n levels root kept.next kept.becomes.now gone (placed_three tells sound) (own tells sound) (spelled tells sound) (reached tells sound)
           (root_laid mid new two i n levels root kept.next kept.becomes.now loads.looks.untouched (sets tells sound) (inode_leaves tells sound laid) (loads.leads tells) (placed_two tells sound) (marked tells sound laid) (two_laid tells sound laid));
     }
+
+    -- and what it leaves under a VVBN
+    pub lay_keeps : (first_keep next_keep keep : ℕ → Type 0) → ((v : ℕ) → first_keep v → next_keep v → keep v) → (told → KeptKeeps first_keep old mid f.trees m n) → ((v : ℕ) → next_keep v) → FlushesKeep told keep old new f four
+    lay_keeps first_keep next_keep keep both keeps all = λ tells sound laid.
+        let x = loaded_trees (under old) f in
+        let y = loaded_trees (under mid) two in
+        let w = loaded_trees (under new) four in
+        unplaced_then x y w first_free first_free first_keep next_keep keep both (placed_stamps old mid f two (first.placed tells sound)) (placed_stamps mid new two four (later_placed tells sound)) (first_places.anew tells sound laid)
+        (leaves_places_trees first_free y w (later_leave tells sound laid)) (kept_keeps told old mid f m n (Ok root) kept first_keep keeps tells sound laid) (λ v none. all v)

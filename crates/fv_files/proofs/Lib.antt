@@ -12,6 +12,7 @@ pub mod Made
 pub mod Steps
 pub mod Prepared
 pub mod Removed
+pub mod Unplaced
 pub mod Laid
 pub mod Flushed
 pub mod Passed

@@ -20,16 +20,17 @@ use Rattle.fv_inode.proofs.Slots.{alike_files}
 use Rattle.fv_files.specs.declared.files.Files.{Files}
 use Rattle.fv_files.specs.Tables.{table_in, AreStanding, IsLed, IsStored, loaded_trees}
 use Rattle.fv_files.specs.Calls.{KeepsStored, SparesOthers}
-use Rattle.fv_files.specs.Flushing.{FlushesKept, HasRoot, LaysTrees, KeptAnew}
+use Rattle.fv_files.specs.Flushing.{FlushesKept, HasRoot, LaysTrees, KeptAnew, KeptKeeps}
 use Rattle.fv_files.specs.Pending.{pending_trees, tree_cost, FitsTable}
 use Rattle.fv_files.proofs.Tables.{placed_then, some_same}
 use Rattle.fv_files.proofs.Looked.{counts_done}
 use Rattle.fv_files.proofs.Changed.{with_trees, owned_stands, kept_inode}
-use Rattle.fv_files.proofs.Flushed.{kept_lays, kept_stores, kept_places}
+use Rattle.fv_files.proofs.Flushed.{kept_keeps, kept_lays, kept_stores, kept_places}
 use Rattle.fv_files.proofs.Laid.{flushed_spares, gone_led, gone_placed, gone_spares, gone_stands, gone_stored, table_spares_then, gone_laid, gone_leave}
 use Rattle.fv_tree.proofs.Stays.{unchanged}
-use Rattle.fv_files.specs.Altering.{FlushesPlaces}
+use Rattle.fv_files.specs.Altering.{FlushesKeep, FlushesPlaces, LeavesTrees}
 use Rattle.fv_files.proofs.Altered.{leaves_places_trees, places_trees_then}
+use Rattle.fv_files.proofs.Unplaced.{placed_stamps, unplaced_then}
 
 -- what is known of a file says its root
 pub root_told : (n : ℕ) (info : Info) (o : Option InodeRecord) → Some info ≡ option_map (info_of n) o → HasRoot o info.levels info.root
@@ -80,8 +81,14 @@ module _ (told : Type 0) (old mid : Shown) (f : Files) (m last : maps.BTreeMap �
     placed_two : AreStanding mid two
     placed_two = first.stands tells sound
 
+    later_placed : IsPlacedTable (table_in mid two) (table_in mid three)
+    later_placed = gone_placed mid two last n levels root kept.next kept.becomes.now gone placed_two own spelled reached
+
+    later_leave : LeavesTrees (loaded_trees (under mid) two) (loaded_trees (under mid) three)
+    later_leave = gone_leave mid two last n levels root kept.next kept.becomes.now gone placed_two own spelled reached (unchanged kept.next kept.nothing)
+
     all_placed : IsPlacedTable (table_in old f) (table_in mid three)
-    all_placed = placed_then (table_in old f) (table_in mid two) (table_in mid three) (first.placed tells sound) (gone_placed mid two last n levels root kept.next kept.becomes.now gone placed_two own spelled reached)
+    all_placed = placed_then (table_in old f) (table_in mid two) (table_in mid three) (first.placed tells sound) later_placed
 
     all_led : IsLed old f → IsLed mid three
     all_led led = gone_led mid two last n levels root kept.next kept.becomes.now gone placed_two own spelled reached (first.led tells sound led)
@@ -119,11 +126,22 @@ module _ (told : Type 0) (old mid : Shown) (f : Files) (m last : maps.BTreeMap �
   pass_stores tells places sound = all_stored tells sound places
 
   -- what it does to the places of the table's trees
-  pub pass_places : (free : ℕ → Type 0) → (told → KeptAnew free old mid f.trees m n) → FlushesPlaces told free old mid f three
-  pass_places free anew =
-      let first_places = kept_places told old mid f m n (Ok root) kept free anew in
-      let done = unchanged kept.next kept.nothing in record {
-        anew = λ tells sound laid. places_trees_then free free free (λ v is. is) (λ v is. is) (loaded_trees (under old) f) (loaded_trees (under mid) two) (loaded_trees (under mid) three) (first_places.anew tells sound laid)
-            (leaves_places_trees free (loaded_trees (under mid) two) (loaded_trees (under mid) three) (gone_leave mid two last n levels root kept.next kept.becomes.now gone (placed_two tells sound) (own tells sound) (spelled tells sound) (reached tells sound) done));
-        laid = λ tells sound laid. gone_laid mid two last n levels root kept.next kept.becomes.now gone (placed_two tells sound) (own tells sound) (spelled tells sound) (reached tells sound) (first_places.laid tells sound laid);
-      }
+  module _ (free : ℕ → Type 0) (anew : told → KeptAnew free old mid f.trees m n) where
+    first_places : FlushesPlaces told free old mid f two
+    first_places = kept_places told old mid f m n (Ok root) kept free anew
+
+    pub pass_places : FlushesPlaces told free old mid f three
+    pass_places = record {
+      anew = λ tells sound laid. places_trees_then free free free (λ v is. is) (λ v is. is) (loaded_trees (under old) f) (loaded_trees (under mid) two) (loaded_trees (under mid) three) (first_places.anew tells sound laid)
+          (leaves_places_trees free (loaded_trees (under mid) two) (loaded_trees (under mid) three) (later_leave tells sound));
+      laid = λ tells sound laid. gone_laid mid two last n levels root kept.next kept.becomes.now gone (placed_two tells sound) (own tells sound) (spelled tells sound) (reached tells sound) (first_places.laid tells sound laid);
+    }
+
+    -- and what it leaves under a VVBN
+    pub pass_keeps : (keep : ℕ → Type 0) → (told → KeptKeeps keep old mid f.trees m n) → FlushesKeep told keep old mid f three
+    pass_keeps keep keeps = λ tells sound laid.
+        let x = loaded_trees (under old) f in
+        let y = loaded_trees (under mid) two in
+        let z = loaded_trees (under mid) three in
+        unplaced_then x y z free free keep (λ v. Unit {0}) keep (λ v is all. is) (placed_stamps old mid f two (first.placed tells sound)) (placed_stamps mid mid two three (later_placed tells sound)) (first_places.anew tells sound laid)
+        (leaves_places_trees free y z (later_leave tells sound)) (kept_keeps told old mid f m n (Ok root) kept keep keeps tells sound laid) (λ v none. tt)

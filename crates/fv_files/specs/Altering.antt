@@ -11,7 +11,7 @@ use Rattle.fv_tables.specs.Told.{records_each, file_at}
 use Rattle.fv_tree.specs.declared.kept.Tree.{Tree}
 use Rattle.fv_tree.specs.Sources.{Shown}
 use Rattle.fv_tree.specs.Standing.{standing, under}
-use Rattle.fv_tree.specs.Flushing.{Loaded, changed_of, loaded_over}
+use Rattle.fv_tree.specs.Flushing.{Loaded, IsPlaced, changed_of, loaded_over}
 use Rattle.fv_tree.specs.Altering.{Alters, IsHole, Leaves, PlacesAnew}
 use Rattle.fv_files.specs.declared.files.Files.{Files}
 use Rattle.fv_files.specs.Apart.{Trees}
@@ -59,6 +59,19 @@ PlacesIn free (Some old) (Some new) = PlacesAnew old free new
 abbrev pub PlacesTrees : (ℕ → Type 0) → Trees → Trees → Type 0
 PlacesTrees free x y = (a : Option ℕ) → PlacesIn free (x a) (y a)
 
+-- a block of one of the trees was placed under this VVBN
+pub record IsPlacedIn (x y : Trees) (v : ℕ) : Type 0 where
+  pub tree : Option ℕ
+  pub old : Loaded
+  pub new : Loaded
+  pub was : x tree ≡ Some old
+  pub now : y tree ≡ Some new
+  pub placed : IsPlaced old new v
+
+-- `keep` holds of each VVBN under which no block was placed
+abbrev pub KeepsUnplaced : (ℕ → Type 0) → Trees → Trees → Type 0
+KeepsUnplaced keep x y = (v : ℕ) → (IsPlacedIn x y v → ⊥) → keep v
+
 -- ---- trees in memory and their records
 
 -- A tree is as the record of its file says: it has that root and those levels, and no place of it to which a pointer leads differs from its
@@ -88,3 +101,7 @@ pub record AltersPlaces {T : Type 0} (told well : Type 0) (old new : Shown) (f g
 pub record FlushesPlaces (told : Type 0) (free : ℕ → Type 0) (old new : Shown) (f g : Files) : Type 0 where
   pub anew : told → AreStanding old f → AreLaid (under old) f → PlacesTrees free (loaded_trees (under old) f) (loaded_trees (under new) g)
   pub laid : told → AreStanding old f → AreLaid (under old) f → AreLaid (under new) g
+
+-- What a flush leaves under a VVBN, or a part of one, in every outcome: `keep` says what stays, and so it does where no block was placed.
+abbrev pub FlushesKeep : Type 0 → (ℕ → Type 0) → Shown → Shown → Files → Files → Type 0
+FlushesKeep told keep old new f g = told → AreStanding old f → AreLaid (under old) f → KeepsUnplaced keep (loaded_trees (under old) f) (loaded_trees (under new) g)

@@ -14,7 +14,7 @@ use Rattle.fv_tree.specs.declared.kept.Tree.{Tree}
 use Rattle.fv_tree.specs.Sources.{Shown, Counts, HasCause}
 use Rattle.fv_tree.specs.Standing.{standing, under}
 use Rattle.fv_tree.specs.Costs.{pending, Fits, IsEnough}
-use Rattle.fv_tree.specs.Flushing.{Flushes, IsLeft, ReachesOnce, Stands, loaded}
+use Rattle.fv_tree.specs.Flushing.{Flushes, IsLeft, IsPlaced, ReachesOnce, Stands, loaded}
 use Rattle.fv_tree.specs.Altering.{PlacesAnew}
 use Rattle.fv_files.specs.declared.files.Files.{Files}
 use Rattle.fv_tree.specs.Stored.{HasPlaces, IsStoredWell}
@@ -78,6 +78,10 @@ pub record HasRoot (o : Option InodeRecord) (levels : ℕ) (root : Pointer) : Ty
 -- what it does to the places of that tree; `free` says which VVBNs new blocks got
 abbrev pub KeptAnew : (ℕ → Type 0) → Shown → Shown → maps.BTreeMap ℕ Tree → maps.BTreeMap ℕ Tree → ℕ → Type 0
 KeptAnew free old new m n number = (t u : Tree) → maps.get nat_cmp m number ≡ Some t → maps.get nat_cmp n number ≡ Some u → Stands old t → PlacesAnew (loaded old t) free (loaded new u)
+
+-- what stays under a VVBN, unless a block of that tree was placed under it
+abbrev pub KeptKeeps : (ℕ → Type 0) → Shown → Shown → maps.BTreeMap ℕ Tree → maps.BTreeMap ℕ Tree → ℕ → Type 0
+KeptKeeps keep old new m n number = (t u : Tree) → maps.get nat_cmp m number ≡ Some t → maps.get nat_cmp n number ≡ Some u → Stands old t → (v : ℕ) → (IsPlaced (loaded old t) (loaded new u) v → ⊥) → keep v
 
 -- a tree in memory was placed, or a part of it
 pub record FlushesKept (told : Type 0) (old new : Shown) (m n : maps.BTreeMap ℕ Tree) (number : ℕ) (result : Result Pointer BlockFault) : Type 0 where

@@ -1,6 +1,6 @@
 //! Placing what changed of a table: its files by number, and the inode file last.
 
-ghost use Rattle.std.specs.Prelude.{◌≡◌, ◌≤◌, ◌+◌, ◌-◌, ℕ, true, false, Some, is_some, IfNone, IfOk, IfSome, OnOk};
+ghost use Rattle.std.specs.Prelude.{◌≡◌, ◌≤◌, ◌+◌, ◌-◌, ℕ, true, false, Some, None, is_some, IfNone, IfOk, IfSome, OnOk};
 ghost use Rattle.std.specs.Ordering.{nat_cmp};
 ghost use Rattle.std.specs.BTreeMap as maps;
 ghost use Rattle.fv_tables.specs.Told.{file_at};
@@ -11,8 +11,8 @@ ghost use Rattle.fv_tree.specs.Stored.{KeepsPlaces};
 ghost use Rattle.fv_inode.specs.Files.{rooted};
 ghost use Rattle.fv_files.specs.Tables.{tree_in, AreStanding, IsLed, IsStored, IsStoredUnder};
 ghost use Rattle.fv_files.specs.Calls.{KeepsStored};
-ghost use Rattle.fv_files.specs.Flushing.{FlushesKept, FlushesTable, HasRoot, KeptAnew, LaysTrees};
-ghost use Rattle.fv_files.specs.Altering.{FlushesPlaces};
+ghost use Rattle.fv_files.specs.Flushing.{FlushesKept, FlushesTable, HasRoot, KeptAnew, KeptKeeps, LaysTrees};
+ghost use Rattle.fv_files.specs.Altering.{AreLaid, FlushesKeep, FlushesPlaces};
 
 use crate::files::{Files, FilesFault};
 use crate::remove::forget;
@@ -28,7 +28,8 @@ impl Files {
     /// memory, and the table stands under that root. It is told as before in every outcome, and a later flush goes on where one
     /// failed. It places no more blocks than are pending; with room for so many no damage is answered. It fails as `place` does
     /// or for want of memory, since the inode block of each tree in memory is there, too. All this is so for a table that stands
-    /// on its blocks. Of another it loads what isn't in memory of those inode blocks.
+    /// on its blocks. Of another it loads what isn't in memory of those inode blocks. Where such a table is laid, what the source has
+    /// under a VVBN that isn't in use afterwards stays.
     ///
     /// # Errors
     ///
@@ -38,6 +39,7 @@ impl Files {
         ensures places { FlushesPlaces B.told (WasFree B.shown B.goes blocks.old blocks.new) (B.shown blocks.old) (B.shown blocks.new) self.old self.new }
         ensures stored_well { B.told → B.known → KeepsStored (B.shown blocks.old) (B.shown blocks.new) self.old self.new }
         ensures stored_under { B.told → B.known → IfOk result (λ root. AreStanding (B.shown blocks.old) self.old → IsLed (B.shown blocks.old) self.old → IsStored (B.shown blocks.old) self.old → IsStoredUnder (under (B.shown blocks.new)) self.new.inode.tree.levels root) }
+        ensures keeps { B.told → AreStanding (B.shown blocks.old) self.old → AreLaid (under (B.shown blocks.old)) self.old → (v : ℕ) → (B.shown blocks.new).used v ≡ None → B.keeps v blocks.old blocks.new }
         ensures calls { B.goes blocks.old blocks.new }
     {
         flush_trees(self, blocks)?;
@@ -49,6 +51,7 @@ impl Files {
 fn flush_trees<B: Blocks>(files: &mut Files, blocks: &mut B) -> Result<(), FilesFault>
     ensures lays { LaysTrees B.told (B.shown blocks.old) (B.shown blocks.new) files.old files.new result }
     ensures places { FlushesPlaces B.told (WasFree B.shown B.goes blocks.old blocks.new) (B.shown blocks.old) (B.shown blocks.new) files.old files.new }
+    ensures keeps { FlushesKeep B.told (λ v. B.keeps v blocks.old blocks.new) (B.shown blocks.old) (B.shown blocks.new) files.old files.new }
     ensures stored_well { B.told → B.known → KeepsStored (B.shown blocks.old) (B.shown blocks.new) files.old files.new }
     ensures none { OnOk result (maps.btree_map_len files.new.trees ≡ 0) }
     ensures calls { B.goes blocks.old blocks.new }
@@ -63,6 +66,7 @@ fn flush_trees<B: Blocks>(files: &mut Files, blocks: &mut B) -> Result<(), Files
 fn flush_first<B: Blocks>(files: &mut Files, blocks: &mut B) -> Result<(), FilesFault>
     ensures lays { LaysTrees B.told (B.shown blocks.old) (B.shown blocks.new) files.old files.new result }
     ensures places { FlushesPlaces B.told (WasFree B.shown B.goes blocks.old blocks.new) (B.shown blocks.old) (B.shown blocks.new) files.old files.new }
+    ensures keeps { FlushesKeep B.told (λ v. B.keeps v blocks.old blocks.new) (B.shown blocks.old) (B.shown blocks.new) files.old files.new }
     ensures stored_well { B.told → B.known → KeepsStored (B.shown blocks.old) (B.shown blocks.new) files.old files.new }
     ensures fewer { OnOk result (maps.btree_map_len files.new.trees ≡ maps.btree_map_len files.old.trees - 1) }
     ensures calls { B.goes blocks.old blocks.new }
@@ -90,6 +94,7 @@ fn flush_file<B: Blocks>(files: &mut Files, blocks: &mut B, number: u32) -> Resu
     requires kept { is_some (tree_in files.old number) ≡ true }
     ensures lays { LaysTrees B.told (B.shown blocks.old) (B.shown blocks.new) files.old files.new result }
     ensures places { FlushesPlaces B.told (WasFree B.shown B.goes blocks.old blocks.new) (B.shown blocks.old) (B.shown blocks.new) files.old files.new }
+    ensures keeps { FlushesKeep B.told (λ v. B.keeps v blocks.old blocks.new) (B.shown blocks.old) (B.shown blocks.new) files.old files.new }
     ensures stored_well { B.told → B.known → KeepsStored (B.shown blocks.old) (B.shown blocks.new) files.old files.new }
     ensures fewer { OnOk result (maps.btree_map_len files.new.trees + 1 ≡ maps.btree_map_len files.old.trees) }
     ensures calls { B.goes blocks.old blocks.new }
@@ -115,6 +120,7 @@ fn lay_file<B: Blocks>(
     requires there { B.told → HasRoot (file_at (rooted (B.shown blocks.old) files.old.inode) number) info.now.levels info.now.root }
     ensures lays { LaysTrees B.told (B.shown blocks.old) (B.shown blocks.new) files.old files.new result }
     ensures places { FlushesPlaces B.told (WasFree B.shown B.goes blocks.old blocks.new) (B.shown blocks.old) (B.shown blocks.new) files.old files.new }
+    ensures keeps { FlushesKeep B.told (λ v. B.keeps v blocks.old blocks.new) (B.shown blocks.old) (B.shown blocks.new) files.old files.new }
     ensures stored_well { B.told → B.known → KeepsStored (B.shown blocks.old) (B.shown blocks.new) files.old files.new }
     ensures fewer { OnOk result (maps.btree_map_len files.new.trees + 1 ≡ maps.btree_map_len files.old.trees) }
     ensures calls { B.goes blocks.old blocks.new }
@@ -158,6 +164,7 @@ fn flush_kept<B: Blocks>(
     requires kept { is_some (maps.get nat_cmp trees.old number) ≡ true }
     ensures flushes { FlushesKept B.told (B.shown blocks.old) (B.shown blocks.new) trees.old trees.new number result }
     ensures anew { B.told → KeptAnew (WasFree B.shown B.goes blocks.old blocks.new) (B.shown blocks.old) (B.shown blocks.new) trees.old trees.new number }
+    ensures keeps { B.told → KeptKeeps (λ v. B.keeps v blocks.old blocks.new) (B.shown blocks.old) (B.shown blocks.new) trees.old trees.new number }
     ensures places { B.known → KeepsPlaces (B.shown blocks.old) (B.shown blocks.new) }
     ensures len { maps.btree_map_len trees.new ≡ maps.btree_map_len trees.old }
     ensures calls { B.goes blocks.old blocks.new }

@@ -10,7 +10,7 @@ ghost use Rattle.fv_tree.specs.Standing.{standing, under, Shows};
 ghost use Rattle.fv_tree.specs.Writing.{Remains};
 ghost use Rattle.fv_tree.specs.Stored.{HasPlaces, IsStoredWell, KeepsPlaces};
 ghost use Rattle.fv_tree.specs.Costs.{pending, Fits, IsEnough};
-ghost use Rattle.fv_tree.specs.Flushing.{loaded, loaded_over, Flushes, IsSound, IsLeft, ReachesOnce, Stands};
+ghost use Rattle.fv_tree.specs.Flushing.{loaded, loaded_over, Flushes, IsPlaced, IsSound, IsLeft, ReachesOnce, Stands};
 ghost use Rattle.fv_tree.specs.Altering.{PlacesAnew};
 ghost use Rattle.fv_inode.specs.Files.{rooted};
 
@@ -84,6 +84,7 @@ impl InodeFile {
     pub fn flush<B: Blocks>(&mut self, blocks: &mut B) -> Result<Pointer, InodeFault>
         ensures flushes { B.told → Stands (B.shown blocks.old) self.old.tree → Flushes (loaded (B.shown blocks.old) self.old.tree) (B.shown blocks.old).used (loaded (B.shown blocks.new) self.new.tree) (B.shown blocks.new).used }
         ensures anew { B.told → Stands (B.shown blocks.old) self.old.tree → PlacesAnew (loaded (B.shown blocks.old) self.old.tree) (WasFree B.shown B.goes blocks.old blocks.new) (loaded (B.shown blocks.new) self.new.tree) }
+        ensures keeps { B.told → Stands (B.shown blocks.old) self.old.tree → (v : ℕ) → (IsPlaced (loaded (B.shown blocks.old) self.old.tree) (loaded (B.shown blocks.new) self.new.tree) v → ⊥) → B.keeps v blocks.old blocks.new }
         ensures strays { B.told → Stands (B.shown blocks.old) self.old.tree → (B.shown blocks.new).strays ≡ (B.shown blocks.old).strays }
         ensures remains { B.told → Stands (B.shown blocks.old) self.old.tree → Remains (rooted (B.shown blocks.old) self.old) (rooted (B.shown blocks.new) self.new) }
         ensures files { B.told → Stands (B.shown blocks.old) self.old.tree → (n : ℕ) → file_at (rooted (B.shown blocks.new) self.new) n ≡ file_at (rooted (B.shown blocks.old) self.old) n }

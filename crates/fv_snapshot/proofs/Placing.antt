@@ -43,6 +43,7 @@ none_placed d p x ready = record {
   led = λ is led. led;
   well = λ is led well. well;
   others = λ y other alone apart is. record { standing = is; volume = refl; led = λ led. led; well = λ well. well };
+  unused = λ is v none. refl;
   room = 0;
   rest = 0;
   goes = record { steps = 0; goes = record { strays = 0; noted = no_damage; goes = goes_itself (lent_for p x.map d 0 (home_in x) 0) } };

@@ -73,10 +73,10 @@ module _ (s t u : Loaded) (before between after : ℕ → Option Use) (memory : 
   replaced_second : (v : ℕ) → IsReplaced t u v → IsReplaced s u v
   replaced_second v r = record { level = r.level; place = r.place; flushed = flushed_second r.level r.place r.flushed; leads = leads_second r.level r.place v r.flushed.was r.leads }
 
-  placed_first : (v : ℕ) → IsPlaced s t v → IsPlaced s u v
+  pub placed_first : (v : ℕ) → IsPlaced s t v → IsPlaced s u v
   placed_first v r = record { level = r.level; place = r.place; flushed = flushed_first r.level r.place r.flushed; vvbn = ap (λ (p : Pointer). p.vvbn) (second.stays r.level r.place (inr r.flushed.done)) ∙ r.vvbn }
 
-  placed_second : (v : ℕ) → IsPlaced t u v → IsPlaced s u v
+  pub placed_second : (v : ℕ) → IsPlaced t u v → IsPlaced s u v
   placed_second v r = record { level = r.level; place = r.place; flushed = flushed_second r.level r.place r.flushed; vvbn = r.vvbn }
 
   unchanged_first : (j c : ℕ) → s.changed j c ≡ false → t.changed j c ≡ false

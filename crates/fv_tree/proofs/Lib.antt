@@ -64,4 +64,5 @@ pub mod Stays
 pub mod Spans
 pub mod Altered
 pub mod Anew
+pub mod KeptUnder
 pub mod Taking

@@ -15,7 +15,7 @@ use Rattle.fv_tree.specs.declared.kept.KeptCell.{KeptCell}
 use Rattle.fv_tree.specs.Spelled.{Rooted, hole, pointers_of, pointers_in, pointer_at}
 use Rattle.fv_tree.specs.Sources.{Shown}
 use Rattle.fv_tree.specs.Standing.{standing, under, node_in, cell_in}
-use Rattle.fv_tree.specs.Flushing.{Leads, Stands, IsMoved, IsNodeOf, loaded, changed_of, placed_of, changed_in, node_changed, cell_changed, cell_placed, pointer_in, is_unknown, all_known, kind_for}
+use Rattle.fv_tree.specs.Flushing.{Leads, Stands, IsMoved, IsNodeOf, NamesUsed, loaded, changed_of, placed_of, changed_in, node_changed, cell_changed, cell_placed, pointer_in, is_unknown, all_known, kind_for}
 use Rattle.fv_tree.proofs.Below.{no_pointers, kept_pointers}
 use Rattle.fv_tree.proofs.Cases.{there, bit, false_is_true, none_some}
 use Rattle.fv_tree.proofs.Flushed.{Replaces}
@@ -118,12 +118,15 @@ module _ (source : Shown) (t : Tree) (stands : Stands source t) (k q : ℕ) wher
 -- ---- it is placed
 
 -- the block that is named is in use
-pub no_stray : (old new : Shown) (t mid : Tree) (k q : ℕ) (content : List ℕ) (named known : Bool) → Stands old t → changed_of t k q ≡ true → named ≡ placed_of t k q → IsMoved old t k q content named known new mid → new.strays ≡ old.strays
-no_stray old new t mid k q content named known stands was led moved =
-    let same = shown_is old t stands k q was moved.some in
+pub names_used : (old : Shown) (t : Tree) (k q : ℕ) (named : Bool) → Stands old t → changed_of t k q ≡ true → named ≡ placed_of t k q → NamesUsed old named (pointer_in t k q)
+names_used old t k q named stands was led e some =
+    let same = shown_is old t stands k q was some in
     let v = (pointer_in t k q).vvbn in
-    moved.swaps.strays (λ e. right_some (kind_for t.owner k) (pointer_at (standing (under old) t) k q) (old.used v)
-    (stands.used k q v (record { some = λ none. moved.some (ap (λ (p : Pointer). p.stamp) same ∙ none); placed = sym led ∙ e; vvbn = sym (ap (λ (p : Pointer). p.vvbn) same) })))
+    right_some (kind_for t.owner k) (pointer_at (standing (under old) t) k q) (old.used v)
+    (stands.used k q v (record { some = λ none. some (ap (λ (p : Pointer). p.stamp) same ∙ none); placed = sym led ∙ e; vvbn = sym (ap (λ (p : Pointer). p.vvbn) same) }))
+
+pub no_stray : (old new : Shown) (t mid : Tree) (k q : ℕ) (content : List ℕ) (named known : Bool) → Stands old t → changed_of t k q ≡ true → named ≡ placed_of t k q → IsMoved old t k q content named known new mid → new.strays ≡ old.strays
+no_stray old new t mid k q content named known stands was led moved = moved.swaps.strays (λ e. names_used old t k q named stands was led e moved.some)
 
 module _ (old new : Shown) (t mid u : Tree) (k q : ℕ) (content : List ℕ) (named known : Bool) (stands : Stands old t) (was : changed_of t k q ≡ true) (led : named ≡ placed_of t k q)
     (first : (j c : ℕ) → j + 1 ≡ k → changed_of t j c ≡ false) (moved : IsMoved old t k q content named known new mid) (goes : Goes mid u k q)

@@ -235,6 +235,19 @@ pub record Swaps (old : Shown) (kind : ℕ) (content : List ℕ) (named known : 
   pub strays : (named ≡ true → is_some (old.used r) ≡ true) → new.strays ≡ old.strays
   pub others : (w : ℕ) → w ≢ p.vvbn → (named ≡ false) ⊎ (w ≢ r) → (fin.get new.held w ≡ fin.get old.held w) × (new.used w ≡ old.used w)
 
+-- a VVBN came into use
+pub record CameIntoUse (old new : Shown) (v : ℕ) : Type 0 where
+  pub unused : old.used v ≡ None
+  pub used : is_some (new.used v) ≡ true
+
+-- what is asked of a VVBN holds of each one that didn't come into use
+abbrev pub KeepsOthers : (ℕ → Type 0) → Shown → Shown → Type 0
+KeepsOthers stays old new = (v : ℕ) → (CameIntoUse old new v → ⊥) → stays v
+
+-- the block that a pointer leads to is in use, where it is named as gone
+abbrev pub NamesUsed : Shown → Bool → Pointer → Type 0
+NamesUsed source named p = named ≡ true → p.stamp ≢ 0 → is_some (source.used p.vvbn) ≡ true
+
 -- nothing was placed, since nothing leads there
 pub record IsHidden (old : Shown) (t : Tree) (level place : ℕ) (new : Shown) (u : Tree) : Type 0 where
   pub none : (pointer_in t level place).stamp ≡ 0

@@ -1,6 +1,6 @@
 //! What a tree reaches its blocks through.
 
-ghost use Rattle.std.specs.Prelude.{◌≤◌, IfOk};
+ghost use Rattle.std.specs.Prelude.{◌≢◌, ◌≤◌, ℕ, IfOk};
 ghost use Rattle.fv_tree.specs.Sources.{Shown, IsSource, IsKind, Loads, Places, Drops};
 
 use fv_codec::Pointer;
@@ -46,6 +46,10 @@ pub trait Blocks {
     /// What any call leaves of all else that a source has. Each call on a tree ensures it.
     ghost goes: { Self → Self → Type 0 };
 
+    /// What stays of all that a source has under a VVBN, in use or not, such as an entry that still stands there. Only `place` may
+    /// change it, and only under the VVBN that it answers.
+    ghost keeps: { ℕ → Self → Self → Type 0 };
+
     /// Gives the block under the pointer's VVBN, where content is told, and answers the PVBN that was read, below
     /// 1,048,576, or 0 for a block that isn't placed yet. The map, what is in use and the strays stay. At `Err` the
     /// content of `into` is open.
@@ -71,6 +75,7 @@ pub trait Blocks {
         requires kind { IsKind kind }
         ensures places { Places told (shown self.old) kind block.now (shown self.new) result }
         ensures known { known → IfOk result (λ placed. 1 ≤ placed.pvbn) }
+        ensures keeps { (v : ℕ) → IfOk result (λ placed. placed.vvbn ≢ v) → keeps v self.old self.new }
         ensures calls { goes self.old self.new };
 
     /// Takes that one VVBN out of use, and may drop it from the map; all else stays. One that isn't in use
@@ -78,6 +83,7 @@ pub trait Blocks {
     /// and damages stay.
     fn gone(&mut self, vvbn: u32)
         ensures drops { Drops (shown self.old) vvbn (shown self.new) }
+        ensures keeps { (v : ℕ) → keeps v self.old self.new }
         ensures calls { goes self.old self.new };
 
     /// What holds of every source of blocks: the last damage is one, wherever any was answered.
@@ -95,4 +101,9 @@ pub trait Blocks {
     ghost goes_nothing: { (blocks : Self) → goes blocks blocks };
 
     ghost goes_on: { (old mid new : Self) → goes old mid → goes mid new → goes old new };
+
+    /// A load leaves what stays under each VVBN, and two calls leave what both do.
+    ghost reads_keep: { (v : ℕ) (old new : Self) → reads old new → keeps v old new };
+
+    ghost keeps_on: { (v : ℕ) (old mid new : Self) → keeps v old mid → keeps v mid new → keeps v old new };
 }

@@ -8,7 +8,7 @@ ghost use Rattle.fv_tree.specs.Spelled.{stored};
 ghost use Rattle.fv_tree.specs.Sources.{Counts, HasCause, IsDamaged, IsUntouched, WasFree};
 ghost use Rattle.fv_tree.specs.Standing.{standing, under};
 ghost use Rattle.fv_tree.specs.Writing.{Remains};
-ghost use Rattle.fv_tree.specs.Flushing.{changed_in, loaded, pointer_in, Flushes, HoldsAsMuch, IsCellStep, IsLeft, IsNodeStep, ReachesOnce, Stands};
+ghost use Rattle.fv_tree.specs.Flushing.{changed_in, loaded, pointer_in, Flushes, HoldsAsMuch, IsCellStep, IsLeft, IsNodeStep, IsPlaced, KeepsOthers, NamesUsed, ReachesOnce, Stands};
 ghost use Rattle.fv_tree.specs.Altering.{PlacesAnew};
 ghost use Rattle.fv_tree.specs.Stored.{IsStoredWell, HasPlaces, KeepsPlaces};
 ghost use Rattle.fv_tree.specs.Costs.{changes_in, pending, Fits, IsEnough};
@@ -24,6 +24,7 @@ use fv_codec::Pointer;
 fn flush_cells<B: Blocks>(tree: &mut Tree, blocks: &mut B) -> Result<(), TreeFault>
     ensures flushes { B.told → Stands (B.shown blocks.old) tree.old → Flushes (loaded (B.shown blocks.old) tree.old) (B.shown blocks.old).used (loaded (B.shown blocks.new) tree.new) (B.shown blocks.new).used }
     ensures anew { B.told → Stands (B.shown blocks.old) tree.old → PlacesAnew (loaded (B.shown blocks.old) tree.old) (WasFree B.shown B.goes blocks.old blocks.new) (loaded (B.shown blocks.new) tree.new) }
+    ensures keeps { B.told → Stands (B.shown blocks.old) tree.old → (v : ℕ) → (IsPlaced (loaded (B.shown blocks.old) tree.old) (loaded (B.shown blocks.new) tree.new) v → ⊥) → B.keeps v blocks.old blocks.new }
     ensures strays { B.told → Stands (B.shown blocks.old) tree.old → (B.shown blocks.new).strays ≡ (B.shown blocks.old).strays }
     ensures left { IsLeft tree.old tree.new }
     ensures fits { B.told → Stands (B.shown blocks.old) tree.old → Fits (B.shown blocks.old) tree.old (B.shown blocks.new) tree.new }
@@ -46,6 +47,7 @@ fn flush_nodes<B: Blocks>(tree: &mut Tree, blocks: &mut B) -> Result<(), TreeFau
     requires { maps.btree_map_len tree.old.cells ≡ 0 }
     ensures flushes { B.told → Stands (B.shown blocks.old) tree.old → Flushes (loaded (B.shown blocks.old) tree.old) (B.shown blocks.old).used (loaded (B.shown blocks.new) tree.new) (B.shown blocks.new).used }
     ensures anew { B.told → Stands (B.shown blocks.old) tree.old → PlacesAnew (loaded (B.shown blocks.old) tree.old) (WasFree B.shown B.goes blocks.old blocks.new) (loaded (B.shown blocks.new) tree.new) }
+    ensures keeps { B.told → Stands (B.shown blocks.old) tree.old → (v : ℕ) → (IsPlaced (loaded (B.shown blocks.old) tree.old) (loaded (B.shown blocks.new) tree.new) v → ⊥) → B.keeps v blocks.old blocks.new }
     ensures strays { B.told → Stands (B.shown blocks.old) tree.old → (B.shown blocks.new).strays ≡ (B.shown blocks.old).strays }
     ensures left { IsLeft tree.old tree.new }
     ensures fits { B.told → Stands (B.shown blocks.old) tree.old → Fits (B.shown blocks.old) tree.old (B.shown blocks.new) tree.new }
@@ -68,6 +70,7 @@ fn flush_nodes<B: Blocks>(tree: &mut Tree, blocks: &mut B) -> Result<(), TreeFau
 fn flush_first_cell<B: Blocks>(tree: &mut Tree, blocks: &mut B) -> Result<(), TreeFault>
     ensures flushes { B.told → Stands (B.shown blocks.old) tree.old → Flushes (loaded (B.shown blocks.old) tree.old) (B.shown blocks.old).used (loaded (B.shown blocks.new) tree.new) (B.shown blocks.new).used }
     ensures anew { B.told → Stands (B.shown blocks.old) tree.old → PlacesAnew (loaded (B.shown blocks.old) tree.old) (WasFree B.shown B.goes blocks.old blocks.new) (loaded (B.shown blocks.new) tree.new) }
+    ensures keeps { B.told → Stands (B.shown blocks.old) tree.old → (v : ℕ) → (IsPlaced (loaded (B.shown blocks.old) tree.old) (loaded (B.shown blocks.new) tree.new) v → ⊥) → B.keeps v blocks.old blocks.new }
     ensures strays { B.told → Stands (B.shown blocks.old) tree.old → (B.shown blocks.new).strays ≡ (B.shown blocks.old).strays }
     ensures left { IsLeft tree.old tree.new }
     ensures fits { B.told → Stands (B.shown blocks.old) tree.old → Fits (B.shown blocks.old) tree.old (B.shown blocks.new) tree.new }
@@ -97,6 +100,7 @@ fn flush_cell<B: Blocks>(
     cell: &KeptCell,
 ) -> Result<(), TreeFault>
     ensures cell { B.told → OnOk result (IsCellStep (B.shown blocks.old) tree.old index cell.now (B.shown blocks.new) tree.new) }
+    ensures keeps { B.told → (cell.now.changed ≡ true → NamesUsed (B.shown blocks.old) cell.now.placed (pointer_in tree.old 0 index)) → KeepsOthers (λ v. B.keeps v blocks.old blocks.new) (B.shown blocks.old) (B.shown blocks.new) }
     ensures still { HoldsAsMuch tree.old tree.new }
     ensures failed { OnErr result (tree.new ≡ tree.old) }
     ensures changed { OnErr result (cell.now.changed ≡ true) }
@@ -123,6 +127,7 @@ fn flush_first_node<B: Blocks>(tree: &mut Tree, blocks: &mut B) -> Result<(), Tr
     requires { maps.btree_map_len tree.old.cells ≡ 0 }
     ensures flushes { B.told → Stands (B.shown blocks.old) tree.old → Flushes (loaded (B.shown blocks.old) tree.old) (B.shown blocks.old).used (loaded (B.shown blocks.new) tree.new) (B.shown blocks.new).used }
     ensures anew { B.told → Stands (B.shown blocks.old) tree.old → PlacesAnew (loaded (B.shown blocks.old) tree.old) (WasFree B.shown B.goes blocks.old blocks.new) (loaded (B.shown blocks.new) tree.new) }
+    ensures keeps { B.told → Stands (B.shown blocks.old) tree.old → (v : ℕ) → (IsPlaced (loaded (B.shown blocks.old) tree.old) (loaded (B.shown blocks.new) tree.new) v → ⊥) → B.keeps v blocks.old blocks.new }
     ensures strays { B.told → Stands (B.shown blocks.old) tree.old → (B.shown blocks.new).strays ≡ (B.shown blocks.old).strays }
     ensures left { IsLeft tree.old tree.new }
     ensures fits { B.told → Stands (B.shown blocks.old) tree.old → Fits (B.shown blocks.old) tree.old (B.shown blocks.new) tree.new }
@@ -154,6 +159,7 @@ fn flush_node<B: Blocks>(
     node: &KeptNode,
 ) -> Result<(), TreeFault>
     ensures node { B.told → OnOk result (IsNodeStep (B.shown blocks.old) tree.old level place node.now (B.shown blocks.new) tree.new) }
+    ensures keeps { B.told → (1 ≤ level → node.now.changed ≡ true → NamesUsed (B.shown blocks.old) node.now.placed (pointer_in tree.old level place)) → KeepsOthers (λ v. B.keeps v blocks.old blocks.new) (B.shown blocks.old) (B.shown blocks.new) }
     ensures still { HoldsAsMuch tree.old tree.new }
     ensures failed { OnErr result (tree.new ≡ tree.old) }
     ensures changed { OnErr result (node.now.changed ≡ true) }
@@ -183,9 +189,10 @@ impl Tree {
     /// to, and names each block that one of them replaces once to `gone`. A node that holds an unknown pointer
     /// gets an unknown pointer itself, and any other pointer to a new block tells the PVBN that `place` answered.
     /// Each new block is placed with the kind of its level: 1 for a file's cell and 2 to 4 for its nodes, 5 for an
-    /// inode file's cell and 6 and 7 for its nodes. Answers the root, and then nothing is in memory. Levels, cells and marks stay as they are, also after a
-    /// fault, and a later flush then goes on where this one ended. All this is so for a tree that stands on its
-    /// blocks. It takes no memory, loads nothing, and walks only what is in memory.
+    /// inode file's cell and 6 and 7 for its nodes. Answers the root, and then nothing is in memory. Levels, cells and
+    /// marks stay as they are, also after a fault, and a later flush then goes on where this one ended. What the source
+    /// has under a VVBN stays, unless a new block of the tree lies there afterwards. All this is so for a tree that
+    /// stands on its blocks. It takes no memory, loads nothing, and walks only what is in memory.
     ///
     /// # Errors
     ///
@@ -193,6 +200,7 @@ impl Tree {
     pub fn flush<B: Blocks>(&mut self, blocks: &mut B) -> Result<Pointer, TreeFault>
         ensures flushes { B.told → Stands (B.shown blocks.old) self.old → Flushes (loaded (B.shown blocks.old) self.old) (B.shown blocks.old).used (loaded (B.shown blocks.new) self.new) (B.shown blocks.new).used }
         ensures anew { B.told → Stands (B.shown blocks.old) self.old → PlacesAnew (loaded (B.shown blocks.old) self.old) (WasFree B.shown B.goes blocks.old blocks.new) (loaded (B.shown blocks.new) self.new) }
+        ensures keeps { B.told → Stands (B.shown blocks.old) self.old → (v : ℕ) → (IsPlaced (loaded (B.shown blocks.old) self.old) (loaded (B.shown blocks.new) self.new) v → ⊥) → B.keeps v blocks.old blocks.new }
         ensures strays { B.told → Stands (B.shown blocks.old) self.old → (B.shown blocks.new).strays ≡ (B.shown blocks.old).strays }
         ensures remains { B.told → Stands (B.shown blocks.old) self.old → Remains (standing (under (B.shown blocks.old)) self.old) (standing (under (B.shown blocks.new)) self.new) }
         ensures left { IsLeft self.old self.new }

@@ -10,7 +10,7 @@ ghost use Rattle.fv_tree.specs.Sources.{Counts, Drops, HasCause, IsCalm, IsDamag
 ghost use Rattle.fv_tree.specs.Standing.{children_in};
 ghost use Rattle.fv_tree.specs.Costs.{cells_changed, changes_in};
 ghost use Rattle.fv_tree.specs.Stored.{KeepsPlaces};
-ghost use Rattle.fv_tree.specs.Flushing.{all_known, cell_changed, changed_in, is_unknown, kind_for, placed_in, pointer_in, ForgetsCell, ForgetsNode, HoldsAsMuch, IsHidden, IsMoved, Points, Swaps};
+ghost use Rattle.fv_tree.specs.Flushing.{all_known, cell_changed, changed_in, is_unknown, kind_for, placed_in, pointer_in, ForgetsCell, ForgetsNode, HoldsAsMuch, IsHidden, IsMoved, KeepsOthers, NamesUsed, Points, Swaps};
 
 use crate::blocks::{Blocks, Placed, TreeFault};
 use crate::kept::{HOLE, KeptCell, KeptNode, Tree};
@@ -127,6 +127,7 @@ pub fn replace<B: Blocks>(
 ) -> Result<(), TreeFault>
     requires { spot.0 ≤ 3 }
     ensures moves { B.told → OnOk result ((IsHidden (B.shown blocks.old) tree.old spot.0 spot.1 (B.shown blocks.new) tree.new) ⊎ (IsMoved (B.shown blocks.old) tree.old spot.0 spot.1 block.now placed known (B.shown blocks.new) tree.new)) }
+    ensures keeps { B.told → NamesUsed (B.shown blocks.old) placed (pointer_in tree.old spot.0 spot.1) → KeepsOthers (λ v. B.keeps v blocks.old blocks.new) (B.shown blocks.old) (B.shown blocks.new) }
     ensures still { HoldsAsMuch tree.old tree.new }
     ensures failed { OnErr result (tree.new ≡ tree.old) }
     ensures changes { ((pointer_in tree.old spot.0 spot.1).stamp ≢ 0 → spot.0 < tree.old.levels → changed_in tree.old.nodes (spot.0 + 1) (spot.1 / fan) ≡ true) → changes_in tree.new.nodes ≤ changes_in tree.old.nodes }
@@ -165,6 +166,7 @@ fn swap<B: Blocks>(
     requires pointer { IsPointer old.now }
     requires some { old.now.stamp ≢ 0 }
     ensures swaps { B.told → IfOk result (λ p. Swaps (B.shown blocks.old) kind block.now placed known old.now.vvbn p (B.shown blocks.new)) }
+    ensures keeps { B.told → NamesUsed (B.shown blocks.old) placed old.now → KeepsOthers (λ v. B.keeps v blocks.old blocks.new) (B.shown blocks.old) (B.shown blocks.new) }
     ensures stamp { IfOk result (λ p. p.stamp ≡ old.now.stamp) }
     ensures pointer { IfOk result IsPointer }
     ensures places { B.known → KeepsPlaces (B.shown blocks.old) (B.shown blocks.new) }
@@ -185,6 +187,7 @@ fn swap<B: Blocks>(
 fn name_gone<B: Blocks>(blocks: &mut B, asked: bool, vvbn: u32)
     ensures gone { asked ≡ true → Drops (B.shown blocks.old) vvbn (B.shown blocks.new) }
     ensures untouched { asked ≡ false → IsUntouched (B.shown blocks.old) (B.shown blocks.new) }
+    ensures keeps { (v : ℕ) → B.keeps v blocks.old blocks.new }
     ensures room { (B.shown blocks.old).room ≤ (B.shown blocks.new).room }
     ensures spent { (B.shown blocks.new).spent ≡ (B.shown blocks.old).spent }
     ensures calls { B.goes blocks.old blocks.new }

@@ -177,6 +177,8 @@ impl Blocks for MemBlocks {
 
     ghost goes = { λ a b. b.unknown ≡ a.unknown };
 
+    ghost keeps = { λ v a b. Unit {0} };
+
     ghost laws = { λ b. in_memory_is_source b.blocks b.next b.loads b.strays b.faults };
 
     ghost reads_nothing = { λ b. (refl, refl) };
@@ -188,6 +190,10 @@ impl Blocks for MemBlocks {
     ghost goes_nothing = { λ b. refl };
 
     ghost goes_on = { λ a b c first second. second ∙ first };
+
+    ghost reads_keep = { λ v a b is. tt };
+
+    ghost keeps_on = { λ v a b c first second. tt };
 
     fn load(&mut self, pointer: &Pointer, into: &mut [u8; 4096]) -> Result<u32, TreeFault> {
         if self.is_spent() || pointer.vvbn >= u64::from(MOST) {

@@ -31,6 +31,8 @@ impl Blocks for Silent {
 
     ghost goes = { λ a b. Unit {0} };
 
+    ghost keeps = { λ v a b. Unit {0} };
+
     ghost laws = { λ b. silence_is_source b.strays };
 
     ghost reads_nothing = { λ b. tt };
@@ -42,6 +44,10 @@ impl Blocks for Silent {
     ghost goes_nothing = { λ b. tt };
 
     ghost goes_on = { λ a b c first second. tt };
+
+    ghost reads_keep = { λ v a b is. tt };
+
+    ghost keeps_on = { λ v a b c first second. tt };
 
     fn load(&mut self, pointer: &Pointer, into: &mut [u8; 4096]) -> Result<u32, TreeFault> {
         *into = self.block;

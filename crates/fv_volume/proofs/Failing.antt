@@ -89,3 +89,7 @@ blocks_of kept slots map slot i = λ v. fin.get (below 1048576 (λ w. block_of k
 pub of_lent : {K S M D H : Type 0} (says : K → S → M → D → H → Type 0) {p q : K} {s t : S} {m n : M} {d e : D} {h k : H} → p ≡ q → s ≡ t → m ≡ n → d ≡ e → h ≡ k → says p s m d h → says q t n e k
 of_lent says {p = p} {q = q} {s = s} {t = t} {m = m} {n = n} {d = d} {e = e} {h = h} kept slots map disk home is =
     subst (λ x. says q t n e x) home (subst (λ x. says q t n x h) disk (subst (λ x. says q t x d h) map (subst (λ x. says q x m d h) slots (subst (λ x. says x s m d h) kept is))))
+
+-- So it is where the entries, the maps and the home alone are spoken of.
+pub of_entries : {S M H : Type 0} (says : S → M → H → Type 0) {s t : S} {m n : M} {h k : H} → s ≡ t → m ≡ n → h ≡ k → says s m h → says t n k
+of_entries says {s = s} {t = t} {m = m} {n = n} {h = h} {k = k} slots map home is = subst (λ x. says t n x) home (subst (λ x. says t x h) map (subst (λ x. says x m h) slots is))

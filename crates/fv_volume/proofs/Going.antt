@@ -302,3 +302,12 @@ module _ (pool new : Pool) (map after : Volume) (kind : ℕ) (block : List ℕ) 
 
   pub goes_placed : map.span ≤ length (entries_in (container_at pool.containers home.slot)) → Goes
   goes_placed room_is = with_container_there (container_at pool.containers home.slot) refl room_is
+
+-- The entries of the volume under the other numbers stay.
+pub entry_stays : (pool new : Pool) (map after : Volume) (slot kind : ℕ) (block : List ℕ) (placed : Placed) → PlacesBlock pool map slot kind block new after placed → map.span ≤ length (entries_in (container_at pool.containers slot))
+    → (w : ℕ) → w ≢ placed.vvbn → own_entry (container_at new.containers slot) w ≡ own_entry (container_at pool.containers slot) w
+entry_stays pool new map after slot kind block placed places room w other = by (container_at pool.containers slot) refl room
+  where
+    by : (o : Option Mapped) → container_at pool.containers slot ≡ o → map.span ≤ length (entries_in o) → own_entry (container_at new.containers slot) w ≡ own_entry (container_at pool.containers slot) w
+    by None there room = absurd (omega (arith, room, places.takes.number.within))
+    by (Some c) there room = own_others pool new map after slot kind block placed places c there (omega (arith, room, places.takes.number.within)) w other

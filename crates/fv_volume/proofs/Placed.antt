@@ -6,7 +6,7 @@ use Rattle.std.proofs.Math.Nat.{min-eq_left, min-le_right}
 use Rattle.fv_disk.specs.Shown.{Image, Shown as Disk}
 use Rattle.fv_disk.specs.declared.fault.BlockFault.{BlockFault}
 use Rattle.fv_codec.specs.declared.pointer.Pointer.{Pointer}
-use Rattle.fv_codec.specs.Blocks.{IsLabel, IsPointer}
+use Rattle.fv_codec.specs.Blocks.{IsPointer}
 use Rattle.fv_root.specs.declared.find.Found.{Found}
 use Rattle.fv_root.specs.Formatted.{IsSize}
 use Rattle.fv_laws.specs.WellFormed.{IsWellTable}

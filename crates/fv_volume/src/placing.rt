@@ -3,13 +3,14 @@
 ghost use Rattle.std.specs.Prelude.{◌≡◌, min, true, Some, None, is_some, OnOk, IfErr};
 ghost use Rattle.fv_store.specs.Held.{StandsOn};
 ghost use Rattle.fv_tree.specs.Standing.{under};
+ghost use Rattle.fv_files.specs.Altering.{AreLaid};
 ghost use Rattle.fv_files.specs.Tables.{AreStanding};
 ghost use Rattle.fv_volume.specs.BlocksOver.{HasRoom};
 ghost use Rattle.fv_volmap.specs.Slots.{IsVolume};
 ghost use Rattle.fv_volume.specs.Held.{IsPlaceFault, IsPlacedAs, MayFail};
 ghost use Rattle.fv_volume.specs.Lending.{CanLend, IsTold, lent_for, sees};
 ghost use Rattle.fv_volume.specs.OneVolume.{home_in, IsReady, IsStanding};
-ghost use Rattle.fv_volume.specs.Placing.{FlushFails, Goes, IsUnkept, KeepsPlaced, LeavesOthers, PlaceFails, PlacesTable, PlacesVolume, TakesRoom};
+ghost use Rattle.fv_volume.specs.Placing.{FlushFails, Goes, IsUnkept, KeepsPlaced, KeepsUnused, LeavesOthers, PlaceFails, PlacesTable, PlacesVolume, TakesRoom};
 
 use crate::blocks::Home;
 use crate::fault::VolumeFault;
@@ -28,7 +29,8 @@ impl VolumeState {
     /// Places what changed of the files since the last flush: each block gets a VVBN and a PVBN, its entry is set, and it is kept in
     /// the pool until the next consistency point. The files' trees come first, each with its root laid into its inode block, and the
     /// inode file last. Then nothing of the files is in memory, and `active` names them. In every outcome the volume stands for what it
-    /// stood for, as each other one does, and a later flush goes on where one failed. It writes nothing to the disk.
+    /// stood for, as each other one does, and a later flush goes on where one failed. Under a number that isn't in use afterwards the
+    /// entry stays. It writes nothing to the disk.
     ///
     /// `room` says how many numbers and blocks the caller made sure of. It doesn't rise, and so many are free afterwards. For a volume that
     /// stands it falls by no more than what is pending does, and where it is enough for all that is pending, only memory can be lacking.
@@ -57,6 +59,7 @@ impl VolumeState {
         ensures idle { self.old.files ≡ None → (pool.new ≡ pool.old) × ((self.new ≡ self.old) × (room.new ≡ room.old)) }
         ensures goes { Goes (lent_for pool.old self.old.map (D.shown disk.now) 0 (home_in self.old) room.old) pool.new self.new.map (D.shown disk.now) room.new }
         ensures others { LeavesOthers (D.shown disk.now) pool.old self.old.slot (D.shown disk.now) pool.new }
+        ensures unused { IsStanding (D.shown disk.now) pool.old self.old → KeepsUnused pool.old.containers pool.new.containers self.old.slot self.new.map }
         ensures free { HasRoom pool.new.map self.new.map room.new }
         ensures cause { IfErr result (FlushFails (IsStanding (D.shown disk.now) pool.old self.old) (lent_for pool.old self.old.map (D.shown disk.now) 0 (home_in self.old) room.old) room.new) }
         ensures filed { IfErr result (λ e. is_some self.old.files ≡ true) }
@@ -120,6 +123,7 @@ fn place_table<K: Guard, D: Disk>(
     requires stands { K.told → AreStanding (sees pool.old map.old (D.shown disk.now) home.now) files.old }
     ensures table { PlacesTable K.told (sees pool.old map.old (D.shown disk.now) home.now)
         (under (sees pool.new map.new (D.shown disk.now) home.now)) (sees pool.new map.new (D.shown disk.now) home.now).used (IsUnkept (D.shown disk.now) pool.old map.old home.now.slot) files.old files.new result }
+    ensures unused { K.told → AreLaid (under (sees pool.old map.old (D.shown disk.now) home.now)) files.old → KeepsUnused pool.old.containers pool.new.containers home.now.slot map.new }
     ensures goes { Goes (lent_for pool.old map.old (D.shown disk.now) 0 home.now room.old) pool.new map.new (D.shown disk.now) room.new }
     ensures room { TakesRoom K.told files.old files.new room.old room.new result }
     ensures stands { StandsOn (D.shown disk.now) pool.new.store.pairs }

@@ -68,6 +68,9 @@ impl<'p, 'd, 'v, 's, K: Guard, D: Disk, L: Ledger> Blocks for VolumeDrops<'p, 'd
     ghost goes = { λ a b. (b.pool.ghost_name ≡ a.pool.ghost_name) × (b.disk.ghost_name ≡ a.disk.ghost_name) × (b.map.ghost_name ≡ a.map.ghost_name) × (b.steps.ghost_name ≡ a.steps.ghost_name)
         × DropsOver (lent_by a.pool.now a.map.now (D.shown a.disk.now) a.steps.now a.home 0 a.strays a.noted) (lent_by b.pool.now b.map.now (D.shown b.disk.now) b.steps.now b.home 0 b.strays b.noted) };
 
+    // Nothing is asked of what stays under a VVBN.
+    ghost keeps = { λ v a b. Unit {0} };
+
     ghost laws = { λ b. record { damage = b.damage } };
 
     ghost reads_nothing = { λ b. (refl, refl, refl, refl, reads_itself _) };
@@ -79,6 +82,10 @@ impl<'p, 'd, 'v, 's, K: Guard, D: Disk, L: Ledger> Blocks for VolumeDrops<'p, 'd
     ghost goes_nothing = { λ b. (refl, refl, refl, refl, drops_itself _) };
 
     ghost goes_on = { λ a b c first second. (second.0 ∙ first.0, second.1 ∙ first.1, second.2 ∙ first.2, second.3 ∙ first.3, drops_then _ _ _ first.4 second.4) };
+
+    ghost reads_keep = { λ v a b reads. tt };
+
+    ghost keeps_on = { λ v a b c first second. tt };
 
     fn load(&mut self, pointer: &Pointer, into: &mut [u8; 4096]) -> Result<u32, TreeFault> {
         match read_pointed(

@@ -134,13 +134,10 @@ fn leaf_at(host: &mut MemHost, label: &Block, region: u64) -> Block {
     named(host, &above, (region % 256).saturating_add(128))
 }
 
-/// The place of an entry of a leaf, whose entries have twelve bytes each; a hole has none, 0.
+/// The place of one of the 256 entries of a leaf, which have twelve bytes each; a hole has none, 0.
 fn place_in(leaf: &Block, entry: u64) -> u64 {
-    let at = entry.saturating_mul(3).saturating_add(257);
-    match leaf.chunks(4).nth(at as usize) {
-        Some([a, b, c, d]) => u64::from(u32::from_be_bytes([*a, *b, *c, *d])),
-        _ => 0,
-    }
+    let at = (entry % 256) as usize * 12 + 1028;
+    u64::from(u32::from_be_bytes([leaf[at], leaf[at + 1], leaf[at + 2], leaf[at + 3]]))
 }
 
 /// How many entries of a region are delayed: they are no holes, and their VVBNs aren't held.
@@ -200,10 +197,7 @@ fn hold_mapped(host: &mut MemHost, label: &Block, region: u64, slot: u64, held: 
 
 /// Whether a bit of a byte of a block is set.
 fn has_bit(block: &Block, byte: u64, bit: u64) -> bool {
-    match block.iter().nth(byte as usize) {
-        Some(byte) => (u64::from(*byte) >> (bit % 8)) % 2 == 1,
-        None => false,
-    }
+    (u64::from(block[(byte % 4096) as usize]) >> (bit % 8)) % 2 == 1
 }
 
 /// Adds the VVBNs of a region that are those of the map of a slot.

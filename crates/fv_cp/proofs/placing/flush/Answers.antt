@@ -1,4 +1,4 @@
-use Rattle.std.proofs.Common.{◌≡◌, Err, Result, rules, refl, sym, subst}
+use Rattle.std.proofs.Common.{◌≡◌, Err, Result, rules, refl, sym, subst, arith}
 use Rattle.std.specs.Prelude.{IfErr}
 use Rattle.fv_volume.specs.declared.fault.VolumeFault.{VolumeFault}
 use Rattle.fv_volume.specs.declared.fault.VolumeFault.TheVariants.{Memory}
@@ -9,8 +9,9 @@ use Rattle.fv_cp.proofs.placing.flush.Goals as goal
 pub returns-in_err-flush_slot-clause-placed : goal.returns-in_err-flush_slot-clause-placed
 returns-in_err-flush_slot-clause-placed g c =
     let did = c.flush_slot.ensures in
-    (come_more (g.D.Disk.shown c.args.disk.now) c.args.pool.now c.args.volumes.now (g.D.Disk.shown c.args.disk.now) c.loop-slot.pool c.loop-slot.volumes c.loop-slot.invariant.come c.loop-slot.slot
-    (g.D.Disk.shown c.args.disk.now) c.flush_slot.new.pool c.flush_slot.new.volumes did.placed (λ none. refl) did.idle).placed
+    let passed = c.loop-slot.invariant in
+    (come_more (g.D.Disk.shown c.args.disk.now) c.args.pool.now c.args.volumes.now (g.D.Disk.shown c.args.disk.now) c.loop-slot.pool c.loop-slot.volumes passed.come c.loop-slot.slot
+    (g.D.Disk.shown c.args.disk.now) c.flush_slot.new.pool c.flush_slot.new.volumes (passed.ahead c.loop-slot.slot (omega arith)) did.placed (λ none. refl) did.idle).placed
 
 pub returns-in_err-flush_slot-clause-enough : goal.returns-in_err-flush_slot-clause-enough
 returns-in_err-flush_slot-clause-enough g c = λ before was room.
@@ -28,4 +29,4 @@ pub loop-slot-preserved : goal.loop-slot-preserved
 loop-slot-preserved g c =
     let did = c.in_ok-flush_slot.ensures in
     passed_more (g.D.Disk.shown c.args.disk.now) c.args.pool.now c.args.volumes.now (g.D.Disk.shown c.args.disk.now) c.loop-slot.pool c.loop-slot.volumes c.loop-slot.invariant.come c.loop-slot.slot
-    (g.D.Disk.shown c.args.disk.now) c.flush_slot.new.pool c.flush_slot.new.volumes c.loop-slot.invariant.done c.loop-slot.invariant.whole did.none did.whole did.placed (λ none. refl) did.idle
+    (g.D.Disk.shown c.args.disk.now) c.flush_slot.new.pool c.flush_slot.new.volumes c.loop-slot.invariant.ahead c.loop-slot.invariant.done c.loop-slot.invariant.whole did.none did.whole did.placed (λ none. refl) did.idle

@@ -1,7 +1,8 @@
 use Rattle.std.proofs.Common.{◌≡◌, ◌≤◌, ◌<◌, ℕ, ◌∙◌, arith}
 use Rattle.fv_cp.specs.Choosing.{holdings}
 use Rattle.fv_cp.specs.Planning.{is_set, taken}
-use Rattle.fv_cp.proofs.Ending.{found_left, goes_on, moments, point, rests, writing}
+use Rattle.fv_cp.proofs.Crashing.{rests, writing}
+use Rattle.fv_cp.proofs.Ending.{found_left, goes_on, moments, point}
 use Rattle.fv_cp.proofs.Marking.{asked_now, fit_marked, lent_marked}
 use Rattle.fv_cp.proofs.Pointing.{come_chosen, marked_chosen, none_left}
 use Rattle.fv_cp.proofs.point.consistency_point.Goals as goal

@@ -15,6 +15,7 @@ use Rattle.fv_files.proofs.Kept.{stored_on_blocks}
 use Rattle.fv_files.proofs.Laid.{lays_then, places_then, stores_then}
 use Rattle.fv_files.proofs.Flushed.{lays_failed, lays_astray, look_lays, look_none, look_places, places_astray, strayed}
 use Rattle.fv_files.proofs.Passed.{root_told}
+use Rattle.fv_files.proofs.Unplaced.{keeps_then}
 use Rattle.fv_files.proofs.flush.flush_file.Goals as goal
 
 pub returns-in_err-look-clause-lays : goal.returns-in_err-look-clause-lays
@@ -96,3 +97,23 @@ returns-in-Some-clause-places g c =
     (free_later g.B.Blocks.shown g.B.Blocks.goes g.met.B.Blocks.goes_on c.args.blocks.now c.look.new.blocks c.lay_file.new.blocks (g.met.B.Blocks.reads_go c.args.blocks.now c.look.new.blocks c.in_ok-look.ensures.reads))
     old mid new f f c.lay_file.new.files c.in_ok-look.field-0 (look_lays g.B.Blocks.told old mid f (Ok c.in_ok-look.field-0) c.in_ok-look.ensures.looks (λ told sound. tt))
     (look_places g.B.Blocks.told free old mid f (Ok c.in_ok-look.field-0) c.in_ok-look.ensures.looks) c.lay_file.ensures.places
+
+pub returns-in_err-look-clause-keeps : goal.returns-in_err-look-clause-keeps
+returns-in_err-look-clause-keeps g c = λ told sound laid v none. g.met.B.Blocks.reads_keep v c.args.blocks.now c.look.new.blocks c.in_err-look.ensures.reads
+
+pub returns-in-None-clause-keeps : goal.returns-in-None-clause-keeps
+returns-in-None-clause-keeps g c = λ told sound laid v none. g.met.B.Blocks.reads_keep v c.args.blocks.now c.look.new.blocks c.in_ok-look.ensures.reads
+
+pub returns-in-Some-clause-keeps : goal.returns-in-Some-clause-keeps
+returns-in-Some-clause-keeps g c =
+    let old = g.B.Blocks.shown c.args.blocks.now in
+    let mid = g.B.Blocks.shown c.look.new.blocks in
+    let new = g.B.Blocks.shown c.lay_file.new.blocks in
+    let f = c.args.files.now in
+    let later = WasFree g.B.Blocks.shown g.B.Blocks.goes c.look.new.blocks c.lay_file.new.blocks in
+    let keeps = g.B.Blocks.keeps in
+    keeps_then g.B.Blocks.told later later (λ v. keeps v c.args.blocks.now c.look.new.blocks) (λ v. keeps v c.look.new.blocks c.lay_file.new.blocks) (λ v. keeps v c.args.blocks.now c.lay_file.new.blocks)
+    (λ v. g.met.B.Blocks.keeps_on v c.args.blocks.now c.look.new.blocks c.lay_file.new.blocks) old mid new f f c.lay_file.new.files c.in_ok-look.field-0 c.lay_file.result
+    (look_lays g.B.Blocks.told old mid f (Ok c.in_ok-look.field-0) c.in_ok-look.ensures.looks (λ told sound. tt)) c.lay_file.ensures.lays
+    (look_places g.B.Blocks.told later old mid f (Ok c.in_ok-look.field-0) c.in_ok-look.ensures.looks) c.lay_file.ensures.places
+    (λ told sound laid v none. g.met.B.Blocks.reads_keep v c.args.blocks.now c.look.new.blocks c.in_ok-look.ensures.reads) c.lay_file.ensures.keeps

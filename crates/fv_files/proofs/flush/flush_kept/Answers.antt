@@ -1,9 +1,9 @@
-use Rattle.std.proofs.Common.{◌≡◌, false, IsSome, sym, subst, refl, ◌∙◌, arith}
+use Rattle.std.proofs.Common.{◌≡◌, ℕ, false, IsSome, sym, subst, refl, ◌∙◌, arith}
 use Rattle.std.specs.Ordering.{nat_cmp, is_eq}
 use Rattle.std.proofs.lemmas.Bool.Decides.{nat_tests}
 use Rattle.fv_tree.specs.declared.kept.Tree.{Tree}
 use Rattle.fv_tree.specs.Sources.{WasFree}
-use Rattle.fv_tree.specs.Flushing.{Stands, loaded}
+use Rattle.fv_tree.specs.Flushing.{IsPlaced, Stands, loaded}
 use Rattle.fv_tree.specs.Altering.{PlacesAnew}
 use Rattle.fv_files.proofs.Tables.{some_same}
 use Rattle.fv_files.proofs.Sums.{set_cost}
@@ -44,3 +44,13 @@ returns-in-Some-clause-anew g c = λ told t u was now.
     let one : c.in-Some.tree.now ≡ t = some_same c.in-Some.tree.now t (c.in-Some.ensures.value ∙ was) in
     let two : c.flush.new.self ≡ u = some_same c.flush.new.self u (sym written.1 ∙ now) in
     subst (λ (w : Tree). Stands old w → PlacesAnew (loaded old w) free (loaded new u)) one (subst (λ (w : Tree). Stands old c.in-Some.tree.now → PlacesAnew (loaded old c.in-Some.tree.now) free (loaded new w)) two (c.flush.ensures.anew told))
+
+pub returns-in-Some-clause-keeps : goal.returns-in-Some-clause-keeps
+returns-in-Some-clause-keeps g c = λ told t u was now.
+    let written = (c.get_mut.follows.holds c.flush.new.self).3 (subst IsSome c.in-Some.ensures.value refl) in
+    let old = g.B.Blocks.shown c.args.blocks.now in
+    let new = g.B.Blocks.shown c.flush.new.blocks in
+    let Stays : Tree → Tree → Type 0 = λ x y. Stands old x → (v : ℕ) → (IsPlaced (loaded old x) (loaded new y) v → ⊥) → g.B.Blocks.keeps v c.args.blocks.now c.flush.new.blocks in
+    let one : c.in-Some.tree.now ≡ t = some_same c.in-Some.tree.now t (c.in-Some.ensures.value ∙ was) in
+    let two : c.flush.new.self ≡ u = some_same c.flush.new.self u (sym written.1 ∙ now) in
+    subst (λ (w : Tree). Stays w u) one (subst (Stays c.in-Some.tree.now) two (c.flush.ensures.keeps told))

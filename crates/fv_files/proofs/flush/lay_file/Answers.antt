@@ -1,6 +1,7 @@
-use Rattle.std.proofs.Common.{◌≡◌, Err, Ok, sym, ap, ◌∙◌}
+use Rattle.std.proofs.Common.{◌≡◌, ℕ, Err, Ok, sym, ap, ◌∙◌}
 use Rattle.fv_codec.specs.declared.inode.InodeRecord.{InodeRecord}
 use Rattle.fv_tree.specs.Sources.{WasFree}
+use Rattle.fv_tree.specs.Writing.{IsAlike}
 use Rattle.fv_tree.proofs.Anew.{free_sooner}
 use Rattle.std.specs.Prelude.{is_some}
 use Rattle.std.proofs.lemmas.Result.{err_from_is_err_and}
@@ -9,8 +10,9 @@ use Rattle.fv_inode.specs.Files.{rooted}
 use Rattle.fv_files.proofs.Tables.{alike, some_same}
 use Rattle.fv_files.proofs.Changed.{own_ready, with_trees, with_inode}
 use Rattle.fv_files.proofs.Laid.{lays_then, places_then, stores_then}
-use Rattle.fv_files.proofs.Flushed.{kept_lays, kept_places, kept_stores, lay_done, lay_places, lay_stores, lays_failed, ready_lays, ready_places, ready_stores}
-use Rattle.fv_files.proofs.Passed.{pass_done, pass_places, pass_stores, same_root}
+use Rattle.fv_files.proofs.Flushed.{kept_keeps, kept_lays, kept_places, kept_stores, lay_done, lay_keeps, lay_places, lay_stores, lays_failed, ready_lays, ready_places, ready_stores}
+use Rattle.fv_files.proofs.Passed.{pass_done, pass_keeps, pass_places, pass_stores, same_root}
+use Rattle.fv_files.proofs.Unplaced.{keeps_then}
 use Rattle.fv_files.proofs.flush.lay_file.Goals as goal
 
 pub returns-in_err-root-clause-lays : goal.returns-in_err-root-clause-lays
@@ -132,3 +134,58 @@ returns-then-has_root-clause-places g c =
     c.in_ok-root.ensures.flushes c.kept_levels-levels.ensures.levels
     (λ told. same_root (file_at (rooted old f.inode) c.args.number) c.args.info.now c.kept_levels-levels.result c.in_ok-root.root same.0 same.1 (c.requires.there told)) c.forget.ensures.gone c.forget.ensures.cost
     (WasFree g.B.Blocks.shown g.B.Blocks.goes c.args.blocks.now c.flush_kept.new.blocks) c.in_ok-root.ensures.anew
+
+pub returns-in_err-root-clause-keeps : goal.returns-in_err-root-clause-keeps
+returns-in_err-root-clause-keeps g c =
+    kept_keeps g.B.Blocks.told (g.B.Blocks.shown c.args.blocks.now) (g.B.Blocks.shown c.flush_kept.new.blocks) c.args.files.now c.flush_kept.new.trees c.args.number (Err c.in_err-root.field-0.0) c.in_err-root.ensures.flushes
+    (λ v. g.B.Blocks.keeps v c.args.blocks.now c.flush_kept.new.blocks) c.in_err-root.ensures.keeps
+
+pub returns-in_err-set_root-clause-keeps : goal.returns-in_err-set_root-clause-keeps
+returns-in_err-set_root-clause-keeps g c =
+    let old = g.B.Blocks.shown c.args.blocks.now in
+    let mid = g.B.Blocks.shown c.flush_kept.new.blocks in
+    let new = g.B.Blocks.shown c.set_root.new.blocks in
+    let f = c.args.files.now in
+    let two = with_trees f c.flush_kept.new.trees in
+    let e = c.in_err-set_root.field-0.0 in
+    let kept = c.in_ok-root.ensures.flushes in
+    let loads = c.in_err-set_root.ensures.loads in
+    let free = WasFree g.B.Blocks.shown g.B.Blocks.goes c.args.blocks.now c.flush_kept.new.blocks in
+    let first : ℕ → Type 0 = λ v. g.B.Blocks.keeps v c.args.blocks.now c.flush_kept.new.blocks in
+    let same : g.B.Blocks.told → IsAlike (rooted mid f.inode) (rooted new c.set_root.new.self) = λ told. alike (rooted mid f.inode) (rooted new c.set_root.new.self) (loads.failed told) in
+    keeps_then g.B.Blocks.told free free first (λ v. g.B.Blocks.keeps v c.flush_kept.new.blocks c.set_root.new.blocks) (λ v. g.B.Blocks.keeps v c.args.blocks.now c.set_root.new.blocks)
+    (λ v. g.met.B.Blocks.keeps_on v c.args.blocks.now c.flush_kept.new.blocks c.set_root.new.blocks) old mid new f two (with_inode two c.set_root.new.self) c.in_ok-root.root (Err e)
+    (kept_lays g.B.Blocks.told old mid f c.flush_kept.new.trees c.args.number (Ok c.in_ok-root.root) kept)
+    (ready_lays g.B.Blocks.told mid new two c.set_root.new.self (Err e) loads same c.in_err-set_root.ensures.still (λ told sound. c.in_err-set_root.ensures.held told (own_ready mid two c.args.number (ap is_some kept.becomes.now) sound)))
+    (kept_places g.B.Blocks.told old mid f c.flush_kept.new.trees c.args.number (Ok c.in_ok-root.root) kept free c.in_ok-root.ensures.anew)
+    (ready_places g.B.Blocks.told mid new two c.set_root.new.self (Err e) loads same c.in_err-set_root.ensures.still (λ told sound. c.in_err-set_root.ensures.held told (own_ready mid two c.args.number (ap is_some kept.becomes.now) sound)) free loads.leaves)
+    (kept_keeps g.B.Blocks.told old mid f c.flush_kept.new.trees c.args.number (Ok c.in_ok-root.root) kept first c.in_ok-root.ensures.keeps)
+    (λ told sound laid v none. g.met.B.Blocks.reads_keep v c.flush_kept.new.blocks c.set_root.new.blocks c.in_err-set_root.ensures.reads)
+
+pub returns-clause-keeps : goal.returns-clause-keeps
+returns-clause-keeps g c =
+    let old = g.B.Blocks.shown c.args.blocks.now in
+    let mid = g.B.Blocks.shown c.flush_kept.new.blocks in
+    let new = g.B.Blocks.shown c.set_root.new.blocks in
+    let did = c.in_ok-set_root.ensures in
+    lay_keeps g.B.Blocks.told old mid new c.args.files.now c.flush_kept.new.trees c.forget-2.new.trees c.set_root.new.self c.args.number c.kept_levels-levels.result c.in_ok-root.root
+    c.in_ok-root.ensures.flushes c.kept_levels-levels.ensures.levels did.loads did.set did.rises.pending c.forget-2.ensures.gone c.forget-2.ensures.cost
+    (WasFree g.B.Blocks.shown g.B.Blocks.goes c.args.blocks.now c.flush_kept.new.blocks) (WasFree g.B.Blocks.shown g.B.Blocks.goes c.args.blocks.now c.set_root.new.blocks) c.in_ok-root.ensures.anew
+    (free_sooner g.B.Blocks.shown g.B.Blocks.goes g.met.B.Blocks.goes_on c.args.blocks.now c.flush_kept.new.blocks c.set_root.new.blocks (g.met.B.Blocks.reads_go c.flush_kept.new.blocks c.set_root.new.blocks did.reads))
+    (λ r at levels root told.
+    let has = c.requires.there told in
+    let it : r ≡ has.file = some_same r has.file (sym at ∙ has.is) in
+    c.has_root.ensures.other c.if-has_root.false (sym has.levels_is ∙ ap (λ (q : InodeRecord). q.levels) (sym it) ∙ levels) (sym has.root_is ∙ ap (λ (q : InodeRecord). q.root) (sym it) ∙ root))
+    did.leaves
+    (λ v. g.B.Blocks.keeps v c.args.blocks.now c.flush_kept.new.blocks) (λ v. g.B.Blocks.keeps v c.flush_kept.new.blocks c.set_root.new.blocks) (λ v. g.B.Blocks.keeps v c.args.blocks.now c.set_root.new.blocks)
+    (λ v. g.met.B.Blocks.keeps_on v c.args.blocks.now c.flush_kept.new.blocks c.set_root.new.blocks) c.in_ok-root.ensures.keeps (λ v. g.met.B.Blocks.reads_keep v c.flush_kept.new.blocks c.set_root.new.blocks did.reads)
+
+pub returns-then-has_root-clause-keeps : goal.returns-then-has_root-clause-keeps
+returns-then-has_root-clause-keeps g c =
+    let old = g.B.Blocks.shown c.args.blocks.now in
+    let f = c.args.files.now in
+    let same = c.has_root.ensures.same c.if-has_root.true in
+    pass_keeps g.B.Blocks.told old (g.B.Blocks.shown c.flush_kept.new.blocks) f c.flush_kept.new.trees c.forget.new.trees c.args.number c.kept_levels-levels.result c.in_ok-root.root
+    c.in_ok-root.ensures.flushes c.kept_levels-levels.ensures.levels
+    (λ told. same_root (file_at (rooted old f.inode) c.args.number) c.args.info.now c.kept_levels-levels.result c.in_ok-root.root same.0 same.1 (c.requires.there told)) c.forget.ensures.gone c.forget.ensures.cost
+    (WasFree g.B.Blocks.shown g.B.Blocks.goes c.args.blocks.now c.flush_kept.new.blocks) c.in_ok-root.ensures.anew (λ v. g.B.Blocks.keeps v c.args.blocks.now c.flush_kept.new.blocks) c.in_ok-root.ensures.keeps

@@ -8,6 +8,7 @@ use Rattle.fv_tree.specs.Sources.{WasFree}
 use Rattle.fv_tree.proofs.Anew.{anew_itself, anew_still, flush_anew}
 use Rattle.fv_tree.proofs.Gone.{changed_cell, flushes_still}
 use Rattle.fv_tree.proofs.Differing.{fits_cell, fits_itself, fits_still, marked_over, some_cell}
+use Rattle.fv_tree.proofs.KeptUnder.{flush_keeps, names_cell}
 use Rattle.fv_tree.proofs.Stepped.{cell_step, cell_strays}
 use Rattle.fv_tree.proofs.flush.flush_first_cell.Goals as goal
 
@@ -70,3 +71,16 @@ returns-in_ok-flush_cell-in-Some-clause-anew g c = λ told stands.
       held = at.0;
       used = at.1;
     })
+
+pub returns-in-None-clause-keeps : goal.returns-in-None-clause-keeps
+returns-in-None-clause-keeps g c = λ told stands v not_placed. g.met.B.Blocks.reads_keep v c.args.blocks.now c.args.blocks.now (g.met.B.Blocks.reads_nothing c.args.blocks.now)
+
+pub returns-in_err-flush_cell-in-Some-clause-keeps : goal.returns-in_err-flush_cell-in-Some-clause-keeps
+returns-in_err-flush_cell-in-Some-clause-keeps g c = λ told stands.
+    flush_keeps (g.B.Blocks.shown c.args.blocks.now) (g.B.Blocks.shown c.flush_cell.new.blocks) c.args.tree.now c.flush_cell.new.tree (λ v. g.B.Blocks.keeps v c.args.blocks.now c.flush_cell.new.blocks) stands (returns-in_err-flush_cell-in-Some-clause-flushes g c told stands)
+    (c.in_err-flush_cell-in-Some.ensures.keeps told (names_cell (g.B.Blocks.shown c.args.blocks.now) c.args.tree.now c.in-Some.index c.in-Some.cell stands c.in-Some.ensures.there))
+
+pub returns-in_ok-flush_cell-in-Some-clause-keeps : goal.returns-in_ok-flush_cell-in-Some-clause-keeps
+returns-in_ok-flush_cell-in-Some-clause-keeps g c = λ told stands.
+    flush_keeps (g.B.Blocks.shown c.args.blocks.now) (g.B.Blocks.shown c.flush_cell.new.blocks) c.args.tree.now c.forget_cell.new.tree (λ v. g.B.Blocks.keeps v c.args.blocks.now c.flush_cell.new.blocks) stands (returns-in_ok-flush_cell-in-Some-clause-flushes g c told stands)
+    (c.in_ok-flush_cell-in-Some.ensures.keeps told (names_cell (g.B.Blocks.shown c.args.blocks.now) c.args.tree.now c.in-Some.index c.in-Some.cell stands c.in-Some.ensures.there))

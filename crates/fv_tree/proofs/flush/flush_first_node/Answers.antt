@@ -5,6 +5,7 @@ use Rattle.fv_tree.specs.Sources.{WasFree}
 use Rattle.fv_tree.proofs.Anew.{anew_itself, anew_still, flush_anew}
 use Rattle.fv_tree.proofs.Gone.{flushes_still, spot_changed}
 use Rattle.fv_tree.proofs.Differing.{fits_itself, fits_node, fits_still, marked_over, some_count}
+use Rattle.fv_tree.proofs.KeptUnder.{flush_keeps, names_node}
 use Rattle.fv_tree.proofs.Stepped.{node_step, node_strays}
 use Rattle.fv_tree.proofs.flush.flush_first_node.Goals as goal
 
@@ -74,3 +75,16 @@ returns-in_ok-flush_node-in-Some-clause-anew g c = λ told stands.
       held = at.0;
       used = at.1;
     })
+
+pub returns-in-None-clause-keeps : goal.returns-in-None-clause-keeps
+returns-in-None-clause-keeps g c = λ told stands v not_placed. g.met.B.Blocks.reads_keep v c.args.blocks.now c.args.blocks.now (g.met.B.Blocks.reads_nothing c.args.blocks.now)
+
+pub returns-in_err-flush_node-in-Some-clause-keeps : goal.returns-in_err-flush_node-in-Some-clause-keeps
+returns-in_err-flush_node-in-Some-clause-keeps g c = λ told stands.
+    flush_keeps (g.B.Blocks.shown c.args.blocks.now) (g.B.Blocks.shown c.flush_node.new.blocks) c.args.tree.now c.flush_node.new.tree (λ v. g.B.Blocks.keeps v c.args.blocks.now c.flush_node.new.blocks) stands (returns-in_err-flush_node-in-Some-clause-flushes g c told stands)
+    (c.in_err-flush_node-in-Some.ensures.keeps told (names_node (g.B.Blocks.shown c.args.blocks.now) c.args.tree.now c.in-Some.level c.in-Some.place c.in-Some.node stands c.in-Some.ensures.there))
+
+pub returns-in_ok-flush_node-in-Some-clause-keeps : goal.returns-in_ok-flush_node-in-Some-clause-keeps
+returns-in_ok-flush_node-in-Some-clause-keeps g c = λ told stands.
+    flush_keeps (g.B.Blocks.shown c.args.blocks.now) (g.B.Blocks.shown c.flush_node.new.blocks) c.args.tree.now c.forget_node.new.tree (λ v. g.B.Blocks.keeps v c.args.blocks.now c.flush_node.new.blocks) stands (returns-in_ok-flush_node-in-Some-clause-flushes g c told stands)
+    (c.in_ok-flush_node-in-Some.ensures.keeps told (names_node (g.B.Blocks.shown c.args.blocks.now) c.args.tree.now c.in-Some.level c.in-Some.place c.in-Some.node stands c.in-Some.ensures.there))

@@ -7,6 +7,7 @@ use Rattle.fv_tree.proofs.Causes.{calm_then}
 use Rattle.fv_tree.proofs.Flushes.{flushes_then}
 use Rattle.fv_tree.proofs.Gone.{is_memory}
 use Rattle.fv_tree.proofs.Differing.{fits_then}
+use Rattle.fv_tree.proofs.KeptUnder.{keeps_then}
 use Rattle.fv_tree.proofs.flush.flush_nodes.Goals as goal
 
 pub returns-in_err-flush_first_node-clause-flushes : goal.returns-in_err-flush_first_node-clause-flushes
@@ -27,6 +28,10 @@ loop-preserved g c =
       flushes = λ told stands. let first = was.flushes told stands in
           flushes_then (loaded old c.args.tree.now) (loaded mid c.loop.tree) (loaded new c.flush_first_node.new.tree) old.used mid.used new.used (is_memory mid c.loop.tree) first (now.flushes told first.sound);
       anew = λ told stands. anew_on g.B.Blocks.shown g.B.Blocks.goes g.met.B.Blocks.goes_on c.args.blocks.now c.loop.blocks c.flush_first_node.new.blocks (loaded old c.args.tree.now) (loaded mid c.loop.tree) (loaded new c.flush_first_node.new.tree) was.calls now.calls (was.anew told stands) (now.anew told (was.flushes told stands).sound);
+      keeps = λ told stands. let first = was.flushes told stands in
+          keeps_then (loaded old c.args.tree.now) (loaded mid c.loop.tree) (loaded new c.flush_first_node.new.tree) old.used mid.used new.used (is_memory mid c.loop.tree) first (now.flushes told first.sound)
+          (λ v. g.B.Blocks.keeps v c.args.blocks.now c.loop.blocks) (λ v. g.B.Blocks.keeps v c.loop.blocks c.flush_first_node.new.blocks) (λ v. g.B.Blocks.keeps v c.args.blocks.now c.flush_first_node.new.blocks)
+          (λ v. g.met.B.Blocks.keeps_on v c.args.blocks.now c.loop.blocks c.flush_first_node.new.blocks) (was.keeps told stands) (now.keeps told first.sound);
       strays = λ told stands. now.strays told (was.flushes told stands).sound ∙ was.strays told stands;
       fits = λ told stands. fits_then old mid new c.args.tree.now c.loop.tree c.flush_first_node.new.tree (was.fits told stands) (now.fits told (was.flushes told stands).sound);
       spent = now.spent ∙ was.spent;
@@ -64,3 +69,15 @@ returns-in_err-flush_first_node-clause-anew g c = λ told stands.
 
 pub returns-in_err-flush_first_node-clause-left : goal.returns-in_err-flush_first_node-clause-left
 returns-in_err-flush_first_node-clause-left g c = left_then c.args.tree.now c.loop.tree c.flush_first_node.new.tree c.loop.invariant.left c.in_err-flush_first_node.ensures.left
+
+pub returns-in_err-flush_first_node-clause-keeps : goal.returns-in_err-flush_first_node-clause-keeps
+returns-in_err-flush_first_node-clause-keeps g c = λ told stands.
+    let old : Shown = g.B.Blocks.shown c.args.blocks.now in
+    let mid : Shown = g.B.Blocks.shown c.loop.blocks in
+    let new : Shown = g.B.Blocks.shown c.flush_first_node.new.blocks in
+    let was = c.loop.invariant in
+    let now = c.in_err-flush_first_node.ensures in
+    let first = was.flushes told stands in
+    keeps_then (loaded old c.args.tree.now) (loaded mid c.loop.tree) (loaded new c.flush_first_node.new.tree) old.used mid.used new.used (is_memory mid c.loop.tree) first (now.flushes told first.sound)
+    (λ v. g.B.Blocks.keeps v c.args.blocks.now c.loop.blocks) (λ v. g.B.Blocks.keeps v c.loop.blocks c.flush_first_node.new.blocks) (λ v. g.B.Blocks.keeps v c.args.blocks.now c.flush_first_node.new.blocks)
+    (λ v. g.met.B.Blocks.keeps_on v c.args.blocks.now c.loop.blocks c.flush_first_node.new.blocks) (was.keeps told stands) (now.keeps told first.sound)

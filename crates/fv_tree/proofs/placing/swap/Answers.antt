@@ -1,5 +1,6 @@
-use Rattle.std.proofs.Common.{subst, sym}
+use Rattle.std.proofs.Common.{subst, sym, ◌∙◌}
 use Rattle.fv_tree.specs.Sources.{Shown}
+use Rattle.fv_tree.proofs.KeptUnder.{swap_keeps}
 use Rattle.fv_tree.proofs.Known.{places_swapped}
 use Rattle.fv_tree.proofs.Swapped.{IsPlacedAt, swapped}
 use Rattle.fv_tree.proofs.placing.swap.Goals as goal
@@ -25,3 +26,9 @@ returns-clause-places g c = λ known.
     let at = c.in_ok-at.ensures in
     places_swapped (g.B.Blocks.shown c.args.blocks.now) (g.B.Blocks.shown c.place.new.self) (g.B.Blocks.shown c.name_gone.new.blocks) c.in_ok-at.at.vvbn (record { pvbn = c.in_ok-at.at.pvbn; kind = c.args.kind }) c.args.old.now.vvbn c.args.placed
     (at.known known) at.places.used c.name_gone.ensures.gone c.name_gone.ensures.untouched
+
+pub returns-clause-keeps : goal.returns-clause-keeps
+returns-clause-keeps g c = λ told names.
+    swap_keeps (g.B.Blocks.shown c.args.blocks.now) c.args.kind c.args.block.now c.args.placed c.args.known c.args.old.now c.pointer_to.result (g.B.Blocks.shown c.name_gone.new.blocks) (λ v. g.B.Blocks.keeps v c.args.blocks.now c.name_gone.new.blocks)
+    c.requires.some names (returns-clause-swaps g c told)
+    (λ v differs. g.met.B.Blocks.keeps_on v c.args.blocks.now c.place.new.self c.name_gone.new.blocks (c.in_ok-at.ensures.keeps v (λ e. differs (c.pointer_to.ensures.vvbn ∙ e))) (c.name_gone.ensures.keeps v))

@@ -1,13 +1,17 @@
-use Rattle.std.proofs.Common.{rules, refl}
-use Rattle.fv_container.specs.Chains.{Slots}
+use Rattle.std.proofs.Common.{◌≡◌, ℕ, Bool, false, List, Option, None, rules, refl}
+use Rattle.std.specs.Prelude.{slice_index_or}
+use Rattle.fv_bits.specs.Members.{is_member}
+use Rattle.fv_container.specs.Chains.{Slots, container_at, own_entry}
+use Rattle.fv_container.specs.Mapped.{Mapped}
 use Rattle.fv_volmap.specs.Slots.{Volume}
 use Rattle.fv_volume.specs.declared.blocks.Home.{Home}
 use Rattle.fv_volume.specs.Keeping.{Blocks}
 use Rattle.fv_volume.specs.Lending.{sees, use_under}
 use Rattle.fv_volume.specs.Placing.{IsUnkept, PlacesTable}
-use Rattle.fv_volume.proofs.Failing.{blocks_of, of_lent}
+use Rattle.fv_volume.proofs.Failing.{blocks_of, of_entries, of_lent}
 use Rattle.fv_volume.proofs.PlaceCauses.{flush_fails, flush_lacks_memory}
 use Rattle.fv_volume.proofs.PlacedShared.{placed_free, was_unkept}
+use Rattle.fv_volume.proofs.Shows.{use_none}
 use Rattle.fv_volume.proofs.placing.place_table.Goals as goal
 
 pub returns-clause-table : goal.returns-clause-table
@@ -30,6 +34,13 @@ returns-clause-table g c =
       stored_led = did.stored_led;
       stored_well = λ told. c.flush-placed.ensures.stored_under told tt;
     })
+
+pub returns-clause-unused : goal.returns-clause-unused
+returns-clause-unused g c = λ told laid.
+    let now = c.flush-placed.new.blocks in
+    of_entries (λ (s : List (Option Mapped)) (m : List Bool) (h : Home). (v : ℕ) → is_member m v ≡ false → own_entry (slice_index_or s h.slot None) v ≡ own_entry (container_at c.args.pool.now.containers c.args.home.now.slot) v)
+    (search rules) (search rules) c.flush-placed.ensures.calls.3.goes.home
+    (λ v none. c.flush-placed.ensures.keeps told (c.requires.stands told) laid v (use_none now.map.now now.pool.now.containers now.home.slot v none))
 
 pub returns-clause-cause : goal.returns-clause-cause
 returns-clause-cause g c =

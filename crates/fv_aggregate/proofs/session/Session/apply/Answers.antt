@@ -3,6 +3,7 @@ use Rattle.std.specs.Prelude.{IsNone, IsSome, Result}
 use Rattle.fv_model.specs.Space.{overhead, span_of}
 use Rattle.fv_volume.specs.Slots.{NoneHasName}
 use Rattle.fv_cp.specs.Lent.{FitTogether}
+use Rattle.fv_cp.proofs.Whole.{resting}
 use Rattle.fv_aggregate.specs.Telling.{names_from}
 use Rattle.fv_aggregate.specs.declared.session.Session.{Session}
 use Rattle.fv_model.specs.declared.answers.Reply.{Reply}
@@ -28,6 +29,9 @@ use Rattle.fv_aggregate.proofs.session.Session.apply.Goals as goal
 pub returns-in-Some-clause-goes_for : goal.returns-in-Some-clause-goes_for
 returns-in-Some-clause-goes_for g c = λ tells last m stands.
     rests_for_fault (Failed c.in-Some.faults) (g.D.Disk.shown c.args.disk.now) c.args.self.now last m (machine_after m c.args.command.now) (g.met.D.Disk.laws c.args.disk.now) tt stands
+
+pub returns-in-Some-clause-sides : goal.returns-in-Some-clause-sides
+returns-in-Some-clause-sides g c = λ tells last m stands cp. resting (g.D.Disk.shown c.args.disk.now) c.args.self.now.pool c.args.self.now.volumes last (g.met.D.Disk.laws c.args.disk.now) stands.held
 
 pub returns-in-VolCreate : goal.returns-in-VolCreate
 returns-in-VolCreate g c =
@@ -63,6 +67,7 @@ returns-in-VolCreate g c =
       };
       on_files = λ files. create_no_files command _ _ _ c.in-VolCreate.is _ files;
       point = λ tells last m stands cp. create_no_point command _ _ _ c.in-VolCreate.is _ cp;
+      sides = λ tells last m stands cp. create_no_point command _ _ _ c.in-VolCreate.is _ cp;
       calm = λ other few. rests_as g.D.Disk.shown c.args.disk.now c.create.new.disk (c.create.ensures.calm (low few));
       files = λ tells none without. c.create.ensures.files tells without;
       same = λ tells none stays places same. c.create.ensures.same tells same;
@@ -101,6 +106,7 @@ returns-in-Cp g c =
       };
       on_files = λ files. cp_no_files _ command c.in-Cp.is files;
       point = λ tells last m stands cp. c.reclaim.ensures.done tells last m stands;
+      sides = λ tells last m stands cp. c.reclaim.ensures.sides tells last m stands;
       calm = λ other. absurd (other c.in-Cp.is);
       files = λ tells none without. c.reclaim.ensures.files tells;
       same = λ tells none stays places same. pointed_same d s n c.reclaim.result c.reclaim.ensures.left tells;
@@ -136,6 +142,7 @@ returns-in-Some-asked_volume g c =
         known = λ finds near other of. named_as s.volumes n.volumes c.look.result other name (look_name command name asks d s e n c.look.result looks other of) (c.look.ensures.finds finds near);
       };
       point = λ tells last m stands cp. look_no_point command name asks d s e n c.look.result looks _ cp;
+      sides = λ tells last m stands cp. look_no_point command name asks d s e n c.look.result looks _ cp;
       calm = λ other few. looks.only_reads;
       files = λ tells none without. look_files command name asks d s e n c.look.result looks without;
       same = λ tells none stays places same. look_same command name asks d s e n c.look.result looks same;
@@ -171,6 +178,7 @@ returns-in-Some-changed_volume g c =
         known = λ finds near other named. named_as s.volumes n.volumes c.change.result other name (make_name command name of d s e n c.change.result makes other named) (c.change.ensures.finds finds near);
       };
       point = λ tells last m stands cp. make_no_point command name of d s e n c.change.result makes _ cp;
+      sides = λ tells last m stands cp. make_no_point command name of d s e n c.change.result makes _ cp;
       calm = λ other few. make_calm command name of d s e n c.change.result makes few;
       files = λ tells isnt without. make_unchanged command name of d s e n c.change.result makes _ isnt;
       same = λ tells isnt stays places same. make_unchanged command name of d s e n c.change.result makes _ isnt;
@@ -208,6 +216,7 @@ returns-in-None-snapped_volume g c =
       plain = λ plain. managed_plain disk old command new reply over c.args.disk.now at.not-VolList at.not-Cp at.not-SnapList snaps;
       on_files = λ files. absurd (true≢false (sym files ∙ no_files command asks changes));
       point = λ tells last m stands cp. absurd (at.not-Cp cp);
+      sides = λ tells last m stands cp. absurd (at.not-Cp cp);
       calm = λ other few. reads_itself disk;
       files = λ tells none without. over.files without;
       same = λ tells none stays places same. same_map old new (over.map stays) same;
@@ -296,6 +305,7 @@ returns-in-Some-snapped_volume g c =
       plain = λ plain. applied_plain command name of d c.args.disk.now s e c.snap.new.disk n c.snap.result did c.snap.ensures.missing;
       on_files = λ files. absurd (true≢false (sym files ∙ snap_reads name command of));
       point = λ tells last m stands cp. absurd (snap_other name command of Cp refl cp);
+      sides = λ tells last m stands cp. absurd (snap_other name command of Cp refl cp);
       calm = λ other few. rests_as g.D.Disk.shown c.args.disk.now c.snap.new.disk (did.calm few);
       files = λ tells none without. did.files tells without;
       same = λ tells none stays which same. did.same tells which same;

@@ -23,3 +23,6 @@ returns-else-has_room-clause-room g c = λ tells last m stands fits. c.point.ens
 
 pub returns-then-has_room-clause-cores : goal.returns-then-has_room-clause-cores
 returns-then-has_room-clause-cores g c = λ s. refl
+
+pub returns-else-has_room-clause-reclaimed : goal.returns-else-has_room-clause-reclaimed
+returns-else-has_room-clause-reclaimed g c = λ tells last m stands past. c.point.ensures.done tells last m stands

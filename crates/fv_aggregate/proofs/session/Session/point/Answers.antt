@@ -9,7 +9,7 @@ use Rattle.fv_cp.specs.Settling.{HaveFullRoom, IsNoDamage, WholeCounts, WholeFai
 use Rattle.fv_aggregate.specs.declared.session.Session.{Session}
 use Rattle.fv_aggregate.specs.Reclaiming.{ReclaimsEntries}
 use Rattle.fv_aggregate.proofs.Keeping.{keeps_core}
-use Rattle.fv_aggregate.proofs.PointEnds.{done_asks, failed_asks, full_as, has_full_room, held_as, known_as, parts_as, point_done, point_failed_for, point_lacks, point_moments, point_room, point_wanting, pointed, pointed_left, still_as, still_asks, still_for, still_said, still_wants}
+use Rattle.fv_aggregate.proofs.PointEnds.{done_asks, failed_asks, full_as, has_full_room, held_as, known_as, parts_as, point_done, point_failed_for, point_lacks, point_moments, point_room, point_sides, point_wanting, pointed, pointed_left, still_as, still_asks, still_for, still_said, still_wants}
 use Rattle.fv_aggregate.proofs.Pointed.{entries_left}
 use Rattle.fv_aggregate.proofs.session.Session.point.Goals as goal
 
@@ -56,6 +56,7 @@ returns-in-Ok-clause-done g c = λ tells last m stands.
     record {
       stands = pointed (g.D.Disk.shown c.args.disk.now) c.self.inside.pool c.self.inside.volumes (g.D.Disk.shown c.full_point.new.disk) c.full_point.new.pool c.full_point.new.volumes
           c.args.want c.full_point.new.delays point (c.in-Ok.ensures.goes_on.loaded tells) session last m stands pool volumes c.in-Ok.ensures.goes_on.fit.housed.long c.in-Ok.ensures.goes_on.none _ refl refl refl refl;
+      room = point.room;
       entries = subst (λ (s : Session). ReclaimsEntries c.args.want s (g.D.Disk.shown c.full_point.new.disk) (record { volumes = c.full_point.new.volumes; pool = c.full_point.new.pool; delays = c.full_point.new.delays; pending = 0; failed = c.self.inside.failed })) c.self.view_is
           (entries_left (g.D.Disk.shown c.args.disk.now) (record { volumes = c.self.inside.volumes; pool = c.self.inside.pool; delays = c.self.inside.delays; pending = c.self.inside.pending; failed = c.self.inside.failed }) c.args.want (g.D.Disk.shown c.full_point.new.disk) _ point (c.in-Ok.ensures.goes_on.loaded tells));
     }
@@ -224,3 +225,23 @@ returns-in-Err-Memory-clause-numbers g c = λ fresh.
     let e = c.in-Err-Memory in
     let still = still_said (g.D.Disk.shown c.args.disk.now) _ c.args.self.now c.self.view_is (g.D.Disk.shown c.full_point.new.disk) c.full_point.new.pool c.full_point.new.volumes _ _ e.field-0-is e.ensures.still in
     keeps_core c.args.self.now.volumes c.full_point.new.volumes still.placed.cores
+
+pub returns-in-Ok-clause-sides : goal.returns-in-Ok-clause-sides
+returns-in-Ok-clause-sides g c = λ tells last m stands.
+    point_sides (g.D.Disk.shown c.args.disk.now) (g.D.Disk.shown c.full_point.new.disk) c.args.self.now last m stands c.self.inside.pool c.self.inside.volumes c.self.inside.delays
+    (ap (λ (s : Session). s.pool) (sym c.self.view_is)) (ap (λ (s : Session). s.volumes) (sym c.self.view_is)) (ap (λ (s : Session). s.delays) (sym c.self.view_is)) (c.in-Ok.ensures.any_moment tells)
+
+pub returns-in-Err-DiskFault-clause-sides : goal.returns-in-Err-DiskFault-clause-sides
+returns-in-Err-DiskFault-clause-sides g c = λ tells last m stands.
+    point_sides (g.D.Disk.shown c.args.disk.now) (g.D.Disk.shown c.full_point.new.disk) c.args.self.now last m stands c.self.inside.pool c.self.inside.volumes c.self.inside.delays
+    (ap (λ (s : Session). s.pool) (sym c.self.view_is)) (ap (λ (s : Session). s.volumes) (sym c.self.view_is)) (ap (λ (s : Session). s.delays) (sym c.self.view_is)) (c.in-Err-DiskFault.ensures.any_moment tells)
+
+pub returns-in-Err-Damaged-clause-sides : goal.returns-in-Err-Damaged-clause-sides
+returns-in-Err-Damaged-clause-sides g c = λ tells last m stands.
+    point_sides (g.D.Disk.shown c.args.disk.now) (g.D.Disk.shown c.full_point.new.disk) c.args.self.now last m stands c.self.inside.pool c.self.inside.volumes c.self.inside.delays
+    (ap (λ (s : Session). s.pool) (sym c.self.view_is)) (ap (λ (s : Session). s.volumes) (sym c.self.view_is)) (ap (λ (s : Session). s.delays) (sym c.self.view_is)) (c.in-Err-Damaged.ensures.any_moment tells)
+
+pub returns-in-Err-Memory-clause-sides : goal.returns-in-Err-Memory-clause-sides
+returns-in-Err-Memory-clause-sides g c = λ tells last m stands.
+    point_sides (g.D.Disk.shown c.args.disk.now) (g.D.Disk.shown c.full_point.new.disk) c.args.self.now last m stands c.self.inside.pool c.self.inside.volumes c.self.inside.delays
+    (ap (λ (s : Session). s.pool) (sym c.self.view_is)) (ap (λ (s : Session). s.volumes) (sym c.self.view_is)) (ap (λ (s : Session). s.delays) (sym c.self.view_is)) (c.in-Err-Memory.ensures.any_moment tells)

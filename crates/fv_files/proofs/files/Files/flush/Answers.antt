@@ -1,10 +1,12 @@
+use Rattle.std.proofs.Common.{Err}
 use Rattle.std.proofs.lemmas.Result.{err_from_is_err_and}
 use Rattle.fv_tree.specs.Sources.{WasFree}
 use Rattle.fv_tree.proofs.Anew.{free_later, free_sooner}
 use Rattle.fv_files.proofs.Changed.{with_inode}
 use Rattle.fv_files.proofs.Laid.{places_then}
 use Rattle.fv_files.proofs.Flushed.{lays_failed}
-use Rattle.fv_files.proofs.Ended.{Places, last_places, flush_done, flush_failed, flush_stores, flush_under}
+use Rattle.fv_files.proofs.Unplaced.{inode_keeps, keeps_then, keeps_unused}
+use Rattle.fv_files.proofs.Ended.{Places, last_lays, last_places, flush_done, flush_failed, flush_stores, flush_under}
 use Rattle.fv_files.proofs.files.Files.flush.Goals as goal
 
 pub returns-in_err-flush_trees-clause-flushes : goal.returns-in_err-flush_trees-clause-flushes
@@ -37,13 +39,25 @@ returns g c =
       counts = is.counts;
       cause = is.cause;
     } in
+    let done = flush_done g.B.Blocks.told old mid new c.args.self.now c.flush_trees.new.files c.flush.new.self c.flush.result first.lays first.none last in
+    let ends = last_places g.B.Blocks.told mid new c.flush_trees.new.files c.flush.new.self c.flush.result last first.none (WasFree g.B.Blocks.shown g.B.Blocks.goes c.flush_trees.new.blocks c.flush.new.blocks) is.anew in
     record {
-      flushes = flush_done g.B.Blocks.told old mid new c.args.self.now c.flush_trees.new.files c.flush.new.self c.flush.result first.lays first.none last;
+      flushes = done;
       places = places_then g.B.Blocks.told (WasFree g.B.Blocks.shown g.B.Blocks.goes c.args.blocks.now c.flush_trees.new.blocks) (WasFree g.B.Blocks.shown g.B.Blocks.goes c.flush_trees.new.blocks c.flush.new.blocks) (WasFree g.B.Blocks.shown g.B.Blocks.goes c.args.blocks.now c.flush.new.blocks)
           (free_sooner g.B.Blocks.shown g.B.Blocks.goes g.met.B.Blocks.goes_on c.args.blocks.now c.flush_trees.new.blocks c.flush.new.blocks is.calls) (free_later g.B.Blocks.shown g.B.Blocks.goes g.met.B.Blocks.goes_on c.args.blocks.now c.flush_trees.new.blocks c.flush.new.blocks first.calls)
-          old mid new c.args.self.now c.flush_trees.new.files (with_inode c.flush_trees.new.files c.flush.new.self) tt first.lays first.places
-          (last_places g.B.Blocks.told mid new c.flush_trees.new.files c.flush.new.self c.flush.result last first.none (WasFree g.B.Blocks.shown g.B.Blocks.goes c.flush_trees.new.blocks c.flush.new.blocks) is.anew);
+          old mid new c.args.self.now c.flush_trees.new.files (with_inode c.flush_trees.new.files c.flush.new.self) tt first.lays first.places ends;
+      keeps = keeps_unused g.B.Blocks.told (λ v. g.B.Blocks.keeps v c.args.blocks.now c.flush.new.blocks) old new c.args.self.now (with_inode c.flush_trees.new.files c.flush.new.self) c.flush.result done.lays
+          (keeps_then g.B.Blocks.told (WasFree g.B.Blocks.shown g.B.Blocks.goes c.args.blocks.now c.flush_trees.new.blocks) (WasFree g.B.Blocks.shown g.B.Blocks.goes c.flush_trees.new.blocks c.flush.new.blocks)
+          (λ v. g.B.Blocks.keeps v c.args.blocks.now c.flush_trees.new.blocks) (λ v. g.B.Blocks.keeps v c.flush_trees.new.blocks c.flush.new.blocks) (λ v. g.B.Blocks.keeps v c.args.blocks.now c.flush.new.blocks)
+          (λ v. g.met.B.Blocks.keeps_on v c.args.blocks.now c.flush_trees.new.blocks c.flush.new.blocks) old mid new c.args.self.now c.flush_trees.new.files (with_inode c.flush_trees.new.files c.flush.new.self) tt c.flush.result first.lays
+          (last_lays g.B.Blocks.told mid new c.flush_trees.new.files c.flush.new.self c.flush.result last first.none) first.places ends first.keeps
+          (inode_keeps g.B.Blocks.told (λ v. g.B.Blocks.keeps v c.flush_trees.new.blocks c.flush.new.blocks) mid new c.flush_trees.new.files c.flush.new.self is.keeps));
       stored_well = λ told known. flush_stores g.B.Blocks.told old mid new c.args.self.now c.flush_trees.new.files c.flush.new.self c.flush.result first.lays first.none last told (first.stored_well told known) (is.places known);
       stored_under = λ told known. flush_under g.B.Blocks.told old mid new c.args.self.now c.flush_trees.new.files c.flush.new.self c.flush.result first.lays first.none last told (first.stored_well told known) (is.places known);
       calls = g.met.B.Blocks.goes_on c.args.blocks.now c.flush_trees.new.blocks c.flush.new.blocks first.calls is.calls;
     }
+
+pub returns-in_err-flush_trees-clause-keeps : goal.returns-in_err-flush_trees-clause-keeps
+returns-in_err-flush_trees-clause-keeps g c =
+    keeps_unused g.B.Blocks.told (λ v. g.B.Blocks.keeps v c.args.blocks.now c.flush_trees.new.blocks) (g.B.Blocks.shown c.args.blocks.now) (g.B.Blocks.shown c.flush_trees.new.blocks) c.args.self.now c.flush_trees.new.files
+    (Err c.in_err-flush_trees.field-0.0) c.in_err-flush_trees.ensures.lays c.in_err-flush_trees.ensures.keeps

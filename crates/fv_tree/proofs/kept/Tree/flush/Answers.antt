@@ -10,6 +10,7 @@ use Rattle.fv_tree.proofs.Anew.{anew_on, left_then}
 use Rattle.fv_tree.proofs.Flushes.{flushes_then}
 use Rattle.fv_tree.proofs.Gone.{is_memory}
 use Rattle.fv_tree.proofs.Differing.{fits_then, none_pending}
+use Rattle.fv_tree.proofs.KeptUnder.{keeps_then}
 use Rattle.fv_tree.proofs.StoredFlush.{stored_flush}
 use Rattle.fv_tree.proofs.Whole.{is_stored, reaches}
 use Rattle.fv_tree.proofs.kept.Tree.flush.Goals as goal
@@ -106,3 +107,27 @@ returns-clause-anew g c = λ told stands.
 
 pub returns-clause-left : goal.returns-clause-left
 returns-clause-left g c = left_then c.args.self.now c.flush_cells.new.tree c.flush_nodes.new.tree c.in_ok-flush_cells.ensures.left c.in_ok-flush_nodes.ensures.left
+
+pub returns-in_err-flush_nodes-clause-keeps : goal.returns-in_err-flush_nodes-clause-keeps
+returns-in_err-flush_nodes-clause-keeps g c = λ told stands.
+    let old : Shown = g.B.Blocks.shown c.args.blocks.now in
+    let mid : Shown = g.B.Blocks.shown c.flush_cells.new.blocks in
+    let new : Shown = g.B.Blocks.shown c.flush_nodes.new.blocks in
+    let cells = c.in_ok-flush_cells.ensures in
+    let nodes = c.in_err-flush_nodes.ensures in
+    let first = cells.flushes told stands in
+    keeps_then (loaded old c.args.self.now) (loaded mid c.flush_cells.new.tree) (loaded new c.flush_nodes.new.tree) old.used mid.used new.used (is_memory mid c.flush_cells.new.tree) first (nodes.flushes told first.sound)
+    (λ v. g.B.Blocks.keeps v c.args.blocks.now c.flush_cells.new.blocks) (λ v. g.B.Blocks.keeps v c.flush_cells.new.blocks c.flush_nodes.new.blocks) (λ v. g.B.Blocks.keeps v c.args.blocks.now c.flush_nodes.new.blocks)
+    (λ v. g.met.B.Blocks.keeps_on v c.args.blocks.now c.flush_cells.new.blocks c.flush_nodes.new.blocks) (cells.keeps told stands) (nodes.keeps told first.sound)
+
+pub returns-clause-keeps : goal.returns-clause-keeps
+returns-clause-keeps g c = λ told stands.
+    let old : Shown = g.B.Blocks.shown c.args.blocks.now in
+    let mid : Shown = g.B.Blocks.shown c.flush_cells.new.blocks in
+    let new : Shown = g.B.Blocks.shown c.flush_nodes.new.blocks in
+    let cells = c.in_ok-flush_cells.ensures in
+    let nodes = c.in_ok-flush_nodes.ensures in
+    let first = cells.flushes told stands in
+    keeps_then (loaded old c.args.self.now) (loaded mid c.flush_cells.new.tree) (loaded new c.flush_nodes.new.tree) old.used mid.used new.used (is_memory mid c.flush_cells.new.tree) first (nodes.flushes told first.sound)
+    (λ v. g.B.Blocks.keeps v c.args.blocks.now c.flush_cells.new.blocks) (λ v. g.B.Blocks.keeps v c.flush_cells.new.blocks c.flush_nodes.new.blocks) (λ v. g.B.Blocks.keeps v c.args.blocks.now c.flush_nodes.new.blocks)
+    (λ v. g.met.B.Blocks.keeps_on v c.args.blocks.now c.flush_cells.new.blocks c.flush_nodes.new.blocks) (cells.keeps told stands) (nodes.keeps told first.sound)

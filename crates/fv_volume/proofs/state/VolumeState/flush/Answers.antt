@@ -11,6 +11,7 @@ use Rattle.fv_volume.proofs.OneVolumes.{root_fits}
 use Rattle.fv_volume.proofs.Others.{beside_flush}
 use Rattle.fv_volume.proofs.PlaceCauses.{fault_cause, place_narrow}
 use Rattle.fv_volume.proofs.Placed.{done_led, done_standing, done_volume, done_well, failed_led, failed_standing, failed_volume, failed_well, few_rooted, fits_done, fits_failed, fits_rooted, pending_held, ready_placed, was_told}
+use Rattle.fv_volume.proofs.PlacedShared.{was_laid}
 use Rattle.fv_volume.proofs.Reached.{standing_seen}
 use Rattle.fv_volume.proofs.state.VolumeState.flush.Goals as goal
 
@@ -122,3 +123,24 @@ returns-in-Ok-clause-others g c =
 pub returns-in-Err-clause-others : goal.returns-in-Err-clause-others
 returns-in-Err-clause-others g c =
     beside_flush (g.D.Disk.shown c.args.disk.now) (g.D.Disk.shown c.args.disk.now) c.args.pool.now c.place_table.new.pool c.args.self.now c.place_table.new.map c.args.room.now c.place_table.new.room c.place_table.ensures.goes
+
+pub returns-in_default-clause-unused : goal.returns-in_default-clause-unused
+returns-in_default-clause-unused g c = λ is v none. refl
+
+pub returns-in-Ok-clause-unused : goal.returns-in-Ok-clause-unused
+returns-in-Ok-clause-unused g c = λ is.
+    let d = g.D.Disk.shown c.args.disk.now in
+    let p = c.args.pool.now in
+    let x = c.args.self.now in
+    let files = c.in-Some.files in
+    let held : x.files ≡ Some files = search rules in
+    c.place_table.ensures.unused (was_told d p x files held is) (was_laid d p x files held is)
+
+pub returns-in-Err-clause-unused : goal.returns-in-Err-clause-unused
+returns-in-Err-clause-unused g c = λ is.
+    let d = g.D.Disk.shown c.args.disk.now in
+    let p = c.args.pool.now in
+    let x = c.args.self.now in
+    let files = c.in-Some.files in
+    let held : x.files ≡ Some files = search rules in
+    c.place_table.ensures.unused (was_told d p x files held is) (was_laid d p x files held is)

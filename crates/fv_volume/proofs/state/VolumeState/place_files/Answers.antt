@@ -21,6 +21,7 @@ returns-clause-placed g c =
       led = λ is. (did.places is).led;
       well = λ is led well. (did.places is).well led well;
       others = did.others;
+      unused = did.unused;
       room = c.room_to_place-room.result;
       rest = c.flush-flushed.new.room;
       goes = did.goes;

@@ -1,9 +1,11 @@
-use Rattle.std.proofs.Common.{Err, ◌<◌, ◌≤◌, ◌+◌, ◌≡◌, ◌⊎◌, refl, sym, subst, inl, inr, ⊎_elim, arith}
+use Rattle.std.proofs.Common.{Err, ◌<◌, ◌≤◌, ◌+◌, ◌≡◌, ◌⊎◌, refl, sym, ap, subst, inl, inr, ⊎_elim, arith}
 use Rattle.fv_image.specs.Layout.{root_place}
+use Rattle.fv_container.specs.Chains.{container_at, own_entry}
+use Rattle.fv_volume.specs.declared.pool.Pool.{Pool}
 use Rattle.fv_volume.specs.Lending.{IsOutOfRoom, lent_by, shown_over}
 use Rattle.fv_volume.specs.Putting.{PutsOver, unasked}
 use Rattle.fv_tree.specs.Sources.{Places}
-use Rattle.fv_volume.proofs.Going.{goes_failed, goes_placed, place_notes}
+use Rattle.fv_volume.proofs.Going.{entry_stays, goes_failed, goes_placed, place_notes}
 use Rattle.fv_volume.proofs.PlaceShown.{placed_shown, unplaced_shown}
 use Rattle.fv_volume.proofs.volume_places.VolumePlacesBlocks.place.Goals as goal
 
@@ -61,3 +63,12 @@ returns-in-Err-clause-calls g c =
       subst (λ p. PutsOver old (lent_by p c.place_block.new.map disk 0 self.home self.room self.strays c.note.new.noted)) (sym c.in-Err.ensures.failed)
           (subst (λ m. PutsOver old (lent_by pool m disk 0 self.home self.room self.strays c.note.new.noted)) (sym c.in-Err.ensures.failed_map) puts),
     )
+
+pub returns-in-Ok-clause-keeps : goal.returns-in-Ok-clause-keeps
+returns-in-Ok-clause-keeps g c = λ v other.
+    let self = c.args.self.now in
+    entry_stays self.pool.now c.place_block.new.pool self.map.now c.place_block.new.map self.home.slot c.args.kind c.args.block.now c.in-Ok.placed c.in-Ok.ensures.placed self.entries v (λ same. other (sym same))
+
+pub returns-in-Err-clause-keeps : goal.returns-in-Err-clause-keeps
+returns-in-Err-clause-keeps g c = λ v other.
+    ap (λ (p : Pool). own_entry (container_at p.containers c.args.self.now.home.slot) v) c.in-Err.ensures.failed
