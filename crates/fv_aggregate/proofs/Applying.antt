@@ -17,7 +17,7 @@ use Rattle.fv_volume.specs.States.{state_at}
 use Rattle.fv_aggregate.specs.declared.fault.Fault.{Fault}
 use Rattle.fv_aggregate.specs.declared.session.Session.{Session}
 use Rattle.fv_aggregate.specs.Adding.{IsPointed}
-use Rattle.fv_aggregate.specs.Calls.{Goes, GoesFor, KeepsAsking, WasRead}
+use Rattle.fv_aggregate.specs.Calls.{Goes, GoesFor, KeepsAsking, KeepsEntries, WasRead}
 use Rattle.fv_aggregate.specs.Commands.{changed_by, changes_volume, dirty_limit, file_room, is_refusal, machine_after, room_of, volume_asked, Replies}
 use Rattle.fv_aggregate.specs.Looking.{Looks, Makes}
 use Rattle.fv_aggregate.specs.Standing.{HoldsAsCommitted, IsWithoutFiles, Stands, StandsFor}
@@ -178,6 +178,10 @@ module _ (c : Command) (name : List ℕ) (of : changed_by c ≡ Some name) (d : 
   pub make_calm : (room_of c ≡ 0) ⊎ (s.pending + room_of c ≤ dirty_limit) → OnlyReads d e
   make_calm (inl nothing) = absurd (let some = change_room name c change in omega (arith, nothing, some))
   make_calm (inr few) = makes.calm (let some = change_room name c change in omega (arith, few, some))
+
+  pub make_entries : (room_of c ≡ 0) ⊎ (s.pending + room_of c ≤ dirty_limit) → KeepsEntries s n
+  make_entries (inl nothing) = absurd (let some = change_room name c change in omega (arith, nothing, some))
+  make_entries (inr few) = makes.entries (inr (let some = change_room name c change in omega (arith, few, some)))
 
   pub make_unchanged : (X : Type 0) → changed_by c ≡ None → X
   make_unchanged X isnt = absurd (none (sym isnt ∙ of))

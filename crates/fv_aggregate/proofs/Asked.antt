@@ -35,6 +35,7 @@ use Rattle.fv_aggregate.specs.Calls.{HasDamage, WasRead}
 use Rattle.fv_aggregate.specs.Commands.{has_range, snapshot_asked, volume_asked}
 use Rattle.fv_aggregate.specs.Looking.{AsksSlot, AsksState, Faults, IsAsked, Looks, Replied}
 use Rattle.fv_aggregate.specs.Standing.{Stands, StandsFor}
+use Rattle.fv_aggregate.proofs.Holes.{kept_entries}
 use Rattle.fv_aggregate.proofs.HeldMachine.{is_there, not_there, one}
 use Rattle.fv_aggregate.proofs.CallEnds.{goes_broken, goes_damaged, goes_done, goes_for_broken, goes_for_done, goes_for_fault, goes_wanting}
 use Rattle.fv_aggregate.proofs.Calls.{reads_itself}
@@ -112,6 +113,7 @@ module _ (d e : Shown) (laws : IsDisk d) (s : Session) (q : Pool) (reads : Reads
     goes_for = λ tells last m is. goes_for_done d e laws s (left d e s q reads) 0 reads.only_reads fresh fresh still reply last m m is (for_left last m is);
     reply = λ tells last m is. allowed last m is;
     only_reads = reads.only_reads;
+    entries = kept_entries s (left d e s q reads) reads.leaves.containers;
     read = was_read d e s q reads;
   }
 
@@ -122,6 +124,7 @@ module _ (d e : Shown) (laws : IsDisk d) (s : Session) (q : Pool) (reads : Reads
     goes_for = λ tells last m is. goes_for_broken d e laws s (left d e s q reads) 0 reads.only_reads fresh fresh still o last m m is (for_left last m is);
     reply = λ tells last m is. tt;
     only_reads = reads.only_reads;
+    entries = kept_entries s (record s { pool = q; failed = o }) reads.leaves.containers;
     read = tt;
   }
 
@@ -132,6 +135,7 @@ module _ (d e : Shown) (laws : IsDisk d) (s : Session) (q : Pool) (reads : Reads
     goes_for = λ tells last m is. goes_for_fault d e laws s (left d e s q reads) 0 reads.only_reads fresh fresh still Memory last m m tt is (for_left last m is);
     reply = λ tells last m is. tt;
     only_reads = reads.only_reads;
+    entries = kept_entries s (left d e s q reads) reads.leaves.containers;
     read = tt;
   }
 
@@ -143,6 +147,7 @@ module _ (d e : Shown) (laws : IsDisk d) (s : Session) (q : Pool) (reads : Reads
     goes_for = λ tells last m is. absurd (whole tells last m is);
     reply = λ tells last m is. tt;
     only_reads = reads.only_reads;
+    entries = kept_entries s (left d e s q reads) reads.leaves.containers;
     read = tt;
   }
 

@@ -31,6 +31,7 @@ use Rattle.fv_aggregate.specs.Calls.{GoesFor}
 use Rattle.fv_aggregate.specs.Commands.{changed_by, file_room, has_range}
 use Rattle.fv_aggregate.specs.Looking.{done_as, ChangesSlot, ChangesState, HasJudged, IsSlotChanged, JudgesSlot, JudgesState, IsAimed, Makes, Replied}
 use Rattle.fv_aggregate.specs.Standing.{Stands, StandsFor}
+use Rattle.fv_aggregate.proofs.Holes.{kept_entries}
 use Rattle.fv_aggregate.proofs.Asked.{calm_damage, calm_memory, damaged_at, rose_by}
 use Rattle.fv_aggregate.proofs.CallEnds.{goes_broken, goes_damaged, goes_done, goes_for_broken, goes_for_done, goes_for_fault, goes_wanting}
 use Rattle.fv_aggregate.proofs.Changed.{accepted, beside, counted, has_within, held_done, held_left, machine_done, machine_left, mine, stands_changed, stands_for_changed}
@@ -58,6 +59,7 @@ module _ (d e : Shown) (laws : IsDisk d) (s : Session) (q : Pool) (c : Command) 
     goes_for = λ tells last m is. goes_for_done d e laws s now 0 did.reads.only_reads fresh fresh (stands_read d e s q did.reads stands) Done last m m is (stands_for_read d e s q did.reads last m is);
     judges = λ tells last m is. ap (λ (k : Machine). refusal k c) (sym is.machine) ∙ did.agrees (its last m is).stands _ (has_within d s.pool s.volumes long last is.held slot x there);
     only_reads = did.reads.only_reads;
+    entries = kept_entries s now did.reads.leaves.containers;
     read = was_read d e s q did.reads;
   })
   judged_by (Err (volume.Refused r)) did new result is = judged_as new result (Ok (Refused r)) now is.1 is.0 (record {
@@ -65,6 +67,7 @@ module _ (d e : Shown) (laws : IsDisk d) (s : Session) (q : Pool) (c : Command) 
     goes_for = λ tells last m is. goes_for_done d e laws s now 0 did.reads.only_reads fresh fresh (stands_read d e s q did.reads stands) (Refused r) last m m is (stands_for_read d e s q did.reads last m is);
     judges = λ tells last m is. ap (λ (k : Machine). refusal k c) (sym is.machine) ∙ did.agrees (its last m is).stands _ (has_within d s.pool s.volumes long last is.held slot x there);
     only_reads = did.reads.only_reads;
+    entries = kept_entries s now did.reads.leaves.containers;
     read = was_read d e s q did.reads;
   })
   judged_by (Err volume.DiskFault) did new result b = judged_as new result (Err DiskFault) (record now { failed = new.failed }) b.1.1.1.same (b.1.0 ∙ ap (λ (g : Fault). Err g) b.1.1.0) (record {
@@ -72,6 +75,7 @@ module _ (d e : Shown) (laws : IsDisk d) (s : Session) (q : Pool) (c : Command) 
     goes_for = λ tells last m is. goes_for_broken d e laws s now 0 did.reads.only_reads fresh fresh (stands_read d e s q did.reads stands) new.failed last m m is (stands_for_read d e s q did.reads last m is);
     judges = λ tells last m is. tt;
     only_reads = did.reads.only_reads;
+    entries = kept_entries s (record now { failed = new.failed }) did.reads.leaves.containers;
     read = tt;
   })
   judged_by (Err (volume.Damaged at want found)) did new result b = judged_as new result (Err (Damaged at want found)) now b.1.1.1 (b.1.0 ∙ ap (λ (g : Fault). Err g) b.1.1.0) (record {
@@ -79,6 +83,7 @@ module _ (d e : Shown) (laws : IsDisk d) (s : Session) (q : Pool) (c : Command) 
     goes_for = λ tells last m is. absurd (no_damage d s.pool x (its last m is).stands (its last m is).well 0 e.faults at want found did.cause);
     judges = λ tells last m is. tt;
     only_reads = did.reads.only_reads;
+    entries = kept_entries s now did.reads.leaves.containers;
     read = tt;
   })
   judged_by (Err volume.Memory) did new result b = judged_as new result (Err Memory) now b.1.1.1 (b.1.0 ∙ ap (λ (g : Fault). Err g) b.1.1.0) (record {
@@ -86,6 +91,7 @@ module _ (d e : Shown) (laws : IsDisk d) (s : Session) (q : Pool) (c : Command) 
     goes_for = λ tells last m is. goes_for_fault d e laws s now 0 did.reads.only_reads fresh fresh (stands_read d e s q did.reads stands) Memory last m m tt is (stands_for_read d e s q did.reads last m is);
     judges = λ tells last m is. tt;
     only_reads = did.reads.only_reads;
+    entries = kept_entries s now did.reads.leaves.containers;
     read = tt;
   })
 
@@ -137,6 +143,7 @@ module _ (d e : Shown) (laws : IsDisk d) (s : Session) (q : Pool) (c : Command) 
       reply = λ tells last m is. change_allows x.name c change m (is_accepted u did last m is);
       refused = λ tells last m is refused. absurd (true≢false (sym refused));
       calm = λ low. did.reads.only_reads;
+      entries = λ low. kept_entries s after did.reads.leaves.containers;
     })
     makes_by (Err (volume.Refused r)) did new result is = makes_as new result (Ok (Refused r)) now (is.1 ∙ as_read (did.head.refused r refl)) is.0 (record {
       goes = goes_done d e laws s now 16 did.reads.only_reads fresh fresh (stands_read d e s q did.reads stands) (Refused r) did.cause (omega arith);
@@ -145,6 +152,7 @@ module _ (d e : Shown) (laws : IsDisk d) (s : Session) (q : Pool) (c : Command) 
       reply = λ tells last m is. refused_allows m c r (is_refused r did last m is);
       refused = λ tells last m is refused. was_read d e s q did.reads;
       calm = λ low. did.reads.only_reads;
+      entries = λ low. kept_entries s now did.reads.leaves.containers;
     })
     makes_by (Err volume.DiskFault) did new result b = makes_as new result (Err DiskFault) (record after { failed = new.failed }) b.1.1.1.same (b.1.0 ∙ ap (λ (g : Fault). Err g) b.1.1.0) (record {
       goes = goes_broken d e laws s after 16 did.reads.only_reads fresh fresh (stand (Err volume.DiskFault) did) new.failed (rose_by _ _ _ e.faults did.cause) b.1.1.1.written b.1.1.1.unwritten few_added;
@@ -152,6 +160,7 @@ module _ (d e : Shown) (laws : IsDisk d) (s : Session) (q : Pool) (c : Command) 
       reply = λ tells last m is. tt;
       refused = λ tells last m is. tt;
       calm = λ low. did.reads.only_reads;
+      entries = λ low. kept_entries s (record after { failed = new.failed }) did.reads.leaves.containers;
     })
     makes_by (Err (volume.Damaged at want found)) did new result b = makes_as new result (Err (Damaged at want found)) after b.1.1.1 (b.1.0 ∙ ap (λ (g : Fault). Err g) b.1.1.0) (record {
       goes = goes_damaged d e laws s after 16 did.reads.only_reads fresh fresh (stand (Err (volume.Damaged at want found)) did) at want found (calm_damage _ _ _ e.faults at want found did.cause) (damaged_at d s slot x there fresh after at want found) few_added;
@@ -159,6 +168,7 @@ module _ (d e : Shown) (laws : IsDisk d) (s : Session) (q : Pool) (c : Command) 
       reply = λ tells last m is. tt;
       refused = λ tells last m is. tt;
       calm = λ low. did.reads.only_reads;
+      entries = λ low. kept_entries s after did.reads.leaves.containers;
     })
     makes_by (Err volume.Memory) did new result b = makes_as new result (Err Memory) after b.1.1.1 (b.1.0 ∙ ap (λ (g : Fault). Err g) b.1.1.0) (record {
       goes = goes_wanting d e laws s after 16 did.reads.only_reads fresh fresh (stand (Err volume.Memory) did) (calm_memory _ _ _ e.faults did.cause) few_added;
@@ -166,6 +176,7 @@ module _ (d e : Shown) (laws : IsDisk d) (s : Session) (q : Pool) (c : Command) 
       reply = λ tells last m is. tt;
       refused = λ tells last m is. tt;
       calm = λ low. did.reads.only_reads;
+      entries = λ low. kept_entries s after did.reads.leaves.containers;
     })
 
 -- ---- the volume of the slot
@@ -197,6 +208,7 @@ refused_at_once d laws s fresh stands c r why = record {
   reply = λ tells last m is. refused_allows m c r (why last m is);
   refused = λ tells last m is refused. record { only_reads = reads_itself d; pool = record { map = refl; containers = refl; kept = refl; found = refl }; volumes = λ k. refl; same = refl };
   calm = λ low. reads_itself d;
+  entries = λ low. kept_entries s s refl;
 }
 
 pub refused_missing : (d : Shown) (s : Session) → length s.volumes ≡ 64 → (name : List ℕ) (c : Command) → NoneHasName s.volumes name → changed_by c ≡ Some name → has_range c ≡ true → (last m : Machine) → StandsFor d s last m → refusal m c ≡ Some NoVolume

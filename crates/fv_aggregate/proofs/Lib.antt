@@ -7,6 +7,7 @@ mod Lent
 mod PointEnds
 mod Pointed
 mod HeldMachine
+mod Holes
 mod Admitting
 mod Beside
 mod Added

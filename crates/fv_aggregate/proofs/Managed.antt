@@ -51,6 +51,7 @@ pub record IsManagedOver (disk : Shown) (old : Session) (c : Command) (new : Ses
   pub asked : changes_volume c ≡ false → blocks_asked new.volumes ≤ blocks_asked old.volumes
   pub files : IsWithoutFiles old → IsWithoutFiles new
   pub map : removes_volume c ≡ false → new.pool.map ≡ old.pool.map
+  pub containers : removes_volume c ≡ false → new.pool.containers ≡ old.pool.containers
   pub found : new.pool.found ≡ old.pool.found
   pub pending : new.pending ≡ old.pending
   pub failed : new.failed ≡ old.failed
@@ -91,6 +92,7 @@ module _ (disk : Shown) (session : Session) where
     asked = λ calm. omega arith;
     files = λ without. without;
     map = λ stays. refl;
+    containers = λ stays. refl;
     found = refl;
     pending = refl;
     failed = refl;
@@ -112,6 +114,7 @@ module _ (disk : Shown) (session : Session) where
     asked = λ calm. omega arith;
     files = λ without. without;
     map = λ stays. refl;
+    containers = λ stays. refl;
     found = refl;
     pending = refl;
     failed = refl;
@@ -157,6 +160,7 @@ module _ (disk : Shown) (session : Session) where
         asked = λ calm. absurd (true≢false (sym changes ∙ calm));
         files = files_promised session c name size kind new did.done;
         map = λ stays. refl;
+        containers = λ stays. refl;
         found = refl;
         pending = refl;
         failed = refl;
@@ -244,6 +248,7 @@ module _ (disk : Shown) (session : Session) where
         asked = λ calm. asked_without session fit name new left did.done;
         files = files_without session fit name new left did.done;
         map = λ stays. absurd (true≢false stays);
+        containers = λ stays. absurd (true≢false stays);
         found = did.done.gone.found;
         pending = refl;
         failed = refl;
@@ -345,6 +350,7 @@ module _ (disk : Shown) (session : Session) where
           asked = λ calm. omega arith;
           files = λ without. without;
           map = λ stays. refl;
+          containers = λ stays. refl;
           found = refl;
           pending = refl;
           failed = refl;

@@ -1,5 +1,5 @@
 -- A session that read the numbers of a volume's files into memory, and a command on its files that comes then.
-use Rattle.std.proofs.Common.{◌≡◌, ◌≤◌, ℕ, Option, Some, None, Result, Ok, Err, refl, sym, ap, subst, ◌∙◌, arith}
+use Rattle.std.proofs.Common.{◌≡◌, ◌≤◌, ℕ, Option, Some, None, Result, Ok, Err, refl, sym, ap, subst, ◌∙◌, arith, ◌⊎◌, ◌+◌}
 use Rattle.std.specs.Prelude.{IfOk, IsTrue, OnOk}
 use Rattle.std.specs.Option.{option_map}
 use Rattle.fv_disk.specs.Shown.{Shown}
@@ -19,6 +19,7 @@ use Rattle.fv_aggregate.specs.Commands.{file_room, is_refusal}
 use Rattle.fv_aggregate.specs.Looking.{Looks, Makes}
 use Rattle.fv_aggregate.specs.Numbering.{HasNumbered}
 use Rattle.fv_aggregate.specs.Standing.{StandsFor}
+use Rattle.fv_aggregate.proofs.Holes.{read_entries}
 use Rattle.fv_aggregate.proofs.CallEnds.{fails_early, goes_for_after, goes_on_read, goes_wider}
 
 -- ---- volumes that are the same but for those numbers
@@ -70,6 +71,7 @@ module _ (d : Shown) (s : Session) (c : Command) (e : Shown) (n : Session) (f : 
     goes_for = λ tells last m is. fails_early d last m m e n f (failed.goes_for tells last m is);
     reply = λ tells last m is. tt;
     only_reads = failed.only_reads;
+    entries = failed.entries;
     read = tt;
   }
 
@@ -80,6 +82,7 @@ module _ (d : Shown) (s : Session) (c : Command) (e : Shown) (n : Session) (f : 
     reply = λ tells last m is. tt;
     refused = λ tells last m is. tt;
     calm = λ low. failed.only_reads;
+    entries = λ low. failed.entries;
   }
 
 -- ---- they were read, and then a command was carried out
@@ -123,6 +126,7 @@ module _ (d : Shown) (s : Session) (c : Command) (damage : (new : Session) (at w
     goes_for = for_then (λ m. m) looks.goes_for;
     reply = holds_then (λ m. IfOk r (Allows m c)) looks.reply;
     only_reads = reads_then d e g read.only_reads looks.only_reads;
+    entries = read_entries s n new read.read.pool looks.entries;
     read = read_both r looks.read;
   }
 
@@ -133,6 +137,7 @@ module _ (d : Shown) (s : Session) (c : Command) (damage : (new : Session) (at w
     reply = holds_then (λ m. IfOk r (Allows m c)) makes.reply;
     refused = λ tells last m is. let first = read.goes_for tells last m is in refused_both r (makes.refused (told tells) first.done.point m first.done.stands);
     calm = λ low. reads_then d e g read.only_reads (makes.calm (let same = same_pending in omega (arith, low, same)));
+    entries = λ low. read_entries s n new read.read.pool (makes.entries (subst (λ (k : ℕ). (◌≡◌ {A = ℕ} 16 0) ⊎ (k + 16 ≤ 256)) (sym same_pending) low));
   }
 
   -- what the steps are after it

@@ -36,6 +36,7 @@ use Rattle.fv_aggregate.specs.Calls.{but_numbers, KeepsAsking, SameButNumbers, W
 use Rattle.fv_aggregate.specs.Looking.{Breaks}
 use Rattle.fv_aggregate.specs.Numbering.{HasNumbered, IsSlotNumbered, NumbersSlot, NumbersState}
 use Rattle.fv_aggregate.specs.Known.{KeepsNumbers, KnowsNumbers}
+use Rattle.fv_aggregate.proofs.Holes.{kept_entries}
 use Rattle.fv_aggregate.proofs.Keeping.{keeps_none, keeps_with}
 use Rattle.fv_aggregate.specs.Standing.{clear_blocks, overheads_in, taken_since, Stands, StandsFor}
 use Rattle.fv_aggregate.proofs.Asked.{calm_damage, calm_memory, damaged_at, rose_by}
@@ -180,6 +181,7 @@ module _ (d e : Shown) (laws : IsDisk d) (s : Session) (q : Pool) (slot : ℕ) (
     asks = asks_it (Ok u) did;
     goes_for = λ tells last m is. goes_for_done d e laws s now 0 did.reads.only_reads fresh fresh (stand (Ok u) did) u last m m is (for_it (Ok u) did last m is);
     only_reads = did.reads.only_reads;
+    entries = kept_entries s now did.reads.leaves.containers;
     read = read_numbered d e s q slot x y there long did.reads did.same did.ready;
     kept = kept_it (Ok u) did;
   }
@@ -193,6 +195,7 @@ module _ (d e : Shown) (laws : IsDisk d) (s : Session) (q : Pool) (slot : ℕ) (
     asks = λ tells kept asks none. let is = asks_it (Err block.DiskFault) did tells kept asks fresh in record { asked = is.asked; pending = is.pending };
     goes_for = λ tells last m is. goes_for_broken d e laws s now 0 did.reads.only_reads fresh fresh (stand (Err block.DiskFault) did) new.failed last m m is (for_it (Err block.DiskFault) did last m is);
     only_reads = did.reads.only_reads;
+    entries = kept_entries s (record now { failed = new.failed }) did.reads.leaves.containers;
     read = tt;
     kept = kept_it (Err block.DiskFault) did;
   })
@@ -203,6 +206,7 @@ module _ (d e : Shown) (laws : IsDisk d) (s : Session) (q : Pool) (slot : ℕ) (
         let its = mine d s.pool s.volumes long last is.held slot x there in
         absurd (no_damage d s.pool x its.stands its.well 0 e.faults at want found did.cause);
     only_reads = did.reads.only_reads;
+    entries = kept_entries s now did.reads.leaves.containers;
     read = tt;
     kept = kept_it (Err (block.Damaged at want found)) did;
   })
@@ -211,6 +215,7 @@ module _ (d e : Shown) (laws : IsDisk d) (s : Session) (q : Pool) (slot : ℕ) (
     asks = asks_it (Err block.Memory) did;
     goes_for = λ tells last m is. goes_for_fault d e laws s now 0 did.reads.only_reads fresh fresh (stand (Err block.Memory) did) Memory last m m tt is (for_it (Err block.Memory) did last m is);
     only_reads = did.reads.only_reads;
+    entries = kept_entries s now did.reads.leaves.containers;
     read = tt;
     kept = kept_it (Err block.Memory) did;
   })

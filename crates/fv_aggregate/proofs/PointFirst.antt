@@ -20,6 +20,7 @@ use Rattle.fv_aggregate.specs.Calls.{Goes, GoesFor, HasDamage, WasRead}
 use Rattle.fv_aggregate.specs.Commands.{dirty_limit, file_room, is_refusal}
 use Rattle.fv_aggregate.specs.Looking.{refusal_in, HasJudged, IsAimed, Makes}
 use Rattle.fv_aggregate.specs.Standing.{StandsFor}
+use Rattle.fv_aggregate.proofs.Holes.{never_within}
 use Rattle.fv_aggregate.proofs.CallEnds.{fails_early, goes_after, goes_for_after, goes_wider, replies_wider}
 use Rattle.fv_aggregate.proofs.Changing.{change_done, judged_accepted}
 use Rattle.fv_aggregate.proofs.Missing.{refused_allows, refused_next}
@@ -35,6 +36,7 @@ module _ (d : Shown) (s : Session) (c : Command) (e : Shown) (n : Session) where
     reply = λ tells last m is. tt;
     refused = λ tells last m is. tt;
     calm = λ low. judged.only_reads;
+    entries = λ low. judged.entries;
   }
 
   pub judged_refused : (r : Refusal) → HasJudged d s c e n (Ok (Refused r)) → Makes file_room d s c e n (Ok (Refused r))
@@ -44,6 +46,7 @@ module _ (d : Shown) (s : Session) (c : Command) (e : Shown) (n : Session) where
     reply = λ tells last m is. refused_allows m c r (judged.judges tells last m is);
     refused = λ tells last m is refused. judged.read;
     calm = λ low. judged.only_reads;
+    entries = λ low. judged.entries;
   }
 
 -- ---- room is made for what was accepted
@@ -65,6 +68,7 @@ module _ (d : Shown) (s : Session) (c : Command) (past : dirty_limit < s.pending
     reply = λ tells last m is. tt;
     refused = λ tells last m is. tt;
     calm = λ low. absurd (omega (arith, low, past));
+    entries = λ low. never_within 16 s.pending (λ e. absurd (omega (arith, e))) past low;
   }
     where
       fails_as : Goes {T = Unit {0}} 16 e n g p (Err f) → Goes {T = Reply} 16 e n g p (Err f)
@@ -99,6 +103,7 @@ module _ (d : Shown) (s : Session) (c : Command) (past : dirty_limit < s.pending
           let first = both_for tells last m is in
           not_refused m (judged_accepted m c reply other (judged.judges tells last m is)) result (makes.reply (told_then tells) first.done.point m first.done.stands);
       calm = λ low. absurd (omega (arith, low, past));
+      entries = λ low. never_within 16 s.pending (λ e. absurd (omega (arith, e))) past low;
     }
 
 -- ---- the volume of the slot

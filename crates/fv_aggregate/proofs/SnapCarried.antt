@@ -48,6 +48,7 @@ use Rattle.fv_aggregate.specs.Known.{KeepsNumbersBut, KnowsNumbers, MayLose}
 use Rattle.fv_aggregate.specs.Looking.{done_as, Replied, SnapsState}
 use Rattle.fv_aggregate.specs.Snapping.{snap_blocks, IsAccepted}
 use Rattle.fv_aggregate.specs.Standing.{IsWithoutFiles, Stands, StandsFor}
+use Rattle.fv_aggregate.proofs.Holes.{kept_entries, placed_entries}
 use Rattle.fv_aggregate.proofs.Asked.{answer_allows}
 use Rattle.fv_aggregate.proofs.Changed.{beside, has_within, mine}
 use Rattle.fv_aggregate.proofs.HeldMachine.{bare, is_there}
@@ -146,10 +147,10 @@ module _ {D : Type 0} (d : Shown) (disk : D) (laws : IsDisk d) (s : Session) (fr
     its_stands = placed_stands d s q slot x y there slot_is fit placed stands
 
     pub wanting : IsCarried d disk s c room (left_session s slot q y) (Err Memory)
-    wanting = carried_wanting d disk laws s fresh c room (left_session s slot q y) fresh its_stands (omega arith) numbers_left places (λ last m is. placed_for d s q slot x y there slot_is fit placed last m is)
+    wanting = carried_wanting d disk laws s fresh c room (left_session s slot q y) fresh its_stands (omega arith) numbers_left (placed_entries d s.pool q x y placed) places (λ last m is. placed_for d s q slot x y there slot_is fit placed last m is)
 
     pub damaged : (at want found : ℕ) → MayFail d s.pool (Some x) (volume.Damaged at want found) → IsCarried d disk s c room (left_session s slot q y) (Err (Damaged at want found))
-    damaged at want found may = carried_damaged d disk laws s fresh c room (left_session s slot q y) fresh its_stands (omega arith) numbers_left places at want found
+    damaged at want found may = carried_damaged d disk laws s fresh c room (left_session s slot q y) fresh its_stands (omega arith) numbers_left (placed_entries d s.pool q x y placed) places at want found
         (λ none. true≢false (sym may.0 ∙ ap is_some (its_files none)))
         (λ last m is.
         let full = has_full_room d s last m is in
@@ -167,7 +168,7 @@ module _ {D : Type 0} (d : Shown) (disk : D) (laws : IsDisk d) (s : Session) (fr
       (accepted : creation_refusal x.snapshots x.ledger s.pool.found.blocks (beside s.volumes slot) name ≡ None) where
     pub made : (u : Unit {0}) → Creates d s.pool x (beside s.volumes slot) name q y (Ok u) → TellsCreation s.pool x (beside s.volumes slot) name y (Ok u) → IsCarried d disk s (SnapCreate x.name name) room (carried_session s slot q y room) (Ok Done)
     made u did tells = carried_done d disk laws s fresh (SnapCreate x.name name) room (carried_session s slot q y room) fresh
-        (snapped_stands d s q slot x did.done.mid y there slot_is fit did.done.placed step ready room stands) (omega (arith, most)) (numbers_stay (SnapCreate x.name name) y numbers)
+        (snapped_stands d s q slot x did.done.mid y there slot_is fit did.done.placed step ready room stands) (omega (arith, most)) (numbers_stay (SnapCreate x.name name) y numbers) (placed_entries d s.pool q x did.done.mid did.done.placed)
         (λ last m is. snapped_for d s q slot x did.done.mid y there slot_is fit did.done.placed step ready room (map_blocks x.span) waits pending enough (held_at q y (did.held (held last m is))) last m (SnapCreate x.name name) is (agreed last m is) (becomes last m is))
         (λ last m is. made_allows m x.name name (agreed last m is))
         (files_stay q did.done.mid y did.done.placed (ap (λ (z : VolumeState). z.files) did.done.now ∙ did.done.none) room)
@@ -224,7 +225,7 @@ module _ {D : Type 0} (d : Shown) (disk : D) (laws : IsDisk d) (s : Session) (fr
 
     pub removed : (u : Unit {0}) → Deletes d s.pool x name q y (Ok u) → IsCarried d disk s (SnapDelete x.name name) room (carried_session s slot q y room) (Ok Done)
     removed u did = carried_done d disk laws s fresh (SnapDelete x.name name) room (carried_session s slot q y room) fresh
-        (snapped_stands d s q slot x did.done.mid y there slot_is fit did.done.placed step ready room stands) (omega (arith, nothing)) (numbers_stay (SnapDelete x.name name) y numbers)
+        (snapped_stands d s q slot x did.done.mid y there slot_is fit did.done.placed step ready room stands) (omega (arith, nothing)) (numbers_stay (SnapDelete x.name name) y numbers) (placed_entries d s.pool q x did.done.mid did.done.placed)
         (λ last m is. snapped_for d s q slot x did.done.mid y there slot_is fit did.done.placed step ready room 0 waits pending (inl (refl, nothing)) (held_at q y (did.held (held last m is))) last m (SnapDelete x.name name) is (agreed last m is) (becomes last m is))
         (λ last m is. removed_allows m x.name name (agreed last m is))
         (files_stay q did.done.mid y did.done.placed (ap (λ (z : VolumeState). z.files) did.done.now ∙ did.done.none) room)
@@ -268,7 +269,7 @@ module _ {D : Type 0} (d : Shown) (disk : D) (laws : IsDisk d) (s : Session) (fr
     pub turned : (u : Unit {0}) → Restores d s.pool x (beside s.volumes slot) name y (Ok u) → IsCarried d disk s (SnapRestore x.name name) room (carried_session s slot s.pool y room) (Ok Done)
     turned u did = carried_done d disk laws s fresh (SnapRestore x.name name) room (carried_session s slot s.pool y room) fresh
         (stepped_stands d s slot x y there slot_is long step ready room stands) (omega (arith, nothing))
-        (keeps_with (MayLose (SnapRestore x.name name) s.volumes) s.volumes slot (Some y) inside (λ known stays. absurd (stays (x.name, (refl, ap (λ (o : Option VolumeState). is_named o x.name) there ∙ itself x.name)))))
+        (keeps_with (MayLose (SnapRestore x.name name) s.volumes) s.volumes slot (Some y) inside (λ known stays. absurd (stays (x.name, (refl, ap (λ (o : Option VolumeState). is_named o x.name) there ∙ itself x.name))))) (kept_entries s (carried_session s slot s.pool y room) refl)
         (λ last m is. stepped_for d s slot x y there slot_is long step ready room 0 waits pending (inl (refl, nothing)) (held_at s.pool y (did.held (held last m is))) last m (SnapRestore x.name name) is (agreed last m is) (becomes last m is))
         (λ last m is. turned_allows m x.name name (agreed last m is))
         (λ without. record { none = none_with s.volumes slot y inside none without.none; taken = without.taken })

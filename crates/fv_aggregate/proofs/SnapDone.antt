@@ -13,11 +13,12 @@ use Rattle.fv_cp.specs.Placing.{HaveNoFiles}
 use Rattle.fv_aggregate.specs.declared.fault.Fault.{Fault}
 use Rattle.fv_aggregate.specs.declared.fault.Fault.TheVariants.{Damaged, Memory}
 use Rattle.fv_aggregate.specs.declared.session.Session.{Session}
-use Rattle.fv_aggregate.specs.Calls.{GoesFor, WasRead}
+use Rattle.fv_aggregate.specs.Calls.{GoesFor, KeepsEntries, WasRead}
 use Rattle.fv_aggregate.specs.Commands.{is_refusal, places_files, room_of}
 use Rattle.fv_aggregate.specs.Known.{KeepsNumbersBut, MayLose}
 use Rattle.fv_aggregate.specs.Looking.{HasSnapped}
 use Rattle.fv_aggregate.specs.Standing.{IsWithoutFiles, Stands, StandsFor}
+use Rattle.fv_aggregate.proofs.Holes.{kept_entries}
 use Rattle.fv_aggregate.proofs.Applying.{same_map}
 use Rattle.fv_aggregate.proofs.CallEnds.{goes_damaged, goes_done, goes_for_done, goes_for_fault, goes_wanting}
 use Rattle.fv_aggregate.proofs.Calls.{reads_itself}
@@ -44,6 +45,7 @@ refused_snapped d disk laws s fresh stands c r why = record {
     reply = λ tells last m is. refused_allows m c r (why last m is);
     refused = λ tells last m is refused. itself_read d s;
     calm = λ low. reads_itself d;
+    entries = λ low. kept_entries s s refl;
   };
   damage = tt;
   refused = λ refused. (refl, refl);
@@ -59,7 +61,7 @@ module _ {D : Type 0} (d : Shown) (disk : D) (laws : IsDisk d) (s : Session) (fr
   pub carried_refused : Stands d s → (r : Refusal) → ((last m : Machine) → StandsFor d s last m → refusal m c ≡ Some r) → room ≡ 0 → IsCarried d disk s c room s (Ok (Refused r))
   carried_refused stands r why none = record { snapped = refused_snapped d disk laws s fresh stands c r why; placed = λ nothing. tt; accepted = λ some. absurd (some none) }
 
-  module _ (after : Session) (still : IsNone after.failed) (stands : Stands d after) (few : after.pending ≤ s.pending + room_of c) (numbers : KeepsNumbersBut (MayLose c s.volumes) s.volumes after.volumes) where
+  module _ (after : Session) (still : IsNone after.failed) (stands : Stands d after) (few : after.pending ≤ s.pending + room_of c) (numbers : KeepsNumbersBut (MayLose c s.volumes) s.volumes after.volumes) (entries : KeepsEntries s after) where
     pub carried_done : ((last m : Machine) → StandsFor d s last m → StandsFor d after last (next m c)) → ((last m : Machine) → StandsFor d s last m → Allows m c Done) → (IsWithoutFiles s → IsWithoutFiles after)
         → ((places_files c ≡ false) ⊎ IsWithoutFiles s → after.pool.map ≡ s.pool.map) → IsCarried d disk s c room after (Ok Done)
     carried_done for allowed files map = record {
@@ -70,6 +72,7 @@ module _ {D : Type 0} (d : Shown) (disk : D) (laws : IsDisk d) (s : Session) (fr
           reply = λ tells last m is. allowed last m is;
           refused = λ tells last m is refused. absurd (true≢false (sym refused));
           calm = λ low. reads_itself d;
+          entries = λ low. entries;
         };
         damage = tt;
         refused = λ refused. absurd (true≢false (sym refused));
@@ -97,6 +100,7 @@ module _ {D : Type 0} (d : Shown) (disk : D) (laws : IsDisk d) (s : Session) (fr
             reply = λ tells last m is. tt;
             refused = λ tells last m is. tt;
             calm = λ low. reads_itself d;
+            entries = λ low. entries;
           };
           damage = tt;
           refused = tt;
@@ -120,6 +124,7 @@ module _ {D : Type 0} (d : Shown) (disk : D) (laws : IsDisk d) (s : Session) (fr
             reply = λ tells last m is. tt;
             refused = λ tells last m is. tt;
             calm = λ low. reads_itself d;
+            entries = λ low. entries;
           };
           damage = (reads_itself d, inr (record { fresh = fresh; files = filed }));
           refused = tt;

@@ -176,6 +176,7 @@ module _ {D : Type 0} (d : Shown) (disk : D) (s : Session) (c : Command) (room :
       reply = λ tells last m is. tt;
       refused = λ tells last m is. tt;
       calm = λ low. absurd (omega (arith, low, past, most));
+      entries = λ low. never_calm low;
     };
     damage = wants;
     refused = tt;
@@ -208,6 +209,7 @@ module _ {D : Type 0} (d : Shown) (disk : D) (s : Session) (c : Command) (room :
         reply = λ tells last m is. let first = goes_for tells last m is in carried.snapped.makes.reply (told tells) first.done.point m first.done.stands;
         refused = λ tells last m is. never_refused _ result (carried.accepted some);
         calm = λ low. absurd (omega (arith, low, past, most));
+        entries = λ low. never_calm low;
       };
       damage = wants_memory d s e new result (carried.placed pointed.none);
       refused = never_refused _ result (carried.accepted some);

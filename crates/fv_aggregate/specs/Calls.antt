@@ -12,7 +12,7 @@ use Rattle.fv_model.specs.declared.commands.Command.TheVariants.{Cp, SnapList, V
 use Rattle.fv_model.specs.Machines.{Machine}
 use Rattle.fv_image.specs.Layout.{root_place}
 use Rattle.fv_aggmap.specs.Space.{free_blocks}
-use Rattle.fv_container.specs.Chains.{slot_count}
+use Rattle.fv_container.specs.Chains.{container_at, own_entry, slot_count}
 use Rattle.fv_volume.specs.Asking.{table_named}
 use Rattle.fv_volume.specs.BlocksOver.{LeavesPool}
 use Rattle.fv_volume.specs.declared.state.VolumeState.{VolumeState}
@@ -20,7 +20,7 @@ use Rattle.fv_volume.specs.Slots.{HasName, NoneHasName}
 use Rattle.fv_volume.specs.Snaps.{names_kept}
 use Rattle.fv_volume.specs.States.{States, state_at}
 use Rattle.fv_cp.specs.Lent.{blocks_asked}
-use Rattle.fv_cp.specs.Placing.{HaveNoFiles}
+use Rattle.fv_cp.specs.Placing.{HaveNoFiles, IsSpareEntry, PlacesEntries}
 use Rattle.fv_aggregate.specs.declared.fault.Fault.{Fault}
 use Rattle.fv_aggregate.specs.declared.fault.Fault.TheVariants.{DiskFault, Damaged, Memory, Failed}
 use Rattle.fv_aggregate.specs.declared.session.Session.{Session}
@@ -133,6 +133,17 @@ pub record GoesFor {T : Type 0} (before : Shown) (last m next : Machine) (after 
   pub done : OnOk result (StandsAfter after new last m next)
   pub still : IsNone new.failed → OnErr result (StandsAfter after new last m m)
   pub whole : IfErr result IsNoDamage
+
+-- ---- entries
+
+-- Each entry of a container is as it was, or leads to a block that the root on the disk doesn't hold. So none became a hole.
+abbrev pub KeepsEntries : Session → Session → Type 0
+KeepsEntries old new = PlacesEntries old.pool.map old.pool.containers new.pool.containers
+
+-- so it is with each volume that there was
+abbrev pub MakesNoHoles : Session → Session → Type 0
+MakesNoHoles old new = (s : ℕ) → IsSome (state_at old.volumes s) → (v : ℕ)
+    → (own_entry (container_at new.pool.containers s) v ≡ own_entry (container_at old.pool.containers s) v) ⊎ IsSpareEntry old.pool.map (own_entry (container_at new.pool.containers s) v)
 
 -- ---- commands
 

@@ -25,7 +25,7 @@ use Rattle.fv_volume.specs.declared.fault.VolumeFault.TheVariants as volume
 use Rattle.fv_aggregate.specs.declared.fault.Fault.{Fault}
 use Rattle.fv_aggregate.specs.declared.fault.Fault.TheVariants.{DiskFault, Damaged, Memory}
 use Rattle.fv_aggregate.specs.declared.session.Session.{Session}
-use Rattle.fv_aggregate.specs.Calls.{Goes, GoesFor, IsForWant, IsUntouched, IsWithinLimit, KeepsAsking, WasRead}
+use Rattle.fv_aggregate.specs.Calls.{Goes, GoesFor, IsForWant, IsUntouched, IsWithinLimit, KeepsAsking, KeepsEntries, WasRead}
 use Rattle.fv_snapshot.specs.Creating.{Creates, TellsCreation}
 use Rattle.fv_snapshot.specs.Deleting.{Deletes}
 use Rattle.fv_snapshot.specs.Restoring.{Restores}
@@ -41,16 +41,18 @@ pub record Looks (before : Shown) (old : Session) (command : Command) (after : S
   pub goes_for : IsTrue before.tells → (last m : Machine) → StandsFor before old last m → GoesFor before last m m after new result
   pub reply : IsTrue before.tells → (last m : Machine) → StandsFor before old last m → IfOk result (Allows m command)
   pub only_reads : OnlyReads before after
+  pub entries : KeepsEntries old new
   pub read : OnOk result (WasRead before old after new)
 
 -- A command that changes a volume, for which it may add `room` blocks, was carried out as the machine carries it out. One with room within the dirty
--- limit wrote nothing. A refused one changed nothing but the cache and the numbers of files in memory, where the session stands for a machine.
+-- limit wrote nothing, and made no entry a hole. A refused one changed nothing but the cache and the numbers of files in memory, where the session stands for a machine.
 pub record Makes (room : ℕ) (before : Shown) (old : Session) (command : Command) (after : Shown) (new : Session) (result : Result Reply Fault) : Type 0 where
   pub goes : Goes room before old after new result
   pub goes_for : IsTrue before.tells → (last m : Machine) → StandsFor before old last m → GoesFor before last m (next m command) after new result
   pub reply : IsTrue before.tells → (last m : Machine) → StandsFor before old last m → IfOk result (Allows m command)
   pub refused : IsTrue before.tells → (last m : Machine) → StandsFor before old last m → IfOk result (λ reply. IsTrue (is_refusal reply) → WasRead before old after new)
   pub calm : old.pending + room ≤ dirty_limit → OnlyReads before after
+  pub entries : (room ≡ 0) ⊎ (old.pending + room ≤ dirty_limit) → KeepsEntries old new
 
 -- ---- a volume that is asked
 
@@ -184,6 +186,7 @@ pub record HasJudged (before : Shown) (old : Session) (command : Command) (after
   pub goes_for : IsTrue before.tells → (last m : Machine) → StandsFor before old last m → GoesFor before last m m after new result
   pub judges : IsTrue before.tells → (last m : Machine) → StandsFor before old last m → IfOk result (Judges m command)
   pub only_reads : OnlyReads before after
+  pub entries : KeepsEntries old new
   pub read : OnOk result (WasRead before old after new)
 
 -- ---- faults

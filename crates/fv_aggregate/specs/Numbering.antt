@@ -13,7 +13,7 @@ use Rattle.fv_volume.specs.OneVolume.{home_in, standing_for, IsReady, IsStanding
 use Rattle.fv_volume.specs.States.{States, with_state}
 use Rattle.fv_aggregate.specs.declared.fault.Fault.{Fault}
 use Rattle.fv_aggregate.specs.declared.session.Session.{Session}
-use Rattle.fv_aggregate.specs.Calls.{Goes, GoesFor, KeepsAsking, WasRead}
+use Rattle.fv_aggregate.specs.Calls.{Goes, GoesFor, KeepsAsking, KeepsEntries, WasRead}
 use Rattle.fv_aggregate.specs.Known.{KeepsNumbers}
 use Rattle.fv_aggregate.specs.Standing.{StandsFor}
 
@@ -24,6 +24,7 @@ pub record HasNumbered (before : Shown) (old : Session) (after : Shown) (new : S
   pub asks : KeepsAsking 0 before old after new
   pub goes_for : IsTrue before.tells → (last m : Machine) → StandsFor before old last m → GoesFor before last m m after new result
   pub only_reads : OnlyReads before after
+  pub entries : KeepsEntries old new
   pub read : OnOk result (WasRead before old after new)
   pub kept : KeepsNumbers old.volumes new.volumes
 

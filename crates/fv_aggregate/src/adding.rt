@@ -11,7 +11,7 @@ ghost use Rattle.fv_model.specs.declared.commands.Command.TheVariants.{VolCreate
 ghost use Rattle.fv_volume.specs.Creating.{Admits};
 ghost use Rattle.fv_aggregate.specs.declared.fault.Fault.TheVariants.{Memory};
 ghost use Rattle.fv_aggregate.specs.Adding.{IsAdded};
-ghost use Rattle.fv_aggregate.specs.Calls.{Goes, GoesFor, IsForWant, KeepsAsking};
+ghost use Rattle.fv_aggregate.specs.Calls.{Goes, GoesFor, IsForWant, KeepsAsking, MakesNoHoles};
 ghost use Rattle.fv_aggregate.specs.Commands.{dirty_limit, is_refusal};
 ghost use Rattle.fv_aggregate.specs.Known.{KeepsNumbers};
 ghost use Rattle.fv_aggregate.specs.Standing.{HoldsAsCommitted, IsWithoutFiles, Stands, StandsFor};
@@ -45,6 +45,7 @@ impl Session {
         ensures refused { IfOk result (λ reply. IsTrue (is_refusal reply) → (disk.new ≡ disk.old) × (self.new ≡ self.old)) }
         ensures calm { self.old.pending + overhead (span_of size 0 0) ≤ dirty_limit → disk.new ≡ disk.old }
         ensures map { self.old.pending + overhead (span_of size 0 0) ≤ dirty_limit → self.new.pool.map ≡ self.old.pool.map }
+        ensures entries { self.old.pending + overhead (span_of size 0 0) ≤ dirty_limit → MakesNoHoles self.old self.new }
         ensures files { IsTrue (D.shown disk.old).tells → IsWithoutFiles self.old → OnOk result (IsWithoutFiles self.new) }
         ensures same { IsTrue (D.shown disk.old).tells → HoldsAsCommitted self.old → OnOk result (HoldsAsCommitted self.new) }
         ensures wanting { self.old.pending + overhead (span_of size 0 0) ≤ dirty_limit → IfErr result (λ e. e ≡ Memory → self.new ≡ self.old) }
@@ -77,6 +78,7 @@ impl Session {
         ensures reply { IfOk result (λ reply. reply ≡ Done) }
         ensures calm { self.old.pending + overhead admitted.span ≤ dirty_limit → disk.new ≡ disk.old }
         ensures map { self.old.pending + overhead admitted.span ≤ dirty_limit → self.new.pool.map ≡ self.old.pool.map }
+        ensures entries { self.old.pending + overhead admitted.span ≤ dirty_limit → MakesNoHoles self.old self.new }
         ensures files { IsTrue (D.shown disk.old).tells → IsWithoutFiles self.old → OnOk result (IsWithoutFiles self.new) }
         ensures same { IsTrue (D.shown disk.old).tells → HoldsAsCommitted self.old → OnOk result (HoldsAsCommitted self.new) }
         ensures wanting { self.old.pending + overhead admitted.span ≤ dirty_limit → IfErr result (λ e. e ≡ Memory → self.new ≡ self.old) }

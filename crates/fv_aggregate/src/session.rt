@@ -15,7 +15,7 @@ ghost use Rattle.fv_aggregate.specs.declared.fault.Fault.TheVariants.{Memory};
 ghost use Rattle.fv_aggregate.specs.Adding.{IsPointed};
 ghost use Rattle.fv_aggregate.specs.Asking.{AsksWithin};
 ghost use Rattle.fv_disk.specs.DiskCalls.{OnlyReads};
-ghost use Rattle.fv_aggregate.specs.Calls.{CountsSteps, Goes, GoesFor, IsForWant, IsOnFiles, IsPlain, IsWithinLimit, KeepsAsking, SameCounts};
+ghost use Rattle.fv_aggregate.specs.Calls.{CountsSteps, Goes, GoesFor, IsForWant, IsOnFiles, IsPlain, IsWithinLimit, KeepsAsking, MakesNoHoles, SameCounts};
 ghost use Rattle.fv_aggregate.specs.Causes.{HasOpenCause, IsUnwritten, OpenFails};
 ghost use Rattle.fv_aggregate.specs.Commands.{Replies, changed_by, changes_volume, machine_after, places_files, reads_files, removes_volume, room_of};
 ghost use Rattle.fv_aggregate.specs.Opening.{IsFresh, IsOpened};
@@ -144,6 +144,7 @@ impl Session {
         ensures sides { IsTrue (D.shown disk.old).tells → (last m : Machine) → StandsFor (D.shown disk.old) self.old last m → command.now ≡ Cp
             → Leaves (D.shown disk.old) (D.shown disk.new) (OldOrHeld (D.shown disk.old) self.old.pool self.old.volumes last) }
         ensures calm { command.now ≢ Cp → IsWithinLimit self.old command.now → OnlyReads (D.shown disk.old) (D.shown disk.new) }
+        ensures entries { command.now ≢ Cp → IsWithinLimit self.old command.now → removes_volume command.now ≡ false → MakesNoHoles self.old self.new }
         ensures files { IsTrue (D.shown disk.old).tells → changed_by command.now ≡ None → IsWithoutFiles self.old → OnOk result (IsWithoutFiles self.new) }
         ensures same { IsTrue (D.shown disk.old).tells → changed_by command.now ≡ None → removes_volume command.now ≡ false → (places_files command.now ≡ false) ⊎ IsWithoutFiles self.old → HoldsAsCommitted self.old
             → OnOk result (HoldsAsCommitted self.new) }

@@ -15,9 +15,10 @@ use Rattle.fv_aggregate.specs.Calls.{GoesFor, IsPlain, LacksSnapshot}
 use Rattle.fv_aggregate.specs.Commands.{volume_asked, changed_by, dirty_limit, machine_after, room_of, snapped_by}
 use Rattle.fv_aggregate.proofs.Added.{not_refused}
 use Rattle.fv_aggregate.proofs.Applied.{cp_asks, cp_built, cp_goes, cp_goes_for, cp_no_files, cp_no_list, cp_no_names, cp_no_snap, cp_no_whole, cp_replies, create_asks, create_built, create_goes, create_goes_for, create_no_files, create_no_list, create_no_names, create_no_point, create_no_snap, create_no_whole, create_replies, create_room, list_after, list_done, list_fails, list_replies, no_files, some_room, managed_or_unbuilt, rests_for, rests_for_fault}
-use Rattle.fv_aggregate.proofs.Applying.{booked_each, look_asks, look_files, look_goes, look_goes_for, look_name, look_no_point, look_refused, look_reply, look_same, make_asks, make_calm, make_goes, make_goes_for, make_name, make_no_point, make_reply, make_unasked, make_unchanged, no_step, not_dead, pointed_same, rests_as, same_map}
+use Rattle.fv_aggregate.proofs.Applying.{booked_each, look_asks, look_files, look_goes, look_goes_for, look_name, look_no_point, look_refused, look_reply, look_same, make_asks, make_calm, make_entries, make_goes, make_goes_for, make_name, make_no_point, make_reply, make_unasked, make_unchanged, no_step, not_dead, pointed_same, rests_as, same_map}
 use Rattle.fv_aggregate.proofs.Calls.{reads_itself}
 use Rattle.fv_aggregate.proofs.Changing.{change_of_volume, change_reads, look_reads}
+use Rattle.fv_aggregate.proofs.Holes.{kept_entries, no_holes}
 use Rattle.fv_aggregate.proofs.Keeping.{keeps_but, keeps_managed, named_as}
 use Rattle.fv_aggregate.proofs.Managed.{manages_over}
 use Rattle.fv_aggregate.proofs.ManagedCalls.{managed_asks, managed_for, managed_goes, managed_plain}
@@ -69,6 +70,7 @@ returns-in-VolCreate g c =
       point = λ tells last m stands cp. create_no_point command _ _ _ c.in-VolCreate.is _ cp;
       sides = λ tells last m stands cp. create_no_point command _ _ _ c.in-VolCreate.is _ cp;
       calm = λ other few. rests_as g.D.Disk.shown c.args.disk.now c.create.new.disk (c.create.ensures.calm (low few));
+      entries = λ other few stays. c.create.ensures.entries (low few);
       files = λ tells none without. c.create.ensures.files tells without;
       same = λ tells none stays places same. c.create.ensures.same tells same;
       steps = record { other = λ none. refl; known = λ tells last m stands. no_step c.create.result c.args.steps.now; dead = λ failed. refl };
@@ -108,6 +110,7 @@ returns-in-Cp g c =
       point = λ tells last m stands cp. c.reclaim.ensures.done tells last m stands;
       sides = λ tells last m stands cp. c.reclaim.ensures.sides tells last m stands;
       calm = λ other. absurd (other c.in-Cp.is);
+      entries = λ other. absurd (other c.in-Cp.is);
       files = λ tells none without. c.reclaim.ensures.files tells;
       same = λ tells none stays places same. pointed_same d s n c.reclaim.result c.reclaim.ensures.left tells;
       steps = record { other = λ none. refl; known = λ tells last m stands. no_step c.reclaim.result c.args.steps.now; dead = λ failed. refl };
@@ -144,6 +147,7 @@ returns-in-Some-asked_volume g c =
       point = λ tells last m stands cp. look_no_point command name asks d s e n c.look.result looks _ cp;
       sides = λ tells last m stands cp. look_no_point command name asks d s e n c.look.result looks _ cp;
       calm = λ other few. looks.only_reads;
+      entries = λ other few stays. no_holes s n looks.entries;
       files = λ tells none without. look_files command name asks d s e n c.look.result looks without;
       same = λ tells none stays places same. look_same command name asks d s e n c.look.result looks same;
       steps = record { other = c.look.ensures.steps; known = c.look.ensures.known; dead = λ failed. not_dead _ s fresh failed };
@@ -180,6 +184,7 @@ returns-in-Some-changed_volume g c =
       point = λ tells last m stands cp. make_no_point command name of d s e n c.change.result makes _ cp;
       sides = λ tells last m stands cp. make_no_point command name of d s e n c.change.result makes _ cp;
       calm = λ other few. make_calm command name of d s e n c.change.result makes few;
+      entries = λ other few stays. no_holes s n (make_entries command name of d s e n c.change.result makes few);
       files = λ tells isnt without. make_unchanged command name of d s e n c.change.result makes _ isnt;
       same = λ tells isnt stays places same. make_unchanged command name of d s e n c.change.result makes _ isnt;
       steps = record { other = λ none. refl; known = λ tells last m stands. no_step c.change.result c.args.steps.now; dead = λ failed. refl };
@@ -218,6 +223,7 @@ returns-in-None-snapped_volume g c =
       point = λ tells last m stands cp. absurd (at.not-Cp cp);
       sides = λ tells last m stands cp. absurd (at.not-Cp cp);
       calm = λ other few. reads_itself disk;
+      entries = λ other few stays. no_holes old new (kept_entries old new (over.containers stays));
       files = λ tells none without. over.files without;
       same = λ tells none stays places same. same_map old new (over.map stays) same;
       steps = record { other = λ none. refl; known = λ tells last m stands. refl; dead = λ failed. refl };
@@ -307,9 +313,25 @@ returns-in-Some-snapped_volume g c =
       point = λ tells last m stands cp. absurd (snap_other name command of Cp refl cp);
       sides = λ tells last m stands cp. absurd (snap_other name command of Cp refl cp);
       calm = λ other few. rests_as g.D.Disk.shown c.args.disk.now c.snap.new.disk (did.calm few);
+      entries = λ other few stays. no_holes s n (did.makes.entries few);
       files = λ tells none without. did.files tells without;
       same = λ tells none stays which same. did.same tells which same;
       steps = record { other = λ none. refl; known = λ tells last m stands. no_step c.snap.result c.args.steps.now; dead = λ failed. refl };
       numbers = did.numbers;
       dead = λ failed. not_dead _ s fresh failed;
     }
+
+pub returns-in-Some-clause-entries : goal.returns-in-Some-clause-entries
+returns-in-Some-clause-entries g c = λ other few stays. no_holes c.args.self.now c.args.self.now (kept_entries c.args.self.now c.args.self.now refl)
+
+pub returns-in_err-names_of-in-VolList-clause-entries : goal.returns-in_err-names_of-in-VolList-clause-entries
+returns-in_err-names_of-in-VolList-clause-entries g c = λ other few stays. no_holes c.args.self.now c.args.self.now (kept_entries c.args.self.now c.args.self.now refl)
+
+pub returns-in_ok-names_of-in-VolList-clause-entries : goal.returns-in_ok-names_of-in-VolList-clause-entries
+returns-in_ok-names_of-in-VolList-clause-entries g c = λ other few stays. no_holes c.args.self.now c.args.self.now (kept_entries c.args.self.now c.args.self.now refl)
+
+pub returns-in_err-snapshots-in-SnapList-clause-entries : goal.returns-in_err-snapshots-in-SnapList-clause-entries
+returns-in_err-snapshots-in-SnapList-clause-entries g c = λ other few stays. no_holes c.args.self.now c.args.self.now (kept_entries c.args.self.now c.args.self.now refl)
+
+pub returns-in_ok-snapshots-in-SnapList-clause-entries : goal.returns-in_ok-snapshots-in-SnapList-clause-entries
+returns-in_ok-snapshots-in-SnapList-clause-entries g c = λ other few stays. no_holes c.args.self.now c.args.self.now (kept_entries c.args.self.now c.args.self.now refl)

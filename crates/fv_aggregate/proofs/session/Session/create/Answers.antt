@@ -1,8 +1,9 @@
-use Rattle.std.proofs.Common.{length, sym, ap, subst, ◌∙◌}
+use Rattle.std.proofs.Common.{length, refl, sym, ap, subst, ◌∙◌}
 use Rattle.std.specs.Prelude.{IsNone}
 use Rattle.fv_volume.specs.Creating.{Admits, Refuses}
 use Rattle.fv_aggregate.specs.declared.session.Session.{Session}
 use Rattle.fv_aggregate.proofs.Added.{accepted_for, done_allowed, refusal_allowed, refused_as, refused_for}
+use Rattle.fv_aggregate.proofs.Holes.{kept_entries, no_holes}
 use Rattle.fv_aggregate.proofs.session.Session.create.Goals as goal
 
 pub returns-in-Ok-clause-reply : goal.returns-in-Ok-clause-reply
@@ -25,3 +26,6 @@ returns-in-Err-clause-reply g c = λ tells last m stands.
     let r = c.in-Err.refusal in
     let why = subst (λ (s : Session). Refuses s.volumes s.pool.found.blocks c.args.name.now c.args.size c.args.kind r) c.self.view_is c.in-Err.ensures.why in
     refusal_allowed m c.args.name.now c.args.size c.args.kind r (refused_as (g.D.Disk.shown c.args.disk.now) c.args.self.now last m long stands c.args.name.now c.args.size c.args.kind r why)
+
+pub returns-in-Err-clause-entries : goal.returns-in-Err-clause-entries
+returns-in-Err-clause-entries g c = λ few. no_holes c.args.self.now c.args.self.now (kept_entries c.args.self.now c.args.self.now refl)

@@ -1,4 +1,4 @@
-use Rattle.std.proofs.Common.{◌≡◌, ◌≤◌, ◌+◌, ◌*◌, ℕ, rules, Ok, Err, sym, ap, subst, ◌∙◌, arith}
+use Rattle.std.proofs.Common.{◌≡◌, ◌≤◌, ◌+◌, ◌*◌, ℕ, rules, Ok, Err, refl, sym, ap, subst, ◌∙◌, arith}
 use Rattle.std.specs.Prelude.{IsNone, IsTrue}
 use Rattle.fv_model.specs.declared.answers.Reply.{Reply}
 use Rattle.fv_model.specs.declared.answers.Reply.TheVariants.{Done}
@@ -8,9 +8,10 @@ use Rattle.fv_model.specs.Refusals.{next}
 use Rattle.fv_model.specs.Space.{commits, overhead}
 use Rattle.fv_aggregate.specs.declared.fault.Fault.TheVariants.{Memory}
 use Rattle.fv_aggregate.specs.declared.session.Session.{Session}
-use Rattle.fv_aggregate.specs.Calls.{Goes, GoesFor, KeepsAsking}
+use Rattle.fv_aggregate.specs.Calls.{Goes, GoesFor, KeepsAsking, MakesNoHoles}
 use Rattle.fv_aggregate.proofs.Added.{added_asks, added_for, added_goes, made_files, made_map, room_for, unmade_for, wanting_for}
 use Rattle.fv_aggregate.proofs.Applying.{same_map}
+use Rattle.fv_aggregate.proofs.Holes.{added_entries, kept_entries, no_holes}
 use Rattle.fv_aggregate.proofs.Keeping.{keeps_added}
 use Rattle.fv_aggregate.proofs.session.Session.make.Goals as goal
 
@@ -82,3 +83,21 @@ pub returns-clause-numbers : goal.returns-clause-numbers
 returns-clause-numbers g c = λ none s known.
     let added = c.in_ok-add.ensures.added in
     keeps_added c.make_room.new.self c.args.name.now c.args.size c.args.kind c.from-room.result c.add.new.self added s (c.in_ok-make_room.ensures.numbers (subst IsNone added.failed none) s known)
+
+pub returns-in_err-make_room-clause-entries : goal.returns-in_err-make_room-clause-entries
+returns-in_err-make_room-clause-entries g c = λ few.
+    let old = c.args.self.now in
+    let room : c.from-room.result ≡ overhead c.args.admitted.span = search rules in
+    subst (λ (n : Session). MakesNoHoles old n) (sym (c.make_room.ensures.calm (subst (λ (n : ℕ). old.pending + n ≤ 256) (sym room) few)).1) (no_holes old old (kept_entries old old refl))
+
+pub returns-in_err-add-clause-entries : goal.returns-in_err-add-clause-entries
+returns-in_err-add-clause-entries g c = λ few.
+    let old = c.args.self.now in
+    let room : c.from-room.result ≡ overhead c.args.admitted.span = search rules in
+    subst (λ (n : Session). MakesNoHoles old n) (sym (c.in_err-add.ensures.same ∙ (c.in_ok-make_room.ensures.calm (subst (λ (n : ℕ). old.pending + n ≤ 256) (sym room) few)).1)) (no_holes old old (kept_entries old old refl))
+
+pub returns-clause-entries : goal.returns-clause-entries
+returns-clause-entries g c = λ few.
+    let room : c.from-room.result ≡ overhead c.args.admitted.span = search rules in
+    subst (λ (s : Session). MakesNoHoles s c.add.new.self) (c.in_ok-make_room.ensures.calm (subst (λ (n : ℕ). c.args.self.now.pending + n ≤ 256) (sym room) few)).1
+    (added_entries c.make_room.new.self c.args.name.now c.args.size c.args.kind c.from-room.result c.add.new.self c.in_ok-add.ensures.added)

@@ -1,0 +1,62 @@
+-- Where no consistency point runs no entry of a volume becomes a hole: each stays, or leads to a block that the last root doesn't hold.
+use Rattle.std.proofs.Common.{◌≡◌, ◌≢◌, ◌≤◌, ◌<◌, ◌+◌, ◌⊎◌, ℕ, List, Option, None, inl, inr, ⊎_elim, true≢false, sym, ap, subst, ◌∙◌, arith, get_or-set_other}
+use Rattle.std.specs.Prelude.{IsSome}
+use Rattle.std.proofs.lemmas.Bool.{cases_eq}
+use Rattle.fv_disk.specs.Shown.{Shown}
+use Rattle.fv_model.specs.declared.commands.Kind.{Kind}
+use Rattle.fv_aggmap.specs.Space.{Space}
+use Rattle.fv_container.specs.Chains.{Slots, container_at, own_entry}
+use Rattle.fv_container.specs.Mapped.{Mapped}
+use Rattle.fv_volume.specs.declared.pool.Pool.{Pool}
+use Rattle.fv_volume.specs.declared.state.VolumeState.{VolumeState}
+use Rattle.fv_volume.specs.BlocksOver.{LeavesPool}
+use Rattle.fv_volume.specs.Lending.{IsNewEntry}
+use Rattle.fv_volume.specs.States.{state_at}
+use Rattle.fv_cp.specs.Placing.{IsPlacedAs, IsSpareEntry, PlacesEntries}
+use Rattle.fv_aggregate.specs.declared.session.Session.{Session}
+use Rattle.fv_aggregate.specs.Adding.{IsAdded}
+use Rattle.fv_aggregate.specs.Calls.{KeepsEntries, MakesNoHoles}
+
+-- the containers are as they were
+pub kept_entries : (old new : Session) → new.pool.containers ≡ old.pool.containers → KeepsEntries old new
+kept_entries old new same s v = inl (ap (λ (c : Slots). own_entry (container_at c s) v) same)
+
+-- blocks were read first
+pub read_entries : (old mid new : Session) → LeavesPool old.pool mid.pool → KeepsEntries mid new → KeepsEntries old new
+read_entries old mid new leaves keeps =
+    subst (λ (m : Space). PlacesEntries m old.pool.containers new.pool.containers) leaves.map (subst (λ (c : Slots). PlacesEntries mid.pool.map c new.pool.containers) leaves.containers keeps)
+
+-- files of a volume were placed
+pub placed_entries : (d : Shown) (p q : Pool) (x y : VolumeState) → IsPlacedAs d p x d q y → PlacesEntries p.map p.containers q.containers
+placed_entries d p q x y placed s v = ⊎_elim
+    (λ (here : s ≡ x.slot). subst (λ (n : ℕ). Placed n) (sym here) own)
+    (λ (differ : s ≢ x.slot). inl (ap (λ (c : Option Mapped). own_entry c v) (placed.goes.goes.goes.others s differ)))
+    (cases_eq s x.slot)
+  where
+    Placed : ℕ → Type 0
+    Placed n = (own_entry (container_at q.containers n) v ≡ own_entry (container_at p.containers n) v) ⊎ IsSpareEntry p.map (own_entry (container_at q.containers n) v)
+
+    own : Placed x.slot
+    own = ⊎_elim
+        (λ (same : own_entry (container_at q.containers x.slot) v ≡ own_entry (container_at p.containers x.slot) v). inl same)
+        (λ (new : IsNewEntry p.map p.containers q.containers x.slot v). inr (record { entry = new.entry; stands = new.stands; lies = new.takes.lies; spare = new.takes.spare }))
+        (placed.goes.goes.goes.entries v)
+
+-- a volume was added in a free slot
+pub added_entries : (old : Session) (name : List ℕ) (size : ℕ) (kind : Kind) (room : ℕ) (new : Session) → IsAdded old name size kind room new → MakesNoHoles old new
+added_entries old name size kind room new added s there v = inl (ap (λ (c : Option Mapped). own_entry c v) (ap (λ (p : Pool). container_at p.containers s) added.holes ∙ get_or-set_other old.pool.containers.containers added.slot s _ None differ))
+  where
+    none : (o : Option VolumeState) → o ≡ None → IsSome o → ⊥
+    none o is some = true≢false (sym (subst IsSome is some))
+
+    differ : s ≢ added.slot
+    differ e = none (state_at old.volumes added.slot) added.free.free (subst (λ (n : ℕ). IsSome (state_at old.volumes n)) e there)
+
+-- so it is of each volume
+pub no_holes : (old new : Session) → KeepsEntries old new → MakesNoHoles old new
+no_holes old new keeps s there v = keeps s v
+
+-- no room had to be made where room had to be made
+pub never_within : {X : Type 0} (room pending : ℕ) → (room ≡ 0 → ⊥) → 256 < pending + room → (room ≡ 0) ⊎ (pending + room ≤ 256) → X
+never_within room pending some past (inl nothing) = absurd (some nothing)
+never_within room pending some past (inr low) = absurd (omega (arith, low, past))
